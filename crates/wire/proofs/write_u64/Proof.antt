@@ -1,0 +1,47 @@
+use mathlib.Core.Path.{_∙_, ap}
+use mathlib.Core.List.{List}
+use Prim.Native.Nat.{ℕ, _+_, _/_}
+use native.Mathlib.Omega.{arith}
+use Rattle.wire.specs.Bytes.{splice, u32Bytes}
+use Rattle.wire.proofs.Words.{two-writes}
+use borrow.Author.Needs.{needs}
+use Rattle.wire.proofs.write_u64.Statement.{statement}
+use Rattle.wire.proofs.write_u64.Tie as tie
+
+cast-write-u32 : tie.Need-cast-write-u32
+cast-write-u32 c = search needs
+
+write-u32-requires : tie.Need-write-u32-requires
+write-u32-requires c κs = search needs
+
+add-write-u32 : tie.Need-add-write-u32
+add-write-u32 c = search needs
+
+cast-write-u32-2 : tie.Need-cast-write-u32-2
+cast-write-u32-2 c = search needs
+
+write-u32-requires-2 : tie.Need-write-u32-requires-2
+write-u32-requires-2 c κs = search needs
+
+same-length : tie.Need-same-length
+same-length c = search needs
+
+returns : tie.Need-returns
+returns c =
+    let a = c .before .before .before .before .before .before .before .before .before .args in
+    let first = c .before .before .before .before .before .before .write-u32 .ensures in
+    c .before .before .write-u322 .ensures
+    ∙ ap (λ (l : List ℕ). splice l (a .at + 4) (u32Bytes (a .v / 0x1_0000_0000))) first
+    ∙ two-writes (a .s .now) (a .at) (a .v) (omega arith)
+
+pub write-u64-spec : {M : Type 1} → statement M
+write-u64-spec =
+    tie.close
+    (tie.spec
+    cast-write-u32
+    write-u32-requires
+    add-write-u32
+    cast-write-u32-2
+    write-u32-requires-2
+    same-length
+    returns)
