@@ -31,6 +31,13 @@ baseOf r = record { id = r .id; anchor = anchorOf (r .anchor) }
 unfoldable pub rampOf : RampRecord → Ramp
 rampOf r = record { end = r .end; lower = r .lower; upper = r .upper; id = r .id }
 
+-- How many observations and how many own sources boundaries have in all.
+abbrev pub observationTotal : List BoundaryRecord → ℕ
+observationTotal bs = sum (map (λ (b : BoundaryRecord). b .observations) bs)
+
+abbrev pub ownTotal : List BoundaryRecord → ℕ
+ownTotal bs = sum (map (λ (b : BoundaryRecord). b .sources) bs)
+
 -- How many sources observations have in all.
 unfoldable pub sourceCount : List ObservationRecord → ℕ
 unfolding sum

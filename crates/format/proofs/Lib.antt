@@ -1,0 +1,11 @@
+pub mod Sections
+pub mod Trip
+pub mod RecordTrips
+pub mod RowTrips
+pub mod ListTrip
+pub mod Distribution
+pub mod BoundaryTrips
+pub mod BaseTrips
+pub mod JobTrip
+pub mod AnswerTrip
+pub mod JobFormed

@@ -1,0 +1,62 @@
+-- The computed test of a bridge is what a bridge means.
+use mathlib.Core.Path.{_≡_, refl}
+use mathlib.Core.Logic.{_↔_, _⊎_, inl, inr}
+use mathlib.Core.Bool.{Bool, true, _&&_}
+use mathlib.Core.List.{List, [], _∷_}
+use Prim.Native.Nat.{ℕ, zero, suc, _<_}
+use native.Mathlib.Omega.{arith}
+use borrow.Author.Tests.{eqb-true, eq-eqb, not-true}
+use lib.ListN.{length}
+use Rattle.order.proofs.Bools.{and-parts, and-both, clash, or-cases, or-right}
+use Rattle.graph.specs.Path.{Path}
+use Rattle.graph.specs.Parts.{samePart}
+use Rattle.graph.specs.Records.{Record, at, edges, without, only, ofOwner}
+use Rattle.graph.specs.Bridges.{Bridge, isParted, isBridge, markOf, someRecord}
+use Rattle.graph.proofs.Parts.{other-part}
+
+-- some record passes the test
+some-record : (t : ℕ → Record → Bool) (rs : List Record) → someRecord t rs ≡ true → (k : ℕ) × (k < length rs) × (t k (at rs k) ≡ true)
+unfolding someRecord
+some-record t [] h = clash h refl
+some-record t (r ∷ rs) h = go (or-cases (t 0 r) (someRecord (λ k. t (suc k)) rs) h) (λ i. some-record (λ k. t (suc k)) rs i)
+  where
+    go : (t 0 r ≡ true) ⊎ (someRecord (λ k. t (suc k)) rs ≡ true) → (someRecord (λ k. t (suc k)) rs ≡ true → (k : ℕ) × (k < length rs) × (t (suc k) (at rs k) ≡ true)) →
+        (k : ℕ) × (k < suc (length rs)) × (t k (at (r ∷ rs) k) ≡ true)
+    go (inl e) i = (0, omega arith, e)
+    go (inr e) i = let w = i e in (suc (w .0), omega arith, w .2)
+
+record-some : (t : ℕ → Record → Bool) (rs : List Record) (k : ℕ) → k < length rs → t k (at rs k) ≡ true → someRecord t rs ≡ true
+unfolding someRecord
+record-some t [] k l e = absurd (omega arith)
+record-some t (r ∷ rs) zero l e = rw e
+record-some t (r ∷ rs) (suc k) l e = or-right (t 0 r) (record-some (λ k. t (suc k)) rs k (omega arith) e)
+
+pub parted-iff : (gone : ℕ → Record → Bool) (rs : List Record) (r : Record) → (isParted gone rs r ≡ true) ↔ (Path (edges (without gone rs)) (r .left) (r .right) → ⊥)
+unfolding isParted
+parted-iff gone rs r = (
+  λ h. other-part (edges (without gone rs)) (r .left) (r .right) .0 (not-true (samePart (edges (without gone rs)) (r .left) (r .right)) h),
+  λ h. rw (other-part (edges (without gone rs)) (r .left) (r .right) .1 h),
+)
+
+pub bridge-iff : (rs : List Record) (b : ℕ) → (isBridge rs b ≡ true) ↔ Bridge rs b
+unfolding isBridge
+bridge-iff rs b = (to, from)
+  where
+    test : ℕ → Record → Bool
+    test k r = ofOwner b k r && isParted (only k) rs r
+
+    to : isBridge rs b ≡ true → Bridge rs b
+    to h =
+        let w = some-record test rs h in
+        let p = and-parts (ofOwner b (w .0) (at rs (w .0))) (isParted (only (w .0)) rs (at rs (w .0))) (w .2) in
+        record { place = w .0; inside = w .1; owned = eqb-true (at rs (w .0) .owner) b (p .0); parted = parted-iff (only (w .0)) rs (at rs (w .0)) .0 (p .1) }
+
+    from : Bridge rs b → isBridge rs b ≡ true
+    from w =
+        record-some test rs (w .place) (w .inside)
+        (and-both (eq-eqb (at rs (w .place) .owner) b (w .owned)) (parted-iff (only (w .place)) rs (at rs (w .place)) .1 (w .parted)))
+
+-- choke marks are the bridges
+pub mark-iff : (rs : List Record) (b : ℕ) → (markOf rs b ≡ true) ↔ Bridge rs b
+unfolding markOf
+mark-iff rs b = bridge-iff rs b

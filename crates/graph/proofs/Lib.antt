@@ -1,0 +1,9 @@
+pub mod Paths
+pub mod Parts
+pub mod Count
+pub mod Labels
+pub mod LabelList
+pub mod Unique
+pub mod Records
+pub mod Bridges
+pub mod Cases

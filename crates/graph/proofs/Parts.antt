@@ -1,0 +1,112 @@
+-- Two vertices are in one part exactly if a path joins them, and a part is known by its first vertex.
+use mathlib.Core.Path.{_≡_, refl, sym, _∙_, ap}
+use mathlib.Core.Logic.{_↔_}
+use mathlib.Core.Bool.{true, false}
+use mathlib.Core.List.{List, [], _∷_, List·Memᴰ, List·Memᴰ·head, List·Memᴰ·tail}
+use Prim.Native.Nat.{ℕ, _≤_, min, max}
+use native.Mathlib.Omega.{arith}
+use native.Mathlib.Decide.{decLe}
+use borrow.Author.Tests.{eqb-true, eqb-false, eq-eqb}
+use lib.Dec.{eqb}
+use Rattle.order.specs.Pairs.{SameMembers}
+use Rattle.order.proofs.Bools.{clash, is-false, by-test}
+use Rattle.graph.specs.Path.{Edge, Path, here}
+use Rattle.graph.specs.Parts.{join, part, samePart}
+use Rattle.graph.proofs.Paths.{path-trans, path-sym, path-edge, path-eq, path-between, path-kept, path-more, path-same}
+
+-- the parts without edges, and with one more edge
+pub part-none : (c : ℕ) → part [] c ≡ c
+unfolding part
+part-none c = refl
+
+pub part-add : (e : Edge) (es : List Edge) (c : ℕ) → part (e ∷ es) c ≡ join (part es (e .left)) (part es (e .right)) (part es c)
+unfolding part
+part-add e es c = refl
+
+-- what joining a and b does to c
+data Joined (a b c : ℕ) : Type 0 where
+  lowered : c ≡ max a b → join a b c ≡ min a b → Joined a b c
+  kept : (c ≡ max a b → ⊥) → join a b c ≡ c → Joined a b c
+
+joined : (a b c : ℕ) → Joined a b c
+unfolding join
+joined a b c = by-test (eqb c (max a b)) (λ e. lowered (eqb-true c (max a b) e) (rw e)) (λ e. kept (eqb-false c (max a b) e) (rw e))
+
+join-both : (a b : ℕ) → join a b a ≡ join a b b
+join-both a b = go (joined a b a) (joined a b b)
+  where
+    go : Joined a b a → Joined a b b → join a b a ≡ join a b b
+    go (lowered p q) (lowered r s) = omega arith
+    go (lowered p q) (kept r s) = omega arith
+    go (kept p q) (lowered r s) = omega arith
+    go (kept p q) (kept r s) = omega arith
+
+join-le : (a b c : ℕ) → join a b c ≤ c
+join-le a b c = go (joined a b c)
+  where
+    go : Joined a b c → join a b c ≤ c
+    go (lowered p q) = omega arith
+    go (kept p q) = omega arith
+
+-- where a path leads from a to b, one leads from c to what it becomes
+join-path : {es : List Edge} (a b c : ℕ) → Path es a b → Path es c (join a b c)
+join-path {es} a b c p = go (joined a b c) (decLe a b)
+  where
+    go : Joined a b c → Dec (a ≤ b) → Path es c (join a b c)
+    go (lowered q r) (yes l) = path-between (omega arith) (path-sym p) (omega arith)
+    go (lowered q r) (no l) = path-between (omega arith) p (omega arith)
+    go (kept q r) d = path-eq (sym r)
+
+module _ (e : Edge) (es : List Edge) (old : (c : ℕ) → Path (e ∷ es) c (part es c)) where
+  part-step : (c : ℕ) → Path (e ∷ es) c (part (e ∷ es) c)
+  unfolding part
+  part-step c = path-trans (old c) (join-path (part es (e .left)) (part es (e .right)) (part es c) across)
+    where
+      across : Path (e ∷ es) (part es (e .left)) (part es (e .right))
+      across = path-trans (path-sym (old (e .left))) (path-trans (path-edge e (List·Memᴰ·head refl)) (old (e .right)))
+
+-- a path leads to the first vertex of the part
+pub part-path : (es : List Edge) (c : ℕ) → Path es c (part es c)
+unfolding part
+part-path [] c = here
+part-path (e ∷ es) c = part-step e es (λ d. path-more (λ f m. List·Memᴰ·tail m) (part-path es d)) c
+
+-- the ends of an edge are in one part
+part-edge : (es : List Edge) (e : Edge) → List·Memᴰ e es → part es (e .left) ≡ part es (e .right)
+unfolding part
+part-edge (f ∷ es) e (List·Memᴰ·head k) = rw k (join-both (part es (f .left)) (part es (f .right)))
+part-edge (f ∷ es) e (List·Memᴰ·tail m) = ap (join (part es (f .left)) (part es (f .right))) (part-edge es e m)
+
+pub part-same : (es : List Edge) {a b : ℕ} → Path es a b → part es a ≡ part es b
+part-same es {a} p = path-kept (λ x. part es a ≡ part es x) (λ e m. (λ q. q ∙ part-edge es e m, λ q. q ∙ sym (part-edge es e m))) p refl
+
+-- the computed parts are what the paths say
+pub part-iff : (es : List Edge) (a b : ℕ) → (part es a ≡ part es b) ↔ Path es a b
+part-iff es a b = (λ e. path-trans (part-path es a) (path-trans (path-eq e) (path-sym (part-path es b))), λ p. part-same es p)
+
+pub part-le : (es : List Edge) (c : ℕ) → part es c ≤ c
+unfolding part
+part-le [] c = omega arith
+part-le (e ∷ es) c = omega (arith, join-le (part es (e .left)) (part es (e .right)) (part es c), part-le es c)
+
+-- no vertex of the part comes before it
+pub part-least : (es : List Edge) {a b : ℕ} → Path es a b → part es a ≤ b
+part-least es {b = b} p = omega (arith, part-same es p, part-le es b)
+
+pub part-idem : (es : List Edge) (c : ℕ) → part es (part es c) ≡ part es c
+part-idem es c = sym (part-same es (part-path es c))
+
+-- the same paths, the same parts
+pub part-ext : (es fs : List Edge) → ((a b : ℕ) → Path es a b ↔ Path fs a b) → (c : ℕ) → part es c ≡ part fs c
+part-ext es fs s c = omega (arith, part-least es (s c (part fs c) .1 (part-path fs c)), part-least fs (s c (part es c) .0 (part-path es c)))
+
+-- the parts depend on the set of edges alone
+pub part-edges : (es fs : List Edge) → SameMembers es fs → (c : ℕ) → part es c ≡ part fs c
+part-edges es fs s = part-ext es fs (path-same s)
+
+pub same-part : (es : List Edge) (a b : ℕ) → (samePart es a b ≡ true) ↔ Path es a b
+unfolding samePart
+same-part es a b = (λ h. part-iff es a b .0 (eqb-true (part es a) (part es b) h), λ p. eq-eqb (part es a) (part es b) (part-same es p))
+
+pub other-part : (es : List Edge) (a b : ℕ) → (samePart es a b ≡ false) ↔ (Path es a b → ⊥)
+other-part es a b = (λ h p. clash (same-part es a b .1 p) h, λ h. is-false (samePart es a b) (λ e. h (same-part es a b .0 e)))

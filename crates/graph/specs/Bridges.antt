@@ -1,0 +1,36 @@
+-- Which boundaries are bridges: removing one of its records alone leaves that record's two regions unconnected.
+use mathlib.Core.Path.{_≡_}
+use mathlib.Core.Bool.{Bool, false, not, _&&_, _||_}
+use mathlib.Core.List.{List, [], _∷_}
+use Prim.Native.Nat.{ℕ, suc, _<_}
+use lib.ListN.{length}
+use Rattle.graph.specs.Path.{Path}
+use Rattle.graph.specs.Parts.{samePart}
+use Rattle.graph.specs.Records.{Record, at, edges, without, only, ofOwner}
+
+-- the meaning: some record of the boundary has two regions that no path over the other records joins
+pub record Bridge (rs : List Record) (b : ℕ) : Type 0 where
+  pub place : ℕ
+  pub inside : place < length rs
+  pub owned : at rs place .owner ≡ b
+  pub parted : Path (edges (without (only place) rs)) (at rs place .left) (at rs place .right) → ⊥
+
+-- with what `gone` names taken away, the regions of r are unconnected
+unfoldable pub isParted : (ℕ → Record → Bool) → List Record → Record → Bool
+unfolding samePart edges without
+isParted gone rs r = not (samePart (edges (without gone rs)) (r .left) (r .right))
+
+-- some record passes the test, by place and record
+unfoldable pub someRecord : (ℕ → Record → Bool) → List Record → Bool
+someRecord t [] = false
+someRecord t (r ∷ rs) = t 0 r || someRecord (λ k. t (suc k)) rs
+
+-- some record of the boundary, taken away alone, parts its two regions
+unfoldable pub isBridge : List Record → ℕ → Bool
+unfolding isParted someRecord
+isBridge rs b = someRecord (λ k r. ofOwner b k r && isParted (only k) rs r) rs
+
+-- choke marks are the bridges
+unfoldable pub markOf : List Record → ℕ → Bool
+unfolding isBridge
+markOf rs b = isBridge rs b

@@ -1,0 +1,48 @@
+-- Records: each joins two regions for a boundary, its owner. What is left when some are taken away.
+use mathlib.Core.Path.{_≡_}
+use mathlib.Core.Bool.{Bool, false, cond}
+use mathlib.Core.List.{List, [], _∷_, map}
+use Prim.Native.Nat.{ℕ, suc, _<_}
+use lib.Dec.{eqb}
+use lib.ListN.{length, getD}
+use Rattle.graph.specs.Path.{Edge}
+
+-- one region pair of one boundary
+pub record Record : Type 0 where
+  pub owner : ℕ
+  pub left : ℕ
+  pub right : ℕ
+
+abbrev pub noRecord : Record
+noRecord = record { owner = 0; left = 0; right = 0 }
+
+-- the record at a place
+abbrev pub at : List Record → ℕ → Record
+at rs k = getD rs k noRecord
+
+abbrev pub edgeOf : Record → Edge
+edgeOf r = record { left = r .left; right = r .right }
+
+-- the graph of regions that the records make
+unfoldable pub edges : List Record → List Edge
+edges rs = map edgeOf rs
+
+-- the records but for those that `gone` names by place and record
+unfoldable pub without : (ℕ → Record → Bool) → List Record → List Record
+without gone [] = []
+without gone (r ∷ rs) = let rest = without (λ k. gone (suc k)) rs in cond (gone 0 r) rest (r ∷ rest)
+
+-- the meaning of it: the record stands at a place that `gone` does not name
+pub record Remains (gone : ℕ → Record → Bool) (rs : List Record) (r : Record) : Type 0 where
+  pub place : ℕ
+  pub inside : place < length rs
+  pub spared : gone place (at rs place) ≡ false
+  pub stands : at rs place ≡ r
+
+-- the record at place k alone
+abbrev pub only : ℕ → ℕ → Record → Bool
+only k i r = eqb i k
+
+-- every record of boundary b
+abbrev pub ofOwner : ℕ → ℕ → Record → Bool
+ofOwner b i r = eqb (r .owner) b

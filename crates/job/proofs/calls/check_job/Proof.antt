@@ -1,0 +1,40 @@
+use mathlib.Core.Path.{sym, _∙_, ap}
+use Rattle.format.specs.declared.header.Header.{Header}
+use Rattle.job.specs.Checks.{firstRefusal}
+use Rattle.job.specs.Refusals.{layoutChecks, recordChecks, jobChecks}
+use Rattle.job.proofs.Firsts.{append-none}
+use Rattle.job.proofs.Passing.{stopped, went-on, laid-read, layout-passed}
+use borrow.Author.Needs.{needs}
+use Rattle.job.proofs.calls.check_job.Statement.{statement}
+use Rattle.job.proofs.calls.check_job.Tie as tie
+
+check-layout-requires : tie.Need-check-layout-requires
+check-layout-requires c κs = search needs
+
+passed-requires : tie.Need-passed-requires
+passed-requires c κs = search needs
+
+returns : tie.Need-returns
+unfolding jobChecks
+returns c = stopped (layoutChecks (c .before .before .before .before .args .job .now)) _ (c .before .before .check-layout .ensures) (c .before .passed .ensures) (c .if1 .taken)
+
+read-header-requires : tie.Need-read-header-requires
+read-header-requires c κs = layout-passed _ (went-on (layoutChecks (c .before .before .before .before .args .job .now)) (c .before .before .check-layout .ensures) (c .before .passed .ensures) (c .if1 .left)) .0
+
+check-records-requires : tie.Need-check-records-requires
+check-records-requires c κs = laid-read _ _ (c .read-header .ensures) (layout-passed _ (went-on (layoutChecks (c .before .before .before .before .before .args .job .now)) (c .before .before .before .check-layout .ensures) (c .before .before .passed .ensures) (c .before .if1 .left)) .1)
+
+returns-2 : tie.Need-returns-2
+unfolding jobChecks
+returns-2 c = c .check-records .ensures ∙ ap (λ (h : Header). firstRefusal (recordChecks (c .before .before .before .before .before .before .args .job .now) (h .counts))) (c .before .read-header .ensures) ∙ sym (append-none (layoutChecks (c .before .before .before .before .before .before .args .job .now)) _ (went-on (layoutChecks (c .before .before .before .before .before .before .args .job .now)) (c .before .before .before .before .check-layout .ensures) (c .before .before .before .passed .ensures) (c .before .before .if1 .left)))
+
+pub check-job-spec : {M : Type 1} → statement M
+check-job-spec =
+    tie.close
+    (tie.spec
+    check-layout-requires
+    passed-requires
+    returns
+    read-header-requires
+    check-records-requires
+    returns-2)

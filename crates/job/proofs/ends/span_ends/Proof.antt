@@ -1,0 +1,157 @@
+use mathlib.Core.Path.{_≡_, sym, _∙_, ap}
+use mathlib.Core.Bool.{true, false, _&&_}
+use mathlib.Core.List.{List, []}
+use Prim.Native.Nat.{ℕ, _+_, _*_, _-_}
+use native.Mathlib.Omega.{arith}
+use borrow.Author.Tests.{eq-eqb, ne-eqb}
+use lib.Dec.{ltb}
+use lib.ListN.{take, drop}
+use Rattle.wire.specs.Bytes.{part}
+use Rattle.format.specs.Header.{headerAt, boundariesStart}
+use Rattle.format.specs.declared.header.Header.{Header}
+use Rattle.job.specs.Checks.{firstRefusal}
+use Rattle.job.specs.Refusals.{reduceChecks, byListChecks, spanCount}
+use Rattle.job.specs.SpanEnds.{jobEnds, listEnds, spanEnds}
+use Rattle.job.specs.Verdict.{passes}
+use Rattle.job.proofs.SpanParts.{job-part, list-part}
+use borrow.Author.Needs.{needs}
+use Rattle.job.proofs.ends.span_ends.Statement.{statement}
+use Rattle.job.proofs.ends.span_ends.Tie as tie
+
+-- What each of the four answers is; k is the index i as the code widens it.
+module _ (s l : List ℕ) {which i k : ℕ} where
+  of-job : {at : ℕ} → which ≡ 0 → k ≡ i → at ≡ headerAt s .offsets .boundaries
+      → passes (firstRefusal (reduceChecks s)) && ltb k (headerAt s .counts .boundaries) ≡ true
+      → take (at + k * 40 + 16 - (at + k * 40)) (drop (at + k * 40) s) ≡ spanEnds s l which i
+  unfolding spanEnds jobEnds part
+  of-job {at} w e f t =
+      let n : at + k * 40 + 16 - (at + k * 40) ≡ 16 = omega arith in
+      let b : at ≡ boundariesStart (headerAt s .counts) = f ∙ job-part s k t .start in
+      rw (sym e, eq-eqb _ _ w, t, n, b)
+
+  not-job : which ≡ 0 → k ≡ i → passes (firstRefusal (reduceChecks s)) && ltb k (headerAt s .counts .boundaries) ≡ false → [] ≡ spanEnds s l which i
+  unfolding spanEnds jobEnds
+  not-job w e t = rw (sym e, eq-eqb _ _ w, t)
+
+  of-list : (which ≡ 0 → ⊥) → k ≡ i → passes (firstRefusal (byListChecks s l)) && ltb k (spanCount l) ≡ true
+      → take (k * 16 + 16 - k * 16) (drop (k * 16) l) ≡ spanEnds s l which i
+  unfolding spanEnds listEnds part
+  of-list w e t =
+      let n : k * 16 + 16 - k * 16 ≡ 16 = omega arith in
+      rw (sym e, ne-eqb _ _ w, t, n)
+
+  not-list : (which ≡ 0 → ⊥) → k ≡ i → passes (firstRefusal (byListChecks s l)) && ltb k (spanCount l) ≡ false → [] ≡ spanEnds s l which i
+  unfolding spanEnds listEnds
+  not-list w e t = rw (sym e, ne-eqb _ _ w, t)
+
+size-requires : tie.Need-size-requires
+size-requires c κs = search needs
+
+job-has-requires : tie.Need-job-has-requires
+job-has-requires c κs = search needs
+
+read-header-requires : tie.Need-read-header-requires
+read-header-requires c κs = job-part _ _ (sym (c .before .job-has .ensures) ∙ c .if2 .taken) .header
+
+size-requires-2 : tie.Need-size-requires-2
+size-requires-2 c κs = search needs
+
+mul-at : tie.Need-mul-at
+mul-at c = search needs
+
+add-at : tie.Need-add-at
+add-at c = search needs
+
+add-result : tie.Need-add-result
+add-result c = search needs
+
+sub-result : tie.Need-sub-result
+sub-result c = search needs
+
+part-result-start : tie.Need-part-result-start
+part-result-start c = search needs
+
+part-result-end : tie.Need-part-result-end
+part-result-end c =
+    let j = job-part _ _ (sym (c .before .before .before .before .job-has .ensures) ∙ c .before .before .before .if2 .taken) in
+    let e = c .size2 .ensures .0 ∙ ap (λ (h : Header). h .offsets .boundaries) (c .before .before .read-header .ensures) in
+    omega (arith, j .inside, e)
+
+returns : tie.Need-returns
+returns c = of-job _ _ (c .before .before .before .before .before .before .if1 .taken) (c .before .before .before .before .before .before .before .size .ensures .0) (c .before .size2 .ensures .0 ∙ ap (λ (h : Header). h .offsets .boundaries) (c .before .before .before .read-header .ensures)) (sym (c .before .before .before .before .before .job-has .ensures) ∙ c .before .before .before .before .if2 .taken)
+
+sub-result-2 : tie.Need-sub-result-2
+sub-result-2 c = search needs
+
+part-result-start-2 : tie.Need-part-result-start-2
+part-result-start-2 c = search needs
+
+part-result-end-2 : tie.Need-part-result-end-2
+part-result-end-2 c = search needs
+
+returns-2 : tie.Need-returns-2
+returns-2 c = not-job _ _ (c .before .before .before .if1 .taken) (c .before .before .before .before .size .ensures .0) (sym (c .before .before .job-has .ensures) ∙ c .before .if2 .left)
+
+list-has-requires : tie.Need-list-has-requires
+list-has-requires c κs = search needs
+
+mul-at-2 : tie.Need-mul-at-2
+mul-at-2 c = search needs
+
+add-result-2 : tie.Need-add-result-2
+add-result-2 c = search needs
+
+sub-result-3 : tie.Need-sub-result-3
+sub-result-3 c = search needs
+
+part-result-start-3 : tie.Need-part-result-start-3
+part-result-start-3 c = search needs
+
+part-result-end-3 : tie.Need-part-result-end-3
+part-result-end-3 c = omega (arith, list-part _ _ _ (sym (c .before .list-has .ensures) ∙ c .if3 .taken))
+
+returns-3 : tie.Need-returns-3
+returns-3 c = of-list _ _ (c .before .before .before .if1 .left) (c .before .before .before .before .size .ensures .0) (sym (c .before .before .list-has .ensures) ∙ c .before .if3 .taken)
+
+sub-result-4 : tie.Need-sub-result-4
+sub-result-4 c = search needs
+
+part-result-start-4 : tie.Need-part-result-start-4
+part-result-start-4 c = search needs
+
+part-result-end-4 : tie.Need-part-result-end-4
+part-result-end-4 c = search needs
+
+returns-4 : tie.Need-returns-4
+returns-4 c = not-list _ _ (c .before .before .before .if1 .left) (c .before .before .before .before .size .ensures .0) (sym (c .before .before .list-has .ensures) ∙ c .before .if3 .left)
+
+pub span-ends-spec : {M : Type 1} → statement M
+span-ends-spec =
+    tie.close
+    (tie.spec
+    size-requires
+    job-has-requires
+    read-header-requires
+    size-requires-2
+    mul-at
+    add-at
+    add-result
+    sub-result
+    part-result-start
+    part-result-end
+    returns
+    sub-result-2
+    part-result-start-2
+    part-result-end-2
+    returns-2
+    list-has-requires
+    mul-at-2
+    add-result-2
+    sub-result-3
+    part-result-start-3
+    part-result-end-3
+    returns-3
+    sub-result-4
+    part-result-start-4
+    part-result-end-4
+    returns-4)

@@ -1,0 +1,28 @@
+-- "The ends of span i, counted from 0, are shown as a part of the job or of the span list; a u32 chooses, 0 for the job's
+-- boundaries as Reduce reads them, any other for the list as Reduce by list does. Past the last span, or where that
+-- call's checks 1 to 12 or 14 to 17 would refuse, the part is empty."
+use Prim.Native.Nat.{ℕ, _+_, _*_}
+use mathlib.Core.Bool.{Bool, cond, _&&_}
+use mathlib.Core.List.{List, []}
+use lib.Dec.{ltb, eqb}
+use Rattle.wire.specs.Bytes.{part}
+use Rattle.format.specs.Sizes.{boundarySize, spanSize}
+use Rattle.format.specs.Header.{headerAt, boundariesStart}
+use Rattle.job.specs.Checks.{firstRefusal}
+use Rattle.job.specs.Refusals.{reduceChecks, byListChecks, spanCount}
+use Rattle.job.specs.Verdict.{passes}
+
+unfoldable pub jobEnds : List ℕ → ℕ → List ℕ
+unfolding part
+jobEnds s i =
+    cond (passes (firstRefusal (reduceChecks s)) && ltb i (headerAt s .counts .boundaries))
+    (part s (boundariesStart (headerAt s .counts) + i * boundarySize) spanSize)
+    []
+
+unfoldable pub listEnds : List ℕ → List ℕ → ℕ → List ℕ
+unfolding part
+listEnds s l i = cond (passes (firstRefusal (byListChecks s l)) && ltb i (spanCount l)) (part l (i * spanSize) spanSize) []
+
+unfoldable pub spanEnds : List ℕ → List ℕ → ℕ → ℕ → List ℕ
+unfolding jobEnds listEnds
+spanEnds s l which i = cond (eqb which 0) (jobEnds s i) (listEnds s l i)

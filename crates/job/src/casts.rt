@@ -1,0 +1,15 @@
+// A u32 as a wider number.
+ghost use mathlib.Core.Path.{_≡_};
+ghost use Prim.Native.Nat.{_<_};
+
+pub fn wide(x: u32) -> u64
+    ensures { λ r. ⌜ (r ≡ x) × (r < 0x1_0000_0000) ⌝ }
+{
+    x as u64
+}
+
+pub fn size(x: u32) -> usize
+    ensures { λ r. ⌜ (r ≡ x) × (r < 0x1_0000_0000) ⌝ }
+{
+    x as usize
+}

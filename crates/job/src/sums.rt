@@ -1,0 +1,70 @@
+// Refusal 8: the counts in the records against those of the header, in sums that cannot wrap.
+ghost use mathlib.Core.Path.{_≡_};
+ghost use Prim.Native.Nat.{_+_, _*_, _≤_};
+ghost use lib.ListN.{length};
+ghost use Rattle.format.specs.Sizes.{boundarySize, observationSize};
+ghost use Rattle.format.specs.Decode.{boundaryRecords, observationRecords, observationTotal, ownTotal, sourceCount};
+ghost use Rattle.format.specs.Bounds.{maxBoundaries, maxObservations};
+ghost use Rattle.job.specs.Passed.{Laid};
+ghost use Rattle.job.specs.Refusals.{sumsFault};
+use crate::casts::size;
+use crate::casts::wide;
+use format::Header;
+use format::read_boundary;
+use format::read_observation;
+
+fn observation_total(job: &[u8], at: usize, n: usize) -> u64
+    requires { ⌜ (at + n * boundarySize ≤ length (now job)) × (n ≤ maxBoundaries) ⌝ }
+    ensures { λ r. ⌜ r ≡ observationTotal (boundaryRecords (now (job .entry)) at n) ⌝ }
+{
+    let mut total: u64 = 0;
+    let mut i: usize = 0;
+    while i < n {
+        let b = read_boundary(job, at + i * 40);
+        total += wide(b.observations);
+        i += 1;
+    }
+    total
+}
+
+fn own_total(job: &[u8], at: usize, n: usize) -> u64
+    requires { ⌜ (at + n * boundarySize ≤ length (now job)) × (n ≤ maxBoundaries) ⌝ }
+    ensures { λ r. ⌜ (r ≡ ownTotal (boundaryRecords (now (job .entry)) at n)) × (r ≤ n * 0xFFFF_FFFF) ⌝ }
+{
+    let mut total: u64 = 0;
+    let mut i: usize = 0;
+    while i < n {
+        let b = read_boundary(job, at + i * 40);
+        total += wide(b.sources);
+        i += 1;
+    }
+    total
+}
+
+fn source_count(job: &[u8], at: usize, n: usize) -> u64
+    requires { ⌜ (at + n * observationSize ≤ length (now job)) × (n ≤ maxObservations) ⌝ }
+    ensures { λ r. ⌜ (r ≡ sourceCount (observationRecords (now (job .entry)) at n)) × (r ≤ n * 0xFFFF_FFFF) ⌝ }
+{
+    let mut total: u64 = 0;
+    let mut i: usize = 0;
+    while i < n {
+        let o = read_observation(job, at + i * 28);
+        total += wide(o.sources);
+        i += 1;
+    }
+    total
+}
+
+pub fn sums_fault(job: &[u8], h: Header) -> bool
+    requires { ⌜ Laid (now job) h ⌝ }
+    ensures { λ r. ⌜ r ≡ sumsFault (now (job .entry)) (h .counts) ⌝ }
+{
+    let c = h.counts;
+    let o = h.offsets;
+    let at = size(o.boundaries);
+    let n = size(c.boundaries);
+    let observed = observation_total(job, at, n);
+    let sources = own_total(job, at, n)
+        + source_count(job, size(o.observations), size(c.observations));
+    !((observed == wide(c.observations)) & (sources == wide(c.sources)))
+}

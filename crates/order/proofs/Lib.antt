@@ -1,0 +1,15 @@
+pub mod Bools
+pub mod Members
+pub mod Pairs
+pub mod Distinct
+pub mod Keep
+pub mod Gather
+pub mod Shuffled
+pub mod Numbers
+pub mod Sort
+pub mod Stable
+pub mod Places
+pub mod Forgets
+pub mod Once
+pub mod Keys
+pub mod Cases

@@ -1,0 +1,6 @@
+pub mod Orders
+pub mod Sorting
+pub mod Keys
+pub mod Lists
+pub mod Pairs
+pub mod Shuffled

@@ -1,0 +1,1 @@
+// Sorting and lists, as definitions (specs/) and theorems (proofs/): this crate has no function.
