@@ -1,0 +1,99 @@
+//! What the driver reaches of the oracle. A child of the module of the serial merging, so that
+//! private items are within reach and no visibility is edited.
+
+use super::{bridge_boundary_indices, collapse_serial_boundaries, full_graph};
+use crate::topology::context::PartitionContext;
+use std::collections::{BTreeMap, BTreeSet};
+
+pub use crate::topology::{
+    RampBoundary, RampSide, TopologyBase, TopologyBoundary, TopologyObservation,
+};
+pub use crate::{
+    AnalysisError, AreaError, BoundaryAssessment, BoundarySpan, PartitionArea, PixelPosition,
+    SpanPartition, TerrainCell, TerrainGrid, WalkPosition,
+};
+
+/// A cell from its byte in a job.
+pub fn cell(byte: u8) -> TerrainCell {
+    TerrainCell {
+        walkable: byte & 1 != 0,
+        terrain_buildable: byte & 2 != 0,
+        ramp: byte & 4 != 0,
+        elevation: byte >> 3 & 3,
+    }
+}
+
+/// The grid of a job. The Rust's constructor makes it, save where it refuses elevation 3, which
+/// the port accepts: there the same fields are filled in directly.
+pub fn grid(width: u32, height: u32, cells: &[u8]) -> TerrainGrid {
+    let cells: Vec<_> = cells.iter().copied().map(cell).collect();
+    match TerrainGrid::from_cells(width, height, cells.clone()) {
+        Err(AnalysisError::InvalidElevation { elevation: 3, .. }) => {
+            TerrainGrid { width, height, cells }
+        }
+        made => made.expect("a checked job has a grid"),
+    }
+}
+
+/// Two ends as column, row, column, row.
+pub fn ends([ax, ay, bx, by]: [u32; 4]) -> [PixelPosition; 2] {
+    [PixelPosition { x: ax, y: ay }, PixelPosition { x: bx, y: by }]
+}
+
+pub fn partition(grid: &TerrainGrid, spans: &[[u32; 4]]) -> Result<SpanPartition, AreaError> {
+    let spans: Vec<_> = spans.iter().map(|&span| BoundarySpan { endpoints: ends(span) }).collect();
+    grid.partition_by_spans(&spans)
+}
+
+/// What the Rust knows of one region.
+pub struct Region {
+    pub cells: usize,
+    /// Least column and row, greatest column and row, in pixels.
+    pub bounds: [f64; 4],
+    pub has_ramp: bool,
+    pub elevations: u8,
+    pub elevation_counts: [usize; 4],
+}
+
+/// A partition in context, as the Rust's merging takes it.
+pub struct Context<'a>(PartitionContext<'a>);
+
+impl<'a> Context<'a> {
+    pub fn new(
+        grid: &'a TerrainGrid,
+        partition: &'a SpanPartition,
+        bases: &[TopologyBase],
+    ) -> Self {
+        Self(PartitionContext::new(grid, partition, bases))
+    }
+
+    /// The labels of the anchors' cells.
+    pub fn anchored(&self) -> &BTreeSet<u32> {
+        &self.0.anchored
+    }
+
+    /// The boundaries that touch each region.
+    pub fn incidents(&self) -> &BTreeMap<u32, BTreeSet<usize>> {
+        &self.0.incidents
+    }
+
+    pub fn region(&self, label: u32) -> Option<Region> {
+        self.0.stats.get(&label).map(|stats| Region {
+            cells: stats.cells,
+            bounds: [stats.min_x, stats.min_y, stats.max_x, stats.max_y],
+            has_ramp: stats.has_ramp,
+            elevations: stats.elevations,
+            elevation_counts: stats.elevation_counts,
+        })
+    }
+
+    /// The boundaries that are bridges.
+    pub fn bridges(&self) -> BTreeSet<usize> {
+        bridge_boundary_indices(&full_graph(&self.0))
+    }
+
+    /// The kept boundaries.
+    pub fn collapse(&self, boundaries: &[TopologyBoundary]) -> Vec<TopologyBoundary> {
+        collapse_serial_boundaries(boundaries, &self.0)
+    }
+}
