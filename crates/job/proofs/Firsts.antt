@@ -9,8 +9,11 @@ use native.Mathlib.Numerals.{add-one}
 use native.Mathlib.Omega.{arith}
 use Rattle.job.specs.Checks.{Refusal, Check, check, firstRefusal, each}
 
-never : {X : Type 0} {r : Refusal} → _≡_ {A = Option Refusal} none (some r) → X
+pub never : {X : Type 0} {r : Refusal} → _≡_ {A = Option Refusal} none (some r) → X
 never e = let z : _≡_ {A = ℕ} 0 1 = cc in absurd (omega arith)
+
+pub same-refusal : {q r : Refusal} → _≡_ {A = Option Refusal} (some q) (some r) → q ≡ r
+same-refusal e = cc
 
 -- A check that does not hold is passed over; one that holds decides.
 pub skip : {t : Bool} (n d : ℕ) (cs : List Check) → t ≡ false → firstRefusal (check t n d ∷ cs) ≡ firstRefusal cs

@@ -5,3 +5,5 @@ pub mod Adding
 pub mod Words
 pub mod Passing
 pub mod SpanParts
+pub mod First
+pub mod Formed

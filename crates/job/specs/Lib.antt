@@ -1,4 +1,5 @@
 pub mod Checks
+pub mod First
 pub mod Faults
 pub mod Refusals
 pub mod Verdict

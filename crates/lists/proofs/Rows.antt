@@ -1,7 +1,7 @@
 -- Laws of rows and of sums.
 use mathlib.Core.Path.{_≡_, refl, _∙_, ap}
 use mathlib.Core.List.{List, [], _∷_, _++_, map}
-use Prim.Native.Nat.{ℕ, zero, suc, _+_, _<_}
+use Prim.Native.Nat.{ℕ, zero, suc, _+_, _-_, _≤_, _<_}
 use native.Mathlib.Nat.{zero-add, suc-add}
 use native.Mathlib.Omega.{arith}
 use lib.ListN.{length, getD}
@@ -58,3 +58,11 @@ sum-append (x ∷ xs) ys = let e : sum (xs ++ ys) ≡ sum xs + sum ys = sum-appe
 pub sum-last : (n : ℕ) (f : ℕ → ℕ) → sum (rows (suc n) f) ≡ sum (rows n f) + f n
 unfolding sum
 sum-last n f = rw rows-last (sum-append (rows n f) (f n ∷ []) ∙ omega arith)
+
+-- The sum of the first rows is no larger than that of all.
+pub sum-prefix : (k n : ℕ) (f : ℕ → ℕ) → k ≤ n → sum (rows k f) ≤ sum (rows n f)
+sum-prefix k n f h =
+    let e : n ≡ k + (n - k) = omega arith in
+    let s : sum (rows n f) ≡ sum (rows k f) + sum (rows (n - k) (λ i. f (k + i)))
+    = ap (λ (m : ℕ). sum (rows m f)) e ∙ ap sum (rows-split k (n - k) f) ∙ sum-append (rows k f) (rows (n - k) (λ i. f (k + i))) in
+    omega arith
