@@ -1,5 +1,6 @@
 // Reads a job from standard input and says whether Reduce's input checks accept it.
-use libc::{STDIN_FILENO, STDOUT_FILENO};
+use libc::STDIN_FILENO;
+use libc::STDOUT_FILENO;
 
 fn answer(job: &[u8]) {
     let v = job::check_reduce(job);

@@ -24,14 +24,14 @@ use Rattle.format.proofs.JobTrip.{encode-decode}
 use Rattle.job.specs.Checks.{check, firstRefusal, each}
 use Rattle.job.specs.Faults.{rampFault}
 use Rattle.job.specs.Refusals.{layoutChecks, recordChecks, jobChecks, sumsFault, cellCheck, baseCheck, rampCheck, widthCheck}
-use Rattle.job.proofs.Bools.{or-false, and-true}
+use Rattle.order.proofs.Bools.{and-parts, or-parts}
 use Rattle.job.proofs.Firsts.{none-right, none-left, none-head, each-none}
 use Rattle.job.proofs.Passing.{job-passed}
 
 zero-byte : (r : RampRecord) → rampFault r ≡ false → r .zero ≡ 0
 zero-byte r e =
-    let a = or-false (ltb 2 (r .end)) _ e in
-    let b = or-false (not (eqb (r .zero) 0)) _ (a .1) in
+    let a = or-parts (ltb 2 (r .end)) _ e in
+    let b = or-parts (not (eqb (r .zero) 0)) _ (a .1) in
     eqb-true (r .zero) 0 (not-false _ (b .0))
 
 -- What checks 8 and 9 leave.
@@ -45,7 +45,7 @@ module _ (s : List ℕ) (c : Counts) (e : firstRefusal (recordChecks s c) ≡ no
   unfolding sumsFault
   sums-right =
       let a = none-head (sumsFault s c) 8 0 _ after-bases in
-      let b = and-true _ _ (not-false _ (a .0)) in
+      let b = and-parts _ _ (not-false _ (a .0)) in
       (eqb-true _ _ (b .0), eqb-true _ _ (b .1))
 
   zeros-right : (k : ℕ) → k < c .boundaries → boundaryAt s (boundariesStart c + k * boundarySize) .ramp .zero ≡ 0

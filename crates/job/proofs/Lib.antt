@@ -1,4 +1,3 @@
-pub mod Bools
 pub mod Firsts
 pub mod Limits
 pub mod Adding

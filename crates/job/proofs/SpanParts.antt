@@ -12,7 +12,7 @@ use Rattle.format.specs.Header.{headerAt, boundariesStart}
 use Rattle.job.specs.Checks.{firstRefusal}
 use Rattle.job.specs.Refusals.{reduceChecks, byListChecks, spanCount}
 use Rattle.job.specs.Verdict.{passes}
-use Rattle.job.proofs.Bools.{and-true}
+use Rattle.order.proofs.Bools.{and-parts}
 use Rattle.job.proofs.Limits.{sections}
 use Rattle.job.proofs.Passing.{passes-none, reduce-passed}
 
@@ -24,7 +24,7 @@ pub record JobPart (s : List ℕ) (i : ℕ) : Type 0 where
 
 pub job-part : (s : List ℕ) (i : ℕ) → passes (firstRefusal (reduceChecks s)) && ltb i (headerAt s .counts .boundaries) ≡ true → JobPart s i
 job-part s i e =
-    let both = and-true (passes (firstRefusal (reduceChecks s))) _ e in
+    let both = and-parts (passes (firstRefusal (reduceChecks s))) _ e in
     let p = reduce-passed s (passes-none _ (both .0)) in
     let q = sections s (headerAt s) (p .1) in
     record { header = p .0; start = q .boundaries-at; inside = omega (arith, q .boundaries-in, ltb-true i (headerAt s .counts .boundaries) (both .1)) }
@@ -32,5 +32,5 @@ job-part s i e =
 -- Span i's ends in a list that Reduce by list takes.
 pub list-part : (s l : List ℕ) (i : ℕ) → passes (firstRefusal (byListChecks s l)) && ltb i (spanCount l) ≡ true → i * spanSize + spanSize ≤ length l
 list-part s l i e =
-    let both = and-true (passes (firstRefusal (byListChecks s l))) _ e in
+    let both = and-parts (passes (firstRefusal (byListChecks s l))) _ e in
     omega (arith, ltb-true i (spanCount l) (both .1))

@@ -12,16 +12,16 @@ use Rattle.job.specs.Checks.{firstRefusal}
 use Rattle.job.specs.Faults.{sizeFault, countFault, boundaryCountFault, sameOffsets}
 use Rattle.format.specs.Fits.{CountsAllowed}
 use Rattle.job.specs.Refusals.{headerChecks}
-use Rattle.job.proofs.Bools.{or-false, and-true}
+use Rattle.order.proofs.Bools.{and-parts, or-parts}
 use Rattle.job.proofs.Firsts.{none-head}
 
 pub within : (c : Counts) → sizeFault c ≡ false → countFault c ≡ false → boundaryCountFault c ≡ false → CountsAllowed c
 within c e f g =
-    let sides = or-false _ _ e in
-    let w = or-false _ _ (sides .0) in
-    let h = or-false _ _ (sides .1) in
-    let b = or-false _ _ f in
-    let os = or-false _ _ (b .1) in
+    let sides = or-parts _ _ e in
+    let w = or-parts _ _ (sides .0) in
+    let h = or-parts _ _ (sides .1) in
+    let b = or-parts _ _ f in
+    let os = or-parts _ _ (b .1) in
     record {
       width-some = ltb-false _ _ (w .0);
       height-some = ltb-false _ _ (h .0);
@@ -35,11 +35,11 @@ within c e f g =
 
 pub same-means : (o p : Offsets) → sameOffsets o p ≡ true → o ≡ p
 same-means o p e =
-    let a = and-true (eqb (o .cells) (p .cells)) _ e in
-    let b = and-true (eqb (o .bases) (p .bases)) _ (a .1) in
-    let c = and-true (eqb (o .boundaries) (p .boundaries)) _ (b .1) in
-    let d = and-true (eqb (o .observations) (p .observations)) _ (c .1) in
-    let f = and-true (eqb (o .sources) (p .sources)) _ (d .1) in
+    let a = and-parts (eqb (o .cells) (p .cells)) _ e in
+    let b = and-parts (eqb (o .bases) (p .bases)) _ (a .1) in
+    let c = and-parts (eqb (o .boundaries) (p .boundaries)) _ (b .1) in
+    let d = and-parts (eqb (o .observations) (p .observations)) _ (c .1) in
+    let f = and-parts (eqb (o .sources) (p .sources)) _ (d .1) in
     λ i. record {
       cells = eqb-true (o .cells) (p .cells) (a .0) i;
       bases = eqb-true (o .bases) (p .bases) (b .0) i;

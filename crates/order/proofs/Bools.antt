@@ -29,3 +29,7 @@ or-cases false t h = inr h
 pub or-right : (s : Bool) {t : Bool} → t ≡ true → s || t ≡ true
 or-right true h = refl
 or-right false h = h
+
+pub or-parts : (s t : Bool) → s || t ≡ false → (s ≡ false) × (t ≡ false)
+or-parts true t h = clash refl h
+or-parts false t h = (refl, h)

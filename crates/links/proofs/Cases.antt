@@ -1,0 +1,105 @@
+-- The corridor of document 01, and a few spans, by computing.
+-- The corridor: 4 × 1 cells, spans (8,0)-(8,8) and (16,0)-(16,8) of width 8, and between them the region of cell 1.
+use mathlib.Core.Path.{_≡_, refl}
+use mathlib.Core.Bool.{true, false}
+use mathlib.Core.List.{List, [], _∷_, map}
+use Prim.Native.Nat.{ℕ}
+use lib.Ieee.{Float, binary64, neg, add, sub, mul, div, lt, le, ofBits, ofInt, toBits}
+use Rattle.order.specs.Sorting.{sort}
+use Rattle.length.specs.Length.{lengthOf}
+use Rattle.length.specs.Floats.{whole}
+use Rattle.length.specs.Total.{totalLe}
+use Rattle.position.specs.Order.{canonical}
+use Rattle.position.specs.declared.Span.{Span}
+use Rattle.links.specs.Limits.{limits000}
+use Rattle.links.specs.Geometry.{Vector, squares, centreDistance}
+use Rattle.links.specs.Link.{Side, Link, widenedBy, linkOf}
+use Rattle.links.specs.Measure.{empty, within, beyond, extremes, judged, measured, passing}
+use Rattle.links.specs.Flat.{insideFlat}
+use Rattle.links.specs.Parallel.{nearbyParallel}
+use Rattle.links.specs.Sums.{addedTo, sumOf, ascendingSum, distanceSum}
+
+abbrev span : ℕ → ℕ → ℕ → ℕ → Span
+span ax ay bx by = record { a = record { x = ax; y = ay }; b = record { x = bx; y = by } }
+
+abbrev first : Span
+first = span 8 0 8 8
+
+abbrev second : Span
+second = span 16 0 16 8
+
+abbrev side : Span → Side
+side s = record { span = s; bits = 0x4020_0000_0000_0000 }
+
+abbrev corridor : Link
+corridor = linkOf (side first) (side second)
+
+abbrev vector : ℕ → ℕ → Vector
+vector x y = record { x = whole x; y = whole y }
+
+corridor-distance : centreDistance first second ≡ whole 8
+unfolding lengthOf squares ofInt
+corridor-distance = refl
+
+corridor-link :
+    corridor
+    ≡ record {
+      centre = vector 8 4;
+      distance = whole 8;
+      unit = vector 1 0;
+      normal = record { x = neg (whole 0); y = whole 1 };
+      spanUnit = vector 0 1;
+      spanNormal = record { x = neg (whole 1); y = whole 0 };
+      along = record { low = whole 0; high = whole 8 };
+      across = record { low = neg (whole 16); high = neg (whole 8) };
+      minWidth = whole 8;
+    }
+unfolding linkOf canonical widenedBy lengthOf squares ofInt ofBits neg add sub mul div lt
+corridor-link = refl
+
+-- both envelopes of cell 1 are 8, within 28
+corridor-measured : measured limits000 corridor 4 (1 ∷ []) ≡ within (whole 8) (whole 8)
+unfolding measured judged extremes linkOf canonical widenedBy lengthOf squares ofInt ofBits neg add sub mul div lt le
+corridor-measured = refl
+
+-- all four cells would be 32 long
+corridor-beyond : measured limits000 corridor 4 (0 ∷ 1 ∷ 2 ∷ 3 ∷ []) ≡ beyond (whole 8) (whole 32)
+unfolding measured judged extremes linkOf canonical widenedBy lengthOf squares ofInt ofBits neg add sub mul div lt le
+corridor-beyond = refl
+
+no-cell : measured limits000 corridor 4 [] ≡ empty
+unfolding measured
+no-cell = refl
+
+only-within : map passing (empty ∷ within (whole 8) (whole 8) ∷ beyond (whole 8) (whole 32) ∷ []) ≡ false ∷ true ∷ false ∷ []
+only-within = refl
+
+-- a cell may reach 32 pixels past the spans, and no farther
+corridor-flat : map (λ (cell : ℕ). insideFlat limits000 corridor 16 (1 ∷ cell ∷ [])) (1 ∷ 5 ∷ 6 ∷ []) ≡ true ∷ true ∷ false ∷ []
+unfolding insideFlat linkOf canonical widenedBy lengthOf squares ofInt ofBits neg add sub mul div lt
+corridor-flat = refl
+
+-- the spans either way round; two that run against each other from their earlier ends on; two at right angles; two 136 pixels apart
+parallels :
+    nearbyParallel limits000 first second
+    ∷ nearbyParallel limits000 (span 8 8 8 0) second
+    ∷ nearbyParallel limits000 (span 0 0 2 400) (span 0 400 2 0)
+    ∷ nearbyParallel limits000 first (span 0 8 8 8)
+    ∷ nearbyParallel limits000 first (span 144 0 144 8)
+    ∷ []
+    ≡ true ∷ true ∷ true ∷ false ∷ false ∷ []
+unfolding nearbyParallel canonical lengthOf squares ofInt ofBits neg add sub mul div lt le
+parallels = refl
+
+-- the lengths √10 ÷ 2, √2 ÷ 2, 1 ÷ 2 add up to another f64 as they are listed than in ascending order
+abbrev lengths : List Float
+lengths = map lengthOf (10 ∷ 2 ∷ 1 ∷ [])
+
+in-order : (sumOf lengths ≡ ofBits binary64 0x4006_4E53_B70C_FC9D) × (ascendingSum lengths ≡ ofBits binary64 0x4006_4E53_B70C_FC9C)
+unfolding sumOf ascendingSum addedTo sort totalLe toBits lengthOf ofBits add
+in-order = (refl, refl)
+
+-- from the first of three spans: 0 + 8 + 16
+corridor-sum : distanceSum first (first ∷ second ∷ span 24 0 24 8 ∷ []) ≡ whole 24
+unfolding distanceSum sumOf addedTo lengthOf squares ofInt add
+corridor-sum = refl
