@@ -2,6 +2,43 @@
 mod header;
 mod records;
 
+// Bytes of the header and of each record.
+pub const HEADER_SIZE: usize = 48;
+
+pub const BASE_SIZE: usize = 12;
+
+pub const BOUNDARY_SIZE: usize = 40;
+
+pub const OBSERVATION_SIZE: usize = 28;
+
+pub const SOURCE_SIZE: usize = 8;
+
+pub const SPAN_SIZE: usize = 16;
+
+// What both halves of a missing anchor are.
+pub const NO_ANCHOR: u32 = 4_294_967_295;
+
+// The largest sizes that a call takes: cells on each side of a map, counts, the bits of a width of 16,384.
+pub const MAX_SIDE: u32 = 1_024;
+
+pub const MAX_BASES: u32 = 256;
+
+pub const MAX_BOUNDARIES: u32 = 256;
+
+pub const MAX_OBSERVATIONS: u32 = 1_024;
+
+pub const MAX_SOURCES: u32 = 4_096;
+
+pub const MAX_SPANS: usize = 256;
+
+pub const MAX_WIDTH_BITS: u64 = 0x40D0_0000_0000_0000;
+
+// A cell's bits 5 to 7 are zero exactly if it is below.
+pub const CELL_LIMIT: u8 = 32;
+
+// Pixels on each side of a cell.
+pub const CELL_PIXELS: u32 = 8;
+
 pub use header::Counts;
 pub use header::Header;
 pub use header::Offsets;

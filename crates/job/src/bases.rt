@@ -8,13 +8,15 @@ ghost use Rattle.job.specs.Faults.{anchorFault};
 ghost use Rattle.job.specs.Refusals.{baseCheck};
 ghost use Rattle.job.specs.Verdict.{meaning};
 use crate::verdict::Verdict;
+use format::BASE_SIZE;
+use format::NO_ANCHOR;
 use format::read_base;
 use position::WalkPosition;
 
 fn anchor_fault(width: u32, height: u32, p: WalkPosition) -> bool
     ensures { λ r. ⌜ r ≡ anchorFault width height p ⌝ }
 {
-    !((p.x == 0xFFFF_FFFF) & (p.y == 0xFFFF_FFFF)) & ((width <= p.x) | (height <= p.y))
+    !((p.x == NO_ANCHOR) & (p.y == NO_ANCHOR)) & ((width <= p.x) | (height <= p.y))
 }
 
 pub fn check_bases(job: &[u8], at: usize, n: usize, width: u32, height: u32) -> Verdict
@@ -23,7 +25,7 @@ pub fn check_bases(job: &[u8], at: usize, n: usize, width: u32, height: u32) -> 
 {
     let mut i: usize = 0;
     while i < n {
-        let b = read_base(job, at + i * 12);
+        let b = read_base(job, at + i * BASE_SIZE);
         if anchor_fault(width, height, b.anchor) {
             return Verdict::AnchorOffMap(i);
         }

@@ -10,6 +10,8 @@ ghost use Rattle.job.specs.Refusals.{rampCheck, widthCheck, endsCheck};
 ghost use Rattle.job.specs.Verdict.{meaning};
 use crate::spans::ends_fault;
 use crate::verdict::Verdict;
+use format::BOUNDARY_SIZE;
+use format::MAX_WIDTH_BITS;
 use format::RampRecord;
 use format::read_boundary;
 
@@ -23,7 +25,7 @@ pub fn ramp_fault(r: RampRecord) -> bool
 pub fn width_fault(bits: u64) -> bool
     ensures { λ r. ⌜ r ≡ widthFault bits ⌝ }
 {
-    0x40D0_0000_0000_0000 < bits
+    MAX_WIDTH_BITS < bits
 }
 
 pub fn check_ramps(job: &[u8], at: usize, n: usize) -> Verdict
@@ -32,7 +34,7 @@ pub fn check_ramps(job: &[u8], at: usize, n: usize) -> Verdict
 {
     let mut i: usize = 0;
     while i < n {
-        let b = read_boundary(job, at + i * 40);
+        let b = read_boundary(job, at + i * BOUNDARY_SIZE);
         if ramp_fault(b.ramp) {
             return Verdict::RampForm(i);
         }
@@ -47,7 +49,7 @@ pub fn check_widths(job: &[u8], at: usize, n: usize) -> Verdict
 {
     let mut i: usize = 0;
     while i < n {
-        let b = read_boundary(job, at + i * 40);
+        let b = read_boundary(job, at + i * BOUNDARY_SIZE);
         if width_fault(b.bits) {
             return Verdict::WidthRange(i);
         }
@@ -70,7 +72,7 @@ pub fn check_ends(
 {
     let mut i: usize = 0;
     while i < n {
-        let b = read_boundary(job, at + i * 40);
+        let b = read_boundary(job, at + i * BOUNDARY_SIZE);
         let e = b.ends;
         if ends_fault(width, height, e) {
             return Verdict::EndOffMap(i);

@@ -14,6 +14,7 @@ use crate::header::check_header;
 use crate::spans::check_list;
 use crate::sums::sums_fault;
 use crate::verdict::Verdict;
+use format::HEADER_SIZE;
 use format::Header;
 use format::read_header;
 
@@ -21,7 +22,7 @@ use format::read_header;
 fn check_layout(job: &[u8]) -> Verdict
     ensures { λ r. ⌜ meaning r ≡ firstRefusal (layoutChecks (now (job .entry))) ⌝ }
 {
-    if job.len() < 48 {
+    if job.len() < HEADER_SIZE {
         return Verdict::ShortHeader;
     }
     let h = read_header(job);

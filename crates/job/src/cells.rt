@@ -7,6 +7,8 @@ ghost use Rattle.job.specs.Checks.{firstRefusal, each};
 ghost use Rattle.job.specs.Refusals.{cellCheck};
 ghost use Rattle.job.specs.Verdict.{meaning};
 use crate::verdict::Verdict;
+use format::CELL_LIMIT;
+use format::HEADER_SIZE;
 
 pub fn check_cells(job: &[u8], n: usize) -> Verdict
     requires { ⌜ headerSize + n ≤ length (now job) ⌝ }
@@ -14,7 +16,7 @@ pub fn check_cells(job: &[u8], n: usize) -> Verdict
 {
     let mut i: usize = 0;
     while i < n {
-        if 32 <= job[48 + i] {
+        if CELL_LIMIT <= job[HEADER_SIZE + i] {
             return Verdict::CellBits(i);
         }
         i += 1;

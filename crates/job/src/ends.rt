@@ -10,6 +10,8 @@ ghost use Rattle.job.specs.Verdict.{passes};
 use crate::calls::check_reduce;
 use crate::calls::check_reduce_by_list;
 use crate::casts::size;
+use format::BOUNDARY_SIZE;
+use format::SPAN_SIZE;
 use format::read_header;
 
 // Reduce takes the job, and it has a boundary i.
@@ -31,7 +33,7 @@ fn list_has(job: &[u8], list: &[u8], i: usize) -> bool
     if !check_reduce_by_list(job, list).passed() {
         return false;
     }
-    i < list.len() / 16
+    i < list.len() / SPAN_SIZE
 }
 
 pub fn span_ends<'a>(job: &'a [u8], list: &'a [u8], which: u32, i: u32) -> &'a [u8]
@@ -42,14 +44,14 @@ pub fn span_ends<'a>(job: &'a [u8], list: &'a [u8], which: u32, i: u32) -> &'a [
         if job_has(job, k) {
             let h = read_header(job);
             let o = h.offsets;
-            let at = size(o.boundaries) + k * 40;
-            return &job[at..at + 16];
+            let at = size(o.boundaries) + k * BOUNDARY_SIZE;
+            return &job[at..at + SPAN_SIZE];
         }
         return &job[0..0];
     }
     if list_has(job, list, k) {
-        let at = k * 16;
-        return &list[at..at + 16];
+        let at = k * SPAN_SIZE;
+        return &list[at..at + SPAN_SIZE];
     }
     &list[0..0]
 }

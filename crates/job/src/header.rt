@@ -10,12 +10,17 @@ ghost use Rattle.job.specs.Verdict.{meaning};
 use crate::verdict::Verdict;
 use format::Counts;
 use format::Header;
+use format::MAX_BASES;
+use format::MAX_BOUNDARIES;
+use format::MAX_OBSERVATIONS;
+use format::MAX_SIDE;
+use format::MAX_SOURCES;
 use format::Offsets;
 
 fn side_fault(n: u32) -> bool
     ensures { λ r. ⌜ r ≡ sideFault n ⌝ }
 {
-    (n < 1) | (1024 < n)
+    (n < 1) | (MAX_SIDE < n)
 }
 
 fn size_fault(c: Counts) -> bool
@@ -27,13 +32,13 @@ fn size_fault(c: Counts) -> bool
 fn count_fault(c: Counts) -> bool
     ensures { λ r. ⌜ r ≡ countFault c ⌝ }
 {
-    (256 < c.bases) | ((1024 < c.observations) | (4096 < c.sources))
+    (MAX_BASES < c.bases) | ((MAX_OBSERVATIONS < c.observations) | (MAX_SOURCES < c.sources))
 }
 
 fn boundary_count_fault(c: Counts) -> bool
     ensures { λ r. ⌜ r ≡ boundaryCountFault c ⌝ }
 {
-    256 < c.boundaries
+    MAX_BOUNDARIES < c.boundaries
 }
 
 fn same_offsets(o: Offsets, p: Offsets) -> bool

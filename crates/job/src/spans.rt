@@ -9,6 +9,9 @@ ghost use Rattle.format.specs.Bounds.{maxSide};
 ghost use Rattle.job.specs.Refusals.{spanCheck, listChecks};
 ghost use Rattle.job.specs.Verdict.{meaning};
 use crate::verdict::Verdict;
+use format::CELL_PIXELS;
+use format::MAX_SPANS;
+use format::SPAN_SIZE;
 use format::read_span;
 use position::PixelPosition;
 use position::Span;
@@ -17,7 +20,7 @@ fn position_fault(width: u32, height: u32, p: PixelPosition) -> bool
     requires { ⌜ (width ≤ maxSide) × (height ≤ maxSide) ⌝ }
     ensures { λ r. ⌜ r ≡ positionFault width height p ⌝ }
 {
-    (width * 8 < p.x) | (height * 8 < p.y)
+    (width * CELL_PIXELS < p.x) | (height * CELL_PIXELS < p.y)
 }
 
 pub fn ends_fault(width: u32, height: u32, e: Span) -> bool
@@ -33,7 +36,7 @@ fn check_spans(list: &[u8], n: usize, width: u32, height: u32) -> Verdict
 {
     let mut i: usize = 0;
     while i < n {
-        let e = read_span(list, i * 16);
+        let e = read_span(list, i * SPAN_SIZE);
         if ends_fault(width, height, e) {
             return Verdict::SpanOffMap(i);
         }
@@ -49,11 +52,11 @@ pub fn check_list(list: &[u8], width: u32, height: u32) -> Verdict
     requires { ⌜ (width ≤ maxSide) × (height ≤ maxSide) ⌝ }
     ensures { λ r. ⌜ meaning r ≡ firstRefusal (listChecks (now (list .entry)) width height) ⌝ }
 {
-    if !(list.len() % 16 == 0) {
+    if !(list.len() % SPAN_SIZE == 0) {
         return Verdict::ListLength;
     }
-    let n = list.len() / 16;
-    if 256 < n {
+    let n = list.len() / SPAN_SIZE;
+    if MAX_SPANS < n {
         return Verdict::TooManySpans(n);
     }
     check_spans(list, n, width, height)

@@ -9,7 +9,9 @@ ghost use Rattle.job.specs.Passed.{Laid};
 ghost use Rattle.job.specs.Refusals.{sumsFault};
 use crate::casts::size;
 use crate::casts::wide;
+use format::BOUNDARY_SIZE;
 use format::Header;
+use format::OBSERVATION_SIZE;
 use format::read_boundary;
 use format::read_observation;
 
@@ -20,7 +22,7 @@ fn observation_total(job: &[u8], at: usize, n: usize) -> u64
     let mut total: u64 = 0;
     let mut i: usize = 0;
     while i < n {
-        let b = read_boundary(job, at + i * 40);
+        let b = read_boundary(job, at + i * BOUNDARY_SIZE);
         total += wide(b.observations);
         i += 1;
     }
@@ -34,7 +36,7 @@ fn own_total(job: &[u8], at: usize, n: usize) -> u64
     let mut total: u64 = 0;
     let mut i: usize = 0;
     while i < n {
-        let b = read_boundary(job, at + i * 40);
+        let b = read_boundary(job, at + i * BOUNDARY_SIZE);
         total += wide(b.sources);
         i += 1;
     }
@@ -48,7 +50,7 @@ fn source_count(job: &[u8], at: usize, n: usize) -> u64
     let mut total: u64 = 0;
     let mut i: usize = 0;
     while i < n {
-        let o = read_observation(job, at + i * 28);
+        let o = read_observation(job, at + i * OBSERVATION_SIZE);
         total += wide(o.sources);
         i += 1;
     }
