@@ -6,3 +6,4 @@ pub mod Passing
 pub mod SpanParts
 pub mod First
 pub mod Formed
+pub mod Cases

@@ -5,3 +5,4 @@ pub mod Refusals
 pub mod Verdict
 pub mod Passed
 pub mod SpanEnds
+pub mod Cases

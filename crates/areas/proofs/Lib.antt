@@ -1,0 +1,12 @@
+pub mod Side
+pub mod OnSegment
+pub mod Crossing
+pub mod Meets
+pub mod Cuts
+pub mod Uncut
+pub mod Areas
+pub mod Assessments
+pub mod Records
+pub mod Counts
+pub mod Walkable
+pub mod Cases

@@ -1,0 +1,7 @@
+pub mod Index
+pub mod Directions
+pub mod Steps
+pub mod StepList
+pub mod Eight
+pub mod Walkable
+pub mod Cases

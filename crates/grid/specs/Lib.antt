@@ -1,0 +1,4 @@
+pub mod Cells
+pub mod Directions
+pub mod Steps
+pub mod Eight

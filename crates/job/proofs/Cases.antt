@@ -1,0 +1,77 @@
+-- Cases 9 and 10 hold.
+use mathlib.Core.Path.{_≡_, refl, sym, _∙_, ap}
+use mathlib.Core.Bool.{Bool, true, false}
+use mathlib.Core.List.{List, [], _∷_, _++_}
+use mathlib.Core.Option.{Option, none, some}
+use Prim.Native.Nat.{ℕ, zero, suc, _+_, _*_, _<_}
+use native.Mathlib.Numerals.{add-one}
+use native.Mathlib.Omega.{arith}
+use borrow.Author.Tests.{lt-ltb, le-ltb}
+use lib.Dec.{ltb}
+use Rattle.format.specs.Bounds.{maxBoundaries, maxWidthBits}
+use Rattle.format.specs.Header.{headerAt, cellCount, basesStart, boundariesStart}
+use Rattle.format.specs.declared.header.Counts.{Counts}
+use Rattle.job.specs.Checks.{Refusal, Check, check, firstRefusal, each}
+use Rattle.job.specs.Faults.{widthFault}
+use Rattle.job.specs.Refusals.{headerChecks, layoutChecks, recordChecks, jobChecks, boundaryChecks, reduceChecks, markChecks, byListChecks, cellCheck, baseCheck, sumsFault, rampCheck, widthCheck}
+use Rattle.job.specs.Cases.{AllRefuse, FirstWidth, PassesThree, RefusalCases, upToRamps, bitsAt}
+use Rattle.job.proofs.Firsts.{skip, stop, clear, append-none, append-some, none-left, none-right, none-head, each-next, each-found}
+
+-- What refuses the job is what every call gives.
+all-refuse : (s : List ℕ) (r : Refusal) → firstRefusal (jobChecks s) ≡ some r → AllRefuse s r
+unfolding reduceChecks markChecks byListChecks boundaryChecks
+all-refuse s r e = record {
+  reduce = append-some (jobChecks s) _ r e;
+  mark = append-some (jobChecks s) _ r e;
+  by-list = λ l. append-some (boundaryChecks false s) _ r (append-some (jobChecks s) _ r e);
+}
+
+-- The checks of widths before k find nothing.
+widths-clear : (s : List ℕ) (c : Counts) (k : ℕ) → ((i : ℕ) → i < k → widthFault (bitsAt s c i) ≡ false) → firstRefusal (each k (widthCheck s (boundariesStart c))) ≡ none
+unfolding each firstRefusal widthCheck
+widths-clear s c zero h = refl
+widths-clear s c (suc k) h = append-none (each k (widthCheck s (boundariesStart c))) (widthCheck s (boundariesStart c) k) (widths-clear s c k (λ i l. h i (omega arith))) ∙ clear 10 k (h k (omega arith))
+
+width-found : (s : List ℕ) (c : Counts) (k : ℕ) → k < c .boundaries → ((i : ℕ) → i < k → widthFault (bitsAt s c i) ≡ false) → widthFault (bitsAt s c k) ≡ true
+    → firstRefusal (each (c .boundaries) (widthCheck s (boundariesStart c))) ≡ some (record { number = 10; detail = k })
+unfolding widthCheck
+width-found s c k l h e = each-found (widthCheck s (boundariesStart c)) k (c .boundaries) _ l (widths-clear s c k h) (stop 10 k [] e)
+
+-- 9 is passed before 10 is tested.
+after-ramps : (s : List ℕ) (c : Counts) → firstRefusal (upToRamps s c) ≡ none → firstRefusal (recordChecks s c) ≡ firstRefusal (each (c .boundaries) (widthCheck s (boundariesStart c)))
+unfolding recordChecks
+after-ramps s c e =
+    let cells = each (cellCount c) (cellCheck s) in
+    let bases = each (c .bases) (baseCheck s (c .width) (c .height) (basesStart c)) in
+    let r1 = none-right cells _ e in
+    let r2 = none-head (sumsFault s c) 8 0 _ (none-right bases _ r1) in
+    append-none cells _ (none-left cells _ e) ∙ append-none bases _ (none-left bases _ r1) ∙ skip 8 0 _ (r2 .0) ∙ append-none (each (c .boundaries) (rampCheck s (boundariesStart c))) _ (r2 .1)
+
+negative-zero : (b : ℕ) → b ≡ 0x8000_0000_0000_0000 → widthFault b ≡ true
+negative-zero b e = lt-ltb maxWidthBits b (omega arith)
+
+nine : (s : List ℕ) (k : ℕ) → FirstWidth s k → bitsAt s (headerAt s .counts) k ≡ 0x8000_0000_0000_0000 → firstRefusal (jobChecks s) ≡ some (record { number = 10; detail = k })
+unfolding jobChecks
+nine s k w e =
+    append-none (layoutChecks s) _ (w .laid)
+    ∙ after-ramps s (headerAt s .counts) (w .before)
+    ∙ width-found s (headerAt s .counts) k (w .there) (w .right) (negative-zero _ e)
+
+refused-four : ℕ → Option Refusal
+refused-four n = some (record { number = 4; detail = n })
+
+ten : (s : List ℕ) → PassesThree s → headerAt s .counts .boundaries ≡ 257 → firstRefusal (jobChecks s) ≡ some (record { number = 4; detail = 257 })
+unfolding jobChecks layoutChecks headerChecks refused-four
+ten s p e =
+    let over : ltb 256 (headerAt s .counts .boundaries) ≡ true = lt-ltb 256 (headerAt s .counts .boundaries) (omega arith) in
+    let four = ap refused-four e in
+    append-some (layoutChecks s) _ _
+    (skip 1 0 _ (le-ltb _ _ (p .whole))
+    ∙ append-some (headerChecks (headerAt s)) _ _ (skip 2 0 _ (p .sides) ∙ skip 3 0 _ (p .counts) ∙ stop 4 (headerAt s .counts .boundaries) _ over ∙ four))
+
+pub refusal-cases : RefusalCases
+refusal-cases = record {
+  case9 = λ s k w e. all-refuse s _ (nine s k w e);
+  case10 = λ s p e. all-refuse s _ (ten s p e);
+  case10-pass = λ c e. le-ltb maxBoundaries (c .boundaries) (omega arith);
+}

@@ -1,0 +1,4 @@
+pub mod Extremes
+pub mod RegionStats
+pub mod Elevations
+pub mod Cases
