@@ -1,8 +1,8 @@
 -- How many cells the areas have: each has one, and together they have the walkable cells.
 use mathlib.Core.Path.{_≡_, refl, sym, _∙_, ap}
-use mathlib.Core.Logic.{_↔_, by-cases}
-use mathlib.Core.Bool.{Bool, true, false, cond, _&&_, _||_, and-false, or-false}
-use mathlib.Core.List.{List, [], _∷_, map, List·Memᴰ, List·Memᴰ·head, List·Memᴰ·tail}
+use mathlib.Core.Logic.{by-cases}
+use mathlib.Core.Bool.{Bool, true, false, _&&_, _||_, and-false, or-false}
+use mathlib.Core.List.{List, map}
 use Prim.Native.Nat.{ℕ, zero, suc, _+_, _<_, _≤_}
 use native.Mathlib.Omega.{arith}
 use native.Mathlib.Decide.{decLe, ℕ-discrete}
@@ -12,40 +12,14 @@ use lib.ListN.{length, length-map}
 use Rattle.lists.specs.Rows.{rows, sum}
 use Rattle.lists.proofs.Rows.{sum-last}
 use Rattle.order.specs.Lists.{keep, upFrom}
-use Rattle.order.proofs.Bools.{clash, by-test, and-both}
+use Rattle.order.proofs.Bools.{by-test, and-both}
 use Rattle.order.proofs.Members.{getD-mem}
-use Rattle.order.proofs.Keep.{keep-mem, mem-keep, keep-none, keep-map}
+use Rattle.order.proofs.Keep.{keep-none, keep-map, some-kept, split-count}
 use Rattle.order.proofs.Numbers.{up-mem, map-places}
 use Rattle.position.specs.declared.Span.{Span}
 use Rattle.grid.specs.Cells.{Grid, size, walkable}
 use Rattle.areas.specs.Areas.{areaLabels, areaCount, labelAt, cellCount}
 use Rattle.areas.proofs.Areas.{area-labels-length, labels-by-first-cell, label-at-most, each-label-occurs}
-
--- something is kept exactly if some member passes the test
-pub some-kept : {A : Type 0} (t : A → Bool) (l : List A) → (0 < length (keep t l)) ↔ ((x : A) × List·Memᴰ x l × (t x ≡ true))
-some-kept {A} t l = (λ h. let w = first (keep t l) h in let k = keep-mem t l (w .1) in (w .0, k .0, k .1), λ w. not-empty (mem-keep t (w .1) (w .2)))
-  where
-    first : (m : List A) → 0 < length m → (x : A) × List·Memᴰ x m
-    first [] h = absurd (omega arith)
-    first (x ∷ xs) h = (x, List·Memᴰ·head refl)
-
-    not-empty : {x : A} {m : List A} → List·Memᴰ x m → 0 < length m
-    not-empty (List·Memᴰ·head e) = omega arith
-    not-empty (List·Memᴰ·tail m) = omega arith
-
--- what passes the one test or the other, but never both
-split-count : {A : Type 0} (t u v : A → Bool) → ((y : A) → (t y ≡ (u y || v y)) × (u y && v y ≡ false)) → (l : List A) →
-    length (keep t l) ≡ length (keep u l) + length (keep v l)
-unfolding keep
-split-count t u v h [] = omega arith
-split-count {A} t u v h (x ∷ xs) = go (t x) (u x) (v x) (h x .0) (h x .1) (split-count t u v h xs)
-  where
-    go : (p q r : Bool) → p ≡ (q || r) → q && r ≡ false → length (keep t xs) ≡ length (keep u xs) + length (keep v xs) →
-        length (cond p (x ∷ keep t xs) (keep t xs)) ≡ length (cond q (x ∷ keep u xs) (keep u xs)) + length (cond r (x ∷ keep v xs) (keep v xs))
-    go p true true e f i = clash refl f
-    go p true false e f i = rw e (omega arith)
-    go p false true e f i = rw e (omega arith)
-    go p false false e f i = rw e (omega arith)
 
 -- a label from 1 to k
 abbrev upTo : ℕ → ℕ → Bool

@@ -1,9 +1,14 @@
 -- Laws of `keep`.
 use mathlib.Core.Path.{_≡_, refl, ap}
-use mathlib.Core.Bool.{Bool, true, false, cond, not}
+use mathlib.Core.Logic.{_↔_}
+use mathlib.Core.Bool.{Bool, true, false, cond, not, _&&_, _||_}
 use mathlib.Core.List.{List, [], _∷_, _++_, map, List·Memᴰ, List·Memᴰ·head, List·Memᴰ·tail, List·Memᴰ·not-nil, List·Permᴰ, List·Permᴰ·nil, List·Permᴰ·cons, List·Permᴰ·swap, List·Permᴰ·trans, Permᴰ·refl, Permᴰ·symm, Permᴰ·middle}
+use Prim.Native.Nat.{ℕ, _+_, _<_}
+use native.Mathlib.Omega.{arith}
+use lib.ListN.{length}
 use Rattle.order.specs.Lists.{keep}
 use Rattle.order.specs.Pairs.{Pairs, none, more}
+use Rattle.order.proofs.Bools.{clash}
 
 module _ {A : Type 0} where
   -- what is kept is in the list and passes the test
@@ -110,3 +115,29 @@ keep-map {A} {B} f t u (x ∷ xs) h = rw (h x (List·Memᴰ·head refl)) (go (u 
     go : (s : Bool) → keep t (map f xs) ≡ map f (keep u xs) → cond s (f x ∷ keep t (map f xs)) (keep t (map f xs)) ≡ map f (cond s (x ∷ keep u xs) (keep u xs))
     go true e = ap (λ (l : List B). f x ∷ l) e
     go false e = e
+
+-- something is kept exactly if some member passes the test
+pub some-kept : {A : Type 0} (t : A → Bool) (l : List A) → (0 < length (keep t l)) ↔ ((x : A) × List·Memᴰ x l × (t x ≡ true))
+some-kept {A} t l = (λ h. let w = first (keep t l) h in let k = keep-mem t l (w .1) in (w .0, k .0, k .1), λ w. not-empty (mem-keep t (w .1) (w .2)))
+  where
+    first : (m : List A) → 0 < length m → (x : A) × List·Memᴰ x m
+    first [] h = absurd (omega arith)
+    first (x ∷ xs) h = (x, List·Memᴰ·head refl)
+
+    not-empty : {x : A} {m : List A} → List·Memᴰ x m → 0 < length m
+    not-empty (List·Memᴰ·head e) = omega arith
+    not-empty (List·Memᴰ·tail m) = omega arith
+
+-- what passes the one test or the other, but never both
+pub split-count : {A : Type 0} (t u v : A → Bool) → ((y : A) → (t y ≡ (u y || v y)) × (u y && v y ≡ false)) → (l : List A) →
+    length (keep t l) ≡ length (keep u l) + length (keep v l)
+unfolding keep
+split-count t u v h [] = omega arith
+split-count {A} t u v h (x ∷ xs) = go (t x) (u x) (v x) (h x .0) (h x .1) (split-count t u v h xs)
+  where
+    go : (p q r : Bool) → p ≡ (q || r) → q && r ≡ false → length (keep t xs) ≡ length (keep u xs) + length (keep v xs) →
+        length (cond p (x ∷ keep t xs) (keep t xs)) ≡ length (cond q (x ∷ keep u xs) (keep u xs)) + length (cond r (x ∷ keep v xs) (keep v xs))
+    go p true true e f i = clash refl f
+    go p true false e f i = rw e (omega arith)
+    go p false true e f i = rw e (omega arith)
+    go p false false e f i = rw e (omega arith)

@@ -13,7 +13,7 @@ use Rattle.order.specs.Lists.{keep}
 use Rattle.order.proofs.Bools.{clash}
 use Rattle.order.proofs.Members.{getD-mem, mem-getD}
 use Rattle.grid.specs.Cells.{Grid, elevation}
-use Rattle.areas.proofs.Counts.{some-kept}
+use Rattle.order.proofs.Keep.{some-kept}
 use Rattle.topology.specs.RegionStats.{regionCells, regionStats, elevations, OneElevation}
 use Rattle.topology.proofs.RegionStats.{elevation-small, elevation-iff, elevations-length}
 

@@ -10,11 +10,10 @@ use lib.Dec.{eqb}
 use lib.ListN.{length, getD, length-map}
 use Rattle.lists.specs.Rows.{sum}
 use Rattle.order.specs.Lists.{keep, upFrom}
-use Rattle.order.proofs.Keep.{keep-mem, mem-keep, keep-none, keep-map}
+use Rattle.order.proofs.Keep.{keep-mem, mem-keep, keep-none, keep-map, some-kept}
 use Rattle.order.proofs.Numbers.{up-mem, mem-up, map-places, map-up-at}
 use Rattle.grid.specs.Cells.{Grid, rampCell, elevation}
 use Rattle.areas.specs.Areas.{labelAt, cellCount}
-use Rattle.areas.proofs.Counts.{some-kept}
 use Rattle.topology.specs.Extremes.{least, greatest}
 use Rattle.topology.specs.RegionStats.{RegionStats, regionCells, leftOf, topOf, regionStats, noStats}
 use Rattle.topology.proofs.Extremes.{least-le, least-mem, le-greatest, greatest-mem}
