@@ -1,4 +1,6 @@
 pub mod Extremes
 pub mod RegionStats
 pub mod Elevations
+pub mod FullPair
+pub mod Anchors
 pub mod Cases

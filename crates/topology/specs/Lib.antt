@@ -1,2 +1,5 @@
 pub mod Extremes
 pub mod RegionStats
+pub mod FullPair
+pub mod Anchors
+pub mod Listing

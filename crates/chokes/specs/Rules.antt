@@ -1,0 +1,28 @@
+-- The merging rules of a map, as the groups that they accept.
+use mathlib.Core.List.{List, map}
+use Prim.Native.Nat.{ℕ}
+use Rattle.format.specs.Values.{Job}
+use Rattle.grid.specs.Cells.{Grid}
+use Rattle.topology.specs.Anchors.{anchorsOf}
+use Rattle.topology.specs.Listing.{Item}
+use Rattle.links.specs.Limits.{Limits}
+use Rattle.groups.specs.Groups as Link
+use Rattle.groups.specs.Serial.{serialGroups}
+use Rattle.groups.specs.Flat.{flatGroups}
+use Rattle.groups.specs.Representative.{retained}
+use Rattle.merging.specs.Groups.{Group, Groups}
+
+abbrev pub gridOf : Job → Grid
+gridOf j = record { width = j .width; height = j .height; cells = j .cells }
+
+-- A group of links with the member that it keeps.
+abbrev pub groupOf : Limits → List Item → Link.Group → Group
+groupOf limits l a = record { ranks = a .ranks; retained = retained limits l (a .ranks) }
+
+-- "Serial groups come first, then flat groups", over the listing of the job's boundaries.
+unfoldable pub rulesOf : Limits → List ℕ → Job → List Item → Groups
+unfolding serialGroups flatGroups retained
+rulesOf limits dirs j l = record {
+  serial = map (groupOf limits l) (serialGroups limits dirs (gridOf j) (anchorsOf (j .bases)) l);
+  flat = map (groupOf limits l) (flatGroups limits dirs (gridOf j) (anchorsOf (j .bases)) l);
+}

@@ -1,0 +1,1 @@
+// The three calls. There is no code here yet.

@@ -1,0 +1,10 @@
+pub mod Tests
+pub mod Listing
+pub mod Links
+pub mod Groups
+pub mod SimplePath
+pub mod Accepted
+pub mod Wider
+pub mod Representative
+pub mod Plan
+pub mod Cases

@@ -1,0 +1,11 @@
+pub mod Tests
+pub mod Listing
+pub mod Regions
+pub mod Links
+pub mod Measuring
+pub mod Groups
+pub mod SimplePath
+pub mod Serial
+pub mod Flat
+pub mod Representative
+pub mod Plan

@@ -1,0 +1,1 @@
+// Links, groups and representatives, as definitions (specs/) and theorems (proofs/): this crate has no function.

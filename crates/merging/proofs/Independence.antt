@@ -1,0 +1,65 @@
+-- What is kept follows the rules, and demand 3: independence of the listing.
+use mathlib.Core.Path.{_≡_, sym, _∙_, ap}
+use mathlib.Core.Logic.{by-cases}
+use mathlib.Core.List.{List, map, List·Memᴰ·not-nil}
+use native.Mathlib.Decide.{ℕ-discrete}
+use borrow.Author.Tests.{eq-eqb, ne-eqb}
+use lib.ListN.{length, length-map}
+use Rattle.order.specs.Pairs.{Pairs, none}
+use Rattle.format.specs.Encode.{encodeAnswer}
+use Rattle.topology.specs.Listing.{Item, listing}
+use Rattle.merging.specs.Copies.{copiesOf}
+use Rattle.merging.specs.Groups.{Groups, every, WellGrouped}
+use Rattle.merging.specs.Runs.{Run, itemsOf, canonItem, groupsOf, keptOf, rulesAnswer}
+use Rattle.merging.specs.Follows.{Follows}
+use Rattle.merging.specs.Relisted.{Relisted, DistinctEnds}
+use Rattle.merging.specs.Sources.{SameSources}
+use Rattle.merging.specs.Demand.{Independent}
+use Rattle.merging.proofs.Kept.{follows}
+use Rattle.merging.proofs.Ends.{Unlike, distinct-unlike}
+use Rattle.merging.proofs.Listings.{listing-copies, copies-perm, copies-sorted, copies-apart, relisted-copies, relisted-unlike, same-copies, same-groups}
+use Rattle.merging.proofs.Merges.{merged-exact, finished}
+use Rattle.merging.proofs.Exists.{first-list, list-perm, steps}
+use Rattle.merging.proofs.Sources.{sources-canon, sources-perm, sources-refl, sources-sym, sources-trans, through, kept-sources}
+
+module _ (rules : List Item → Groups) (well : (items : List Item) → WellGrouped (length items) (every (rules items))) where
+  groups-well : (r : Run) → WellGrouped (length (copiesOf (r .boundaries))) (every (groupsOf rules r))
+  unfolding groupsOf every
+  groups-well r = by-cases (ℕ-discrete (length (r .boundaries)) (length (r .spans)))
+      (λ e.
+      let items = listing (map canonItem (itemsOf r)) in
+      let n : length items ≡ length (copiesOf (r .boundaries)) = sym (length-map items (λ (i : Item). i .boundary)) ∙ ap length (listing-copies r e) in
+      rw (eq-eqb (length (r .boundaries)) (length (r .spans)) e, ← n) (well items))
+      (λ e. rw (ne-eqb (length (r .boundaries)) (length (r .spans)) e) (record { good = λ g m. absurd (List·Memᴰ·not-nil m); apart = none }))
+
+  -- Of every run.
+  pub kept-follows : (r : Run) → Follows (r .boundaries) (every (groupsOf rules r))
+  kept-follows r = follows (r .boundaries) (every (groupsOf rules r)) (groups-well r)
+
+  pub run-sources : (r : Run) → SameSources (r .boundaries) (keptOf rules r)
+  unfolding keptOf
+  run-sources r = kept-sources (r .boundaries) (every (groupsOf rules r)) (groups-well r)
+
+  same-kept : {a b : Run} → Pairs Unlike (a .boundaries) → Relisted a b → keptOf rules a ≡ keptOf rules b
+  unfolding keptOf
+  same-kept u h = rw (same-copies u h, same-groups rules u h)
+
+  pub demand-three : (a b : Run) → DistinctEnds (a .boundaries) → Relisted a b → Independent rules a b
+  unfolding rulesAnswer keptOf
+  demand-three a b d h =
+      let u = distinct-unlike d in
+      let copies = copiesOf (b .boundaries) in
+      let gs = every (groupsOf rules b) in
+      let sorted = copies-sorted (b .boundaries) in
+      let apart = copies-apart (b .boundaries) (relisted-unlike h u) in
+      let perm = copies-perm (b .boundaries) in
+      record {
+        answers = ap encodeAnswer (same-kept u h);
+        merges = λ ms after m s. ap encodeAnswer (finished copies sorted apart gs (groups-well b) (list-perm m) perm s ∙ sym (same-kept u h));
+        exact = λ ms after m s. merged-exact copies sorted apart gs (groups-well b) (list-perm m) perm s;
+        came = sources-trans (sources-sym (sources-canon (a .boundaries))) (sources-trans (sources-perm (relisted-copies h)) (sources-canon (b .boundaries)));
+        during = λ ms after s. through (sources-refl (b .boundaries)) s;
+        answered = run-sources a;
+        one = first-list (groupsOf rules b);
+        some = λ ms m. steps copies apart (b .boundaries) ms (list-perm m) (groups-well b) perm;
+      }

@@ -1,0 +1,13 @@
+pub mod Lists
+pub mod Keys
+pub mod Copies
+pub mod Consolidation
+pub mod Groups
+pub mod Kept
+pub mod Ends
+pub mod Listings
+pub mod Merges
+pub mod Exists
+pub mod Sources
+pub mod Independence
+pub mod Cases

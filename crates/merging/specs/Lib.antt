@@ -1,0 +1,11 @@
+pub mod Keys
+pub mod Copies
+pub mod Consolidation
+pub mod Groups
+pub mod Kept
+pub mod Follows
+pub mod Runs
+pub mod Merging
+pub mod Relisted
+pub mod Sources
+pub mod Demand
