@@ -207,19 +207,19 @@ impl Job {
         let equation = |name: &str, left: &str, right: String, opened: &str| {
             format!("\n{name}{k} : {left} ≡ {right}\nunfolding job{k} {opened}\n{name}{k} = refl\n")
         };
-        let own_ends = format!("(ownEnds limits000 eight job{k})");
+        let own_ends = format!("(ownEnds job{k})");
         let marks = (0..spans.len()).map(|i| u8::from(bridges.contains(&i)));
         let text = [
             job,
             equation(
                 "labels",
-                &format!("labelsOf limits000 eight job{k} {own_ends}"),
+                &format!("labelsOf eight job{k} {own_ends}"),
                 list(partition.labels(), u32::to_string),
                 LABELLING,
             ),
             equation(
                 "marks",
-                &format!("marksOf limits000 eight job{k}"),
+                &format!("marksOf eight job{k}"),
                 list(marks, |mark| mark.to_string()),
                 MARKING,
             ),

@@ -97,11 +97,11 @@ unfolding anchored decode jobWith decodeBoundaries numberAt bytes countsAt baseR
 anchored-job = refl
 
 -- Labels and groups.
-job-labels : (bases : List Base) → labelsOf limits000 eight (job bases) (ownEnds limits000 eight (job bases)) ≡ 1 ∷ 2 ∷ 3 ∷ 3 ∷ []
+job-labels : (bases : List Base) → labelsOf eight (job bases) (ownEnds (job bases)) ≡ 1 ∷ 2 ∷ 3 ∷ 3 ∷ []
 unfolding areaLabels partOf count upFrom
 job-labels bases = refl
 
-job-pairs : (bases : List Base) → length (records eight (gridOf (job bases)) (ownEnds limits000 eight (job bases))) ≡ 2
+job-pairs : (bases : List Base) → length (records eight (gridOf (job bases)) (ownEnds (job bases))) ≡ 2
 unfolding records partOf count upFrom
 job-pairs bases = refl
 
@@ -135,12 +135,12 @@ both-bytes = refl
 
 -- The answers, from the jobs' bytes.
 abbrev answer : List ℕ → List ℕ
-answer s = answerOf limits000 eight (decode s) (ownEnds limits000 eight (decode s))
+answer s = answerOf limits000 eight (decode s) (ownEnds (decode s))
 
 corridor-answer : answer corridor ≡ corridorAnswer
 unfolding rulesAnswer keptOf
 corridor-answer =
-    ap (λ (j : Job). answerOf limits000 eight j (ownEnds limits000 eight j)) corridor-job
+    ap (λ (j : Job). answerOf limits000 eight j (ownEnds j)) corridor-job
     ∙ ap (λ (g : Groups). encodeAnswer (kept (copiesOf (first ∷ second ∷ [])) (every g))) corridor-groups
     ∙ ap encodeAnswer pair-kept
     ∙ merged-bytes
@@ -148,7 +148,7 @@ corridor-answer =
 anchored-answer : answer anchored ≡ anchoredAnswer
 unfolding rulesAnswer keptOf
 anchored-answer =
-    ap (λ (j : Job). answerOf limits000 eight j (ownEnds limits000 eight j)) anchored-job
+    ap (λ (j : Job). answerOf limits000 eight j (ownEnds j)) anchored-job
     ∙ ap (λ (g : Groups). encodeAnswer (kept (copiesOf (first ∷ second ∷ [])) (every g))) anchored-groups
     ∙ ap encodeAnswer none-kept
     ∙ both-bytes
@@ -157,12 +157,12 @@ anchored-answer =
 gives : (s : List ℕ) (bases : List Base) (written : List ℕ) → firstRefusal (reduceChecks s) ≡ none → decode s ≡ job bases → answer s ≡ written → Gives s (1 ∷ 2 ∷ 3 ∷ 3 ∷ []) written
 unfolding reduceResult reduceWith labelled words
 gives s bases written p d a work out w o =
-    let few : length (records eight (gridOf (decode s)) (ownEnds limits000 eight (decode s))) ≤ 4096
+    let few : length (records eight (gridOf (decode s)) (ownEnds (decode s))) ≤ 4096
     = rw (d, job-pairs bases) (lit≤ tt) in
     let room : workSize (decode s) ≤ length work = rw d w in
     let fits : length (answer s) ≤ length out = rw a o in
-    let labels : labelsOf limits000 eight (decode s) (ownEnds limits000 eight (decode s)) ≡ 1 ∷ 2 ∷ 3 ∷ 3 ∷ [] = rw d (job-labels bases) in
-    reduced-success limits000 eight (reduceChecks s) (decode s) (ownEnds limits000 eight (decode s)) work out p room few fits
+    let labels : labelsOf eight (decode s) (ownEnds (decode s)) ≡ 1 ∷ 2 ∷ 3 ∷ 3 ∷ [] = rw d (job-labels bases) in
+    reduced-success limits000 eight (reduceChecks s) (decode s) (ownEnds (decode s)) work out p room few fits
     ∙ ap (λ (l : List ℕ). record { number = 0; detail = length (answer s); work = labelled l work; out = splice out 0 (answer s) }) labels
     ∙ ap (λ (l : List ℕ). leaves (length l) (1 ∷ 2 ∷ 3 ∷ 3 ∷ []) l work out) a
 
@@ -171,7 +171,7 @@ corridor-marked : firstRefusal (markChecks corridor) ≡ none
 unfolding markChecks corridor reduceChecks boundaryChecks jobChecks layoutChecks headerChecks recordChecks each cellCheck baseCheck sumsFault rampCheck widthCheck endsChecks endsCheck spanChecks firstRefusal headerAt offsetsOf boundaryAt baseAt numberAt bytes boundaryRecords observationRecords sourceCount posSame
 corridor-marked = refl
 
-job-marks : marksOf limits000 eight (job []) ≡ 1 ∷ 1 ∷ []
+job-marks : marksOf eight (job []) ≡ 1 ∷ 1 ∷ []
 unfolding marksOf partOf count upFrom
 job-marks = refl
 
@@ -179,12 +179,12 @@ marks-left : (work marks : List ℕ) → 40 ≤ length work → 2 ≤ length mar
 unfolding markResult labelled words
 marks-left work marks w m =
     let d = corridor-job in
-    let few : length (records eight (gridOf (decode corridor)) (ownEnds limits000 eight (decode corridor))) ≤ 4096 = rw (d, job-pairs []) (lit≤ tt) in
+    let few : length (records eight (gridOf (decode corridor)) (ownEnds (decode corridor))) ≤ 4096 = rw (d, job-pairs []) (lit≤ tt) in
     let room : workSize (decode corridor) ≤ length work = rw d w in
     let fits : length (decode corridor .boundaries) ≤ length marks = rw d m in
-    mark-success limits000 eight corridor work marks corridor-marked room few fits
-    ∙ ap (λ (j : Job). record { number = 0; detail = length (j .boundaries); work = labelled (labelsOf limits000 eight j (ownEnds limits000 eight j)) work; out = splice marks 0 (marksOf limits000 eight j) }) d
-    ∙ ap (λ (l : List ℕ). record { number = 0; detail = 2; work = labelled l work; out = splice marks 0 (marksOf limits000 eight (job [])) }) (job-labels [])
+    mark-success eight corridor work marks corridor-marked room few fits
+    ∙ ap (λ (j : Job). record { number = 0; detail = length (j .boundaries); work = labelled (labelsOf eight j (ownEnds j)) work; out = splice marks 0 (marksOf eight j) }) d
+    ∙ ap (λ (l : List ℕ). record { number = 0; detail = 2; work = labelled l work; out = splice marks 0 (marksOf eight (job [])) }) (job-labels [])
     ∙ ap (λ (l : List ℕ). leaves 2 (1 ∷ 2 ∷ 3 ∷ 3 ∷ []) l work marks) job-marks
 
 -- The corridor by a list of one span.
@@ -196,7 +196,7 @@ listed : decodeList oneSpan ≡ column 8 ∷ []
 unfolding decodeList oneSpan spanAt numberAt bytes
 listed = refl
 
-listed-labels : labelsOf limits000 eight (job []) (column 8 ∷ []) ≡ 1 ∷ 2 ∷ 2 ∷ 2 ∷ []
+listed-labels : labelsOf eight (job []) (column 8 ∷ []) ≡ 1 ∷ 2 ∷ 2 ∷ 2 ∷ []
 unfolding areaLabels partOf count upFrom
 listed-labels = refl
 
@@ -249,7 +249,7 @@ six-words = refl
 
 eleven : (c : ℕ) → c < 32 → (work out : List ℕ) → 10 ≤ length work → 24 ≤ length out
     → reduceResult (oneCell c) work out
-    ≡ record { number = 0; detail = 24; work = labelled (labelsOf limits000 eight (oneJob c) []) work; out = splice out 0 (words (0 ∷ 0 ∷ 0 ∷ 24 ∷ 24 ∷ 24 ∷ [])) }
+    ≡ record { number = 0; detail = 24; work = labelled (labelsOf eight (oneJob c) []) work; out = splice out 0 (words (0 ∷ 0 ∷ 0 ∷ 24 ∷ 24 ∷ 24 ∷ [])) }
 unfolding reduceResult reduceWith
 eleven c h work out w o =
     let d = one-job c in
@@ -261,7 +261,7 @@ eleven c h work out w o =
     ∙ ap (λ (n : ℕ). left n (words (0 ∷ 0 ∷ 0 ∷ 24 ∷ 24 ∷ 24 ∷ []))) six-words)
   where
     left : ℕ → List ℕ → Outcome
-    left n l = record { number = 0; detail = n; work = labelled (labelsOf limits000 eight (oneJob c) []) work; out = splice out 0 l }
+    left n l = record { number = 0; detail = n; work = labelled (labelsOf eight (oneJob c) []) work; out = splice out 0 l }
 
 pub twelve-cases : TwelveCases
 twelve-cases = record {

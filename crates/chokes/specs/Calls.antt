@@ -15,4 +15,4 @@ reduceByListResult job list work answer = reduceByListWith limits000 eight job l
 
 unfoldable pub markResult : List ℕ → List ℕ → List ℕ → Outcome
 unfolding markWith
-markResult job work marks = markWith limits000 eight job work marks
+markResult job work marks = markWith eight job work marks

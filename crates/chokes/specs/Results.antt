@@ -56,14 +56,33 @@ module _ (work labels out written : List ℕ) (success : ℕ) where
 abbrev pub workCheck : Job → List ℕ → Check
 workCheck j work = check (ltb (length work) (workSize j)) 21 0
 
-module _ (limits : Limits) (dirs : List ℕ) where
-  -- A job and the spans that it is partitioned by.
+-- "*Reduce* takes a job and partitions by its boundaries' own ends."
+abbrev pub ownEnds : Job → List Span
+ownEnds j = map (λ (b : Boundary). b .ends) (j .boundaries)
+
+-- A job and the spans that it is partitioned by: its labels, and "13 over 4,096 region pairs in all".
+module _ (dirs : List ℕ) where
   abbrev pub labelsOf : Job → List Span → List ℕ
   labelsOf j ss = areaLabels dirs (gridOf j) ss
 
   abbrev pub pairCheck : Job → List Span → Check
   pairCheck j ss = check (ltb maxPairs (length (records dirs (gridOf j) ss))) 13 0
 
+  -- "*Mark* writes one byte per boundary of a job: 1 if it is in the bridge set below, else 0."
+  unfoldable pub marksOf : Job → List ℕ
+  unfolding rows markOf records
+  marksOf j = rows (length (j .boundaries)) (λ b. cond (markOf (records dirs (gridOf j) (ownEnds j)) b) 1 0)
+
+  -- The checks of the input, then 21; 13 and 23; then the marks, with the boundary count.
+  unfoldable pub markWith : List ℕ → List ℕ → List ℕ → Outcome
+  unfolding outcome firstRefusal marksOf
+  markWith s work marks =
+      let j = decode s in
+      outcome work (labelsOf j (ownEnds j)) marks (marksOf j) (length (j .boundaries))
+      (pairCheck j (ownEnds j) ∷ check (ltb (length marks) (length (j .boundaries))) 23 0 ∷ [])
+      (firstRefusal (markChecks s ++ (workCheck j work ∷ [])))
+
+module _ (limits : Limits) (dirs : List ℕ) where
   abbrev pub answerOf : Job → List Span → List ℕ
   answerOf j ss = rulesAnswer (rulesOf limits dirs j) (record { boundaries = j .boundaries; spans = ss })
 
@@ -71,13 +90,9 @@ module _ (limits : Limits) (dirs : List ℕ) where
   unfoldable pub reduced : List Check → Job → List Span → List ℕ → List ℕ → Outcome
   unfolding outcome firstRefusal
   reduced checks j ss work answer =
-      outcome work (labelsOf j ss) answer (answerOf j ss) (length (answerOf j ss))
-      (pairCheck j ss ∷ check (ltb (length answer) (length (answerOf j ss))) 22 (length (answerOf j ss)) ∷ [])
+      outcome work (labelsOf dirs j ss) answer (answerOf j ss) (length (answerOf j ss))
+      (pairCheck dirs j ss ∷ check (ltb (length answer) (length (answerOf j ss))) 22 (length (answerOf j ss)) ∷ [])
       (firstRefusal (checks ++ (workCheck j work ∷ [])))
-
-  -- "*Reduce* takes a job and partitions by its boundaries' own ends."
-  abbrev pub ownEnds : Job → List Span
-  ownEnds j = map (λ (b : Boundary). b .ends) (j .boundaries)
 
   unfoldable pub reduceWith : List ℕ → List ℕ → List ℕ → Outcome
   unfolding reduced
@@ -87,16 +102,3 @@ module _ (limits : Limits) (dirs : List ℕ) where
   unfoldable pub reduceByListWith : List ℕ → List ℕ → List ℕ → List ℕ → Outcome
   unfolding reduced
   reduceByListWith s l work answer = reduced (byListChecks s l) (decode s) (decodeList l) work answer
-
-  -- "*Mark* writes one byte per boundary of a job: 1 if it is in the bridge set below, else 0."
-  unfoldable pub marksOf : Job → List ℕ
-  unfolding rows markOf records
-  marksOf j = rows (length (j .boundaries)) (λ b. cond (markOf (records dirs (gridOf j) (ownEnds j)) b) 1 0)
-
-  unfoldable pub markWith : List ℕ → List ℕ → List ℕ → Outcome
-  unfolding outcome firstRefusal marksOf
-  markWith s work marks =
-      let j = decode s in
-      outcome work (labelsOf j (ownEnds j)) marks (marksOf j) (length (j .boundaries))
-      (pairCheck j (ownEnds j) ∷ check (ltb (length marks) (length (j .boundaries))) 23 0 ∷ [])
-      (firstRefusal (markChecks s ++ (workCheck j work ∷ [])))
