@@ -34,7 +34,7 @@ use Rattle.merging.specs.Groups.{every}
 use Rattle.merging.specs.Kept.{membersOf, consolidated, slot, kept}
 use Rattle.merging.specs.Runs.{reduceRun, itemsOf, canonItem, groupsOf, keptOf}
 use Rattle.areas.specs.Areas.{areaLabels}
-use Rattle.chokes.specs.Rules.{rulesOf}
+use Rattle.chokes.specs.Rules.{rulesOn, rulesOf}
 use Rattle.chokes.specs.Results.{ownEnds, labelsOf, marksOf}
 
 abbrev span : ℕ → ℕ → ℕ → ℕ → Span
@@ -58,7 +58,7 @@ base i x y = record { id = i; anchor = some (record { x = x; y = y }) }
 
 const LABELLING: &str = "areaLabels part count upFrom";
 const MARKING: &str = "marksOf part count upFrom";
-const KEEPING: &str = "rulesOf anchorsOf keptOf groupsOf itemsOf canonItem every kept slot \
+const KEEPING: &str = "rulesOn anchorsOf keptOf groupsOf itemsOf canonItem every kept slot \
     consolidated consolidate membersOf observed orItself copiesOf canon canonObservation canonical \
     posLe endsKey spanKey sourceKey sourcesKey observationKey totalKey sort insert sortOnce include \
     lexLe gather upFrom has part count lengthOf ofInt ofBits toBits neg add sub mul div lt le";

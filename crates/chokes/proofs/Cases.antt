@@ -41,7 +41,7 @@ use Rattle.merging.specs.Consolidation.{orItself, observed, consolidate}
 use Rattle.merging.specs.Groups.{Groups, noGroups, every}
 use Rattle.merging.specs.Kept.{membersOf, consolidated, slot, kept}
 use Rattle.merging.specs.Runs.{Run, reduceRun, itemsOf, canonItem, groupsOf, keptOf, rulesAnswer}
-use Rattle.chokes.specs.Rules.{gridOf, rulesOf}
+use Rattle.chokes.specs.Rules.{gridOf, rulesOn, rulesOf}
 use Rattle.chokes.specs.Results.{Outcome, labelled, workSize, ownEnds, labelsOf, answerOf, marksOf, reduced, reduceWith, reduceByListWith}
 use Rattle.chokes.specs.Calls.{reduceResult, reduceByListResult, markResult}
 use Rattle.chokes.specs.Cases.{words, oneCell, corridor, anchored, corridorAnswer, anchoredAnswer, leaves, Gives, oneSpan, OtherCalls, TwelveCases}
@@ -109,11 +109,11 @@ abbrev run : Run
 run = reduceRun (first ∷ second ∷ [])
 
 corridor-groups : groupsOf (rulesOf limits000 eight (job [])) run ≡ pair
-unfolding groupsOf itemsOf canonItem canon canonical posLe endsKey spanKey sourceKey sort insert sortOnce include lexLe rulesOf anchorsOf partOf count upFrom lengthOf ofInt ofBits toBits neg add sub mul div lt le
+unfolding groupsOf itemsOf canonItem canon canonical posLe endsKey spanKey sourceKey sort insert sortOnce include lexLe rulesOn anchorsOf partOf count upFrom lengthOf ofInt ofBits toBits neg add sub mul div lt le
 corridor-groups = refl
 
 anchored-groups : groupsOf (rulesOf limits000 eight (job (anchor ∷ []))) run ≡ noGroups
-unfolding groupsOf itemsOf canonItem canon canonical posLe endsKey spanKey sourceKey sort insert sortOnce include lexLe rulesOf anchorsOf partOf count upFrom lengthOf ofInt ofBits toBits neg add sub mul div lt le
+unfolding groupsOf itemsOf canonItem canon canonical posLe endsKey spanKey sourceKey sort insert sortOnce include lexLe rulesOn anchorsOf partOf count upFrom lengthOf ofInt ofBits toBits neg add sub mul div lt le
 anchored-groups = refl
 
 -- What is kept.

@@ -1,3 +1,4 @@
 pub mod Rules
 pub mod Results
 pub mod Cases
+pub mod Demand

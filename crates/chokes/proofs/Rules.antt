@@ -19,7 +19,7 @@ use Rattle.merging.specs.Follows.{Follows}
 use Rattle.merging.specs.Relisted.{Relisted, DistinctEnds}
 use Rattle.merging.specs.Demand.{Independent}
 use Rattle.merging.proofs.Independence.{kept-follows, demand-three}
-use Rattle.chokes.specs.Rules.{gridOf, groupOf, rulesOf}
+use Rattle.chokes.specs.Rules.{gridOf, groupOf, rulesOn, rulesOf}
 
 map-join : {A B : Type 0} (f : A → B) (l m : List A) → map f l ++ map f m ≡ map f (l ++ m)
 map-join f [] m = refl
@@ -27,7 +27,7 @@ map-join f (x ∷ l) m = ap (λ t. f x ∷ t) (map-join f l m)
 
 module _ (limits : Limits) (dirs : List ℕ) (j : Job) where
   every-group : (l : List Item) → every (rulesOf limits dirs j l) ≡ map (groupOf limits l) (accepted limits dirs (gridOf j) (anchorsOf (j .bases)) l)
-  unfolding every rulesOf accepted
+  unfolding every rulesOn accepted
   every-group l = map-join (groupOf limits l) (serialGroups limits dirs (gridOf j) (anchorsOf (j .bases)) l) (flatGroups limits dirs (gridOf j) (anchorsOf (j .bases)) l)
 
   pub rules-well : (l : List Item) → WellGrouped (length l) (every (rulesOf limits dirs j l))

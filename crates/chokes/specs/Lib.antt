@@ -2,3 +2,4 @@ pub mod Rules
 pub mod Results
 pub mod Calls
 pub mod Cases
+pub mod Demand

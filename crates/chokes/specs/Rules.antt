@@ -1,6 +1,7 @@
 -- The merging rules of a map, as the groups that they accept.
 use mathlib.Core.List.{List, map}
 use Prim.Native.Nat.{ℕ}
+use Rattle.position.specs.declared.WalkPosition.{WalkPosition}
 use Rattle.format.specs.Values.{Job}
 use Rattle.grid.specs.Cells.{Grid}
 use Rattle.topology.specs.Anchors.{anchorsOf}
@@ -19,10 +20,14 @@ gridOf j = record { width = j .width; height = j .height; cells = j .cells }
 abbrev pub groupOf : Limits → List Item → Link.Group → Group
 groupOf limits l a = record { ranks = a .ranks; retained = retained limits l (a .ranks) }
 
--- "Serial groups come first, then flat groups", over the listing of the job's boundaries.
-unfoldable pub rulesOf : Limits → List ℕ → Job → List Item → Groups
+-- "Serial groups come first, then flat groups", over a listing, on a map with these anchors.
+unfoldable pub rulesOn : Limits → List ℕ → Grid → List WalkPosition → List Item → Groups
 unfolding serialGroups flatGroups retained
-rulesOf limits dirs j l = record {
-  serial = map (groupOf limits l) (serialGroups limits dirs (gridOf j) (anchorsOf (j .bases)) l);
-  flat = map (groupOf limits l) (flatGroups limits dirs (gridOf j) (anchorsOf (j .bases)) l);
+rulesOn limits dirs g anchors l = record {
+  serial = map (groupOf limits l) (serialGroups limits dirs g anchors l);
+  flat = map (groupOf limits l) (flatGroups limits dirs g anchors l);
 }
+
+-- Those of a job: its boundaries play no part.
+abbrev pub rulesOf : Limits → List ℕ → Job → List Item → Groups
+rulesOf limits dirs j = rulesOn limits dirs (gridOf j) (anchorsOf (j .bases))
