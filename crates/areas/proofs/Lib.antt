@@ -3,6 +3,8 @@ pub mod OnSegment
 pub mod Crossing
 pub mod Meets
 pub mod Cuts
+pub mod Line
+pub mod Covering
 pub mod Uncut
 pub mod Areas
 pub mod Assessments

@@ -1,5 +1,7 @@
+pub mod Bounds
 pub mod Segments
 pub mod Cuts
+pub mod Strip
 pub mod Areas
 pub mod Assessments
 pub mod Cases

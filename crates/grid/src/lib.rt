@@ -1,1 +1,3 @@
-// The map of cells and its steps, as definitions (specs/) and theorems (proofs/): this crate has no function.
+// The map of cells (source document 004).
+pub mod cells; // what the byte of a cell says, and where a cell lies
+pub mod neighbors; // the steps from a cell, by direction

@@ -1,0 +1,29 @@
+use mathlib.Core.Path.{sym, _∙_, ap, ap₂}
+use Rattle.areas.specs.Cuts.{cuts, cutBy}
+use Rattle.position.proofs.Order.{ordered}
+use Rattle.position.specs.declared.Span.{Span}
+use Rattle.grid.specs.Cells.{centre}
+use borrow.Author.Needs.{needs}
+use Rattle.areas.proofs.geometry.cut_by.Statement.{statement}
+use Rattle.areas.proofs.geometry.cut_by.Tie as tie
+
+cell-center-requires : tie.Need-cell-center-requires
+cell-center-requires c κs = search needs
+
+cell-center-requires-2 : tie.Need-cell-center-requires-2
+cell-center-requires-2 c κs = search needs
+
+cuts-requires : tie.Need-cuts-requires
+cuts-requires c κs = search needs
+
+returns : tie.Need-returns
+unfolding cutBy
+returns c = λ g i j e f h k.
+    let start = c .before .before .before in
+    c .cuts .ensures
+    ∙ ap₂ (cuts (start .args .span)) (c .before .before .cell-center .ensures .0 g i e f) (c .before .cell-center2 .ensures .0 g j h k)
+    ∙ ap (λ (s : Span). cuts s (centre g i) (centre g j)) (sym (ordered (start .args .span) (start .pre .2)))
+
+pub cut-by-spec : {M : Type 1} → statement M
+cut-by-spec =
+    tie.close (tie.spec cell-center-requires cell-center-requires-2 cuts-requires returns)

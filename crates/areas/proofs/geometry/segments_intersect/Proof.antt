@@ -1,0 +1,43 @@
+use mathlib.Core.Path.{ap₂}
+use mathlib.Core.Bool.{_&&_, _||_}
+use Rattle.areas.specs.Segments.{meets}
+use borrow.Author.Needs.{needs}
+use Rattle.areas.proofs.geometry.segments_intersect.Statement.{statement}
+use Rattle.areas.proofs.geometry.segments_intersect.Tie as tie
+
+strictly-opposite-requires : tie.Need-strictly-opposite-requires
+strictly-opposite-requires c κs = search needs
+
+strictly-opposite-requires-2 : tie.Need-strictly-opposite-requires-2
+strictly-opposite-requires-2 c κs = search needs
+
+on-segment-requires : tie.Need-on-segment-requires
+on-segment-requires c κs = search needs
+
+on-segment-requires-2 : tie.Need-on-segment-requires-2
+on-segment-requires-2 c κs = search needs
+
+on-segment-requires-3 : tie.Need-on-segment-requires-3
+on-segment-requires-3 c κs = search needs
+
+on-segment-requires-4 : tie.Need-on-segment-requires-4
+on-segment-requires-4 c κs = search needs
+
+returns : tie.Need-returns
+unfolding meets
+returns c =
+    ap₂ _||_ (ap₂ _&&_ (c .before .before .before .before .before .strictly-opposite .ensures) (c .before .before .before .before .strictly-opposite2 .ensures))
+    (ap₂ _||_ (ap₂ _||_ (c .before .before .before .on-segment .ensures) (c .before .before .on-segment2 .ensures))
+    (ap₂ _||_ (c .before .on-segment3 .ensures) (c .on-segment4 .ensures)))
+
+pub segments-intersect-spec : {M : Type 1} → statement M
+segments-intersect-spec =
+    tie.close
+    (tie.spec
+    strictly-opposite-requires
+    strictly-opposite-requires-2
+    on-segment-requires
+    on-segment-requires-2
+    on-segment-requires-3
+    on-segment-requires-4
+    returns)

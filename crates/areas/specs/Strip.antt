@@ -1,0 +1,46 @@
+-- The strip of cells around a span in which 002 looks for the steps that it cuts: along the axis on which the span is longer, to a
+-- margin of 16 pixels past its ends; on the other axis, 3 cells to either side of the line.
+use Prim.Native.Nat.{ℕ, _+_, _*_, _-_, _/_, _≤_, _<_, min, max}
+use Rattle.position.specs.declared.Span.{Span}
+use Rattle.grid.specs.Cells.{Grid, columnOf, rowOf}
+use Rattle.areas.specs.declared.candidates.CellRange.{CellRange}
+
+-- "CANDIDATE_MARGIN_PIXELS", "CANDIDATE_MINOR_RADIUS_CELLS"
+abbrev pub margin : ℕ
+margin = 16
+
+abbrev pub radius : ℕ
+radius = 3
+
+-- the columns or rows along the span, from its least to its greatest pixel, of which the map has `limit`
+unfoldable pub axisRange : ℕ → ℕ → ℕ → CellRange
+axisRange minimum maximum limit = record { first = (minimum - margin) / 8; last = min ((maximum + margin) / 8) (limit - 1) }
+
+-- the rows or columns about a pixel
+unfoldable pub minorRange : ℕ → ℕ → CellRange
+minorRange reference limit = record { first = reference / 8 - radius; last = min (reference / 8 + radius) (limit - 1) }
+
+abbrev pub InRange : CellRange → ℕ → Type 0
+InRange r k = (r .first ≤ k) × (k ≤ r .last)
+
+abbrev pub clamp : ℕ → ℕ → ℕ → ℕ
+clamp v low high = max low (min v high)
+
+-- the line from (l, lm) to (u, um) at v, rounded down: a mean of lm and um, so that nothing is negative
+unfoldable pub lineAt : ℕ → ℕ → ℕ → ℕ → ℕ → ℕ
+lineAt l lm u um v = (lm * (u - v) + um * (v - l)) / (u - l)
+
+-- the cell c along the axis of the span, and cm on the other, on a map of size by sizem cells
+pub record Near (l lm u um size sizem c cm : ℕ) : Type 0 where
+  pub along : InRange (axisRange l u size) c
+  pub beside : InRange (minorRange (lineAt l lm u um (clamp (8 * c + 4) l u)) sizem) cm
+
+-- how far apart
+abbrev pub gap : ℕ → ℕ → ℕ
+gap m n = (m - n) + (n - m)
+
+-- the cell is in the strip of a span whose earlier end is listed first
+pub data InStrip (g : Grid) (s : Span) (i : ℕ) : Type 0 where
+  wide : gap (s .a .y) (s .b .y) ≤ gap (s .a .x) (s .b .x) → Near (s .a .x) (s .a .y) (s .b .x) (s .b .y) (g .width) (g .height) (columnOf g i) (rowOf g i) → InStrip g s i
+  falls : gap (s .a .x) (s .b .x) < gap (s .a .y) (s .b .y) → s .a .y ≤ s .b .y → Near (s .a .y) (s .a .x) (s .b .y) (s .b .x) (g .height) (g .width) (rowOf g i) (columnOf g i) → InStrip g s i
+  rises : gap (s .a .x) (s .b .x) < gap (s .a .y) (s .b .y) → s .b .y < s .a .y → Near (s .b .y) (s .b .x) (s .a .y) (s .a .x) (g .height) (g .width) (rowOf g i) (columnOf g i) → InStrip g s i

@@ -1,0 +1,35 @@
+use mathlib.Core.Path.{refl, _∙_, ap, ap₂}
+use mathlib.Core.Bool.{_&&_}
+use native.Mathlib.Omega.{arith}
+use Rattle.grid.specs.Cells.{walkable}
+use Rattle.grid.proofs.Index.{column-in, row-in}
+use Rattle.grid.proofs.Steps.{leads-means}
+use Rattle.grid.proofs.Reach.{gridOf, neighbour-on}
+use borrow.Author.Needs.{needs}
+use Rattle.grid.proofs.neighbors.ends_walkable.Statement.{statement}
+use Rattle.grid.proofs.neighbors.ends_walkable.Tie as tie
+
+walkable-at-requires : tie.Need-walkable-at-requires
+walkable-at-requires c κs = search needs
+
+neighbor-requires : tie.Need-neighbor-requires
+neighbor-requires c κs =
+    let start = c .before .before in
+    let g = gridOf (start .args .width) (start .args .height) (start .args .cells .now) in
+    let m = leads-means g (start .args .i) (start .args .d) (start .pre .5) in
+    omega (arith, column-in g (start .pre .2) (start .args .i) (start .pre .3), row-in g (start .pre .2) (start .args .i) (start .pre .3))
+
+walkable-at-requires-2 : tie.Need-walkable-at-requires-2
+walkable-at-requires-2 c κs =
+    let start = c .before .before .before in
+    let g = gridOf (start .args .width) (start .args .height) (start .args .cells .now) in
+    rw (c .neighbor .ensures g refl) (neighbour-on g (start .pre .2) (start .args .i) (start .args .d) (start .pre .3) (start .pre .5))
+
+returns : tie.Need-returns
+returns c = λ g e.
+    ap₂ _&&_ (c .before .before .walkable-at .ensures g (rw e))
+    (c .walkable-at2 .ensures g (rw e) ∙ ap (walkable g) (c .before .neighbor .ensures g (rw e)))
+
+pub ends-walkable-spec : {M : Type 1} → statement M
+ends-walkable-spec =
+    tie.close (tie.spec walkable-at-requires neighbor-requires walkable-at-requires-2 returns)
