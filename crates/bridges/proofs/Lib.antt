@@ -1,0 +1,6 @@
+pub mod Steps
+pub mod Zeros
+pub mod Moves
+pub mod Retell
+pub mod Turn
+pub mod Meaning
