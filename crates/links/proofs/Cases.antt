@@ -14,7 +14,7 @@ use Rattle.position.specs.declared.Span.{Span}
 use Rattle.links.specs.Limits.{limits000}
 use Rattle.links.specs.Geometry.{Vector, squares, centreDistance}
 use Rattle.links.specs.Link.{Side, Link, widenedBy, linkOf}
-use Rattle.links.specs.Measure.{empty, within, beyond, extremes, judged, measured, passing}
+use Rattle.links.specs.Measure.{empty, within, beyond, extremes, judged, measured, passing, transverseLimit, longitudinalLimit}
 use Rattle.links.specs.Flat.{insideFlat}
 use Rattle.links.specs.Parallel.{nearbyParallel}
 use Rattle.links.specs.Sums.{addedTo, sumOf, ascendingSum, distanceSum}
@@ -66,6 +66,14 @@ corridor-measured = refl
 corridor-beyond : measured limits000 corridor 4 (0 ∷ 1 ∷ 2 ∷ 3 ∷ []) ≡ beyond (whole 8) (whole 32)
 unfolding measured judged extremes linkOf canonical widenedBy lengthOf squares ofInt ofBits neg add sub mul div lt le
 corridor-beyond = refl
+
+-- of width 16: the limits are 40 across and 32 along
+abbrev broad : Link
+broad = linkOf (record { span = first; bits = 0x4030_0000_0000_0000 }) (record { span = second; bits = 0x4038_0000_0000_0000 })
+
+broad-limits : transverseLimit limits000 broad ∷ longitudinalLimit limits000 broad ∷ [] ≡ whole 40 ∷ whole 32 ∷ []
+unfolding linkOf lengthOf squares ofInt ofBits add mul div lt
+broad-limits = refl
 
 no-cell : measured limits000 corridor 4 [] ≡ empty
 unfolding measured
