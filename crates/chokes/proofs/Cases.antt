@@ -175,6 +175,11 @@ job-marks : marksOf eight (job []) ≡ 1 ∷ 1 ∷ []
 unfolding marksOf partOf count upFrom
 job-marks = refl
 
+-- Two boundaries at one place: neither is a bridge.
+doubled-marks : marksOf eight (record { width = 4; height = 1; cells = 1 ∷ 1 ∷ 1 ∷ 1 ∷ []; bases = []; boundaries = first ∷ first ∷ [] }) ≡ 0 ∷ 0 ∷ []
+unfolding marksOf partOf count upFrom
+doubled-marks = refl
+
 marks-left : (work marks : List ℕ) → 40 ≤ length work → 2 ≤ length marks → markResult corridor work marks ≡ leaves 2 (1 ∷ 2 ∷ 3 ∷ 3 ∷ []) (1 ∷ 1 ∷ []) work marks
 unfolding markResult labelled words
 marks-left work marks w m =

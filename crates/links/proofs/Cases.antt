@@ -41,6 +41,11 @@ corridor-distance : centreDistance first second ≡ whole 8
 unfolding lengthOf squares ofInt
 corridor-distance = refl
 
+-- a span that is not upright: centres 9 and 16
+slanted-distance : centreDistance (span 8 0 10 8) second ≡ whole 7
+unfolding lengthOf squares ofInt
+slanted-distance = refl
+
 corridor-link :
     corridor
     ≡ record {
@@ -86,6 +91,11 @@ only-within = refl
 corridor-flat : map (λ (cell : ℕ). insideFlat limits000 corridor 16 (1 ∷ cell ∷ [])) (1 ∷ 5 ∷ 6 ∷ []) ≡ true ∷ true ∷ false ∷ []
 unfolding insideFlat linkOf canonical widenedBy lengthOf squares ofInt ofBits neg add sub mul div lt
 corridor-flat = refl
+
+-- along the spans too: rows 4 and 5
+corridor-along : map (λ (cell : ℕ). insideFlat limits000 corridor 16 (1 ∷ cell ∷ [])) (65 ∷ 81 ∷ []) ≡ true ∷ false ∷ []
+unfolding insideFlat linkOf canonical widenedBy lengthOf squares ofInt ofBits neg add sub mul div lt
+corridor-along = refl
 
 -- the spans either way round; two that run against each other from their earlier ends on; two at right angles; two 136 pixels apart
 parallels :
