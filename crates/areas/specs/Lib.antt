@@ -5,3 +5,4 @@ pub mod Strip
 pub mod Areas
 pub mod Assessments
 pub mod Cases
+pub mod Open

@@ -2,8 +2,9 @@
 use mathlib.Core.Path.{_≡_}
 use mathlib.Core.Bool.{Bool, not, _&&_}
 use mathlib.Core.List.{List, [], _∷_, List·Memᴰ}
-use Prim.Native.Nat.{ℕ, _-_, _/_, _%_, _<_}
+use Prim.Native.Nat.{ℕ, _-_, _/_, _%_, _^_, _<_}
 use lib.Dec.{eqb}
+use Rattle.order.specs.Lists.{keep, upFrom}
 
 -- a direction is a number from 0 to 8, and not 4, which leads nowhere
 abbrev pub IsDirection : ℕ → Type 0
@@ -29,6 +30,11 @@ eight = 0 ∷ 1 ∷ 2 ∷ 3 ∷ 5 ∷ 6 ∷ 7 ∷ 8 ∷ []
 
 abbrev pub four : List ℕ
 four = 1 ∷ 3 ∷ 5 ∷ 7 ∷ []
+
+-- a set of directions as a number: d is in it exactly if bit d is set
+unfoldable pub directionsOf : ℕ → List ℕ
+unfolding keep
+directionsOf set = keep (λ d. eqb (set / 2 ^ d % 2) 1) (upFrom 0 9)
 
 -- each member is a direction, and its reverse is a member
 pub record ClosedUnderReversal (dirs : List ℕ) : Type 0 where
