@@ -4,6 +4,7 @@ pub mod Copies
 pub mod Consolidation
 pub mod Groups
 pub mod Kept
+pub mod Planned
 pub mod Ends
 pub mod Listings
 pub mod Merges

@@ -3,6 +3,7 @@ pub mod Copies
 pub mod Consolidation
 pub mod Groups
 pub mod Kept
+pub mod Planned
 pub mod Follows
 pub mod Runs
 pub mod Merging
