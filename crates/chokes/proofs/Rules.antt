@@ -26,7 +26,7 @@ map-join f [] m = refl
 map-join f (x ∷ l) m = ap (λ t. f x ∷ t) (map-join f l m)
 
 module _ (limits : Limits) (dirs : List ℕ) (j : Job) where
-  every-group : (l : List Item) → every (rulesOf limits dirs j l) ≡ map (groupOf limits l) (accepted limits dirs (gridOf j) (anchorsOf (j .bases)) l)
+  pub every-group : (l : List Item) → every (rulesOf limits dirs j l) ≡ map (groupOf limits l) (accepted limits dirs (gridOf j) (anchorsOf (j .bases)) l)
   unfolding every rulesOn accepted
   every-group l = map-join (groupOf limits l) (serialGroups limits dirs (gridOf j) (anchorsOf (j .bases)) l) (flatGroups limits dirs (gridOf j) (anchorsOf (j .bases)) l)
 

@@ -23,7 +23,7 @@ use Rattle.merging.proofs.Exists.{first-list, list-perm, steps}
 use Rattle.merging.proofs.Sources.{sources-canon, sources-perm, sources-refl, sources-sym, sources-trans, through, kept-sources}
 
 module _ (rules : List Item → Groups) (well : (items : List Item) → WellGrouped (length items) (every (rules items))) where
-  groups-well : (r : Run) → WellGrouped (length (copiesOf (r .boundaries))) (every (groupsOf rules r))
+  pub groups-well : (r : Run) → WellGrouped (length (copiesOf (r .boundaries))) (every (groupsOf rules r))
   unfolding groupsOf every
   groups-well r = by-cases (ℕ-discrete (length (r .boundaries)) (length (r .spans)))
       (λ e.

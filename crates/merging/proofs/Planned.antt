@@ -143,3 +143,17 @@ module _ (copies : List Boundary) where
                   ≡ map (λ i. merged copies (members (goes gs) (length copies) i) i) (cond t (i ∷ keep (λ i. eqb (goes gs i) i) is) (keep (λ i. eqb (goes gs i) i) is))
               one true e = ap (λ (m : List Boundary). merged copies (members (goes gs) (length copies) i) i ∷ m) e
               one false e = e
+
+-- Plans that agree on the ranks keep the same.
+pub planned-ext : (copies : List Boundary) (p q : ℕ → ℕ) → ((i : ℕ) → i < length copies → p i ≡ q i) → planned copies p ≡ planned copies q
+unfolding planned members
+planned-ext copies p q h =
+    ap (map (λ i. merged copies (keep (λ j. eqb (p j) i) (upFrom 0 (length copies))) i)) (keep-ext (λ i. eqb (p i) i) (λ i. eqb (q i) i) (upFrom 0 (length copies)) (λ i m. ap (λ k. eqb k i) (agree m)))
+    ∙ go (keep (λ i. eqb (q i) i) (upFrom 0 (length copies)))
+  where
+    agree : {i : ℕ} → List·Memᴰ i (upFrom 0 (length copies)) → p i ≡ q i
+    agree {i} m = let u = up-mem 0 (length copies) m in h i (omega arith)
+
+    go : (l : List ℕ) → map (λ i. merged copies (keep (λ j. eqb (p j) i) (upFrom 0 (length copies))) i) l ≡ map (λ i. merged copies (keep (λ j. eqb (q j) i) (upFrom 0 (length copies))) i) l
+    go [] = refl
+    go (i ∷ is) = rw (keep-ext (λ j. eqb (p j) i) (λ j. eqb (q j) i) (upFrom 0 (length copies)) (λ j m. ap (λ k. eqb k i) (agree m)), go is) refl
