@@ -2,15 +2,16 @@ use mathlib.Core.Path.{_∙_}
 use borrow.Author.Needs.{needs}
 use Rattle.grid.proofs.neighbors.across.Statement.{statement}
 use Rattle.grid.proofs.neighbors.across.Tie as tie
-use Rattle.grid.proofs.neighbors.across.Reads as reads
-use Rattle.grid.proofs.neighbors.across.Lts as lts
-use Rattle.grid.proofs.cells.index.Reads as index-reads
+
 add-y : tie.Need-add-y
 add-y c = search needs
+
 sub-y : tie.Need-sub-y
 sub-y c = search needs
+
 index-requires : tie.Need-index-requires
 index-requires c κs = search needs
+
 returns : tie.Need-returns
 returns c = λ g i e h k. c .index .ensures g e ∙ rw (h, k)
 

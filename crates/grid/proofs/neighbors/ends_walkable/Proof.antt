@@ -8,19 +8,17 @@ use mathlib.Core.Path.{refl, _∙_, ap, ap₂}
 use borrow.Author.Needs.{needs}
 use Rattle.grid.proofs.neighbors.ends_walkable.Statement.{statement}
 use Rattle.grid.proofs.neighbors.ends_walkable.Tie as tie
-use Rattle.grid.proofs.neighbors.ends_walkable.Reads as reads
-use Rattle.grid.proofs.neighbors.ends_walkable.Lts as lts
-use Rattle.grid.proofs.cells.index.Reads as index-reads
-use Rattle.grid.proofs.cells.walkable_at.Reads as walkable-at-reads
-use Rattle.grid.proofs.neighbors.neighbor.Reads as neighbor-reads
+
 index-requires : tie.Need-index-requires
 index-requires c κs = search needs
+
 walkable-at-requires : tie.Need-walkable-at-requires
 walkable-at-requires c κs =
     let start = c .before .before in
     let g = gridOf (start .args .width) (start .args .height) (start .args .cells .now) in
     let i = start .args .position .y * start .args .width + start .args .position .x in
     rw (c .index .ensures g refl) (place-on (start .pre .0))
+
 neighbor-requires : tie.Need-neighbor-requires
 neighbor-requires c κs =
     let start = c .before .before .before in
@@ -28,12 +26,14 @@ neighbor-requires c κs =
     let i = start .args .position .y * start .args .width + start .args .position .x in
     let m = leads-means g i (start .args .d) (start .pre .2) in
     omega (arith, place-column (start .pre .0), place-row (start .pre .0))
+
 walkable-at-requires-2 : tie.Need-walkable-at-requires-2
 walkable-at-requires-2 c κs =
     let start = c .before .before .before .before in
     let g = gridOf (start .args .width) (start .args .height) (start .args .cells .now) in
     let i = start .args .position .y * start .args .width + start .args .position .x in
     rw (c .neighbor .ensures g i refl (place-column (start .pre .0)) (place-row (start .pre .0))) (neighbour-on g (start .pre .0 .whole) i (start .args .d) (place-on (start .pre .0)) (start .pre .2))
+
 returns : tie.Need-returns
 returns c =
     let start = c .before .before .before .before .before in

@@ -2,10 +2,10 @@ use Rattle.grid.proofs.Directions.{has-bit}
 use borrow.Author.Needs.{needs}
 use Rattle.grid.proofs.neighbors.has_direction.Statement.{statement}
 use Rattle.grid.proofs.neighbors.has_direction.Tie as tie
-use Rattle.grid.proofs.neighbors.has_direction.Reads as reads
-use Rattle.grid.proofs.neighbors.has_direction.Lts as lts
+
 shr-result : tie.Need-shr-result
 shr-result c = search needs
+
 returns : tie.Need-returns
 returns c = has-bit (c .args .directions) (c .args .d) (c .pre)
 

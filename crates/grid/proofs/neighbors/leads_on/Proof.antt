@@ -2,12 +2,13 @@ use Rattle.grid.specs.Steps.{leadsOn}
 use borrow.Author.Needs.{needs}
 use Rattle.grid.proofs.neighbors.leads_on.Statement.{statement}
 use Rattle.grid.proofs.neighbors.leads_on.Tie as tie
-use Rattle.grid.proofs.neighbors.leads_on.Reads as reads
-use Rattle.grid.proofs.neighbors.leads_on.Lts as lts
+
 add-column : tie.Need-add-column
 add-column c = search needs
+
 add-row : tie.Need-add-row
 add-row c = search needs
+
 returns : tie.Need-returns
 unfolding leadsOn
 returns c = λ g i e f h k. rw (h, k, e, f)

@@ -3,14 +3,13 @@ use mathlib.Core.Path.{_∙_, ap₂}
 use borrow.Author.Needs.{needs}
 use Rattle.grid.proofs.neighbors.neighbor.Statement.{statement}
 use Rattle.grid.proofs.neighbors.neighbor.Tie as tie
-use Rattle.grid.proofs.neighbors.neighbor.Reads as reads
-use Rattle.grid.proofs.neighbors.neighbor.Lts as lts
-use Rattle.grid.proofs.cells.index.Reads as index-reads
-use Rattle.grid.proofs.neighbors.place_to.Reads as place-to-reads
+
 place-to-requires : tie.Need-place-to-requires
 place-to-requires c κs = search needs
+
 index-requires : tie.Need-index-requires
 index-requires c κs = search needs
+
 returns : tie.Need-returns
 returns c = λ g i e h k. c .index .ensures g e ∙ ap₂ (indexOf g) (c .before .place-to .ensures .0 g i h k .0) (c .before .place-to .ensures .0 g i h k .1)
 

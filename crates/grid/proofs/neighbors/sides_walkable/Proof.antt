@@ -7,11 +7,7 @@ use mathlib.Core.Bool.{_&&_}
 use mathlib.Core.Path.{refl, _∙_, ap, ap₂}
 use Rattle.grid.proofs.neighbors.sides_walkable.Statement.{statement}
 use Rattle.grid.proofs.neighbors.sides_walkable.Tie as tie
-use Rattle.grid.proofs.neighbors.sides_walkable.Reads as reads
-use Rattle.grid.proofs.neighbors.sides_walkable.Lts as lts
-use Rattle.grid.proofs.cells.walkable_at.Reads as walkable-at-reads
-use Rattle.grid.proofs.neighbors.across.Reads as across-reads
-use Rattle.grid.proofs.neighbors.beside.Reads as beside-reads
+
 beside-requires : tie.Need-beside-requires
 beside-requires c κs =
     let start = c .before in
@@ -19,12 +15,14 @@ beside-requires c κs =
     let i = start .args .position .y * start .args .width + start .args .position .x in
     let m = leads-means g i (start .args .d) (start .pre .2) in
     omega (arith, place-column (start .pre .0), place-row (start .pre .0))
+
 walkable-at-requires : tie.Need-walkable-at-requires
 walkable-at-requires c κs =
     let start = c .before .before in
     let g = gridOf (start .args .width) (start .args .height) (start .args .cells .now) in
     let i = start .args .position .y * start .args .width + start .args .position .x in
     rw (c .beside .ensures g i refl (place-column (start .pre .0)) (place-row (start .pre .0))) (beside-on g (start .pre .0 .whole) i (start .args .d) (place-on (start .pre .0)) (start .pre .2))
+
 across-requires : tie.Need-across-requires
 across-requires c κs =
     let start = c .before .before .before in
@@ -32,12 +30,14 @@ across-requires c κs =
     let i = start .args .position .y * start .args .width + start .args .position .x in
     let m = leads-means g i (start .args .d) (start .pre .2) in
     omega (arith, place-column (start .pre .0), place-row (start .pre .0))
+
 walkable-at-requires-2 : tie.Need-walkable-at-requires-2
 walkable-at-requires-2 c κs =
     let start = c .before .before .before .before in
     let g = gridOf (start .args .width) (start .args .height) (start .args .cells .now) in
     let i = start .args .position .y * start .args .width + start .args .position .x in
     rw (c .across .ensures g i refl (place-column (start .pre .0)) (place-row (start .pre .0))) (across-on g (start .pre .0 .whole) i (start .args .d) (place-on (start .pre .0)) (start .pre .2))
+
 returns : tie.Need-returns
 returns c =
     let start = c .before .before .before .before .before in
