@@ -11,6 +11,7 @@ pub mod Uncut
 pub mod Areas
 pub mod Assessments
 pub mod Records
+pub mod Listed
 pub mod Counts
 pub mod Walkable
 pub mod Cases
