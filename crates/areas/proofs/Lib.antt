@@ -12,3 +12,5 @@ pub mod Records
 pub mod Counts
 pub mod Walkable
 pub mod Cases
+pub mod Named
+pub mod OpenLabels
