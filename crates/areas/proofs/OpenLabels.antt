@@ -1,20 +1,19 @@
 -- The labels that the open bytes of a map make are its areas.
 use mathlib.Core.Path.{_≡_, refl, sym, _∙_, ap, subst}
 use mathlib.Core.Logic.{by-cases}
-use mathlib.Core.Bool.{Bool, true, false, not, _&&_, cond}
+use mathlib.Core.Bool.{Bool, true, false, not, _&&_}
 use mathlib.Core.List.{List, List·Memᴰ, Memᴰ·cast}
-use Prim.Native.Nat.{ℕ, zero, suc, _+_, _*_, _-_, _/_, _%_, _^_, _<_, _≤_}
+use Prim.Native.Nat.{ℕ, zero, suc, _+_, _*_, _-_, _/_, _%_, _<_, _≤_}
 use native.Mathlib.Omega.{arith}
 use native.Mathlib.Nat.{suc-mul, mod-lt}
-use native.Mathlib.Decide.{decLt, ℕ-discrete}
-use borrow.Author.Tests.{eqb-true, eq-eqb, not-true}
+use native.Mathlib.Decide.{decLt}
 use lib.Dec.{eqb}
 use lib.ListN.{length, getD}
 use Rattle.lists.specs.Rows.{rows}
 use Rattle.lists.proofs.Rows.{length-rows, rows-at}
 use Rattle.order.specs.Lists.{has}
 use Rattle.order.specs.Pairs.{SameMembers}
-use Rattle.order.proofs.Bools.{by-test, clash, and-parts, and-both}
+use Rattle.order.proofs.Bools.{and-parts, and-both}
 use Rattle.order.proofs.Numbers.{has-mem, mem-has}
 use Rattle.position.specs.declared.Span.{Span}
 use Rattle.graph.specs.Path.{Edge}
@@ -22,11 +21,11 @@ use Rattle.graph.specs.Labelling.{Among}
 use Rattle.graph.specs.Labels.{labels, labelCount}
 use Rattle.graph.proofs.Paths.{path-same}
 use Rattle.graph.proofs.LabelList.{labels-edges, labelCount-ext}
-use Rattle.grid.specs.Cells.{Grid, Whole, size, walkable, indexOf, columnOf, rowOf}
-use Rattle.grid.specs.Directions.{IsDirection, right, down}
-use Rattle.grid.specs.Steps.{neighbour, hasStep, leadsOn, columnTo, rowTo, StepBy, Step, stepOf, steps}
+use Rattle.grid.specs.Cells.{Grid, size, walkable, rowOf}
+use Rattle.grid.specs.Directions.{IsDirection, right}
+use Rattle.grid.specs.Steps.{neighbour, hasStep, leadsOn, StepBy, Step, stepOf, steps}
 use Rattle.grid.proofs.Index.{walkable-on, index-split}
-use Rattle.grid.proofs.Steps.{Leads, leads-means, has-step, step-has}
+use Rattle.grid.proofs.Steps.{leads-means, has-step, step-has}
 use Rattle.grid.proofs.StepList.{steps-iff}
 use Rattle.order.proofs.Keep.{keep-mem, mem-keep}
 use Rattle.areas.specs.Cuts.{isCut, uncutSteps}

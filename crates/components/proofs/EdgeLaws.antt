@@ -2,15 +2,14 @@
 use mathlib.Core.Path.{_≡_, refl, sym, _∙_, ap, subst}
 use mathlib.Core.Logic.{_⊎_, inl, inr, ⊎-elim, by-cases}
 use mathlib.Core.Bool.{Bool, true, false}
-use mathlib.Core.List.{List, [], _∷_, List·Memᴰ, List·Memᴰ·head, List·Memᴰ·tail, List·Memᴰ·not-nil, Memᴰ·cast}
-use Prim.Native.Nat.{ℕ, zero, suc, _+_, _<_}
+use mathlib.Core.List.{List, List·Memᴰ, List·Memᴰ·head, List·Memᴰ·tail, List·Memᴰ·not-nil, Memᴰ·cast}
+use Prim.Native.Nat.{ℕ, zero, suc, _<_}
 use native.Mathlib.Omega.{arith}
 use native.Mathlib.Decide.{ℕ-discrete}
 use lib.ListN.{length, getD}
 use Rattle.order.specs.Pairs.{SameMembers}
 use Rattle.graph.specs.Path.{Edge}
-use Rattle.grid.specs.Steps.{stepOf}
-use Rattle.areas.specs.Open.{later, bitAt, named}
+use Rattle.areas.specs.Open.{bitAt, named}
 use Rattle.areas.proofs.Named.{Names, named-names, names-named}
 use Rattle.components.specs.Joining.{added, edgeAt, addedFrom, joinedTo}
 

@@ -1,17 +1,15 @@
 -- What keeps a forest, and what joins two of its trees.
 use mathlib.Core.Path.{_≡_, refl, sym, _∙_, ap}
 use mathlib.Core.Logic.{by-cases}
-use mathlib.Core.Bool.{Bool, true, false}
 use mathlib.Core.List.{List, [], _∷_}
 use Prim.Native.Nat.{ℕ, _≤_, _<_, min, max}
 use native.Mathlib.Omega.{arith}
 use native.Mathlib.Decide.{ℕ-discrete}
 use borrow.Author.Tests.{eq-eqb, ne-eqb}
-use lib.Dec.{eqb}
 use Rattle.order.specs.Pairs.{SameMembers}
 use Rattle.graph.specs.Path.{Edge}
 use Rattle.graph.specs.Parts.{join, part}
-use Rattle.graph.proofs.Parts.{part-none, part-add, part-le, part-idem, part-edges}
+use Rattle.graph.proofs.Parts.{part-none, part-add, part-idem, part-edges}
 use Rattle.components.specs.Forests.{Forest}
 use Rattle.components.proofs.WordLaws.{Upd}
 

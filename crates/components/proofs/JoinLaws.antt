@@ -1,7 +1,7 @@
 -- Two finds and a link.
-use mathlib.Core.Path.{_≡_, refl, sym, _∙_, ap, subst}
-use mathlib.Core.Bool.{Bool, true, false}
-use mathlib.Core.List.{List, _∷_}
+use mathlib.Core.Path.{_≡_, refl, sym, subst}
+use mathlib.Core.Bool.{true, false}
+use mathlib.Core.List.{List}
 use Prim.Native.Nat.{ℕ, _+_, _*_, _≤_, _<_}
 use native.Mathlib.Omega.{arith}
 use lib.ListN.{length}
@@ -11,7 +11,7 @@ use Rattle.graph.specs.Parts.{part}
 use Rattle.grid.specs.Steps.{stepOf}
 use Rattle.components.specs.Forests.{word, Usable, Forest, Kept, Found}
 use Rattle.components.specs.Joining.{Joined}
-use Rattle.components.proofs.WordLaws.{Upd, put-upd, put-kept, put-usable, kept-none, kept-trans}
+use Rattle.components.proofs.WordLaws.{put-upd, put-kept, put-usable, kept-none, kept-trans}
 use Rattle.components.proofs.ForestLaws.{forest-left-low, forest-right-low, forest-joined}
 
 module _ {i j a b : ℕ} {s t w : List ℕ} (ui : Usable i s) (uj : Usable j s) (fa : Found i a s t) (fb : Found j b t w) where

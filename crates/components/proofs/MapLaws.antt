@@ -1,10 +1,10 @@
 -- What sound open bytes give the joins.
 use mathlib.Core.Path.{_≡_, refl, sym, _∙_, ap, subst}
-use mathlib.Core.Bool.{Bool, true}
+use mathlib.Core.Bool.{true}
 use mathlib.Core.List.{List, _++_, flatMap}
 use Prim.Native.Nat.{ℕ, _+_, _*_, _≤_, _<_}
 use native.Mathlib.Omega.{arith}
-use lib.ListN.{length, getD, take, drop}
+use lib.ListN.{length, getD, take}
 use Rattle.wire.specs.Bytes.{part, splice, u32Bytes}
 use Rattle.wire.proofs.Parts.{part-at, length-part}
 use Rattle.graph.specs.Path.{Edge}

@@ -1,20 +1,18 @@
 -- Labels in row order from parents.
 use mathlib.Core.Path.{_≡_, refl, sym, _∙_, ap, subst}
 use mathlib.Core.Logic.{by-cases}
-use mathlib.Core.Bool.{Bool, true, false, cond}
-use mathlib.Core.List.{List, [], _∷_, _++_, map, flatMap}
-use Prim.Native.Nat.{ℕ, zero, suc, _+_, _*_, _%_, _≤_, _<_, max}
+use mathlib.Core.Bool.{Bool, true, false}
+use mathlib.Core.List.{List, flatMap}
+use Prim.Native.Nat.{ℕ, suc, _+_, _*_, _%_, _≤_, _<_, max}
 use native.Mathlib.Omega.{arith}
 use native.Mathlib.Numerals.{add-one}
-use native.Mathlib.Decide.{ℕ-discrete, decLt}
+use native.Mathlib.Decide.{ℕ-discrete}
 use borrow.Author.Tests.{eq-eqb, ne-eqb, eqb-true}
 use lib.Dec.{eqb}
-use lib.ListN.{length, take, drop}
+use lib.ListN.{length, take}
 use Rattle.order.specs.Lists.{upFrom}
-use Rattle.order.proofs.Bools.{by-test, clash, and-parts, and-both, is-false}
+use Rattle.order.proofs.Bools.{by-test, and-parts, and-both, is-false}
 use Rattle.wire.specs.Bytes.{splice, number, part, numberAt, u32Bytes}
-use Rattle.wire.proofs.Numbers.{length-bytes}
-use Rattle.wire.proofs.Parts.{splice-splice}
 use Rattle.graph.specs.Path.{Edge}
 use Rattle.graph.specs.Parts as parts
 use Rattle.graph.specs.Labelling.{Among}
@@ -26,7 +24,7 @@ use Rattle.graph.proofs.Count.{count-yes}
 use Rattle.components.specs.Forests.{word, Forest, Kept}
 use Rattle.components.specs.Numbered.{nextLabel, Numbered}
 use Rattle.components.proofs.WordLaws.{kept-none, kept-trans, kept-more, put-kept, put-upd, put-other}
-use Rattle.components.proofs.LabelWords.{labels-last, labels-bytes, bytes-last}
+use Rattle.components.proofs.LabelWords.{bytes-last}
 
 count-skip : (t : ℕ → Bool) (n : ℕ) → t n ≡ false → count t (n + 1) ≡ count t n
 unfolding count

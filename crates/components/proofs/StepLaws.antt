@@ -1,17 +1,16 @@
 -- Joining the edges of one byte, and of the bytes one after another.
 use mathlib.Core.Path.{_≡_, refl, sym, _∙_, ap, subst}
 use mathlib.Core.Bool.{Bool, true, false}
-use mathlib.Core.List.{List, [], _∷_}
-use Prim.Native.Nat.{ℕ, zero, suc, _+_, _*_, _-_, _/_, _%_, _≤_, _<_}
+use mathlib.Core.List.{List}
+use Prim.Native.Nat.{ℕ, _+_, _*_, _-_, _/_, _%_, _≤_, _<_}
 use native.Mathlib.Omega.{arith}
 use native.Mathlib.Numerals.{add-one}
 use lib.Dec.{eqb}
-use lib.ListN.{length, getD, drop}
+use lib.ListN.{length, getD}
 use lib.Seq.{getD-drop}
 use Rattle.wire.specs.Bytes.{part}
 use Rattle.wire.proofs.Parts.{part-at, length-part}
-use Rattle.graph.specs.Path.{Edge}
-use Rattle.areas.specs.Open.{later, bitAt, named}
+use Rattle.areas.specs.Open.{later, bitAt}
 use Rattle.components.specs.Forests.{word, Usable, Forest, Kept}
 use Rattle.components.specs.Joining.{addedFrom, joinedTo, Joined, Within, Ready, JoinedFrom, JoinedAll}
 use Rattle.components.proofs.WordLaws.{kept-none, kept-trans}

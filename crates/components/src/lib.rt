@@ -7,6 +7,7 @@ ghost use Rattle.grid.specs.Cells.{Grid, walkable};
 ghost use Rattle.areas.specs.Open.{named};
 ghost use Rattle.components.specs.Joining.{Sound};
 ghost use Rattle.components.specs.Numbered.{Numbered};
+
 mod parents; // the parents of cells: start, find, join
 mod steps; // joins the cells that the open bytes say are joined
 mod numbers; // labels in row order
@@ -14,7 +15,6 @@ mod counts; // what is read from labels, and zeros
 
 pub use counts::count_cells;
 pub use counts::zero_fill;
-
 use numbers::number;
 use parents::start;
 use steps::join_all;

@@ -1,51 +1,53 @@
+use mathlib.Core.Path.{_≡_, refl, sym, _∙_, ap}
+use Prim.Native.Nat.{ℕ, _+_, _-_, _≤_}
+use native.Mathlib.Omega.{arith}
+use borrow.Author.Needs.{needs}
+use mathlib.Core.Bool.{cond}
+use lib.Dec.{eqb}
+use Rattle.order.specs.Lists.{keep, upFrom}
+use Rattle.areas.specs.Areas.{cellCount}
+use Rattle.components.specs.Numbered.{words}
+use Rattle.components.proofs.CountLaws.{count-next}
 use Rattle.components.proofs.counts.count_cells.Statement.{statement}
 use Rattle.components.proofs.counts.count_cells.Tie as tie
-use Rattle.components.proofs.counts.count_cells.Reads as reads
-use Rattle.components.proofs.counts.count_cells.Lts as lts
-use Rattle.components.proofs.counts.tally.Reads as tally-reads
-use Rattle.wire.proofs.read_u32.Reads as read-u32-reads
 
 abbrev Inv-loop : tie.InvT-loop
-Inv-loop work n label count₀ i₀ count i = ?
+Inv-loop work n label count₀ i₀ count i = (i ≤ n) × (count ≤ i) × (count ≡ cellCount (words i work) label)
 
 abbrev μ-loop : tie.MeasureT-loop
-μ-loop work n label count₀ i₀ count i = ?
+μ-loop work n label count₀ i₀ count i = n - i
 
--- src/counts.rt:25:5
 loop-holds : tie.Need-loop-holds Inv-loop μ-loop
-loop-holds c = ?
+unfolding cellCount keep upFrom
+loop-holds c = (omega arith, omega arith, refl)
 
--- src/counts.rt:26:39
 mul-read-u32 : tie.Need-mul-read-u32 Inv-loop μ-loop
-mul-read-u32 c = ?
+mul-read-u32 c = omega (arith, c .before .before .before .pre)
 
--- src/counts.rt:26:24
 read-u32-requires : tie.Need-read-u32-requires Inv-loop μ-loop
-read-u32-requires c κs = ?
+read-u32-requires c κs = omega (arith, c .before .before .before .pre)
 
--- src/counts.rt:26:18
 tally-requires : tie.Need-tally-requires Inv-loop μ-loop
-tally-requires c κs = ?
+tally-requires c κs = search needs
 
--- src/counts.rt:26:9
 add-count : tie.Need-add-count Inv-loop μ-loop
-add-count c = ?
+add-count c = omega (arith, c .before .before .before .before .before .pre, c .tally .ensures .1)
 
--- src/counts.rt:27:9
 add-i : tie.Need-add-i Inv-loop μ-loop
-add-i c = ?
+add-i c = omega (arith, c .before .before .before .before .before .pre)
 
--- src/counts.rt:25:5
 loop-less : tie.Need-loop-less Inv-loop μ-loop
-loop-less c = ?
+loop-less c = omega arith
 
--- src/counts.rt:25:5
 loop-again : tie.Need-loop-again Inv-loop μ-loop
-loop-again c = ?
+loop-again c = (
+  omega arith,
+  omega (arith, c .tally .ensures .1),
+  ap (λ (k : ℕ). k + c .tally .result) (c .before .before .before .loop .inv .2) ∙ (ap (λ (k : ℕ). cellCount (words (c .before .before .before .loop .i) (c .before .before .before .before .before .args .work .now)) (c .before .before .before .before .before .args .label) + k) (c .tally .ensures .0 ∙ ap (λ (k : ℕ). cond (eqb (c .before .before .before .before .before .args .label) k) 1 0) (c .before .read-u32 .ensures)) ∙ sym (count-next (c .before .before .before .before .before .args .work .now) (c .before .before .before .loop .i) (c .before .before .before .before .before .args .label))),
+)
 
--- src/counts.rt:19:1
 returns : tie.Need-returns Inv-loop μ-loop
-returns c = ?
+returns c = c .before .loop .inv .2 ∙ ap (λ (k : ℕ). cellCount (words k (c .before .before .before .args .work .now)) (c .before .before .before .args .label)) (let z : c .before .loop .i ≡ c .before .before .before .args .n = omega arith in z)
 
 pub count-cells-spec : {M : Type 1} → statement M
 count-cells-spec =

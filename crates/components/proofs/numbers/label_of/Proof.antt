@@ -1,57 +1,39 @@
-use mathlib.Core.Path.{_≡_, refl, sym, _∙_, ap}
-use mathlib.Core.List.{List, [], _∷_, _++_}
-use mathlib.Core.Bool.{Bool, true, false}
-use Prim.Native.Nat.{ℕ, zero, suc, _+_, _-_, _*_, _≤_, _<_}
-use native.Mathlib.Omega.{arith}
-use lib.ListN.{length, getD, set, take, drop, length-set}
-use borrow.Author.Tests.{eq-eqb, ne-eqb, eqb-true, eqb-false, not-true}
+use mathlib.Core.Path.{sym, _∙_, ap}
+use Prim.Native.Nat.{_-_}
+use lib.ListN.{getD}
 use borrow.Author.Needs.{needs}
 use Rattle.components.specs.Forests.{word}
 use Rattle.components.proofs.NumberLaws.{label-new, label-read, label-zero}
 use Rattle.components.proofs.numbers.label_of.Statement.{statement}
 use Rattle.components.proofs.numbers.label_of.Tie as tie
-use Rattle.components.proofs.numbers.label_of.Reads as reads
-use Rattle.components.proofs.numbers.label_of.Lts as lts
-use Rattle.components.proofs.numbers.size.Reads as size-reads
-use Rattle.wire.proofs.read_u32.Reads as read-u32-reads
 
--- src/numbers.rt:29:8
 shared-slice-read-if1 : tie.Need-shared-slice-read-if1
 shared-slice-read-if1 c = search needs
 
--- src/numbers.rt:30:37
 mul-read-u32 : tie.Need-mul-read-u32
 mul-read-u32 c = search needs
 
--- src/numbers.rt:30:22
 read-u32-requires : tie.Need-read-u32-requires
 read-u32-requires c κs = search needs
 
--- src/numbers.rt:30:13
 size-requires : tie.Need-size-requires
 size-requires c κs = search needs
 
--- src/numbers.rt:32:20
 add-result : tie.Need-add-result
 add-result c = search needs
 
--- src/numbers.rt:32:13
 returns : tie.Need-returns
 returns c = label-new (getD (c .before .before .before .before .before .before .before .args .cells .now) (c .before .before .before .before .before .before .before .args .i) 0) (word (c .before .before .before .before .before .before .before .args .work .now)) (c .before .before .before .before .before .before .before .args .i) (c .before .before .before .before .before .before .before .args .count) (c .before .before .before .if1 .taken) (sym (c .before .before .read-u32 .ensures) ∙ (sym (c .before .size .ensures .0) ∙ c .if2 .taken))
 
--- src/numbers.rt:34:31
 mul-read-u32-2 : tie.Need-mul-read-u32-2
 mul-read-u32-2 c = search needs
 
--- src/numbers.rt:34:9
 read-u32-requires-2 : tie.Need-read-u32-requires-2
 read-u32-requires-2 c κs = search needs
 
--- src/numbers.rt:34:9
 returns-2 : tie.Need-returns-2
 returns-2 c = label-read (getD (c .before .before .before .before .before .before .before .before .args .cells .now) (c .before .before .before .before .before .before .before .before .args .i) 0) (word (c .before .before .before .before .before .before .before .before .args .work .now)) (c .before .before .before .before .before .before .before .before .args .i) (c .before .before .before .before .before .before .before .before .args .count) (c .before .before .before .before .if1 .taken) (λ e. c .before .if2 .left (c .before .before .size .ensures .0 ∙ (c .before .before .before .read-u32 .ensures ∙ e))) (c .read-u322 .ensures ∙ ap (word (c .before .before .before .before .before .before .before .before .args .work .now)) (c .before .before .size .ensures .0 ∙ c .before .before .before .read-u32 .ensures))
 
--- src/numbers.rt:25:1
 returns-3 : tie.Need-returns-3
 returns-3 c = label-zero (getD (c .before .before .before .before .args .cells .now) (c .before .before .before .before .args .i) 0) (word (c .before .before .before .before .args .work .now)) (c .before .before .before .before .args .i) (c .before .before .before .before .args .count) (c .if1 .left)
 

@@ -1,20 +1,11 @@
-use mathlib.Core.Path.{_≡_, refl, sym, _∙_, ap}
-use mathlib.Core.List.{List, [], _∷_, _++_}
-use mathlib.Core.Bool.{Bool, true, false}
-use Prim.Native.Nat.{ℕ, zero, suc, _+_, _-_, _*_, _≤_, _<_}
+use Prim.Native.Nat.{_-_}
 use native.Mathlib.Omega.{arith}
-use lib.ListN.{length, getD, set, take, drop, length-set}
-use borrow.Author.Tests.{eq-eqb, ne-eqb, eqb-true, eqb-false, not-true}
+use lib.ListN.{length}
 use borrow.Author.Needs.{needs}
 use Rattle.components.specs.Numbered.{walks}
 use Rattle.components.proofs.NumberLaws.{Numbering, numbering-start, numbering-room, numbering-falls, numbering-next, numbering-end}
 use Rattle.components.proofs.numbers.number.Statement.{statement}
 use Rattle.components.proofs.numbers.number.Tie as tie
-use Rattle.components.proofs.numbers.number.Reads as reads
-use Rattle.components.proofs.numbers.number.Lts as lts
-use Rattle.components.proofs.numbers.label_of.Reads as label-of-reads
-use Rattle.components.proofs.numbers.larger.Reads as larger-reads
-use Rattle.wire.proofs.write_u32.Reads as write-u32-reads
 
 abbrev Inv-loop : tie.InvT-loop
 Inv-loop cells work₀ count₀ i₀ work count i = Numbering (length cells) i count (walks cells) work₀ work
@@ -22,43 +13,33 @@ Inv-loop cells work₀ count₀ i₀ work count i = Numbering (length cells) i c
 abbrev μ-loop : tie.MeasureT-loop
 μ-loop cells work₀ count₀ i₀ work count i = length cells - i
 
--- src/numbers.rt:46:5
 loop-holds : tie.Need-loop-holds Inv-loop μ-loop
 loop-holds c = numbering-start (length (c .before .before .args .cells .now)) (walks (c .before .before .args .cells .now)) (c .before .before .args .work .now)
 
--- src/numbers.rt:47:13
 label-of-requires : tie.Need-label-of-requires Inv-loop μ-loop
-label-of-requires c κs = (omega arith, numbering-room (c .before .before .loop .inv) (c .before .before .before .before .before .pre .0) (c .before .before .before .before .before .pre .1) (c .before .before .before .before .before .pre .2)  (omega arith), numbering-falls (c .before .before .loop .inv) (c .before .before .before .before .before .pre .0) (c .before .before .before .before .before .pre .1) (c .before .before .before .before .before .pre .2)  (omega arith), omega (arith, c .before .before .before .before .before .pre .0, c .before .before .loop .inv .few))
+label-of-requires c κs = (omega arith, numbering-room (c .before .before .loop .inv) (c .before .before .before .before .before .pre .0) (c .before .before .before .before .before .pre .1) (c .before .before .before .before .before .pre .2) (omega arith), numbering-falls (c .before .before .loop .inv) (c .before .before .before .before .before .pre .0) (c .before .before .before .before .before .pre .1) (c .before .before .before .before .before .pre .2) (omega arith), omega (arith, c .before .before .before .before .before .pre .0, c .before .before .loop .inv .few))
 
--- src/numbers.rt:48:25
 mul-write-u32 : tie.Need-mul-write-u32 Inv-loop μ-loop
 mul-write-u32 c = omega (arith, c .before .before .before .before .before .before .before .pre .0)
 
--- src/numbers.rt:48:9
 write-u32-requires : tie.Need-write-u32-requires Inv-loop μ-loop
-write-u32-requires c κs = numbering-room (c .before .before .before .before .loop .inv) (c .before .before .before .before .before .before .before .pre .0) (c .before .before .before .before .before .before .before .pre .1) (c .before .before .before .before .before .before .before .pre .2)  (omega arith)
+write-u32-requires c κs = numbering-room (c .before .before .before .before .loop .inv) (c .before .before .before .before .before .before .before .pre .0) (c .before .before .before .before .before .before .before .pre .1) (c .before .before .before .before .before .before .before .pre .2) (omega arith)
 
--- src/numbers.rt:49:9
 larger-requires : tie.Need-larger-requires Inv-loop μ-loop
 larger-requires c κs = search needs
 
--- src/numbers.rt:50:9
 add-i : tie.Need-add-i Inv-loop μ-loop
 add-i c = omega (arith, c .before .before .before .before .before .before .before .before .before .before .before .pre .0)
 
--- src/numbers.rt:46:5
 loop-less : tie.Need-loop-less Inv-loop μ-loop
 loop-less c = omega arith
 
--- src/numbers.rt:46:5
 loop-again : tie.Need-loop-again Inv-loop μ-loop
-loop-again c = numbering-next (c .before .before .before .before .before .before .before .before .loop .inv) (c .before .before .before .before .before .before .before .before .before .before .before .pre .0) (c .before .before .before .before .before .before .before .before .before .before .before .pre .1) (c .before .before .before .before .before .before .before .before .before .before .before .pre .2)  (omega arith) (c .before .before .before .before .before .label-of .result) (c .before .before .before .before .before .label-of .ensures) (c .before .before .before .write-u32 .last .0) (c .before .before .before .write-u32 .ensures) (c .larger .result) (c .larger .ensures)
+loop-again c = numbering-next (c .before .before .before .before .before .before .before .before .loop .inv) (c .before .before .before .before .before .before .before .before .before .before .before .pre .0) (c .before .before .before .before .before .before .before .before .before .before .before .pre .1) (c .before .before .before .before .before .before .before .before .before .before .before .pre .2) (omega arith) (c .before .before .before .before .before .label-of .result) (c .before .before .before .before .before .label-of .ensures) (c .before .before .before .write-u32 .last .0) (c .before .before .before .write-u32 .ensures) (c .larger .result) (c .larger .ensures)
 
--- src/numbers.rt:40:1
 same-length : tie.Need-same-length Inv-loop μ-loop
 same-length c = c .before .loop .inv .kept .size
 
--- src/numbers.rt:40:1
 returns : tie.Need-returns Inv-loop μ-loop
 returns c = λ es f a. numbering-end (c .before .loop .inv) (λ l. omega arith) es f a
 

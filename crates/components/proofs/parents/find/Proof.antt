@@ -1,18 +1,8 @@
-use mathlib.Core.Path.{_≡_, refl, sym, _∙_, ap}
-use mathlib.Core.List.{List, [], _∷_, _++_}
-use mathlib.Core.Bool.{Bool, true, false}
-use Prim.Native.Nat.{ℕ, zero, suc, _+_, _-_, _*_, _≤_, _<_}
+use Prim.Native.Nat.{_+_, _-_}
 use native.Mathlib.Omega.{arith}
-use lib.ListN.{length, getD, set, take, drop, length-set}
-use borrow.Author.Tests.{eq-eqb, ne-eqb, eqb-true, eqb-false, not-true}
-use borrow.Author.Needs.{needs}
 use Rattle.components.proofs.FindLaws.{Finding, finding-start, finding-falls, finding-room, finding-second, finding-next, finding-end}
 use Rattle.components.proofs.parents.find.Statement.{statement}
 use Rattle.components.proofs.parents.find.Tie as tie
-use Rattle.components.proofs.parents.find.Reads as reads
-use Rattle.components.proofs.parents.find.Lts as lts
-use Rattle.components.proofs.parents.parent.Reads as parent-reads
-use Rattle.components.proofs.parents.set_parent.Reads as set-parent-reads
 
 abbrev Inv-loop : tie.InvT-loop
 Inv-loop work₀ i at₀ p₀ work at p = Finding i at p work₀ work
@@ -20,39 +10,30 @@ Inv-loop work₀ i at₀ p₀ work at p = Finding i at p work₀ work
 abbrev μ-loop : tie.MeasureT-loop
 μ-loop work₀ i at₀ p₀ work at p = at
 
--- src/parents.rt:44:9
 parent-requires : tie.Need-parent-requires Inv-loop μ-loop
 parent-requires c κs = c .before .before .pre .room
 
--- src/parents.rt:45:5
 loop-holds : tie.Need-loop-holds Inv-loop μ-loop
 loop-holds c = finding-start (c .before .before .before .args .i) (c .parent .result) (c .before .before .before .args .work .now) (c .parent .ensures .0)
 
--- src/parents.rt:46:13
 parent-requires-2 : tie.Need-parent-requires-2 Inv-loop μ-loop
 parent-requires-2 c κs = finding-room (c .before .before .before .before .before .before .pre) (c .before .before .loop .inv) (c .before .before .loop .p) (omega (arith, finding-falls (c .before .before .before .before .before .before .pre) (c .before .before .loop .inv), c .before .before .loop .inv .below))
 
--- src/parents.rt:47:9
 set-parent-requires : tie.Need-set-parent-requires Inv-loop μ-loop
 set-parent-requires c κs = (finding-room (c .before .before .before .before .before .before .before .before .pre) (c .before .before .before .before .loop .inv) (c .before .before .before .before .loop .at) (c .before .before .before .before .loop .inv .below), c .before .parent2 .ensures .1)
 
--- src/parents.rt:49:9
 parent-requires-3 : tie.Need-parent-requires-3 Inv-loop μ-loop
 parent-requires-3 c κs = omega (arith, c .before .before .before .set-parent .kept .0, finding-room (c .before .before .before .before .before .before .before .before .before .before .before .before .pre) (c .before .before .before .before .before .before .before .before .loop .inv) (c .before .before .before .before .before .parent2 .result) (omega (arith, c .before .before .before .before .before .before .before .before .loop .inv .below, finding-falls (c .before .before .before .before .before .before .before .before .before .before .before .before .pre) (c .before .before .before .before .before .before .before .before .loop .inv), finding-second (c .before .before .before .before .before .before .before .before .before .before .before .before .pre) (c .before .before .before .before .before .before .before .before .loop .inv) (c .before .before .before .before .before .parent2 .result) (c .before .before .before .before .before .parent2 .ensures .0) (c .before .before .before .before .before .parent2 .ensures .1))))
 
--- src/parents.rt:45:5
 loop-less : tie.Need-loop-less Inv-loop μ-loop
 loop-less c = omega (arith, c .before .before .before .before .before .before .before .before .loop-test .taken, finding-second (c .before .before .before .before .before .before .before .before .before .before .before .before .before .pre) (c .before .before .before .before .before .before .before .before .before .loop .inv) (c .before .before .before .before .before .before .parent2 .result) (c .before .before .before .before .before .before .parent2 .ensures .0) (c .before .before .before .before .before .before .parent2 .ensures .1))
 
--- src/parents.rt:45:5
 loop-again : tie.Need-loop-again Inv-loop μ-loop
 loop-again c = finding-next (c .before .before .before .before .before .before .before .before .before .before .before .before .before .pre) (c .before .before .before .before .before .before .before .before .before .loop .inv) (c .before .before .before .before .before .before .parent2 .result) (c .before .before .before .before .before .before .parent2 .ensures .0) (c .before .before .before .before .before .before .parent2 .ensures .1) (c .before .before .before .before .set-parent .last .0) (c .before .before .before .before .set-parent .ensures) (c .parent3 .result) (c .parent3 .ensures .0)
 
--- src/parents.rt:39:1
 same-length : tie.Need-same-length Inv-loop μ-loop
 same-length c = c .before .loop .inv .kept (c .before .before .before .before .before .args .i + 1) (omega arith) .size
 
--- src/parents.rt:39:1
 returns : tie.Need-returns Inv-loop μ-loop
 returns c = finding-end (c .before .before .before .before .before .pre) (c .before .loop .inv) (λ l. omega arith)
 

@@ -1,56 +1,37 @@
-use mathlib.Core.Path.{_≡_, refl, sym, _∙_, ap}
-use mathlib.Core.List.{List, [], _∷_, _++_}
-use mathlib.Core.Bool.{Bool, true, false}
-use Prim.Native.Nat.{ℕ, zero, suc, _+_, _-_, _*_, _≤_, _<_}
+use Prim.Native.Nat.{_-_}
 use native.Mathlib.Omega.{arith}
-use lib.ListN.{length, getD, set, take, drop, length-set}
-use borrow.Author.Tests.{eq-eqb, ne-eqb, eqb-true, eqb-false, not-true}
 use borrow.Author.Needs.{needs}
 use Rattle.components.proofs.JoinLaws.{left-room, right-room, joined-left, joined-right, joined-same}
 use Rattle.components.proofs.parents.join.Statement.{statement}
 use Rattle.components.proofs.parents.join.Tie as tie
-use Rattle.components.proofs.parents.join.Reads as reads
-use Rattle.components.proofs.parents.join.Lts as lts
-use Rattle.components.proofs.parents.find.Reads as find-reads
-use Rattle.components.proofs.parents.set_parent.Reads as set-parent-reads
 
--- src/parents.rt:59:9
 find-requires : tie.Need-find-requires
 find-requires c κs = search needs
 
--- src/parents.rt:60:9
 find-requires-2 : tie.Need-find-requires-2
 find-requires-2 c κs = c .before .before .before .find .ensures .usable (c .before .before .before .before .before .before .args .j) (c .before .before .before .before .before .before .pre .1)
 
--- src/parents.rt:62:9
 set-parent-requires : tie.Need-set-parent-requires
 set-parent-requires c κs = (right-room (c .before .before .before .before .before .before .before .before .before .before .before .pre .0) (c .before .before .before .before .before .before .before .before .before .before .before .pre .1) (c .before .before .before .before .before .before .before .before .find .ensures) (c .before .before .before .before .find2 .ensures), omega (arith, c .before .before .before .before .before .before .before .before .find .ensures .below, c .before .before .before .before .before .before .before .before .before .before .before .pre .0 .small))
 
--- src/parents.rt:63:9
 same-length : tie.Need-same-length
 same-length c = search needs
 
--- src/parents.rt:63:9
 returns : tie.Need-returns
 returns c = joined-left (c .before .before .before .before .before .before .before .before .before .before .before .before .before .before .pre .0) (c .before .before .before .before .before .before .before .before .before .before .before .before .before .before .pre .1) (c .before .before .before .before .before .before .before .before .before .before .before .find .ensures) (c .before .before .before .before .before .before .before .find2 .ensures) (omega (arith, c .before .before .before .before .before .before .before .before .before .before .before .find .ensures .below, c .before .before .before .before .before .before .before .before .before .before .before .before .before .before .pre .0 .small)) (omega arith) (c .before .before .set-parent .last .0) (c .before .before .set-parent .ensures)
 
--- src/parents.rt:66:9
 set-parent-requires-2 : tie.Need-set-parent-requires-2
 set-parent-requires-2 c κs = (left-room (c .before .before .before .before .before .before .before .before .before .before .before .before .pre .0) (c .before .before .before .before .before .before .before .before .before .before .before .before .pre .1) (c .before .before .before .before .before .before .before .before .before .find .ensures) (c .before .before .before .before .before .find2 .ensures), omega (arith, c .before .before .before .before .before .find2 .ensures .below, c .before .before .before .before .before .before .before .before .before .before .before .before .pre .1 .small))
 
--- src/parents.rt:55:1
 same-length-2 : tie.Need-same-length-2
 same-length-2 c = search needs
 
--- src/parents.rt:55:1
 returns-2 : tie.Need-returns-2
 returns-2 c = joined-right (c .before .before .before .before .before .before .before .before .before .before .before .before .before .before .before .pre .0) (c .before .before .before .before .before .before .before .before .before .before .before .before .before .before .before .pre .1) (c .before .before .before .before .before .before .before .before .before .before .before .before .find .ensures) (c .before .before .before .before .before .before .before .before .find2 .ensures) (omega (arith, c .before .before .before .before .before .before .before .before .find2 .ensures .below, c .before .before .before .before .before .before .before .before .before .before .before .before .before .before .before .pre .1 .small)) (omega arith) (c .before .before .set-parent2 .last .0) (c .before .before .set-parent2 .ensures)
 
--- src/parents.rt:55:1
 same-length-3 : tie.Need-same-length-3
 same-length-3 c = search needs
 
--- src/parents.rt:55:1
 returns-3 : tie.Need-returns-3
 returns-3 c = joined-same (c .before .before .before .before .before .before .before .before .before .before .before .pre .0) (c .before .before .before .before .before .before .before .before .before .before .before .pre .1) (c .before .before .before .before .before .before .before .before .find .ensures) (c .before .before .before .before .find2 .ensures) (λ l. omega arith) (λ l. omega arith)
 

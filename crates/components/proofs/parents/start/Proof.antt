@@ -1,18 +1,10 @@
-use mathlib.Core.Path.{_≡_, refl, sym, _∙_, ap}
-use mathlib.Core.List.{List, [], _∷_, _++_}
-use mathlib.Core.Bool.{Bool, true, false}
-use Prim.Native.Nat.{ℕ, zero, suc, _+_, _-_, _*_, _≤_, _<_}
+use mathlib.Core.Path.{_≡_}
+use Prim.Native.Nat.{ℕ, _-_, _≤_, _<_}
 use native.Mathlib.Omega.{arith}
-use lib.ListN.{length, getD, set, take, drop, length-set}
-use borrow.Author.Tests.{eq-eqb, ne-eqb, eqb-true, eqb-false, not-true}
-use borrow.Author.Needs.{needs}
 use Rattle.components.specs.Forests.{word, Kept}
 use Rattle.components.proofs.WordLaws.{kept-none, started}
 use Rattle.components.proofs.parents.start.Statement.{statement}
 use Rattle.components.proofs.parents.start.Tie as tie
-use Rattle.components.proofs.parents.start.Reads as reads
-use Rattle.components.proofs.parents.start.Lts as lts
-use Rattle.components.proofs.parents.set_parent.Reads as set-parent-reads
 
 abbrev Inv-loop : tie.InvT-loop
 Inv-loop work₀ n i₀ work i = (i ≤ n) × Kept n work₀ work × ((k : ℕ) → k < i → word work k ≡ k)
@@ -20,31 +12,24 @@ Inv-loop work₀ n i₀ work i = (i ≤ n) × Kept n work₀ work × ((k : ℕ) 
 abbrev μ-loop : tie.MeasureT-loop
 μ-loop work₀ n i₀ work i = n - i
 
--- src/parents.rt:32:5
 loop-holds : tie.Need-loop-holds Inv-loop μ-loop
 loop-holds c = (omega arith, kept-none (c .before .args .n) (c .before .args .work .now), λ k l. absurd (omega arith))
 
--- src/parents.rt:33:9
 set-parent-requires : tie.Need-set-parent-requires Inv-loop μ-loop
 set-parent-requires c κs = (omega (arith, c .before .before .loop .inv .1 .size, c .before .before .before .before .pre), omega (arith, c .before .before .before .before .pre))
 
--- src/parents.rt:34:9
 add-i : tie.Need-add-i Inv-loop μ-loop
 add-i c = omega (arith, c .before .before .before .before .before .before .before .pre)
 
--- src/parents.rt:32:5
 loop-less : tie.Need-loop-less Inv-loop μ-loop
 loop-less c = omega arith
 
--- src/parents.rt:32:5
 loop-again : tie.Need-loop-again Inv-loop μ-loop
 loop-again c = started (c .before .before .before .before .before .before .before .args .n) (c .before .before .before .before .before .loop .i) (c .before .before .before .before .before .before .before .args .work .now) (c .before .before .before .before .before .loop .work) (c .before .before .before .before .before .before .before .pre .0) (c .before .before .before .before .before .before .before .pre .1) (c .before .before .before .before .loop-test .taken) (c .before .before .before .before .before .loop .inv .1) (c .before .before .before .before .before .loop .inv .2) (c .before .before .set-parent .last .0) (c .before .before .set-parent .ensures)
 
--- src/parents.rt:27:1
 same-length : tie.Need-same-length Inv-loop μ-loop
 same-length c = c .before .loop .inv .1 .size
 
--- src/parents.rt:27:1
 returns : tie.Need-returns Inv-loop μ-loop
 returns c = (c .before .loop .inv .1, λ i l. c .before .loop .inv .2 i (omega arith))
 

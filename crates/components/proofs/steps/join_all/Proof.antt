@@ -1,17 +1,8 @@
-use mathlib.Core.Path.{_≡_, refl, sym, _∙_, ap}
-use mathlib.Core.List.{List, [], _∷_, _++_}
-use mathlib.Core.Bool.{Bool, true, false}
-use Prim.Native.Nat.{ℕ, zero, suc, _+_, _-_, _*_, _≤_, _<_}
+use Prim.Native.Nat.{_-_}
 use native.Mathlib.Omega.{arith}
-use lib.ListN.{length, getD, set, take, drop, length-set}
-use borrow.Author.Tests.{eq-eqb, ne-eqb, eqb-true, eqb-false, not-true}
-use borrow.Author.Needs.{needs}
 use Rattle.components.proofs.StepLaws.{Joining, joining-start, joining-ready, joining-next, joining-end}
 use Rattle.components.proofs.steps.join_all.Statement.{statement}
 use Rattle.components.proofs.steps.join_all.Tie as tie
-use Rattle.components.proofs.steps.join_all.Reads as reads
-use Rattle.components.proofs.steps.join_all.Lts as lts
-use Rattle.components.proofs.steps.join_cell.Reads as join-cell-reads
 
 abbrev Inv-loop : tie.InvT-loop
 Inv-loop work₀ base n width i₀ work i = Joining n width base i work₀ work
@@ -19,39 +10,30 @@ Inv-loop work₀ base n width i₀ work i = Joining n width base i work₀ work
 abbrev μ-loop : tie.MeasureT-loop
 μ-loop work₀ base n width i₀ work i = n - i
 
--- src/steps.rt:37:5
 loop-holds : tie.Need-loop-holds Inv-loop μ-loop
 loop-holds c = joining-start (c .before .pre .0 .2) (c .before .pre .0 .3) (c .before .pre .0 .4) (c .before .pre .1 .0)
 
--- src/steps.rt:38:25
 add-byte : tie.Need-add-byte Inv-loop μ-loop
 add-byte c = omega (arith, c .before .before .before .pre .0)
 
--- src/steps.rt:38:20
 slice-read-byte : tie.Need-slice-read-byte Inv-loop μ-loop
 slice-read-byte c = omega (arith, c .before .before .before .before .pre .0, c .before .before .loop .inv .kept .size)
 
--- src/steps.rt:39:9
 join-cell-requires : tie.Need-join-cell-requires Inv-loop μ-loop
 join-cell-requires c κs = (c .before .before .before .before .before .pre .0 .0, c .before .before .before .before .before .pre .0 .1, omega (arith, c .before .before .before .before .before .pre .0 .2), joining-ready (c .before .before .before .before .before .pre .0 .2) (c .before .before .before .before .before .pre .0 .3) (c .before .before .before .before .before .pre .0 .4) (c .before .before .before .loop .inv) (c .before .before .before .before .before .pre .1 .1 (c .before .before .before .loop .i) (omega arith)))
 
--- src/steps.rt:40:9
 add-i : tie.Need-add-i Inv-loop μ-loop
 add-i c = omega (arith, c .before .before .before .before .before .before .before .before .pre .0)
 
--- src/steps.rt:37:5
 loop-less : tie.Need-loop-less Inv-loop μ-loop
 loop-less c = omega arith
 
--- src/steps.rt:37:5
 loop-again : tie.Need-loop-again Inv-loop μ-loop
 loop-again c = joining-next (c .before .before .before .before .before .before .before .before .pre .0 .2) (c .before .before .before .before .before .before .before .before .pre .0 .3) (c .before .before .before .before .before .before .before .before .pre .0 .4) (c .before .before .before .before .before .before .loop .inv) (c .before .before .before .before .before .before .before .before .pre .1 .1 (c .before .before .before .before .before .before .loop .i) (omega arith)) (c .before .before .join-cell .ensures)
 
--- src/steps.rt:31:1
 same-length : tie.Need-same-length Inv-loop μ-loop
 same-length c = c .before .loop .inv .kept .size
 
--- src/steps.rt:31:1
 returns : tie.Need-returns Inv-loop μ-loop
 returns c = joining-end (c .before .before .before .pre .0 .2) (c .before .before .before .pre .0 .3) (c .before .before .before .pre .0 .4) (c .before .loop .inv) (λ l. omega arith)
 
