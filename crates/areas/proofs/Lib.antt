@@ -15,3 +15,5 @@ pub mod Listed
 pub mod Counts
 pub mod Walkable
 pub mod Cases
+pub mod Named
+pub mod OpenLabels
