@@ -1,3 +1,4 @@
 pub mod Constants
 pub mod Distances
 mod Cases
+mod Squares

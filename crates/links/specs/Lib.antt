@@ -5,3 +5,4 @@ pub mod Measure
 pub mod Flat
 pub mod Parallel
 pub mod Sums
+pub mod Held

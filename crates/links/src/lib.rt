@@ -1,1 +1,2 @@
-// Links between boundaries, as definitions (specs/) with small cases (proofs/): this crate has no function.
+// Links between boundaries (source document 000): their geometry, their measures, and sums of distances.
+pub mod geometry; // points, directions, bounds and distances

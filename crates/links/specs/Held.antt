@@ -1,0 +1,33 @@
+-- Points, directions and bounds as the code holds them, and the positions that a map can have.
+use Prim.Native.Nat.{ℕ, _≤_}
+use lib.Ieee.{Float}
+use Rattle.position.specs.declared.PixelPosition.{PixelPosition}
+use Rattle.position.specs.declared.Span.{Span}
+use Rattle.links.specs.Geometry.{Vector, Doubled}
+use Rattle.links.specs.Link.{Bounds}
+use Rattle.links.specs.declared.geometry.Point.{Point}
+use Rattle.links.specs.declared.geometry.Range.{Range}
+
+-- Each coordinate is at most 8 · 1,024.
+pub record Bounded (p : PixelPosition) : Type 0 where
+  pub column : p .x ≤ 8192
+  pub row : p .y ≤ 8192
+
+pub record SpanBounded (s : Span) : Type 0 where
+  pub first : Bounded (s .a)
+  pub second : Bounded (s .b)
+
+abbrev pub doubled : ℕ → ℕ → Doubled
+doubled x y = record { x = x; y = y }
+
+abbrev pub vector : Point → Vector
+vector p = record { x = p .x; y = p .y }
+
+abbrev pub heldPoint : Vector → Point
+heldPoint v = record { x = v .x; y = v .y }
+
+abbrev pub range : Range → Bounds
+range b = record { low = b .low; high = b .high }
+
+abbrev pub heldRange : Bounds → Range
+heldRange b = record { low = b .low; high = b .high }
