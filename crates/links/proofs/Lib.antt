@@ -2,3 +2,5 @@ pub mod Constants
 pub mod Distances
 mod Cases
 mod Squares
+mod Widths
+mod Spans

@@ -3,8 +3,9 @@ use Prim.Native.Nat.{ℕ, _≤_}
 use lib.Ieee.{Float}
 use Rattle.position.specs.declared.PixelPosition.{PixelPosition}
 use Rattle.position.specs.declared.Span.{Span}
-use Rattle.links.specs.Geometry.{Vector, Doubled}
-use Rattle.links.specs.Link.{Bounds}
+use Rattle.length.specs.Floats.{_⊕_, _⊗_, whole}
+use Rattle.links.specs.Geometry.{Vector, Doubled, four, eight, pointOf, dot}
+use Rattle.links.specs.Link.{Bounds, widened}
 use Rattle.links.specs.declared.geometry.Point.{Point}
 use Rattle.links.specs.declared.geometry.Range.{Range}
 
@@ -31,3 +32,11 @@ range b = record { low = b .low; high = b .high }
 
 abbrev pub heldRange : Bounds → Range
 heldRange b = record { low = b .low; high = b .high }
+
+-- The centre of the cell at a column and a row: `cellCentre` of the cell.
+abbrev pub centreAt : ℕ → ℕ → Vector
+centreAt column row = record { x = whole column ⊗ eight ⊕ four; y = whole row ⊗ eight ⊕ four }
+
+-- Bounds with the ends of a span on a direction.
+abbrev pub withEnds : Bounds → Span → Vector → Bounds
+withEnds b s v = widened (widened b (dot (pointOf (s .a)) v)) (dot (pointOf (s .b)) v)
