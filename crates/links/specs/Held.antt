@@ -1,6 +1,9 @@
 -- Points, directions and bounds as the code holds them, and the positions that a map can have.
 use Prim.Native.Nat.{ℕ, _≤_}
-use lib.Ieee.{Float}
+use mathlib.Core.Bool.{not, cond}
+use lib.Dec.{T}
+use lib.Ieee.{Float, binary64, ofBits, lt, isNan}
+use Rattle.position.specs.Order.{swapped}
 use Rattle.position.specs.declared.PixelPosition.{PixelPosition}
 use Rattle.position.specs.declared.Span.{Span}
 use Rattle.length.specs.Floats.{_⊕_, _⊗_, whole}
@@ -40,3 +43,11 @@ centreAt column row = record { x = whole column ⊗ eight ⊕ four; y = whole ro
 -- Bounds with the ends of a span on a direction.
 abbrev pub withEnds : Bounds → Span → Vector → Bounds
 withEnds b s v = widened (widened b (dot (pointOf (s .a)) v)) (dot (pointOf (s .b)) v)
+
+-- No NaN, so that it has bits of its own.
+abbrev pub Number : Float → Type 0
+Number x = T (not (isNan x))
+
+-- `facing` by the dot product.
+abbrev pub facingBy : Float → Span → Span
+facingBy d b = cond (lt d (ofBits binary64 0)) (swapped b) b

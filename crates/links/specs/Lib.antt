@@ -6,3 +6,5 @@ pub mod Flat
 pub mod Parallel
 pub mod Sums
 pub mod Held
+pub mod HeldLimits
+pub mod HeldLink
