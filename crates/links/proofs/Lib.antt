@@ -2,7 +2,10 @@ pub mod Constants
 pub mod Distances
 pub mod Cells
 mod Cases
+pub mod Numbers
 mod Squares
+mod Alike
+mod SumSteps
 mod Measures
 mod Flags
 mod Widths

@@ -3,3 +3,5 @@ pub mod RegionStats
 pub mod FullPair
 pub mod Anchors
 pub mod Listing
+pub mod Held
+pub mod Numbers

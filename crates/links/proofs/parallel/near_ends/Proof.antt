@@ -15,7 +15,7 @@ point-distance-requires-2 c κs = search needs
 
 -- src/parallel.rt:35:1
 returns : tie.Need-returns
-returns c = ?
+returns c = simp (c .before .before .before .point-distance .ensures, c .before .point-distance2 .ensures)
 
 pub near-ends-spec : {M : Type 1} → statement M
 near-ends-spec = tie.close (tie.spec point-distance-requires point-distance-requires-2 returns)

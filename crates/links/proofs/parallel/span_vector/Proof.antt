@@ -20,7 +20,7 @@ towards-requires c κs = search needs
 
 -- src/parallel.rt:21:1
 returns : tie.Need-returns
-returns c = ?
+returns c = simp (c .towards .ensures, c .before .point-of2 .ensures, c .before .before .point-of .ensures)
 
 pub span-vector-spec : {M : Type 1} → statement M
 span-vector-spec =
