@@ -79,6 +79,10 @@ statsAfter g cs = record {
   «level_3» = levelCount g 3 cs;
 }
 
+-- After none, on any map.
+pub record NoCells (s : StatsHeld) : Type 0 where
+  pub after : (g : Grid) → s ≡ statsAfter g []
+
 -- n labels, each a u32.
 unfoldable pub labelsOf : List ℕ → ℕ → List ℕ
 unfolding rows

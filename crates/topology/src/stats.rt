@@ -5,7 +5,7 @@ ghost use Prim.Native.Nat.{ℕ, _+_, _*_, _<_, _≤_, max};
 ghost use lib.ListN.{length};
 ghost use Rattle.grid.specs.Cells.{Grid};
 ghost use Rattle.topology.specs.RegionStats.{regionStats, elevations};
-ghost use Rattle.topology.specs.Held.{Room, statsIn, one, lesser, withCell, statsAfter, labelsOf, stepped};
+ghost use Rattle.topology.specs.Held.{Room, statsIn, one, lesser, withCell, NoCells, labelsOf, stepped};
 use position::WalkPosition;
 use wire::read_u32;
 
@@ -47,7 +47,7 @@ fn one(t: bool) -> u32
 impl RegionStats {
     // Of no cell.
     pub fn none() -> RegionStats
-        ensures { λ r. ⌜ (g : Grid) → r ≡ statsAfter g [] ⌝ }
+        ensures { λ r. ⌜ NoCells r ⌝ }
     {
         RegionStats {
             cells: 0,
