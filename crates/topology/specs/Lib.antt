@@ -5,3 +5,4 @@ pub mod Anchors
 pub mod Listing
 pub mod Held
 pub mod Numbers
+pub mod AnchorLoop

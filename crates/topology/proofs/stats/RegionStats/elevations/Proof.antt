@@ -1,3 +1,5 @@
+use Rattle.topology.proofs.Counting.{four-levels}
+use Rattle.topology.specs.RegionStats.{elevations}
 use borrow.Author.Needs.{needs}
 use Rattle.topology.proofs.stats.RegionStats.elevations.Statement.{statement}
 use Rattle.topology.proofs.stats.RegionStats.elevations.Tie as tie
@@ -35,7 +37,8 @@ add-result-3 c = search needs
 
 -- src/stats.rt:87:5
 returns : tie.Need-returns
-returns c = ?
+unfolding elevations
+returns c = simp (c .one4 .ensures .0, c .before .before .one3 .ensures .0, c .before .before .before .before .one2 .ensures .0, c .before .before .before .before .before .before .one .ensures .0) (four-levels (c .before .before .before .before .before .before .before .before .args .self .«level_0») (c .before .before .before .before .before .before .before .before .args .self .«level_1») (c .before .before .before .before .before .before .before .before .args .self .«level_2») (c .before .before .before .before .before .before .before .before .args .self .«level_3»))
 
 pub elevations-spec : {M : Type 1} → statement M
 elevations-spec =

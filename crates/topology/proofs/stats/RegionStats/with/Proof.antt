@@ -1,3 +1,5 @@
+use Rattle.topology.specs.Held.{withCell}
+use native.Mathlib.Omega.{arith}
 use borrow.Author.Needs.{needs}
 use Rattle.topology.proofs.stats.RegionStats.with.Statement.{statement}
 use Rattle.topology.proofs.stats.RegionStats.with.Tie as tie
@@ -81,11 +83,12 @@ one-requires-4 c κs = search needs
 
 -- src/stats.rt:82:22
 add-t32 : tie.Need-add-t32
-add-t32 c = ?
+add-t32 c = omega (arith, c .before .before .before .before .before .before .before .before .before .before .before .before .before .before .pre .0 .fourth, c .before .one4 .ensures .1)
 
 -- src/stats.rt:67:5
 returns : tie.Need-returns
-returns c = ?
+unfolding withCell
+returns c = simp (c .before .one4 .ensures .0, c .before .before .before .one3 .ensures .0, c .before .before .before .before .before .one2 .ensures .0, c .before .before .before .before .before .before .before .one .ensures .0, c .before .before .before .before .before .before .before .before .before .greater2 .ensures, c .before .before .before .before .before .before .before .before .before .before .greater .ensures, c .before .before .before .before .before .before .before .before .before .before .before .lesser2 .ensures, c .before .before .before .before .before .before .before .before .before .before .before .before .lesser .ensures)
 
 pub with-spec : {M : Type 1} → statement M
 with-spec =
