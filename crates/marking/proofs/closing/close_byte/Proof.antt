@@ -1,8 +1,8 @@
-use Rattle.marking.proofs.Bits.{bits, byte-is, byte-from, open-last, open-leads}
-use Rattle.areas.specs.Open.{isOpen, bitOf}
-use Prim.Native.Nat.{_+_}
 use mathlib.Core.List.{[], _∷_, _++_}
 use mathlib.Core.Path.{sym, _∙_, ap}
+use Prim.Native.Nat.{_+_}
+use Rattle.areas.specs.Open.{isOpen, bitOf}
+use Rattle.marking.proofs.Bits.{bits, byte-is, byte-from, open-last, open-leads}
 use borrow.Author.Needs.{needs}
 use Rattle.marking.proofs.closing.close_byte.Statement.{statement}
 use Rattle.marking.proofs.closing.close_byte.Tie as tie

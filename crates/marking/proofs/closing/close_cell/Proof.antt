@@ -1,11 +1,10 @@
+use mathlib.Core.Path.{subst, _≡_, sym, _∙_, ap}
+use Prim.Native.Nat.{ℕ, _+_, _*_}
+use native.Mathlib.Omega.{arith}
+use lib.ListN.{getD, set}
+use Rattle.areas.specs.Open.{openByte}
 use Rattle.marking.proofs.Halves.{place-in, map-size, map-column, map-row, map-on, rank-at, sides-of, half-set}
 use Rattle.marking.specs.Marks.{rankAt, Half}
-use Rattle.areas.specs.Open.{openByte}
-use lib.ListN.{getD, set}
-use mathlib.Core.Path.{subst}
-use native.Mathlib.Omega.{arith}
-use Prim.Native.Nat.{ℕ, _+_, _*_}
-use mathlib.Core.Path.{_≡_, sym, _∙_, ap}
 use borrow.Author.Needs.{needs}
 use Rattle.marking.proofs.closing.close_cell.Statement.{statement}
 use Rattle.marking.proofs.closing.close_cell.Tie as tie

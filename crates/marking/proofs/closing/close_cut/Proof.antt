@@ -1,17 +1,17 @@
-use borrow.Author.Needs.{needs}
-use Rattle.marking.proofs.Halves.{sides-of, half-start, half-end, before-axis, past-axis, limit-small}
-use Rattle.marking.specs.Marks.{MapOf, Held, Half}
+use mathlib.Core.List.{List}
+use mathlib.Core.Path.{_≡_, refl, _∙_, ap}
+use Prim.Native.Nat.{ℕ, _+_, _-_, _*_, _≤_}
+use native.Mathlib.Omega.{arith}
+use lib.ListN.{length}
 use Rattle.areas.proofs.StripCells.{axis-on}
-use Rattle.areas.specs.Strip.{tall}
 use Rattle.areas.specs.Open.{openByte}
+use Rattle.areas.specs.Strip.{tall}
 use Rattle.areas.specs.declared.candidates.CellRange.{CellRange}
 use Rattle.grid.specs.Cells.{Grid, size}
 use Rattle.position.specs.declared.Span.{Span}
-use lib.ListN.{length}
-use native.Mathlib.Omega.{arith}
-use Prim.Native.Nat.{ℕ, _+_, _-_, _*_, _≤_}
-use mathlib.Core.List.{List}
-use mathlib.Core.Path.{_≡_, refl, _∙_, ap}
+use Rattle.marking.proofs.Halves.{sides-of, half-start, half-end, before-axis, past-axis, limit-small}
+use Rattle.marking.specs.Marks.{MapOf, Held, Half}
+use borrow.Author.Needs.{needs}
 use Rattle.marking.proofs.closing.close_cut.Statement.{statement}
 use Rattle.marking.proofs.closing.close_cut.Tie as tie
 

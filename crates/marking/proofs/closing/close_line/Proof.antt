@@ -1,14 +1,14 @@
-use borrow.Author.Needs.{needs}
-use Rattle.marking.proofs.Halves.{sides-of, half-skip, half-at, before-minor, past-minor, place-fits, rank-place, limit-small}
-use Rattle.marking.specs.Marks.{rankAt, Closes}
+use mathlib.Core.Bool.{cond}
+use mathlib.Core.Path.{_≡_, refl, _∙_, ap}
+use Prim.Native.Nat.{_+_, _-_, _*_, _≤_, _<_, min}
+use native.Mathlib.Omega.{arith}
+use lib.ListN.{length}
 use Rattle.areas.proofs.StripCells.{minor-on}
 use Rattle.areas.specs.Strip.{tall}
 use Rattle.areas.specs.declared.candidates.CellRange.{CellRange}
-use lib.ListN.{length}
-use native.Mathlib.Omega.{arith}
-use Prim.Native.Nat.{_+_, _-_, _*_, _≤_, _<_, min}
-use mathlib.Core.Bool.{cond}
-use mathlib.Core.Path.{_≡_, refl, _∙_, ap}
+use Rattle.marking.proofs.Halves.{sides-of, half-skip, half-at, before-minor, past-minor, place-fits, rank-place, limit-small}
+use Rattle.marking.specs.Marks.{rankAt, Closes}
+use borrow.Author.Needs.{needs}
 use Rattle.marking.proofs.closing.close_line.Statement.{statement}
 use Rattle.marking.proofs.closing.close_line.Tie as tie
 

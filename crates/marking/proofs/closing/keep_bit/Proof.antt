@@ -1,16 +1,16 @@
-use Rattle.marking.proofs.Halves.{leads-at, ends-bounded}
-use Rattle.marking.proofs.Bits.{kept-none, kept-off, kept-cut, kept-whole}
-use Rattle.areas.specs.Cuts.{cutBy}
-use Rattle.order.proofs.Bools.{clash}
-use Rattle.grid.proofs.Steps.{leads-means, neighbour-column, neighbour-row}
-use Rattle.grid.proofs.Index.{column-of, row-of}
-use Rattle.grid.specs.Steps.{neighbour, stepOf}
-use Rattle.grid.proofs.Reach.{gridOf}
-use borrow.Author.Tests.{not-true, not-false}
-use native.Mathlib.Omega.{arith}
-use Prim.Native.Nat.{_+_, _*_}
 use mathlib.Core.List.{[]}
 use mathlib.Core.Path.{refl, sym, _∙_}
+use Prim.Native.Nat.{_+_, _*_}
+use native.Mathlib.Omega.{arith}
+use borrow.Author.Tests.{not-true, not-false}
+use Rattle.areas.specs.Cuts.{cutBy}
+use Rattle.grid.proofs.Index.{column-of, row-of}
+use Rattle.grid.proofs.Reach.{gridOf}
+use Rattle.grid.proofs.Steps.{leads-means, neighbour-column, neighbour-row}
+use Rattle.grid.specs.Steps.{neighbour, stepOf}
+use Rattle.order.proofs.Bools.{clash}
+use Rattle.marking.proofs.Bits.{kept-none, kept-off, kept-cut, kept-whole}
+use Rattle.marking.proofs.Halves.{leads-at, ends-bounded}
 use borrow.Author.Needs.{needs}
 use Rattle.marking.proofs.closing.keep_bit.Statement.{statement}
 use Rattle.marking.proofs.closing.keep_bit.Tie as tie

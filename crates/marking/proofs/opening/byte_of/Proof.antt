@@ -1,7 +1,7 @@
-use Rattle.grid.proofs.Reach.{gridOf}
-use native.Mathlib.Omega.{arith}
 use mathlib.Core.List.{[]}
 use mathlib.Core.Path.{refl}
+use native.Mathlib.Omega.{arith}
+use Rattle.grid.proofs.Reach.{gridOf}
 use borrow.Author.Needs.{needs}
 use Rattle.marking.proofs.opening.byte_of.Statement.{statement}
 use Rattle.marking.proofs.opening.byte_of.Tie as tie

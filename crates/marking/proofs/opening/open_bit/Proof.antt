@@ -1,12 +1,12 @@
-use Rattle.grid.specs.Steps.{hasStep}
-use Rattle.grid.specs.Directions.{directionsOf}
-use Rattle.order.specs.Lists.{has}
-use Rattle.grid.proofs.Reach.{gridOf}
-use borrow.Author.Tests.{not-true, not-false}
-use native.Mathlib.Omega.{arith}
-use Prim.Native.Nat.{_+_, _*_}
 use mathlib.Core.Bool.{true, false}
 use mathlib.Core.Path.{_≡_, sym, _∙_}
+use Prim.Native.Nat.{_+_, _*_}
+use native.Mathlib.Omega.{arith}
+use borrow.Author.Tests.{not-true, not-false}
+use Rattle.grid.proofs.Reach.{gridOf}
+use Rattle.grid.specs.Directions.{directionsOf}
+use Rattle.grid.specs.Steps.{hasStep}
+use Rattle.order.specs.Lists.{has}
 use borrow.Author.Needs.{needs}
 use Rattle.marking.proofs.opening.open_bit.Statement.{statement}
 use Rattle.marking.proofs.opening.open_bit.Tie as tie

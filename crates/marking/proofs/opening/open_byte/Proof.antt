@@ -1,10 +1,10 @@
-use Rattle.marking.proofs.Bits.{byte-from, open-none}
-use Rattle.areas.specs.Open.{bitOf}
-use Rattle.grid.specs.Directions.{directionsOf}
-use Rattle.grid.proofs.Reach.{gridOf}
-use Prim.Native.Nat.{_+_, _*_}
 use mathlib.Core.List.{[]}
 use mathlib.Core.Path.{_∙_, ap}
+use Prim.Native.Nat.{_+_, _*_}
+use Rattle.areas.specs.Open.{bitOf}
+use Rattle.grid.proofs.Reach.{gridOf}
+use Rattle.grid.specs.Directions.{directionsOf}
+use Rattle.marking.proofs.Bits.{byte-from, open-none}
 use borrow.Author.Needs.{needs}
 use Rattle.marking.proofs.opening.open_byte.Statement.{statement}
 use Rattle.marking.proofs.opening.open_byte.Tie as tie

@@ -1,14 +1,14 @@
-use Rattle.marking.proofs.Halves.{place-in}
-use Rattle.marking.proofs.Filled.{held-next, held-count}
-use Rattle.marking.specs.Marks.{Held}
+use mathlib.Core.List.{List, []}
+use mathlib.Core.Path.{_≡_, refl, sym, _∙_, subst}
+use Prim.Native.Nat.{ℕ, _+_, _-_, _*_, _≤_}
+use native.Mathlib.Omega.{arith}
+use lib.ListN.{length, set, length-set}
 use Rattle.areas.specs.Open.{openByte}
 use Rattle.grid.proofs.Reach.{gridOf}
 use Rattle.grid.specs.Directions.{directionsOf}
-use lib.ListN.{length, set, length-set}
-use native.Mathlib.Omega.{arith}
-use Prim.Native.Nat.{ℕ, _+_, _-_, _*_, _≤_}
-use mathlib.Core.List.{List, []}
-use mathlib.Core.Path.{_≡_, refl, sym, _∙_, subst}
+use Rattle.marking.proofs.Filled.{held-next, held-count}
+use Rattle.marking.proofs.Halves.{place-in}
+use Rattle.marking.specs.Marks.{Held}
 use Rattle.marking.proofs.opening.open_row.Statement.{statement}
 use Rattle.marking.proofs.opening.open_row.Tie as tie
 

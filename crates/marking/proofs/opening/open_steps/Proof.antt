@@ -1,14 +1,14 @@
-use Rattle.marking.proofs.Filled.{held-none, held-count, held-splice}
-use Rattle.marking.specs.Marks.{Held}
+use mathlib.Core.List.{[]}
+use mathlib.Core.Path.{_≡_, refl, sym, _∙_, ap}
+use Prim.Native.Nat.{ℕ, _-_, _*_, _≤_}
+use native.Mathlib.Nat.{zero-mul, mul-comm}
+use native.Mathlib.Omega.{arith}
+use lib.ListN.{length}
 use Rattle.areas.specs.Open.{openByte}
 use Rattle.grid.proofs.Reach.{gridOf}
 use Rattle.grid.specs.Directions.{directionsOf}
-use lib.ListN.{length}
-use native.Mathlib.Nat.{zero-mul, mul-comm}
-use native.Mathlib.Omega.{arith}
-use Prim.Native.Nat.{ℕ, _-_, _*_, _≤_}
-use mathlib.Core.List.{[]}
-use mathlib.Core.Path.{_≡_, refl, sym, _∙_, ap}
+use Rattle.marking.proofs.Filled.{held-none, held-count, held-splice}
+use Rattle.marking.specs.Marks.{Held}
 use Rattle.marking.proofs.opening.open_steps.Statement.{statement}
 use Rattle.marking.proofs.opening.open_steps.Tie as tie
 

@@ -1,15 +1,15 @@
-use Rattle.marking.proofs.Listed.{spans-none, spans-last, held-as}
-use Rattle.marking.proofs.Filled.{splice-held, held-splice}
-use Rattle.marking.specs.Marks.{Held}
-use Rattle.areas.specs.Spans.{SpanFits, spansIn}
-use Rattle.areas.specs.Open.{openByte}
-use Rattle.grid.proofs.Reach.{gridOf}
-use Rattle.grid.specs.Directions.{directionsOf}
-use lib.ListN.{length}
-use native.Mathlib.Omega.{arith}
-use Prim.Native.Nat.{ℕ, _+_, _-_, _≤_}
 use mathlib.Core.List.{List, []}
 use mathlib.Core.Path.{_≡_, refl, sym, _∙_, ap, subst}
+use Prim.Native.Nat.{ℕ, _+_, _-_, _≤_}
+use native.Mathlib.Omega.{arith}
+use lib.ListN.{length}
+use Rattle.areas.specs.Open.{openByte}
+use Rattle.areas.specs.Spans.{SpanFits, spansIn}
+use Rattle.grid.proofs.Reach.{gridOf}
+use Rattle.grid.specs.Directions.{directionsOf}
+use Rattle.marking.proofs.Filled.{splice-held, held-splice}
+use Rattle.marking.proofs.Listed.{spans-none, spans-last, held-as}
+use Rattle.marking.specs.Marks.{Held}
 use Rattle.marking.proofs.spans.mark_spans.Statement.{statement}
 use Rattle.marking.proofs.spans.mark_spans.Tie as tie
 

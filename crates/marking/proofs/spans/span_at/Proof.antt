@@ -1,5 +1,5 @@
-use Rattle.areas.specs.Spans.{spanIn}
 use mathlib.Core.Path.{refl}
+use Rattle.areas.specs.Spans.{spanIn}
 use borrow.Author.Needs.{needs}
 use Rattle.marking.proofs.spans.span_at.Statement.{statement}
 use Rattle.marking.proofs.spans.span_at.Tie as tie
