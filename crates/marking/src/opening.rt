@@ -7,7 +7,6 @@ ghost use lib.ListN.{length};
 ghost use Rattle.order.specs.Lists.{has};
 ghost use Rattle.lists.specs.Rows.{rows};
 ghost use Rattle.wire.specs.Bytes.{splice};
-ghost use Rattle.grid.specs.Cells.{Grid, indexOf};
 ghost use Rattle.grid.specs.Directions.{directionsOf};
 ghost use Rattle.grid.specs.Steps.{hasStep, Placed};
 ghost use Rattle.areas.specs.Open.{bitOf, openByte};
