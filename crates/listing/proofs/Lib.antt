@@ -1,0 +1,5 @@
+pub mod Writing
+pub mod Spelling
+pub mod Pieces
+pub mod Steps
+pub mod Sizing

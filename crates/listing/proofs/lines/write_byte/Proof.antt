@@ -1,0 +1,26 @@
+use native.Mathlib.Omega.{arith}
+use Rattle.listing.proofs.Writing.{byte-writes}
+use borrow.Author.Needs.{needs}
+use Rattle.listing.proofs.lines.write_byte.Statement.{statement}
+use Rattle.listing.proofs.lines.write_byte.Tie as tie
+use Rattle.listing.proofs.lines.write_byte.Reads as reads
+use Rattle.listing.proofs.lines.write_byte.Lts as lts
+
+-- src/lines.rt:39:5
+slice-write-out : tie.Need-slice-write-out
+slice-write-out c = search needs
+
+-- src/lines.rt:40:5
+add-result : tie.Need-add-result
+add-result c = search needs
+
+-- src/lines.rt:35:1
+same-length : tie.Need-same-length
+same-length c = search needs
+
+-- src/lines.rt:35:1
+returns : tie.Need-returns
+returns c = byte-writes _ _ _ (omega (arith, c .pre))
+
+pub write-byte-spec : {M : Type 1} → statement M
+write-byte-spec = tie.close (tie.spec slice-write-out add-result same-length returns)
