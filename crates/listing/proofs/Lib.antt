@@ -3,3 +3,4 @@ pub mod Spelling
 pub mod Pieces
 pub mod Steps
 pub mod Sizing
+pub mod Cases

@@ -8,11 +8,11 @@ use borrow.Author.Tests.{le-leb, lt-leb}
 use lib.Dec.{leb}
 use lib.ListN.{length, take, drop, length-append, length-take, length-drop}
 use lib.Seq.{drop-drop}
-use Rattle.lists.specs.Rows.{rows, sum, All, none, more}
+use Rattle.lists.specs.Rows.{sum, All, more}
 use Rattle.lists.proofs.Rows.{length-rows}
 use Rattle.position.specs.declared.Span.{Span}
-use Rattle.wire.specs.Bytes.{AreBytes, u32At, splice}
-use Rattle.format.specs.Values.{Ramp, Observation, Boundary}
+use Rattle.wire.specs.Bytes.{AreBytes, u32At}
+use Rattle.format.specs.Values.{Ramp, Boundary}
 use Rattle.format.specs.Fits.{SourceFits, SpanFits, RampFits, ObservationFits, BoundaryFits}
 use Rattle.format.specs.Records.{boundaryAt, observationAt, sourceAt}
 use Rattle.format.specs.Decode.{boundaryRecords, observationRecords, sourceRecords, observationsWith, boundaryWith, boundariesWith, sourceCount, decodeBoundaries, decodeAnswer}
@@ -21,21 +21,37 @@ use Rattle.format.specs.declared.records.ObservationRecord.{ObservationRecord}
 use Rattle.format.specs.declared.records.Source.{Source}
 use Rattle.format.proofs.BoundaryTrips.{decoded-within}
 use Rattle.listing.specs.Lines.{newline, fieldText, bitsText, endsText, rampText, sourceLine, sourceLines, observationFields, observationLine, observationText, observationTexts, boundaryFields, boundaryLine, boundaryText, boundaryTexts, keptLine, listingOf}
-use Rattle.listing.specs.Answer.{Room, Writes, Inside, answerLength, whole, listing}
+use Rattle.listing.specs.Answer.{Writes, answerLength, whole, listing}
 use Rattle.listing.proofs.Writing.{Left, start, splice-none}
 use Rattle.listing.proofs.Pieces.{word-length, byte-length, length-bits}
 
 ends-most : (e : Span) → SpanFits e → length (endsText e) ≤ 44
 unfolding endsText
 ends-most e f =
-    omega (arith, length-append (fieldText (e .a .x)) (fieldText (e .a .y) ++ (fieldText (e .b .x) ++ fieldText (e .b .y))), length-append (fieldText (e .a .y)) (fieldText (e .b .x) ++ fieldText (e .b .y)), length-append (fieldText (e .b .x)) (fieldText (e .b .y)),
-    word-length (e .a .x) (f .a .x), word-length (e .a .y) (f .a .y), word-length (e .b .x) (f .b .x), word-length (e .b .y) (f .b .y))
+    omega (
+      arith,
+      length-append (fieldText (e .a .x)) (fieldText (e .a .y) ++ (fieldText (e .b .x) ++ fieldText (e .b .y))),
+      length-append (fieldText (e .a .y)) (fieldText (e .b .x) ++ fieldText (e .b .y)),
+      length-append (fieldText (e .b .x)) (fieldText (e .b .y)),
+      word-length (e .a .x) (f .a .x),
+      word-length (e .a .y) (f .a .y),
+      word-length (e .b .x) (f .b .x),
+      word-length (e .b .y) (f .b .y),
+    )
 
 ramp-most : (r : Ramp) → RampFits r → length (rampText r) ≤ 23
 unfolding rampText
 ramp-most r f =
-    omega (arith, length-append (fieldText (r .end)) (fieldText (r .lower) ++ (fieldText (r .upper) ++ fieldText (r .id))), length-append (fieldText (r .lower)) (fieldText (r .upper) ++ fieldText (r .id)), length-append (fieldText (r .upper)) (fieldText (r .id)),
-    byte-length (r .end) (f .end), byte-length (r .lower) (f .lower), byte-length (r .upper) (f .upper), word-length (r .id) (f .id))
+    omega (
+      arith,
+      length-append (fieldText (r .end)) (fieldText (r .lower) ++ (fieldText (r .upper) ++ fieldText (r .id))),
+      length-append (fieldText (r .lower)) (fieldText (r .upper) ++ fieldText (r .id)),
+      length-append (fieldText (r .upper)) (fieldText (r .id)),
+      byte-length (r .end) (f .end),
+      byte-length (r .lower) (f .lower),
+      byte-length (r .upper) (f .upper),
+      word-length (r .id) (f .id),
+    )
 
 source-most : (s : Source) → SourceFits s → length (sourceLine s) ≤ 24
 unfolding sourceLine
@@ -54,8 +70,19 @@ observation-most e bits n f h =
 boundary-most : (e : Span) (bits n m : ℕ) (r : Ramp) → SpanFits e → n < 4_294_967_296 → m < 4_294_967_296 → RampFits r → length (boundaryFields e bits n m r) ≤ 108
 unfolding boundaryFields
 boundary-most e bits n m r f h k g =
-    omega (arith, length-append (endsText e) (bitsText bits ++ (fieldText n ++ (fieldText m ++ (rampText r ++ newline)))), length-append (bitsText bits) (fieldText n ++ (fieldText m ++ (rampText r ++ newline))), length-append (fieldText n) (fieldText m ++ (rampText r ++ newline)), length-append (fieldText m) (rampText r ++ newline), length-append (rampText r) newline,
-    ends-most e f, length-bits bits, word-length n h, word-length m k, ramp-most r g)
+    omega (
+      arith,
+      length-append (endsText e) (bitsText bits ++ (fieldText n ++ (fieldText m ++ (rampText r ++ newline)))),
+      length-append (bitsText bits) (fieldText n ++ (fieldText m ++ (rampText r ++ newline))),
+      length-append (fieldText n) (fieldText m ++ (rampText r ++ newline)),
+      length-append (fieldText m) (rampText r ++ newline),
+      length-append (rampText r) newline,
+      ends-most e f,
+      length-bits bits,
+      word-length n h,
+      word-length m k,
+      ramp-most r g,
+    )
 
 kept-most : (n : ℕ) → n < 4_294_967_296 → length (keptLine n) ≤ 16
 unfolding keptLine
@@ -71,13 +98,16 @@ observations-most [] ss h k = omega arith
 observations-most (o ∷ os) ss (more p h) k =
     let t = take (o .sources) ss in
     let d = drop (o .sources) ss in
-    omega (arith, parts (o .sources) ss,
-    length-append (observationFields (o .ends) (o .bits) (length t) ++ sourceLines t) (observationTexts (observationsWith os d)),
-    length-append (observationFields (o .ends) (o .bits) (length t)) (sourceLines t),
-    observation-most (o .ends) (o .bits) (length t) (p .ends) (omega (arith, parts (o .sources) ss)),
-    sources-most t (p .sources),
-    ap length (drop-drop (sourceCount os) (o .sources) ss),
-    observations-most os d h (omega (arith, parts (o .sources) ss)))
+    omega (
+      arith,
+      parts (o .sources) ss,
+      length-append (observationFields (o .ends) (o .bits) (length t) ++ sourceLines t) (observationTexts (observationsWith os d)),
+      length-append (observationFields (o .ends) (o .bits) (length t)) (sourceLines t),
+      observation-most (o .ends) (o .bits) (length t) (p .ends) (omega (arith, parts (o .sources) ss)),
+      sources-most t (p .sources),
+      ap length (drop-drop (sourceCount os) (o .sources) ss),
+      observations-most os d h (omega (arith, parts (o .sources) ss)),
+    )
 
 length-observed : (os : List ObservationRecord) (ss : List Source) → length (observationsWith os ss) ≡ length os
 unfolding observationsWith
@@ -95,15 +125,19 @@ boundaries-most (r ∷ rs) os ss (more p h) i j =
     let line = boundaryLine (boundaryWith r seen ss) in
     let lines = observationTexts (observationsWith seen d) in
     let others = drop (r .sources + sourceCount seen) ss in
-    omega (arith, parts (r .sources) ss, parts (r .observations) os,
-    length-append (line ++ (sourceLines t ++ lines)) (boundaryTexts (boundariesWith rs (drop (r .observations) os) others)),
-    length-append line (sourceLines t ++ lines),
-    length-append (sourceLines t) lines,
-    boundary-most (r .ends) (r .bits) (length t) (length (observationsWith seen d)) (boundaryWith r seen ss .ramp) (p .ends) (omega (arith, parts (r .sources) ss)) (omega (arith, length-observed seen d, parts (r .observations) os)) (p .ramp),
-    sources-most t (p .sources),
-    observations-most seen d (p .observations) (omega (arith, parts (r .sources) ss)),
-    ap length (drop-drop (sourceCount seen) (r .sources) ss),
-    boundaries-most rs (drop (r .observations) os) others h (omega (arith, parts (r .observations) os)) (omega (arith, parts (r .sources + sourceCount seen) ss)))
+    omega (
+      arith,
+      parts (r .sources) ss,
+      parts (r .observations) os,
+      length-append (line ++ (sourceLines t ++ lines)) (boundaryTexts (boundariesWith rs (drop (r .observations) os) others)),
+      length-append line (sourceLines t ++ lines),
+      length-append (sourceLines t) lines,
+      boundary-most (r .ends) (r .bits) (length t) (length (observationsWith seen d)) (boundaryWith r seen ss .ramp) (p .ends) (omega (arith, parts (r .sources) ss)) (omega (arith, length-observed seen d, parts (r .observations) os)) (p .ramp),
+      sources-most t (p .sources),
+      observations-most seen d (p .observations) (omega (arith, parts (r .sources) ss)),
+      ap length (drop-drop (sourceCount seen) (r .sources) ss),
+      boundaries-most rs (drop (r .observations) os) others h (omega (arith, parts (r .observations) os)) (omega (arith, parts (r .sources + sourceCount seen) ss)),
+    )
 
 length-bounded : (bs : List BoundaryRecord) (os : List ObservationRecord) (ss : List Source) → length (boundariesWith bs os ss) ≡ length bs
 unfolding boundariesWith
@@ -135,7 +169,7 @@ module _ (s out : List ℕ) where
       ∙ ap (λ (b : Bool). leb 24 (length s) && b) (and-false (leb (answerLength s) (length s)))
       ∙ and-false (leb 24 (length s)))
 
-  is-whole : answerLength s ≤ length s → answerLength s * 3 ≤ length out → whole s (length out) ≡ true
+  pub is-whole : answerLength s ≤ length s → answerLength s * 3 ≤ length out → whole s (length out) ≡ true
   unfolding whole
   is-whole h k =
       ap (λ (b : Bool). b && (leb (answerLength s) (length s) && leb (answerLength s * 3) (length out))) (le-leb 24 (length s) (omega arith))

@@ -1,12 +1,11 @@
 -- An answer's records, one after another.
 use mathlib.Core.Path.{_≡_, refl, sym, _∙_, ap, subst}
 use mathlib.Core.Logic.{by-cases}
-use mathlib.Core.List.{List, [], _∷_, _++_, flatMap, append-nil, append-assoc}
-use Prim.Native.Nat.{ℕ, zero, suc, _+_, _-_, _*_, _≤_, _<_, min}
-use native.Mathlib.Nat.{zero-add, suc-add}
+use mathlib.Core.List.{List, [], _∷_, _++_, flatMap, append-nil}
+use Prim.Native.Nat.{ℕ, suc, _+_, _-_, _*_, _≤_, _<_, min}
 use native.Mathlib.Decide.{decLt}
 use native.Mathlib.Omega.{arith}
-use lib.ListN.{length, take, drop, length-append, length-take, length-drop, drop-of-length-le}
+use lib.ListN.{length, take, drop, length-take, length-drop, drop-of-length-le}
 use lib.Seq.{take-at, drop-at, take-all, drop-drop}
 use Rattle.lists.specs.Rows.{rows, sum}
 use Rattle.lists.proofs.Rows.{length-rows, rows-same, rows-split}
@@ -18,7 +17,7 @@ use Rattle.format.specs.declared.records.Source.{Source}
 use Rattle.listing.specs.Lines.{sourceLine, sourceLines, observationFields, observationLine, observationText, observationTexts, boundaryFields, boundaryLine, boundaryText, boundaryTexts}
 use Rattle.listing.specs.Answer.{Room, Writes, observationsAt, sourcesAt, observationHere, Inside, Moved}
 use Rattle.listing.specs.declared.walk.Cursor.{Cursor}
-use Rattle.listing.proofs.Writing.{Left, joined, start, next, done, retell, room, as-long}
+use Rattle.listing.proofs.Writing.{Left, start, next, done, retell, room}
 
 -- Records of a size, side by side.
 module _ {A : Type 0} (read : List ℕ → ℕ → A) (s : List ℕ) (size : ℕ) where
@@ -317,10 +316,10 @@ module _ (s : List ℕ) (place : ℕ) (c : Cursor) (b : BoundaryRecord) (n m : �
         inside = v .inside;
         observations = v .observations ∙ drop-least os (b .observations) (c .observations) m (length-observations s c) k;
         sources = v .sources
-          ∙ ap (λ (x : List ObservationRecord). drop (sourceCount (take m os)) (sourceRecords s (c .source + n * 8) (c .sources - n))) seen
-          ∙ ap (drop (sourceCount (take m os))) (sources-dropped s c (b .sources) n h)
-          ∙ ap (λ (x : List ObservationRecord). drop (sourceCount x) (drop (b .sources) ss)) seen
-          ∙ drop-drop (sourceCount (take (b .observations) os)) (b .sources) ss;
+            ∙ ap (λ (x : List ObservationRecord). drop (sourceCount (take m os)) (sourceRecords s (c .source + n * 8) (c .sources - n))) seen
+            ∙ ap (drop (sourceCount (take m os))) (sources-dropped s c (b .sources) n h)
+            ∙ ap (λ (x : List ObservationRecord). drop (sourceCount x) (drop (b .sources) ss)) seen
+            ∙ drop-drop (sourceCount (take (b .observations) os)) (b .sources) ss;
       } in
       subst (λ (x : BoundaryRecord). Moved s c r (x .observations) (x .sources + sourceCount (take (x .observations) os))) e past
 

@@ -50,9 +50,9 @@ module _ {whole out : List ℕ} {at : ℕ} where
     text = l .text ++ a;
     fits = l .fits;
     is = w .is
-      ∙ ap (λ (s : List ℕ). splice s p a) (l .is)
-      ∙ ap (λ (k : ℕ). splice (splice out at (l .text)) k a) (l .end)
-      ∙ splice-splice out at (l .text) (inside l) a;
+        ∙ ap (λ (s : List ℕ). splice s p a) (l .is)
+        ∙ ap (λ (k : ℕ). splice (splice out at (l .text)) k a) (l .end)
+        ∙ splice-splice out at (l .text) (inside l) a;
     end = omega (arith, w .end, l .end, length-append (l .text) a);
     all = append-assoc (l .text) a (joined ps) ∙ l .all;
   }

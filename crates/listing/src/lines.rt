@@ -119,7 +119,13 @@ pub fn write_observation_line(o: ObservationRecord, n: usize, out: &mut [u8], at
 }
 
 // A b line, with the numbers of own sources and of observations that there are.
-pub fn write_boundary_line(b: BoundaryRecord, n: usize, m: usize, out: &mut [u8], at: usize) -> usize
+pub fn write_boundary_line(
+    b: BoundaryRecord,
+    n: usize,
+    m: usize,
+    out: &mut [u8],
+    at: usize,
+) -> usize
     requires { ⌜ Room (boundaryFields (b .ends) (b .bits) n m (rampOf (b .ramp))) (now out) at ⌝ }
     ensures { λ r. ⌜ Writes (boundaryFields (b .ends) (b .bits) n m (rampOf (b .ramp))) (now (out .entry)) at (now (out .exit)) r ⌝ }
 {

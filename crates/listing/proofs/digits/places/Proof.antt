@@ -1,11 +1,6 @@
-use mathlib.Core.Path.{_≡_, refl, sym, _∙_, ap}
-use mathlib.Core.List.{List, [], _∷_, _++_}
-use mathlib.Core.Logic.{⊎-elim}
-use Prim.Native.Nat.{ℕ, zero, suc, _+_, _-_, _*_, _≤_, _<_}
+use Prim.Native.Nat.{_-_}
 use native.Mathlib.Omega.{arith}
-use lib.ListN.{length, getD, set, take, drop, length-set}
 use Rattle.listing.proofs.Spelling.{Counted, counted-start, counted-next, counted-end}
-use borrow.Author.Needs.{needs}
 use Rattle.listing.proofs.digits.places.Statement.{statement}
 use Rattle.listing.proofs.digits.places.Tie as tie
 use Rattle.listing.proofs.digits.places.Reads as reads
@@ -17,23 +12,18 @@ Inv-loop v k₀ rest₀ k rest = Counted v k rest
 abbrev μ-loop : tie.MeasureT-loop
 μ-loop v k₀ rest₀ k rest = rest
 
--- src/digits.rt:24:5
 loop-holds : tie.Need-loop-holds Inv-loop μ-loop
 loop-holds c = counted-start _
 
--- src/digits.rt:26:9
 add-k : tie.Need-add-k Inv-loop μ-loop
 add-k c = omega (arith, c .before .loop .inv .small, c .loop-test .taken)
 
--- src/digits.rt:24:5
 loop-less : tie.Need-loop-less Inv-loop μ-loop
 loop-less c = omega (arith, c .loop-test .taken)
 
--- src/digits.rt:24:5
 loop-again : tie.Need-loop-again Inv-loop μ-loop
 loop-again c = counted-next (c .before .loop .inv) (c .loop-test .taken)
 
--- src/digits.rt:19:1
 returns : tie.Need-returns Inv-loop μ-loop
 returns c = counted-end (c .before .loop .inv) (c .loop-test .left)
 

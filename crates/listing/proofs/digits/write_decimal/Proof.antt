@@ -8,23 +8,18 @@ use Rattle.listing.proofs.digits.write_decimal.Lts as lts
 use Rattle.listing.proofs.digits.places.Reads as places-reads
 use Rattle.listing.proofs.digits.write_digits.Reads as write-digits-reads
 
--- src/digits.rt:50:9
 places-requires : tie.Need-places-requires
 places-requires c κs = search needs
 
--- src/digits.rt:51:5
 write-digits-requires : tie.Need-write-digits-requires
 write-digits-requires c κs = (omega arith, omega arith, omega (arith, c .before .before .before .pre, length-digits (c .before .before .before .args .v), c .before .places .ensures))
 
--- src/digits.rt:52:5
 add-result : tie.Need-add-result
 add-result c = omega (arith, c .before .before .before .before .before .before .pre, length-digits (c .before .before .before .before .before .before .args .v), c .before .before .before .before .places .ensures)
 
--- src/digits.rt:46:1
 same-length : tie.Need-same-length
 same-length c = search needs
 
--- src/digits.rt:46:1
 returns : tie.Need-returns
 returns c = decimal-writes (c .before .before .before .before .before .before .args .v) (c .before .before .before .before .places .ensures) (c .before .before .write-digits .ensures)
 

@@ -1,9 +1,5 @@
-use mathlib.Core.Path.{_≡_, refl, sym, _∙_, ap}
-use mathlib.Core.List.{List, [], _∷_, _++_}
-use mathlib.Core.Logic.{⊎-elim}
-use Prim.Native.Nat.{ℕ, zero, suc, _+_, _-_, _*_, _≤_, _<_}
+use Prim.Native.Nat.{_-_}
 use native.Mathlib.Omega.{arith}
-use lib.ListN.{length, getD, set, take, drop, length-set}
 use Rattle.listing.proofs.Spelling.{remainder-small, Spelt, spelt-start, spelt-long, spelt-next, spelt-end}
 use borrow.Author.Needs.{needs}
 use Rattle.listing.proofs.digits.write_digits.Statement.{statement}
@@ -18,47 +14,36 @@ Inv-loop v base k out₀ at i₀ rest₀ out i rest = Spelt base k v out₀ at o
 abbrev μ-loop : tie.MeasureT-loop
 μ-loop v base k out₀ at i₀ rest₀ out i rest = i
 
--- src/digits.rt:38:5
 loop-holds : tie.Need-loop-holds Inv-loop μ-loop
 loop-holds c = spelt-start (c .before .pre .2)
 
--- src/digits.rt:39:9
 sub-i : tie.Need-sub-i Inv-loop μ-loop
 sub-i c = search needs
 
--- src/digits.rt:40:29
 rem-glyph : tie.Need-rem-glyph Inv-loop μ-loop
 rem-glyph c = omega (arith, c .before .before .before .pre .0)
 
--- src/digits.rt:40:23
 glyph-requires : tie.Need-glyph-requires Inv-loop μ-loop
 glyph-requires c κs = remainder-small _ (c .before .before .before .pre .0) (c .before .before .before .pre .1)
 
--- src/digits.rt:40:13
 add-out : tie.Need-add-out Inv-loop μ-loop
 add-out c = search needs
 
--- src/digits.rt:40:9
 slice-write-out : tie.Need-slice-write-out Inv-loop μ-loop
 slice-write-out c = omega (arith, c .before .before .loop .inv .size, c .before .before .loop .inv .fits, spelt-long (c .before .before .loop .inv), c .before .loop-test .taken)
 
--- src/digits.rt:41:9
 div-rest : tie.Need-div-rest Inv-loop μ-loop
 div-rest c = omega (arith, c .before .before .before .before .pre .0)
 
--- src/digits.rt:38:5
 loop-less : tie.Need-loop-less Inv-loop μ-loop
 loop-less c = omega (arith, c .before .loop-test .taken)
 
--- src/digits.rt:38:5
 loop-again : tie.Need-loop-again Inv-loop μ-loop
 loop-again c = rw (c .glyph .ensures) (spelt-next (c .before .before .loop .inv) (c .before .loop-test .taken))
 
--- src/digits.rt:32:1
 same-length : tie.Need-same-length Inv-loop μ-loop
 same-length c = spelt-long (c .before .loop .inv)
 
--- src/digits.rt:32:1
 returns : tie.Need-returns Inv-loop μ-loop
 returns c = spelt-end (c .before .loop .inv) (c .loop-test .left)
 

@@ -7,19 +7,15 @@ use Rattle.listing.proofs.digits.write_hex.Reads as reads
 use Rattle.listing.proofs.digits.write_hex.Lts as lts
 use Rattle.listing.proofs.digits.write_digits.Reads as write-digits-reads
 
--- src/digits.rt:60:5
 write-digits-requires : tie.Need-write-digits-requires
 write-digits-requires c κs = (omega arith, omega arith, omega (arith, c .before .before .pre, length-hexDigits (c .before .before .args .v)))
 
--- src/digits.rt:61:5
 add-result : tie.Need-add-result
 add-result c = search needs
 
--- src/digits.rt:56:1
 same-length : tie.Need-same-length
 same-length c = search needs
 
--- src/digits.rt:56:1
 returns : tie.Need-returns
 returns c = hex-writes (c .before .before .before .before .before .args .v) (c .before .before .write-digits .ensures)
 

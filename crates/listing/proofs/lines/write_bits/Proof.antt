@@ -8,19 +8,15 @@ use Rattle.listing.proofs.lines.write_bits.Lts as lts
 use Rattle.listing.proofs.digits.write_hex.Reads as write-hex-reads
 use Rattle.listing.proofs.lines.write_byte.Reads as write-byte-reads
 
--- src/lines.rt:72:9
 write-byte-requires : tie.Need-write-byte-requires
 write-byte-requires c κs = room (bits-start (c .before .before .args .out .now) (c .before .before .args .at) (c .before .before .args .v) (c .before .before .pre))
 
--- src/lines.rt:73:5
 write-hex-requires : tie.Need-write-hex-requires
 write-hex-requires c κs = room (next (bits-start (c .before .before .before .before .before .before .args .out .now) (c .before .before .before .before .before .before .args .at) (c .before .before .before .before .before .before .args .v) (c .before .before .before .before .before .before .pre)) (c .before .before .before .write-byte .ensures))
 
--- src/lines.rt:68:1
 same-length : tie.Need-same-length
 same-length c = search needs
 
--- src/lines.rt:68:1
 returns : tie.Need-returns
 returns c = done (next (next (bits-start (c .before .before .before .before .before .before .before .before .before .args .out .now) (c .before .before .before .before .before .before .before .before .before .args .at) (c .before .before .before .before .before .before .before .before .before .args .v) (c .before .before .before .before .before .before .before .before .before .pre)) (c .before .before .before .before .before .before .write-byte .ensures)) (c .before .before .write-hex .ensures))
 

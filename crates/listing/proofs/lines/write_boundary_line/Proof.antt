@@ -12,39 +12,30 @@ use Rattle.listing.proofs.lines.write_count.Reads as write-count-reads
 use Rattle.listing.proofs.lines.write_ends.Reads as write-ends-reads
 use Rattle.listing.proofs.lines.write_ramp.Reads as write-ramp-reads
 
--- src/lines.rt:128:9
 write-byte-requires : tie.Need-write-byte-requires
 write-byte-requires c κs = room (boundary-start (c .before .before .before .before .args .out .now) (c .before .before .before .before .args .at) (c .before .before .before .before .args .b .ends) (c .before .before .before .before .args .b .bits) (c .before .before .before .before .args .n) (c .before .before .before .before .args .m) (rampOf (c .before .before .before .before .args .b .ramp)) (c .before .before .before .before .pre))
 
--- src/lines.rt:129:9
 write-ends-requires : tie.Need-write-ends-requires
 write-ends-requires c κs = room (next (boundary-start (c .before .before .before .before .before .before .before .before .args .out .now) (c .before .before .before .before .before .before .before .before .args .at) (c .before .before .before .before .before .before .before .before .args .b .ends) (c .before .before .before .before .before .before .before .before .args .b .bits) (c .before .before .before .before .before .before .before .before .args .n) (c .before .before .before .before .before .before .before .before .args .m) (rampOf (c .before .before .before .before .before .before .before .before .args .b .ramp)) (c .before .before .before .before .before .before .before .before .pre)) (c .before .before .before .write-byte .ensures))
 
--- src/lines.rt:130:9
 write-bits-requires : tie.Need-write-bits-requires
 write-bits-requires c κs = room (next (next (boundary-start (c .before .before .before .before .before .before .before .before .before .before .before .before .args .out .now) (c .before .before .before .before .before .before .before .before .before .before .before .before .args .at) (c .before .before .before .before .before .before .before .before .before .before .before .before .args .b .ends) (c .before .before .before .before .before .before .before .before .before .before .before .before .args .b .bits) (c .before .before .before .before .before .before .before .before .before .before .before .before .args .n) (c .before .before .before .before .before .before .before .before .before .before .before .before .args .m) (rampOf (c .before .before .before .before .before .before .before .before .before .before .before .before .args .b .ramp)) (c .before .before .before .before .before .before .before .before .before .before .before .before .pre)) (c .before .before .before .before .before .before .before .write-byte .ensures)) (c .before .before .before .write-ends .ensures))
 
--- src/lines.rt:131:9
 write-count-requires : tie.Need-write-count-requires
 write-count-requires c κs = room (next (next (next (boundary-start (c .before .before .before .before .before .before .before .before .before .before .before .before .before .before .before .before .args .out .now) (c .before .before .before .before .before .before .before .before .before .before .before .before .before .before .before .before .args .at) (c .before .before .before .before .before .before .before .before .before .before .before .before .before .before .before .before .args .b .ends) (c .before .before .before .before .before .before .before .before .before .before .before .before .before .before .before .before .args .b .bits) (c .before .before .before .before .before .before .before .before .before .before .before .before .before .before .before .before .args .n) (c .before .before .before .before .before .before .before .before .before .before .before .before .before .before .before .before .args .m) (rampOf (c .before .before .before .before .before .before .before .before .before .before .before .before .before .before .before .before .args .b .ramp)) (c .before .before .before .before .before .before .before .before .before .before .before .before .before .before .before .before .pre)) (c .before .before .before .before .before .before .before .before .before .before .before .write-byte .ensures)) (c .before .before .before .before .before .before .before .write-ends .ensures)) (c .before .before .before .write-bits .ensures))
 
--- src/lines.rt:132:9
 write-count-requires-2 : tie.Need-write-count-requires-2
 write-count-requires-2 c κs = room (next (next (next (next (boundary-start (c .before .before .before .before .before .before .before .before .before .before .before .before .before .before .before .before .before .before .before .before .args .out .now) (c .before .before .before .before .before .before .before .before .before .before .before .before .before .before .before .before .before .before .before .before .args .at) (c .before .before .before .before .before .before .before .before .before .before .before .before .before .before .before .before .before .before .before .before .args .b .ends) (c .before .before .before .before .before .before .before .before .before .before .before .before .before .before .before .before .before .before .before .before .args .b .bits) (c .before .before .before .before .before .before .before .before .before .before .before .before .before .before .before .before .before .before .before .before .args .n) (c .before .before .before .before .before .before .before .before .before .before .before .before .before .before .before .before .before .before .before .before .args .m) (rampOf (c .before .before .before .before .before .before .before .before .before .before .before .before .before .before .before .before .before .before .before .before .args .b .ramp)) (c .before .before .before .before .before .before .before .before .before .before .before .before .before .before .before .before .before .before .before .before .pre)) (c .before .before .before .before .before .before .before .before .before .before .before .before .before .before .before .write-byte .ensures)) (c .before .before .before .before .before .before .before .before .before .before .before .write-ends .ensures)) (c .before .before .before .before .before .before .before .write-bits .ensures)) (c .before .before .before .write-count .ensures))
 
--- src/lines.rt:133:9
 write-ramp-requires : tie.Need-write-ramp-requires
 write-ramp-requires c κs = room (next (next (next (next (next (boundary-start (c .before .before .before .before .before .before .before .before .before .before .before .before .before .before .before .before .before .before .before .before .before .before .before .before .args .out .now) (c .before .before .before .before .before .before .before .before .before .before .before .before .before .before .before .before .before .before .before .before .before .before .before .before .args .at) (c .before .before .before .before .before .before .before .before .before .before .before .before .before .before .before .before .before .before .before .before .before .before .before .before .args .b .ends) (c .before .before .before .before .before .before .before .before .before .before .before .before .before .before .before .before .before .before .before .before .before .before .before .before .args .b .bits) (c .before .before .before .before .before .before .before .before .before .before .before .before .before .before .before .before .before .before .before .before .before .before .before .before .args .n) (c .before .before .before .before .before .before .before .before .before .before .before .before .before .before .before .before .before .before .before .before .before .before .before .before .args .m) (rampOf (c .before .before .before .before .before .before .before .before .before .before .before .before .before .before .before .before .before .before .before .before .before .before .before .before .args .b .ramp)) (c .before .before .before .before .before .before .before .before .before .before .before .before .before .before .before .before .before .before .before .before .before .before .before .before .pre)) (c .before .before .before .before .before .before .before .before .before .before .before .before .before .before .before .before .before .before .before .write-byte .ensures)) (c .before .before .before .before .before .before .before .before .before .before .before .before .before .before .before .write-ends .ensures)) (c .before .before .before .before .before .before .before .before .before .before .before .write-bits .ensures)) (c .before .before .before .before .before .before .before .write-count .ensures)) (c .before .before .before .write-count2 .ensures))
 
--- src/lines.rt:134:5
 write-byte-requires-2 : tie.Need-write-byte-requires-2
 write-byte-requires-2 c κs = room (next (next (next (next (next (next (boundary-start (c .before .before .before .before .before .before .before .before .before .before .before .before .before .before .before .before .before .before .before .before .before .before .before .before .before .before .before .before .args .out .now) (c .before .before .before .before .before .before .before .before .before .before .before .before .before .before .before .before .before .before .before .before .before .before .before .before .before .before .before .before .args .at) (c .before .before .before .before .before .before .before .before .before .before .before .before .before .before .before .before .before .before .before .before .before .before .before .before .before .before .before .before .args .b .ends) (c .before .before .before .before .before .before .before .before .before .before .before .before .before .before .before .before .before .before .before .before .before .before .before .before .before .before .before .before .args .b .bits) (c .before .before .before .before .before .before .before .before .before .before .before .before .before .before .before .before .before .before .before .before .before .before .before .before .before .before .before .before .args .n) (c .before .before .before .before .before .before .before .before .before .before .before .before .before .before .before .before .before .before .before .before .before .before .before .before .before .before .before .before .args .m) (rampOf (c .before .before .before .before .before .before .before .before .before .before .before .before .before .before .before .before .before .before .before .before .before .before .before .before .before .before .before .before .args .b .ramp)) (c .before .before .before .before .before .before .before .before .before .before .before .before .before .before .before .before .before .before .before .before .before .before .before .before .before .before .before .before .pre)) (c .before .before .before .before .before .before .before .before .before .before .before .before .before .before .before .before .before .before .before .before .before .before .before .write-byte .ensures)) (c .before .before .before .before .before .before .before .before .before .before .before .before .before .before .before .before .before .before .before .write-ends .ensures)) (c .before .before .before .before .before .before .before .before .before .before .before .before .before .before .before .write-bits .ensures)) (c .before .before .before .before .before .before .before .before .before .before .before .write-count .ensures)) (c .before .before .before .before .before .before .before .write-count2 .ensures)) (c .before .before .before .write-ramp .ensures))
 
--- src/lines.rt:122:1
 same-length : tie.Need-same-length
 same-length c = search needs
 
--- src/lines.rt:122:1
 returns : tie.Need-returns
 returns c = done (next (next (next (next (next (next (next (boundary-start (c .before .before .before .before .before .before .before .before .before .before .before .before .before .before .before .before .before .before .before .before .before .before .before .before .before .before .before .before .before .before .before .args .out .now) (c .before .before .before .before .before .before .before .before .before .before .before .before .before .before .before .before .before .before .before .before .before .before .before .before .before .before .before .before .before .before .before .args .at) (c .before .before .before .before .before .before .before .before .before .before .before .before .before .before .before .before .before .before .before .before .before .before .before .before .before .before .before .before .before .before .before .args .b .ends) (c .before .before .before .before .before .before .before .before .before .before .before .before .before .before .before .before .before .before .before .before .before .before .before .before .before .before .before .before .before .before .before .args .b .bits) (c .before .before .before .before .before .before .before .before .before .before .before .before .before .before .before .before .before .before .before .before .before .before .before .before .before .before .before .before .before .before .before .args .n) (c .before .before .before .before .before .before .before .before .before .before .before .before .before .before .before .before .before .before .before .before .before .before .before .before .before .before .before .before .before .before .before .args .m) (rampOf (c .before .before .before .before .before .before .before .before .before .before .before .before .before .before .before .before .before .before .before .before .before .before .before .before .before .before .before .before .before .before .before .args .b .ramp)) (c .before .before .before .before .before .before .before .before .before .before .before .before .before .before .before .before .before .before .before .before .before .before .before .before .before .before .before .before .before .before .before .pre)) (c .before .before .before .before .before .before .before .before .before .before .before .before .before .before .before .before .before .before .before .before .before .before .before .before .before .before .write-byte .ensures)) (c .before .before .before .before .before .before .before .before .before .before .before .before .before .before .before .before .before .before .before .before .before .before .write-ends .ensures)) (c .before .before .before .before .before .before .before .before .before .before .before .before .before .before .before .before .before .before .write-bits .ensures)) (c .before .before .before .before .before .before .before .before .before .before .before .before .before .before .write-count .ensures)) (c .before .before .before .before .before .before .before .before .before .before .write-count2 .ensures)) (c .before .before .before .before .before .before .write-ramp .ensures)) (c .before .before .write-byte2 .ensures))
 

@@ -6,19 +6,15 @@ use Rattle.listing.proofs.lines.write_byte.Tie as tie
 use Rattle.listing.proofs.lines.write_byte.Reads as reads
 use Rattle.listing.proofs.lines.write_byte.Lts as lts
 
--- src/lines.rt:39:5
 slice-write-out : tie.Need-slice-write-out
 slice-write-out c = search needs
 
--- src/lines.rt:40:5
 add-result : tie.Need-add-result
 add-result c = search needs
 
--- src/lines.rt:35:1
 same-length : tie.Need-same-length
 same-length c = search needs
 
--- src/lines.rt:35:1
 returns : tie.Need-returns
 returns c = byte-writes _ _ _ (omega (arith, c .pre))
 

@@ -7,27 +7,21 @@ use Rattle.listing.proofs.lines.write_ends.Reads as reads
 use Rattle.listing.proofs.lines.write_ends.Lts as lts
 use Rattle.listing.proofs.lines.write_word.Reads as write-word-reads
 
--- src/lines.rt:82:9
 write-word-requires : tie.Need-write-word-requires
 write-word-requires c κs = room (ends-start (c .before .before .before .before .args .out .now) (c .before .before .before .before .args .at) (c .before .before .before .before .args .e) (c .before .before .before .before .pre))
 
--- src/lines.rt:83:9
 write-word-requires-2 : tie.Need-write-word-requires-2
 write-word-requires-2 c κs = room (next (ends-start (c .before .before .before .before .before .before .before .before .args .out .now) (c .before .before .before .before .before .before .before .before .args .at) (c .before .before .before .before .before .before .before .before .args .e) (c .before .before .before .before .before .before .before .before .pre)) (c .before .before .before .write-word .ensures))
 
--- src/lines.rt:84:9
 write-word-requires-3 : tie.Need-write-word-requires-3
 write-word-requires-3 c κs = room (next (next (ends-start (c .before .before .before .before .before .before .before .before .before .before .before .before .args .out .now) (c .before .before .before .before .before .before .before .before .before .before .before .before .args .at) (c .before .before .before .before .before .before .before .before .before .before .before .before .args .e) (c .before .before .before .before .before .before .before .before .before .before .before .before .pre)) (c .before .before .before .before .before .before .before .write-word .ensures)) (c .before .before .before .write-word2 .ensures))
 
--- src/lines.rt:85:5
 write-word-requires-4 : tie.Need-write-word-requires-4
 write-word-requires-4 c κs = room (next (next (next (ends-start (c .before .before .before .before .before .before .before .before .before .before .before .before .before .before .before .before .args .out .now) (c .before .before .before .before .before .before .before .before .before .before .before .before .before .before .before .before .args .at) (c .before .before .before .before .before .before .before .before .before .before .before .before .before .before .before .before .args .e) (c .before .before .before .before .before .before .before .before .before .before .before .before .before .before .before .before .pre)) (c .before .before .before .before .before .before .before .before .before .before .before .write-word .ensures)) (c .before .before .before .before .before .before .before .write-word2 .ensures)) (c .before .before .before .write-word3 .ensures))
 
--- src/lines.rt:76:1
 same-length : tie.Need-same-length
 same-length c = search needs
 
--- src/lines.rt:76:1
 returns : tie.Need-returns
 returns c = done (next (next (next (next (ends-start (c .before .before .before .before .before .before .before .before .before .before .before .before .before .before .before .before .before .before .before .args .out .now) (c .before .before .before .before .before .before .before .before .before .before .before .before .before .before .before .before .before .before .before .args .at) (c .before .before .before .before .before .before .before .before .before .before .before .before .before .before .before .before .before .before .before .args .e) (c .before .before .before .before .before .before .before .before .before .before .before .before .before .before .before .before .before .before .before .pre)) (c .before .before .before .before .before .before .before .before .before .before .before .before .before .before .write-word .ensures)) (c .before .before .before .before .before .before .before .before .before .before .write-word2 .ensures)) (c .before .before .before .before .before .before .write-word3 .ensures)) (c .before .before .write-word4 .ensures))
 

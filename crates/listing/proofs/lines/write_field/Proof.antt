@@ -8,19 +8,15 @@ use Rattle.listing.proofs.lines.write_field.Lts as lts
 use Rattle.listing.proofs.digits.write_decimal.Reads as write-decimal-reads
 use Rattle.listing.proofs.lines.write_byte.Reads as write-byte-reads
 
--- src/lines.rt:43:9
 write-byte-requires : tie.Need-write-byte-requires
 write-byte-requires c κs = room (field-start (c .before .before .args .out .now) (c .before .before .args .at) (c .before .before .args .v) (c .before .before .pre))
 
--- src/lines.rt:44:5
 write-decimal-requires : tie.Need-write-decimal-requires
 write-decimal-requires c κs = room (next (field-start (c .before .before .before .before .before .before .args .out .now) (c .before .before .before .before .before .before .args .at) (c .before .before .before .before .before .before .args .v) (c .before .before .before .before .before .before .pre)) (c .before .before .before .write-byte .ensures))
 
--- src/lines.rt:39:1
 same-length : tie.Need-same-length
 same-length c = search needs
 
--- src/lines.rt:39:1
 returns : tie.Need-returns
 returns c = done (next (next (field-start (c .before .before .before .before .before .before .before .before .before .args .out .now) (c .before .before .before .before .before .before .before .before .before .args .at) (c .before .before .before .before .before .before .before .before .before .args .v) (c .before .before .before .before .before .before .before .before .before .pre)) (c .before .before .before .before .before .before .write-byte .ensures)) (c .before .before .write-decimal .ensures))
 

@@ -8,27 +8,21 @@ use Rattle.listing.proofs.lines.write_ramp.Lts as lts
 use Rattle.listing.proofs.lines.write_small.Reads as write-small-reads
 use Rattle.listing.proofs.lines.write_word.Reads as write-word-reads
 
--- src/lines.rt:92:9
 write-small-requires : tie.Need-write-small-requires
 write-small-requires c κs = room (ramp-start (c .before .before .args .out .now) (c .before .before .args .at) (c .before .before .args .r) (c .before .before .pre))
 
--- src/lines.rt:93:9
 write-small-requires-2 : tie.Need-write-small-requires-2
 write-small-requires-2 c κs = room (next (ramp-start (c .before .before .before .before .before .before .args .out .now) (c .before .before .before .before .before .before .args .at) (c .before .before .before .before .before .before .args .r) (c .before .before .before .before .before .before .pre)) (c .before .before .before .write-small .ensures))
 
--- src/lines.rt:94:9
 write-small-requires-3 : tie.Need-write-small-requires-3
 write-small-requires-3 c κs = room (next (next (ramp-start (c .before .before .before .before .before .before .before .before .before .before .args .out .now) (c .before .before .before .before .before .before .before .before .before .before .args .at) (c .before .before .before .before .before .before .before .before .before .before .args .r) (c .before .before .before .before .before .before .before .before .before .before .pre)) (c .before .before .before .before .before .before .before .write-small .ensures)) (c .before .before .before .write-small2 .ensures))
 
--- src/lines.rt:95:5
 write-word-requires : tie.Need-write-word-requires
 write-word-requires c κs = room (next (next (next (ramp-start (c .before .before .before .before .before .before .before .before .before .before .before .before .before .before .args .out .now) (c .before .before .before .before .before .before .before .before .before .before .before .before .before .before .args .at) (c .before .before .before .before .before .before .before .before .before .before .before .before .before .before .args .r) (c .before .before .before .before .before .before .before .before .before .before .before .before .before .before .pre)) (c .before .before .before .before .before .before .before .before .before .before .before .write-small .ensures)) (c .before .before .before .before .before .before .before .write-small2 .ensures)) (c .before .before .before .write-small3 .ensures))
 
--- src/lines.rt:88:1
 same-length : tie.Need-same-length
 same-length c = search needs
 
--- src/lines.rt:88:1
 returns : tie.Need-returns
 returns c = done (next (next (next (next (ramp-start (c .before .before .before .before .before .before .before .before .before .before .before .before .before .before .before .before .before .args .out .now) (c .before .before .before .before .before .before .before .before .before .before .before .before .before .before .before .before .before .args .at) (c .before .before .before .before .before .before .before .before .before .before .before .before .before .before .before .before .before .args .r) (c .before .before .before .before .before .before .before .before .before .before .before .before .before .before .before .before .before .pre)) (c .before .before .before .before .before .before .before .before .before .before .before .before .before .before .write-small .ensures)) (c .before .before .before .before .before .before .before .before .before .before .write-small2 .ensures)) (c .before .before .before .before .before .before .write-small3 .ensures)) (c .before .before .write-word .ensures))
 

@@ -8,27 +8,21 @@ use Rattle.listing.proofs.lines.write_source.Lts as lts
 use Rattle.listing.proofs.lines.write_byte.Reads as write-byte-reads
 use Rattle.listing.proofs.lines.write_word.Reads as write-word-reads
 
--- src/lines.rt:102:9
 write-byte-requires : tie.Need-write-byte-requires
 write-byte-requires c κs = room (source-start (c .before .before .args .out .now) (c .before .before .args .at) (c .before .before .args .s) (c .before .before .pre))
 
--- src/lines.rt:103:9
 write-word-requires : tie.Need-write-word-requires
 write-word-requires c κs = room (next (source-start (c .before .before .before .before .before .before .args .out .now) (c .before .before .before .before .before .before .args .at) (c .before .before .before .before .before .before .args .s) (c .before .before .before .before .before .before .pre)) (c .before .before .before .write-byte .ensures))
 
--- src/lines.rt:104:9
 write-word-requires-2 : tie.Need-write-word-requires-2
 write-word-requires-2 c κs = room (next (next (source-start (c .before .before .before .before .before .before .before .before .before .before .args .out .now) (c .before .before .before .before .before .before .before .before .before .before .args .at) (c .before .before .before .before .before .before .before .before .before .before .args .s) (c .before .before .before .before .before .before .before .before .before .before .pre)) (c .before .before .before .before .before .before .before .write-byte .ensures)) (c .before .before .before .write-word .ensures))
 
--- src/lines.rt:105:5
 write-byte-requires-2 : tie.Need-write-byte-requires-2
 write-byte-requires-2 c κs = room (next (next (next (source-start (c .before .before .before .before .before .before .before .before .before .before .before .before .before .before .args .out .now) (c .before .before .before .before .before .before .before .before .before .before .before .before .before .before .args .at) (c .before .before .before .before .before .before .before .before .before .before .before .before .before .before .args .s) (c .before .before .before .before .before .before .before .before .before .before .before .before .before .before .pre)) (c .before .before .before .before .before .before .before .before .before .before .before .write-byte .ensures)) (c .before .before .before .before .before .before .before .write-word .ensures)) (c .before .before .before .write-word2 .ensures))
 
--- src/lines.rt:98:1
 same-length : tie.Need-same-length
 same-length c = search needs
 
--- src/lines.rt:98:1
 returns : tie.Need-returns
 returns c = done (next (next (next (next (source-start (c .before .before .before .before .before .before .before .before .before .before .before .before .before .before .before .before .before .args .out .now) (c .before .before .before .before .before .before .before .before .before .before .before .before .before .before .before .before .before .args .at) (c .before .before .before .before .before .before .before .before .before .before .before .before .before .before .before .before .before .args .s) (c .before .before .before .before .before .before .before .before .before .before .before .before .before .before .before .before .before .pre)) (c .before .before .before .before .before .before .before .before .before .before .before .before .before .before .write-byte .ensures)) (c .before .before .before .before .before .before .before .before .before .before .write-word .ensures)) (c .before .before .before .before .before .before .write-word2 .ensures)) (c .before .before .write-byte2 .ensures))
 

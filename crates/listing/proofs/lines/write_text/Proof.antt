@@ -1,9 +1,7 @@
-use mathlib.Core.Path.{_≡_, refl, sym, _∙_, ap}
-use mathlib.Core.List.{List, [], _∷_, _++_}
-use mathlib.Core.Logic.{⊎-elim}
-use Prim.Native.Nat.{ℕ, zero, suc, _+_, _-_, _*_, _≤_, _<_}
+use mathlib.Core.Path.{_≡_, refl}
+use Prim.Native.Nat.{_-_, _≤_}
 use native.Mathlib.Omega.{arith}
-use lib.ListN.{length, getD, set, take, drop, length-set}
+use lib.ListN.{length}
 use Rattle.listing.proofs.Writing.{Copied, as-long, copied-start, copied-next, copied-end}
 use borrow.Author.Needs.{needs}
 use Rattle.listing.proofs.lines.write_text.Statement.{statement}
@@ -17,43 +15,33 @@ Inv-loop text out₀ at n i₀ out i = Copied text out₀ at out i × (i ≤ n) 
 abbrev μ-loop : tie.MeasureT-loop
 μ-loop text out₀ at n i₀ out i = n - i
 
--- src/lines.rt:49:5
 loop-holds : tie.Need-loop-holds Inv-loop μ-loop
 loop-holds c = (copied-start _ _ _ (c .pre), omega arith, refl)
 
--- src/lines.rt:50:23
 shared-slice-read-out : tie.Need-shared-slice-read-out Inv-loop μ-loop
 shared-slice-read-out c = search needs
 
--- src/lines.rt:50:13
 add-out : tie.Need-add-out Inv-loop μ-loop
 add-out c = omega (arith, c .before .before .before .pre, c .before .before .loop .inv .2, c .before .loop-test .taken)
 
--- src/lines.rt:50:9
 slice-write-out : tie.Need-slice-write-out Inv-loop μ-loop
 slice-write-out c = omega (arith, as-long (c .before .before .loop .inv .0), c .before .before .before .pre, c .before .before .loop .inv .2, c .before .loop-test .taken)
 
--- src/lines.rt:51:9
 add-i : tie.Need-add-i Inv-loop μ-loop
 add-i c = omega (arith, c .before .loop-test .taken)
 
--- src/lines.rt:49:5
 loop-less : tie.Need-loop-less Inv-loop μ-loop
 loop-less c = omega (arith, c .before .loop-test .taken)
 
--- src/lines.rt:49:5
 loop-again : tie.Need-loop-again Inv-loop μ-loop
 loop-again c = (copied-next _ _ _ _ _ (omega (arith, c .before .before .loop .inv .2, c .before .loop-test .taken)) (c .before .before .loop .inv .0), omega (arith, c .before .loop-test .taken), c .before .before .loop .inv .2)
 
--- src/lines.rt:53:5
 add-result : tie.Need-add-result Inv-loop μ-loop
 add-result c = search needs
 
--- src/lines.rt:43:1
 same-length : tie.Need-same-length Inv-loop μ-loop
 same-length c = as-long (c .before .loop .inv .0)
 
--- src/lines.rt:43:1
 returns : tie.Need-returns Inv-loop μ-loop
 returns c = copied-end _ _ _ _ _ _ (c .before .loop .inv .2) (c .loop-test .left) (c .before .loop .inv .1) (c .before .loop .inv .0)
 

@@ -9,27 +9,21 @@ use Rattle.listing.proofs.lines.write_byte.Reads as write-byte-reads
 use Rattle.listing.proofs.lines.write_text.Reads as write-text-reads
 use Rattle.listing.proofs.lines.write_word.Reads as write-word-reads
 
--- src/listing.rt:27:27
 slice-aggregate-write-text : tie.Need-slice-aggregate-write-text
 slice-aggregate-write-text c = search needs
 
--- src/listing.rt:27:9
 write-text-requires : tie.Need-write-text-requires
 write-text-requires c κs = room (kept-start (c .before .before .before .args .out .now) (c .before .before .before .args .at) (c .before .before .before .args .n) (c .before .before .before .pre))
 
--- src/listing.rt:28:9
 write-word-requires : tie.Need-write-word-requires
 write-word-requires c κs = room (next (kept-start (c .before .before .before .before .before .before .before .args .out .now) (c .before .before .before .before .before .before .before .args .at) (c .before .before .before .before .before .before .before .args .n) (c .before .before .before .before .before .before .before .pre)) (c .before .before .before .write-text .ensures))
 
--- src/listing.rt:29:5
 write-byte-requires : tie.Need-write-byte-requires
 write-byte-requires c κs = room (next (next (kept-start (c .before .before .before .before .before .before .before .before .before .before .before .args .out .now) (c .before .before .before .before .before .before .before .before .before .before .before .args .at) (c .before .before .before .before .before .before .before .before .before .before .before .args .n) (c .before .before .before .before .before .before .before .before .before .before .before .pre)) (c .before .before .before .before .before .before .before .write-text .ensures)) (c .before .before .before .write-word .ensures))
 
--- src/listing.rt:23:1
 same-length : tie.Need-same-length
 same-length c = search needs
 
--- src/listing.rt:23:1
 returns : tie.Need-returns
 returns c = done (next (next (next (kept-start (c .before .before .before .before .before .before .before .before .before .before .before .before .before .before .args .out .now) (c .before .before .before .before .before .before .before .before .before .before .before .before .before .before .args .at) (c .before .before .before .before .before .before .before .before .before .before .before .before .before .before .args .n) (c .before .before .before .before .before .before .before .before .before .before .before .before .before .before .pre)) (c .before .before .before .before .before .before .before .before .before .before .write-text .ensures)) (c .before .before .before .before .before .before .write-word .ensures)) (c .before .before .write-byte .ensures))
 

@@ -11,31 +11,24 @@ use Rattle.listing.proofs.lines.write_field.Reads as write-field-reads
 use Rattle.listing.proofs.lines.write_text.Reads as write-text-reads
 use Rattle.listing.proofs.lines.write_word.Reads as write-word-reads
 
--- src/listing.rt:71:27
 slice-aggregate-write-text : tie.Need-slice-aggregate-write-text
 slice-aggregate-write-text c = search needs
 
--- src/listing.rt:71:9
 write-text-requires : tie.Need-write-text-requires
 write-text-requires c κs = room (refused-start (c .before .before .before .args .out .now) 0 (c .before .before .before .args .number) (c .before .before .before .args .detail) (refused-room (c .before .before .before .args .number) (c .before .before .before .args .detail) (c .before .before .before .args .out .now) (c .before .before .before .fits .number .fits) (c .before .before .before .fits .detail .fits) (c .before .before .before .pre)))
 
--- src/listing.rt:72:9
 write-word-requires : tie.Need-write-word-requires
 write-word-requires c κs = room (next (refused-start (c .before .before .before .before .before .before .before .args .out .now) 0 (c .before .before .before .before .before .before .before .args .number) (c .before .before .before .before .before .before .before .args .detail) (refused-room (c .before .before .before .before .before .before .before .args .number) (c .before .before .before .before .before .before .before .args .detail) (c .before .before .before .before .before .before .before .args .out .now) (c .before .before .before .before .before .before .before .fits .number .fits) (c .before .before .before .before .before .before .before .fits .detail .fits) (c .before .before .before .before .before .before .before .pre))) (c .before .before .before .write-text .ensures))
 
--- src/listing.rt:73:9
 write-field-requires : tie.Need-write-field-requires
 write-field-requires c κs = room (next (next (refused-start (c .before .before .before .before .before .before .before .before .before .before .before .args .out .now) 0 (c .before .before .before .before .before .before .before .before .before .before .before .args .number) (c .before .before .before .before .before .before .before .before .before .before .before .args .detail) (refused-room (c .before .before .before .before .before .before .before .before .before .before .before .args .number) (c .before .before .before .before .before .before .before .before .before .before .before .args .detail) (c .before .before .before .before .before .before .before .before .before .before .before .args .out .now) (c .before .before .before .before .before .before .before .before .before .before .before .fits .number .fits) (c .before .before .before .before .before .before .before .before .before .before .before .fits .detail .fits) (c .before .before .before .before .before .before .before .before .before .before .before .pre))) (c .before .before .before .before .before .before .before .write-text .ensures)) (c .before .before .before .write-word .ensures))
 
--- src/listing.rt:74:5
 write-byte-requires : tie.Need-write-byte-requires
 write-byte-requires c κs = room (next (next (next (refused-start (c .before .before .before .before .before .before .before .before .before .before .before .before .before .before .before .args .out .now) 0 (c .before .before .before .before .before .before .before .before .before .before .before .before .before .before .before .args .number) (c .before .before .before .before .before .before .before .before .before .before .before .before .before .before .before .args .detail) (refused-room (c .before .before .before .before .before .before .before .before .before .before .before .before .before .before .before .args .number) (c .before .before .before .before .before .before .before .before .before .before .before .before .before .before .before .args .detail) (c .before .before .before .before .before .before .before .before .before .before .before .before .before .before .before .args .out .now) (c .before .before .before .before .before .before .before .before .before .before .before .before .before .before .before .fits .number .fits) (c .before .before .before .before .before .before .before .before .before .before .before .before .before .before .before .fits .detail .fits) (c .before .before .before .before .before .before .before .before .before .before .before .before .before .before .before .pre))) (c .before .before .before .before .before .before .before .before .before .before .before .write-text .ensures)) (c .before .before .before .before .before .before .before .write-word .ensures)) (c .before .before .before .write-field .ensures))
 
--- src/listing.rt:66:1
 same-length : tie.Need-same-length
 same-length c = search needs
 
--- src/listing.rt:66:1
 returns : tie.Need-returns
 returns c = let w = done (next (next (next (next (refused-start (c .before .before .before .before .before .before .before .before .before .before .before .before .before .before .before .before .before .before .args .out .now) 0 (c .before .before .before .before .before .before .before .before .before .before .before .before .before .before .before .before .before .before .args .number) (c .before .before .before .before .before .before .before .before .before .before .before .before .before .before .before .before .before .before .args .detail) (refused-room (c .before .before .before .before .before .before .before .before .before .before .before .before .before .before .before .before .before .before .args .number) (c .before .before .before .before .before .before .before .before .before .before .before .before .before .before .before .before .before .before .args .detail) (c .before .before .before .before .before .before .before .before .before .before .before .before .before .before .before .before .before .before .args .out .now) (c .before .before .before .before .before .before .before .before .before .before .before .before .before .before .before .before .before .before .fits .number .fits) (c .before .before .before .before .before .before .before .before .before .before .before .before .before .before .before .before .before .before .fits .detail .fits) (c .before .before .before .before .before .before .before .before .before .before .before .before .before .before .before .before .before .before .pre))) (c .before .before .before .before .before .before .before .before .before .before .before .before .before .before .write-text .ensures)) (c .before .before .before .before .before .before .before .before .before .before .write-word .ensures)) (c .before .before .before .before .before .before .write-field .ensures)) (c .before .before .write-byte .ensures)) in (w, omega (arith, w .end, refused-length (c .before .before .before .before .before .before .before .before .before .before .before .before .before .before .before .before .before .before .args .number) (c .before .before .before .before .before .before .before .before .before .before .before .before .before .before .before .before .before .before .args .detail) (c .before .before .before .before .before .before .before .before .before .before .before .before .before .before .before .before .before .before .fits .number .fits) (c .before .before .before .before .before .before .before .before .before .before .before .before .before .before .before .before .before .before .fits .detail .fits)))
 

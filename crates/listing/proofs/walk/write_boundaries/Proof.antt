@@ -14,39 +14,30 @@ Inv-loop answer place n out₀ i₀ d₀ out i d = BoundariesLeft answer place n
 abbrev μ-loop : tie.MeasureT-loop
 μ-loop answer place n out₀ i₀ d₀ out i d = n - i
 
--- src/walk.rt:115:5
 loop-holds : tie.Need-loop-holds Inv-loop μ-loop
 loop-holds c = boundaries-start _ _ _ _ _ (c .before .before .pre .0) (c .before .before .pre .2)
 
--- src/walk.rt:116:44
 mul-write-boundary : tie.Need-mul-write-boundary Inv-loop μ-loop
 mul-write-boundary c = omega (arith, c .before .before .before .before .pre .1, c .loop-test .taken)
 
--- src/walk.rt:116:36
 add-write-boundary : tie.Need-add-write-boundary Inv-loop μ-loop
 add-write-boundary c = omega (arith, c .before .before .before .before .pre .1, c .loop-test .taken)
 
--- src/walk.rt:116:9
 write-boundary-requires : tie.Need-write-boundary-requires Inv-loop μ-loop
 write-boundary-requires c κs = (c .before .before .loop .inv .inside, omega (arith, c .before .before .before .before .before .pre .1, c .before .loop-test .taken), boundary-room _ _ _ _ _ (c .before .before .loop .inv) (c .before .loop-test .taken))
 
--- src/walk.rt:117:9
 add-i : tie.Need-add-i Inv-loop μ-loop
 add-i c = omega (arith, c .before .before .before .before .loop-test .taken)
 
--- src/walk.rt:115:5
 loop-less : tie.Need-loop-less Inv-loop μ-loop
 loop-less c = omega (arith, c .before .before .before .before .loop-test .taken)
 
--- src/walk.rt:115:5
 loop-again : tie.Need-loop-again Inv-loop μ-loop
 loop-again c = boundaries-next _ _ _ _ _ (c .before .before .before .before .before .loop .inv) (c .before .before .before .before .loop-test .taken) _ (c .before .before .write-boundary .ensures .0) (c .before .before .write-boundary .ensures .1)
 
--- src/walk.rt:109:1
 same-length : tie.Need-same-length Inv-loop μ-loop
 same-length c = as-long (c .before .loop .inv .text)
 
--- src/walk.rt:109:1
 returns : tie.Need-returns Inv-loop μ-loop
 returns c = boundaries-written _ _ _ _ _ (c .before .loop .inv) (c .loop-test .left)
 

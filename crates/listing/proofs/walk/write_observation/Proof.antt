@@ -10,47 +10,36 @@ use Rattle.listing.proofs.lines.write_observation_line.Reads as write-o
 use Rattle.listing.proofs.walk.least.Reads as least-reads
 use Rattle.listing.proofs.walk.write_sources.Reads as write-sources-reads
 
--- src/walk.rt:57:9
 read-observation-requires : tie.Need-read-observation-requires
 read-observation-requires c κs = search needs
 
--- src/walk.rt:58:9
 least-requires : tie.Need-least-requires
 least-requires c κs = search needs
 
--- src/walk.rt:59:9
 write-observation-line-requires : tie.Need-write-observation-line-requires
 write-observation-line-requires c κs = room (here-start (c .before .before .before .before .before .args .answer .now) (c .before .before .before .before .before .args .c) _ _ (c .before .before .read-observation .ensures) (c .before .least .ensures) (c .before .before .before .before .before .args .out .now) (c .before .before .before .before .before .pre .2))
 
--- src/walk.rt:60:9
 write-sources-requires : tie.Need-write-sources-requires
 write-sources-requires c κs = (here-sources (c .before .before .before .before .before .before .before .before .before .args .answer .now) (c .before .before .before .before .before .before .before .before .before .args .c) _ _ (c .before .before .before .before .before .before .read-observation .ensures) (c .before .before .before .before .before .least .ensures) (c .before .before .before .before .before .before .before .before .before .pre .0), room (next (here-start (c .before .before .before .before .before .before .before .before .before .args .answer .now) (c .before .before .before .before .before .before .before .before .before .args .c) _ _ (c .before .before .before .before .before .before .read-observation .ensures) (c .before .before .before .before .before .least .ensures) (c .before .before .before .before .before .before .before .before .before .args .out .now) (c .before .before .before .before .before .before .before .before .before .pre .2)) (c .before .before .before .write-observation-line .ensures)))
 
--- src/walk.rt:63:22
 add-t15 : tie.Need-add-t15
 add-t15 c = search needs
 
--- src/walk.rt:64:23
 sub-t16 : tie.Need-sub-t16
 sub-t16 c = search needs
 
--- src/walk.rt:65:26
 mul-t17 : tie.Need-mul-t17
 mul-t17 c = search needs
 
--- src/walk.rt:65:17
 add-t18 : tie.Need-add-t18
 add-t18 c = search needs
 
--- src/walk.rt:66:18
 sub-t19 : tie.Need-sub-t19
 sub-t19 c = search needs
 
--- src/walk.rt:49:1
 same-length : tie.Need-same-length
 same-length c = search needs
 
--- src/walk.rt:49:1
 returns : tie.Need-returns
 returns c = (done (next (next (here-start (c .before .before .before .before .before .before .before .before .before .before .before .before .before .args .answer .now) (c .before .before .before .before .before .before .before .before .before .before .before .before .before .args .c) _ _ (c .before .before .before .before .before .before .before .before .before .before .read-observation .ensures) (c .before .before .before .before .before .before .before .before .before .least .ensures) (c .before .before .before .before .before .before .before .before .before .before .before .before .before .args .out .now) (c .before .before .before .before .before .before .before .before .before .before .before .before .before .pre .2)) (c .before .before .before .before .before .before .before .write-observation-line .ensures)) (c .before .before .before .write-sources .ensures)), here-moved (c .before .before .before .before .before .before .before .before .before .before .before .before .before .args .answer .now) (c .before .before .before .before .before .before .before .before .before .before .before .before .before .args .c) _ _ (c .before .before .before .before .before .before .before .before .before .before .read-observation .ensures) (c .before .before .before .before .before .before .before .before .before .least .ensures) (c .before .before .before .before .before .before .before .before .before .before .before .before .before .pre .0) (c .before .before .before .before .before .before .before .before .before .before .before .before .before .pre .1) _)
 

@@ -14,31 +14,24 @@ Inv-loop answer n out₀ i₀ d₀ out i d = ObservationsLeft answer n d₀ out�
 abbrev μ-loop : tie.MeasureT-loop
 μ-loop answer n out₀ i₀ d₀ out i d = n - i
 
--- src/walk.rt:78:5
 loop-holds : tie.Need-loop-holds Inv-loop μ-loop
 loop-holds c = observations-start _ _ _ _ (c .before .before .pre .0) (c .before .before .pre .1) (c .before .before .pre .2)
 
--- src/walk.rt:79:9
 write-observation-requires : tie.Need-write-observation-requires Inv-loop μ-loop
 write-observation-requires c κs = (c .before .before .loop .inv .inside, some-left _ _ _ _ (c .before .before .loop .inv) (c .before .loop-test .taken), observation-room _ _ _ _ (c .before .before .loop .inv) (c .before .loop-test .taken))
 
--- src/walk.rt:80:9
 add-i : tie.Need-add-i Inv-loop μ-loop
 add-i c = omega (arith, c .before .before .before .before .loop-test .taken)
 
--- src/walk.rt:78:5
 loop-less : tie.Need-loop-less Inv-loop μ-loop
 loop-less c = omega (arith, c .before .before .before .before .loop-test .taken)
 
--- src/walk.rt:78:5
 loop-again : tie.Need-loop-again Inv-loop μ-loop
 loop-again c = observations-next _ _ _ _ (c .before .before .before .before .before .loop .inv) (c .before .before .before .before .loop-test .taken) _ (c .before .before .write-observation .ensures .0) (c .before .before .write-observation .ensures .1)
 
--- src/walk.rt:71:1
 same-length : tie.Need-same-length Inv-loop μ-loop
 same-length c = as-long (c .before .loop .inv .text)
 
--- src/walk.rt:71:1
 returns : tie.Need-returns Inv-loop μ-loop
 returns c = (observations-written _ _ _ _ (c .before .loop .inv) (c .loop-test .left), observations-moved _ _ _ _ (c .before .loop .inv) (c .loop-test .left))
 

@@ -15,43 +15,33 @@ Inv-loop answer from n out₀ at i₀ end₀ out i end = SourcesLeft answer from
 abbrev μ-loop : tie.MeasureT-loop
 μ-loop answer from n out₀ at i₀ end₀ out i end = n - i
 
--- src/walk.rt:40:5
 loop-holds : tie.Need-loop-holds Inv-loop μ-loop
 loop-holds c = sources-start _ _ _ _ _ (c .before .before .pre .1)
 
--- src/walk.rt:41:44
 mul-read-source : tie.Need-mul-read-source Inv-loop μ-loop
 mul-read-source c = omega (arith, c .before .before .before .before .pre .0, c .loop-test .taken)
 
--- src/walk.rt:41:37
 add-read-source : tie.Need-add-read-source Inv-loop μ-loop
 add-read-source c = omega (arith, c .before .before .before .before .pre .0, c .loop-test .taken)
 
--- src/walk.rt:41:13
 read-source-requires : tie.Need-read-source-requires Inv-loop μ-loop
 read-source-requires c κs = omega (arith, c .before .before .before .before .pre .0, c .loop-test .taken)
 
--- src/walk.rt:42:9
 write-source-requires : tie.Need-write-source-requires Inv-loop μ-loop
 write-source-requires c κs = source-room _ _ _ _ _ _ (c .before .read-source .ensures) (c .before .before .loop-test .taken) (c .before .before .before .loop .inv)
 
--- src/walk.rt:43:9
 add-i : tie.Need-add-i Inv-loop μ-loop
 add-i c = omega (arith, c .before .before .before .before .before .loop-test .taken)
 
--- src/walk.rt:40:5
 loop-less : tie.Need-loop-less Inv-loop μ-loop
 loop-less c = omega (arith, c .before .before .before .before .before .loop-test .taken)
 
--- src/walk.rt:40:5
 loop-again : tie.Need-loop-again Inv-loop μ-loop
 loop-again c = sources-next _ _ _ _ _ _ (c .before .before .before .before .read-source .ensures) (c .before .before .before .before .before .loop-test .taken) (c .before .before .before .before .before .before .loop .inv) (c .before .before .write-source .ensures)
 
--- src/walk.rt:34:1
 same-length : tie.Need-same-length Inv-loop μ-loop
 same-length c = as-long (c .before .loop .inv)
 
--- src/walk.rt:34:1
 returns : tie.Need-returns Inv-loop μ-loop
 returns c = sources-end _ _ _ _ _ (c .loop-test .left) (c .before .loop .inv)
 
