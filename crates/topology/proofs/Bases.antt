@@ -13,7 +13,6 @@ use Rattle.position.specs.declared.WalkPosition.{WalkPosition}
 use Rattle.wire.specs.Bytes.{u32At}
 use Rattle.format.specs.Sizes.{baseSize}
 use Rattle.format.specs.Records.{baseAt}
-use Rattle.format.specs.Values.{Base}
 use Rattle.format.specs.Decode.{anchorOf, baseOf, baseRecords}
 use Rattle.format.specs.declared.records.BaseRecord.{BaseRecord}
 use Rattle.grid.specs.Cells.{Grid}
@@ -84,7 +83,7 @@ module _ (g : Grid) (ls : List ℕ) (r : ℕ) where
       let f : ℕ → BaseRecord = λ j. baseAt job (at + j * baseSize) in
       let hitK : Bool = anchorHit ls (g .width) (f k .anchor) r in
       let e : isAnchored g ls (anchorsOf (map baseOf (rows (suc k) f))) r ≡ (isAnchored g ls (anchorsOf (map baseOf (rows k f))) r || hitK) =
-          ap (λ (l : List BaseRecord). isAnchored g ls (anchorsOf (map baseOf l)) r) (rows-last k f)
-          ∙ (ap (λ (l : List WalkPosition). isAnchored g ls l r) (anchors-append (rows k f) (f k))
-          ∙ (found-append (anchorsOf (map baseOf (rows k f))) (listed (anchorOf (f k .anchor))) ∙ ap (λ (t : Bool). isAnchored g ls (anchorsOf (map baseOf (rows k f))) r || t) (one-anchor (f k .anchor)))) in
+      ap (λ (l : List BaseRecord). isAnchored g ls (anchorsOf (map baseOf l)) r) (rows-last k f)
+      ∙ (ap (λ (l : List WalkPosition). isAnchored g ls l r) (anchors-append (rows k f) (f k))
+      ∙ (found-append (anchorsOf (map baseOf (rows k f))) (listed (anchorOf (f k .anchor))) ∙ ap (λ (t : Bool). isAnchored g ls (anchorsOf (map baseOf (rows k f))) r || t) (one-anchor (f k .anchor)))) in
       ap (λ (t : Bool). hitK || t) (by-bases job at k) ∙ (or-swap hitK (isAnchored g ls (anchorsOf (map baseOf (rows k f))) r) ∙ sym e)

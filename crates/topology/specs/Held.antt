@@ -1,8 +1,8 @@
 -- Statistics as the code holds them: what a cell does to them, and what they are after some cells; labels in bytes; anchors on the map.
 use mathlib.Core.Path.{_≡_}
-use mathlib.Core.Bool.{Bool, false, cond, not, _&&_, _||_}
+use mathlib.Core.Bool.{Bool, false, cond, _&&_, _||_}
 use mathlib.Core.List.{List, [], _∷_, map}
-use Prim.Native.Nat.{ℕ, _+_, _*_, _/_, _%_, _<_, _≤_, min, max}
+use Prim.Native.Nat.{ℕ, _+_, _*_, _/_, _%_, _<_, min, max}
 use lib.Dec.{ltb, eqb}
 use lib.ListN.{length}
 use Rattle.lists.specs.Rows.{rows}
@@ -11,7 +11,7 @@ use Rattle.position.specs.declared.WalkPosition.{WalkPosition}
 use Rattle.wire.specs.Bytes.{u32At}
 use Rattle.format.specs.Sizes.{noAnchor, baseSize}
 use Rattle.format.specs.Records.{baseAt}
-use Rattle.grid.specs.Cells.{Grid, rampCell, elevation, columnOf, rowOf}
+use Rattle.grid.specs.Cells.{Grid, rampCell, elevation}
 use Rattle.areas.specs.Areas.{labelAt}
 use Rattle.topology.specs.Extremes.{least, greatest}
 use Rattle.topology.specs.RegionStats.{RegionStats, leftOf, topOf}
