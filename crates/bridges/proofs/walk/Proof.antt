@@ -136,7 +136,7 @@ loop-again c =
     let e = w .6 in
     let t = w .3 .ensures in
     seen h (c .moved .result) (w .1 .result) (m .0 ∙ ap (λ (x : Frame). x .region) e ∙ l .0) (m .1 ∙ ap (λ (x : Frame). x .parent) e ∙ l .1) (next-one c)
-    (m .3 ∙ ap (λ (x : Frame). x .low) e ∙ l .3 ∙ ap (λ (x : ℕ). min (c .before .before .before .before .before .before .loop .f .low) x) t) k (w .1 .ensures) (w .0 .taken) (λ z. w .4 .left (t ∙ z)))
+    (m .3 ∙ ap (λ (x : Frame). x .low) e ∙ l .3 ∙ ap (λ (x : ℕ). min (c .before .before .before .before .before .before .loop .f .low) x) t) k (w .1 .ensures) (λ z. omega (arith, w .0 .taken, z)) (λ z. w .4 .left (t ∙ z)))
     (λ w.
     let e = w .1 in
     skipped h (c .moved .result) (m .0 ∙ ap (λ (x : Frame). x .region) e) (m .1 ∙ ap (λ (x : Frame). x .parent) e) (next-one c) (m .3 ∙ ap (λ (x : Frame). x .low) e) k (omega (arith, w .0 .left)))
