@@ -1,0 +1,2 @@
+// What each span does to the areas: the steps that it removes, and the pairs of regions that it parts.
+pub mod pairs; // pairs in order, each once, in two arrays
