@@ -6,3 +6,5 @@ pub mod Including
 pub mod Listing
 pub mod Advancing
 pub mod Stepping
+pub mod Strips
+pub mod Placing
