@@ -8,3 +8,5 @@ pub mod Advancing
 pub mod Stepping
 pub mod Strips
 pub mod Placing
+pub mod Filling
+pub mod Recording

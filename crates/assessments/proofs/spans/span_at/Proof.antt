@@ -1,3 +1,5 @@
+use mathlib.Core.Path.{refl}
+use Rattle.areas.specs.Spans.{spanIn}
 use borrow.Author.Needs.{needs}
 use Rattle.assessments.proofs.spans.span_at.Statement.{statement}
 use Rattle.assessments.proofs.spans.span_at.Tie as tie
@@ -66,7 +68,8 @@ element-copy-out-t9-2 c = search needs
 
 -- src/spans.rt:15:1
 returns : tie.Need-returns
-returns c = ?
+unfolding spanIn
+returns c = refl
 
 pub span-at-spec : {M : Type 1} → statement M
 span-at-spec =
