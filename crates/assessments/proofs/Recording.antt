@@ -14,12 +14,14 @@ use Rattle.position.specs.declared.Span.{Span}
 use Rattle.graph.specs.Records.{Record}
 use Rattle.grid.specs.Cells.{Grid}
 use Rattle.areas.specs.Areas.{areaLabels}
-use Rattle.areas.specs.Assessments.{RegionPair, Assessment, recordOf, owned, assess, records}
+use Rattle.areas.specs.Cuts.{cutSteps}
+use Rattle.areas.specs.Assessments.{RegionPair, assessment, recordOf, owned, assess, records}
 use Rattle.areas.specs.Spans.{spanIn, spansIn}
 use Rattle.assessments.specs.declared.steps.Assessed.{Assessed}
 use Rattle.assessments.specs.Stored.{at, pairAt}
-use Rattle.assessments.specs.Holding.{pairsIn, Listed, Holds}
-use Rattle.assessments.specs.Recording.{recordsIn, assessed, recordsOf, Counted, Recorded, Arrays, Filled}
+use Rattle.assessments.specs.Holding.{pairsIn, Holds}
+use Rattle.assessments.specs.Visits.{OnMap}
+use Rattle.assessments.specs.Recording.{recordsIn, assessed, recordsOf, Counted, Recorded, SpansOnMap, Arrays, Filled}
 use Rattle.assessments.proofs.Advancing.{nil-right, map-append}
 
 -- with the areas' labels these are the records of the areas
@@ -143,3 +145,13 @@ module _ (ls dirs : List ℕ) (g : Grid) (ends : List ℕ) where
   recording-end {removed} {separated} {owners} {lefts} {rights} {i} {end} r e =
       subst (λ (z : ℕ). Recorded ls dirs g ends z removed separated owners lefts rights end) e
       (record { fits = λ h. (r .ended, r .told, r .counted); over = λ h. absurd (omega (arith, r .ended, r .few)) })
+
+-- one span of several on a map
+pub span-on : {w h : ℕ} {cs labels ends : List ℕ} {n i : ℕ} {s : Span} → SpansOnMap w h cs labels ends n → i < n → s ≡ spanIn ends i → OnMap w h cs labels s
+span-on {w} {h} {cs} {labels} m l e = subst (λ (z : Span). OnMap w h cs labels z) (sym e) (record { sides = m .sides; whole = m .whole; labelled = m .labelled; span = m .spans .each _ l })
+
+-- what the assessment of the span in hand holds
+pub span-holds : (ls dirs : List ℕ) (g : Grid) (ends : List ℕ) (i : ℕ) (s : Span) {lefts₀ rights₀ lefts rights : List ℕ} {start : ℕ} {a : Assessed} → s ≡ spanIn ends i →
+    Holds (assessment ls (cutSteps dirs g s)) lefts₀ rights₀ start lefts rights a → Holds (assessed ls dirs g (spanIn ends i)) lefts₀ rights₀ start lefts rights a
+unfolding assessed
+span-holds ls dirs g ends i s {lefts₀} {rights₀} {lefts} {rights} {start} {a} e h = subst (λ (z : Span). Holds (assessment ls (cutSteps dirs g z)) lefts₀ rights₀ start lefts rights a) e h
