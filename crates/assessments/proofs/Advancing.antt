@@ -1,21 +1,20 @@
 -- One more step assessed, and steps one after another.
 use mathlib.Core.Path.{_≡_, refl, sym, _∙_, ap, ap₂, subst}
-use mathlib.Core.Bool.{true, false, cond, not}
+use mathlib.Core.Bool.{true, false, cond}
 use mathlib.Core.List.{List, [], _∷_, _++_, map, append-assoc}
 use Prim.Native.Nat.{ℕ, zero, suc, _+_, _*_, _-_, _≤_, _<_, min, max}
 use native.Mathlib.Omega.{arith}
 use borrow.Author.Tests.{eq-eqb, ne-eqb}
-use lib.Dec.{eqb}
 use lib.ListN.{length, length-append}
 use Rattle.lists.proofs.Rows.{rows-at}
 use Rattle.wire.specs.Bytes.{u32At}
 use Rattle.order.specs.Lists.{keep, gather, upFrom}
 use Rattle.order.specs.Keys.{byKey, sortOnceBy}
-use Rattle.order.specs.Sorting.{include, sortOnce}
+use Rattle.order.specs.Sorting.{include}
 use Rattle.order.proofs.Keep.{keep-append}
 use Rattle.graph.specs.Path.{Edge}
 use Rattle.areas.specs.Areas.{labelAt}
-use Rattle.areas.specs.Assessments.{RegionPair, Assessment, pairKey, isSeparated, labelPair, assessment}
+use Rattle.areas.specs.Assessments.{RegionPair, pairKey, isSeparated, labelPair, assessment}
 use Rattle.areas.proofs.Assessments.{pair-order}
 use Rattle.assessments.specs.declared.steps.Assessed.{Assessed}
 use Rattle.grid.specs.Steps.{stepOf}

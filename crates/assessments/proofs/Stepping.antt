@@ -6,11 +6,10 @@ use Prim.Native.Nat.{ℕ, _+_, _*_, _-_, _/_, _%_, _≤_, _<_}
 use native.Mathlib.Omega.{arith}
 use lib.ListN.{length}
 use Rattle.order.specs.Lists.{has}
-use Rattle.position.specs.declared.PixelPosition.{PixelPosition}
 use Rattle.position.specs.declared.Span.{Span}
 use Rattle.position.specs.declared.WalkPosition.{WalkPosition}
 use Rattle.graph.specs.Path.{Edge}
-use Rattle.grid.specs.Cells.{Grid, Whole, indexOf, columnOf, rowOf}
+use Rattle.grid.specs.Cells.{Grid, indexOf, columnOf, rowOf}
 use Rattle.grid.specs.Steps.{neighbour, columnTo, rowTo, hasStep, stepOf, Placed}
 use Rattle.grid.proofs.Index.{walkable-on}
 use Rattle.grid.proofs.Reach.{place-column, place-row, place-on}

@@ -1,17 +1,16 @@
 -- The steps that a span cuts, gone through by its strip: all of them, each once.
-use mathlib.Core.Path.{_≡_, refl, sym, _∙_, ap, ap₂, subst}
+use mathlib.Core.Path.{_≡_, refl, sym, _∙_, ap, subst}
 use mathlib.Core.Logic.{by-cases}
 use mathlib.Core.Bool.{Bool, true, false, cond, _&&_}
-use mathlib.Core.List.{List, [], _∷_, _++_, map, List·Memᴰ, List·Memᴰ·head, List·Memᴰ·tail, List·Memᴰ·not-nil, List·Memᴰ·eq-of-singleton, Memᴰ·cast, List·Permᴰ, List·Permᴰ·nil, List·Permᴰ·cons, List·Permᴰ·swap, List·Permᴰ·trans, Permᴰ·map}
+use mathlib.Core.List.{List, [], _∷_, List·Memᴰ, List·Memᴰ·head, List·Memᴰ·tail, List·Memᴰ·not-nil, Memᴰ·cast, List·Permᴰ, List·Permᴰ·nil, List·Permᴰ·cons, List·Permᴰ·swap, List·Permᴰ·trans, Permᴰ·map}
 use Prim.Native.Nat.{ℕ, _+_, _*_, _-_, _≤_, _<_}
 use native.Mathlib.Omega.{arith}
 use native.Mathlib.Nat.{mul-le-mul-right}
 use native.Mathlib.Decide.{decLt, decLe}
 use lib.ListN.{length}
-use Rattle.order.specs.Lists.{keep, gather, upFrom, has}
-use Rattle.order.specs.Keys.{sortOnceBy}
-use Rattle.order.specs.Pairs.{Pairs, none, more, Distinct, SameMembers}
-use Rattle.order.proofs.Bools.{by-test, and-parts, and-both, clash}
+use Rattle.order.specs.Lists.{upFrom, has}
+use Rattle.order.specs.Pairs.{none, more, Distinct}
+use Rattle.order.proofs.Bools.{by-test, and-parts, and-both}
 use Rattle.order.proofs.Keep.{keep-mem, keep-pairs, keep-perm}
 use Rattle.order.proofs.Gather.{gather-mem, mem-gather, gather-pairs}
 use Rattle.order.proofs.Numbers.{up-mem, mem-up, up-strict, has-mem, mem-has}
@@ -21,16 +20,16 @@ use Rattle.order.proofs.Once.{once-forgets}
 use Rattle.position.specs.Order.{posLe}
 use Rattle.position.specs.declared.Span.{Span}
 use Rattle.graph.specs.Path.{Edge}
-use Rattle.grid.specs.Cells.{Grid, Whole, size, indexOf, columnOf, rowOf}
-use Rattle.grid.specs.Directions.{right, down, directionsOf}
-use Rattle.grid.specs.Steps.{neighbour, columnTo, rowTo, hasStep, leadsOn, Step, StepBy, stepOf, steps}
+use Rattle.grid.specs.Cells.{Grid, Whole, columnOf, rowOf}
+use Rattle.grid.specs.Directions.{right, directionsOf}
+use Rattle.grid.specs.Steps.{neighbour, columnTo, rowTo, hasStep, Step, StepBy, stepOf, steps}
 use Rattle.grid.proofs.Index.{index-split, column-in, walkable-on}
 use Rattle.grid.proofs.Steps.{Leads, leads-means, has-step, step-has, neighbour-one}
 use Rattle.grid.proofs.StepList.{steps-iff, steps-distinct}
 use Rattle.areas.specs.Cuts.{cutBy, cutSteps}
 use Rattle.areas.specs.Spans.{Sides}
-use Rattle.areas.specs.Strip.{tall, stripAxis, stripMinor, majorOf, minorOf, cellOf, Within}
-use Rattle.areas.specs.Assessments.{RegionPair, Assessment, isSeparated, labelPair, assessment}
+use Rattle.areas.specs.Strip.{tall, stripAxis, stripMinor, majorOf, minorOf, cellOf}
+use Rattle.areas.specs.Assessments.{isSeparated, labelPair, assessment}
 use Rattle.areas.proofs.Assessments.{pair-order}
 use Rattle.areas.proofs.Cuts.{cut-steps-iff}
 use Rattle.areas.proofs.StripCells.{axis-on, minor-on, in-within, cut-in}

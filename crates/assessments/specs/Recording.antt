@@ -8,7 +8,7 @@ use Rattle.position.specs.declared.Span.{Span}
 use Rattle.graph.specs.Records.{Record}
 use Rattle.grid.specs.Cells.{Grid}
 use Rattle.areas.specs.Cuts.{cutSteps}
-use Rattle.areas.specs.Assessments.{RegionPair, Assessment, assessment, owned}
+use Rattle.areas.specs.Assessments.{Assessment, assessment, owned}
 use Rattle.areas.specs.Spans.{Sides, SpansFit, spanIn, spansIn}
 use Rattle.assessments.specs.Stored.{at}
 

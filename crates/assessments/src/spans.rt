@@ -61,7 +61,17 @@ pub fn assess_spans(
     let mut i: usize = 0;
     while i < count {
         let span = span_at(ends, i);
-        let a = assess_span(cells, width, height, directions, labels, span, lefts, rights, end);
+        let a = assess_span(
+            cells,
+            width,
+            height,
+            directions,
+            labels,
+            span,
+            lefts,
+            rights,
+            end,
+        );
         let next = a.end;
         if 4096 < next {
             return 4097;

@@ -89,7 +89,15 @@ fn assess_step(
     if !cut_by(span, position, to) {
         return state;
     }
-    count_step(labels, index(width, position), index(width, to), lefts, rights, start, state)
+    count_step(
+        labels,
+        index(width, position),
+        index(width, to),
+        lefts,
+        rights,
+        start,
+        state,
+    )
 }
 
 // Counts the steps that the span cuts from the cell at a place to later cells.
@@ -114,7 +122,17 @@ pub fn assess_cell(
     let mut d: u32 = 5;
     while d < 9 {
         done = assess_step(
-            cells, width, height, directions, labels, span, position, d, lefts, rights, start,
+            cells,
+            width,
+            height,
+            directions,
+            labels,
+            span,
+            position,
+            d,
+            lefts,
+            rights,
+            start,
             done,
         );
         d += 1;

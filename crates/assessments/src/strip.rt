@@ -95,7 +95,17 @@ pub fn assess_span(
     let mut c = range.first;
     while c <= last {
         done = assess_beside(
-            cells, width, height, directions, labels, span, c, lefts, rights, start, done,
+            cells,
+            width,
+            height,
+            directions,
+            labels,
+            span,
+            c,
+            lefts,
+            rights,
+            start,
+            done,
         );
         c += 1;
     }

@@ -1,10 +1,7 @@
 use Rattle.assessments.proofs.Filling.{Filling, filling-start, filling-next, filling-end}
-use mathlib.Core.Path.{_≡_, refl, sym, _∙_, ap}
-use mathlib.Core.List.{List, [], _∷_, _++_}
-use mathlib.Core.Logic.{⊎-elim}
-use Prim.Native.Nat.{ℕ, zero, suc, _+_, _-_, _*_, _≤_, _<_}
+use mathlib.Core.Path.{sym, _∙_}
+use Prim.Native.Nat.{_-_}
 use native.Mathlib.Omega.{arith}
-use lib.ListN.{length, getD, set, take, drop, length-set}
 use borrow.Author.Needs.{needs}
 use Rattle.assessments.proofs.spans.fill.Statement.{statement}
 use Rattle.assessments.proofs.spans.fill.Tie as tie
@@ -17,35 +14,27 @@ Inv-loop numbers₀ start end v k₀ numbers k = Filling numbers₀ numbers star
 abbrev μ-loop : tie.MeasureT-loop
 μ-loop numbers₀ start end v k₀ numbers k = end - k
 
--- src/spans.rt:36:5
 loop-holds : tie.Need-loop-holds Inv-loop μ-loop
 loop-holds c = filling-start (c .pre .2) (c .pre .0)
 
--- src/spans.rt:37:9
 mul-numbers : tie.Need-mul-numbers Inv-loop μ-loop
 mul-numbers c = search needs
 
--- src/spans.rt:37:9
 slice-write-numbers : tie.Need-slice-write-numbers Inv-loop μ-loop
 slice-write-numbers c = search needs
 
--- src/spans.rt:38:9
 add-k : tie.Need-add-k Inv-loop μ-loop
 add-k c = search needs
 
--- src/spans.rt:36:5
 loop-less : tie.Need-loop-less Inv-loop μ-loop
 loop-less c = omega arith
 
--- src/spans.rt:36:5
 loop-again : tie.Need-loop-again Inv-loop μ-loop
 loop-again c = filling-next (c .before .before .pre .1) (c .before .loop .inv) (c .loop-test .taken)
 
--- src/spans.rt:31:1
 same-length : tie.Need-same-length Inv-loop μ-loop
 same-length c = c .before .loop .inv .long ∙ sym (c .before .before .pre .2)
 
--- src/spans.rt:31:1
 returns : tie.Need-returns Inv-loop μ-loop
 returns c = filling-end (c .before .loop .inv) (c .loop-test .left)
 

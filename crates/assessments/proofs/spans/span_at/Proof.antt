@@ -6,67 +6,51 @@ use Rattle.assessments.proofs.spans.span_at.Tie as tie
 use Rattle.assessments.proofs.spans.span_at.Reads as reads
 use Rattle.assessments.proofs.spans.span_at.Lts as lts
 
--- src/spans.rt:20:17
 mul-t5 : tie.Need-mul-t5
 mul-t5 c = search needs
 
--- src/spans.rt:20:12
 mul-t6 : tie.Need-mul-t6
 mul-t6 c = search needs
 
--- src/spans.rt:20:12
 element-copy-out-t9 : tie.Need-element-copy-out-t9
 element-copy-out-t9 c = search needs
 
--- src/spans.rt:21:17
 mul-t10 : tie.Need-mul-t10
 mul-t10 c = search needs
 
--- src/spans.rt:21:17
 add-t11 : tie.Need-add-t11
 add-t11 c = search needs
 
--- src/spans.rt:21:12
 mul-t12 : tie.Need-mul-t12
 mul-t12 c = search needs
 
--- src/spans.rt:21:12
 element-copy-out-t15 : tie.Need-element-copy-out-t15
 element-copy-out-t15 c = search needs
 
--- src/spans.rt:24:17
 mul-t5-2 : tie.Need-mul-t5-2
 mul-t5-2 c = search needs
 
--- src/spans.rt:24:17
 add-t6 : tie.Need-add-t6
 add-t6 c = search needs
 
--- src/spans.rt:24:12
 mul-t12-2 : tie.Need-mul-t12-2
 mul-t12-2 c = search needs
 
--- src/spans.rt:24:12
 element-copy-out-t15-2 : tie.Need-element-copy-out-t15-2
 element-copy-out-t15-2 c = search needs
 
--- src/spans.rt:25:17
 mul-t10-2 : tie.Need-mul-t10-2
 mul-t10-2 c = search needs
 
--- src/spans.rt:25:17
 add-t11-2 : tie.Need-add-t11-2
 add-t11-2 c = search needs
 
--- src/spans.rt:25:12
 mul-t18 : tie.Need-mul-t18
 mul-t18 c = search needs
 
--- src/spans.rt:25:12
 element-copy-out-t9-2 : tie.Need-element-copy-out-t9-2
 element-copy-out-t9-2 c = search needs
 
--- src/spans.rt:15:1
 returns : tie.Need-returns
 unfolding spanIn
 returns c = refl

@@ -19,35 +19,27 @@ abbrev μ-loop : tie.MeasureT-loop
 μ-loop cells width height directions labels span position lefts₀ rights₀ start done₀ d₀ lefts rights done d =
     9 - d
 
--- src/steps.rt:115:5
 loop-holds : tie.Need-loop-holds Inv-loop μ-loop
 loop-holds c = (omega arith, going-start _ _ _ 4 (c .before .before .before .before .pre .3))
 
--- src/steps.rt:116:9
 assess-step-requires : tie.Need-assess-step-requires Inv-loop μ-loop
 assess-step-requires c κs = let p = c .before .before .before .before .before .before .before .before .pre in (p .0, p .1, p .2, omega arith, going-room _ _ (c .before .before .before .loop .inv .1) 4 1 (p .3) (omega arith))
 
--- src/steps.rt:120:9
 add-d : tie.Need-add-d Inv-loop μ-loop
 add-d c = omega arith
 
--- src/steps.rt:115:5
 loop-less : tie.Need-loop-less Inv-loop μ-loop
 loop-less c = omega arith
 
--- src/steps.rt:115:5
 loop-again : tie.Need-loop-again Inv-loop μ-loop
 loop-again c = (omega arith, going-next _ _ (c .before .before .before .before .before .before .before .before .loop .inv .1) _ 1 (omega (arith, c .before .before .before .before .before .before .before .before .loop .inv .1 .reached)) (c .before .before .before .before .assess-step .kept .1 .1 .1 .1 .1 .1 .1 .1 .0) (c .before .before .before .before .assess-step .kept .1 .1 .1 .1 .1 .1 .1 .1 .1 .0) (c .before .before .before .before .assess-step .ensures .0) (c .before .before .before .before .assess-step .ensures .1))
 
--- src/steps.rt:96:1
 same-length : tie.Need-same-length Inv-loop μ-loop
 same-length c = c .before .loop .inv .1 .lefts-are ∙ sym (c .before .before .before .before .before .before .pre .3 .lefts-are)
 
--- src/steps.rt:96:1
 same-length-2 : tie.Need-same-length-2 Inv-loop μ-loop
 same-length-2 c = c .before .loop .inv .1 .rights-are ∙ sym (c .before .before .before .before .before .before .pre .3 .rights-are)
 
--- src/steps.rt:96:1
 returns : tie.Need-returns Inv-loop μ-loop
 unfolding cutFrom
 returns c = (grown-more 4 (c .before .loop .inv .1 .grown) (omega arith), going-end _ _ (c .before .loop .inv .1) 4 (omega arith) refl)

@@ -11,55 +11,42 @@ use Rattle.areas.proofs.geometry.min.Reads as min-reads
 use Rattle.assessments.proofs.pairs.insert_pair.Reads as insert-pair-reads
 use Rattle.wire.proofs.read_u32.Reads as read-u32-reads
 
--- src/steps.rt:43:19
 add-removed : tie.Need-add-removed
 add-removed c = search needs
 
--- src/steps.rt:46:33
 mul-read-u32 : tie.Need-mul-read-u32
 mul-read-u32 c = search needs
 
--- src/steps.rt:46:9
 read-u32-requires : tie.Need-read-u32-requires
 read-u32-requires c κs = search needs
 
--- src/steps.rt:47:31
 mul-read-u32-2 : tie.Need-mul-read-u32-2
 mul-read-u32-2 c = search needs
 
--- src/steps.rt:47:9
 read-u32-requires-2 : tie.Need-read-u32-requires-2
 read-u32-requires-2 c κs = search needs
 
--- src/steps.rt:49:9
 returns : tie.Need-returns
 returns c = (record { from = omega arith; to = omega arith; removed = omega arith; separated = omega arith }, λ n a b. advance-same _ _ (labels-alike _ a b (c .before .before .read-u32 .ensures) (c .before .read-u322 .ensures) (c .if1 .taken)) refl refl refl)
 
--- src/steps.rt:55:55
 min-requires : tie.Need-min-requires
 min-requires c κs = search needs
 
--- src/steps.rt:55:70
 max-requires : tie.Need-max-requires
 max-requires c κs = search needs
 
--- src/steps.rt:55:9
 insert-pair-requires : tie.Need-insert-pair-requires
 insert-pair-requires c κs = search needs
 
--- src/steps.rt:58:20
 add-t21 : tie.Need-add-t21
 add-t21 c = search needs
 
--- src/steps.rt:30:1
 same-length : tie.Need-same-length
 same-length c = search needs
 
--- src/steps.rt:30:1
 same-length-2 : tie.Need-same-length-2
 same-length-2 c = search needs
 
--- src/steps.rt:30:1
 returns-2 : tie.Need-returns-2
 returns-2 c = (record { from = omega (arith, c .before .before .before .before .insert-pair .ensures .0); to = omega (arith, c .before .before .before .before .insert-pair .ensures .0); removed = omega arith; separated = omega arith }, λ n a b. advance-put _ _ _ (labels-apart _ a b (c .before .before .before .before .before .before .before .before .before .before .before .read-u32 .ensures) (c .before .before .before .before .before .before .before .before .before .before .read-u322 .ensures) (c .before .before .before .before .before .before .before .before .before .if1 .left)) (label-pair _ a b (c .before .before .before .before .before .before .before .before .before .before .before .read-u32 .ensures) (c .before .before .before .before .before .before .before .before .before .before .read-u322 .ensures) (c .before .before .before .before .before .before .min .ensures) (c .before .before .before .before .before .max .ensures)) refl refl (c .before .before .before .before .insert-pair .ensures .1 .0) (c .before .before .before .before .insert-pair .ensures .1 .1))
 

@@ -1,4 +1,4 @@
-use mathlib.Core.Path.{refl, sym, _∙_, ap}
+use mathlib.Core.Path.{sym, _∙_, ap}
 use Prim.Native.Nat.{_+_, _*_, _-_, _≤_, max}
 use native.Mathlib.Omega.{arith}
 use borrow.Author.Needs.{needs}
@@ -25,25 +25,20 @@ abbrev μ-loop : tie.MeasureT-loop
 μ-loop cells width height directions labels span c lefts₀ rights₀ start tall last done₀ cm₀ lefts rights done cm =
     last + 1 - cm
 
--- src/strip.rt:49:9
 is-tall-requires : tie.Need-is-tall-requires Inv-loop μ-loop
 is-tall-requires c κs = search needs
 
--- src/strip.rt:50:9
 strip-minor-requires : tie.Need-strip-minor-requires Inv-loop μ-loop
 strip-minor-requires c κs = (c .before .before .before .before .before .pre .0 .sides, c .before .before .before .before .before .pre .0 .span, limit-small (c .before .before .before .before .before .pre .0 .sides) (c .before .before .before .before .before .args .span) (c .before .before .before .before .before .pre .1))
 
--- src/strip.rt:54:5
 loop-holds : tie.Need-loop-holds Inv-loop μ-loop
 loop-holds c = (omega arith, going-start _ _ _ 4096 (c .before .before .before .before .before .before .pre .2))
 
--- src/strip.rt:62:13
 place-of-requires : tie.Need-place-of-requires Inv-loop μ-loop
 place-of-requires c κs = search needs
 
--- src/strip.rt:55:9
 assess-cell-requires : tie.Need-assess-cell-requires Inv-loop μ-loop
-assess-cell-requires c κs = 
+assess-cell-requires c κs =
     let p = c .before .before .before .before .before .before .before .before .before .before .before .pre in
     let l = (last-in (c .before .before .before .before .before .before .before .before .before .before .before .pre .0 .sides) (c .before .before .before .before .before .before .before .before .before .before .before .args .span) _ (c .before .before .before .before .before .strip-minor .ensures)) in
     let b = beside-small (p .0 .sides) (c .before .before .before .before .before .before .before .before .before .before .before .args .span) l in
@@ -51,32 +46,28 @@ assess-cell-requires c κs =
     let i = place-in (c .before .before .before .before .before .before .before .before .before .before .before .args .width) (c .before .before .before .before .before .before .before .before .before .before .before .args .height) (c .before .before .before .before .before .before .before .before .before .before .before .args .cells .now) (c .before .before .before .before .before .before .before .before .before .before .before .args .span) (c .before .before .before .before .before .before .before .before .before .before .before .args .c) (c .before .before .before .before .loop .cm) (c .before .before .before .before .before .before .is-tall .ensures) (p .1) (lower (c .before .before .before .loop-test .taken) l) (e .0) (e .1) in
     (p .0, i .0, i .1, going-room _ _ (c .before .before .before .before .loop .inv .1) 4096 4 (p .2) (omega arith))
 
--- src/strip.rt:68:9
 add-cm : tie.Need-add-cm Inv-loop μ-loop
 add-cm c = let b = beside-small (c .before .before .before .before .before .before .before .before .before .before .before .before .before .before .before .before .pre .0 .sides) (c .before .before .before .before .before .before .before .before .before .before .before .before .before .before .before .before .args .span) (last-in (c .before .before .before .before .before .before .before .before .before .before .before .before .before .before .before .before .pre .0 .sides) (c .before .before .before .before .before .before .before .before .before .before .before .before .before .before .before .before .args .span) _ (c .before .before .before .before .before .before .before .before .before .before .strip-minor .ensures)) in omega (arith, c .before .before .before .before .before .before .before .before .loop-test .taken)
 
--- src/strip.rt:54:5
 loop-less : tie.Need-loop-less Inv-loop μ-loop
 loop-less c = omega (arith, c .before .before .before .before .before .before .before .before .loop-test .taken)
 
--- src/strip.rt:54:5
 loop-again : tie.Need-loop-again Inv-loop μ-loop
-loop-again c = 
-    let e = c .before .before .before .before .before .before .before .place-of .ensures in
-    (omega (arith, c .before .before .before .before .before .before .before .before .before .loop .inv .0, c .before .before .before .before .before .before .before .before .loop-test .taken), going-next _ _ (c .before .before .before .before .before .before .before .before .before .loop .inv .1) _ 4 (omega (arith, c .before .before .before .before .before .before .before .before .before .loop .inv .1 .reached)) (c .before .before .before .before .assess-cell .kept .1 .1 .1 .1 .1 .1 .1 .0) (c .before .before .before .before .assess-cell .kept .1 .1 .1 .1 .1 .1 .1 .1 .0) (c .before .before .before .before .assess-cell .ensures .0)
-    (advance-as _ (ap (cutFrom _ _ _) (place-cell (c .before .before .before .before .before .before .before .before .before .before .before .before .before .before .before .before .args .width) (c .before .before .before .before .before .before .before .before .before .before .before .before .before .before .before .before .args .height) (c .before .before .before .before .before .before .before .before .before .before .before .before .before .before .before .before .args .cells .now) (c .before .before .before .before .before .before .before .before .before .before .before .before .before .before .before .before .args .span) (c .before .before .before .before .before .before .before .before .before .before .before .before .before .before .before .before .args .c) (c .before .before .before .before .before .before .before .before .before .loop .cm) (c .before .before .before .before .before .before .before .before .before .before .before .is-tall .ensures) (e .0) (e .1))) (c .before .before .before .before .assess-cell .ensures .1)))
+loop-again c =
+    let e = c .before .before .before .before .before .before .before .place-of .ensures in (
+      omega (arith, c .before .before .before .before .before .before .before .before .before .loop .inv .0, c .before .before .before .before .before .before .before .before .loop-test .taken),
+      going-next _ _ (c .before .before .before .before .before .before .before .before .before .loop .inv .1) _ 4 (omega (arith, c .before .before .before .before .before .before .before .before .before .loop .inv .1 .reached)) (c .before .before .before .before .assess-cell .kept .1 .1 .1 .1 .1 .1 .1 .0) (c .before .before .before .before .assess-cell .kept .1 .1 .1 .1 .1 .1 .1 .1 .0) (c .before .before .before .before .assess-cell .ensures .0)
+          (advance-as _ (ap (cutFrom _ _ _) (place-cell (c .before .before .before .before .before .before .before .before .before .before .before .before .before .before .before .before .args .width) (c .before .before .before .before .before .before .before .before .before .before .before .before .before .before .before .before .args .height) (c .before .before .before .before .before .before .before .before .before .before .before .before .before .before .before .before .args .cells .now) (c .before .before .before .before .before .before .before .before .before .before .before .before .before .before .before .before .args .span) (c .before .before .before .before .before .before .before .before .before .before .before .before .before .before .before .before .args .c) (c .before .before .before .before .before .before .before .before .before .loop .cm) (c .before .before .before .before .before .before .before .before .before .before .before .is-tall .ensures) (e .0) (e .1))) (c .before .before .before .before .assess-cell .ensures .1)),
+    )
 
--- src/strip.rt:32:1
 same-length : tie.Need-same-length Inv-loop μ-loop
 same-length c = c .before .loop .inv .1 .lefts-are ∙ sym (c .before .before .before .before .before .before .before .before .pre .2 .lefts-are)
 
--- src/strip.rt:32:1
 same-length-2 : tie.Need-same-length-2 Inv-loop μ-loop
 same-length-2 c = c .before .loop .inv .1 .rights-are ∙ sym (c .before .before .before .before .before .before .before .before .pre .2 .rights-are)
 
--- src/strip.rt:32:1
 returns : tie.Need-returns Inv-loop μ-loop
-returns c = 
+returns c =
     let l = (last-in (c .before .before .before .before .before .before .before .before .pre .0 .sides) (c .before .before .before .before .before .before .before .before .args .span) _ (c .before .before .strip-minor .ensures)) in
     let b = beside-small (c .before .before .before .before .before .before .before .before .pre .0 .sides) (c .before .before .before .before .before .before .before .before .args .span) l in
     let i = c .before .loop .inv in

@@ -23,44 +23,35 @@ abbrev μ-loop : tie.MeasureT-loop
 μ-loop cells width height directions labels span lefts₀ rights₀ start last done₀ c₀ lefts rights done c =
     last + 1 - c
 
--- src/strip.rt:88:9
 strip-axis-requires : tie.Need-strip-axis-requires Inv-loop μ-loop
 strip-axis-requires c κs = (c .before .before .before .before .pre .0 .sides, c .before .before .before .before .pre .0 .span)
 
--- src/strip.rt:96:5
 loop-holds : tie.Need-loop-holds Inv-loop μ-loop
 loop-holds c = (omega arith, going-start _ _ _ 4194304 (room-start (c .before .before .before .before .before .pre .1) (c .before .before .before .before .before .pre .2) (c .before .before .before .before .before .pre .3)))
 
--- src/strip.rt:97:9
 assess-beside-requires : tie.Need-assess-beside-requires Inv-loop μ-loop
-assess-beside-requires c κs = 
+assess-beside-requires c κs =
     let p = c .before .before .before .before .before .before .before .before .before .pre in
     let b = limit-small (c .before .before .before .before .before .before .before .before .before .pre .0 .sides) (c .before .before .before .before .before .before .before .before .before .args .span) (last-along (c .before .before .before .before .before .before .before .before .before .pre .0 .sides) (c .before .before .before .before .before .before .before .before .before .args .span) (c .before .before .before .before .strip-axis .ensures)) in
     (p .0, lower (c .before .before .loop-test .taken) (last-along (c .before .before .before .before .before .before .before .before .before .pre .0 .sides) (c .before .before .before .before .before .before .before .before .before .args .span) (c .before .before .before .before .strip-axis .ensures)), going-room _ _ (c .before .before .before .loop .inv .1) 4194304 4096 (room-start (p .1) (p .2) (p .3)) (omega (arith, c .before .before .loop-test .taken)))
 
--- src/strip.rt:100:9
 add-c : tie.Need-add-c Inv-loop μ-loop
 add-c c = let b = limit-small (c .before .before .before .before .before .before .before .before .before .before .before .before .before .before .pre .0 .sides) (c .before .before .before .before .before .before .before .before .before .before .before .before .before .before .args .span) (last-along (c .before .before .before .before .before .before .before .before .before .before .before .before .before .before .pre .0 .sides) (c .before .before .before .before .before .before .before .before .before .before .before .before .before .before .args .span) (c .before .before .before .before .before .before .before .before .before .strip-axis .ensures)) in omega (arith, c .before .before .before .before .before .before .before .loop-test .taken)
 
--- src/strip.rt:96:5
 loop-less : tie.Need-loop-less Inv-loop μ-loop
 loop-less c = omega (arith, c .before .before .before .before .before .before .before .loop-test .taken)
 
--- src/strip.rt:96:5
 loop-again : tie.Need-loop-again Inv-loop μ-loop
 loop-again c = (omega (arith, c .before .before .before .before .before .before .before .before .loop .inv .0, c .before .before .before .before .before .before .before .loop-test .taken), going-next _ _ (c .before .before .before .before .before .before .before .before .loop .inv .1) _ 4096 (omega (arith, c .before .before .before .before .before .before .before .before .loop .inv .1 .reached)) (c .before .before .before .before .assess-beside .kept .1 .1 .1 .1 .1 .1 .1 .0) (c .before .before .before .before .assess-beside .kept .1 .1 .1 .1 .1 .1 .1 .1 .0) (c .before .before .before .before .assess-beside .ensures .0) (c .before .before .before .before .assess-beside .ensures .1))
 
--- src/strip.rt:74:1
 same-length : tie.Need-same-length Inv-loop μ-loop
 same-length c = c .before .loop .inv .1 .lefts-are ∙ sym (c .before .before .before .before .before .before .before .pre .2)
 
--- src/strip.rt:74:1
 same-length-2 : tie.Need-same-length-2 Inv-loop μ-loop
 same-length-2 c = c .before .loop .inv .1 .rights-are ∙ sym (c .before .before .before .before .before .before .before .pre .3)
 
--- src/strip.rt:74:1
 returns : tie.Need-returns Inv-loop μ-loop
-returns c = 
+returns c =
     let p = c .before .before .before .before .before .before .before .pre in
     let i = c .before .loop .inv in
     let a = going-end _ _ (i .1) ((c .before .before .strip-axis .result) .last + 1 - (c .before .before .strip-axis .result) .first) (omega (arith, i .0, i .1 .reached, c .loop-test .left)) (along-is (directionsOf (c .before .before .before .before .before .before .before .args .directions)) (mapOf (c .before .before .before .before .before .before .before .args .width) (c .before .before .before .before .before .before .before .args .height) (c .before .before .before .before .before .before .before .args .cells .now)) (c .before .before .before .before .before .before .before .args .span) (c .before .before .strip-axis .result) (c .before .before .strip-axis .ensures)) in
