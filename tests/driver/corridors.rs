@@ -21,7 +21,7 @@ enum Below {
 struct Corridor {
     rows: u32,
     columns: u32,
-    /// For each span: its column, how far right its lower end lies, how far past the walls it goes.
+    /// For each span: the columns of its upper and lower end, how far past the walls it goes.
     spans: Vec<[u32; 3]>,
     below: Vec<Below>,
     widths: Vec<u64>,
@@ -52,16 +52,17 @@ fn corridor(rng: &mut Rng) -> Corridor {
     let count = rng.pick(&[2, 2, 3, 3, 3, 4, 4, 4, 5]);
     let first = 8 * rng.within(1, 3) + rng.pick(&[0, 0, 0, 4, 1]);
     let mut column = first;
-    let mut spans = vec![[column, 0, 0]];
+    let mut spans = vec![[column, column, 0]];
     for gap in gaps(count - 1, rng) {
         column += gap;
-        spans.push([column, 0, 0]);
+        spans.push([column, column, 0]);
     }
     let past = rng.one_in(3);
     for span in &mut spans {
         if rng.one_in(10) {
             let parallel = (COSINE_SLANT * f64::from(8 * rows)) as u32;
-            span[1] = rng.pick(&[1, 1, parallel, parallel, parallel + 1]);
+            let slant = rng.pick(&[1, 1, parallel, parallel, parallel + 1]);
+            span[rng.below(2)] += slant;
         }
         if past {
             span[2] = rng.pick(&[0, 0, 1, 3]);
@@ -135,8 +136,8 @@ pub fn random(rng: &mut Rng) -> Draft {
     let mut top = 1;
     for corridor in &corridors {
         let bottom = 8 * (top + corridor.rows);
-        for (&[column, slant, past], &bits) in corridor.spans.iter().zip(&corridor.widths) {
-            let ends = [column, 8 * top - past, column + slant, bottom + past];
+        for (&[upper, lower, past], &bits) in corridor.spans.iter().zip(&corridor.widths) {
+            let ends = [upper, 8 * top - past, lower, bottom + past];
             draft.boundaries.push(Boundary { ends, bits, ..Boundary::default() });
         }
         top += dig(corridor, &mut draft.cells, width, top, cell);

@@ -2,8 +2,10 @@
 //!
 //!     driver quick
 //!     driver long [CASES | SECONDSs] [SEED]
+//!     driver random CASES SEED
 //!     driver case SEED NUMBER
 //!
+//! `random` is the random cases alone, with nothing asked of what they saw.
 //! Every run prints its seed; `case` runs one random case of a seed again. Exit status 0 means
 //! that nothing differed and that everything that should occur did.
 
@@ -55,6 +57,14 @@ fn main() {
         ["long"] => whole(LONG_SEED, LONG, 200),
         ["long", limit] => whole(LONG_SEED, parse_limit(limit), 200),
         ["long", limit, seed] => whole(parse(seed), parse_limit(limit), 200),
+        ["random", cases, seed] => {
+            let (mut run, mut done) = (Run::new(parse(seed)), 0);
+            while done < parse(cases) {
+                done = families::round(&mut run, done);
+            }
+            families::limits(&mut run);
+            println!("seed {seed}: {done} random cases, nothing differs");
+        }
         ["case", seed, number] => {
             let (mut run, case) = (Run::new(parse(seed)), parse(number));
             if !families::case(&mut run, case) {
@@ -68,7 +78,7 @@ fn main() {
 }
 
 fn usage() -> ! {
-    eprintln!("usage: driver quick | long [CASES | SECONDSs] [SEED] | case SEED NUMBER");
+    eprintln!("usage: driver quick | long [CASES | SECONDSs] [SEED] | random CASES SEED | case SEED NUMBER");
     exit(2)
 }
 
