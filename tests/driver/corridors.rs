@@ -48,7 +48,7 @@ fn gaps(count: usize, rng: &mut Rng) -> Vec<u32> {
 }
 
 fn corridor(rng: &mut Rng) -> Corridor {
-    let rows = rng.pick(&[1, 2, 2, 3, 4, 5, 5, 8]);
+    let rows = rng.pick(&[1, 1, 2, 2, 2, 3, 3, 4, 5, 5, 5, 8, 7, 10]);
     let count = rng.pick(&[2, 2, 3, 3, 3, 4, 4, 4, 5]);
     let first = 8 * rng.within(1, 3) + rng.pick(&[0, 0, 0, 4, 1]);
     let mut column = first;
@@ -57,15 +57,19 @@ fn corridor(rng: &mut Rng) -> Corridor {
         column += gap;
         spans.push([column, column, 0]);
     }
-    let past = rng.one_in(3);
+    // In 7 rows a slant of 15 pixels is just parallel enough; in 10, a pixel past both walls, one of
+    // 22 just isn't.
+    let about_cosine = matches!(rows, 7 | 10);
+    let past = about_cosine || rng.one_in(3);
     for span in &mut spans {
-        if rng.one_in(10) {
-            let parallel = (COSINE_SLANT * f64::from(8 * rows)) as u32;
-            let slant = rng.pick(&[1, 1, parallel, parallel, parallel + 1]);
-            span[rng.below(2)] += slant;
-        }
         if past {
-            span[2] = rng.pick(&[0, 0, 1, 3]);
+            span[2] = rng.pick(&[0, 0, 1, 1, 3]);
+        }
+        if rng.one_in(if about_cosine { 3 } else { 10 }) {
+            let across = 8 * rows + 2 * span[2];
+            let parallel = (COSINE_SLANT * f64::from(across)) as u32;
+            let slant = rng.pick(&[1, parallel, parallel, parallel + 1, parallel + 1]);
+            span[rng.below(2)] += slant;
         }
     }
     let below = |rng: &mut Rng| match rng.below(14) {
