@@ -149,6 +149,9 @@ pub fn random(rng: &mut Rng) -> Draft {
     join(&mut draft, rng);
     disturb(&mut draft, rng);
     if rng.one_in(2) {
+        mirror(&mut draft);
+    }
+    if rng.one_in(2) {
         transpose(&mut draft);
     }
     list(&mut draft, rng);
@@ -198,6 +201,19 @@ fn disturb(draft: &mut Draft, rng: &mut Rng) {
         }
     }
     draft.boundaries = shuffled(std::mem::take(&mut draft.boundaries), rng);
+}
+
+/// Turns the map upside down, so that what lies below a corridor comes to lie above it.
+fn mirror(draft: &mut Draft) {
+    let (width, height) = (draft.width as usize, draft.height);
+    draft.cells = draft.cells.chunks_exact(width).rev().flatten().copied().collect();
+    for [_, _, row] in draft.bases.iter_mut().filter(|base| base[2] < height) {
+        *row = height - 1 - *row;
+    }
+    for boundary in &mut draft.boundaries {
+        let [ax, ay, bx, by] = boundary.ends;
+        boundary.ends = [ax, 8 * height - ay, bx, 8 * height - by];
+    }
 }
 
 fn transpose(draft: &mut Draft) {
