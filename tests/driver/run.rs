@@ -13,12 +13,15 @@ use std::fs;
 use std::path::Path;
 use std::process;
 use std::sync::atomic::Ordering;
+use std::time::{Duration, Instant};
 
 /// A comparison of all that is said of an input; an error names the first difference.
 pub type Compare = fn(&Input, &mut Lent, &mut Rng, &mut Tally) -> Result<(), String>;
 
 /// Where an input that shows a difference is written.
 const FOLDER: &str = "target/driver";
+/// How long a draft is made smaller.
+const SHRINKING: Duration = Duration::from_secs(20);
 
 pub struct Run {
     pub seed: u64,
@@ -72,7 +75,10 @@ impl Run {
                 let lent = &mut self.lent.borrow_mut();
                 compare(&draft.input(), lent, &mut before.clone(), &mut Tally::default()).err()
             };
-            let smallest = shrink(draft.clone(), |draft| again(draft).is_some());
+            eprintln!("{}", self.line(&difference));
+            let start = Instant::now();
+            let differs = |draft: &Draft| start.elapsed() < SHRINKING && again(draft).is_some();
+            let smallest = shrink(draft.clone(), differs);
             let difference_then = again(&smallest).unwrap_or_else(|| "as above".to_string());
             let title = format!("made smaller: {difference_then}");
             let text = hex(&title, &smallest.input()) + &hex("as it was", &input);
@@ -80,9 +86,13 @@ impl Run {
         }
     }
 
+    fn line(&self, difference: &str) -> String {
+        format!("seed {} case {}: {difference}", self.seed, self.case)
+    }
+
     /// Says what differs, writes the input and ends the run.
     pub fn report(&self, difference: &str, input: &str) -> ! {
-        let line = format!("seed {} case {}: {difference}", self.seed, self.case);
+        let line = self.line(difference);
         eprintln!("{line}");
         eprint!("{}", input.chars().take(2000).collect::<String>());
         let file = Path::new(FOLDER).join("mismatch.txt");
