@@ -15,7 +15,12 @@ enum Below {
     Pocket(u32),
     /// A passage two rows down that goes on so many columns past the next span.
     Hook(u32),
+    /// A room apart, into which the next span reaches without parting it.
+    Room,
 }
+
+/// How far a span goes past the walls to reach into a room.
+const INTO_ROOM: u32 = 12;
 
 /// A corridor from left to right, and its spans in pixels from its upper left corner.
 struct Corridor {
@@ -72,12 +77,21 @@ fn corridor(rng: &mut Rng) -> Corridor {
             span[rng.below(2)] += slant;
         }
     }
-    let below = |rng: &mut Rng| match rng.below(14) {
-        0 => Below::Pocket(rng.within(1, 6)),
-        1 => Below::Hook(rng.within(1, 6)),
+    // A passage past the next span by half the width and 16 pixels is at a link's limit.
+    let limit = rows / 2 + 2;
+    let below = |rng: &mut Rng| match rng.below(24) {
+        0 | 1 => Below::Pocket(rng.within(1, 6)),
+        2 | 3 => Below::Hook(rng.within(1, 6)),
+        4 => Below::Hook(limit + rng.within(0, 1)),
+        5 => Below::Room,
         _ => Below::Wall,
     };
     let below: Vec<_> = (1..count).map(|_| below(rng)).collect();
+    for (span, below) in spans[1..].iter_mut().zip(&below) {
+        if matches!(below, Below::Room) {
+            span[2] = INTO_ROOM;
+        }
+    }
     let widths = widths(rows, count, rng);
     Corridor { rows, columns: column / 8 + rng.within(3, 5), spans, below, widths }
 }
@@ -88,7 +102,7 @@ fn widths(rows: u32, count: usize, rng: &mut Rng) -> Vec<u64> {
     let across = f64::from(8 * rows);
     let least = ((across - 16.0) / 1.5).max(0.0);
     let base = rng.pick(&[across, across, across, least, least, 0.0, 128.0, 160.0, 16_384.0]);
-    let off = if rng.one_in(4) { rng.pick(&[1, -1]) } else { 0 };
+    let off = if rng.one_in(3) { rng.pick(&[1, -1, -2, -3, -4, -5]) } else { 0 };
     let base = f64::from_bits(base.to_bits().saturating_add_signed(off));
     let wide = |rng: &mut Rng| {
         let more = rng.pick(&[0.0, 0.0, 0.0, 0.0, 8.0, 8.0, 7.5, 24.0]);
@@ -124,29 +138,19 @@ fn dig(corridor: &Corridor, cells: &mut [u8], width: u32, top: u32, cell: u8) ->
                 open(to - 1, corridor.rows);
                 (to - 1..to + reach).for_each(|column| open(column, corridor.rows + 1));
             }
+            Below::Room => {
+                for row in 1..4 {
+                    (to - 1..to + 2).for_each(|column| open(column, corridor.rows + row));
+                }
+            }
         }
     }
     corridor.rows + 7
 }
 
-/// A job of up to three corridors, joined at the left, at both ends or nowhere.
+/// A job of corridors along the axes, or of one along a diagonal.
 pub fn random(rng: &mut Rng) -> Draft {
-    let corridors: Vec<_> = (0..rng.pick(&[1, 1, 1, 2, 3])).map(|_| corridor(rng)).collect();
-    let width = corridors.iter().map(|corridor| corridor.columns).max().expect("some") + 1;
-    let height = 1 + corridors.iter().map(|corridor| corridor.rows + 7).sum::<u32>();
-    let cell = 1 | rng.pick(&[0, 0, 2, 8, 24]);
-    let mut draft = valid([width, height], [0; 5], rng);
-    draft.cells.fill(rng.pick(&[0, 0, 6]));
-    let mut top = 1;
-    for corridor in &corridors {
-        let bottom = 8 * (top + corridor.rows);
-        for (&[upper, lower, past], &bits) in corridor.spans.iter().zip(&corridor.widths) {
-            let ends = [upper, 8 * top - past, lower, bottom + past];
-            draft.boundaries.push(Boundary { ends, bits, ..Boundary::default() });
-        }
-        top += dig(corridor, &mut draft.cells, width, top, cell);
-    }
-    join(&mut draft, rng);
+    let mut draft = if rng.one_in(5) { diagonal(rng) } else { straight(rng) };
     disturb(&mut draft, rng);
     if rng.one_in(2) {
         mirror(&mut draft);
@@ -160,20 +164,59 @@ pub fn random(rng: &mut Rng) -> Draft {
     draft
 }
 
-/// Opens a column at the left, and at times one at the right end of the map.
-fn join(draft: &mut Draft, rng: &mut Rng) {
-    let width = draft.width as usize;
-    let [left, right] = rng.pick(&[[false, false], [true, false], [true, false], [true, true]]);
-    for row in draft.cells.chunks_exact_mut(width) {
-        if left {
-            row[0] |= 1;
-        }
-        if right {
-            // Up to the first corridor's end from the right.
-            let end = row.iter().rposition(|cell| cell & 1 != 0).map_or(width - 1, |end| end + 1);
-            row[end.min(width - 1)..].iter_mut().for_each(|cell| *cell |= 1);
-        }
+/// A band of cells about a line that falls by a row for each one or two columns, with spans across
+/// it that are nearly square to it.
+fn diagonal(rng: &mut Rng) -> Draft {
+    let (half, fall) = (rng.within(1, 3), rng.within(1, 2));
+    let count = rng.pick(&[2, 3, 3, 4, 4, 5]);
+    let step = 8 * rng.within(2, 4);
+    let side = (step * (count as u32 + 1)).div_ceil(8) + 2;
+    let mut draft = valid([side, side], [0; 5], rng);
+    let near = |column: u32, row: u32| (column / fall).abs_diff(row) <= half;
+    draft.cells = (0..side * side).map(|cell| u8::from(near(cell % side, cell / side))).collect();
+    let widths = widths(2 * half + 1, count, rng);
+    let across = 4 * half + rng.pick(&[4, 6, 8]);
+    for (i, bits) in widths.into_iter().enumerate() {
+        let along = step * (i as u32 + 1) + rng.pick(&[0, 0, 4, 1]);
+        let (column, row) = (along, along / fall + 4);
+        let ends = [
+            column.saturating_sub(across),
+            row + across * fall,
+            column + across,
+            row.saturating_sub(across * fall),
+        ];
+        let ends = ends.map(|at| at.min(8 * side));
+        draft.boundaries.push(Boundary { ends, bits, ..Boundary::default() });
     }
+    draft
+}
+
+/// A job of up to three corridors, joined at the left, at both ends or nowhere.
+fn straight(rng: &mut Rng) -> Draft {
+    let mut corridors: Vec<_> = (0..rng.pick(&[1, 1, 1, 2, 3])).map(|_| corridor(rng)).collect();
+    let width = corridors.iter().map(|corridor| corridor.columns).max().expect("some") + 1;
+    let [left, right] = rng.pick(&[[false, false], [true, false], [true, false], [true, true]]);
+    if right {
+        corridors.iter_mut().for_each(|corridor| corridor.columns = width);
+    }
+    let height = 1 + corridors.iter().map(|corridor| corridor.rows + 7).sum::<u32>();
+    let cell = 1 | rng.pick(&[0, 0, 2, 8, 24]);
+    let mut draft = valid([width, height], [0; 5], rng);
+    draft.cells.fill(rng.pick(&[0, 0, 6]));
+    let mut top = 1;
+    for corridor in &corridors {
+        let bottom = 8 * (top + corridor.rows);
+        for (&[upper, lower, past], &bits) in corridor.spans.iter().zip(&corridor.widths) {
+            let ends = [upper, (8 * top).saturating_sub(past), lower, bottom + past];
+            draft.boundaries.push(Boundary { ends, bits, ..Boundary::default() });
+        }
+        top += dig(corridor, &mut draft.cells, width, top, cell);
+    }
+    for row in draft.cells.chunks_exact_mut(width as usize) {
+        row[0] |= u8::from(left);
+        row[width as usize - 1] |= u8::from(right);
+    }
+    draft
 }
 
 /// Now and then: other elevations, ramps, anchors, a ramp boundary, a span of any kind; the

@@ -2,7 +2,7 @@
 
 use crate::compare::compare;
 use crate::damage::{self, REFUSALS};
-use crate::draft::{self, Draft, Input};
+use crate::draft::{self, Boundary, Draft, Input};
 use crate::lent::Lent;
 use crate::maps::{self, Shape, SHAPES};
 use crate::rng::Rng;
@@ -18,13 +18,13 @@ struct Family {
 
 const FAMILIES: [Family; 4] = [
     // Damaged inputs.
-    Family { share: 100, case: |run, rng| run.draft(&damaged(rng), rng, compare) },
+    Family { share: 80, case: |run, rng| run.draft(&damaged(rng), rng, compare) },
     // Maps and spans of many shapes.
-    Family { share: 40, case: |run, rng| run.draft(&maps::random(rng), rng, on_maps) },
+    Family { share: 32, case: |run, rng| run.draft(&maps::random(rng), rng, on_maps) },
     // Bare lists of records.
     Family { share: 5, case: |run, rng| run.records(&records::random(rng)) },
     // Corridors that merge.
-    Family { share: 5, case: |run, rng| run.draft(&corridors::random(rng), rng, merging::compare) },
+    Family { share: 8, case: |run, rng| run.draft(&corridors::random(rng), rng, merging::compare) },
 ];
 
 /// Runs a case by its number, where it is of these families.
@@ -52,6 +52,32 @@ pub fn round(run: &mut Run, done: u64) -> u64 {
 fn on_maps(input: &Input, lent: &mut Lent, rng: &mut Rng, tally: &mut Tally) -> Result<(), String> {
     partition::compare(input, lent, rng, tally)?;
     whole::compare(input, lent, rng, tally)
+}
+
+/// Every map of 2 x 2 cells with every span between points about centres, edges and corners.
+pub fn small_maps(run: &mut Run) {
+    let mut rng = run.next_case();
+    let marks = [0, 3, 4, 5, 8, 12, 16];
+    let points = || marks.iter().flat_map(|&x| marks.map(|y| [x, y]));
+    for ([ax, ay], [bx, by]) in points().flat_map(|a| points().map(move |b| (a, b))) {
+        if [ax, ay] >= [bx, by] {
+            continue;
+        }
+        for walkable in 0..16 {
+            let mut ends = [ax, ay, bx, by];
+            if rng.one_in(2) {
+                ends.rotate_left(2);
+            }
+            let draft = Draft {
+                width: 2,
+                height: 2,
+                cells: (0..4).map(|cell| walkable >> cell & 1).collect(),
+                boundaries: vec![Boundary { ends, ..Boundary::default() }],
+                ..Draft::default()
+            };
+            run.draft(&draft, &mut rng, partition::compare);
+        }
+    }
 }
 
 /// Numbers of region pairs about the most there may be, the largest maps, and the longest lists of

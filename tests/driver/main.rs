@@ -39,7 +39,7 @@ use std::process::exit;
 use std::time::{Duration, Instant};
 
 const QUICK_SEED: u64 = 1;
-const QUICK_CASES: u64 = 150_000;
+const QUICK_CASES: u64 = 125_000;
 const LONG_SEED: u64 = 2;
 const LONG: Limit = Limit::Time(Duration::from_secs(600));
 
@@ -62,6 +62,7 @@ fn main() {
             while done < parse(cases) {
                 done = families::round(&mut run, done);
             }
+            families::small_maps(&mut run);
             families::limits(&mut run);
             println!("seed {seed}: {done} random cases, nothing differs");
         }
@@ -100,6 +101,7 @@ fn whole(seed: u64, limit: Limit, rounds: usize) {
     smoke::all(seed);
     let mut run = Run::new(seed);
     exhaustive::all(&mut run, rounds);
+    families::small_maps(&mut run);
     families::limits(&mut run);
     let mut done = 0;
     while match limit {

@@ -146,8 +146,12 @@ fn note(call: u32, accepted: &Accepted, groups: &[Group], tally: &mut Tally) {
     for group in groups {
         let kind = if group.serial { "serial" } else { "flat" };
         tally.see(&format!("{kind} groups of {}, {}", group.members.len(), CALLS[call as usize]));
-        if group.serial && chain(accepted, group) == 384.0 {
+        let [centres, ends] = extent(accepted, group);
+        if group.serial && centres == 384.0 {
             tally.see("serial groups at 384.0");
+        }
+        if !group.serial && ends == 128.0 {
+            tally.see("flat groups at 128.0");
         }
         if group.members.iter().any(|&i| accepted.job.boundaries[i].observations.is_empty()) {
             tally.see("groups with a member without observations");
@@ -161,16 +165,26 @@ fn note(call: u32, accepted: &Accepted, groups: &[Group], tally: &mut Tally) {
     }
 }
 
-/// The distance between the outermost centres of a group.
-fn chain(accepted: &Accepted, group: &Group) -> f64 {
-    let centre = |&i: &usize| {
-        let [a, b] = accepted.job.boundaries[i].endpoints;
-        [a.x + b.x, a.y + b.y].map(|sum| f64::from(sum) / 2.0)
-    };
-    let centres: Vec<_> = group.members.iter().map(centre).collect();
+/// The greatest distance between two points of a list.
+fn greatest(points: &[[f64; 2]]) -> f64 {
     let apart = |[ax, ay]: [f64; 2], [bx, by]: [f64; 2]| {
         let (x, y) = (ax - bx, ay - by);
         (x * x + y * y).sqrt()
     };
-    centres.iter().flat_map(|&a| centres.iter().map(move |&b| apart(a, b))).fold(0.0, f64::max)
+    let all = points.iter().flat_map(|&a| points.iter().map(move |&b| apart(a, b)));
+    all.fold(0.0, f64::max)
+}
+
+/// The greatest distances within a group: between centres, and between first or last ends.
+fn extent(accepted: &Accepted, group: &Group) -> [f64; 2] {
+    let ends = group.members.iter().map(|&i| {
+        let mut ends = accepted.job.boundaries[i].endpoints;
+        ends.sort();
+        ends.map(|end| [f64::from(end.x), f64::from(end.y)])
+    });
+    let ends: Vec<_> = ends.collect();
+    let centre = |[a, b]: &[[f64; 2]; 2]| [(a[0] + b[0]) / 2.0, (a[1] + b[1]) / 2.0];
+    let centres: Vec<_> = ends.iter().map(centre).collect();
+    let [first, last] = [0, 1].map(|k| ends.iter().map(|ends| ends[k]).collect::<Vec<_>>());
+    [greatest(&centres), greatest(&first).max(greatest(&last))]
 }

@@ -14,6 +14,8 @@ pub type Record = [u32; 3];
 const OWNERS: usize = 256;
 /// Work for the walk over 4,096 records and 8,192 regions.
 const WORK: usize = 1 << 20;
+/// What work holds before a call.
+const DIRTY: u8 = 0x77;
 /// Up to here every record is taken away by itself.
 const SMALL: usize = 600;
 
@@ -131,7 +133,7 @@ pub fn compare(records: &[Record], lent: &mut Lent, tally: &mut Tally) -> Result
     let Some(function) = TABLE.bridges else { return Ok(()) };
     let bytes = record_words(records);
     let mut marks = vec![0xA5; OWNERS];
-    let lent = lent.lend(&bytes, &[], &vec![0; WORK], &marks);
+    let lent = lent.lend(&bytes, &[], &vec![DIRTY; WORK], &marks);
     let said = function(lent.job, lent.work, lent.out);
     for (owner, mark) in marks.iter_mut().enumerate() {
         *mark = u8::from(bridges.contains(&owner));

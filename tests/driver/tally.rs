@@ -11,7 +11,7 @@ const NUMBERS: usize = 18;
 const WHOLE: [u32; 4] = [13, 21, 22, 23];
 
 /// What a whole run must have seen at least once.
-const WANTED: [&str; 24] = [
+const WANTED: [&str; 26] = [
     "partitions held to the definitions",
     "partitions with a span that cuts nothing",
     "partitions with a span that goes round",
@@ -32,6 +32,8 @@ const WANTED: [&str; 24] = [
     "flat groups of 3, Reduce by list",
     "flat groups of 4, Reduce by list",
     "serial groups at 384.0",
+    "flat groups at 128.0",
+    "groups with a member without observations",
     "runs with several groups",
     "runs with both kinds",
     "relistings",

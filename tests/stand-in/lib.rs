@@ -44,6 +44,11 @@ fn write<'a>(start: Out, length: usize) -> &'a mut [u8] {
 
 /// The refusal of the checks, with their faults.
 fn refusal(call: u32, job: &[u8], list: &[u8]) -> Refusal {
+    if call == BY_LIST && list.len() > 1 << 30 {
+        // Too long to be looked at span by span.
+        let told = if list.len() % SPAN != 0 { (14, 0) } else { (15, (list.len() / SPAN) as u64) };
+        return checks::faults(call, job, &[]).first().copied().unwrap_or(told);
+    }
     let faults = checks::faults(call, job, list);
     let first = faults.first().copied().unwrap_or(NONE);
     if call == BY_LIST && fault::on("coincident_ends_refused_by_list") {
