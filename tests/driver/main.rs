@@ -39,7 +39,7 @@ use std::process::exit;
 use std::time::{Duration, Instant};
 
 const QUICK_SEED: u64 = 1;
-const QUICK_CASES: u64 = 125_000;
+const QUICK_CASES: u64 = 100_000;
 const LONG_SEED: u64 = 2;
 const LONG: Limit = Limit::Time(Duration::from_secs(600));
 
