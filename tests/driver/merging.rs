@@ -78,7 +78,7 @@ fn relistings(
         return Ok(());
     }
     let answer = Expected::of(call, &input.job, &input.list).written;
-    let (relisted, _) = values.relisted(rng);
+    let relisted = values.relisted(rng);
     let again = relisted.draft().input();
     let other = Expected::of(call, &again.job, &again.list).written;
     if other != answer {

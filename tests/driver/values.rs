@@ -122,7 +122,7 @@ impl Values {
 
     /// The same run listed another way: boundaries in any order, ends either way round, sources and
     /// observations shuffled; a span moves with its boundary where there are as many of both.
-    pub fn relisted(&self, rng: &mut Rng) -> (Self, Vec<usize>) {
+    pub fn relisted(&self, rng: &mut Rng) -> Self {
         let order = shuffled((0..self.boundaries.len()).collect(), rng);
         let mut boundaries: Vec<Boundary> =
             order.iter().map(|&i| self.boundaries[i].clone()).collect();
@@ -140,7 +140,7 @@ impl Values {
             shuffled(self.spans.clone(), rng)
         };
         let spans = spans.into_iter().map(|span| turned(span, rng)).collect();
-        (Self { map: self.map.clone(), boundaries, spans }, order)
+        Self { map: self.map.clone(), boundaries, spans }
     }
 
     /// True if no two boundaries have the same ends in either order.
