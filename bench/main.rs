@@ -82,7 +82,7 @@ impl Lent {
     }
 
     fn call(&mut self, call: u32) -> Option<Refusal> {
-        let function = TABLE.whole?(call);
+        let function = TABLE.whole(call)?;
         Some(function(&self.input.job, &self.input.list, &mut self.work, &mut self.out))
     }
 }
@@ -141,7 +141,7 @@ fn whole(call: u32, what: &str, draft: &Draft) {
     let said = lent.call(call);
     assert!(said.is_none_or(|said| said.0 == number), "the two sides agree on {what}");
     let rust = least(|| drop(black_box(by_rust(call, &lent.input))));
-    let library = TABLE.whole.is_some().then(|| {
+    let library = TABLE.whole(call).is_some().then(|| {
         least(|| {
             black_box(lent.call(call));
         })
@@ -206,9 +206,6 @@ fn stacks() {
                 println!("{:>10}  {}, {what}", used, CALLS[call as usize]);
             }
         }
-    }
-    if TABLE.whole.is_none() {
-        println!("         -  the calls are not there yet");
     }
 }
 

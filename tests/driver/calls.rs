@@ -1,9 +1,7 @@
 //! The functions of the proved static libraries, and which of them are there. The build names each
 //! function that a library has by a cfg (tests/libraries); the comparisons ask this table.
 
-use crate::checks::Refusal;
-#[cfg(chokes)]
-use crate::checks::{BY_LIST, MARK};
+use crate::checks::{Refusal, BY_LIST, MARK};
 
 /// A call on job, list, work and the slice that it writes, the answer or the marks.
 pub type Whole = fn(&[u8], &[u8], &mut [u8], &mut [u8]) -> Refusal;
@@ -19,7 +17,19 @@ pub struct Table {
     pub partition: Option<Partition>,
     pub bridges: Option<Bridges>,
     pub plan: Option<Plan>,
-    pub whole: Option<fn(u32) -> Whole>,
+    pub mark: Option<Whole>,
+    pub reduce: Option<Whole>,
+    pub reduce_by_list: Option<Whole>,
+}
+
+impl Table {
+    pub fn whole(&self, call: u32) -> Option<Whole> {
+        match call {
+            BY_LIST => self.reduce_by_list,
+            MARK => self.mark,
+            _ => self.reduce,
+        }
+    }
 }
 
 pub const TABLE: Table = Table {
@@ -35,14 +45,18 @@ pub const TABLE: Table = Table {
     plan: Some(library::plan),
     #[cfg(not(probe_plan))]
     plan: None,
-    #[cfg(chokes)]
-    whole: Some(|call| match call {
-        BY_LIST => library::reduce_by_list,
-        MARK => library::mark,
-        _ => library::reduce,
-    }),
-    #[cfg(not(chokes))]
-    whole: None,
+    #[cfg(chokes_mark)]
+    mark: Some(library::mark),
+    #[cfg(not(chokes_mark))]
+    mark: None,
+    #[cfg(chokes_reduce)]
+    reduce: Some(library::reduce),
+    #[cfg(not(chokes_reduce))]
+    reduce: None,
+    #[cfg(chokes_reduce_by_list)]
+    reduce_by_list: Some(library::reduce_by_list),
+    #[cfg(not(chokes_reduce_by_list))]
+    reduce_by_list: None,
 };
 
 pub use library::{check, span_ends};
@@ -113,7 +127,7 @@ mod library {
         ) -> CallResult;
     }
 
-    #[cfg(chokes)]
+    #[cfg(chokes_mark)]
     #[link(name = "chokes")]
     extern "C" {
         fn chokes_mark(
@@ -124,6 +138,7 @@ mod library {
             marks: Out,
             marks_len: usize,
         ) -> CallResult;
+        #[cfg(chokes_reduce)]
         fn chokes_reduce(
             job: In,
             job_len: usize,
@@ -132,6 +147,7 @@ mod library {
             answer: Out,
             answer_len: usize,
         ) -> CallResult;
+        #[cfg(chokes_reduce_by_list)]
         fn chokes_reduce_by_list(
             job: In,
             job_len: usize,
@@ -184,17 +200,17 @@ mod library {
         call!(probe_plan read job read list number which write work write out).pair()
     }
 
-    #[cfg(chokes)]
+    #[cfg(chokes_mark)]
     pub fn mark(job: &[u8], _: &[u8], work: &mut [u8], marks: &mut [u8]) -> Refusal {
         call!(chokes_mark read job write work write marks).pair()
     }
 
-    #[cfg(chokes)]
+    #[cfg(chokes_reduce)]
     pub fn reduce(job: &[u8], _: &[u8], work: &mut [u8], answer: &mut [u8]) -> Refusal {
         call!(chokes_reduce read job write work write answer).pair()
     }
 
-    #[cfg(chokes)]
+    #[cfg(chokes_reduce_by_list)]
     pub fn reduce_by_list(job: &[u8], list: &[u8], work: &mut [u8], answer: &mut [u8]) -> Refusal {
         call!(chokes_reduce_by_list read job read list write work write answer).pair()
     }

@@ -97,12 +97,12 @@ fn relistings(
 
 /// That the call gives these answer bytes.
 fn same(call: u32, input: &Input, answer: &[u8], lent: &mut Lent) -> Result<(), String> {
-    let Some(calls) = TABLE.whole else { return Ok(()) };
+    let Some(function) = TABLE.whole(call) else { return Ok(()) };
     let cells = u32::from_le_bytes(input.job[24..28].try_into().expect("four bytes"));
     let bases = u32::from_le_bytes(input.job[28..32].try_into().expect("four bytes"));
     let work = vec![0x77; expect::WORK * (bases - cells) as usize];
     let lent = lent.lend(&input.job, &input.list, &work, &vec![0x99; answer.len()]);
-    let said = calls(call)(lent.job, lent.list, lent.work, lent.out);
+    let said = function(lent.job, lent.list, lent.work, lent.out);
     if said == (0, answer.len() as u64) && *lent.out == *answer {
         return Ok(());
     }

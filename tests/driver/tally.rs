@@ -128,12 +128,12 @@ impl Tally {
     }
 
     fn print_whole(&self) {
-        let made = if TABLE.whole.is_some() { "compared" } else { "worked out, not compared yet" };
-        println!("whole calls by number, {made}");
+        println!("whole calls by number");
         for (call, name) in CALLS.iter().enumerate() {
             let refused: u64 = (1..=17).filter(|&n| n != 13).map(|n| self.whole[call][n]).sum();
             let late = WHOLE.map(|n| format!(", {n}: {}", self.whole[call][n as usize])).concat();
-            println!("{name:>16}  0: {}{late}, refused before: {refused}", self.whole[call][0]);
+            let made = if TABLE.whole(call as u32).is_some() { "" } else { " (not compared yet)" };
+            println!("{name:>16}  0: {}{late}, refused before: {refused}{made}", self.whole[call][0]);
         }
         for (what, count) in &self.seen_besides {
             println!("{count:>8} {what}");
@@ -142,7 +142,9 @@ impl Tally {
             ("probe_partition", TABLE.partition.is_some()),
             ("probe_bridges", TABLE.bridges.is_some()),
             ("probe_plan", TABLE.plan.is_some()),
-            ("the three calls", TABLE.whole.is_some()),
+            ("chokes_mark", TABLE.mark.is_some()),
+            ("chokes_reduce", TABLE.reduce.is_some()),
+            ("chokes_reduce_by_list", TABLE.reduce_by_list.is_some()),
         ];
         for (name, _) in there.iter().filter(|function| !function.1) {
             println!("not there to be compared: {name}");

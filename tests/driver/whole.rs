@@ -57,10 +57,10 @@ fn one(
     let (work, out) = (vec![rng.byte(); work], vec![rng.byte(); out]);
     let left = expected.left(&work, &out);
     tally.note_whole(call as usize, left.result.0);
-    let Some(calls) = TABLE.whole else { return Ok(()) };
+    let Some(function) = TABLE.whole(call) else { return Ok(()) };
     let name = CALLS[call as usize];
     let lent = lent.lend(&input.job, &input.list, &work, &out);
-    let said = calls(call)(lent.job, lent.list, lent.work, lent.out);
+    let said = function(lent.job, lent.list, lent.work, lent.out);
     if said != left.result {
         return Err(format!("{name}: expected {:?}, got {said:?}", left.result));
     }
