@@ -96,9 +96,18 @@ module _ (g : Grid) where
   after-next cs c =
       let e : length (cs ++ (c ∷ [])) ≡ length cs + 1 = length-append cs (c ∷ []) in
       let ramp : ltb 0 (length (keep (rampCell g) (cs ++ (c ∷ [])))) ≡ (ltb 0 (length (keep (rampCell g) cs)) || rampCell g c) = rw (kept-last (rampCell g) cs c) (some-last (length (keep (rampCell g) cs)) (rampCell g c)) in
-      simp
-      (e, least-of (leftOf g) cs c, least-of (topOf g) cs c, greatest-of (λ i. leftOf g i + 8) cs c, greatest-of (λ i. topOf g i + 8) cs c, ramp,
-      kept-last (λ i. eqb (elevation g i) 0) cs c, kept-last (λ i. eqb (elevation g i) 1) cs c, kept-last (λ i. eqb (elevation g i) 2) cs c, kept-last (λ i. eqb (elevation g i) 3) cs c)
+      simp (
+        e,
+        least-of (leftOf g) cs c,
+        least-of (topOf g) cs c,
+        greatest-of (λ i. leftOf g i + 8) cs c,
+        greatest-of (λ i. topOf g i + 8) cs c,
+        ramp,
+        kept-last (λ i. eqb (elevation g i) 0) cs c,
+        kept-last (λ i. eqb (elevation g i) 1) cs c,
+        kept-last (λ i. eqb (elevation g i) 2) cs c,
+        kept-last (λ i. eqb (elevation g i) 3) cs c,
+      )
 
   -- after all its cells they are the region's
   pub after-all : (ls : List ℕ) (r : ℕ) → statsIn (statsAfter g (regionCells ls r)) ≡ regionStats g ls r

@@ -33,7 +33,15 @@ fn anchor_in(labels: &[u8], n: usize, width: u32, p: WalkPosition, region: u32) 
 }
 
 // Some base's anchor has a cell with the label.
-pub fn is_anchored(job: &[u8], at: usize, count: usize, width: u32, labels: &[u8], n: usize, region: u32) -> bool
+pub fn is_anchored(
+    job: &[u8],
+    at: usize,
+    count: usize,
+    width: u32,
+    labels: &[u8],
+    n: usize,
+    region: u32,
+) -> bool
     requires { ⌜ (at + count * baseSize ≤ length (now job)) × (n ≤ 1048576) × (n * 4 ≤ length (now labels)) × AnchorsIn (now job) at count width n ⌝ }
     ensures { λ r. ⌜ r ≡ anchoredBy (now (job .entry)) at count width (labelsOf (now (labels .entry)) n) region ⌝ }
 {

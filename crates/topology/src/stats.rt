@@ -87,6 +87,9 @@ impl RegionStats {
     pub fn elevations(self) -> u32
         ensures { λ r. ⌜ r ≡ elevations (statsIn self) ⌝ }
     {
-        one(0 < self.level_0) + one(0 < self.level_1) + one(0 < self.level_2) + one(0 < self.level_3)
+        one(0 < self.level_0)
+            + one(0 < self.level_1)
+            + one(0 < self.level_2)
+            + one(0 < self.level_3)
     }
 }
