@@ -1,5 +1,6 @@
 pub mod Bounds
 pub mod Segments
+pub mod Spans
 pub mod Cuts
 pub mod Strip
 pub mod Areas
