@@ -5,10 +5,15 @@ pub mod Meets
 pub mod Cuts
 pub mod Line
 pub mod Covering
+pub mod StripCells
+pub mod StripSums
 pub mod Uncut
 pub mod Areas
 pub mod Assessments
 pub mod Records
+pub mod Listed
 pub mod Counts
 pub mod Walkable
 pub mod Cases
+pub mod Named
+pub mod OpenLabels

@@ -1,9 +1,12 @@
 -- The strip of cells around a span in which 002 looks for the steps that it cuts: along the axis on which the span is longer, to a
 -- margin of 16 pixels past its ends; on the other axis, 3 cells to either side of the line.
+use mathlib.Core.Bool.{Bool, cond}
 use Prim.Native.Nat.{ℕ, _+_, _*_, _-_, _/_, _≤_, _<_, min, max}
+use lib.Dec.{leb, ltb}
 use Rattle.position.specs.declared.Span.{Span}
-use Rattle.grid.specs.Cells.{Grid, columnOf, rowOf}
+use Rattle.grid.specs.Cells.{Grid, indexOf, columnOf, rowOf}
 use Rattle.areas.specs.declared.candidates.CellRange.{CellRange}
+use Rattle.areas.specs.declared.candidates.Line.{Line}
 
 -- "CANDIDATE_MARGIN_PIXELS", "CANDIDATE_MINOR_RADIUS_CELLS"
 abbrev pub margin : ℕ
@@ -44,3 +47,44 @@ pub data InStrip (g : Grid) (s : Span) (i : ℕ) : Type 0 where
   wide : gap (s .a .y) (s .b .y) ≤ gap (s .a .x) (s .b .x) → Near (s .a .x) (s .a .y) (s .b .x) (s .b .y) (g .width) (g .height) (columnOf g i) (rowOf g i) → InStrip g s i
   falls : gap (s .a .x) (s .b .x) < gap (s .a .y) (s .b .y) → s .a .y ≤ s .b .y → Near (s .a .y) (s .a .x) (s .b .y) (s .b .x) (g .height) (g .width) (rowOf g i) (columnOf g i) → InStrip g s i
   rises : gap (s .a .x) (s .b .x) < gap (s .a .y) (s .b .y) → s .b .y < s .a .y → Near (s .b .y) (s .b .x) (s .a .y) (s .a .x) (g .height) (g .width) (rowOf g i) (columnOf g i) → InStrip g s i
+
+-- the span is longer along the rows than along the columns
+unfoldable pub tall : Span → Bool
+tall s = ltb (gap (s .a .x) (s .b .x)) (gap (s .a .y) (s .b .y))
+
+-- the ends of the span by the axis on which it is longer, the lower one first
+unfoldable pub lineOf : Span → Line
+unfolding tall
+lineOf s =
+    cond (tall s)
+    (cond (leb (s .a .y) (s .b .y)) (record { l = s .a .y; lm = s .a .x; u = s .b .y; um = s .b .x }) (record { l = s .b .y; lm = s .b .x; u = s .a .y; um = s .a .x }))
+    (record { l = s .a .x; lm = s .a .y; u = s .b .x; um = s .b .y })
+
+-- the strip of the span on a map of width by height cells: the columns or rows along it, and those about the line at one of these
+module _ (width height : ℕ) (s : Span) where
+  unfoldable pub stripAxis : CellRange
+  unfolding axisRange tall lineOf
+  stripAxis = axisRange (lineOf s .l) (lineOf s .u) (cond (tall s) height width)
+
+  unfoldable pub stripMinor : ℕ → CellRange
+  unfolding minorRange lineAt tall lineOf
+  stripMinor c = minorRange (lineAt (lineOf s .l) (lineOf s .lm) (lineOf s .u) (lineOf s .um) (clamp (8 * c + 4) (lineOf s .l) (lineOf s .u))) (cond (tall s) width height)
+
+-- the coordinate of a cell along the span and the other one, and the cell at two such
+module _ (g : Grid) (s : Span) where
+  unfoldable pub majorOf : ℕ → ℕ
+  unfolding tall
+  majorOf i = cond (tall s) (rowOf g i) (columnOf g i)
+
+  unfoldable pub minorOf : ℕ → ℕ
+  unfolding tall
+  minorOf i = cond (tall s) (columnOf g i) (rowOf g i)
+
+  unfoldable pub cellOf : ℕ → ℕ → ℕ
+  unfolding tall
+  cellOf c cm = cond (tall s) (indexOf g cm c) (indexOf g c cm)
+
+-- the cell is in the ranges of the strip
+pub record Within (g : Grid) (s : Span) (i : ℕ) : Type 0 where
+  pub along : InRange (stripAxis (g .width) (g .height) s) (majorOf g s i)
+  pub beside : InRange (stripMinor (g .width) (g .height) s (majorOf g s i)) (minorOf g s i)

@@ -3,4 +3,5 @@ pub mod Zeros
 pub mod Moves
 pub mod Retell
 pub mod Turn
+pub mod Chains
 pub mod Meaning

@@ -31,24 +31,24 @@ list-rows (x ∷ l) f h =
     let b : l ≡ rows (length l) (λ i. f (suc i)) = list-rows l (λ i. f (suc i)) (λ i k. h (suc i) (omega arith)) in
     ap (λ (y : ℕ). y ∷ l) a ∙ ap (λ (t : List ℕ). f 0 ∷ t) b
 
-module _ (owners lefts rights : List ℕ) where
+module _ (K : ℕ) (owners lefts rights : List ℕ) where
   abbrev rs : List records.Record
-  rs = recordsOf owners lefts rights
+  rs = recordsOf K owners lefts rights
 
   -- the record at a place
   abbrev nth : ℕ → records.Record
   nth k = record { owner = at owners k; left = at lefts k; right = at rights k }
 
-  records-length : length rs ≡ length lefts
+  records-length : length rs ≡ K
   unfolding recordsOf
-  records-length = length-rows (length lefts) nth
+  records-length = length-rows K nth
 
-  records-at : (k : ℕ) → k < length lefts → records.at rs k ≡ nth k
+  records-at : (k : ℕ) → k < K → records.at rs k ≡ nth k
   unfolding recordsOf
-  records-at k l = rows-at (length lefts) nth k records.noRecord l
+  records-at k l = rows-at K nth k records.noRecord l
 
   -- a path over the other records, in the walk's words and in the definition's
-  to-path : (k : ℕ) {a b : ℕ} → Connected (Without (length lefts) (at lefts) (at rights) k) a b → graph.Path (records.edges (records.without (records.only k) rs)) a b
+  to-path : (k : ℕ) {a b : ℕ} → Connected (Without K (at lefts) (at rights) k) a b → graph.Path (records.edges (records.without (records.only k) rs)) a b
   to-path k here = graph.here
   to-path k (onward {a} {b} s p) = graph.onward member (joins (s .joins)) (to-path k p)
     where
@@ -60,12 +60,12 @@ module _ (owners lefts rights : List ℕ) where
           remains-edge (records.only k) rs
           (record { place = s .by; inside = omega (arith, records-length, s .below); spared = ne-eqb (s .by) k (s .other); stands = refl })
 
-      joins : Joins (length lefts) (at lefts) (at rights) (s .by) a b → graph.Joins (records.edgeOf (records.at rs (s .by))) a b
+      joins : Joins (at lefts) (at rights) (s .by) a b → graph.Joins (records.edgeOf (records.at rs (s .by))) a b
       joins (forth p q) = graph.forth (ap (λ (r : records.Record). r .left) e ∙ p) (ap (λ (r : records.Record). r .right) e ∙ q)
       joins (back p q) = graph.back (ap (λ (r : records.Record). r .left) e ∙ p) (ap (λ (r : records.Record). r .right) e ∙ q)
 
   step-of : (k : ℕ) {a b : ℕ} {e : graph.Edge} → List·Memᴰ e (records.edges (records.without (records.only k) rs)) → graph.Joins e a b →
-      Without (length lefts) (at lefts) (at rights) k a b
+      Without K (at lefts) (at rights) k a b
   step-of k {a} {b} {e} m j =
       record { by = v .place; below = below; other = eqb-false (v .place) k (v .spared); joins = joins j }
     where
@@ -75,22 +75,22 @@ module _ (owners lefts rights : List ℕ) where
       v : records.Remains (records.only k) rs (w .0)
       v = w .1
 
-      below : v .place < length lefts
+      below : v .place < K
       below = omega (arith, records-length, v .inside)
 
       same : records.edgeOf (nth (v .place)) ≡ e
       same = ap records.edgeOf (sym (records-at (v .place) below) ∙ v .stands) ∙ w .2
 
-      joins : graph.Joins e a b → Joins (length lefts) (at lefts) (at rights) (v .place) a b
+      joins : graph.Joins e a b → Joins (at lefts) (at rights) (v .place) a b
       joins (graph.forth p q) = forth (ap (λ (x : graph.Edge). x .left) same ∙ p) (ap (λ (x : graph.Edge). x .right) same ∙ q)
       joins (graph.back p q) = back (ap (λ (x : graph.Edge). x .left) same ∙ p) (ap (λ (x : graph.Edge). x .right) same ∙ q)
 
-  of-path : (k : ℕ) {a b : ℕ} → graph.Path (records.edges (records.without (records.only k) rs)) a b → Connected (Without (length lefts) (at lefts) (at rights) k) a b
+  of-path : (k : ℕ) {a b : ℕ} → graph.Path (records.edges (records.without (records.only k) rs)) a b → Connected (Without K (at lefts) (at rights) k) a b
   of-path k graph.here = here
   of-path k (graph.onward m j p) = onward (step-of k m j) (of-path k p)
 
   -- a boundary with a record that parts its regions is a bridge
-  to-bridge : (b : ℕ) → PartedBy owners lefts rights b → Bridge rs b
+  to-bridge : (b : ℕ) → PartedBy K owners lefts rights b → Bridge rs b
   to-bridge b w =
       let e = records-at (w .place) (w .inside) in
       record {
@@ -100,9 +100,9 @@ module _ (owners lefts rights : List ℕ) where
         parted = λ p. w .parted (moved (ap (λ (r : records.Record). r .left) e) (ap (λ (r : records.Record). r .right) e) (of-path (w .place) p));
       }
 
-  of-bridge : (b : ℕ) → Bridge rs b → PartedBy owners lefts rights b
+  of-bridge : (b : ℕ) → Bridge rs b → PartedBy K owners lefts rights b
   of-bridge b w =
-      let l : w .place < length lefts = omega (arith, records-length, w .inside) in
+      let l : w .place < K = omega (arith, records-length, w .inside) in
       let e = records-at (w .place) l in
       record {
         place = w .place;
@@ -112,7 +112,7 @@ module _ (owners lefts rights : List ℕ) where
       }
 
   -- marks that are right, and leave no bridge out
-  pub marks-are : (marks : List ℕ) → Sound owners lefts rights marks → ((b : ℕ) → PartedBy owners lefts rights b → at marks b ≡ 1) →
+  pub marks-are : (marks : List ℕ) → Sound K owners lefts rights marks → ((b : ℕ) → PartedBy K owners lefts rights b → at marks b ≡ 1) →
       marks ≡ bridgeMarks rs (length marks)
   unfolding bridgeMarks
   marks-are marks S all = list-rows marks (λ b. cond (isBridge rs b) 1 0) each
@@ -120,12 +120,12 @@ module _ (owners lefts rights : List ℕ) where
       each : (b : ℕ) → b < length marks → at marks b ≡ cond (isBridge rs b) 1 0
       each b l = by-test (isBridge rs b) (λ e. rw e (all b (of-bridge b (bridge-iff rs b .0 e)))) (λ e. rw e (none e (S b l)))
         where
-          none : isBridge rs b ≡ false → (at marks b ≡ 0) ⊎ ((at marks b ≡ 1) × PartedBy owners lefts rights b) → at marks b ≡ 0
+          none : isBridge rs b ≡ false → (at marks b ≡ 0) ⊎ ((at marks b ≡ 1) × PartedBy K owners lefts rights b) → at marks b ≡ 0
           none e (inl z) = z
           none e (inr z) = clash (bridge-iff rs b .1 (to-bridge b (z .1))) e
 
 -- the walk is at its end: the marks are those of the definition
-pub answered : {owners lefts rights disc stack parents nexts lows marks : List ℕ} {r time : ℕ} → Between owners lefts rights disc stack parents nexts lows marks r time →
-    r ≡ length lefts → (n : ℕ) → length marks ≡ n → marks ≡ bridgeMarks (recordsOf owners lefts rights) n
-answered {owners} {lefts} {rights} {marks = marks} B e n l =
-    marks-are owners lefts rights marks (B .sound) (finished B e) ∙ ap (bridgeMarks (recordsOf owners lefts rights)) l
+pub answered : {K : ℕ} {owners lefts rights disc stack parents nexts lows marks : List ℕ} {r time : ℕ} → Between K owners lefts rights disc stack parents nexts lows marks r time →
+    r ≡ K → (n : ℕ) → length marks ≡ n → marks ≡ bridgeMarks (recordsOf K owners lefts rights) n
+answered {K} {owners} {lefts} {rights} {marks = marks} B e n l =
+    marks-are K owners lefts rights marks (B .sound) (finished B e) ∙ ap (bridgeMarks (recordsOf K owners lefts rights)) l

@@ -5,22 +5,27 @@ use Prim.Native.Nat.{ℕ, zero, suc, _+_, _≤_, _<_, min}
 use native.Mathlib.Omega.{arith}
 use native.Mathlib.Decide.{decLt, ℕ-discrete}
 use Rattle.bridges.specs.Steps.{Connected, here, onward}
-use Rattle.bridges.specs.Walk.{zeros, Joins, forth, back, Without, Parted, Scanned, OnStack, Lowest, Reach, Walk}
+use Rattle.bridges.specs.Walk.{zeros, Joins, forth, back, Touches, First, Without, Parted, Scanned, OnStack, Lowest, Reach, Walk}
 use Rattle.bridges.proofs.Steps.{one, joined, turned, kept, moved, wider}
 use Rattle.bridges.proofs.Zeros.{Upd, zeros-upd}
 
 module _ (K : ℕ) (lf rt : ℕ → ℕ) where
-  pub joins-sym : {k a b : ℕ} → Joins K lf rt k a b → Joins K lf rt k b a
+  pub joins-sym : {k a b : ℕ} → Joins lf rt k a b → Joins lf rt k b a
   joins-sym (forth p q) = back p q
   joins-sym (back p q) = forth p q
 
-  other-end : {k a b d : ℕ} → Joins K lf rt k a b → Joins K lf rt k a d → b ≡ d
+  -- a record that joins a with another has a for an end
+  touching : {k a b : ℕ} → Joins lf rt k a b → Touches lf rt k a
+  touching (forth p q) = inl p
+  touching (back p q) = inr q
+
+  other-end : {k a b d : ℕ} → Joins lf rt k a b → Joins lf rt k a d → b ≡ d
   other-end (forth p q) (forth r s) = sym q ∙ s
   other-end (forth p q) (back r s) = sym q ∙ s ∙ sym p ∙ r
   other-end (back p q) (forth r s) = sym p ∙ r ∙ sym q ∙ s
   other-end (back p q) (back r s) = sym p ∙ r
 
-  one-of : {k a b c d : ℕ} → Joins K lf rt k a b → Joins K lf rt k c d → (a ≡ c) ⊎ (a ≡ d)
+  one-of : {k a b c d : ℕ} → Joins lf rt k a b → Joins lf rt k c d → (a ≡ c) ⊎ (a ≡ d)
   one-of (forth p q) (forth r s) = inl (sym p ∙ r)
   one-of (forth p q) (back r s) = inr (sym p ∙ r)
   one-of (back p q) (forth r s) = inr (sym q ∙ s)
@@ -30,12 +35,12 @@ module _ (K : ℕ) (lf rt : ℕ → ℕ) where
   step-sym k a b s = record { by = s .by; below = s .below; other = s .other; joins = joins-sym (s .joins) }
 
   -- a path without k between k's ends shows that k is no bridge
-  no-bridge : {k a b : ℕ} → Joins K lf rt k a b → Connected (Without K lf rt k) a b → Parted K lf rt k → ⊥
+  no-bridge : {k a b : ℕ} → Joins lf rt k a b → Connected (Without K lf rt k) a b → Parted K lf rt k → ⊥
   no-bridge (forth p q) c h = h (moved (sym p) (sym q) c)
   no-bridge {k} (back p q) c h = h (moved (sym p) (sym q) (turned (step-sym k) c))
 
   -- and a bridge is shown from either end
-  bridge : {k a b : ℕ} → Joins K lf rt k a b → (Connected (Without K lf rt k) b a → ⊥) → Parted K lf rt k
+  bridge : {k a b : ℕ} → Joins lf rt k a b → (Connected (Without K lf rt k) b a → ⊥) → Parted K lf rt k
   bridge {k} (forth p q) h c = h (turned (step-sym k) (moved p q c))
   bridge (back p q) h c = h (moved p q c)
 
@@ -59,12 +64,12 @@ module _ (K : ℕ) (lf rt : ℕ → ℕ) where
     low-le m a = let f = W .low m a in omega (arith, f .is, place-le (f .to) m (f .upto) a)
 
     -- a record at frame n's region by which n was not entered is not one by which a frame up to n was
-    fresh : (n j w : ℕ) → n < h → j < K → Joins K lf rt j (st n) w → (j ≡ pr n → ⊥) → (i : ℕ) → i ≤ n → j ≡ pr i → ⊥
+    fresh : (n j w : ℕ) → n < h → j < K → Joins lf rt j (st n) w → (j ≡ pr n → ⊥) → (i : ℕ) → i ≤ n → j ≡ pr i → ⊥
     fresh n j w a b t q zero l e = omega (arith, W .root (omega arith))
     fresh n j w a b t q (suc i) l e =
         by-cases (ℕ-discrete (suc i) n) (λ s. q (e ∙ ap pr s)) λ s.
-        let ti : Joins K lf rt (pr (i + 1)) (st i) (st (i + 1)) = W .tree i (omega arith) .1 in
-        let tj : Joins K lf rt (pr (i + 1)) (st n) w = subst (λ (x : ℕ). Joins K lf rt x (st n) w) (e ∙ ap pr (let z : suc i ≡ i + 1 = omega arith in z)) t in
+        let ti : Joins lf rt (pr (i + 1)) (st i) (st (i + 1)) = W .tree i (omega arith) .1 in
+        let tj : Joins lf rt (pr (i + 1)) (st n) w = subst (λ (x : ℕ). Joins lf rt x (st n) w) (e ∙ ap pr (let z : suc i ≡ i + 1 = omega arith in z)) t in
         ⊎-elim (λ k. absurd (omega (arith, distinct n i a (omega arith) k))) (λ k. absurd (omega (arith, distinct n (i + 1) a (omega arith) k))) (one-of tj ti)
 
     -- no two frames were entered by one record
@@ -72,14 +77,14 @@ module _ (K : ℕ) (lf rt : ℕ → ℕ) where
     entered n i a l e =
         fresh-tree i l e
       where
-        t : Joins K lf rt (pr (n + 1)) (st (n + 1)) (st n)
+        t : Joins lf rt (pr (n + 1)) (st (n + 1)) (st n)
         t = joins-sym (W .tree n a .1)
 
         fresh-tree : (i : ℕ) → i ≤ n → pr (n + 1) ≡ pr i → ⊥
         fresh-tree zero l e = omega (arith, W .root (omega arith), W .tree n a .0)
         fresh-tree (suc i) l e =
-            let ti : Joins K lf rt (pr (i + 1)) (st i) (st (i + 1)) = W .tree i (omega arith) .1 in
-            let tj : Joins K lf rt (pr (i + 1)) (st (n + 1)) (st n) = subst (λ (x : ℕ). Joins K lf rt x (st (n + 1)) (st n)) (e ∙ ap pr (let z : suc i ≡ i + 1 = omega arith in z)) t in
+            let ti : Joins lf rt (pr (i + 1)) (st i) (st (i + 1)) = W .tree i (omega arith) .1 in
+            let tj : Joins lf rt (pr (i + 1)) (st (n + 1)) (st n) = subst (λ (x : ℕ). Joins lf rt x (st (n + 1)) (st n)) (e ∙ ap pr (let z : suc i ≡ i + 1 = omega arith in z)) t in
             ⊎-elim (λ k. omega (arith, distinct (n + 1) i a (omega arith) k)) (λ k. omega (arith, distinct (n + 1) (i + 1) a (omega arith) k)) (one-of tj ti)
 
     -- the frames are a path, by the records by which they were entered
@@ -134,22 +139,27 @@ module _ (K : ℕ) (lf rt : ℕ → ℕ) where
       no-bridge (joins-sym (W .tree n (omega arith) .1))
       (joined down (climb W (pr (n + 1)) (f .to) n up (omega arith) (λ i l e. entered W n i (omega arith) l (sym e))))
 
-  -- the last frame looks at its next record
+  -- the last frame looks at its next record, and moves to the one after it that touches its region
   module _ {R r : ℕ} {Told : ℕ → Type 0} {disc st pr nx lw : ℕ → ℕ} {n time : ℕ} (W : Walk K lf rt R r Told disc st pr nx lw (n + 1) time)
-      (nx′ lw′ : ℕ → ℕ) (u : Upd nx nx′ n (nx n + 1)) (v : (m : ℕ) → (m ≡ n → ⊥) → lw′ m ≡ lw m) where
+      (nx′ lw′ : ℕ → ℕ) (u : First K lf rt (nx n + 1) (st n) (nx′ n)) (o : (m : ℕ) → (m ≡ n → ⊥) → nx′ m ≡ nx m) (v : (m : ℕ) → (m ≡ n → ⊥) → lw′ m ≡ lw m) where
     -- what is looked at now was before, or is the record
-    unscan : {P : Type 0} (x i : ℕ) → Scanned K lf rt st nx′ (n + 1) x i → (st n ≡ x → i ≡ nx n → P) → (Scanned K lf rt st nx (n + 1) x i → P) → P
-    unscan x i s f g =
+    unscan : {P : Type 0} (x i w : ℕ) → i < K → Joins lf rt i x w → Scanned K lf rt st nx′ (n + 1) x i → (st n ≡ x → i ≡ nx n → P) → (Scanned K lf rt st nx (n + 1) x i → P) → P
+    unscan x i w b t s f g =
         by-cases (ℕ-discrete i (nx n)) (λ e. by-cases (ℕ-discrete (st n) x) (λ q. f q e) (λ q. g (λ m l z. away q m l z))) (λ e. g (λ m l z. before e m l z))
       where
         away : (st n ≡ x → ⊥) → (m : ℕ) → m < n + 1 → st m ≡ x → i < nx m
-        away q m l z = by-cases (ℕ-discrete m n) (λ k. absurd (q (sym (ap st k) ∙ z))) (λ k. omega (arith, s m l z, u .off m k))
+        away q m l z = by-cases (ℕ-discrete m n) (λ k. absurd (q (sym (ap st k) ∙ z))) (λ k. omega (arith, s m l z, o m k))
 
         before : (i ≡ nx n → ⊥) → (m : ℕ) → m < n + 1 → st m ≡ x → i < nx m
-        before e m l z = by-cases (ℕ-discrete m n) (λ k. omega (arith, s m l z, ap nx′ k, ap nx k, u .at)) (λ k. omega (arith, s m l z, u .off m k))
+        before e m l z = by-cases (ℕ-discrete m n) (λ k. last k (sym (ap st k) ∙ z)) (λ k. omega (arith, s m l z, o m k))
+          where
+            last : m ≡ n → st n ≡ x → i < nx m
+            last k y =
+                by-cases (decLt i (nx n)) (λ a. omega (arith, ap nx k)) λ a.
+                absurd (u .between i (omega arith) (omega (arith, s m l z, ap nx′ k)) b (subst (λ (c : ℕ). Touches lf rt i c) (sym y) (touching t)))
 
     scan : lw′ n ≤ lw n → Lowest K lf rt disc st pr lw′ n →
-        ((w : ℕ) → Joins K lf rt (nx n) (st n) w →
+        ((w : ℕ) → Joins lf rt (nx n) (st n) w →
         (0 < disc w) × ((m : ℕ) → m < n + 1 → (nx n ≡ pr m → ⊥) → Reach K lf rt disc lw′ m (n + 1) w) × ((Parted K lf rt (nx n) → Told (nx n)) ⊎ OnStack K lf rt pr (n + 1) (nx n))) →
         Walk K lf rt R r Told disc st pr nx′ lw′ (n + 1) time
     scan less lowest at = record {
@@ -160,18 +170,18 @@ module _ (K : ℕ) (lf rt : ℕ → ℕ) where
       tree = W .tree;
       root = W .root;
       low = λ m l. by-cases (ℕ-discrete m n) (λ e. subst (λ (x : ℕ). Lowest K lf rt disc st pr lw′ x) (sym e) lowest) (λ e. stay m l (v m e));
-      known = λ x i w p s k t. unscan x i s (λ q e. at w (here-too x i w q e t) .0) (λ z. W .known x i w p z k t);
+      known = λ x i w p s k t. unscan x i w k t s (λ q e. at w (here-too x i w q e t) .0) (λ z. W .known x i w p z k t);
       reach = λ m x i w l d s k o t.
-          unscan x i s (λ q e. at w (here-too x i w q e t) .1 m l (λ z. o (e ∙ z))) (λ z. further m w (W .reach m x i w l d z k o t));
+          unscan x i w k t s (λ q e. at w (here-too x i w q e t) .1 m l (λ z. o (e ∙ z))) (λ z. further m w (W .reach m x i w l d z k o t));
       old = W .old;
-      settled = λ x i w p s k t. unscan x i s (λ q e. told i e (at w (here-too x i w q e t) .2)) (λ z. W .settled x i w p z k t);
+      settled = λ x i w p s k t. unscan x i w k t s (λ q e. told i e (at w (here-too x i w q e t) .2)) (λ z. W .settled x i w p z k t);
       passed = W .passed;
       room = W .room;
       count = W .count;
     }
       where
-        here-too : (x i w : ℕ) → st n ≡ x → i ≡ nx n → Joins K lf rt i x w → Joins K lf rt (nx n) (st n) w
-        here-too x i w q e t = subst (λ (y : ℕ). Joins K lf rt (nx n) y w) (sym q) (subst (λ (y : ℕ). Joins K lf rt y x w) e t)
+        here-too : (x i w : ℕ) → st n ≡ x → i ≡ nx n → Joins lf rt i x w → Joins lf rt (nx n) (st n) w
+        here-too x i w q e t = subst (λ (y : ℕ). Joins lf rt (nx n) y w) (sym q) (subst (λ (y : ℕ). Joins lf rt y x w) e t)
 
         stay : (m : ℕ) → m < n + 1 → lw′ m ≡ lw m → Lowest K lf rt disc st pr lw′ m
         stay m l e = let f = W .low m l in record { to = f .to; upto = f .upto; is = e ∙ f .is; path = f .path }
@@ -190,13 +200,6 @@ module _ (K : ℕ) (lf rt : ℕ → ℕ) where
         told : (i : ℕ) → i ≡ nx n → (Parted K lf rt (nx n) → Told (nx n)) ⊎ OnStack K lf rt pr (n + 1) (nx n) → (Parted K lf rt i → Told i) ⊎ OnStack K lf rt pr (n + 1) i
         told i e z = subst (λ (y : ℕ). (Parted K lf rt y → Told y) ⊎ OnStack K lf rt pr (n + 1) y) (sym e) z
 
-    -- the record has not the frame's region for an end
-    pub scan-other : lw′ n ≡ lw n → ((w : ℕ) → Joins K lf rt (nx n) (st n) w → ⊥) → Walk K lf rt R r Told disc st pr nx′ lw′ (n + 1) time
-    scan-other e none =
-        scan (omega arith)
-        (let f = W .low n (omega arith) in record { to = f .to; upto = f .upto; is = e ∙ f .is; path = f .path })
-        (λ w t. absurd (none w t))
-
     -- the record is the one by which the frame was entered
     pub scan-parent : lw′ n ≡ lw n → nx n < K → nx n ≡ pr n → Walk K lf rt R r Told disc st pr nx′ lw′ (n + 1) time
     scan-parent e k q =
@@ -204,14 +207,14 @@ module _ (K : ℕ) (lf rt : ℕ → ℕ) where
         (let f = W .low n (omega arith) in record { to = f .to; upto = f .upto; is = e ∙ f .is; path = f .path })
         (λ w t. parent n refl w t)
       where
-        parent : (l : ℕ) → n ≡ l → (w : ℕ) → Joins K lf rt (nx n) (st n) w →
+        parent : (l : ℕ) → n ≡ l → (w : ℕ) → Joins lf rt (nx n) (st n) w →
             (0 < disc w) × ((m : ℕ) → m < n + 1 → (nx n ≡ pr m → ⊥) → Reach K lf rt disc lw′ m (n + 1) w) × ((Parted K lf rt (nx n) → Told (nx n)) ⊎ OnStack K lf rt pr (n + 1) (nx n))
         parent zero z w t = absurd (omega (arith, W .root (omega arith), ap pr z))
         parent (suc l) z w t =
             let y : n ≡ l + 1 = omega arith in
-            let tr : Joins K lf rt (nx n) (st n) (st l) =
-            subst (λ (a : ℕ). Joins K lf rt (nx n) (st a) (st l)) (sym y)
-            (subst (λ (a : ℕ). Joins K lf rt a (st (l + 1)) (st l)) (sym (q ∙ ap pr y)) (joins-sym (W .tree l (omega arith) .1))) in
+            let tr : Joins lf rt (nx n) (st n) (st l) =
+            subst (λ (a : ℕ). Joins lf rt (nx n) (st a) (st l)) (sym y)
+            (subst (λ (a : ℕ). Joins lf rt a (st (l + 1)) (st l)) (sym (q ∙ ap pr y)) (joins-sym (W .tree l (omega arith) .1))) in
             let is : st l ≡ w = other-end tr t in (
               subst (λ (a : ℕ). 0 < disc a) is (W .found l (omega arith)),
               λ m b o. record {
@@ -224,14 +227,14 @@ module _ (K : ℕ) (lf rt : ℕ → ℕ) where
             )
 
     -- the record leads to a region that was found
-    pub scan-seen : (w : ℕ) → nx n < K → (nx n ≡ pr n → ⊥) → Joins K lf rt (nx n) (st n) w → 0 < disc w → lw′ n ≡ min (lw n) (disc w) →
+    pub scan-seen : (w : ℕ) → nx n < K → (nx n ≡ pr n → ⊥) → Joins lf rt (nx n) (st n) w → 0 < disc w → lw′ n ≡ min (lw n) (disc w) →
         Walk K lf rt R r Told disc st pr nx′ lw′ (n + 1) time
     scan-seen w k q t p e = scan (omega arith) lowest (λ w₂ t₂. all w₂ (other-end t t₂))
       where
         clear : (i : ℕ) → i ≤ n → nx n ≡ pr i → ⊥
         clear = fresh W n (nx n) w (omega arith) k t q
 
-        first : OnStack K lf rt st (n + 1) w ⊎ ((j y m : ℕ) → j < K → Joins K lf rt j w y → m < n + 1 → st m ≡ y → disc y < disc w) → disc w < lw n → Lowest K lf rt disc st pr lw′ n
+        first : OnStack K lf rt st (n + 1) w ⊎ ((j y m : ℕ) → j < K → Joins lf rt j w y → m < n + 1 → st m ≡ y → disc y < disc w) → disc w < lw n → Lowest K lf rt disc st pr lw′ n
         first (inl f) l = record {
           to = f .place;
           upto = omega (arith, f .below);
@@ -245,7 +248,7 @@ module _ (K : ℕ) (lf rt : ℕ → ℕ) where
             by-cases (decLt (disc w) (lw n)) (λ l. first (W .old w p) l)
             (λ l. let f = W .low n (omega arith) in record { to = f .to; upto = f .upto; is = omega (arith, f .is); path = f .path })
 
-        says : OnStack K lf rt st (n + 1) w ⊎ ((j y m : ℕ) → j < K → Joins K lf rt j w y → m < n + 1 → st m ≡ y → disc y < disc w) → (Parted K lf rt (nx n) → Told (nx n)) ⊎ OnStack K lf rt pr (n + 1) (nx n)
+        says : OnStack K lf rt st (n + 1) w ⊎ ((j y m : ℕ) → j < K → Joins lf rt j w y → m < n + 1 → st m ≡ y → disc y < disc w) → (Parted K lf rt (nx n) → Told (nx n)) ⊎ OnStack K lf rt pr (n + 1) (nx n)
         says (inl f) =
             inl (λ b. absurd (no-bridge (joins-sym t) (moved (f .is) refl (climb W (nx n) (f .place) n (omega (arith, f .below)) (omega arith) (λ i l z. clear i l (sym z)))) b))
         says (inr g) =
@@ -264,8 +267,8 @@ module _ (K : ℕ) (lf rt : ℕ → ℕ) where
   -- the frame after the last is entered, at a region that was not found: a root, or over the record that the last frame looks at
   module _ {R r : ℕ} {Told : ℕ → Type 0} {disc st pr nx lw : ℕ → ℕ} {h time : ℕ} (W : Walk K lf rt R r Told disc st pr nx lw h time)
       (disc′ nx′ : ℕ → ℕ) (new : disc (st h) ≡ 0) (on : st h < R) (u : Upd disc disc′ (st h) (time + 1)) (first : h ≡ 0 → K ≤ pr 0)
-      (over : (m : ℕ) → m + 1 ≡ h → (pr h < K) × Joins K lf rt (pr h) (st m) (st h)) (start : nx′ h ≡ 0) (own : lw h ≡ time + 1)
-      (adv : (m i : ℕ) → m < h → i < nx′ m → (i < nx m) ⊎ ((m + 1 ≡ h) × (i ≡ pr h))) where
+      (over : (m : ℕ) → m + 1 ≡ h → (pr h < K) × Joins lf rt (pr h) (st m) (st h)) (start : First K lf rt 0 (st h) (nx′ h)) (own : lw h ≡ time + 1)
+      (adv : (m i : ℕ) → m < h → i < nx′ m → i < K → Touches lf rt i (st m) → (i < nx m) ⊎ ((m + 1 ≡ h) × (i ≡ pr h))) where
     keep-d : (x : ℕ) → 0 < disc x → disc′ x ≡ disc x
     keep-d x p = u .off x (λ e. omega (arith, ap disc e))
 
@@ -280,11 +283,14 @@ module _ (K : ℕ) (lf rt : ℕ → ℕ) where
     which x f g = by-cases (ℕ-discrete x (st h)) (λ e. f e (ap disc′ e ∙ u .at)) (λ e. g (u .off x e))
 
     -- a record that was looked at was so before, or is the one by which the new frame is entered
-    un : {P : Type 0} (x i : ℕ) → 0 < disc′ x → Scanned K lf rt st nx′ (h + 1) x i → ((m : ℕ) → m + 1 ≡ h → st m ≡ x → i ≡ pr h → P) →
+    un : {P : Type 0} (x i w : ℕ) → i < K → Joins lf rt i x w → 0 < disc′ x → Scanned K lf rt st nx′ (h + 1) x i → ((m : ℕ) → m + 1 ≡ h → st m ≡ x → i ≡ pr h → P) →
         (0 < disc x → disc′ x ≡ disc x → Scanned K lf rt st nx h x i → P) → P
-    un {P} x i p s f g =
-        which x (λ e d. absurd (omega (arith, s h (omega arith) (sym e)))) (λ d. look h refl d)
+    un {P} x i y b t p s f g =
+        which x (λ e d. absurd (start .between i (omega arith) (s h (omega arith) (sym e)) b (touch (sym e)))) (λ d. look h refl d)
       where
+        touch : {v : ℕ} → v ≡ x → Touches lf rt i v
+        touch z = subst (λ (c : ℕ). Touches lf rt i c) (sym z) (touching t)
+
         look : (q : ℕ) → h ≡ q → disc′ x ≡ disc x → P
         look zero z d = g (omega arith) d (λ m l e. absurd (omega arith))
         look (suc q) z d =
@@ -292,15 +298,15 @@ module _ (K : ℕ) (lf rt : ℕ → ℕ) where
             (λ e. g (omega arith) d (λ m l w. before e m l w))
           where
             away : (st q ≡ x → ⊥) → (m : ℕ) → m < h → st m ≡ x → i < nx m
-            away k m l w = ⊎-elim (λ a. a) (λ a. absurd (k (ap st (let y : q ≡ m = omega arith in y) ∙ w))) (adv m i l (s m (omega arith) w))
+            away k m l w = ⊎-elim (λ a. a) (λ a. absurd (k (ap st (let y : q ≡ m = omega arith in y) ∙ w))) (adv m i l (s m (omega arith) w) b (touch w))
 
             before : (i ≡ pr h → ⊥) → (m : ℕ) → m < h → st m ≡ x → i < nx m
-            before e m l w = ⊎-elim (λ a. a) (λ a. absurd (e (a .1))) (adv m i l (s m (omega arith) w))
+            before e m l w = ⊎-elim (λ a. a) (λ a. absurd (e (a .1))) (adv m i l (s m (omega arith) w) b (touch w))
 
     -- the record by which the new frame is entered, at its parent, leads to the new region
-    entry : (m x i w : ℕ) → m + 1 ≡ h → st m ≡ x → i ≡ pr h → Joins K lf rt i x w → st h ≡ w
+    entry : (m x i w : ℕ) → m + 1 ≡ h → st m ≡ x → i ≡ pr h → Joins lf rt i x w → st h ≡ w
     entry m x i w a b c t =
-        other-end (over m a .1) (subst (λ (y : ℕ). Joins K lf rt (pr h) y w) (sym b) (subst (λ (y : ℕ). Joins K lf rt y x w) c t))
+        other-end (over m a .1) (subst (λ (y : ℕ). Joins lf rt (pr h) y w) (sym b) (subst (λ (y : ℕ). Joins lf rt y x w) c t))
 
     push-low : (m : ℕ) → m < h + 1 → Lowest K lf rt disc′ st pr lw m
     push-low m l = by-cases (ℕ-discrete m h) top below
@@ -311,9 +317,9 @@ module _ (K : ℕ) (lf rt : ℕ → ℕ) where
         below : (m ≡ h → ⊥) → Lowest K lf rt disc′ st pr lw m
         below e = let f = W .low m (omega arith) in record { to = f .to; upto = f .upto; is = f .is ∙ sym (keep-s (f .to) (omega (arith, f .upto))); path = f .path }
 
-    push-reach : (m x j w : ℕ) → m < h + 1 → disc′ (st m) ≤ disc′ x → Scanned K lf rt st nx′ (h + 1) x j → j < K → (j ≡ pr m → ⊥) → Joins K lf rt j x w → Reach K lf rt disc′ lw m (h + 1) w
+    push-reach : (m x j w : ℕ) → m < h + 1 → disc′ (st m) ≤ disc′ x → Scanned K lf rt st nx′ (h + 1) x j → j < K → (j ≡ pr m → ⊥) → Joins lf rt j x w → Reach K lf rt disc′ lw m (h + 1) w
     push-reach m x j w l d s k o t =
-        un x j (omega (arith, some m l)) s (λ q a b c. up q a b c) (λ p e z. old-one p e z)
+        un x j w k t (omega (arith, some m l)) s (λ q a b c. up q a b c) (λ p e z. old-one p e z)
       where
         some : (m : ℕ) → m < h + 1 → 0 < disc′ (st m)
         some m l = by-cases (ℕ-discrete m h) (λ e. omega (arith, ap (λ (y : ℕ). disc′ (st y)) e, u .at)) (λ e. keep-f (st m) (W .found m (omega arith)))
@@ -334,11 +340,11 @@ module _ (K : ℕ) (lf rt : ℕ → ℕ) where
               low = omega (arith, f .low, keep-d w (W .known x j w p z k t));
             })
 
-    push-old : (x : ℕ) → 0 < disc′ x → OnStack K lf rt st (h + 1) x ⊎ ((j y m : ℕ) → j < K → Joins K lf rt j x y → m < h + 1 → st m ≡ y → disc′ y < disc′ x)
+    push-old : (x : ℕ) → 0 < disc′ x → OnStack K lf rt st (h + 1) x ⊎ ((j y m : ℕ) → j < K → Joins lf rt j x y → m < h + 1 → st m ≡ y → disc′ y < disc′ x)
     push-old x p = which x (λ e d. inl (record { place = h; below = omega arith; is = sym e })) (λ d. on-to d (W .old x (omega arith)))
       where
-        on-to : disc′ x ≡ disc x → OnStack K lf rt st h x ⊎ ((j y m : ℕ) → j < K → Joins K lf rt j x y → m < h → st m ≡ y → disc y < disc x) →
-            OnStack K lf rt st (h + 1) x ⊎ ((j y m : ℕ) → j < K → Joins K lf rt j x y → m < h + 1 → st m ≡ y → disc′ y < disc′ x)
+        on-to : disc′ x ≡ disc x → OnStack K lf rt st h x ⊎ ((j y m : ℕ) → j < K → Joins lf rt j x y → m < h → st m ≡ y → disc y < disc x) →
+            OnStack K lf rt st (h + 1) x ⊎ ((j y m : ℕ) → j < K → Joins lf rt j x y → m < h + 1 → st m ≡ y → disc′ y < disc′ x)
         on-to d (inl f) = inl (record { place = f .place; below = omega (arith, f .below); is = f .is })
         on-to d (inr g) = by-cases (on-it h) (λ f. inl (record { place = f .place; below = omega (arith, f .below); is = f .is })) (λ off. inr (λ j y m k t l e. less off j y m k t l e))
           where
@@ -352,7 +358,7 @@ module _ (K : ℕ) (lf rt : ℕ → ℕ) where
                 more e (no q) =
                     no (λ f. by-cases (ℕ-discrete (f .place) b) (λ k. e (sym (ap st k) ∙ f .is)) (λ k. q (record { place = f .place; below = omega (arith, f .below); is = f .is })))
 
-            less : (OnStack K lf rt st h x → ⊥) → (j y m : ℕ) → j < K → Joins K lf rt j x y → m < h + 1 → st m ≡ y → disc′ y < disc′ x
+            less : (OnStack K lf rt st h x → ⊥) → (j y m : ℕ) → j < K → Joins lf rt j x y → m < h + 1 → st m ≡ y → disc′ y < disc′ x
             less off j y m k t l e =
                 by-cases (ℕ-discrete m h)
                 (λ z.
@@ -369,15 +375,15 @@ module _ (K : ℕ) (lf rt : ℕ → ℕ) where
           (λ e. omega (arith, keep-s m (omega arith), W .timed (st m), ap (λ (x : ℕ). disc′ (st x)) e, u .at))
           (λ e. omega (arith, keep-s m (omega arith), keep-s q (omega arith), W .rising m q l (omega arith)));
       tree = λ m l.
-          by-cases (ℕ-discrete (m + 1) h) (λ e. subst (λ (x : ℕ). (pr x < K) × Joins K lf rt (pr x) (st m) (st x)) (sym e) (over m e)) (λ e. W .tree m (omega arith));
+          by-cases (ℕ-discrete (m + 1) h) (λ e. subst (λ (x : ℕ). (pr x < K) × Joins lf rt (pr x) (st m) (st x)) (sym e) (over m e)) (λ e. W .tree m (omega arith));
       root = λ l. by-cases (ℕ-discrete h 0) first (λ e. W .root (omega arith));
       low = push-low;
       known = λ x j w p s k t.
-          un x j p s (λ q a b c. omega (arith, u .at, ap disc′ (entry q x j w a b c t))) (λ o d z. keep-f w (W .known x j w o z k t));
+          un x j w k t p s (λ q a b c. omega (arith, u .at, ap disc′ (entry q x j w a b c t))) (λ o d z. keep-f w (W .known x j w o z k t));
       reach = push-reach;
       old = push-old;
       settled = λ x j w p s k t.
-          un x j p s (λ q a b c. inr (record { place = h; below = omega arith; is = sym c })) (λ o d z. still j (W .settled x j w o z k t));
+          un x j w k t p s (λ q a b c. inr (record { place = h; below = omega arith; is = sym c })) (λ o d z. still j (W .settled x j w o z k t));
       passed = λ k l. keep-f (lf k) (W .passed k l);
       room = omega (arith, W .room, zeros-upd disc disc′ (st h) (time + 1) R u on new (omega arith));
       count = omega (arith, W .count, zeros-upd disc disc′ (st h) (time + 1) R u on new (omega arith));
@@ -437,8 +443,8 @@ module _ (K : ℕ) (lf rt : ℕ → ℕ) where
               (λ e. omega (arith, f .low, u .at, ap lw (let z : f .place ≡ n + 1 = omega (arith, f .below) in z)));
         }
 
-    pop-old : (x : ℕ) → OnStack K lf rt st (n + 2) x ⊎ ((j y m : ℕ) → j < K → Joins K lf rt j x y → m < n + 2 → st m ≡ y → disc y < disc x) →
-        OnStack K lf rt st (n + 1) x ⊎ ((j y m : ℕ) → j < K → Joins K lf rt j x y → m < n + 1 → st m ≡ y → disc y < disc x)
+    pop-old : (x : ℕ) → OnStack K lf rt st (n + 2) x ⊎ ((j y m : ℕ) → j < K → Joins lf rt j x y → m < n + 2 → st m ≡ y → disc y < disc x) →
+        OnStack K lf rt st (n + 1) x ⊎ ((j y m : ℕ) → j < K → Joins lf rt j x y → m < n + 1 → st m ≡ y → disc y < disc x)
     pop-old x (inl f) =
         by-cases (ℕ-discrete (f .place) (n + 1))
         (λ e.

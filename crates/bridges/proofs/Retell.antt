@@ -1,14 +1,10 @@
--- A walk depends on its stack's frames alone, and a record that touches a region has it for an end.
+-- A walk depends on its stack's frames alone.
 use Prim.Native.Nat.{ℕ, _+_, _<_}
 use native.Mathlib.Omega.{arith}
 use mathlib.Core.Path.{_≡_, sym, _∙_, ap, subst, subst₂}
 use mathlib.Core.Logic.{_⊎_, inl, inr}
 use Rattle.bridges.proofs.Steps.{moved, wider}
-use Rattle.bridges.specs.Walk.{Joins, forth, back, Parted, Scanned, OnStack, Lowest, Walk}
-
-pub neither : {K : ℕ} {lf rt : ℕ → ℕ} {k a w : ℕ} → Joins K lf rt k a w → (lf k ≡ a → ⊥) → (rt k ≡ a → ⊥) → ⊥
-neither (forth p q) h g = h p
-neither (back p q) h g = g q
+use Rattle.bridges.specs.Walk.{Joins, Parted, Scanned, OnStack, Lowest, Walk}
 
 module _ {K : ℕ} {lf rt : ℕ → ℕ} {R r : ℕ} {Told : ℕ → Type 0} {disc st pr nx lw : ℕ → ℕ} {h time : ℕ} (W : Walk K lf rt R r Told disc st pr nx lw h time)
     (st′ pr′ nx′ lw′ : ℕ → ℕ) (es : (m : ℕ) → m < h → st′ m ≡ st m) (ep : (m : ℕ) → m < h → pr′ m ≡ pr m) (en : (m : ℕ) → m < h → nx′ m ≡ nx m)
@@ -29,8 +25,8 @@ module _ {K : ℕ} {lf rt : ℕ → ℕ} {R r : ℕ} {Told : ℕ → Type 0} {di
             (wider (λ x y s. record { by = s .by; below = s .below; other = λ i b e. s .other i b (e ∙ ep i (omega arith)); joins = s .joins }) (f .path));
       }
 
-  old-on : (x : ℕ) → OnStack K lf rt st h x ⊎ ((j y m : ℕ) → j < K → Joins K lf rt j x y → m < h → st m ≡ y → disc y < disc x) →
-      OnStack K lf rt st′ h x ⊎ ((j y m : ℕ) → j < K → Joins K lf rt j x y → m < h → st′ m ≡ y → disc y < disc x)
+  old-on : (x : ℕ) → OnStack K lf rt st h x ⊎ ((j y m : ℕ) → j < K → Joins lf rt j x y → m < h → st m ≡ y → disc y < disc x) →
+      OnStack K lf rt st′ h x ⊎ ((j y m : ℕ) → j < K → Joins lf rt j x y → m < h → st′ m ≡ y → disc y < disc x)
   old-on x (inl f) = inl (record { place = f .place; below = f .below; is = es (f .place) (f .below) ∙ f .is })
   old-on x (inr g) = inr (λ j y m k t l e. g j y m k t l (sym (es m l) ∙ e))
 
@@ -47,7 +43,7 @@ module _ {K : ℕ} {lf rt : ℕ → ℕ} {R r : ℕ} {Told : ℕ → Type 0} {di
     tree = λ m l.
         let t = W .tree m l in
         let e : pr (m + 1) ≡ pr′ (m + 1) = sym (ep (m + 1) l) in
-        (omega (arith, t .0), subst (λ (x : ℕ). Joins K lf rt x (st′ m) (st′ (m + 1))) e (subst₂ (λ (x y : ℕ). Joins K lf rt (pr (m + 1)) x y) (sym (es m (omega arith))) (sym (es (m + 1) l)) (t .1)));
+        (omega (arith, t .0), subst (λ (x : ℕ). Joins lf rt x (st′ m) (st′ (m + 1))) e (subst₂ (λ (x y : ℕ). Joins lf rt (pr (m + 1)) x y) (sym (es m (omega arith))) (sym (es (m + 1) l)) (t .1)));
     root = λ l. omega (arith, W .root l, ep 0 l);
     low = low-on;
     known = λ x j w p s k t. W .known x j w p (was x j s) k t;

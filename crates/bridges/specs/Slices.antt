@@ -1,4 +1,4 @@
--- What the bridge walk asks of its slices, and its state over them.
+-- What the bridge walk asks of its arrays, and its state over them. K is the number of records.
 use mathlib.Core.Path.{_≡_}
 use mathlib.Core.Logic.{_⊎_}
 use mathlib.Core.Bool.{Bool, true, false}
@@ -7,7 +7,7 @@ use Prim.Native.Nat.{ℕ, _+_, _≤_, _<_}
 use lib.Dec.{eqb, ltb}
 use lib.ListN.{length, getD, set}
 use Rattle.bridges.specs.declared.Frame.{Frame}
-use Rattle.bridges.specs.Walk.{Parted, Walk}
+use Rattle.bridges.specs.Walk.{Touches, First, Parted, Walk}
 
 -- a list as a function of the index
 abbrev pub at : List ℕ → ℕ → ℕ
@@ -21,59 +21,68 @@ pick false a b = b
 abbrev pub put : (ℕ → ℕ) → ℕ → ℕ → ℕ → ℕ
 put f i v j = pick (eqb j i) v (f j)
 
--- the records' ends are regions
-pub record Graph (lefts rights : List ℕ) (regions : ℕ) : Type 0 where
-  pub pairs : length rights ≡ length lefts
-  pub few : length lefts ≤ 1048576
-  pub left-in : (k : ℕ) → k < length lefts → at lefts k < regions
-  pub right-in : (k : ℕ) → k < length lefts → at rights k < regions
-  pub some : regions ≤ 2097152
+-- there are at most 4,096 records, and their ends are regions below 8,192
+pub record Graph (K : ℕ) (lefts rights : List ℕ) : Type 0 where
+  pub few : K ≤ 4096
+  pub left-in : (k : ℕ) → k < K → at lefts k < 8192
+  pub right-in : (k : ℕ) → k < K → at rights k < 8192
 
--- the records' owners are boundaries
-pub record Owners (owners lefts : List ℕ) (boundaries : ℕ) : Type 0 where
-  pub are : length owners ≡ length lefts
-  pub in-range : (k : ℕ) → k < length lefts → at owners k < boundaries
+-- the records' owners are boundaries below 256
+abbrev pub Owners : ℕ → List ℕ → Type 0
+Owners K owners = (k : ℕ) → k < K → at owners k < 256
 
--- the stack has a place for each region
-pub record Sized (regions : ℕ) (stack parents nexts lows : List ℕ) : Type 0 where
-  pub stack-are : length stack ≡ regions
-  pub parents-are : length parents ≡ regions
-  pub nexts-are : length nexts ≡ regions
-  pub lows-are : length lows ≡ regions
+-- there is a place for each region, and a mark for each boundary
+pub record Sized (disc stack parents nexts lows marks : List ℕ) : Type 0 where
+  pub disc-are : length disc ≡ 8192
+  pub stack-are : length stack ≡ 8192
+  pub parents-are : length parents ≡ 8192
+  pub nexts-are : length nexts ≡ 8192
+  pub lows-are : length lows ≡ 8192
+  pub marks-are : length marks ≡ 256
+
+-- the records that touch a region are chained in their order: the first of them, and after a record the next one at its left and at its right region;
+-- so it is from record k on
+pub record Linked (K : ℕ) (lefts rights heads leftNexts rightNexts : List ℕ) (k : ℕ) : Type 0 where
+  pub heads-are : length heads ≡ 8192
+  pub lefts-are : length leftNexts ≡ 4096
+  pub rights-are : length rightNexts ≡ 4096
+  pub head : (x : ℕ) → x < 8192 → First K (at lefts) (at rights) k x (at heads x)
+  pub left-next : (i : ℕ) → k ≤ i → i < K → First K (at lefts) (at rights) (i + 1) (at lefts i) (at leftNexts i)
+  pub right-next : (i : ℕ) → k ≤ i → i < K → First K (at lefts) (at rights) (i + 1) (at rights i) (at rightNexts i)
 
 -- some record of boundary b, taken away alone, parts its two regions
-pub record PartedBy (owners lefts rights : List ℕ) (b : ℕ) : Type 0 where
+pub record PartedBy (K : ℕ) (owners lefts rights : List ℕ) (b : ℕ) : Type 0 where
   pub place : ℕ
-  pub inside : place < length lefts
+  pub inside : place < K
   pub owned : at owners place ≡ b
-  pub parted : Parted (length lefts) (at lefts) (at rights) place
+  pub parted : Parted K (at lefts) (at rights) place
 
 -- each mark is 0, or is 1 and right
-abbrev pub Sound : List ℕ → List ℕ → List ℕ → List ℕ → Type 0
-Sound owners lefts rights marks =
-    (b : ℕ) → b < length marks → (at marks b ≡ 0) ⊎ ((at marks b ≡ 1) × PartedBy owners lefts rights b)
+abbrev pub Sound : ℕ → List ℕ → List ℕ → List ℕ → List ℕ → Type 0
+Sound K owners lefts rights marks =
+    (b : ℕ) → b < length marks → (at marks b ≡ 0) ⊎ ((at marks b ≡ 1) × PartedBy K owners lefts rights b)
 
 -- the record's owner has a mark
 abbrev pub Told : List ℕ → List ℕ → ℕ → Type 0
 Told owners marks k = at marks (at owners k) ≡ 1
 
 -- the walk, with the stack in the four lists
-abbrev pub Stacked : List ℕ → List ℕ → List ℕ → ℕ → List ℕ → List ℕ → List ℕ → List ℕ → List ℕ → List ℕ → ℕ → ℕ → Type 0
-Stacked owners lefts rights r disc stack parents nexts lows marks h time =
-    Walk (length lefts) (at lefts) (at rights) (length disc) r (Told owners marks) (at disc) (at stack) (at parents) (at nexts) (at lows) h time
+abbrev pub Stacked : ℕ → List ℕ → List ℕ → List ℕ → ℕ → List ℕ → List ℕ → List ℕ → List ℕ → List ℕ → List ℕ → ℕ → ℕ → Type 0
+Stacked K owners lefts rights r disc stack parents nexts lows marks h time =
+    Walk K (at lefts) (at rights) (length disc) r (Told owners marks) (at disc) (at stack) (at parents) (at nexts) (at lows) h time
 
 -- the same, with the last frame in hand
-abbrev pub Held : List ℕ → List ℕ → List ℕ → ℕ → List ℕ → List ℕ → List ℕ → List ℕ → List ℕ → List ℕ → ℕ → ℕ → Frame → Type 0
-Held owners lefts rights r disc stack parents nexts lows marks top time f =
-    Walk (length lefts) (at lefts) (at rights) (length disc) r (Told owners marks) (at disc) (at stack) (at parents) (put (at nexts) top (f .next)) (put (at lows) top (f .low)) (top + 1) time
+abbrev pub Held : ℕ → List ℕ → List ℕ → List ℕ → ℕ → List ℕ → List ℕ → List ℕ → List ℕ → List ℕ → List ℕ → ℕ → ℕ → Frame → Type 0
+Held K owners lefts rights r disc stack parents nexts lows marks top time f =
+    Walk K (at lefts) (at rights) (length disc) r (Told owners marks) (at disc) (at stack) (at parents) (put (at nexts) top (f .next)) (put (at lows) top (f .low)) (top + 1) time
 
 -- the walk between two roots: the ends of the records before r are found
-pub record Between (owners lefts rights disc stack parents nexts lows marks : List ℕ) (r time : ℕ) : Type 0 where
-  pub graph : Graph lefts rights (length disc)
-  pub sized : Sized (length disc) stack parents nexts lows
-  pub marked : Owners owners lefts (length marks)
-  pub walk : Stacked owners lefts rights r disc stack parents nexts lows marks 0 time
-  pub sound : Sound owners lefts rights marks
+pub record Between (K : ℕ) (owners lefts rights disc stack parents nexts lows marks : List ℕ) (r time : ℕ) : Type 0 where
+  pub graph : Graph K lefts rights
+  pub sized : Sized disc stack parents nexts lows marks
+  pub marked : Owners K owners
+  pub walk : Stacked K owners lefts rights r disc stack parents nexts lows marks 0 time
+  pub sound : Sound K owners lefts rights marks
 
 abbrev pub choose : Bool → List ℕ → List ℕ → List ℕ
 choose true a b = a

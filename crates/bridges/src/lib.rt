@@ -1,37 +1,42 @@
 // The boundaries that are bridges of the graph of records, by a walk in depth (Tarjan).
 ghost use mathlib.Core.Path.{_≡_};
-ghost use mathlib.Core.Logic.{_⊎_};
 ghost use mathlib.Core.List.{List};
 ghost use Prim.Native.Nat.{ℕ, _+_, _≤_, _<_, min};
 ghost use lib.ListN.{length, getD, set};
-ghost use Rattle.bridges.specs.Walk.{Joins, Walk};
+ghost use Rattle.bridges.specs.Walk.{Joins, Touches, Walk};
 ghost use Rattle.bridges.specs.Marks.{recordsOf, bridgeMarks};
-ghost use Rattle.bridges.specs.Slices.{at, Graph, Sized, Owners, Between, marking};
+ghost use Rattle.bridges.specs.Slices.{at, Graph, Sized, Owners, Linked, Between, marking};
+
+// A number of a table, as an index.
+fn size(x: u32) -> usize
+    ensures { λ r. ⌜ (r ≡ x) × (r < 0x1_0000_0000) ⌝ }
+{
+    x as usize
+}
 
 // A region on the walk's stack: the record by which it was entered, the next record to look at, and the earliest region known behind it.
 pub struct Frame {
-    pub region: usize,
-    pub parent: usize,
-    pub next: usize,
-    pub low: usize,
+    pub region: u32,
+    pub parent: u32,
+    pub next: u32,
+    pub low: u32,
 }
 
 impl Frame {
-    // The frame past its next record.
-    fn moved(self) -> Frame
-        requires { ⌜ self .next < 1048576 ⌝ }
-        ensures { λ r. ⌜ (r .region ≡ self .region) × (r .parent ≡ self .parent) × (r .next ≡ self .next + 1) × (r .low ≡ self .low) ⌝ }
+    // The frame, to look at record j next.
+    fn moved(self, j: u32) -> Frame
+        ensures { λ r. ⌜ (r .region ≡ self .region) × (r .parent ≡ self .parent) × (r .next ≡ j) × (r .low ≡ self .low) ⌝ }
     {
         Frame {
             region: self.region,
             parent: self.parent,
-            next: self.next + 1,
+            next: j,
             low: self.low,
         }
     }
 
     // The frame, with a region found at d behind it.
-    fn lowered(self, d: usize) -> Frame
+    fn lowered(self, d: u32) -> Frame
         ensures { λ r. ⌜ (r .region ≡ self .region) × (r .parent ≡ self .parent) × (r .next ≡ self .next) × (r .low ≡ min (self .low) d) ⌝ }
     {
         let low = self.low;
@@ -47,35 +52,68 @@ impl Frame {
     }
 }
 
-// Where the frame's next record leads, and none where the record does not touch the frame's region or is its entry.
-fn look(lefts: &[u32], rights: &[u32], f: Frame, none: usize) -> usize
-    requires { ⌜ Graph (now lefts) (now rights) none × (f .next < length (now lefts)) ⌝ }
-    ensures leads { λ r. ⌜ (r < none → Joins (length (now (lefts .entry))) (at (now (lefts .entry))) (at (now (rights .entry))) (f .next) (f .region) r × (f .next ≡ f .parent → ⊥)) ⌝ }
-    ensures stays { λ r. ⌜ (none ≤ r → (f .next ≡ f .parent) ⊎ ((w : ℕ) → Joins (length (now (lefts .entry))) (at (now (lefts .entry))) (at (now (rights .entry))) (f .next) (f .region) w → ⊥)) ⌝ }
+// The region that the frame's next record joins with its own.
+fn other_end(lefts: &[u32; 4096], rights: &[u32; 4096], f: Frame) -> u32
+    requires { ⌜ (f .next < 4096) × Touches (at (now lefts)) (at (now rights)) (f .next) (f .region) ⌝ }
+    ensures { λ r. ⌜ Joins (at (now (lefts .entry))) (at (now (rights .entry))) (f .next) (f .region) r ⌝ }
 {
-    let j = f.next;
-    if j == f.parent {
-        return none;
+    let j = size(f.next);
+    if lefts[j] == f.region {
+        return rights[j];
     }
-    if lefts[j] as usize == f.region {
-        return rights[j] as usize;
+    lefts[j]
+}
+
+// What follows the frame's next record in the chain of its region.
+fn after(lefts: &[u32; 4096], left_nexts: &[u32; 4096], right_nexts: &[u32; 4096], f: Frame) -> u32
+    requires { ⌜ f .next < 4096 ⌝ }
+    ensures left { λ r. ⌜ (at (now (lefts .entry)) (f .next) ≡ f .region → r ≡ at (now («left_nexts» .entry)) (f .next)) ⌝ }
+    ensures right { λ r. ⌜ ((at (now (lefts .entry)) (f .next) ≡ f .region → ⊥) → r ≡ at (now («right_nexts» .entry)) (f .next)) ⌝ }
+{
+    let j = size(f.next);
+    if lefts[j] == f.region {
+        return left_nexts[j];
     }
-    if rights[j] as usize == f.region {
-        return lefts[j] as usize;
+    right_nexts[j]
+}
+
+// When the region was found, 0 if it was not.
+fn time_of(disc: &[u32; 8192], region: u32) -> u32
+    requires { ⌜ region < 8192 ⌝ }
+    ensures { λ r. ⌜ r ≡ at (now (disc .entry)) region ⌝ }
+{
+    disc[size(region)]
+}
+
+// A frame at a region that is found now, with all its records to look at.
+fn opened(heads: &[u32; 8192], region: u32, parent: u32, time: u32) -> Frame
+    requires { ⌜ region < 8192 ⌝ }
+    ensures { λ r. ⌜ (r .region ≡ region) × (r .parent ≡ parent) × (r .next ≡ at (now (heads .entry)) region) × (r .low ≡ time) ⌝ }
+{
+    Frame {
+        region: region,
+        parent: parent,
+        next: heads[size(region)],
+        low: time,
     }
-    none
 }
 
 // The lesser of two numbers.
-fn least(a: usize, b: usize) -> usize
+fn least(a: u32, b: u32) -> u32
     ensures { λ r. ⌜ r ≡ min a b ⌝ }
 {
     if a < b { a } else { b }
 }
 
 // The frame at a place of the stack.
-fn load(stack: &[usize], parents: &[usize], nexts: &[usize], lows: &[usize], top: usize) -> Frame
-    requires { ⌜ Sized (length (now stack)) (now stack) (now parents) (now nexts) (now lows) × (top < length (now stack)) ⌝ }
+fn load(
+    stack: &[u32; 8192],
+    parents: &[u32; 8192],
+    nexts: &[u32; 8192],
+    lows: &[u32; 8192],
+    top: usize,
+) -> Frame
+    requires { ⌜ top < 8192 ⌝ }
     ensures { λ r. ⌜ (r .region ≡ at (now (stack .entry)) top) × (r .parent ≡ at (now (parents .entry)) top) × (r .next ≡ at (now (nexts .entry)) top) × (r .low ≡ at (now (lows .entry)) top) ⌝ }
 {
     Frame {
@@ -88,28 +126,28 @@ fn load(stack: &[usize], parents: &[usize], nexts: &[usize], lows: &[usize], top
 
 // Puts a frame at place h of the stack, whose region is found at the time low.
 fn enter(
-    disc: &mut [usize],
-    stack: &mut [usize],
-    parents: &mut [usize],
-    nexts: &mut [usize],
-    lows: &mut [usize],
+    disc: &mut [u32; 8192],
+    stack: &mut [u32; 8192],
+    parents: &mut [u32; 8192],
+    nexts: &mut [u32; 8192],
+    lows: &mut [u32; 8192],
     h: usize,
     f: Frame,
 )
-    requires { ⌜ Sized (length (now disc)) (now stack) (now parents) (now nexts) (now lows) × (h < length (now disc)) × (f .region < length (now disc)) ⌝ }
+    requires { ⌜ (h < 8192) × (f .region < 8192) ⌝ }
     ensures { λ r. ⌜ (now (disc .exit) ≡ set (now (disc .entry)) (f .region) (f .low)) × (now (stack .exit) ≡ set (now (stack .entry)) h (f .region)) × (now (parents .exit) ≡ set (now (parents .entry)) h (f .parent)) × (now (nexts .exit) ≡ set (now (nexts .entry)) h (f .next)) × (now (lows .exit) ≡ set (now (lows .entry)) h (f .low)) ⌝ }
 {
-    let region = f.region;
+    let region = size(f.region);
     disc[region] = f.low;
-    stack[h] = region;
+    stack[h] = f.region;
     parents[h] = f.parent;
     nexts[h] = f.next;
     lows[h] = f.low;
 }
 
 // Keeps what the frame at a place of the stack has come to.
-fn save(nexts: &mut [usize], lows: &mut [usize], top: usize, f: Frame)
-    requires { ⌜ (top < length (now nexts)) × (top < length (now lows)) ⌝ }
+fn save(nexts: &mut [u32; 8192], lows: &mut [u32; 8192], top: usize, f: Frame)
+    requires { ⌜ top < 8192 ⌝ }
     ensures { λ r. ⌜ (now (nexts .exit) ≡ set (now (nexts .entry)) top (f .next)) × (now (lows .exit) ≡ set (now (lows .entry)) top (f .low)) ⌝ }
 {
     nexts[top] = f.next;
@@ -118,48 +156,49 @@ fn save(nexts: &mut [usize], lows: &mut [usize], top: usize, f: Frame)
 
 // Leaves frame f for the one below it, at place up.
 fn leave(
-    disc: &[usize],
-    stack: &[usize],
-    lows: &mut [usize],
-    owners: &[u32],
-    marks: &mut [u8],
+    disc: &[u32; 8192],
+    stack: &[u32; 8192],
+    lows: &mut [u32; 8192],
+    owners: &[u32; 4096],
+    marks: &mut [u8; 256],
     up: usize,
     f: Frame,
 )
-    requires { ⌜ (up < length (now stack)) × (up < length (now lows)) × (at (now stack) up < length (now disc)) × (f .parent < length (now owners)) × (at (now owners) (f .parent) < length (now marks)) × (length (now owners) ≤ 1048576) ⌝ }
+    requires { ⌜ (up < 8192) × (at (now stack) up < 8192) × (f .parent < 4096) × (at (now owners) (f .parent) < 256) ⌝ }
     ensures low { λ r. ⌜ now (lows .exit) ≡ set (now (lows .entry)) up (min (at (now (lows .entry)) up) (f .low)) ⌝ }
     ensures mark { λ r. ⌜ now (marks .exit) ≡ marking (at (now (disc .entry)) (at (now (stack .entry)) up)) (f .low) (now (marks .entry)) (at (now (owners .entry)) (f .parent)) ⌝ }
 {
     let low = f.low;
     lows[up] = least(lows[up], low);
-    let p = stack[up];
-    if disc[p] < low {
-        let parent = f.parent;
-        let owner = owners[parent] as usize;
+    if time_of(disc, stack[up]) < low {
+        let parent = size(f.parent);
+        let owner = size(owners[parent]);
         marks[owner] = 1;
     }
 }
 
 // Walks all that is connected with root, an end of record r that was not found before, and marks the bridges there. Gives the time of the last region found.
 fn walk(
-    owners: &[u32],
-    lefts: &[u32],
-    rights: &[u32],
-    disc: &mut [usize],
-    stack: &mut [usize],
-    parents: &mut [usize],
-    nexts: &mut [usize],
-    lows: &mut [usize],
-    marks: &mut [u8],
+    owners: &[u32; 4096],
+    lefts: &[u32; 4096],
+    rights: &[u32; 4096],
+    count: u32,
+    heads: &[u32; 8192],
+    left_nexts: &[u32; 4096],
+    right_nexts: &[u32; 4096],
+    disc: &mut [u32; 8192],
+    stack: &mut [u32; 8192],
+    parents: &mut [u32; 8192],
+    nexts: &mut [u32; 8192],
+    lows: &mut [u32; 8192],
+    marks: &mut [u8; 256],
     r: usize,
-    root: usize,
-    start: usize,
-) -> usize
-    requires { ⌜ Between (now owners) (now lefts) (now rights) (now disc) (now stack) (now parents) (now nexts) (now lows) (now marks) r start × (root < length (now disc)) × (at (now disc) root ≡ 0) × (root ≡ at (now lefts) r) ⌝ }
-    ensures { λ t. ⌜ Between (now (owners .entry)) (now (lefts .entry)) (now (rights .entry)) (now (disc .exit)) (now (stack .exit)) (now (parents .exit)) (now (nexts .exit)) (now (lows .exit)) (now (marks .exit)) (r + 1) t ⌝ }
+    root: u32,
+    start: u32,
+) -> u32
+    requires { ⌜ Between count (now owners) (now lefts) (now rights) (now disc) (now stack) (now parents) (now nexts) (now lows) (now marks) r start × Linked count (now lefts) (now rights) (now heads) (now «left_nexts») (now «right_nexts») 0 × (root < 8192) × (at (now disc) root ≡ 0) × (root ≡ at (now lefts) r) ⌝ }
+    ensures { λ t. ⌜ Between count (now (owners .entry)) (now (lefts .entry)) (now (rights .entry)) (now (disc .exit)) (now (stack .exit)) (now (parents .exit)) (now (nexts .exit)) (now (lows .exit)) (now (marks .exit)) (r + 1) t ⌝ }
 {
-    let k = lefts.len();
-    let none = disc.len();
     let mut time = start + 1;
     enter(
         disc,
@@ -168,34 +207,34 @@ fn walk(
         nexts,
         lows,
         0,
-        Frame {
-            region: root,
-            parent: k,
-            next: 0,
-            low: time,
-        },
+        opened(heads, root, count, time),
     );
     let mut h: usize = 1;
     'walk: while 0 < h {
         let top = h - 1;
         let mut f = load(stack, parents, nexts, lows, top);
-        let mut w = none;
+        let mut w = root;
         let j = loop {
-            if k <= f.next {
-                break k;
+            if count <= f.next {
+                break count;
             }
-            w = look(lefts, rights, f, none);
-            if w < none {
-                let d = disc[w];
+            if f.next != f.parent {
+                w = other_end(lefts, rights, f);
+                let d = time_of(disc, w);
                 if d == 0 {
                     break f.next;
                 }
                 f = f.lowered(d);
             }
-            f = f.moved();
+            f = f.moved(after(lefts, left_nexts, right_nexts, f));
         };
-        if j < k {
-            save(nexts, lows, top, f.moved());
+        if j < count {
+            save(
+                nexts,
+                lows,
+                top,
+                f.moved(after(lefts, left_nexts, right_nexts, f)),
+            );
             time += 1;
             enter(
                 disc,
@@ -204,12 +243,7 @@ fn walk(
                 nexts,
                 lows,
                 h,
-                Frame {
-                    region: w,
-                    parent: j,
-                    next: 0,
-                    low: time,
-                },
+                opened(heads, w, j, time),
             );
             h += 1;
             continue 'walk;
@@ -224,53 +258,39 @@ fn walk(
     time
 }
 
-// Sets every element to 0.
-fn clear(s: &mut [usize])
-    ensures { λ r. ⌜ ((i : ℕ) → i < length (now (s .exit)) → at (now (s .exit)) i ≡ 0) ⌝ }
-{
-    let mut k = 0;
-    while k < s.len() {
-        s[k] = 0;
-        k += 1;
-    }
-}
-
-// Takes every mark away.
-fn unmark(s: &mut [u8])
-    ensures { λ r. ⌜ ((i : ℕ) → i < length (now (s .exit)) → at (now (s .exit)) i ≡ 0) ⌝ }
-{
-    let mut k = 0;
-    while k < s.len() {
-        s[k] = 0;
-        k += 1;
-    }
-}
-
 // Walks from record r, where its end is not found yet.
 fn visit(
-    owners: &[u32],
-    lefts: &[u32],
-    rights: &[u32],
-    disc: &mut [usize],
-    stack: &mut [usize],
-    parents: &mut [usize],
-    nexts: &mut [usize],
-    lows: &mut [usize],
-    marks: &mut [u8],
+    owners: &[u32; 4096],
+    lefts: &[u32; 4096],
+    rights: &[u32; 4096],
+    count: u32,
+    heads: &[u32; 8192],
+    left_nexts: &[u32; 4096],
+    right_nexts: &[u32; 4096],
+    disc: &mut [u32; 8192],
+    stack: &mut [u32; 8192],
+    parents: &mut [u32; 8192],
+    nexts: &mut [u32; 8192],
+    lows: &mut [u32; 8192],
+    marks: &mut [u8; 256],
     r: usize,
-    time: usize,
-) -> usize
-    requires { ⌜ Between (now owners) (now lefts) (now rights) (now disc) (now stack) (now parents) (now nexts) (now lows) (now marks) r time × (r < length (now lefts)) ⌝ }
-    ensures { λ t. ⌜ Between (now (owners .entry)) (now (lefts .entry)) (now (rights .entry)) (now (disc .exit)) (now (stack .exit)) (now (parents .exit)) (now (nexts .exit)) (now (lows .exit)) (now (marks .exit)) (r + 1) t ⌝ }
+    time: u32,
+) -> u32
+    requires { ⌜ Between count (now owners) (now lefts) (now rights) (now disc) (now stack) (now parents) (now nexts) (now lows) (now marks) r time × Linked count (now lefts) (now rights) (now heads) (now «left_nexts») (now «right_nexts») 0 × (r < count) ⌝ }
+    ensures { λ t. ⌜ Between count (now (owners .entry)) (now (lefts .entry)) (now (rights .entry)) (now (disc .exit)) (now (stack .exit)) (now (parents .exit)) (now (nexts .exit)) (now (lows .exit)) (now (marks .exit)) (r + 1) t ⌝ }
 {
-    let root = lefts[r] as usize;
-    if disc[root] != 0 {
+    let root = lefts[r];
+    if time_of(disc, root) != 0 {
         return time;
     }
     walk(
         owners,
         lefts,
         rights,
+        count,
+        heads,
+        left_nexts,
+        right_nexts,
         disc,
         stack,
         parents,
@@ -283,39 +303,123 @@ fn visit(
     )
 }
 
-// Marks each boundary that is a bridge with 1, and every other with 0.
-pub fn mark_bridges(
-    owners: &[u32],
-    lefts: &[u32],
-    rights: &[u32],
-    disc: &mut [usize],
-    stack: &mut [usize],
-    parents: &mut [usize],
-    nexts: &mut [usize],
-    lows: &mut [usize],
-    marks: &mut [u8],
+// Walks from every record, and marks the bridges.
+fn walk_all(
+    owners: &[u32; 4096],
+    lefts: &[u32; 4096],
+    rights: &[u32; 4096],
+    count: u32,
+    heads: &[u32; 8192],
+    left_nexts: &[u32; 4096],
+    right_nexts: &[u32; 4096],
+    marks: &mut [u8; 256],
 )
-    requires { ⌜ Graph (now lefts) (now rights) (length (now disc)) × Sized (length (now disc)) (now stack) (now parents) (now nexts) (now lows) × Owners (now owners) (now lefts) (length (now marks)) ⌝ }
-    ensures { λ r. ⌜ now (marks .exit) ≡ bridgeMarks (recordsOf (now (owners .entry)) (now (lefts .entry)) (now (rights .entry))) (length (now (marks .entry))) ⌝ }
+    requires { ⌜ Graph count (now lefts) (now rights) × Owners count (now owners) × Linked count (now lefts) (now rights) (now heads) (now «left_nexts») (now «right_nexts») 0 ⌝ }
+    ensures { λ _. ⌜ now (marks .exit) ≡ bridgeMarks (recordsOf count (now (owners .entry)) (now (lefts .entry)) (now (rights .entry))) 256 ⌝ }
 {
-    clear(disc);
-    unmark(marks);
+    *marks = [0u8; 256];
+    let mut disc = [0u32; 8192];
+    let mut stack = [0u32; 8192];
+    let mut parents = [0u32; 8192];
+    let mut nexts = [0u32; 8192];
+    let mut lows = [0u32; 8192];
+    let end = size(count);
     let mut time = 0;
     let mut r = 0;
-    while r < lefts.len() {
+    while r < end {
         time = visit(
             owners,
             lefts,
             rights,
-            disc,
-            stack,
-            parents,
-            nexts,
-            lows,
+            count,
+            heads,
+            left_nexts,
+            right_nexts,
+            &mut disc,
+            &mut stack,
+            &mut parents,
+            &mut nexts,
+            &mut lows,
             marks,
             r,
             time,
         );
         r += 1;
     }
+}
+
+// Puts record k before the chains of its two regions.
+fn link_record(
+    lefts: &[u32; 4096],
+    rights: &[u32; 4096],
+    k: u32,
+    heads: &mut [u32; 8192],
+    left_nexts: &mut [u32; 4096],
+    right_nexts: &mut [u32; 4096],
+)
+    requires { ⌜ (k < 4096) × (at (now lefts) k < 8192) × (at (now rights) k < 8192) ⌝ }
+    ensures lefts { λ _. ⌜ now («left_nexts» .exit) ≡ set (now («left_nexts» .entry)) k (at (now (heads .entry)) (at (now (lefts .entry)) k)) ⌝ }
+    ensures rights { λ _. ⌜ now («right_nexts» .exit) ≡ set (now («right_nexts» .entry)) k (at (now (heads .entry)) (at (now (rights .entry)) k)) ⌝ }
+    ensures heads { λ _. ⌜ now (heads .exit) ≡ set (set (now (heads .entry)) (at (now (lefts .entry)) k) k) (at (now (rights .entry)) k) k ⌝ }
+{
+    let at = size(k);
+    let left = size(lefts[at]);
+    let right = size(rights[at]);
+    left_nexts[at] = heads[left];
+    right_nexts[at] = heads[right];
+    heads[left] = k;
+    heads[right] = k;
+}
+
+// Chains the records that touch each region, in their order, where no chain has a record yet.
+fn link(
+    lefts: &[u32; 4096],
+    rights: &[u32; 4096],
+    count: u32,
+    heads: &mut [u32; 8192],
+    left_nexts: &mut [u32; 4096],
+    right_nexts: &mut [u32; 4096],
+)
+    requires { ⌜ Graph count (now lefts) (now rights) × Linked count (now lefts) (now rights) (now heads) (now «left_nexts») (now «right_nexts») count ⌝ }
+    ensures { λ _. ⌜ Linked count (now (lefts .entry)) (now (rights .entry)) (now (heads .exit)) (now («left_nexts» .exit)) (now («right_nexts» .exit)) 0 ⌝ }
+{
+    let mut k = count;
+    while 0 < k {
+        k -= 1;
+        link_record(lefts, rights, k, heads, left_nexts, right_nexts);
+    }
+}
+
+// Marks each boundary that is a bridge with 1, and every other with 0.
+pub fn mark_bridges(
+    owners: &[u32; 4096],
+    lefts: &[u32; 4096],
+    rights: &[u32; 4096],
+    count: u32,
+    marks: &mut [u8; 256],
+)
+    requires { ⌜ Graph count (now lefts) (now rights) × Owners count (now owners) ⌝ }
+    ensures { λ _. ⌜ now (marks .exit) ≡ bridgeMarks (recordsOf count (now (owners .entry)) (now (lefts .entry)) (now (rights .entry))) 256 ⌝ }
+{
+    let mut heads = [4096u32; 8192];
+    let mut left_nexts = [0u32; 4096];
+    let mut right_nexts = [0u32; 4096];
+    link(
+        lefts,
+        rights,
+        count,
+        &mut heads,
+        &mut left_nexts,
+        &mut right_nexts,
+    );
+    walk_all(
+        owners,
+        lefts,
+        rights,
+        count,
+        &heads,
+        &left_nexts,
+        &right_nexts,
+        marks,
+    );
 }

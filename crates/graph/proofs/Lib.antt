@@ -7,3 +7,4 @@ pub mod Unique
 pub mod Records
 pub mod Bridges
 pub mod Cases
+pub mod Renaming

@@ -1,20 +1,20 @@
 -- Directions and their reverses; the sets in use are closed under reversal, and list each direction once.
-use mathlib.Core.Path.{_≡_, refl, ap₂, subst}
+use mathlib.Core.Path.{_≡_, refl, sym, _∙_, ap₂, subst}
 use mathlib.Core.Logic.{by-cases}
 use mathlib.Core.Bool.{Bool, true, not, _&&_}
 use mathlib.Core.List.{List, [], List·Memᴰ, List·Memᴰ·not-nil}
-use Prim.Native.Nat.{ℕ, _+_, _<_}
+use Prim.Native.Nat.{ℕ, _+_, _/_, _%_, _^_, _<_}
 use native.Mathlib.Omega.{arith}
 use native.Mathlib.Decide.{ℕ-discrete}
 use borrow.Author.Tests.{ltb-true, eqb-false, eq-eqb, ne-eqb, not-true}
 use lib.Dec.{ltb, eqb}
 use Rattle.order.specs.Lists.{keep, has, upFrom}
 use Rattle.order.specs.Pairs.{Distinct}
-use Rattle.order.proofs.Bools.{by-test, and-parts}
+use Rattle.order.proofs.Bools.{clash, is-false, by-test, and-parts}
 use Rattle.order.proofs.Pairs.{pairs-imp, pairs-append}
-use Rattle.order.proofs.Keep.{mem-keep, keep-pairs}
-use Rattle.order.proofs.Numbers.{up-mem, up-strict, has-mem}
-use Rattle.grid.specs.Directions.{IsDirection, right, down, reverse, diagonal, eight, four, ClosedUnderReversal}
+use Rattle.order.proofs.Keep.{keep-mem, mem-keep, keep-pairs}
+use Rattle.order.proofs.Numbers.{up-mem, mem-up, up-strict, has-mem, mem-has}
+use Rattle.grid.specs.Directions.{IsDirection, right, down, reverse, diagonal, eight, four, directionsOf, ClosedUnderReversal}
 
 -- the reverse leads back
 pub reverse-right : (d : ℕ) → d < 9 → right d + right (reverse d) ≡ 2
@@ -65,3 +65,16 @@ eight-distinct = pairs-imp (λ i j l e. omega arith) (pairs-append (up-strict 0 
 pub four-distinct : Distinct four
 unfolding keep diagonal
 four-distinct = keep-pairs (λ d. not (diagonal d)) eight-distinct
+
+-- a set of directions as a number: its members are its bits
+has-keep : (t : ℕ → Bool) (d : ℕ) (l : List ℕ) → List·Memᴰ d l → has d (keep t l) ≡ t d
+has-keep t d l m =
+    by-test (t d) (λ h. mem-has d (keep t l) (mem-keep t m h) ∙ sym h) (λ h. is-false (has d (keep t l)) (λ k. clash (keep-mem t l (has-mem d (keep t l) k) .1) h) ∙ sym h)
+
+pub has-bit : (set d : ℕ) → d < 9 → eqb (set / 2 ^ d % 2) 1 ≡ has d (directionsOf set)
+unfolding directionsOf
+has-bit set d l = sym (has-keep (λ d. eqb (set / 2 ^ d % 2) 1) d (upFrom 0 9) (mem-up 0 9 d (omega arith) (omega arith)))
+
+pub directions-eight : directionsOf 495 ≡ eight
+unfolding directionsOf keep upFrom
+directions-eight = refl

@@ -2,14 +2,16 @@
 use mathlib.Core.Path.{_≡_, refl}
 use mathlib.Core.Bool.{Bool, true, false, not, _&&_, _||_}
 use mathlib.Core.List.{List}
-use Prim.Native.Nat.{ℕ, _+_, _<_}
+use Prim.Native.Nat.{ℕ, _+_, _*_, _<_}
 use native.Mathlib.Omega.{arith}
 use native.Mathlib.Nat.{mul-le-mul-right}
+use lib.ListN.{length}
+use Rattle.position.specs.declared.WalkPosition.{WalkPosition}
 use Rattle.order.proofs.Bools.{and-parts}
 use Rattle.grid.specs.Cells.{Grid, Whole, size, walkable, indexOf, columnOf, rowOf}
 use Rattle.grid.specs.Directions.{diagonal}
-use Rattle.grid.specs.Steps.{leadsOn, columnTo, rowTo, neighbour, beside, across, hasStep}
-use Rattle.grid.proofs.Index.{column-in, row-in}
+use Rattle.grid.specs.Steps.{leadsOn, columnTo, rowTo, neighbour, beside, across, hasStep, Placed}
+use Rattle.grid.proofs.Index.{column-of, row-of, column-in, row-in}
 use Rattle.grid.proofs.Steps.{Leads, leads-means}
 
 -- the map that a function is given
@@ -61,3 +63,14 @@ module _ (g : Grid) (i d : ℕ) where
       pub slanting : diagonal d ≡ true → {r : Bool} → r ≡ (walkable g (beside g i d) && walkable g (across g i d)) → r ≡ hasStep g i d
       unfolding hasStep
       slanting h k = let p = and-parts (walkable g i) (walkable g (neighbour g i d)) ends in rw (leads, p .0, p .1, h) k
+
+-- the cell at a place of the map
+module _ {w h : ℕ} {cs : List ℕ} {p : WalkPosition} (at : Placed w h cs p) where
+  pub place-column : columnOf (gridOf w h cs) (p .y * w + p .x) ≡ p .x
+  place-column = column-of (gridOf w h cs) (p .x) (p .y) (at .column)
+
+  pub place-row : rowOf (gridOf w h cs) (p .y * w + p .x) ≡ p .y
+  place-row = row-of (gridOf w h cs) (p .x) (p .y) (at .column)
+
+  pub place-on : p .y * w + p .x < length cs
+  place-on = index-in (gridOf w h cs) (at .whole) (p .x) (p .y) (at .column) (at .row)

@@ -3,8 +3,10 @@
 use mathlib.Core.Path.{_≡_}
 use mathlib.Core.Bool.{Bool, true, not, _&&_, _||_}
 use mathlib.Core.List.{List, map, List·Memᴰ}
-use Prim.Native.Nat.{ℕ, _+_, _-_}
+use Prim.Native.Nat.{ℕ, _+_, _*_, _-_, _<_, _≤_}
 use lib.Dec.{leb, ltb}
+use lib.ListN.{length}
+use Rattle.position.specs.declared.WalkPosition.{WalkPosition}
 use Rattle.order.specs.Lists.{keep, gather, upFrom}
 use Rattle.graph.specs.Path.{Edge}
 use Rattle.grid.specs.Cells.{Grid, size, walkable, indexOf, columnOf, rowOf}
@@ -36,6 +38,14 @@ module _ (g : Grid) (i d : ℕ) where
   unfoldable pub hasStep : Bool
   unfolding leadsOn walkable diagonal
   hasStep = leadsOn && (walkable g i && (walkable g neighbour && (not (diagonal d) || (walkable g beside && walkable g across))))
+
+-- a place of a map whose sides are at most 1,024 cells
+pub record Placed (width height : ℕ) (cs : List ℕ) (position : WalkPosition) : Type 0 where
+  pub wide : width ≤ 1024
+  pub high : height ≤ 1024
+  pub whole : length cs ≡ width * height
+  pub column : position .x < width
+  pub row : position .y < height
 
 -- the meaning: the direction leads from i to j, both are walkable, and so are the side cells of a diagonal
 pub record StepBy (g : Grid) (d i j : ℕ) : Type 0 where

@@ -9,3 +9,4 @@ pub mod Serial
 pub mod Flat
 pub mod Representative
 pub mod Plan
+pub mod Tables

@@ -1,3 +1,12 @@
 pub mod Constants
 pub mod Distances
+pub mod Cells
 mod Cases
+pub mod Numbers
+mod Squares
+mod Alike
+mod SumSteps
+mod Measures
+mod Flags
+mod Widths
+mod Spans

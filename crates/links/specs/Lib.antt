@@ -5,3 +5,6 @@ pub mod Measure
 pub mod Flat
 pub mod Parallel
 pub mod Sums
+pub mod Held
+pub mod HeldLimits
+pub mod HeldLink

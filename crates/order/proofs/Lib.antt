@@ -13,3 +13,4 @@ pub mod Forgets
 pub mod Once
 pub mod Keys
 pub mod Cases
+pub mod Merge

@@ -4,3 +4,4 @@ pub mod Keys
 pub mod Lists
 pub mod Pairs
 pub mod Shuffled
+pub mod Merge

@@ -54,7 +54,7 @@ pub fn fill_spans(
     n: usize,
     ends: &mut [u32; 1024],
 )
-    requires { ⌜ Records (now s) at stride (now order) n ⌝ }
+    requires { ⌜ Records (now s) at stride (now order) n × (length (now ends) ≡ 1024) ⌝ }
     ensures { λ _. ⌜ SpansOf (now (s .entry)) at stride (now (order .entry)) n (now (ends .exit)) ⌝ }
 {
     let mut i: usize = 0;
@@ -67,7 +67,7 @@ pub fn fill_spans(
 
 // The widths of boundaries by rank.
 pub fn fill_widths(s: &[u8], at: usize, order: &[u32; 256], n: usize, bits: &mut [u64; 256])
-    requires { ⌜ Records (now s) at boundarySize (now order) n ⌝ }
+    requires { ⌜ Records (now s) at boundarySize (now order) n × (length (now bits) ≡ 256) ⌝ }
     ensures { λ _. ⌜ WidthsOf (now (s .entry)) at (now (order .entry)) n (now (bits .exit)) ⌝ }
 {
     let mut i: usize = 0;
@@ -80,7 +80,7 @@ pub fn fill_widths(s: &[u8], at: usize, order: &[u32; 256], n: usize, bits: &mut
 
 // The ramp ends of boundaries by rank: 0 where there is no ramp.
 pub fn fill_ramps(s: &[u8], at: usize, order: &[u32; 256], n: usize, ramps: &mut [u8; 256])
-    requires { ⌜ Records (now s) at boundarySize (now order) n ⌝ }
+    requires { ⌜ Records (now s) at boundarySize (now order) n × (length (now ramps) ≡ 256) ⌝ }
     ensures { λ _. ⌜ RampsOf (now (s .entry)) at (now (order .entry)) n (now (ramps .exit)) ⌝ }
 {
     let mut i: usize = 0;
@@ -100,7 +100,7 @@ fn pack(p: PixelPosition) -> u64
 
 // The canonical ends of the records, by place, each end in one number.
 pub fn fill_keys(s: &[u8], at: usize, n: usize, first: &mut [u64; 256], second: &mut [u64; 256])
-    requires { ⌜ (n ≤ 256) × (at + n * boundarySize ≤ length (now s)) ⌝ }
+    requires { ⌜ (n ≤ 256) × (at + n * boundarySize ≤ length (now s)) × (length (now first) ≡ 256) × (length (now second) ≡ 256) ⌝ }
     ensures { λ _. ⌜ KeysOf (now (s .entry)) at boundarySize n (now (first .exit)) (now (second .exit)) ⌝ }
 {
     let mut i: usize = 0;
@@ -114,6 +114,7 @@ pub fn fill_keys(s: &[u8], at: usize, n: usize, first: &mut [u64; 256], second: 
 
 // Each rank is its own place.
 pub fn fill_identity(order: &mut [u32; 256])
+    requires { ⌜ length (now order) ≡ 256 ⌝ }
     ensures { λ _. ⌜ Identity (now (order .exit)) ⌝ }
 {
     let mut i: u32 = 0;

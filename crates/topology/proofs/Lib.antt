@@ -4,3 +4,4 @@ pub mod Elevations
 pub mod FullPair
 pub mod Anchors
 pub mod Cases
+pub mod Counting

@@ -1,1 +1,4 @@
-// Statistics of regions, as definitions (specs/) and theorems (proofs/): this crate has no function.
+// Statistics of regions, full pairs and anchors (source document 001).
+pub mod pairs; // full pairs, and a pair's other region
+pub mod stats; // statistics of regions
+pub mod anchored; // regions that hold an anchor

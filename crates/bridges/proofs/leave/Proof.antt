@@ -1,87 +1,99 @@
+use mathlib.Core.Path.{_≡_, refl, sym, _∙_, ap}
 use native.Mathlib.Omega.{arith}
+use Prim.Native.Nat.{ℕ}
+use lib.ListN.{set}
 use Rattle.bridges.specs.Slices.{at}
 use Rattle.bridges.proofs.Turn.{mark-set, mark-kept}
 use borrow.Author.Needs.{needs}
 use Rattle.bridges.proofs.leave.Statement.{statement}
 use Rattle.bridges.proofs.leave.Tie as tie
+use Rattle.bridges.proofs.leave.Reads as reads
+use Rattle.bridges.proofs.leave.Lts as lts
+use Rattle.bridges.proofs.least.Reads as least-reads
+use Rattle.bridges.proofs.size.Reads as size-reads
+use Rattle.bridges.proofs.time_of.Reads as time-of-reads
 
+-- src/lib.rt:177:22
 mul-least : tie.Need-mul-least
 mul-least c = search needs
 
-slice-read-least : tie.Need-slice-read-least
-slice-read-least c = search needs
+-- src/lib.rt:177:22
+element-copy-out-least : tie.Need-element-copy-out-least
+element-copy-out-least c = search needs
 
+-- src/lib.rt:177:16
 least-requires : tie.Need-least-requires
 least-requires c κs = search needs
 
+-- src/lib.rt:177:5
 mul-lows : tie.Need-mul-lows
 mul-lows c = search needs
 
-slice-write-lows : tie.Need-slice-write-lows
-slice-write-lows c = search needs
+-- src/lib.rt:177:5
+element-write-lows : tie.Need-element-write-lows
+element-write-lows c = search needs
 
-mul-p : tie.Need-mul-p
-mul-p c = search needs
+-- src/lib.rt:178:22
+mul-time-of : tie.Need-mul-time-of
+mul-time-of c = search needs
 
-shared-slice-read-p : tie.Need-shared-slice-read-p
-shared-slice-read-p c = search needs
+-- src/lib.rt:178:22
+element-copy-out-time-of : tie.Need-element-copy-out-time-of
+element-copy-out-time-of c = search needs
 
-mul-if1 : tie.Need-mul-if1
-mul-if1 c = search needs
+-- src/lib.rt:178:8
+time-of-requires : tie.Need-time-of-requires
+time-of-requires c κs = search needs
 
-shared-slice-read-if1 : tie.Need-shared-slice-read-if1
-shared-slice-read-if1 c = search needs
+-- src/lib.rt:179:13
+size-requires : tie.Need-size-requires
+size-requires c κs = search needs
 
-mul-owner : tie.Need-mul-owner
-mul-owner c = search needs
+-- src/lib.rt:180:26
+mul-size : tie.Need-mul-size
+mul-size c = search needs
 
-shared-slice-read-owner : tie.Need-shared-slice-read-owner
-shared-slice-read-owner c = search needs
+-- src/lib.rt:180:26
+element-copy-out-size : tie.Need-element-copy-out-size
+element-copy-out-size c = search needs
 
-cast-owner : tie.Need-cast-owner
-cast-owner c = search needs
+-- src/lib.rt:180:13
+size-requires-2 : tie.Need-size-requires-2
+size-requires-2 c κs = search needs
 
-slice-write-marks : tie.Need-slice-write-marks
-slice-write-marks c = search needs
+-- src/lib.rt:181:9
+element-write-marks : tie.Need-element-write-marks
+element-write-marks c = omega (arith, c .size2 .ensures .0, ap (at (c .before .before .before .before .before .before .before .before .args .owners .now)) (c .before .before .size .ensures .0), c .before .before .before .before .before .before .before .before .pre .3)
 
-same-length : tie.Need-same-length
-same-length c = search needs
-
-same-length-2 : tie.Need-same-length-2
-same-length-2 c = search needs
-
+-- src/lib.rt:163:1
 returns : tie.Need-returns
 returns c =
-    let a = c .before .before .before .before .before .before .before .before .before .before .before .args in
-    (rw (c .before .before .before .before .least .ensures), mark-set (at (a .disc .now) (at (a .stack .now) (a .up))) (a .f .low) (a .marks .now) (at (a .owners .now) (a .f .parent)) (omega (arith, c .before .if1 .taken)))
+    let a = c .before .before .before .before .before .before .before .before .args in
+    let o = c .size2 .ensures .0 ∙ ap (at (a .owners .now)) (c .before .before .size .ensures .0) in
+    (rw (c .before .before .before .before .before .before .least .ensures), ap (λ (x : ℕ). set (a .marks .now) x 1) o ∙ mark-set (at (a .disc .now) (at (a .stack .now) (a .up))) (a .f .low) (a .marks .now) (at (a .owners .now) (a .f .parent)) (omega (arith, c .before .before .before .if1 .taken, c .before .before .before .before .time-of .ensures)))
 
-same-length-3 : tie.Need-same-length-3
-same-length-3 c = search needs
-
+-- src/lib.rt:163:1
 returns-2 : tie.Need-returns-2
 returns-2 c =
-    let a = c .before .before .before .before .before .before .before .before .before .before .args in
-    (rw (c .before .before .before .least .ensures), mark-kept (at (a .disc .now) (at (a .stack .now) (a .up))) (a .f .low) (a .marks .now) (at (a .owners .now) (a .f .parent)) (omega (arith, c .if1 .left)))
+    let a = c .before .before .before .before .before .args in
+    (rw (c .before .before .before .least .ensures), mark-kept (at (a .disc .now) (at (a .stack .now) (a .up))) (a .f .low) (a .marks .now) (at (a .owners .now) (a .f .parent)) (omega (arith, c .if1 .left, c .before .time-of .ensures)))
 
 pub leave-spec : {M : Type 1} → statement M
 leave-spec =
     tie.close
     (tie.spec
     mul-least
-    slice-read-least
+    element-copy-out-least
     least-requires
     mul-lows
-    slice-write-lows
-    mul-p
-    shared-slice-read-p
-    mul-if1
-    shared-slice-read-if1
-    mul-owner
-    shared-slice-read-owner
-    cast-owner
-    slice-write-marks
-    same-length
-    same-length-2
+    element-write-lows
+    mul-time-of
+    element-copy-out-time-of
+    time-of-requires
+    size-requires
+    mul-size
+    element-copy-out-size
+    size-requires-2
+    element-write-marks
     returns
-    same-length-3
     returns-2)

@@ -1,15 +1,7 @@
 use mathlib.Core.Path.{_∙_}
-use native.Mathlib.Omega.{arith}
-use native.Mathlib.Nat.{mod-lt}
 use borrow.Author.Needs.{needs}
 use Rattle.grid.proofs.neighbors.across.Statement.{statement}
 use Rattle.grid.proofs.neighbors.across.Tie as tie
-
-rem-x : tie.Need-rem-x
-rem-x c = search needs
-
-div-y : tie.Need-div-y
-div-y c = search needs
 
 add-y : tie.Need-add-y
 add-y c = search needs
@@ -18,10 +10,10 @@ sub-y : tie.Need-sub-y
 sub-y c = search needs
 
 index-requires : tie.Need-index-requires
-index-requires c κs = omega (arith, mod-lt (c .args .i) (c .pre .0))
+index-requires c κs = search needs
 
 returns : tie.Need-returns
-returns c = λ g e. c .index .ensures g e ∙ rw e
+returns c = λ g i e h k. c .index .ensures g e ∙ rw (h, k)
 
 pub across-spec : {M : Type 1} → statement M
-across-spec = tie.close (tie.spec rem-x div-y add-y sub-y index-requires returns)
+across-spec = tie.close (tie.spec add-y sub-y index-requires returns)

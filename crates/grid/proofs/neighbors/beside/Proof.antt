@@ -1,27 +1,19 @@
 use mathlib.Core.Path.{_∙_}
-use native.Mathlib.Omega.{arith}
-use native.Mathlib.Nat.{mod-lt}
 use borrow.Author.Needs.{needs}
 use Rattle.grid.proofs.neighbors.beside.Statement.{statement}
 use Rattle.grid.proofs.neighbors.beside.Tie as tie
 
-rem-x : tie.Need-rem-x
-rem-x c = search needs
-
 add-x : tie.Need-add-x
-add-x c = omega (arith, mod-lt (c .args .i) (c .pre .0))
+add-x c = search needs
 
 sub-x : tie.Need-sub-x
 sub-x c = search needs
 
-div-y : tie.Need-div-y
-div-y c = search needs
-
 index-requires : tie.Need-index-requires
-index-requires c κs = omega (arith, mod-lt (c .args .i) (c .pre .0))
+index-requires c κs = search needs
 
 returns : tie.Need-returns
-returns c = λ g e. c .index .ensures g e ∙ rw e
+returns c = λ g i e h k. c .index .ensures g e ∙ rw (h, k)
 
 pub beside-spec : {M : Type 1} → statement M
-beside-spec = tie.close (tie.spec rem-x add-x sub-x div-y index-requires returns)
+beside-spec = tie.close (tie.spec add-x sub-x index-requires returns)

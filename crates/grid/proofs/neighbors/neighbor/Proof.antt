@@ -1,33 +1,17 @@
-use mathlib.Core.Path.{_∙_}
-use native.Mathlib.Omega.{arith}
-use native.Mathlib.Nat.{mod-lt}
+use Rattle.grid.specs.Cells.{indexOf}
+use mathlib.Core.Path.{_∙_, ap₂}
 use borrow.Author.Needs.{needs}
 use Rattle.grid.proofs.neighbors.neighbor.Statement.{statement}
 use Rattle.grid.proofs.neighbors.neighbor.Tie as tie
 
-rem-x : tie.Need-rem-x
-rem-x c = search needs
-
-add-x : tie.Need-add-x
-add-x c = omega (arith, mod-lt (c .args .i) (c .pre .0))
-
-sub-x : tie.Need-sub-x
-sub-x c = search needs
-
-div-y : tie.Need-div-y
-div-y c = search needs
-
-add-y : tie.Need-add-y
-add-y c = search needs
-
-sub-y : tie.Need-sub-y
-sub-y c = search needs
+place-to-requires : tie.Need-place-to-requires
+place-to-requires c κs = search needs
 
 index-requires : tie.Need-index-requires
-index-requires c κs = omega (arith, mod-lt (c .args .i) (c .pre .0))
+index-requires c κs = search needs
 
 returns : tie.Need-returns
-returns c = λ g e. c .index .ensures g e ∙ rw e
+returns c = λ g i e h k. c .index .ensures g e ∙ ap₂ (indexOf g) (c .before .place-to .ensures .0 g i h k .0) (c .before .place-to .ensures .0 g i h k .1)
 
 pub neighbor-spec : {M : Type 1} → statement M
-neighbor-spec = tie.close (tie.spec rem-x add-x sub-x div-y add-y sub-y index-requires returns)
+neighbor-spec = tie.close (tie.spec place-to-requires index-requires returns)

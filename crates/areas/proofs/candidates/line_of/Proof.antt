@@ -1,0 +1,34 @@
+use Rattle.areas.specs.Strip.{tall, lineOf}
+use lib.Dec.{leb}
+use borrow.Author.Tests.{not-true, not-false, le-leb, lt-leb}
+use mathlib.Core.Bool.{true, false}
+use mathlib.Core.Path.{_≡_, sym, _∙_}
+use borrow.Author.Needs.{needs}
+use Rattle.areas.proofs.candidates.line_of.Statement.{statement}
+use Rattle.areas.proofs.candidates.line_of.Tie as tie
+
+is-tall-requires : tie.Need-is-tall-requires
+is-tall-requires c κs = search needs
+
+returns : tie.Need-returns
+unfolding lineOf
+returns c =
+    let e : tall (c .before .before .before .before .args .span) ≡ false = sym (c .before .is-tall .ensures) ∙ not-true _ (c .if1 .taken) in
+    rw e
+
+returns-2 : tie.Need-returns-2
+unfolding lineOf
+returns-2 c =
+    let e : tall (c .before .before .before .before .before .before .before .args .span) ≡ true = sym (c .before .before .before .before .is-tall .ensures) ∙ not-false _ (c .before .before .before .if1 .left) in
+    let k : leb (c .before .before .before .before .before .before .before .args .span .a .y) (c .before .before .before .before .before .before .before .args .span .b .y) ≡ true = le-leb _ _ (c .if2 .taken) in
+    rw (e, k)
+
+returns-3 : tie.Need-returns-3
+unfolding lineOf
+returns-3 c =
+    let e : tall (c .before .before .before .before .before .before .before .args .span) ≡ true = sym (c .before .before .before .before .is-tall .ensures) ∙ not-false _ (c .before .before .before .if1 .left) in
+    let k : leb (c .before .before .before .before .before .before .before .args .span .a .y) (c .before .before .before .before .before .before .before .args .span .b .y) ≡ false = lt-leb _ _ (c .if2 .left) in
+    rw (e, k)
+
+pub line-of-spec : {M : Type 1} → statement M
+line-of-spec = tie.close (tie.spec is-tall-requires returns returns-2 returns-3)

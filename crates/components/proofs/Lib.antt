@@ -1,0 +1,10 @@
+mod WordLaws
+mod ForestLaws
+mod FindLaws
+mod JoinLaws
+mod StepLaws
+mod EdgeLaws
+mod NumberLaws
+mod MapLaws
+mod CountLaws
+pub mod LabelWords

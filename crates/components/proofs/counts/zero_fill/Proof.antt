@@ -1,0 +1,50 @@
+use mathlib.Core.Path.{_≡_, refl, _∙_, ap}
+use Prim.Native.Nat.{ℕ, _-_, _≤_}
+use native.Mathlib.Omega.{arith}
+use lib.ListN.{length, length-set}
+use lib.ListN.{replicate}
+use Rattle.wire.specs.Bytes.{splice}
+use Rattle.components.proofs.CountLaws.{fill-start, fill-next}
+use Rattle.components.proofs.counts.zero_fill.Statement.{statement}
+use Rattle.components.proofs.counts.zero_fill.Tie as tie
+
+abbrev Inv-loop : tie.InvT-loop
+Inv-loop work₀ from to i₀ work i = (from ≤ i) × (i ≤ to) × (length work ≡ length work₀) × (work ≡ splice work₀ from (replicate (i - from) 0))
+
+abbrev μ-loop : tie.MeasureT-loop
+μ-loop work₀ from to i₀ work i = to - i
+
+loop-holds : tie.Need-loop-holds Inv-loop μ-loop
+loop-holds c = (omega arith, c .pre .0, refl, fill-start (c .args .work .now) (c .args .from))
+
+slice-write-work : tie.Need-slice-write-work Inv-loop μ-loop
+slice-write-work c = omega (arith, c .before .before .pre)
+
+add-i : tie.Need-add-i Inv-loop μ-loop
+add-i c = omega (arith, c .before .before .pre)
+
+loop-less : tie.Need-loop-less Inv-loop μ-loop
+loop-less c = omega arith
+
+loop-again : tie.Need-loop-again Inv-loop μ-loop
+loop-again c = (omega arith, omega arith, length-set (c .before .loop .work) (c .before .loop .i) 0 ∙ c .before .loop .inv .2, fill-next (c .before .before .args .work .now) (c .before .loop .work) (c .before .before .args .from) (c .before .loop .i) (c .before .loop .inv .0) (omega (arith, c .before .before .pre)) (c .before .loop .inv .3))
+
+same-length : tie.Need-same-length Inv-loop μ-loop
+same-length c = c .before .loop .inv .2
+
+returns : tie.Need-returns Inv-loop μ-loop
+returns c = c .before .loop .inv .3 ∙ ap (λ (k : ℕ). splice (c .before .before .args .work .now) (c .before .before .args .from) (replicate (k - c .before .before .args .from) 0)) (let z : c .before .loop .i ≡ c .before .before .args .to = omega arith in z)
+
+pub zero-fill-spec : {M : Type 1} → statement M
+zero-fill-spec =
+    tie.close
+    (tie.spec
+    Inv-loop
+    μ-loop
+    loop-holds
+    slice-write-work
+    add-i
+    loop-less
+    loop-again
+    same-length
+    returns)

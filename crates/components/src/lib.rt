@@ -1,0 +1,32 @@
+// The connected components of a map's cells, labelled in row order, in lent bytes.
+ghost use mathlib.Core.Path.{_≡_};
+ghost use Prim.Native.Nat.{_+_, _*_, _≤_, _<_};
+ghost use lib.ListN.{length};
+ghost use Rattle.wire.specs.Bytes.{part};
+ghost use Rattle.grid.specs.Cells.{Grid, walkable};
+ghost use Rattle.areas.specs.Open.{named};
+ghost use Rattle.components.specs.Joining.{Sound};
+ghost use Rattle.components.specs.Numbered.{Numbered};
+
+mod parents; // the parents of cells: start, find, join
+mod steps; // joins the cells that the open bytes say are joined
+mod numbers; // labels in row order
+mod counts; // what is read from labels, and zeros
+
+pub use counts::count_cells;
+pub use counts::zero_fill;
+use numbers::number;
+use parents::start;
+use steps::join_all;
+
+// Labels the cells of a map by the components that the open bytes at `base` make: u32 words at the start of `work`. Gives the number of labels.
+pub fn components(cells: &[u8], width: u32, work: &mut [u8], base: usize) -> u32
+    requires { ⌜ (length (now cells) ≤ 1048576) × (0 < width) × (4 * length (now cells) ≤ base) × (base + length (now cells) ≤ length (now work)) ⌝ }
+    requires { ⌜ Sound (now cells) width (part (now work) base (length (now cells))) ⌝ }
+    ensures { λ r. ⌜ ((g : Grid) → g .cells ≡ now (cells .entry) → Numbered (length (now (cells .entry))) (walkable g) (named width (part (now (work .entry)) base (length (now (cells .entry))))) (now (work .entry)) (now (work .exit)) r) ⌝ }
+{
+    let n = cells.len();
+    start(work, n);
+    join_all(work, base, n, width as usize);
+    number(cells, work)
+}

@@ -1,0 +1,77 @@
+// A parent for each cell, no later than the cell itself: a cell that is its own parent is the first of its component.
+ghost use mathlib.Core.Path.{_≡_};
+ghost use mathlib.Core.Bool.{true};
+ghost use Prim.Native.Nat.{ℕ, _+_, _*_, _≤_, _<_};
+ghost use lib.ListN.{length};
+ghost use Rattle.wire.specs.Bytes.{splice, u32Bytes};
+ghost use Rattle.components.specs.Forests.{word, Usable, Kept, Found};
+ghost use Rattle.components.specs.Joining.{Joined};
+use wire::read_u32;
+use wire::write_u32;
+
+fn parent(work: &[u8], i: usize) -> usize
+    requires { ⌜ 4 * i + 4 ≤ length (now work) ⌝ }
+    ensures { λ r. ⌜ (r ≡ word (now (work .entry)) i) × (r < 4294967296) ⌝ }
+{
+    read_u32(work, 4 * i) as usize
+}
+
+fn set_parent(work: &mut [u8], i: usize, p: usize)
+    requires { ⌜ (4 * i + 4 ≤ length (now work)) × (p < 4294967296) ⌝ }
+    ensures { λ r. ⌜ now (work .exit) ≡ splice (now (work .entry)) (4 * i) (u32Bytes p) ⌝ }
+{
+    write_u32(work, 4 * i, p as u32);
+}
+
+// Every cell is its own parent.
+pub fn start(work: &mut [u8], n: usize)
+    requires { ⌜ (4 * n ≤ length (now work)) × (n ≤ 1048576) ⌝ }
+    ensures { λ r. ⌜ Kept n (now (work .entry)) (now (work .exit)) × ((i : ℕ) → i < n → word (now (work .exit)) i ≡ i) ⌝ }
+{
+    let mut i: usize = 0;
+    while i < n {
+        set_parent(work, i, i);
+        i += 1;
+    }
+}
+
+// The first cell of the component of a cell. The parents on the way become those of their parents.
+pub fn find(work: &mut [u8], i: usize) -> usize
+    requires { ⌜ Usable i (now work) ⌝ }
+    ensures { λ r. ⌜ Found i r (now (work .entry)) (now (work .exit)) ⌝ }
+{
+    let mut at = i;
+    let mut p = parent(work, at);
+    while p < at {
+        let q = parent(work, p);
+        set_parent(work, at, q);
+        at = q;
+        p = parent(work, at);
+    }
+    at
+}
+
+// Makes the components of two cells one: the smaller of their first cells becomes the parent of the larger.
+pub fn join(work: &mut [u8], i: usize, j: usize)
+    requires { ⌜ Usable i (now work) × Usable j (now work) ⌝ }
+    ensures { λ r. ⌜ Joined true i j (now (work .entry)) (now (work .exit)) ⌝ }
+{
+    let a = find(work, i);
+    let b = find(work, j);
+    if a < b {
+        set_parent(work, b, a);
+        return;
+    }
+    if b < a {
+        set_parent(work, a, b);
+    }
+}
+
+pub fn join_if(work: &mut [u8], on: bool, i: usize, j: usize)
+    requires { ⌜ Usable i (now work) × (on ≡ true → Usable j (now work)) ⌝ }
+    ensures { λ r. ⌜ Joined on i j (now (work .entry)) (now (work .exit)) ⌝ }
+{
+    if on {
+        join(work, i, j);
+    }
+}

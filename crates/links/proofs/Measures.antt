@@ -1,0 +1,23 @@
+-- Which case `measuredIn` is, from the outcome of the tests.
+use mathlib.Core.Path.{_≡_, refl}
+use mathlib.Core.Bool.{true, false, _&&_}
+use lib.Ieee.{Float, le}
+use Rattle.links.specs.Limits.{Limits}
+use Rattle.links.specs.Measure.{empty, within, beyond, judged, transverseEnvelope, transverseLimit, longitudinalEnvelope, longitudinalLimit}
+use Rattle.links.specs.HeldLink.{linkIn, extremesIn, measuredIn}
+use Rattle.links.specs.declared.link.Link.{Link as LinkHeld}
+
+module _ (limits : Limits) (l : LinkHeld) where
+  pub no-cell : l .seen ≡ false → empty ≡ measuredIn limits l
+  unfolding measuredIn
+  no-cell e = rw e
+
+  pub within-both : {t u : Float} → l .seen ≡ true → t ≡ transverseEnvelope (linkIn l) (extremesIn l) → u ≡ longitudinalEnvelope (linkIn l) (extremesIn l)
+      → (le t (transverseLimit limits (linkIn l)) && le u (longitudinalLimit limits (linkIn l))) ≡ true → within t u ≡ measuredIn limits l
+  unfolding measuredIn judged
+  within-both e p q h = let k = rw (p, q) at h in rw (p, q, e, k)
+
+  pub beyond-one : {t u : Float} → l .seen ≡ true → t ≡ transverseEnvelope (linkIn l) (extremesIn l) → u ≡ longitudinalEnvelope (linkIn l) (extremesIn l)
+      → (le t (transverseLimit limits (linkIn l)) && le u (longitudinalLimit limits (linkIn l))) ≡ false → beyond t u ≡ measuredIn limits l
+  unfolding measuredIn judged
+  beyond-one e p q h = let k = rw (p, q) at h in rw (p, q, e, k)

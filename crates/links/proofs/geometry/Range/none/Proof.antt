@@ -1,0 +1,24 @@
+use lib.Ieee.{ofBits, nanBits}
+use mathlib.Core.Path.{refl}
+use Rattle.links.proofs.geometry.Range.none.Statement.{statement}
+use Rattle.links.proofs.geometry.Range.none.Tie as tie
+use Rattle.links.proofs.geometry.Range.none.Reads as reads
+use Rattle.links.proofs.geometry.Range.none.Lts as lts
+
+-- src/geometry.rt:186:18
+float-from-bits-t1 : tie.Need-float-from-bits-t1
+unfolding nanBits
+float-from-bits-t1 c = tt
+
+-- src/geometry.rt:187:19
+float-from-bits-t2 : tie.Need-float-from-bits-t2
+unfolding nanBits
+float-from-bits-t2 c = tt
+
+-- src/geometry.rt:182:5
+returns : tie.Need-returns
+unfolding ofBits
+returns c = refl
+
+pub none-spec : {M : Type 1} → statement M
+none-spec = tie.close (tie.spec float-from-bits-t1 float-from-bits-t2 returns)

@@ -1,0 +1,22 @@
+use borrow.Author.Needs.{needs}
+use Rattle.links.proofs.geometry.centre_distance.Statement.{statement}
+use Rattle.links.proofs.geometry.centre_distance.Tie as tie
+use Rattle.links.proofs.geometry.centre_distance.Reads as reads
+use Rattle.links.proofs.geometry.centre_distance.Lts as lts
+use Rattle.links.proofs.geometry.centre_squares.Reads as centre-squares-reads
+use Rattle.links.proofs.geometry.distance.Reads as distance-reads
+
+-- src/geometry.rt:77:14
+centre-squares-requires : tie.Need-centre-squares-requires
+centre-squares-requires c κs = search needs
+
+-- src/geometry.rt:77:5
+distance-requires : tie.Need-distance-requires
+distance-requires c κs = search needs
+
+-- src/geometry.rt:73:1
+returns : tie.Need-returns
+returns c = simp (c .distance .ensures, c .before .centre-squares .ensures .0)
+
+pub centre-distance-spec : {M : Type 1} → statement M
+centre-distance-spec = tie.close (tie.spec centre-squares-requires distance-requires returns)

@@ -1,0 +1,14 @@
+use Rattle.topology.specs.Held.{statsAfter}
+use mathlib.Core.Path.{refl}
+use Rattle.topology.proofs.stats.RegionStats.none.Statement.{statement}
+use Rattle.topology.proofs.stats.RegionStats.none.Tie as tie
+use Rattle.topology.proofs.stats.RegionStats.none.Reads as reads
+use Rattle.topology.proofs.stats.RegionStats.none.Lts as lts
+
+-- src/stats.rt:49:5
+returns : tie.Need-returns
+unfolding statsAfter
+returns c = record { after = λ g. refl }
+
+pub none-spec : {M : Type 1} → statement M
+none-spec = tie.close (tie.spec returns)

@@ -1,0 +1,95 @@
+// Statistics of regions: 001's `RegionStats`.
+ghost use mathlib.Core.Path.{_≡_};
+ghost use mathlib.Core.List.{[]};
+ghost use Prim.Native.Nat.{ℕ, _+_, _*_, _<_, _≤_, max};
+ghost use lib.ListN.{length};
+ghost use Rattle.grid.specs.Cells.{Grid};
+ghost use Rattle.topology.specs.RegionStats.{regionStats, elevations};
+ghost use Rattle.topology.specs.Held.{Room, statsIn, one, lesser, withCell, NoCells, labelsOf, stepped};
+use position::WalkPosition;
+use wire::read_u32;
+
+// The box is in whole pixels, its right and lower edge past the last cell; `level_0` to `level_3` count the cells of each elevation.
+pub struct RegionStats {
+    pub cells: u32,
+    pub min_x: u32,
+    pub min_y: u32,
+    pub max_x: u32,
+    pub max_y: u32,
+    pub has_ramp: bool,
+    pub level_0: u32,
+    pub level_1: u32,
+    pub level_2: u32,
+    pub level_3: u32,
+}
+
+fn lesser(count: u32, x: u32, y: u32) -> u32
+    ensures { λ r. ⌜ r ≡ lesser count x y ⌝ }
+{
+    if count == 0 {
+        return y;
+    }
+    if x < y { x } else { y }
+}
+
+fn greater(x: u32, y: u32) -> u32
+    ensures { λ r. ⌜ r ≡ max x y ⌝ }
+{
+    if x < y { y } else { x }
+}
+
+fn one(t: bool) -> u32
+    ensures { λ r. ⌜ (r ≡ one t) × (r ≤ 1) ⌝ }
+{
+    if t { 1 } else { 0 }
+}
+
+impl RegionStats {
+    // Of no cell.
+    pub fn none() -> RegionStats
+        ensures { λ r. ⌜ NoCells r ⌝ }
+    {
+        RegionStats {
+            cells: 0,
+            min_x: 0,
+            min_y: 0,
+            max_x: 0,
+            max_y: 0,
+            has_ramp: false,
+            level_0: 0,
+            level_1: 0,
+            level_2: 0,
+            level_3: 0,
+        }
+    }
+
+    // One cell more.
+    pub fn with(self, column: u32, row: u32, cell: u8) -> RegionStats
+        requires { ⌜ Room self × (column < 536870911) × (row < 536870911) ⌝ }
+        ensures { λ r. ⌜ r ≡ withCell self column row cell ⌝ }
+    {
+        let level = cell / 8 % 4;
+        RegionStats {
+            cells: self.cells + 1,
+            min_x: lesser(self.cells, self.min_x, 8 * column),
+            min_y: lesser(self.cells, self.min_y, 8 * row),
+            max_x: greater(self.max_x, 8 * column + 8),
+            max_y: greater(self.max_y, 8 * row + 8),
+            has_ramp: self.has_ramp | (cell / 4 % 2 == 1),
+            level_0: self.level_0 + one(level == 0),
+            level_1: self.level_1 + one(level == 1),
+            level_2: self.level_2 + one(level == 2),
+            level_3: self.level_3 + one(level == 3),
+        }
+    }
+
+    // How many of the four elevations occur.
+    pub fn elevations(self) -> u32
+        ensures { λ r. ⌜ r ≡ elevations (statsIn self) ⌝ }
+    {
+        one(0 < self.level_0)
+            + one(0 < self.level_1)
+            + one(0 < self.level_2)
+            + one(0 < self.level_3)
+    }
+}
