@@ -1,5 +1,5 @@
 -- Two finds and a link.
-use mathlib.Core.Path.{_≡_, refl, sym, subst}
+use mathlib.Core.Path.{_∙_, ap, _≡_, refl, sym, subst}
 use mathlib.Core.Bool.{true, false}
 use mathlib.Core.List.{List}
 use Prim.Native.Nat.{ℕ, _+_, _*_, _≤_, _<_}
@@ -57,3 +57,12 @@ module _ {i j a b : ℕ} {s t w : List ℕ} (ui : Usable i s) (uj : Usable j s) 
 -- nothing is joined
 pub joined-none : (i j : ℕ) (s : List ℕ) → Joined false i j s s
 joined-none i j s = record { usable = λ m u. u; kept = λ n l m. kept-none n s; forest = λ n es l m f. f }
+
+-- the two have one parent
+pub joined-near : (i j : ℕ) (s : List ℕ) → word s i ≡ word s j → Joined true i j s s
+joined-near i j s e = record {
+  usable = λ m u. u;
+  kept = λ n l m. kept-none n s;
+  forest = λ n es l m f.
+      forest-joined (stepOf i j) f (part es i) (part es j) refl refl (sym (f .along i l) ∙ (ap (part es) e ∙ f .along j (m refl)));
+}

@@ -2,6 +2,7 @@
 ghost use mathlib.Core.Path.{_≡_};
 ghost use mathlib.Core.Bool.{true};
 ghost use Prim.Native.Nat.{ℕ, _+_, _*_, _≤_, _<_};
+ghost use lib.Dec.{eqb};
 ghost use lib.ListN.{length};
 ghost use Rattle.wire.specs.Bytes.{splice, u32Bytes};
 ghost use Rattle.components.specs.Forests.{word, Usable, Kept, Found};
@@ -52,7 +53,7 @@ pub fn find(work: &mut [u8], i: usize) -> usize
 }
 
 // Makes the components of two cells one: the smaller of their first cells becomes the parent of the larger.
-pub fn join(work: &mut [u8], i: usize, j: usize)
+fn link(work: &mut [u8], i: usize, j: usize)
     requires { ⌜ Usable i (now work) × Usable j (now work) ⌝ }
     ensures { λ r. ⌜ Joined true i j (now (work .entry)) (now (work .exit)) ⌝ }
 {
@@ -65,6 +66,24 @@ pub fn join(work: &mut [u8], i: usize, j: usize)
     if b < a {
         set_parent(work, a, b);
     }
+}
+
+fn same_parent(work: &[u8], i: usize, j: usize) -> bool
+    requires { ⌜ (4 * i + 4 ≤ length (now work)) × (4 * j + 4 ≤ length (now work)) ⌝ }
+    ensures { λ r. ⌜ r ≡ eqb (word (now (work .entry)) i) (word (now (work .entry)) j) ⌝ }
+{
+    parent(work, i) == parent(work, j)
+}
+
+// Makes the components of two cells one; cells of one parent are in one component.
+pub fn join(work: &mut [u8], i: usize, j: usize)
+    requires { ⌜ Usable i (now work) × Usable j (now work) ⌝ }
+    ensures { λ r. ⌜ Joined true i j (now (work .entry)) (now (work .exit)) ⌝ }
+{
+    if same_parent(work, i, j) {
+        return;
+    }
+    link(work, i, j);
 }
 
 pub fn join_if(work: &mut [u8], on: bool, i: usize, j: usize)

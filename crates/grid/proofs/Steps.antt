@@ -37,10 +37,10 @@ means-leads g i d m =
 
 -- the column and the row that a direction leads to
 module _ (g : Grid) (i d : ℕ) (m : Leads g i d) where
-  neighbour-column : columnOf g (neighbour g i d) ≡ columnTo g i d
+  pub neighbour-column : columnOf g (neighbour g i d) ≡ columnTo g i d
   neighbour-column = column-of g (columnTo g i d) (rowTo g i d) (omega arith)
 
-  neighbour-row : rowOf g (neighbour g i d) ≡ rowTo g i d
+  pub neighbour-row : rowOf g (neighbour g i d) ≡ rowTo g i d
   neighbour-row = row-of g (columnTo g i d) (rowTo g i d) (omega arith)
 
 -- a cell has one neighbour in each direction, and each in one

@@ -2,7 +2,6 @@
 ghost use mathlib.Core.Path.{_≡_};
 ghost use mathlib.Core.Bool.{true, _&&_};
 ghost use Prim.Native.Nat.{ℕ, _+_, _*_, _/_, _%_, _<_, _≤_};
-ghost use lib.ListN.{length};
 ghost use Rattle.order.specs.Lists.{has};
 ghost use Rattle.grid.specs.Cells.{Grid, walkable, columnOf, rowOf};
 ghost use Rattle.grid.specs.Directions.{diagonal, directionsOf};

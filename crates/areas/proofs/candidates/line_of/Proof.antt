@@ -1,8 +1,8 @@
-use Rattle.areas.specs.Strip.{tall, lineOf}
-use lib.Dec.{leb}
-use borrow.Author.Tests.{not-true, not-false, le-leb, lt-leb}
 use mathlib.Core.Bool.{true, false}
 use mathlib.Core.Path.{_≡_, sym, _∙_}
+use borrow.Author.Tests.{not-true, not-false, le-leb, lt-leb}
+use lib.Dec.{leb}
+use Rattle.areas.specs.Strip.{tall, lineOf}
 use borrow.Author.Needs.{needs}
 use Rattle.areas.proofs.candidates.line_of.Statement.{statement}
 use Rattle.areas.proofs.candidates.line_of.Tie as tie

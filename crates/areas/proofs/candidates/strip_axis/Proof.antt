@@ -1,5 +1,5 @@
-use Rattle.areas.proofs.StripCells.{LineFits, line-fits, limit-some, axis-is}
 use Prim.Native.Nat.{_<_}
+use Rattle.areas.proofs.StripCells.{LineFits, line-fits, limit-some, axis-is}
 use borrow.Author.Needs.{needs}
 use Rattle.areas.proofs.candidates.strip_axis.Statement.{statement}
 use Rattle.areas.proofs.candidates.strip_axis.Tie as tie

@@ -1,5 +1,5 @@
-use Rattle.areas.proofs.StripCells.{LineFits, line-fits, limit-some, minor-is}
 use native.Mathlib.Omega.{arith}
+use Rattle.areas.proofs.StripCells.{LineFits, line-fits, limit-some, minor-is}
 use borrow.Author.Needs.{needs}
 use Rattle.areas.proofs.candidates.strip_minor.Statement.{statement}
 use Rattle.areas.proofs.candidates.strip_minor.Tie as tie

@@ -1,5 +1,5 @@
-use Rattle.grid.specs.Cells.{indexOf}
 use mathlib.Core.Path.{_∙_, ap₂}
+use Rattle.grid.specs.Cells.{indexOf}
 use borrow.Author.Needs.{needs}
 use Rattle.grid.proofs.neighbors.neighbor.Statement.{statement}
 use Rattle.grid.proofs.neighbors.neighbor.Tie as tie

@@ -1,7 +1,7 @@
-use Rattle.grid.proofs.Reach.{gridOf, nowhere, blocked, straight, slanting, place-column, place-row}
-use borrow.Author.Tests.{not-true, not-false}
-use Prim.Native.Nat.{_+_, _*_}
 use mathlib.Core.Path.{refl, sym, _∙_}
+use Prim.Native.Nat.{_+_, _*_}
+use borrow.Author.Tests.{not-true, not-false}
+use Rattle.grid.proofs.Reach.{gridOf, nowhere, blocked, straight, slanting, place-column, place-row}
 use borrow.Author.Needs.{needs}
 use Rattle.grid.proofs.neighbors.step_at.Statement.{statement}
 use Rattle.grid.proofs.neighbors.step_at.Tie as tie

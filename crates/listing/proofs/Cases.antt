@@ -1,0 +1,40 @@
+-- The corridor's listing; and the listing of an answer that was encoded.
+use mathlib.Core.Path.{_≡_, refl, _∙_, ap}
+use mathlib.Core.Bool.{Bool, cond}
+use mathlib.Core.List.{List, [], flatMap}
+use Prim.Native.Nat.{ℕ, _*_, _≤_}
+use native.Mathlib.Omega.{arith}
+use lib.ListN.{length, getD}
+use Rattle.lists.specs.Rows.{rows, sum}
+use Rattle.wire.specs.Bytes.{part, number, bytes, numberAt, u32At}
+use Rattle.format.specs.Values.{Boundary}
+use Rattle.format.specs.Encode.{observationsOf, sourcesOf, answerWords, encodeAnswer}
+use Rattle.format.specs.Fits.{AnswerFits}
+use Rattle.format.specs.Records.{positionAt, spanAt, sourceAt, rampAt, boundaryAt, observationAt}
+use Rattle.format.specs.Decode.{boundaryRecords, observationRecords, sourceRecords, observationsWith, boundaryWith, boundariesWith, sourceCount, decodeBoundaries, decodeAnswer, rampOf}
+use Rattle.format.proofs.AnswerTrip.{length-encodeAnswer, answer-words, decodeAnswer-encodeAnswer}
+use Rattle.listing.specs.Digits.{glyph, lastDigits, placesFrom, places, digits, hexDigits}
+use Rattle.listing.specs.Lines.{fieldText, bitsText, endsText, rampText, sourceLine, sourceLines, observationFields, observationLine, observationText, observationTexts, boundaryFields, boundaryLine, boundaryText, boundaryTexts, keptLine, listingOf}
+use Rattle.listing.specs.Answer.{answerLength, whole, listing}
+use Rattle.listing.specs.Corridor.{words, corridorBytes, corridorText}
+use Rattle.listing.proofs.Sizing.{is-whole}
+
+-- "Here it prints": the corridor's answer, in a slice of three times its length.
+pub corridor-listing : listing corridorBytes 456 ≡ corridorText
+unfolding listing whole corridorBytes corridorText words decodeAnswer decodeBoundaries boundariesWith boundaryWith observationsWith sourceCount boundaryRecords observationRecords sourceRecords rampOf positionAt spanAt sourceAt rampAt boundaryAt observationAt numberAt part number bytes rows sum flatMap glyph lastDigits placesFrom places digits hexDigits fieldText bitsText endsText rampText sourceLine sourceLines observationFields observationLine observationText observationTexts boundaryFields boundaryLine boundaryText boundaryTexts keptLine listingOf
+corridor-listing = refl
+
+module _ (bs : List Boundary) (f : AnswerFits bs) where
+  word : (k : ℕ) → getD (rows 6 (λ i. u32At (encodeAnswer bs) (i * 4))) k 0 ≡ getD (answerWords (length bs) (length (observationsOf bs)) (length (sourcesOf bs))) k 0
+  word k = ap (λ (l : List ℕ). getD l k 0) (answer-words bs f)
+
+  same-length : answerLength (encodeAnswer bs) ≡ length (encodeAnswer bs)
+  unfolding rows answerWords
+  same-length = omega (arith, word 0, word 1, word 2, length-encodeAnswer bs)
+
+  -- An answer that was encoded is listed as its boundaries, where there is room.
+  pub listing-encoded : (out : List ℕ) → length (encodeAnswer bs) * 3 ≤ length out → listing (encodeAnswer bs) (length out) ≡ listingOf bs
+  unfolding listing
+  listing-encoded out h =
+      ap (λ (b : Bool). cond b (listingOf (decodeAnswer (encodeAnswer bs))) []) (is-whole (encodeAnswer bs) out (omega (arith, same-length)) (omega (arith, same-length, h)))
+      ∙ ap listingOf (decodeAnswer-encodeAnswer bs f)

@@ -1,0 +1,66 @@
+use Prim.Native.Nat.{_-_}
+use native.Mathlib.Omega.{arith}
+use Rattle.listing.proofs.Spelling.{remainder-small, Spelt, spelt-start, spelt-long, spelt-next, spelt-end}
+use borrow.Author.Needs.{needs}
+use Rattle.listing.proofs.digits.write_digits.Statement.{statement}
+use Rattle.listing.proofs.digits.write_digits.Tie as tie
+use Rattle.listing.proofs.digits.write_digits.Reads as reads
+use Rattle.listing.proofs.digits.write_digits.Lts as lts
+use Rattle.listing.proofs.digits.glyph.Reads as glyph-reads
+
+abbrev Inv-loop : tie.InvT-loop
+Inv-loop v base k out₀ at i₀ rest₀ out i rest = Spelt base k v out₀ at out i rest
+
+abbrev μ-loop : tie.MeasureT-loop
+μ-loop v base k out₀ at i₀ rest₀ out i rest = i
+
+loop-holds : tie.Need-loop-holds Inv-loop μ-loop
+loop-holds c = spelt-start (c .before .pre .2)
+
+sub-i : tie.Need-sub-i Inv-loop μ-loop
+sub-i c = search needs
+
+rem-glyph : tie.Need-rem-glyph Inv-loop μ-loop
+rem-glyph c = omega (arith, c .before .before .before .pre .0)
+
+glyph-requires : tie.Need-glyph-requires Inv-loop μ-loop
+glyph-requires c κs = remainder-small _ (c .before .before .before .pre .0) (c .before .before .before .pre .1)
+
+add-out : tie.Need-add-out Inv-loop μ-loop
+add-out c = search needs
+
+slice-write-out : tie.Need-slice-write-out Inv-loop μ-loop
+slice-write-out c = omega (arith, c .before .before .loop .inv .size, c .before .before .loop .inv .fits, spelt-long (c .before .before .loop .inv), c .before .loop-test .taken)
+
+div-rest : tie.Need-div-rest Inv-loop μ-loop
+div-rest c = omega (arith, c .before .before .before .before .pre .0)
+
+loop-less : tie.Need-loop-less Inv-loop μ-loop
+loop-less c = omega (arith, c .before .loop-test .taken)
+
+loop-again : tie.Need-loop-again Inv-loop μ-loop
+loop-again c = rw (c .glyph .ensures) (spelt-next (c .before .before .loop .inv) (c .before .loop-test .taken))
+
+same-length : tie.Need-same-length Inv-loop μ-loop
+same-length c = spelt-long (c .before .loop .inv)
+
+returns : tie.Need-returns Inv-loop μ-loop
+returns c = spelt-end (c .before .loop .inv) (c .loop-test .left)
+
+pub write-digits-spec : {M : Type 1} → statement M
+write-digits-spec =
+    tie.close
+    (tie.spec
+    Inv-loop
+    μ-loop
+    loop-holds
+    sub-i
+    rem-glyph
+    glyph-requires
+    add-out
+    slice-write-out
+    div-rest
+    loop-less
+    loop-again
+    same-length
+    returns)

@@ -1,0 +1,63 @@
+use mathlib.Core.Path.{_≡_, refl}
+use Prim.Native.Nat.{_-_, _≤_}
+use native.Mathlib.Omega.{arith}
+use lib.ListN.{length}
+use Rattle.listing.proofs.Writing.{Copied, as-long, copied-start, copied-next, copied-end}
+use borrow.Author.Needs.{needs}
+use Rattle.listing.proofs.lines.write_text.Statement.{statement}
+use Rattle.listing.proofs.lines.write_text.Tie as tie
+use Rattle.listing.proofs.lines.write_text.Reads as reads
+use Rattle.listing.proofs.lines.write_text.Lts as lts
+
+abbrev Inv-loop : tie.InvT-loop
+Inv-loop text out₀ at n i₀ out i = Copied text out₀ at out i × (i ≤ n) × (n ≡ length text)
+
+abbrev μ-loop : tie.MeasureT-loop
+μ-loop text out₀ at n i₀ out i = n - i
+
+loop-holds : tie.Need-loop-holds Inv-loop μ-loop
+loop-holds c = (copied-start _ _ _ (c .pre), omega arith, refl)
+
+shared-slice-read-out : tie.Need-shared-slice-read-out Inv-loop μ-loop
+shared-slice-read-out c = search needs
+
+add-out : tie.Need-add-out Inv-loop μ-loop
+add-out c = omega (arith, c .before .before .before .pre, c .before .before .loop .inv .2, c .before .loop-test .taken)
+
+slice-write-out : tie.Need-slice-write-out Inv-loop μ-loop
+slice-write-out c = omega (arith, as-long (c .before .before .loop .inv .0), c .before .before .before .pre, c .before .before .loop .inv .2, c .before .loop-test .taken)
+
+add-i : tie.Need-add-i Inv-loop μ-loop
+add-i c = omega (arith, c .before .loop-test .taken)
+
+loop-less : tie.Need-loop-less Inv-loop μ-loop
+loop-less c = omega (arith, c .before .loop-test .taken)
+
+loop-again : tie.Need-loop-again Inv-loop μ-loop
+loop-again c = (copied-next _ _ _ _ _ (omega (arith, c .before .before .loop .inv .2, c .before .loop-test .taken)) (c .before .before .loop .inv .0), omega (arith, c .before .loop-test .taken), c .before .before .loop .inv .2)
+
+add-result : tie.Need-add-result Inv-loop μ-loop
+add-result c = search needs
+
+same-length : tie.Need-same-length Inv-loop μ-loop
+same-length c = as-long (c .before .loop .inv .0)
+
+returns : tie.Need-returns Inv-loop μ-loop
+returns c = copied-end _ _ _ _ _ _ (c .before .loop .inv .2) (c .loop-test .left) (c .before .loop .inv .1) (c .before .loop .inv .0)
+
+pub write-text-spec : {M : Type 1} → statement M
+write-text-spec =
+    tie.close
+    (tie.spec
+    Inv-loop
+    μ-loop
+    loop-holds
+    shared-slice-read-out
+    add-out
+    slice-write-out
+    add-i
+    loop-less
+    loop-again
+    add-result
+    same-length
+    returns)

@@ -1,0 +1,98 @@
+use mathlib.Core.Path.{_∙_, sym}
+use native.Mathlib.Omega.{arith}
+use Rattle.listing.proofs.Writing.{room, next, done, as-long}
+use Rattle.listing.proofs.Sizing.{no-header, no-records, no-room, listing-start}
+use borrow.Author.Needs.{needs}
+use Rattle.listing.proofs.listing.write_listing.Statement.{statement}
+use Rattle.listing.proofs.listing.write_listing.Tie as tie
+use Rattle.listing.proofs.listing.write_listing.Reads as reads
+use Rattle.listing.proofs.listing.write_listing.Lts as lts
+use Rattle.listing.proofs.listing.size.Reads as size-reads
+use Rattle.listing.proofs.listing.write_kept.Reads as write-kept-reads
+use Rattle.listing.proofs.walk.write_boundaries.Reads as write-boundaries-reads
+use Rattle.wire.proofs.read_u32.Reads as read-u32-reads
+
+returns : tie.Need-returns
+returns c = (no-header _ _ (c .if1 .taken), omega arith)
+
+read-u32-requires : tie.Need-read-u32-requires
+read-u32-requires c κs = search needs
+
+size-requires : tie.Need-size-requires
+size-requires c κs = search needs
+
+read-u32-requires-2 : tie.Need-read-u32-requires-2
+read-u32-requires-2 c κs = search needs
+
+size-requires-2 : tie.Need-size-requires-2
+size-requires-2 c κs = search needs
+
+read-u32-requires-3 : tie.Need-read-u32-requires-3
+read-u32-requires-3 c κs = search needs
+
+size-requires-3 : tie.Need-size-requires-3
+size-requires-3 c κs = search needs
+
+mul-observation : tie.Need-mul-observation
+mul-observation c = search needs
+
+add-observation : tie.Need-add-observation
+add-observation c = search needs
+
+mul-source : tie.Need-mul-source
+mul-source c = search needs
+
+add-source : tie.Need-add-source
+add-source c = search needs
+
+mul-total : tie.Need-mul-total
+mul-total c = search needs
+
+add-total : tie.Need-add-total
+add-total c = search needs
+
+returns-2 : tie.Need-returns-2
+returns-2 c = (no-records _ _ (omega (arith, c .if2 .taken, c .before .size3 .ensures .0, c .before .before .read-u323 .ensures, c .before .before .before .size2 .ensures .0, c .before .before .before .before .read-u322 .ensures, c .before .before .before .before .before .size .ensures .0, c .before .before .before .before .before .before .read-u32 .ensures)), omega arith)
+
+mul-if3 : tie.Need-mul-if3
+mul-if3 c = search needs
+
+returns-3 : tie.Need-returns-3
+returns-3 c = (no-room _ _ (omega (arith, c .if3 .taken, c .before .before .size3 .ensures .0, c .before .before .before .read-u323 .ensures, c .before .before .before .before .size2 .ensures .0, c .before .before .before .before .before .read-u322 .ensures, c .before .before .before .before .before .before .size .ensures .0, c .before .before .before .before .before .before .before .read-u32 .ensures)), omega arith)
+
+write-kept-requires : tie.Need-write-kept-requires
+write-kept-requires c κs = room (listing-start (c .before .before .before .before .before .before .before .before .before .before .before .before .args .answer .now) (c .before .before .before .before .before .before .before .before .before .before .before .before .args .out .now) (λ i. c .before .before .before .before .before .before .before .before .before .before .before .shared-slice-known .given i .fits) _ _ _ (c .before .before .before .before .before .before .before .size .ensures .0 ∙ c .before .before .before .before .before .before .before .before .read-u32 .ensures) (c .before .before .before .before .before .size2 .ensures .0 ∙ c .before .before .before .before .before .before .read-u322 .ensures) (c .before .before .before .size3 .ensures .0 ∙ c .before .before .before .before .read-u323 .ensures) (c .before .before .before .before .before .before .before .size .ensures .1) (c .before .before .before .before .before .size2 .ensures .1) (c .before .before .before .size3 .ensures .1) (omega (arith, c .before .before .if2 .left)) (omega (arith, c .before .if3 .left)) _ (sym (c .before .before .before .before .before .before .before .size .ensures .0)))
+
+write-boundaries-requires : tie.Need-write-boundaries-requires
+write-boundaries-requires c κs = (record { observations = omega (arith, c .before .before .before .before .before .before .if2 .left); sources = omega (arith, c .before .before .before .before .before .before .if2 .left) }, omega (arith, c .before .before .before .before .before .before .if2 .left), room (next (listing-start (c .before .before .before .before .before .before .before .before .before .before .before .before .before .before .before .before .args .answer .now) (c .before .before .before .before .before .before .before .before .before .before .before .before .before .before .before .before .args .out .now) (λ i. c .before .before .before .before .before .before .before .before .before .before .before .before .before .before .before .shared-slice-known .given i .fits) _ _ _ (c .before .before .before .before .before .before .before .before .before .before .before .size .ensures .0 ∙ c .before .before .before .before .before .before .before .before .before .before .before .before .read-u32 .ensures) (c .before .before .before .before .before .before .before .before .before .size2 .ensures .0 ∙ c .before .before .before .before .before .before .before .before .before .before .read-u322 .ensures) (c .before .before .before .before .before .before .before .size3 .ensures .0 ∙ c .before .before .before .before .before .before .before .before .read-u323 .ensures) (c .before .before .before .before .before .before .before .before .before .before .before .size .ensures .1) (c .before .before .before .before .before .before .before .before .before .size2 .ensures .1) (c .before .before .before .before .before .before .before .size3 .ensures .1) (omega (arith, c .before .before .before .before .before .before .if2 .left)) (omega (arith, c .before .before .before .before .before .if3 .left)) _ (sym (c .before .before .before .before .before .before .before .before .before .before .before .size .ensures .0))) (c .before .before .before .write-kept .ensures)))
+
+same-length : tie.Need-same-length
+same-length c = search needs
+
+returns-4 : tie.Need-returns-4
+returns-4 c = let l = next (next (listing-start (c .before .before .before .before .before .before .before .before .before .before .before .before .before .before .before .before .before .before .before .args .answer .now) (c .before .before .before .before .before .before .before .before .before .before .before .before .before .before .before .before .before .before .before .args .out .now) (λ i. c .before .before .before .before .before .before .before .before .before .before .before .before .before .before .before .before .before .before .shared-slice-known .given i .fits) _ _ _ (c .before .before .before .before .before .before .before .before .before .before .before .before .before .before .size .ensures .0 ∙ c .before .before .before .before .before .before .before .before .before .before .before .before .before .before .before .read-u32 .ensures) (c .before .before .before .before .before .before .before .before .before .before .before .before .size2 .ensures .0 ∙ c .before .before .before .before .before .before .before .before .before .before .before .before .before .read-u322 .ensures) (c .before .before .before .before .before .before .before .before .before .before .size3 .ensures .0 ∙ c .before .before .before .before .before .before .before .before .before .before .before .read-u323 .ensures) (c .before .before .before .before .before .before .before .before .before .before .before .before .before .before .size .ensures .1) (c .before .before .before .before .before .before .before .before .before .before .before .before .size2 .ensures .1) (c .before .before .before .before .before .before .before .before .before .before .size3 .ensures .1) (omega (arith, c .before .before .before .before .before .before .before .before .before .if2 .left)) (omega (arith, c .before .before .before .before .before .before .before .before .if3 .left)) _ (sym (c .before .before .before .before .before .before .before .before .before .before .before .before .before .before .size .ensures .0))) (c .before .before .before .before .before .before .write-kept .ensures)) (c .before .before .write-boundaries .ensures) in (done l, omega (arith, l .fits, as-long l, done l .end))
+
+pub write-listing-spec : {M : Type 1} → statement M
+write-listing-spec =
+    tie.close
+    (tie.spec
+    returns
+    read-u32-requires
+    size-requires
+    read-u32-requires-2
+    size-requires-2
+    read-u32-requires-3
+    size-requires-3
+    mul-observation
+    add-observation
+    mul-source
+    add-source
+    mul-total
+    add-total
+    returns-2
+    mul-if3
+    returns-3
+    write-kept-requires
+    write-boundaries-requires
+    same-length
+    returns-4)

@@ -1,0 +1,58 @@
+use Prim.Native.Nat.{_-_}
+use native.Mathlib.Omega.{arith}
+use Rattle.listing.proofs.Writing.{as-long}
+use Rattle.listing.proofs.Steps.{BoundariesLeft, boundaries-start, boundary-room, boundaries-next, boundaries-written}
+use Rattle.listing.proofs.walk.write_boundaries.Statement.{statement}
+use Rattle.listing.proofs.walk.write_boundaries.Tie as tie
+use Rattle.listing.proofs.walk.write_boundaries.Reads as reads
+use Rattle.listing.proofs.walk.write_boundaries.Lts as lts
+use Rattle.listing.proofs.walk.write_boundary.Reads as write-boundary-reads
+
+abbrev Inv-loop : tie.InvT-loop
+Inv-loop answer place n out₀ i₀ d₀ out i d = BoundariesLeft answer place n d₀ out₀ out i d
+
+abbrev μ-loop : tie.MeasureT-loop
+μ-loop answer place n out₀ i₀ d₀ out i d = n - i
+
+loop-holds : tie.Need-loop-holds Inv-loop μ-loop
+loop-holds c = boundaries-start _ _ _ _ _ (c .before .before .pre .0) (c .before .before .pre .2)
+
+mul-write-boundary : tie.Need-mul-write-boundary Inv-loop μ-loop
+mul-write-boundary c = omega (arith, c .before .before .before .before .pre .1, c .loop-test .taken)
+
+add-write-boundary : tie.Need-add-write-boundary Inv-loop μ-loop
+add-write-boundary c = omega (arith, c .before .before .before .before .pre .1, c .loop-test .taken)
+
+write-boundary-requires : tie.Need-write-boundary-requires Inv-loop μ-loop
+write-boundary-requires c κs = (c .before .before .loop .inv .inside, omega (arith, c .before .before .before .before .before .pre .1, c .before .loop-test .taken), boundary-room _ _ _ _ _ (c .before .before .loop .inv) (c .before .loop-test .taken))
+
+add-i : tie.Need-add-i Inv-loop μ-loop
+add-i c = omega (arith, c .before .before .before .before .loop-test .taken)
+
+loop-less : tie.Need-loop-less Inv-loop μ-loop
+loop-less c = omega (arith, c .before .before .before .before .loop-test .taken)
+
+loop-again : tie.Need-loop-again Inv-loop μ-loop
+loop-again c = boundaries-next _ _ _ _ _ (c .before .before .before .before .before .loop .inv) (c .before .before .before .before .loop-test .taken) _ (c .before .before .write-boundary .ensures .0) (c .before .before .write-boundary .ensures .1)
+
+same-length : tie.Need-same-length Inv-loop μ-loop
+same-length c = as-long (c .before .loop .inv .text)
+
+returns : tie.Need-returns Inv-loop μ-loop
+returns c = boundaries-written _ _ _ _ _ (c .before .loop .inv) (c .loop-test .left)
+
+pub write-boundaries-spec : {M : Type 1} → statement M
+write-boundaries-spec =
+    tie.close
+    (tie.spec
+    Inv-loop
+    μ-loop
+    loop-holds
+    mul-write-boundary
+    add-write-boundary
+    write-boundary-requires
+    add-i
+    loop-less
+    loop-again
+    same-length
+    returns)

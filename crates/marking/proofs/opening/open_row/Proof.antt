@@ -1,0 +1,88 @@
+use mathlib.Core.List.{List, []}
+use mathlib.Core.Path.{_≡_, refl, sym, _∙_, subst}
+use Prim.Native.Nat.{ℕ, _+_, _-_, _*_, _≤_}
+use native.Mathlib.Omega.{arith}
+use lib.ListN.{length, set, length-set}
+use Rattle.areas.specs.Open.{openByte}
+use Rattle.grid.proofs.Reach.{gridOf}
+use Rattle.grid.specs.Directions.{directionsOf}
+use Rattle.marking.proofs.Filled.{held-next, held-count}
+use Rattle.marking.proofs.Halves.{place-in}
+use Rattle.marking.specs.Marks.{Held}
+use Rattle.marking.proofs.opening.open_row.Statement.{statement}
+use Rattle.marking.proofs.opening.open_row.Tie as tie
+
+abbrev Inv-loop : tie.InvT-loop
+Inv-loop cells width height directions y work₀ base x₀ work x = (x ≤ width) × (length work ≡ length work₀) × ((before : List ℕ) → Held base (y * width) (openByte (directionsOf directions) (gridOf width height cells) []) before work₀ → Held base (y * width + x) (openByte (directionsOf directions) (gridOf width height cells) []) before work)
+
+abbrev μ-loop : tie.MeasureT-loop
+μ-loop cells width height directions y work₀ base x₀ work x = width - x
+
+loop-holds : tie.Need-loop-holds Inv-loop μ-loop
+loop-holds c =
+    let start = c .before .before in
+    (omega arith, refl, λ b h. held-count (start .args .y * start .args .width + 0) (omega arith) h)
+
+byte-of-requires : tie.Need-byte-of-requires Inv-loop μ-loop
+byte-of-requires c κs =
+    let start = c .before .before .before .before in
+    let on = place-in (start .args .width) (start .args .height) (c .before .loop .x) (start .args .y) (c .loop-test .taken) (start .pre .3) in
+    omega (arith, c .before .loop .inv .1)
+
+open-byte-requires : tie.Need-open-byte-requires Inv-loop μ-loop
+open-byte-requires c κs = record { wide = omega arith; high = omega arith; whole = c .before .before .before .before .before .pre .1; column = c .before .loop-test .taken; row = c .before .before .before .before .before .pre .3 }
+
+slice-write-work : tie.Need-slice-write-work Inv-loop μ-loop
+slice-write-work c =
+    let start = c .before .before .before .before .before .before in
+    let on = place-in (start .args .width) (start .args .height) (c .before .before .before .loop .x) (start .args .y) (c .before .before .loop-test .taken) (start .pre .3) in
+    omega (arith, c .before .before .before .loop .inv .1, c .before .byte-of .ensures)
+
+add-x : tie.Need-add-x Inv-loop μ-loop
+add-x c = omega arith
+
+loop-less : tie.Need-loop-less Inv-loop μ-loop
+loop-less c = omega arith
+
+loop-again : tie.Need-loop-again Inv-loop μ-loop
+loop-again c =
+    let start = c .before .before .before .before .before .before in
+    let x = c .before .before .before .loop .x in
+    let w = start .args .width in
+    let y = start .args .y in
+    let work = c .before .before .before .loop .work in
+    let v = c .open-byte .result in
+    let f = openByte (directionsOf (start .args .directions)) (gridOf w (start .args .height) (start .args .cells .now)) [] in
+    let on = place-in w (start .args .height) x y (c .before .before .loop-test .taken) (start .pre .3) in
+    let same = c .before .before .before .loop .inv .1 in (
+      omega arith,
+      length-set work (c .before .byte-of .result) v ∙ same,
+      λ b h.
+          subst (λ (k : ℕ). Held (start .args .base) (y * w + (x + 1)) f b (set work k v)) (sym (c .before .byte-of .ensures))
+          (held-count (y * w + (x + 1)) (omega arith) (held-next v (omega arith) (c .open-byte .ensures) (c .before .before .before .loop .inv .2 b h))),
+    )
+
+same-length : tie.Need-same-length Inv-loop μ-loop
+same-length c = c .before .loop .inv .1
+
+returns : tie.Need-returns Inv-loop μ-loop
+returns c =
+    let start = c .before .before .before .before in
+    let z = c .before .loop .inv .0 in
+    λ b h. held-count ((start .args .y + 1) * start .args .width) (let e : c .before .loop .x ≡ start .args .width = omega (arith, z, c .loop-test .left) in omega arith) (c .before .loop .inv .2 b h)
+
+pub open-row-spec : {M : Type 1} → statement M
+open-row-spec =
+    tie.close
+    (tie.spec
+    Inv-loop
+    μ-loop
+    loop-holds
+    byte-of-requires
+    open-byte-requires
+    slice-write-work
+    add-x
+    loop-less
+    loop-again
+    same-length
+    returns)

@@ -1,0 +1,66 @@
+use mathlib.Core.List.{[]}
+use mathlib.Core.Path.{_≡_, refl, sym, _∙_, ap}
+use Prim.Native.Nat.{ℕ, _-_, _*_, _≤_}
+use native.Mathlib.Nat.{zero-mul, mul-comm}
+use native.Mathlib.Omega.{arith}
+use lib.ListN.{length}
+use Rattle.areas.specs.Open.{openByte}
+use Rattle.grid.proofs.Reach.{gridOf}
+use Rattle.grid.specs.Directions.{directionsOf}
+use Rattle.marking.proofs.Filled.{held-none, held-count, held-splice}
+use Rattle.marking.specs.Marks.{Held}
+use Rattle.marking.proofs.opening.open_steps.Statement.{statement}
+use Rattle.marking.proofs.opening.open_steps.Tie as tie
+
+abbrev Inv-loop : tie.InvT-loop
+Inv-loop cells width height directions work₀ base y₀ work y = (y ≤ height) × (length work ≡ length work₀) × Held base (y * width) (openByte (directionsOf directions) (gridOf width height cells) []) work₀ work
+
+abbrev μ-loop : tie.MeasureT-loop
+μ-loop cells width height directions work₀ base y₀ work y = height - y
+
+loop-holds : tie.Need-loop-holds Inv-loop μ-loop
+loop-holds c =
+    let start = c .before .before in
+    (omega arith, refl, held-count (0 * start .args .width) (sym (zero-mul (start .args .width))) (held-none (start .args .base) (openByte (directionsOf (start .args .directions)) (gridOf (start .args .width) (start .args .height) (start .args .cells .now)) []) (start .args .work .now)))
+
+open-row-requires : tie.Need-open-row-requires Inv-loop μ-loop
+open-row-requires c κs =
+    let start = c .before .before .before .before .before in
+    (start .pre .0, start .pre .1, omega (arith, c .before .before .loop .inv .1), c .before .loop-test .taken)
+
+add-y : tie.Need-add-y Inv-loop μ-loop
+add-y c = omega arith
+
+loop-less : tie.Need-loop-less Inv-loop μ-loop
+loop-less c = omega arith
+
+loop-again : tie.Need-loop-again Inv-loop μ-loop
+loop-again c = (omega (arith, c .before .before .before .before .loop-test .taken), c .before .before .open-row .kept .1 .1 .1 .1 .1 .0 ∙ c .before .before .before .before .before .loop .inv .1, c .before .before .open-row .ensures (c .before .before .before .before .before .before .before .before .args .work .now) (c .before .before .before .before .before .loop .inv .2))
+
+same-length : tie.Need-same-length Inv-loop μ-loop
+same-length c = c .before .loop .inv .1
+
+returns : tie.Need-returns Inv-loop μ-loop
+returns c =
+    let start = c .before .before .before .before in
+    let w = start .args .width in
+    let h = start .args .height in
+    let cs = start .args .cells .now in
+    let z = c .before .loop .inv .0 in
+    let e : c .before .loop .y ≡ h = omega (arith, z, c .loop-test .left) in
+    let n : c .before .loop .y * w ≡ length cs = ap (λ (k : ℕ). k * w) e ∙ mul-comm h w ∙ sym (start .pre .1) in
+    held-splice (start .args .work .now) (start .args .base) (length cs) (openByte (directionsOf (start .args .directions)) (gridOf w h cs) []) (omega (arith, start .pre .1)) (held-count (length cs) n (c .before .loop .inv .2))
+
+pub open-steps-spec : {M : Type 1} → statement M
+open-steps-spec =
+    tie.close
+    (tie.spec
+    Inv-loop
+    μ-loop
+    loop-holds
+    open-row-requires
+    add-y
+    loop-less
+    loop-again
+    same-length
+    returns)
