@@ -4,7 +4,7 @@ use native.Mathlib.Omega.{arith}
 use lib.ListN.{length, getD, set, length-set}
 use borrow.Author.Needs.{needs}
 use Rattle.ranks.specs.Tables.{Identity}
-use Rattle.ranks.proofs.Laws.{entry-next}
+use Rattle.ranks.proofs.Laws.{identity-next}
 use Rattle.ranks.proofs.fill_identity.Statement.{statement}
 use Rattle.ranks.proofs.fill_identity.Tie as tie
 use Rattle.ranks.proofs.fill_identity.Reads as reads
@@ -35,10 +35,10 @@ loop-less : tie.Need-loop-less Inv-loop μ-loop
 loop-less c = search needs
 
 loop-again : tie.Need-loop-again Inv-loop μ-loop
-loop-again c = search needs
+loop-again c = (length-set (c .before .loop .order) (c .before .loop .i) (c .before .loop .i) ∙ c .before .loop .inv .0, identity-next (c .before .loop .i) (c .before .loop .order) (c .before .loop .inv .0) (omega (arith, c .loop-test .taken)) (c .before .loop .inv .1), omega (arith, c .loop-test .taken))
 
 returns : tie.Need-returns Inv-loop μ-loop
-returns c = search needs
+returns c = record { whole = c .before .loop .inv .0; each = λ k h. c .before .loop .inv .1 k (omega (arith, c .loop-test .left)) }
 
 pub fill-identity-spec : {M : Type 1} → statement M
 fill-identity-spec =

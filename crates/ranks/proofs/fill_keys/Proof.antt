@@ -3,8 +3,9 @@ use Prim.Native.Nat.{ℕ, _+_, _-_, _*_, _≤_, _<_}
 use native.Mathlib.Omega.{arith}
 use lib.ListN.{length, getD, set, length-set}
 use borrow.Author.Needs.{needs}
+use Rattle.position.specs.Order.{canonical}
 use Rattle.ranks.specs.Tables.{KeysOf}
-use Rattle.ranks.proofs.Laws.{entry-next}
+use Rattle.ranks.proofs.Laws.{keys-start, keys-next}
 use Rattle.ranks.proofs.fill_keys.Statement.{statement}
 use Rattle.ranks.proofs.fill_keys.Tie as tie
 use Rattle.ranks.proofs.fill_keys.Reads as reads
@@ -20,7 +21,7 @@ abbrev μ-loop : tie.MeasureT-loop
 μ-loop s at n first₀ second₀ i₀ first second i = n - i
 
 loop-holds : tie.Need-loop-holds Inv-loop μ-loop
-loop-holds c = search needs
+loop-holds c = (keys-start (c .before .pre .2) (c .before .pre .3), omega arith)
 
 mul-read-span : tie.Need-mul-read-span Inv-loop μ-loop
 mul-read-span c = search needs
@@ -59,10 +60,10 @@ loop-less : tie.Need-loop-less Inv-loop μ-loop
 loop-less c = search needs
 
 loop-again : tie.Need-loop-again Inv-loop μ-loop
-loop-again c = search needs
+loop-again c = (keys-next (c .before .before .before .before .before .loop .inv .0) (omega (arith, c .before .before .before .before .loop-test .taken, c .before .before .before .before .before .before .before .pre .0)) (c .before .before .canonical .ensures ∙ ap canonical (c .before .before .before .read-span .ensures)) (c .before .pack .ensures) (c .pack2 .ensures), omega (arith, c .before .before .before .before .loop-test .taken))
 
 returns : tie.Need-returns Inv-loop μ-loop
-returns c = search needs
+returns c = let e : c .before .loop .i ≡ c .before .before .before .args .n = omega (arith, c .before .loop .inv .1, c .loop-test .left) in rw (← e) (c .before .loop .inv .0)
 
 pub fill-keys-spec : {M : Type 1} → statement M
 fill-keys-spec =

@@ -4,7 +4,7 @@ use native.Mathlib.Omega.{arith}
 use lib.ListN.{length, getD, set, length-set}
 use borrow.Author.Needs.{needs}
 use Rattle.ranks.specs.Tables.{Records, RampsOf}
-use Rattle.ranks.proofs.Laws.{entry-next}
+use Rattle.ranks.proofs.Laws.{ramps-start, ramps-next}
 use Rattle.ranks.proofs.fill_ramps.Statement.{statement}
 use Rattle.ranks.proofs.fill_ramps.Tie as tie
 use Rattle.ranks.proofs.fill_ramps.Reads as reads
@@ -18,7 +18,7 @@ abbrev μ-loop : tie.MeasureT-loop
 μ-loop s at order n ramps₀ i₀ ramps i = n - i
 
 loop-holds : tie.Need-loop-holds Inv-loop μ-loop
-loop-holds c = search needs
+loop-holds c = (ramps-start (c .before .pre .1), omega arith)
 
 record-place-requires : tie.Need-record-place-requires Inv-loop μ-loop
 record-place-requires c κs = search needs
@@ -39,10 +39,10 @@ loop-less : tie.Need-loop-less Inv-loop μ-loop
 loop-less c = search needs
 
 loop-again : tie.Need-loop-again Inv-loop μ-loop
-loop-again c = search needs
+loop-again c = (ramps-next (c .before .before .before .loop .inv .0) (omega (arith, c .before .before .loop-test .taken, c .before .before .before .before .before .pre .0 .few)) (c .before .record-place .ensures .0), omega (arith, c .before .before .loop-test .taken))
 
 returns : tie.Need-returns Inv-loop μ-loop
-returns c = search needs
+returns c = let e : c .before .loop .i ≡ c .before .before .before .args .n = omega (arith, c .before .loop .inv .1, c .loop-test .left) in rw (← e) (c .before .loop .inv .0)
 
 pub fill-ramps-spec : {M : Type 1} → statement M
 fill-ramps-spec =

@@ -6,7 +6,7 @@ use borrow.Author.Needs.{needs}
 use Rattle.wire.specs.Bytes.{u64At}
 use Rattle.format.specs.Sizes.{boundarySize}
 use Rattle.ranks.specs.Tables.{recordPlace, Records, WidthsOf}
-use Rattle.ranks.proofs.Laws.{entry-next}
+use Rattle.ranks.proofs.Laws.{widths-start, widths-next}
 use Rattle.ranks.proofs.fill_widths.Statement.{statement}
 use Rattle.ranks.proofs.fill_widths.Tie as tie
 use Rattle.ranks.proofs.fill_widths.Reads as reads
@@ -21,7 +21,7 @@ abbrev μ-loop : tie.MeasureT-loop
 μ-loop s at order n bits₀ i₀ bits i = n - i
 
 loop-holds : tie.Need-loop-holds Inv-loop μ-loop
-loop-holds c = (record { whole = c .before .pre .1; each = λ k h. absurd (omega arith) }, omega arith)
+loop-holds c = (widths-start (c .before .pre .1), omega arith)
 
 record-place-requires : tie.Need-record-place-requires Inv-loop μ-loop
 record-place-requires c κs = search needs
@@ -45,7 +45,7 @@ loop-less : tie.Need-loop-less Inv-loop μ-loop
 loop-less c = search needs
 
 loop-again : tie.Need-loop-again Inv-loop μ-loop
-loop-again c = let v = c .before .before .before .loop .inv .0 in let a = c .before .before .before .before .before .args in (record { whole = length-set _ _ _ ∙ v .whole; each = entry-next (λ k. u64At (a .s .now) (recordPlace (a .at) boundarySize (a .order .now) k + 16)) (c .before .before .before .loop .bits) (c .before .before .before .loop .i) (let z = v .whole in let w = c .before .before .before .before .before .pre .0 .few in omega (arith, c .before .before .loop-test .taken)) (c .read-u64 .ensures ∙ ap (λ p. u64At (a .s .now) (p + 16)) (c .before .record-place .ensures .0)) (v .each) }, omega (arith, c .before .before .loop-test .taken))
+loop-again c = (widths-next (c .before .before .before .loop .inv .0) (omega (arith, c .before .before .loop-test .taken, c .before .before .before .before .before .pre .0 .few)) (c .before .record-place .ensures .0) (c .read-u64 .ensures), omega (arith, c .before .before .loop-test .taken))
 
 returns : tie.Need-returns Inv-loop μ-loop
 returns c = let e : c .before .loop .i ≡ c .before .before .before .args .n = omega (arith, c .before .loop .inv .1, c .loop-test .left) in rw (← e) (c .before .loop .inv .0)
