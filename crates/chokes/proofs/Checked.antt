@@ -1,7 +1,7 @@
 -- What the checks that passed say of each boundary of a job and of each span of a list.
-use mathlib.Core.Path.{_≡_, refl, sym, _∙_}
-use mathlib.Core.Bool.{Bool, true, false, cond, _&&_}
-use mathlib.Core.List.{List, _∷_, _++_}
+use mathlib.Core.Path.{_≡_, refl, _∙_}
+use mathlib.Core.Bool.{Bool, true, false, cond}
+use mathlib.Core.List.{List}
 use mathlib.Core.Option.{none}
 use Prim.Native.Nat.{ℕ, _+_, _*_, _/_, _<_, _≤_}
 use native.Mathlib.Omega.{arith}
@@ -26,10 +26,11 @@ use Rattle.format.proofs.BoundaryTrips.{boundaries-decoded}
 use Rattle.format.proofs.JobTrip.{decode-fits}
 use Rattle.areas.specs.Bounds.{Bounded}
 use Rattle.areas.specs.Spans.{SpanFits, Sides}
-use Rattle.job.specs.Checks.{firstRefusal, check, each}
+use Rattle.job.specs.Checks.{firstRefusal, each}
 use Rattle.job.specs.Faults.{positionFault, endsFault, widthFault}
 use Rattle.job.specs.Refusals.{layoutChecks, recordChecks, jobChecks, sumsFault, cellCheck, baseCheck, rampCheck, widthCheck, spanChecks, endsCheck, endsChecks, spanCheck, listChecks, boundaryChecks, byListChecks}
 use Rattle.job.proofs.Firsts.{none-left, none-right, none-head, each-none}
+use Rattle.job.proofs.Limits.{sections}
 use Rattle.job.proofs.Passing.{job-passed}
 use Rattle.job.proofs.Formed.{job-formed}
 
@@ -97,6 +98,7 @@ boundariesAt s = boundariesStart (countsAt s 0)
 -- of a job past 1 to 11, and past 12 where `distinct`
 pub record Checked (distinct : Bool) (s : List ℕ) : Type 0 where
   pub allowed : CountsAllowed (countsAt s 0)
+  pub start : headerAt s .offsets .boundaries ≡ boundariesAt s
   pub inside : boundariesAt s + countsAt s 0 .boundaries * boundarySize ≤ length s
   pub count : length (decode s .boundaries) ≡ countsAt s 0 .boundaries
   pub fits : All BoundaryFits (decode s .boundaries)
@@ -151,6 +153,7 @@ checked distinct s a e =
     let l = formed .total in
     record {
       allowed = p .1 .within;
+      start = sections s (headerAt s) (p .1) .boundaries-at;
       inside = omega (arith, l);
       count = boundaries-decoded s (boundariesStart c) (c .boundaries) (c .observations) (c .sources);
       fits = decode-fits s a formed (p .1 .within) .boundaries;

@@ -8,8 +8,8 @@ use native.Mathlib.Omega.{arith}
 use lib.ListN.{length, getD, length-map}
 use Rattle.lists.specs.Rows.{All, rows}
 use Rattle.lists.proofs.Each.{all-at}
-use Rattle.order.specs.Sorting.{insert, sort, byPlace}
-use Rattle.order.specs.Keys.{byKey, lexLe}
+use Rattle.order.specs.Sorting.{sort, byPlace}
+use Rattle.order.specs.Keys.{byKey}
 use Rattle.order.specs.Lists.{upFrom}
 use Rattle.order.proofs.Members.{perm-mem, getD-mem, map-ext}
 use Rattle.order.proofs.Merge.{sort-length}
@@ -19,7 +19,7 @@ use Rattle.order.proofs.Sort.{sort-perm, sort-map}
 use Rattle.position.specs.Order.{canonical}
 use Rattle.position.specs.declared.Span.{Span}
 use Rattle.position.proofs.Order.{canonical-again}
-use Rattle.wire.specs.Bytes.{part, splice}
+use Rattle.wire.specs.Bytes.{splice}
 use Rattle.wire.proofs.Parts.{part-at, splice-same}
 use Rattle.format.specs.Sizes.{boundarySize}
 use Rattle.format.specs.Records.{spanAt}
@@ -30,7 +30,7 @@ use Rattle.areas.specs.Areas.{areaLabels}
 use Rattle.areas.specs.Assessments.{records}
 use Rattle.areas.proofs.Areas.{labels-depend-on-the-set}
 use Rattle.areas.proofs.Listed.{perm-same, records-count}
-use Rattle.topology.specs.Listing.{Item, itemKey, endsKey}
+use Rattle.topology.specs.Listing.{Item, itemKey}
 use Rattle.groups.specs.Listing.{noSpan, noItem, spansOf}
 use Rattle.merging.specs.Copies.{canon, copiesOf}
 use Rattle.merging.specs.Kept.{noBoundary}
@@ -38,24 +38,10 @@ use Rattle.merging.specs.Follows.{endsLe, placesOf}
 use Rattle.merging.specs.Runs.{itemOf, itemsOf, canonItem}
 use Rattle.merging.proofs.Copies.{key-canon}
 use Rattle.merging.proofs.Kept.{copies-places}
-use Rattle.merging.proofs.Packed.{packFirst, packSecond, ends-packed}
+use Rattle.merging.proofs.Packed.{packFirst, packSecond, ends-packed, sort-alike}
 use Rattle.ranks.specs.Tables.{KeysOf}
 use Rattle.sorting.specs.Orders.{byTwo}
 use Rattle.chokes.proofs.Planned.{listed}
-
--- orders that agree on the members sort them alike
-module _ {A : Type 0} (le other : A → A → Bool) where
-  insert-alike : (a : A) (l : List A) → ((y : A) → List·Memᴰ y l → le a y ≡ other a y) → insert le a l ≡ insert other a l
-  unfolding insert
-  insert-alike a [] h = refl
-  insert-alike a (x ∷ xs) h = rw (h x (List·Memᴰ·head refl), insert-alike a xs (λ y m. h y (List·Memᴰ·tail m))) refl
-
-  pub sort-alike : (l : List A) → ((x y : A) → List·Memᴰ x l → List·Memᴰ y l → le x y ≡ other x y) → sort le l ≡ sort other l
-  unfolding sort
-  sort-alike [] h = refl
-  sort-alike (x ∷ xs) h =
-      ap (insert le x) (sort-alike xs (λ y z m n. h y z (List·Memᴰ·tail m) (List·Memᴰ·tail n)))
-      ∙ insert-alike x (sort other xs) (λ y m. h x y (List·Memᴰ·head refl) (List·Memᴰ·tail (perm-mem (Permᴰ·symm (sort-perm other xs)) m)))
 
 -- what a map gives at a place
 pub map-at : {A B : Type 0} (f : A → B) (l : List A) (i : ℕ) (d : A) (z : B) → i < length l → getD (map f l) i z ≡ f (getD l i d)

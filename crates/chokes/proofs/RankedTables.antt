@@ -1,12 +1,11 @@
 -- The arrays by rank are the listing of a job that passed its checks.
 use mathlib.Core.Path.{_≡_, refl, sym, _∙_, ap, subst}
-use mathlib.Core.Bool.{Bool, true, false}
+use mathlib.Core.Bool.{Bool, true}
 use mathlib.Core.List.{List, map, map-map}
 use Prim.Native.Nat.{ℕ, _+_, _*_, _/_, _<_, _≤_}
 use native.Mathlib.Nat.{zero-add}
 use native.Mathlib.Omega.{arith}
 use lib.ListN.{length, getD, length-map, List·getD-map}
-use Rattle.lists.specs.Rows.{rows}
 use Rattle.lists.proofs.Rows.{rows-at, rows-same, map-rows}
 use Rattle.order.specs.Sorting.{sort}
 use Rattle.order.specs.Lists.{upFrom}
@@ -16,7 +15,6 @@ use Rattle.position.specs.declared.Span.{Span}
 use Rattle.position.proofs.Order.{canonical-again}
 use Rattle.wire.specs.Bytes.{u64At, splice}
 use Rattle.format.specs.Sizes.{boundarySize, spanSize}
-use Rattle.format.specs.Bounds.{maxWidthBits}
 use Rattle.format.specs.Records.{spanAt, rampAt, boundaryAt}
 use Rattle.format.specs.Header.{countsAt}
 use Rattle.format.specs.Decode.{decode, decodeList, jobWith, decodeBoundaries, boundaryRecords, boundaryWith, rampOf}
@@ -25,6 +23,7 @@ use Rattle.format.specs.declared.records.Source.{Source}
 use Rattle.format.specs.declared.records.BoundaryRecord.{BoundaryRecord}
 use Rattle.format.specs.declared.records.ObservationRecord.{ObservationRecord}
 use Rattle.format.proofs.Distribution.{map-boundariesWith}
+use Rattle.format.proofs.BoundaryTrips.{decoded-ends}
 use Rattle.format.proofs.ListTrip.{length-decodeList}
 use Rattle.grid.specs.Cells.{Grid}
 use Rattle.areas.specs.Areas.{areaLabels}
@@ -40,11 +39,11 @@ use Rattle.merging.specs.Copies.{canon}
 use Rattle.merging.specs.Kept.{noBoundary}
 use Rattle.merging.specs.Follows.{placesOf}
 use Rattle.merging.specs.Runs.{canonItem}
-use Rattle.ranks.specs.Tables.{KeysOf, SpansOf, WidthsOf, RampsOf, Identity}
+use Rattle.ranks.specs.Tables.{Records, KeysOf, SpansOf, WidthsOf, RampsOf, Identity}
 use Rattle.sorting.specs.Orders.{byTwo}
 use Rattle.chokes.specs.Results.{ownEnds}
 use Rattle.chokes.proofs.Planned.{listed}
-use Rattle.chokes.proofs.Ranked.{by-rows, ByRank, place-below, rank-below, order-ranked, itemAt, listed-length, listed-at}
+use Rattle.chokes.proofs.Ranked.{by-rows, ByRank, place-below, rank-below, order-ranked, listed-length, listed-at, labels-ranked, records-ranked}
 use Rattle.chokes.proofs.Checked.{canonical-on-map, on-map-bounded, canonical-span-fits, boundariesAt, Checked, ListChecked}
 
 -- what a boundary has from its record alone
@@ -99,6 +98,10 @@ module _ {distinct : Bool} {s : List ℕ} (c : Checked distinct s) {order : List
 
   pub order-in : (i : ℕ) → i < n → getD order i 0 < n
   order-in i h = let e = c .count in let w = rank-below (decode s .boundaries) r i (inside h) in omega arith
+
+  -- what filling the arrays asks
+  pub job-records : Records s (boundariesAt s) boundarySize order n
+  job-records = record { few = c .allowed .boundaries; least = omega arith; most = omega arith; inside = c .inside; named = order-in }
 
   same-place : (i : ℕ) → i < n → place i ≡ getD order i 0
   same-place i h = sym (r .each i (inside h))
@@ -177,6 +180,33 @@ module _ {distinct : Bool} {s : List ℕ} (c : Checked distinct s) {order : List
         ∙ (ap (λ (x : Item). x .span) (listed-at (decode s) ss e i (inside h))
         ∙ (ap (λ (k : ℕ). canonical (getD ss k Rank.noSpan)) (same-place i h) ∙ sym (t i h))))
 
+    -- so labels and the number of region pairs are those of the array's spans
+    pub labels-in : (dirs : List ℕ) (g : Grid) (ends : List ℕ) → ((i : ℕ) → i < n → spanIn ends i ≡ canonical (getD ss (getD order i 0) Rank.noSpan)) → areaLabels dirs g ss ≡ areaLabels dirs g (spansIn ends n)
+    labels-in dirs g ends t = labels-ranked (decode s) ss e dirs g ∙ ap (areaLabels dirs g) (spans-ranked ends t)
+
+    pub records-in : (dirs : List ℕ) (g : Grid) (ends : List ℕ) → ((i : ℕ) → i < n → spanIn ends i ≡ canonical (getD ss (getD order i 0) Rank.noSpan)) → length (records dirs g ss) ≡ length (records dirs g (spansIn ends n))
+    records-in dirs g ends t = records-ranked (decode s) ss e dirs g ∙ ap (λ (ts : List Span). length (records dirs g ts)) (spans-ranked ends t)
+
+-- as many spans as boundaries
+pub own-matched : (s : List ℕ) → length (decode s .boundaries) ≡ length (ownEnds (decode s))
+own-matched s = sym (length-map (decode s .boundaries) (λ (b : Boundary). b .ends))
+
+pub list-matched : {distinct : Bool} {s : List ℕ} → Checked distinct s → (t : List ℕ) → length t / spanSize ≡ countsAt s 0 .boundaries → length (decode s .boundaries) ≡ length (decodeList t)
+list-matched c t e = c .count ∙ sym (length-decodeList t ∙ e)
+
+-- what filling the arrays from a list asks
+pub list-records : (t order : List ℕ) (m : ℕ) → m ≤ 256 → m ≤ length t / spanSize → ((i : ℕ) → i < m → getD order i 0 < m) → Records t 0 spanSize order m
+list-records t order m few h below = record { few = few; least = omega arith; most = omega arith; inside = omega arith; named = below }
+
+-- the sides of the map that is decoded
+pub decoded-width : (s : List ℕ) → decode s .width ≡ countsAt s 0 .width
+unfolding decode jobWith
+decoded-width s = refl
+
+pub decoded-height : (s : List ℕ) → decode s .height ≡ countsAt s 0 .height
+unfolding decode jobWith
+decoded-height s = refl
+
 -- the spans of a list, in any order of ranks within it, fit the map
 pub list-ends-fit : {width height : ℕ} {t : List ℕ} → ListChecked width height t → (order : List ℕ) (m : ℕ) → ((i : ℕ) → i < m → getD order i 0 < length t / spanSize)
     → (ends : List ℕ) → SpansOf t 0 spanSize order m ends → SpansFit width height ends m
@@ -207,3 +237,47 @@ module _ (t : List ℕ) (few : length t / spanSize ≤ 256) {order : List ℕ} (
 
   pub identity-below : (i : ℕ) → i < length t / spanSize → getD order i 0 < length t / spanSize
   identity-below i h = rw (d .each i (omega arith)) h
+
+-- the boundaries' own ends in their own order
+module _ {distinct : Bool} {s : List ℕ} (c : Checked distinct s) {order : List ℕ} (d : Identity order) (ends : List ℕ) (o : SpansOf s (boundariesAt s) boundarySize order (countsAt s 0 .boundaries) ends) where
+  abbrev count : ℕ
+  count = countsAt s 0 .boundaries
+
+  identity-at : (i : ℕ) → i < count → getD order i 0 ≡ i
+  identity-at i h = d .each i (let f = c .allowed .boundaries in omega arith)
+
+  span-at : (i : ℕ) → i < count → spanIn ends i ≡ canonical (spanAt s (boundariesAt s + i * boundarySize))
+  span-at i h = o .each i h ∙ ap (λ (k : ℕ). canonical (spanAt s (boundariesAt s + k * boundarySize))) (identity-at i h)
+
+  pub own-listed : map canonical (ownEnds (decode s)) ≡ spansIn ends count
+  unfolding decode jobWith spansIn
+  own-listed =
+      ap (map canonical) (decoded-ends s (boundariesAt s) count (countsAt s 0 .observations) (countsAt s 0 .sources))
+      ∙ (map-rows canonical count (λ k. spanAt s (boundariesAt s + k * boundarySize))
+      ∙ rows-same count (λ k. canonical (spanAt s (boundariesAt s + k * boundarySize))) (spanIn ends) (λ i h. sym (span-at i h)))
+
+  canonical-own : map canonical (ownEnds (decode s)) ≡ map canonical (spansIn ends count)
+  canonical-own =
+      sym (map-map canonical canonical (ownEnds (decode s)) ∙ map-ext (λ x. canonical (canonical x)) canonical (ownEnds (decode s)) (λ x m. canonical-again x))
+      ∙ ap (map canonical) own-listed
+
+  pub own-labels-listed : (dirs : List ℕ) (g : Grid) → areaLabels dirs g (ownEnds (decode s)) ≡ areaLabels dirs g (spansIn ends count)
+  own-labels-listed dirs g = labels-depend-on-the-set dirs g (ownEnds (decode s)) (spansIn ends count) (eq-same canonical-own)
+
+  pub own-records-listed : (dirs : List ℕ) (g : Grid) → records dirs g (ownEnds (decode s)) ≡ records dirs g (spansIn ends count)
+  own-records-listed dirs g = records-same dirs g (ownEnds (decode s)) (spansIn ends count) canonical-own
+
+  pub own-listed-fit : distinct ≡ true → SpansFit (countsAt s 0 .width) (countsAt s 0 .height) ends count
+  own-listed-fit t = record {
+    each = λ i h. rw (span-at i h) (canonical-span-fits (countsAt s 0 .width) (countsAt s 0 .height) (spanAt s (boundariesAt s + i * boundarySize)) (c .on i h) (c .apart t i h));
+  }
+
+-- what filling them asks
+pub identity-records : {distinct : Bool} {s : List ℕ} → Checked distinct s → {order : List ℕ} → Identity order → Records s (boundariesAt s) boundarySize order (countsAt s 0 .boundaries)
+identity-records c d = record {
+  few = c .allowed .boundaries;
+  least = omega arith;
+  most = omega arith;
+  inside = c .inside;
+  named = λ i h. rw (d .each i (let f = c .allowed .boundaries in omega arith)) h;
+}

@@ -1,25 +1,28 @@
 -- Keys of coordinates and of sources, each pair of numbers of 32 bits in one number: the same order.
 use mathlib.Core.Path.{_≡_, refl, _∙_, ap}
 use mathlib.Core.Bool.{Bool, true, false, cond}
-use mathlib.Core.List.{List, [], _∷_, _++_, map}
+use mathlib.Core.List.{List, [], _∷_, _++_, map, List·Memᴰ, List·Memᴰ·head, List·Memᴰ·tail, Permᴰ·symm}
 use Prim.Native.Nat.{ℕ}
 use native.Mathlib.Omega.{arith}
 use borrow.Author.Tests.{ltb-true, ltb-false, le-leb, lt-leb}
 use lib.Dec.{leb, ltb}
 use Rattle.lists.specs.Rows.{All, none, more}
 use Rattle.order.specs.Orders.{same}
-use Rattle.order.specs.Sorting.{include, sortOnce}
-use Rattle.order.specs.Keys.{lexLe, byKey, sortOnceBy}
+use Rattle.order.specs.Sorting.{insert, sort, include, sortOnce}
+use Rattle.order.specs.Keys.{lexLe, byKey, sortBy, sortOnceBy}
 use Rattle.order.proofs.Bools.{by-test}
+use Rattle.order.proofs.Members.{perm-mem}
 use Rattle.order.proofs.Packed.{pack, lex-pack}
+use Rattle.order.proofs.Sort.{sort-perm, sort-map}
 use Rattle.position.specs.Order.{posLe, swapped, canonical}
 use Rattle.position.specs.declared.Span.{Span}
 use Rattle.format.specs.Values.{Observation, Boundary}
-use Rattle.format.specs.Fits.{SpanFits, SourceFits}
+use Rattle.format.specs.Fits.{SpanFits, SourceFits, ObservationFits}
 use Rattle.format.specs.declared.records.Source.{Source}
 use Rattle.topology.specs.Listing.{spanKey, endsKey}
 use Rattle.length.specs.Total.{totalKey}
 use Rattle.merging.specs.Keys.{sourceKey, sourcesKey, observationKey}
+use Rattle.merging.specs.Copies.{canonObservation}
 
 -- behind two heads
 lex-behind : (x y : ℕ) (k l m n : List ℕ) → lexLe k l ≡ lexLe m n → lexLe (x ∷ k) (y ∷ l) ≡ lexLe (x ∷ m) (y ∷ n)
@@ -124,3 +127,33 @@ module _ {A B : Type 0} (f : A → B) (le : A → A → Bool) (other : B → B �
 
 pub sources-once : (ss : List Source) → All SourceFits ss → map packSource (sortOnceBy sourceKey ss) ≡ sortOnce leb (map packSource ss)
 sources-once ss a = rw (once-packed packSource (byKey sourceKey) leb SourceFits source-packed a) refl
+
+-- orders that agree on the members sort them alike
+module _ {A : Type 0} (le other : A → A → Bool) where
+  insert-alike : (a : A) (l : List A) → ((y : A) → List·Memᴰ y l → le a y ≡ other a y) → insert le a l ≡ insert other a l
+  unfolding insert
+  insert-alike a [] h = refl
+  insert-alike a (x ∷ xs) h = rw (h x (List·Memᴰ·head refl), insert-alike a xs (λ y m. h y (List·Memᴰ·tail m))) refl
+
+  pub sort-alike : (l : List A) → ((x y : A) → List·Memᴰ x l → List·Memᴰ y l → le x y ≡ other x y) → sort le l ≡ sort other l
+  unfolding sort
+  sort-alike [] h = refl
+  sort-alike (x ∷ xs) h =
+      ap (insert le x) (sort-alike xs (λ y z m n. h y z (List·Memᴰ·tail m) (List·Memᴰ·tail n)))
+      ∙ insert-alike x (sort other xs) (λ y m. h x y (List·Memᴰ·head refl) (List·Memᴰ·tail (perm-mem (Permᴰ·symm (sort-perm other xs)) m)))
+
+-- observations at places, by keys at those places
+pub observation-places : (f : ℕ → Observation) (key : ℕ → List ℕ) (ps : List ℕ) → ((p : ℕ) → List·Memᴰ p ps → ObservationFits (f p)) → ((p : ℕ) → List·Memᴰ p ps → key p ≡ packedObservation (f p))
+    → sortBy observationKey (map f ps) ≡ map f (sortBy key ps)
+observation-places f key ps fit e =
+    sort-map f (byKey (λ p. observationKey (f p))) (byKey observationKey) (λ p q. refl) ps
+    ∙ ap (map f) (sort-alike (byKey (λ p. observationKey (f p))) (byKey key) ps
+    (λ p q m n. observation-packed (f p) (f q) (fit p m .ends) (fit q n .ends) (fit p m .sources) (fit q n .sources) ∙ rw (e p m, e q n) refl))
+
+pub sources-fit : (ss : List Source) → All SourceFits ss → All SourceFits (sortOnceBy sourceKey ss)
+sources-fit ss a = once-all packSource (byKey sourceKey) leb SourceFits source-packed a
+
+-- a canonical copy of an observation fits
+pub copy-fits : (o : Observation) → ObservationFits o → ObservationFits (canonObservation o)
+unfolding canonObservation
+copy-fits o f = record { ends = canonical-fits (o .ends) (f .ends); bits = f .bits; sources = sources-fit (o .sources) (f .sources) }
