@@ -118,7 +118,7 @@ module _ (copies : List Boundary) where
 
 module _ (bs : List Boundary) where
   -- The copies, by the places of the input in order.
-  copies-places : copiesOf bs ≡ map (λ i. canon (getD bs i noBoundary)) (placesOf bs)
+  pub copies-places : copiesOf bs ≡ map (λ i. canon (getD bs i noBoundary)) (placesOf bs)
   unfolding copiesOf placesOf
   copies-places =
       sort-map canon (byKey endsKey) (byKey endsKey) (λ b c. rw (key-canon b, key-canon c)) bs
@@ -128,7 +128,7 @@ module _ (bs : List Boundary) where
   unfolding placesOf
   places-order = sort-stable (key-preorder (λ i. endsKey (getD bs i noBoundary))) (up-strict 0 (length bs))
 
-  places-length : length (copiesOf bs) ≡ length (placesOf bs)
+  pub places-length : length (copiesOf bs) ≡ length (placesOf bs)
   places-length = ap length copies-places ∙ length-map (placesOf bs) (λ i. canon (getD bs i noBoundary))
 
   pub follows : (gs : List Group) → WellGrouped (length (copiesOf bs)) gs → Follows bs gs

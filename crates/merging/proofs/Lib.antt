@@ -1,5 +1,6 @@
 pub mod Lists
 pub mod Keys
+pub mod Packed
 pub mod Copies
 pub mod Consolidation
 pub mod Groups

@@ -1,0 +1,159 @@
+-- Keys of coordinates and of sources, each pair of numbers of 32 bits in one number: the same order.
+use mathlib.Core.Path.{_≡_, refl, _∙_, ap}
+use mathlib.Core.Bool.{Bool, true, false, cond}
+use mathlib.Core.List.{List, [], _∷_, _++_, map, List·Memᴰ, List·Memᴰ·head, List·Memᴰ·tail, Permᴰ·symm}
+use Prim.Native.Nat.{ℕ}
+use native.Mathlib.Omega.{arith}
+use borrow.Author.Tests.{ltb-true, ltb-false, le-leb, lt-leb}
+use lib.Dec.{leb, ltb}
+use Rattle.lists.specs.Rows.{All, none, more}
+use Rattle.order.specs.Orders.{same}
+use Rattle.order.specs.Sorting.{insert, sort, include, sortOnce}
+use Rattle.order.specs.Keys.{lexLe, byKey, sortBy, sortOnceBy}
+use Rattle.order.proofs.Bools.{by-test}
+use Rattle.order.proofs.Members.{perm-mem}
+use Rattle.order.proofs.Packed.{pack, lex-pack}
+use Rattle.order.proofs.Sort.{sort-perm, sort-map}
+use Rattle.position.specs.Order.{posLe, swapped, canonical}
+use Rattle.position.specs.declared.Span.{Span}
+use Rattle.format.specs.Values.{Observation, Boundary}
+use Rattle.format.specs.Fits.{SpanFits, SourceFits, ObservationFits}
+use Rattle.format.specs.declared.records.Source.{Source}
+use Rattle.topology.specs.Listing.{spanKey, endsKey}
+use Rattle.length.specs.Total.{totalKey}
+use Rattle.merging.specs.Keys.{sourceKey, sourcesKey, observationKey}
+use Rattle.merging.specs.Copies.{canonObservation}
+
+-- behind two heads
+lex-behind : (x y : ℕ) (k l m n : List ℕ) → lexLe k l ≡ lexLe m n → lexLe (x ∷ k) (y ∷ l) ≡ lexLe (x ∷ m) (y ∷ n)
+unfolding lexLe
+lex-behind x y k l m n e = rw e refl
+
+-- lists of one number
+lex-one : (x y : ℕ) → lexLe (x ∷ []) (y ∷ []) ≡ leb x y
+unfolding lexLe
+lex-one x y =
+    by-test (ltb x y) (λ e. let a = ltb-true x y e in rw (e, le-leb x y (omega arith)) refl)
+    (λ e. by-test (ltb y x) (λ f. let a = ltb-true y x f in rw (e, f, lt-leb x y (omega arith)) refl)
+    (λ f. let a = ltb-false x y e in let b = ltb-false y x f in rw (e, f, le-leb x y (omega arith)) refl))
+
+pub canonical-fits : (s : Span) → SpanFits s → SpanFits (canonical s)
+unfolding canonical
+canonical-fits s f = go (posLe (s .a) (s .b))
+  where
+    go : (t : Bool) → SpanFits (cond t s (swapped s))
+    go true = f
+    go false = record { a = f .b; b = f .a }
+
+abbrev pub packFirst : Span → ℕ
+packFirst s = pack (s .a .x) (s .a .y)
+
+abbrev pub packSecond : Span → ℕ
+packSecond s = pack (s .b .x) (s .b .y)
+
+abbrev pub packSource : Source → ℕ
+packSource s = pack (s .from) (s .to)
+
+-- two spans, whatever follows
+pub span-packed : (s t : Span) (l m : List ℕ) → SpanFits s → SpanFits t → lexLe (spanKey s ++ l) (spanKey t ++ m) ≡ lexLe (packFirst s ∷ packSecond s ∷ l) (packFirst t ∷ packSecond t ∷ m)
+unfolding spanKey
+span-packed s t l m f g =
+    lex-pack (s .a .x) (s .a .y) (t .a .x) (t .a .y) (s .b .x ∷ s .b .y ∷ l) (t .b .x ∷ t .b .y ∷ m) (f .a .y) (g .a .y)
+    ∙ lex-behind (packFirst s) (packFirst t) (s .b .x ∷ s .b .y ∷ l) (t .b .x ∷ t .b .y ∷ m) (packSecond s ∷ l) (packSecond t ∷ m) (lex-pack (s .b .x) (s .b .y) (t .b .x) (t .b .y) l m (f .b .y) (g .b .y))
+
+pub ends-packed : (b c : Boundary) → SpanFits (b .ends) → SpanFits (c .ends)
+    → lexLe (endsKey b) (endsKey c)
+    ≡ lexLe (packFirst (canonical (b .ends)) ∷ packSecond (canonical (b .ends)) ∷ []) (packFirst (canonical (c .ends)) ∷ packSecond (canonical (c .ends)) ∷ [])
+unfolding endsKey spanKey
+ends-packed b c f g = span-packed (canonical (b .ends)) (canonical (c .ends)) [] [] (canonical-fits (b .ends) f) (canonical-fits (c .ends) g)
+
+pub source-packed : (s t : Source) → SourceFits s → SourceFits t → leb (packSource s) (packSource t) ≡ lexLe (sourceKey s) (sourceKey t)
+unfolding sourceKey
+source-packed s t f g = rw (lex-pack (s .from) (s .to) (t .from) (t .to) [] [] (f .to) (g .to), lex-one (packSource s) (packSource t)) refl
+
+pub sources-packed : (ss ts : List Source) → All SourceFits ss → All SourceFits ts → lexLe (sourcesKey ss) (sourcesKey ts) ≡ lexLe (map packSource ss) (map packSource ts)
+unfolding sourcesKey lexLe
+sources-packed [] ts f g = refl
+sources-packed (s ∷ ss) [] f g = refl
+sources-packed (s ∷ ss) (t ∷ ts) (more p f) (more q g) =
+    lex-pack (s .from) (s .to) (t .from) (t .to) (sourcesKey ss) (sourcesKey ts) (p .to) (q .to)
+    ∙ lex-behind (packSource s) (packSource t) (sourcesKey ss) (sourcesKey ts) (map packSource ss) (map packSource ts) (sources-packed ss ts f g)
+
+-- an observation's key in packed numbers
+abbrev pub packedObservation : Observation → List ℕ
+packedObservation o = packFirst (o .ends) ∷ packSecond (o .ends) ∷ totalKey (o .bits) ∷ map packSource (o .sources)
+
+pub observation-packed : (o p : Observation) → SpanFits (o .ends) → SpanFits (p .ends) → All SourceFits (o .sources) → All SourceFits (p .sources)
+    → lexLe (observationKey o) (observationKey p) ≡ lexLe (packedObservation o) (packedObservation p)
+unfolding observationKey
+observation-packed o p f g h k =
+    span-packed (o .ends) (p .ends) (totalKey (o .bits) ∷ sourcesKey (o .sources)) (totalKey (p .bits) ∷ sourcesKey (p .sources)) f g
+    ∙ lex-behind (packFirst (o .ends)) (packFirst (p .ends)) (packSecond (o .ends) ∷ totalKey (o .bits) ∷ sourcesKey (o .sources)) (packSecond (p .ends) ∷ totalKey (p .bits) ∷ sourcesKey (p .sources)) (packSecond (o .ends) ∷ totalKey (o .bits) ∷ map packSource (o .sources)) (packSecond (p .ends) ∷ totalKey (p .bits) ∷ map packSource (p .sources))
+    (lex-behind (packSecond (o .ends)) (packSecond (p .ends)) (totalKey (o .bits) ∷ sourcesKey (o .sources)) (totalKey (p .bits) ∷ sourcesKey (p .sources)) (totalKey (o .bits) ∷ map packSource (o .sources)) (totalKey (p .bits) ∷ map packSource (p .sources))
+    (lex-behind (totalKey (o .bits)) (totalKey (p .bits)) (sourcesKey (o .sources)) (sourcesKey (p .sources)) (map packSource (o .sources)) (map packSource (p .sources)) (sources-packed (o .sources) (p .sources) h k)))
+
+-- sorting with each member once goes through a map that keeps the order of the members
+module _ {A B : Type 0} (f : A → B) (le : A → A → Bool) (other : B → B → Bool) (P : A → Type 0) (h : (x y : A) → P x → P y → other (f x) (f y) ≡ le x y) where
+  include-all : (a : A) {l : List A} → P a → All P l → All P (include le a l)
+  unfolding include
+  include-all a p none = more p none
+  include-all a p (more {x} {xs} q k) = go (same le a x) (le a x) (include-all a p k)
+    where
+      go : (s t : Bool) → All P (include le a xs) → All P (cond s (x ∷ xs) (cond t (a ∷ x ∷ xs) (x ∷ include le a xs)))
+      go true t i = more q k
+      go false true i = more p (more q k)
+      go false false i = more q i
+
+  pub once-all : {l : List A} → All P l → All P (sortOnce le l)
+  unfolding sortOnce
+  once-all none = none
+  once-all (more {x} p k) = include-all x p (once-all k)
+
+  include-packed : (a : A) {l : List A} → P a → All P l → include other (f a) (map f l) ≡ map f (include le a l)
+  unfolding include
+  include-packed a p none = refl
+  include-packed a p (more {x} {xs} q k) = rw (h a x p q, h x a q p) (go (same le a x) (le a x) (include-packed a p k))
+    where
+      go : (s t : Bool) → include other (f a) (map f xs) ≡ map f (include le a xs)
+          → cond s (f x ∷ map f xs) (cond t (f a ∷ f x ∷ map f xs) (f x ∷ include other (f a) (map f xs))) ≡ map f (cond s (x ∷ xs) (cond t (a ∷ x ∷ xs) (x ∷ include le a xs)))
+      go true t e = refl
+      go false true e = refl
+      go false false e = ap (λ (l : List B). f x ∷ l) e
+
+  pub once-packed : {l : List A} → All P l → sortOnce other (map f l) ≡ map f (sortOnce le l)
+  unfolding sortOnce
+  once-packed none = refl
+  once-packed (more {x} p k) = rw (once-packed k) (include-packed x p (once-all k))
+
+pub sources-once : (ss : List Source) → All SourceFits ss → map packSource (sortOnceBy sourceKey ss) ≡ sortOnce leb (map packSource ss)
+sources-once ss a = rw (once-packed packSource (byKey sourceKey) leb SourceFits source-packed a) refl
+
+-- orders that agree on the members sort them alike
+module _ {A : Type 0} (le other : A → A → Bool) where
+  insert-alike : (a : A) (l : List A) → ((y : A) → List·Memᴰ y l → le a y ≡ other a y) → insert le a l ≡ insert other a l
+  unfolding insert
+  insert-alike a [] h = refl
+  insert-alike a (x ∷ xs) h = rw (h x (List·Memᴰ·head refl), insert-alike a xs (λ y m. h y (List·Memᴰ·tail m))) refl
+
+  pub sort-alike : (l : List A) → ((x y : A) → List·Memᴰ x l → List·Memᴰ y l → le x y ≡ other x y) → sort le l ≡ sort other l
+  unfolding sort
+  sort-alike [] h = refl
+  sort-alike (x ∷ xs) h =
+      ap (insert le x) (sort-alike xs (λ y z m n. h y z (List·Memᴰ·tail m) (List·Memᴰ·tail n)))
+      ∙ insert-alike x (sort other xs) (λ y m. h x y (List·Memᴰ·head refl) (List·Memᴰ·tail (perm-mem (Permᴰ·symm (sort-perm other xs)) m)))
+
+-- observations at places, by keys at those places
+pub observation-places : (f : ℕ → Observation) (key : ℕ → List ℕ) (ps : List ℕ) → ((p : ℕ) → List·Memᴰ p ps → ObservationFits (f p)) → ((p : ℕ) → List·Memᴰ p ps → key p ≡ packedObservation (f p))
+    → sortBy observationKey (map f ps) ≡ map f (sortBy key ps)
+observation-places f key ps fit e =
+    sort-map f (byKey (λ p. observationKey (f p))) (byKey observationKey) (λ p q. refl) ps
+    ∙ ap (map f) (sort-alike (byKey (λ p. observationKey (f p))) (byKey key) ps
+    (λ p q m n. observation-packed (f p) (f q) (fit p m .ends) (fit q n .ends) (fit p m .sources) (fit q n .sources) ∙ rw (e p m, e q n) refl))
+
+pub sources-fit : (ss : List Source) → All SourceFits ss → All SourceFits (sortOnceBy sourceKey ss)
+sources-fit ss a = once-all packSource (byKey sourceKey) leb SourceFits source-packed a
+
+-- a canonical copy of an observation fits
+pub copy-fits : (o : Observation) → ObservationFits o → ObservationFits (canonObservation o)
+unfolding canonObservation
+copy-fits o f = record { ends = canonical-fits (o .ends) (f .ends); bits = f .bits; sources = sources-fit (o .sources) (f .sources) }

@@ -1,0 +1,56 @@
+use mathlib.Core.Path.{_≡_, refl, sym, _∙_, ap}
+use Prim.Native.Nat.{ℕ, _+_, _-_, _*_, _≤_, _<_}
+use native.Mathlib.Omega.{arith}
+use lib.ListN.{length, getD, set, length-set}
+use borrow.Author.Needs.{needs}
+use Rattle.ranks.specs.Tables.{Identity}
+use Rattle.ranks.proofs.Laws.{identity-next}
+use Rattle.ranks.proofs.fill_identity.Statement.{statement}
+use Rattle.ranks.proofs.fill_identity.Tie as tie
+use Rattle.ranks.proofs.fill_identity.Reads as reads
+use Rattle.ranks.proofs.fill_identity.Lts as lts
+
+abbrev Inv-loop : tie.InvT-loop
+Inv-loop order₀ i₀ order i = (length order ≡ 256) × ((k : ℕ) → k < i → getD order k 0 ≡ k) × (i ≤ 256)
+
+abbrev μ-loop : tie.MeasureT-loop
+μ-loop order₀ i₀ order i = 256 - i
+
+loop-holds : tie.Need-loop-holds Inv-loop μ-loop
+loop-holds c = search needs
+
+cast-order : tie.Need-cast-order Inv-loop μ-loop
+cast-order c = search needs
+
+mul-order : tie.Need-mul-order Inv-loop μ-loop
+mul-order c = search needs
+
+element-write-order : tie.Need-element-write-order Inv-loop μ-loop
+element-write-order c = search needs
+
+add-i : tie.Need-add-i Inv-loop μ-loop
+add-i c = search needs
+
+loop-less : tie.Need-loop-less Inv-loop μ-loop
+loop-less c = search needs
+
+loop-again : tie.Need-loop-again Inv-loop μ-loop
+loop-again c = (length-set (c .before .loop .order) (c .before .loop .i) (c .before .loop .i) ∙ c .before .loop .inv .0, identity-next (c .before .loop .i) (c .before .loop .order) (c .before .loop .inv .0) (omega (arith, c .loop-test .taken)) (c .before .loop .inv .1), omega (arith, c .loop-test .taken))
+
+returns : tie.Need-returns Inv-loop μ-loop
+returns c = record { whole = c .before .loop .inv .0; each = λ k h. c .before .loop .inv .1 k (omega (arith, c .loop-test .left)) }
+
+pub fill-identity-spec : {M : Type 1} → statement M
+fill-identity-spec =
+    tie.close
+    (tie.spec
+    Inv-loop
+    μ-loop
+    loop-holds
+    cast-order
+    mul-order
+    element-write-order
+    add-i
+    loop-less
+    loop-again
+    returns)

@@ -1,0 +1,88 @@
+use mathlib.Core.Path.{_≡_, refl, sym, _∙_, ap}
+use Prim.Native.Nat.{ℕ, _+_, _-_, _*_, _≤_, _<_}
+use native.Mathlib.Omega.{arith}
+use lib.ListN.{length, getD, set, length-set}
+use borrow.Author.Needs.{needs}
+use Rattle.position.specs.Order.{canonical}
+use Rattle.ranks.specs.Tables.{KeysOf}
+use Rattle.ranks.proofs.Laws.{keys-start, keys-next}
+use Rattle.ranks.proofs.fill_keys.Statement.{statement}
+use Rattle.ranks.proofs.fill_keys.Tie as tie
+use Rattle.ranks.proofs.fill_keys.Reads as reads
+use Rattle.ranks.proofs.fill_keys.Lts as lts
+use Rattle.format.proofs.read_span.Reads as read-span-reads
+use Rattle.position.proofs.Span.canonical.Reads as canonical-reads
+use Rattle.ranks.proofs.pack.Reads as pack-reads
+
+abbrev Inv-loop : tie.InvT-loop
+Inv-loop s at n first₀ second₀ i₀ first second i = KeysOf s at 40 i first second × (i ≤ n)
+
+abbrev μ-loop : tie.MeasureT-loop
+μ-loop s at n first₀ second₀ i₀ first second i = n - i
+
+loop-holds : tie.Need-loop-holds Inv-loop μ-loop
+loop-holds c = (keys-start (c .before .pre .2) (c .before .pre .3), omega arith)
+
+mul-read-span : tie.Need-mul-read-span Inv-loop μ-loop
+mul-read-span c = search needs
+
+add-read-span : tie.Need-add-read-span Inv-loop μ-loop
+add-read-span c = search needs
+
+read-span-requires : tie.Need-read-span-requires Inv-loop μ-loop
+read-span-requires c κs = search needs
+
+canonical-requires : tie.Need-canonical-requires Inv-loop μ-loop
+canonical-requires c κs = search needs
+
+pack-requires : tie.Need-pack-requires Inv-loop μ-loop
+pack-requires c κs = search needs
+
+mul-first : tie.Need-mul-first Inv-loop μ-loop
+mul-first c = search needs
+
+element-write-first : tie.Need-element-write-first Inv-loop μ-loop
+element-write-first c = search needs
+
+pack-requires-2 : tie.Need-pack-requires-2 Inv-loop μ-loop
+pack-requires-2 c κs = search needs
+
+mul-second : tie.Need-mul-second Inv-loop μ-loop
+mul-second c = search needs
+
+element-write-second : tie.Need-element-write-second Inv-loop μ-loop
+element-write-second c = search needs
+
+add-i : tie.Need-add-i Inv-loop μ-loop
+add-i c = search needs
+
+loop-less : tie.Need-loop-less Inv-loop μ-loop
+loop-less c = search needs
+
+loop-again : tie.Need-loop-again Inv-loop μ-loop
+loop-again c = (keys-next (c .before .before .before .before .before .loop .inv .0) (omega (arith, c .before .before .before .before .loop-test .taken, c .before .before .before .before .before .before .before .pre .0)) (c .before .before .canonical .ensures ∙ ap canonical (c .before .before .before .read-span .ensures)) (c .before .pack .ensures) (c .pack2 .ensures), omega (arith, c .before .before .before .before .loop-test .taken))
+
+returns : tie.Need-returns Inv-loop μ-loop
+returns c = let e : c .before .loop .i ≡ c .before .before .before .args .n = omega (arith, c .before .loop .inv .1, c .loop-test .left) in rw (← e) (c .before .loop .inv .0)
+
+pub fill-keys-spec : {M : Type 1} → statement M
+fill-keys-spec =
+    tie.close
+    (tie.spec
+    Inv-loop
+    μ-loop
+    loop-holds
+    mul-read-span
+    add-read-span
+    read-span-requires
+    canonical-requires
+    pack-requires
+    mul-first
+    element-write-first
+    pack-requires-2
+    mul-second
+    element-write-second
+    add-i
+    loop-less
+    loop-again
+    returns)

@@ -1,0 +1,65 @@
+use mathlib.Core.Path.{_≡_, refl, sym, _∙_, ap}
+use Prim.Native.Nat.{ℕ, _+_, _-_, _*_, _≤_, _<_}
+use native.Mathlib.Omega.{arith}
+use lib.ListN.{length, getD, set, length-set}
+use borrow.Author.Needs.{needs}
+use Rattle.position.specs.Order.{canonical}
+use Rattle.ranks.specs.Tables.{Records, SpansOf}
+use Rattle.ranks.proofs.Laws.{spans-start, spans-next}
+use Rattle.ranks.proofs.fill_spans.Statement.{statement}
+use Rattle.ranks.proofs.fill_spans.Tie as tie
+use Rattle.ranks.proofs.fill_spans.Reads as reads
+use Rattle.ranks.proofs.fill_spans.Lts as lts
+use Rattle.format.proofs.read_span.Reads as read-span-reads
+use Rattle.position.proofs.Span.canonical.Reads as canonical-reads
+use Rattle.ranks.proofs.put_span.Reads as put-span-reads
+use Rattle.ranks.proofs.record_place.Reads as record-place-reads
+
+abbrev Inv-loop : tie.InvT-loop
+Inv-loop s at stride order n ends₀ i₀ ends i = SpansOf s at stride order i ends × (i ≤ n)
+
+abbrev μ-loop : tie.MeasureT-loop
+μ-loop s at stride order n ends₀ i₀ ends i = n - i
+
+loop-holds : tie.Need-loop-holds Inv-loop μ-loop
+loop-holds c = (spans-start (c .before .pre .1), omega arith)
+
+record-place-requires : tie.Need-record-place-requires Inv-loop μ-loop
+record-place-requires c κs = search needs
+
+read-span-requires : tie.Need-read-span-requires Inv-loop μ-loop
+read-span-requires c κs = search needs
+
+canonical-requires : tie.Need-canonical-requires Inv-loop μ-loop
+canonical-requires c κs = search needs
+
+put-span-requires : tie.Need-put-span-requires Inv-loop μ-loop
+put-span-requires c κs = search needs
+
+add-i : tie.Need-add-i Inv-loop μ-loop
+add-i c = search needs
+
+loop-less : tie.Need-loop-less Inv-loop μ-loop
+loop-less c = search needs
+
+loop-again : tie.Need-loop-again Inv-loop μ-loop
+loop-again c = rw (c .put-span .ensures) (spans-next (c .before .before .before .before .before .before .loop .inv .0) (omega (arith, c .before .before .before .before .before .loop-test .taken, c .before .before .before .before .before .before .before .before .pre .0 .few)) (c .before .before .before .before .record-place .ensures .0) (c .before .canonical .ensures ∙ ap canonical (c .before .before .read-span .ensures)), omega (arith, c .before .before .before .before .before .loop-test .taken))
+
+returns : tie.Need-returns Inv-loop μ-loop
+returns c = let e : c .before .loop .i ≡ c .before .before .before .args .n = omega (arith, c .before .loop .inv .1, c .loop-test .left) in rw (← e) (c .before .loop .inv .0)
+
+pub fill-spans-spec : {M : Type 1} → statement M
+fill-spans-spec =
+    tie.close
+    (tie.spec
+    Inv-loop
+    μ-loop
+    loop-holds
+    record-place-requires
+    read-span-requires
+    canonical-requires
+    put-span-requires
+    add-i
+    loop-less
+    loop-again
+    returns)

@@ -1,0 +1,34 @@
+use mathlib.Core.Path.{_≡_, refl, sym, _∙_, ap}
+use Prim.Native.Nat.{ℕ, _+_, _-_, _*_, _≤_, _<_}
+use native.Mathlib.Omega.{arith}
+use lib.ListN.{length, getD, set, length-set}
+use Rattle.ranks.specs.Tables.{Records}
+use borrow.Author.Needs.{needs}
+use Rattle.ranks.proofs.Laws.{placed}
+use Rattle.ranks.proofs.record_place.Statement.{statement}
+use Rattle.ranks.proofs.record_place.Tie as tie
+use Rattle.ranks.proofs.record_place.Reads as reads
+use Rattle.ranks.proofs.record_place.Lts as lts
+use Rattle.ranks.proofs.size.Reads as size-reads
+
+mul-size : tie.Need-mul-size
+mul-size c = search needs
+
+element-copy-out-size : tie.Need-element-copy-out-size
+element-copy-out-size c = search needs
+
+size-requires : tie.Need-size-requires
+size-requires c κs = search needs
+
+mul-result : tie.Need-mul-result
+mul-result c = let q = placed (c .before .before .before .pre .0) (c .before .before .before .args .i) (c .before .before .before .pre .1) in let e = c .size .ensures .0 in rw e (omega (arith, q .small))
+
+add-result : tie.Need-add-result
+add-result c = let q = placed (c .before .before .before .pre .0) (c .before .before .before .args .i) (c .before .before .before .pre .1) in let e = c .size .ensures .0 in rw e (omega (arith, q .small, q .ends))
+
+returns : tie.Need-returns
+returns c = let q = placed (c .before .before .before .pre .0) (c .before .before .before .args .i) (c .before .before .before .pre .1) in let e = c .size .ensures .0 in rw e (refl, q .ends)
+
+pub record-place-spec : {M : Type 1} → statement M
+record-place-spec =
+    tie.close (tie.spec mul-size element-copy-out-size size-requires mul-result add-result returns)
