@@ -2,7 +2,7 @@
 use mathlib.Core.Path.{_≡_, refl, sym, _∙_, ap}
 use mathlib.Core.Bool.{Bool, true, false, cond, _||_}
 use mathlib.Core.List.{List, [], _∷_, _++_, map, append-nil}
-use Prim.Native.Nat.{ℕ, zero, suc, _+_, _*_, _<_, _≤_, min, max}
+use Prim.Native.Nat.{ℕ, zero, suc, _+_, _<_, _≤_, min, max}
 use native.Mathlib.Omega.{arith}
 use borrow.Author.Tests.{lt-ltb, eq-eqb, ne-eqb}
 use lib.Dec.{ltb, eqb}
@@ -14,7 +14,7 @@ use Rattle.grid.specs.Cells.{Grid, rampCell, elevation, columnOf, rowOf, cellAt
 use Rattle.areas.specs.Areas.{labelAt}
 use Rattle.topology.specs.Extremes.{least, greatest}
 use Rattle.topology.specs.RegionStats.{leftOf, topOf, regionCells, regionStats}
-use Rattle.topology.specs.Held.{Room, one, lesser, withCell, levelCount, statsAfter, statsIn, firstCells}
+use Rattle.topology.specs.Held.{Room, one, lesser, withCell, statsAfter, statsIn, firstCells}
 
 pub lesser-first : {n y : ℕ} (x : ℕ) → n ≡ 0 → y ≡ lesser n x y
 lesser-first {n} x e = let h = eq-eqb n 0 e in rw h

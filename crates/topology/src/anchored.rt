@@ -1,11 +1,10 @@
 // Regions that hold an anchor.
 ghost use mathlib.Core.Path.{_≡_};
-ghost use mathlib.Core.Bool.{false};
-ghost use Prim.Native.Nat.{ℕ, _+_, _*_, _<_, _≤_};
+ghost use Prim.Native.Nat.{_+_, _*_, _<_, _≤_};
 ghost use lib.ListN.{length};
 ghost use Rattle.format.specs.Sizes.{baseSize};
 ghost use Rattle.topology.specs.AnchorLoop.{Hit, AnchorsIn, anchorHit, anchoredBy};
-ghost use Rattle.topology.specs.Held.{isNone, labelsOf};
+ghost use Rattle.topology.specs.Held.{labelsOf};
 use format::BASE_SIZE;
 use format::NO_ANCHOR;
 use format::read_base;
