@@ -90,7 +90,7 @@ loop2-holds : tie.Need-loop2-holds Inv-loop μ-loop Inv-loop2 μ-loop2 Inv-loop3
 loop2-holds c = (omega arith, omega arith, c .before .before .before .before .before .before .before .before .pre .0 .columns, pass-start (c .before .before .before .before .before .before .before .before .pre .4 .few) (fill-end (let z : c .before .loop .k ≡ c .before .before .before .before .before .before .before .before .args .links = omega (arith, c .before .loop .inv .0, c .loop-test .left) in z) (c .before .loop .inv .1)) (c .before .before .none .ensures))
 
 next-row-requires : tie.Need-next-row-requires Inv-loop μ-loop Inv-loop2 μ-loop2 Inv-loop3 μ-loop3
-next-row-requires c κs = (c .before .loop2 .inv .2, omega (arith, row-below (record { width = c .before .before .before .before .before .before .before .before .before .before .args .width; height = c .before .before .before .before .before .before .before .before .before .before .args .height; cells = c .before .before .before .before .before .before .before .before .before .before .args .cells .now }) (c .before .before .before .before .before .before .before .before .before .before .pre .1) (c .before .loop2 .inv .1) (c .before .loop2 .inv .2) (c .loop2-test .taken), c .before .before .before .before .before .before .before .before .before .before .pre .0 .high))
+next-row-requires c κs = let on : c .before .loop2 .i < length (c .before .before .before .before .before .before .before .before .before .before .args .cells .now) = omega (arith, c .loop2-test .taken) in (c .before .loop2 .inv .2, omega (arith, row-below (record { width = c .before .before .before .before .before .before .before .before .before .before .args .width; height = c .before .before .before .before .before .before .before .before .before .before .args .height; cells = c .before .before .before .before .before .before .before .before .before .before .args .cells .now }) (c .before .before .before .before .before .before .before .before .before .before .pre .1) (c .before .loop2 .inv .1) (c .before .loop2 .inv .2) on, c .before .before .before .before .before .before .before .before .before .before .pre .0 .high))
 
 next-column-requires :
     tie.Need-next-column-requires Inv-loop μ-loop Inv-loop2 μ-loop2 Inv-loop3 μ-loop3
@@ -101,13 +101,13 @@ add-i c = omega (arith, c .before .before .loop2-test .taken, area (c .before .b
 
 number-at-requires :
     tie.Need-number-at-requires Inv-loop μ-loop Inv-loop2 μ-loop2 Inv-loop3 μ-loop3
-number-at-requires c κs = (c .before .before .loop2-test .taken, area (c .before .before .before .before .before .before .before .before .before .before .before .before .pre .0 .wide) (c .before .before .before .before .before .before .before .before .before .before .before .before .pre .0 .high) (c .before .before .before .before .before .before .before .before .before .before .before .before .pre .1), c .before .before .before .before .before .before .before .before .before .before .before .before .pre .4 .room, c .before .before .before .before .before .before .before .before .before .before .before .before .pre .4 .most (c .before .before .before .loop2 .i) (c .before .before .loop2-test .taken))
+number-at-requires c κs = let on : c .before .before .before .loop2 .i < length (c .before .before .before .before .before .before .before .before .before .before .before .before .args .cells .now) = omega (arith, c .before .before .loop2-test .taken) in (on, area (c .before .before .before .before .before .before .before .before .before .before .before .before .pre .0 .wide) (c .before .before .before .before .before .before .before .before .before .before .before .before .pre .0 .high) (c .before .before .before .before .before .before .before .before .before .before .before .before .pre .1), c .before .before .before .before .before .before .before .before .before .before .before .before .pre .4 .room, c .before .before .before .before .before .before .before .before .before .before .before .before .pre .4 .most (c .before .before .before .loop2 .i) on)
 
 loop2-less : tie.Need-loop2-less Inv-loop μ-loop Inv-loop2 μ-loop2 Inv-loop3 μ-loop3
 loop2-less c = omega (arith, c .before .before .before .before .loop2-test .taken)
 
 loop2-again : tie.Need-loop2-again Inv-loop μ-loop Inv-loop2 μ-loop2 Inv-loop3 μ-loop3
-loop2-again c = let p = next-place (c .before .before .before .before .before .loop2 .inv .1) (c .before .before .before .before .before .loop2 .inv .2) (c .before .before .next-column .ensures) (c .before .before .before .next-row .ensures) in (omega (arith, c .before .before .before .before .loop2-test .taken), p .0, p .1, turn-out (c .before .before .before .before .before .before .before .before .before .before .before .before .before .before .pre .4) (c .before .before .before .before .loop2-test .taken) (c .before .before .before .before .before .loop2 .inv .3) (c .before .number-at .result) (c .before .number-at .ensures) (omega (arith, c .if1 .taken)))
+loop2-again c = let on : c .before .before .before .before .before .loop2 .i < length (c .before .before .before .before .before .before .before .before .before .before .before .before .before .before .args .cells .now) = omega (arith, c .before .before .before .before .loop2-test .taken) in let p = next-place (c .before .before .before .before .before .loop2 .inv .1) (c .before .before .before .before .before .loop2 .inv .2) (c .before .before .next-column .ensures) (c .before .before .before .next-row .ensures) in (omega (arith, c .before .before .before .before .loop2-test .taken), p .0, p .1, turn-out (c .before .before .before .before .before .before .before .before .before .before .before .before .before .before .pre .4) on (c .before .before .before .before .before .loop2 .inv .3) (c .before .number-at .result) (c .before .number-at .ensures) (omega (arith, c .if1 .taken)))
 
 sub-size : tie.Need-sub-size Inv-loop μ-loop Inv-loop2 μ-loop2 Inv-loop3 μ-loop3
 sub-size c = omega (arith, c .if1 .left)
@@ -119,7 +119,7 @@ mul-at : tie.Need-mul-at Inv-loop μ-loop Inv-loop2 μ-loop2 Inv-loop3 μ-loop3
 mul-at c = omega (arith, c .size .ensures .1)
 
 array-copy-out-at : tie.Need-array-copy-out-at Inv-loop μ-loop Inv-loop2 μ-loop2 Inv-loop3 μ-loop3
-array-copy-out-at c = omega (arith, turn-on (c .before .before .before .before .before .before .before .before .before .before .before .before .before .before .before .pre .4) (c .before .before .before .before .before .loop2-test .taken) (c .before .before .before .before .before .before .loop2 .inv .3) (c .before .before .number-at .result) (c .before .before .number-at .ensures) (λ z. omega (arith, z, c .before .if1 .left)) (c .size .ensures .0), c .before .before .before .before .before .before .before .before .before .before .before .before .before .before .before .pre .4 .few)
+array-copy-out-at c = let on : c .before .before .before .before .before .before .loop2 .i < length (c .before .before .before .before .before .before .before .before .before .before .before .before .before .before .before .args .cells .now) = omega (arith, c .before .before .before .before .before .loop2-test .taken) in omega (arith, turn-on (c .before .before .before .before .before .before .before .before .before .before .before .before .before .before .before .pre .4) on (c .before .before .before .before .before .before .loop2 .inv .3) (c .before .before .number-at .result) (c .before .before .number-at .ensures) (λ z. omega (arith, z, c .before .if1 .left)) (c .size .ensures .0), c .before .before .before .before .before .before .before .before .before .before .before .before .before .before .before .pre .4 .few)
 
 at-requires : tie.Need-at-requires Inv-loop μ-loop Inv-loop2 μ-loop2 Inv-loop3 μ-loop3
 at-requires c κs = search needs
@@ -129,34 +129,34 @@ mul-table-2 c = omega (arith, c .before .before .size .ensures .1)
 
 array-set-from-table-2 :
     tie.Need-array-set-from-table-2 Inv-loop μ-loop Inv-loop2 μ-loop2 Inv-loop3 μ-loop3
-array-set-from-table-2 c = omega (arith, turn-on (c .before .before .before .before .before .before .before .before .before .before .before .before .before .before .before .before .before .pre .4) (c .before .before .before .before .before .before .before .loop2-test .taken) (c .before .before .before .before .before .before .before .before .loop2 .inv .3) (c .before .before .before .before .number-at .result) (c .before .before .before .before .number-at .ensures) (λ z. omega (arith, z, c .before .before .before .if1 .left)) (c .before .before .size .ensures .0), c .before .before .before .before .before .before .before .before .before .before .before .before .before .before .before .before .before .pre .4 .few)
+array-set-from-table-2 c = let on : c .before .before .before .before .before .before .before .before .loop2 .i < length (c .before .before .before .before .before .before .before .before .before .before .before .before .before .before .before .before .before .args .cells .now) = omega (arith, c .before .before .before .before .before .before .before .loop2-test .taken) in omega (arith, turn-on (c .before .before .before .before .before .before .before .before .before .before .before .before .before .before .before .before .before .pre .4) on (c .before .before .before .before .before .before .before .before .loop2 .inv .3) (c .before .before .before .before .number-at .result) (c .before .before .before .before .number-at .ensures) (λ z. omega (arith, z, c .before .before .before .if1 .left)) (c .before .before .size .ensures .0), c .before .before .before .before .before .before .before .before .before .before .before .before .before .before .before .before .before .pre .4 .few)
 
 mul-with : tie.Need-mul-with Inv-loop μ-loop Inv-loop2 μ-loop2 Inv-loop3 μ-loop3
 mul-with c = omega (arith, c .before .before .size .ensures .1)
 
 array-copy-out-with :
     tie.Need-array-copy-out-with Inv-loop μ-loop Inv-loop2 μ-loop2 Inv-loop3 μ-loop3
-array-copy-out-with c = omega (arith, turn-on (c .before .before .before .before .before .before .before .before .before .before .before .before .before .before .before .before .before .pre .4) (c .before .before .before .before .before .before .before .loop2-test .taken) (c .before .before .before .before .before .before .before .before .loop2 .inv .3) (c .before .before .before .before .number-at .result) (c .before .before .before .before .number-at .ensures) (λ z. omega (arith, z, c .before .before .before .if1 .left)) (c .before .before .size .ensures .0), c .before .before .before .before .before .before .before .before .before .before .before .before .before .before .before .before .before .pre .4 .few)
+array-copy-out-with c = let on : c .before .before .before .before .before .before .before .before .loop2 .i < length (c .before .before .before .before .before .before .before .before .before .before .before .before .before .before .before .before .before .args .cells .now) = omega (arith, c .before .before .before .before .before .before .before .loop2-test .taken) in omega (arith, turn-on (c .before .before .before .before .before .before .before .before .before .before .before .before .before .before .before .before .before .pre .4) on (c .before .before .before .before .before .before .before .before .loop2 .inv .3) (c .before .before .before .before .number-at .result) (c .before .before .before .before .number-at .ensures) (λ z. omega (arith, z, c .before .before .before .if1 .left)) (c .before .before .size .ensures .0), c .before .before .before .before .before .before .before .before .before .before .before .before .before .before .before .before .before .pre .4 .few)
 
 shared-slice-read-with :
     tie.Need-shared-slice-read-with Inv-loop μ-loop Inv-loop2 μ-loop2 Inv-loop3 μ-loop3
-shared-slice-read-with c = c .before .before .before .before .before .before .before .before .before .loop2-test .taken
+shared-slice-read-with c = omega (arith, c .before .before .before .before .before .before .before .before .before .loop2-test .taken)
 
 with-requires : tie.Need-with-requires Inv-loop μ-loop Inv-loop2 μ-loop2 Inv-loop3 μ-loop3
-with-requires c κs = (turn-room (c .before .before .before .before .before .before .before .before .before .before .before .before .before .before .before .before .before .before .before .pre .4) (c .before .before .before .before .before .before .before .before .before .loop2-test .taken) (c .before .before .before .before .before .before .before .before .before .before .loop2 .inv .3) (c .before .before .before .before .before .before .number-at .result) (c .before .before .before .before .before .before .number-at .ensures) (λ z. omega (arith, z, c .before .before .before .before .before .if1 .left)) (c .before .before .before .before .size .ensures .0) _ (omega (arith, c .before .before .before .before .before .before .before .before .before .loop2-test .taken, area (c .before .before .before .before .before .before .before .before .before .before .before .before .before .before .before .before .before .before .before .pre .0 .wide) (c .before .before .before .before .before .before .before .before .before .before .before .before .before .before .before .before .before .before .before .pre .0 .high) (c .before .before .before .before .before .before .before .before .before .before .before .before .before .before .before .before .before .before .before .pre .1))), omega (arith, c .before .before .before .before .before .before .before .before .before .before .loop2 .inv .2, c .before .before .before .before .before .before .before .before .before .before .before .before .before .before .before .before .before .before .before .pre .0 .wide), omega (arith, row-below (record { width = c .before .before .before .before .before .before .before .before .before .before .before .before .before .before .before .before .before .before .before .args .width; height = c .before .before .before .before .before .before .before .before .before .before .before .before .before .before .before .before .before .before .before .args .height; cells = c .before .before .before .before .before .before .before .before .before .before .before .before .before .before .before .before .before .before .before .args .cells .now }) (c .before .before .before .before .before .before .before .before .before .before .before .before .before .before .before .before .before .before .before .pre .1) (c .before .before .before .before .before .before .before .before .before .before .loop2 .inv .1) (c .before .before .before .before .before .before .before .before .before .before .loop2 .inv .2) (c .before .before .before .before .before .before .before .before .before .loop2-test .taken), c .before .before .before .before .before .before .before .before .before .before .before .before .before .before .before .before .before .before .before .pre .0 .high))
+with-requires c κs = let on : c .before .before .before .before .before .before .before .before .before .before .loop2 .i < length (c .before .before .before .before .before .before .before .before .before .before .before .before .before .before .before .before .before .before .before .args .cells .now) = omega (arith, c .before .before .before .before .before .before .before .before .before .loop2-test .taken) in (turn-room (c .before .before .before .before .before .before .before .before .before .before .before .before .before .before .before .before .before .before .before .pre .4) on (c .before .before .before .before .before .before .before .before .before .before .loop2 .inv .3) (c .before .before .before .before .before .before .number-at .result) (c .before .before .before .before .before .before .number-at .ensures) (λ z. omega (arith, z, c .before .before .before .before .before .if1 .left)) (c .before .before .before .before .size .ensures .0) _ (omega (arith, c .before .before .before .before .before .before .before .before .before .loop2-test .taken, area (c .before .before .before .before .before .before .before .before .before .before .before .before .before .before .before .before .before .before .before .pre .0 .wide) (c .before .before .before .before .before .before .before .before .before .before .before .before .before .before .before .before .before .before .before .pre .0 .high) (c .before .before .before .before .before .before .before .before .before .before .before .before .before .before .before .before .before .before .before .pre .1))), omega (arith, c .before .before .before .before .before .before .before .before .before .before .loop2 .inv .2, c .before .before .before .before .before .before .before .before .before .before .before .before .before .before .before .before .before .before .before .pre .0 .wide), omega (arith, row-below (record { width = c .before .before .before .before .before .before .before .before .before .before .before .before .before .before .before .before .before .before .before .args .width; height = c .before .before .before .before .before .before .before .before .before .before .before .before .before .before .before .before .before .before .before .args .height; cells = c .before .before .before .before .before .before .before .before .before .before .before .before .before .before .before .before .before .before .before .args .cells .now }) (c .before .before .before .before .before .before .before .before .before .before .before .before .before .before .before .before .before .before .before .pre .1) (c .before .before .before .before .before .before .before .before .before .before .loop2 .inv .1) (c .before .before .before .before .before .before .before .before .before .before .loop2 .inv .2) on, c .before .before .before .before .before .before .before .before .before .before .before .before .before .before .before .before .before .before .before .pre .0 .high))
 
 mul-stats : tie.Need-mul-stats Inv-loop μ-loop Inv-loop2 μ-loop2 Inv-loop3 μ-loop3
 mul-stats c = omega (arith, c .before .before .before .before .before .size .ensures .1)
 
 array-set-from-stats :
     tie.Need-array-set-from-stats Inv-loop μ-loop Inv-loop2 μ-loop2 Inv-loop3 μ-loop3
-array-set-from-stats c = omega (arith, turn-on (c .before .before .before .before .before .before .before .before .before .before .before .before .before .before .before .before .before .before .before .before .pre .4) (c .before .before .before .before .before .before .before .before .before .before .loop2-test .taken) (c .before .before .before .before .before .before .before .before .before .before .before .loop2 .inv .3) (c .before .before .before .before .before .before .before .number-at .result) (c .before .before .before .before .before .before .before .number-at .ensures) (λ z. omega (arith, z, c .before .before .before .before .before .before .if1 .left)) (c .before .before .before .before .before .size .ensures .0), c .before .before .before .before .before .before .before .before .before .before .before .before .before .before .before .before .before .before .before .before .pre .4 .few)
+array-set-from-stats c = let on : c .before .before .before .before .before .before .before .before .before .before .before .loop2 .i < length (c .before .before .before .before .before .before .before .before .before .before .before .before .before .before .before .before .before .before .before .before .args .cells .now) = omega (arith, c .before .before .before .before .before .before .before .before .before .before .loop2-test .taken) in omega (arith, turn-on (c .before .before .before .before .before .before .before .before .before .before .before .before .before .before .before .before .before .before .before .before .pre .4) on (c .before .before .before .before .before .before .before .before .before .before .before .loop2 .inv .3) (c .before .before .before .before .before .before .before .number-at .result) (c .before .before .before .before .before .before .before .number-at .ensures) (λ z. omega (arith, z, c .before .before .before .before .before .before .if1 .left)) (c .before .before .before .before .before .size .ensures .0), c .before .before .before .before .before .before .before .before .before .before .before .before .before .before .before .before .before .before .before .before .pre .4 .few)
 
 loop2-less-2 : tie.Need-loop2-less-2 Inv-loop μ-loop Inv-loop2 μ-loop2 Inv-loop3 μ-loop3
 loop2-less-2 c = omega (arith, c .before .before .before .before .before .before .before .before .before .before .loop2-test .taken)
 
 loop2-again-2 : tie.Need-loop2-again-2 Inv-loop μ-loop Inv-loop2 μ-loop2 Inv-loop3 μ-loop3
-loop2-again-2 c = let p = next-place (c .before .before .before .before .before .before .before .before .before .before .before .loop2 .inv .1) (c .before .before .before .before .before .before .before .before .before .before .before .loop2 .inv .2) (c .before .before .before .before .before .before .before .before .next-column .ensures) (c .before .before .before .before .before .before .before .before .before .next-row .ensures) in let q = place-of (record { width = c .before .before .before .before .before .before .before .before .before .before .before .before .before .before .before .before .before .before .before .before .args .width; height = c .before .before .before .before .before .before .before .before .before .before .before .before .before .before .before .before .before .before .before .before .args .height; cells = c .before .before .before .before .before .before .before .before .before .before .before .before .before .before .before .before .before .before .before .before .args .cells .now }) (c .before .before .before .before .before .before .before .before .before .before .before .loop2 .inv .1) (c .before .before .before .before .before .before .before .before .before .before .before .loop2 .inv .2) in (omega (arith, c .before .before .before .before .before .before .before .before .before .before .loop2-test .taken), p .0, p .1, turn-in (c .before .before .before .before .before .before .before .before .before .before .before .before .before .before .before .before .before .before .before .before .pre .4) (c .before .before .before .before .before .before .before .before .before .before .loop2-test .taken) (c .before .before .before .before .before .before .before .before .before .before .before .loop2 .inv .3) (c .before .before .before .before .before .before .before .number-at .result) (c .before .before .before .before .before .before .before .number-at .ensures) (λ z. omega (arith, z, c .before .before .before .before .before .before .if1 .left)) (c .before .before .before .before .before .size .ensures .0) (q .0) (q .1) _ _ (c .before .before .before .at .ensures) (c .with .ensures))
+loop2-again-2 c = let on : c .before .before .before .before .before .before .before .before .before .before .before .loop2 .i < length (c .before .before .before .before .before .before .before .before .before .before .before .before .before .before .before .before .before .before .before .before .args .cells .now) = omega (arith, c .before .before .before .before .before .before .before .before .before .before .loop2-test .taken) in let p = next-place (c .before .before .before .before .before .before .before .before .before .before .before .loop2 .inv .1) (c .before .before .before .before .before .before .before .before .before .before .before .loop2 .inv .2) (c .before .before .before .before .before .before .before .before .next-column .ensures) (c .before .before .before .before .before .before .before .before .before .next-row .ensures) in let q = place-of (record { width = c .before .before .before .before .before .before .before .before .before .before .before .before .before .before .before .before .before .before .before .before .args .width; height = c .before .before .before .before .before .before .before .before .before .before .before .before .before .before .before .before .before .before .before .before .args .height; cells = c .before .before .before .before .before .before .before .before .before .before .before .before .before .before .before .before .before .before .before .before .args .cells .now }) (c .before .before .before .before .before .before .before .before .before .before .before .loop2 .inv .1) (c .before .before .before .before .before .before .before .before .before .before .before .loop2 .inv .2) in (omega (arith, c .before .before .before .before .before .before .before .before .before .before .loop2-test .taken), p .0, p .1, turn-in (c .before .before .before .before .before .before .before .before .before .before .before .before .before .before .before .before .before .before .before .before .pre .4) on (c .before .before .before .before .before .before .before .before .before .before .before .loop2 .inv .3) (c .before .before .before .before .before .before .before .number-at .result) (c .before .before .before .before .before .before .before .number-at .ensures) (λ z. omega (arith, z, c .before .before .before .before .before .before .if1 .left)) (c .before .before .before .before .before .size .ensures .0) (q .0) (q .1) _ _ (c .before .before .before .at .ensures) (c .with .ensures))
 
 loop3-holds : tie.Need-loop3-holds Inv-loop μ-loop Inv-loop2 μ-loop2 Inv-loop3 μ-loop3
 loop3-holds c = (omega arith, pass-end (let z : c .before .loop2 .i ≡ length (c .before .before .before .before .before .before .before .before .before .before .args .cells .now) = omega (arith, c .before .loop2 .inv .0, c .loop2-test .left) in z) (c .before .loop2 .inv .3), judge-start _)
