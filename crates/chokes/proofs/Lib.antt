@@ -3,3 +3,5 @@ pub mod Planned
 pub mod Results
 pub mod Cases
 pub mod Demand
+pub mod Own
+pub mod Bridging

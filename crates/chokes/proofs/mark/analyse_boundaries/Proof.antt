@@ -1,0 +1,79 @@
+use borrow.Author.Needs.{needs}
+use Rattle.chokes.proofs.mark.analyse_boundaries.Statement.{statement}
+use Rattle.chokes.proofs.mark.analyse_boundaries.Tie as tie
+use Rattle.chokes.proofs.mark.analyse_boundaries.Reads as reads
+use Rattle.chokes.proofs.mark.analyse_boundaries.Lts as lts
+use Rattle.chokes.proofs.analysis.analyse.Reads as analyse-reads
+use Rattle.chokes.proofs.mark.size.Reads as size-reads
+use Rattle.ranks.proofs.fill_identity.Reads as fill-identity-reads
+use Rattle.ranks.proofs.fill_spans.Reads as fill-spans-reads
+
+-- src/mark.rt:33:18
+mul-size : tie.Need-mul-size
+mul-size c = ?
+
+-- src/mark.rt:33:9
+size-requires : tie.Need-size-requires
+size-requires c κs = search needs
+
+-- src/mark.rt:34:9
+size-requires-2 : tie.Need-size-requires-2
+size-requires-2 c κs = search needs
+
+-- src/mark.rt:36:5
+fill-identity-requires : tie.Need-fill-identity-requires
+fill-identity-requires c κs = search needs
+
+-- src/mark.rt:40:9
+size-requires-3 : tie.Need-size-requires-3
+size-requires-3 c κs = search needs
+
+-- src/mark.rt:38:5
+fill-spans-requires : tie.Need-fill-spans-requires
+fill-spans-requires c κs = ?
+
+-- src/mark.rt:52:27
+add-analyse : tie.Need-add-analyse
+add-analyse c = search needs
+
+-- src/mark.rt:52:9
+sub-analyse : tie.Need-sub-analyse
+sub-analyse c = search needs
+
+-- src/mark.rt:52:9
+part-analyse-start : tie.Need-part-analyse-start
+part-analyse-start c = search needs
+
+-- src/mark.rt:52:9
+part-analyse-end : tie.Need-part-analyse-end
+part-analyse-end c = ?
+
+-- src/mark.rt:51:9
+analyse-requires : tie.Need-analyse-requires
+analyse-requires c κs = ?
+
+-- src/mark.rt:27:1
+same-length : tie.Need-same-length
+same-length c = search needs
+
+-- src/mark.rt:27:1
+returns : tie.Need-returns
+returns c = ?
+
+pub analyse-boundaries-spec : {M : Type 1} → statement M
+analyse-boundaries-spec =
+    tie.close
+    (tie.spec
+    mul-size
+    size-requires
+    size-requires-2
+    fill-identity-requires
+    size-requires-3
+    fill-spans-requires
+    add-analyse
+    sub-analyse
+    part-analyse-start
+    part-analyse-end
+    analyse-requires
+    same-length
+    returns)
