@@ -5,3 +5,5 @@ pub mod Cases
 pub mod Demand
 pub mod Own
 pub mod Bridging
+pub mod Markable
+pub mod Copying

@@ -1,3 +1,7 @@
+use mathlib.Core.Path.{refl}
+use native.Mathlib.Nat.{mul-le-mul}
+use native.Mathlib.Omega.{arith}
+use Rattle.chokes.proofs.Bridging.{unbridged, owners-in, labels-in, room-in, zero-in, bridged}
 use borrow.Author.Needs.{needs}
 use Rattle.chokes.proofs.analysis.analyse.Statement.{statement}
 use Rattle.chokes.proofs.analysis.analyse.Tie as tie
@@ -16,15 +20,15 @@ same-length c = search needs
 
 -- src/analysis.rt:53:9
 returns : tie.Need-returns
-returns c = ?
+returns c = let r = c .before .before .before .partition-by-spans .ensures in (r, unbridged r (c .if1 .taken))
 
 -- src/analysis.rt:55:62
 mul-bridge-boundaries : tie.Need-mul-bridge-boundaries
-mul-bridge-boundaries c = ?
+mul-bridge-boundaries c = let p = c .before .before .before .before .before .before .before .before .before .before .before .before .before .before .before .before .pre .0 in omega (arith, p .whole, mul-le-mul (p .sides .wide) (p .sides .high))
 
 -- src/analysis.rt:55:5
 bridge-boundaries-requires : tie.Need-bridge-boundaries-requires
-bridge-boundaries-requires c κs = ?
+bridge-boundaries-requires c κs = let r = c .before .before .before .before .before .before .before .before .partition-by-spans .ensures in let few = c .before .before .before .before .before .if1 .left in (owners-in r (c .before .before .before .before .before .before .before .before .before .before .before .before .before .before .before .before .before .pre .0 .few) few, labels-in r _ refl few, room-in r _ refl, zero-in r _ refl)
 
 -- src/analysis.rt:18:1
 same-length-2 : tie.Need-same-length-2
@@ -32,7 +36,7 @@ same-length-2 c = search needs
 
 -- src/analysis.rt:18:1
 returns-2 : tie.Need-returns-2
-returns-2 c = ?
+returns-2 c = let r = c .before .before .before .before .before .before .before .before .before .before .before .partition-by-spans .ensures in let e = c .before .before .bridge-boundaries .ensures in (rw (e .1) r, bridged r (e .0))
 
 pub analyse-spec : {M : Type 1} → statement M
 analyse-spec =

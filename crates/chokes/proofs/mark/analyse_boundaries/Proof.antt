@@ -1,3 +1,5 @@
+use native.Mathlib.Omega.{arith}
+use Rattle.chokes.proofs.Markable.{markable-cells, cells-inside, own-records, own-partitionable, own-analysed}
 use borrow.Author.Needs.{needs}
 use Rattle.chokes.proofs.mark.analyse_boundaries.Statement.{statement}
 use Rattle.chokes.proofs.mark.analyse_boundaries.Tie as tie
@@ -10,7 +12,7 @@ use Rattle.ranks.proofs.fill_spans.Reads as fill-spans-reads
 
 -- src/mark.rt:33:18
 mul-size : tie.Need-mul-size
-mul-size c = ?
+mul-size c = omega (arith, markable-cells (c .before .before .before .before .before .pre))
 
 -- src/mark.rt:33:9
 size-requires : tie.Need-size-requires
@@ -30,7 +32,7 @@ size-requires-3 c κs = search needs
 
 -- src/mark.rt:38:5
 fill-spans-requires : tie.Need-fill-spans-requires
-fill-spans-requires c κs = ?
+fill-spans-requires c κs = (own-records (c .before .before .before .before .before .before .before .before .before .before .before .before .pre) _ (c .before .before .before .before .before .before .size .ensures .0) _ _ (c .before .before .size3 .ensures .0) (c .before .before .before .before .before .size2 .ensures .0) _ (c .before .before .before .fill-identity .ensures), search needs)
 
 -- src/mark.rt:52:27
 add-analyse : tie.Need-add-analyse
@@ -46,11 +48,11 @@ part-analyse-start c = search needs
 
 -- src/mark.rt:52:9
 part-analyse-end : tie.Need-part-analyse-end
-part-analyse-end c = ?
+part-analyse-end c = omega (arith, cells-inside (c .before .before .before .before .before .before .before .before .before .before .before .before .before .pre) _ (c .before .before .before .before .before .before .before .size .ensures .0))
 
 -- src/mark.rt:51:9
 analyse-requires : tie.Need-analyse-requires
-analyse-requires c κs = ?
+analyse-requires c κs = (own-partitionable (c .before .before .before .before .before .before .before .before .before .before .before .before .before .before .before .before .before .before .before .before .before .before .pre) _ (c .before .before .before .before .before .before .before .before .before .before .before .before .before .before .before .before .size .ensures .0) _ _ (c .before .before .before .before .before .before .before .before .before .before .before .before .size3 .ensures .0) (c .before .before .before .before .before .before .before .before .before .before .before .before .before .before .before .size2 .ensures .0) _ (c .before .before .before .before .before .before .before .before .before .before .before .before .before .fill-identity .ensures) _ (c .before .before .before .before .before .before .before .before .before .fill-spans .ensures), search needs)
 
 -- src/mark.rt:27:1
 same-length : tie.Need-same-length
@@ -58,7 +60,7 @@ same-length c = search needs
 
 -- src/mark.rt:27:1
 returns : tie.Need-returns
-returns c = ?
+returns c = own-analysed (c .before .before .before .before .before .before .before .before .before .before .before .before .before .before .before .before .before .before .before .before .before .before .before .before .before .pre) _ (c .before .before .before .before .before .before .before .before .before .before .before .before .before .before .before .before .before .before .before .size .ensures .0) _ _ (c .before .before .before .before .before .before .before .before .before .before .before .before .before .before .before .size3 .ensures .0) (c .before .before .before .before .before .before .before .before .before .before .before .before .before .before .before .before .before .before .size2 .ensures .0) _ (c .before .before .before .before .before .before .before .before .before .before .before .before .before .before .before .before .fill-identity .ensures) _ (c .before .before .before .before .before .before .before .before .before .before .before .before .fill-spans .ensures) (c .before .before .analyse .ensures .0) (c .before .before .analyse .ensures .1)
 
 pub analyse-boundaries-spec : {M : Type 1} → statement M
 analyse-boundaries-spec =

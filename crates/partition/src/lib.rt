@@ -1,0 +1,75 @@
+// The areas that spans part a map into, and what each span does to them, in lent bytes.
+ghost use mathlib.Core.Path.{_≡_};
+ghost use Prim.Native.Nat.{_*_};
+ghost use Rattle.grid.specs.Directions.{directionsOf};
+ghost use Rattle.areas.specs.Spans.{spansIn};
+ghost use Rattle.assessments.specs.Recording.{Arrays};
+ghost use Rattle.assessments.specs.Visits.{mapOf};
+ghost use Rattle.partition.specs.Partitioned.{Partitionable, AreasIn, Partitioned};
+use assessments::spans::assess_spans;
+use components::components;
+use components::zero_fill;
+use marking::spans::mark_spans;
+
+// The number of areas, and that of region pairs: 4,097 where they are over 4,096.
+pub struct Partition {
+    pub areas: u32,
+    pub pairs: usize,
+}
+
+// Writes the labels of the areas to the start of work, four bytes a cell; the open bytes stand after them. Gives the number of areas.
+fn label_areas(
+    cells: &[u8],
+    width: u32,
+    height: u32,
+    directions: u32,
+    ends: &[u32; 1024],
+    count: usize,
+    work: &mut [u8],
+) -> u32
+    requires { ⌜ Partitionable width height (now cells) directions (now ends) count (now work) ⌝ }
+    ensures { λ r. ⌜ AreasIn (directionsOf directions) (mapOf width height (now (cells .entry))) (spansIn (now (ends .entry)) count) (now (work .entry)) (now (work .exit)) r ⌝ }
+{
+    let base = 4 * cells.len();
+    mark_spans(cells, width, height, directions, ends, count, work, base);
+    components(cells, width, work, base)
+}
+
+// Labels the areas that the spans make in the first bytes of work, and zeroes the others up to ten a cell; the counts of each span, and the
+// region pairs of all spans, in arrays.
+pub fn partition_by_spans(
+    cells: &[u8],
+    width: u32,
+    height: u32,
+    directions: u32,
+    ends: &[u32; 1024],
+    count: usize,
+    work: &mut [u8],
+    removed: &mut [u32],
+    separated: &mut [u32],
+    owners: &mut [u32],
+    lefts: &mut [u32],
+    rights: &mut [u32],
+) -> Partition
+    requires { ⌜ Partitionable width height (now cells) directions (now ends) count (now work) × Arrays (now removed) (now separated) (now owners) (now lefts) (now rights) ⌝ }
+    ensures { λ r. ⌜ Partitioned (directionsOf directions) (mapOf width height (now (cells .entry))) (now (ends .entry)) count (now (work .entry)) (now (work .exit)) (now (removed .exit)) (now (separated .exit)) (now (owners .exit)) (now (lefts .exit)) (now (rights .exit)) r ⌝ }
+{
+    let n = cells.len();
+    let areas = label_areas(cells, width, height, directions, ends, count, work);
+    let pairs = assess_spans(
+        cells,
+        width,
+        height,
+        directions,
+        &work[0..4 * n],
+        ends,
+        count,
+        removed,
+        separated,
+        owners,
+        lefts,
+        rights,
+    );
+    zero_fill(work, 4 * n, 10 * n);
+    Partition { areas, pairs }
+}
