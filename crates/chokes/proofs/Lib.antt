@@ -7,3 +7,4 @@ pub mod Own
 pub mod Bridging
 pub mod Markable
 pub mod Copying
+pub mod Marked

@@ -23,7 +23,7 @@ element-copy-out-to c = search needs
 
 -- src/mark.rt:75:9
 slice-write-to : tie.Need-slice-write-to Inv-loop μ-loop
-slice-write-to c = omega (arith, copied-long (c .before .loop .inv), c .before .loop .inv .room, c .loop-test .taken)
+slice-write-to c = omega (arith, copied-long (c .before .before .loop .inv), c .before .before .loop .inv .room, c .before .loop-test .taken)
 
 -- src/mark.rt:76:9
 add-i : tie.Need-add-i Inv-loop μ-loop
