@@ -32,15 +32,15 @@ one-byte l i v h = set-split l i v h ∙ (let z : suc i ≡ i + 1 = omega arith 
 pub copied-next : {from : List ℕ} {n : ℕ} {start to : List ℕ} {i : ℕ} → Copied from n start to i → i < n → Copied from n start (set to i (getD from i 0)) (i + 1)
 copied-next {from} {n} {start} {to} {i} c h = record {
   is =
-    let f : ℕ → ℕ = λ k. getD from k 0 in
-    let len = length-rows i f in
-    let z : i ≡ 0 + length (rows i f) = omega (arith, len) in
-    let q : suc i ≡ i + 1 = omega arith in
-    one-byte to i (f i) (omega (arith, copied-long c, c .room))
-    ∙ (ap (λ (l : List ℕ). splice l i (f i ∷ [])) (c .is)
-    ∙ (ap (λ (k : ℕ). splice (splice start 0 (rows i f)) k (f i ∷ [])) z
-    ∙ (splice-splice start 0 (rows i f) (omega (arith, len, c .room)) (f i ∷ [])
-    ∙ (ap (λ (l : List ℕ). splice start 0 l) (sym (rows-last i f)) ∙ ap (λ (k : ℕ). splice start 0 (rows k f)) q))));
+      let f : ℕ → ℕ = λ k. getD from k 0 in
+      let len = length-rows i f in
+      let z : i ≡ 0 + length (rows i f) = omega (arith, len) in
+      let q : suc i ≡ i + 1 = omega arith in
+      one-byte to i (f i) (omega (arith, copied-long c, c .room))
+      ∙ (ap (λ (l : List ℕ). splice l i (f i ∷ [])) (c .is)
+      ∙ (ap (λ (k : ℕ). splice (splice start 0 (rows i f)) k (f i ∷ [])) z
+      ∙ (splice-splice start 0 (rows i f) (omega (arith, len, c .room)) (f i ∷ [])
+      ∙ (ap (λ (l : List ℕ). splice start 0 l) (sym (rows-last i f)) ∙ ap (λ (k : ℕ). splice start 0 (rows k f)) q))));
   below = omega arith;
   room = c .room;
 }

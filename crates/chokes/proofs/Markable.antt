@@ -1,15 +1,14 @@
 -- A job that Mark takes: its cells, its boundaries' spans by place, and what a partition by these leaves.
 use mathlib.Core.Path.{_≡_, refl, sym, _∙_, ap}
-use mathlib.Core.List.{List, map, List·Memᴰ}
+use mathlib.Core.List.{List, map}
 use Prim.Native.Nat.{ℕ, _+_, _*_, _-_, _≤_, _<_}
 use native.Mathlib.Omega.{arith}
-use borrow.Rule.Slice.PartMut.{midOf, mid-len}
-use lib.ListN.{length, getD, take, drop}
+use borrow.Rule.Slice.PartMut.{mid-len}
+use lib.ListN.{length, take, drop}
 use Rattle.lists.specs.Rows.{rows}
 use Rattle.lists.proofs.Rows.{map-rows, rows-same}
 use Rattle.wire.specs.Bytes.{part}
 use Rattle.position.specs.Order.{canonical}
-use Rattle.position.specs.declared.Span.{Span}
 use Rattle.position.proofs.Order.{canonical-again}
 use Rattle.format.specs.Sizes.{boundarySize}
 use Rattle.format.specs.Records.{spanAt}
@@ -17,7 +16,7 @@ use Rattle.format.specs.Header.{headerAt, countsAt, cellCount, boundariesStart}
 use Rattle.format.specs.Decode.{decode, jobWith}
 use Rattle.format.specs.declared.header.Header.{Header}
 use Rattle.grid.specs.Cells.{Grid}
-use Rattle.grid.specs.Directions.{IsDirection, eight, directionsOf}
+use Rattle.grid.specs.Directions.{eight, directionsOf}
 use Rattle.grid.proofs.Directions.{directions-eight, eight-closed}
 use Rattle.areas.specs.Areas.{areaLabels}
 use Rattle.areas.specs.Assessments.{records}
@@ -29,10 +28,10 @@ use Rattle.partition.specs.Partitioned as Parting
 use Rattle.partition.specs.Partitioned.{Partitionable, Partitioned}
 use Rattle.partition.specs.declared.Partition.{Partition}
 use Rattle.ranks.specs.Tables.{recordPlace, Records, SpansOf, Identity}
-use Rattle.job.specs.Passed.{Laid, Sections}
+use Rattle.job.specs.Passed.{Laid}
 use Rattle.job.proofs.Limits.{cells-limit, sections}
 use Rattle.chokes.specs.Rules.{gridOf}
-use Rattle.chokes.specs.Results.{ownEnds, labelled, labelsOf}
+use Rattle.chokes.specs.Results.{ownEnds, labelled}
 use Rattle.chokes.specs.Marking.{Bridged, Markable, Analysed}
 use Rattle.chokes.proofs.Own.{boundaryPlace, own-ends, mark-laid, ends-fit}
 
@@ -115,7 +114,7 @@ module _ {s : List ℕ} {h : Header} {work : List ℕ} (m : Markable s h work) w
         same-ends =
             map-rows canonical count (spanIn ends)
             ∙ (rows-same count (λ i. canonical (spanIn ends i)) (λ i. canonical (spanAt s (boundaryPlace s i)))
-              (λ i l. ap canonical (span-is i l) ∙ canonical-again (spanAt s (boundaryPlace s i)))
+            (λ i l. ap canonical (span-is i l) ∙ canonical-again (spanAt s (boundaryPlace s i)))
             ∙ (ap (λ k. rows k (λ i. canonical (spanAt s (boundaryPlace s i)))) count-is
             ∙ (sym (map-rows canonical (countsAt s 0 .boundaries) (λ i. spanAt s (boundaryPlace s i))) ∙ ap (map canonical) (sym (own-ends s)))))
 

@@ -12,7 +12,7 @@ use lib.Dec.{ltb}
 use lib.ListN.{length, getD}
 use Rattle.lists.specs.Rows.{rows}
 use Rattle.lists.proofs.Rows.{rows-at, rows-same}
-use Rattle.wire.specs.Bytes.{splice, part}
+use Rattle.wire.specs.Bytes.{splice}
 use Rattle.wire.proofs.Parts.{length-part}
 use Rattle.format.specs.Header.{headerAt, countsAt, cellCount}
 use Rattle.format.specs.Decode.{decode, jobWith}
@@ -28,9 +28,9 @@ use Rattle.job.specs.Verdict.{passes, numberOf, detailOf}
 use Rattle.job.proofs.Firsts.{skip, stop, clear, append-none, append-some}
 use Rattle.job.proofs.Limits.{cells-limit, sections}
 use Rattle.chokes.specs.Rules.{gridOf}
-use Rattle.chokes.specs.Results.{Outcome, workSize, ownEnds, marksOf, markWith, maxPairs, labelled, afterWork, outcome, workCheck, labelsOf, pairCheck}
+use Rattle.chokes.specs.Results.{workSize, ownEnds, marksOf, markWith, maxPairs, afterWork, outcome, workCheck, pairCheck}
 use Rattle.chokes.specs.Calls.{markResult}
-use Rattle.chokes.specs.Marking.{Markable, Analysed, copied, leftBy}
+use Rattle.chokes.specs.Marking.{Analysed, copied, leftBy}
 use Rattle.chokes.proofs.Own.{boundary-count, mark-laid}
 use Rattle.chokes.proofs.Results.{mark-success}
 

@@ -1,5 +1,5 @@
 -- What each call leaves: its result, and work and answer or marks at exit, whole, for every state at entry.
-use mathlib.Core.Bool.{Bool, cond}
+use mathlib.Core.Bool.{cond}
 use mathlib.Core.List.{List, [], _∷_, _++_, map, flatMap}
 use mathlib.Core.Option.{Option, none, some}
 use Prim.Native.Nat.{ℕ, _+_, _*_, _-_}
@@ -16,7 +16,7 @@ use Rattle.areas.specs.Assessments.{records}
 use Rattle.links.specs.Limits.{Limits}
 use Rattle.job.specs.Checks.{Refusal, Check, check, firstRefusal}
 use Rattle.job.specs.Refusals.{reduceChecks, markChecks, byListChecks}
-use Rattle.merging.specs.Runs.{Run, rulesAnswer}
+use Rattle.merging.specs.Runs.{rulesAnswer}
 use Rattle.chokes.specs.Rules.{gridOf, rulesOf}
 
 -- Number 0 is success.
