@@ -24,14 +24,14 @@ use Rattle.areas.specs.Spans.{SpanFits, spanIn, spansIn}
 use Rattle.areas.proofs.Areas.{labels-depend-on-the-set}
 use Rattle.areas.proofs.Listed.{eq-same, records-same}
 use Rattle.assessments.specs.Visits.{mapOf}
-use Rattle.partition.specs.Partitioned as Parting
 use Rattle.partition.specs.Partitioned.{Partitionable, Partitioned}
 use Rattle.partition.specs.declared.Partition.{Partition}
 use Rattle.ranks.specs.Tables.{recordPlace, Records, SpansOf, Identity}
 use Rattle.job.specs.Passed.{Laid}
 use Rattle.job.proofs.Limits.{cells-limit, sections}
 use Rattle.chokes.specs.Rules.{gridOf}
-use Rattle.chokes.specs.Results.{ownEnds, labelled}
+use Rattle.chokes.specs.Results.{ownEnds}
+use Rattle.partition.specs.Partitioned.{labelled}
 use Rattle.chokes.specs.Marking.{Bridged, Markable, Analysed}
 use Rattle.chokes.proofs.Own.{boundaryPlace, own-ends, mark-laid, ends-fit}
 
@@ -132,7 +132,7 @@ module _ {s : List ℕ} {h : Header} {work : List ℕ} (m : Markable s h work) w
             → Partitioned (directionsOf 495) (mapOf (h .counts .width) (h .counts .height) cells) ends count work after removed separated owners lefts rights p
             → Bridged (directionsOf 495) (mapOf (h .counts .width) (h .counts .height) cells) (spansIn ends count) marks
             → Analysed (decode s) (ownEnds (decode s)) work after marks (p .pairs)
-        unfolding labelled Parting.labelled
+        unfolding labelled
         own-analysed r b = record {
           work-is = r .work-is ∙ ap (λ ls. labelled ls work) labels-are;
           over = rw (← records-are) (r .over);

@@ -18,7 +18,8 @@ use Rattle.bridges.specs.Marks.{bridgeMarks}
 use Rattle.job.specs.Checks.{firstRefusal}
 use Rattle.job.specs.Refusals.{markChecks}
 use Rattle.chokes.specs.Rules.{gridOf}
-use Rattle.chokes.specs.Results.{Outcome, workSize, maxPairs, labelled, labelsOf}
+use Rattle.chokes.specs.Results.{Outcome, workSize, maxPairs, labelsOf}
+use Rattle.partition.specs.Partitioned.{labelled}
 
 -- the marks of the boundaries, where the pairs are no more than a call takes
 abbrev pub Bridged : List ℕ → Grid → List Span → List ℕ → Type 0

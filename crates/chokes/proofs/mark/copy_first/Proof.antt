@@ -12,20 +12,28 @@ Inv-loop from n to₀ i₀ to i = Copied from n to₀ to i
 
 abbrev μ-loop : tie.MeasureT-loop
 μ-loop from n to₀ i₀ to i = n - i
+
 loop-holds : tie.Need-loop-holds Inv-loop μ-loop
 loop-holds c = copied-start _ _ _ (c .pre .1)
+
 element-copy-out-to : tie.Need-element-copy-out-to Inv-loop μ-loop
 element-copy-out-to c = search needs
+
 slice-write-to : tie.Need-slice-write-to Inv-loop μ-loop
 slice-write-to c = omega (arith, copied-long (c .before .before .loop .inv), c .before .before .loop .inv .room, c .before .loop-test .taken)
+
 add-i : tie.Need-add-i Inv-loop μ-loop
 add-i c = search needs
+
 loop-less : tie.Need-loop-less Inv-loop μ-loop
 loop-less c = omega (arith, c .before .before .loop .inv .below, c .before .loop-test .taken)
+
 loop-again : tie.Need-loop-again Inv-loop μ-loop
 loop-again c = copied-next (c .before .before .loop .inv) (c .before .loop-test .taken)
+
 same-length : tie.Need-same-length Inv-loop μ-loop
 same-length c = copied-long (c .before .loop .inv)
+
 returns : tie.Need-returns Inv-loop μ-loop
 returns c = copied-end (c .before .loop .inv) (c .loop-test .left)
 
