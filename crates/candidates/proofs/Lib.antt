@@ -1,0 +1,4 @@
+pub mod FirstLaws
+pub mod StepLaws
+pub mod OwnerLaws
+pub mod ToucherLaws

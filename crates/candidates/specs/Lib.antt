@@ -1,0 +1,5 @@
+pub mod Owners
+pub mod Touchers
+pub mod Linkable
+pub mod Next
+pub mod Gives
