@@ -41,7 +41,7 @@ heldOf l = record { count = length l; first = getD l 0 0; second = getD l 1 0; l
 same-held : {a b c d x y z w : ℕ} → a ≡ x → b ≡ y → c ≡ z → d ≡ w → _≡_ {A = Touching} (record { count = a; first = b; second = c; last = d }) (record { count = x; first = y; second = z; last = w })
 same-held e f g h = rw (e, f, g, h)
 
-length-last : (l : List ℕ) (o : ℕ) → length (l ++ (o ∷ [])) ≡ length l + 1
+pub length-last : (l : List ℕ) (o : ℕ) → length (l ++ (o ∷ [])) ≡ length l + 1
 length-last [] o = refl
 length-last (x ∷ xs) o = let e : length (xs ++ (o ∷ [])) ≡ length xs + 1 = length-last xs o in omega arith
 
@@ -75,16 +75,16 @@ module _ (f : ℕ → Record) (r : ℕ) where
       go l false = refl
 
   -- an owner of a record that touches the region
-  record Touches (k i : ℕ) : Type 0 where
-    place : ℕ
-    below : place < k
-    owner : f place .owner ≡ i
-    hit : inRecord r (f place) ≡ true
+  pub record Touches (k i : ℕ) : Type 0 where
+    pub place : ℕ
+    pub below : place < k
+    pub owner : f place .owner ≡ i
+    pub hit : inRecord r (f place) ≡ true
 
   later : {k i : ℕ} → Touches k i → Touches (suc k) i
   later t = record { place = t .place; below = omega (arith, t .below); owner = t .owner; hit = t .hit }
 
-  toucher-touches : (k : ℕ) {i : ℕ} → List·Memᴰ i (touchers f r k) → Touches k i
+  pub toucher-touches : (k : ℕ) {i : ℕ} → List·Memᴰ i (touchers f r k) → Touches k i
   unfolding touchers
   toucher-touches zero m = absurd (List·Memᴰ·not-nil m)
   toucher-touches (suc k) {i} m = go (adds (touchers f r k) k) refl m (λ n. toucher-touches k n)

@@ -3,3 +3,4 @@ pub mod Touchers
 pub mod Linkable
 pub mod Next
 pub mod Gives
+pub mod Found

@@ -1,13 +1,13 @@
 // Whether a region gives a link.
 ghost use mathlib.Core.Path.{_≡_};
 ghost use mathlib.Core.Bool.{not, _&&_};
-ghost use Prim.Native.Nat.{ℕ, _+_, _*_, _<_, _≤_};
+ghost use Prim.Native.Nat.{_<_, _≤_};
 ghost use lib.Dec.{eqb};
 ghost use lib.ListN.{length, getD};
 ghost use Rattle.format.specs.Sizes.{baseSize};
-ghost use Rattle.topology.specs.AnchorLoop.{AnchorsIn, anchoredBy};
+ghost use Rattle.topology.specs.AnchorLoop.{anchoredBy};
 ghost use Rattle.topology.specs.Held.{labelsOf};
-ghost use Rattle.candidates.specs.Gives.{hasRegion, OwnBounded, TwoBelow, joinsTwo};
+ghost use Rattle.candidates.specs.Gives.{hasRegion, OnMap, OwnBounded, TwoBelow, joinsTwo};
 use links::geometry::centres_differ;
 use marking::spans::span_at;
 use topology::anchored::is_anchored;
@@ -55,4 +55,30 @@ pub fn joins_two(
     let one = has_region(linkables, lowers, highers, i, region);
     let other = has_region(linkables, lowers, highers, j, region);
     (one & other) & centres_differ(span_at(own, i), span_at(own, j))
+}
+
+// The region gives a link: no anchor lies in it, and it joins two ranks.
+pub fn gives_link(
+    job: &[u8],
+    bases_at: usize,
+    bases: usize,
+    width: u32,
+    labels: &[u8],
+    cells: usize,
+    n: usize,
+    own: &[u32; 1024],
+    linkables: &[u8; 256],
+    lowers: &[u32; 256],
+    highers: &[u32; 256],
+    count: u32,
+    first: u32,
+    second: u32,
+    region: u32,
+) -> bool
+    requires { ⌜ OnMap (now job) «bases_at» bases width (now labels) cells × (n ≤ 256) × OwnBounded (now own) n × TwoBelow count first second n ⌝ }
+    ensures { λ r. ⌜ r ≡ not (anchoredBy (now (job .entry)) «bases_at» bases width (labelsOf (now (labels .entry)) cells) region) && joinsTwo (now (own .entry)) (now (linkables .entry)) (now (lowers .entry)) (now (highers .entry)) region count first second ⌝ }
+{
+    let anchored = is_anchored(job, bases_at, bases, width, labels, cells, region);
+    let joins = joins_two(n, own, linkables, lowers, highers, count, first, second, region);
+    !anchored & joins
 }

@@ -4,3 +4,4 @@ mod touching; // the ranks that touch a region
 mod linkable; // the ranks that can be linked
 mod regions; // the regions of the ranks that can be linked, in order
 mod gives; // whether a region gives a link
+mod collect; // the links of all regions
