@@ -5,3 +5,4 @@ pub mod ToucherLaws
 pub mod NextLaws
 pub mod CollectLaws
 pub mod FoundLaws
+pub mod TopLaws

@@ -4,3 +4,4 @@ pub mod Linkable
 pub mod Next
 pub mod Gives
 pub mod Found
+pub mod Top
