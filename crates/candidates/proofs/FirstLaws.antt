@@ -3,7 +3,7 @@ use mathlib.Core.Path.{_≡_, refl, sym, _∙_, ap, subst}
 use mathlib.Core.Logic.{by-cases}
 use mathlib.Core.Bool.{Bool, true, false, cond}
 use mathlib.Core.List.{List, [], _∷_, _++_, append-nil}
-use Prim.Native.Nat.{ℕ, zero, suc, _+_, _<_, _≤_}
+use Prim.Native.Nat.{ℕ, suc, _+_, _<_, _≤_}
 use native.Mathlib.Numerals.{add-one}
 use native.Mathlib.Omega.{arith}
 use native.Mathlib.Decide.{ℕ-discrete}
@@ -116,7 +116,6 @@ own-few f k i = omega (arith, kept-few (rows k f), length-rows k f)
 
 pub count-few : {owners lefts rights : List ℕ} {k : ℕ} {counts lowers highers : List ℕ} → Firsts owners lefts rights k counts lowers highers → k ≤ 4096 → (i : ℕ) → i < 256 → getD counts i 0 ≤ 4096
 count-few {owners} {lefts} {rights} {k} h l i m = omega (arith, h .counts-are i m, own-few (recordIn owners lefts rights) k i)
-
 
 pub firsts-end : {owners lefts rights : List ℕ} {k n : ℕ} {c l h : List ℕ} → k ≡ n → Firsts owners lefts rights k c l h → Firsts owners lefts rights n c l h
 firsts-end e w = rw (← e) w

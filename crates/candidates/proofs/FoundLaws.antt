@@ -1,14 +1,14 @@
 -- What arrays that tell of a listing give are its links.
-use mathlib.Core.Path.{_≡_, refl, sym, _∙_, ap, subst}
+use mathlib.Core.Path.{_≡_, refl, sym, _∙_, ap}
 use mathlib.Core.Bool.{Bool, true, false, cond, not, _&&_, _||_}
-use mathlib.Core.List.{List, [], _∷_, map, List·Memᴰ, List·Memᴰ·head}
-use Prim.Native.Nat.{ℕ, _+_, _<_, _≤_}
+use mathlib.Core.List.{List, [], _∷_, map, List·Memᴰ}
+use Prim.Native.Nat.{ℕ, _<_, _≤_}
 use native.Mathlib.Omega.{arith}
-use borrow.Author.Tests.{eqb-true, eqb-false}
+use borrow.Author.Tests.{eqb-true}
 use lib.Dec.{eqb}
 use lib.ListN.{length, getD}
 use Rattle.order.specs.Lists.{keep, upFrom}
-use Rattle.order.proofs.Bools.{clash, and-parts, or-cases}
+use Rattle.order.proofs.Bools.{clash, and-parts}
 use Rattle.order.proofs.Members.{getD-mem, map-ext}
 use Rattle.order.proofs.Keep.{keep-mem, keep-ext}
 use Rattle.order.proofs.Numbers.{up-mem}
@@ -16,7 +16,7 @@ use Rattle.position.specs.declared.WalkPosition.{WalkPosition}
 use Rattle.grid.specs.Cells.{Grid}
 use Rattle.format.specs.Decode.{baseOf, baseRecords}
 use Rattle.areas.specs.Spans.{spanIn}
-use Rattle.areas.specs.Assessments.{RegionPair, Assessment}
+use Rattle.areas.specs.Assessments.{RegionPair}
 use Rattle.areas.proofs.Assessments.{pair-labels}
 use Rattle.topology.specs.Anchors.{anchorsOf, isAnchored}
 use Rattle.topology.specs.AnchorLoop.{anchoredBy}
@@ -28,14 +28,12 @@ use Rattle.links.specs.Geometry.{squares, doubledCentre}
 use Rattle.position.specs.Order.{posSame}
 use Rattle.groups.specs.Listing.{noItem, spansOf, boundaryAt, endsAt}
 use Rattle.groups.specs.Regions.{regionLabels, regionCount, assessAt, touching}
-use Rattle.groups.specs.Links.{LinkAt, centresDiffer, linkable, linkAt, givesLink, links}
-use Rattle.groups.specs.Tables.{Boundaries, Paired, FirstPairs, Linked}
-use Rattle.candidates.specs.Owners.{recordIn}
-use Rattle.candidates.specs.Linkable.{Marked}
+use Rattle.groups.specs.Links.{centresDiffer, linkable, linkAt, givesLink, links}
+use Rattle.groups.specs.Tables.{Paired, Linked}
 use Rattle.candidates.specs.Gives.{hasRegion, joinsTwo}
-use Rattle.candidates.specs.Found.{Given, seen, found, linkOf, AllFound}
+use Rattle.candidates.specs.Found.{Given, found, linkOf, AllFound}
 use Rattle.candidates.specs.declared.touching.Touching.{Touching}
-use Rattle.candidates.proofs.ToucherLaws.{heldOf, touching-held}
+use Rattle.candidates.proofs.ToucherLaws.{touching-held}
 
 -- the arrays tell of the listing
 pub record Tells (dirs : List ℕ) (g : Grid) (anchors : List WalkPosition) (l : List Item) (d : Given) : Type 0 where

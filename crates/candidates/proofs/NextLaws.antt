@@ -1,24 +1,22 @@
 -- The next region is the least above: no region between gives a link.
-use mathlib.Core.Path.{_≡_, refl, sym, _∙_, ap, subst}
-use mathlib.Core.Logic.{_⊎_, inl, inr, ⊎-elim, by-cases}
+use mathlib.Core.Path.{_≡_, refl, subst}
+use mathlib.Core.Logic.{_⊎_, ⊎-elim, by-cases}
 use mathlib.Core.Bool.{Bool, true, false, cond, not, _&&_, _||_}
 use mathlib.Core.List.{List, [], _∷_, _++_}
-use Prim.Native.Nat.{ℕ, zero, suc, _+_, _-_, _*_, _<_, _≤_}
+use Prim.Native.Nat.{ℕ, zero, suc, _+_, _-_, _<_, _≤_}
 use native.Mathlib.Omega.{arith}
 use native.Mathlib.Decide.{ℕ-discrete}
-use borrow.Author.Tests.{eqb-true, eqb-false, eq-eqb, ltb-true, ltb-false, leb-true, leb-false, le-leb, not-true}
-use lib.Dec.{eqb, ltb, leb}
+use borrow.Author.Tests.{eqb-true, eqb-false, ltb-true, ltb-false, not-true}
+use lib.Dec.{eqb, ltb}
 use lib.ListN.{length, getD}
-use Rattle.order.proofs.Bools.{clash, and-parts, or-cases}
+use Rattle.order.proofs.Bools.{and-parts, or-cases}
 use Rattle.order.proofs.Members.{getD-mem}
 use Rattle.graph.specs.Records.{Record}
 use Rattle.candidates.specs.Owners.{recordIn, inRecord, OwnersBelow}
 use Rattle.candidates.specs.Touchers.{touchingAfter, touchers}
-use Rattle.candidates.specs.Next.{nearer, considered, nextAfter}
-use Rattle.candidates.specs.Gives.{hasRegion, TwoBelow, joinsTwo}
-use Rattle.candidates.specs.Found.{Given, found, upTo}
-use Rattle.candidates.specs.declared.touching.Touching.{Touching}
-use Rattle.candidates.proofs.ToucherLaws.{heldOf, told, toucher-touches, length-last}
+use Rattle.candidates.specs.Next.{nearer, nextAfter}
+use Rattle.candidates.specs.Gives.{hasRegion}
+use Rattle.candidates.proofs.ToucherLaws.{told, toucher-touches, length-last}
 
 -- what is nearer: above, no more than before, and no more than the number if that is above
 record Nearer (after b x c : ℕ) : Type 0 where

@@ -1,18 +1,18 @@
 -- The steps of the search for what touches a region, of the marks and of the search for the next region.
-use mathlib.Core.Path.{_≡_, refl, sym, _∙_, ap}
+use mathlib.Core.Path.{_≡_, refl, _∙_, ap}
 use mathlib.Core.Logic.{by-cases}
 use mathlib.Core.Bool.{Bool, true, false, cond, not, _&&_, _||_}
 use mathlib.Core.List.{List}
-use Prim.Native.Nat.{ℕ, zero, suc, _+_, _<_, _≤_}
+use Prim.Native.Nat.{ℕ, suc, _+_, _<_, _≤_}
 use native.Mathlib.Numerals.{add-one}
 use native.Mathlib.Omega.{arith}
 use native.Mathlib.Decide.{ℕ-discrete}
 use lib.Dec.{eqb}
-use lib.ListN.{length, getD, set, length-set}
+use lib.ListN.{length, getD, set}
 use lib.Seq.{getD-set-same, getD-set-other}
 use Rattle.order.proofs.Bools.{clash}
 use Rattle.graph.specs.Records.{Record}
-use Rattle.candidates.specs.Owners.{recordIn, inRecord}
+use Rattle.candidates.specs.Owners.{inRecord}
 use Rattle.candidates.specs.Touchers.{withOwner, touched, touchingAfter}
 use borrow.Author.Tests.{ne-eqb}
 use Rattle.position.specs.Order.{posSame}

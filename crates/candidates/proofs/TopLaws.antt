@@ -1,13 +1,12 @@
 -- The three parts together.
-use mathlib.Core.Path.{_≡_, sym, _∙_, ap}
+use mathlib.Core.Path.{_∙_, ap}
 use mathlib.Core.Bool.{Bool, cond}
 use mathlib.Core.List.{List}
 use Prim.Native.Nat.{ℕ, _≤_}
 use native.Mathlib.Omega.{arith}
-use Rattle.groups.specs.Tables.{Boundaries}
 use Rattle.candidates.specs.Owners.{OwnersBelow, Firsts}
 use Rattle.candidates.specs.Linkable.{canLink, Marked}
-use Rattle.candidates.specs.Found.{Given, given, AllFound}
+use Rattle.candidates.specs.Found.{given, AllFound}
 use Rattle.candidates.specs.Top.{Answer}
 use Rattle.candidates.proofs.OwnerLaws.{first-pairs-are, linkable-is}
 use Rattle.candidates.proofs.FoundLaws.{linked}

@@ -1,6 +1,6 @@
 -- The owners that touch a region are the ranks that touch it.
 use mathlib.Core.Path.{_≡_, refl, sym, _∙_, ap, subst}
-use mathlib.Core.Logic.{_↔_, ⊎-elim, by-cases}
+use mathlib.Core.Logic.{⊎-elim, by-cases}
 use mathlib.Core.Bool.{Bool, true, false, cond, not, _&&_, _||_}
 use mathlib.Core.List.{List, [], _∷_, _++_, map, List·Memᴰ, List·Memᴰ·head, List·Memᴰ·tail, List·Memᴰ·not-nil, List·Memᴰ·append-cases, Memᴰ·append-left, Memᴰ·append-right}
 use Prim.Native.Nat.{ℕ, zero, suc, _+_, _-_, _<_, _≤_}
@@ -12,18 +12,18 @@ use lib.ListN.{length, getD, length-map}
 use lib.Seq.{getD-append-seam}
 use Rattle.lists.specs.Rows.{rows}
 use Rattle.lists.proofs.Rows.{rows-at, length-rows}
-use Rattle.order.specs.Lists.{keep, upFrom}
+use Rattle.order.specs.Lists.{upFrom}
 use Rattle.order.specs.Pairs.{Pairs, none, more}
-use Rattle.order.proofs.Bools.{clash, and-parts, and-both, or-cases}
+use Rattle.order.proofs.Bools.{clash, and-parts, or-cases}
 use Rattle.order.proofs.Members.{getD-mem, mem-getD}
 use Rattle.order.proofs.Pairs.{pairs-append, pairs-at, pairs-ext}
 use Rattle.order.proofs.Keep.{keep-mem, mem-keep, keep-pairs}
 use Rattle.order.proofs.Numbers.{up-mem, mem-up, up-strict}
 use Rattle.graph.specs.Records.{Record}
 use Rattle.grid.specs.Cells.{Grid}
-use Rattle.areas.specs.Assessments.{RegionPair, Assessment, recordOf, regionsOf, assess, records}
+use Rattle.areas.specs.Assessments.{Assessment, recordOf, regionsOf, assess, records}
 use Rattle.areas.proofs.Records.{records-iff}
-use Rattle.topology.specs.FullPair.{inPair, touches}
+use Rattle.topology.specs.FullPair.{touches}
 use Rattle.topology.proofs.FullPair.{touches-iff}
 use Rattle.topology.specs.Listing.{Item}
 use Rattle.groups.specs.Listing.{noSpan, spansOf}

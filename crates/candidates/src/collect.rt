@@ -40,8 +40,21 @@ fn consider(
     let first = t.first;
     let second = t.second;
     if gives_link(
-        job, bases_at, bases, width, labels, cells, n, own, linkables, lowers, highers, t.count,
-        first, second, region,
+        job,
+        bases_at,
+        bases,
+        width,
+        labels,
+        cells,
+        n,
+        own,
+        linkables,
+        lowers,
+        highers,
+        t.count,
+        first,
+        second,
+        region,
     ) {
         regions[count] = region;
         firsts[count] = first;
@@ -83,8 +96,26 @@ pub fn collect(
     let mut region = next_region(n, linkables, lowers, highers, after);
     while region != 0 {
         count = consider(
-            job, bases_at, bases, width, labels, cells, n, own, linkables, lowers, highers, owners,
-            lefts, rights, records, region, count, regions, firsts, seconds,
+            job,
+            bases_at,
+            bases,
+            width,
+            labels,
+            cells,
+            n,
+            own,
+            linkables,
+            lowers,
+            highers,
+            owners,
+            lefts,
+            rights,
+            records,
+            region,
+            count,
+            regions,
+            firsts,
+            seconds,
         );
         after = region;
         region = next_region(n, linkables, lowers, highers, after);

@@ -79,6 +79,16 @@ pub fn gives_link(
     ensures { λ r. ⌜ r ≡ not (anchoredBy (now (job .entry)) «bases_at» bases width (labelsOf (now (labels .entry)) cells) region) && joinsTwo (now (own .entry)) (now (linkables .entry)) (now (lowers .entry)) (now (highers .entry)) region count first second ⌝ }
 {
     let anchored = is_anchored(job, bases_at, bases, width, labels, cells, region);
-    let joins = joins_two(n, own, linkables, lowers, highers, count, first, second, region);
+    let joins = joins_two(
+        n,
+        own,
+        linkables,
+        lowers,
+        highers,
+        count,
+        first,
+        second,
+        region,
+    );
     !anchored & joins
 }

@@ -1,6 +1,6 @@
-use mathlib.Core.Path.{_≡_, refl, sym, _∙_, ap}
+use mathlib.Core.Path.{sym, _∙_}
 use native.Mathlib.Omega.{arith}
-use Prim.Native.Nat.{ℕ, _+_, _-_, _≤_, _<_}
+use Prim.Native.Nat.{_-_}
 use Rattle.topology.specs.Held.{labelsOf}
 use Rattle.candidates.specs.Found.{Given, given}
 use Rattle.candidates.proofs.CollectLaws.{two-below, gives-found, added-one, added-none}

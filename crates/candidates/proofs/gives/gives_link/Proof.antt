@@ -1,4 +1,3 @@
-use mathlib.Core.Path.{_≡_}
 use borrow.Author.Needs.{needs}
 use Rattle.candidates.proofs.gives.gives_link.Statement.{statement}
 use Rattle.candidates.proofs.gives.gives_link.Tie as tie

@@ -1,6 +1,5 @@
-use mathlib.Core.Path.{_≡_, refl, sym, _∙_, ap}
 use native.Mathlib.Omega.{arith}
-use Prim.Native.Nat.{ℕ, _+_, _-_, _≤_, _<_}
+use Prim.Native.Nat.{_-_}
 use Rattle.candidates.proofs.StepLaws.{joined, not-joined, own-bounded}
 use borrow.Author.Needs.{needs}
 use Rattle.candidates.proofs.gives.joins_two.Statement.{statement}

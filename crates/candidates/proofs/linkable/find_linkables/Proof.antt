@@ -1,7 +1,6 @@
-
-use mathlib.Core.Path.{_≡_, refl, sym, _∙_, ap}
+use mathlib.Core.Path.{_≡_, _∙_}
 use native.Mathlib.Omega.{arith}
-use Prim.Native.Nat.{ℕ, _+_, _-_, _≤_, _<_}
+use Prim.Native.Nat.{ℕ, _-_, _≤_}
 use lib.ListN.{length, length-set, length-replicate}
 use Rattle.candidates.specs.Linkable.{canLink, Marked}
 use Rattle.candidates.proofs.StepLaws.{marked-next, marked-end}

@@ -1,6 +1,6 @@
 use mathlib.Core.Bool.{Bool, cond}
 use Rattle.candidates.proofs.StepLaws.{can-link}
-use mathlib.Core.Path.{_≡_, refl, sym, _∙_, ap}
+use mathlib.Core.Path.{sym, _∙_, ap}
 use borrow.Author.Needs.{needs}
 use Rattle.candidates.proofs.linkable.mark.Statement.{statement}
 use Rattle.candidates.proofs.linkable.mark.Tie as tie

@@ -1,5 +1,5 @@
 use borrow.Author.Tests.{ne-eqb}
-use mathlib.Core.Path.{_≡_, refl, sym, _∙_, ap}
+use mathlib.Core.Path.{refl}
 use borrow.Author.Needs.{needs}
 use Rattle.candidates.proofs.pairs.add_pair.Statement.{statement}
 use Rattle.candidates.proofs.pairs.add_pair.Tie as tie

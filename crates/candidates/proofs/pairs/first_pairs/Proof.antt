@@ -1,9 +1,8 @@
-
-use mathlib.Core.Path.{_≡_, refl, sym, _∙_, ap}
+use mathlib.Core.Path.{refl}
 use native.Mathlib.Omega.{arith}
-use Prim.Native.Nat.{ℕ, _+_, _-_, _≤_, _<_}
+use Prim.Native.Nat.{_-_, _≤_}
 use Rattle.candidates.specs.Owners.{Firsts}
-use Rattle.candidates.proofs.FirstLaws.{firsts-start, firsts-next, count-few, firsts-at, firsts-end}
+use Rattle.candidates.proofs.FirstLaws.{firsts-start, count-few, firsts-at, firsts-end}
 use borrow.Author.Needs.{needs}
 use Rattle.candidates.proofs.pairs.first_pairs.Statement.{statement}
 use Rattle.candidates.proofs.pairs.first_pairs.Tie as tie

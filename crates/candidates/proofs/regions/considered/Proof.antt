@@ -1,6 +1,5 @@
 use native.Mathlib.Omega.{arith}
 use borrow.Author.Tests.{ne-eqb}
-use mathlib.Core.Path.{_≡_, refl, sym, _∙_, ap}
 use borrow.Author.Needs.{needs}
 use Rattle.candidates.proofs.regions.considered.Statement.{statement}
 use Rattle.candidates.proofs.regions.considered.Tie as tie

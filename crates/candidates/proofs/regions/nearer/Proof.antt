@@ -1,7 +1,5 @@
-use Prim.Native.Nat.{ℕ, _+_, _-_, _≤_, _<_}
+use Prim.Native.Nat.{_-_}
 use native.Mathlib.Omega.{arith}
-use mathlib.Core.Path.{_≡_, refl, sym, _∙_, ap}
-use borrow.Author.Needs.{needs}
 use Rattle.candidates.proofs.regions.nearer.Statement.{statement}
 use Rattle.candidates.proofs.regions.nearer.Tie as tie
 use Rattle.candidates.proofs.regions.nearer.Reads as reads

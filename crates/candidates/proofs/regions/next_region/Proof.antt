@@ -1,7 +1,6 @@
-
-use mathlib.Core.Path.{_≡_, refl, sym, _∙_, ap}
+use mathlib.Core.Path.{_≡_, refl}
 use native.Mathlib.Omega.{arith}
-use Prim.Native.Nat.{ℕ, _+_, _-_, _≤_, _<_}
+use Prim.Native.Nat.{_-_, _≤_, _<_}
 use Rattle.candidates.specs.Next.{nextAfter}
 use Rattle.candidates.proofs.StepLaws.{region-next, region-end}
 use borrow.Author.Needs.{needs}

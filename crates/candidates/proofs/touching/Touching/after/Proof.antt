@@ -1,4 +1,3 @@
-use mathlib.Core.Path.{_≡_, refl, sym, _∙_, ap}
 use borrow.Author.Needs.{needs}
 use Rattle.candidates.proofs.touching.Touching.after.Statement.{statement}
 use Rattle.candidates.proofs.touching.Touching.after.Tie as tie
