@@ -1,0 +1,2 @@
+pub mod Lays
+pub mod Layouts
