@@ -1,30 +1,17 @@
 //! Everything that is compared on one input.
 
+use crate::calls;
 use crate::checks::{self, Refusal, BY_LIST, HEADER, MARK, NONE, REDUCE, SPAN};
 use crate::draft::Input;
+use crate::lent::Lent;
 use crate::memory::Guarded;
-use crate::probe;
 use crate::rng::Rng;
 use crate::rust;
 use crate::tally::Tally;
+use crate::whole;
+use oracle::api::{self, AreaError, TerrainGrid};
 
-/// Room for the largest job and list of a run.
-const ROOM: usize = 1 << 22;
 const CALLS: [u32; 3] = [REDUCE, BY_LIST, MARK];
-
-/// The memory that the calls are lent. What is expected is worked out from the input itself.
-pub struct Lent {
-    job: Guarded,
-    list: Guarded,
-    out: Guarded,
-}
-
-impl Lent {
-    pub fn new() -> Self {
-        let room = |size| Guarded::new(size).expect("room for the slices of a call");
-        Self { job: room(ROOM), list: room(ROOM), out: room(4096) }
-    }
-}
 
 /// Compares all that the library says of an input with what it should say. An error names the
 /// first difference.
@@ -34,28 +21,25 @@ pub fn compare(
     rng: &mut Rng,
     tally: &mut Tally,
 ) -> Result<(), String> {
-    let job = lent.job.last(input.job.len());
-    let list = lent.list.last(input.list.len());
-    job.copy_from_slice(&input.job);
-    list.copy_from_slice(&input.list);
-
+    let (job, list, out) = lent.inputs(&input.job, &input.list);
     tally.inputs += 1;
     let mut expected = [NONE; 3];
     for call in CALLS {
         let faults = checks::faults(call, &input.job, &input.list);
         let first = faults.first().copied().unwrap_or(NONE);
-        let got = probe::check(call, job, list);
+        let got = calls::check(call, job, list);
         if got != first {
             return Err(format!("call {call}: expected {first:?}, got {got:?}, of {faults:?}"));
         }
         expected[call as usize] = first;
         tally.note(call as usize, &faults);
     }
-    parts(input, [job, list], expected, &mut lent.out, rng, tally)?;
+    parts(input, [job, list], expected, out, rng, tally)?;
     if *job != input.job[..] || *list != input.list[..] {
         return Err("job or list bytes were changed".to_string());
     }
-    rust::compare_spans(&input.job, &input.list, expected, tally)
+    compare_spans(&input.job, &input.list, expected, tally)?;
+    whole::compare(input, lent, rng, tally)
 }
 
 /// The ends of span i for several choices and indexes.
@@ -89,7 +73,7 @@ fn parts(
             if part.len() <= size {
                 after[..part.len()].copy_from_slice(part);
             }
-            let length = probe::span_ends(lent[0], lent[1], which, i, out);
+            let length = calls::span_ends(lent[0], lent[1], which, i, out);
             if length != part.len() || *out != after[..] {
                 return Err(format!(
                     "part of choice {which}, index {i}: expected {part:?}, got length {length}, \
@@ -98,6 +82,45 @@ fn parts(
             }
             tally.parts[usize::from(which != 0)] += u64::from(length > 0);
         }
+    }
+    Ok(())
+}
+
+/// What the Rust's own checks say of spans, as refusals of the list.
+fn refusal(grid: &TerrainGrid, spans: &[[u32; 4]]) -> Refusal {
+    match api::partition(grid, spans) {
+        Ok(_) => NONE,
+        Err(AreaError::TooManyBoundarySpans { actual }) => (15, actual as u64),
+        Err(AreaError::EndpointOutOfBounds { span, .. }) => (16, span as u64),
+        Err(AreaError::ZeroLengthSpan { span, .. }) => (17, span as u64),
+    }
+}
+
+/// Where only the checks that the Rust makes too are left to decide, it must say the same:
+/// of the list 15, 16 and 17; of the boundaries' own ends 11 and 12.
+fn compare_spans(
+    job: &[u8],
+    list: &[u8],
+    expected: [Refusal; 3],
+    tally: &mut Tally,
+) -> Result<(), String> {
+    let mut compare = |what: &str, expected: Refusal, spans: Vec<[u32; 4]>| {
+        let said = refusal(&rust::grid(job), &spans);
+        tally.rust[0] += 1;
+        tally.rust[1] += u64::from(said != NONE);
+        if said == expected {
+            Ok(())
+        } else {
+            Err(format!("{what}: expected {expected:?}, the Rust says {said:?}"))
+        }
+    };
+    if matches!(expected[1].0, 0 | 15 | 16 | 17) {
+        compare("list", expected[1], rust::spans(list, SPAN))?;
+    }
+    let (number, index) = expected[0];
+    if matches!(number, 0 | 11 | 12) {
+        let as_span = if number == 0 { NONE } else { (number + 5, index) };
+        compare("boundaries", as_span, rust::own_spans(job))?;
     }
     Ok(())
 }

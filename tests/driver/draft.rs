@@ -3,8 +3,8 @@
 
 use crate::checks::HEADER;
 use crate::rng::Rng;
+pub use crate::rust::NO_ANCHOR;
 
-pub const NO_ANCHOR: u32 = u32::MAX;
 /// The bits of 16,384.0, the largest width.
 pub const LARGEST_WIDTH: u64 = 0x40D0_0000_0000_0000;
 

@@ -1,12 +1,13 @@
 //! Small families of inputs, each run whole.
 
+use crate::calls;
 use crate::checks::{self, BY_LIST, HEADER, MARK, NONE, REDUCE, SPAN};
+use crate::compare::compare;
 use crate::damage::{damage, REFUSALS};
 use crate::draft::{valid, Draft, Input, Patch, LARGEST_WIDTH, NO_ANCHOR};
 use crate::memory::Guarded;
-use crate::probe;
 use crate::rng::Rng;
-use crate::run::Run;
+use crate::run::{hex, Run};
 
 /// All families. `rounds` is how often each pair of kinds of damage is drawn.
 pub fn all(run: &mut Run, rounds: usize) {
@@ -67,12 +68,12 @@ fn header_words(run: &mut Run) {
             let added = add.map(|more| Patch::Add(word, more));
             let patches = added.into_iter().chain(set.map(|value| Patch::Set(word, value)));
             for patch in patches {
-                run.draft(&Draft { patches: vec![patch], ..draft.clone() }, &mut rng);
+                run.draft(&Draft { patches: vec![patch], ..draft.clone() }, &mut rng, compare);
             }
             for other in 0..word {
                 for (one, two) in both.iter().flat_map(|&one| both.map(|two| (one, two))) {
                     let patches = vec![Patch::Add(word, one), Patch::Add(other, two)];
-                    run.draft(&Draft { patches, ..draft.clone() }, &mut rng);
+                    run.draft(&Draft { patches, ..draft.clone() }, &mut rng, compare);
                 }
             }
         }
@@ -113,7 +114,7 @@ fn widths(run: &mut Run) {
                 for more in [0, 1, u64::MAX, 1 << 32, 1 << 52] {
                     let mut draft = draft.clone();
                     draft.boundaries[i].bits = (edge ^ sign).wrapping_add(more);
-                    run.draft(&draft, &mut rng);
+                    run.draft(&draft, &mut rng, compare);
                 }
             }
         }
@@ -129,7 +130,7 @@ fn anchors(run: &mut Run) {
         for (column, row) in edges.iter().flat_map(|&column| edges.map(|row| (column, row))) {
             let mut draft = draft.clone();
             draft.bases[i][1..].copy_from_slice(&[column, row]);
-            run.draft(&draft, &mut rng);
+            run.draft(&draft, &mut rng, compare);
         }
     }
 }
@@ -148,8 +149,8 @@ fn ends(run: &mut Run) {
             own.boundaries[i].ends = [ax, ay, bx, by];
             let i = if last { draft.list.len() - 1 } else { 0 };
             listed.list[i] = [ax, ay, bx, by];
-            run.draft(&own, &mut rng);
-            run.draft(&listed, &mut rng);
+            run.draft(&own, &mut rng, compare);
+            run.draft(&listed, &mut rng, compare);
         }
     }
 }
@@ -163,7 +164,7 @@ fn ramps(run: &mut Run) {
             let mut draft = draft.clone();
             draft.boundaries[1].ramp = [end, bits & 1, bits >> 1 & 1, bits >> 2 & 1];
             draft.boundaries[1].ramp_id = id;
-            run.draft(&draft, &mut rng);
+            run.draft(&draft, &mut rng, compare);
         }
     }
 }
@@ -176,7 +177,7 @@ fn limits(run: &mut Run) {
             let mut counts = [1, 2, 2, 2, 1];
             counts[which] = count;
             let draft = valid([2, 2], counts, &mut rng);
-            run.draft(&draft, &mut rng);
+            run.draft(&draft, &mut rng, compare);
         }
     }
 }
@@ -186,20 +187,20 @@ fn largest_maps(run: &mut Run) {
     let mut rng = run.next_case();
     for sides in [[1024, 1], [1, 1024], [1025, 1], [1, 1025]] {
         let draft = valid(sides, [1, 1, 1, 1, 1], &mut rng);
-        run.draft(&draft, &mut rng);
+        run.draft(&draft, &mut rng, compare);
     }
     let draft = valid([1024, 1024], [256, 8, 1024, 4096, 8], &mut rng);
-    run.draft(&draft, &mut rng);
+    run.draft(&draft, &mut rng, compare);
     let mut last_cell = draft.clone();
     last_cell.cells[1024 * 1024 - 1] = 32;
-    run.draft(&last_cell, &mut rng);
+    run.draft(&last_cell, &mut rng, compare);
     let mut last_base = draft.clone();
     last_base.bases[255][1..].copy_from_slice(&[1023, 1024]);
-    run.draft(&last_base, &mut rng);
+    run.draft(&last_base, &mut rng, compare);
     let mut last_ends = draft.clone();
     last_ends.boundaries[7].ends = [0, 0, 8192, 8193];
     last_ends.list[7] = [8192, 8192, 8192, 8192];
-    run.draft(&last_ends, &mut rng);
+    run.draft(&last_ends, &mut rng, compare);
 }
 
 /// Every two kinds of damage on one input, in both orders.
@@ -210,7 +211,7 @@ fn pairs(run: &mut Run, rounds: usize) {
             let mut draft = small(&mut rng);
             damage(one, &mut draft, &mut rng);
             damage(two, &mut draft, &mut rng);
-            run.draft(&draft, &mut rng);
+            run.draft(&draft, &mut rng, compare);
         }
     }
 }
@@ -230,11 +231,11 @@ fn huge(run: &mut Run) {
     long[..input.job.len()].copy_from_slice(&input.job);
     let list = list.last(spans * SPAN + 8);
     let expect = |call: u32, job: &[u8], list: &[u8], refusal: checks::Refusal| {
-        let got = probe::check(call, job, list);
+        let got = calls::check(call, job, list);
         if got != refusal {
             let lengths = format!("job of {} bytes, list of {}", job.len(), list.len());
             let difference = format!("call {call}, {lengths}: expected {refusal:?}, got {got:?}");
-            run.report(&difference, &input, None);
+            run.report(&difference, &hex("as it was", &input));
         }
     };
     for call in [REDUCE, BY_LIST, MARK] {

@@ -2,38 +2,46 @@
 //!
 //!     driver quick
 //!     driver long [CASES | SECONDSs] [SEED]
+//!     driver random CASES SEED
 //!     driver case SEED NUMBER
 //!
+//! `random` is the random cases alone, with nothing asked of what they saw.
 //! Every run prints its seed; `case` runs one random case of a seed again. Exit status 0 means
-//! that nothing differed and that every refusal was seen.
+//! that nothing differed and that everything that should occur did.
 
+mod calls;
 mod checks;
 mod compare;
+mod corridors;
 mod damage;
+mod definition;
 mod draft;
 mod exhaustive;
+mod expect;
+mod families;
+mod lent;
+mod maps;
 mod memory;
-mod probe;
+mod merging;
+mod partition;
+mod records;
 mod rng;
 mod run;
 mod rust;
 mod shrink;
 mod smoke;
 mod tally;
+mod values;
+mod whole;
 
-use damage::REFUSALS;
-use draft::Draft;
-use rng::Rng;
 use run::Run;
 use std::process::exit;
 use std::time::{Duration, Instant};
 
 const QUICK_SEED: u64 = 1;
-const QUICK_CASES: u64 = 500_000;
+const QUICK_CASES: u64 = 100_000;
 const LONG_SEED: u64 = 2;
 const LONG: Limit = Limit::Time(Duration::from_secs(600));
-/// Random cases have their own numbers, apart from those of the exhaustive families.
-const FIRST_RANDOM_CASE: u64 = 1 << 32;
 
 enum Limit {
     Cases(u64),
@@ -49,13 +57,23 @@ fn main() {
         ["long"] => whole(LONG_SEED, LONG, 200),
         ["long", limit] => whole(LONG_SEED, parse_limit(limit), 200),
         ["long", limit, seed] => whole(parse(seed), parse_limit(limit), 200),
+        ["random", cases, seed] => {
+            let (mut run, mut done) = (Run::new(parse(seed)), 0);
+            while done < parse(cases) {
+                done = families::round(&mut run, done);
+            }
+            // What follows is numbered from 1, apart from the random cases.
+            run.start(0);
+            families::small_maps(&mut run);
+            families::limits(&mut run);
+            println!("seed {seed}: {done} random cases, nothing differs");
+        }
         ["case", seed, number] => {
             let (mut run, case) = (Run::new(parse(seed)), parse(number));
-            if case < FIRST_RANDOM_CASE {
+            if !families::case(&mut run, case) {
                 eprintln!("case {case} is of the exhaustive families, which a whole run repeats");
                 exit(2);
             }
-            random_case(&mut run, case);
             println!("seed {seed} case {number}: nothing differs");
         }
         _ => usage(),
@@ -63,7 +81,7 @@ fn main() {
 }
 
 fn usage() -> ! {
-    eprintln!("usage: driver quick | long [CASES | SECONDSs] [SEED] | case SEED NUMBER");
+    eprintln!("usage: driver quick | long [CASES | SECONDSs] [SEED] | random CASES SEED | case SEED NUMBER");
     exit(2)
 }
 
@@ -85,34 +103,18 @@ fn whole(seed: u64, limit: Limit, rounds: usize) {
     smoke::all(seed);
     let mut run = Run::new(seed);
     exhaustive::all(&mut run, rounds);
+    families::small_maps(&mut run);
+    families::limits(&mut run);
     let mut done = 0;
     while match limit {
         Limit::Cases(cases) => done < cases,
         Limit::Time(time) => start.elapsed() < time,
     } {
-        random_case(&mut run, FIRST_RANDOM_CASE + done);
-        done += 1;
+        done = families::round(&mut run, done);
     }
     run.tally.print();
     let missing = run.tally.missing();
     missing.iter().for_each(|what| eprintln!("not tested: {what}"));
     println!("{done} random cases; {:.1} s", start.elapsed().as_secs_f64());
     exit(i32::from(!missing.is_empty()));
-}
-
-fn random_case(run: &mut Run, number: u64) {
-    let mut rng = run.start(number);
-    let draft = random_draft(&mut rng);
-    run.draft(&draft, &mut rng);
-}
-
-/// A random draft with up to three kinds of damage. The kinds are those from some place of the
-/// order on, so that the last refusals come first as well.
-fn random_draft(rng: &mut Rng) -> Draft {
-    let mut draft = draft::random(rng);
-    let kinds = &REFUSALS[rng.below(REFUSALS.len())..];
-    for _ in 0..rng.pick(&[0, 1, 1, 1, 2, 2, 2, 3]) {
-        damage::damage(rng.pick(kinds), &mut draft, rng);
-    }
-    draft
 }

@@ -1,8 +1,10 @@
 //! Runs inputs one after another and stops at the first difference.
 
-use crate::compare::{compare, Lent};
+use crate::compare;
 use crate::draft::{Draft, Input};
+use crate::lent::Lent;
 use crate::memory;
+use crate::records::{self, Record};
 use crate::rng::Rng;
 use crate::shrink::shrink;
 use crate::tally::Tally;
@@ -11,9 +13,15 @@ use std::fs;
 use std::path::Path;
 use std::process;
 use std::sync::atomic::Ordering;
+use std::time::{Duration, Instant};
+
+/// A comparison of all that is said of an input; an error names the first difference.
+pub type Compare = fn(&Input, &mut Lent, &mut Rng, &mut Tally) -> Result<(), String>;
 
 /// Where an input that shows a difference is written.
 const FOLDER: &str = "target/driver";
+/// How long a draft is made smaller.
+const SHRINKING: Duration = Duration::from_secs(20);
 
 pub struct Run {
     pub seed: u64,
@@ -42,46 +50,53 @@ impl Run {
 
     /// An input that is bytes only.
     pub fn input(&mut self, input: &Input, rng: &mut Rng) {
-        let said = compare(input, &mut self.lent.borrow_mut(), rng, &mut self.tally);
+        let lent = &mut self.lent.borrow_mut();
+        let said = compare::compare(input, lent, rng, &mut self.tally);
         if let Err(difference) = said {
-            self.report(&difference, input, None);
+            self.report(&difference, &hex("as it was", input));
+        }
+    }
+
+    /// A bare list of records.
+    pub fn records(&mut self, records: &[Record]) {
+        let said = records::compare(records, &mut self.lent.borrow_mut(), &mut self.tally);
+        if let Err(difference) = said {
+            self.report(&difference, &format!("records {records:?}\n"));
         }
     }
 
     /// An input from a draft, which is made smaller where it shows a difference.
-    pub fn draft(&mut self, draft: &Draft, rng: &mut Rng) {
+    pub fn draft(&mut self, draft: &Draft, rng: &mut Rng, compare: Compare) {
         let input = draft.input();
         let before = rng.clone();
         let said = compare(&input, &mut self.lent.borrow_mut(), rng, &mut self.tally);
         if let Err(difference) = said {
-            let differs = |draft: &Draft| {
+            let again = |draft: &Draft| {
                 let lent = &mut self.lent.borrow_mut();
-                compare(&draft.input(), lent, &mut before.clone(), &mut Tally::default()).is_err()
+                compare(&draft.input(), lent, &mut before.clone(), &mut Tally::default()).err()
             };
-            let smallest = shrink(draft.clone(), differs).input();
-            self.report(&difference, &input, Some(&smallest));
+            eprintln!("{}", self.line(&difference));
+            let start = Instant::now();
+            let differs = |draft: &Draft| start.elapsed() < SHRINKING && again(draft).is_some();
+            let smallest = shrink(draft.clone(), differs);
+            let difference_then = again(&smallest).unwrap_or_else(|| "as above".to_string());
+            let title = format!("made smaller: {difference_then}");
+            let text = hex(&title, &smallest.input()) + &hex("as it was", &input);
+            self.report(&difference, &text);
         }
     }
 
+    fn line(&self, difference: &str) -> String {
+        format!("seed {} case {}: {difference}", self.seed, self.case)
+    }
+
     /// Says what differs, writes the input and ends the run.
-    pub fn report(&self, difference: &str, input: &Input, smallest: Option<&Input>) -> ! {
-        eprintln!("seed {} case {}: {difference}", self.seed, self.case);
-        let mut text = format!("seed {} case {}: {difference}\n", self.seed, self.case);
-        text += &hex("as it was", input);
-        if let Some(smallest) = smallest {
-            let again = compare(
-                smallest,
-                &mut self.lent.borrow_mut(),
-                &mut Rng::new(self.seed),
-                &mut Tally::default(),
-            );
-            let difference = again.err().unwrap_or_else(|| "as above".to_string());
-            text += &hex(&format!("made smaller: {difference}"), smallest);
-            eprintln!("made smaller: {difference}");
-            eprint!("{}", hex("its bytes", smallest));
-        }
+    pub fn report(&self, difference: &str, input: &str) -> ! {
+        let line = self.line(difference);
+        eprintln!("{line}");
+        eprint!("{}", input.chars().take(2000).collect::<String>());
         let file = Path::new(FOLDER).join("mismatch.txt");
-        match fs::create_dir_all(FOLDER).and_then(|()| fs::write(&file, text)) {
+        match fs::create_dir_all(FOLDER).and_then(|()| fs::write(&file, line + "\n" + input)) {
             Ok(()) => eprintln!("written to {}", file.display()),
             Err(error) => eprintln!("{}: {error}", file.display()),
         }
@@ -89,7 +104,7 @@ impl Run {
     }
 }
 
-fn hex(title: &str, input: &Input) -> String {
+pub fn hex(title: &str, input: &Input) -> String {
     let digits = |bytes: &[u8]| bytes.iter().map(|byte| format!("{byte:02x}")).collect::<String>();
     format!("{title}\njob  {}\nlist {}\n", digits(&input.job), digits(&input.list))
 }

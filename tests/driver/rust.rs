@@ -1,12 +1,13 @@
 //! The oracle's side: a job's bytes as the Rust's values, and the Rust's values as answer bytes.
 
-use crate::checks::{Refusal, BASE, BOUNDARY, HEADER, NONE, OBSERVATION, SOURCE, SPAN};
-use crate::draft::NO_ANCHOR;
-use crate::tally::Tally;
+use crate::checks::{BASE, BOUNDARY, HEADER, OBSERVATION, SOURCE};
 use oracle::api::{
-    self, AreaError, Context, PixelPosition, RampBoundary, RampSide, SpanPartition, TerrainGrid,
-    TopologyBase, TopologyBoundary, TopologyObservation, WalkPosition,
+    self, Context, PixelPosition, RampBoundary, RampSide, SpanPartition, TerrainGrid, TopologyBase,
+    TopologyBoundary, TopologyObservation, WalkPosition,
 };
+use std::collections::BTreeSet;
+
+pub const NO_ANCHOR: u32 = u32::MAX;
 
 /// A job that has passed the checks, as the Rust takes it.
 pub struct Job {
@@ -16,17 +17,70 @@ pub struct Job {
 }
 
 impl Job {
-    /// The partition by the boundaries' own ends, and the boundaries that are kept.
-    pub fn reduce(&self) -> (SpanPartition, Vec<TopologyBoundary>) {
-        let own = self.boundaries.iter().map(|boundary| {
+    pub fn own_spans(&self) -> Vec<[u32; 4]> {
+        let ends = self.boundaries.iter().map(|boundary| {
             let [a, b] = boundary.endpoints;
             [a.x, a.y, b.x, b.y]
         });
-        let own: Vec<_> = own.collect();
-        let partition = api::partition(&self.grid, &own).expect("checked spans");
-        let kept = Context::new(&self.grid, &partition, &self.bases).collapse(&self.boundaries);
+        ends.collect()
+    }
+
+    pub fn partition(&self, spans: &[[u32; 4]]) -> SpanPartition {
+        api::partition(&self.grid, spans).expect("checked spans")
+    }
+
+    /// The boundaries that are bridges.
+    pub fn bridges(&self, partition: &SpanPartition) -> BTreeSet<usize> {
+        Context::new(&self.grid, partition, &self.bases).bridges()
+    }
+
+    /// The boundaries that are kept.
+    pub fn kept(&self, partition: &SpanPartition) -> Vec<TopologyBoundary> {
+        Context::new(&self.grid, partition, &self.bases).collapse(&self.boundaries)
+    }
+
+    /// The partition by the boundaries' own ends, and the boundaries that are kept.
+    pub fn reduce(&self) -> (SpanPartition, Vec<TopologyBoundary>) {
+        let partition = self.partition(&self.own_spans());
+        let kept = self.kept(&partition);
         (partition, kept)
     }
+
+    /// The groups that the Rust merges. Each boundary gets a source that names it, so that what is
+    /// kept names its members; on a map of nothing but ramps only serial groups are left.
+    pub fn groups(&self, partition: &SpanPartition) -> Vec<Group> {
+        let named = self.boundaries.iter().enumerate().map(|(i, boundary)| TopologyBoundary {
+            sources: vec![[i as u32, 0]],
+            observations: vec![],
+            ..boundary.clone()
+        });
+        let named: Vec<_> = named.collect();
+        let merged = |grid: &TerrainGrid| -> Vec<TopologyBoundary> {
+            let kept = Context::new(grid, partition, &self.bases).collapse(&named);
+            kept.into_iter().filter(|boundary| boundary.sources.len() > 1).collect()
+        };
+        let serial = merged(&api::all_ramps(&self.grid));
+        let group = |boundary: TopologyBoundary| {
+            let names = boundary.sources.iter().map(|source| source[0] as usize);
+            let members: Vec<_> = names.collect();
+            // Of members alike in ends and width the first in input order is retained.
+            let alike = |&&i: &&usize| {
+                let mut ends = named[i].endpoints;
+                ends.sort();
+                ends == boundary.endpoints && named[i].width_pixels == boundary.width_pixels
+            };
+            let retained = *members.iter().find(alike).expect("a retained member");
+            Group { serial: serial.contains(&boundary), members, retained }
+        };
+        merged(&self.grid).into_iter().map(group).collect()
+    }
+}
+
+/// A group that is merged: its members by input index, and the one that is retained.
+pub struct Group {
+    pub serial: bool,
+    pub members: Vec<usize>,
+    pub retained: usize,
 }
 
 /// Reads fields one after another.
@@ -58,20 +112,20 @@ fn counts(job: &[u8]) -> [usize; 6] {
     [0; 6].map(|_| header.word() as usize)
 }
 
-fn grid(job: &[u8]) -> TerrainGrid {
+pub fn grid(job: &[u8]) -> TerrainGrid {
     let [width, height, ..] = counts(job);
     api::grid(width as u32, height as u32, &job[HEADER..HEADER + width * height])
 }
 
 /// The own ends of the job's boundaries.
-fn own_spans(job: &[u8]) -> Vec<[u32; 4]> {
+pub fn own_spans(job: &[u8]) -> Vec<[u32; 4]> {
     let [width, height, bases, boundaries, ..] = counts(job);
     let start = HEADER + width * height + BASE * bases;
     spans(&job[start..start + BOUNDARY * boundaries], BOUNDARY)
 }
 
 /// The spans that records of `size` bytes begin with.
-fn spans(bytes: &[u8], size: usize) -> Vec<[u32; 4]> {
+pub fn spans(bytes: &[u8], size: usize) -> Vec<[u32; 4]> {
     let span = |record| {
         let mut record = Reader(record);
         [0; 4].map(|_| record.word())
@@ -161,43 +215,4 @@ pub fn answer(kept: &[TopologyBoundary]) -> Vec<u8> {
     let mut answer = Vec::new();
     words(&mut answer, &header.map(|word| word as u32));
     [answer, boundaries, observations, sources].concat()
-}
-
-/// What the Rust's own checks say of spans, as refusals of the list.
-fn refusal(grid: &TerrainGrid, spans: &[[u32; 4]]) -> Refusal {
-    match api::partition(grid, spans) {
-        Ok(_) => NONE,
-        Err(AreaError::TooManyBoundarySpans { actual }) => (15, actual as u64),
-        Err(AreaError::EndpointOutOfBounds { span, .. }) => (16, span as u64),
-        Err(AreaError::ZeroLengthSpan { span, .. }) => (17, span as u64),
-    }
-}
-
-/// Where only the checks that the Rust makes too are left to decide, it must say the same:
-/// of the list 15, 16 and 17; of the boundaries' own ends 11 and 12.
-pub fn compare_spans(
-    job: &[u8],
-    list: &[u8],
-    expected: [Refusal; 3],
-    tally: &mut Tally,
-) -> Result<(), String> {
-    let mut compare = |what: &str, expected: Refusal, spans: Vec<[u32; 4]>| {
-        let said = refusal(&grid(job), &spans);
-        tally.rust[0] += 1;
-        tally.rust[1] += u64::from(said != NONE);
-        if said == expected {
-            Ok(())
-        } else {
-            Err(format!("{what}: expected {expected:?}, the Rust says {said:?}"))
-        }
-    };
-    if matches!(expected[1].0, 0 | 15 | 16 | 17) {
-        compare("list", expected[1], spans(list, SPAN))?;
-    }
-    let (number, index) = expected[0];
-    if matches!(number, 0 | 11 | 12) {
-        let as_span = if number == 0 { NONE } else { (number + 5, index) };
-        compare("boundaries", as_span, own_spans(job))?;
-    }
-    Ok(())
 }

@@ -1,10 +1,44 @@
 //! What a run has seen, so that it can't pass by testing nothing.
 
-use crate::checks::{Refusal, BY_LIST};
+use crate::calls::TABLE;
+use crate::checks::{Refusal, BY_LIST, MARK};
 use crate::damage::REFUSALS;
+use std::collections::BTreeMap;
 
-const CALLS: [&str; 3] = ["Reduce", "Reduce by list", "Mark"];
+pub const CALLS: [&str; 3] = ["Reduce", "Reduce by list", "Mark"];
 const NUMBERS: usize = 18;
+/// The refusals of whole calls, beside success.
+const WHOLE: [u32; 4] = [13, 21, 22, 23];
+
+/// What a whole run must have seen at least once.
+const WANTED: [&str; 26] = [
+    "partitions held to the definitions",
+    "partitions with a span that cuts nothing",
+    "partitions with a span that goes round",
+    "partitions with a span of several pairs",
+    "partitions of no area",
+    "partitions of over 256 areas",
+    "record lists with bridges and others",
+    "record lists without bridges",
+    "record lists of 4,096",
+    "serial groups of 3, Reduce",
+    "serial groups of 4, Reduce",
+    "serial groups of 3, Reduce by list",
+    "serial groups of 4, Reduce by list",
+    "flat groups of 2, Reduce",
+    "flat groups of 3, Reduce",
+    "flat groups of 4, Reduce",
+    "flat groups of 2, Reduce by list",
+    "flat groups of 3, Reduce by list",
+    "flat groups of 4, Reduce by list",
+    "serial groups at 384.0",
+    "flat groups at 128.0",
+    "groups with a member without observations",
+    "runs with several groups",
+    "runs with both kinds",
+    "relistings",
+    "merges one at a time",
+];
 
 #[derive(Default)]
 pub struct Tally {
@@ -18,6 +52,9 @@ pub struct Tally {
     /// Inputs on which the Rust's own checks were compared, and those that it refused.
     pub rust: [u64; 2],
     pub inputs: u64,
+    /// For each call, how often a whole call was to end with each number.
+    whole: [[u64; 24]; 3],
+    seen_besides: BTreeMap<String, u64>,
 }
 
 /// True where the call makes the check.
@@ -39,6 +76,22 @@ fn wins(call: usize, refusal: u32, later: u32) -> bool {
 }
 
 impl Tally {
+    /// Counts something by its name.
+    pub fn see(&mut self, what: &str) {
+        match self.seen_besides.get_mut(what) {
+            Some(count) => *count += 1,
+            None => drop(self.seen_besides.insert(what.to_string(), 1)),
+        }
+    }
+
+    pub fn count(&self, what: &str) -> u64 {
+        self.seen_besides.get(what).copied().unwrap_or(0)
+    }
+
+    pub fn note_whole(&mut self, call: usize, number: u32) {
+        self.whole[call][number as usize] += 1;
+    }
+
     pub fn note(&mut self, call: usize, faults: &[Refusal]) {
         let first = faults.first().map_or(0, |fault| fault.0 as usize);
         self.seen[call][first] += 1;
@@ -71,6 +124,47 @@ impl Tally {
         println!("pairs of a refusal and a later fault, over the calls: {pairs}");
         println!("parts not empty: {} of the job, {} of the list", self.parts[0], self.parts[1]);
         println!("spans given to the Rust: {}, refused by it: {}", self.rust[0], self.rust[1]);
+        self.print_whole();
+    }
+
+    fn print_whole(&self) {
+        println!("whole calls by number");
+        for (call, name) in CALLS.iter().enumerate() {
+            let refused: u64 = (1..=17).filter(|&n| n != 13).map(|n| self.whole[call][n]).sum();
+            let late = WHOLE.map(|n| format!(", {n}: {}", self.whole[call][n as usize])).concat();
+            let made = if TABLE.whole(call as u32).is_some() { "" } else { " (not compared yet)" };
+            println!("{name:>16}  0: {}{late}, refused before: {refused}{made}", self.whole[call][0]);
+        }
+        for (what, count) in &self.seen_besides {
+            println!("{count:>8} {what}");
+        }
+        let there = [
+            ("probe_partition", TABLE.partition.is_some()),
+            ("probe_bridges", TABLE.bridges.is_some()),
+            ("probe_plan", TABLE.plan.is_some()),
+            ("chokes_mark", TABLE.mark.is_some()),
+            ("chokes_reduce", TABLE.reduce.is_some()),
+            ("chokes_reduce_by_list", TABLE.reduce_by_list.is_some()),
+        ];
+        for (name, _) in there.iter().filter(|function| !function.1) {
+            println!("not there to be compared: {name}");
+        }
+    }
+
+    /// What the comparisons beyond the checks should have seen and did not.
+    fn missing_besides(&self) -> Vec<String> {
+        let mut missing = Vec::new();
+        for (call, name) in CALLS.iter().enumerate() {
+            let late = if call as u32 == MARK { 23 } else { 22 };
+            for number in [0, 13, 21, late] {
+                if self.whole[call][number] == 0 {
+                    missing.push(format!("{name}: no whole call ended with {number}"));
+                }
+            }
+        }
+        let unseen = WANTED.iter().filter(|&&what| self.count(what) == 0);
+        missing.extend(unseen.map(|what| format!("never: {what}")));
+        missing
     }
 
     /// What the run should have seen and did not.
@@ -102,6 +196,7 @@ impl Tally {
         if self.rust[1] == 0 || self.rust[0] == self.rust[1] {
             missing.push("the Rust's own checks were not both passed and failed".to_string());
         }
+        missing.extend(self.missing_besides());
         missing
     }
 }

@@ -1,7 +1,9 @@
 //! What the driver reaches of the oracle. A child of the module of the serial merging, so that
 //! private items are within reach and no visibility is edited.
 
-use super::{bridge_boundary_indices, collapse_serial_boundaries, full_graph};
+use super::{
+    bridge_boundary_indices, collapse_serial_boundaries, full_graph, EdgeRecord, FullGraph,
+};
 use crate::topology::context::PartitionContext;
 use std::collections::{BTreeMap, BTreeSet};
 
@@ -33,6 +35,12 @@ pub fn grid(width: u32, height: u32, cells: &[u8]) -> TerrainGrid {
         }
         made => made.expect("a checked job has a grid"),
     }
+}
+
+/// The grid with every cell a ramp, where no group is flat.
+pub fn all_ramps(grid: &TerrainGrid) -> TerrainGrid {
+    let cells = grid.cells.iter().map(|&cell| TerrainCell { ramp: true, ..cell }).collect();
+    TerrainGrid { cells, ..*grid }
 }
 
 /// Two ends as column, row, column, row.
@@ -96,4 +104,16 @@ impl<'a> Context<'a> {
     pub fn collapse(&self, boundaries: &[TopologyBoundary]) -> Vec<TopologyBoundary> {
         collapse_serial_boundaries(boundaries, &self.0)
     }
+}
+
+/// The owners that are bridges of a bare list of records: owner, left, right.
+pub fn bridges_of(records: &[[u32; 3]]) -> BTreeSet<usize> {
+    let mut graph = FullGraph::default();
+    for &[owner, left, right] in records {
+        let edge = graph.edges.len();
+        graph.edges.push(EdgeRecord { boundary: owner as usize, left, right });
+        graph.adjacency.entry(left).or_default().push(edge);
+        graph.adjacency.entry(right).or_default().push(edge);
+    }
+    bridge_boundary_indices(&graph)
 }

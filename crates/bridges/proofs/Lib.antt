@@ -5,3 +5,6 @@ pub mod Retell
 pub mod Turn
 pub mod Chains
 pub mod Meaning
+pub mod Table
+pub mod Names
+pub mod Small

@@ -2,3 +2,4 @@ pub mod Steps
 pub mod Walk
 pub mod Slices
 pub mod Marks
+pub mod Names

@@ -7,7 +7,7 @@ use Prim.Native.Nat.{ℕ, _+_, _≤_, _<_}
 use lib.Dec.{eqb, ltb}
 use lib.ListN.{length, getD, set}
 use Rattle.bridges.specs.declared.Frame.{Frame}
-use Rattle.bridges.specs.Walk.{Touches, First, Parted, Walk}
+use Rattle.bridges.specs.Walk.{First, Parted, Walk}
 
 -- a list as a function of the index
 abbrev pub at : List ℕ → ℕ → ℕ

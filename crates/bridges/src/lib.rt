@@ -1,11 +1,15 @@
 // The boundaries that are bridges of the graph of records, by a walk in depth (Tarjan).
 ghost use mathlib.Core.Path.{_≡_};
 ghost use mathlib.Core.List.{List};
-ghost use Prim.Native.Nat.{ℕ, _+_, _≤_, _<_, min};
+ghost use Prim.Native.Nat.{ℕ, _+_, _*_, _-_, _≤_, _<_, min};
 ghost use lib.ListN.{length, getD, set};
 ghost use Rattle.bridges.specs.Walk.{Joins, Touches, Walk};
 ghost use Rattle.bridges.specs.Marks.{recordsOf, bridgeMarks};
+ghost use Rattle.wire.specs.Bytes.{splice, u32At, u32Bytes};
+ghost use Rattle.bridges.specs.Names.{Labelled, Numbered, Forgotten};
 ghost use Rattle.bridges.specs.Slices.{at, Graph, Sized, Owners, Linked, Between, marking};
+use wire::read_u32;
+use wire::write_u32;
 
 // A number of a table, as an index.
 fn size(x: u32) -> usize
@@ -391,7 +395,7 @@ fn link(
 }
 
 // Marks each boundary that is a bridge with 1, and every other with 0.
-pub fn mark_bridges(
+fn mark_bridges(
     owners: &[u32; 4096],
     lefts: &[u32; 4096],
     rights: &[u32; 4096],
@@ -422,4 +426,147 @@ pub fn mark_bridges(
         &right_nexts,
         marks,
     );
+}
+
+// The number of a label that stands at a place: the one that it has, or that of the place.
+fn number_of(work: &mut [u8], base: usize, label: u32, place: u32) -> u32
+    requires { ⌜ (0 < label) × (base + 4 * label ≤ length (now work)) × (place < 8192) ⌝ }
+    ensures old { λ r. ⌜ ((u32At (now (work .entry)) (base + 4 * (label - 1)) ≡ 0 → ⊥) → (u32At (now (work .entry)) (base + 4 * (label - 1)) ≡ r + 1) × (now (work .exit) ≡ now (work .entry))) ⌝ }
+    ensures new { λ r. ⌜ (u32At (now (work .entry)) (base + 4 * (label - 1)) ≡ 0 → (r ≡ place) × (now (work .exit) ≡ splice (now (work .entry)) (base + 4 * (label - 1)) (u32Bytes (place + 1)))) ⌝ }
+{
+    let at = base + size(label - 1) * 4;
+    let found = read_u32(work, at);
+    if found != 0 {
+        return found - 1;
+    }
+    write_u32(work, at, place + 1);
+    place
+}
+
+// Gives the ends of record k their numbers.
+fn number_record(
+    lefts: &[u32; 4096],
+    rights: &[u32; 4096],
+    count: u32,
+    k: u32,
+    regions: usize,
+    work: &mut [u8],
+    base: usize,
+    small_lefts: &mut [u32; 4096],
+    small_rights: &mut [u32; 4096],
+)
+    requires { ⌜ (k < count) × Labelled count (now lefts) (now rights) regions × (base + 4 * regions ≤ length (now work)) ⌝ }
+    ensures { λ _. ⌜ ((start : List ℕ) → Numbered count (now (lefts .entry)) (now (rights .entry)) regions base start (now (work .entry)) (now («small_lefts» .entry)) (now («small_rights» .entry)) k → Numbered count (now (lefts .entry)) (now (rights .entry)) regions base start (now (work .exit)) (now («small_lefts» .exit)) (now («small_rights» .exit)) (k + 1)) ⌝ }
+{
+    let at = size(k);
+    small_lefts[at] = number_of(work, base, lefts[at], k);
+    small_rights[at] = number_of(work, base, rights[at], k + 4096);
+}
+
+// Gives every label its number.
+fn number_all(
+    lefts: &[u32; 4096],
+    rights: &[u32; 4096],
+    count: u32,
+    regions: usize,
+    work: &mut [u8],
+    base: usize,
+    small_lefts: &mut [u32; 4096],
+    small_rights: &mut [u32; 4096],
+)
+    requires { ⌜ Labelled count (now lefts) (now rights) regions × (base + 4 * regions ≤ length (now work)) × ((x : ℕ) → x < regions → u32At (now work) (base + 4 * x) ≡ 0) × (length (now «small_lefts») ≡ 4096) × (length (now «small_rights») ≡ 4096) ⌝ }
+    ensures { λ _. ⌜ Numbered count (now (lefts .entry)) (now (rights .entry)) regions base (now (work .entry)) (now (work .exit)) (now («small_lefts» .exit)) (now («small_rights» .exit)) count ⌝ }
+{
+    let mut k = 0;
+    while k < count {
+        number_record(
+            lefts,
+            rights,
+            count,
+            k,
+            regions,
+            work,
+            base,
+            small_lefts,
+            small_rights,
+        );
+        k += 1;
+    }
+}
+
+// Takes the word of a label back to 0.
+fn forget(work: &mut [u8], base: usize, label: u32)
+    requires { ⌜ (0 < label) × (base + 4 * label ≤ length (now work)) ⌝ }
+    ensures { λ _. ⌜ now (work .exit) ≡ splice (now (work .entry)) (base + 4 * (label - 1)) (u32Bytes 0) ⌝ }
+{
+    write_u32(work, base + size(label - 1) * 4, 0);
+}
+
+// Takes the words of the ends of record k back to 0.
+fn forget_record(
+    lefts: &[u32; 4096],
+    rights: &[u32; 4096],
+    count: u32,
+    k: u32,
+    regions: usize,
+    work: &mut [u8],
+    base: usize,
+)
+    requires { ⌜ (k < count) × Labelled count (now lefts) (now rights) regions × (base + 4 * regions ≤ length (now work)) ⌝ }
+    ensures { λ _. ⌜ ((start : List ℕ) → Forgotten count (now (lefts .entry)) (now (rights .entry)) regions base start (now (work .entry)) k → Forgotten count (now (lefts .entry)) (now (rights .entry)) regions base start (now (work .exit)) (k + 1)) ⌝ }
+{
+    let at = size(k);
+    forget(work, base, lefts[at]);
+    forget(work, base, rights[at]);
+}
+
+// Takes the words of every record's ends back to 0.
+fn forget_all(
+    lefts: &[u32; 4096],
+    rights: &[u32; 4096],
+    count: u32,
+    regions: usize,
+    work: &mut [u8],
+    base: usize,
+)
+    requires { ⌜ Labelled count (now lefts) (now rights) regions × (base + 4 * regions ≤ length (now work)) ⌝ }
+    ensures { λ _. ⌜ ((start : List ℕ) → Forgotten count (now (lefts .entry)) (now (rights .entry)) regions base start (now (work .entry)) 0 → Forgotten count (now (lefts .entry)) (now (rights .entry)) regions base start (now (work .exit)) count) ⌝ }
+{
+    let mut k = 0;
+    while k < count {
+        forget_record(lefts, rights, count, k, regions, work, base);
+        k += 1;
+    }
+}
+
+// Marks each boundary that is a bridge of the first count records with 1, and every other with 0. The table of words from base on in work is left as it was.
+pub fn bridge_boundaries(
+    owners: &[u32; 4096],
+    lefts: &[u32; 4096],
+    rights: &[u32; 4096],
+    count: usize,
+    regions: usize,
+    work: &mut [u8],
+    base: usize,
+    marks: &mut [u8; 256],
+)
+    requires { ⌜ Owners count (now owners) × Labelled count (now lefts) (now rights) regions × (base + 4 * regions ≤ length (now work)) × ((x : ℕ) → x < regions → u32At (now work) (base + 4 * x) ≡ 0) ⌝ }
+    ensures marks { λ _. ⌜ now (marks .exit) ≡ bridgeMarks (recordsOf count (now (owners .entry)) (now (lefts .entry)) (now (rights .entry))) 256 ⌝ }
+    ensures work { λ _. ⌜ now (work .exit) ≡ now (work .entry) ⌝ }
+{
+    let n = count as u32;
+    let mut small_lefts = [0u32; 4096];
+    let mut small_rights = [0u32; 4096];
+    number_all(
+        lefts,
+        rights,
+        n,
+        regions,
+        work,
+        base,
+        &mut small_lefts,
+        &mut small_rights,
+    );
+    mark_bridges(owners, &small_lefts, &small_rights, n, marks);
+    forget_all(lefts, rights, n, regions, work, base);
 }

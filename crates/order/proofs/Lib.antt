@@ -14,3 +14,4 @@ pub mod Once
 pub mod Keys
 pub mod Cases
 pub mod Merge
+pub mod Packed

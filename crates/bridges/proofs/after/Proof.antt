@@ -1,4 +1,4 @@
-use mathlib.Core.Path.{_≡_, refl, sym, _∙_, ap}
+use mathlib.Core.Path.{sym, _∙_, ap}
 use Rattle.bridges.specs.Slices.{at}
 use borrow.Author.Needs.{needs}
 use Rattle.bridges.proofs.after.Statement.{statement}
@@ -7,41 +7,32 @@ use Rattle.bridges.proofs.after.Reads as reads
 use Rattle.bridges.proofs.after.Lts as lts
 use Rattle.bridges.proofs.size.Reads as size-reads
 
--- src/lib.rt:78:9
 size-requires : tie.Need-size-requires
 size-requires c κs = search needs
 
--- src/lib.rt:79:8
 mul-if1 : tie.Need-mul-if1
 mul-if1 c = search needs
 
--- src/lib.rt:79:8
 element-copy-out-if1 : tie.Need-element-copy-out-if1
 element-copy-out-if1 c = search needs
 
--- src/lib.rt:80:16
 mul-result : tie.Need-mul-result
 mul-result c = search needs
 
--- src/lib.rt:80:16
 element-copy-out-result : tie.Need-element-copy-out-result
 element-copy-out-result c = search needs
 
--- src/lib.rt:80:9
 returns : tie.Need-returns
 returns c =
     let e = c .before .before .before .before .size .ensures .0 in
     (λ z. ap (at (c .before .before .before .before .before .args .left-nexts .now)) e, λ n. absurd (n (ap (at (c .before .before .before .before .before .args .lefts .now)) (sym e) ∙ c .before .if1 .taken)))
 
--- src/lib.rt:82:5
 mul-result-2 : tie.Need-mul-result-2
 mul-result-2 c = search needs
 
--- src/lib.rt:82:5
 element-copy-out-result-2 : tie.Need-element-copy-out-result-2
 element-copy-out-result-2 c = search needs
 
--- src/lib.rt:68:1
 returns-2 : tie.Need-returns-2
 returns-2 c =
     let e = c .before .before .before .before .size .ensures .0 in

@@ -1,4 +1,4 @@
-use mathlib.Core.Path.{_≡_, refl, sym, _∙_, ap}
+use mathlib.Core.Path.{_∙_, ap}
 use native.Mathlib.Omega.{arith}
 use Prim.Native.Nat.{ℕ}
 use lib.ListN.{set}
@@ -13,66 +13,51 @@ use Rattle.bridges.proofs.least.Reads as least-reads
 use Rattle.bridges.proofs.size.Reads as size-reads
 use Rattle.bridges.proofs.time_of.Reads as time-of-reads
 
--- src/lib.rt:177:22
 mul-least : tie.Need-mul-least
 mul-least c = search needs
 
--- src/lib.rt:177:22
 element-copy-out-least : tie.Need-element-copy-out-least
 element-copy-out-least c = search needs
 
--- src/lib.rt:177:16
 least-requires : tie.Need-least-requires
 least-requires c κs = search needs
 
--- src/lib.rt:177:5
 mul-lows : tie.Need-mul-lows
 mul-lows c = search needs
 
--- src/lib.rt:177:5
 element-write-lows : tie.Need-element-write-lows
 element-write-lows c = search needs
 
--- src/lib.rt:178:22
 mul-time-of : tie.Need-mul-time-of
 mul-time-of c = search needs
 
--- src/lib.rt:178:22
 element-copy-out-time-of : tie.Need-element-copy-out-time-of
 element-copy-out-time-of c = search needs
 
--- src/lib.rt:178:8
 time-of-requires : tie.Need-time-of-requires
 time-of-requires c κs = search needs
 
--- src/lib.rt:179:13
 size-requires : tie.Need-size-requires
 size-requires c κs = search needs
 
--- src/lib.rt:180:26
 mul-size : tie.Need-mul-size
 mul-size c = search needs
 
--- src/lib.rt:180:26
 element-copy-out-size : tie.Need-element-copy-out-size
 element-copy-out-size c = search needs
 
--- src/lib.rt:180:13
 size-requires-2 : tie.Need-size-requires-2
 size-requires-2 c κs = search needs
 
--- src/lib.rt:181:9
 element-write-marks : tie.Need-element-write-marks
 element-write-marks c = omega (arith, c .size2 .ensures .0, ap (at (c .before .before .before .before .before .before .before .before .args .owners .now)) (c .before .before .size .ensures .0), c .before .before .before .before .before .before .before .before .pre .3)
 
--- src/lib.rt:163:1
 returns : tie.Need-returns
 returns c =
     let a = c .before .before .before .before .before .before .before .before .args in
     let o = c .size2 .ensures .0 ∙ ap (at (a .owners .now)) (c .before .before .size .ensures .0) in
     (rw (c .before .before .before .before .before .before .least .ensures), ap (λ (x : ℕ). set (a .marks .now) x 1) o ∙ mark-set (at (a .disc .now) (at (a .stack .now) (a .up))) (a .f .low) (a .marks .now) (at (a .owners .now) (a .f .parent)) (omega (arith, c .before .before .before .if1 .taken, c .before .before .before .before .time-of .ensures)))
 
--- src/lib.rt:163:1
 returns-2 : tie.Need-returns-2
 returns-2 c =
     let a = c .before .before .before .before .before .args in

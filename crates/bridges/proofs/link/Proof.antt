@@ -1,8 +1,8 @@
-use mathlib.Core.Path.{_≡_, refl, sym, _∙_, ap, subst}
+use mathlib.Core.Path.{_≡_, subst}
 use native.Mathlib.Omega.{arith}
-use Prim.Native.Nat.{ℕ, _+_, _-_, _≤_, _<_}
+use Prim.Native.Nat.{_+_, _-_, _≤_, _<_}
 use borrow.Author.Needs.{needs}
-use Rattle.bridges.specs.Slices.{at, Linked}
+use Rattle.bridges.specs.Slices.{Linked}
 use Rattle.bridges.proofs.Chains.{linked-one, linked-as}
 use Rattle.bridges.proofs.link.Statement.{statement}
 use Rattle.bridges.proofs.link.Tie as tie
@@ -16,26 +16,21 @@ Inv-loop lefts rights count heads₀ left-nexts₀ right-nexts₀ k₀ heads lef
 abbrev μ-loop : tie.MeasureT-loop
 μ-loop lefts rights count heads₀ left-nexts₀ right-nexts₀ k₀ heads left-nexts right-nexts k = k
 
--- src/lib.rt:392:5
 loop-holds : tie.Need-loop-holds Inv-loop μ-loop
 loop-holds c = (omega arith, c .pre .1)
 
--- src/lib.rt:393:9
 sub-k : tie.Need-sub-k Inv-loop μ-loop
 sub-k c = search needs
 
--- src/lib.rt:394:9
 link-record-requires : tie.Need-link-record-requires Inv-loop μ-loop
 link-record-requires c κs =
     let k = c .before .before .before .before .loop .k in
     let l : k - 1 < c .before .before .before .before .before .args .count = omega (arith, c .before .before .before .before .loop .inv .0, c .before .before .before .loop-test .taken) in
     (omega (arith, c .before .before .before .before .before .pre .0 .few), c .before .before .before .before .before .pre .0 .left-in (k - 1) l, c .before .before .before .before .before .pre .0 .right-in (k - 1) l)
 
--- src/lib.rt:392:5
 loop-less : tie.Need-loop-less Inv-loop μ-loop
 loop-less c = search needs
 
--- src/lib.rt:392:5
 loop-again : tie.Need-loop-again Inv-loop μ-loop
 loop-again c =
     let k = c .before .before .before .before .before .loop .k in
@@ -47,7 +42,6 @@ loop-again c =
     = subst (Linked (a .count) (a .lefts .now) (a .rights .now) (m .heads) (m .left-nexts) (m .right-nexts)) (let z : k ≡ k - 1 + 1 = omega (arith, c .before .before .before .before .loop-test .taken) in z) (m .inv .1) in
     (omega arith, linked-as _ _ _ _ _ _ _ _ _ _ (e .0) (e .1 .0) (e .1 .1) (linked-one (a .count) (a .lefts .now) (a .rights .now) (m .heads) (m .left-nexts) (m .right-nexts) (k - 1) (c .before .before .before .before .before .before .pre .0) n l))
 
--- src/lib.rt:380:1
 returns : tie.Need-returns Inv-loop μ-loop
 returns c =
     subst (Linked (c .before .before .args .count) (c .before .before .args .lefts .now) (c .before .before .args .rights .now) (c .before .loop .heads) (c .before .loop .left-nexts) (c .before .loop .right-nexts))

@@ -1,4 +1,4 @@
-use mathlib.Core.Path.{_≡_, refl, sym, _∙_, ap}
+use mathlib.Core.Path.{ap}
 use native.Mathlib.Omega.{arith}
 use Rattle.bridges.specs.Slices.{at}
 use borrow.Author.Needs.{needs}
@@ -8,83 +8,63 @@ use Rattle.bridges.proofs.link_record.Reads as reads
 use Rattle.bridges.proofs.link_record.Lts as lts
 use Rattle.bridges.proofs.size.Reads as size-reads
 
--- src/lib.rt:370:9
 size-requires : tie.Need-size-requires
 size-requires c κs = search needs
 
--- src/lib.rt:371:21
 mul-size : tie.Need-mul-size
 mul-size c = search needs
 
--- src/lib.rt:371:21
 element-copy-out-size : tie.Need-element-copy-out-size
 element-copy-out-size c = search needs
 
--- src/lib.rt:371:9
 size-requires-2 : tie.Need-size-requires-2
 size-requires-2 c κs = search needs
 
--- src/lib.rt:372:22
 mul-size-2 : tie.Need-mul-size-2
 mul-size-2 c = search needs
 
--- src/lib.rt:372:22
 element-copy-out-size-2 : tie.Need-element-copy-out-size-2
 element-copy-out-size-2 c = search needs
 
--- src/lib.rt:372:9
 size-requires-3 : tie.Need-size-requires-3
 size-requires-3 c κs = search needs
 
--- src/lib.rt:373:22
 mul-left-nexts : tie.Need-mul-left-nexts
 mul-left-nexts c = search needs
 
--- src/lib.rt:373:22
 element-copy-out-left-nexts : tie.Need-element-copy-out-left-nexts
 element-copy-out-left-nexts c = omega (arith, c .before .before .size2 .ensures .0, ap (at (c .before .before .before .before .before .args .lefts .now)) (c .before .before .before .before .size .ensures .0), c .before .before .before .before .before .pre .1)
 
--- src/lib.rt:373:5
 mul-left-nexts-2 : tie.Need-mul-left-nexts-2
 mul-left-nexts-2 c = search needs
 
--- src/lib.rt:373:5
 element-write-left-nexts : tie.Need-element-write-left-nexts
 element-write-left-nexts c = search needs
 
--- src/lib.rt:374:23
 mul-right-nexts : tie.Need-mul-right-nexts
 mul-right-nexts c = search needs
 
--- src/lib.rt:374:23
 element-copy-out-right-nexts : tie.Need-element-copy-out-right-nexts
 element-copy-out-right-nexts c = omega (arith, c .before .size3 .ensures .0, ap (at (c .before .before .before .before .before .before .args .rights .now)) (c .before .before .before .before .before .size .ensures .0), c .before .before .before .before .before .before .pre .2)
 
--- src/lib.rt:374:5
 mul-right-nexts-2 : tie.Need-mul-right-nexts-2
 mul-right-nexts-2 c = search needs
 
--- src/lib.rt:374:5
 element-write-right-nexts : tie.Need-element-write-right-nexts
 element-write-right-nexts c = search needs
 
--- src/lib.rt:375:5
 mul-heads : tie.Need-mul-heads
 mul-heads c = search needs
 
--- src/lib.rt:375:5
 element-write-heads : tie.Need-element-write-heads
 element-write-heads c = omega (arith, c .before .before .before .before .size2 .ensures .0, ap (at (c .before .before .before .before .before .before .before .args .lefts .now)) (c .before .before .before .before .before .before .size .ensures .0), c .before .before .before .before .before .before .before .pre .1)
 
--- src/lib.rt:376:5
 mul-heads-2 : tie.Need-mul-heads-2
 mul-heads-2 c = search needs
 
--- src/lib.rt:376:5
 element-write-heads-2 : tie.Need-element-write-heads-2
 element-write-heads-2 c = omega (arith, c .before .before .size3 .ensures .0, ap (at (c .before .before .before .before .before .before .before .args .rights .now)) (c .before .before .before .before .before .before .size .ensures .0), c .before .before .before .before .before .before .before .pre .2)
 
--- src/lib.rt:357:1
 returns : tie.Need-returns
 returns c =
     let e = c .before .before .before .before .before .before .size .ensures .0 in

@@ -1,4 +1,4 @@
-use mathlib.Core.Path.{_≡_, refl, sym, _∙_, ap}
+use mathlib.Core.Path.{refl}
 use Rattle.bridges.proofs.Chains.{unlinked}
 use borrow.Author.Needs.{needs}
 use Rattle.bridges.proofs.mark_bridges.Statement.{statement}
@@ -8,17 +8,14 @@ use Rattle.bridges.proofs.mark_bridges.Lts as lts
 use Rattle.bridges.proofs.link.Reads as link-reads
 use Rattle.bridges.proofs.walk_all.Reads as walk-all-reads
 
--- src/lib.rt:412:5
 link-requires : tie.Need-link-requires
 link-requires c κs =
     let p = c .before .before .before .pre in
     (p .0, unlinked (c .before .before .before .args .count) (c .before .before .before .args .lefts .now) (c .before .before .before .args .rights .now) (p .0 .few) 8192 4096 refl refl)
 
--- src/lib.rt:420:5
 walk-all-requires : tie.Need-walk-all-requires
 walk-all-requires c κs = search needs
 
--- src/lib.rt:399:1
 returns : tie.Need-returns
 returns c = search needs
 

@@ -1,4 +1,4 @@
-use mathlib.Core.Path.{_≡_, refl, sym, _∙_, ap}
+use mathlib.Core.Path.{sym, _∙_, ap}
 use Rattle.bridges.specs.Slices.{at}
 use mathlib.Core.Logic.{⊎-elim}
 use Rattle.bridges.specs.Walk.{forth, back}
@@ -9,41 +9,32 @@ use Rattle.bridges.proofs.other_end.Reads as reads
 use Rattle.bridges.proofs.other_end.Lts as lts
 use Rattle.bridges.proofs.size.Reads as size-reads
 
--- src/lib.rt:60:9
 size-requires : tie.Need-size-requires
 size-requires c κs = search needs
 
--- src/lib.rt:61:8
 mul-if1 : tie.Need-mul-if1
 mul-if1 c = search needs
 
--- src/lib.rt:61:8
 element-copy-out-if1 : tie.Need-element-copy-out-if1
 element-copy-out-if1 c = search needs
 
--- src/lib.rt:62:16
 mul-result : tie.Need-mul-result
 mul-result c = search needs
 
--- src/lib.rt:62:16
 element-copy-out-result : tie.Need-element-copy-out-result
 element-copy-out-result c = search needs
 
--- src/lib.rt:62:9
 returns : tie.Need-returns
 returns c =
     let e = c .before .before .before .before .size .ensures .0 in
     forth (ap (at (c .before .before .before .before .before .args .lefts .now)) (sym e) ∙ c .before .if1 .taken) (ap (at (c .before .before .before .before .before .args .rights .now)) (sym e))
 
--- src/lib.rt:64:5
 mul-result-2 : tie.Need-mul-result-2
 mul-result-2 c = search needs
 
--- src/lib.rt:64:5
 element-copy-out-result-2 : tie.Need-element-copy-out-result-2
 element-copy-out-result-2 c = search needs
 
--- src/lib.rt:56:1
 returns-2 : tie.Need-returns-2
 returns-2 c =
     let e = c .before .before .before .before .size .ensures .0 in

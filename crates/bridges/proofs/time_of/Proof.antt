@@ -5,19 +5,15 @@ use Rattle.bridges.proofs.time_of.Reads as reads
 use Rattle.bridges.proofs.time_of.Lts as lts
 use Rattle.bridges.proofs.size.Reads as size-reads
 
--- src/lib.rt:90:10
 size-requires : tie.Need-size-requires
 size-requires c κs = search needs
 
--- src/lib.rt:90:5
 mul-result : tie.Need-mul-result
 mul-result c = search needs
 
--- src/lib.rt:90:5
 element-copy-out-result : tie.Need-element-copy-out-result
 element-copy-out-result c = search needs
 
--- src/lib.rt:86:1
 returns : tie.Need-returns
 returns c = rw (c .before .size .ensures .0)
 

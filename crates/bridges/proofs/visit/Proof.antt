@@ -1,4 +1,4 @@
-use mathlib.Core.Path.{_≡_, refl, sym, _∙_, ap}
+use mathlib.Core.Path.{refl, _∙_}
 use native.Mathlib.Omega.{arith}
 use Rattle.bridges.proofs.Turn.{passed}
 use borrow.Author.Needs.{needs}
@@ -9,29 +9,23 @@ use Rattle.bridges.proofs.visit.Lts as lts
 use Rattle.bridges.proofs.time_of.Reads as time-of-reads
 use Rattle.bridges.proofs.walk.Reads as walk-reads
 
--- src/lib.rt:287:16
 mul-root : tie.Need-mul-root
 mul-root c = search needs
 
--- src/lib.rt:287:16
 element-copy-out-root : tie.Need-element-copy-out-root
 element-copy-out-root c = search needs
 
--- src/lib.rt:288:8
 time-of-requires : tie.Need-time-of-requires
 time-of-requires c κs = c .before .before .pre .0 .graph .left-in _ (c .before .before .pre .2)
 
--- src/lib.rt:289:9
 returns : tie.Need-returns
 returns c = passed (c .before .before .before .before .pre .0) (λ z. c .if1 .taken (c .before .time-of .ensures ∙ z))
 
--- src/lib.rt:291:5
 walk-requires : tie.Need-walk-requires
 walk-requires c κs =
     let p = c .before .before .before .before .before .before .before .before .before .before .pre in
     (p .0, p .1, p .0 .graph .left-in _ (p .2), omega (arith, c .before .before .before .before .before .before .if1 .left, c .before .before .before .before .before .before .before .time-of .ensures), refl)
 
--- src/lib.rt:267:1
 returns-2 : tie.Need-returns-2
 returns-2 c = search needs
 

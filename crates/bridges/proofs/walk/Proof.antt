@@ -75,19 +75,15 @@ next-one c =
     subst (First (a .count) (at (a .lefts .now)) (at (a .rights .now)) (f .next + 1) (f .region)) (sym (c .moved .ensures .2))
     (follows-as (c .before .before .before .before .before .before .before .before .before .before .before .before .before .before .before .before .before .before .before .before .before .pre .1) f g (c .before .after .result) en er k (c .before .before .before .before .before .before .loop .inv .touching k) (z .0) (z .1))
 
--- src/lib.rt:207:20
 add-time : tie.Need-add-time Inv-loop μ-loop Inv-walk μ-walk
 add-time c = omega (arith, c .pre .0 .walk .count, c .pre .0 .sized .disc-are)
 
--- src/lib.rt:215:9
 opened-requires : tie.Need-opened-requires Inv-loop μ-loop Inv-walk μ-walk
 opened-requires c κs = c .before .before .before .before .before .pre .2
 
--- src/lib.rt:208:5
 enter-requires : tie.Need-enter-requires Inv-loop μ-loop Inv-walk μ-walk
 enter-requires c κs = (omega arith, omega (arith, c .opened .ensures .0, c .before .before .before .before .before .before .pre .2))
 
--- src/lib.rt:218:5
 walk-holds : tie.Need-walk-holds Inv-loop μ-loop Inv-walk μ-walk
 walk-holds c =
     let e = c .enter .ensures in
@@ -97,48 +93,38 @@ walk-holds c =
     recast _ _ _ _ _ _ _ _ (e .0 ∙ set-as (a .disc .now) (o .0) (o .3)) (e .1 ∙ set-as (a .stack .now) refl (o .0)) (e .2 ∙ set-as (a .parents .now) refl (o .1)) (e .3 ∙ set-as (a .nexts .now) refl (o .2)) (e .4 ∙ set-as (a .lows .now) refl (o .3)) refl refl refl
     (rooted (p .0) (a .root) (at (a .heads .now) (a .root)) (omega (arith, p .2, p .0 .sized .disc-are)) (p .3) (p .4) (p .1 .head (a .root) (p .2)))
 
--- src/lib.rt:219:19
 sub-top : tie.Need-sub-top Inv-loop μ-loop Inv-walk μ-walk
 sub-top c = omega arith
 
--- src/lib.rt:220:13
 load-requires : tie.Need-load-requires Inv-loop μ-loop Inv-walk μ-walk
 load-requires c κs = omega (arith, high (c .before .before .before .before .before .walk .inv), c .before .before .before .before .walk-test .taken)
 
--- src/lib.rt:222:13
 loop-holds : tie.Need-loop-holds Inv-loop μ-loop Inv-walk μ-walk
 loop-holds c =
     let e = c .load .ensures in
     take (c .load .result) (unrolled (c .before .before .before .before .before .before .walk .inv) (c .before .before .before .before .before .walk-test .taken)) (e .0) (e .1) (e .2) (e .3)
 
--- src/lib.rt:227:17
 other-end-requires : tie.Need-other-end-requires Inv-loop μ-loop Inv-walk μ-walk
 other-end-requires c κs = (omega (arith, c .before .before .if1 .left, c .before .before .before .before .before .before .before .before .before .before .before .before .before .before .before .before .before .before .before .pre .0 .graph .few), c .before .before .before .before .loop .inv .touching (omega (arith, c .before .before .if1 .left)))
 
--- src/lib.rt:228:21
 time-of-requires : tie.Need-time-of-requires Inv-loop μ-loop Inv-walk μ-walk
 time-of-requires c κs = end-in (c .before .before .before .before .before .before .before .before .before .before .before .before .before .before .before .before .before .before .before .before .before .pre .0 .graph) (omega (arith, c .before .before .before .before .if1 .left)) (c .before .other-end .ensures)
 
--- src/lib.rt:232:17
 lowered-requires : tie.Need-lowered-requires Inv-loop μ-loop Inv-walk μ-walk
 lowered-requires c κs = search needs
 
--- src/lib.rt:234:25
 after-requires : tie.Need-after-requires Inv-loop μ-loop Inv-walk μ-walk
 after-requires c κs =
     let few = c .before .before .before .before .before .before .before .before .before .before .before .before .before .before .before .before .before .before .before .pre .0 .graph .few in
     let k = c .before .before .if1 .left in
     ⊎-elim (λ w. omega (arith, few, k, ap (λ (x : Frame). x .next) (w .6), w .5 .ensures .2)) (λ w. omega (arith, few, k, ap (λ (x : Frame). x .next) (w .1))) (c .if2 .came)
 
--- src/lib.rt:234:13
 moved-requires : tie.Need-moved-requires Inv-loop μ-loop Inv-walk μ-walk
 moved-requires c κs = search needs
 
--- src/lib.rt:222:13
 loop-less : tie.Need-loop-less Inv-loop μ-loop Inv-walk μ-walk
 loop-less c = omega (arith, c .before .before .before .before .if1 .left, next-one c .onward)
 
--- src/lib.rt:222:13
 loop-again : tie.Need-loop-again Inv-loop μ-loop Inv-walk μ-walk
 loop-again c =
     let k : c .before .before .before .before .before .before .loop .f .next < c .before .before .before .before .before .before .before .before .before .before .before .before .before .before .before .before .before .before .before .before .before .args .count = omega (arith, c .before .before .before .before .if1 .left) in
@@ -150,44 +136,36 @@ loop-again c =
     let e = w .6 in
     let t = w .3 .ensures in
     seen h (c .moved .result) (w .1 .result) (m .0 ∙ ap (λ (x : Frame). x .region) e ∙ l .0) (m .1 ∙ ap (λ (x : Frame). x .parent) e ∙ l .1) (next-one c)
-    (m .3 ∙ ap (λ (x : Frame). x .low) e ∙ l .3 ∙ ap (λ (x : ℕ). min (c .before .before .before .before .before .before .loop .f .low) x) t) k (w .1 .ensures) (w .0 .taken) (λ z. w .4 .left (t ∙ z)))
+    (m .3 ∙ ap (λ (x : Frame). x .low) e ∙ l .3 ∙ ap (λ (x : ℕ). min (c .before .before .before .before .before .before .loop .f .low) x) t) k (w .1 .ensures) (λ z. omega (arith, w .0 .taken, z)) (λ z. w .4 .left (t ∙ z)))
     (λ w.
     let e = w .1 in
     skipped h (c .moved .result) (m .0 ∙ ap (λ (x : Frame). x .region) e) (m .1 ∙ ap (λ (x : Frame). x .parent) e) (next-one c) (m .3 ∙ ap (λ (x : Frame). x .low) e) k (omega (arith, w .0 .left)))
     (c .before .before .if2 .came)
 
--- src/lib.rt:241:25
 after-requires-2 : tie.Need-after-requires-2 Inv-loop μ-loop Inv-walk μ-walk
 after-requires-2 c κs = omega (arith, stopped (c .before .before .before) .is (c .before .before .if4 .taken), c .before .before .if4 .taken, c .before .before .before .before .before .before .before .before .before .before .before .before .before .before .before .before .before .before .before .before .pre .0 .graph .few)
 
--- src/lib.rt:241:17
 moved-requires-2 : tie.Need-moved-requires-2 Inv-loop μ-loop Inv-walk μ-walk
 moved-requires-2 c κs = search needs
 
--- src/lib.rt:237:13
 save-requires : tie.Need-save-requires Inv-loop μ-loop Inv-walk μ-walk
 save-requires c κs = omega (arith, high (c .before .before .before .before .before .before .before .before .before .before .before .before .before .before .walk .inv), c .before .before .before .before .before .before .before .before .before .before .before .before .before .walk-test .taken)
 
--- src/lib.rt:243:13
 add-time-2 : tie.Need-add-time-2 Inv-loop μ-loop Inv-walk μ-walk
 add-time-2 c = omega (arith, timely (c .before .before .before .before .before .before .before .before .before .before .before .before .before .before .before .walk .inv))
 
--- src/lib.rt:251:17
 opened-requires-2 : tie.Need-opened-requires-2 Inv-loop μ-loop Inv-walk μ-walk
 opened-requires-2 c κs = stopped (c .before .before .before .before .before .before .before .before .before .before .before) .within (c .before .before .before .before .before .before .before .before .before .before .if4 .taken)
 
--- src/lib.rt:244:13
 enter-requires-2 : tie.Need-enter-requires-2 Inv-loop μ-loop Inv-walk μ-walk
 enter-requires-2 c κs =
     let v = stopped (c .before .before .before .before .before .before .before .before .before .before .before .before) in
     let j = c .before .before .before .before .before .before .before .before .before .before .before .if4 .taken in
     (roomy (c .before .before .before .before .before .before .before .before .before .before .before .before .before .before .before .before .before .before .before .before .before .walk .inv) _ (v .within j) (v .new j), omega (arith, c .opened2 .ensures .0, v .within j))
 
--- src/lib.rt:253:13
 add-h : tie.Need-add-h Inv-loop μ-loop Inv-walk μ-walk
 add-h c = omega (arith, high (c .before .before .before .before .before .before .before .before .before .before .before .before .before .before .before .before .before .before .before .before .before .before .walk .inv))
 
--- src/lib.rt:218:5
 walk-less : tie.Need-walk-less Inv-loop μ-loop Inv-walk μ-walk
 walk-less c =
     let m = c .before .before .before .before .before .before .before .before .before .before .before .before .before .before .before .before .before .before .before .before .before .before .walk in
@@ -197,7 +175,6 @@ walk-less c =
     let e = c .enter2 .ensures .0 ∙ set-as (m .disc) (o .0) (o .3) in
     omega (arith, ap (λ (x : List ℕ). zeros (at x) (length x)) e, falls (m .inv) (c .before .before .before .before .before .before .before .before .before .before .before .before .before .if1 .w) (m .time + 1) (v .within j) (v .new j) (omega arith))
 
--- src/lib.rt:218:5
 walk-again : tie.Need-walk-again Inv-loop μ-loop Inv-walk μ-walk
 walk-again c =
     let m = c .before .before .before .before .before .before .before .before .before .before .before .before .before .before .before .before .before .before .before .before .before .before .walk in
@@ -221,34 +198,27 @@ walk-again c =
     (e .4 ∙ ap (λ (x : List ℕ). set x (m .h) (c .before .opened2 .result .low)) (s .1) ∙ set-as (set (m .lows) (m .h - 1) (g .low)) refl (o .3)) refl refl refl
     (found-at (m .inv) f g w (c .before .before .before .before .before .before .before .before .before .before .before .before .before .if1 .j) (at (a .heads .now) w) (c .before .before .before .before .before .before .before .before .before .before .before .before .before .before .before .before .before .before .before .before .before .walk-test .taken) (c .before .before .before .before .before .before .before .before .before .before .before .before .before .before .before .loop .inv) v j q (n .3) (p .1 .head w (v .within j)))
 
--- src/lib.rt:218:5
 walk-less-2 : tie.Need-walk-less-2 Inv-loop μ-loop Inv-walk μ-walk
 walk-less-2 c = omega (arith, c .before .before .before .before .before .before .before .before .before .before .walk-test .taken)
 
--- src/lib.rt:218:5
 walk-again-2 : tie.Need-walk-again-2 Inv-loop μ-loop Inv-walk μ-walk
 walk-again-2 c = emptied-at (c .before .before .before .before .before .before .before .before .before .before .before .walk .inv) (c .before .before .before .before .loop .f) (c .before .before .before .before .before .before .before .before .before .before .walk-test .taken) (c .if5 .taken) (c .before .before .before .before .loop .inv) (stopped (c .before .before) .all (c .before .if4 .left))
 
--- src/lib.rt:260:49
 sub-leave : tie.Need-sub-leave Inv-loop μ-loop Inv-walk μ-walk
 sub-leave c = omega (arith, c .before .before .before .before .if5 .left)
 
--- src/lib.rt:260:9
 leave-requires : tie.Need-leave-requires Inv-loop μ-loop Inv-walk μ-walk
 leave-requires c κs = leaving (c .before .before .before .before .before .before .before .before .before .before .before .before .before .before .before .walk .inv) (c .before .before .before .before .before .before .before .before .loop .f) (c .before .before .before .before .before .before .before .before .before .before .before .before .before .before .walk-test .taken) (c .before .before .before .before .if5 .left) (c .before .before .before .before .before .before .before .before .loop .inv)
 
--- src/lib.rt:218:5
 walk-less-3 : tie.Need-walk-less-3 Inv-loop μ-loop Inv-walk μ-walk
 walk-less-3 c = omega (arith, c .before .before .before .before .before .before .before .before .before .before .before .before .before .before .before .walk-test .taken)
 
--- src/lib.rt:218:5
 walk-again-3 : tie.Need-walk-again-3 Inv-loop μ-loop Inv-walk μ-walk
 walk-again-3 c =
     let e = c .leave .ensures in
     recast _ _ _ _ _ _ _ _ refl refl refl refl (e .0) (e .1) refl refl
     (left-at (c .before .before .before .before .before .before .before .before .before .before .before .before .before .before .before .before .walk .inv) (c .before .before .before .before .before .before .before .before .before .loop .f) (c .before .before .before .before .before .before .before .before .before .before .before .before .before .before .before .walk-test .taken) (c .before .before .before .before .before .if5 .left) (c .before .before .before .before .before .before .before .before .before .loop .inv) (stopped (c .before .before .before .before .before .before .before) .all (c .before .before .before .before .before .before .if4 .left)))
 
--- src/lib.rt:186:1
 returns : tie.Need-returns Inv-loop μ-loop Inv-walk μ-walk
 returns c = ended (recast _ _ _ _ _ _ _ _ refl refl refl refl refl refl (let z : 0 ≡ c .before .walk .h = omega (arith, c .walk-test .left) in z) refl (c .before .walk .inv))
 

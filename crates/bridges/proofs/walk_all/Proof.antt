@@ -1,6 +1,6 @@
-use mathlib.Core.Path.{_≡_, refl, sym, _∙_, ap}
+use mathlib.Core.Path.{_≡_, refl}
 use native.Mathlib.Omega.{arith}
-use Prim.Native.Nat.{ℕ, _+_, _-_, _≤_, _<_}
+use Prim.Native.Nat.{_-_, _≤_}
 use borrow.Author.Needs.{needs}
 use Rattle.bridges.specs.Slices.{Between}
 use Rattle.bridges.proofs.Turn.{cleared}
@@ -18,34 +18,27 @@ Inv-loop owners lefts rights count heads left-nexts right-nexts marks₀ disc₀
 abbrev μ-loop : tie.MeasureT-loop
 μ-loop owners lefts rights count heads left-nexts right-nexts marks₀ disc₀ stack₀ parents₀ nexts₀ lows₀ end time₀ r₀ marks disc stack parents nexts lows time r = end - r
 
--- src/lib.rt:331:9
 size-requires : tie.Need-size-requires Inv-loop μ-loop
 size-requires c κs = search needs
 
--- src/lib.rt:334:5
 loop-holds : tie.Need-loop-holds Inv-loop μ-loop
 loop-holds c =
     let a = c .before .before .args in
     let p = c .before .before .pre in
     (omega arith, c .size .ensures .0, cleared (a .count) (a .owners .now) (a .lefts .now) (a .rights .now) (p .0) (p .1) 8192 256 refl refl)
 
--- src/lib.rt:335:9
 visit-requires : tie.Need-visit-requires Inv-loop μ-loop
 visit-requires c κs = (c .before .before .before .before .before .before .before .loop .inv .2, c .before .before .before .before .before .before .before .before .before .before .pre .2, omega (arith, c .before .before .before .before .before .before .before .loop .inv .1, c .before .before .before .before .before .before .loop-test .taken))
 
--- src/lib.rt:352:9
 add-r : tie.Need-add-r Inv-loop μ-loop
 add-r c = omega (arith, c .before .before .before .before .before .before .before .loop-test .taken, c .before .before .before .before .before .before .before .before .loop .inv .1, c .before .before .before .before .before .before .before .before .before .before .before .pre .0 .few)
 
--- src/lib.rt:334:5
 loop-less : tie.Need-loop-less Inv-loop μ-loop
 loop-less c = omega (arith, c .before .before .before .before .before .before .before .loop-test .taken)
 
--- src/lib.rt:334:5
 loop-again : tie.Need-loop-again Inv-loop μ-loop
 loop-again c = (omega (arith, c .before .before .before .before .before .before .before .loop-test .taken), c .before .before .before .before .before .before .before .before .loop .inv .1, c .visit .ensures)
 
--- src/lib.rt:312:1
 returns : tie.Need-returns Inv-loop μ-loop
 returns c = answered (c .before .loop .inv .2) (omega (arith, c .before .loop .inv .0, c .before .loop .inv .1, c .loop-test .left)) 256 (c .before .loop .inv .2 .sized .marks-are)
 

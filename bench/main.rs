@@ -1,0 +1,243 @@
+//! Times the proved library and the real Rust on the same inputs, and measures the library's stack.
+//!
+//!     bench [quick]
+//!
+//! Times are in milliseconds, the least of several runs. Of a whole call the Rust's time begins with
+//! the job's bytes and ends with the answer's, as the library's does; of a partition it is that of
+//! `partition_by_spans` alone, where the library checks the job besides.
+
+#[path = "../tests/driver/calls.rs"]
+#[allow(dead_code, unused_imports)]
+mod calls;
+#[path = "../tests/driver/checks.rs"]
+#[allow(dead_code)]
+mod checks;
+#[path = "../tests/driver/draft.rs"]
+#[allow(dead_code)]
+mod draft;
+#[path = "../tests/driver/expect.rs"]
+#[allow(dead_code)]
+mod expect;
+#[path = "../tests/driver/maps.rs"]
+#[allow(dead_code)]
+mod maps;
+#[path = "../tests/driver/rng.rs"]
+#[allow(dead_code)]
+mod rng;
+#[path = "../tests/driver/rust.rs"]
+#[allow(dead_code)]
+mod rust;
+mod stack;
+
+use calls::TABLE;
+use checks::{Refusal, BY_LIST, MARK, REDUCE};
+use draft::{Boundary, Draft, Input};
+use expect::Expected;
+use maps::Shape;
+use oracle::api;
+use rng::Rng;
+use std::hint::black_box;
+use std::time::{Duration, Instant};
+
+const CALLS: [&str; 3] = ["Reduce", "Reduce by list", "Mark"];
+/// The largest answer of any job.
+const ANSWER: usize = 1 << 18;
+
+/// The least time of some runs: at least three, more while they are short.
+fn least(mut run: impl FnMut()) -> f64 {
+    let start = Instant::now();
+    let (mut least, mut runs) = (f64::INFINITY, 0);
+    while runs < 3 || runs < 200 && start.elapsed() < Duration::from_millis(300) {
+        let once = Instant::now();
+        run();
+        least = least.min(once.elapsed().as_secs_f64() * 1e3);
+        runs += 1;
+    }
+    least
+}
+
+/// A row of the table: what was run, the Rust's time, the library's, and their ratio.
+fn row(what: &str, rust: f64, library: Option<f64>) {
+    match library {
+        Some(time) => println!("{what:<58}{rust:>12.3}{time:>12.3}{:>9.2}", time / rust),
+        None => println!("{what:<58}{rust:>12.3}{:>12}{:>9}", "-", "-"),
+    }
+}
+
+fn head(title: &str) {
+    println!("\n{title:<58}{:>12}{:>12}{:>9}", "Rust, ms", "library, ms", "ratio");
+}
+
+/// The slices of a call, lent again and again.
+struct Lent {
+    input: Input,
+    work: Vec<u8>,
+    out: Vec<u8>,
+}
+
+impl Lent {
+    fn new(draft: &Draft) -> Self {
+        let work = vec![0; expect::WORK * (draft.width * draft.height) as usize];
+        Self { input: draft.input(), work, out: vec![0; ANSWER] }
+    }
+
+    fn call(&mut self, call: u32) -> Option<Refusal> {
+        let function = TABLE.whole(call)?;
+        Some(function(&self.input.job, &self.input.list, &mut self.work, &mut self.out))
+    }
+}
+
+/// A map of a shape with boundaries across it, and as many sources.
+fn job(side: u32, shape: Shape, boundaries: usize, sources: usize) -> Draft {
+    let mut rng = Rng::of_case(7, u64::from(side) << 32 | (boundaries * 5000 + sources) as u64);
+    let mut draft = maps::with_spans([side, side], shape, 0, &mut rng);
+    draft.boundaries = (0..boundaries)
+        .map(|i| {
+            // Across the map near a diagonal line, each 24 pixels long.
+            let at = 8 + (i as u32 * 8 * (side - 4) / boundaries as u32);
+            let ends = [at, at, at + rng.within(0, 3), at + 24];
+            Boundary { ends, bits: 24.0_f64.to_bits(), ..Boundary::default() }
+        })
+        .collect();
+    draft.share(sources.min(1024) / 4, sources, &mut rng);
+    draft.list = draft.boundaries.iter().map(|boundary| boundary.ends).collect();
+    draft
+}
+
+/// Spans from edge to edge of the map, so that each cuts much.
+fn across(side: u32, shape: Shape, spans: usize) -> Draft {
+    let mut rng = Rng::of_case(11, u64::from(side) + spans as u64);
+    let mut draft = maps::with_spans([side, side], shape, 0, &mut rng);
+    let most = 8 * side;
+    draft.boundaries = (0..spans)
+        .map(|i| {
+            let at = most * (i as u32 / 2 + 1) / (spans as u32 / 2 + 1);
+            let ends = if i % 2 == 0 { [at, 0, at, most / 16] } else { [0, at, most / 16, at] };
+            Boundary { ends, bits: 8.0_f64.to_bits(), ..Boundary::default() }
+        })
+        .collect();
+    draft
+}
+
+/// The partition by the Rust, and by the library where it has it by itself.
+fn partition(what: &str, draft: &Draft) {
+    let mut lent = Lent::new(draft);
+    let ready = rust::job(&lent.input.job);
+    let spans = ready.own_spans();
+    let rust = least(|| drop(black_box(ready.partition(black_box(&spans)))));
+    let library = TABLE.partition.map(|function| {
+        least(|| {
+            black_box(function(&lent.input.job, &mut lent.work, &mut lent.out));
+        })
+    });
+    row(what, rust, library);
+}
+
+/// A whole call from bytes to bytes.
+fn whole(call: u32, what: &str, draft: &Draft) {
+    let mut lent = Lent::new(draft);
+    let expected = Expected::of(call, &lent.input.job, &lent.input.list);
+    let number = expected.left(&lent.work, &lent.out).result.0;
+    let said = lent.call(call);
+    assert!(said.is_none_or(|said| said.0 == number), "the two sides agree on {what}");
+    let rust = least(|| drop(black_box(by_rust(call, &lent.input))));
+    let library = TABLE.whole(call).is_some().then(|| {
+        least(|| {
+            black_box(lent.call(call));
+        })
+    });
+    row(&format!("{}, {what}", CALLS[call as usize]), rust, library);
+}
+
+/// What the Rust makes of a job: the answer's bytes, or the marks.
+fn by_rust(call: u32, input: &Input) -> Vec<u8> {
+    let job = rust::job(&input.job);
+    let spans = if call == BY_LIST { rust::spans(&input.list, 16) } else { job.own_spans() };
+    let partition = job.partition(&spans);
+    if call == MARK {
+        let bridges = job.bridges(&partition);
+        (0..spans.len()).map(|i| u8::from(bridges.contains(&i))).collect()
+    } else {
+        rust::answer(&job.kept(&partition))
+    }
+}
+
+fn bridges() {
+    head("bridges of 4,096 records over up to 8,192 regions");
+    let mut rng = Rng::new(5);
+    let mut shapes: [(&str, Vec<[u32; 3]>); 3] = [
+        ("chain", (0..4096).map(|i| [i % 256, i + 1, i + 2]).collect()),
+        ("cycle", (0..4096).map(|i| [i % 256, i + 1, (i + 1) % 4096 + 1]).collect()),
+        ("random pairs", vec![]),
+    ];
+    shapes[2].1 = (0..4096)
+        .map(|i| {
+            let left = rng.within(1, 8191);
+            [i % 256, left, rng.within(left + 1, 8192)]
+        })
+        .collect();
+    for (name, records) in &shapes {
+        let bytes = calls::record_words(records);
+        let (mut work, mut marks) = (vec![0; 1 << 20], vec![0; 256]);
+        let rust = least(|| drop(black_box(api::bridges_of(black_box(records)))));
+        let library = TABLE.bridges.map(|function| {
+            least(|| {
+                black_box(function(&bytes, &mut work, &mut marks));
+            })
+        });
+        row(name, rust, library);
+    }
+}
+
+fn stacks() {
+    println!("\nstack of a call, bytes beyond an empty thread's");
+    let mut rng = Rng::new(3);
+    let jobs = [
+        ("1,024 x 1,024, 256 boundaries, 4,096 sources", job(1024, Shape::Open, 256, 4096)),
+        ("4,096 region pairs", maps::many_pairs(4096, &mut rng)),
+        ("64 x 64, 4 boundaries", job(64, Shape::Noise, 4, 8)),
+    ];
+    for (what, draft) in &jobs {
+        for call in [REDUCE, BY_LIST, MARK] {
+            let mut lent = Lent::new(draft);
+            let mut said = None;
+            let used = stack::used(&mut || said = lent.call(call));
+            if said.is_some() {
+                println!("{:>10}  {}, {what}", used, CALLS[call as usize]);
+            }
+        }
+    }
+}
+
+fn main() {
+    let quick = std::env::args().any(|argument| argument == "quick");
+    let sides: &[u32] = if quick { &[64, 256] } else { &[64, 256, 1024] };
+    let largest = sides[sides.len() - 1];
+
+    head("partition");
+    for spans in [0, 256] {
+        let what = format!("{largest} x {largest} open, {spans} spans");
+        partition(&what, &across(largest, Shape::Open, spans));
+    }
+    head("growth of the partition, 16 spans");
+    let shapes = [(Shape::Spiral, "spiral"), (Shape::Comb, "comb"), (Shape::Noise, "noise")];
+    for (shape, name) in shapes {
+        for side in [128, 256, 512, 1024].into_iter().filter(|&side| side <= largest) {
+            partition(&format!("{name} {side} x {side}"), &across(side, shape, 16));
+        }
+    }
+    bridges();
+    head("whole calls, from bytes to bytes");
+    for call in [REDUCE, BY_LIST, MARK] {
+        for &side in sides {
+            for (boundaries, sources) in [(4, 8), (256, 8), (4, 4096), (256, 4096)] {
+                if call == MARK && sources > 8 {
+                    continue;
+                }
+                let what = format!("{side} x {side}, {boundaries} boundaries, {sources} sources");
+                whole(call, &what, &job(side, Shape::Open, boundaries, sources));
+            }
+        }
+    }
+    stacks();
+}

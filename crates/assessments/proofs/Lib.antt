@@ -1,0 +1,12 @@
+pub mod Search
+pub mod Opening
+pub mod Alike
+pub mod RowLists
+pub mod Including
+pub mod Listing
+pub mod Advancing
+pub mod Stepping
+pub mod Strips
+pub mod Placing
+pub mod Filling
+pub mod Recording

@@ -1,0 +1,54 @@
+-- An assessment, held in numbers and in two arrays.
+use mathlib.Core.Path.{_≡_}
+use mathlib.Core.List.{List, _++_}
+use Prim.Native.Nat.{ℕ, _+_, _*_, _≤_, _<_}
+use lib.ListN.{length}
+use Rattle.lists.specs.Rows.{rows}
+use Rattle.wire.specs.Bytes.{u32At}
+use Rattle.graph.specs.Path.{Edge}
+use Rattle.areas.specs.Assessments.{RegionPair, Assessment, assessment}
+use Rattle.assessments.specs.declared.steps.Assessed.{Assessed}
+use Rattle.assessments.specs.Stored.{at, pairAt}
+
+-- the labels of n cells, in four bytes each
+unfoldable pub labelsOf : List ℕ → ℕ → List ℕ
+labelsOf bytes n = rows n (λ i. u32At bytes (4 * i))
+
+-- n pairs from place start on
+unfoldable pub pairsIn : List ℕ → List ℕ → ℕ → ℕ → List RegionPair
+pairsIn lefts rights start n = rows n (λ k. pairAt lefts rights (start + k))
+
+-- the pairs ps stand from start to end, and what stood before start is as it was; where 4,096 places are too few, the end is 4,097
+pub record Listed (ps : List RegionPair) (lefts₀ rights₀ : List ℕ) (start : ℕ) (lefts rights : List ℕ) (end : ℕ) : Type 0 where
+  pub left-kept : (j : ℕ) → j < start → at lefts j ≡ at lefts₀ j
+  pub right-kept : (j : ℕ) → j < start → at rights j ≡ at rights₀ j
+  pub fits : start + length ps ≤ 4096 → (end ≡ start + length ps) × (pairsIn lefts rights start (length ps) ≡ ps)
+  pub over : 4096 < start + length ps → end ≡ 4097
+
+-- the counts and the pairs are those of a
+pub record Holds (a : Assessment) (lefts₀ rights₀ : List ℕ) (start : ℕ) (lefts rights : List ℕ) (s : Assessed) : Type 0 where
+  pub removed : s .removed ≡ a .removed
+  pub separated : s .separated ≡ a .separated
+  pub pairs : Listed (a .pairs) lefts₀ rights₀ start lefts rights (s .end)
+
+-- the steps es are assessed besides those before
+abbrev pub Advances : List ℕ → List Edge → ℕ → List ℕ → List ℕ → Assessed → List ℕ → List ℕ → Assessed → Type 0
+Advances ls es start lefts rights s lefts′ rights′ s′ =
+    (lefts₀ rights₀ : List ℕ) (ds : List Edge) → Holds (assessment ls ds) lefts₀ rights₀ start lefts rights s →
+    Holds (assessment ls (ds ++ es)) lefts₀ rights₀ start lefts′ rights′ s′
+
+-- there is room for m more steps
+pub record Room (start m : ℕ) (lefts rights : List ℕ) (s : Assessed) : Type 0 where
+  pub from : start ≤ s .end
+  pub to : s .end ≤ 4097
+  pub removed : s .removed + m ≤ 0xFFFF_FFFF
+  pub separated : s .separated + m ≤ 0xFFFF_FFFF
+  pub lefts-are : length lefts ≡ 4096
+  pub rights-are : length rights ≡ 4096
+
+-- at most m steps more
+pub record Grown (start m : ℕ) (s t : Assessed) : Type 0 where
+  pub from : start ≤ t .end
+  pub to : t .end ≤ 4097
+  pub removed : t .removed ≤ s .removed + m
+  pub separated : t .separated ≤ s .separated + m

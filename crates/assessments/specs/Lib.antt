@@ -1,0 +1,4 @@
+pub mod Stored
+pub mod Holding
+pub mod Visits
+pub mod Recording

@@ -1,0 +1,89 @@
+-- Records under small numbers have the bridges of the records under their labels.
+use mathlib.Core.Path.{_≡_, sym, _∙_, ap, subst}
+use mathlib.Core.Logic.{⊎-elim}
+use mathlib.Core.Bool.{Bool, cond}
+use mathlib.Core.List.{List}
+use Prim.Native.Nat.{ℕ, _+_, _-_, _<_}
+use native.Mathlib.Omega.{arith}
+use lib.ListN.{length}
+use Rattle.lists.proofs.Rows.{length-rows, rows-at, rows-same}
+use Rattle.graph.specs.Records as records
+use Rattle.graph.specs.Bridges.{isBridge}
+use Rattle.graph.proofs.Renaming.{Occurs, Renaming, same-bridges}
+use Rattle.bridges.specs.Slices.{at, Graph}
+use Rattle.bridges.specs.Marks.{recordsOf, bridgeMarks}
+use Rattle.bridges.specs.Names.{Labelled, Named, Numbered}
+use Rattle.bridges.proofs.Names.{named-apart}
+
+many : (K : ℕ) (owners lefts rights : List ℕ) → length (recordsOf K owners lefts rights) ≡ K
+unfolding recordsOf
+many K owners lefts rights = length-rows K (λ k. record { owner = at owners k; left = at lefts k; right = at rights k })
+
+nth : (K : ℕ) (owners lefts rights : List ℕ) (k : ℕ) → k < K →
+    records.at (recordsOf K owners lefts rights) k ≡ record { owner = at owners k; left = at lefts k; right = at rights k }
+unfolding recordsOf
+nth K owners lefts rights k l = rows-at K (λ k. record { owner = at owners k; left = at lefts k; right = at rights k }) k records.noRecord l
+
+module _ {K : ℕ} {lefts rights : List ℕ} {regions base : ℕ} {start work smallLefts smallRights : List ℕ} (L : Labelled K lefts rights regions)
+    (N : Numbered K lefts rights regions base start work smallLefts smallRights K) where
+  below : (x v : ℕ) → Named K lefts rights x (v + 1) → v < 8192
+  below x v n = ⊎-elim (λ u. omega (arith, u .1, n .inside, L .few)) (λ u. omega (arith, u .1, n .inside, L .few)) (n .is)
+
+  -- the small numbers are in range
+  pub small-graph : Graph K smallLefts smallRights
+  small-graph = record {
+    few = L .few;
+    left-in = λ k l. below (at lefts k - 1) (at smallLefts k) (subst (Named K lefts rights (at lefts k - 1)) (N .left k l) (N .named (at lefts k - 1) (omega (arith, N .left k l))));
+    right-in = λ k l. below (at rights k - 1) (at smallRights k) (subst (Named K lefts rights (at rights k - 1)) (N .right k l) (N .named (at rights k - 1) (omega (arith, N .right k l))));
+  }
+
+  module _ (owners : List ℕ) where
+    abbrev rs : List records.Record
+    rs = recordsOf K owners lefts rights
+
+    abbrev ss : List records.Record
+    ss = recordsOf K owners smallLefts smallRights
+
+    occurs : (a : ℕ) → Occurs rs a → (0 < a) × (0 < N .words (a - 1))
+    occurs a o =
+        let l : o .place < K = omega (arith, o .inside, many K owners lefts rights) in
+        let e = nth K owners lefts rights (o .place) l in
+        ⊎-elim
+        (λ u.
+        let q : at lefts (o .place) ≡ a = sym (ap (λ (r : records.Record). r .left) e) ∙ u in
+        (omega (arith, q, L .left-from (o .place) l), omega (arith, ap (λ (z : ℕ). N .words (z - 1)) q, N .left (o .place) l)))
+        (λ u.
+        let q : at rights (o .place) ≡ a = sym (ap (λ (r : records.Record). r .right) e) ∙ u in
+        (omega (arith, q, L .right-from (o .place) l), omega (arith, ap (λ (z : ℕ). N .words (z - 1)) q, N .right (o .place) l)))
+        (o .end)
+
+    renaming : Renaming (λ (a : ℕ). N .words (a - 1) - 1) rs ss
+    renaming = record {
+      as-many = many K owners smallLefts smallRights ∙ sym (many K owners lefts rights);
+      owner = λ k l.
+          let b : k < K = omega (arith, l, many K owners lefts rights) in
+          ap (λ (r : records.Record). r .owner) (nth K owners smallLefts smallRights k b) ∙ sym (ap (λ (r : records.Record). r .owner) (nth K owners lefts rights k b));
+      left = λ k l.
+          let b : k < K = omega (arith, l, many K owners lefts rights) in
+          let m : at smallLefts k ≡ N .words (at lefts k - 1) - 1 = omega (arith, N .left k b) in
+          ap (λ (r : records.Record). r .left) (nth K owners smallLefts smallRights k b) ∙ m
+          ∙ sym (ap (λ (r : records.Record). N .words (r .left - 1) - 1) (nth K owners lefts rights k b));
+      right = λ k l.
+          let b : k < K = omega (arith, l, many K owners lefts rights) in
+          let m : at smallRights k ≡ N .words (at rights k - 1) - 1 = omega (arith, N .right k b) in
+          ap (λ (r : records.Record). r .right) (nth K owners smallLefts smallRights k b) ∙ m
+          ∙ sym (ap (λ (r : records.Record). N .words (r .right - 1) - 1) (nth K owners lefts rights k b));
+      apart = λ a b x y e.
+          let p = occurs a x in
+          let q = occurs b y in
+          let w : N .words (b - 1) ≡ N .words (a - 1) = omega (arith, p .1, q .1, e) in
+          let z : a - 1 ≡ b - 1
+          = named-apart (L .few) (N .named (a - 1) (p .1)) (subst (Named K lefts rights (b - 1)) w (N .named (b - 1) (q .1))) in
+          omega (arith, p .0, q .0, z);
+    }
+
+    -- the marks are the same
+    pub small-marks : (n : ℕ) → bridgeMarks (recordsOf K owners smallLefts smallRights) n ≡ bridgeMarks (recordsOf K owners lefts rights) n
+    unfolding bridgeMarks
+    small-marks n =
+        rows-same n (λ b. cond (isBridge ss b) 1 0) (λ b. cond (isBridge rs b) 1 0) (λ b l. ap (λ (t : Bool). cond t 1 0) (same-bridges renaming b))

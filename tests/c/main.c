@@ -1,0 +1,148 @@
+/* Calls the static library from C: document 01's corridor, and refusals of each kind of slice. */
+#include "chokes.h"
+
+#include <stdio.h>
+#include <string.h>
+
+#define CELLS 4
+#define JOB_BYTES 148
+#define ANSWER_BYTES 152
+
+static int failures;
+
+static void put(uint8_t *bytes, size_t at, uint32_t word)
+{
+    int i;
+    for (i = 0; i < 4; i++) {
+        bytes[at + (size_t)i] = (uint8_t)(word >> 8 * i);
+    }
+}
+
+static void put_words(uint8_t *bytes, size_t at, const uint32_t *words, size_t count)
+{
+    size_t i;
+    for (i = 0; i < count; i++) {
+        put(bytes, at + 4 * i, words[i]);
+    }
+}
+
+static void expect(const char *what, struct chokes_result got, uint32_t number, uint64_t detail)
+{
+    if (got.number != number || got.detail != detail) {
+        printf("%s: expected %u %lu, got %u %lu\n", what, (unsigned)number, (unsigned long)detail,
+               (unsigned)got.number, (unsigned long)got.detail);
+        failures++;
+    }
+}
+
+static void expect_bytes(const char *what, const uint8_t *got, const uint8_t *bytes, size_t count)
+{
+    if (memcmp(got, bytes, count) != 0) {
+        printf("%s: other bytes than expected\n", what);
+        failures++;
+    }
+}
+
+/* The corridor: 4 x 1 cells, two spans of width 8 with a source each. */
+static void corridor(uint8_t *job)
+{
+    static const uint32_t header[12] = {4, 1, 0, 2, 0, 2, 48, 52, 52, 132, 132, 148};
+    static const uint32_t boundaries[20] = {8,  0, 8,  8, 0, 0x40200000, 1, 0, 0, 0,
+                                            16, 0, 16, 8, 0, 0x40200000, 1, 0, 0, 0};
+    static const uint32_t sources[4] = {1, 2, 2, 1};
+    put_words(job, 0, header, 12);
+    memset(job + 48, 1, CELLS);
+    put_words(job, 52, boundaries, 20);
+    put_words(job, 132, sources, 4);
+}
+
+/* Its answer: one boundary kept, with both as observations. */
+static void corridor_answer(uint8_t *answer)
+{
+    static const uint32_t words[ANSWER_BYTES / 4] = {
+        1,  2, 4,  64, 120, 152,
+        8,  0, 8,  8,  0,   0x40200000, 2, 2, 0, 0,
+        8,  0, 8,  8,  0,   0x40200000, 1,
+        16, 0, 16, 8,  0,   0x40200000, 1,
+        1,  2, 2,  1,  1,   2,          2, 1};
+    put_words(answer, 0, words, ANSWER_BYTES / 4);
+}
+
+int main(void)
+{
+    static const uint8_t labels[CELLS * 4] = {1, 0, 0, 0, 2, 0, 0, 0, 3, 0, 0, 0, 3};
+    static const uint8_t both[3] = {1, 1, 0xA5};
+    uint8_t job[JOB_BYTES], changed[JOB_BYTES], list[2 * CHOKES_SPAN_BYTES + 1];
+    uint8_t work[CHOKES_WORK_BYTES(CELLS, 1) + 1], before[sizeof work];
+    uint8_t answer[ANSWER_BYTES + 8], expected[ANSWER_BYTES + 8], marks[3];
+    const size_t enough = CHOKES_WORK_BYTES(CELLS, 1);
+
+    memset(list, 0, sizeof list);
+    corridor(job);
+    memset(answer, 0xA5, sizeof answer);
+    memset(expected, 0xA5, sizeof expected);
+    memset(work, 0xA5, sizeof work);
+    memcpy(before, work, sizeof work);
+    memset(marks, 0xA5, sizeof marks);
+
+    expect("work one byte short", chokes_reduce(job, sizeof job, work, enough - 1, answer, sizeof answer),
+           CHOKES_WORK_TOO_SHORT, 0);
+    expect_bytes("work that is too short stays as it is", work, before, sizeof work);
+    expect("no answer slice", chokes_reduce(job, sizeof job, work, enough, answer, 0),
+           CHOKES_ANSWER_TOO_SHORT, ANSWER_BYTES);
+    expect("an answer slice one byte short",
+           chokes_reduce(job, sizeof job, work, enough, answer, ANSWER_BYTES - 1),
+           CHOKES_ANSWER_TOO_SHORT, ANSWER_BYTES);
+    expect_bytes("labels after 22", work, labels, sizeof labels);
+    expect_bytes("the answer after 22", answer, expected, sizeof expected);
+
+    corridor_answer(expected);
+    expect("Reduce", chokes_reduce(job, sizeof job, work, sizeof work, answer, sizeof answer),
+           CHOKES_OK, ANSWER_BYTES);
+    expect_bytes("Reduce's answer and what follows it", answer, expected, sizeof expected);
+    expect_bytes("work past ten bytes a cell", work + enough, before + enough, 1);
+
+    memset(answer, 0xA5, sizeof answer);
+    memcpy(list, job + 52, CHOKES_SPAN_BYTES);
+    memcpy(list + CHOKES_SPAN_BYTES, job + 52 + CHOKES_BOUNDARY_BYTES, CHOKES_SPAN_BYTES);
+    expect("Reduce by list",
+           chokes_reduce_by_list(job, sizeof job, list, sizeof list - 1, work, enough, answer,
+                                 sizeof answer),
+           CHOKES_OK, ANSWER_BYTES);
+    expect_bytes("Reduce by list's answer", answer, expected, sizeof expected);
+    expect("a list of 33 bytes",
+           chokes_reduce_by_list(job, sizeof job, list, sizeof list, work, enough, answer,
+                                 sizeof answer),
+           CHOKES_BAD_LIST_LENGTH, 0);
+    put(list, CHOKES_SPAN_BYTES, 33);
+    expect("a span past the map",
+           chokes_reduce_by_list(job, sizeof job, list, sizeof list - 1, work, enough, answer,
+                                 sizeof answer),
+           CHOKES_SPAN_OFF_MAP, 1);
+
+    expect("one mark byte", chokes_mark(job, sizeof job, work, enough, marks, 1),
+           CHOKES_MARKS_TOO_SHORT, 0);
+    expect("Mark", chokes_mark(job, sizeof job, work, enough, marks, sizeof marks), CHOKES_OK, 2);
+    expect_bytes("marks", marks, both, sizeof both);
+
+    expect("an empty job", chokes_mark(job, 0, work, enough, marks, sizeof marks),
+           CHOKES_JOB_TOO_SHORT, 0);
+    memcpy(changed, job, sizeof job);
+    put(changed, 12, 257);
+    expect("257 boundaries", chokes_mark(changed, sizeof job, work, enough, marks, sizeof marks),
+           CHOKES_TOO_MANY_BOUNDARIES, 257);
+    memcpy(changed, job, sizeof job);
+    changed[52 + 40 + 23] = 0x80;
+    expect("a width of less than 0",
+           chokes_reduce(changed, sizeof job, work, enough, answer, sizeof answer),
+           CHOKES_BAD_WIDTH, 1);
+    memcpy(changed, job, sizeof job);
+    memcpy(changed + 60, changed + 52, 8);
+    expect("coincident ends", chokes_reduce(changed, sizeof job, work, enough, answer, sizeof answer),
+           CHOKES_ENDS_COINCIDE, 0);
+
+    if (failures == 0) {
+        printf("the C calls are as document 01 has them\n");
+    }
+    return failures != 0;
+}

@@ -1,0 +1,240 @@
+//! The functions of the proved static libraries, and which of them are there. The build names each
+//! function that a library has by a cfg (tests/libraries); the comparisons ask this table.
+
+use crate::checks::{Refusal, BY_LIST, MARK};
+
+/// A call on job, list, work and the slice that it writes, the answer or the marks.
+pub type Whole = fn(&[u8], &[u8], &mut [u8], &mut [u8]) -> Refusal;
+/// The partition of a job by its own ends, on job, work and the slice for what was found.
+pub type Partition = fn(&[u8], &mut [u8], &mut [u8]) -> Refusal;
+/// The bridges of a list of records, on records, work and marks.
+pub type Bridges = fn(&[u8], &mut [u8], &mut [u8]) -> Refusal;
+/// Where each boundary goes, on job, list, a choice of spans, work and the slice for it.
+pub type Plan = fn(&[u8], &[u8], u32, &mut [u8], &mut [u8]) -> Refusal;
+
+/// What the libraries have beside the checks.
+pub struct Table {
+    pub partition: Option<Partition>,
+    pub bridges: Option<Bridges>,
+    pub plan: Option<Plan>,
+    pub mark: Option<Whole>,
+    pub reduce: Option<Whole>,
+    pub reduce_by_list: Option<Whole>,
+}
+
+impl Table {
+    pub fn whole(&self, call: u32) -> Option<Whole> {
+        match call {
+            BY_LIST => self.reduce_by_list,
+            MARK => self.mark,
+            _ => self.reduce,
+        }
+    }
+}
+
+pub const TABLE: Table = Table {
+    #[cfg(probe_partition)]
+    partition: Some(library::partition),
+    #[cfg(not(probe_partition))]
+    partition: None,
+    #[cfg(probe_bridges)]
+    bridges: Some(library::bridges),
+    #[cfg(not(probe_bridges))]
+    bridges: None,
+    #[cfg(probe_plan)]
+    plan: Some(library::plan),
+    #[cfg(not(probe_plan))]
+    plan: None,
+    #[cfg(chokes_mark)]
+    mark: Some(library::mark),
+    #[cfg(not(chokes_mark))]
+    mark: None,
+    #[cfg(chokes_reduce)]
+    reduce: Some(library::reduce),
+    #[cfg(not(chokes_reduce))]
+    reduce: None,
+    #[cfg(chokes_reduce_by_list)]
+    reduce_by_list: Some(library::reduce_by_list),
+    #[cfg(not(chokes_reduce_by_list))]
+    reduce_by_list: None,
+};
+
+pub use library::{check, span_ends};
+
+/// The libraries' own declarations. Of a slice its start is passed, then its length; the slices
+/// are lent for the call and overlap nowhere.
+mod library {
+    use super::*;
+
+    #[repr(C)]
+    struct CallResult {
+        number: u32,
+        detail: u64,
+    }
+
+    impl CallResult {
+        fn pair(self) -> Refusal {
+            (self.number, self.detail)
+        }
+    }
+
+    type In = *const u8;
+    type Out = *mut u8;
+
+    #[link(name = "probe")]
+    extern "C" {
+        fn probe_check(call: u32, job: In, job_len: usize, list: In, list_len: usize)
+            -> CallResult;
+        fn probe_span_ends(
+            job: In,
+            job_len: usize,
+            list: In,
+            list_len: usize,
+            which: u32,
+            i: u32,
+            out: Out,
+            out_len: usize,
+        ) -> usize;
+        #[cfg(probe_partition)]
+        fn probe_partition(
+            job: In,
+            job_len: usize,
+            work: Out,
+            work_len: usize,
+            out: Out,
+            out_len: usize,
+        ) -> CallResult;
+        #[cfg(probe_bridges)]
+        fn probe_bridges(
+            records: In,
+            records_len: usize,
+            work: Out,
+            work_len: usize,
+            marks: Out,
+            marks_len: usize,
+        ) -> CallResult;
+        #[cfg(probe_plan)]
+        fn probe_plan(
+            job: In,
+            job_len: usize,
+            list: In,
+            list_len: usize,
+            which: u32,
+            work: Out,
+            work_len: usize,
+            out: Out,
+            out_len: usize,
+        ) -> CallResult;
+    }
+
+    #[cfg(chokes_mark)]
+    #[link(name = "chokes")]
+    extern "C" {
+        fn chokes_mark(
+            job: In,
+            job_len: usize,
+            work: Out,
+            work_len: usize,
+            marks: Out,
+            marks_len: usize,
+        ) -> CallResult;
+        #[cfg(chokes_reduce)]
+        fn chokes_reduce(
+            job: In,
+            job_len: usize,
+            work: Out,
+            work_len: usize,
+            answer: Out,
+            answer_len: usize,
+        ) -> CallResult;
+        #[cfg(chokes_reduce_by_list)]
+        fn chokes_reduce_by_list(
+            job: In,
+            job_len: usize,
+            list: In,
+            list_len: usize,
+            work: Out,
+            work_len: usize,
+            answer: Out,
+            answer_len: usize,
+        ) -> CallResult;
+    }
+
+    /// A slice as the two arguments that it is passed as.
+    macro_rules! call {
+        (@ [$f:ident $($done:expr),*]) => { $f($($done),*) };
+        (@ [$f:ident $($done:expr),*] read $s:ident $($rest:tt)*) => {
+            call!(@ [$f $($done,)* $s.as_ptr(), $s.len()] $($rest)*)
+        };
+        (@ [$f:ident $($done:expr),*] write $s:ident $($rest:tt)*) => {
+            call!(@ [$f $($done,)* $s.as_mut_ptr(), $s.len()] $($rest)*)
+        };
+        (@ [$f:ident $($done:expr),*] number $s:ident $($rest:tt)*) => {
+            call!(@ [$f $($done,)* $s] $($rest)*)
+        };
+        ($f:ident $($rest:tt)*) => { unsafe { call!(@ [$f] $($rest)*) } };
+    }
+
+    /// Number and detail of the checks 1 to 12 and 14 to 17 that the call makes.
+    pub fn check(call: u32, job: &[u8], list: &[u8]) -> Refusal {
+        call!(probe_check number call read job read list).pair()
+    }
+
+    /// The length of the part, whose bytes begin `out` where they fit.
+    pub fn span_ends(job: &[u8], list: &[u8], which: u32, i: u32, out: &mut [u8]) -> usize {
+        call!(probe_span_ends read job read list number which number i write out)
+    }
+
+    #[cfg(probe_partition)]
+    pub fn partition(job: &[u8], work: &mut [u8], out: &mut [u8]) -> Refusal {
+        call!(probe_partition read job write work write out).pair()
+    }
+
+    #[cfg(probe_bridges)]
+    pub fn bridges(records: &[u8], work: &mut [u8], marks: &mut [u8]) -> Refusal {
+        call!(probe_bridges read records write work write marks).pair()
+    }
+
+    #[cfg(probe_plan)]
+    pub fn plan(job: &[u8], list: &[u8], which: u32, work: &mut [u8], out: &mut [u8]) -> Refusal {
+        call!(probe_plan read job read list number which write work write out).pair()
+    }
+
+    #[cfg(chokes_mark)]
+    pub fn mark(job: &[u8], _: &[u8], work: &mut [u8], marks: &mut [u8]) -> Refusal {
+        call!(chokes_mark read job write work write marks).pair()
+    }
+
+    #[cfg(chokes_reduce)]
+    pub fn reduce(job: &[u8], _: &[u8], work: &mut [u8], answer: &mut [u8]) -> Refusal {
+        call!(chokes_reduce read job write work write answer).pair()
+    }
+
+    #[cfg(chokes_reduce_by_list)]
+    pub fn reduce_by_list(job: &[u8], list: &[u8], work: &mut [u8], answer: &mut [u8]) -> Refusal {
+        call!(chokes_reduce_by_list read job read list write work write answer).pair()
+    }
+}
+
+/// What `probe_partition` writes, as u32 words: the areas; then for each span its removed and
+/// separated steps, the number of its pairs, and the pairs.
+pub fn partition_words(areas: u32, spans: &[Assessment]) -> Vec<u8> {
+    let mut words = vec![areas];
+    for span in spans {
+        words.extend([span.removed, span.separated, span.pairs.len() as u32]);
+        words.extend(span.pairs.iter().flatten());
+    }
+    words.iter().flat_map(|word| word.to_le_bytes()).collect()
+}
+
+#[derive(Clone, Debug, PartialEq)]
+pub struct Assessment {
+    pub removed: u32,
+    pub separated: u32,
+    pub pairs: Vec<[u32; 2]>,
+}
+
+/// The records that `probe_bridges` takes: owner, left, right.
+pub fn record_words(records: &[[u32; 3]]) -> Vec<u8> {
+    records.iter().flatten().flat_map(|word| word.to_le_bytes()).collect()
+}

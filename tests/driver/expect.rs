@@ -1,0 +1,117 @@
+//! What each call must leave: the paper's checks first, then what the Rust finds.
+
+use crate::checks::{self, Refusal, BY_LIST, MARK, NONE, SPAN};
+use crate::rust::{self, Job};
+use oracle::api::SpanPartition;
+
+/// The most region pairs that a run may have.
+pub const MOST_PAIRS: usize = 4096;
+/// Bytes of work for each cell.
+pub const WORK: usize = 10;
+
+/// What an input settles of a call, whatever slices are lent.
+pub struct Expected {
+    call: u32,
+    pub refusal: Refusal,
+    pub cells: usize,
+    pub labels: Vec<u32>,
+    pub pairs: usize,
+    /// The answer's bytes, or the marks.
+    pub written: Vec<u8>,
+}
+
+/// Result, work and answer or marks at the end of a call.
+#[derive(PartialEq)]
+pub struct Left {
+    pub result: Refusal,
+    pub work: Vec<u8>,
+    pub out: Vec<u8>,
+}
+
+/// A job that a call accepts, with the Rust's partition by the spans that the call takes.
+pub struct Accepted {
+    pub job: Job,
+    pub partition: SpanPartition,
+}
+
+/// The job as the call takes it, where its checks accept it.
+pub fn accepted(call: u32, job: &[u8], list: &[u8]) -> Result<Accepted, Refusal> {
+    if let Some(&refusal) = checks::faults(call, job, list).first() {
+        return Err(refusal);
+    }
+    let job = rust::job(job);
+    let spans = if call == BY_LIST { rust::spans(list, SPAN) } else { job.own_spans() };
+    let partition = job.partition(&spans);
+    Ok(Accepted { job, partition })
+}
+
+/// Region pairs over all spans.
+pub fn pairs(partition: &SpanPartition) -> usize {
+    partition.boundaries().iter().map(|span| span.region_pairs.len()).sum()
+}
+
+impl Expected {
+    pub fn of(call: u32, job: &[u8], list: &[u8]) -> Self {
+        let Accepted { job, partition } = match accepted(call, job, list) {
+            Ok(accepted) => accepted,
+            Err(refusal) => {
+                let (labels, written) = (vec![], vec![]);
+                return Self { call, refusal, cells: 0, labels, pairs: 0, written };
+            }
+        };
+        let pairs = pairs(&partition);
+        let written = if pairs > MOST_PAIRS {
+            vec![]
+        } else if call == MARK {
+            let bridges = job.bridges(&partition);
+            (0..job.boundaries.len()).map(|i| u8::from(bridges.contains(&i))).collect()
+        } else {
+            rust::answer(&job.kept(&partition))
+        };
+        let labels = partition.labels().to_vec();
+        Self { call, refusal: NONE, cells: labels.len(), labels, pairs, written }
+    }
+
+    /// The bytes of work that the call needs.
+    pub fn work(&self) -> usize {
+        WORK * self.cells
+    }
+
+    /// What the call must leave of these slices.
+    pub fn left(&self, work: &[u8], out: &[u8]) -> Left {
+        let (mut work, mut out) = (work.to_vec(), out.to_vec());
+        let result = if self.refusal != NONE {
+            self.refusal
+        } else if work.len() < self.work() {
+            (21, 0)
+        } else {
+            fill_work(&self.labels, &mut work);
+            self.end(&mut out)
+        };
+        Left { result, work, out }
+    }
+
+    fn end(&self, out: &mut [u8]) -> Refusal {
+        let length = self.written.len();
+        if self.pairs > MOST_PAIRS {
+            (13, 0)
+        } else if out.len() < length {
+            if self.call == MARK {
+                (23, 0)
+            } else {
+                (22, length as u64)
+            }
+        } else {
+            out[..length].copy_from_slice(&self.written);
+            (0, length as u64)
+        }
+    }
+}
+
+/// A u32 label for each cell, then zeros to ten times the cells.
+pub fn fill_work(labels: &[u32], work: &mut [u8]) {
+    work[..WORK * labels.len()].fill(0);
+    for (bytes, label) in work.chunks_exact_mut(4).zip(labels) {
+        bytes.copy_from_slice(&label.to_le_bytes());
+    }
+}

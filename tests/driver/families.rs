@@ -1,0 +1,117 @@
+//! The families of random cases. A case's number is its family's times 2^32, and its own.
+
+use crate::compare::compare;
+use crate::damage::{self, REFUSALS};
+use crate::draft::{self, Boundary, Draft, Input};
+use crate::lent::Lent;
+use crate::maps::{self, Shape, SHAPES};
+use crate::rng::Rng;
+use crate::run::Run;
+use crate::tally::Tally;
+use crate::{corridors, merging, partition, records, whole};
+
+/// How many cases of a family are run in a round, and what one is.
+struct Family {
+    share: u64,
+    case: fn(&mut Run, &mut Rng),
+}
+
+const FAMILIES: [Family; 4] = [
+    // Damaged inputs.
+    Family { share: 80, case: |run, rng| run.draft(&damaged(rng), rng, compare) },
+    // Maps and spans of many shapes.
+    Family { share: 32, case: |run, rng| run.draft(&maps::random(rng), rng, on_maps) },
+    // Bare lists of records.
+    Family { share: 5, case: |run, rng| run.records(&records::random(rng)) },
+    // Corridors that merge.
+    Family { share: 8, case: |run, rng| run.draft(&corridors::random(rng), rng, merging::compare) },
+];
+
+/// Runs a case by its number, where it is of these families.
+pub fn case(run: &mut Run, number: u64) -> bool {
+    let Some(family) = (number >> 32).checked_sub(1) else { return false };
+    let Some(family) = FAMILIES.get(family as usize) else { return false };
+    let mut rng = run.start(number);
+    (family.case)(run, &mut rng);
+    true
+}
+
+/// Runs a round of every family after `done` cases; the number done then.
+pub fn round(run: &mut Run, done: u64) -> u64 {
+    let all: u64 = FAMILIES.iter().map(|family| family.share).sum();
+    for (i, family) in FAMILIES.iter().enumerate() {
+        let first = (i as u64 + 1) << 32 | (done / all * family.share);
+        for number in first..first + family.share {
+            case(run, number);
+        }
+    }
+    done + all
+}
+
+/// The partition, and all calls in whole.
+fn on_maps(input: &Input, lent: &mut Lent, rng: &mut Rng, tally: &mut Tally) -> Result<(), String> {
+    partition::compare(input, lent, rng, tally)?;
+    whole::compare(input, lent, rng, tally)
+}
+
+/// Every map of 2 x 2 cells with every span between points about centres, edges and corners.
+pub fn small_maps(run: &mut Run) {
+    let mut rng = run.next_case();
+    let marks = [0, 3, 4, 5, 8, 12, 16];
+    let points = || marks.iter().flat_map(|&x| marks.map(|y| [x, y]));
+    for ([ax, ay], [bx, by]) in points().flat_map(|a| points().map(move |b| (a, b))) {
+        if [ax, ay] >= [bx, by] {
+            continue;
+        }
+        for walkable in 0..16 {
+            let mut ends = [ax, ay, bx, by];
+            if rng.one_in(2) {
+                ends.rotate_left(2);
+            }
+            let draft = Draft {
+                width: 2,
+                height: 2,
+                cells: (0..4).map(|cell| walkable >> cell & 1).collect(),
+                boundaries: vec![Boundary { ends, ..Boundary::default() }],
+                ..Draft::default()
+            };
+            run.draft(&draft, &mut rng, partition::compare);
+        }
+    }
+}
+
+/// Numbers of region pairs about the most there may be, the largest maps, and the longest lists of
+/// records of every shape.
+pub fn limits(run: &mut Run) {
+    for pairs in [4095, 4096, 4097, 4100] {
+        let mut rng = run.next_case();
+        let draft = maps::many_pairs(pairs, &mut rng);
+        run.draft(&draft, &mut rng, on_maps);
+    }
+    for (sides, spans) in [([1, 1], 256), ([1, 1024], 256), ([1024, 1], 256), ([3, 1023], 40)] {
+        let mut rng = run.next_case();
+        let draft = maps::with_spans(sides, Shape::Open, spans, &mut rng);
+        run.draft(&draft, &mut rng, on_maps);
+    }
+    for (shape, spans) in SHAPES.into_iter().zip([256, 8, 8, 2, 30, 256, 8]) {
+        let mut rng = run.next_case();
+        let sides = if spans < 256 { [1024, 1024] } else { [160, 120] };
+        let draft = maps::with_spans(sides, shape, spans, &mut rng);
+        run.draft(&draft, &mut rng, on_maps);
+    }
+    for shape in 0..6 {
+        let mut rng = run.next_case();
+        run.records(&records::shaped(shape, 4096, &mut rng));
+    }
+}
+
+/// A random draft with up to three kinds of damage. The kinds are those from some place of the
+/// order on, so that the last refusals come first as well.
+fn damaged(rng: &mut Rng) -> Draft {
+    let mut draft = draft::random(rng);
+    let kinds = &REFUSALS[rng.below(REFUSALS.len())..];
+    for _ in 0..rng.pick(&[0, 1, 1, 1, 2, 2, 2, 3]) {
+        damage::damage(rng.pick(kinds), &mut draft, rng);
+    }
+    draft
+}

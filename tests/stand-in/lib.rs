@@ -1,0 +1,318 @@
+//! Stands for the proved libraries: the same C functions, from the oracle, with faults that can be
+//! switched on by name. It shows that the driver finds each of them; no part of the product.
+
+#[path = "../driver/checks.rs"]
+#[allow(dead_code)]
+mod checks;
+#[path = "../driver/expect.rs"]
+#[allow(dead_code)]
+mod expect;
+#[path = "../driver/rust.rs"]
+#[allow(dead_code)]
+mod rust;
+
+use checks::{Refusal, BY_LIST, HEADER, MARK, NONE, REDUCE, SPAN};
+use expect::{Accepted, Expected, MOST_PAIRS, WORK};
+use oracle::fault;
+use std::collections::BTreeMap;
+use std::slice;
+
+#[repr(C)]
+pub struct CallResult {
+    number: u32,
+    detail: u64,
+}
+
+fn result((number, detail): Refusal) -> CallResult {
+    CallResult { number, detail }
+}
+
+type In = *const u8;
+type Out = *mut u8;
+
+/// A lent slice that is read.
+fn read<'a>(start: In, length: usize) -> &'a [u8] {
+    // The caller lends these bytes for the call.
+    unsafe { slice::from_raw_parts(start, length) }
+}
+
+/// A lent slice that is written.
+fn write<'a>(start: Out, length: usize) -> &'a mut [u8] {
+    // As above, and nothing else of the call overlaps them.
+    unsafe { slice::from_raw_parts_mut(start, length) }
+}
+
+/// The refusal of the checks, with their faults.
+fn refusal(call: u32, job: &[u8], list: &[u8]) -> Refusal {
+    if call == BY_LIST && list.len() > 1 << 30 {
+        // Too long to be looked at span by span.
+        let told = if list.len() % SPAN != 0 { (14, 0) } else { (15, (list.len() / SPAN) as u64) };
+        return checks::faults(call, job, &[]).first().copied().unwrap_or(told);
+    }
+    let faults = checks::faults(call, job, list);
+    let first = faults.first().copied().unwrap_or(NONE);
+    if call == BY_LIST && fault::on("coincident_ends_refused_by_list") {
+        let own = checks::faults(REDUCE, job, list);
+        if let Some(&(12, i)) = own.first() {
+            return (12, i);
+        }
+    }
+    if first.0 == 4 && fault::on("boundary_count_not_told") {
+        return (4, 0);
+    }
+    if first.0 == 12 && fault::on("all_ends_before_coincidence") {
+        return faults.iter().copied().find(|fault| fault.0 == 11).unwrap_or(first);
+    }
+    first
+}
+
+#[no_mangle]
+pub extern "C" fn probe_check(call: u32, job: In, jl: usize, list: In, ll: usize) -> CallResult {
+    result(refusal(call, read(job, jl), read(list, ll)))
+}
+
+#[no_mangle]
+pub extern "C" fn probe_span_ends(
+    job: In,
+    jl: usize,
+    list: In,
+    ll: usize,
+    which: u32,
+    i: u32,
+    out: Out,
+    ol: usize,
+) -> usize {
+    let (job, list, out) = (read(job, jl), read(list, ll), write(out, ol));
+    let call = if which == 0 { REDUCE } else { BY_LIST };
+    if refusal(call, job, list) != NONE {
+        return 0;
+    }
+    let mut part = checks::span_ends(job, list, which, i);
+    if part.len() == 16 && which == 0 && fault::on("part_eight_late") {
+        let at = part.as_ptr() as usize - job.as_ptr() as usize + 8;
+        part = &job[at..at + 16];
+    }
+    if part.len() <= ol {
+        out[..part.len()].copy_from_slice(part);
+    }
+    part.len()
+}
+
+/// Labels and zeros, with the faults of the work slice.
+fn fill(labels: &[u32], work: &mut [u8]) {
+    let zeros = if fault::on("zero_fill_short") { 8 } else { WORK } * labels.len();
+    work[4 * labels.len()..zeros.max(4 * labels.len())].fill(0);
+    for (bytes, &label) in work.chunks_exact_mut(4).zip(labels) {
+        let label = label - u32::from(label > 0 && fault::on("labels_from_zero"));
+        let mut word = label.to_le_bytes();
+        if fault::on("label_bytes_reversed") {
+            word.reverse();
+        }
+        bytes.copy_from_slice(&word);
+    }
+    if work.len() > WORK * labels.len() && fault::on("work_tail_written") {
+        work[WORK * labels.len()] = 0;
+    }
+}
+
+/// True if there are too many pairs.
+fn too_many(pairs: usize) -> bool {
+    pairs > MOST_PAIRS || pairs == MOST_PAIRS && fault::on("full_pairs_refused")
+}
+
+#[no_mangle]
+pub extern "C" fn probe_partition(
+    job: In,
+    jl: usize,
+    work: Out,
+    wl: usize,
+    out: Out,
+    ol: usize,
+) -> CallResult {
+    let (job, work, out) = (read(job, jl), write(work, wl), write(out, ol));
+    let Accepted { partition, .. } = match expect::accepted(REDUCE, job, &[]) {
+        Ok(accepted) => accepted,
+        Err(refusal) => return result(refusal),
+    };
+    fill(partition.labels(), work);
+    if too_many(expect::pairs(&partition)) {
+        return result((13, 0));
+    }
+    let mut words = vec![partition.areas().len() as u32];
+    for span in partition.boundaries() {
+        let pairs = &span.region_pairs;
+        words.extend([span.removed_edge_count, span.separated_edge_count, pairs.len() as u32]);
+        words.extend(pairs.iter().flatten());
+    }
+    let bytes: Vec<u8> = words.iter().flat_map(|word| word.to_le_bytes()).collect();
+    out[..bytes.len()].copy_from_slice(&bytes);
+    result((0, bytes.len() as u64))
+}
+
+#[no_mangle]
+pub extern "C" fn probe_bridges(
+    records: In,
+    rl: usize,
+    work: Out,
+    wl: usize,
+    marks: Out,
+    ml: usize,
+) -> CallResult {
+    let (records, _, marks) = (read(records, rl), write(work, wl), write(marks, ml));
+    let word = |at: usize| u32::from_le_bytes(records[at..at + 4].try_into().unwrap());
+    let mut records: Vec<_> =
+        (0..rl / 12).map(|i| [0, 4, 8].map(|field| word(12 * i + field))).collect();
+    if fault::on("parallel_records_once") {
+        let mut seen = std::collections::BTreeSet::new();
+        records.retain(|&[_, left, right]| seen.insert([left, right]));
+    }
+    if fault::on("last_record_forgotten") {
+        records.pop();
+    }
+    let mut bridges = oracle::api::bridges_of(&records);
+    if fault::on("whole_boundary_taken_away") {
+        // An owner of two records is no bridge.
+        let mut count = BTreeMap::new();
+        records.iter().for_each(|record| *count.entry(record[0] as usize).or_insert(0) += 1);
+        bridges.retain(|owner| count[owner] == 1);
+    }
+    for (i, mark) in marks.iter_mut().enumerate() {
+        *mark = u8::from(bridges.contains(&i));
+    }
+    result((0, 0))
+}
+
+#[no_mangle]
+pub extern "C" fn probe_plan(
+    job: In,
+    jl: usize,
+    list: In,
+    ll: usize,
+    which: u32,
+    work: Out,
+    wl: usize,
+    out: Out,
+    ol: usize,
+) -> CallResult {
+    let (job, list, work, out) = (read(job, jl), read(list, ll), write(work, wl), write(out, ol));
+    let call = if which == 0 { REDUCE } else { BY_LIST };
+    let Accepted { job, partition } = match expect::accepted(call, job, list) {
+        Ok(accepted) => accepted,
+        Err(refusal) => return result(refusal),
+    };
+    fill(partition.labels(), work);
+    let mut goes: Vec<u32> = (0..job.boundaries.len() as u32).collect();
+    let groups = job.groups(&partition);
+    let first_only = if fault::on("first_group_only") { 1 } else { groups.len() };
+    for group in groups.iter().take(first_only) {
+        let retained =
+            if fault::on("first_member_kept") { group.members[0] } else { group.retained };
+        group.members.iter().for_each(|&member| goes[member] = retained as u32);
+    }
+    let bytes: Vec<u8> = goes.iter().flat_map(|word| word.to_le_bytes()).collect();
+    out[..bytes.len()].copy_from_slice(&bytes);
+    result((0, bytes.len() as u64))
+}
+
+/// A whole call, with faults of its order and of what it leaves.
+fn whole(call: u32, job: &[u8], list: &[u8], work: &mut [u8], out: &mut [u8]) -> CallResult {
+    let refused = refusal(call, job, list);
+    if refused != NONE {
+        if fault::on("work_cleared_on_refusal") {
+            work.fill(0);
+        }
+        return result(refused);
+    }
+    let expected = Expected::of(call, job, list);
+    let late = if call == MARK { (23, 0) } else { (22, expected.written.len() as u64) };
+    let unmerged = || {
+        let accepted = expect::accepted(call, job, list).ok().expect("no refusal");
+        let count = accepted.job.boundaries.len();
+        24 + 40 * count as u64
+    };
+    let short = out.len() < expected.written.len();
+    if short && fault::on("short_answer_before_work") {
+        return result(late);
+    }
+    if work.len() < expected.work() - usize::from(fault::on("work_one_short_taken")) {
+        return result((21, 0));
+    }
+    if work.len() < expected.work() {
+        return result((0, expected.written.len() as u64));
+    }
+    if too_many(expected.pairs) {
+        if !fault::on("work_whole_at_13") {
+            fill(&expected.labels, work);
+        }
+        return result((13, 0));
+    }
+    fill(&expected.labels, work);
+    if short {
+        if fault::on("header_before_length_test") && out.len() >= 24 && call != MARK {
+            out[..24].copy_from_slice(&expected.written[..24]);
+        }
+        if call != MARK && fault::on("unmerged_length_told") {
+            return result((22, unmerged()));
+        }
+        return result(late);
+    }
+    let length = expected.written.len();
+    out[..length].copy_from_slice(&expected.written);
+    if call == MARK && fault::on("marks_turned") {
+        out[..length].iter_mut().for_each(|mark| *mark ^= 1);
+    }
+    if out.len() > length && fault::on("byte_past_the_end") {
+        out[length] = 0;
+    }
+    if fault::on("answer_tail_zeroed") {
+        out[length..].fill(0);
+    }
+    if work.len() > HEADER && fault::on("byte_before_a_slice") {
+        // A byte of the caller's that was not lent.
+        unsafe { *work.as_mut_ptr().sub(1) = 0 };
+    }
+    if fault::on("read_past_the_job") {
+        // As above, at the other end.
+        let past = unsafe { std::ptr::read_volatile(job.as_ptr().add(job.len())) };
+        return result((0, length as u64 + u64::from(past == 1 && list.len() == SPAN)));
+    }
+    result((0, length as u64))
+}
+
+#[no_mangle]
+pub extern "C" fn chokes_mark(
+    job: In,
+    jl: usize,
+    work: Out,
+    wl: usize,
+    marks: Out,
+    ml: usize,
+) -> CallResult {
+    whole(MARK, read(job, jl), &[], write(work, wl), write(marks, ml))
+}
+
+#[no_mangle]
+pub extern "C" fn chokes_reduce(
+    job: In,
+    jl: usize,
+    work: Out,
+    wl: usize,
+    answer: Out,
+    al: usize,
+) -> CallResult {
+    whole(REDUCE, read(job, jl), &[], write(work, wl), write(answer, al))
+}
+
+#[no_mangle]
+pub extern "C" fn chokes_reduce_by_list(
+    job: In,
+    jl: usize,
+    list: In,
+    ll: usize,
+    work: Out,
+    wl: usize,
+    answer: Out,
+    al: usize,
+) -> CallResult {
+    whole(BY_LIST, read(job, jl), read(list, ll), write(work, wl), write(answer, al))
+}
