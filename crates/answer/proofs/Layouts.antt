@@ -1,5 +1,5 @@
 -- The parts of one boundary more.
-use mathlib.Core.Path.{_≡_, refl, sym, _∙_, ap}
+use mathlib.Core.Path.{_≡_, refl, sym, _∙_, ap, subst}
 use mathlib.Core.Logic.{_≢_, _⊎_, by-cases, inl, inr}
 use mathlib.Core.List.{List}
 use Prim.Native.Nat.{ℕ, suc, _+_, _*_, _≤_, _<_}
@@ -20,9 +20,9 @@ below-none f = refl
 below-suc : (f : ℕ → ℕ) (i : ℕ) → below f (suc i) ≡ below f i + f i
 below-suc f i = sum-last i f
 
-pub layout-start : {s : List ℕ} {at n ats : ℕ} {firsts starts counts : List ℕ} → PlanRoom firsts starts counts
+pub layout-start : (s : List ℕ) (at ats : ℕ) {firsts starts counts : List ℕ} → PlanRoom firsts starts counts
     → Layout (ownCount s at) (seenCount s at) (citedCount s ats) firsts starts counts 0 0 0
-layout-start {s} {at} {n} {ats} g = record {
+layout-start s at ats g = record {
   place = sym (below-none (seenCount s at));
   running = omega (arith, below-none (ownCount s at), below-none (citedCount s ats));
   laid = record {
@@ -78,13 +78,18 @@ module _ {s : List ℕ} {at n ats : ℕ} (g : Countable s at n ats) {firsts star
     starts-room = simp length-set (omega (arith, l .starts-room, observations-fit));
     counts-room = simp length-set (omega (arith, l .counts-room, observations-fit));
     small = rw (z, x, y) sources-fit;
-    clear = rw z (apart-next (l .clear) (omega (arith, l .starts-room, boundary-fits)) (omega (arith, l .counts-room, boundary-fits)));
+    clear = rw z (apart-next v (l .clear) (omega (arith, l .starts-room, boundary-fits)) (omega (arith, l .counts-room, boundary-fits)));
   }
 
   module _ {v w r : ℕ} {starts′ counts′ : List ℕ} (x : v ≡ ownCount s at b) (y : w ≡ seenCount s at b)
       (t : Lays (citedCount s ats) p w (run + v) (set starts (1024 + b) run) (set counts (1024 + b) v) starts′ counts′ r) where
+    abbrev own : ℕ → ℕ
     own = ownCount s at
+
+    abbrev seen : ℕ → ℕ
     seen = seenCount s at
+
+    abbrev cited : ℕ → ℕ
     cited = citedCount s ats
 
     fit : p + w ≤ 1024
@@ -147,6 +152,15 @@ module _ {s : List ℕ} {at n ats : ℕ} (g : Countable s at n ats) {firsts star
       starts-room = rw (t .starts-long) (simp length-set (l .starts-room));
       counts-room = rw (t .counts-long) (simp length-set (l .counts-room));
     }
+
+    pub firsts-long : {m : ℕ} → length firsts ≡ m → length (set firsts b p) ≡ m
+    firsts-long e = length-set firsts b p ∙ e
+
+    pub starts-long : {m : ℕ} → length starts ≡ m → length starts′ ≡ m
+    starts-long e = t .starts-long ∙ length-set starts (1024 + b) run ∙ e
+
+    pub counts-long : {m : ℕ} → length counts ≡ m → length counts′ ≡ m
+    counts-long e = t .counts-long ∙ length-set counts (1024 + b) v ∙ e
 
 pub apart-wider : {starts counts : List ℕ} {r t : ℕ} → Apart starts counts r → r ≤ t → Apart starts counts t
 apart-wider a h = record { ends = λ q. omega (arith, a .ends q); apart = a .apart }

@@ -1,5 +1,5 @@
 -- Parts laid side by side.
-use mathlib.Core.Path.{_≡_, refl, sym, _∙_, ap}
+use mathlib.Core.Path.{_≡_, refl, sym, _∙_, ap, subst}
 use mathlib.Core.Logic.{_≢_, _⊎_, by-cases, inl, inr}
 use mathlib.Core.List.{List}
 use Prim.Native.Nat.{ℕ, suc, _+_, _*_, _≤_, _<_}
@@ -16,8 +16,8 @@ pub below-next : (f : ℕ → ℕ) (i : ℕ) → below f (i + 1) ≡ below f i +
 below-next f i = rw add-one (sum-last i f)
 
 -- One more part, from where all the others end.
-pub apart-next : {s c : List ℕ} {run p v : ℕ} → Apart s c run → p < length s → p < length c → Apart (set s p run) (set c p v) (run + v)
-apart-next {s} {c} {run} {p} {v} a h l =
+pub apart-next : {s c : List ℕ} {run p : ℕ} (v : ℕ) → Apart s c run → p < length s → p < length c → Apart (set s p run) (set c p v) (run + v)
+apart-next {s} {c} {run} {p} v a h l =
     let x : getD (set s p run) p 0 ≡ run = getD-set-same s p run 0 h in
     let y : getD (set c p v) p 0 ≡ v = getD-set-same c p v 0 l in
     record {
@@ -53,8 +53,8 @@ lays-start {s} {at} {p} {n} {run} g =
     }
 
 module _ {cited : ℕ → ℕ} {p i run : ℕ} {s₀ c₀ s c : List ℕ} {r : ℕ} where
-  pub lays-next : {v : ℕ} → Lays cited p i run s₀ c₀ s c r → p + i < length s → p + i < length c → v ≡ cited (p + i) → Lays cited p (i + 1) run s₀ c₀ (set s (p + i) r) (set c (p + i) v) (r + v)
-  lays-next {v} a h l z =
+  pub lays-next : (v : ℕ) → Lays cited p i run s₀ c₀ s c r → p + i < length s → p + i < length c → v ≡ cited (p + i) → Lays cited p (i + 1) run s₀ c₀ (set s (p + i) r) (set c (p + i) v) (r + v)
+  lays-next v a h l z =
       let x : getD (set s (p + i) r) (p + i) 0 ≡ r = getD-set-same s (p + i) r 0 h in
       let y : getD (set c (p + i) v) (p + i) 0 ≡ v = getD-set-same c (p + i) v 0 l in
       let t : p + (i + 1) ≡ p + i + 1 = omega arith in
@@ -77,7 +77,7 @@ module _ {cited : ℕ → ℕ} {p i run : ℕ} {s₀ c₀ s c : List ℕ} {r : �
         start-after = λ q b. other q (λ f. omega arith) ∙ a .start-after q (omega arith);
         count-after = λ q b. others q (λ f. omega arith) ∙ a .count-after q (omega arith);
         end = rw t (omega (arith, a .end, u, z));
-        clear = apart-next (a .clear) h l;
+        clear = apart-next v (a .clear) h l;
       }
 
 -- The next part ends within the limit.

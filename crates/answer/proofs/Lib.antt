@@ -1,2 +1,5 @@
+pub mod KeysRead
 pub mod Lays
 pub mod Layouts
+pub mod Squeezed
+pub mod Ranked

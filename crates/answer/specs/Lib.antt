@@ -1,2 +1,4 @@
 pub mod Packed
 pub mod Laying
+pub mod Squeezed
+pub mod Ranked
