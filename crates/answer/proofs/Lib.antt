@@ -3,3 +3,6 @@ pub mod Lays
 pub mod Layouts
 pub mod Squeezed
 pub mod Ranked
+pub mod Packs
+pub mod Decoded
+pub mod Together

@@ -26,9 +26,9 @@ ranked-start ends bits from first second third = record {
 
 module _ {ends : ℕ → Span} {bits : ℕ → ℕ} {from i : ℕ} {f₀ g₀ h₀ f g h : List ℕ} (r : Ranked ends bits from i f₀ g₀ h₀ f g h) where
   pub ranked-next : {at x y z : ℕ} (e : Span) → at ≡ from + i → at < length f → at < length g → at < length h → e ≡ canonical (ends i)
-      → x ≡ pack (e .a .x) (e .a .y) → y ≡ pack (e .b .x) (e .b .y) → z ≡ totalKey (bits i)
+      → x ≡ pack (e .a .x) (e .a .y) → y ≡ pack (e .b .x) (e .b .y) → z ≡ totalKey (bits i) → e .a .y < 0x1_0000_0000 → e .b .y < 0x1_0000_0000
       → Ranked ends bits from (i + 1) f₀ g₀ h₀ (set f at x) (set g at y) (set h at z)
-  ranked-next {at} {x} {y} {z} e p a b c u v w t =
+  ranked-next {at} {x} {y} {z} e p a b c u v w t m n =
       let old : (q : ℕ) → q ≢ at → (getD (set f at x) q 0 ≡ getD f q 0) × (getD (set g at y) q 0 ≡ getD g q 0) × (getD (set h at z) q 0 ≡ getD h q 0)
       = λ q d. (getD-set-other f at q x 0 d, getD-set-other g at q y 0 d, getD-set-other h at q z 0 d) in
       let this : KeyAt (set f at x) (set g at y) (set h at z) at (canonical (ends i)) (bits i)
@@ -36,6 +36,8 @@ module _ {ends : ℕ → Span} {bits : ℕ → ℕ} {from i : ℕ} {f₀ g₀ h�
         first-is = getD-set-same f at x 0 a ∙ v ∙ ap (λ (s : Span). pack (s .a .x) (s .a .y)) u;
         second-is = getD-set-same g at y 0 b ∙ w ∙ ap (λ (s : Span). pack (s .b .x) (s .b .y)) u;
         third-is = getD-set-same h at z 0 c ∙ t;
+        first-fits = subst (λ (s : Span). s .a .y < 0x1_0000_0000) u m;
+        second-fits = subst (λ (s : Span). s .b .y < 0x1_0000_0000) u n;
       } in
       record {
         first-long = length-set f at x ∙ r .first-long;
@@ -47,7 +49,7 @@ module _ {ends : ℕ → Span} {bits : ℕ → ℕ} {from i : ℕ} {f₀ g₀ h�
           (λ n.
           let o = old (from + k) (λ d. n (omega arith)) in
           let s = r .there k (omega arith) in
-          record { first-is = o .0 ∙ s .first-is; second-is = o .1 ∙ s .second-is; third-is = o .2 ∙ s .third-is });
+          record { first-is = o .0 ∙ s .first-is; second-is = o .1 ∙ s .second-is; third-is = o .2 ∙ s .third-is; first-fits = s .first-fits; second-fits = s .second-fits });
         first-before = λ q l. old q (λ d. omega arith) .0 ∙ r .first-before q l;
         second-before = λ q l. old q (λ d. omega arith) .1 ∙ r .second-before q l;
         third-before = λ q l. old q (λ d. omega arith) .2 ∙ r .third-before q l;

@@ -2,3 +2,4 @@ pub mod Packed
 pub mod Laying
 pub mod Squeezed
 pub mod Ranked
+pub mod Placed

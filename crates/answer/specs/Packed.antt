@@ -31,3 +31,5 @@ pub record KeyAt (first second third : List ℕ) (p : ℕ) (e : Span) (bits : �
   pub first-is : getD first p 0 ≡ pack (e .a .x) (e .a .y)
   pub second-is : getD second p 0 ≡ pack (e .b .x) (e .b .y)
   pub third-is : getD third p 0 ≡ totalKey bits
+  pub first-fits : e .a .y < 0x1_0000_0000
+  pub second-fits : e .b .y < 0x1_0000_0000

@@ -90,7 +90,7 @@ loop-less c = search needs
 
 -- src/ranking.rt:28:5
 loop-again : tie.Need-loop-again Inv-loop μ-loop
-loop-again c = (omega arith, ranked-next (c .before .before .before .before .before .before .before .before .before .loop .inv .1) (c .before .before .before .before .before .canonical .result) (omega arith) (omega (arith, c .before .before .before .before .before .before .before .before .before .before .before .before .before .before .pre .1 .first-room, (c .before .before .before .before .before .before .before .before .before .loop .inv .1) .first-long)) (omega (arith, c .before .before .before .before .before .before .before .before .before .before .before .before .before .before .pre .1 .second-room, (c .before .before .before .before .before .before .before .before .before .loop .inv .1) .second-long)) (omega (arith, c .before .before .before .before .before .before .before .before .before .before .before .before .before .before .pre .1 .third-room, (c .before .before .before .before .before .before .before .before .before .loop .inv .1) .third-long)) (c .before .before .before .before .before .canonical .ensures ∙ ap (λ (r : ObservationRecord). canonical (r .ends)) (c .before .before .before .before .before .before .before .read-observation .ensures)) (c .before .before .packed .ensures .0) (c .before .packed2 .ensures .0) (c .total-key .ensures ∙ ap (λ (r : ObservationRecord). totalKey (r .bits)) (c .before .before .before .before .before .before .before .read-observation .ensures)))
+loop-again c = (omega arith, ranked-next (c .before .before .before .before .before .before .before .before .before .loop .inv .1) (c .before .before .before .before .before .canonical .result) (omega arith) (omega (arith, c .before .before .before .before .before .before .before .before .before .before .before .before .before .before .pre .1 .first-room, (c .before .before .before .before .before .before .before .before .before .loop .inv .1) .first-long)) (omega (arith, c .before .before .before .before .before .before .before .before .before .before .before .before .before .before .pre .1 .second-room, (c .before .before .before .before .before .before .before .before .before .loop .inv .1) .second-long)) (omega (arith, c .before .before .before .before .before .before .before .before .before .before .before .before .before .before .pre .1 .third-room, (c .before .before .before .before .before .before .before .before .before .loop .inv .1) .third-long)) (c .before .before .before .before .before .canonical .ensures ∙ ap (λ (r : ObservationRecord). canonical (r .ends)) (c .before .before .before .before .before .before .before .read-observation .ensures)) (c .before .before .packed .ensures .0) (c .before .packed2 .ensures .0) (c .total-key .ensures ∙ ap (λ (r : ObservationRecord). totalKey (r .bits)) (c .before .before .before .before .before .before .before .read-observation .ensures)) (c .before .before .packed .ensures .2) (c .before .packed2 .ensures .2))
 
 -- src/ranking.rt:16:1
 same-length : tie.Need-same-length Inv-loop μ-loop
