@@ -1,9 +1,9 @@
 -- A job's boundaries, each from its own place on.
 use mathlib.Core.Path.{_≡_, refl, sym, _∙_, ap, subst}
-use mathlib.Core.List.{List, [], _∷_, _++_, map}
-use Prim.Native.Nat.{ℕ, zero, suc, _+_, _-_, _*_, _≤_, _<_}
+use mathlib.Core.List.{List, _∷_}
+use Prim.Native.Nat.{ℕ, zero, suc, _+_, _-_, _*_, _≤_}
 use native.Mathlib.Omega.{arith}
-use lib.ListN.{length, getD, take, drop}
+use lib.ListN.{take, drop}
 use lib.Seq.{drop-drop, take-at, drop-at}
 use Rattle.lists.specs.Rows.{rows, sum}
 use Rattle.lists.proofs.Rows.{length-rows, rows-split, map-rows, sum-append, sum-last, sum-prefix}
@@ -43,7 +43,7 @@ module _ (bs : ℕ → BoundaryRecord) (os : ℕ → ObservationRecord) (ss : Li
       let i = base + below (citedOf bs os ss) o in
       let head : record { ends = f 0 .ends; bits = f 0 .bits; sources = take (f 0 .sources) (drop i ss) } ≡ g 0
       = ap (λ (r : ObservationRecord). record { ends = r .ends; bits = r .bits; sources = take (r .sources) (drop i ss) }) e
-        ∙ sym (b 0 ∙ ap (observationFrom bs os ss base) z) in
+      ∙ sym (b 0 ∙ ap (observationFrom bs os ss base) z) in
       let next : i + f 0 .sources ≡ base + below (citedOf bs os ss) (suc o) = omega (arith, sum-last o (citedOf bs os ss), ap (λ (r : ObservationRecord). r .sources) e) in
       let step : (k : ℕ) → o + suc k ≡ suc o + k = λ k. omega arith in
       ap (λ (x : Observation). x ∷ observationsWith (rows n (λ k. f (suc k))) (drop (f 0 .sources) (drop i ss))) head

@@ -1,12 +1,12 @@
 -- Sources read one after another.
 use mathlib.Core.Path.{_≡_, refl, sym, _∙_, ap, subst}
 use mathlib.Core.Logic.{by-cases}
-use mathlib.Core.List.{List, [], _∷_, _++_, map}
+use mathlib.Core.List.{List, [], _∷_, _++_}
 use Prim.Native.Nat.{ℕ, suc, _+_, _*_, _≤_, _<_}
 use native.Mathlib.Decide.{ℕ-discrete}
 use native.Mathlib.Numerals.{add-one}
 use native.Mathlib.Omega.{arith}
-use lib.ListN.{length, getD, set, take, length-set}
+use lib.ListN.{length, set, length-set}
 use lib.Seq.{take-suc-set}
 use Rattle.lists.specs.Rows.{rows}
 use Rattle.lists.proofs.Rows.{map-rows, rows-last}
@@ -33,12 +33,12 @@ keys-next {s} {at} {i} {k₀} {k} {v} r a h e f x y =
     record {
       long = length-set k i v ∙ a .long;
       there =
-        rw add-one
-        (take-suc-set k i v h
-        ∙ ap (λ (l : List ℕ). l ++ (v ∷ [])) (a .there ∙ packed-rows s at i)
-        ∙ ap (λ (z : ℕ). rows i (λ j. sourcePack (sourceAt s (at + j * 8))) ++ (z ∷ [])) g
-        ∙ sym (rows-last i (λ j. sourcePack (sourceAt s (at + j * 8))))
-        ∙ sym (packed-rows s at (suc i)));
+          rw add-one
+          (take-suc-set k i v h
+          ∙ ap (λ (l : List ℕ). l ++ (v ∷ [])) (a .there ∙ packed-rows s at i)
+          ∙ ap (λ (z : ℕ). rows i (λ j. sourcePack (sourceAt s (at + j * 8))) ++ (z ∷ [])) g
+          ∙ sym (rows-last i (λ j. sourcePack (sourceAt s (at + j * 8))))
+          ∙ sym (packed-rows s at (suc i)));
       fits = λ j b. by-cases (ℕ-discrete j i) (λ d. rw d w) (λ n. a .fits j (omega arith));
     }
 

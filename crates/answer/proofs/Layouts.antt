@@ -1,10 +1,9 @@
 -- The parts of one boundary more.
 use mathlib.Core.Path.{_≡_, refl, sym, _∙_, ap, subst}
-use mathlib.Core.Logic.{_≢_, _⊎_, by-cases, inl, inr}
+use mathlib.Core.Logic.{_≢_, by-cases}
 use mathlib.Core.List.{List}
 use Prim.Native.Nat.{ℕ, suc, _+_, _*_, _≤_, _<_}
 use native.Mathlib.Decide.{ℕ-discrete}
-use native.Mathlib.Numerals.{add-one}
 use native.Mathlib.Omega.{arith}
 use lib.ListN.{length, getD, set, length-set}
 use lib.Seq.{getD-set-same, getD-set-other}
@@ -101,19 +100,22 @@ module _ {s : List ℕ} {at n ats : ℕ} (g : Countable s at n ats) {firsts star
         omega (arith, below-next seen c, l .place)
 
     own-kept : (c : ℕ) → c ≢ b → (getD starts′ (1024 + c) 0 ≡ getD starts (1024 + c) 0) × (getD counts′ (1024 + c) 0 ≡ getD counts (1024 + c) 0)
-    own-kept c i =
-        (t .start-after (1024 + c) (omega (arith, fit)) ∙ getD-set-other starts (1024 + b) (1024 + c) run 0 (λ e. i (omega arith)),
-        t .count-after (1024 + c) (omega (arith, fit)) ∙ getD-set-other counts (1024 + b) (1024 + c) v 0 (λ e. i (omega arith)))
+    own-kept c i = (
+      t .start-after (1024 + c) (omega (arith, fit)) ∙ getD-set-other starts (1024 + b) (1024 + c) run 0 (λ e. i (omega arith)),
+      t .count-after (1024 + c) (omega (arith, fit)) ∙ getD-set-other counts (1024 + b) (1024 + c) v 0 (λ e. i (omega arith)),
+    )
 
     own-new : (getD starts′ (1024 + b) 0 ≡ run) × (getD counts′ (1024 + b) 0 ≡ v)
-    own-new =
-        (t .start-after (1024 + b) (omega (arith, fit)) ∙ getD-set-same starts (1024 + b) run 0 (omega (arith, l .starts-room, boundary-fits)),
-        t .count-after (1024 + b) (omega (arith, fit)) ∙ getD-set-same counts (1024 + b) v 0 (omega (arith, l .counts-room, boundary-fits)))
+    own-new = (
+      t .start-after (1024 + b) (omega (arith, fit)) ∙ getD-set-same starts (1024 + b) run 0 (omega (arith, l .starts-room, boundary-fits)),
+      t .count-after (1024 + b) (omega (arith, fit)) ∙ getD-set-same counts (1024 + b) v 0 (omega (arith, l .counts-room, boundary-fits)),
+    )
 
     cited-kept : (q : ℕ) → q < p → (getD starts′ q 0 ≡ getD starts q 0) × (getD counts′ q 0 ≡ getD counts q 0)
-    cited-kept q i =
-        (t .start-before q i ∙ getD-set-other starts (1024 + b) q run 0 (λ e. omega (arith, places-fit)),
-        t .count-before q i ∙ getD-set-other counts (1024 + b) q v 0 (λ e. omega (arith, places-fit)))
+    cited-kept q i = (
+      t .start-before q i ∙ getD-set-other starts (1024 + b) q run 0 (λ e. omega (arith, places-fit)),
+      t .count-before q i ∙ getD-set-other counts (1024 + b) q v 0 (λ e. omega (arith, places-fit)),
+    )
 
     cited-new : (k : ℕ) → k < seen b → (getD starts′ (p + k) 0 ≡ below own (suc b) + below cited (p + k)) × (getD counts′ (p + k) 0 ≡ cited (p + k))
     cited-new k i = (omega (arith, t .start-there k (rw y i), l .running, below-suc own b, x), t .count-there k (rw y i))
@@ -121,25 +123,25 @@ module _ {s : List ℕ} {at n ats : ℕ} (g : Countable s at n ats) {firsts star
     laid-next : LaidOut own seen cited (b + 1) (set firsts b p) starts′ counts′
     laid-next = record {
       first-there = λ c i.
-        by-cases (ℕ-discrete c b)
-        (λ e. rw e (getD-set-same firsts b p 0 (omega (arith, l .firsts-room, boundary-fits)) ∙ l .place))
-        (λ d. getD-set-other firsts b c p 0 d ∙ l .laid .first-there c (omega arith));
+          by-cases (ℕ-discrete c b)
+          (λ e. rw e (getD-set-same firsts b p 0 (omega (arith, l .firsts-room, boundary-fits)) ∙ l .place))
+          (λ d. getD-set-other firsts b c p 0 d ∙ l .laid .first-there c (omega arith));
       own-start = λ c i.
-        by-cases (ℕ-discrete c b)
-        (λ e. rw e (own-new .0 ∙ l .running ∙ ap (λ (z : ℕ). below own b + below cited z) (l .place)))
-        (λ d. own-kept c d .0 ∙ l .laid .own-start c (omega arith));
+          by-cases (ℕ-discrete c b)
+          (λ e. rw e (own-new .0 ∙ l .running ∙ ap (λ (z : ℕ). below own b + below cited z) (l .place)))
+          (λ d. own-kept c d .0 ∙ l .laid .own-start c (omega arith));
       own-count = λ c i.
-        by-cases (ℕ-discrete c b)
-        (λ e. rw e (own-new .1 ∙ x))
-        (λ d. own-kept c d .1 ∙ l .laid .own-count c (omega arith));
+          by-cases (ℕ-discrete c b)
+          (λ e. rw e (own-new .1 ∙ x))
+          (λ d. own-kept c d .1 ∙ l .laid .own-count c (omega arith));
       cited-start = λ c k i j.
-        by-cases (ℕ-discrete c b)
-        (λ e. rw (e, ← l .place) (cited-new k (rw (← e) j) .0))
-        (λ d. cited-kept (below seen c + k) (earlier c k (omega arith) j) .0 ∙ l .laid .cited-start c k (omega arith) j);
+          by-cases (ℕ-discrete c b)
+          (λ e. rw (e, ← l .place) (cited-new k (rw (← e) j) .0))
+          (λ d. cited-kept (below seen c + k) (earlier c k (omega arith) j) .0 ∙ l .laid .cited-start c k (omega arith) j);
       cited-count = λ c k i j.
-        by-cases (ℕ-discrete c b)
-        (λ e. rw (e, ← l .place) (cited-new k (rw (← e) j) .1))
-        (λ d. cited-kept (below seen c + k) (earlier c k (omega arith) j) .1 ∙ l .laid .cited-count c k (omega arith) j);
+          by-cases (ℕ-discrete c b)
+          (λ e. rw (e, ← l .place) (cited-new k (rw (← e) j) .1))
+          (λ d. cited-kept (below seen c + k) (earlier c k (omega arith) j) .1 ∙ l .laid .cited-count c k (omega arith) j);
     }
 
     pub layout-next : Layout own seen cited (set firsts b p) starts′ counts′ (b + 1) (p + w) r

@@ -1,14 +1,13 @@
 -- Parts laid side by side.
-use mathlib.Core.Path.{_≡_, refl, sym, _∙_, ap, subst}
-use mathlib.Core.Logic.{_≢_, _⊎_, by-cases, inl, inr}
+use mathlib.Core.Path.{_≡_, refl, sym, _∙_, subst}
+use mathlib.Core.Logic.{_≢_, by-cases, inl, inr}
 use mathlib.Core.List.{List}
-use Prim.Native.Nat.{ℕ, suc, _+_, _*_, _≤_, _<_}
+use Prim.Native.Nat.{ℕ, _+_, _≤_, _<_}
 use native.Mathlib.Decide.{ℕ-discrete}
 use native.Mathlib.Numerals.{add-one}
 use native.Mathlib.Omega.{arith}
 use lib.ListN.{length, getD, set, length-set}
 use lib.Seq.{getD-set-same, getD-set-other}
-use Rattle.lists.specs.Rows.{rows, sum}
 use Rattle.lists.proofs.Rows.{sum-last, sum-prefix}
 use Rattle.answer.specs.Laying.{below, Apart, Lays, LayRoom, citedCount}
 
@@ -22,18 +21,18 @@ apart-next {s} {c} {run} {p} v a h l =
     let y : getD (set c p v) p 0 ≡ v = getD-set-same c p v 0 l in
     record {
       ends = λ q.
-        by-cases (ℕ-discrete q p)
-        (λ e. rw e (omega arith))
-        (λ n. rw (getD-set-other s p q run 0 n, getD-set-other c p q v 0 n) (omega (arith, a .ends q)));
+          by-cases (ℕ-discrete q p)
+          (λ e. rw e (omega arith))
+          (λ n. rw (getD-set-other s p q run 0 n, getD-set-other c p q v 0 n) (omega (arith, a .ends q)));
       apart = λ q w d.
-        by-cases (ℕ-discrete q p)
-        (λ e.
-        let m : w ≢ p = λ f. d (e ∙ sym f) in
-        inr (rw (e, x, getD-set-other s p w run 0 m, getD-set-other c p w v 0 m) (a .ends w)))
-        (λ n.
-        by-cases (ℕ-discrete w p)
-        (λ f. inl (rw (f, x, getD-set-other s p q run 0 n, getD-set-other c p q v 0 n) (a .ends q)))
-        (λ m. rw (getD-set-other s p q run 0 n, getD-set-other c p q v 0 n, getD-set-other s p w run 0 m, getD-set-other c p w v 0 m) (a .apart q w d)));
+          by-cases (ℕ-discrete q p)
+          (λ e.
+          let m : w ≢ p = λ f. d (e ∙ sym f) in
+          inr (rw (e, x, getD-set-other s p w run 0 m, getD-set-other c p w v 0 m) (a .ends w)))
+          (λ n.
+          by-cases (ℕ-discrete w p)
+          (λ f. inl (rw (f, x, getD-set-other s p q run 0 n, getD-set-other c p q v 0 n) (a .ends q)))
+          (λ m. rw (getD-set-other s p q run 0 n, getD-set-other c p q v 0 n, getD-set-other s p w run 0 m, getD-set-other c p w v 0 m) (a .apart q w d)));
     }
 
 pub lays-start : {s : List ℕ} {at p n run : ℕ} {starts counts : List ℕ} → LayRoom s at p n run starts counts → Lays (citedCount s at) p 0 run starts counts starts counts run
@@ -65,13 +64,13 @@ module _ {cited : ℕ → ℕ} {p i run : ℕ} {s₀ c₀ s c : List ℕ} {r : �
         starts-long = length-set s (p + i) r ∙ a .starts-long;
         counts-long = length-set c (p + i) v ∙ a .counts-long;
         start-there = λ k b.
-          by-cases (ℕ-discrete k i)
-          (λ e. rw (e, x) (a .end))
-          (λ n. rw (other (p + k) (λ f. n (omega arith))) (a .start-there k (omega arith)));
+            by-cases (ℕ-discrete k i)
+            (λ e. rw (e, x) (a .end))
+            (λ n. rw (other (p + k) (λ f. n (omega arith))) (a .start-there k (omega arith)));
         count-there = λ k b.
-          by-cases (ℕ-discrete k i)
-          (λ e. rw (e, y) z)
-          (λ n. rw (others (p + k) (λ f. n (omega arith))) (a .count-there k (omega arith)));
+            by-cases (ℕ-discrete k i)
+            (λ e. rw (e, y) z)
+            (λ n. rw (others (p + k) (λ f. n (omega arith))) (a .count-there k (omega arith)));
         start-before = λ q b. other q (λ f. omega arith) ∙ a .start-before q b;
         count-before = λ q b. others q (λ f. omega arith) ∙ a .count-before q b;
         start-after = λ q b. other q (λ f. omega arith) ∙ a .start-after q (omega arith);

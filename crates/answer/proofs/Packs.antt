@@ -2,15 +2,15 @@
 use mathlib.Core.Path.{_≡_, refl, sym, _∙_, ap}
 use mathlib.Core.Bool.{Bool, true, false, cond}
 use mathlib.Core.Logic.{by-cases}
-use mathlib.Core.List.{List, [], _∷_, _++_, map}
-use Prim.Native.Nat.{ℕ, suc, _+_, _*_, _≤_, _<_}
+use mathlib.Core.List.{List, [], _∷_, map}
+use Prim.Native.Nat.{ℕ, _<_}
 use native.Mathlib.Decide.{decLt}
 use native.Mathlib.Omega.{arith}
 use lib.Dec.{leb, ltb}
 use Rattle.lists.specs.Rows.{All, none, more}
 use Rattle.order.specs.Orders.{same}
 use Rattle.order.specs.Keys.{lexLe, byKey}
-use Rattle.order.specs.Sorting.{insert, sort, include, sortOnce}
+use Rattle.order.specs.Sorting.{include, sortOnce}
 use Rattle.sorting.proofs.Lexical.{lex-less, lex-more, lex-tie, lex-one}
 use Rattle.format.specs.Values.{Observation}
 use Rattle.format.specs.Fits.{SourceFits}

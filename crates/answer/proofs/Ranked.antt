@@ -1,8 +1,8 @@
 -- The ends and the width of one record more.
-use mathlib.Core.Path.{_≡_, refl, sym, _∙_, ap, subst}
+use mathlib.Core.Path.{_≡_, refl, _∙_, ap, subst}
 use mathlib.Core.Logic.{_≢_, by-cases}
 use mathlib.Core.List.{List}
-use Prim.Native.Nat.{ℕ, suc, _+_, _≤_, _<_}
+use Prim.Native.Nat.{ℕ, _+_, _≤_, _<_}
 use native.Mathlib.Decide.{ℕ-discrete}
 use native.Mathlib.Omega.{arith}
 use lib.ListN.{length, getD, set, length-set}
@@ -44,12 +44,12 @@ module _ {ends : ℕ → Span} {bits : ℕ → ℕ} {from i : ℕ} {f₀ g₀ h�
         second-long = length-set g at y ∙ r .second-long;
         third-long = length-set h at z ∙ r .third-long;
         there = λ k l.
-          by-cases (ℕ-discrete k i)
-          (λ d. rw (d, ← p) this)
-          (λ n.
-          let o = old (from + k) (λ d. n (omega arith)) in
-          let s = r .there k (omega arith) in
-          record { first-is = o .0 ∙ s .first-is; second-is = o .1 ∙ s .second-is; third-is = o .2 ∙ s .third-is; first-fits = s .first-fits; second-fits = s .second-fits });
+            by-cases (ℕ-discrete k i)
+            (λ d. rw (d, ← p) this)
+            (λ n.
+            let o = old (from + k) (λ d. n (omega arith)) in
+            let s = r .there k (omega arith) in
+            record { first-is = o .0 ∙ s .first-is; second-is = o .1 ∙ s .second-is; third-is = o .2 ∙ s .third-is; first-fits = s .first-fits; second-fits = s .second-fits });
         first-before = λ q l. old q (λ d. omega arith) .0 ∙ r .first-before q l;
         second-before = λ q l. old q (λ d. omega arith) .1 ∙ r .second-before q l;
         third-before = λ q l. old q (λ d. omega arith) .2 ∙ r .third-before q l;

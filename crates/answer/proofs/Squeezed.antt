@@ -2,7 +2,7 @@
 use mathlib.Core.Path.{_≡_, refl, sym, _∙_, ap, subst}
 use mathlib.Core.Logic.{_≢_, _⊎_, by-cases, inl, inr, ⊎-elim}
 use mathlib.Core.List.{List}
-use Prim.Native.Nat.{ℕ, suc, _+_, _-_, _*_, _≤_, _<_}
+use Prim.Native.Nat.{ℕ, _+_, _-_, _≤_, _<_}
 use native.Mathlib.Decide.{ℕ-discrete}
 use native.Mathlib.Omega.{arith}
 use lib.Dec.{leb}
@@ -13,7 +13,7 @@ use Rattle.wire.proofs.Parts.{part-part}
 use Rattle.order.specs.Sorting.{sortOnce}
 use Rattle.sorting.specs.Between.{between, Front}
 use Rattle.answer.specs.Laying.{Apart}
-use Rattle.answer.specs.Squeezed.{partOf, PartsRoom, Squeezed}
+use Rattle.answer.specs.Squeezed.{partOf, Squeezed}
 
 module _ (before after : List ℕ) (a m : ℕ) where
   part-earlier : (i : ℕ) → take i after ≡ take i before → a + m ≤ i → part after a m ≡ part before a m
@@ -90,14 +90,14 @@ module _ {starts keys₀ counts₀ keys counts : List ℕ} {q : ℕ} (clear : Ap
       keys-long = long ∙ s .keys-long;
       counts-long = length-set counts q v ∙ s .counts-long;
       less = λ w.
-        by-cases (ℕ-discrete w q)
-        (λ i. rw (i, count-this) smaller)
-        (λ d. rw (count-other w d) (s .less w));
+          by-cases (ℕ-discrete w q)
+          (λ i. rw (i, count-this) smaller)
+          (λ d. rw (count-other w d) (s .less w));
       later = λ w l. count-other w (λ i. omega arith) ∙ s .later w (omega arith);
       done = λ w l.
-        by-cases (ℕ-discrete w q)
-        (λ i. rw (i, count-this) this)
-        (λ d. rw (count-other w d) (off w (getD counts w 0) d (s .less w) ∙ s .done w (omega arith)));
+          by-cases (ℕ-discrete w q)
+          (λ i. rw (i, count-this) this)
+          (λ d. rw (count-other w d) (off w (getD counts w 0) d (s .less w) ∙ s .done w (omega arith)));
       todo = λ w l. off w (getD counts₀ w 0) (λ i. omega arith) (omega arith) ∙ s .todo w (omega arith);
     }
 

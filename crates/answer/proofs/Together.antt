@@ -5,15 +5,14 @@ use Prim.Native.Nat.{ℕ, zero, suc, _+_, _*_, _≤_, _<_}
 use native.Mathlib.Omega.{arith}
 use lib.Dec.{leb}
 use lib.ListN.{length, getD, take, drop}
-use Rattle.lists.specs.Rows.{rows, sum, All}
-use Rattle.lists.proofs.Rows.{sum-prefix, sum-last}
+use Rattle.lists.specs.Rows.{All}
+use Rattle.lists.proofs.Rows.{sum-prefix}
 use Rattle.lists.proofs.Each.{all-take, all-drop, all-rows}
 use Rattle.wire.specs.Bytes.{part}
 use Rattle.wire.proofs.Parts.{part-part}
 use Rattle.order.specs.Sorting.{sortOnce}
-use Rattle.position.specs.Order.{canonical}
 use Rattle.position.specs.declared.Span.{Span}
-use Rattle.format.specs.Values.{Observation, Boundary}
+use Rattle.format.specs.Values.{Observation}
 use Rattle.format.specs.Records.{sourceAt, boundaryAt, observationAt}
 use Rattle.format.specs.Decode.{sourceRecords}
 use Rattle.format.specs.Fits.{SourceFits}

@@ -1,7 +1,7 @@
 -- Parts of a list of numbers, each sorted where it stands, with each number once.
 use mathlib.Core.Path.{_≡_}
 use mathlib.Core.List.{List}
-use Prim.Native.Nat.{ℕ, _+_, _≤_, _<_}
+use Prim.Native.Nat.{ℕ, _≤_, _<_}
 use lib.Dec.{leb}
 use lib.ListN.{length, getD}
 use Rattle.wire.specs.Bytes.{part}

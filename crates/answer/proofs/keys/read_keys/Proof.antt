@@ -1,5 +1,4 @@
-use mathlib.Core.Path.{_≡_, refl, sym, _∙_, ap}
-use Prim.Native.Nat.{ℕ, _+_, _-_, _*_, _≤_, _<_}
+use Prim.Native.Nat.{_-_, _≤_}
 use native.Mathlib.Omega.{arith}
 use borrow.Author.Needs.{needs}
 use Rattle.answer.specs.Packed.{KeysRead}
@@ -17,51 +16,39 @@ Inv-loop job at n keys₀ i₀ keys i = (i ≤ n) × KeysRead job at i keys₀ k
 abbrev μ-loop : tie.MeasureT-loop
 μ-loop job at n keys₀ i₀ keys i = n - i
 
--- src/keys.rt:16:5
 loop-holds : tie.Need-loop-holds Inv-loop μ-loop
 loop-holds c = (omega arith, keys-start _ _ _)
 
--- src/keys.rt:17:39
 mul-read-source : tie.Need-mul-read-source Inv-loop μ-loop
 mul-read-source c = search needs
 
--- src/keys.rt:17:34
 add-read-source : tie.Need-add-read-source Inv-loop μ-loop
 add-read-source c = search needs
 
--- src/keys.rt:17:13
 read-source-requires : tie.Need-read-source-requires Inv-loop μ-loop
 read-source-requires c κs = search needs
 
--- src/keys.rt:18:19
 packed-requires : tie.Need-packed-requires Inv-loop μ-loop
 packed-requires c κs = search needs
 
--- src/keys.rt:18:9
 mul-keys : tie.Need-mul-keys Inv-loop μ-loop
 mul-keys c = search needs
 
--- src/keys.rt:18:9
 slice-write-keys : tie.Need-slice-write-keys Inv-loop μ-loop
 slice-write-keys c = omega (arith, c .before .before .before .loop .inv .1 .long)
 
--- src/keys.rt:19:9
 add-i : tie.Need-add-i Inv-loop μ-loop
 add-i c = search needs
 
--- src/keys.rt:16:5
 loop-less : tie.Need-loop-less Inv-loop μ-loop
 loop-less c = search needs
 
--- src/keys.rt:16:5
 loop-again : tie.Need-loop-again Inv-loop μ-loop
 loop-again c = (omega arith, keys-next (c .before .read-source .result) (c .before .before .before .loop .inv .1) (omega (arith, c .before .before .before .loop .inv .1 .long)) (c .before .read-source .ensures) (c .packed .ensures .0) (c .packed .ensures .1) (c .packed .ensures .2))
 
--- src/keys.rt:11:1
 same-length : tie.Need-same-length Inv-loop μ-loop
 same-length c = omega (arith, c .before .loop .inv .1 .long)
 
--- src/keys.rt:11:1
 returns : tie.Need-returns Inv-loop μ-loop
 returns c = keys-end (c .before .loop .inv .1) (c .before .loop .inv .0) (omega arith)
 

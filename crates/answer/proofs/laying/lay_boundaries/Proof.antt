@@ -1,10 +1,10 @@
-use mathlib.Core.Path.{_≡_, refl, sym, _∙_, ap}
-use Prim.Native.Nat.{ℕ, _+_, _-_, _*_, _≤_, _<_}
+use mathlib.Core.Path.{_≡_, refl, _∙_, ap}
+use Prim.Native.Nat.{_-_, _≤_}
 use native.Mathlib.Omega.{arith}
 use lib.ListN.{length}
 use borrow.Author.Needs.{needs}
 use Rattle.format.specs.declared.records.BoundaryRecord.{BoundaryRecord}
-use Rattle.answer.specs.Laying.{Layout, Countable, ownCount, seenCount, citedCount}
+use Rattle.answer.specs.Laying.{Layout, ownCount, seenCount, citedCount}
 use Rattle.answer.proofs.Layouts.{layout-start, layout-next, layout-end, firsts-long, starts-long, counts-long, room-for, own-fits, places-fit, boundary-fits, observations-fit}
 use Rattle.answer.proofs.laying.lay_boundaries.Statement.{statement}
 use Rattle.answer.proofs.laying.lay_boundaries.Tie as tie
@@ -20,99 +20,75 @@ Inv-loop job at n ats firsts₀ starts₀ counts₀ run₀ p₀ b₀ firsts star
 abbrev μ-loop : tie.MeasureT-loop
 μ-loop job at n ats firsts₀ starts₀ counts₀ run₀ p₀ b₀ firsts starts counts run p b = n - b
 
--- src/laying.rt:55:5
 loop-holds : tie.Need-loop-holds Inv-loop μ-loop
 loop-holds c = (omega arith, layout-start _ _ _ (c .before .before .before .before .pre .1), refl, refl, refl)
 
--- src/laying.rt:56:41
 mul-read-boundary : tie.Need-mul-read-boundary Inv-loop μ-loop
 mul-read-boundary c = omega (arith, c .before .before .before .before .before .before .pre .0 .boundaries-in)
 
--- src/laying.rt:56:36
 add-read-boundary : tie.Need-add-read-boundary Inv-loop μ-loop
 add-read-boundary c = omega (arith, c .before .before .before .before .before .before .pre .0 .boundaries-in)
 
--- src/laying.rt:56:13
 read-boundary-requires : tie.Need-read-boundary-requires Inv-loop μ-loop
 read-boundary-requires c κs = omega (arith, c .before .before .before .before .before .before .pre .0 .boundaries-in)
 
--- src/laying.rt:58:13
 size-requires : tie.Need-size-requires Inv-loop μ-loop
 size-requires c κs = search needs
 
--- src/laying.rt:59:21
 cast-firsts : tie.Need-cast-firsts Inv-loop μ-loop
 cast-firsts c = omega (arith, places-fit (c .before .before .before .before .before .before .before .before .pre .0) (c .before .before .before .loop .inv .1) (c .before .before .loop-test .taken))
 
--- src/laying.rt:59:9
 mul-firsts : tie.Need-mul-firsts Inv-loop μ-loop
 mul-firsts c = search needs
 
--- src/laying.rt:59:9
 slice-write-firsts : tie.Need-slice-write-firsts Inv-loop μ-loop
 slice-write-firsts c = omega (arith, boundary-fits (c .before .before .before .before .before .before .before .before .pre .0) (c .before .before .before .loop .inv .1) (c .before .before .loop-test .taken), (c .before .before .before .loop .inv .1) .firsts-room)
 
--- src/laying.rt:60:16
 add-starts : tie.Need-add-starts Inv-loop μ-loop
 add-starts c = omega (arith, boundary-fits (c .before .before .before .before .before .before .before .before .pre .0) (c .before .before .before .loop .inv .1) (c .before .before .loop-test .taken))
 
--- src/laying.rt:60:9
 mul-starts : tie.Need-mul-starts Inv-loop μ-loop
 mul-starts c = search needs
 
--- src/laying.rt:60:9
 slice-write-starts : tie.Need-slice-write-starts Inv-loop μ-loop
 slice-write-starts c = omega (arith, boundary-fits (c .before .before .before .before .before .before .before .before .pre .0) (c .before .before .before .loop .inv .1) (c .before .before .loop-test .taken), (c .before .before .before .loop .inv .1) .starts-room)
 
--- src/laying.rt:61:16
 add-counts : tie.Need-add-counts Inv-loop μ-loop
 add-counts c = omega (arith, boundary-fits (c .before .before .before .before .before .before .before .before .pre .0) (c .before .before .before .loop .inv .1) (c .before .before .loop-test .taken))
 
--- src/laying.rt:61:9
 mul-counts : tie.Need-mul-counts Inv-loop μ-loop
 mul-counts c = search needs
 
--- src/laying.rt:61:9
 slice-write-counts : tie.Need-slice-write-counts Inv-loop μ-loop
 slice-write-counts c = omega (arith, boundary-fits (c .before .before .before .before .before .before .before .before .pre .0) (c .before .before .before .loop .inv .1) (c .before .before .loop-test .taken), (c .before .before .before .loop .inv .1) .counts-room)
 
--- src/laying.rt:62:51
 add-lay-observations : tie.Need-add-lay-observations Inv-loop μ-loop
 add-lay-observations c = omega (arith, own-fits (c .before .before .before .before .before .before .before .before .pre .0) (c .before .before .before .loop .inv .1) (c .before .before .loop-test .taken), ap (λ (r : BoundaryRecord). r .sources) (c .before .read-boundary .ensures))
 
--- src/laying.rt:62:9
 lay-observations-requires : tie.Need-lay-observations-requires Inv-loop μ-loop
 lay-observations-requires c κs = room-for (c .before .before .before .before .before .before .before .before .before .before .pre .0) (c .before .before .before .before .before .loop .inv .1) (c .before .before .before .before .loop-test .taken) (ap (λ (r : BoundaryRecord). r .sources) (c .before .before .before .read-boundary .ensures)) (c .before .before .size .ensures .0 ∙ ap (λ (r : BoundaryRecord). r .observations) (c .before .before .before .read-boundary .ensures)) refl
 
--- src/laying.rt:63:9
 add-p : tie.Need-add-p Inv-loop μ-loop
 add-p c = omega (arith, observations-fit (c .before .before .before .before .before .before .before .before .before .before .before .before .before .before .before .pre .0) (c .before .before .before .before .before .before .before .before .before .before .loop .inv .1) (c .before .before .before .before .before .before .before .before .before .loop-test .taken), c .before .before .before .before .before .before .before .size .ensures .0 ∙ ap (λ (r : BoundaryRecord). r .observations) (c .before .before .before .before .before .before .before .before .read-boundary .ensures))
 
--- src/laying.rt:64:9
 add-b : tie.Need-add-b Inv-loop μ-loop
 add-b c = search needs
 
--- src/laying.rt:55:5
 loop-less : tie.Need-loop-less Inv-loop μ-loop
 loop-less c = search needs
 
--- src/laying.rt:55:5
 loop-again : tie.Need-loop-again Inv-loop μ-loop
 loop-again c = (omega arith, layout-next (c .before .before .before .before .before .before .before .before .before .before .before .before .before .before .before .pre .0) (c .before .before .before .before .before .before .before .before .before .before .loop .inv .1) (c .before .before .before .before .before .before .before .before .before .loop-test .taken) (ap (λ (r : BoundaryRecord). r .sources) (c .before .before .before .before .before .before .before .before .read-boundary .ensures)) (c .before .before .before .before .before .before .before .size .ensures .0 ∙ ap (λ (r : BoundaryRecord). r .observations) (c .before .before .before .before .before .before .before .before .read-boundary .ensures)) (c .before .before .before .before .lay-observations .ensures), firsts-long (c .before .before .before .before .before .before .before .before .before .before .before .before .before .before .before .pre .0) (c .before .before .before .before .before .before .before .before .before .before .loop .inv .1) (c .before .before .before .before .before .before .before .before .before .loop-test .taken) (ap (λ (r : BoundaryRecord). r .sources) (c .before .before .before .before .before .before .before .before .read-boundary .ensures)) (c .before .before .before .before .before .before .before .size .ensures .0 ∙ ap (λ (r : BoundaryRecord). r .observations) (c .before .before .before .before .before .before .before .before .read-boundary .ensures)) (c .before .before .before .before .lay-observations .ensures) (c .before .before .before .before .before .before .before .before .before .before .loop .inv .2), starts-long (c .before .before .before .before .before .before .before .before .before .before .before .before .before .before .before .pre .0) (c .before .before .before .before .before .before .before .before .before .before .loop .inv .1) (c .before .before .before .before .before .before .before .before .before .loop-test .taken) (ap (λ (r : BoundaryRecord). r .sources) (c .before .before .before .before .before .before .before .before .read-boundary .ensures)) (c .before .before .before .before .before .before .before .size .ensures .0 ∙ ap (λ (r : BoundaryRecord). r .observations) (c .before .before .before .before .before .before .before .before .read-boundary .ensures)) (c .before .before .before .before .lay-observations .ensures) (c .before .before .before .before .before .before .before .before .before .before .loop .inv .3), counts-long (c .before .before .before .before .before .before .before .before .before .before .before .before .before .before .before .pre .0) (c .before .before .before .before .before .before .before .before .before .before .loop .inv .1) (c .before .before .before .before .before .before .before .before .before .loop-test .taken) (ap (λ (r : BoundaryRecord). r .sources) (c .before .before .before .before .before .before .before .before .read-boundary .ensures)) (c .before .before .before .before .before .before .before .size .ensures .0 ∙ ap (λ (r : BoundaryRecord). r .observations) (c .before .before .before .before .before .before .before .before .read-boundary .ensures)) (c .before .before .before .before .lay-observations .ensures) (c .before .before .before .before .before .before .before .before .before .before .loop .inv .4))
 
--- src/laying.rt:40:1
 same-length : tie.Need-same-length Inv-loop μ-loop
 same-length c = omega (arith, c .before .loop .inv .2)
 
--- src/laying.rt:40:1
 same-length-2 : tie.Need-same-length-2 Inv-loop μ-loop
 same-length-2 c = omega (arith, c .before .loop .inv .3)
 
--- src/laying.rt:40:1
 same-length-3 : tie.Need-same-length-3 Inv-loop μ-loop
 same-length-3 c = omega (arith, c .before .loop .inv .4)
 
--- src/laying.rt:40:1
 returns : tie.Need-returns Inv-loop μ-loop
 returns c = layout-end (c .before .before .before .before .before .before .pre .0) (c .before .loop .inv .1) (c .before .loop .inv .0) (omega arith)
 

@@ -1,5 +1,5 @@
-use mathlib.Core.Path.{_≡_, refl, sym, _∙_, ap}
-use Prim.Native.Nat.{ℕ, _+_, _-_, _*_, _≤_, _<_}
+use mathlib.Core.Path.{ap}
+use Prim.Native.Nat.{_-_, _≤_}
 use native.Mathlib.Omega.{arith}
 use borrow.Author.Needs.{needs}
 use Rattle.format.specs.declared.records.ObservationRecord.{ObservationRecord}
@@ -17,75 +17,57 @@ Inv-loop job at p n run starts₀ counts₀ r₀ i₀ starts counts r i = (i ≤
 abbrev μ-loop : tie.MeasureT-loop
 μ-loop job at p n run starts₀ counts₀ r₀ i₀ starts counts r i = n - i
 
--- src/laying.rt:27:5
 loop-holds : tie.Need-loop-holds Inv-loop μ-loop
 loop-holds c = (omega arith, lays-start (c .before .before .before .pre))
 
--- src/laying.rt:28:45
 add-read-observation : tie.Need-add-read-observation Inv-loop μ-loop
 add-read-observation c = omega (arith, c .before .before .before .before .before .pre .inside)
 
--- src/laying.rt:28:44
 mul-read-observation : tie.Need-mul-read-observation Inv-loop μ-loop
 mul-read-observation c = omega (arith, c .before .before .before .before .before .pre .inside)
 
--- src/laying.rt:28:39
 add-read-observation-2 : tie.Need-add-read-observation-2 Inv-loop μ-loop
 add-read-observation-2 c = omega (arith, c .before .before .before .before .before .pre .inside)
 
--- src/laying.rt:28:13
 read-observation-requires : tie.Need-read-observation-requires Inv-loop μ-loop
 read-observation-requires c κs = omega (arith, c .before .before .before .before .before .pre .inside)
 
--- src/laying.rt:30:16
 add-starts : tie.Need-add-starts Inv-loop μ-loop
 add-starts c = omega (arith, c .before .before .before .before .before .before .pre .inside)
 
--- src/laying.rt:30:9
 mul-starts : tie.Need-mul-starts Inv-loop μ-loop
 mul-starts c = search needs
 
--- src/laying.rt:30:9
 slice-write-starts : tie.Need-slice-write-starts Inv-loop μ-loop
 slice-write-starts c = omega (arith, c .before .before .before .before .before .before .pre .starts-room, c .before .before .loop .inv .1 .starts-long)
 
--- src/laying.rt:31:16
 add-counts : tie.Need-add-counts Inv-loop μ-loop
 add-counts c = omega (arith, c .before .before .before .before .before .before .pre .inside)
 
--- src/laying.rt:31:9
 mul-counts : tie.Need-mul-counts Inv-loop μ-loop
 mul-counts c = search needs
 
--- src/laying.rt:31:9
 slice-write-counts : tie.Need-slice-write-counts Inv-loop μ-loop
 slice-write-counts c = omega (arith, c .before .before .before .before .before .before .pre .counts-room, c .before .before .loop .inv .1 .counts-long)
 
--- src/laying.rt:32:9
 add-r : tie.Need-add-r Inv-loop μ-loop
 add-r c = omega (arith, lays-small (c .before .before .before .before .before .before .pre) (c .before .before .loop .inv .1) (c .before .loop-test .taken), ap (λ (o : ObservationRecord). o .sources) (c .read-observation .ensures))
 
--- src/laying.rt:33:9
 add-i : tie.Need-add-i Inv-loop μ-loop
 add-i c = search needs
 
--- src/laying.rt:27:5
 loop-less : tie.Need-loop-less Inv-loop μ-loop
 loop-less c = search needs
 
--- src/laying.rt:27:5
 loop-again : tie.Need-loop-again Inv-loop μ-loop
 loop-again c = (omega arith, lays-next _ (c .before .before .loop .inv .1) (omega (arith, c .before .before .before .before .before .before .pre .starts-room, c .before .before .loop .inv .1 .starts-long)) (omega (arith, c .before .before .before .before .before .before .pre .counts-room, c .before .before .loop .inv .1 .counts-long)) (ap (λ (o : ObservationRecord). o .sources) (c .read-observation .ensures)))
 
--- src/laying.rt:13:1
 same-length : tie.Need-same-length Inv-loop μ-loop
 same-length c = omega (arith, c .before .loop .inv .1 .starts-long)
 
--- src/laying.rt:13:1
 same-length-2 : tie.Need-same-length-2 Inv-loop μ-loop
 same-length-2 c = omega (arith, c .before .loop .inv .1 .counts-long)
 
--- src/laying.rt:13:1
 returns : tie.Need-returns Inv-loop μ-loop
 returns c = lays-end (c .before .loop .inv .1) (c .before .loop .inv .0) (omega arith)
 

@@ -1,7 +1,7 @@
-use mathlib.Core.Path.{_≡_, refl, sym, _∙_, ap}
-use Prim.Native.Nat.{ℕ, _+_, _-_, _*_, _≤_, _<_}
+use mathlib.Core.Path.{_≡_, refl}
+use Prim.Native.Nat.{_-_, _≤_}
 use native.Mathlib.Omega.{arith}
-use lib.ListN.{length, length-set}
+use lib.ListN.{length}
 use borrow.Author.Needs.{needs}
 use Rattle.answer.specs.Squeezed.{Squeezed}
 use Rattle.answer.proofs.Squeezed.{squeezed-start, part-within, squeezed-next, squeezed-end}
@@ -18,83 +18,63 @@ Inv-loop keys₀ spare₀ starts counts₀ n q₀ keys spare counts q = (q ≤ n
 abbrev μ-loop : tie.MeasureT-loop
 μ-loop keys₀ spare₀ starts counts₀ n q₀ keys spare counts q = n - q
 
--- src/parts.rt:14:5
 loop-holds : tie.Need-loop-holds Inv-loop μ-loop
 loop-holds c = (omega arith, squeezed-start _ _ _, refl)
 
--- src/parts.rt:15:22
 mul-size : tie.Need-mul-size Inv-loop μ-loop
 mul-size c = search needs
 
--- src/parts.rt:15:22
 shared-slice-read-size : tie.Need-shared-slice-read-size Inv-loop μ-loop
 shared-slice-read-size c = omega (arith, c .before .before .before .before .before .before .before .pre .starts-room)
 
--- src/parts.rt:15:13
 size-requires : tie.Need-size-requires Inv-loop μ-loop
 size-requires c κs = search needs
 
--- src/parts.rt:16:54
 mul-size-2 : tie.Need-mul-size-2 Inv-loop μ-loop
 mul-size-2 c = search needs
 
--- src/parts.rt:16:54
 slice-read-size : tie.Need-slice-read-size Inv-loop μ-loop
 slice-read-size c = omega (arith, c .before .before .before .before .before .before .before .before .before .before .before .pre .counts-room, (c .before .before .before .before .before .before .loop .inv .1) .counts-long)
 
--- src/parts.rt:16:49
 size-requires-2 : tie.Need-size-requires-2 Inv-loop μ-loop
 size-requires-2 c κs = search needs
 
--- src/parts.rt:16:45
 add-sort-unique : tie.Need-add-sort-unique Inv-loop μ-loop
 add-sort-unique c = search needs
 
--- src/parts.rt:16:13
 sort-unique-requires : tie.Need-sort-unique-requires Inv-loop μ-loop
 sort-unique-requires c κs = (omega arith, omega (arith, part-within (c .before .before .before .before .before .before .before .before .before .before .before .before .pre .clear) (c .before .before .before .before .before .before .before .loop .inv .1), c .before .before .before .before .size .ensures .0, c .size2 .ensures .0, c .before .before .before .before .before .before .before .before .before .before .before .before .pre .keys-room, (c .before .before .before .before .before .before .before .loop .inv .1) .keys-long), omega (arith, part-within (c .before .before .before .before .before .before .before .before .before .before .before .before .pre .clear) (c .before .before .before .before .before .before .before .loop .inv .1), c .before .before .before .before .size .ensures .0, c .size2 .ensures .0, c .before .before .before .before .before .before .before .before .before .before .before .before .pre .spare-room, c .before .before .before .before .before .before .before .loop .inv .2))
 
--- src/parts.rt:17:22
 sub-counts : tie.Need-sub-counts Inv-loop μ-loop
 sub-counts c = omega (arith, c .before .before .before .before .sort-unique .ensures .ends)
 
--- src/parts.rt:17:21
 cast-counts : tie.Need-cast-counts Inv-loop μ-loop
 cast-counts c = omega (arith, c .before .before .before .before .sort-unique .ensures .within, part-within (c .before .before .before .before .before .before .before .before .before .before .before .before .before .before .before .before .before .pre .clear) (c .before .before .before .before .before .before .before .before .before .before .before .before .loop .inv .1), c .before .before .before .before .before .before .before .before .before .size .ensures .0, c .before .before .before .before .before .size2 .ensures .0)
 
--- src/parts.rt:17:9
 mul-counts : tie.Need-mul-counts Inv-loop μ-loop
 mul-counts c = search needs
 
--- src/parts.rt:17:9
 slice-write-counts : tie.Need-slice-write-counts Inv-loop μ-loop
 slice-write-counts c = omega (arith, c .before .before .before .before .before .before .before .before .before .before .before .before .before .before .before .before .before .pre .counts-room, (c .before .before .before .before .before .before .before .before .before .before .before .before .loop .inv .1) .counts-long)
 
--- src/parts.rt:18:9
 add-q : tie.Need-add-q Inv-loop μ-loop
 add-q c = search needs
 
--- src/parts.rt:14:5
 loop-less : tie.Need-loop-less Inv-loop μ-loop
 loop-less c = search needs
 
--- src/parts.rt:14:5
 loop-again : tie.Need-loop-again Inv-loop μ-loop
 loop-again c = (omega arith, squeezed-next (c .before .before .before .before .before .before .before .before .before .before .before .before .before .before .before .before .before .pre .clear) (c .before .before .before .before .before .before .before .before .before .before .before .before .loop .inv .1) (omega (arith, c .before .before .before .before .before .before .before .before .before .before .before .before .before .before .before .before .before .pre .counts-room, (c .before .before .before .before .before .before .before .before .before .before .before .before .loop .inv .1) .counts-long)) (c .before .before .before .before .before .before .before .before .before .size .ensures .0) (omega (arith, c .before .before .before .before .before .size2 .ensures .0)) (c .before .before .before .before .sort-unique .ensures) refl (omega arith), omega (arith, c .before .before .before .before .before .before .before .before .before .before .before .before .loop .inv .2))
 
--- src/parts.rt:9:1
 same-length : tie.Need-same-length Inv-loop μ-loop
 same-length c = omega (arith, (c .before .loop .inv .1) .keys-long)
 
--- src/parts.rt:9:1
 same-length-2 : tie.Need-same-length-2 Inv-loop μ-loop
 same-length-2 c = omega (arith, c .before .loop .inv .2)
 
--- src/parts.rt:9:1
 same-length-3 : tie.Need-same-length-3 Inv-loop μ-loop
 same-length-3 c = omega (arith, (c .before .loop .inv .1) .counts-long)
 
--- src/parts.rt:9:1
 returns : tie.Need-returns Inv-loop μ-loop
 returns c = squeezed-end (c .before .loop .inv .1) (c .before .loop .inv .0) (omega arith)
 
