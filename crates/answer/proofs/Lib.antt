@@ -6,3 +6,4 @@ pub mod Ranked
 pub mod Packs
 pub mod Decoded
 pub mod Together
+pub mod Writes
