@@ -1,15 +1,15 @@
 -- The laws of a link that is measured cell by cell: it begins with no cell, takes each of its region's cells, and then has its measure.
-use mathlib.Core.Path.{_≡_, refl, sym, _∙_, ap}
+use mathlib.Core.Path.{_≡_, refl, _∙_, ap}
 use mathlib.Core.Bool.{Bool, true, false, _&&_}
 use mathlib.Core.List.{List, [], _∷_, _++_, map}
 use Prim.Native.Nat.{ℕ, _/_, _%_}
 use lib.Ieee.{Float}
 use Rattle.links.specs.Limits.{Limits}
-use Rattle.links.specs.Geometry.{Vector, cellCentre}
+use Rattle.links.specs.Geometry.{cellCentre}
 use Rattle.links.specs.Link.{Link, Bounds, noBounds, widened, widenedBy, boundsOf}
-use Rattle.links.specs.Measure.{Extremes, placed, extremes, Measured, measured, judged}
+use Rattle.links.specs.Measure.{placed, extremes, measured, judged}
 use Rattle.links.specs.Flat.{insideBoth, insideFlat}
-use Rattle.links.specs.HeldLink.{held, noCell, withCell, someCell, linkAfter, measuredIn}
+use Rattle.links.specs.HeldLink.{noCell, withCell, someCell, linkAfter, measuredIn}
 
 -- one value more, at the end
 pub widened-last : (b : Bounds) (vs : List Float) (v : Float) → widenedBy b (vs ++ (v ∷ [])) ≡ widened (widenedBy b vs) v

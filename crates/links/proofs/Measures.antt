@@ -1,5 +1,5 @@
 -- Which case `measuredIn` is, from the outcome of the tests.
-use mathlib.Core.Path.{_≡_, refl}
+use mathlib.Core.Path.{_≡_}
 use mathlib.Core.Bool.{true, false, _&&_}
 use lib.Ieee.{Float, le}
 use Rattle.links.specs.Limits.{Limits}

@@ -2,11 +2,10 @@
 use mathlib.Core.Bool.{Bool, true, false, cond, _&&_}
 use mathlib.Core.List.{List, [], _∷_}
 use Prim.Native.Nat.{ℕ}
-use lib.Ieee.{Float}
 use Rattle.position.specs.declared.Span.{Span}
 use Rattle.links.specs.Limits.{Limits}
 use Rattle.links.specs.Geometry.{Vector, towards, dot}
-use Rattle.links.specs.Link.{Side, Link, Bounds, noBounds, widened}
+use Rattle.links.specs.Link.{Side, Link, noBounds, widened}
 use Rattle.links.specs.Measure.{Extremes, extremes, Measured, empty, within, beyond, judged}
 use Rattle.links.specs.Flat.{insideBoth, insideFlat}
 use Rattle.links.specs.Held.{centreAt}

@@ -2,7 +2,7 @@
 use mathlib.Core.Path.{_≡_, refl, sym, _∙_, ap}
 use mathlib.Core.Bool.{Bool, true, false, cond, _||_}
 use mathlib.Core.List.{List, [], _∷_, _++_, map, append-nil}
-use Prim.Native.Nat.{ℕ, zero, suc, _+_, _*_, _<_, _≤_, min, max}
+use Prim.Native.Nat.{ℕ, zero, suc, _+_, _<_, _≤_, min, max}
 use native.Mathlib.Omega.{arith}
 use borrow.Author.Tests.{lt-ltb, eq-eqb, ne-eqb}
 use lib.Dec.{ltb, eqb}
@@ -14,7 +14,7 @@ use Rattle.grid.specs.Cells.{Grid, rampCell, elevation, columnOf, rowOf, cellAt
 use Rattle.areas.specs.Areas.{labelAt}
 use Rattle.topology.specs.Extremes.{least, greatest}
 use Rattle.topology.specs.RegionStats.{leftOf, topOf, regionCells, regionStats}
-use Rattle.topology.specs.Held.{Room, one, lesser, withCell, levelCount, statsAfter, statsIn, firstCells}
+use Rattle.topology.specs.Held.{Room, one, lesser, withCell, statsAfter, statsIn, firstCells}
 
 pub lesser-first : {n y : ℕ} (x : ℕ) → n ≡ 0 → y ≡ lesser n x y
 lesser-first {n} x e = let h = eq-eqb n 0 e in rw h
@@ -96,9 +96,18 @@ module _ (g : Grid) where
   after-next cs c =
       let e : length (cs ++ (c ∷ [])) ≡ length cs + 1 = length-append cs (c ∷ []) in
       let ramp : ltb 0 (length (keep (rampCell g) (cs ++ (c ∷ [])))) ≡ (ltb 0 (length (keep (rampCell g) cs)) || rampCell g c) = rw (kept-last (rampCell g) cs c) (some-last (length (keep (rampCell g) cs)) (rampCell g c)) in
-      simp
-      (e, least-of (leftOf g) cs c, least-of (topOf g) cs c, greatest-of (λ i. leftOf g i + 8) cs c, greatest-of (λ i. topOf g i + 8) cs c, ramp,
-      kept-last (λ i. eqb (elevation g i) 0) cs c, kept-last (λ i. eqb (elevation g i) 1) cs c, kept-last (λ i. eqb (elevation g i) 2) cs c, kept-last (λ i. eqb (elevation g i) 3) cs c)
+      simp (
+        e,
+        least-of (leftOf g) cs c,
+        least-of (topOf g) cs c,
+        greatest-of (λ i. leftOf g i + 8) cs c,
+        greatest-of (λ i. topOf g i + 8) cs c,
+        ramp,
+        kept-last (λ i. eqb (elevation g i) 0) cs c,
+        kept-last (λ i. eqb (elevation g i) 1) cs c,
+        kept-last (λ i. eqb (elevation g i) 2) cs c,
+        kept-last (λ i. eqb (elevation g i) 3) cs c,
+      )
 
   -- after all its cells they are the region's
   pub after-all : (ls : List ℕ) (r : ℕ) → statsIn (statsAfter g (regionCells ls r)) ≡ regionStats g ls r

@@ -5,3 +5,4 @@ pub mod FullPair
 pub mod Anchors
 pub mod Cases
 pub mod Counting
+pub mod Bases

@@ -7,7 +7,6 @@ use lib.Dec.{eqb}
 use Rattle.position.specs.declared.WalkPosition.{WalkPosition}
 use Rattle.format.specs.Sizes.{baseSize}
 use Rattle.format.specs.Records.{baseAt}
-use Rattle.format.specs.Decode.{baseOf, baseRecords}
 use Rattle.areas.specs.Areas.{labelAt}
 use Rattle.topology.specs.Held.{isNone}
 

@@ -1,17 +1,16 @@
 -- Statistics as the code holds them: what a cell does to them, and what they are after some cells; labels in bytes; anchors on the map.
 use mathlib.Core.Path.{_≡_}
-use mathlib.Core.Bool.{Bool, false, cond, not, _&&_, _||_}
+use mathlib.Core.Bool.{Bool, cond, _&&_, _||_}
 use mathlib.Core.List.{List, [], _∷_, map}
-use Prim.Native.Nat.{ℕ, _+_, _*_, _/_, _%_, _<_, _≤_, min, max}
+use Prim.Native.Nat.{ℕ, _+_, _*_, _/_, _%_, _<_, min, max}
 use lib.Dec.{ltb, eqb}
 use lib.ListN.{length}
 use Rattle.lists.specs.Rows.{rows}
 use Rattle.order.specs.Lists.{keep, upFrom}
 use Rattle.position.specs.declared.WalkPosition.{WalkPosition}
 use Rattle.wire.specs.Bytes.{u32At}
-use Rattle.format.specs.Sizes.{noAnchor, baseSize}
-use Rattle.format.specs.Records.{baseAt}
-use Rattle.grid.specs.Cells.{Grid, rampCell, elevation, columnOf, rowOf}
+use Rattle.format.specs.Sizes.{noAnchor}
+use Rattle.grid.specs.Cells.{Grid, rampCell, elevation}
 use Rattle.areas.specs.Areas.{labelAt}
 use Rattle.topology.specs.Extremes.{least, greatest}
 use Rattle.topology.specs.RegionStats.{RegionStats, leftOf, topOf}
@@ -93,19 +92,6 @@ unfoldable pub firstCells : List ℕ → ℕ → ℕ → List ℕ
 unfolding keep upFrom
 firstCells ls r n = keep (λ i. eqb r (labelAt ls i)) (upFrom 0 n)
 
--- The column and the row of a cell, and of the one after it.
-abbrev pub placeOf : ℕ → ℕ → WalkPosition
-placeOf width i = record { x = i % width; y = i / width }
-
-abbrev pub stepped : ℕ → WalkPosition → WalkPosition
-stepped width p = cond (eqb (p .x + 1) width) (record { x = 0; y = p .y + 1 }) (record { x = p .x + 1; y = p .y })
-
 -- "both 4,294,967,295 means no anchor"
 abbrev pub isNone : WalkPosition → Bool
 isNone p = eqb (p .x) noAnchor && eqb (p .y) noAnchor
-
--- Each of so many bases has no anchor, or one on the map.
-abbrev pub AnchorsOn : List ℕ → ℕ → ℕ → ℕ → ℕ → Type 0
-AnchorsOn job at count width height =
-    (k : ℕ) → k < count → isNone (baseAt job (at + k * baseSize) .anchor) ≡ false
-    → (baseAt job (at + k * baseSize) .anchor .x < width) × (baseAt job (at + k * baseSize) .anchor .y < height)

@@ -1,11 +1,10 @@
 // Regions that hold an anchor.
 ghost use mathlib.Core.Path.{_≡_};
-ghost use mathlib.Core.Bool.{false};
-ghost use Prim.Native.Nat.{ℕ, _+_, _*_, _<_, _≤_};
+ghost use Prim.Native.Nat.{_+_, _*_, _<_, _≤_};
 ghost use lib.ListN.{length};
 ghost use Rattle.format.specs.Sizes.{baseSize};
 ghost use Rattle.topology.specs.AnchorLoop.{Hit, AnchorsIn, anchorHit, anchoredBy};
-ghost use Rattle.topology.specs.Held.{isNone, labelsOf};
+ghost use Rattle.topology.specs.Held.{labelsOf};
 use format::BASE_SIZE;
 use format::NO_ANCHOR;
 use format::read_base;
@@ -33,7 +32,15 @@ fn anchor_in(labels: &[u8], n: usize, width: u32, p: WalkPosition, region: u32) 
 }
 
 // Some base's anchor has a cell with the label.
-pub fn is_anchored(job: &[u8], at: usize, count: usize, width: u32, labels: &[u8], n: usize, region: u32) -> bool
+pub fn is_anchored(
+    job: &[u8],
+    at: usize,
+    count: usize,
+    width: u32,
+    labels: &[u8],
+    n: usize,
+    region: u32,
+) -> bool
     requires { ⌜ (at + count * baseSize ≤ length (now job)) × (n ≤ 1048576) × (n * 4 ≤ length (now labels)) × AnchorsIn (now job) at count width n ⌝ }
     ensures { λ r. ⌜ r ≡ anchoredBy (now (job .entry)) at count width (labelsOf (now (labels .entry)) n) region ⌝ }
 {

@@ -1,13 +1,8 @@
 // Statistics of regions: 001's `RegionStats`.
 ghost use mathlib.Core.Path.{_≡_};
-ghost use mathlib.Core.List.{[]};
-ghost use Prim.Native.Nat.{ℕ, _+_, _*_, _<_, _≤_, max};
-ghost use lib.ListN.{length};
-ghost use Rattle.grid.specs.Cells.{Grid};
-ghost use Rattle.topology.specs.RegionStats.{regionStats, elevations};
-ghost use Rattle.topology.specs.Held.{Room, statsIn, one, lesser, withCell, NoCells, labelsOf, stepped};
-use position::WalkPosition;
-use wire::read_u32;
+ghost use Prim.Native.Nat.{_<_, _≤_, max};
+ghost use Rattle.topology.specs.RegionStats.{elevations};
+ghost use Rattle.topology.specs.Held.{Room, statsIn, one, lesser, withCell, NoCells};
 
 // The box is in whole pixels, its right and lower edge past the last cell; `level_0` to `level_3` count the cells of each elevation.
 pub struct RegionStats {
@@ -87,6 +82,9 @@ impl RegionStats {
     pub fn elevations(self) -> u32
         ensures { λ r. ⌜ r ≡ elevations (statsIn self) ⌝ }
     {
-        one(0 < self.level_0) + one(0 < self.level_1) + one(0 < self.level_2) + one(0 < self.level_3)
+        one(0 < self.level_0)
+            + one(0 < self.level_1)
+            + one(0 < self.level_2)
+            + one(0 < self.level_3)
     }
 }

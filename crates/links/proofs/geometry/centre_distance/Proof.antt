@@ -6,15 +6,12 @@ use Rattle.links.proofs.geometry.centre_distance.Lts as lts
 use Rattle.links.proofs.geometry.centre_squares.Reads as centre-squares-reads
 use Rattle.links.proofs.geometry.distance.Reads as distance-reads
 
--- src/geometry.rt:77:14
 centre-squares-requires : tie.Need-centre-squares-requires
 centre-squares-requires c κs = search needs
 
--- src/geometry.rt:77:5
 distance-requires : tie.Need-distance-requires
 distance-requires c κs = search needs
 
--- src/geometry.rt:73:1
 returns : tie.Need-returns
 returns c = simp (c .distance .ensures, c .before .centre-squares .ensures .0)
 

@@ -5,11 +5,9 @@ use Rattle.links.proofs.geometry.centres_differ.Reads as reads
 use Rattle.links.proofs.geometry.centres_differ.Lts as lts
 use Rattle.links.proofs.geometry.centre_squares.Reads as centre-squares-reads
 
--- src/geometry.rt:85:5
 centre-squares-requires : tie.Need-centre-squares-requires
 centre-squares-requires c κs = search needs
 
--- src/geometry.rt:81:1
 returns : tie.Need-returns
 returns c = simp (c .centre-squares .ensures .0)
 

@@ -7,11 +7,9 @@ use Rattle.links.proofs.geometry.distance.Reads as reads
 use Rattle.links.proofs.geometry.distance.Lts as lts
 use Rattle.length.proofs.length_of.Reads as length-of-reads
 
--- src/geometry.rt:57:9
 length-of-requires : tie.Need-length-of-requires
 length-of-requires c κs = search needs
 
--- src/geometry.rt:53:1
 returns : tie.Need-returns
 returns c = ap (λ (l : Length). l .value) (c .length-of .ensures)
 

@@ -8,27 +8,21 @@ use Rattle.links.proofs.geometry.Range.none.Reads as none-reads
 use Rattle.links.proofs.geometry.Range.with_ends.Reads as with-ends-reads
 use Rattle.position.proofs.Span.canonical.Reads as canonical-reads
 
--- src/geometry.rt:215:9
 canonical-requires : tie.Need-canonical-requires
 canonical-requires c κs = search needs
 
--- src/geometry.rt:216:9
 canonical-requires-2 : tie.Need-canonical-requires-2
 canonical-requires-2 c κs = search needs
 
--- src/geometry.rt:217:5
 none-requires : tie.Need-none-requires
 none-requires c κs = search needs
 
--- src/geometry.rt:217:5
 with-ends-requires : tie.Need-with-ends-requires
 with-ends-requires c κs = search needs
 
--- src/geometry.rt:217:5
 with-ends-requires-2 : tie.Need-with-ends-requires-2
 with-ends-requires-2 c κs = search needs
 
--- src/geometry.rt:212:1
 returns : tie.Need-returns
 unfolding widenedBy
 returns c = simp (c .with-ends2 .ensures, c .before .with-ends .ensures, c .before .before .none .ensures, c .before .before .before .canonical2 .ensures, c .before .before .before .before .canonical .ensures)

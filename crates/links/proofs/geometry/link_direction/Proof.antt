@@ -8,27 +8,21 @@ use Rattle.links.proofs.geometry.Point.towards.Reads as towards-reads
 use Rattle.links.proofs.geometry.centre_distance.Reads as centre-distance-reads
 use Rattle.links.proofs.geometry.centre_of.Reads as centre-of-reads
 
--- src/geometry.rt:225:9
 centre-distance-requires : tie.Need-centre-distance-requires
 centre-distance-requires c κs = search needs
 
--- src/geometry.rt:226:5
 centre-of-requires : tie.Need-centre-of-requires
 centre-of-requires c κs = search needs
 
--- src/geometry.rt:226:30
 centre-of-requires-2 : tie.Need-centre-of-requires-2
 centre-of-requires-2 c κs = search needs
 
--- src/geometry.rt:226:5
 towards-requires : tie.Need-towards-requires
 towards-requires c κs = search needs
 
--- src/geometry.rt:226:5
 scaled-requires : tie.Need-scaled-requires
 scaled-requires c κs = search needs
 
--- src/geometry.rt:221:1
 returns : tie.Need-returns
 returns c = simp (c .scaled .ensures, c .before .towards .ensures, c .before .before .centre-of2 .ensures, c .before .before .before .centre-of .ensures, c .before .before .before .before .centre-distance .ensures)
 

@@ -6,31 +6,24 @@ use Rattle.links.proofs.geometry.point_distance.Lts as lts
 use Rattle.links.proofs.geometry.distance.Reads as distance-reads
 use Rattle.links.proofs.geometry.squares.Reads as squares-reads
 
--- src/geometry.rt:93:22
 mul-squares : tie.Need-mul-squares
 mul-squares c = search needs
 
--- src/geometry.rt:93:31
 mul-squares-2 : tie.Need-mul-squares-2
 mul-squares-2 c = search needs
 
--- src/geometry.rt:93:40
 mul-squares-3 : tie.Need-mul-squares-3
 mul-squares-3 c = search needs
 
--- src/geometry.rt:93:49
 mul-squares-4 : tie.Need-mul-squares-4
 mul-squares-4 c = search needs
 
--- src/geometry.rt:93:14
 squares-requires : tie.Need-squares-requires
 squares-requires c κs = search needs
 
--- src/geometry.rt:93:5
 distance-requires : tie.Need-distance-requires
 distance-requires c κs = search needs
 
--- src/geometry.rt:89:1
 returns : tie.Need-returns
 returns c = simp (c .distance .ensures, c .before .squares .ensures .0)
 

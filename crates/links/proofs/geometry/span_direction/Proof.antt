@@ -10,31 +10,24 @@ use Rattle.links.proofs.geometry.point_distance.Reads as point-distance
 use Rattle.links.proofs.geometry.point_of.Reads as point-of-reads
 use Rattle.position.proofs.Span.canonical.Reads as canonical-reads
 
--- src/geometry.rt:234:9
 canonical-requires : tie.Need-canonical-requires
 canonical-requires c κs = search needs
 
--- src/geometry.rt:237:9
 point-distance-requires : tie.Need-point-distance-requires
 point-distance-requires c κs = let h = bounded-as (c .canonical .ensures) (canonical-bounded (c .before .pre)) in (h .first, h .second)
 
--- src/geometry.rt:238:5
 point-of-requires : tie.Need-point-of-requires
 point-of-requires c κs = search needs
 
--- src/geometry.rt:238:25
 point-of-requires-2 : tie.Need-point-of-requires-2
 point-of-requires-2 c κs = search needs
 
--- src/geometry.rt:238:5
 towards-requires : tie.Need-towards-requires
 towards-requires c κs = search needs
 
--- src/geometry.rt:238:5
 scaled-requires : tie.Need-scaled-requires
 scaled-requires c κs = search needs
 
--- src/geometry.rt:230:1
 returns : tie.Need-returns
 returns c = simp (c .scaled .ensures, c .before .towards .ensures, c .before .before .point-of2 .ensures, c .before .before .before .point-of .ensures, c .before .before .before .before .point-distance .ensures, c .before .before .before .before .before .canonical .ensures)
 

@@ -1,4 +1,4 @@
-use mathlib.Core.Path.{_≡_, refl}
+use mathlib.Core.Path.{refl}
 use native.Mathlib.Omega.{arith}
 use Rattle.links.proofs.Squares.{square-most}
 use Rattle.links.proofs.geometry.square.Statement.{statement}
@@ -6,11 +6,9 @@ use Rattle.links.proofs.geometry.square.Tie as tie
 use Rattle.links.proofs.geometry.square.Reads as reads
 use Rattle.links.proofs.geometry.square.Lts as lts
 
--- src/geometry.rt:42:5
 mul-result : tie.Need-mul-result
 mul-result c = omega (arith, square-most (c .pre))
 
--- src/geometry.rt:38:1
 returns : tie.Need-returns
 returns c = (refl, square-most (c .pre))
 

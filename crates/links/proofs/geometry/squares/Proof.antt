@@ -8,27 +8,21 @@ use Rattle.links.proofs.geometry.squares.Lts as lts
 use Rattle.links.proofs.geometry.apart.Reads as apart-reads
 use Rattle.links.proofs.geometry.square.Reads as square-reads
 
--- src/geometry.rt:50:12
 apart-requires : tie.Need-apart-requires
 apart-requires c κs = search needs
 
--- src/geometry.rt:50:5
 square-requires : tie.Need-square-requires
 square-requires c κs = search needs
 
--- src/geometry.rt:50:36
 apart-requires-2 : tie.Need-apart-requires-2
 apart-requires-2 c κs = search needs
 
--- src/geometry.rt:50:29
 square-requires-2 : tie.Need-square-requires-2
 square-requires-2 c κs = search needs
 
--- src/geometry.rt:50:5
 add-result : tie.Need-add-result
 add-result c = search needs
 
--- src/geometry.rt:46:1
 returns : tie.Need-returns
 unfolding squares
 returns c = (simp (c .before .before .before .apart .ensures .0, c .before .before .square .ensures .0, c .before .apart2 .ensures .0, c .square2 .ensures .0), omega arith)

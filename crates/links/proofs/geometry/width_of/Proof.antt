@@ -5,11 +5,9 @@ use Rattle.links.proofs.geometry.width_of.Tie as tie
 use Rattle.links.proofs.geometry.width_of.Reads as reads
 use Rattle.links.proofs.geometry.width_of.Lts as lts
 
--- src/geometry.rt:102:5
 float-from-bits-result : tie.Need-float-from-bits-result
 float-from-bits-result c = no-nan _ (c .pre)
 
--- src/geometry.rt:98:1
 returns : tie.Need-returns
 returns c = search needs
 

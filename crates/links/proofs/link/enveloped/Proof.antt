@@ -5,11 +5,9 @@ use Rattle.links.proofs.link.enveloped.Reads as reads
 use Rattle.links.proofs.link.enveloped.Lts as lts
 use Rattle.links.proofs.geometry.Point.reach.Reads as reach-reads
 
--- src/link.rt:111:28
 reach-requires : tie.Need-reach-requires
 reach-requires c κs = search needs
 
--- src/link.rt:108:1
 returns : tie.Need-returns
 returns c = simp (c .reach .ensures)
 

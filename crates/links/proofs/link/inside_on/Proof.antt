@@ -6,15 +6,12 @@ use Rattle.links.proofs.link.inside_on.Lts as lts
 use Rattle.links.proofs.geometry.Point.dot.Reads as dot-reads
 use Rattle.links.proofs.geometry.Point.reach.Reads as reach-reads
 
--- src/link.rt:102:9
 dot-requires : tie.Need-dot-requires
 dot-requires c κs = search needs
 
--- src/link.rt:103:24
 reach-requires : tie.Need-reach-requires
 reach-requires c κs = search needs
 
--- src/link.rt:99:1
 returns : tie.Need-returns
 returns c = simp (c .before .before .before .dot .ensures, c .before .before .reach .ensures)
 

@@ -14,55 +14,42 @@ use Rattle.links.proofs.geometry.link_direction.Reads as link-direction
 use Rattle.links.proofs.geometry.span_direction.Reads as span-direction-reads
 use Rattle.links.proofs.geometry.width_of.Reads as width-of-reads
 
--- src/link.rt:64:9
 centre-of-requires : tie.Need-centre-of-requires
 centre-of-requires c κs = search needs
 
--- src/link.rt:65:9
 link-direction-requires : tie.Need-link-direction-requires
 link-direction-requires c κs = search needs
 
--- src/link.rt:66:9
 turned-requires : tie.Need-turned-requires
 turned-requires c κs = search needs
 
--- src/link.rt:67:9
 span-direction-requires : tie.Need-span-direction-requires
 span-direction-requires c κs = search needs
 
--- src/link.rt:68:9
 turned-requires-2 : tie.Need-turned-requires-2
 turned-requires-2 c κs = search needs
 
--- src/link.rt:69:9
 end-bounds-requires : tie.Need-end-bounds-requires
 end-bounds-requires c κs = search needs
 
--- src/link.rt:70:9
 end-bounds-requires-2 : tie.Need-end-bounds-requires-2
 end-bounds-requires-2 c κs = search needs
 
--- src/link.rt:71:9
 none-requires : tie.Need-none-requires
 none-requires c κs = search needs
 
--- src/link.rt:75:19
 centre-distance-requires : tie.Need-centre-distance-requires
 centre-distance-requires c κs = search needs
 
--- src/link.rt:88:24
 width-of-requires : tie.Need-width-of-requires
 width-of-requires c κs = search needs
 
--- src/link.rt:88:46
 width-of-requires-2 : tie.Need-width-of-requires-2
 width-of-requires-2 c κs = search needs
 
--- src/link.rt:88:20
 min-requires : tie.Need-min-requires
 min-requires c κs = search needs
 
--- src/link.rt:60:1
 returns : tie.Need-returns
 unfolding linkOf
 returns c = simp (c .min .ensures, c .before .width-of2 .ensures, c .before .before .width-of .ensures, c .before .before .before .centre-distance .ensures, c .before .before .before .before .none .ensures, c .before .before .before .before .before .end-bounds2 .ensures, c .before .before .before .before .before .before .end-bounds .ensures, c .before .before .before .before .before .before .before .turned2 .ensures, c .before .before .before .before .before .before .before .before .span-direction .ensures, c .before .before .before .before .before .before .before .before .before .turned .ensures, c .before .before .before .before .before .before .before .before .before .before .link-direction .ensures, c .before .before .before .before .before .before .before .before .before .before .before .centre-of .ensures)

@@ -3,11 +3,9 @@ use Rattle.links.proofs.parallel.facing.Tie as tie
 use Rattle.links.proofs.parallel.facing.Reads as reads
 use Rattle.links.proofs.parallel.facing.Lts as lts
 
--- src/parallel.rt:43:1
 returns : tie.Need-returns
 returns c = simp (c .if1 .taken)
 
--- src/parallel.rt:43:1
 returns-2 : tie.Need-returns-2
 returns-2 c = simp (c .if1 .left)
 

@@ -5,15 +5,12 @@ use Rattle.links.proofs.parallel.near_ends.Reads as reads
 use Rattle.links.proofs.parallel.near_ends.Lts as lts
 use Rattle.links.proofs.geometry.point_distance.Reads as point-distance-reads
 
--- src/parallel.rt:39:6
 point-distance-requires : tie.Need-point-distance-requires
 point-distance-requires c κs = search needs
 
--- src/parallel.rt:39:55
 point-distance-requires-2 : tie.Need-point-distance-requires-2
 point-distance-requires-2 c κs = search needs
 
--- src/parallel.rt:35:1
 returns : tie.Need-returns
 returns c = simp (c .before .before .before .point-distance .ensures, c .before .point-distance2 .ensures)
 

@@ -6,19 +6,15 @@ use Rattle.links.proofs.parallel.span_vector.Lts as lts
 use Rattle.links.proofs.geometry.Point.towards.Reads as towards-reads
 use Rattle.links.proofs.geometry.point_of.Reads as point-of-reads
 
--- src/parallel.rt:24:5
 point-of-requires : tie.Need-point-of-requires
 point-of-requires c κs = search needs
 
--- src/parallel.rt:24:27
 point-of-requires-2 : tie.Need-point-of-requires-2
 point-of-requires-2 c κs = search needs
 
--- src/parallel.rt:24:5
 towards-requires : tie.Need-towards-requires
 towards-requires c κs = search needs
 
--- src/parallel.rt:21:1
 returns : tie.Need-returns
 returns c = simp (c .towards .ensures, c .before .point-of2 .ensures, c .before .before .point-of .ensures)
 

@@ -1,3 +1,6 @@
+use Rattle.topology.specs.Held.{labelsOf}
+use Rattle.topology.proofs.Bases.{mul-as, hit, not-hit}
+use native.Mathlib.Omega.{arith}
 use borrow.Author.Needs.{needs}
 use Rattle.topology.proofs.anchored.anchor_in.Statement.{statement}
 use Rattle.topology.proofs.anchored.anchor_in.Tie as tie
@@ -6,41 +9,32 @@ use Rattle.topology.proofs.anchored.anchor_in.Lts as lts
 use Rattle.topology.proofs.anchored.size.Reads as size-reads
 use Rattle.wire.proofs.read_u32.Reads as read-u32-reads
 
--- src/anchored.rt:29:9
 returns : tie.Need-returns
-returns c = ?
+returns c = not-hit (labelsOf (c .before .before .args .labels .now) (c .before .before .args .n)) (c .before .before .args .width) (c .before .before .args .p) (c .before .before .args .region) (c .if1 .taken)
 
--- src/anchored.rt:31:13
 size-requires : tie.Need-size-requires
 size-requires c κs = search needs
 
--- src/anchored.rt:31:23
 size-requires-2 : tie.Need-size-requires-2
 size-requires-2 c κs = search needs
 
--- src/anchored.rt:31:13
 mul-i : tie.Need-mul-i
-mul-i c = ?
+mul-i c = omega (arith, mul-as (c .before .size .ensures .0) (c .size2 .ensures .0), c .before .before .before .before .pre .2 .on (c .before .before .if1 .left))
 
--- src/anchored.rt:31:37
 size-requires-3 : tie.Need-size-requires-3
 size-requires-3 c κs = search needs
 
--- src/anchored.rt:31:13
 add-i : tie.Need-add-i
-add-i c = ?
+add-i c = omega (arith, c .size3 .ensures .0, mul-as (c .before .before .size .ensures .0) (c .before .size2 .ensures .0), c .before .before .before .before .before .pre .2 .on (c .before .before .before .if1 .left))
 
--- src/anchored.rt:32:32
 mul-read-u32 : tie.Need-mul-read-u32
-mul-read-u32 c = ?
+mul-read-u32 c = omega (arith, c .size3 .ensures .0, mul-as (c .before .before .size .ensures .0) (c .before .size2 .ensures .0), c .before .before .before .before .before .pre .2 .on (c .before .before .before .if1 .left))
 
--- src/anchored.rt:32:15
 read-u32-requires : tie.Need-read-u32-requires
-read-u32-requires c κs = ?
+read-u32-requires c κs = omega (arith, c .size3 .ensures .0, mul-as (c .before .before .size .ensures .0) (c .before .size2 .ensures .0), c .before .before .before .before .before .pre .2 .on (c .before .before .before .if1 .left), c .before .before .before .before .before .pre .1)
 
--- src/anchored.rt:22:1
 returns-2 : tie.Need-returns-2
-returns-2 c = ?
+returns-2 c = hit _ _ _ _ _ (c .before .before .before .before .if1 .left) (c .before .before .before .before .before .before .pre .2 .on (c .before .before .before .before .if1 .left)) (c .read-u32 .ensures) (omega (arith, c .before .size3 .ensures .0, mul-as (c .before .before .before .size .ensures .0) (c .before .before .size2 .ensures .0)))
 
 pub anchor-in-spec : {M : Type 1} → statement M
 anchor-in-spec =

@@ -1,3 +1,10 @@
+use mathlib.Core.Path.{_≡_, refl}
+use Prim.Native.Nat.{_-_, _≤_}
+use native.Mathlib.Omega.{arith}
+use borrow.Author.Needs.{needs}
+use Rattle.topology.specs.Held.{labelsOf}
+use Rattle.topology.specs.AnchorLoop.{anchoredBy}
+use Rattle.topology.proofs.Bases.{base-next, hit-as, at-end}
 use Rattle.topology.proofs.anchored.is_anchored.Statement.{statement}
 use Rattle.topology.proofs.anchored.is_anchored.Tie as tie
 use Rattle.topology.proofs.anchored.is_anchored.Reads as reads
@@ -6,46 +13,38 @@ use Rattle.format.proofs.read_base.Reads as read-base-reads
 use Rattle.topology.proofs.anchored.anchor_in.Reads as anchor-in-reads
 
 abbrev Inv-loop : tie.InvT-loop
-Inv-loop job at count width labels n region found₀ i₀ found i = ?
+Inv-loop job at count width labels n region found₀ i₀ found i = (i ≤ count) × (found ≡ anchoredBy job at i width (labelsOf labels n) region)
 
 abbrev μ-loop : tie.MeasureT-loop
-μ-loop job at count width labels n region found₀ i₀ found i = ?
+μ-loop job at count width labels n region found₀ i₀ found i = count - i
 
--- src/anchored.rt:42:5
 loop-holds : tie.Need-loop-holds Inv-loop μ-loop
-loop-holds c = ?
+unfolding anchoredBy
+loop-holds c = (omega arith, refl)
 
--- src/anchored.rt:43:37
 mul-read-base : tie.Need-mul-read-base Inv-loop μ-loop
-mul-read-base c = ?
+mul-read-base c = search needs
 
--- src/anchored.rt:43:32
 add-read-base : tie.Need-add-read-base Inv-loop μ-loop
-add-read-base c = ?
+add-read-base c = search needs
 
--- src/anchored.rt:43:13
 read-base-requires : tie.Need-read-base-requires Inv-loop μ-loop
-read-base-requires c κs = ?
+read-base-requires c κs = search needs
 
--- src/anchored.rt:44:17
 anchor-in-requires : tie.Need-anchor-in-requires Inv-loop μ-loop
-anchor-in-requires c κs = ?
+anchor-in-requires c κs = (c .before .before .before .before .before .pre .1, c .before .before .before .before .before .pre .2, hit-as (c .read-base .ensures) (c .before .before .before .before .before .pre .3 .each (c .before .before .loop .i) (c .before .loop-test .taken)))
 
--- src/anchored.rt:45:9
 add-i : tie.Need-add-i Inv-loop μ-loop
-add-i c = ?
+add-i c = search needs
 
--- src/anchored.rt:42:5
 loop-less : tie.Need-loop-less Inv-loop μ-loop
-loop-less c = ?
+loop-less c = search needs
 
--- src/anchored.rt:42:5
 loop-again : tie.Need-loop-again Inv-loop μ-loop
-loop-again c = ?
+loop-again c = (omega arith, base-next _ _ _ _ _ _ (c .before .read-base .ensures) (c .anchor-in .ensures) (c .before .before .before .loop .inv .1))
 
--- src/anchored.rt:36:1
 returns : tie.Need-returns Inv-loop μ-loop
-returns c = ?
+returns c = at-end _ _ _ _ _ {i = c .before .loop .i} {count = c .before .before .before .before .args .count} (omega arith) (c .before .loop .inv .1)
 
 pub is-anchored-spec : {M : Type 1} → statement M
 is-anchored-spec =

@@ -5,12 +5,10 @@ use Rattle.topology.proofs.pairs.other_region.Tie as tie
 use Rattle.topology.proofs.pairs.other_region.Reads as reads
 use Rattle.topology.proofs.pairs.other_region.Lts as lts
 
--- src/pairs.rt:15:1
 returns : tie.Need-returns
 unfolding otherRegion
 returns c = let e = eq-eqb _ _ (c .if1 .taken) in rw e
 
--- src/pairs.rt:15:1
 returns-2 : tie.Need-returns-2
 unfolding otherRegion
 returns-2 c = let e = ne-eqb _ _ (c .if1 .left) in rw e

@@ -4,15 +4,12 @@ use Rattle.topology.proofs.stats.lesser.Tie as tie
 use Rattle.topology.proofs.stats.lesser.Reads as reads
 use Rattle.topology.proofs.stats.lesser.Lts as lts
 
--- src/stats.rt:30:9
 returns : tie.Need-returns
 returns c = lesser-first _ (c .if1 .taken)
 
--- src/stats.rt:26:1
 returns-2 : tie.Need-returns-2
 returns-2 c = lesser-low (c .before .if1 .left) (c .if2 .taken)
 
--- src/stats.rt:26:1
 returns-3 : tie.Need-returns-3
 returns-3 c = lesser-high (c .before .if1 .left) (c .if2 .left)
 

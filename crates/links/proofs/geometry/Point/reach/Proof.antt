@@ -5,15 +5,12 @@ use Rattle.links.proofs.geometry.Point.reach.Reads as reads
 use Rattle.links.proofs.geometry.Point.reach.Lts as lts
 use Rattle.length.proofs.floats.abs.Reads as abs-reads
 
--- src/geometry.rt:176:9
 abs-requires : tie.Need-abs-requires
 abs-requires c κs = search needs
 
--- src/geometry.rt:176:23
 abs-requires-2 : tie.Need-abs-requires-2
 abs-requires-2 c κs = search needs
 
--- src/geometry.rt:173:5
 returns : tie.Need-returns
 returns c = simp (c .before .abs .ensures, c .abs2 .ensures)
 

@@ -5,17 +5,14 @@ use Rattle.links.proofs.geometry.Range.none.Tie as tie
 use Rattle.links.proofs.geometry.Range.none.Reads as reads
 use Rattle.links.proofs.geometry.Range.none.Lts as lts
 
--- src/geometry.rt:186:18
 float-from-bits-t1 : tie.Need-float-from-bits-t1
 unfolding nanBits
 float-from-bits-t1 c = tt
 
--- src/geometry.rt:187:19
 float-from-bits-t2 : tie.Need-float-from-bits-t2
 unfolding nanBits
 float-from-bits-t2 c = tt
 
--- src/geometry.rt:182:5
 returns : tie.Need-returns
 unfolding ofBits
 returns c = refl

@@ -6,15 +6,12 @@ use Rattle.links.proofs.geometry.Range.widened.Lts as lts
 use Rattle.length.proofs.floats.max.Reads as max-reads
 use Rattle.length.proofs.floats.min.Reads as min-reads
 
--- src/geometry.rt:196:18
 min-requires : tie.Need-min-requires
 min-requires c κs = search needs
 
--- src/geometry.rt:197:19
 max-requires : tie.Need-max-requires
 max-requires c κs = search needs
 
--- src/geometry.rt:192:5
 returns : tie.Need-returns
 returns c = simp (c .before .min .ensures, c .max .ensures)
 

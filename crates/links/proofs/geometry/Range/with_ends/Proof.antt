@@ -7,31 +7,24 @@ use Rattle.links.proofs.geometry.Point.dot.Reads as dot-reads
 use Rattle.links.proofs.geometry.Range.widened.Reads as widened-reads
 use Rattle.links.proofs.geometry.point_of.Reads as point-of-reads
 
--- src/geometry.rt:205:13
 point-of-requires : tie.Need-point-of-requires
 point-of-requires c κs = search needs
 
--- src/geometry.rt:206:13
 point-of-requires-2 : tie.Need-point-of-requires-2
 point-of-requires-2 c κs = search needs
 
--- src/geometry.rt:207:22
 dot-requires : tie.Need-dot-requires
 dot-requires c κs = search needs
 
--- src/geometry.rt:207:9
 widened-requires : tie.Need-widened-requires
 widened-requires c κs = search needs
 
--- src/geometry.rt:207:40
 dot-requires-2 : tie.Need-dot-requires-2
 dot-requires-2 c κs = search needs
 
--- src/geometry.rt:207:9
 widened-requires-2 : tie.Need-widened-requires-2
 widened-requires-2 c κs = search needs
 
--- src/geometry.rt:202:5
 returns : tie.Need-returns
 returns c = simp (c .widened2 .ensures, c .before .dot2 .ensures, c .before .before .widened .ensures, c .before .before .before .dot .ensures, c .before .before .before .before .point-of2 .ensures, c .before .before .before .before .before .point-of .ensures)
 

@@ -11,43 +11,33 @@ use Rattle.links.proofs.geometry.Point.towards.Reads as towards-reads
 use Rattle.links.proofs.geometry.cell_centre.Reads as cell-centre-reads
 use Rattle.links.proofs.link.Link.still.Reads as still-reads
 
--- src/link.rt:158:13
 cell-centre-requires : tie.Need-cell-centre-requires
 cell-centre-requires c κs = search needs
 
--- src/link.rt:163:13
 towards-requires : tie.Need-towards-requires
 towards-requires c κs = search needs
 
--- src/link.rt:172:13
 dot-requires : tie.Need-dot-requires
 dot-requires c κs = search needs
 
--- src/link.rt:173:13
 dot-requires-2 : tie.Need-dot-requires-2
 dot-requires-2 c κs = search needs
 
--- src/link.rt:175:9
 still-requires : tie.Need-still-requires
 still-requires c κs = search needs
 
--- src/link.rt:176:9
 min-requires : tie.Need-min-requires
 min-requires c κs = search needs
 
--- src/link.rt:177:9
 max-requires : tie.Need-max-requires
 max-requires c κs = search needs
 
--- src/link.rt:178:9
 min-requires-2 : tie.Need-min-requires-2
 min-requires-2 c κs = search needs
 
--- src/link.rt:179:9
 max-requires-2 : tie.Need-max-requires-2
 max-requires-2 c κs = search needs
 
--- src/link.rt:155:5
 returns : tie.Need-returns
 unfolding withCell
 returns c = simp (c .max2 .ensures, c .before .min2 .ensures, c .before .before .max .ensures, c .before .before .before .min .ensures, c .before .before .before .before .still .ensures, c .before .before .before .before .before .dot2 .ensures, c .before .before .before .before .before .before .dot .ensures, c .before .before .before .before .before .before .before .towards .ensures, c .before .before .before .before .before .before .before .before .cell-centre .ensures)

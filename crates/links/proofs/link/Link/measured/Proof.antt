@@ -8,23 +8,18 @@ use Rattle.links.proofs.link.Link.measured.Lts as lts
 use Rattle.links.proofs.link.Link.longitudinal_envelope.Reads as longitudinal-envelope-reads
 use Rattle.links.proofs.link.Link.transverse_envelope.Reads as transverse-envelope-reads
 
--- src/link.rt:217:13
 returns : tie.Need-returns
 returns c = no-cell _ _ (not-true _ (c .if1 .taken))
 
--- src/link.rt:219:13
 transverse-envelope-requires : tie.Need-transverse-envelope-requires
 transverse-envelope-requires c κs = search needs
 
--- src/link.rt:220:13
 longitudinal-envelope-requires : tie.Need-longitudinal-envelope-requires
 longitudinal-envelope-requires c κs = search needs
 
--- src/link.rt:213:5
 returns-2 : tie.Need-returns-2
 returns-2 c = within-both _ _ (not-false _ (c .before .before .before .before .before .before .if1 .left)) (c .before .before .before .before .before .transverse-envelope .ensures) (c .before .before .before .before .longitudinal-envelope .ensures) (c .if2 .taken)
 
--- src/link.rt:213:5
 returns-3 : tie.Need-returns-3
 returns-3 c = beyond-one _ _ (not-false _ (c .before .before .before .before .before .before .if1 .left)) (c .before .before .before .before .before .transverse-envelope .ensures) (c .before .before .before .before .longitudinal-envelope .ensures) (c .if2 .left)
 

@@ -6,19 +6,15 @@ use Rattle.links.proofs.link.Link.stays.Lts as lts
 use Rattle.length.proofs.floats.max.Reads as max-reads
 use Rattle.links.proofs.link.inside_on.Reads as inside-on-reads
 
--- src/link.rt:139:13
 max-requires : tie.Need-max-requires
 max-requires c κs = search needs
 
--- src/link.rt:140:9
 inside-on-requires : tie.Need-inside-on-requires
 inside-on-requires c κs = search needs
 
--- src/link.rt:140:48
 inside-on-requires-2 : tie.Need-inside-on-requires-2
 inside-on-requires-2 c κs = search needs
 
--- src/link.rt:120:5
 returns : tie.Need-returns
 returns c = simp (c .inside-on2 .ensures, c .before .inside-on .ensures, c .before .before .max .ensures)
 

@@ -6,15 +6,12 @@ use Rattle.links.proofs.link.Link.still.Reads as reads
 use Rattle.links.proofs.link.Link.still.Lts as lts
 use Rattle.links.proofs.link.Link.stays.Reads as stays-reads
 
--- src/link.rt:148:13
 stays-requires : tie.Need-stays-requires
 stays-requires c κs = search needs
 
--- src/link.rt:144:5
 returns : tie.Need-returns
 returns c = and-taken (c .before .if1 .taken) (c .stays .ensures)
 
--- src/link.rt:144:5
 returns-2 : tie.Need-returns-2
 returns-2 c = and-left _ (c .if1 .left)
 

@@ -13,51 +13,39 @@ use Rattle.links.proofs.parallel.span_length.Reads as span-length-reads
 use Rattle.links.proofs.parallel.span_vector.Reads as span-vector-reads
 use Rattle.position.proofs.Span.canonical.Reads as canonical-reads
 
--- src/parallel.rt:65:13
 canonical-requires : tie.Need-canonical-requires
 canonical-requires c κs = search needs
 
--- src/parallel.rt:66:13
 canonical-requires-2 : tie.Need-canonical-requires-2
 canonical-requires-2 c κs = search needs
 
--- src/parallel.rt:67:19
 span-vector-requires : tie.Need-span-vector-requires
 span-vector-requires c κs = search needs
 
--- src/parallel.rt:67:38
 span-vector-requires-2 : tie.Need-span-vector-requires-2
 span-vector-requires-2 c κs = search needs
 
--- src/parallel.rt:67:13
 dot-requires : tie.Need-dot-requires
 dot-requires c κs = search needs
 
--- src/parallel.rt:68:12
 abs-requires : tie.Need-abs-requires
 abs-requires c κs = search needs
 
--- src/parallel.rt:68:23
 span-length-requires : tie.Need-span-length-requires
 span-length-requires c κs = bounded-as (c .before .before .before .before .before .canonical .ensures) (canonical-bounded (c .before .before .before .before .before .before .pre .0))
 
--- src/parallel.rt:68:40
 span-length-requires-2 : tie.Need-span-length-requires-2
 span-length-requires-2 c κs = bounded-as (c .before .before .before .before .before .canonical2 .ensures) (canonical-bounded (c .before .before .before .before .before .before .before .pre .1))
 
--- src/parallel.rt:69:13
 returns : tie.Need-returns
 returns c = at-an-angle _ _ _ (c .if1 .taken) (simp (c .before .before .span-length2 .ensures, c .before .before .before .span-length .ensures, c .before .before .before .before .abs .ensures, c .before .before .before .before .before .dot .ensures, c .before .before .before .before .before .before .span-vector2 .ensures, c .before .before .before .before .before .before .before .span-vector .ensures, c .before .before .before .before .before .before .before .before .canonical2 .ensures, c .before .before .before .before .before .before .before .before .before .canonical .ensures))
 
--- src/parallel.rt:71:30
 facing-requires : tie.Need-facing-requires
 facing-requires c κs = search needs
 
--- src/parallel.rt:71:9
 near-ends-requires : tie.Need-near-ends-requires
 near-ends-requires c κs = (bounded-as (c .before .before .before .before .before .before .before .before .before .before .canonical .ensures) (canonical-bounded (c .before .before .before .before .before .before .before .before .before .before .before .pre .0)), bounded-as (c .facing .ensures) (facing-bounded _ (bounded-as (c .before .before .before .before .before .before .before .before .before .canonical2 .ensures) (canonical-bounded (c .before .before .before .before .before .before .before .before .before .before .before .pre .1)))))
 
--- src/parallel.rt:61:5
 returns-2 : tie.Need-returns-2
 returns-2 c = alike _ _ _ (c .before .before .if1 .left) (simp (c .before .before .before .before .span-length2 .ensures, c .before .before .before .before .before .span-length .ensures, c .before .before .before .before .before .before .abs .ensures, c .before .before .before .before .before .before .before .dot .ensures, c .before .before .before .before .before .before .before .before .span-vector2 .ensures, c .before .before .before .before .before .before .before .before .before .span-vector .ensures, c .before .before .before .before .before .before .before .before .before .before .canonical2 .ensures, c .before .before .before .before .before .before .before .before .before .before .before .canonical .ensures)) (simp (c .near-ends .ensures, c .before .facing .ensures, c .before .before .before .before .before .before .before .dot .ensures, c .before .before .before .before .before .before .before .before .span-vector2 .ensures, c .before .before .before .before .before .before .before .before .before .span-vector .ensures, c .before .before .before .before .before .before .before .before .before .before .canonical2 .ensures, c .before .before .before .before .before .before .before .before .before .before .before .canonical .ensures))
 

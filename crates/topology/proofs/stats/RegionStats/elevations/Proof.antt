@@ -7,35 +7,27 @@ use Rattle.topology.proofs.stats.RegionStats.elevations.Reads as reads
 use Rattle.topology.proofs.stats.RegionStats.elevations.Lts as lts
 use Rattle.topology.proofs.stats.one.Reads as one-reads
 
--- src/stats.rt:90:9
 one-requires : tie.Need-one-requires
 one-requires c κs = search needs
 
--- src/stats.rt:90:33
 one-requires-2 : tie.Need-one-requires-2
 one-requires-2 c κs = search needs
 
--- src/stats.rt:90:9
 add-result : tie.Need-add-result
 add-result c = search needs
 
--- src/stats.rt:90:57
 one-requires-3 : tie.Need-one-requires-3
 one-requires-3 c κs = search needs
 
--- src/stats.rt:90:9
 add-result-2 : tie.Need-add-result-2
 add-result-2 c = search needs
 
--- src/stats.rt:90:81
 one-requires-4 : tie.Need-one-requires-4
 one-requires-4 c κs = search needs
 
--- src/stats.rt:90:9
 add-result-3 : tie.Need-add-result-3
 add-result-3 c = search needs
 
--- src/stats.rt:87:5
 returns : tie.Need-returns
 unfolding elevations
 returns c = simp (c .one4 .ensures .0, c .before .before .one3 .ensures .0, c .before .before .before .before .one2 .ensures .0, c .before .before .before .before .before .before .one .ensures .0) (four-levels (c .before .before .before .before .before .before .before .before .args .self .«level_0») (c .before .before .before .before .before .before .before .before .args .self .«level_1») (c .before .before .before .before .before .before .before .before .args .self .«level_2») (c .before .before .before .before .before .before .before .before .args .self .«level_3»))

@@ -5,7 +5,6 @@ use Rattle.topology.proofs.stats.RegionStats.none.Tie as tie
 use Rattle.topology.proofs.stats.RegionStats.none.Reads as reads
 use Rattle.topology.proofs.stats.RegionStats.none.Lts as lts
 
--- src/stats.rt:49:5
 returns : tie.Need-returns
 unfolding statsAfter
 returns c = record { after = λ g. refl }

@@ -9,83 +9,63 @@ use Rattle.topology.proofs.stats.greater.Reads as greater-reads
 use Rattle.topology.proofs.stats.lesser.Reads as lesser-reads
 use Rattle.topology.proofs.stats.one.Reads as one-reads
 
--- src/stats.rt:73:20
 add-t7 : tie.Need-add-t7
 add-t7 c = search needs
 
--- src/stats.rt:74:51
 mul-lesser : tie.Need-mul-lesser
 mul-lesser c = search needs
 
--- src/stats.rt:74:20
 lesser-requires : tie.Need-lesser-requires
 lesser-requires c κs = search needs
 
--- src/stats.rt:75:51
 mul-lesser-2 : tie.Need-mul-lesser-2
 mul-lesser-2 c = search needs
 
--- src/stats.rt:75:20
 lesser-requires-2 : tie.Need-lesser-requires-2
 lesser-requires-2 c κs = search needs
 
--- src/stats.rt:76:40
 mul-greater : tie.Need-mul-greater
 mul-greater c = search needs
 
--- src/stats.rt:76:40
 add-greater : tie.Need-add-greater
 add-greater c = search needs
 
--- src/stats.rt:76:20
 greater-requires : tie.Need-greater-requires
 greater-requires c κs = search needs
 
--- src/stats.rt:77:40
 mul-greater-2 : tie.Need-mul-greater-2
 mul-greater-2 c = search needs
 
--- src/stats.rt:77:40
 add-greater-2 : tie.Need-add-greater-2
 add-greater-2 c = search needs
 
--- src/stats.rt:77:20
 greater-requires-2 : tie.Need-greater-requires-2
 greater-requires-2 c κs = search needs
 
--- src/stats.rt:79:37
 one-requires : tie.Need-one-requires
 one-requires c κs = search needs
 
--- src/stats.rt:79:22
 add-t23 : tie.Need-add-t23
 add-t23 c = search needs
 
--- src/stats.rt:80:37
 one-requires-2 : tie.Need-one-requires-2
 one-requires-2 c κs = search needs
 
--- src/stats.rt:80:22
 add-t26 : tie.Need-add-t26
 add-t26 c = search needs
 
--- src/stats.rt:81:37
 one-requires-3 : tie.Need-one-requires-3
 one-requires-3 c κs = search needs
 
--- src/stats.rt:81:22
 add-t29 : tie.Need-add-t29
 add-t29 c = search needs
 
--- src/stats.rt:82:37
 one-requires-4 : tie.Need-one-requires-4
 one-requires-4 c κs = search needs
 
--- src/stats.rt:82:22
 add-t32 : tie.Need-add-t32
 add-t32 c = omega (arith, c .before .before .before .before .before .before .before .before .before .before .before .before .before .before .pre .0 .fourth, c .before .one4 .ensures .1)
 
--- src/stats.rt:67:5
 returns : tie.Need-returns
 unfolding withCell
 returns c = simp (c .before .one4 .ensures .0, c .before .before .before .one3 .ensures .0, c .before .before .before .before .before .one2 .ensures .0, c .before .before .before .before .before .before .before .one .ensures .0, c .before .before .before .before .before .before .before .before .before .greater2 .ensures, c .before .before .before .before .before .before .before .before .before .before .greater .ensures, c .before .before .before .before .before .before .before .before .before .before .before .lesser2 .ensures, c .before .before .before .before .before .before .before .before .before .before .before .before .lesser .ensures)
