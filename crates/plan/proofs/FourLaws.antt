@@ -61,7 +61,7 @@ pub up-down : (j n : ℕ) → j < n → upFrom j (n - j) ≡ j ∷ upFrom (suc j
 unfolding upFrom
 up-down j n l = let e : n - j ≡ suc (n - suc j) = omega arith in ap (upFrom j) e
 
-up-none : (n : ℕ) → upFrom n (n - n) ≡ []
+pub up-none : (n : ℕ) → upFrom n (n - n) ≡ []
 unfolding upFrom
 up-none n = let e : n - n ≡ 0 = omega arith in ap (upFrom n) e
 

@@ -1,2 +1,5 @@
 pub mod FourLaws
 pub mod ArrayLaws
+pub mod ShapeLaws
+pub mod GroupLaws
+pub mod ValueLaws

@@ -3,7 +3,7 @@ ghost use mathlib.Core.Path.{_≡_};
 ghost use mathlib.Core.Bool.{cond};
 ghost use mathlib.Core.List.{[]};
 ghost use Prim.Native.Nat.{_<_};
-ghost use Rattle.plan.specs.Four.{held, pushed, slot, Below};
+ghost use Rattle.plan.specs.Four.{held, pushed, slot};
 
 pub struct Four {
     pub count: u32,
@@ -62,7 +62,7 @@ impl Four {
 
     // Number j, as an index.
     pub fn index(self, j: u32) -> usize
-        requires { ⌜ Below 256 self ⌝ }
+        requires { ⌜ slot self j < 256 ⌝ }
         ensures { λ r. ⌜ (r ≡ slot self j) × (r < 256) ⌝ }
     {
         self.get(j) as usize

@@ -2,3 +2,7 @@
 pub mod four; // the first four numbers of a list
 pub mod parts; // the connected parts of the chosen links
 pub mod gather; // the ranks and the links of a part
+pub mod path; // simple paths
+pub mod chain; // sums of centre distances
+pub mod alike; // members that are nearby and parallel
+pub mod retain; // the retained member

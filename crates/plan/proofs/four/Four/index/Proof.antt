@@ -5,7 +5,6 @@ use Prim.Native.Nat.{ℕ, zero, suc, _+_, _-_, _≤_, _<_}
 use native.Mathlib.Omega.{arith}
 use lib.Dec.{eqb}
 use lib.ListN.{length, getD, set}
-use Rattle.plan.proofs.FourLaws.{slot-below}
 use borrow.Author.Needs.{needs}
 use Rattle.plan.proofs.four.Four.index.Statement.{statement}
 use Rattle.plan.proofs.four.Four.index.Tie as tie
@@ -23,7 +22,7 @@ cast-result c = search needs
 
 -- src/four.rt:64:5
 returns : tie.Need-returns
-returns c = let e = c .get .ensures in (e, omega (arith, e, slot-below (c .before .args .self) (c .before .args .j) (c .before .pre)))
+returns c = let e = c .get .ensures in (e, omega (arith, e, c .before .pre))
 
 pub index-spec : {M : Type 1} → statement M
 index-spec = tie.close (tie.spec get-requires cast-result returns)

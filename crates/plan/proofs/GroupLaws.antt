@@ -1,0 +1,161 @@
+-- The rules on a group, by arrays.
+use mathlib.Core.Path.{_≡_, refl, sym, _∙_, ap, subst}
+use mathlib.Core.Bool.{Bool, true, false, cond, not, _&&_}
+use mathlib.Core.List.{List, [], _∷_, map, List·Memᴰ, List·Memᴰ·head, List·Memᴰ·tail, Permᴰ·symm}
+use Prim.Native.Nat.{ℕ, zero, suc, _<_, _≤_}
+use native.Mathlib.Omega.{arith}
+use borrow.Author.Tests.{eqb-true, eq-eqb}
+use lib.Dec.{eqb, leb}
+use lib.Ieee.{Float, binary64, le, ofBits}
+use lib.ListN.{length, getD, length-map}
+use Rattle.order.specs.Lists.{keep}
+use Rattle.order.specs.Sorting.{insert, sort}
+use Rattle.order.proofs.Bools.{by-test, and-parts, and-both}
+use Rattle.order.proofs.Keep.{keep-mem, keep-ext, keep-map}
+use Rattle.order.proofs.Members.{perm-mem, map-ext, getD-mem}
+use Rattle.order.proofs.Sort.{sort-perm}
+use Rattle.length.specs.Floats.{_⊕_}
+use Rattle.length.specs.Total.{totalLe}
+use Rattle.position.specs.declared.Span.{Span}
+use Rattle.grid.specs.Cells.{Grid}
+use Rattle.areas.specs.Spans.{spanIn}
+use Rattle.areas.specs.Assessments.{RegionPair}
+use Rattle.topology.specs.FullPair.{fullPair, otherRegion}
+use Rattle.topology.specs.Numbers.{pairOf}
+use Rattle.topology.specs.Listing.{Item}
+use Rattle.links.specs.Limits.{Limits}
+use Rattle.links.specs.Geometry.{centreDistance}
+use Rattle.links.specs.Parallel.{nearbyParallel}
+use Rattle.links.specs.Sums.{ascendingSum, distanceSum, noLater}
+use Rattle.groups.specs.Tests.{every}
+use Rattle.groups.specs.Listing.{endsAt, bitsAt}
+use Rattle.groups.specs.Regions.{assessAt}
+use Rattle.groups.specs.Links.{LinkAt, joins}
+use Rattle.groups.specs.Measuring.{passes}
+use Rattle.groups.specs.Groups.{Group}
+use Rattle.groups.specs.SimplePath.{linksAt, degree, endsOf, isPath, noLink, outerRegion, simplePath}
+use Rattle.groups.specs.Serial.{rankDistance, chainSum, endDistance, acceptsSerial}
+use Rattle.groups.specs.Flat.{alike, acceptsFlat, leastFlatSpans}
+use Rattle.groups.specs.Representative.{leastWidth, distanceTo, nearer, eligible, retained, widthAt}
+use Rattle.plan.specs.Arrays.{at, isOn, joinsAt, linkRow}
+use Rattle.plan.specs.Shape.{degreeIn, endsIn, regularIn, gapIn, chainIn, outerIn, pathIn, alikeIn, allAlikeIn, leastIn, sumIn, nearerIn, fineIn, eligibleIn, retainedIn}
+use Rattle.plan.specs.Told.{groupBy, Told, Passed, serialIn, flatIn}
+
+pub every-ext : {A : Type 0} (t u : A → Bool) (l : List A) → ((y : A) → List·Memᴰ y l → t y ≡ u y) → every t l ≡ every u l
+unfolding every
+every-ext t u [] f = refl
+every-ext t u (x ∷ xs) f =
+    let a : t x ≡ u x = f x (List·Memᴰ·head refl) in
+    let b : every t xs ≡ every u xs = every-ext t u xs (λ y m. f y (List·Memᴰ·tail m)) in
+    rw (a, b)
+
+every-map : {A B : Type 0} (f : A → B) (t : B → Bool) (u : A → Bool) (l : List A) → ((y : A) → List·Memᴰ y l → t (f y) ≡ u y) → every t (map f l) ≡ every u l
+unfolding every
+every-map f t u [] h = refl
+every-map f t u (x ∷ xs) h =
+    let a : t (f x) ≡ u x = h x (List·Memᴰ·head refl) in
+    let b : every t (map f xs) ≡ every u xs = every-map f t u xs (λ y m. h y (List·Memᴰ·tail m)) in
+    rw (a, b)
+
+map-both : {A B C : Type 0} (f : A → B) (h : B → C) (u : A → C) (l : List A) → ((y : A) → List·Memᴰ y l → h (f y) ≡ u y) → map h (map f l) ≡ map u l
+map-both f h u [] e = refl
+map-both f h u (x ∷ xs) e =
+    let a : h (f x) ≡ u x = e x (List·Memᴰ·head refl) in
+    let b : map h (map f xs) ≡ map u xs = map-both f h u xs (λ y m. e y (List·Memᴰ·tail m)) in
+    rw (a, b)
+
+-- the last test matters only where the fourth passes
+shaped : Bool → Bool → Bool → Bool → Bool → Bool → Bool
+shaped a b c d e f = ((a && b) && ((c && d) && e)) && f
+
+last-matters : (a b c d e f g : Bool) → (d ≡ true → f ≡ g) → shaped a b c d e f ≡ shaped a b c d e g
+last-matters a b c true e f g h = ap (shaped a b c true e) (h refl)
+last-matters false b c false e f g h = refl
+last-matters true false c false e f g h = refl
+last-matters true true false false e f g h = refl
+last-matters true true true false e f g h = refl
+
+module _ (regions firsts seconds rs js : List ℕ) where
+  abbrev a : Group
+  a = groupBy regions firsts seconds rs js
+
+  abbrev near : ℕ → List ℕ
+  near i = keep (joinsAt firsts seconds i) js
+
+  links-at-is : (i : ℕ) → linksAt a i ≡ map (linkRow regions firsts seconds) (near i)
+  unfolding linksAt
+  links-at-is i = keep-map (linkRow regions firsts seconds) (joins i) (joinsAt firsts seconds i) js (λ y m. refl)
+
+  degree-is : (i : ℕ) → degree a i ≡ degreeIn firsts seconds js i
+  degree-is i = ap (λ (l : List LinkAt). length l) (links-at-is i) ∙ length-map (near i) (linkRow regions firsts seconds)
+
+  pub ends-is : endsOf a ≡ endsIn firsts seconds rs js
+  unfolding endsOf endsIn
+  ends-is = keep-ext (λ i. eqb (degree a i) 1) (λ i. eqb (degreeIn firsts seconds js i) 1) rs (λ y m. ap (λ (d : ℕ). eqb d 1) (degree-is y))
+
+  regular-is : every (λ i. leb 1 (degree a i) && leb (degree a i) 2) rs ≡ regularIn firsts seconds rs js
+  unfolding regularIn
+  regular-is =
+      every-ext (λ i. leb 1 (degree a i) && leb (degree a i) 2) (λ i. leb 1 (degreeIn firsts seconds js i) && leb (degreeIn firsts seconds js i) 2) rs
+      (λ y m. ap (λ (d : ℕ). leb 1 d && leb d 2) (degree-is y))
+
+  -- an end is a rank of degree 1
+  pub end-in : (j : ℕ) → j < length (endsIn firsts seconds rs js) → List·Memᴰ (getD (endsIn firsts seconds rs js) j 0) rs × (degreeIn firsts seconds js (getD (endsIn firsts seconds rs js) j 0) ≡ 1)
+  unfolding endsIn
+  end-in j l =
+      let w = keep-mem (λ i. eqb (degreeIn firsts seconds js i) 1) rs (getD-mem (endsIn firsts seconds rs js) 0 j l) in
+      (w .0, eqb-true (degreeIn firsts seconds js (getD (endsIn firsts seconds rs js) j 0)) 1 (w .1))
+
+  first-region : (ks : List ℕ) → length ks ≡ 1 → getD (map (linkRow regions firsts seconds) ks) 0 noLink .region ≡ at regions (getD ks 0 0)
+  first-region [] e = absurd (omega arith)
+  first-region (k ∷ ks) e = refl
+
+  module _ {dirs : List ℕ} {g : Grid} {l : List Item} {n : ℕ} {own bits lowers highers : List ℕ} (told : Told dirs g l n own bits lowers highers) (inside : (i : ℕ) → List·Memᴰ i rs → i < n) where
+    outer-is : (i : ℕ) → i < n → degreeIn firsts seconds js i ≡ 1 → outerRegion dirs g l a i ≡ outerIn lowers highers regions firsts seconds js i
+    unfolding outerRegion outerIn
+    outer-is i h e =
+        ap (λ (p : RegionPair). otherRegion p (getD (linksAt a i) 0 noLink .region)) (told .pairs i h)
+        ∙ ap (λ (r : ℕ). otherRegion (pairOf (at lowers i) (at highers i)) r) (ap (λ (ks : List LinkAt). getD ks 0 noLink .region) (links-at-is i) ∙ first-region (near i) e)
+
+    outer-at : (j : ℕ) → j < length (endsIn firsts seconds rs js) → outerRegion dirs g l a (getD (endsOf a) j 0) ≡ outerIn lowers highers regions firsts seconds js (getD (endsIn firsts seconds rs js) j 0)
+    outer-at j h =
+        let w = end-in j h in
+        ap (λ (es : List ℕ). outerRegion dirs g l a (getD es j 0)) ends-is ∙ outer-is (getD (endsIn firsts seconds rs js) j 0) (inside _ (w .0)) (w .1)
+
+    pub path-is : (limits : Limits) (least : ℕ) → simplePath limits dirs g l least a ≡ pathIn lowers highers regions firsts seconds least (limits .mostSpans) rs js
+    unfolding simplePath isPath pathIn
+    path-is limits least = ends ∙ (tested ∙ last-matters _ _ _ _ _ _ _ outers)
+      where
+        one : ℕ → ℕ
+        one j = outerRegion dirs g l a (getD (endsOf a) j 0)
+
+        other : ℕ → ℕ
+        other j = outerIn lowers highers regions firsts seconds js (getD (endsIn firsts seconds rs js) j 0)
+
+        low : Bool
+        low = leb least (length rs)
+
+        high : Bool
+        high = leb (length rs) (limits .mostSpans)
+
+        regular : Bool
+        regular = every (λ i. leb 1 (degree a i) && leb (degree a i) 2) rs
+
+        two : Bool
+        two = eqb (length (endsIn firsts seconds rs js)) 2
+
+        ends : shaped low high (eqb (suc (length (map (linkRow regions firsts seconds) js))) (length rs)) (eqb (length (endsOf a)) 2) regular (not (eqb (one 0) (one 1)))
+            ≡ shaped low high (eqb (suc (length js)) (length rs)) two regular (not (eqb (one 0) (one 1)))
+        ends = ap (λ (m : ℕ). shaped low high (eqb (suc m) (length rs)) (eqb (length (endsOf a)) 2) regular (not (eqb (one 0) (one 1)))) (length-map js (linkRow regions firsts seconds))
+            ∙ ap (λ (es : List ℕ). shaped low high (eqb (suc (length js)) (length rs)) (eqb (length es) 2) regular (not (eqb (one 0) (one 1)))) ends-is
+
+        tested : shaped low high (eqb (suc (length js)) (length rs)) two regular (not (eqb (one 0) (one 1)))
+            ≡ shaped low high (eqb (suc (length js)) (length rs)) two (regularIn firsts seconds rs js) (not (eqb (one 0) (one 1)))
+        tested = ap (λ (b : Bool). shaped low high (eqb (suc (length js)) (length rs)) two b (not (eqb (one 0) (one 1)))) regular-is
+
+        outers : two ≡ true → not (eqb (one 0) (one 1)) ≡ not (eqb (other 0) (other 1))
+        outers e =
+            let z = eqb-true (length (endsIn firsts seconds rs js)) 2 e in
+            let p : one 0 ≡ other 0 = outer-at 0 (omega arith) in
+            let q : one 1 ≡ other 1 = outer-at 1 (omega arith) in
+            rw (p, q)

@@ -1,0 +1,63 @@
+use borrow.Author.Needs.{needs}
+use Rattle.plan.proofs.path.outer.Statement.{statement}
+use Rattle.plan.proofs.path.outer.Tie as tie
+use Rattle.plan.proofs.path.outer.Reads as reads
+use Rattle.plan.proofs.path.outer.Lts as lts
+use Rattle.plan.proofs.four.Four.index.Reads as index-reads
+use Rattle.plan.proofs.path.links_at.Reads as links-at-reads
+use Rattle.topology.proofs.pairs.other_region.Reads as other-region-reads
+
+-- src/path.rt:97:9
+links-at-requires : tie.Need-links-at-requires
+links-at-requires c κs = search needs
+
+-- src/path.rt:99:18
+mul-other-region : tie.Need-mul-other-region
+mul-other-region c = search needs
+
+-- src/path.rt:99:18
+element-copy-out-other-region : tie.Need-element-copy-out-other-region
+element-copy-out-other-region c = search needs
+
+-- src/path.rt:99:30
+mul-other-region-2 : tie.Need-mul-other-region-2
+mul-other-region-2 c = search needs
+
+-- src/path.rt:99:30
+element-copy-out-other-region-2 : tie.Need-element-copy-out-other-region-2
+element-copy-out-other-region-2 c = search needs
+
+-- src/path.rt:99:51
+index-requires : tie.Need-index-requires
+index-requires c κs = ?
+
+-- src/path.rt:99:43
+mul-other-region-3 : tie.Need-mul-other-region-3
+mul-other-region-3 c = search needs
+
+-- src/path.rt:99:43
+element-copy-out-other-region-3 : tie.Need-element-copy-out-other-region-3
+element-copy-out-other-region-3 c = search needs
+
+-- src/path.rt:99:5
+other-region-requires : tie.Need-other-region-requires
+other-region-requires c κs = search needs
+
+-- src/path.rt:85:1
+returns : tie.Need-returns
+returns c = ?
+
+pub outer-spec : {M : Type 1} → statement M
+outer-spec =
+    tie.close
+    (tie.spec
+    links-at-requires
+    mul-other-region
+    element-copy-out-other-region
+    mul-other-region-2
+    element-copy-out-other-region-2
+    index-requires
+    mul-other-region-3
+    element-copy-out-other-region-3
+    other-region-requires
+    returns)
