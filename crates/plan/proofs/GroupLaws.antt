@@ -65,7 +65,7 @@ map-both f h u (x ∷ xs) e =
     rw (a, b)
 
 -- the last test matters only where the fourth passes
-shaped : Bool → Bool → Bool → Bool → Bool → Bool → Bool
+abbrev shaped : Bool → Bool → Bool → Bool → Bool → Bool → Bool
 shaped a b c d e f = ((a && b) && ((c && d) && e)) && f
 
 last-matters : (a b c d e f g : Bool) → (d ≡ true → f ≡ g) → shaped a b c d e f ≡ shaped a b c d e g

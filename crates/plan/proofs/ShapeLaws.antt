@@ -43,7 +43,7 @@ module _ (P : ℕ → Type 0) where
   one-of false false true h i j k = j
   one-of false false false h i j k = k
 
-  at-each : (xs : List ℕ) (j : ℕ) → ((x : ℕ) → List·Memᴰ x xs → P x) → P 0 → P (getD xs j 0)
+  pub at-each : (xs : List ℕ) (j : ℕ) → ((x : ℕ) → List·Memᴰ x xs → P x) → P 0 → P (getD xs j 0)
   at-each [] j f z = z
   at-each (x ∷ xs) zero f z = f x (List·Memᴰ·head refl)
   at-each (x ∷ xs) (suc j) f z = at-each xs j (λ y m. f y (List·Memᴰ·tail m)) z
@@ -95,6 +95,11 @@ module _ (le : ℕ → ℕ → Bool) where
       choose : (b : Bool) → 0 < length (cond b (x ∷ y ∷ ys) (y ∷ insert le x ys))
       choose true = omega arith
       choose false = omega arith
+
+  pub sort-some : (l : List ℕ) → 0 < length l → 0 < length (sort le l)
+  unfolding sort
+  sort-some [] h = absurd (omega arith)
+  sort-some (x ∷ xs) h = insert-some x (sort le xs)
 
   first-insert : (x : ℕ) (s : List ℕ) → 0 < length s → getD (insert le x s) 0 0 ≡ cond (le x (getD s 0 0)) x (getD s 0 0)
   unfolding insert

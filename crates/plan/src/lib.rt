@@ -6,3 +6,4 @@ pub mod path; // simple paths
 pub mod chain; // sums of centre distances
 pub mod alike; // members that are nearby and parallel
 pub mod retain; // the retained member
+pub mod accept; // the rules on a group

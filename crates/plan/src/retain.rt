@@ -92,7 +92,7 @@ fn nearer(own: &[u32; 1024], ranks: Four, i: usize, j: usize) -> usize
 // Of some ranks the one with the least sum of distances to all the ranks, the earliest of such.
 fn nearest(own: &[u32; 1024], ranks: Four, among: Four) -> usize
     requires { ⌜ (1 ≤ ranks .count) × (ranks .count ≤ 4) × (1 ≤ among .count) × Ranks (now own) ranks × Ranks (now own) among ⌝ }
-    ensures { λ r. ⌜ r ≡ getD (sort (nearerIn (now (own .entry)) (listed ranks)) (listed among)) 0 0 ⌝ }
+    ensures { λ r. ⌜ (r ≡ getD (sort (nearerIn (now (own .entry)) (listed ranks)) (listed among)) 0 0) × (r < 256) ⌝ }
 {
     let mut j = among.count - 1;
     let mut best = among.index(j);
@@ -106,7 +106,7 @@ fn nearest(own: &[u32; 1024], ranks: Four, among: Four) -> usize
 // The retained rank of a group.
 pub fn retained(limits: Limits, own: &[u32; 1024], bits: &[u64; 256], ranks: Four) -> usize
     requires { ⌜ (1 ≤ ranks .count) × (ranks .count ≤ 4) × Ranks (now own) ranks × Widths (now bits) ranks × RankFits (now own) 0 ⌝ }
-    ensures { λ r. ⌜ r ≡ retainedIn (limitsOf limits) (now (own .entry)) (now (bits .entry)) (listed ranks) ⌝ }
+    ensures { λ r. ⌜ (r ≡ retainedIn (limitsOf limits) (now (own .entry)) (now (bits .entry)) (listed ranks)) × (r < 256) ⌝ }
 {
     let least = width_of(least_bits(bits, ranks));
     let among = eligible(limits, bits, least, ranks);

@@ -59,7 +59,7 @@ loop-again c = (first-next (nearerIn (c .before .before .before .before .before 
 
 -- src/retain.rt:93:1
 returns : tie.Need-returns Inv-loop μ-loop
-returns c = first-listed (nearerIn (c .before .before .before .before .args .own .now) (listed (c .before .before .before .before .args .ranks))) (c .before .before .before .before .args .among) (c .before .loop .inv .0) (omega (arith, c .loop-test .left))
+returns c = (first-listed (nearerIn (c .before .before .before .before .args .own .now) (listed (c .before .before .before .before .args .ranks))) (c .before .before .before .before .args .among) (c .before .loop .inv .0) (omega (arith, c .loop-test .left)), c .before .loop .inv .1 .below)
 
 pub nearest-spec : {M : Type 1} → statement M
 nearest-spec =
