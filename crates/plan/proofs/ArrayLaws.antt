@@ -39,6 +39,9 @@ filled-as p e = record { size = p .size; each = λ i l. p .each i l ∙ e i l }
 pub filled-all : {f : ℕ → ℕ} {k : ℕ} {xs : List ℕ} → Filled f k xs → 256 ≤ k → Filled f 256 xs
 filled-all p n = record { size = p .size; each = λ i l. p .each i (omega arith) }
 
+pub filled-upto : {f : ℕ → ℕ} {k n : ℕ} {xs : List ℕ} → Filled f k xs → n ≤ k → Filled f n xs
+filled-upto p h = record { size = p .size; each = λ i l. p .each i (omega arith) }
+
 -- an array whose first i numbers are changed
 pub record Mapped (g : ℕ → ℕ) (i : ℕ) (xs ys : List ℕ) : Type 0 where
   pub done : Filled (λ j. g (at xs j)) i ys

@@ -3,3 +3,4 @@ pub mod ArrayLaws
 pub mod ShapeLaws
 pub mod GroupLaws
 pub mod ValueLaws
+pub mod AcceptLaws

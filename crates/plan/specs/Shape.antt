@@ -88,3 +88,11 @@ eligibleIn limits bits rs = keep (fineIn limits bits (ofBits binary64 (leastIn b
 unfoldable pub retainedIn : Limits → List ℕ → List ℕ → List ℕ → ℕ
 unfolding eligibleIn nearerIn sort
 retainedIn limits own bits rs = getD (sort (nearerIn own rs) (eligibleIn limits bits rs)) 0 (getD rs 0 0)
+
+-- both ranks are marked
+abbrev pub bothOn : List ℕ → ℕ → ℕ → Bool
+bothOn marks i j = isOn marks i && isOn marks j
+
+-- the link is marked, no group has its ranks, and the first is alike to the second
+abbrev pub flatLinkIn : Limits → List ℕ → List ℕ → ℕ → ℕ → ℕ → Bool
+flatLinkIn limits own into flat i j = eqb flat 1 && ((eqb (at into i) 256 && eqb (at into j) 256) && nearbyParallel limits (spanIn own i) (spanIn own j))

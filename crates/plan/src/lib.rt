@@ -7,3 +7,4 @@ pub mod chain; // sums of centre distances
 pub mod alike; // members that are nearby and parallel
 pub mod retain; // the retained member
 pub mod accept; // the rules on a group
+pub mod select; // which links may make groups
