@@ -4,3 +4,4 @@ pub mod ShapeLaws
 pub mod GroupLaws
 pub mod ValueLaws
 pub mod AcceptLaws
+pub mod JudgeLaws

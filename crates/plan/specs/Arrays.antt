@@ -61,3 +61,10 @@ linkIn chosen firsts parts c k = isOn chosen k && eqb (at parts (at firsts k)) c
 pub record Filled (f : ℕ → ℕ) (n : ℕ) (xs : List ℕ) : Type 0 where
   pub size : length xs ≡ 256
   pub each : (i : ℕ) → i < n → at xs i ≡ f i
+
+-- the ranks and the links of part c
+abbrev pub ranksIn : ℕ → List ℕ → List ℕ → ℕ → List ℕ
+ranksIn n joined parts c = keep (inPart joined parts c) (upFrom 0 n)
+
+abbrev pub numbersIn : ℕ → List ℕ → List ℕ → List ℕ → ℕ → List ℕ
+numbersIn links chosen firsts parts c = keep (linkIn chosen firsts parts c) (upFrom 0 links)

@@ -5,7 +5,7 @@ use Rattle.areas.specs.Spans.{spanIn}
 use Rattle.links.specs.Held.{SpanBounded}
 use Rattle.plan.specs.declared.four.Four.{Four}
 use Rattle.plan.specs.Four.{slot}
-use Rattle.plan.specs.Arrays.{at}
+use Rattle.plan.specs.Arrays.{at, Ranked}
 
 pub record RankFits (own : List ℕ) (i : ℕ) : Type 0 where
   pub below : i < 256
@@ -32,3 +32,12 @@ Widths bits f = (j : ℕ) → WidthFits bits (slot f j)
 
 abbrev pub Slots : ℕ → Four → Type 0
 Slots n f = (j : ℕ) → slot f j < n
+
+-- n ranks and their links, at least one of each
+pub record Safe (n : ℕ) (own bits firsts seconds : List ℕ) (links : ℕ) : Type 0 where
+  pub few : n ≤ 256
+  pub some : 0 < n
+  pub linked : 0 < links
+  pub ranked : Ranked n firsts seconds links
+  pub spans : (i : ℕ) → i < n → SpanBounded (spanIn own i)
+  pub widths : (i : ℕ) → i < n → at bits i ≤ 0x40D0_0000_0000_0000

@@ -8,3 +8,4 @@ pub mod alike; // members that are nearby and parallel
 pub mod retain; // the retained member
 pub mod accept; // the rules on a group
 pub mod select; // which links may make groups
+pub mod judge; // what becomes of the group that a part makes

@@ -1,3 +1,11 @@
+use mathlib.Core.Path.{_≡_, refl, sym, _∙_, ap}
+use mathlib.Core.Bool.{Bool, cond, _&&_, _||_}
+use mathlib.Core.List.{List, [], _∷_}
+use Prim.Native.Nat.{ℕ, zero, suc, _+_, _-_, _≤_, _<_}
+use native.Mathlib.Omega.{arith}
+use lib.Dec.{eqb}
+use lib.ListN.{length, getD, set}
+use Rattle.plan.proofs.ValueLaws.{both}
 use borrow.Author.Needs.{needs}
 use Rattle.plan.proofs.select.is_flat_link.Statement.{statement}
 use Rattle.plan.proofs.select.is_flat_link.Tie as tie
@@ -20,7 +28,7 @@ alike-requires c κs = search needs
 
 -- src/select.rt:55:1
 returns : tie.Need-returns
-returns c = ?
+returns c = ap (λ (t : Bool). eqb (c .before .before .before .args .flat) 1 && t) (both _&&_ (both _&&_ (c .before .before .is-free .ensures) (c .before .is-free2 .ensures)) (c .alike .ensures))
 
 pub is-flat-link-spec : {M : Type 1} → statement M
 is-flat-link-spec = tie.close (tie.spec is-free-requires is-free-requires-2 alike-requires returns)

@@ -1,3 +1,18 @@
+use mathlib.Core.Path.{_≡_, refl, sym, _∙_, ap}
+use mathlib.Core.Bool.{Bool, cond, _&&_, _||_}
+use mathlib.Core.List.{List, [], _∷_}
+use Prim.Native.Nat.{ℕ, zero, suc, _+_, _-_, _≤_, _<_}
+use native.Mathlib.Omega.{arith}
+use lib.Dec.{eqb}
+use lib.ListN.{length, getD, set}
+use borrow.Author.Needs.{needs}
+use mathlib.Core.Path.{subst}
+use Rattle.links.specs.HeldLimits.{limitsOf}
+use Rattle.plan.specs.Arrays.{at, Filled}
+use Rattle.plan.specs.Shape.{flatLinkIn}
+use Rattle.plan.specs.Fitting.{RankFits}
+use Rattle.plan.proofs.ArrayLaws.{filled-none, filled-next, filled-upto}
+use Rattle.plan.proofs.ValueLaws.{both}
 use Rattle.plan.proofs.select.select_flat.Statement.{statement}
 use Rattle.plan.proofs.select.select_flat.Tie as tie
 use Rattle.plan.proofs.select.select_flat.Reads as reads
@@ -7,70 +22,70 @@ use Rattle.plan.proofs.select.is_flat_link.Reads as is-flat-link-reads
 use Rattle.plan.proofs.select.mark.Reads as mark-reads
 
 abbrev Inv-loop : tie.InvT-loop
-Inv-loop limits own flat into firsts seconds links chosen₀ k₀ chosen k = ?
+Inv-loop limits own flat into firsts seconds links chosen₀ k₀ chosen k = (k ≤ links) × Filled (λ j. cond (flatLinkIn (limitsOf limits) own into (at flat j) (at firsts j) (at seconds j)) 1 0) k chosen
 
 abbrev μ-loop : tie.MeasureT-loop
-μ-loop limits own flat into firsts seconds links chosen₀ k₀ chosen k = ?
+μ-loop limits own flat into firsts seconds links chosen₀ k₀ chosen k = links - k
 
 -- src/select.rt:79:5
 loop-holds : tie.Need-loop-holds Inv-loop μ-loop
-loop-holds c = ?
+loop-holds c = (omega arith, filled-none (c .pre .0))
 
 -- src/select.rt:80:52
 element-copy-out-is-flat-link : tie.Need-element-copy-out-is-flat-link Inv-loop μ-loop
-element-copy-out-is-flat-link c = ?
+element-copy-out-is-flat-link c = search needs
 
 -- src/select.rt:80:73
 mul-index : tie.Need-mul-index Inv-loop μ-loop
-mul-index c = ?
+mul-index c = search needs
 
 -- src/select.rt:80:73
 element-copy-out-index : tie.Need-element-copy-out-index Inv-loop μ-loop
-element-copy-out-index c = ?
+element-copy-out-index c = search needs
 
 -- src/select.rt:80:67
 index-requires : tie.Need-index-requires Inv-loop μ-loop
-index-requires c κs = ?
+index-requires c κs = search needs
 
 -- src/select.rt:80:91
 mul-index-2 : tie.Need-mul-index-2 Inv-loop μ-loop
-mul-index-2 c = ?
+mul-index-2 c = search needs
 
 -- src/select.rt:80:91
 element-copy-out-index-2 : tie.Need-element-copy-out-index-2 Inv-loop μ-loop
-element-copy-out-index-2 c = ?
+element-copy-out-index-2 c = search needs
 
 -- src/select.rt:80:85
 index-requires-2 : tie.Need-index-requires-2 Inv-loop μ-loop
-index-requires-2 c κs = ?
+index-requires-2 c κs = search needs
 
 -- src/select.rt:80:26
 is-flat-link-requires : tie.Need-is-flat-link-requires Inv-loop μ-loop
-is-flat-link-requires c κs = ?
+is-flat-link-requires c κs = (subst (RankFits (c .before .before .before .before .before .before .before .args .own .now)) (sym (c .before .before .index .ensures)) (c .before .before .before .before .before .before .before .pre .2 (c .before .before .before .before .before .before .loop .k) (c .before .before .before .before .before .loop-test .taken) .first), subst (RankFits (c .before .before .before .before .before .before .before .args .own .now)) (sym (c .index2 .ensures)) (c .before .before .before .before .before .before .before .pre .2 (c .before .before .before .before .before .before .loop .k) (c .before .before .before .before .before .loop-test .taken) .second))
 
 -- src/select.rt:80:21
 mark-requires : tie.Need-mark-requires Inv-loop μ-loop
-mark-requires c κs = ?
+mark-requires c κs = search needs
 
 -- src/select.rt:80:9
 element-write-chosen : tie.Need-element-write-chosen Inv-loop μ-loop
-element-write-chosen c = ?
+element-write-chosen c = search needs
 
 -- src/select.rt:81:9
 add-k : tie.Need-add-k Inv-loop μ-loop
-add-k c = ?
+add-k c = search needs
 
 -- src/select.rt:79:5
 loop-less : tie.Need-loop-less Inv-loop μ-loop
-loop-less c = ?
+loop-less c = search needs
 
 -- src/select.rt:79:5
 loop-again : tie.Need-loop-again Inv-loop μ-loop
-loop-again c = ?
+loop-again c = (omega (arith, c .before .before .before .before .before .before .before .loop-test .taken), filled-next (c .mark .result) (c .before .before .before .before .before .before .before .before .loop .inv .1) (omega (arith, c .before .before .before .before .before .before .before .loop-test .taken, c .before .before .before .before .before .before .before .before .before .pre .1)) (c .mark .ensures ∙ ap (λ (t : Bool). cond t 1 0) (c .before .is-flat-link .ensures ∙ both (flatLinkIn (limitsOf (c .before .before .before .before .before .before .before .before .before .args .limits)) (c .before .before .before .before .before .before .before .before .before .args .own .now) (c .before .before .before .before .before .before .before .before .before .args .into .now) (at (c .before .before .before .before .before .before .before .before .before .args .flat .now) (c .before .before .before .before .before .before .before .before .loop .k))) (c .before .before .before .before .index .ensures) (c .before .before .index2 .ensures))))
 
 -- src/select.rt:65:1
 returns : tie.Need-returns Inv-loop μ-loop
-returns c = ?
+returns c = filled-upto (c .before .loop .inv .1) (c .loop-test .left)
 
 pub select-flat-spec : {M : Type 1} → statement M
 select-flat-spec =
