@@ -1,15 +1,14 @@
 -- The tests of a group, put together.
-use mathlib.Core.Path.{_≡_, refl, sym, _∙_, ap, subst}
+use mathlib.Core.Path.{_≡_, sym, _∙_, ap}
 use mathlib.Core.Bool.{Bool, true, false, not, _&&_}
 use mathlib.Core.List.{List}
-use Prim.Native.Nat.{ℕ, suc, _+_, _≤_, _<_}
-use native.Mathlib.Omega.{arith}
+use Prim.Native.Nat.{ℕ, suc, _+_, _≤_}
 use native.Mathlib.Numerals.{add-one}
 use borrow.Author.Tests.{eqb-true, leb-true, not-true, not-false}
 use lib.Dec.{eqb, leb}
 use lib.Ieee.{Float, le}
 use lib.ListN.{length, getD}
-use Rattle.order.proofs.Bools.{and-parts, and-both}
+use Rattle.order.proofs.Bools.{and-parts}
 use Rattle.areas.specs.Spans.{spanIn}
 use Rattle.links.specs.Limits.{Limits}
 use Rattle.links.specs.Geometry.{centreDistance}

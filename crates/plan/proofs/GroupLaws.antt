@@ -1,16 +1,15 @@
 -- The rules on a group, by arrays.
-use mathlib.Core.Path.{_≡_, refl, sym, _∙_, ap, subst}
-use mathlib.Core.Bool.{Bool, true, false, cond, not, _&&_}
+use mathlib.Core.Path.{_≡_, refl, sym, _∙_, ap}
+use mathlib.Core.Bool.{Bool, true, false, not, _&&_}
 use mathlib.Core.List.{List, [], _∷_, map, List·Memᴰ, List·Memᴰ·head, List·Memᴰ·tail, Permᴰ·symm}
-use Prim.Native.Nat.{ℕ, zero, suc, _<_, _≤_}
+use Prim.Native.Nat.{ℕ, suc, _<_}
 use native.Mathlib.Omega.{arith}
-use borrow.Author.Tests.{eqb-true, eq-eqb}
+use borrow.Author.Tests.{eqb-true}
 use lib.Dec.{eqb, leb}
 use lib.Ieee.{Float, binary64, le, ofBits}
 use lib.ListN.{length, getD, length-map}
 use Rattle.order.specs.Lists.{keep}
 use Rattle.order.specs.Sorting.{insert, sort}
-use Rattle.order.proofs.Bools.{by-test, and-parts, and-both}
 use Rattle.order.proofs.Keep.{keep-mem, keep-ext, keep-map}
 use Rattle.order.proofs.Members.{perm-mem, map-ext, getD-mem}
 use Rattle.order.proofs.Sort.{sort-perm}
@@ -20,7 +19,7 @@ use Rattle.position.specs.declared.Span.{Span}
 use Rattle.grid.specs.Cells.{Grid}
 use Rattle.areas.specs.Spans.{spanIn}
 use Rattle.areas.specs.Assessments.{RegionPair}
-use Rattle.topology.specs.FullPair.{fullPair, otherRegion}
+use Rattle.topology.specs.FullPair.{otherRegion}
 use Rattle.topology.specs.Numbers.{pairOf}
 use Rattle.topology.specs.Listing.{Item}
 use Rattle.links.specs.Limits.{Limits}
@@ -29,7 +28,6 @@ use Rattle.links.specs.Parallel.{nearbyParallel}
 use Rattle.links.specs.Sums.{ascendingSum, distanceSum, noLater}
 use Rattle.groups.specs.Tests.{every}
 use Rattle.groups.specs.Listing.{endsAt, bitsAt}
-use Rattle.groups.specs.Regions.{assessAt}
 use Rattle.groups.specs.Links.{LinkAt, joins}
 use Rattle.groups.specs.Measuring.{passes}
 use Rattle.groups.specs.Groups.{Group}

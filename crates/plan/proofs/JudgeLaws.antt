@@ -1,8 +1,8 @@
 -- A group that is kept by its first four ranks is judged as a whole.
-use mathlib.Core.Path.{_≡_, refl, sym, _∙_, ap, subst}
+use mathlib.Core.Path.{_≡_, sym, _∙_, ap}
 use mathlib.Core.Bool.{Bool, true, false, cond, not, _&&_}
-use mathlib.Core.List.{List, List·Memᴰ}
-use Prim.Native.Nat.{ℕ, suc, _+_, _≤_, _<_}
+use mathlib.Core.List.{List}
+use Prim.Native.Nat.{ℕ, _≤_, _<_}
 use native.Mathlib.Omega.{arith}
 use borrow.Author.Tests.{not-true, not-false}
 use lib.Ieee.{le}
@@ -18,9 +18,9 @@ use Rattle.groups.specs.Tests.{every}
 use Rattle.groups.specs.Flat.{leastFlatSpans}
 use Rattle.groups.proofs.Tests.{keep-length}
 use Rattle.plan.specs.declared.four.Four.{Four}
-use Rattle.plan.specs.Four.{held, slot, listed}
+use Rattle.plan.specs.Four.{held, listed}
 use Rattle.plan.specs.Arrays.{at, isOn, Ranked}
-use Rattle.plan.specs.Shape.{endsIn, chainIn, pathIn, allAlikeIn, retainedIn}
+use Rattle.plan.specs.Shape.{endsIn, chainIn, pathIn, allAlikeIn}
 use Rattle.plan.specs.Told.{serialIn, flatIn}
 use Rattle.plan.specs.Fitting.{RankFits, LinkFits, WidthFits, Ranks, Links, Widths, Safe}
 use Rattle.plan.proofs.FourLaws.{listed-held}
@@ -47,10 +47,10 @@ module _ (F : List ℕ → List ℕ → Bool) (small : (rs js : List ℕ) → F 
       (λ h. let w = whole (small (listed f) (listed g) h) in ap (λ (x : List ℕ). F x (listed g)) (w .0) ∙ ap (F rs) (w .1))
       (λ h. h ∙ sym (by-test (F rs js)
       (λ k.
-          let s = small rs js k in
-          let a : listed f ≡ rs = ap listed ef ∙ listed-held rs (s .1) in
-          let b : listed g ≡ js = ap listed eg ∙ listed-held js (s .2) in
-          clash (ap (λ (x : List ℕ). F x (listed g)) a ∙ (ap (F rs) b ∙ k)) h)
+      let s = small rs js k in
+      let a : listed f ≡ rs = ap listed ef ∙ listed-held rs (s .1) in
+      let b : listed g ≡ js = ap listed eg ∙ listed-held js (s .2) in
+      clash (ap (λ (x : List ℕ). F x (listed g)) a ∙ (ap (F rs) b ∙ k)) h)
       (λ k. k)))
 
   pub judged-sizes : {b : Bool} → b ≡ F (listed f) (listed g) → not b ≡ false → (1 ≤ f .count) × (f .count ≤ 4)
@@ -75,7 +75,7 @@ module _ (limits : Limits) (own lowers highers regions firsts seconds : List ℕ
   unfolding serialIn
   serial-small passing l m rs js h =
       let q = passed-path (every (isOn passing) js) (pathIn lowers highers regions firsts seconds (limits .leastSpans) (limits .mostSpans) rs js)
-          (le (chainIn firsts seconds own js) (limits .chain) && le (centreDistance (spanIn own (getD (endsIn firsts seconds rs js) 0 0)) (spanIn own (getD (endsIn firsts seconds rs js) 1 0))) (limits .chain)) h in
+      (le (chainIn firsts seconds own js) (limits .chain) && le (centreDistance (spanIn own (getD (endsIn firsts seconds rs js) 0 0)) (spanIn own (getD (endsIn firsts seconds rs js) 1 0))) (limits .chain)) h in
       let s = path-sizes lowers highers regions firsts seconds (limits .leastSpans) (limits .mostSpans) rs js q in
       (omega (arith, s .0), omega (arith, s .1), omega (arith, s .1, s .2))
 

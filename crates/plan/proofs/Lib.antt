@@ -5,3 +5,4 @@ pub mod GroupLaws
 pub mod ValueLaws
 pub mod AcceptLaws
 pub mod JudgeLaws
+pub mod WholeLaws

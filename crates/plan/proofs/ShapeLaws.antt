@@ -2,7 +2,7 @@
 use mathlib.Core.Path.{_≡_, refl, sym, _∙_, ap, subst}
 use mathlib.Core.Bool.{Bool, true, false, cond, _&&_}
 use mathlib.Core.List.{List, [], _∷_, map, List·Memᴰ, List·Memᴰ·head, List·Memᴰ·tail, Memᴰ·of-map}
-use Prim.Native.Nat.{ℕ, zero, suc, _+_, _-_, _≤_, _<_}
+use Prim.Native.Nat.{ℕ, zero, suc, _-_, _≤_, _<_}
 use native.Mathlib.Omega.{arith}
 use lib.Dec.{eqb}
 use lib.ListN.{length, getD, length-map}
@@ -129,7 +129,7 @@ module _ (le : ℕ → ℕ → Bool) where
     first-turn j {x} {y} p e = record {
       inside = omega (arith, p .inside);
       is = e ∙ (ap (λ (z : ℕ). cond (le (v j) z) (v j) z) (p .is) ∙ (sym (first-insert (v j) (sort le (map v (upFrom (suc j) (n - suc j)))) (behind (suc j) (p .inside)))
-      ∙ ap (λ (xs : List ℕ). getD (sort le (map v xs)) 0 0) (sym (up-down j n (omega (arith, p .inside))))));
+          ∙ ap (λ (xs : List ℕ). getD (sort le (map v xs)) 0 0) (sym (up-down j n (omega (arith, p .inside))))));
     }
 
     pub first-next : {k x y : ℕ} (a : ℕ) → First k x → 0 < k → a ≡ v (k - 1) → y ≡ cond (le a x) a x → First (k - 1) y

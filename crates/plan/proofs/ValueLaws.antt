@@ -1,10 +1,9 @@
 -- Distances and widths of the ranks and links that are kept.
 use mathlib.Core.Path.{_≡_, refl, sym, _∙_, ap, subst}
-use mathlib.Core.Bool.{Bool, true, false, cond, not, _&&_}
+use mathlib.Core.Bool.{Bool, true, false, cond, _&&_}
 use mathlib.Core.List.{List, [], _∷_, map}
 use Prim.Native.Nat.{ℕ, zero, suc, _-_, _≤_, _<_}
 use native.Mathlib.Omega.{arith}
-use borrow.Author.Tests.{eq-eqb}
 use lib.Dec.{eqb, leb}
 use lib.Ieee.{Float, binary64, ofBits}
 use lib.ListN.{length, getD, take, length-map}
@@ -24,7 +23,7 @@ use Rattle.links.proofs.Numbers.{distance-number, distance-sum-number}
 use Rattle.plan.specs.declared.four.Four.{Four}
 use Rattle.plan.specs.Four.{held, slot, listed}
 use Rattle.plan.specs.Arrays.{at, joinsAt}
-use Rattle.plan.specs.Shape.{degreeIn, endsIn, regularIn, outerIn, pathIn, alikeIn, allAlikeIn, gapIn, chainIn, leastIn, sumIn, nearerIn, fineIn, eligibleIn, retainedIn}
+use Rattle.plan.specs.Shape.{degreeIn, endsIn, regularIn, outerIn, alikeIn, allAlikeIn, gapIn, chainIn, leastIn, sumIn, nearerIn, fineIn, eligibleIn, retainedIn}
 use Rattle.plan.specs.Fitting.{RankFits}
 use Rattle.plan.proofs.FourLaws.{Picked, listed-held}
 use Rattle.plan.proofs.ShapeLaws.{First, first-end, listed-length, picked-listed, Each, each-listed, held-count, sort-some}

@@ -34,7 +34,15 @@ pub fn accepts_serial(
     let pass = all_on(passing, links);
     let least = limits.least_spans;
     let path = simple_path(
-        limits, least, lowers, highers, regions, firsts, seconds, ranks, links,
+        limits,
+        least,
+        lowers,
+        highers,
+        regions,
+        firsts,
+        seconds,
+        ranks,
+        links,
     );
     if !(pass & path) {
         return false;
@@ -62,7 +70,15 @@ pub fn accepts_flat(
     ensures { λ r. ⌜ r ≡ flatIn (limitsOf limits) (now (own .entry)) (now (lowers .entry)) (now (highers .entry)) (now (regions .entry)) (now (firsts .entry)) (now (seconds .entry)) (listed ranks) (listed links) ⌝ }
 {
     let path = simple_path(
-        limits, 2, lowers, highers, regions, firsts, seconds, ranks, links,
+        limits,
+        2,
+        lowers,
+        highers,
+        regions,
+        firsts,
+        seconds,
+        ranks,
+        links,
     );
     if !path {
         return false;

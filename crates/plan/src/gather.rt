@@ -43,7 +43,14 @@ fn part_at(parts: &[u32; 256], i: u32) -> u32
 }
 
 // The chosen links of part c, by number.
-pub fn links_of(links: usize, chosen: &[u8; 256], firsts: &[u32; 256], seconds: &[u32; 256], parts: &[u32; 256], c: u32) -> Four
+pub fn links_of(
+    links: usize,
+    chosen: &[u8; 256],
+    firsts: &[u32; 256],
+    seconds: &[u32; 256],
+    parts: &[u32; 256],
+    c: u32,
+) -> Four
     requires { ⌜ Ranked 256 (now firsts) (now seconds) links ⌝ }
     ensures { λ r. ⌜ r ≡ held (keep (linkIn (now (chosen .entry)) (now (firsts .entry)) (now (parts .entry)) c) (upFrom 0 links)) ⌝ }
 {

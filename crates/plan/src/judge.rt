@@ -38,7 +38,16 @@ pub fn judge_serial(
     let ranks = ranks_of(n, joined, parts, c);
     let found = links_of(links, chosen, firsts, seconds, parts, c);
     if !accepts_serial(
-        limits, own, lowers, highers, regions, firsts, seconds, passing, ranks, found,
+        limits,
+        own,
+        lowers,
+        highers,
+        regions,
+        firsts,
+        seconds,
+        passing,
+        ranks,
+        found,
     ) {
         return 256;
     }
@@ -67,7 +76,17 @@ pub fn judge_flat(
 {
     let ranks = ranks_of(n, joined, parts, c);
     let found = links_of(links, chosen, firsts, seconds, parts, c);
-    if !accepts_flat(limits, own, lowers, highers, regions, firsts, seconds, ranks, found) {
+    if !accepts_flat(
+        limits,
+        own,
+        lowers,
+        highers,
+        regions,
+        firsts,
+        seconds,
+        ranks,
+        found,
+    ) {
         return 256;
     }
     retained(limits, own, bits, ranks)

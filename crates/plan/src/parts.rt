@@ -71,7 +71,13 @@ fn join_link(parts: &mut [u32; 256], on: u8, first: u32, second: u32)
 }
 
 // The part of each rank, from the last chosen link to the first.
-pub fn find_parts(chosen: &[u8; 256], firsts: &[u32; 256], seconds: &[u32; 256], links: usize, parts: &mut [u32; 256])
+pub fn find_parts(
+    chosen: &[u8; 256],
+    firsts: &[u32; 256],
+    seconds: &[u32; 256],
+    links: usize,
+    parts: &mut [u32; 256],
+)
     requires { ⌜ (length (now parts) ≡ 256) × Ranked 256 (now firsts) (now seconds) links ⌝ }
     ensures { λ r. ⌜ Filled (partFrom (now (chosen .entry)) (now (firsts .entry)) (now (seconds .entry)) 0 links) 256 (now (parts .exit)) ⌝ }
 {
@@ -90,7 +96,13 @@ fn chosen_joins(on: u8, first: u32, second: u32, i: u32) -> bool
 }
 
 // One of the chosen links joins the rank.
-fn is_joined(chosen: &[u8; 256], firsts: &[u32; 256], seconds: &[u32; 256], links: usize, i: u32) -> bool
+fn is_joined(
+    chosen: &[u8; 256],
+    firsts: &[u32; 256],
+    seconds: &[u32; 256],
+    links: usize,
+    i: u32,
+) -> bool
     requires { ⌜ links ≤ 256 ⌝ }
     ensures { λ r. ⌜ r ≡ joinedFrom (now (chosen .entry)) (now (firsts .entry)) (now (seconds .entry)) 0 links i ⌝ }
 {
@@ -110,7 +122,13 @@ fn mark(on: bool) -> u8
 }
 
 // 1 for each rank that one of the chosen links joins.
-pub fn mark_joined(chosen: &[u8; 256], firsts: &[u32; 256], seconds: &[u32; 256], links: usize, joined: &mut [u8; 256])
+pub fn mark_joined(
+    chosen: &[u8; 256],
+    firsts: &[u32; 256],
+    seconds: &[u32; 256],
+    links: usize,
+    joined: &mut [u8; 256],
+)
     requires { ⌜ (length (now joined) ≡ 256) × (links ≤ 256) ⌝ }
     ensures { λ r. ⌜ Filled (λ i. cond (joinedFrom (now (chosen .entry)) (now (firsts .entry)) (now (seconds .entry)) 0 links i) 1 0) 256 (now (joined .exit)) ⌝ }
 {

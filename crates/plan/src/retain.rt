@@ -62,7 +62,10 @@ fn eligible(limits: Limits, bits: &[u64; 256], least: f64, ranks: Four) -> Four
     let mut j = ranks.count;
     while 0 < j {
         j -= 1;
-        found = found.with(ranks.get(j), is_eligible(limits, bits, least, ranks.index(j)));
+        found = found.with(
+            ranks.get(j),
+            is_eligible(limits, bits, least, ranks.index(j)),
+        );
     }
     found
 }

@@ -32,7 +32,13 @@ fn both_on(marks: &[u8; 256], first: usize, second: usize) -> bool
 }
 
 // Marks the links of which both ranks are bridges.
-pub fn select_serial(marks: &[u8; 256], firsts: &[u32; 256], seconds: &[u32; 256], links: usize, chosen: &mut [u8; 256])
+pub fn select_serial(
+    marks: &[u8; 256],
+    firsts: &[u32; 256],
+    seconds: &[u32; 256],
+    links: usize,
+    chosen: &mut [u8; 256],
+)
     requires { ⌜ (length (now chosen) ≡ 256) × Ranked 256 (now firsts) (now seconds) links ⌝ }
     ensures { λ r. ⌜ Filled (λ k. cond (bothOn (now (marks .entry)) (at (now (firsts .entry)) k) (at (now (seconds .entry)) k)) 1 0) links (now (chosen .exit)) ⌝ }
 {
@@ -52,7 +58,14 @@ fn is_free(into: &[u32; 256], i: usize) -> bool
 }
 
 // The link is marked, no group has its ranks, and the first is alike to the second.
-fn is_flat_link(limits: Limits, own: &[u32; 1024], flat: u8, into: &[u32; 256], first: usize, second: usize) -> bool
+fn is_flat_link(
+    limits: Limits,
+    own: &[u32; 1024],
+    flat: u8,
+    into: &[u32; 256],
+    first: usize,
+    second: usize,
+) -> bool
     requires { ⌜ RankFits (now own) first × RankFits (now own) second ⌝ }
     ensures { λ r. ⌜ r ≡ flatLinkIn (limitsOf limits) (now (own .entry)) (now (into .entry)) flat first second ⌝ }
 {
@@ -77,7 +90,14 @@ pub fn select_flat(
 {
     let mut k: usize = 0;
     while k < links {
-        chosen[k] = mark(is_flat_link(limits, own, flat[k], into, index(firsts[k]), index(seconds[k])));
+        chosen[k] = mark(is_flat_link(
+            limits,
+            own,
+            flat[k],
+            into,
+            index(firsts[k]),
+            index(seconds[k]),
+        ));
         k += 1;
     }
 }

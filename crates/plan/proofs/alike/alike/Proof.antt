@@ -1,10 +1,5 @@
-use mathlib.Core.Path.{_≡_, refl, sym, _∙_, ap}
-use mathlib.Core.Bool.{Bool, cond, _&&_, _||_}
-use mathlib.Core.List.{List, [], _∷_}
-use Prim.Native.Nat.{ℕ, zero, suc, _+_, _-_, _≤_, _<_}
-use native.Mathlib.Omega.{arith}
-use lib.Dec.{eqb}
-use lib.ListN.{length, getD, set}
+use mathlib.Core.Path.{refl, _∙_}
+use Prim.Native.Nat.{_-_}
 use Rattle.links.specs.HeldLimits.{limitsOf}
 use Rattle.links.specs.Parallel.{nearbyParallel}
 use Rattle.plan.proofs.ValueLaws.{both, span-fits}
@@ -16,19 +11,15 @@ use Rattle.plan.proofs.alike.alike.Lts as lts
 use Rattle.links.proofs.parallel.SpanPair.nearby_parallel.Reads as nearby-parallel-reads
 use Rattle.marking.proofs.spans.span_at.Reads as span-at-reads
 
--- src/alike.rt:19:9
 span-at-requires : tie.Need-span-at-requires
 span-at-requires c κs = search needs
 
--- src/alike.rt:20:9
 span-at-requires-2 : tie.Need-span-at-requires-2
 span-at-requires-2 c κs = search needs
 
--- src/alike.rt:22:5
 nearby-parallel-requires : tie.Need-nearby-parallel-requires
 nearby-parallel-requires c κs = (span-fits (c .before .before .pre .0) refl (c .before .span-at .ensures), span-fits (c .before .before .pre .1) refl (c .span-at2 .ensures))
 
--- src/alike.rt:15:1
 returns : tie.Need-returns
 returns c = c .nearby-parallel .ensures ∙ both (nearbyParallel (limitsOf (c .before .before .before .args .limits))) (c .before .before .span-at .ensures) (c .before .span-at2 .ensures)
 

@@ -1,10 +1,6 @@
-use mathlib.Core.Path.{_≡_, refl, sym, _∙_, ap}
-use mathlib.Core.Bool.{Bool, cond, _&&_, _||_}
-use mathlib.Core.List.{List, [], _∷_}
-use Prim.Native.Nat.{ℕ, zero, suc, _+_, _-_, _≤_, _<_}
+use mathlib.Core.Path.{refl, sym, _∙_, ap}
+use Prim.Native.Nat.{_-_, _≤_}
 use native.Mathlib.Omega.{arith}
-use lib.Dec.{eqb}
-use lib.ListN.{length, getD, set}
 use borrow.Author.Needs.{needs}
 use mathlib.Core.Path.{subst}
 use Rattle.links.specs.HeldLimits.{limitsOf}
@@ -25,31 +21,24 @@ Inv-loop limits own i ranks all₀ j₀ all j = (j ≤ ranks .count) × Each (al
 abbrev μ-loop : tie.MeasureT-loop
 μ-loop limits own i ranks all₀ j₀ all j = j
 
--- src/alike.rt:32:5
 loop-holds : tie.Need-loop-holds Inv-loop μ-loop
 loop-holds c = (omega arith, each-start (alikeIn (limitsOf (c .args .limits)) (c .args .own .now) (c .args .i)) (slot (c .args .ranks)) (c .args .ranks .count))
 
--- src/alike.rt:33:9
 sub-j : tie.Need-sub-j Inv-loop μ-loop
 sub-j c = search needs
 
--- src/alike.rt:34:37
 index-requires : tie.Need-index-requires Inv-loop μ-loop
 index-requires c κs = c .before .before .pre .1 (c .before .loop .j - 1) .below
 
--- src/alike.rt:34:15
 alike-requires : tie.Need-alike-requires Inv-loop μ-loop
 alike-requires c κs = (c .before .before .before .pre .0, subst (RankFits (c .before .before .before .args .own .now)) (sym (c .index .ensures .0)) (c .before .before .before .pre .1 (c .before .before .loop .j - 1)))
 
--- src/alike.rt:32:5
 loop-less : tie.Need-loop-less Inv-loop μ-loop
 loop-less c = search needs
 
--- src/alike.rt:32:5
 loop-again : tie.Need-loop-again Inv-loop μ-loop
 loop-again c = (omega (arith, c .before .before .before .loop .inv .0), each-next (alikeIn (limitsOf (c .before .before .before .before .args .limits)) (c .before .before .before .before .args .own .now) (c .before .before .before .before .args .i)) (slot (c .before .before .before .before .args .ranks)) (c .before .before .before .before .args .ranks .count) (c .alike .result) (c .before .before .before .loop .inv .1) (c .before .before .loop-test .taken) (c .before .before .before .loop .inv .0) (c .alike .ensures ∙ ap (alikeIn (limitsOf (c .before .before .before .before .args .limits)) (c .before .before .before .before .args .own .now) (c .before .before .before .before .args .i)) (c .before .index .ensures .0)) refl)
 
--- src/alike.rt:26:1
 returns : tie.Need-returns Inv-loop μ-loop
 returns c = each-listed (alikeIn (limitsOf (c .before .before .args .limits)) (c .before .before .args .own .now) (c .before .before .args .i)) (c .before .before .args .ranks) (c .before .loop .inv .1) (omega (arith, c .loop-test .left))
 

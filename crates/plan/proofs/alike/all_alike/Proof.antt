@@ -1,10 +1,6 @@
-use mathlib.Core.Path.{_≡_, refl, sym, _∙_, ap}
-use mathlib.Core.Bool.{Bool, cond, _&&_, _||_}
-use mathlib.Core.List.{List, [], _∷_}
-use Prim.Native.Nat.{ℕ, zero, suc, _+_, _-_, _≤_, _<_}
+use mathlib.Core.Path.{refl, sym, _∙_, ap}
+use Prim.Native.Nat.{_-_, _≤_}
 use native.Mathlib.Omega.{arith}
-use lib.Dec.{eqb}
-use lib.ListN.{length, getD, set}
 use borrow.Author.Needs.{needs}
 use mathlib.Core.Path.{subst}
 use Rattle.links.specs.HeldLimits.{limitsOf}
@@ -27,31 +23,24 @@ Inv-loop limits own ranks all₀ j₀ all j = (j ≤ ranks .count) × Each (λ i
 abbrev μ-loop : tie.MeasureT-loop
 μ-loop limits own ranks all₀ j₀ all j = j
 
--- src/alike.rt:46:5
 loop-holds : tie.Need-loop-holds Inv-loop μ-loop
 loop-holds c = (omega arith, each-start (λ i. every (alikeIn (limitsOf (c .args .limits)) (c .args .own .now) i) (listed (c .args .ranks))) (slot (c .args .ranks)) (c .args .ranks .count))
 
--- src/alike.rt:47:9
 sub-j : tie.Need-sub-j Inv-loop μ-loop
 sub-j c = search needs
 
--- src/alike.rt:48:41
 index-requires : tie.Need-index-requires Inv-loop μ-loop
 index-requires c κs = c .before .before .pre (c .before .loop .j - 1) .below
 
--- src/alike.rt:48:15
 alike-to-all-requires : tie.Need-alike-to-all-requires Inv-loop μ-loop
 alike-to-all-requires c κs = (subst (RankFits (c .before .before .before .args .own .now)) (sym (c .index .ensures .0)) (c .before .before .before .pre (c .before .before .loop .j - 1)), c .before .before .before .pre)
 
--- src/alike.rt:46:5
 loop-less : tie.Need-loop-less Inv-loop μ-loop
 loop-less c = search needs
 
--- src/alike.rt:46:5
 loop-again : tie.Need-loop-again Inv-loop μ-loop
 loop-again c = (omega (arith, c .before .before .before .loop .inv .0), each-next (λ i. every (alikeIn (limitsOf (c .before .before .before .before .args .limits)) (c .before .before .before .before .args .own .now) i) (listed (c .before .before .before .before .args .ranks))) (slot (c .before .before .before .before .args .ranks)) (c .before .before .before .before .args .ranks .count) (c .alike-to-all .result) (c .before .before .before .loop .inv .1) (c .before .before .loop-test .taken) (c .before .before .before .loop .inv .0) (c .alike-to-all .ensures ∙ ap (λ i. every (alikeIn (limitsOf (c .before .before .before .before .args .limits)) (c .before .before .before .before .args .own .now) i) (listed (c .before .before .before .before .args .ranks))) (c .before .index .ensures .0)) refl)
 
--- src/alike.rt:40:1
 returns : tie.Need-returns Inv-loop μ-loop
 returns c = all-alike-whole (limitsOf (c .before .before .args .limits)) (c .before .before .args .own .now) (c .before .before .args .ranks) (c .before .loop .inv .1) (omega (arith, c .loop-test .left))
 

@@ -1,11 +1,5 @@
-use mathlib.Core.Path.{_≡_, refl, sym, _∙_, ap}
-use mathlib.Core.Bool.{Bool, cond, _&&_, _||_}
-use mathlib.Core.List.{List, [], _∷_}
-use Prim.Native.Nat.{ℕ, zero, suc, _+_, _-_, _≤_, _<_}
-use native.Mathlib.Omega.{arith}
-use lib.Dec.{eqb}
-use lib.ListN.{length, getD, set}
-use borrow.Author.Needs.{needs}
+use mathlib.Core.Path.{sym, _∙_, ap}
+use Prim.Native.Nat.{_-_}
 use mathlib.Core.Path.{subst}
 use Rattle.plan.specs.Fitting.{LinkFits}
 use Rattle.plan.specs.Shape.{gapIn}
@@ -18,35 +12,27 @@ use Rattle.links.proofs.sums.ascending_sum.Reads as ascending-sum-reads
 use Rattle.plan.proofs.chain.gap.Reads as gap-reads
 use Rattle.plan.proofs.four.Four.index.Reads as index-reads
 
--- src/chain.rt:40:39
 index-requires : tie.Need-index-requires
 index-requires c κs = c .pre .2 0 .below
 
--- src/chain.rt:40:9
 gap-requires : tie.Need-gap-requires
 gap-requires c κs = subst (LinkFits (c .before .args .own .now) (c .before .args .firsts .now) (c .before .args .seconds .now)) (sym (c .index .ensures .0)) (c .before .pre .2 0)
 
--- src/chain.rt:41:39
 index-requires-2 : tie.Need-index-requires-2
 index-requires-2 c κs = c .before .before .pre .2 1 .below
 
--- src/chain.rt:41:9
 gap-requires-2 : tie.Need-gap-requires-2
 gap-requires-2 c κs = subst (LinkFits (c .before .before .before .args .own .now) (c .before .before .before .args .firsts .now) (c .before .before .before .args .seconds .now)) (sym (c .index2 .ensures .0)) (c .before .before .before .pre .2 1)
 
--- src/chain.rt:42:39
 index-requires-3 : tie.Need-index-requires-3
 index-requires-3 c κs = c .before .before .before .before .pre .2 2 .below
 
--- src/chain.rt:42:9
 gap-requires-3 : tie.Need-gap-requires-3
 gap-requires-3 c κs = subst (LinkFits (c .before .before .before .before .before .args .own .now) (c .before .before .before .before .before .args .firsts .now) (c .before .before .before .before .before .args .seconds .now)) (sym (c .index3 .ensures .0)) (c .before .before .before .before .before .pre .2 2)
 
--- src/chain.rt:43:5
 ascending-sum-requires : tie.Need-ascending-sum-requires
 ascending-sum-requires c κs = (c .before .before .before .before .before .before .pre .0, c .before .before .before .before .before .before .pre .1, gap-number (c .before .before .before .before .before .before .args .firsts .now) (c .before .before .before .before .before .before .args .seconds .now) (c .before .before .before .before .before .before .args .own .now) (c .before .before .before .before .before .index .result) (c .before .before .before .before .gap .ensures), gap-number (c .before .before .before .before .before .before .args .firsts .now) (c .before .before .before .before .before .before .args .seconds .now) (c .before .before .before .before .before .before .args .own .now) (c .before .before .before .index2 .result) (c .before .before .gap2 .ensures), gap-number (c .before .before .before .before .before .before .args .firsts .now) (c .before .before .before .before .before .before .args .seconds .now) (c .before .before .before .before .before .before .args .own .now) (c .before .index3 .result) (c .gap3 .ensures))
 
--- src/chain.rt:36:1
 returns : tie.Need-returns
 returns c = chain-listed (c .before .before .before .before .before .before .before .args .firsts .now) (c .before .before .before .before .before .before .before .args .seconds .now) (c .before .before .before .before .before .before .before .args .own .now) (c .before .before .before .before .before .before .before .args .links) (c .before .before .before .before .before .before .before .pre .1) (c .before .before .before .before .before .gap .ensures ∙ ap (gapIn (c .before .before .before .before .before .before .before .args .firsts .now) (c .before .before .before .before .before .before .before .args .seconds .now) (c .before .before .before .before .before .before .before .args .own .now)) (c .before .before .before .before .before .before .index .ensures .0)) (c .before .before .before .gap2 .ensures ∙ ap (gapIn (c .before .before .before .before .before .before .before .args .firsts .now) (c .before .before .before .before .before .before .before .args .seconds .now) (c .before .before .before .before .before .before .before .args .own .now)) (c .before .before .before .before .index2 .ensures .0)) (c .before .gap3 .ensures ∙ ap (gapIn (c .before .before .before .before .before .before .before .args .firsts .now) (c .before .before .before .before .before .before .before .args .seconds .now) (c .before .before .before .before .before .before .before .args .own .now)) (c .before .before .index3 .ensures .0)) (c .ascending-sum .ensures)
 

@@ -1,10 +1,5 @@
-use mathlib.Core.Path.{_≡_, refl, sym, _∙_, ap}
-use mathlib.Core.Bool.{Bool, cond, _&&_, _||_}
-use mathlib.Core.List.{List, [], _∷_}
-use Prim.Native.Nat.{ℕ, zero, suc, _+_, _-_, _≤_, _<_}
-use native.Mathlib.Omega.{arith}
-use lib.Dec.{eqb}
-use lib.ListN.{length, getD, set}
+use mathlib.Core.Path.{sym, _∙_}
+use Prim.Native.Nat.{ℕ, _-_}
 use mathlib.Core.Path.{subst}
 use Rattle.areas.specs.Spans.{spanIn}
 use Rattle.links.specs.Geometry.{centreDistance}
@@ -18,35 +13,27 @@ use Rattle.plan.proofs.chain.gap.Lts as lts
 use Rattle.plan.proofs.chain.index.Reads as index-reads
 use Rattle.plan.proofs.chain.rank_distance.Reads as rank-distance-reads
 
--- src/chain.rt:32:30
 mul-index : tie.Need-mul-index
 mul-index c = search needs
 
--- src/chain.rt:32:30
 element-copy-out-index : tie.Need-element-copy-out-index
 element-copy-out-index c = search needs
 
--- src/chain.rt:32:24
 index-requires : tie.Need-index-requires
 index-requires c κs = search needs
 
--- src/chain.rt:32:48
 mul-index-2 : tie.Need-mul-index-2
 mul-index-2 c = search needs
 
--- src/chain.rt:32:48
 element-copy-out-index-2 : tie.Need-element-copy-out-index-2
 element-copy-out-index-2 c = search needs
 
--- src/chain.rt:32:42
 index-requires-2 : tie.Need-index-requires-2
 index-requires-2 c κs = search needs
 
--- src/chain.rt:32:5
 rank-distance-requires : tie.Need-rank-distance-requires
 rank-distance-requires c κs = (subst (RankFits (c .before .before .before .before .args .own .now)) (sym (c .before .before .index .ensures)) (c .before .before .before .before .pre .first), subst (RankFits (c .before .before .before .before .args .own .now)) (sym (c .index2 .ensures)) (c .before .before .before .before .pre .second))
 
--- src/chain.rt:28:1
 returns : tie.Need-returns
 returns c = c .rank-distance .ensures ∙ both (λ (i j : ℕ). centreDistance (spanIn (c .before .before .before .before .before .args .own .now) i) (spanIn (c .before .before .before .before .before .args .own .now) j)) (c .before .before .before .index .ensures) (c .before .index2 .ensures)
 

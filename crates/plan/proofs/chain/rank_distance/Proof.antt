@@ -1,10 +1,5 @@
-use mathlib.Core.Path.{_≡_, refl, sym, _∙_, ap}
-use mathlib.Core.Bool.{Bool, cond, _&&_, _||_}
-use mathlib.Core.List.{List, [], _∷_}
-use Prim.Native.Nat.{ℕ, zero, suc, _+_, _-_, _≤_, _<_}
-use native.Mathlib.Omega.{arith}
-use lib.Dec.{eqb}
-use lib.ListN.{length, getD, set}
+use mathlib.Core.Path.{refl, _∙_}
+use Prim.Native.Nat.{_-_}
 use Rattle.links.specs.Geometry.{centreDistance}
 use Rattle.plan.proofs.ValueLaws.{both, span-fits}
 use borrow.Author.Needs.{needs}
@@ -15,19 +10,15 @@ use Rattle.plan.proofs.chain.rank_distance.Lts as lts
 use Rattle.links.proofs.geometry.centre_distance.Reads as centre-distance-reads
 use Rattle.marking.proofs.spans.span_at.Reads as span-at-reads
 
--- src/chain.rt:19:21
 span-at-requires : tie.Need-span-at-requires
 span-at-requires c κs = search needs
 
--- src/chain.rt:19:38
 span-at-requires-2 : tie.Need-span-at-requires-2
 span-at-requires-2 c κs = search needs
 
--- src/chain.rt:19:5
 centre-distance-requires : tie.Need-centre-distance-requires
 centre-distance-requires c κs = (span-fits (c .before .before .pre .0) refl (c .before .span-at .ensures), span-fits (c .before .before .pre .1) refl (c .span-at2 .ensures))
 
--- src/chain.rt:15:1
 returns : tie.Need-returns
 returns c = c .centre-distance .ensures ∙ both centreDistance (c .before .before .span-at .ensures) (c .before .span-at2 .ensures)
 

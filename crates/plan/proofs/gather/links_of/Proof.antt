@@ -1,10 +1,9 @@
-use mathlib.Core.Path.{_≡_, refl, sym, _∙_, ap}
-use mathlib.Core.Bool.{Bool, cond, _&&_, _||_}
-use mathlib.Core.List.{List, [], _∷_}
-use Prim.Native.Nat.{ℕ, zero, suc, _+_, _-_, _≤_, _<_}
+use mathlib.Core.Path.{_∙_, ap}
+use mathlib.Core.Bool.{_&&_}
+use Prim.Native.Nat.{ℕ, _-_, _≤_}
 use native.Mathlib.Omega.{arith}
 use lib.Dec.{eqb}
-use lib.ListN.{length, getD, set}
+use lib.ListN.{getD}
 use borrow.Author.Needs.{needs}
 use Rattle.plan.specs.Arrays.{linkIn}
 use Rattle.plan.proofs.FourLaws.{Picked, picked-start, picked-room, picked-next, picked-whole}
@@ -24,55 +23,42 @@ Inv-loop links chosen firsts seconds parts c found₀ k₀ found k = (k ≤ link
 abbrev μ-loop : tie.MeasureT-loop
 μ-loop links chosen firsts seconds parts c found₀ k₀ found k = k
 
--- src/gather.rt:50:9
 none-requires : tie.Need-none-requires Inv-loop μ-loop
 none-requires c κs = search needs
 
--- src/gather.rt:52:5
 loop-holds : tie.Need-loop-holds Inv-loop μ-loop
 loop-holds c = (omega arith, picked-start (linkIn (c .before .args .chosen .now) (c .before .args .firsts .now) (c .before .args .parts .now) (c .before .args .c)) (λ j. j) (c .before .args .links) (c .none .result) (c .none .ensures))
 
--- src/gather.rt:53:9
 sub-k : tie.Need-sub-k Inv-loop μ-loop
 sub-k c = search needs
 
--- src/gather.rt:54:28
 number-requires : tie.Need-number-requires Inv-loop μ-loop
 number-requires c κs = omega (arith, c .before .loop .inv .0, c .loop-test .taken, c .before .before .before .pre .few)
 
--- src/gather.rt:54:47
 element-copy-out-in-part : tie.Need-element-copy-out-in-part Inv-loop μ-loop
 element-copy-out-in-part c = search needs
 
--- src/gather.rt:54:73
 mul-part-at : tie.Need-mul-part-at Inv-loop μ-loop
 mul-part-at c = search needs
 
--- src/gather.rt:54:73
 element-copy-out-part-at : tie.Need-element-copy-out-part-at Inv-loop μ-loop
 element-copy-out-part-at c = search needs
 
--- src/gather.rt:54:58
 part-at-requires : tie.Need-part-at-requires Inv-loop μ-loop
 part-at-requires c κs = c .before .before .before .before .before .before .pre .first-in (c .before .before .before .before .loop .k - 1) (omega (arith, c .before .before .before .before .loop .inv .0, c .before .before .before .loop-test .taken))
 
--- src/gather.rt:54:39
 in-part-requires : tie.Need-in-part-requires Inv-loop μ-loop
 in-part-requires c κs = search needs
 
--- src/gather.rt:54:9
 with-requires : tie.Need-with-requires Inv-loop μ-loop
 with-requires c κs = picked-room (linkIn (c .before .before .before .before .before .before .before .before .args .chosen .now) (c .before .before .before .before .before .before .before .before .args .firsts .now) (c .before .before .before .before .before .before .before .before .args .parts .now) (c .before .before .before .before .before .before .before .before .args .c)) (λ j. j) (c .before .before .before .before .before .before .before .before .args .links) (c .before .before .before .before .before .before .loop .inv .1) (c .before .before .before .before .before .before .before .before .pre .few)
 
--- src/gather.rt:52:5
 loop-less : tie.Need-loop-less Inv-loop μ-loop
 loop-less c = search needs
 
--- src/gather.rt:52:5
 loop-again : tie.Need-loop-again Inv-loop μ-loop
 loop-again c = (omega (arith, c .before .before .before .before .before .before .before .loop .inv .0), picked-next (linkIn (c .before .before .before .before .before .before .before .before .before .args .chosen .now) (c .before .before .before .before .before .before .before .before .before .args .firsts .now) (c .before .before .before .before .before .before .before .before .before .args .parts .now) (c .before .before .before .before .before .before .before .before .before .args .c)) (λ j. j) (c .before .before .before .before .before .before .before .before .before .args .links) (c .before .in-part .result) (c .before .before .before .before .before .number .result) (c .before .before .before .before .before .before .before .loop .inv .1) (c .before .before .before .before .before .before .loop-test .taken) (c .before .before .before .before .before .before .before .loop .inv .0) (c .with .ensures) (c .before .in-part .ensures ∙ ap (λ (x : ℕ). eqb (getD (c .before .before .before .before .before .before .before .before .before .args .chosen .now) (c .before .before .before .before .before .before .before .loop .k - 1) 0) 1 && eqb x (c .before .before .before .before .before .before .before .before .before .args .c)) (c .before .before .part-at .ensures)) (c .before .before .before .before .before .number .ensures))
 
--- src/gather.rt:46:1
 returns : tie.Need-returns Inv-loop μ-loop
 returns c = picked-whole (linkIn (c .before .before .before .args .chosen .now) (c .before .before .before .args .firsts .now) (c .before .before .before .args .parts .now) (c .before .before .before .args .c)) (c .before .before .before .args .links) (c .before .loop .inv .1) (omega (arith, c .loop-test .left))
 

@@ -1,10 +1,5 @@
-use mathlib.Core.Path.{_≡_, refl, sym, _∙_, ap}
-use mathlib.Core.Bool.{Bool, cond, _&&_, _||_}
-use mathlib.Core.List.{List, [], _∷_}
-use Prim.Native.Nat.{ℕ, zero, suc, _+_, _-_, _≤_, _<_}
+use Prim.Native.Nat.{_-_, _≤_}
 use native.Mathlib.Omega.{arith}
-use lib.Dec.{eqb}
-use lib.ListN.{length, getD, set}
 use borrow.Author.Needs.{needs}
 use Rattle.plan.specs.Arrays.{inPart}
 use Rattle.plan.proofs.FourLaws.{Picked, picked-start, picked-room, picked-next, picked-whole}
@@ -23,51 +18,39 @@ Inv-loop n joined parts c found₀ i₀ found i = (i ≤ n) × Picked (inPart jo
 abbrev μ-loop : tie.MeasureT-loop
 μ-loop n joined parts c found₀ i₀ found i = i
 
--- src/gather.rt:29:9
 none-requires : tie.Need-none-requires Inv-loop μ-loop
 none-requires c κs = search needs
 
--- src/gather.rt:31:5
 loop-holds : tie.Need-loop-holds Inv-loop μ-loop
 loop-holds c = (omega arith, picked-start (inPart (c .before .args .joined .now) (c .before .args .parts .now) (c .before .args .c)) (λ j. j) (c .before .args .n) (c .none .result) (c .none .ensures))
 
--- src/gather.rt:32:9
 sub-i : tie.Need-sub-i Inv-loop μ-loop
 sub-i c = search needs
 
--- src/gather.rt:33:28
 number-requires : tie.Need-number-requires Inv-loop μ-loop
 number-requires c κs = search needs
 
--- src/gather.rt:33:47
 element-copy-out-in-part : tie.Need-element-copy-out-in-part Inv-loop μ-loop
 element-copy-out-in-part c = search needs
 
--- src/gather.rt:33:58
 mul-in-part : tie.Need-mul-in-part Inv-loop μ-loop
 mul-in-part c = search needs
 
--- src/gather.rt:33:58
 element-copy-out-in-part-2 : tie.Need-element-copy-out-in-part-2 Inv-loop μ-loop
 element-copy-out-in-part-2 c = search needs
 
--- src/gather.rt:33:39
 in-part-requires : tie.Need-in-part-requires Inv-loop μ-loop
 in-part-requires c κs = search needs
 
--- src/gather.rt:33:9
 with-requires : tie.Need-with-requires Inv-loop μ-loop
 with-requires c κs = picked-room (inPart (c .before .before .before .before .before .before .before .args .joined .now) (c .before .before .before .before .before .before .before .args .parts .now) (c .before .before .before .before .before .before .before .args .c)) (λ j. j) (c .before .before .before .before .before .before .before .args .n) (c .before .before .before .before .before .loop .inv .1) (c .before .before .before .before .before .before .before .pre)
 
--- src/gather.rt:31:5
 loop-less : tie.Need-loop-less Inv-loop μ-loop
 loop-less c = search needs
 
--- src/gather.rt:31:5
 loop-again : tie.Need-loop-again Inv-loop μ-loop
 loop-again c = (omega (arith, c .before .before .before .before .before .before .loop .inv .0), picked-next (inPart (c .before .before .before .before .before .before .before .before .args .joined .now) (c .before .before .before .before .before .before .before .before .args .parts .now) (c .before .before .before .before .before .before .before .before .args .c)) (λ j. j) (c .before .before .before .before .before .before .before .before .args .n) (c .before .in-part .result) (c .before .before .before .before .number .result) (c .before .before .before .before .before .before .loop .inv .1) (c .before .before .before .before .before .loop-test .taken) (c .before .before .before .before .before .before .loop .inv .0) (c .with .ensures) (c .before .in-part .ensures) (c .before .before .before .before .number .ensures))
 
--- src/gather.rt:25:1
 returns : tie.Need-returns Inv-loop μ-loop
 returns c = picked-whole (inPart (c .before .before .before .args .joined .now) (c .before .before .before .args .parts .now) (c .before .before .before .args .c)) (c .before .before .before .args .n) (c .before .loop .inv .1) (omega (arith, c .loop-test .left))
 

@@ -1,10 +1,5 @@
-use mathlib.Core.Path.{_≡_, refl, sym, _∙_, ap}
-use mathlib.Core.Bool.{Bool, cond, _&&_, _||_}
-use mathlib.Core.List.{List, [], _∷_}
-use Prim.Native.Nat.{ℕ, zero, suc, _+_, _-_, _≤_, _<_}
+use Prim.Native.Nat.{_-_, _≤_, _<_}
 use native.Mathlib.Omega.{arith}
-use lib.Dec.{eqb}
-use lib.ListN.{length, getD, set}
 use borrow.Author.Needs.{needs}
 use Rattle.plan.specs.Arrays.{partFrom, Filled}
 use Rattle.plan.proofs.ArrayLaws.{parts-start, parts-next, parts-end}
@@ -21,51 +16,39 @@ Inv-loop chosen firsts seconds links parts₀ k₀ parts k = (k ≤ links) × Fi
 abbrev μ-loop : tie.MeasureT-loop
 μ-loop chosen firsts seconds links parts₀ k₀ parts k = k
 
--- src/parts.rt:78:5
 start-requires : tie.Need-start-requires Inv-loop μ-loop
 start-requires c κs = c .before .pre .0
 
--- src/parts.rt:80:5
 loop-holds : tie.Need-loop-holds Inv-loop μ-loop
 loop-holds c = (omega arith, parts-start (c .before .before .args .chosen .now) (c .before .before .args .firsts .now) (c .before .before .args .seconds .now) (c .before .before .args .links) (c .start .ensures))
 
--- src/parts.rt:81:9
 sub-k : tie.Need-sub-k Inv-loop μ-loop
 sub-k c = search needs
 
--- src/parts.rt:82:26
 element-copy-out-join-link : tie.Need-element-copy-out-join-link Inv-loop μ-loop
 element-copy-out-join-link c = search needs
 
--- src/parts.rt:82:37
 mul-join-link : tie.Need-mul-join-link Inv-loop μ-loop
 mul-join-link c = search needs
 
--- src/parts.rt:82:37
 element-copy-out-join-link-2 : tie.Need-element-copy-out-join-link-2 Inv-loop μ-loop
 element-copy-out-join-link-2 c = search needs
 
--- src/parts.rt:82:48
 mul-join-link-2 : tie.Need-mul-join-link-2 Inv-loop μ-loop
 mul-join-link-2 c = search needs
 
--- src/parts.rt:82:48
 element-copy-out-join-link-3 : tie.Need-element-copy-out-join-link-3 Inv-loop μ-loop
 element-copy-out-join-link-3 c = search needs
 
--- src/parts.rt:82:9
 join-link-requires : tie.Need-join-link-requires Inv-loop μ-loop
 join-link-requires c κs = let l : c .before .before .before .before .before .loop .k - 1 < c .before .before .before .before .before .before .before .before .args .links = omega (arith, c .before .before .before .before .before .loop .inv .0, c .before .before .before .before .loop-test .taken) in (c .before .before .before .before .before .loop .inv .1 .size, c .before .before .before .before .before .before .before .before .pre .1 .first-in (c .before .before .before .before .before .loop .k - 1) l, c .before .before .before .before .before .before .before .before .pre .1 .second-in (c .before .before .before .before .before .loop .k - 1) l)
 
--- src/parts.rt:80:5
 loop-less : tie.Need-loop-less Inv-loop μ-loop
 loop-less c = search needs
 
--- src/parts.rt:80:5
 loop-again : tie.Need-loop-again Inv-loop μ-loop
 loop-again c = let l : c .before .before .before .before .before .before .loop .k - 1 < c .before .before .before .before .before .before .before .before .before .args .links = omega (arith, c .before .before .before .before .before .before .loop .inv .0, c .before .before .before .before .before .loop-test .taken) in (omega (arith, c .before .before .before .before .before .before .loop .inv .0), parts-next (c .before .before .before .before .before .before .before .before .before .args .chosen .now) (c .before .before .before .before .before .before .before .before .before .args .firsts .now) (c .before .before .before .before .before .before .before .before .before .args .seconds .now) (c .before .before .before .before .before .before .before .before .before .args .links) (c .before .before .before .before .before .loop-test .taken) (c .before .before .before .before .before .before .loop .inv .0) (c .before .before .before .before .before .before .before .before .before .pre .1 .first-in (c .before .before .before .before .before .before .loop .k - 1) l) (c .before .before .before .before .before .before .before .before .before .pre .1 .second-in (c .before .before .before .before .before .before .loop .k - 1) l) (c .before .before .before .before .before .before .loop .inv .1) (c .join-link .ensures))
 
--- src/parts.rt:74:1
 returns : tie.Need-returns Inv-loop μ-loop
 returns c = parts-end (c .before .before .before .before .args .chosen .now) (c .before .before .before .before .args .firsts .now) (c .before .before .before .before .args .seconds .now) (c .before .before .before .before .args .links) (c .before .loop .inv .1) (omega (arith, c .loop-test .left))
 

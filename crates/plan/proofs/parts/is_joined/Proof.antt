@@ -1,10 +1,6 @@
-use mathlib.Core.Path.{_≡_, refl, sym, _∙_, ap}
-use mathlib.Core.Bool.{Bool, cond, _&&_, _||_}
-use mathlib.Core.List.{List, [], _∷_}
-use Prim.Native.Nat.{ℕ, zero, suc, _+_, _-_, _≤_, _<_}
+use mathlib.Core.Path.{refl}
+use Prim.Native.Nat.{_-_, _≤_}
 use native.Mathlib.Omega.{arith}
-use lib.Dec.{eqb}
-use lib.ListN.{length, getD, set}
 use borrow.Author.Needs.{needs}
 use Rattle.plan.proofs.ArrayLaws.{Met, met-start, met-next, met-end}
 use Rattle.plan.proofs.parts.is_joined.Statement.{statement}
@@ -19,47 +15,36 @@ Inv-loop chosen firsts seconds links i joined₀ k₀ joined k = (k ≤ links) �
 abbrev μ-loop : tie.MeasureT-loop
 μ-loop chosen firsts seconds links i joined₀ k₀ joined k = k
 
--- src/parts.rt:96:5
 loop-holds : tie.Need-loop-holds Inv-loop μ-loop
 loop-holds c = (omega arith, met-start (c .args .chosen .now) (c .args .firsts .now) (c .args .seconds .now) (c .args .links) (c .args .i))
 
--- src/parts.rt:97:9
 sub-k : tie.Need-sub-k Inv-loop μ-loop
 sub-k c = search needs
 
--- src/parts.rt:98:40
 element-copy-out-chosen-joins : tie.Need-element-copy-out-chosen-joins Inv-loop μ-loop
 element-copy-out-chosen-joins c = search needs
 
--- src/parts.rt:98:51
 mul-chosen-joins : tie.Need-mul-chosen-joins Inv-loop μ-loop
 mul-chosen-joins c = search needs
 
--- src/parts.rt:98:51
 element-copy-out-chosen-joins-2 : tie.Need-element-copy-out-chosen-joins-2 Inv-loop μ-loop
 element-copy-out-chosen-joins-2 c = search needs
 
--- src/parts.rt:98:62
 mul-chosen-joins-2 : tie.Need-mul-chosen-joins-2 Inv-loop μ-loop
 mul-chosen-joins-2 c = search needs
 
--- src/parts.rt:98:62
 element-copy-out-chosen-joins-3 : tie.Need-element-copy-out-chosen-joins-3 Inv-loop μ-loop
 element-copy-out-chosen-joins-3 c = search needs
 
--- src/parts.rt:98:27
 chosen-joins-requires : tie.Need-chosen-joins-requires Inv-loop μ-loop
 chosen-joins-requires c κs = search needs
 
--- src/parts.rt:96:5
 loop-less : tie.Need-loop-less Inv-loop μ-loop
 loop-less c = search needs
 
--- src/parts.rt:96:5
 loop-again : tie.Need-loop-again Inv-loop μ-loop
 loop-again c = (omega (arith, c .before .before .before .before .before .loop .inv .0), met-next (c .before .before .before .before .before .before .args .chosen .now) (c .before .before .before .before .before .before .args .firsts .now) (c .before .before .before .before .before .before .args .seconds .now) (c .before .before .before .before .before .before .args .links) (c .chosen-joins .result) (c .before .before .before .before .loop-test .taken) (c .before .before .before .before .before .loop .inv .0) (c .before .before .before .before .before .loop .inv .1) (c .chosen-joins .ensures) refl)
 
--- src/parts.rt:90:1
 returns : tie.Need-returns Inv-loop μ-loop
 returns c = met-end (c .before .before .args .chosen .now) (c .before .before .args .firsts .now) (c .before .before .args .seconds .now) (c .before .before .args .links) (c .before .loop .inv .1) (omega (arith, c .loop-test .left))
 

@@ -1,10 +1,4 @@
-use mathlib.Core.Path.{_≡_, refl, sym, _∙_, ap}
-use mathlib.Core.Bool.{Bool, cond, _&&_, _||_}
-use mathlib.Core.List.{List, [], _∷_}
-use Prim.Native.Nat.{ℕ, zero, suc, _+_, _-_, _≤_, _<_}
-use native.Mathlib.Omega.{arith}
-use lib.Dec.{eqb}
-use lib.ListN.{length, getD, set}
+use Prim.Native.Nat.{_-_}
 use Rattle.plan.proofs.ArrayLaws.{link-yes, link-no}
 use borrow.Author.Needs.{needs}
 use Rattle.plan.proofs.parts.join_link.Statement.{statement}
@@ -14,39 +8,30 @@ use Rattle.plan.proofs.parts.join_link.Lts as lts
 use Rattle.plan.proofs.parts.join_parts.Reads as join-parts-reads
 use Rattle.plan.proofs.parts.size.Reads as size-reads
 
--- src/parts.rt:66:9
 returns : tie.Need-returns
 returns c = link-no (c .before .args .on) (c .before .args .first) (c .before .args .second) (c .before .args .parts .now) (c .if1 .taken) (c .before .pre .0)
 
--- src/parts.rt:68:19
 size-requires : tie.Need-size-requires
 size-requires c κs = search needs
 
--- src/parts.rt:68:13
 mul-a : tie.Need-mul-a
 mul-a c = search needs
 
--- src/parts.rt:68:13
 element-copy-out-a : tie.Need-element-copy-out-a
 element-copy-out-a c = search needs
 
--- src/parts.rt:69:19
 size-requires-2 : tie.Need-size-requires-2
 size-requires-2 c κs = search needs
 
--- src/parts.rt:69:13
 mul-b : tie.Need-mul-b
 mul-b c = search needs
 
--- src/parts.rt:69:13
 element-copy-out-b : tie.Need-element-copy-out-b
 element-copy-out-b c = search needs
 
--- src/parts.rt:70:5
 join-parts-requires : tie.Need-join-parts-requires
 join-parts-requires c κs = search needs
 
--- src/parts.rt:61:1
 returns-2 : tie.Need-returns-2
 returns-2 c = link-yes (c .before .before .before .before .before .before .before .args .on) (c .before .before .before .before .before .before .before .args .first) (c .before .before .before .before .before .before .before .args .second) (c .before .before .before .before .before .size .result) (c .before .before .before .size2 .result) (c .before .before .before .before .before .before .before .args .parts .now) (c .before .before .before .before .before .before .if1 .left) (c .before .before .before .before .before .size .ensures .0) (c .before .before .before .size2 .ensures .0) (c .join-parts .ensures)
 

@@ -1,10 +1,6 @@
-use mathlib.Core.Path.{_≡_, refl, sym, _∙_, ap}
-use mathlib.Core.Bool.{Bool, cond, _&&_, _||_}
-use mathlib.Core.List.{List, [], _∷_}
-use Prim.Native.Nat.{ℕ, zero, suc, _+_, _-_, _≤_, _<_}
-use native.Mathlib.Omega.{arith}
+use mathlib.Core.Bool.{cond}
+use Prim.Native.Nat.{ℕ, _-_}
 use lib.Dec.{eqb}
-use lib.ListN.{length, getD, set}
 use borrow.Author.Needs.{needs}
 use Rattle.plan.proofs.ArrayLaws.{Mapped, mapped-none, mapped-next, mapped-all, join-as}
 use Rattle.plan.proofs.parts.join_parts.Statement.{statement}
@@ -21,51 +17,39 @@ Inv-loop parts₀ a b low high i₀ parts i = Mapped (λ (x : ℕ). cond (eqb x 
 abbrev μ-loop : tie.MeasureT-loop
 μ-loop parts₀ a b low high i₀ parts i = 256 - i
 
--- src/parts.rt:48:9
 smaller-requires : tie.Need-smaller-requires Inv-loop μ-loop
 smaller-requires c κs = search needs
 
--- src/parts.rt:49:9
 larger-requires : tie.Need-larger-requires Inv-loop μ-loop
 larger-requires c κs = search needs
 
--- src/parts.rt:51:5
 loop-holds : tie.Need-loop-holds Inv-loop μ-loop
 loop-holds c = mapped-none (c .before .before .pre)
 
--- src/parts.rt:52:26
 mul-moved : tie.Need-mul-moved Inv-loop μ-loop
 mul-moved c = search needs
 
--- src/parts.rt:52:26
 element-copy-out-moved : tie.Need-element-copy-out-moved Inv-loop μ-loop
 element-copy-out-moved c = search needs
 
--- src/parts.rt:52:20
 moved-requires : tie.Need-moved-requires Inv-loop μ-loop
 moved-requires c κs = search needs
 
--- src/parts.rt:52:9
 mul-parts : tie.Need-mul-parts Inv-loop μ-loop
 mul-parts c = search needs
 
--- src/parts.rt:52:9
 element-write-parts : tie.Need-element-write-parts Inv-loop μ-loop
 element-write-parts c = search needs
 
--- src/parts.rt:53:9
 add-i : tie.Need-add-i Inv-loop μ-loop
 add-i c = search needs
 
--- src/parts.rt:51:5
 loop-less : tie.Need-loop-less Inv-loop μ-loop
 loop-less c = search needs
 
--- src/parts.rt:51:5
 loop-again : tie.Need-loop-again Inv-loop μ-loop
 loop-again c = mapped-next (c .moved .result) (c .before .before .before .loop .inv) (c .before .before .loop-test .taken) (c .moved .ensures)
 
--- src/parts.rt:45:1
 returns : tie.Need-returns Inv-loop μ-loop
 returns c = join-as (c .before .before .before .before .args .a) (c .before .before .before .before .args .b) (c .before .before .before .smaller .result) (c .before .before .larger .result) (c .before .before .before .before .args .parts .now) (c .before .before .before .smaller .ensures) (c .before .before .larger .ensures) (mapped-all (c .before .loop .inv) (c .loop-test .left))
 

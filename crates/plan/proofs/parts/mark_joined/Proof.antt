@@ -1,10 +1,6 @@
-use mathlib.Core.Path.{_≡_, refl, sym, _∙_, ap}
-use mathlib.Core.Bool.{Bool, cond, _&&_, _||_}
-use mathlib.Core.List.{List, [], _∷_}
-use Prim.Native.Nat.{ℕ, zero, suc, _+_, _-_, _≤_, _<_}
-use native.Mathlib.Omega.{arith}
-use lib.Dec.{eqb}
-use lib.ListN.{length, getD, set}
+use mathlib.Core.Path.{_∙_, ap}
+use mathlib.Core.Bool.{Bool, cond}
+use Prim.Native.Nat.{_-_}
 use borrow.Author.Needs.{needs}
 use Rattle.plan.specs.Arrays.{joinedFrom, Filled}
 use Rattle.plan.proofs.ArrayLaws.{filled-none, filled-next, filled-all}
@@ -21,39 +17,30 @@ Inv-loop chosen firsts seconds links joined₀ i₀ joined i = Filled (λ j. con
 abbrev μ-loop : tie.MeasureT-loop
 μ-loop chosen firsts seconds links joined₀ i₀ joined i = 256 - i
 
--- src/parts.rt:118:5
 loop-holds : tie.Need-loop-holds Inv-loop μ-loop
 loop-holds c = filled-none (c .pre .0)
 
--- src/parts.rt:119:68
 cast-is-joined : tie.Need-cast-is-joined Inv-loop μ-loop
 cast-is-joined c = search needs
 
--- src/parts.rt:119:26
 is-joined-requires : tie.Need-is-joined-requires Inv-loop μ-loop
 is-joined-requires c κs = search needs
 
--- src/parts.rt:119:21
 mark-requires : tie.Need-mark-requires Inv-loop μ-loop
 mark-requires c κs = search needs
 
--- src/parts.rt:119:9
 element-write-joined : tie.Need-element-write-joined Inv-loop μ-loop
 element-write-joined c = search needs
 
--- src/parts.rt:120:9
 add-i : tie.Need-add-i Inv-loop μ-loop
 add-i c = search needs
 
--- src/parts.rt:118:5
 loop-less : tie.Need-loop-less Inv-loop μ-loop
 loop-less c = search needs
 
--- src/parts.rt:118:5
 loop-again : tie.Need-loop-again Inv-loop μ-loop
 loop-again c = filled-next (c .mark .result) (c .before .before .before .loop .inv) (c .before .before .loop-test .taken) (c .mark .ensures ∙ ap (λ (b : Bool). cond b 1 0) (c .before .is-joined .ensures))
 
--- src/parts.rt:113:1
 returns : tie.Need-returns Inv-loop μ-loop
 returns c = filled-all (c .before .loop .inv) (c .loop-test .left)
 

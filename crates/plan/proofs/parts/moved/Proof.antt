@@ -1,22 +1,13 @@
-use mathlib.Core.Path.{_≡_, refl, sym, _∙_, ap}
-use mathlib.Core.Bool.{Bool, cond, _&&_, _||_}
-use mathlib.Core.List.{List, [], _∷_}
-use Prim.Native.Nat.{ℕ, zero, suc, _+_, _-_, _≤_, _<_}
-use native.Mathlib.Omega.{arith}
-use lib.Dec.{eqb}
-use lib.ListN.{length, getD, set}
-use borrow.Author.Needs.{needs}
+use Prim.Native.Nat.{_-_}
 use Rattle.plan.proofs.ArrayLaws.{pick-yes, pick-no}
 use Rattle.plan.proofs.parts.moved.Statement.{statement}
 use Rattle.plan.proofs.parts.moved.Tie as tie
 use Rattle.plan.proofs.parts.moved.Reads as reads
 use Rattle.plan.proofs.parts.moved.Lts as lts
 
--- src/parts.rt:27:1
 returns : tie.Need-returns
 returns c = pick-yes (c .before .args .c) (c .before .args .high) (c .before .args .low) (c .if1 .taken)
 
--- src/parts.rt:27:1
 returns-2 : tie.Need-returns-2
 returns-2 c = pick-no (c .before .args .c) (c .before .args .high) (c .before .args .low) (c .if1 .left)
 

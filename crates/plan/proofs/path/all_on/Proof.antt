@@ -1,10 +1,6 @@
-use mathlib.Core.Path.{_≡_, refl, sym, _∙_, ap}
-use mathlib.Core.Bool.{Bool, cond, _&&_, _||_}
-use mathlib.Core.List.{List, [], _∷_}
-use Prim.Native.Nat.{ℕ, zero, suc, _+_, _-_, _≤_, _<_}
+use mathlib.Core.Path.{refl, ap}
+use Prim.Native.Nat.{_-_, _≤_}
 use native.Mathlib.Omega.{arith}
-use lib.Dec.{eqb}
-use lib.ListN.{length, getD, set}
 use borrow.Author.Needs.{needs}
 use Rattle.plan.specs.Arrays.{isOn}
 use Rattle.plan.specs.Four.{slot}
@@ -21,31 +17,24 @@ Inv-loop marks links all₀ j₀ all j = (j ≤ links .count) × Each (isOn mark
 abbrev μ-loop : tie.MeasureT-loop
 μ-loop marks links all₀ j₀ all j = j
 
--- src/path.rt:77:5
 loop-holds : tie.Need-loop-holds Inv-loop μ-loop
 loop-holds c = (omega arith, each-start (isOn (c .args .marks .now)) (slot (c .args .links)) (c .args .links .count))
 
--- src/path.rt:78:9
 sub-j : tie.Need-sub-j Inv-loop μ-loop
 sub-j c = search needs
 
--- src/path.rt:79:22
 index-requires : tie.Need-index-requires Inv-loop μ-loop
 index-requires c κs = c .before .before .pre (c .before .loop .j - 1)
 
--- src/path.rt:79:16
 element-copy-out-all : tie.Need-element-copy-out-all Inv-loop μ-loop
 element-copy-out-all c = search needs
 
--- src/path.rt:77:5
 loop-less : tie.Need-loop-less Inv-loop μ-loop
 loop-less c = search needs
 
--- src/path.rt:77:5
 loop-again : tie.Need-loop-again Inv-loop μ-loop
 loop-again c = (omega (arith, c .before .before .before .loop .inv .0), each-next (isOn (c .before .before .before .before .args .marks .now)) (slot (c .before .before .before .before .args .links)) (c .before .before .before .before .args .links .count) (isOn (c .before .before .before .before .args .marks .now) (c .before .index .result)) (c .before .before .before .loop .inv .1) (c .before .before .loop-test .taken) (c .before .before .before .loop .inv .0) (ap (isOn (c .before .before .before .before .args .marks .now)) (c .before .index .ensures .0)) refl)
 
--- src/path.rt:71:1
 returns : tie.Need-returns Inv-loop μ-loop
 returns c = each-listed (isOn (c .before .before .args .marks .now)) (c .before .before .args .links) (c .before .loop .inv .1) (omega (arith, c .loop-test .left))
 

@@ -1,10 +1,7 @@
-use mathlib.Core.Path.{_≡_, refl, sym, _∙_, ap}
-use mathlib.Core.Bool.{Bool, cond, _&&_, _||_}
-use mathlib.Core.List.{List, [], _∷_}
-use Prim.Native.Nat.{ℕ, zero, suc, _+_, _-_, _≤_, _<_}
+use mathlib.Core.Path.{_∙_, ap}
+use Prim.Native.Nat.{ℕ, _-_, _≤_}
 use native.Mathlib.Omega.{arith}
 use lib.Dec.{eqb}
-use lib.ListN.{length, getD, set}
 use borrow.Author.Needs.{needs}
 use Rattle.plan.specs.Shape.{degreeIn}
 use Rattle.plan.specs.Four.{slot, listed}
@@ -26,39 +23,30 @@ Inv-loop firsts seconds ranks links found₀ j₀ found j = (j ≤ ranks .count)
 abbrev μ-loop : tie.MeasureT-loop
 μ-loop firsts seconds ranks links found₀ j₀ found j = j
 
--- src/path.rt:44:9
 none-requires : tie.Need-none-requires Inv-loop μ-loop
 none-requires c κs = search needs
 
--- src/path.rt:46:5
 loop-holds : tie.Need-loop-holds Inv-loop μ-loop
 loop-holds c = (omega arith, picked-start (λ (i : ℕ). eqb (degreeIn (c .before .args .firsts .now) (c .before .args .seconds .now) (listed (c .before .args .links)) i) 1) (slot (c .before .args .ranks)) (c .before .args .ranks .count) (c .none .result) (c .none .ensures))
 
--- src/path.rt:47:9
 sub-j : tie.Need-sub-j Inv-loop μ-loop
 sub-j c = search needs
 
--- src/path.rt:48:13
 get-requires : tie.Need-get-requires Inv-loop μ-loop
 get-requires c κs = search needs
 
--- src/path.rt:49:13
 links-at-requires : tie.Need-links-at-requires Inv-loop μ-loop
 links-at-requires c κs = (c .before .before .before .before .pre .1, c .before .before .before .before .pre .2)
 
--- src/path.rt:50:9
 with-requires : tie.Need-with-requires Inv-loop μ-loop
 with-requires c κs = picked-room (λ (i : ℕ). eqb (degreeIn (c .before .before .before .before .before .before .args .firsts .now) (c .before .before .before .before .before .before .args .seconds .now) (listed (c .before .before .before .before .before .before .args .links)) i) 1) (slot (c .before .before .before .before .before .before .args .ranks)) (c .before .before .before .before .before .before .args .ranks .count) (c .before .before .before .before .loop .inv .1) (c .before .before .before .before .before .before .pre .0)
 
--- src/path.rt:46:5
 loop-less : tie.Need-loop-less Inv-loop μ-loop
 loop-less c = search needs
 
--- src/path.rt:46:5
 loop-again : tie.Need-loop-again Inv-loop μ-loop
 loop-again c = (omega (arith, c .before .before .before .before .before .loop .inv .0), picked-next (λ (i : ℕ). eqb (degreeIn (c .before .before .before .before .before .before .before .args .firsts .now) (c .before .before .before .before .before .before .before .args .seconds .now) (listed (c .before .before .before .before .before .before .before .args .links)) i) 1) (slot (c .before .before .before .before .before .before .before .args .ranks)) (c .before .before .before .before .before .before .before .args .ranks .count) (eqb (c .before .before .links-at .result .count) 1) (c .before .before .before .get .result) (c .before .before .before .before .before .loop .inv .1) (c .before .before .before .before .loop-test .taken) (c .before .before .before .before .before .loop .inv .0) (c .with .ensures) (ap (λ (d : ℕ). eqb d 1) (held-count _ (c .before .before .links-at .ensures)) ∙ ap (λ (i : ℕ). eqb (degreeIn (c .before .before .before .before .before .before .before .args .firsts .now) (c .before .before .before .before .before .before .before .args .seconds .now) (listed (c .before .before .before .before .before .before .before .args .links)) i) 1) (c .before .before .before .get .ensures)) (c .before .before .before .get .ensures))
 
--- src/path.rt:40:1
 returns : tie.Need-returns Inv-loop μ-loop
 returns c = ends-whole (c .before .before .before .args .firsts .now) (c .before .before .before .args .seconds .now) (listed (c .before .before .before .args .links)) (c .before .before .before .args .ranks) (c .before .loop .inv .1) (omega (arith, c .loop-test .left))
 

@@ -1,10 +1,6 @@
-use mathlib.Core.Path.{_≡_, refl, sym, _∙_, ap}
-use mathlib.Core.Bool.{Bool, cond, _&&_, _||_}
-use mathlib.Core.List.{List, [], _∷_}
-use Prim.Native.Nat.{ℕ, zero, suc, _+_, _-_, _≤_, _<_}
+use mathlib.Core.Path.{_∙_, ap}
+use Prim.Native.Nat.{_-_, _≤_}
 use native.Mathlib.Omega.{arith}
-use lib.Dec.{eqb}
-use lib.ListN.{length, getD, set}
 use borrow.Author.Needs.{needs}
 use Rattle.plan.specs.Arrays.{joinsAt}
 use Rattle.plan.specs.Four.{slot}
@@ -26,59 +22,45 @@ Inv-loop firsts seconds links i found₀ j₀ found j = (j ≤ links .count) × 
 abbrev μ-loop : tie.MeasureT-loop
 μ-loop firsts seconds links i found₀ j₀ found j = j
 
--- src/path.rt:29:9
 none-requires : tie.Need-none-requires Inv-loop μ-loop
 none-requires c κs = search needs
 
--- src/path.rt:31:5
 loop-holds : tie.Need-loop-holds Inv-loop μ-loop
 loop-holds c = (omega arith, picked-start (joinsAt (c .before .args .firsts .now) (c .before .args .seconds .now) (c .before .args .i)) (slot (c .before .args .links)) (c .before .args .links .count) (c .none .result) (c .none .ensures))
 
--- src/path.rt:32:9
 sub-j : tie.Need-sub-j Inv-loop μ-loop
 sub-j c = search needs
 
--- src/path.rt:33:13
 index-requires : tie.Need-index-requires Inv-loop μ-loop
 index-requires c κs = c .before .before .before .pre .1 (c .before .loop .j - 1)
 
--- src/path.rt:34:28
 get-requires : tie.Need-get-requires Inv-loop μ-loop
 get-requires c κs = search needs
 
--- src/path.rt:34:48
 mul-joins : tie.Need-mul-joins Inv-loop μ-loop
 mul-joins c = search needs
 
--- src/path.rt:34:48
 element-copy-out-joins : tie.Need-element-copy-out-joins Inv-loop μ-loop
 element-copy-out-joins c = search needs
 
--- src/path.rt:34:59
 mul-joins-2 : tie.Need-mul-joins-2 Inv-loop μ-loop
 mul-joins-2 c = search needs
 
--- src/path.rt:34:59
 element-copy-out-joins-2 : tie.Need-element-copy-out-joins-2 Inv-loop μ-loop
 element-copy-out-joins-2 c = search needs
 
--- src/path.rt:34:42
 joins-requires : tie.Need-joins-requires Inv-loop μ-loop
 joins-requires c κs = search needs
 
--- src/path.rt:34:9
 with-requires : tie.Need-with-requires Inv-loop μ-loop
 with-requires c κs = picked-room (joinsAt (c .before .before .before .before .before .before .before .before .args .firsts .now) (c .before .before .before .before .before .before .before .before .args .seconds .now) (c .before .before .before .before .before .before .before .before .args .i)) (slot (c .before .before .before .before .before .before .before .before .args .links)) (c .before .before .before .before .before .before .before .before .args .links .count) (c .before .before .before .before .before .before .loop .inv .1) (c .before .before .before .before .before .before .before .before .pre .0)
 
--- src/path.rt:31:5
 loop-less : tie.Need-loop-less Inv-loop μ-loop
 loop-less c = search needs
 
--- src/path.rt:31:5
 loop-again : tie.Need-loop-again Inv-loop μ-loop
 loop-again c = (omega (arith, c .before .before .before .before .before .before .before .loop .inv .0), picked-next (joinsAt (c .before .before .before .before .before .before .before .before .before .args .firsts .now) (c .before .before .before .before .before .before .before .before .before .args .seconds .now) (c .before .before .before .before .before .before .before .before .before .args .i)) (slot (c .before .before .before .before .before .before .before .before .before .args .links)) (c .before .before .before .before .before .before .before .before .before .args .links .count) (c .before .joins .result) (c .before .before .before .before .get .result) (c .before .before .before .before .before .before .before .loop .inv .1) (c .before .before .before .before .before .before .loop-test .taken) (c .before .before .before .before .before .before .before .loop .inv .0) (c .with .ensures) (c .before .joins .ensures ∙ ap (joinsAt (c .before .before .before .before .before .before .before .before .before .args .firsts .now) (c .before .before .before .before .before .before .before .before .before .args .seconds .now) (c .before .before .before .before .before .before .before .before .before .args .i)) (c .before .before .before .before .before .index .ensures .0)) (c .before .before .before .before .get .ensures))
 
--- src/path.rt:25:1
 returns : tie.Need-returns Inv-loop μ-loop
 returns c = picked-listed (joinsAt (c .before .before .before .args .firsts .now) (c .before .before .before .args .seconds .now) (c .before .before .before .args .i)) (c .before .before .before .args .links) (c .before .loop .inv .1) (omega (arith, c .loop-test .left))
 

@@ -1,10 +1,7 @@
-use mathlib.Core.Path.{_≡_, refl, sym, _∙_, ap}
-use mathlib.Core.Bool.{Bool, cond, _&&_, _||_}
-use mathlib.Core.List.{List, [], _∷_}
-use Prim.Native.Nat.{ℕ, zero, suc, _+_, _-_, _≤_, _<_}
+use mathlib.Core.Path.{refl, _∙_, ap}
+use mathlib.Core.Bool.{_&&_}
+use Prim.Native.Nat.{ℕ, _-_, _≤_}
 use native.Mathlib.Omega.{arith}
-use lib.Dec.{eqb}
-use lib.ListN.{length, getD, set}
 use borrow.Author.Needs.{needs}
 use lib.Dec.{leb}
 use Rattle.plan.specs.Shape.{degreeIn}
@@ -24,31 +21,24 @@ Inv-loop firsts seconds ranks links all₀ j₀ all j = (j ≤ ranks .count) × 
 abbrev μ-loop : tie.MeasureT-loop
 μ-loop firsts seconds ranks links all₀ j₀ all j = j
 
--- src/path.rt:62:5
 loop-holds : tie.Need-loop-holds Inv-loop μ-loop
 loop-holds c = (omega arith, each-start (λ (i : ℕ). leb 1 (degreeIn (c .args .firsts .now) (c .args .seconds .now) (listed (c .args .links)) i) && leb (degreeIn (c .args .firsts .now) (c .args .seconds .now) (listed (c .args .links)) i) 2) (slot (c .args .ranks)) (c .args .ranks .count))
 
--- src/path.rt:63:9
 sub-j : tie.Need-sub-j Inv-loop μ-loop
 sub-j c = search needs
 
--- src/path.rt:64:53
 get-requires : tie.Need-get-requires Inv-loop μ-loop
 get-requires c κs = search needs
 
--- src/path.rt:64:13
 links-at-requires : tie.Need-links-at-requires Inv-loop μ-loop
 links-at-requires c κs = (c .before .before .before .pre .0, c .before .before .before .pre .1)
 
--- src/path.rt:62:5
 loop-less : tie.Need-loop-less Inv-loop μ-loop
 loop-less c = search needs
 
--- src/path.rt:62:5
 loop-again : tie.Need-loop-again Inv-loop μ-loop
 loop-again c = (omega (arith, c .before .before .before .before .before .loop .inv .0), each-next (λ (i : ℕ). leb 1 (degreeIn (c .before .before .before .before .before .before .args .firsts .now) (c .before .before .before .before .before .before .args .seconds .now) (listed (c .before .before .before .before .before .before .args .links)) i) && leb (degreeIn (c .before .before .before .before .before .before .args .firsts .now) (c .before .before .before .before .before .before .args .seconds .now) (listed (c .before .before .before .before .before .before .args .links)) i) 2) (slot (c .before .before .before .before .before .before .args .ranks)) (c .before .before .before .before .before .before .args .ranks .count) (leb 1 (c .before .before .links-at .result .count) && leb (c .before .before .links-at .result .count) 2) (c .before .before .before .before .before .loop .inv .1) (c .before .before .before .before .loop-test .taken) (c .before .before .before .before .before .loop .inv .0) (ap (λ (d : ℕ). leb 1 d && leb d 2) (held-count _ (c .before .before .links-at .ensures)) ∙ ap (λ (i : ℕ). leb 1 (degreeIn (c .before .before .before .before .before .before .args .firsts .now) (c .before .before .before .before .before .before .args .seconds .now) (listed (c .before .before .before .before .before .before .args .links)) i) && leb (degreeIn (c .before .before .before .before .before .before .args .firsts .now) (c .before .before .before .before .before .before .args .seconds .now) (listed (c .before .before .before .before .before .before .args .links)) i) 2) (c .before .before .before .get .ensures)) refl)
 
--- src/path.rt:56:1
 returns : tie.Need-returns Inv-loop μ-loop
 returns c = regular-whole (c .before .before .args .firsts .now) (c .before .before .args .seconds .now) (listed (c .before .before .args .links)) (c .before .before .args .ranks) (c .before .loop .inv .1) (omega (arith, c .loop-test .left))
 

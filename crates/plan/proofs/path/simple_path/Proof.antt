@@ -1,13 +1,9 @@
-use mathlib.Core.Path.{_≡_, refl, sym, _∙_, ap}
-use mathlib.Core.Bool.{Bool, cond, _&&_, _||_}
-use mathlib.Core.List.{List, [], _∷_}
-use Prim.Native.Nat.{ℕ, zero, suc, _+_, _-_, _≤_, _<_}
+use mathlib.Core.Path.{sym}
+use Prim.Native.Nat.{ℕ, _-_, _<_}
 use native.Mathlib.Omega.{arith}
-use lib.Dec.{eqb}
-use lib.ListN.{length, getD, set}
 use mathlib.Core.Path.{subst}
 use Rattle.links.specs.HeldLimits.{limitsOf}
-use Rattle.plan.specs.Four.{slot, listed}
+use Rattle.plan.specs.Four.{listed}
 use Rattle.plan.proofs.AcceptLaws.{ends-slots, path-as}
 use borrow.Author.Needs.{needs}
 use Rattle.plan.proofs.path.simple_path.Statement.{statement}
@@ -20,39 +16,30 @@ use Rattle.plan.proofs.path.ends.Reads as ends-reads
 use Rattle.plan.proofs.path.outer.Reads as outer-reads
 use Rattle.plan.proofs.path.regular.Reads as regular-reads
 
--- src/path.rt:118:9
 ends-requires : tie.Need-ends-requires
 ends-requires c κs = search needs
 
--- src/path.rt:119:71
 get-requires : tie.Need-get-requires
 get-requires c κs = search needs
 
--- src/path.rt:119:9
 outer-requires : tie.Need-outer-requires
 outer-requires c κs = (c .before .before .pre .1, c .before .before .pre .3, subst (λ (i : ℕ). i < 256) (sym (c .get .ensures)) (ends-slots (λ x. x < 256) (c .before .before .args .firsts .now) (c .before .before .args .seconds .now) (listed (c .before .before .args .links)) (c .before .before .args .ranks) (c .before .ends .ensures) (c .before .before .pre .2) (omega arith) 0))
 
--- src/path.rt:120:73
 get-requires-2 : tie.Need-get-requires-2
 get-requires-2 c κs = search needs
 
--- src/path.rt:120:9
 outer-requires-2 : tie.Need-outer-requires-2
 outer-requires-2 c κs = (c .before .before .before .before .pre .1, c .before .before .before .before .pre .3, subst (λ (i : ℕ). i < 256) (sym (c .get2 .ensures)) (ends-slots (λ x. x < 256) (c .before .before .before .before .args .firsts .now) (c .before .before .before .before .args .seconds .now) (listed (c .before .before .before .before .args .links)) (c .before .before .before .before .args .ranks) (c .before .before .before .ends .ensures) (c .before .before .before .before .pre .2) (omega arith) 1))
 
--- src/path.rt:121:9
 regular-requires : tie.Need-regular-requires
 regular-requires c κs = search needs
 
--- src/path.rt:122:18
 add-path : tie.Need-add-path
 add-path c = search needs
 
--- src/path.rt:123:6
 allowed-requires : tie.Need-allowed-requires
 allowed-requires c κs = search needs
 
--- src/path.rt:103:1
 returns : tie.Need-returns
 returns c = path-as (c .before .before .before .before .before .before .before .before .before .before .args .lowers .now) (c .before .before .before .before .before .before .before .before .before .before .args .highers .now) (c .before .before .before .before .before .before .before .before .before .before .args .regions .now) (c .before .before .before .before .before .before .before .before .before .before .args .firsts .now) (c .before .before .before .before .before .before .before .before .before .before .args .seconds .now) (c .before .before .before .before .before .before .before .before .before .before .args .least) (limitsOf (c .before .before .before .before .before .before .before .before .before .before .args .limits) .mostSpans) (c .before .before .before .before .before .before .before .before .before .before .args .ranks) (c .before .before .before .before .before .before .before .before .before .before .args .links) (c .allowed .ensures) (c .before .before .before .before .before .before .before .before .before .ends .ensures) (c .before .before .before .before .regular .ensures) (c .before .before .before .before .before .before .before .before .get .ensures) (c .before .before .before .before .before .before .get2 .ensures) (c .before .before .before .before .before .before .before .outer .ensures) (c .before .before .before .before .before .outer2 .ensures)
 

@@ -1,10 +1,6 @@
-use mathlib.Core.Path.{_≡_, refl, sym, _∙_, ap}
-use mathlib.Core.Bool.{Bool, cond, _&&_, _||_}
-use mathlib.Core.List.{List, [], _∷_}
-use Prim.Native.Nat.{ℕ, zero, suc, _+_, _-_, _≤_, _<_}
+use mathlib.Core.Path.{sym, _∙_, ap}
+use Prim.Native.Nat.{_-_, _≤_}
 use native.Mathlib.Omega.{arith}
-use lib.Dec.{eqb}
-use lib.ListN.{length, getD, set}
 use borrow.Author.Needs.{needs}
 use mathlib.Core.Path.{subst}
 use Rattle.links.specs.HeldLimits.{limitsOf}
@@ -29,43 +25,33 @@ Inv-loop limits bits least ranks found₀ j₀ found j = (j ≤ ranks .count) ×
 abbrev μ-loop : tie.MeasureT-loop
 μ-loop limits bits least ranks found₀ j₀ found j = j
 
--- src/retain.rt:61:9
 none-requires : tie.Need-none-requires Inv-loop μ-loop
 none-requires c κs = search needs
 
--- src/retain.rt:63:5
 loop-holds : tie.Need-loop-holds Inv-loop μ-loop
 loop-holds c = (omega arith, picked-start (fineIn (limitsOf (c .before .args .limits)) (c .before .args .bits .now) (c .before .args .least)) (slot (c .before .args .ranks)) (c .before .args .ranks .count) (c .none .result) (c .none .ensures))
 
--- src/retain.rt:64:9
 sub-j : tie.Need-sub-j Inv-loop μ-loop
 sub-j c = search needs
 
--- src/retain.rt:65:28
 get-requires : tie.Need-get-requires Inv-loop μ-loop
 get-requires c κs = search needs
 
--- src/retain.rt:65:75
 index-requires : tie.Need-index-requires Inv-loop μ-loop
 index-requires c κs = c .before .before .before .before .pre .1 (c .before .before .loop .j - 1) .below
 
--- src/retain.rt:65:42
 is-eligible-requires : tie.Need-is-eligible-requires Inv-loop μ-loop
 is-eligible-requires c κs = subst (WidthFits (c .before .before .before .before .before .args .bits .now)) (sym (c .index .ensures .0)) (c .before .before .before .before .before .pre .1 (c .before .before .before .loop .j - 1))
 
--- src/retain.rt:65:9
 with-requires : tie.Need-with-requires Inv-loop μ-loop
 with-requires c κs = picked-room (fineIn (limitsOf (c .before .before .before .before .before .before .args .limits)) (c .before .before .before .before .before .before .args .bits .now) (c .before .before .before .before .before .before .args .least)) (slot (c .before .before .before .before .before .before .args .ranks)) (c .before .before .before .before .before .before .args .ranks .count) (c .before .before .before .before .loop .inv .1) (c .before .before .before .before .before .before .pre .0)
 
--- src/retain.rt:63:5
 loop-less : tie.Need-loop-less Inv-loop μ-loop
 loop-less c = search needs
 
--- src/retain.rt:63:5
 loop-again : tie.Need-loop-again Inv-loop μ-loop
 loop-again c = (omega (arith, c .before .before .before .before .before .loop .inv .0), picked-next (fineIn (limitsOf (c .before .before .before .before .before .before .before .args .limits)) (c .before .before .before .before .before .before .before .args .bits .now) (c .before .before .before .before .before .before .before .args .least)) (slot (c .before .before .before .before .before .before .before .args .ranks)) (c .before .before .before .before .before .before .before .args .ranks .count) (c .before .is-eligible .result) (c .before .before .before .get .result) (c .before .before .before .before .before .loop .inv .1) (c .before .before .before .before .loop-test .taken) (c .before .before .before .before .before .loop .inv .0) (c .with .ensures) (c .before .is-eligible .ensures ∙ ap (fineIn (limitsOf (c .before .before .before .before .before .before .before .args .limits)) (c .before .before .before .before .before .before .before .args .bits .now) (c .before .before .before .before .before .before .before .args .least)) (c .before .before .index .ensures .0)) (c .before .before .before .get .ensures))
 
--- src/retain.rt:57:1
 returns : tie.Need-returns Inv-loop μ-loop
 returns c = picked-listed (fineIn (limitsOf (c .before .before .before .args .limits)) (c .before .before .before .args .bits .now) (c .before .before .before .args .least)) (c .before .before .before .args .ranks) (c .before .loop .inv .1) (omega (arith, c .loop-test .left))
 

@@ -1,10 +1,6 @@
-use mathlib.Core.Path.{_≡_, refl, sym, _∙_, ap}
-use mathlib.Core.Bool.{Bool, cond, _&&_, _||_}
-use mathlib.Core.List.{List, [], _∷_}
-use Prim.Native.Nat.{ℕ, zero, suc, _+_, _-_, _≤_, _<_}
+use mathlib.Core.Path.{sym, ap}
+use Prim.Native.Nat.{ℕ, _-_, _≤_}
 use native.Mathlib.Omega.{arith}
-use lib.Dec.{eqb}
-use lib.ListN.{length, getD, set}
 use borrow.Author.Needs.{needs}
 use mathlib.Core.Path.{subst}
 use Rattle.length.specs.Total.{totalLe}
@@ -25,55 +21,42 @@ Inv-loop bits ranks j₀ least₀ j least = First totalLe (λ i. at bits (slot r
 abbrev μ-loop : tie.MeasureT-loop
 μ-loop bits ranks j₀ least₀ j least = j
 
--- src/retain.rt:37:17
 sub-j : tie.Need-sub-j Inv-loop μ-loop
 sub-j c = search needs
 
--- src/retain.rt:38:26
 index-requires : tie.Need-index-requires Inv-loop μ-loop
 index-requires c κs = c .before .pre .1 (c .before .args .ranks .count - 1) .below
 
--- src/retain.rt:38:21
 mul-least : tie.Need-mul-least Inv-loop μ-loop
 mul-least c = search needs
 
--- src/retain.rt:38:21
 element-copy-out-least : tie.Need-element-copy-out-least Inv-loop μ-loop
 element-copy-out-least c = search needs
 
--- src/retain.rt:39:5
 loop-holds : tie.Need-loop-holds Inv-loop μ-loop
 loop-holds c = (first-start totalLe (λ i. at (c .before .before .before .args .bits .now) (slot (c .before .before .before .args .ranks) i)) (c .before .before .before .args .ranks .count) (c .before .before .before .args .ranks .count - 1) (omega (arith, c .before .before .before .pre .0)) (ap (at (c .before .before .before .args .bits .now)) (c .before .index .ensures .0)), subst (λ (i : ℕ). at (c .before .before .before .args .bits .now) i ≤ 0x40D0_0000_0000_0000) (sym (c .before .index .ensures .0)) (c .before .before .before .pre .1 (c .before .before .before .args .ranks .count - 1) .fits))
 
--- src/retain.rt:40:9
 sub-j-2 : tie.Need-sub-j-2 Inv-loop μ-loop
 sub-j-2 c = search needs
 
--- src/retain.rt:41:29
 index-requires-2 : tie.Need-index-requires-2 Inv-loop μ-loop
 index-requires-2 c κs = c .before .before .before .before .before .pre .1 (c .before .loop .j - 1) .below
 
--- src/retain.rt:41:24
 mul-lesser : tie.Need-mul-lesser Inv-loop μ-loop
 mul-lesser c = search needs
 
--- src/retain.rt:41:24
 element-copy-out-lesser : tie.Need-element-copy-out-lesser Inv-loop μ-loop
 element-copy-out-lesser c = search needs
 
--- src/retain.rt:41:9
 lesser-requires : tie.Need-lesser-requires Inv-loop μ-loop
 lesser-requires c κs = (subst (λ (i : ℕ). at (c .before .before .before .before .before .before .before .args .bits .now) i ≤ 0x40D0_0000_0000_0000) (sym (c .before .index2 .ensures .0)) (c .before .before .before .before .before .before .before .pre .1 (c .before .before .before .loop .j - 1) .fits), c .before .before .before .loop .inv .1)
 
--- src/retain.rt:39:5
 loop-less : tie.Need-loop-less Inv-loop μ-loop
 loop-less c = search needs
 
--- src/retain.rt:39:5
 loop-again : tie.Need-loop-again Inv-loop μ-loop
 loop-again c = (first-next totalLe (λ i. at (c .before .before .before .before .before .before .before .before .args .bits .now) (slot (c .before .before .before .before .before .before .before .before .args .ranks) i)) (c .before .before .before .before .before .before .before .before .args .ranks .count) (at (c .before .before .before .before .before .before .before .before .args .bits .now) (c .before .before .index2 .result)) (c .before .before .before .before .loop .inv .0) (c .before .before .before .loop-test .taken) (ap (at (c .before .before .before .before .before .before .before .before .args .bits .now)) (c .before .before .index2 .ensures .0)) (c .lesser .ensures .0), c .lesser .ensures .1)
 
--- src/retain.rt:33:1
 returns : tie.Need-returns Inv-loop μ-loop
 returns c = (least-listed (c .before .before .before .before .before .args .bits .now) (c .before .before .before .before .before .args .ranks) (c .before .loop .inv .0) (omega (arith, c .loop-test .left)), c .before .loop .inv .1)
 

@@ -1,10 +1,5 @@
-use mathlib.Core.Path.{_≡_, refl, sym, _∙_, ap}
-use mathlib.Core.Bool.{Bool, cond, _&&_, _||_}
-use mathlib.Core.List.{List, [], _∷_}
-use Prim.Native.Nat.{ℕ, zero, suc, _+_, _-_, _≤_, _<_}
-use native.Mathlib.Omega.{arith}
-use lib.Dec.{eqb}
-use lib.ListN.{length, getD, set}
+use mathlib.Core.Path.{sym, _∙_}
+use Prim.Native.Nat.{_-_}
 use Rattle.plan.proofs.ValueLaws.{choose-yes, choose-no}
 use borrow.Author.Needs.{needs}
 use Rattle.plan.proofs.retain.lesser.Statement.{statement}
@@ -13,15 +8,12 @@ use Rattle.plan.proofs.retain.lesser.Reads as reads
 use Rattle.plan.proofs.retain.lesser.Lts as lts
 use Rattle.length.proofs.floats.total_le.Reads as total-le-reads
 
--- src/retain.rt:29:8
 total-le-requires : tie.Need-total-le-requires
 total-le-requires c κs = search needs
 
--- src/retain.rt:25:1
 returns : tie.Need-returns
 returns c = (choose-yes (c .before .before .args .a) (c .before .before .args .b) (sym (c .before .total-le .ensures) ∙ c .if1 .taken), c .before .before .pre .0)
 
--- src/retain.rt:25:1
 returns-2 : tie.Need-returns-2
 returns-2 c = (choose-no (c .before .before .args .a) (c .before .before .args .b) (sym (c .before .total-le .ensures) ∙ c .if1 .left), c .before .before .pre .1)
 

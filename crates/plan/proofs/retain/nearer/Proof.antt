@@ -1,10 +1,5 @@
-use mathlib.Core.Path.{_≡_, refl, sym, _∙_, ap}
-use mathlib.Core.Bool.{Bool, cond, _&&_, _||_}
-use mathlib.Core.List.{List, [], _∷_}
-use Prim.Native.Nat.{ℕ, zero, suc, _+_, _-_, _≤_, _<_}
-use native.Mathlib.Omega.{arith}
-use lib.Dec.{eqb}
-use lib.ListN.{length, getD, set}
+use mathlib.Core.Path.{sym, _∙_}
+use Prim.Native.Nat.{_-_}
 use Rattle.plan.specs.Four.{listed}
 use Rattle.plan.proofs.ValueLaws.{choose-yes, choose-no, nearer-as}
 use borrow.Author.Needs.{needs}
@@ -15,23 +10,18 @@ use Rattle.plan.proofs.retain.nearer.Lts as lts
 use Rattle.links.proofs.sums.no_later.Reads as no-later-reads
 use Rattle.plan.proofs.retain.sum_from.Reads as sum-from-reads
 
--- src/retain.rt:87:9
 sum-from-requires : tie.Need-sum-from-requires
 sum-from-requires c κs = search needs
 
--- src/retain.rt:88:9
 sum-from-requires-2 : tie.Need-sum-from-requires-2
 sum-from-requires-2 c κs = search needs
 
--- src/retain.rt:89:8
 no-later-requires : tie.Need-no-later-requires
 no-later-requires c κs = search needs
 
--- src/retain.rt:83:1
 returns : tie.Need-returns
 returns c = (choose-yes (c .before .before .before .before .args .i) (c .before .before .before .before .args .j) (sym (nearer-as (c .before .before .before .before .args .own .now) (listed (c .before .before .before .before .args .ranks)) (c .before .before .before .before .args .i) (c .before .before .before .before .args .j) (c .before .before .before .sum-from .ensures .0) (c .before .before .sum-from2 .ensures .0) (c .before .no-later .ensures)) ∙ c .if1 .taken), c .before .before .before .before .pre .3)
 
--- src/retain.rt:83:1
 returns-2 : tie.Need-returns-2
 returns-2 c = (choose-no (c .before .before .before .before .args .i) (c .before .before .before .before .args .j) (sym (nearer-as (c .before .before .before .before .args .own .now) (listed (c .before .before .before .before .args .ranks)) (c .before .before .before .before .args .i) (c .before .before .before .before .args .j) (c .before .before .before .sum-from .ensures .0) (c .before .before .sum-from2 .ensures .0) (c .before .no-later .ensures)) ∙ c .if1 .left), c .before .before .before .before .pre .4)
 

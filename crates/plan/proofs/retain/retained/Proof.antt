@@ -1,10 +1,4 @@
-use mathlib.Core.Path.{_≡_, refl, sym, _∙_, ap}
-use mathlib.Core.Bool.{Bool, cond, _&&_, _||_}
-use mathlib.Core.List.{List, [], _∷_}
-use Prim.Native.Nat.{ℕ, zero, suc, _+_, _-_, _≤_, _<_}
-use native.Mathlib.Omega.{arith}
-use lib.Dec.{eqb}
-use lib.ListN.{length, getD, set}
+use Prim.Native.Nat.{_-_}
 use Rattle.links.specs.HeldLimits.{limitsOf}
 use Rattle.plan.specs.Shape.{fineIn}
 use Rattle.plan.specs.Fitting.{RankFits}
@@ -22,31 +16,24 @@ use Rattle.plan.proofs.retain.eligible.Reads as eligible-reads
 use Rattle.plan.proofs.retain.least_bits.Reads as least-bits-reads
 use Rattle.plan.proofs.retain.nearest.Reads as nearest-reads
 
--- src/retain.rt:111:26
 least-bits-requires : tie.Need-least-bits-requires
 least-bits-requires c κs = search needs
 
--- src/retain.rt:111:9
 width-of-requires : tie.Need-width-of-requires
 width-of-requires c κs = search needs
 
--- src/retain.rt:112:9
 eligible-requires : tie.Need-eligible-requires
 eligible-requires c κs = search needs
 
--- src/retain.rt:114:9
 index-requires : tie.Need-index-requires
 index-requires c κs = c .before .before .before .before .before .pre .2 0 .below
 
--- src/retain.rt:114:9
 returns : tie.Need-returns
 returns c = (retained-none (limitsOf (c .before .before .before .before .before .before .args .limits)) (c .before .before .before .before .before .before .args .own .now) (c .before .before .before .before .before .before .args .bits .now) (c .before .before .before .before .before .before .args .ranks) (eligible-as (limitsOf (c .before .before .before .before .before .before .args .limits)) (c .before .before .before .before .before .before .args .bits .now) (listed (c .before .before .before .before .before .before .args .ranks)) (c .before .before .before .before .width-of .ensures) (c .before .before .before .before .before .least-bits .ensures .0) (c .before .before .before .eligible .ensures)) (c .before .if1 .taken) (c .before .before .before .before .before .before .pre .0) (c .index .ensures .0), c .index .ensures .1)
 
--- src/retain.rt:116:5
 nearest-requires : tie.Need-nearest-requires
 nearest-requires c κs = (c .before .before .before .before .before .pre .0, c .before .before .before .before .before .pre .1, positive (c .before .before .eligible .result .count) (c .if1 .left), c .before .before .before .before .before .pre .2, kept-slots (RankFits (c .before .before .before .before .before .args .own .now)) (fineIn (limitsOf (c .before .before .before .before .before .args .limits)) (c .before .before .before .before .before .args .bits .now) (c .before .before .before .width-of .result)) (c .before .before .before .before .before .args .ranks) (c .before .before .eligible .ensures) (c .before .before .before .before .before .pre .2) (c .before .before .before .before .before .pre .4))
 
--- src/retain.rt:107:1
 returns-2 : tie.Need-returns-2
 returns-2 c = (retained-some (limitsOf (c .before .before .before .before .before .before .args .limits)) (c .before .before .before .before .before .before .args .own .now) (c .before .before .before .before .before .before .args .bits .now) (c .before .before .before .before .before .before .args .ranks) (eligible-as (limitsOf (c .before .before .before .before .before .before .args .limits)) (c .before .before .before .before .before .before .args .bits .now) (listed (c .before .before .before .before .before .before .args .ranks)) (c .before .before .before .before .width-of .ensures) (c .before .before .before .before .before .least-bits .ensures .0) (c .before .before .before .eligible .ensures)) (c .before .before .before .before .before .before .pre .1) (c .before .if1 .left) (c .nearest .ensures .0), c .nearest .ensures .1)
 

@@ -1,10 +1,7 @@
-use mathlib.Core.Path.{_≡_, refl, sym, _∙_, ap}
-use mathlib.Core.Bool.{Bool, cond, _&&_, _||_}
-use mathlib.Core.List.{List, [], _∷_}
-use Prim.Native.Nat.{ℕ, zero, suc, _+_, _-_, _≤_, _<_}
-use native.Mathlib.Omega.{arith}
+use mathlib.Core.Path.{ap}
+use mathlib.Core.Bool.{Bool, _&&_}
+use Prim.Native.Nat.{_-_}
 use lib.Dec.{eqb}
-use lib.ListN.{length, getD, set}
 use Rattle.plan.proofs.ValueLaws.{both}
 use borrow.Author.Needs.{needs}
 use Rattle.plan.proofs.select.is_flat_link.Statement.{statement}
@@ -14,19 +11,15 @@ use Rattle.plan.proofs.select.is_flat_link.Lts as lts
 use Rattle.plan.proofs.alike.alike.Reads as alike-reads
 use Rattle.plan.proofs.select.is_free.Reads as is-free-reads
 
--- src/select.rt:59:16
 is-free-requires : tie.Need-is-free-requires
 is-free-requires c κs = search needs
 
--- src/select.rt:59:39
 is-free-requires-2 : tie.Need-is-free-requires-2
 is-free-requires-2 c κs = search needs
 
--- src/select.rt:60:9
 alike-requires : tie.Need-alike-requires
 alike-requires c κs = search needs
 
--- src/select.rt:55:1
 returns : tie.Need-returns
 returns c = ap (λ (t : Bool). eqb (c .before .before .before .args .flat) 1 && t) (both _&&_ (both _&&_ (c .before .before .is-free .ensures) (c .before .is-free2 .ensures)) (c .alike .ensures))
 

@@ -1,10 +1,7 @@
-use mathlib.Core.Path.{_≡_, refl, sym, _∙_, ap}
-use mathlib.Core.Bool.{Bool, cond, _&&_, _||_}
-use mathlib.Core.List.{List, [], _∷_}
-use Prim.Native.Nat.{ℕ, zero, suc, _+_, _-_, _≤_, _<_}
+use mathlib.Core.Path.{sym, _∙_, ap}
+use mathlib.Core.Bool.{Bool, cond}
+use Prim.Native.Nat.{_-_, _≤_}
 use native.Mathlib.Omega.{arith}
-use lib.Dec.{eqb}
-use lib.ListN.{length, getD, set}
 use borrow.Author.Needs.{needs}
 use mathlib.Core.Path.{subst}
 use Rattle.links.specs.HeldLimits.{limitsOf}
@@ -27,63 +24,48 @@ Inv-loop limits own flat into firsts seconds links chosen₀ k₀ chosen k = (k 
 abbrev μ-loop : tie.MeasureT-loop
 μ-loop limits own flat into firsts seconds links chosen₀ k₀ chosen k = links - k
 
--- src/select.rt:79:5
 loop-holds : tie.Need-loop-holds Inv-loop μ-loop
 loop-holds c = (omega arith, filled-none (c .pre .0))
 
--- src/select.rt:80:52
 element-copy-out-is-flat-link : tie.Need-element-copy-out-is-flat-link Inv-loop μ-loop
 element-copy-out-is-flat-link c = search needs
 
--- src/select.rt:80:73
 mul-index : tie.Need-mul-index Inv-loop μ-loop
 mul-index c = search needs
 
--- src/select.rt:80:73
 element-copy-out-index : tie.Need-element-copy-out-index Inv-loop μ-loop
 element-copy-out-index c = search needs
 
--- src/select.rt:80:67
 index-requires : tie.Need-index-requires Inv-loop μ-loop
 index-requires c κs = search needs
 
--- src/select.rt:80:91
 mul-index-2 : tie.Need-mul-index-2 Inv-loop μ-loop
 mul-index-2 c = search needs
 
--- src/select.rt:80:91
 element-copy-out-index-2 : tie.Need-element-copy-out-index-2 Inv-loop μ-loop
 element-copy-out-index-2 c = search needs
 
--- src/select.rt:80:85
 index-requires-2 : tie.Need-index-requires-2 Inv-loop μ-loop
 index-requires-2 c κs = search needs
 
--- src/select.rt:80:26
 is-flat-link-requires : tie.Need-is-flat-link-requires Inv-loop μ-loop
 is-flat-link-requires c κs = (subst (RankFits (c .before .before .before .before .before .before .before .args .own .now)) (sym (c .before .before .index .ensures)) (c .before .before .before .before .before .before .before .pre .2 (c .before .before .before .before .before .before .loop .k) (c .before .before .before .before .before .loop-test .taken) .first), subst (RankFits (c .before .before .before .before .before .before .before .args .own .now)) (sym (c .index2 .ensures)) (c .before .before .before .before .before .before .before .pre .2 (c .before .before .before .before .before .before .loop .k) (c .before .before .before .before .before .loop-test .taken) .second))
 
--- src/select.rt:80:21
 mark-requires : tie.Need-mark-requires Inv-loop μ-loop
 mark-requires c κs = search needs
 
--- src/select.rt:80:9
 element-write-chosen : tie.Need-element-write-chosen Inv-loop μ-loop
 element-write-chosen c = search needs
 
--- src/select.rt:81:9
 add-k : tie.Need-add-k Inv-loop μ-loop
 add-k c = search needs
 
--- src/select.rt:79:5
 loop-less : tie.Need-loop-less Inv-loop μ-loop
 loop-less c = search needs
 
--- src/select.rt:79:5
 loop-again : tie.Need-loop-again Inv-loop μ-loop
 loop-again c = (omega (arith, c .before .before .before .before .before .before .before .loop-test .taken), filled-next (c .mark .result) (c .before .before .before .before .before .before .before .before .loop .inv .1) (omega (arith, c .before .before .before .before .before .before .before .loop-test .taken, c .before .before .before .before .before .before .before .before .before .pre .1)) (c .mark .ensures ∙ ap (λ (t : Bool). cond t 1 0) (c .before .is-flat-link .ensures ∙ both (flatLinkIn (limitsOf (c .before .before .before .before .before .before .before .before .before .args .limits)) (c .before .before .before .before .before .before .before .before .before .args .own .now) (c .before .before .before .before .before .before .before .before .before .args .into .now) (at (c .before .before .before .before .before .before .before .before .before .args .flat .now) (c .before .before .before .before .before .before .before .before .loop .k))) (c .before .before .before .before .index .ensures) (c .before .before .index2 .ensures))))
 
--- src/select.rt:65:1
 returns : tie.Need-returns Inv-loop μ-loop
 returns c = filled-upto (c .before .loop .inv .1) (c .loop-test .left)
 

@@ -1,10 +1,7 @@
-use mathlib.Core.Path.{_≡_, refl, sym, _∙_, ap}
-use mathlib.Core.Bool.{Bool, cond, _&&_, _||_}
-use mathlib.Core.List.{List, [], _∷_}
-use Prim.Native.Nat.{ℕ, zero, suc, _+_, _-_, _≤_, _<_}
+use mathlib.Core.Path.{sym, _∙_, ap}
+use mathlib.Core.Bool.{Bool, cond}
+use Prim.Native.Nat.{ℕ, _-_, _≤_, _<_}
 use native.Mathlib.Omega.{arith}
-use lib.Dec.{eqb}
-use lib.ListN.{length, getD, set}
 use borrow.Author.Needs.{needs}
 use mathlib.Core.Path.{subst}
 use Rattle.plan.specs.Arrays.{at, Filled}
@@ -25,59 +22,45 @@ Inv-loop marks firsts seconds links chosen₀ k₀ chosen k = (k ≤ links) × F
 abbrev μ-loop : tie.MeasureT-loop
 μ-loop marks firsts seconds links chosen₀ k₀ chosen k = links - k
 
--- src/select.rt:40:5
 loop-holds : tie.Need-loop-holds Inv-loop μ-loop
 loop-holds c = (omega arith, filled-none (c .pre .0))
 
--- src/select.rt:41:47
 mul-index : tie.Need-mul-index Inv-loop μ-loop
 mul-index c = search needs
 
--- src/select.rt:41:47
 element-copy-out-index : tie.Need-element-copy-out-index Inv-loop μ-loop
 element-copy-out-index c = search needs
 
--- src/select.rt:41:41
 index-requires : tie.Need-index-requires Inv-loop μ-loop
 index-requires c κs = search needs
 
--- src/select.rt:41:65
 mul-index-2 : tie.Need-mul-index-2 Inv-loop μ-loop
 mul-index-2 c = search needs
 
--- src/select.rt:41:65
 element-copy-out-index-2 : tie.Need-element-copy-out-index-2 Inv-loop μ-loop
 element-copy-out-index-2 c = search needs
 
--- src/select.rt:41:59
 index-requires-2 : tie.Need-index-requires-2 Inv-loop μ-loop
 index-requires-2 c κs = search needs
 
--- src/select.rt:41:26
 both-on-requires : tie.Need-both-on-requires Inv-loop μ-loop
 both-on-requires c κs = (subst (λ (i : ℕ). i < 256) (sym (c .before .before .index .ensures)) (c .before .before .before .before .before .before .pre .1 .first-in (c .before .before .before .before .before .loop .k) (c .before .before .before .before .loop-test .taken)), subst (λ (i : ℕ). i < 256) (sym (c .index2 .ensures)) (c .before .before .before .before .before .before .pre .1 .second-in (c .before .before .before .before .before .loop .k) (c .before .before .before .before .loop-test .taken)))
 
--- src/select.rt:41:21
 mark-requires : tie.Need-mark-requires Inv-loop μ-loop
 mark-requires c κs = search needs
 
--- src/select.rt:41:9
 element-write-chosen : tie.Need-element-write-chosen Inv-loop μ-loop
 element-write-chosen c = search needs
 
--- src/select.rt:42:9
 add-k : tie.Need-add-k Inv-loop μ-loop
 add-k c = search needs
 
--- src/select.rt:40:5
 loop-less : tie.Need-loop-less Inv-loop μ-loop
 loop-less c = search needs
 
--- src/select.rt:40:5
 loop-again : tie.Need-loop-again Inv-loop μ-loop
 loop-again c = (omega (arith, c .before .before .before .before .before .before .loop-test .taken), filled-next (c .mark .result) (c .before .before .before .before .before .before .before .loop .inv .1) (omega (arith, c .before .before .before .before .before .before .loop-test .taken, c .before .before .before .before .before .before .before .before .pre .1 .few)) (c .mark .ensures ∙ ap (λ (t : Bool). cond t 1 0) (c .before .both-on .ensures ∙ both (bothOn (c .before .before .before .before .before .before .before .before .args .marks .now)) (c .before .before .before .before .index .ensures) (c .before .before .index2 .ensures))))
 
--- src/select.rt:35:1
 returns : tie.Need-returns Inv-loop μ-loop
 returns c = filled-upto (c .before .loop .inv .1) (c .loop-test .left)
 
