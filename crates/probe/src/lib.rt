@@ -6,6 +6,8 @@ ghost use Rattle.job.specs.SpanEnds.{spanEnds};
 ghost use Rattle.job.specs.Verdict.{meaning, numberOf, detailOf};
 use job::Verdict;
 
+mod own_partition; // the partition alone
+
 #[repr(C)]
 pub struct ProbeResult {
     pub number: u32,
