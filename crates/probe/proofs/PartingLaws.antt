@@ -8,7 +8,7 @@ use native.Mathlib.Nat.{mul-le-mul}
 use native.Mathlib.Omega.{arith}
 use borrow.Author.Tests.{ltb-true, ltb-false}
 use lib.Dec.{ltb}
-use lib.ListN.{length, getD, take, drop, length-drop}
+use lib.ListN.{length, take, drop, length-drop}
 use lib.Seq.{length-take-le}
 use Rattle.order.proofs.Bools.{by-test}
 use Rattle.wire.specs.Bytes.{AreBytes, part, splice, u32Bytes}
@@ -20,7 +20,7 @@ use Rattle.format.specs.Header.{countsAt, headerAt, cellCount}
 use Rattle.format.specs.Decode.{decode, jobWith}
 use Rattle.format.specs.declared.header.Header.{Header}
 use Rattle.grid.specs.Cells.{Grid}
-use Rattle.grid.specs.Directions.{eight, directionsOf, IsDirection}
+use Rattle.grid.specs.Directions.{eight, directionsOf}
 use Rattle.grid.proofs.Directions.{eight-closed, directions-eight}
 use Rattle.areas.specs.Areas.{areaLabels}
 use Rattle.areas.specs.Assessments.{records}

@@ -7,15 +7,12 @@ use Rattle.probe.proofs.own_partition.own_spans.Lts as lts
 use Rattle.ranks.proofs.fill_identity.Reads as fill-identity-reads
 use Rattle.ranks.proofs.fill_spans.Reads as fill-spans-reads
 
--- src/own_partition.rt:30:5
 fill-identity-requires : tie.Need-fill-identity-requires
 fill-identity-requires c κs = search needs
 
--- src/own_partition.rt:31:5
 fill-spans-requires : tie.Need-fill-spans-requires
 fill-spans-requires c κs = (own-order (c .before .before .fill-identity .ensures) (c .before .before .before .before .before .pre .0) (c .before .before .before .before .before .pre .1), c .before .before .before .before .before .pre .2)
 
--- src/own_partition.rt:25:1
 returns : tie.Need-returns
 returns c = record { order = _; identity = c .before .before .before .fill-identity .ensures; spans = c .fill-spans .ensures }
 

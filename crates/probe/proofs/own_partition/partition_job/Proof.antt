@@ -12,71 +12,54 @@ use Rattle.probe.proofs.own_partition.own_spans.Reads as own-spans-read
 use Rattle.probe.proofs.own_partition.size.Reads as size-reads
 use Rattle.probe.proofs.own_partition.write_partition.Reads as write-partition-reads
 
--- src/own_partition.rt:120:18
 mul-size : tie.Need-mul-size
 mul-size c = omega (arith, taken-few (c .before .before .before .pre))
 
--- src/own_partition.rt:120:9
 size-requires : tie.Need-size-requires
 size-requires c κs = search needs
 
--- src/own_partition.rt:122:5
 own-spans-requires : tie.Need-own-spans-requires
 own-spans-requires c κs = (taken-count (c .before .before .before .before .before .pre) (λ i. omega (arith, c .before .before .before .before .shared-slice-known .given i)), taken-inside (c .before .before .before .before .before .pre) (λ i. omega (arith, c .before .before .before .before .shared-slice-known .given i)), refl)
 
--- src/own_partition.rt:129:27
 add-partition-by-spans : tie.Need-add-partition-by-spans
 add-partition-by-spans c = search needs
 
--- src/own_partition.rt:129:9
 sub-partition-by-spans : tie.Need-sub-partition-by-spans
 sub-partition-by-spans c = search needs
 
--- src/own_partition.rt:129:9
 part-partition-by-spans-start : tie.Need-part-partition-by-spans-start
 part-partition-by-spans-start c = search needs
 
--- src/own_partition.rt:129:9
 part-partition-by-spans-end : tie.Need-part-partition-by-spans-end
 part-partition-by-spans-end c = omega (arith, taken-map (c .before .before .before .before .before .before .pre) (λ i. omega (arith, c .before .before .before .before .before .shared-slice-known .given i)), c .before .before .size .ensures .0)
 
--- src/own_partition.rt:136:9
 slice-aggregate-partition-by-spans : tie.Need-slice-aggregate-partition-by-spans
 slice-aggregate-partition-by-spans c = search needs
 
--- src/own_partition.rt:137:9
 slice-aggregate-partition-by-spans-2 : tie.Need-slice-aggregate-partition-by-spans-2
 slice-aggregate-partition-by-spans-2 c = search needs
 
--- src/own_partition.rt:138:9
 slice-aggregate-partition-by-spans-3 : tie.Need-slice-aggregate-partition-by-spans-3
 slice-aggregate-partition-by-spans-3 c = search needs
 
--- src/own_partition.rt:139:9
 slice-aggregate-partition-by-spans-4 : tie.Need-slice-aggregate-partition-by-spans-4
 slice-aggregate-partition-by-spans-4 c = search needs
 
--- src/own_partition.rt:140:9
 slice-aggregate-partition-by-spans-5 : tie.Need-slice-aggregate-partition-by-spans-5
 slice-aggregate-partition-by-spans-5 c = search needs
 
--- src/own_partition.rt:128:9
 partition-by-spans-requires : tie.Need-partition-by-spans-requires
 partition-by-spans-requires c κs = (taken-partitionable (c .before .before .before .before .before .before .before .before .before .before .before .before .before .before .pre) (λ i. omega (arith, c .before .before .before .before .before .before .before .before .before .before .before .before .before .shared-slice-known .given i)) (c .before .before .before .before .before .before .before .before .own-spans .ensures) (48 + c .before .before .before .before .before .before .before .before .before .before .size .result - 48) (omega (arith, c .before .before .before .before .before .before .before .before .before .before .size .ensures .0)), record { removed-are = refl; separated-are = refl; owners-are = refl; lefts-are = refl; rights-are = refl })
 
--- src/own_partition.rt:142:5
 write-partition-requires : tie.Need-write-partition-requires
 write-partition-requires c κs = taken-count (c .before .before .before .before .before .before .before .before .before .before .before .before .before .before .before .before .before .before .before .before .before .before .before .before .before .before .before .before .pre) (λ i. omega (arith, c .before .before .before .before .before .before .before .before .before .before .before .before .before .before .before .before .before .before .before .before .before .before .before .before .before .before .before .shared-slice-known .given i))
 
--- src/own_partition.rt:108:1
 same-length : tie.Need-same-length
 same-length c = search needs
 
--- src/own_partition.rt:108:1
 same-length-2 : tie.Need-same-length-2
 same-length-2 c = search needs
 
--- src/own_partition.rt:108:1
 returns : tie.Need-returns
 returns c = all-parted (c .before .before .before .before .before .before .before .before .before .before .before .before .before .before .before .before .before .before .before .before .before .before .before .before .before .before .before .before .before .before .before .pre) (λ i. omega (arith, c .before .before .before .before .before .before .before .before .before .before .before .before .before .before .before .before .before .before .before .before .before .before .before .before .before .before .before .before .before .before .shared-slice-known .given i)) (c .before .before .before .before .before .before .before .before .before .before .before .before .before .before .before .before .before .before .before .before .before .before .before .before .before .own-spans .ensures) (48 + c .before .before .before .before .before .before .before .before .before .before .before .before .before .before .before .before .before .before .before .before .before .before .before .before .before .before .before .size .result - 48) (omega (arith, c .before .before .before .before .before .before .before .before .before .before .before .before .before .before .before .before .before .before .before .before .before .before .before .before .before .before .before .size .ensures .0)) (c .before .before .before .before .before .before .before .before .before .before .before .before .before .before .before .before .partition-by-spans .ensures) (c .before .before .write-partition .ensures)
 

@@ -16,67 +16,51 @@ use Rattle.job.proofs.verdict.Verdict.passed.Reads as passed-reads
 use Rattle.probe.proofs.own_partition.partition_job.Reads as partition-job-reads
 use Rattle.probe.proofs.own_partition.size.Reads as size-reads
 
--- src/own_partition.rt:160:9
 check-reduce-requires : tie.Need-check-reduce-requires
 check-reduce-requires c κs = search needs
 
--- src/own_partition.rt:161:9
 passed-requires : tie.Need-passed-requires
 passed-requires c κs = search needs
 
--- src/own_partition.rt:163:21
 number-requires : tie.Need-number-requires
 number-requires c κs = search needs
 
--- src/own_partition.rt:164:21
 detail-requires : tie.Need-detail-requires
 detail-requires c κs = search needs
 
--- src/own_partition.rt:162:9
 returns : tie.Need-returns
 returns c = refused (ap passes (sym (c .before .before .before .before .check-reduce .ensures)) ∙ not-passed (meaning (c .before .before .before .before .check-reduce .result)) (c .before .before .before .passed .ensures) (c .before .before .if1 .taken)) (c .before .number .ensures ∙ ap numberOf (c .before .before .before .before .check-reduce .ensures)) (c .detail .ensures ∙ ap detailOf (c .before .before .before .before .check-reduce .ensures)) refl refl
 
--- src/own_partition.rt:167:9
 read-header-requires : tie.Need-read-header-requires
 read-header-requires c κs = header-in (c .before .before .before .before .before .before .args .job .now) (sym (c .before .before .check-reduce .ensures) ∙ passed-none _ (c .before .passed .ensures) (c .if1 .left))
 
--- src/own_partition.rt:172:31
 mul-size : tie.Need-mul-size
 mul-size c = omega (arith, header-few (c .before .before .before .before .before .before .before .before .before .args .job .now) (sym (c .before .before .before .before .before .check-reduce .ensures) ∙ passed-none _ (c .before .before .before .before .passed .ensures) (c .before .before .before .if1 .left)) _ (c .before .before .read-header .ensures))
 
--- src/own_partition.rt:172:26
 size-requires : tie.Need-size-requires
 size-requires c κs = search needs
 
--- src/own_partition.rt:172:21
 mul-if2 : tie.Need-mul-if2
 mul-if2 c = search needs
 
--- src/own_partition.rt:173:9
 returns-2 : tie.Need-returns-2
 returns-2 c = cramped (sym (c .before .before .before .before .before .before .before .check-reduce .ensures) ∙ passed-none _ (c .before .before .before .before .before .before .passed .ensures) (c .before .before .before .before .before .if1 .left)) (omega (arith, c .if2 .taken, c .before .size .ensures .0, header-cells (c .before .before .before .before .before .before .before .before .before .before .before .args .job .now) (sym (c .before .before .before .before .before .before .before .check-reduce .ensures) ∙ passed-none _ (c .before .before .before .before .before .before .passed .ensures) (c .before .before .before .before .before .if1 .left)) _ (c .before .before .before .before .read-header .ensures))) refl refl refl refl
 
--- src/own_partition.rt:182:9
 size-requires-2 : tie.Need-size-requires-2
 size-requires-2 c κs = search needs
 
--- src/own_partition.rt:183:9
 size-requires-3 : tie.Need-size-requires-3
 size-requires-3 c κs = search needs
 
--- src/own_partition.rt:178:5
 partition-job-requires : tie.Need-partition-job-requires
 partition-job-requires c κs = taken (c .before .before .before .before .before .before .before .before .before .before .before .before .before .before .before .args .job .now) (sym (c .before .before .before .before .before .before .before .before .before .before .before .check-reduce .ensures) ∙ passed-none _ (c .before .before .before .before .before .before .before .before .before .before .passed .ensures) (c .before .before .before .before .before .before .before .before .before .if1 .left)) _ (c .before .before .before .before .before .before .before .before .read-header .ensures) _ (c .before .before .before .size2 .ensures .0) (c .before .before .size3 .ensures .0) (omega (arith, c .before .before .before .before .if2 .left, c .before .before .before .before .before .size .ensures .0))
 
--- src/own_partition.rt:156:1
 same-length : tie.Need-same-length
 same-length c = search needs
 
--- src/own_partition.rt:156:1
 same-length-2 : tie.Need-same-length-2
 same-length-2 c = search needs
 
--- src/own_partition.rt:156:1
 returns-3 : tie.Need-returns-3
 returns-3 c = parted (sym (c .before .before .before .before .before .before .before .before .before .before .before .before .before .before .before .before .check-reduce .ensures) ∙ passed-none _ (c .before .before .before .before .before .before .before .before .before .before .before .before .before .before .before .passed .ensures) (c .before .before .before .before .before .before .before .before .before .before .before .before .before .before .if1 .left)) (omega (arith, c .before .before .before .before .before .before .before .before .before .if2 .left, c .before .before .before .before .before .before .before .before .before .before .size .ensures .0, header-cells (c .before .before .before .before .before .before .before .before .before .before .before .before .before .before .before .before .before .before .before .before .args .job .now) (sym (c .before .before .before .before .before .before .before .before .before .before .before .before .before .before .before .before .check-reduce .ensures) ∙ passed-none _ (c .before .before .before .before .before .before .before .before .before .before .before .before .before .before .before .passed .ensures) (c .before .before .before .before .before .before .before .before .before .before .before .before .before .before .if1 .left)) _ (c .before .before .before .before .before .before .before .before .before .before .before .before .before .read-header .ensures))) (c .before .before .before .before .partition-job .ensures)
 

@@ -1,5 +1,5 @@
 use mathlib.Core.Path.{_≡_, refl, _∙_}
-use Prim.Native.Nat.{ℕ, _+_, _*_, _-_, _≤_}
+use Prim.Native.Nat.{_+_, _*_, _-_, _≤_}
 use native.Mathlib.Omega.{arith}
 use lib.ListN.{length}
 use borrow.Author.Needs.{needs}
@@ -15,67 +15,51 @@ Inv-loop removed separated count out₀ i₀ out i = (i ≤ count) × (count ≤
 abbrev μ-loop : tie.MeasureT-loop
 μ-loop removed separated count out₀ i₀ out i = count - i
 
--- src/own_partition.rt:40:5
 loop-holds : tie.Need-loop-holds Inv-loop μ-loop
 loop-holds c = (omega arith, c .before .pre .0, c .before .pre .1, refl)
 
--- src/own_partition.rt:41:28
 mul-write-u32 : tie.Need-mul-write-u32 Inv-loop μ-loop
 mul-write-u32 c = search needs
 
--- src/own_partition.rt:41:24
 add-write-u32 : tie.Need-add-write-u32 Inv-loop μ-loop
 add-write-u32 c = search needs
 
--- src/own_partition.rt:41:35
 mul-write-u32-2 : tie.Need-mul-write-u32-2 Inv-loop μ-loop
 mul-write-u32-2 c = search needs
 
--- src/own_partition.rt:41:35
 element-copy-out-write-u32 : tie.Need-element-copy-out-write-u32 Inv-loop μ-loop
 element-copy-out-write-u32 c = search needs
 
--- src/own_partition.rt:41:9
 write-u32-requires : tie.Need-write-u32-requires Inv-loop μ-loop
 write-u32-requires c κs = search needs
 
--- src/own_partition.rt:42:29
 mul-write-u32-3 : tie.Need-mul-write-u32-3 Inv-loop μ-loop
 mul-write-u32-3 c = search needs
 
--- src/own_partition.rt:42:24
 add-write-u32-2 : tie.Need-add-write-u32-2 Inv-loop μ-loop
 add-write-u32-2 c = search needs
 
--- src/own_partition.rt:42:36
 mul-write-u32-4 : tie.Need-mul-write-u32-4 Inv-loop μ-loop
 mul-write-u32-4 c = search needs
 
--- src/own_partition.rt:42:36
 element-copy-out-write-u32-2 : tie.Need-element-copy-out-write-u32-2 Inv-loop μ-loop
 element-copy-out-write-u32-2 c = search needs
 
--- src/own_partition.rt:42:9
 write-u32-requires-2 : tie.Need-write-u32-requires-2 Inv-loop μ-loop
 write-u32-requires-2 c κs = omega (arith, c .before .before .before .before .write-u32 .kept .0)
 
--- src/own_partition.rt:43:9
 add-i : tie.Need-add-i Inv-loop μ-loop
 add-i c = search needs
 
--- src/own_partition.rt:40:5
 loop-less : tie.Need-loop-less Inv-loop μ-loop
 loop-less c = search needs
 
--- src/own_partition.rt:40:5
 loop-again : tie.Need-loop-again Inv-loop μ-loop
 loop-again c = (omega arith, c .before .before .before .before .before .before .before .before .before .before .before .loop .inv .1, omega (arith, c .before .before .write-u322 .kept .0, c .before .before .before .before .before .before .before .write-u32 .kept .0), c .before .before .write-u322 .kept .0 ∙ (c .before .before .before .before .before .before .before .write-u32 .kept .0 ∙ c .before .before .before .before .before .before .before .before .before .before .before .loop .inv .3))
 
--- src/own_partition.rt:35:1
 same-length : tie.Need-same-length Inv-loop μ-loop
 same-length c = c .before .loop .inv .3
 
--- src/own_partition.rt:35:1
 returns : tie.Need-returns Inv-loop μ-loop
 returns c = c .before .loop .inv .3
 

@@ -10,55 +10,42 @@ use Rattle.probe.proofs.own_partition.write_counts.Reads as write-count
 use Rattle.probe.proofs.own_partition.write_records.Reads as write-records-reads
 use Rattle.wire.proofs.write_u32.Reads as write-u32-reads
 
--- src/own_partition.rt:85:9
 returns : tie.Need-returns
 returns c = many (c .if1 .taken) refl refl refl
 
--- src/own_partition.rt:90:21
 mul-start : tie.Need-mul-start
 mul-start c = search needs
 
--- src/own_partition.rt:90:17
 add-start : tie.Need-add-start
 add-start c = search needs
 
--- src/own_partition.rt:91:25
 mul-total : tie.Need-mul-total
 mul-total c = search needs
 
--- src/own_partition.rt:91:17
 add-total : tie.Need-add-total
 add-total c = search needs
 
--- src/own_partition.rt:93:9
 returns-2 : tie.Need-returns-2
 returns-2 c = short (omega (arith, c .before .if1 .left)) (c .if2 .taken) refl refl refl
 
--- src/own_partition.rt:98:5
 write-u32-requires : tie.Need-write-u32-requires
 write-u32-requires c κs = search needs
 
--- src/own_partition.rt:99:23
 cast-write-u32 : tie.Need-cast-write-u32
 cast-write-u32 c = search needs
 
--- src/own_partition.rt:99:5
 write-u32-requires-2 : tie.Need-write-u32-requires-2
 write-u32-requires-2 c κs = search needs
 
--- src/own_partition.rt:100:5
 write-counts-requires : tie.Need-write-counts-requires
 write-counts-requires c κs = search needs
 
--- src/own_partition.rt:101:5
 write-records-requires : tie.Need-write-records-requires
 write-records-requires c κs = search needs
 
--- src/own_partition.rt:70:1
 same-length : tie.Need-same-length
 same-length c = search needs
 
--- src/own_partition.rt:70:1
 returns-3 : tie.Need-returns-3
 returns-3 c = written (omega (arith, c .before .before .before .before .before .before .before .before .before .before .before .before .before .before .before .before .before .if1 .left)) (omega (arith, c .before .before .before .before .before .before .before .before .before .before .before .before .before .before .before .before .if2 .left)) refl refl (c .before .before .write-records .ensures ∙ (c .before .before .before .before .before .before .write-counts .ensures ∙ (c .before .before .before .before .before .before .before .before .before .before .write-u322 .kept .0 ∙ c .before .before .before .before .before .before .before .before .before .before .before .before .before .before .write-u32 .kept .0)))
 

@@ -1,5 +1,5 @@
 use mathlib.Core.Path.{_≡_, refl, _∙_}
-use Prim.Native.Nat.{ℕ, _+_, _*_, _-_, _≤_}
+use Prim.Native.Nat.{_+_, _*_, _-_, _≤_}
 use native.Mathlib.Omega.{arith}
 use lib.ListN.{length}
 use borrow.Author.Needs.{needs}
@@ -15,79 +15,60 @@ Inv-loop owners lefts rights pairs at out₀ k₀ out k = (k ≤ pairs) × (pair
 abbrev μ-loop : tie.MeasureT-loop
 μ-loop owners lefts rights pairs at out₀ k₀ out k = pairs - k
 
--- src/own_partition.rt:60:5
 loop-holds : tie.Need-loop-holds Inv-loop μ-loop
 loop-holds c = (omega arith, c .before .pre .0, c .before .pre .1, c .before .pre .2, refl)
 
--- src/own_partition.rt:61:26
 mul-place : tie.Need-mul-place Inv-loop μ-loop
 mul-place c = search needs
 
--- src/own_partition.rt:61:21
 add-place : tie.Need-add-place Inv-loop μ-loop
 add-place c = search needs
 
--- src/own_partition.rt:62:31
 mul-write-u32 : tie.Need-mul-write-u32 Inv-loop μ-loop
 mul-write-u32 c = search needs
 
--- src/own_partition.rt:62:31
 element-copy-out-write-u32 : tie.Need-element-copy-out-write-u32 Inv-loop μ-loop
 element-copy-out-write-u32 c = search needs
 
--- src/own_partition.rt:62:9
 write-u32-requires : tie.Need-write-u32-requires Inv-loop μ-loop
 write-u32-requires c κs = search needs
 
--- src/own_partition.rt:63:24
 add-write-u32 : tie.Need-add-write-u32 Inv-loop μ-loop
 add-write-u32 c = search needs
 
--- src/own_partition.rt:63:35
 mul-write-u32-2 : tie.Need-mul-write-u32-2 Inv-loop μ-loop
 mul-write-u32-2 c = search needs
 
--- src/own_partition.rt:63:35
 element-copy-out-write-u32-2 : tie.Need-element-copy-out-write-u32-2 Inv-loop μ-loop
 element-copy-out-write-u32-2 c = search needs
 
--- src/own_partition.rt:63:9
 write-u32-requires-2 : tie.Need-write-u32-requires-2 Inv-loop μ-loop
 write-u32-requires-2 c κs = omega (arith, c .before .before .before .before .write-u32 .kept .0)
 
--- src/own_partition.rt:64:24
 add-write-u32-2 : tie.Need-add-write-u32-2 Inv-loop μ-loop
 add-write-u32-2 c = search needs
 
--- src/own_partition.rt:64:35
 mul-write-u32-3 : tie.Need-mul-write-u32-3 Inv-loop μ-loop
 mul-write-u32-3 c = search needs
 
--- src/own_partition.rt:64:35
 element-copy-out-write-u32-3 : tie.Need-element-copy-out-write-u32-3 Inv-loop μ-loop
 element-copy-out-write-u32-3 c = search needs
 
--- src/own_partition.rt:64:9
 write-u32-requires-3 : tie.Need-write-u32-requires-3 Inv-loop μ-loop
 write-u32-requires-3 c κs = omega (arith, c .before .before .before .before .write-u322 .kept .0, c .before .before .before .before .before .before .before .before .before .write-u32 .kept .0)
 
--- src/own_partition.rt:65:9
 add-k : tie.Need-add-k Inv-loop μ-loop
 add-k c = search needs
 
--- src/own_partition.rt:60:5
 loop-less : tie.Need-loop-less Inv-loop μ-loop
 loop-less c = search needs
 
--- src/own_partition.rt:60:5
 loop-again : tie.Need-loop-again Inv-loop μ-loop
 loop-again c = (omega arith, c .before .before .before .before .before .before .before .before .before .before .before .before .before .before .before .before .loop .inv .1, c .before .before .before .before .before .before .before .before .before .before .before .before .before .before .before .before .loop .inv .2, omega (arith, c .before .before .write-u323 .kept .0, c .before .before .before .before .before .before .before .write-u322 .kept .0, c .before .before .before .before .before .before .before .before .before .before .before .before .write-u32 .kept .0), c .before .before .write-u323 .kept .0 ∙ (c .before .before .before .before .before .before .before .write-u322 .kept .0 ∙ (c .before .before .before .before .before .before .before .before .before .before .before .before .write-u32 .kept .0 ∙ c .before .before .before .before .before .before .before .before .before .before .before .before .before .before .before .before .loop .inv .4)))
 
--- src/own_partition.rt:48:1
 same-length : tie.Need-same-length Inv-loop μ-loop
 same-length c = c .before .loop .inv .4
 
--- src/own_partition.rt:48:1
 returns : tie.Need-returns Inv-loop μ-loop
 returns c = c .before .loop .inv .4
 
