@@ -16,6 +16,8 @@ struct Family {
     case: fn(&mut Run, &mut Rng),
 }
 
+pub const NAMES: [&str; 4] = ["damaged", "maps", "records", "corridors"];
+
 const FAMILIES: [Family; 4] = [
     // Damaged inputs.
     Family { share: 80, case: |run, rng| run.draft(&damaged(rng), rng, compare) },

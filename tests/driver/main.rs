@@ -3,9 +3,11 @@
 //!     driver quick
 //!     driver long [CASES | SECONDSs] [SEED]
 //!     driver random CASES SEED
+//!     driver family NAME CASES SEED
 //!     driver case SEED NUMBER
 //!
-//! `random` is the random cases alone, with nothing asked of what they saw.
+//! `random` is the random cases alone, with nothing asked of what they saw; `family` those of one
+//! family: damaged, maps, records or corridors.
 //! Every run prints its seed; `case` runs one random case of a seed again. Exit status 0 means
 //! that nothing differed and that everything that should occur did.
 
@@ -68,6 +70,18 @@ fn main() {
             families::limits(&mut run);
             println!("seed {seed}: {done} random cases, nothing differs");
         }
+        ["family", name, cases, seed] => {
+            let (start, mut run) = (Instant::now(), Run::new(parse(seed)));
+            let Some(family) = families::NAMES.iter().position(|&known| known == name) else {
+                usage()
+            };
+            for number in 0..parse(cases) {
+                families::case(&mut run, (family as u64 + 1) << 32 | number);
+            }
+            run.tally.print_whole();
+            let time = start.elapsed().as_secs_f64();
+            println!("seed {seed}: {cases} cases of {name}, nothing differs; {time:.1} s");
+        }
         ["case", seed, number] => {
             let (mut run, case) = (Run::new(parse(seed)), parse(number));
             if !families::case(&mut run, case) {
@@ -81,7 +95,8 @@ fn main() {
 }
 
 fn usage() -> ! {
-    eprintln!("usage: driver quick | long [CASES | SECONDSs] [SEED] | random CASES SEED | case SEED NUMBER");
+    eprintln!("usage: driver quick | long [CASES | SECONDSs] [SEED] | random CASES SEED");
+    eprintln!("       driver family NAME CASES SEED | case SEED NUMBER");
     exit(2)
 }
 

@@ -127,13 +127,16 @@ impl Tally {
         self.print_whole();
     }
 
-    fn print_whole(&self) {
+    pub fn print_whole(&self) {
         println!("whole calls by number");
         for (call, name) in CALLS.iter().enumerate() {
             let refused: u64 = (1..=17).filter(|&n| n != 13).map(|n| self.whole[call][n]).sum();
             let late = WHOLE.map(|n| format!(", {n}: {}", self.whole[call][n as usize])).concat();
             let made = if TABLE.whole(call as u32).is_some() { "" } else { " (not compared yet)" };
-            println!("{name:>16}  0: {}{late}, refused before: {refused}{made}", self.whole[call][0]);
+            println!(
+                "{name:>16}  0: {}{late}, refused before: {refused}{made}",
+                self.whole[call][0]
+            );
         }
         for (what, count) in &self.seen_besides {
             println!("{count:>8} {what}");

@@ -42,7 +42,8 @@ use Rattle.merging.specs.Groups.{Groups, noGroups, every}
 use Rattle.merging.specs.Kept.{membersOf, consolidated, slot, kept}
 use Rattle.merging.specs.Runs.{Run, reduceRun, itemsOf, canonItem, groupsOf, keptOf, rulesAnswer}
 use Rattle.chokes.specs.Rules.{gridOf, rulesOn, rulesOf}
-use Rattle.chokes.specs.Results.{Outcome, labelled, workSize, ownEnds, labelsOf, answerOf, marksOf, reduced, reduceWith, reduceByListWith}
+use Rattle.partition.specs.Partitioned.{labelled}
+use Rattle.chokes.specs.Results.{Outcome, workSize, ownEnds, labelsOf, answerOf, marksOf, reduced, reduceWith, reduceByListWith}
 use Rattle.chokes.specs.Calls.{reduceResult, reduceByListResult, markResult}
 use Rattle.chokes.specs.Cases.{words, oneCell, corridor, anchored, corridorAnswer, anchoredAnswer, leaves, Gives, oneSpan, OtherCalls, TwelveCases}
 use Rattle.chokes.proofs.Results.{reduced-success, mark-success}

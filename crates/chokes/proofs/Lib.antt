@@ -6,3 +6,8 @@ pub mod RankedTables
 pub mod Results
 pub mod Cases
 pub mod Demand
+pub mod Own
+pub mod Bridging
+pub mod Markable
+pub mod Copying
+pub mod Marked

@@ -1,10 +1,8 @@
 -- The answer that the rules give, by the plan of the accepted groups.
 use mathlib.Core.Path.{_≡_, refl, sym, _∙_, ap}
-use mathlib.Core.Bool.{true, false, cond}
 use mathlib.Core.List.{List, [], _∷_, map, List·Memᴰ, List·Memᴰ·not-nil, Memᴰ·of-map}
 use Prim.Native.Nat.{ℕ, _≤_}
 use borrow.Author.Tests.{eq-eqb, ne-eqb}
-use lib.Dec.{eqb}
 use lib.ListN.{length}
 use Rattle.order.specs.Lists.{has}
 use Rattle.position.specs.declared.Span.{Span}
@@ -15,12 +13,10 @@ use Rattle.topology.specs.Listing.{Item, listing}
 use Rattle.links.specs.Limits.{Limits}
 use Rattle.groups.specs.Groups as Link
 use Rattle.groups.specs.Flat.{accepted}
-use Rattle.groups.specs.Representative.{retained}
 use Rattle.groups.specs.Plan.{goesInto, mergePlan}
 use Rattle.groups.proofs.Accepted.{accepted-two}
 use Rattle.merging.specs.Copies.{copiesOf}
 use Rattle.merging.specs.Groups.{Group, noGroups, every}
-use Rattle.merging.specs.Kept.{kept}
 use Rattle.merging.specs.Planned.{goes, planned}
 use Rattle.merging.specs.Runs.{Run, itemsOf, canonItem, groupsOf, keptOf, rulesAnswer}
 use Rattle.merging.proofs.Independence.{groups-well}

@@ -16,7 +16,8 @@ use Rattle.job.specs.Refusals.{markChecks}
 use Rattle.job.specs.Checks.{Check, check, firstRefusal}
 use Rattle.job.proofs.Firsts.{skip, clear, append-none}
 use Rattle.chokes.specs.Rules.{gridOf}
-use Rattle.chokes.specs.Results.{workSize, ownEnds, marksOf, markWith, maxPairs, labelled, afterWork, outcome, workCheck, labelsOf, pairCheck, answerOf, reduced}
+use Rattle.partition.specs.Partitioned.{labelled}
+use Rattle.chokes.specs.Results.{workSize, ownEnds, marksOf, markWith, maxPairs, afterWork, outcome, workCheck, labelsOf, pairCheck, answerOf, reduced}
 
 module _ (limits : Limits) (dirs : List ℕ) (checks : List Check) (j : Job) (ss : List Span) (work answer : List ℕ) where
   pub reduced-success : firstRefusal checks ≡ none → workSize j ≤ length work → length (records dirs (gridOf j) ss) ≤ maxPairs → length (answerOf limits dirs j ss) ≤ length answer

@@ -6,14 +6,13 @@ use mathlib.Core.Option.{none}
 use Prim.Native.Nat.{ℕ, _≤_}
 use lib.ListN.{length, take}
 use Rattle.position.specs.declared.Span.{Span}
-use Rattle.format.specs.Values.{Boundary, Base, Job}
+use Rattle.format.specs.Values.{Job}
 use Rattle.format.specs.Decode.{decode, decodeList}
 use Rattle.areas.specs.Assessments.{records}
 use Rattle.links.specs.Limits.{Limits}
 use Rattle.job.specs.Checks.{Check, firstRefusal}
 use Rattle.job.specs.Refusals.{reduceChecks, byListChecks}
 use Rattle.merging.specs.Runs.{Run}
-use Rattle.merging.specs.Relisted.{Relisted, DistinctEnds}
 use Rattle.merging.specs.Demand.{Independent}
 use Rattle.chokes.specs.Rules.{gridOf, rulesOf}
 use Rattle.chokes.specs.Results.{Outcome, workSize, maxPairs, ownEnds, answerOf, reduced}

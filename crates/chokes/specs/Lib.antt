@@ -3,3 +3,4 @@ pub mod Results
 pub mod Calls
 pub mod Cases
 pub mod Demand
+pub mod Marking

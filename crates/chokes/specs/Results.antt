@@ -1,22 +1,23 @@
 -- What each call leaves: its result, and work and answer or marks at exit, whole, for every state at entry.
-use mathlib.Core.Bool.{Bool, cond}
-use mathlib.Core.List.{List, [], _∷_, _++_, map, flatMap}
+use mathlib.Core.Bool.{cond}
+use mathlib.Core.List.{List, [], _∷_, _++_, map}
 use mathlib.Core.Option.{Option, none, some}
 use Prim.Native.Nat.{ℕ, _+_, _*_, _-_}
 use lib.Dec.{ltb}
-use lib.ListN.{length, drop, replicate}
+use lib.ListN.{length}
 use Rattle.lists.specs.Rows.{rows}
 use Rattle.position.specs.declared.Span.{Span}
-use Rattle.wire.specs.Bytes.{splice, u32Bytes}
+use Rattle.wire.specs.Bytes.{splice}
 use Rattle.format.specs.Values.{Boundary, Job}
 use Rattle.format.specs.Decode.{decode, decodeList}
 use Rattle.graph.specs.Bridges.{markOf}
 use Rattle.areas.specs.Areas.{areaLabels}
 use Rattle.areas.specs.Assessments.{records}
 use Rattle.links.specs.Limits.{Limits}
+use Rattle.partition.specs.Partitioned.{labelled}
 use Rattle.job.specs.Checks.{Refusal, Check, check, firstRefusal}
 use Rattle.job.specs.Refusals.{reduceChecks, markChecks, byListChecks}
-use Rattle.merging.specs.Runs.{Run, rulesAnswer}
+use Rattle.merging.specs.Runs.{rulesAnswer}
 use Rattle.chokes.specs.Rules.{gridOf, rulesOf}
 
 -- Number 0 is success.
@@ -33,11 +34,6 @@ workSize j = 10 * length (j .cells)
 -- "13 over 4,096 region pairs in all."
 abbrev pub maxPairs : ℕ
 maxPairs = 4_096
-
--- "a u32 label per cell first, then zeros to ten times the cells; later bytes are unchanged"
-unfoldable pub labelled : List ℕ → List ℕ → List ℕ
-unfolding flatMap
-labelled labels work = flatMap u32Bytes labels ++ (replicate (6 * length labels) 0 ++ drop (10 * length labels) work)
 
 -- Checks before the work is written, checks after it, and what is written where none holds. "Answer and mark bytes then stay
 -- unchanged; work too, before 13." "success changes only as many first bytes of the answer slice as its total length says".

@@ -1,1 +1,8 @@
-// The three calls. There is no code here yet.
+// The three calls.
+mod analysis;
+mod mark;
+mod result;
+
+pub use analysis::analyse;
+pub use mark::chokes_mark;
+pub use result::ChokesResult;

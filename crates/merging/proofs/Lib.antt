@@ -8,6 +8,7 @@ pub mod Kept
 pub mod Planned
 pub mod Ends
 pub mod Listings
+pub mod Symmetric
 pub mod Merges
 pub mod Exists
 pub mod Sources

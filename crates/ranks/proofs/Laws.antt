@@ -1,5 +1,5 @@
 -- What one more entry adds to each array.
-use mathlib.Core.Path.{_≡_, refl, sym, _∙_, ap}
+use mathlib.Core.Path.{_≡_, refl, _∙_, ap}
 use mathlib.Core.Logic.{by-cases}
 use mathlib.Core.List.{List}
 use Prim.Native.Nat.{ℕ, _+_, _*_, _<_, _≤_}
@@ -14,7 +14,7 @@ use Rattle.wire.specs.Bytes.{u64At}
 use Rattle.format.specs.Sizes.{boundarySize}
 use Rattle.format.specs.Records.{spanAt}
 use Rattle.areas.specs.Spans.{spanIn}
-use Rattle.ranks.specs.Tables.{recordPlace, packed, Records, putSpan, SpansOf, WidthsOf, RampsOf, KeysOf, Identity}
+use Rattle.ranks.specs.Tables.{recordPlace, packed, Records, putSpan, SpansOf, WidthsOf, RampsOf, KeysOf}
 
 -- an array whose first i entries are those of f, with f i put at i
 pub entry-next : (f : ℕ → ℕ) (l : List ℕ) (i : ℕ) {v : ℕ} → i < length l → v ≡ f i → ((k : ℕ) → k < i → getD l k 0 ≡ f k) → (k : ℕ) → k < i + 1 → getD (set l i v) k 0 ≡ f k

@@ -1,9 +1,8 @@
-use mathlib.Core.Path.{_≡_, refl, sym, _∙_, ap}
-use Prim.Native.Nat.{ℕ, _+_, _-_, _*_, _≤_, _<_}
+use mathlib.Core.Path.{_≡_, _∙_}
+use Prim.Native.Nat.{ℕ, _-_, _≤_, _<_}
 use native.Mathlib.Omega.{arith}
-use lib.ListN.{length, getD, set, length-set}
+use lib.ListN.{length, getD, length-set}
 use borrow.Author.Needs.{needs}
-use Rattle.ranks.specs.Tables.{Identity}
 use Rattle.ranks.proofs.Laws.{identity-next}
 use Rattle.ranks.proofs.fill_identity.Statement.{statement}
 use Rattle.ranks.proofs.fill_identity.Tie as tie

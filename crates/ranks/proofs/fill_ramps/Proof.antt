@@ -1,9 +1,8 @@
-use mathlib.Core.Path.{_≡_, refl, sym, _∙_, ap}
-use Prim.Native.Nat.{ℕ, _+_, _-_, _*_, _≤_, _<_}
+use mathlib.Core.Path.{_≡_}
+use Prim.Native.Nat.{_-_, _≤_}
 use native.Mathlib.Omega.{arith}
-use lib.ListN.{length, getD, set, length-set}
 use borrow.Author.Needs.{needs}
-use Rattle.ranks.specs.Tables.{Records, RampsOf}
+use Rattle.ranks.specs.Tables.{RampsOf}
 use Rattle.ranks.proofs.Laws.{ramps-start, ramps-next}
 use Rattle.ranks.proofs.fill_ramps.Statement.{statement}
 use Rattle.ranks.proofs.fill_ramps.Tie as tie

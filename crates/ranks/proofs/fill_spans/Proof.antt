@@ -1,10 +1,9 @@
-use mathlib.Core.Path.{_≡_, refl, sym, _∙_, ap}
-use Prim.Native.Nat.{ℕ, _+_, _-_, _*_, _≤_, _<_}
+use mathlib.Core.Path.{_≡_, _∙_, ap}
+use Prim.Native.Nat.{_-_, _≤_}
 use native.Mathlib.Omega.{arith}
-use lib.ListN.{length, getD, set, length-set}
 use borrow.Author.Needs.{needs}
 use Rattle.position.specs.Order.{canonical}
-use Rattle.ranks.specs.Tables.{Records, SpansOf}
+use Rattle.ranks.specs.Tables.{SpansOf}
 use Rattle.ranks.proofs.Laws.{spans-start, spans-next}
 use Rattle.ranks.proofs.fill_spans.Statement.{statement}
 use Rattle.ranks.proofs.fill_spans.Tie as tie

@@ -1,11 +1,8 @@
-use mathlib.Core.Path.{_≡_, refl, sym, _∙_, ap}
-use Prim.Native.Nat.{ℕ, _+_, _-_, _*_, _≤_, _<_}
+use mathlib.Core.Path.{_≡_}
+use Prim.Native.Nat.{_-_, _≤_}
 use native.Mathlib.Omega.{arith}
-use lib.ListN.{length, getD, set, length-set}
 use borrow.Author.Needs.{needs}
-use Rattle.wire.specs.Bytes.{u64At}
-use Rattle.format.specs.Sizes.{boundarySize}
-use Rattle.ranks.specs.Tables.{recordPlace, Records, WidthsOf}
+use Rattle.ranks.specs.Tables.{WidthsOf}
 use Rattle.ranks.proofs.Laws.{widths-start, widths-next}
 use Rattle.ranks.proofs.fill_widths.Statement.{statement}
 use Rattle.ranks.proofs.fill_widths.Tie as tie

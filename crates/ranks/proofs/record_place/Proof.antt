@@ -1,8 +1,6 @@
-use mathlib.Core.Path.{_≡_, refl, sym, _∙_, ap}
-use Prim.Native.Nat.{ℕ, _+_, _-_, _*_, _≤_, _<_}
+use mathlib.Core.Path.{refl}
+use Prim.Native.Nat.{_-_}
 use native.Mathlib.Omega.{arith}
-use lib.ListN.{length, getD, set, length-set}
-use Rattle.ranks.specs.Tables.{Records}
 use borrow.Author.Needs.{needs}
 use Rattle.ranks.proofs.Laws.{placed}
 use Rattle.ranks.proofs.record_place.Statement.{statement}

@@ -1,0 +1,161 @@
+-- What the stages leave, taken together.
+use mathlib.Core.Path.{_≡_, refl, sym, _∙_, ap, subst}
+use mathlib.Core.List.{List, [], _∷_, map}
+use Prim.Native.Nat.{ℕ, zero, suc, _+_, _*_, _≤_, _<_}
+use native.Mathlib.Omega.{arith}
+use lib.Dec.{leb}
+use lib.ListN.{length, getD, take, drop}
+use Rattle.lists.specs.Rows.{All}
+use Rattle.lists.proofs.Rows.{sum-prefix}
+use Rattle.lists.proofs.Each.{all-take, all-drop, all-rows}
+use Rattle.wire.specs.Bytes.{part}
+use Rattle.wire.proofs.Parts.{part-part}
+use Rattle.order.specs.Sorting.{sortOnce}
+use Rattle.position.specs.declared.Span.{Span}
+use Rattle.format.specs.Values.{Observation}
+use Rattle.format.specs.Records.{sourceAt, boundaryAt, observationAt}
+use Rattle.format.specs.Decode.{sourceRecords}
+use Rattle.format.specs.Fits.{SourceFits}
+use Rattle.format.specs.declared.records.Source.{Source}
+use Rattle.merging.specs.Copies.{sortedSources, canon, canonObservation}
+use Rattle.length.specs.Total.{totalKey}
+use Rattle.order.specs.Keys.{byKey}
+use Rattle.merging.specs.Keys.{observationKey}
+use Rattle.sorting.specs.Orders.{placeKey, byRun}
+use Rattle.answer.specs.Packed.{pack, sourcePack, packed, KeysRead, KeyAt}
+use Rattle.answer.specs.Laying.{below, ownCount, seenCount, citedCount, ownStart, LaidAll}
+use Rattle.answer.specs.Squeezed.{partOf, Squeezed}
+use Rattle.answer.specs.Ranked.{RankRoom, Ranked}
+use Rattle.answer.specs.Placed.{observationFrom, boundaryOf, itself, Holds, Placed, JobPlaces, boundaryRows, observationRows}
+use Rattle.answer.proofs.Lays.{below-next}
+use Rattle.answer.proofs.Packs.{sorted-packed, sorted-fit, observation-le}
+
+take-map : {A B : Type 0} (f : A → B) (n : ℕ) (l : List A) → take n (map f l) ≡ map f (take n l)
+take-map f zero l = refl
+take-map f (suc n) [] = refl
+take-map f (suc n) (x ∷ l) = ap (λ t. f x ∷ t) (take-map f n l)
+
+drop-map : {A B : Type 0} (f : A → B) (n : ℕ) (l : List A) → drop n (map f l) ≡ map f (drop n l)
+drop-map f zero l = refl
+drop-map f (suc n) [] = refl
+drop-map f (suc n) (x ∷ l) = drop-map f n l
+
+-- A part of the numbers is of the sources there.
+part-packed : (ss : List Source) (keys : List ℕ) (n a m : ℕ) → take n keys ≡ packed ss → a + m ≤ n → part keys a m ≡ packed (take m (drop a ss))
+unfolding part packed
+part-packed ss keys n a m e h =
+    let z : 0 + a ≡ a = omega arith in
+    ap (λ (k : ℕ). part keys k m) (sym z)
+    ∙ sym (part-part keys 0 n a m h)
+    ∙ ap (λ (l : List ℕ). take m (drop a l)) e
+    ∙ ap (take m) (drop-map sourcePack a ss)
+    ∙ take-map sourcePack m (drop a ss)
+
+pub ranks-room : {f g h : List ℕ} {n k : ℕ} → RankRoom f g h n → k ≤ n → RankRoom f g h k
+ranks-room r l = record { first-room = omega (arith, r .first-room); second-room = omega (arith, r .second-room); third-room = omega (arith, r .third-room) }
+
+pub ranks-after : {ends : ℕ → Span} {bits : ℕ → ℕ} {from i n : ℕ} {f₀ g₀ h₀ f g h : List ℕ} → RankRoom f₀ g₀ h₀ n → Ranked ends bits from i f₀ g₀ h₀ f g h → RankRoom f g h n
+ranks-after r t = record {
+  first-room = omega (arith, r .first-room, t .first-long);
+  second-room = omega (arith, r .second-room, t .second-long);
+  third-room = omega (arith, r .third-room, t .third-long);
+}
+
+module _ {s : List ℕ} {at n ats m from count : ℕ} (j : JobPlaces s at n ats m from count) where
+  pub count-fits : count ≤ 4096
+  count-fits =
+      let e : below (citedCount s ats) (below (seenCount s at) n) ≡ below (citedCount s ats) m = ap (below (citedCount s ats)) (j .observations-add) in
+      omega (arith, j .sources-add, j .countable .source-limit)
+
+  pub observations-fit : m ≤ 1024
+  observations-fit = omega (arith, j .observations-add, j .countable .observation-limit)
+
+  pub observations-inside : ats + m * 28 ≤ length s
+  observations-inside = omega (arith, j .observations-add, j .countable .observations-in)
+
+  own-end : (b : ℕ) → b < n → ownStart (ownCount s at) (seenCount s at) (citedCount s ats) b + ownCount s at b ≤ count
+  own-end b h =
+      let x = sum-prefix (b + 1) n (ownCount s at) (omega arith) in
+      let y = sum-prefix b n (seenCount s at) (omega arith) in
+      let z = sum-prefix (below (seenCount s at) b) m (citedCount s ats) (omega (arith, j .observations-add)) in
+      omega (arith, below-next (ownCount s at) b, j .sources-add)
+
+  place-below : (b k : ℕ) → b < n → k < seenCount s at b → below (seenCount s at) b + k < m
+  place-below b k h l =
+      let y = sum-prefix (b + 1) n (seenCount s at) (omega arith) in
+      omega (arith, below-next (seenCount s at) b, j .observations-add)
+
+  cited-end : (b p : ℕ) → b < n → p < m → below (ownCount s at) (suc b) + below (citedCount s ats) p + citedCount s ats p ≤ count
+  cited-end b p h l =
+      let x = sum-prefix (suc b) n (ownCount s at) (omega arith) in
+      let z = sum-prefix (p + 1) m (citedCount s ats) (omega arith) in
+      omega (arith, below-next (citedCount s ats) p, j .sources-add)
+
+  module _ {keys₀ keys₁ keys₂ firsts starts counts₁ counts₂ f₀ g₀ h₀ f₁ g₁ h₁ f₂ g₂ h₂ : List ℕ}
+      (k : KeysRead s from count keys₀ keys₁) (l : LaidAll (ownCount s at) (seenCount s at) (citedCount s ats) n firsts starts counts₁)
+      (q : Squeezed starts keys₁ counts₁ keys₂ counts₂ 1280)
+      (r : Ranked (λ i. observationAt s (ats + i * 28) .ends) (λ i. observationAt s (ats + i * 28) .bits) 0 m f₀ g₀ h₀ f₁ g₁ h₁)
+      (t : Ranked (λ i. boundaryAt s (at + i * 40) .ends) (λ i. boundaryAt s (at + i * 40) .bits) 1024 n f₁ g₁ h₁ f₂ g₂ h₂) where
+    all-fit : All SourceFits (sourceRecords s from count)
+    unfolding sourceRecords
+    all-fit = all-rows count (λ i. sourceAt s (from + i * 8)) (k .fits)
+
+    part-fit : (a c : ℕ) → All SourceFits (take c (drop a (sourceRecords s from count)))
+    part-fit a c = all-take c (all-drop a all-fit)
+
+    -- a part's sources, sorted
+    run-of : (w a c : ℕ) → w < 1280 → getD starts w 0 ≡ a → getD counts₁ w 0 ≡ c → a + c ≤ count
+        → partOf keys₂ starts counts₂ w ≡ packed (sortedSources (take c (drop a (sourceRecords s from count))))
+    run-of w a c h x y z =
+        q .done w h
+        ∙ ap (sortOnce leb) (ap (λ (i : ℕ). part keys₁ i (getD counts₁ w 0)) x ∙ ap (part keys₁ a) y ∙ part-packed (sourceRecords s from count) keys₁ count a c (k .there) z)
+        ∙ sorted-packed (take c (drop a (sourceRecords s from count))) (part-fit a c)
+
+    key-kept : (p : ℕ) (e : Span) (bits : ℕ) → p < 1024 → KeyAt f₁ g₁ h₁ (0 + p) e bits → KeyAt f₂ g₂ h₂ p e bits
+    key-kept p e bits h o =
+        let z : 0 + p ≡ p = omega arith in
+        let i = subst (λ (w : ℕ). KeyAt f₁ g₁ h₁ w e bits) z o in
+        record {
+          first-is = t .first-before p h ∙ i .first-is;
+          second-is = t .second-before p h ∙ i .second-is;
+          third-is = t .third-before p h ∙ i .third-is;
+          first-fits = i .first-fits;
+          second-fits = i .second-fits;
+        }
+
+    itself-holds : (b : ℕ) → b < n → Holds f₂ g₂ h₂ starts counts₂ keys₂ (1024 + b) (itself (canon (boundaryOf (boundaryRows s at) (observationRows s ats) (sourceRecords s from count) b)))
+    unfolding itself canon boundaryOf
+    itself-holds b h = record {
+      key = t .there b h;
+      run = run-of (1024 + b) (ownStart (ownCount s at) (seenCount s at) (citedCount s ats) b) (ownCount s at b) (omega (arith, j .countable .boundary-limit)) (l .laid .own-start b h) (l .laid .own-count b h) (own-end b h);
+      fits = sorted-fit (take (ownCount s at b) (drop (ownStart (ownCount s at) (seenCount s at) (citedCount s ats) b) (sourceRecords s from count))) (part-fit (ownStart (ownCount s at) (seenCount s at) (citedCount s ats) b) (ownCount s at b));
+    }
+
+    seen-holds : (b i : ℕ) → b < n → i < seenCount s at b
+        → Holds f₂ g₂ h₂ starts counts₂ keys₂ (below (seenCount s at) b + i) (canonObservation (observationFrom (boundaryRows s at) (observationRows s ats) (sourceRecords s from count) (below (ownCount s at) (suc b)) (below (seenCount s at) b + i)))
+    unfolding canonObservation observationFrom
+    seen-holds b i h o =
+        let p = below (seenCount s at) b + i in
+        let u = place-below b i h o in
+        record {
+          key = key-kept p _ _ (omega (arith, u, observations-fit)) (r .there p u);
+          run = run-of p (below (ownCount s at) (suc b) + below (citedCount s ats) p) (citedCount s ats p) (omega (arith, u, observations-fit)) (l .laid .cited-start b i h o) (l .laid .cited-count b i h o) (cited-end b p h u);
+          fits = sorted-fit (take (citedCount s ats p) (drop (below (ownCount s at) (suc b) + below (citedCount s ats) p) (sourceRecords s from count))) (part-fit (below (ownCount s at) (suc b) + below (citedCount s ats) p) (citedCount s ats p));
+        }
+
+    pub placed : Placed (boundaryRows s at) (observationRows s ats) (sourceRecords s from count) n firsts f₂ g₂ h₂ starts counts₂ keys₂
+    placed = record { first-there = l .laid .first-there; itself-there = itself-holds; seen-there = seen-holds }
+
+-- Places that stand for observations are ordered as these are.
+module _ {first second third starts counts keys : List ℕ} where
+  key-of : {p : ℕ} (o : Observation) → Holds first second third starts counts keys p o
+      → placeKey first second third starts counts keys p ≡ pack (o .ends .a .x) (o .ends .a .y) ∷ pack (o .ends .b .x) (o .ends .b .y) ∷ totalKey (o .bits) ∷ packed (o .sources)
+  unfolding placeKey
+  key-of o h = rw (h .key .first-is, h .key .second-is, h .key .third-is, h .run)
+
+  pub holds-le : {p q : ℕ} (o u : Observation) → Holds first second third starts counts keys p o → Holds first second third starts counts keys q u
+      → byRun first second third starts counts keys p q ≡ byKey observationKey o u
+  unfolding byRun
+  holds-le o u h k =
+      rw (key-of o h, key-of u k)
+      (observation-le o u (h .key .first-fits) (h .key .second-fits) (k .key .first-fits) (k .key .second-fits) (h .fits) (k .fits))

@@ -1,0 +1,27 @@
+use native.Mathlib.Omega.{arith}
+use Rattle.answer.specs.Packed.{pack}
+use borrow.Author.Needs.{needs}
+use Rattle.answer.proofs.casts.packed.Statement.{statement}
+use Rattle.answer.proofs.casts.packed.Tie as tie
+use Rattle.answer.proofs.casts.packed.Reads as reads
+use Rattle.answer.proofs.casts.packed.Lts as lts
+use Rattle.answer.proofs.casts.wide.Reads as wide-reads
+
+wide-requires : tie.Need-wide-requires
+wide-requires c κs = search needs
+
+mul-result : tie.Need-mul-result
+mul-result c = search needs
+
+wide-requires-2 : tie.Need-wide-requires-2
+wide-requires-2 c κs = search needs
+
+add-result : tie.Need-add-result
+add-result c = search needs
+
+returns : tie.Need-returns
+unfolding pack
+returns c = (omega arith, omega arith, omega arith)
+
+pub packed-spec : {M : Type 1} → statement M
+packed-spec = tie.close (tie.spec wide-requires mul-result wide-requires-2 add-result returns)

@@ -1,0 +1,99 @@
+-- Where the sources of each boundary and of each observation stand among the job's sources.
+use mathlib.Core.Path.{_≡_}
+use mathlib.Core.Logic.{_≢_, _⊎_}
+use mathlib.Core.List.{List}
+use Prim.Native.Nat.{ℕ, suc, _+_, _*_, _≤_, _<_}
+use lib.ListN.{length, getD}
+use Rattle.lists.specs.Rows.{rows, sum}
+use Rattle.format.specs.Sizes.{boundarySize, observationSize}
+use Rattle.format.specs.Records.{boundaryAt, observationAt}
+
+-- The sum of f over the numbers below k.
+abbrev pub below : (ℕ → ℕ) → ℕ → ℕ
+below f k = sum (rows k f)
+
+-- By place: a boundary's own sources and its observations, an observation's sources, how many there are of each.
+abbrev pub ownCount : List ℕ → ℕ → ℕ → ℕ
+ownCount s at b = boundaryAt s (at + b * boundarySize) .sources
+
+abbrev pub seenCount : List ℕ → ℕ → ℕ → ℕ
+seenCount s at b = boundaryAt s (at + b * boundarySize) .observations
+
+abbrev pub citedCount : List ℕ → ℕ → ℕ → ℕ
+citedCount s at p = observationAt s (at + p * observationSize) .sources
+
+-- No two parts overlap, and all end by `run`.
+pub record Apart (starts counts : List ℕ) (run : ℕ) : Type 0 where
+  pub ends : (q : ℕ) → getD starts q 0 + getD counts q 0 ≤ run
+  pub apart : (q w : ℕ) → q ≢ w → (getD starts q 0 + getD counts q 0 ≤ getD starts w 0) ⊎ (getD starts w 0 + getD counts w 0 ≤ getD starts q 0)
+
+-- What the n observations from p on need: they are in the job, there is room for them, and their sources are among the first 4,096.
+pub record LayRoom (s : List ℕ) (at p n run : ℕ) (starts counts : List ℕ) : Type 0 where
+  pub inside : at + (p + n) * observationSize ≤ length s
+  pub starts-room : p + n ≤ length starts
+  pub counts-room : p + n ≤ length counts
+  pub small : run + below (citedCount s at) (p + n) ≤ 4096 + below (citedCount s at) p
+  pub clear : Apart starts counts run
+
+-- The parts of the n observations from p on, side by side from `run` up to `r`.
+pub record Lays (cited : ℕ → ℕ) (p n run : ℕ) (starts₀ counts₀ starts counts : List ℕ) (r : ℕ) : Type 0 where
+  pub starts-long : length starts ≡ length starts₀
+  pub counts-long : length counts ≡ length counts₀
+  pub start-there : (k : ℕ) → k < n → getD starts (p + k) 0 + below cited p ≡ run + below cited (p + k)
+  pub count-there : (k : ℕ) → k < n → getD counts (p + k) 0 ≡ cited (p + k)
+  pub start-before : (q : ℕ) → q < p → getD starts q 0 ≡ getD starts₀ q 0
+  pub count-before : (q : ℕ) → q < p → getD counts q 0 ≡ getD counts₀ q 0
+  pub start-after : (q : ℕ) → p + n ≤ q → getD starts q 0 ≡ getD starts₀ q 0
+  pub count-after : (q : ℕ) → p + n ≤ q → getD counts q 0 ≡ getD counts₀ q 0
+  pub end : r + below cited p ≡ run + below cited (p + n)
+  pub clear : Apart starts counts r
+
+-- "in boundary order": the place of a boundary's first observation.
+abbrev pub firstSeen : (ℕ → ℕ) → ℕ → ℕ
+firstSeen seen b = below seen b
+
+-- "Each boundary's own, then those of its observations."
+abbrev pub ownStart : (own seen cited : ℕ → ℕ) → ℕ → ℕ
+ownStart own seen cited b = below own b + below cited (firstSeen seen b)
+
+-- The start of the sources of the observation at place p, which is of boundary b.
+abbrev pub citedStart : (own cited : ℕ → ℕ) → ℕ → ℕ → ℕ
+citedStart own cited b p = below own (suc b) + below cited p
+
+-- The parts of the first n boundaries and of their observations: an observation's at its place, a boundary's own at 1,024 and its place.
+pub record LaidOut (own seen cited : ℕ → ℕ) (n : ℕ) (firsts starts counts : List ℕ) : Type 0 where
+  pub first-there : (b : ℕ) → b < n → getD firsts b 0 ≡ firstSeen seen b
+  pub own-start : (b : ℕ) → b < n → getD starts (1024 + b) 0 ≡ ownStart own seen cited b
+  pub own-count : (b : ℕ) → b < n → getD counts (1024 + b) 0 ≡ own b
+  pub cited-start : (b k : ℕ) → b < n → k < seen b → getD starts (firstSeen seen b + k) 0 ≡ citedStart own cited b (firstSeen seen b + k)
+  pub cited-count : (b k : ℕ) → b < n → k < seen b → getD counts (firstSeen seen b + k) 0 ≡ cited (firstSeen seen b + k)
+
+-- A job's boundaries and observations, in the job, whose counts add up to no more than the limits.
+pub record Countable (s : List ℕ) (at n ats : ℕ) : Type 0 where
+  pub boundaries-in : at + n * boundarySize ≤ length s
+  pub boundary-limit : n ≤ 256
+  pub observations-in : ats + below (seenCount s at) n * observationSize ≤ length s
+  pub observation-limit : below (seenCount s at) n ≤ 1024
+  pub source-limit : below (ownCount s at) n + below (citedCount s ats) (below (seenCount s at) n) ≤ 4096
+
+-- Room for all the parts.
+pub record PlanRoom (firsts starts counts : List ℕ) : Type 0 where
+  pub firsts-room : 256 ≤ length firsts
+  pub starts-room : 1280 ≤ length starts
+  pub counts-room : 1280 ≤ length counts
+  pub clear : Apart starts counts 0
+
+-- The parts of the first b boundaries: their observations end at place p, their sources at `run`.
+pub record Layout (own seen cited : ℕ → ℕ) (firsts starts counts : List ℕ) (b p run : ℕ) : Type 0 where
+  pub place : p ≡ below seen b
+  pub running : run ≡ below own b + below cited p
+  pub laid : LaidOut own seen cited b firsts starts counts
+  pub clear : Apart starts counts run
+  pub firsts-room : 256 ≤ length firsts
+  pub starts-room : 1280 ≤ length starts
+  pub counts-room : 1280 ≤ length counts
+
+-- The parts of all n boundaries.
+pub record LaidAll (own seen cited : ℕ → ℕ) (n : ℕ) (firsts starts counts : List ℕ) : Type 0 where
+  pub laid : LaidOut own seen cited n firsts starts counts
+  pub clear : Apart starts counts 4096

@@ -1,0 +1,6 @@
+pub mod Packed
+pub mod Laying
+pub mod Squeezed
+pub mod Ranked
+pub mod Placed
+pub mod Written

@@ -1,0 +1,84 @@
+-- A job's boundaries by place, and what the arrays hold of them.
+use mathlib.Core.Path.{_≡_}
+use mathlib.Core.List.{List}
+use Prim.Native.Nat.{ℕ, suc, _+_, _*_, _≤_, _<_}
+use lib.ListN.{length, getD, take, drop}
+use Rattle.lists.specs.Rows.{rows, All}
+use Rattle.format.specs.Values.{Observation, Boundary}
+use Rattle.format.specs.Sizes.{boundarySize, observationSize, sourceSize}
+use Rattle.format.specs.Records.{boundaryAt, observationAt}
+use Rattle.format.specs.Decode.{rampOf}
+use Rattle.format.specs.Fits.{SourceFits}
+use Rattle.format.specs.declared.records.Source.{Source}
+use Rattle.format.specs.declared.records.BoundaryRecord.{BoundaryRecord}
+use Rattle.format.specs.declared.records.ObservationRecord.{ObservationRecord}
+use Rattle.merging.specs.Copies.{canon, canonObservation}
+use Rattle.answer.specs.Packed.{packed, KeyAt}
+use Rattle.answer.specs.Laying.{below, firstSeen, ownStart, ownCount, seenCount, citedCount, Countable, PlanRoom}
+use Rattle.answer.specs.Ranked.{RankRoom}
+use Rattle.answer.specs.Squeezed.{partOf}
+
+module _ (bs : ℕ → BoundaryRecord) (os : ℕ → ObservationRecord) (ss : List Source) where
+  abbrev pub ownOf : ℕ → ℕ
+  ownOf b = bs b .sources
+
+  abbrev pub seenOf : ℕ → ℕ
+  seenOf b = bs b .observations
+
+  abbrev pub citedOf : ℕ → ℕ
+  citedOf p = os p .sources
+
+  -- The observation at place p, after `base` sources of boundaries.
+  unfoldable pub observationFrom : ℕ → ℕ → Observation
+  observationFrom base p = record { ends = os p .ends; bits = os p .bits; sources = take (citedOf p) (drop (base + below citedOf p) ss) }
+
+  -- The one at place p, which is of boundary b.
+  abbrev pub observationOf : ℕ → ℕ → Observation
+  observationOf b p = observationFrom (below ownOf (suc b)) p
+
+  unfoldable pub boundaryOf : ℕ → Boundary
+  unfolding observationFrom rows
+  boundaryOf b = record {
+    ends = bs b .ends;
+    bits = bs b .bits;
+    ramp = rampOf (bs b .ramp);
+    sources = take (ownOf b) (drop (ownStart ownOf seenOf citedOf b) ss);
+    observations = rows (seenOf b) (λ k. observationOf b (firstSeen seenOf b + k));
+  }
+
+-- A boundary as an observation, "with its own sources".
+unfoldable pub itself : Boundary → Observation
+itself b = record { ends = b .ends; bits = b .bits; sources = b .sources }
+
+-- Place p stands for the observation o.
+pub record Holds (first second third starts counts keys : List ℕ) (p : ℕ) (o : Observation) : Type 0 where
+  pub key : KeyAt first second third p (o .ends) (o .bits)
+  pub run : partOf keys starts counts p ≡ packed (o .sources)
+  pub fits : All SourceFits (o .sources)
+
+-- The canonical copies of n boundaries: each one's observations at their places, and each as an observation at 1,024 and its place.
+pub record Placed (bs : ℕ → BoundaryRecord) (os : ℕ → ObservationRecord) (ss : List Source) (n : ℕ) (firsts first second third starts counts keys : List ℕ) : Type 0 where
+  pub first-there : (b : ℕ) → b < n → getD firsts b 0 ≡ firstSeen (seenOf bs os ss) b
+  pub itself-there : (b : ℕ) → b < n → Holds first second third starts counts keys (1024 + b) (itself (canon (boundaryOf bs os ss b)))
+  pub seen-there : (b k : ℕ) → b < n → k < seenOf bs os ss b
+      → Holds first second third starts counts keys (firstSeen (seenOf bs os ss) b + k) (canonObservation (observationOf bs os ss b (firstSeen (seenOf bs os ss) b + k)))
+
+-- A job's three sections, whose counts add up: n boundaries from `at`, m observations from `ats`, count sources from `from`.
+pub record JobPlaces (s : List ℕ) (at n ats m from count : ℕ) : Type 0 where
+  pub countable : Countable s at n ats
+  pub observations-add : below (seenCount s at) n ≡ m
+  pub sources-in : from + count * sourceSize ≤ length s
+  pub sources-add : below (ownCount s at) n + below (citedCount s ats) m ≡ count
+
+-- Room for what is worked out of any job.
+pub record PlaceRoom (keys spare firsts starts counts first second third : List ℕ) : Type 0 where
+  pub keys-room : 4096 ≤ length keys
+  pub spare-room : 4096 ≤ length spare
+  pub plan : PlanRoom firsts starts counts
+  pub ranks : RankRoom first second third 1280
+
+abbrev pub boundaryRows : List ℕ → ℕ → ℕ → BoundaryRecord
+boundaryRows s at b = boundaryAt s (at + b * boundarySize)
+
+abbrev pub observationRows : List ℕ → ℕ → ℕ → ObservationRecord
+observationRows s at p = observationAt s (at + p * observationSize)

@@ -1,0 +1,66 @@
+// Where each boundary's own sources and each observation's sources stand.
+ghost use mathlib.Core.Path.{_≡_};
+ghost use Prim.Native.Nat.{_+_, _*_, _≤_};
+ghost use lib.ListN.{length, getD};
+ghost use Rattle.answer.specs.Laying.{below, ownCount, seenCount, citedCount, Apart, LayRoom, Lays, LaidOut, Countable, PlanRoom, LaidAll};
+use crate::casts::size;
+use format::BOUNDARY_SIZE;
+use format::OBSERVATION_SIZE;
+use format::read_boundary;
+use format::read_observation;
+
+// The sources of the n observations from place p on, from `run` on: where they end.
+fn lay_observations(
+    job: &[u8],
+    at: usize,
+    p: usize,
+    n: usize,
+    run: u32,
+    starts: &mut [u32],
+    counts: &mut [u32],
+) -> u32
+    requires { ⌜ LayRoom (now job) at p n run (now starts) (now counts) ⌝ }
+    ensures { λ r. ⌜ Lays (citedCount (now (job .entry)) at) p n run (now (starts .entry)) (now (counts .entry)) (now (starts .exit)) (now (counts .exit)) r ⌝ }
+{
+    let mut r = run;
+    let mut i: usize = 0;
+    while i < n {
+        let o = read_observation(job, at + (p + i) * OBSERVATION_SIZE);
+        let v = o.sources;
+        starts[p + i] = r;
+        counts[p + i] = v;
+        r += v;
+        i += 1;
+    }
+    r
+}
+
+// The sources of the n boundaries and of their observations: for each where they start and how many there are, at an observation's
+// place and at 1,024 and a boundary's; and each boundary's first observation.
+pub fn lay_boundaries(
+    job: &[u8],
+    at: usize,
+    n: usize,
+    ats: usize,
+    firsts: &mut [u32],
+    starts: &mut [u32],
+    counts: &mut [u32],
+)
+    requires { ⌜ Countable (now job) at n ats × PlanRoom (now firsts) (now starts) (now counts) ⌝ }
+    ensures { λ _. ⌜ LaidAll (ownCount (now (job .entry)) at) (seenCount (now (job .entry)) at) (citedCount (now (job .entry)) ats) n (now (firsts .exit)) (now (starts .exit)) (now (counts .exit)) ⌝ }
+{
+    let mut run: u32 = 0;
+    let mut p: usize = 0;
+    let mut b: usize = 0;
+    while b < n {
+        let x = read_boundary(job, at + b * BOUNDARY_SIZE);
+        let own = x.sources;
+        let seen = size(x.observations);
+        firsts[b] = p as u32;
+        starts[1024 + b] = run;
+        counts[1024 + b] = own;
+        run = lay_observations(job, ats, p, seen, run + own, starts, counts);
+        p += seen;
+        b += 1;
+    }
+}

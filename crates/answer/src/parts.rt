@@ -1,0 +1,20 @@
+// Each one's sources, sorted and each once, where they stand.
+ghost use mathlib.Core.Path.{_≡_};
+ghost use Prim.Native.Nat.{_+_, _≤_};
+ghost use lib.ListN.{length};
+ghost use Rattle.answer.specs.Squeezed.{PartsRoom, Squeezed};
+use crate::casts::size;
+use sorting::numbers::sort_unique;
+
+pub fn sort_parts(keys: &mut [u64], spare: &mut [u64], starts: &[u32], counts: &mut [u32], n: usize)
+    requires { ⌜ PartsRoom (now keys) (now spare) (now starts) (now counts) n ⌝ }
+    ensures { λ _. ⌜ Squeezed (now (starts .entry)) (now (keys .entry)) (now (counts .entry)) (now (keys .exit)) (now (counts .exit)) n ⌝ }
+{
+    let mut q: usize = 0;
+    while q < n {
+        let a = size(starts[q]);
+        let e = sort_unique(keys, spare, a, a + size(counts[q]));
+        counts[q] = (e - a) as u32;
+        q += 1;
+    }
+}

@@ -1,0 +1,53 @@
+use native.Mathlib.Omega.{arith}
+use Prim.Native.Nat.{_-_}
+use Rattle.candidates.proofs.StepLaws.{joined, not-joined, own-bounded}
+use borrow.Author.Needs.{needs}
+use Rattle.candidates.proofs.gives.joins_two.Statement.{statement}
+use Rattle.candidates.proofs.gives.joins_two.Tie as tie
+use Rattle.candidates.proofs.gives.joins_two.Reads as reads
+use Rattle.candidates.proofs.gives.joins_two.Lts as lts
+use Rattle.candidates.proofs.gives.has_region.Reads as has-region-reads
+use Rattle.candidates.proofs.gives.size.Reads as size-reads
+use Rattle.links.proofs.geometry.centres_differ.Reads as centres-differ-reads
+use Rattle.marking.proofs.spans.span_at.Reads as span-at-reads
+
+returns : tie.Need-returns
+returns c = not-joined _ _ _ _ _ _ _ (c .if1 .taken)
+
+size-requires : tie.Need-size-requires
+size-requires c κs = search needs
+
+size-requires-2 : tie.Need-size-requires-2
+size-requires-2 c κs = search needs
+
+has-region-requires : tie.Need-has-region-requires
+has-region-requires c κs = let p = c .before .before .before .pre in let t = p .2 .both (c .before .before .if1 .left) in omega (arith, t .0, p .0, c .before .size .ensures .0)
+
+has-region-requires-2 : tie.Need-has-region-requires-2
+has-region-requires-2 c κs = let p = c .before .before .before .before .pre in let t = p .2 .both (c .before .before .before .if1 .left) in omega (arith, t .1, p .0, c .before .size2 .ensures .0)
+
+span-at-requires : tie.Need-span-at-requires
+span-at-requires c κs = let p = c .before .before .before .before .before .pre in let t = p .2 .both (c .before .before .before .before .if1 .left) in omega (arith, t .0, p .0, c .before .before .before .size .ensures .0)
+
+span-at-requires-2 : tie.Need-span-at-requires-2
+span-at-requires-2 c κs = let p = c .before .before .before .before .before .before .pre in let t = p .2 .both (c .before .before .before .before .before .if1 .left) in omega (arith, t .1, p .0, c .before .before .before .size2 .ensures .0)
+
+centres-differ-requires : tie.Need-centres-differ-requires
+centres-differ-requires c κs = let p = c .before .before .before .before .before .before .before .pre in let t = p .2 .both (c .before .before .before .before .before .before .if1 .left) in (own-bounded (p .1) (c .before .before .before .before .before .size .ensures .0) (t .0) (c .before .span-at .ensures), own-bounded (p .1) (c .before .before .before .before .size2 .ensures .0) (t .1) (c .span-at2 .ensures))
+
+returns-2 : tie.Need-returns-2
+returns-2 c = joined _ _ _ _ _ (c .before .before .before .before .before .before .before .if1 .left) (c .before .before .before .before .before .before .size .ensures .0) (c .before .before .before .before .before .size2 .ensures .0) (c .before .before .before .before .has-region .ensures) (c .before .before .before .has-region2 .ensures) (c .before .before .span-at .ensures) (c .before .span-at2 .ensures) (c .centres-differ .ensures)
+
+pub joins-two-spec : {M : Type 1} → statement M
+joins-two-spec =
+    tie.close
+    (tie.spec
+    returns
+    size-requires
+    size-requires-2
+    has-region-requires
+    has-region-requires-2
+    span-at-requires
+    span-at-requires-2
+    centres-differ-requires
+    returns-2)

@@ -1,0 +1,53 @@
+use mathlib.Core.Path.{_≡_, _∙_}
+use native.Mathlib.Omega.{arith}
+use Prim.Native.Nat.{ℕ, _-_, _≤_}
+use lib.ListN.{length, length-set, length-replicate}
+use Rattle.candidates.specs.Linkable.{canLink, Marked}
+use Rattle.candidates.proofs.StepLaws.{marked-next, marked-end}
+use borrow.Author.Needs.{needs}
+use Rattle.candidates.proofs.linkable.find_linkables.Statement.{statement}
+use Rattle.candidates.proofs.linkable.find_linkables.Tie as tie
+use Rattle.candidates.proofs.linkable.find_linkables.Reads as reads
+use Rattle.candidates.proofs.linkable.find_linkables.Lts as lts
+use Rattle.candidates.proofs.linkable.mark.Reads as mark-reads
+
+abbrev Inv-loop : tie.InvT-loop
+Inv-loop n own ramps removed separated counts linkables₀ i₀ linkables i = (i ≤ n) × (length linkables ≡ 256) × Marked (canLink own ramps removed separated counts) i linkables
+
+abbrev μ-loop : tie.MeasureT-loop
+μ-loop n own ramps removed separated counts linkables₀ i₀ linkables i = n - i
+
+loop-holds : tie.Need-loop-holds Inv-loop μ-loop
+loop-holds c = (omega arith, length-replicate {A = ℕ} 256 0, record { marks-are = λ j l. absurd (omega arith) })
+
+mark-requires : tie.Need-mark-requires Inv-loop μ-loop
+mark-requires c κs = search needs
+
+element-write-linkables : tie.Need-element-write-linkables Inv-loop μ-loop
+element-write-linkables c = search needs
+
+add-i : tie.Need-add-i Inv-loop μ-loop
+add-i c = search needs
+
+loop-less : tie.Need-loop-less Inv-loop μ-loop
+loop-less c = search needs
+
+loop-again : tie.Need-loop-again Inv-loop μ-loop
+loop-again c = let m = c .before .before .loop in (omega (arith, c .before .loop-test .taken), length-set (m .linkables) (m .i) (c .mark .result) ∙ m .inv .1, marked-next _ (m .linkables) (m .i) (c .mark .result) (omega (arith, m .inv .1, c .before .loop-test .taken, c .before .before .before .before .pre)) (m .inv .2) (c .mark .ensures))
+
+returns : tie.Need-returns Inv-loop μ-loop
+returns c = marked-end {k = c .before .loop .i} {n = c .before .before .before .args .n} (omega (arith, c .before .loop .inv .0, c .loop-test .left)) (c .before .loop .inv .2)
+
+pub find-linkables-spec : {M : Type 1} → statement M
+find-linkables-spec =
+    tie.close
+    (tie.spec
+    Inv-loop
+    μ-loop
+    loop-holds
+    mark-requires
+    element-write-linkables
+    add-i
+    loop-less
+    loop-again
+    returns)

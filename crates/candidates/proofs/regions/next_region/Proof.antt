@@ -1,0 +1,69 @@
+use mathlib.Core.Path.{_≡_, refl}
+use native.Mathlib.Omega.{arith}
+use Prim.Native.Nat.{_-_, _≤_, _<_}
+use Rattle.candidates.specs.Next.{nextAfter}
+use Rattle.candidates.proofs.StepLaws.{region-next, region-end}
+use borrow.Author.Needs.{needs}
+use Rattle.candidates.proofs.regions.next_region.Statement.{statement}
+use Rattle.candidates.proofs.regions.next_region.Tie as tie
+use Rattle.candidates.proofs.regions.next_region.Reads as reads
+use Rattle.candidates.proofs.regions.next_region.Lts as lts
+use Rattle.candidates.proofs.regions.considered.Reads as considered-reads
+
+abbrev Inv-loop : tie.InvT-loop
+Inv-loop n linkables lowers highers after best₀ i₀ best i = (i ≤ n) × (best ≡ nextAfter linkables lowers highers after i) × (best < 4294967296)
+
+abbrev μ-loop : tie.MeasureT-loop
+μ-loop n linkables lowers highers after best₀ i₀ best i = n - i
+
+loop-holds : tie.Need-loop-holds Inv-loop μ-loop
+unfolding nextAfter
+loop-holds c = (omega arith, refl, omega arith)
+
+element-copy-out-considered : tie.Need-element-copy-out-considered Inv-loop μ-loop
+element-copy-out-considered c = search needs
+
+mul-considered : tie.Need-mul-considered Inv-loop μ-loop
+mul-considered c = search needs
+
+element-copy-out-considered-2 : tie.Need-element-copy-out-considered-2 Inv-loop μ-loop
+element-copy-out-considered-2 c = search needs
+
+mul-considered-2 : tie.Need-mul-considered-2 Inv-loop μ-loop
+mul-considered-2 c = search needs
+
+element-copy-out-considered-3 : tie.Need-element-copy-out-considered-3 Inv-loop μ-loop
+element-copy-out-considered-3 c = search needs
+
+considered-requires : tie.Need-considered-requires Inv-loop μ-loop
+considered-requires c κs = search needs
+
+add-i : tie.Need-add-i Inv-loop μ-loop
+add-i c = search needs
+
+loop-less : tie.Need-loop-less Inv-loop μ-loop
+loop-less c = search needs
+
+loop-again : tie.Need-loop-again Inv-loop μ-loop
+loop-again c = (omega (arith, c .before .before .before .before .loop-test .taken), region-next _ _ _ _ _ (c .before .before .before .before .before .loop .inv .1) (c .considered .ensures .0), c .considered .ensures .1)
+
+returns : tie.Need-returns Inv-loop μ-loop
+returns c = (region-end _ _ _ _ {k = c .before .loop .i} {n = c .before .before .args .n} (omega (arith, c .before .loop .inv .0, c .loop-test .left)) (c .before .loop .inv .1), c .before .loop .inv .2)
+
+pub next-region-spec : {M : Type 1} → statement M
+next-region-spec =
+    tie.close
+    (tie.spec
+    Inv-loop
+    μ-loop
+    loop-holds
+    element-copy-out-considered
+    mul-considered
+    element-copy-out-considered-2
+    mul-considered-2
+    element-copy-out-considered-3
+    considered-requires
+    add-i
+    loop-less
+    loop-again
+    returns)

@@ -1,0 +1,38 @@
+-- The records of three arrays, and how many of them each owner has.
+use mathlib.Core.Path.{_≡_}
+use mathlib.Core.Bool.{Bool, _||_}
+use mathlib.Core.List.{List}
+use Prim.Native.Nat.{ℕ, _<_}
+use lib.Dec.{eqb}
+use lib.ListN.{length, getD}
+use Rattle.lists.specs.Rows.{rows}
+use Rattle.order.specs.Lists.{keep}
+use Rattle.graph.specs.Records.{Record}
+
+abbrev pub recordIn : List ℕ → List ℕ → List ℕ → ℕ → Record
+recordIn owners lefts rights k = record { owner = getD owners k 0; left = getD lefts k 0; right = getD rights k 0 }
+
+abbrev pub noRecord : Record
+noRecord = record { owner = 0; left = 0; right = 0 }
+
+-- the region is one of the record's two
+abbrev pub inRecord : ℕ → Record → Bool
+inRecord r p = eqb r (p .left) || eqb r (p .right)
+
+-- of the first k records, those of an owner
+unfoldable pub ofOwner : (ℕ → Record) → ℕ → ℕ → List Record
+unfolding keep rows
+ofOwner f k i = keep (λ (r : Record). eqb (r .owner) i) (rows k f)
+
+-- each owner is one of the first n ranks
+pub record OwnersBelow (owners : List ℕ) (records n : ℕ) : Type 0 where
+  pub each : (k : ℕ) → k < records → getD owners k 0 < n
+
+-- how many of the records each rank has, and the regions of the first one
+pub record Firsts (owners lefts rights : List ℕ) (records : ℕ) (counts lowers highers : List ℕ) : Type 0 where
+  pub counts-length : length counts ≡ 256
+  pub lowers-length : length lowers ≡ 256
+  pub highers-length : length highers ≡ 256
+  pub counts-are : (i : ℕ) → i < 256 → getD counts i 0 ≡ length (ofOwner (recordIn owners lefts rights) records i)
+  pub lower-is : (i : ℕ) → i < 256 → getD lowers i 0 ≡ getD (ofOwner (recordIn owners lefts rights) records i) 0 noRecord .left
+  pub higher-is : (i : ℕ) → i < 256 → getD highers i 0 ≡ getD (ofOwner (recordIn owners lefts rights) records i) 0 noRecord .right

@@ -1,0 +1,141 @@
+-- A job that Mark takes: its cells, its boundaries' spans by place, and what a partition by these leaves.
+use mathlib.Core.Path.{_≡_, refl, sym, _∙_, ap}
+use mathlib.Core.List.{List, map}
+use Prim.Native.Nat.{ℕ, _+_, _*_, _-_, _≤_, _<_}
+use native.Mathlib.Omega.{arith}
+use borrow.Rule.Slice.PartMut.{mid-len}
+use lib.ListN.{length, take, drop}
+use Rattle.lists.specs.Rows.{rows}
+use Rattle.lists.proofs.Rows.{map-rows, rows-same}
+use Rattle.wire.specs.Bytes.{part}
+use Rattle.position.specs.Order.{canonical}
+use Rattle.position.proofs.Order.{canonical-again}
+use Rattle.format.specs.Sizes.{boundarySize}
+use Rattle.format.specs.Records.{spanAt}
+use Rattle.format.specs.Header.{headerAt, countsAt, cellCount, boundariesStart}
+use Rattle.format.specs.Decode.{decode, jobWith}
+use Rattle.format.specs.declared.header.Header.{Header}
+use Rattle.grid.specs.Cells.{Grid}
+use Rattle.grid.specs.Directions.{eight, directionsOf}
+use Rattle.grid.proofs.Directions.{directions-eight, eight-closed}
+use Rattle.areas.specs.Areas.{areaLabels}
+use Rattle.areas.specs.Assessments.{records}
+use Rattle.areas.specs.Spans.{SpanFits, spanIn, spansIn}
+use Rattle.areas.proofs.Areas.{labels-depend-on-the-set}
+use Rattle.areas.proofs.Listed.{eq-same, records-same}
+use Rattle.assessments.specs.Visits.{mapOf}
+use Rattle.partition.specs.Partitioned.{Partitionable, Partitioned}
+use Rattle.partition.specs.declared.Partition.{Partition}
+use Rattle.ranks.specs.Tables.{recordPlace, Records, SpansOf, Identity}
+use Rattle.job.specs.Passed.{Laid}
+use Rattle.job.proofs.Limits.{cells-limit, sections}
+use Rattle.chokes.specs.Rules.{gridOf}
+use Rattle.chokes.specs.Results.{ownEnds}
+use Rattle.partition.specs.Partitioned.{labelled}
+use Rattle.chokes.specs.Marking.{Bridged, Markable, Analysed}
+use Rattle.chokes.proofs.Own.{boundaryPlace, own-ends, mark-laid, ends-fit}
+
+module _ {s : List ℕ} {h : Header} {work : List ℕ} (m : Markable s h work) where
+  laid : Laid s h
+  laid = rw (m .header) (mark-laid s (m .passed) .1)
+
+  counts-are : h .counts ≡ countsAt s 0
+  unfolding headerAt
+  counts-are = ap (λ (x : Header). x .counts) (m .header)
+
+  pub markable-cells : h .counts .width * h .counts .height ≤ 1_048_576
+  markable-cells = cells-limit (h .counts) (laid .within)
+
+  pub cells-inside : (n : ℕ) → n ≡ h .counts .width * h .counts .height → 48 + n ≤ length s
+  cells-inside n e = omega (arith, e, sections s h laid .cells-in)
+
+  module _ (n : ℕ) (e : n ≡ h .counts .width * h .counts .height) where
+    -- the part of the job that the cells are
+    abbrev cells : List ℕ
+    cells = take (48 + n - 48) (drop 48 s)
+
+    cells-are : cells ≡ decode s .cells
+    unfolding decode jobWith part
+    cells-are =
+        let c : h .counts .width * h .counts .height ≡ cellCount (countsAt s 0) = ap cellCount counts-are in
+        let k : 48 + n - 48 ≡ cellCount (countsAt s 0) = omega (arith, e, c) in
+        ap (λ (i : ℕ). take i (drop 48 s)) k
+
+    cells-long : length cells ≡ h .counts .width * h .counts .height
+    cells-long = mid-len 48 (48 + n) s (cells-inside n e) ∙ (let z : 48 + n - 48 ≡ h .counts .width * h .counts .height = omega (arith, e) in z)
+
+    grid-is : mapOf (h .counts .width) (h .counts .height) cells ≡ gridOf (decode s)
+    unfolding decode jobWith
+    grid-is = rw (counts-are, cells-are) refl
+
+    module _ (at count : ℕ) (a : at ≡ h .offsets .boundaries) (d : count ≡ h .counts .boundaries) (order : List ℕ) (o : Identity order) where
+      count-few : count ≤ 256
+      count-few = omega (arith, d, laid .within .boundaries)
+
+      pub own-records : Records s at boundarySize order count
+      own-records = record {
+        few = count-few;
+        least = omega arith;
+        most = omega arith;
+        inside = omega (arith, a, d, sections s h laid .boundaries-in);
+        named = λ i l. let z = o .each i (omega (arith, count-few)) in omega (arith, z);
+      }
+
+      count-is : count ≡ countsAt s 0 .boundaries
+      count-is = d ∙ ap (λ c. c .boundaries) counts-are
+
+      start-is : at ≡ boundariesStart (countsAt s 0)
+      start-is = a ∙ (sections s h laid .boundaries-at ∙ ap boundariesStart counts-are)
+
+      place-is : (i : ℕ) → i < count → recordPlace at boundarySize order i ≡ boundaryPlace s i
+      place-is i l = rw (o .each i (omega (arith, count-few)), start-is) refl
+
+      module _ (ends : List ℕ) (v : SpansOf s at boundarySize order count ends) where
+        span-is : (i : ℕ) → i < count → spanIn ends i ≡ canonical (spanAt s (boundaryPlace s i))
+        span-is i l = v .each i l ∙ ap (λ p. canonical (spanAt s p)) (place-is i l)
+
+        fits : (i : ℕ) → i < count → SpanFits (h .counts .width) (h .counts .height) (spanIn ends i)
+        fits i l =
+            let w = ends-fit s (m .passed) i (omega (arith, count-is)) in
+            rw (span-is i l, counts-are) w
+
+        pub own-partitionable : Partitionable (h .counts .width) (h .counts .height) cells 495 ends count work
+        own-partitionable = record {
+          sides = record { columns = omega (arith, laid .within .width-some); rows = omega (arith, laid .within .height-some); wide = laid .within .width; high = laid .within .height };
+          whole = cells-long;
+          each = rw directions-eight (eight-closed .each);
+          spans = record { each = fits };
+          few = count-few;
+          room = rw cells-are (m .room);
+        }
+
+        same-ends : map canonical (spansIn ends count) ≡ map canonical (ownEnds (decode s))
+        unfolding spansIn
+        same-ends =
+            map-rows canonical count (spanIn ends)
+            ∙ (rows-same count (λ i. canonical (spanIn ends i)) (λ i. canonical (spanAt s (boundaryPlace s i)))
+            (λ i l. ap canonical (span-is i l) ∙ canonical-again (spanAt s (boundaryPlace s i)))
+            ∙ (ap (λ k. rows k (λ i. canonical (spanAt s (boundaryPlace s i)))) count-is
+            ∙ (sym (map-rows canonical (countsAt s 0 .boundaries) (λ i. spanAt s (boundaryPlace s i))) ∙ ap (map canonical) (sym (own-ends s)))))
+
+        records-are : records (directionsOf 495) (mapOf (h .counts .width) (h .counts .height) cells) (spansIn ends count) ≡ records eight (gridOf (decode s)) (ownEnds (decode s))
+        records-are =
+            ap (λ ds. records ds (mapOf (h .counts .width) (h .counts .height) cells) (spansIn ends count)) directions-eight
+            ∙ (ap (λ (g : Grid). records eight g (spansIn ends count)) grid-is ∙ records-same eight (gridOf (decode s)) (spansIn ends count) (ownEnds (decode s)) same-ends)
+
+        labels-are : areaLabels (directionsOf 495) (mapOf (h .counts .width) (h .counts .height) cells) (spansIn ends count) ≡ areaLabels eight (gridOf (decode s)) (ownEnds (decode s))
+        labels-are =
+            ap (λ ds. areaLabels ds (mapOf (h .counts .width) (h .counts .height) cells) (spansIn ends count)) directions-eight
+            ∙ (ap (λ (g : Grid). areaLabels eight g (spansIn ends count)) grid-is ∙ labels-depend-on-the-set eight (gridOf (decode s)) (spansIn ends count) (ownEnds (decode s)) (eq-same same-ends))
+
+        pub own-analysed : {after removed separated owners lefts rights marks : List ℕ} {p : Partition}
+            → Partitioned (directionsOf 495) (mapOf (h .counts .width) (h .counts .height) cells) ends count work after removed separated owners lefts rights p
+            → Bridged (directionsOf 495) (mapOf (h .counts .width) (h .counts .height) cells) (spansIn ends count) marks
+            → Analysed (decode s) (ownEnds (decode s)) work after marks (p .pairs)
+        unfolding labelled
+        own-analysed r b = record {
+          work-is = r .work-is ∙ ap (λ ls. labelled ls work) labels-are;
+          over = rw (← records-are) (r .over);
+          pairs-are = rw (← records-are) (r .pairs-are);
+          marks-are = rw (← records-are) b;
+        }

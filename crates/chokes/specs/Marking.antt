@@ -1,0 +1,47 @@
+-- What a job's boundaries and its bridge marks are computed from, and what that leaves.
+use mathlib.Core.Path.{_≡_}
+use mathlib.Core.List.{List}
+use mathlib.Core.Option.{none}
+use Prim.Native.Nat.{ℕ, _≤_, _<_}
+use lib.ListN.{length, getD}
+use Rattle.lists.specs.Rows.{rows}
+use Rattle.wire.specs.Bytes.{splice}
+use Rattle.position.specs.declared.Span.{Span}
+use Rattle.format.specs.Values.{Job}
+use Rattle.format.specs.Header.{headerAt}
+use Rattle.format.specs.Decode.{decode}
+use Rattle.format.specs.declared.header.Header.{Header}
+use Rattle.grid.specs.Cells.{Grid}
+use Rattle.grid.specs.Directions.{eight}
+use Rattle.areas.specs.Assessments.{records}
+use Rattle.bridges.specs.Marks.{bridgeMarks}
+use Rattle.job.specs.Checks.{firstRefusal}
+use Rattle.job.specs.Refusals.{markChecks}
+use Rattle.chokes.specs.Rules.{gridOf}
+use Rattle.chokes.specs.Results.{Outcome, workSize, maxPairs, labelsOf}
+use Rattle.partition.specs.Partitioned.{labelled}
+
+-- the marks of the boundaries, where the pairs are no more than a call takes
+abbrev pub Bridged : List ℕ → Grid → List Span → List ℕ → Type 0
+Bridged dirs g ss marks = length (records dirs g ss) ≤ maxPairs → marks ≡ bridgeMarks (records dirs g ss) 256
+
+-- a job that Mark takes, its header, and ten bytes of work a cell
+pub record Markable (s : List ℕ) (h : Header) (work : List ℕ) : Type 0 where
+  pub passed : firstRefusal (markChecks s) ≡ none
+  pub header : h ≡ headerAt s
+  pub room : workSize (decode s) ≤ length work
+
+-- a job partitioned by the spans: the work, the number of region pairs (4,097 where they are over 4,096), and the bridge marks
+pub record Analysed (j : Job) (ss : List Span) (before work marks : List ℕ) (pairs : ℕ) : Type 0 where
+  pub work-is : work ≡ labelled (labelsOf eight j ss) before
+  pub over : maxPairs < length (records eight (gridOf j) ss) → pairs ≡ 4_097
+  pub pairs-are : length (records eight (gridOf j) ss) ≤ maxPairs → pairs ≡ length (records eight (gridOf j) ss)
+  pub marks-are : Bridged eight (gridOf j) ss marks
+
+-- the first n bytes are those of another list
+abbrev pub copied : List ℕ → ℕ → List ℕ → List ℕ
+copied from n to = splice to 0 (rows n (λ k. getD from k 0))
+
+-- what a call left
+abbrev pub leftBy : ℕ → ℕ → List ℕ → List ℕ → Outcome
+leftBy number detail work out = record { number = number; detail = detail; work = work; out = out }

@@ -1,0 +1,139 @@
+-- What is judged of each link by the pass is what the rules say of it.
+use mathlib.Core.Path.{_≡_, sym, _∙_, ap, subst}
+use mathlib.Core.Logic.{by-cases}
+use mathlib.Core.Bool.{Bool, cond, not, _&&_}
+use mathlib.Core.List.{List}
+use Prim.Native.Nat.{ℕ, _+_, _*_, _≤_, _<_}
+use native.Mathlib.Omega.{arith}
+use native.Mathlib.Decide.{ℕ-discrete}
+use lib.Dec.{eqb}
+use lib.ListN.{length, getD, set, length-set, replicate, length-replicate}
+use lib.Seq.{getD-set-same, getD-set-other}
+use Rattle.lists.proofs.Rows.{length-rows}
+use Rattle.wire.specs.Bytes.{u32At}
+use Rattle.position.specs.declared.Span.{Span}
+use Rattle.grid.specs.Cells.{Grid}
+use Rattle.areas.specs.Spans.{spanIn}
+use Rattle.links.specs.Limits.{Limits}
+use Rattle.links.specs.Link.{Link, linkOf}
+use Rattle.links.specs.Measure.{Measured as Measure, measured, passing}
+use Rattle.links.specs.Flat.{insideFlat}
+use Rattle.links.specs.HeldLink.{side, linkAfter, measuredIn}
+use Rattle.links.specs.declared.link.Link.{Link as LinkHeld}
+use Rattle.links.proofs.Cells.{after-measured}
+use Rattle.topology.specs.RegionStats.{RegionStats, regionCells, regionStats, elevations}
+use Rattle.topology.specs.Held.{statsIn, statsAfter, labelsOf, firstCells}
+use Rattle.topology.specs.declared.stats.RegionStats.{RegionStats as StatsHeld}
+use Rattle.topology.specs.Listing.{Item}
+use Rattle.topology.proofs.Counting.{after-all, cells-all}
+use Rattle.groups.specs.Listing.{endsAt, bitsAt}
+use Rattle.groups.specs.Regions.{regionLabels, cellsOf, statsOf}
+use Rattle.groups.specs.Measuring.{valueOf, measuredAt, passes, staysInside}
+use Rattle.groups.specs.Flat.{isFlat}
+use Rattle.groups.specs.Tables.{Boundaries}
+use Rattle.measures.specs.Tables.{at}
+use Rattle.measures.specs.Judging.{valueIn, linkIn, flatIn, linkNow, statsNow, Running, Judged, Measured}
+
+module _ {limits : Limits} {own bits regions firsts seconds : List ℕ} {g : Grid} {ls : List ℕ} where
+  pub judge-start : (n : ℕ) → Judged limits own bits regions firsts seconds g ls n 0 (replicate 256 0) (replicate 256 0)
+  judge-start n = record {
+    long = length-replicate {A = ℕ} 256 0;
+    flat-long = length-replicate {A = ℕ} 256 0;
+    passing-is = λ j l. absurd (omega arith);
+    flat-is = λ j l. absurd (omega arith);
+  }
+
+  -- link k by its marks
+  pub judge-next : {n k links : ℕ} {table : List LinkHeld} {stats : List StatsHeld} {ps fs : List ℕ} {p f : ℕ} (d e : LinkHeld) (h : StatsHeld) → links ≤ 256 → k < links
+      → Running limits own bits regions firsts seconds g ls links n table stats → Judged limits own bits regions firsts seconds g ls n k ps fs
+      → p ≡ cond (passing (measuredIn limits (getD table k d))) 1 0 → f ≡ cond (flatIn (getD table k e) (getD stats k h)) 1 0
+      → Judged limits own bits regions firsts seconds g ls n (k + 1) (set ps k p) (set fs k f)
+  judge-next {n} {k} {links} {table} {stats} {ps} {fs} {p} {f} d e h few l R J u v = record {
+    long = length-set ps k p ∙ J .long;
+    flat-long = length-set fs k f ∙ J .flat-long;
+    passing-is = λ j b.
+        by-cases (ℕ-discrete j k)
+        (λ q.
+        ap (λ (z : ℕ). at (set ps k p) z) q
+        ∙ (getD-set-same ps k p 0 (omega (arith, J .long))
+        ∙ (u ∙ (ap (λ (t : LinkHeld). cond (passing (measuredIn limits t)) 1 0) (R .link-is k d l) ∙ ap (λ (z : ℕ). cond (passing (measuredIn limits (linkNow limits own bits regions firsts seconds g ls z n))) 1 0) (sym q)))))
+        (λ q. getD-set-other ps k j p 0 q ∙ J .passing-is j (omega arith));
+    flat-is = λ j b.
+        by-cases (ℕ-discrete j k)
+        (λ q.
+        ap (λ (z : ℕ). at (set fs k f) z) q
+        ∙ (getD-set-same fs k f 0 (omega (arith, J .flat-long))
+        ∙ (v
+        ∙ (ap (λ (t : LinkHeld). cond (flatIn t (getD stats k h)) 1 0) (R .link-is k e l)
+        ∙ (ap (λ (t : StatsHeld). cond (flatIn (linkNow limits own bits regions firsts seconds g ls k n) t) 1 0) (R .stats-is k h l)
+        ∙ ap (λ (z : ℕ). cond (flatIn (linkNow limits own bits regions firsts seconds g ls z n) (statsNow limits own bits regions firsts seconds g ls z n)) 1 0) (sym q))))))
+        (λ q. getD-set-other fs k j f 0 q ∙ J .flat-is j (omega arith));
+  }
+
+  pub judge-end : {n k links : ℕ} {ps fs : List ℕ} → k ≡ links → Judged limits own bits regions firsts seconds g ls n k ps fs → Judged limits own bits regions firsts seconds g ls n links ps fs
+  judge-end {n} {ps = ps} {fs = fs} e J = subst (λ (z : ℕ). Judged limits own bits regions firsts seconds g ls n z ps fs) e J
+
+  module _ {n links : ℕ} {ps fs : List ℕ} (many : length ls ≡ n) (J : Judged limits own bits regions firsts seconds g ls n links ps fs)
+      (dirs : List ℕ) (l : List Item) (ramps : List ℕ) (B : Boundaries l own bits ramps) (labels : ls ≡ regionLabels dirs g l) (k : ℕ) (b : k < links)
+      (first : at firsts k < length l) (second : at seconds k < length l) where
+    value : valueIn own bits (at firsts k) (at seconds k) ≡ valueOf l (linkIn regions firsts seconds k)
+    value =
+        ap (λ (s : Span). linkOf (side s (at bits (at firsts k))) (side (spanIn own (at seconds k)) (at bits (at seconds k)))) (sym (B .ends (at firsts k) first))
+        ∙ (ap (λ (z : ℕ). linkOf (side (endsAt l (at firsts k)) z) (side (spanIn own (at seconds k)) (at bits (at seconds k)))) (sym (B .widths (at firsts k) first))
+        ∙ (ap (λ (s : Span). linkOf (side (endsAt l (at firsts k)) (bitsAt l (at firsts k))) (side s (at bits (at seconds k)))) (sym (B .ends (at seconds k) second))
+        ∙ ap (λ (z : ℕ). linkOf (side (endsAt l (at firsts k)) (bitsAt l (at firsts k))) (side (endsAt l (at seconds k)) z)) (sym (B .widths (at seconds k) second))))
+
+    all : firstCells ls (at regions k) n ≡ regionCells ls (at regions k)
+    all = ap (λ (z : ℕ). firstCells ls (at regions k) z) (sym many) ∙ cells-all ls (at regions k)
+
+    cells : firstCells ls (at regions k) n ≡ cellsOf dirs g l (at regions k)
+    unfolding cellsOf
+    cells = all ∙ ap (λ (t : List ℕ). regionCells t (at regions k)) labels
+
+    stats : statsIn (statsNow limits own bits regions firsts seconds g ls k n) ≡ statsOf dirs g l (at regions k)
+    unfolding statsOf
+    stats =
+        ap (λ (cs : List ℕ). statsIn (statsAfter g cs)) all ∙ (after-all g ls (at regions k) ∙ ap (λ (t : List ℕ). regionStats g t (at regions k)) labels)
+
+    measure : measuredIn limits (linkNow limits own bits regions firsts seconds g ls k n) ≡ measuredAt limits dirs g l (linkIn regions firsts seconds k)
+    unfolding measuredAt
+    measure =
+        after-measured limits (valueIn own bits (at firsts k) (at seconds k)) (g .width) (firstCells ls (at regions k) n)
+        ∙ (ap (λ (t : Link). measured limits t (g .width) (firstCells ls (at regions k) n)) value
+        ∙ ap (λ (cs : List ℕ). measured limits (valueOf l (linkIn regions firsts seconds k)) (g .width) cs) cells)
+
+    inside : linkNow limits own bits regions firsts seconds g ls k n .inside ≡ staysInside limits dirs g l (linkIn regions firsts seconds k)
+    unfolding linkAfter staysInside
+    inside =
+        ap (λ (t : Link). insideFlat limits t (g .width) (firstCells ls (at regions k) n)) value
+        ∙ ap (λ (cs : List ℕ). insideFlat limits (valueOf l (linkIn regions firsts seconds k)) (g .width) cs) cells
+
+    flat : (not (statsNow limits own bits regions firsts seconds g ls k n .«has_ramp») && eqb (elevations (statsIn (statsNow limits own bits regions firsts seconds g ls k n))) 1) ≡ isFlat dirs g l (at regions k)
+    unfolding isFlat
+    flat = ap (λ (t : RegionStats). not (t .hasRamp) && eqb (elevations t) 1) stats
+
+    passing-right : at ps k ≡ cond (passes limits dirs g l (linkIn regions firsts seconds k)) 1 0
+    unfolding passes
+    passing-right = J .passing-is k b ∙ ap (λ (t : Measure). cond (passing t) 1 0) measure
+
+    flat-right : at fs k ≡ cond (staysInside limits dirs g l (linkIn regions firsts seconds k) && isFlat dirs g l (at regions k)) 1 0
+    flat-right =
+        J .flat-is k b
+        ∙ (ap (λ (t : Bool). cond (t && (not (statsNow limits own bits regions firsts seconds g ls k n .«has_ramp») && eqb (elevations (statsIn (statsNow limits own bits regions firsts seconds g ls k n))) 1)) 1 0) inside
+        ∙ ap (λ (t : Bool). cond (staysInside limits dirs g l (linkIn regions firsts seconds k) && t) 1 0) flat)
+
+  pub judged-measured : {n links : ℕ} {ps fs : List ℕ} → length ls ≡ n → Judged limits own bits regions firsts seconds g ls n links ps fs → Measured limits own bits regions firsts seconds g ls links ps fs
+  judged-measured many J = record {
+    passing-is = λ dirs l ramps B labels k b first second. passing-right many J dirs l ramps B labels k b first second;
+    flat-is = λ dirs l ramps B labels k b first second. flat-right many J dirs l ramps B labels k b first second;
+  }
+
+pub labels-many : (s : List ℕ) (n : ℕ) → length (labelsOf s n) ≡ n
+unfolding labelsOf
+labels-many s n = length-rows n (λ i. u32At s (i * 4))
+
+-- by labels that are the same
+pub measured-by : {limits : Limits} {own bits regions firsts seconds : List ℕ} {g : Grid} {ls ms : List ℕ} {n links : ℕ} {ps fs : List ℕ} → length ms ≡ n → ls ≡ ms
+    → Judged limits own bits regions firsts seconds g ls n links ps fs → Measured limits own bits regions firsts seconds g ms links ps fs
+measured-by {limits} {own} {bits} {regions} {firsts} {seconds} {g} {n = n} {links = links} {ps = ps} {fs = fs} many e judged =
+    judged-measured many (subst (λ (z : List ℕ). Judged limits own bits regions firsts seconds g z n links ps fs) e judged)

@@ -1,0 +1,134 @@
+-- The table of the links' numbers: written link by link, read, and cleared.
+use mathlib.Core.Path.{_≡_, refl, sym, _∙_, ap, subst}
+use mathlib.Core.Logic.{by-cases}
+use mathlib.Core.List.{List}
+use Prim.Native.Nat.{ℕ, _+_, _*_, _-_, _≤_, _<_}
+use native.Mathlib.Omega.{arith}
+use native.Mathlib.Decide.{ℕ-discrete}
+use borrow.Author.Tests.{eq-eqb, ne-eqb}
+use lib.ListN.{length}
+use Rattle.lists.proofs.Rows.{rows-same}
+use Rattle.wire.specs.Bytes.{u32At, u32Bytes, splice}
+use Rattle.wire.proofs.Words.{four-bytes}
+use Rattle.topology.specs.Held.{labelsOf}
+use Rattle.bridges.specs.Names.{Table}
+use Rattle.bridges.specs.Slices.{put}
+use Rattle.bridges.proofs.Turn.{put-at, put-off}
+use Rattle.bridges.proofs.Table.{table-set, table-clear}
+use Rattle.measures.specs.Tables.{at, Regions, Labels, Written, Later, Cleared, numberOf, Numbered}
+
+blank : {start : List ℕ} {n : ℕ} → Labels start n → Table start n (4 * n) (λ x. 0) start
+blank L = record { as-long = refl; word = λ x l. L .clear x l; before = λ i l. refl; behind = λ i l. refl }
+
+pub write-start : {start : List ℕ} {n : ℕ} (regions : List ℕ) → Labels start n → Written start start n regions 0
+write-start regions L = record { words = λ x. 0; table = blank L; own = λ j l. absurd (omega arith); named = λ x p. absurd (omega arith) }
+
+-- the place of a link's word
+abbrev spot : List ℕ → ℕ → ℕ
+spot regions k = at regions k - 1
+
+below : {regions : List ℕ} {links k n : ℕ} → Regions regions links n → k < links → spot regions k < n
+below {regions} {links} {k} R inside = omega (arith, R .from k inside, R .to k inside)
+
+module _ {start work : List ℕ} {n : ℕ} {regions : List ℕ} {links k : ℕ} (R : Regions regions links n) (room : 8 * n ≤ length start) (inside : k < links) where
+  pub write-next : Written start work n regions k → {next : List ℕ} → next ≡ splice work (4 * n + 4 * (at regions k - 1)) (u32Bytes (k + 1)) → Written start next n regions (k + 1)
+  write-next W {next} e = subst (λ (z : List ℕ). Written start z n regions (k + 1)) (sym e) (record {
+    words = put (W .words) (spot regions k) (k + 1);
+    table = table-set (W .table) (omega arith) (spot regions k) (k + 1) (below R inside) (omega (arith, R .few));
+    own = own;
+    named = named;
+  })
+    where
+      own : (j : ℕ) → j < k + 1 → put (W .words) (spot regions k) (k + 1) (at regions j - 1) ≡ j + 1
+      own j l =
+          by-cases (ℕ-discrete j k)
+          (λ q. ap (λ (z : ℕ). put (W .words) (spot regions k) (k + 1) (at regions z - 1)) q ∙ (put-at (W .words) (spot regions k) (k + 1) ∙ ap (λ (z : ℕ). z + 1) (sym q)))
+          (λ q.
+          put-off (W .words) (spot regions k) (k + 1) (at regions j - 1) (λ s. q (R .apart j k (omega arith) inside (omega (arith, s, R .from j (omega arith), R .from k inside))))
+          ∙ W .own j (omega arith))
+
+      named : (y : ℕ) → 0 < put (W .words) (spot regions k) (k + 1) y → (put (W .words) (spot regions k) (k + 1) y ≤ k + 1) × (at regions (put (W .words) (spot regions k) (k + 1) y - 1) ≡ y + 1)
+      named y p =
+          by-cases (ℕ-discrete y (spot regions k))
+          (λ q.
+          let v : put (W .words) (spot regions k) (k + 1) y ≡ k + 1 = ap (put (W .words) (spot regions k) (k + 1)) q ∙ put-at (W .words) (spot regions k) (k + 1) in
+          let s : put (W .words) (spot regions k) (k + 1) y - 1 ≡ k = omega (arith, v) in
+          let t : at regions k ≡ y + 1 = omega (arith, q, R .from k inside) in
+          (omega (arith, v), ap (λ (z : ℕ). at regions z) s ∙ t))
+          (λ q.
+          let v : put (W .words) (spot regions k) (k + 1) y ≡ W .words y = put-off (W .words) (spot regions k) (k + 1) y q in
+          let o = W .named y (omega (arith, v, p)) in
+          (omega (arith, v, o .0), ap (λ (z : ℕ). at regions (z - 1)) v ∙ o .1))
+
+  pub clear-next : Cleared start work n regions links k → {next : List ℕ} → next ≡ splice work (4 * n + 4 * (at regions k - 1)) (u32Bytes 0) → Cleared start next n regions links (k + 1)
+  clear-next C {next} e = subst (λ (z : List ℕ). Cleared start z n regions links (k + 1)) (sym e) (record {
+    words = put (C .words) (spot regions k) 0;
+    table = table-set (C .table) (omega arith) (spot regions k) 0 (below R inside) (omega arith);
+    left-over = left-over;
+  })
+    where
+      left-over : (y : ℕ) → 0 < put (C .words) (spot regions k) 0 y → Later regions links (k + 1) y
+      left-over y p =
+          by-cases (ℕ-discrete y (spot regions k))
+          (λ q. let v : put (C .words) (spot regions k) 0 y ≡ 0 = ap (put (C .words) (spot regions k) 0) q ∙ put-at (C .words) (spot regions k) 0 in absurd (omega (arith, v, p)))
+          (λ q.
+          let v : put (C .words) (spot regions k) 0 y ≡ C .words y = put-off (C .words) (spot regions k) 0 y q in
+          let o = C .left-over y (omega (arith, v, p)) in
+          record {
+            link = o .link;
+            from = by-cases (ℕ-discrete (o .link) k) (λ s. let t : at regions k ≡ y + 1 = sym (ap (at regions) s) ∙ o .is in absurd (q (omega (arith, t)))) (λ s. omega (arith, o .from, s));
+            inside = o .inside;
+            is = o .is;
+          })
+
+pub clear-start : {start work : List ℕ} {n : ℕ} {regions : List ℕ} {links : ℕ} → Written start work n regions links → Cleared start work n regions links 0
+clear-start W = record {
+  words = W .words;
+  table = W .table;
+  left-over = λ x p. record { link = W .words x - 1; from = omega arith; inside = omega (arith, p, W .named x p .0); is = W .named x p .1 };
+}
+
+pub clear-end : {start work : List ℕ} {n : ℕ} {regions : List ℕ} {links : ℕ} → Labels start n → Cleared start work n regions links links → work ≡ start
+clear-end {start} {work} {n} L C =
+    table-clear start n (4 * n) (C .words) (λ x. 0) work (omega (arith, L .room)) (C .table) (blank L)
+    (λ x l. by-cases (ℕ-discrete (C .words x) 0) (λ e. e) (λ e. let o = C .left-over x (omega (arith, e)) in absurd (omega (arith, o .from, o .inside)))) (λ x l. refl)
+
+module _ {start work : List ℕ} {n : ℕ} {regions : List ℕ} {links : ℕ} (L : Labels start n) (W : Written start work n regions links) where
+  same-label : (i : ℕ) → i < n → u32At work (i * 4) ≡ u32At start (i * 4)
+  same-label i l =
+      let a = four-bytes work (i * 4) (omega (arith, L .room, W .table .as-long)) in
+      let b = four-bytes start (i * 4) (omega (arith, L .room)) in
+      let t0 = W .table .before (i * 4) (omega arith) in
+      let t1 = W .table .before (i * 4 + 1) (omega arith) in
+      let t2 = W .table .before (i * 4 + 2) (omega arith) in
+      let t3 = W .table .before (i * 4 + 3) (omega arith) in
+      omega (arith, a, b, t0, t1, t2, t3)
+
+  -- the labels are as they were
+  pub written-labels : labelsOf work n ≡ labelsOf start n
+  unfolding labelsOf
+  written-labels = rows-same n (λ i. u32At work (i * 4)) (λ i. u32At start (i * 4)) same-label
+
+  word-is : (r : ℕ) → 0 < r → r ≤ n → numberOf work n r ≡ W .words (r - 1)
+  word-is r p l = let h = ne-eqb r 0 (λ e. omega arith) in rw h (W .table .word (r - 1) (omega arith))
+
+  zero-is : (r : ℕ) → r ≡ 0 → numberOf work n r ≡ 0
+  zero-is r e = let h = eq-eqb r 0 e in rw h
+
+  pub written-numbered : Regions regions links n → Numbered work n regions links
+  written-numbered R = record {
+    few = R .few;
+    room = omega (arith, L .room, W .table .as-long);
+    most = λ i l. omega (arith, same-label i l, L .most i l);
+    within = λ r l.
+        by-cases (ℕ-discrete r 0) (λ e. omega (arith, zero-is r e)) λ e.
+        by-cases (ℕ-discrete (W .words (r - 1)) 0) (λ z. omega (arith, word-is r (omega arith) l, z))
+        (λ z. omega (arith, word-is r (omega arith) l, W .named (r - 1) (omega (arith, z)) .0));
+    named = λ r l p.
+        by-cases (ℕ-discrete r 0) (λ e. absurd (omega (arith, zero-is r e, p))) λ e.
+        let q = word-is r (omega arith) l in
+        let o = W .named (r - 1) (omega (arith, q, p)) in
+        let s : r - 1 + 1 ≡ r = omega (arith, e) in
+        ap (λ (z : ℕ). at regions (z - 1)) q ∙ (o .1 ∙ s);
+    own = λ k l. word-is (at regions k) (R .from k l) (R .to k l) ∙ W .own k l;
+  }

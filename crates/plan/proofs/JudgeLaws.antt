@@ -1,0 +1,123 @@
+-- A group that is kept by its first four ranks is judged as a whole.
+use mathlib.Core.Path.{_≡_, sym, _∙_, ap}
+use mathlib.Core.Bool.{Bool, true, false, cond, not, _&&_}
+use mathlib.Core.List.{List}
+use Prim.Native.Nat.{ℕ, _≤_, _<_}
+use native.Mathlib.Omega.{arith}
+use borrow.Author.Tests.{not-true, not-false}
+use lib.Ieee.{le}
+use lib.ListN.{length, getD}
+use Rattle.order.specs.Lists.{keep, upFrom}
+use Rattle.order.proofs.Bools.{by-test, clash, and-parts}
+use Rattle.order.proofs.Keep.{keep-mem}
+use Rattle.order.proofs.Numbers.{up-mem, up-length}
+use Rattle.areas.specs.Spans.{spanIn}
+use Rattle.links.specs.Limits.{Limits}
+use Rattle.links.specs.Geometry.{centreDistance}
+use Rattle.groups.specs.Tests.{every}
+use Rattle.groups.specs.Flat.{leastFlatSpans}
+use Rattle.groups.proofs.Tests.{keep-length}
+use Rattle.plan.specs.declared.four.Four.{Four}
+use Rattle.plan.specs.Four.{held, listed}
+use Rattle.plan.specs.Arrays.{at, isOn, Ranked}
+use Rattle.plan.specs.Shape.{endsIn, chainIn, pathIn, allAlikeIn}
+use Rattle.plan.specs.Told.{serialIn, flatIn}
+use Rattle.plan.specs.Fitting.{RankFits, LinkFits, WidthFits, Ranks, Links, Widths, Safe}
+use Rattle.plan.proofs.FourLaws.{listed-held}
+use Rattle.plan.proofs.ShapeLaws.{listed-length, held-count, held-slots}
+use Rattle.plan.proofs.AcceptLaws.{path-sizes}
+
+abbrev pub Sized : List ℕ → List ℕ → Type 0
+Sized rs js = (1 ≤ length rs) × (length rs ≤ 4) × (length js ≤ 4)
+
+-- a test that passes only small groups
+module _ (F : List ℕ → List ℕ → Bool) (small : (rs js : List ℕ) → F rs js ≡ true → Sized rs js) {f g : Four} (rs js : List ℕ) (ef : f ≡ held rs) (eg : g ≡ held js) where
+  ranks-long : length (listed f) ≡ length rs
+  ranks-long = listed-length f ∙ held-count rs ef
+
+  links-long : length (listed g) ≡ length js
+  links-long = listed-length g ∙ held-count js eg
+
+  whole : Sized (listed f) (listed g) → (listed f ≡ rs) × (listed g ≡ js)
+  whole s = (ap listed ef ∙ listed-held rs (omega (arith, s .1, ranks-long)), ap listed eg ∙ listed-held js (omega (arith, s .2, links-long)))
+
+  pub same-test : F (listed f) (listed g) ≡ F rs js
+  same-test =
+      by-test (F (listed f) (listed g))
+      (λ h. let w = whole (small (listed f) (listed g) h) in ap (λ (x : List ℕ). F x (listed g)) (w .0) ∙ ap (F rs) (w .1))
+      (λ h. h ∙ sym (by-test (F rs js)
+      (λ k.
+      let s = small rs js k in
+      let a : listed f ≡ rs = ap listed ef ∙ listed-held rs (s .1) in
+      let b : listed g ≡ js = ap listed eg ∙ listed-held js (s .2) in
+      clash (ap (λ (x : List ℕ). F x (listed g)) a ∙ (ap (F rs) b ∙ k)) h)
+      (λ k. k)))
+
+  pub judged-sizes : {b : Bool} → b ≡ F (listed f) (listed g) → not b ≡ false → (1 ≤ f .count) × (f .count ≤ 4)
+  judged-sizes {b} e n =
+      let s = small (listed f) (listed g) (sym e ∙ not-false b n) in
+      (omega (arith, s .0, listed-length f), omega (arith, s .1, listed-length f))
+
+  pub judged-no : (x : ℕ) {b : Bool} → b ≡ F (listed f) (listed g) → not b ≡ true → 256 ≡ cond (F rs js) x 256
+  judged-no x {b} e n = ap (λ (t : Bool). cond t x 256) (sym (not-true b n) ∙ (e ∙ same-test))
+
+  pub judged-yes : (R : List ℕ → ℕ) {b : Bool} {r : ℕ} → b ≡ F (listed f) (listed g) → not b ≡ false → r ≡ R (listed f) → r ≡ cond (F rs js) (R rs) 256
+  judged-yes R {b} {r} e n q =
+      let h : F (listed f) (listed g) ≡ true = sym e ∙ not-false b n in
+      let w = whole (small (listed f) (listed g) h) in
+      q ∙ (ap R (w .0) ∙ ap (λ (t : Bool). cond t (R rs) 256) (sym h ∙ same-test))
+
+passed-path : (a b c : Bool) → (a && b) && c ≡ true → b ≡ true
+passed-path a b c h = and-parts a b (and-parts (a && b) c h .0) .1
+
+module _ (limits : Limits) (own lowers highers regions firsts seconds : List ℕ) where
+  pub serial-small : (passing : List ℕ) → 3 ≤ limits .leastSpans → limits .mostSpans ≤ 4 → (rs js : List ℕ) → serialIn limits own lowers highers regions firsts seconds passing rs js ≡ true → Sized rs js
+  unfolding serialIn
+  serial-small passing l m rs js h =
+      let q = passed-path (every (isOn passing) js) (pathIn lowers highers regions firsts seconds (limits .leastSpans) (limits .mostSpans) rs js)
+      (le (chainIn firsts seconds own js) (limits .chain) && le (centreDistance (spanIn own (getD (endsIn firsts seconds rs js) 0 0)) (spanIn own (getD (endsIn firsts seconds rs js) 1 0))) (limits .chain)) h in
+      let s = path-sizes lowers highers regions firsts seconds (limits .leastSpans) (limits .mostSpans) rs js q in
+      (omega (arith, s .0), omega (arith, s .1), omega (arith, s .1, s .2))
+
+  pub flat-small : limits .mostSpans ≤ 4 → (rs js : List ℕ) → flatIn limits own lowers highers regions firsts seconds rs js ≡ true → Sized rs js
+  unfolding flatIn
+  flat-small m rs js h =
+      let p = and-parts (pathIn lowers highers regions firsts seconds leastFlatSpans (limits .mostSpans) rs js) (allAlikeIn limits own rs) h in
+      let s = path-sizes lowers highers regions firsts seconds leastFlatSpans (limits .mostSpans) rs js (p .0) in
+      (omega (arith, s .0), omega (arith, s .1), omega (arith, s .1, s .2))
+
+module _ {n : ℕ} {own bits firsts seconds : List ℕ} {links : ℕ} (safe : Safe n own bits firsts seconds links) where
+  rank-fits : (i : ℕ) → i < n → RankFits own i
+  rank-fits i l = record { below = omega (arith, safe .few); bounded = safe .spans i l }
+
+  pub zero-fits : RankFits own 0
+  zero-fits = rank-fits 0 (safe .some)
+
+  pub link-fits : (k : ℕ) → k < links → LinkFits own firsts seconds k
+  link-fits k l = record {
+    below = omega (arith, safe .ranked .few);
+    first = rank-fits (at firsts k) (safe .ranked .first-in k l);
+    second = rank-fits (at seconds k) (safe .ranked .second-in k l);
+  }
+
+  pub ranks-fit : (t : ℕ → Bool) {f : Four} → f ≡ held (keep t (upFrom 0 n)) → Ranks own f
+  ranks-fit t e = held-slots (RankFits own) (keep t (upFrom 0 n)) e (λ x m. rank-fits x (omega (arith, up-mem 0 n (keep-mem t (upFrom 0 n) m .0)))) zero-fits
+
+  pub widths-fit : (t : ℕ → Bool) {f : Four} → f ≡ held (keep t (upFrom 0 n)) → Widths bits f
+  widths-fit t e =
+      held-slots (WidthFits bits) (keep t (upFrom 0 n)) e
+      (λ x m. let l : x < n = omega (arith, up-mem 0 n (keep-mem t (upFrom 0 n) m .0)) in record { below = omega (arith, safe .few); fits = safe .widths x l })
+      (record { below = omega arith; fits = safe .widths 0 (safe .some) })
+
+  pub links-fit : (t : ℕ → Bool) {f : Four} → f ≡ held (keep t (upFrom 0 links)) → Links own firsts seconds f
+  links-fit t e = held-slots (LinkFits own firsts seconds) (keep t (upFrom 0 links)) e (λ x m. link-fits x (omega (arith, up-mem 0 links (keep-mem t (upFrom 0 links) m .0)))) (link-fits 0 (safe .linked))
+
+  pub wider-ranked : Ranked 256 firsts seconds links
+  wider-ranked = record {
+    few = safe .ranked .few;
+    first-in = λ k l. omega (arith, safe .ranked .first-in k l, safe .few);
+    second-in = λ k l. omega (arith, safe .ranked .second-in k l, safe .few);
+  }
+
+pub few-kept : (t : ℕ → Bool) (n : ℕ) {f : Four} → f ≡ held (keep t (upFrom 0 n)) → n ≤ 256 → f .count ≤ 256
+few-kept t n e l = omega (arith, held-count (keep t (upFrom 0 n)) e, keep-length t (upFrom 0 n), up-length 0 n)

@@ -1,0 +1,57 @@
+use mathlib.Core.Path.{refl, sym, _∙_, ap}
+use Prim.Native.Nat.{_-_, _≤_}
+use native.Mathlib.Omega.{arith}
+use borrow.Author.Needs.{needs}
+use mathlib.Core.Path.{subst}
+use Rattle.links.specs.HeldLimits.{limitsOf}
+use Rattle.plan.specs.Shape.{alikeIn}
+use Rattle.plan.specs.Fitting.{RankFits}
+use Rattle.plan.specs.Four.{slot}
+use Rattle.plan.proofs.ShapeLaws.{Each, each-start, each-next, each-listed}
+use Rattle.plan.proofs.alike.alike_to_all.Statement.{statement}
+use Rattle.plan.proofs.alike.alike_to_all.Tie as tie
+use Rattle.plan.proofs.alike.alike_to_all.Reads as reads
+use Rattle.plan.proofs.alike.alike_to_all.Lts as lts
+use Rattle.plan.proofs.alike.alike.Reads as alike-reads
+use Rattle.plan.proofs.four.Four.index.Reads as index-reads
+
+abbrev Inv-loop : tie.InvT-loop
+Inv-loop limits own i ranks all₀ j₀ all j = (j ≤ ranks .count) × Each (alikeIn (limitsOf limits) own i) (slot ranks) (ranks .count) j all
+
+abbrev μ-loop : tie.MeasureT-loop
+μ-loop limits own i ranks all₀ j₀ all j = j
+
+loop-holds : tie.Need-loop-holds Inv-loop μ-loop
+loop-holds c = (omega arith, each-start (alikeIn (limitsOf (c .args .limits)) (c .args .own .now) (c .args .i)) (slot (c .args .ranks)) (c .args .ranks .count))
+
+sub-j : tie.Need-sub-j Inv-loop μ-loop
+sub-j c = search needs
+
+index-requires : tie.Need-index-requires Inv-loop μ-loop
+index-requires c κs = c .before .before .pre .1 (c .before .loop .j - 1) .below
+
+alike-requires : tie.Need-alike-requires Inv-loop μ-loop
+alike-requires c κs = (c .before .before .before .pre .0, subst (RankFits (c .before .before .before .args .own .now)) (sym (c .index .ensures .0)) (c .before .before .before .pre .1 (c .before .before .loop .j - 1)))
+
+loop-less : tie.Need-loop-less Inv-loop μ-loop
+loop-less c = search needs
+
+loop-again : tie.Need-loop-again Inv-loop μ-loop
+loop-again c = (omega (arith, c .before .before .before .loop .inv .0), each-next (alikeIn (limitsOf (c .before .before .before .before .args .limits)) (c .before .before .before .before .args .own .now) (c .before .before .before .before .args .i)) (slot (c .before .before .before .before .args .ranks)) (c .before .before .before .before .args .ranks .count) (c .alike .result) (c .before .before .before .loop .inv .1) (c .before .before .loop-test .taken) (c .before .before .before .loop .inv .0) (c .alike .ensures ∙ ap (alikeIn (limitsOf (c .before .before .before .before .args .limits)) (c .before .before .before .before .args .own .now) (c .before .before .before .before .args .i)) (c .before .index .ensures .0)) refl)
+
+returns : tie.Need-returns Inv-loop μ-loop
+returns c = each-listed (alikeIn (limitsOf (c .before .before .args .limits)) (c .before .before .args .own .now) (c .before .before .args .i)) (c .before .before .args .ranks) (c .before .loop .inv .1) (omega (arith, c .loop-test .left))
+
+pub alike-to-all-spec : {M : Type 1} → statement M
+alike-to-all-spec =
+    tie.close
+    (tie.spec
+    Inv-loop
+    μ-loop
+    loop-holds
+    sub-j
+    index-requires
+    alike-requires
+    loop-less
+    loop-again
+    returns)

@@ -1,0 +1,59 @@
+use mathlib.Core.Path.{refl, sym, _∙_, ap}
+use Prim.Native.Nat.{_-_, _≤_}
+use native.Mathlib.Omega.{arith}
+use borrow.Author.Needs.{needs}
+use mathlib.Core.Path.{subst}
+use Rattle.links.specs.HeldLimits.{limitsOf}
+use Rattle.groups.specs.Tests.{every}
+use Rattle.plan.specs.Shape.{alikeIn}
+use Rattle.plan.specs.Fitting.{RankFits}
+use Rattle.plan.specs.Four.{slot, listed}
+use Rattle.plan.proofs.ShapeLaws.{Each, each-start, each-next}
+use Rattle.plan.proofs.ValueLaws.{all-alike-whole}
+use Rattle.plan.proofs.alike.all_alike.Statement.{statement}
+use Rattle.plan.proofs.alike.all_alike.Tie as tie
+use Rattle.plan.proofs.alike.all_alike.Reads as reads
+use Rattle.plan.proofs.alike.all_alike.Lts as lts
+use Rattle.plan.proofs.alike.alike_to_all.Reads as alike-to-all-reads
+use Rattle.plan.proofs.four.Four.index.Reads as index-reads
+
+abbrev Inv-loop : tie.InvT-loop
+Inv-loop limits own ranks all₀ j₀ all j = (j ≤ ranks .count) × Each (λ i. every (alikeIn (limitsOf limits) own i) (listed ranks)) (slot ranks) (ranks .count) j all
+
+abbrev μ-loop : tie.MeasureT-loop
+μ-loop limits own ranks all₀ j₀ all j = j
+
+loop-holds : tie.Need-loop-holds Inv-loop μ-loop
+loop-holds c = (omega arith, each-start (λ i. every (alikeIn (limitsOf (c .args .limits)) (c .args .own .now) i) (listed (c .args .ranks))) (slot (c .args .ranks)) (c .args .ranks .count))
+
+sub-j : tie.Need-sub-j Inv-loop μ-loop
+sub-j c = search needs
+
+index-requires : tie.Need-index-requires Inv-loop μ-loop
+index-requires c κs = c .before .before .pre (c .before .loop .j - 1) .below
+
+alike-to-all-requires : tie.Need-alike-to-all-requires Inv-loop μ-loop
+alike-to-all-requires c κs = (subst (RankFits (c .before .before .before .args .own .now)) (sym (c .index .ensures .0)) (c .before .before .before .pre (c .before .before .loop .j - 1)), c .before .before .before .pre)
+
+loop-less : tie.Need-loop-less Inv-loop μ-loop
+loop-less c = search needs
+
+loop-again : tie.Need-loop-again Inv-loop μ-loop
+loop-again c = (omega (arith, c .before .before .before .loop .inv .0), each-next (λ i. every (alikeIn (limitsOf (c .before .before .before .before .args .limits)) (c .before .before .before .before .args .own .now) i) (listed (c .before .before .before .before .args .ranks))) (slot (c .before .before .before .before .args .ranks)) (c .before .before .before .before .args .ranks .count) (c .alike-to-all .result) (c .before .before .before .loop .inv .1) (c .before .before .loop-test .taken) (c .before .before .before .loop .inv .0) (c .alike-to-all .ensures ∙ ap (λ i. every (alikeIn (limitsOf (c .before .before .before .before .args .limits)) (c .before .before .before .before .args .own .now) i) (listed (c .before .before .before .before .args .ranks))) (c .before .index .ensures .0)) refl)
+
+returns : tie.Need-returns Inv-loop μ-loop
+returns c = all-alike-whole (limitsOf (c .before .before .args .limits)) (c .before .before .args .own .now) (c .before .before .args .ranks) (c .before .loop .inv .1) (omega (arith, c .loop-test .left))
+
+pub all-alike-spec : {M : Type 1} → statement M
+all-alike-spec =
+    tie.close
+    (tie.spec
+    Inv-loop
+    μ-loop
+    loop-holds
+    sub-j
+    index-requires
+    alike-to-all-requires
+    loop-less
+    loop-again
+    returns)

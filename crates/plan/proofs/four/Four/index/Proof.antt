@@ -1,0 +1,20 @@
+use Prim.Native.Nat.{_-_}
+use native.Mathlib.Omega.{arith}
+use borrow.Author.Needs.{needs}
+use Rattle.plan.proofs.four.Four.index.Statement.{statement}
+use Rattle.plan.proofs.four.Four.index.Tie as tie
+use Rattle.plan.proofs.four.Four.index.Reads as reads
+use Rattle.plan.proofs.four.Four.index.Lts as lts
+use Rattle.plan.proofs.four.Four.get.Reads as get-reads
+
+get-requires : tie.Need-get-requires
+get-requires c κs = search needs
+
+cast-result : tie.Need-cast-result
+cast-result c = search needs
+
+returns : tie.Need-returns
+returns c = let e = c .get .ensures in (e, omega (arith, e, c .before .pre))
+
+pub index-spec : {M : Type 1} → statement M
+index-spec = tie.close (tie.spec get-requires cast-result returns)

@@ -1,0 +1,18 @@
+use Prim.Native.Nat.{_-_}
+use borrow.Author.Needs.{needs}
+use Rattle.plan.proofs.four.Four.with.Statement.{statement}
+use Rattle.plan.proofs.four.Four.with.Tie as tie
+use Rattle.plan.proofs.four.Four.with.Reads as reads
+use Rattle.plan.proofs.four.Four.with.Lts as lts
+
+add-t5 : tie.Need-add-t5
+add-t5 c = search needs
+
+returns : tie.Need-returns
+returns c = rw (c .before .if1 .taken)
+
+returns-2 : tie.Need-returns-2
+returns-2 c = search needs
+
+pub with-spec : {M : Type 1} → statement M
+with-spec = tie.close (tie.spec add-t5 returns returns-2)

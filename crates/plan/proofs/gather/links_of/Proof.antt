@@ -1,0 +1,83 @@
+use mathlib.Core.Path.{_∙_, ap}
+use mathlib.Core.Bool.{_&&_}
+use Prim.Native.Nat.{ℕ, _-_, _≤_}
+use native.Mathlib.Omega.{arith}
+use lib.Dec.{eqb}
+use lib.ListN.{getD}
+use borrow.Author.Needs.{needs}
+use Rattle.plan.specs.Arrays.{linkIn}
+use Rattle.plan.proofs.FourLaws.{Picked, picked-start, picked-room, picked-next, picked-whole}
+use Rattle.plan.proofs.gather.links_of.Statement.{statement}
+use Rattle.plan.proofs.gather.links_of.Tie as tie
+use Rattle.plan.proofs.gather.links_of.Reads as reads
+use Rattle.plan.proofs.gather.links_of.Lts as lts
+use Rattle.plan.proofs.four.Four.none.Reads as none-reads
+use Rattle.plan.proofs.four.Four.with.Reads as with-reads
+use Rattle.plan.proofs.gather.in_part.Reads as in-part-reads
+use Rattle.plan.proofs.gather.number.Reads as number-reads
+use Rattle.plan.proofs.gather.part_at.Reads as part-at-reads
+
+abbrev Inv-loop : tie.InvT-loop
+Inv-loop links chosen firsts seconds parts c found₀ k₀ found k = (k ≤ links) × Picked (linkIn chosen firsts parts c) (λ j. j) links k found
+
+abbrev μ-loop : tie.MeasureT-loop
+μ-loop links chosen firsts seconds parts c found₀ k₀ found k = k
+
+none-requires : tie.Need-none-requires Inv-loop μ-loop
+none-requires c κs = search needs
+
+loop-holds : tie.Need-loop-holds Inv-loop μ-loop
+loop-holds c = (omega arith, picked-start (linkIn (c .before .args .chosen .now) (c .before .args .firsts .now) (c .before .args .parts .now) (c .before .args .c)) (λ j. j) (c .before .args .links) (c .none .result) (c .none .ensures))
+
+sub-k : tie.Need-sub-k Inv-loop μ-loop
+sub-k c = search needs
+
+number-requires : tie.Need-number-requires Inv-loop μ-loop
+number-requires c κs = omega (arith, c .before .loop .inv .0, c .loop-test .taken, c .before .before .before .pre .few)
+
+element-copy-out-in-part : tie.Need-element-copy-out-in-part Inv-loop μ-loop
+element-copy-out-in-part c = search needs
+
+mul-part-at : tie.Need-mul-part-at Inv-loop μ-loop
+mul-part-at c = search needs
+
+element-copy-out-part-at : tie.Need-element-copy-out-part-at Inv-loop μ-loop
+element-copy-out-part-at c = search needs
+
+part-at-requires : tie.Need-part-at-requires Inv-loop μ-loop
+part-at-requires c κs = c .before .before .before .before .before .before .pre .first-in (c .before .before .before .before .loop .k - 1) (omega (arith, c .before .before .before .before .loop .inv .0, c .before .before .before .loop-test .taken))
+
+in-part-requires : tie.Need-in-part-requires Inv-loop μ-loop
+in-part-requires c κs = search needs
+
+with-requires : tie.Need-with-requires Inv-loop μ-loop
+with-requires c κs = picked-room (linkIn (c .before .before .before .before .before .before .before .before .args .chosen .now) (c .before .before .before .before .before .before .before .before .args .firsts .now) (c .before .before .before .before .before .before .before .before .args .parts .now) (c .before .before .before .before .before .before .before .before .args .c)) (λ j. j) (c .before .before .before .before .before .before .before .before .args .links) (c .before .before .before .before .before .before .loop .inv .1) (c .before .before .before .before .before .before .before .before .pre .few)
+
+loop-less : tie.Need-loop-less Inv-loop μ-loop
+loop-less c = search needs
+
+loop-again : tie.Need-loop-again Inv-loop μ-loop
+loop-again c = (omega (arith, c .before .before .before .before .before .before .before .loop .inv .0), picked-next (linkIn (c .before .before .before .before .before .before .before .before .before .args .chosen .now) (c .before .before .before .before .before .before .before .before .before .args .firsts .now) (c .before .before .before .before .before .before .before .before .before .args .parts .now) (c .before .before .before .before .before .before .before .before .before .args .c)) (λ j. j) (c .before .before .before .before .before .before .before .before .before .args .links) (c .before .in-part .result) (c .before .before .before .before .before .number .result) (c .before .before .before .before .before .before .before .loop .inv .1) (c .before .before .before .before .before .before .loop-test .taken) (c .before .before .before .before .before .before .before .loop .inv .0) (c .with .ensures) (c .before .in-part .ensures ∙ ap (λ (x : ℕ). eqb (getD (c .before .before .before .before .before .before .before .before .before .args .chosen .now) (c .before .before .before .before .before .before .before .loop .k - 1) 0) 1 && eqb x (c .before .before .before .before .before .before .before .before .before .args .c)) (c .before .before .part-at .ensures)) (c .before .before .before .before .before .number .ensures))
+
+returns : tie.Need-returns Inv-loop μ-loop
+returns c = picked-whole (linkIn (c .before .before .before .args .chosen .now) (c .before .before .before .args .firsts .now) (c .before .before .before .args .parts .now) (c .before .before .before .args .c)) (c .before .before .before .args .links) (c .before .loop .inv .1) (omega (arith, c .loop-test .left))
+
+pub links-of-spec : {M : Type 1} → statement M
+links-of-spec =
+    tie.close
+    (tie.spec
+    Inv-loop
+    μ-loop
+    none-requires
+    loop-holds
+    sub-k
+    number-requires
+    element-copy-out-in-part
+    mul-part-at
+    element-copy-out-part-at
+    part-at-requires
+    in-part-requires
+    with-requires
+    loop-less
+    loop-again
+    returns)

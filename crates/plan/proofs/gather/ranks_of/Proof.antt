@@ -1,0 +1,74 @@
+use Prim.Native.Nat.{_-_, _≤_}
+use native.Mathlib.Omega.{arith}
+use borrow.Author.Needs.{needs}
+use Rattle.plan.specs.Arrays.{inPart}
+use Rattle.plan.proofs.FourLaws.{Picked, picked-start, picked-room, picked-next, picked-whole}
+use Rattle.plan.proofs.gather.ranks_of.Statement.{statement}
+use Rattle.plan.proofs.gather.ranks_of.Tie as tie
+use Rattle.plan.proofs.gather.ranks_of.Reads as reads
+use Rattle.plan.proofs.gather.ranks_of.Lts as lts
+use Rattle.plan.proofs.four.Four.none.Reads as none-reads
+use Rattle.plan.proofs.four.Four.with.Reads as with-reads
+use Rattle.plan.proofs.gather.in_part.Reads as in-part-reads
+use Rattle.plan.proofs.gather.number.Reads as number-reads
+
+abbrev Inv-loop : tie.InvT-loop
+Inv-loop n joined parts c found₀ i₀ found i = (i ≤ n) × Picked (inPart joined parts c) (λ j. j) n i found
+
+abbrev μ-loop : tie.MeasureT-loop
+μ-loop n joined parts c found₀ i₀ found i = i
+
+none-requires : tie.Need-none-requires Inv-loop μ-loop
+none-requires c κs = search needs
+
+loop-holds : tie.Need-loop-holds Inv-loop μ-loop
+loop-holds c = (omega arith, picked-start (inPart (c .before .args .joined .now) (c .before .args .parts .now) (c .before .args .c)) (λ j. j) (c .before .args .n) (c .none .result) (c .none .ensures))
+
+sub-i : tie.Need-sub-i Inv-loop μ-loop
+sub-i c = search needs
+
+number-requires : tie.Need-number-requires Inv-loop μ-loop
+number-requires c κs = search needs
+
+element-copy-out-in-part : tie.Need-element-copy-out-in-part Inv-loop μ-loop
+element-copy-out-in-part c = search needs
+
+mul-in-part : tie.Need-mul-in-part Inv-loop μ-loop
+mul-in-part c = search needs
+
+element-copy-out-in-part-2 : tie.Need-element-copy-out-in-part-2 Inv-loop μ-loop
+element-copy-out-in-part-2 c = search needs
+
+in-part-requires : tie.Need-in-part-requires Inv-loop μ-loop
+in-part-requires c κs = search needs
+
+with-requires : tie.Need-with-requires Inv-loop μ-loop
+with-requires c κs = picked-room (inPart (c .before .before .before .before .before .before .before .args .joined .now) (c .before .before .before .before .before .before .before .args .parts .now) (c .before .before .before .before .before .before .before .args .c)) (λ j. j) (c .before .before .before .before .before .before .before .args .n) (c .before .before .before .before .before .loop .inv .1) (c .before .before .before .before .before .before .before .pre)
+
+loop-less : tie.Need-loop-less Inv-loop μ-loop
+loop-less c = search needs
+
+loop-again : tie.Need-loop-again Inv-loop μ-loop
+loop-again c = (omega (arith, c .before .before .before .before .before .before .loop .inv .0), picked-next (inPart (c .before .before .before .before .before .before .before .before .args .joined .now) (c .before .before .before .before .before .before .before .before .args .parts .now) (c .before .before .before .before .before .before .before .before .args .c)) (λ j. j) (c .before .before .before .before .before .before .before .before .args .n) (c .before .in-part .result) (c .before .before .before .before .number .result) (c .before .before .before .before .before .before .loop .inv .1) (c .before .before .before .before .before .loop-test .taken) (c .before .before .before .before .before .before .loop .inv .0) (c .with .ensures) (c .before .in-part .ensures) (c .before .before .before .before .number .ensures))
+
+returns : tie.Need-returns Inv-loop μ-loop
+returns c = picked-whole (inPart (c .before .before .before .args .joined .now) (c .before .before .before .args .parts .now) (c .before .before .before .args .c)) (c .before .before .before .args .n) (c .before .loop .inv .1) (omega (arith, c .loop-test .left))
+
+pub ranks-of-spec : {M : Type 1} → statement M
+ranks-of-spec =
+    tie.close
+    (tie.spec
+    Inv-loop
+    μ-loop
+    none-requires
+    loop-holds
+    sub-i
+    number-requires
+    element-copy-out-in-part
+    mul-in-part
+    element-copy-out-in-part-2
+    in-part-requires
+    with-requires
+    loop-less
+    loop-again
+    returns)

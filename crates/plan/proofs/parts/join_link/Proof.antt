@@ -1,0 +1,50 @@
+use Prim.Native.Nat.{_-_}
+use Rattle.plan.proofs.ArrayLaws.{link-yes, link-no}
+use borrow.Author.Needs.{needs}
+use Rattle.plan.proofs.parts.join_link.Statement.{statement}
+use Rattle.plan.proofs.parts.join_link.Tie as tie
+use Rattle.plan.proofs.parts.join_link.Reads as reads
+use Rattle.plan.proofs.parts.join_link.Lts as lts
+use Rattle.plan.proofs.parts.join_parts.Reads as join-parts-reads
+use Rattle.plan.proofs.parts.size.Reads as size-reads
+
+returns : tie.Need-returns
+returns c = link-no (c .before .args .on) (c .before .args .first) (c .before .args .second) (c .before .args .parts .now) (c .if1 .taken) (c .before .pre .0)
+
+size-requires : tie.Need-size-requires
+size-requires c κs = search needs
+
+mul-a : tie.Need-mul-a
+mul-a c = search needs
+
+element-copy-out-a : tie.Need-element-copy-out-a
+element-copy-out-a c = search needs
+
+size-requires-2 : tie.Need-size-requires-2
+size-requires-2 c κs = search needs
+
+mul-b : tie.Need-mul-b
+mul-b c = search needs
+
+element-copy-out-b : tie.Need-element-copy-out-b
+element-copy-out-b c = search needs
+
+join-parts-requires : tie.Need-join-parts-requires
+join-parts-requires c κs = search needs
+
+returns-2 : tie.Need-returns-2
+returns-2 c = link-yes (c .before .before .before .before .before .before .before .args .on) (c .before .before .before .before .before .before .before .args .first) (c .before .before .before .before .before .before .before .args .second) (c .before .before .before .before .before .size .result) (c .before .before .before .size2 .result) (c .before .before .before .before .before .before .before .args .parts .now) (c .before .before .before .before .before .before .if1 .left) (c .before .before .before .before .before .size .ensures .0) (c .before .before .before .size2 .ensures .0) (c .join-parts .ensures)
+
+pub join-link-spec : {M : Type 1} → statement M
+join-link-spec =
+    tie.close
+    (tie.spec
+    returns
+    size-requires
+    mul-a
+    element-copy-out-a
+    size-requires-2
+    mul-b
+    element-copy-out-b
+    join-parts-requires
+    returns-2)

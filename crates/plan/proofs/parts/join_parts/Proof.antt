@@ -1,0 +1,73 @@
+use mathlib.Core.Bool.{cond}
+use Prim.Native.Nat.{ℕ, _-_}
+use lib.Dec.{eqb}
+use borrow.Author.Needs.{needs}
+use Rattle.plan.proofs.ArrayLaws.{Mapped, mapped-none, mapped-next, mapped-all, join-as}
+use Rattle.plan.proofs.parts.join_parts.Statement.{statement}
+use Rattle.plan.proofs.parts.join_parts.Tie as tie
+use Rattle.plan.proofs.parts.join_parts.Reads as reads
+use Rattle.plan.proofs.parts.join_parts.Lts as lts
+use Rattle.plan.proofs.parts.larger.Reads as larger-reads
+use Rattle.plan.proofs.parts.moved.Reads as moved-reads
+use Rattle.plan.proofs.parts.smaller.Reads as smaller-reads
+
+abbrev Inv-loop : tie.InvT-loop
+Inv-loop parts₀ a b low high i₀ parts i = Mapped (λ (x : ℕ). cond (eqb x high) low x) i parts₀ parts
+
+abbrev μ-loop : tie.MeasureT-loop
+μ-loop parts₀ a b low high i₀ parts i = 256 - i
+
+smaller-requires : tie.Need-smaller-requires Inv-loop μ-loop
+smaller-requires c κs = search needs
+
+larger-requires : tie.Need-larger-requires Inv-loop μ-loop
+larger-requires c κs = search needs
+
+loop-holds : tie.Need-loop-holds Inv-loop μ-loop
+loop-holds c = mapped-none (c .before .before .pre)
+
+mul-moved : tie.Need-mul-moved Inv-loop μ-loop
+mul-moved c = search needs
+
+element-copy-out-moved : tie.Need-element-copy-out-moved Inv-loop μ-loop
+element-copy-out-moved c = search needs
+
+moved-requires : tie.Need-moved-requires Inv-loop μ-loop
+moved-requires c κs = search needs
+
+mul-parts : tie.Need-mul-parts Inv-loop μ-loop
+mul-parts c = search needs
+
+element-write-parts : tie.Need-element-write-parts Inv-loop μ-loop
+element-write-parts c = search needs
+
+add-i : tie.Need-add-i Inv-loop μ-loop
+add-i c = search needs
+
+loop-less : tie.Need-loop-less Inv-loop μ-loop
+loop-less c = search needs
+
+loop-again : tie.Need-loop-again Inv-loop μ-loop
+loop-again c = mapped-next (c .moved .result) (c .before .before .before .loop .inv) (c .before .before .loop-test .taken) (c .moved .ensures)
+
+returns : tie.Need-returns Inv-loop μ-loop
+returns c = join-as (c .before .before .before .before .args .a) (c .before .before .before .before .args .b) (c .before .before .before .smaller .result) (c .before .before .larger .result) (c .before .before .before .before .args .parts .now) (c .before .before .before .smaller .ensures) (c .before .before .larger .ensures) (mapped-all (c .before .loop .inv) (c .loop-test .left))
+
+pub join-parts-spec : {M : Type 1} → statement M
+join-parts-spec =
+    tie.close
+    (tie.spec
+    Inv-loop
+    μ-loop
+    smaller-requires
+    larger-requires
+    loop-holds
+    mul-moved
+    element-copy-out-moved
+    moved-requires
+    mul-parts
+    element-write-parts
+    add-i
+    loop-less
+    loop-again
+    returns)

@@ -1,0 +1,15 @@
+use Prim.Native.Nat.{_-_}
+use Rattle.plan.proofs.ArrayLaws.{pick-yes, pick-no}
+use Rattle.plan.proofs.parts.moved.Statement.{statement}
+use Rattle.plan.proofs.parts.moved.Tie as tie
+use Rattle.plan.proofs.parts.moved.Reads as reads
+use Rattle.plan.proofs.parts.moved.Lts as lts
+
+returns : tie.Need-returns
+returns c = pick-yes (c .before .args .c) (c .before .args .high) (c .before .args .low) (c .if1 .taken)
+
+returns-2 : tie.Need-returns-2
+returns-2 c = pick-no (c .before .args .c) (c .before .args .high) (c .before .args .low) (c .if1 .left)
+
+pub moved-spec : {M : Type 1} → statement M
+moved-spec = tie.close (tie.spec returns returns-2)

@@ -1,0 +1,53 @@
+use mathlib.Core.Path.{refl, ap}
+use Prim.Native.Nat.{_-_, _≤_}
+use native.Mathlib.Omega.{arith}
+use borrow.Author.Needs.{needs}
+use Rattle.plan.specs.Arrays.{isOn}
+use Rattle.plan.specs.Four.{slot}
+use Rattle.plan.proofs.ShapeLaws.{Each, each-start, each-next, each-listed}
+use Rattle.plan.proofs.path.all_on.Statement.{statement}
+use Rattle.plan.proofs.path.all_on.Tie as tie
+use Rattle.plan.proofs.path.all_on.Reads as reads
+use Rattle.plan.proofs.path.all_on.Lts as lts
+use Rattle.plan.proofs.four.Four.index.Reads as index-reads
+
+abbrev Inv-loop : tie.InvT-loop
+Inv-loop marks links all₀ j₀ all j = (j ≤ links .count) × Each (isOn marks) (slot links) (links .count) j all
+
+abbrev μ-loop : tie.MeasureT-loop
+μ-loop marks links all₀ j₀ all j = j
+
+loop-holds : tie.Need-loop-holds Inv-loop μ-loop
+loop-holds c = (omega arith, each-start (isOn (c .args .marks .now)) (slot (c .args .links)) (c .args .links .count))
+
+sub-j : tie.Need-sub-j Inv-loop μ-loop
+sub-j c = search needs
+
+index-requires : tie.Need-index-requires Inv-loop μ-loop
+index-requires c κs = c .before .before .pre (c .before .loop .j - 1)
+
+element-copy-out-all : tie.Need-element-copy-out-all Inv-loop μ-loop
+element-copy-out-all c = search needs
+
+loop-less : tie.Need-loop-less Inv-loop μ-loop
+loop-less c = search needs
+
+loop-again : tie.Need-loop-again Inv-loop μ-loop
+loop-again c = (omega (arith, c .before .before .before .loop .inv .0), each-next (isOn (c .before .before .before .before .args .marks .now)) (slot (c .before .before .before .before .args .links)) (c .before .before .before .before .args .links .count) (isOn (c .before .before .before .before .args .marks .now) (c .before .index .result)) (c .before .before .before .loop .inv .1) (c .before .before .loop-test .taken) (c .before .before .before .loop .inv .0) (ap (isOn (c .before .before .before .before .args .marks .now)) (c .before .index .ensures .0)) refl)
+
+returns : tie.Need-returns Inv-loop μ-loop
+returns c = each-listed (isOn (c .before .before .args .marks .now)) (c .before .before .args .links) (c .before .loop .inv .1) (omega (arith, c .loop-test .left))
+
+pub all-on-spec : {M : Type 1} → statement M
+all-on-spec =
+    tie.close
+    (tie.spec
+    Inv-loop
+    μ-loop
+    loop-holds
+    sub-j
+    index-requires
+    element-copy-out-all
+    loop-less
+    loop-again
+    returns)

@@ -1,0 +1,73 @@
+use mathlib.Core.Path.{sym, _∙_, ap}
+use Prim.Native.Nat.{_-_, _≤_}
+use native.Mathlib.Omega.{arith}
+use borrow.Author.Needs.{needs}
+use mathlib.Core.Path.{subst}
+use Rattle.links.specs.HeldLimits.{limitsOf}
+use Rattle.plan.specs.Shape.{fineIn}
+use Rattle.plan.specs.Fitting.{WidthFits}
+use Rattle.plan.specs.Four.{slot}
+use Rattle.plan.proofs.FourLaws.{Picked, picked-start, picked-room, picked-next}
+use Rattle.plan.proofs.ShapeLaws.{picked-listed}
+use Rattle.plan.proofs.retain.eligible.Statement.{statement}
+use Rattle.plan.proofs.retain.eligible.Tie as tie
+use Rattle.plan.proofs.retain.eligible.Reads as reads
+use Rattle.plan.proofs.retain.eligible.Lts as lts
+use Rattle.plan.proofs.four.Four.get.Reads as get-reads
+use Rattle.plan.proofs.four.Four.index.Reads as index-reads
+use Rattle.plan.proofs.four.Four.none.Reads as none-reads
+use Rattle.plan.proofs.four.Four.with.Reads as with-reads
+use Rattle.plan.proofs.retain.is_eligible.Reads as is-eligible-reads
+
+abbrev Inv-loop : tie.InvT-loop
+Inv-loop limits bits least ranks found₀ j₀ found j = (j ≤ ranks .count) × Picked (fineIn (limitsOf limits) bits least) (slot ranks) (ranks .count) j found
+
+abbrev μ-loop : tie.MeasureT-loop
+μ-loop limits bits least ranks found₀ j₀ found j = j
+
+none-requires : tie.Need-none-requires Inv-loop μ-loop
+none-requires c κs = search needs
+
+loop-holds : tie.Need-loop-holds Inv-loop μ-loop
+loop-holds c = (omega arith, picked-start (fineIn (limitsOf (c .before .args .limits)) (c .before .args .bits .now) (c .before .args .least)) (slot (c .before .args .ranks)) (c .before .args .ranks .count) (c .none .result) (c .none .ensures))
+
+sub-j : tie.Need-sub-j Inv-loop μ-loop
+sub-j c = search needs
+
+get-requires : tie.Need-get-requires Inv-loop μ-loop
+get-requires c κs = search needs
+
+index-requires : tie.Need-index-requires Inv-loop μ-loop
+index-requires c κs = c .before .before .before .before .pre .1 (c .before .before .loop .j - 1) .below
+
+is-eligible-requires : tie.Need-is-eligible-requires Inv-loop μ-loop
+is-eligible-requires c κs = subst (WidthFits (c .before .before .before .before .before .args .bits .now)) (sym (c .index .ensures .0)) (c .before .before .before .before .before .pre .1 (c .before .before .before .loop .j - 1))
+
+with-requires : tie.Need-with-requires Inv-loop μ-loop
+with-requires c κs = picked-room (fineIn (limitsOf (c .before .before .before .before .before .before .args .limits)) (c .before .before .before .before .before .before .args .bits .now) (c .before .before .before .before .before .before .args .least)) (slot (c .before .before .before .before .before .before .args .ranks)) (c .before .before .before .before .before .before .args .ranks .count) (c .before .before .before .before .loop .inv .1) (c .before .before .before .before .before .before .pre .0)
+
+loop-less : tie.Need-loop-less Inv-loop μ-loop
+loop-less c = search needs
+
+loop-again : tie.Need-loop-again Inv-loop μ-loop
+loop-again c = (omega (arith, c .before .before .before .before .before .loop .inv .0), picked-next (fineIn (limitsOf (c .before .before .before .before .before .before .before .args .limits)) (c .before .before .before .before .before .before .before .args .bits .now) (c .before .before .before .before .before .before .before .args .least)) (slot (c .before .before .before .before .before .before .before .args .ranks)) (c .before .before .before .before .before .before .before .args .ranks .count) (c .before .is-eligible .result) (c .before .before .before .get .result) (c .before .before .before .before .before .loop .inv .1) (c .before .before .before .before .loop-test .taken) (c .before .before .before .before .before .loop .inv .0) (c .with .ensures) (c .before .is-eligible .ensures ∙ ap (fineIn (limitsOf (c .before .before .before .before .before .before .before .args .limits)) (c .before .before .before .before .before .before .before .args .bits .now) (c .before .before .before .before .before .before .before .args .least)) (c .before .before .index .ensures .0)) (c .before .before .before .get .ensures))
+
+returns : tie.Need-returns Inv-loop μ-loop
+returns c = picked-listed (fineIn (limitsOf (c .before .before .before .args .limits)) (c .before .before .before .args .bits .now) (c .before .before .before .args .least)) (c .before .before .before .args .ranks) (c .before .loop .inv .1) (omega (arith, c .loop-test .left))
+
+pub eligible-spec : {M : Type 1} → statement M
+eligible-spec =
+    tie.close
+    (tie.spec
+    Inv-loop
+    μ-loop
+    none-requires
+    loop-holds
+    sub-j
+    get-requires
+    index-requires
+    is-eligible-requires
+    with-requires
+    loop-less
+    loop-again
+    returns)

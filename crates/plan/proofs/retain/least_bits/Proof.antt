@@ -1,0 +1,81 @@
+use mathlib.Core.Path.{sym, ap}
+use Prim.Native.Nat.{ℕ, _-_, _≤_}
+use native.Mathlib.Omega.{arith}
+use borrow.Author.Needs.{needs}
+use mathlib.Core.Path.{subst}
+use Rattle.length.specs.Total.{totalLe}
+use Rattle.plan.specs.Arrays.{at}
+use Rattle.plan.specs.Four.{slot}
+use Rattle.plan.proofs.ShapeLaws.{First, first-start, first-next}
+use Rattle.plan.proofs.ValueLaws.{least-listed}
+use Rattle.plan.proofs.retain.least_bits.Statement.{statement}
+use Rattle.plan.proofs.retain.least_bits.Tie as tie
+use Rattle.plan.proofs.retain.least_bits.Reads as reads
+use Rattle.plan.proofs.retain.least_bits.Lts as lts
+use Rattle.plan.proofs.four.Four.index.Reads as index-reads
+use Rattle.plan.proofs.retain.lesser.Reads as lesser-reads
+
+abbrev Inv-loop : tie.InvT-loop
+Inv-loop bits ranks j₀ least₀ j least = First totalLe (λ i. at bits (slot ranks i)) (ranks .count) j least × (least ≤ 0x40D0_0000_0000_0000)
+
+abbrev μ-loop : tie.MeasureT-loop
+μ-loop bits ranks j₀ least₀ j least = j
+
+sub-j : tie.Need-sub-j Inv-loop μ-loop
+sub-j c = search needs
+
+index-requires : tie.Need-index-requires Inv-loop μ-loop
+index-requires c κs = c .before .pre .1 (c .before .args .ranks .count - 1) .below
+
+mul-least : tie.Need-mul-least Inv-loop μ-loop
+mul-least c = search needs
+
+element-copy-out-least : tie.Need-element-copy-out-least Inv-loop μ-loop
+element-copy-out-least c = search needs
+
+loop-holds : tie.Need-loop-holds Inv-loop μ-loop
+loop-holds c = (first-start totalLe (λ i. at (c .before .before .before .args .bits .now) (slot (c .before .before .before .args .ranks) i)) (c .before .before .before .args .ranks .count) (c .before .before .before .args .ranks .count - 1) (omega (arith, c .before .before .before .pre .0)) (ap (at (c .before .before .before .args .bits .now)) (c .before .index .ensures .0)), subst (λ (i : ℕ). at (c .before .before .before .args .bits .now) i ≤ 0x40D0_0000_0000_0000) (sym (c .before .index .ensures .0)) (c .before .before .before .pre .1 (c .before .before .before .args .ranks .count - 1) .fits))
+
+sub-j-2 : tie.Need-sub-j-2 Inv-loop μ-loop
+sub-j-2 c = search needs
+
+index-requires-2 : tie.Need-index-requires-2 Inv-loop μ-loop
+index-requires-2 c κs = c .before .before .before .before .before .pre .1 (c .before .loop .j - 1) .below
+
+mul-lesser : tie.Need-mul-lesser Inv-loop μ-loop
+mul-lesser c = search needs
+
+element-copy-out-lesser : tie.Need-element-copy-out-lesser Inv-loop μ-loop
+element-copy-out-lesser c = search needs
+
+lesser-requires : tie.Need-lesser-requires Inv-loop μ-loop
+lesser-requires c κs = (subst (λ (i : ℕ). at (c .before .before .before .before .before .before .before .args .bits .now) i ≤ 0x40D0_0000_0000_0000) (sym (c .before .index2 .ensures .0)) (c .before .before .before .before .before .before .before .pre .1 (c .before .before .before .loop .j - 1) .fits), c .before .before .before .loop .inv .1)
+
+loop-less : tie.Need-loop-less Inv-loop μ-loop
+loop-less c = search needs
+
+loop-again : tie.Need-loop-again Inv-loop μ-loop
+loop-again c = (first-next totalLe (λ i. at (c .before .before .before .before .before .before .before .before .args .bits .now) (slot (c .before .before .before .before .before .before .before .before .args .ranks) i)) (c .before .before .before .before .before .before .before .before .args .ranks .count) (at (c .before .before .before .before .before .before .before .before .args .bits .now) (c .before .before .index2 .result)) (c .before .before .before .before .loop .inv .0) (c .before .before .before .loop-test .taken) (ap (at (c .before .before .before .before .before .before .before .before .args .bits .now)) (c .before .before .index2 .ensures .0)) (c .lesser .ensures .0), c .lesser .ensures .1)
+
+returns : tie.Need-returns Inv-loop μ-loop
+returns c = (least-listed (c .before .before .before .before .before .args .bits .now) (c .before .before .before .before .before .args .ranks) (c .before .loop .inv .0) (omega (arith, c .loop-test .left)), c .before .loop .inv .1)
+
+pub least-bits-spec : {M : Type 1} → statement M
+least-bits-spec =
+    tie.close
+    (tie.spec
+    Inv-loop
+    μ-loop
+    sub-j
+    index-requires
+    mul-least
+    element-copy-out-least
+    loop-holds
+    sub-j-2
+    index-requires-2
+    mul-lesser
+    element-copy-out-lesser
+    lesser-requires
+    loop-less
+    loop-again
+    returns)

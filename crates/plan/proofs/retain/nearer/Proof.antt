@@ -1,0 +1,30 @@
+use mathlib.Core.Path.{sym, _∙_}
+use Prim.Native.Nat.{_-_}
+use Rattle.plan.specs.Four.{listed}
+use Rattle.plan.proofs.ValueLaws.{choose-yes, choose-no, nearer-as}
+use borrow.Author.Needs.{needs}
+use Rattle.plan.proofs.retain.nearer.Statement.{statement}
+use Rattle.plan.proofs.retain.nearer.Tie as tie
+use Rattle.plan.proofs.retain.nearer.Reads as reads
+use Rattle.plan.proofs.retain.nearer.Lts as lts
+use Rattle.links.proofs.sums.no_later.Reads as no-later-reads
+use Rattle.plan.proofs.retain.sum_from.Reads as sum-from-reads
+
+sum-from-requires : tie.Need-sum-from-requires
+sum-from-requires c κs = search needs
+
+sum-from-requires-2 : tie.Need-sum-from-requires-2
+sum-from-requires-2 c κs = search needs
+
+no-later-requires : tie.Need-no-later-requires
+no-later-requires c κs = search needs
+
+returns : tie.Need-returns
+returns c = (choose-yes (c .before .before .before .before .args .i) (c .before .before .before .before .args .j) (sym (nearer-as (c .before .before .before .before .args .own .now) (listed (c .before .before .before .before .args .ranks)) (c .before .before .before .before .args .i) (c .before .before .before .before .args .j) (c .before .before .before .sum-from .ensures .0) (c .before .before .sum-from2 .ensures .0) (c .before .no-later .ensures)) ∙ c .if1 .taken), c .before .before .before .before .pre .3)
+
+returns-2 : tie.Need-returns-2
+returns-2 c = (choose-no (c .before .before .before .before .args .i) (c .before .before .before .before .args .j) (sym (nearer-as (c .before .before .before .before .args .own .now) (listed (c .before .before .before .before .args .ranks)) (c .before .before .before .before .args .i) (c .before .before .before .before .args .j) (c .before .before .before .sum-from .ensures .0) (c .before .before .sum-from2 .ensures .0) (c .before .no-later .ensures)) ∙ c .if1 .left), c .before .before .before .before .pre .4)
+
+pub nearer-spec : {M : Type 1} → statement M
+nearer-spec =
+    tie.close (tie.spec sum-from-requires sum-from-requires-2 no-later-requires returns returns-2)

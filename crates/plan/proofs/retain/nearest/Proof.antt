@@ -1,0 +1,65 @@
+use mathlib.Core.Path.{sym}
+use Prim.Native.Nat.{_-_}
+use native.Mathlib.Omega.{arith}
+use borrow.Author.Needs.{needs}
+use mathlib.Core.Path.{subst}
+use Rattle.plan.specs.Shape.{nearerIn}
+use Rattle.plan.specs.Fitting.{RankFits}
+use Rattle.plan.specs.Four.{slot, listed}
+use Rattle.plan.proofs.ShapeLaws.{First, first-start, first-next}
+use Rattle.plan.proofs.ValueLaws.{first-listed}
+use Rattle.plan.proofs.retain.nearest.Statement.{statement}
+use Rattle.plan.proofs.retain.nearest.Tie as tie
+use Rattle.plan.proofs.retain.nearest.Reads as reads
+use Rattle.plan.proofs.retain.nearest.Lts as lts
+use Rattle.plan.proofs.four.Four.index.Reads as index-reads
+use Rattle.plan.proofs.retain.nearer.Reads as nearer-reads
+
+abbrev Inv-loop : tie.InvT-loop
+Inv-loop own ranks among j₀ best₀ j best = First (nearerIn own (listed ranks)) (slot among) (among .count) j best × RankFits own best
+
+abbrev μ-loop : tie.MeasureT-loop
+μ-loop own ranks among j₀ best₀ j best = j
+
+sub-j : tie.Need-sub-j Inv-loop μ-loop
+sub-j c = search needs
+
+index-requires : tie.Need-index-requires Inv-loop μ-loop
+index-requires c κs = c .before .pre .4 (c .before .args .among .count - 1) .below
+
+loop-holds : tie.Need-loop-holds Inv-loop μ-loop
+loop-holds c = (first-start (nearerIn (c .before .before .args .own .now) (listed (c .before .before .args .ranks))) (slot (c .before .before .args .among)) (c .before .before .args .among .count) (c .before .before .args .among .count - 1) (omega (arith, c .before .before .pre .2)) (c .index .ensures .0), subst (RankFits (c .before .before .args .own .now)) (sym (c .index .ensures .0)) (c .before .before .pre .4 (c .before .before .args .among .count - 1)))
+
+sub-j-2 : tie.Need-sub-j-2 Inv-loop μ-loop
+sub-j-2 c = search needs
+
+index-requires-2 : tie.Need-index-requires-2 Inv-loop μ-loop
+index-requires-2 c κs = c .before .before .before .before .pre .4 (c .before .loop .j - 1) .below
+
+nearer-requires : tie.Need-nearer-requires Inv-loop μ-loop
+nearer-requires c κs = (c .before .before .before .before .before .pre .0, c .before .before .before .before .before .pre .1, c .before .before .before .before .before .pre .3, subst (RankFits (c .before .before .before .before .before .args .own .now)) (sym (c .index2 .ensures .0)) (c .before .before .before .before .before .pre .4 (c .before .before .loop .j - 1)), c .before .before .loop .inv .1)
+
+loop-less : tie.Need-loop-less Inv-loop μ-loop
+loop-less c = search needs
+
+loop-again : tie.Need-loop-again Inv-loop μ-loop
+loop-again c = (first-next (nearerIn (c .before .before .before .before .before .before .args .own .now) (listed (c .before .before .before .before .before .before .args .ranks))) (slot (c .before .before .before .before .before .before .args .among)) (c .before .before .before .before .before .before .args .among .count) (c .before .index2 .result) (c .before .before .before .loop .inv .0) (c .before .before .loop-test .taken) (c .before .index2 .ensures .0) (c .nearer .ensures .0), c .nearer .ensures .1)
+
+returns : tie.Need-returns Inv-loop μ-loop
+returns c = (first-listed (nearerIn (c .before .before .before .before .args .own .now) (listed (c .before .before .before .before .args .ranks))) (c .before .before .before .before .args .among) (c .before .loop .inv .0) (omega (arith, c .loop-test .left)), c .before .loop .inv .1 .below)
+
+pub nearest-spec : {M : Type 1} → statement M
+nearest-spec =
+    tie.close
+    (tie.spec
+    Inv-loop
+    μ-loop
+    sub-j
+    index-requires
+    loop-holds
+    sub-j-2
+    index-requires-2
+    nearer-requires
+    loop-less
+    loop-again
+    returns)

@@ -1,0 +1,43 @@
+-- What makes a rank and a link safe to look at.
+use Prim.Native.Nat.{ℕ, _<_, _≤_}
+use mathlib.Core.List.{List}
+use Rattle.areas.specs.Spans.{spanIn}
+use Rattle.links.specs.Held.{SpanBounded}
+use Rattle.plan.specs.declared.four.Four.{Four}
+use Rattle.plan.specs.Four.{slot}
+use Rattle.plan.specs.Arrays.{at, Ranked}
+
+pub record RankFits (own : List ℕ) (i : ℕ) : Type 0 where
+  pub below : i < 256
+  pub bounded : SpanBounded (spanIn own i)
+
+pub record LinkFits (own firsts seconds : List ℕ) (k : ℕ) : Type 0 where
+  pub below : k < 256
+  pub first : RankFits own (at firsts k)
+  pub second : RankFits own (at seconds k)
+
+pub record WidthFits (bits : List ℕ) (i : ℕ) : Type 0 where
+  pub below : i < 256
+  pub fits : at bits i ≤ 0x40D0_0000_0000_0000
+
+-- so is each of the four
+abbrev pub Ranks : List ℕ → Four → Type 0
+Ranks own f = (j : ℕ) → RankFits own (slot f j)
+
+abbrev pub Links : List ℕ → List ℕ → List ℕ → Four → Type 0
+Links own firsts seconds f = (j : ℕ) → LinkFits own firsts seconds (slot f j)
+
+abbrev pub Widths : List ℕ → Four → Type 0
+Widths bits f = (j : ℕ) → WidthFits bits (slot f j)
+
+abbrev pub Slots : ℕ → Four → Type 0
+Slots n f = (j : ℕ) → slot f j < n
+
+-- n ranks and their links, at least one of each
+pub record Safe (n : ℕ) (own bits firsts seconds : List ℕ) (links : ℕ) : Type 0 where
+  pub few : n ≤ 256
+  pub some : 0 < n
+  pub linked : 0 < links
+  pub ranked : Ranked n firsts seconds links
+  pub spans : (i : ℕ) → i < n → SpanBounded (spanIn own i)
+  pub widths : (i : ℕ) → i < n → at bits i ≤ 0x40D0_0000_0000_0000

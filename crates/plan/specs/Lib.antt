@@ -1,0 +1,5 @@
+pub mod Four
+pub mod Arrays
+pub mod Shape
+pub mod Fitting
+pub mod Told

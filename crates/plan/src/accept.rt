@@ -1,0 +1,87 @@
+// The rules on a group.
+ghost use mathlib.Core.Path.{_≡_};
+ghost use Prim.Native.Nat.{ℕ, _<_, _≤_};
+ghost use Rattle.links.specs.HeldLimits.{limitsOf};
+ghost use Rattle.plan.specs.Four.{listed};
+ghost use Rattle.plan.specs.Told.{serialIn, flatIn};
+ghost use Rattle.plan.specs.Fitting.{RankFits, Ranks, Links};
+use crate::alike::all_alike;
+use crate::chain::chain_sum;
+use crate::chain::rank_distance;
+use crate::four::Four;
+use crate::path::all_on;
+use crate::path::ends;
+use crate::path::simple_path;
+use links::limits::Chain;
+use links::limits::Limits;
+
+// Every link passes, and the group is a simple path that isn't too long.
+pub fn accepts_serial(
+    limits: Limits,
+    own: &[u32; 1024],
+    lowers: &[u32; 256],
+    highers: &[u32; 256],
+    regions: &[u32; 256],
+    firsts: &[u32; 256],
+    seconds: &[u32; 256],
+    passing: &[u8; 256],
+    ranks: Four,
+    links: Four,
+) -> bool
+    requires { ⌜ (3 ≤ limits .«least_spans») × (limits .«most_spans» ≤ 4) × (ranks .count ≤ 256) × (links .count ≤ 256) × Ranks (now own) ranks × Links (now own) (now firsts) (now seconds) links × RankFits (now own) 0 ⌝ }
+    ensures { λ r. ⌜ r ≡ serialIn (limitsOf limits) (now (own .entry)) (now (lowers .entry)) (now (highers .entry)) (now (regions .entry)) (now (firsts .entry)) (now (seconds .entry)) (now (passing .entry)) (listed ranks) (listed links) ⌝ }
+{
+    let pass = all_on(passing, links);
+    let least = limits.least_spans;
+    let path = simple_path(
+        limits,
+        least,
+        lowers,
+        highers,
+        regions,
+        firsts,
+        seconds,
+        ranks,
+        links,
+    );
+    if !(pass & path) {
+        return false;
+    }
+    let two = ends(firsts, seconds, ranks, links);
+    let sum = chain_sum(own, firsts, seconds, links);
+    let far = rank_distance(own, two.index(0), two.index(1));
+    let chain = Chain { sum, ends: far };
+    chain.short(limits)
+}
+
+// The group is a simple path, and every ordered pair of its members is nearby and parallel.
+pub fn accepts_flat(
+    limits: Limits,
+    own: &[u32; 1024],
+    lowers: &[u32; 256],
+    highers: &[u32; 256],
+    regions: &[u32; 256],
+    firsts: &[u32; 256],
+    seconds: &[u32; 256],
+    ranks: Four,
+    links: Four,
+) -> bool
+    requires { ⌜ (ranks .count ≤ 256) × (links .count ≤ 256) × Ranks (now own) ranks × Links (now own) (now firsts) (now seconds) links ⌝ }
+    ensures { λ r. ⌜ r ≡ flatIn (limitsOf limits) (now (own .entry)) (now (lowers .entry)) (now (highers .entry)) (now (regions .entry)) (now (firsts .entry)) (now (seconds .entry)) (listed ranks) (listed links) ⌝ }
+{
+    let path = simple_path(
+        limits,
+        2,
+        lowers,
+        highers,
+        regions,
+        firsts,
+        seconds,
+        ranks,
+        links,
+    );
+    if !path {
+        return false;
+    }
+    all_alike(limits, own, ranks)
+}

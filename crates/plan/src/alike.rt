@@ -1,0 +1,51 @@
+// Members that are nearby and parallel.
+ghost use mathlib.Core.Path.{_≡_};
+ghost use Prim.Native.Nat.{ℕ, _<_, _≤_};
+ghost use Rattle.groups.specs.Tests.{every};
+ghost use Rattle.links.specs.HeldLimits.{limitsOf};
+ghost use Rattle.plan.specs.Four.{listed};
+ghost use Rattle.plan.specs.Shape.{alikeIn, allAlikeIn};
+ghost use Rattle.plan.specs.Fitting.{RankFits, Ranks};
+use crate::four::Four;
+use links::limits::Limits;
+use links::parallel::SpanPair;
+use marking::spans::span_at;
+
+// The span of rank i with that of rank j.
+pub fn alike(limits: Limits, own: &[u32; 1024], i: usize, j: usize) -> bool
+    requires { ⌜ RankFits (now own) i × RankFits (now own) j ⌝ }
+    ensures { λ r. ⌜ r ≡ alikeIn (limitsOf limits) (now (own .entry)) i j ⌝ }
+{
+    let first = span_at(own, i);
+    let second = span_at(own, j);
+    let pair = SpanPair { first, second };
+    pair.nearby_parallel(limits)
+}
+
+// The span of rank i with those of all the ranks.
+fn alike_to_all(limits: Limits, own: &[u32; 1024], i: usize, ranks: Four) -> bool
+    requires { ⌜ RankFits (now own) i × Ranks (now own) ranks ⌝ }
+    ensures { λ r. ⌜ r ≡ every (alikeIn (limitsOf limits) (now (own .entry)) i) (listed ranks) ⌝ }
+{
+    let mut all = true;
+    let mut j = ranks.count;
+    while 0 < j {
+        j -= 1;
+        all = alike(limits, own, i, ranks.index(j)) & all;
+    }
+    all
+}
+
+// Every ordered pair of ranks.
+pub fn all_alike(limits: Limits, own: &[u32; 1024], ranks: Four) -> bool
+    requires { ⌜ Ranks (now own) ranks ⌝ }
+    ensures { λ r. ⌜ r ≡ allAlikeIn (limitsOf limits) (now (own .entry)) (listed ranks) ⌝ }
+{
+    let mut all = true;
+    let mut j = ranks.count;
+    while 0 < j {
+        j -= 1;
+        all = alike_to_all(limits, own, ranks.index(j), ranks) & all;
+    }
+    all
+}

@@ -1,0 +1,11 @@
+// Which groups of linked boundaries the rules accept, and which rank each rank goes into: 000's `collapse_serial_boundaries` up to the merges.
+pub mod four; // the first four numbers of a list
+pub mod parts; // the connected parts of the chosen links
+pub mod gather; // the ranks and the links of a part
+pub mod path; // simple paths
+pub mod chain; // sums of centre distances
+pub mod alike; // members that are nearby and parallel
+pub mod retain; // the retained member
+pub mod accept; // the rules on a group
+pub mod select; // which links may make groups
+pub mod judge; // what becomes of the group that a part makes

@@ -1,0 +1,124 @@
+// Simple paths between two different regions: 000's `group_is_simple_path`.
+ghost use mathlib.Core.Path.{_≡_};
+ghost use mathlib.Core.Bool.{Bool, _&&_, _||_};
+ghost use Prim.Native.Nat.{ℕ, _<_, _≤_};
+ghost use lib.Dec.{eqb, leb};
+ghost use Rattle.order.specs.Lists.{keep};
+ghost use Rattle.groups.specs.Tests.{every};
+ghost use Rattle.links.specs.HeldLimits.{limitsOf};
+ghost use Rattle.plan.specs.Four.{held, listed};
+ghost use Rattle.plan.specs.Arrays.{at, isOn, joinsAt};
+ghost use Rattle.plan.specs.Shape.{endsIn, regularIn, outerIn, pathIn};
+ghost use Rattle.plan.specs.Fitting.{Slots};
+use crate::four::Four;
+use links::limits::GroupSize;
+use links::limits::Limits;
+use topology::pairs::other_region;
+
+fn joins(first: u32, second: u32, i: u32) -> bool
+    ensures { λ r. ⌜ r ≡ eqb i first || eqb i second ⌝ }
+{
+    (i == first) | (i == second)
+}
+
+// The links that join rank i.
+fn links_at(firsts: &[u32; 256], seconds: &[u32; 256], links: Four, i: u32) -> Four
+    requires { ⌜ (links .count ≤ 256) × Slots 256 links ⌝ }
+    ensures { λ r. ⌜ r ≡ held (keep (joinsAt (now (firsts .entry)) (now (seconds .entry)) i) (listed links)) ⌝ }
+{
+    let mut found = Four::none();
+    let mut j = links.count;
+    while 0 < j {
+        j -= 1;
+        let k = links.index(j);
+        found = found.with(links.get(j), joins(firsts[k], seconds[k], i));
+    }
+    found
+}
+
+// The ranks that one link joins.
+pub fn ends(firsts: &[u32; 256], seconds: &[u32; 256], ranks: Four, links: Four) -> Four
+    requires { ⌜ (ranks .count ≤ 256) × (links .count ≤ 256) × Slots 256 links ⌝ }
+    ensures { λ r. ⌜ r ≡ held (endsIn (now (firsts .entry)) (now (seconds .entry)) (listed ranks) (listed links)) ⌝ }
+{
+    let mut found = Four::none();
+    let mut j = ranks.count;
+    while 0 < j {
+        j -= 1;
+        let i = ranks.get(j);
+        let near = links_at(firsts, seconds, links, i);
+        found = found.with(i, near.count == 1);
+    }
+    found
+}
+
+// One link or two join each rank.
+fn regular(firsts: &[u32; 256], seconds: &[u32; 256], ranks: Four, links: Four) -> bool
+    requires { ⌜ (links .count ≤ 256) × Slots 256 links ⌝ }
+    ensures { λ r. ⌜ r ≡ regularIn (now (firsts .entry)) (now (seconds .entry)) (listed ranks) (listed links) ⌝ }
+{
+    let mut all = true;
+    let mut j = ranks.count;
+    while 0 < j {
+        j -= 1;
+        let near = links_at(firsts, seconds, links, ranks.get(j));
+        all = ((1 <= near.count) & (near.count <= 2)) & all;
+    }
+    all
+}
+
+// Each of the links is marked.
+pub fn all_on(marks: &[u8; 256], links: Four) -> bool
+    requires { ⌜ Slots 256 links ⌝ }
+    ensures { λ r. ⌜ r ≡ every (isOn (now (marks .entry))) (listed links) ⌝ }
+{
+    let mut all = true;
+    let mut j = links.count;
+    while 0 < j {
+        j -= 1;
+        all = (marks[links.index(j)] == 1) & all;
+    }
+    all
+}
+
+// The region on the other side of an end.
+fn outer(
+    lowers: &[u32; 256],
+    highers: &[u32; 256],
+    regions: &[u32; 256],
+    firsts: &[u32; 256],
+    seconds: &[u32; 256],
+    links: Four,
+    i: u32,
+) -> u32
+    requires { ⌜ (links .count ≤ 256) × Slots 256 links × (i < 256) ⌝ }
+    ensures { λ r. ⌜ r ≡ outerIn (now (lowers .entry)) (now (highers .entry)) (now (regions .entry)) (now (firsts .entry)) (now (seconds .entry)) (listed links) i ⌝ }
+{
+    let near = links_at(firsts, seconds, links, i);
+    let at = i as usize;
+    other_region(lowers[at], highers[at], regions[near.index(0)])
+}
+
+// A path of at least so many ranks and at most the limit's, whose outer regions differ.
+pub fn simple_path(
+    limits: Limits,
+    least: u32,
+    lowers: &[u32; 256],
+    highers: &[u32; 256],
+    regions: &[u32; 256],
+    firsts: &[u32; 256],
+    seconds: &[u32; 256],
+    ranks: Four,
+    links: Four,
+) -> bool
+    requires { ⌜ (ranks .count ≤ 256) × (links .count ≤ 256) × Slots 256 ranks × Slots 256 links ⌝ }
+    ensures { λ r. ⌜ r ≡ pathIn (now (lowers .entry)) (now (highers .entry)) (now (regions .entry)) (now (firsts .entry)) (now (seconds .entry)) least (limitsOf limits .mostSpans) (listed ranks) (listed links) ⌝ }
+{
+    let size = GroupSize { spans: ranks.count };
+    let two = ends(firsts, seconds, ranks, links);
+    let one = outer(lowers, highers, regions, firsts, seconds, links, two.get(0));
+    let other = outer(lowers, highers, regions, firsts, seconds, links, two.get(1));
+    let whole = regular(firsts, seconds, ranks, links);
+    let path = ((links.count + 1 == ranks.count) & (two.count == 2)) & whole;
+    (size.allowed(least, limits) & path) & (one != other)
+}

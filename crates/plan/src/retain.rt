@@ -1,0 +1,120 @@
+// Which member of a group is kept: 000's `representative`.
+ghost use mathlib.Core.Path.{_≡_};
+ghost use mathlib.Core.Bool.{cond};
+ghost use Prim.Native.Nat.{ℕ, _<_, _≤_};
+ghost use lib.ListN.{getD};
+ghost use Rattle.order.specs.Lists.{keep};
+ghost use Rattle.order.specs.Sorting.{sort};
+ghost use Rattle.length.specs.Total.{totalLe};
+ghost use Rattle.links.specs.Held.{Number};
+ghost use Rattle.links.specs.HeldLimits.{limitsOf};
+ghost use Rattle.plan.specs.Four.{held, listed};
+ghost use Rattle.plan.specs.Arrays.{at};
+ghost use Rattle.plan.specs.Shape.{leastIn, sumIn, nearerIn, fineIn, retainedIn};
+ghost use Rattle.plan.specs.Fitting.{RankFits, WidthFits, Ranks, Widths};
+use crate::four::Four;
+use length::floats::total_le;
+use links::geometry::width_of;
+use links::limits::Limits;
+use links::limits::Member;
+use links::sums::distance_sum;
+use links::sums::no_later;
+use marking::spans::span_at;
+
+// The pattern that comes no later by totalOrder, of two widths.
+fn lesser(a: u64, b: u64) -> u64
+    requires { ⌜ (a ≤ 0x40D0_0000_0000_0000) × (b ≤ 0x40D0_0000_0000_0000) ⌝ }
+    ensures { λ r. ⌜ (r ≡ cond (totalLe a b) a b) × (r ≤ 0x40D0_0000_0000_0000) ⌝ }
+{
+    if total_le(a, b) { a } else { b }
+}
+
+// The bits of the least width.
+fn least_bits(bits: &[u64; 256], ranks: Four) -> u64
+    requires { ⌜ (1 ≤ ranks .count) × Widths (now bits) ranks ⌝ }
+    ensures { λ r. ⌜ (r ≡ leastIn (now (bits .entry)) (listed ranks)) × (r ≤ 0x40D0_0000_0000_0000) ⌝ }
+{
+    let mut j = ranks.count - 1;
+    let mut least = bits[ranks.index(j)];
+    while 0 < j {
+        j -= 1;
+        least = lesser(bits[ranks.index(j)], least);
+    }
+    least
+}
+
+fn is_eligible(limits: Limits, bits: &[u64; 256], least: f64, i: usize) -> bool
+    requires { ⌜ WidthFits (now bits) i ⌝ }
+    ensures { λ r. ⌜ r ≡ fineIn (limitsOf limits) (now (bits .entry)) least i ⌝ }
+{
+    let member = Member {
+        width: width_of(bits[i]),
+    };
+    member.eligible(least, limits)
+}
+
+// The ranks that are no wider than the least width and the tolerance.
+fn eligible(limits: Limits, bits: &[u64; 256], least: f64, ranks: Four) -> Four
+    requires { ⌜ (ranks .count ≤ 256) × Widths (now bits) ranks ⌝ }
+    ensures { λ r. ⌜ r ≡ held (keep (fineIn (limitsOf limits) (now (bits .entry)) least) (listed ranks)) ⌝ }
+{
+    let mut found = Four::none();
+    let mut j = ranks.count;
+    while 0 < j {
+        j -= 1;
+        found = found.with(
+            ranks.get(j),
+            is_eligible(limits, bits, least, ranks.index(j)),
+        );
+    }
+    found
+}
+
+// The sum of the distances from rank i to all the ranks.
+fn sum_from(own: &[u32; 1024], ranks: Four, i: usize) -> f64
+    requires { ⌜ (1 ≤ ranks .count) × (ranks .count ≤ 4) × Ranks (now own) ranks × RankFits (now own) i ⌝ }
+    ensures { λ r. ⌜ (r ≡ sumIn (now (own .entry)) (listed ranks) i) × Number r ⌝ }
+{
+    let a = span_at(own, ranks.index(0));
+    let b = span_at(own, ranks.index(1));
+    let c = span_at(own, ranks.index(2));
+    let d = span_at(own, ranks.index(3));
+    distance_sum(span_at(own, i), ranks.count, a, b, c, d)
+}
+
+// The one of the lesser sum, the first if they are the same.
+fn nearer(own: &[u32; 1024], ranks: Four, i: usize, j: usize) -> usize
+    requires { ⌜ (1 ≤ ranks .count) × (ranks .count ≤ 4) × Ranks (now own) ranks × RankFits (now own) i × RankFits (now own) j ⌝ }
+    ensures { λ r. ⌜ (r ≡ cond (nearerIn (now (own .entry)) (listed ranks) i j) i j) × RankFits (now (own .entry)) r ⌝ }
+{
+    let x = sum_from(own, ranks, i);
+    let y = sum_from(own, ranks, j);
+    if no_later(x, y) { i } else { j }
+}
+
+// Of some ranks the one with the least sum of distances to all the ranks, the earliest of such.
+fn nearest(own: &[u32; 1024], ranks: Four, among: Four) -> usize
+    requires { ⌜ (1 ≤ ranks .count) × (ranks .count ≤ 4) × (1 ≤ among .count) × Ranks (now own) ranks × Ranks (now own) among ⌝ }
+    ensures { λ r. ⌜ (r ≡ getD (sort (nearerIn (now (own .entry)) (listed ranks)) (listed among)) 0 0) × (r < 256) ⌝ }
+{
+    let mut j = among.count - 1;
+    let mut best = among.index(j);
+    while 0 < j {
+        j -= 1;
+        best = nearer(own, ranks, among.index(j), best);
+    }
+    best
+}
+
+// The retained rank of a group.
+pub fn retained(limits: Limits, own: &[u32; 1024], bits: &[u64; 256], ranks: Four) -> usize
+    requires { ⌜ (1 ≤ ranks .count) × (ranks .count ≤ 4) × Ranks (now own) ranks × Widths (now bits) ranks × RankFits (now own) 0 ⌝ }
+    ensures { λ r. ⌜ (r ≡ retainedIn (limitsOf limits) (now (own .entry)) (now (bits .entry)) (listed ranks)) × (r < 256) ⌝ }
+{
+    let least = width_of(least_bits(bits, ranks));
+    let among = eligible(limits, bits, least, ranks);
+    if among.count == 0 {
+        return ranks.index(0);
+    }
+    nearest(own, ranks, among)
+}

@@ -1,0 +1,106 @@
+use mathlib.Core.Path.{subst}
+use Rattle.probe.specs.Records.{Loaded}
+use Rattle.probe.proofs.RecordLaws.{loaded-start, loaded-next}
+use mathlib.Core.Path.{_≡_, sym, _∙_}
+use Prim.Native.Nat.{ℕ, _-_, _*_, _≤_}
+use native.Mathlib.Omega.{arith}
+use lib.ListN.{length}
+use borrow.Author.Needs.{needs}
+use Rattle.probe.proofs.bare_records.load.Statement.{statement}
+use Rattle.probe.proofs.bare_records.load.Tie as tie
+use Rattle.probe.proofs.bare_records.load.Reads as reads
+use Rattle.probe.proofs.bare_records.load.Lts as lts
+use Rattle.wire.proofs.read_u32.Reads as read-u32-reads
+
+abbrev Inv-loop : tie.InvT-loop
+Inv-loop records n owners₀ lefts₀ rights₀ k₀ owners lefts rights k = (k ≤ n) × (n ≤ 4096) × (12 * n ≤ length records) × Loaded records k owners lefts rights
+
+abbrev μ-loop : tie.MeasureT-loop
+μ-loop records n owners₀ lefts₀ rights₀ k₀ owners lefts rights k = n - k
+
+loop-holds : tie.Need-loop-holds Inv-loop μ-loop
+loop-holds c = (omega arith, c .before .before .before .before .pre .0, c .before .before .before .before .pre .1, loaded-start (c .before .before .before .before .args .records .now) (c .before .before .before .before .args .owners .now) (c .before .before .before .before .args .lefts .now) (c .before .before .before .before .args .rights .now) (c .before .before .before .before .pre .2) (c .before .before .before .before .pre .3) (c .before .before .before .before .pre .4))
+
+mul-at : tie.Need-mul-at Inv-loop μ-loop
+mul-at c = search needs
+
+read-u32-requires : tie.Need-read-u32-requires Inv-loop μ-loop
+read-u32-requires c κs = search needs
+
+add-read-u32 : tie.Need-add-read-u32 Inv-loop μ-loop
+add-read-u32 c = search needs
+
+read-u32-requires-2 : tie.Need-read-u32-requires-2 Inv-loop μ-loop
+read-u32-requires-2 c κs = search needs
+
+add-read-u32-2 : tie.Need-add-read-u32-2 Inv-loop μ-loop
+add-read-u32-2 c = search needs
+
+read-u32-requires-3 : tie.Need-read-u32-requires-3 Inv-loop μ-loop
+read-u32-requires-3 c κs = search needs
+
+mul-owners : tie.Need-mul-owners Inv-loop μ-loop
+mul-owners c = search needs
+
+slice-write-owners : tie.Need-slice-write-owners Inv-loop μ-loop
+slice-write-owners c = omega (arith, c .before .before .before .before .loop .inv .3 .owners-are)
+
+mul-lefts : tie.Need-mul-lefts Inv-loop μ-loop
+mul-lefts c = search needs
+
+slice-write-lefts : tie.Need-slice-write-lefts Inv-loop μ-loop
+slice-write-lefts c = omega (arith, c .before .before .before .before .loop .inv .3 .lefts-are)
+
+mul-rights : tie.Need-mul-rights Inv-loop μ-loop
+mul-rights c = search needs
+
+slice-write-rights : tie.Need-slice-write-rights Inv-loop μ-loop
+slice-write-rights c = omega (arith, c .before .before .before .before .loop .inv .3 .rights-are)
+
+add-k : tie.Need-add-k Inv-loop μ-loop
+add-k c = search needs
+
+loop-less : tie.Need-loop-less Inv-loop μ-loop
+loop-less c = search needs
+
+loop-again : tie.Need-loop-again Inv-loop μ-loop
+loop-again c = (omega arith, c .before .before .before .before .loop .inv .1, c .before .before .before .before .loop .inv .2, loaded-next (c .before .before .before .before .loop .inv .3) (omega (arith, c .before .before .before .before .loop .inv .1)) (c .before .before .read-u32 .ensures) (c .before .read-u322 .ensures) (c .read-u323 .ensures))
+
+same-length : tie.Need-same-length Inv-loop μ-loop
+same-length c = c .before .loop .inv .3 .owners-are ∙ sym (c .before .before .before .before .before .before .pre .2)
+
+same-length-2 : tie.Need-same-length-2 Inv-loop μ-loop
+same-length-2 c = c .before .loop .inv .3 .lefts-are ∙ sym (c .before .before .before .before .before .before .pre .3)
+
+same-length-3 : tie.Need-same-length-3 Inv-loop μ-loop
+same-length-3 c = c .before .loop .inv .3 .rights-are ∙ sym (c .before .before .before .before .before .before .pre .4)
+
+returns : tie.Need-returns Inv-loop μ-loop
+returns c = let z : c .before .loop .k ≡ c .before .before .before .before .before .before .args .n = omega arith in subst (λ (j : ℕ). Loaded (c .before .before .before .before .before .before .args .records .now) j (c .before .loop .owners) (c .before .loop .lefts) (c .before .loop .rights)) z (c .before .loop .inv .3)
+
+pub load-spec : {M : Type 1} → statement M
+load-spec =
+    tie.close
+    (tie.spec
+    Inv-loop
+    μ-loop
+    loop-holds
+    mul-at
+    read-u32-requires
+    add-read-u32
+    read-u32-requires-2
+    add-read-u32-2
+    read-u32-requires-3
+    mul-owners
+    slice-write-owners
+    mul-lefts
+    slice-write-lefts
+    mul-rights
+    slice-write-rights
+    add-k
+    loop-less
+    loop-again
+    same-length
+    same-length-2
+    same-length-3
+    returns)

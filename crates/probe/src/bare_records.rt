@@ -1,0 +1,136 @@
+// The bridges of a bare list of records.
+ghost use mathlib.Core.Path.{_≡_};
+ghost use mathlib.Core.Bool.{true, false};
+ghost use mathlib.Core.List.{_++_};
+ghost use Prim.Native.Nat.{ℕ, _+_, _*_, _≤_, _<_};
+ghost use lib.ListN.{length, drop, replicate};
+ghost use Rattle.wire.specs.Bytes.{splice};
+ghost use Rattle.bridges.specs.Marks.{bridgeMarks};
+ghost use Rattle.probe.specs.Records.{fitting, fitsAt, recordsAt, Loaded, Answer};
+use crate::ProbeResult;
+use crate::copy;
+use bridges::bridge_boundaries;
+use components::zero_fill;
+use wire::read_u32;
+
+// A number of a record, as an index.
+fn size(x: u32) -> usize
+    ensures { λ r. ⌜ (r ≡ x) × (r < 0x1_0000_0000) ⌝ }
+{
+    x as usize
+}
+
+fn fits(owner: usize, left: usize, right: usize, regions: usize) -> bool
+    ensures { λ r. ⌜ r ≡ fitting owner left right regions ⌝ }
+{
+    (owner < 256) & (0 < left) & (left <= regions) & (0 < right) & (right <= regions)
+}
+
+fn record_fits(records: &[u8], k: usize, regions: usize) -> bool
+    requires { ⌜ (k < 4096) × (12 * k + 12 ≤ length (now records)) ⌝ }
+    ensures { λ r. ⌜ r ≡ fitsAt (now (records .entry)) regions k ⌝ }
+{
+    let at = 12 * k;
+    let owner = size(read_u32(records, at));
+    let left = size(read_u32(records, at + 4));
+    let right = size(read_u32(records, at + 8));
+    fits(owner, left, right, regions)
+}
+
+// The first of n records that does not fit, n if all do.
+fn fault(records: &[u8], n: usize, regions: usize) -> usize
+    requires { ⌜ (n ≤ 4096) × (12 * n ≤ length (now records)) ⌝ }
+    ensures { λ r. ⌜ (r ≤ n) × ((k : ℕ) → k < r → fitsAt (now (records .entry)) regions k ≡ true) × (r < n → fitsAt (now (records .entry)) regions r ≡ false) ⌝ }
+{
+    let mut k: usize = 0;
+    while k < n {
+        if !record_fits(records, k, regions) {
+            return k;
+        }
+        k += 1;
+    }
+    n
+}
+
+// Reads n records.
+fn load(records: &[u8], n: usize, owners: &mut [u32], lefts: &mut [u32], rights: &mut [u32])
+    requires { ⌜ (n ≤ 4096) × (12 * n ≤ length (now records)) × (length (now owners) ≡ 4096) × (length (now lefts) ≡ 4096) × (length (now rights) ≡ 4096) ⌝ }
+    ensures { λ _. ⌜ Loaded (now (records .entry)) n (now (owners .exit)) (now (lefts .exit)) (now (rights .exit)) ⌝ }
+{
+    let mut k: usize = 0;
+    while k < n {
+        let at = 12 * k;
+        let owner = read_u32(records, at);
+        let left = read_u32(records, at + 4);
+        let right = read_u32(records, at + 8);
+        owners[k] = owner;
+        lefts[k] = left;
+        rights[k] = right;
+        k += 1;
+    }
+}
+
+// Marks the bridges of records that fit.
+fn mark_records(records: &[u8], count: usize, regions: usize, work: &mut [u8], marks: &mut [u8])
+    requires { ⌜ (count ≤ 4096) × (12 * count ≤ length (now records)) × ((k : ℕ) → k < count → fitsAt (now records) regions k ≡ true) × (4 * regions ≤ length (now work)) × (256 ≤ length (now marks)) ⌝ }
+    ensures work { λ _. ⌜ now (work .exit) ≡ splice (now (work .entry)) 0 (replicate (4 * regions) 0) ⌝ }
+    ensures marks { λ _. ⌜ now (marks .exit) ≡ bridgeMarks (recordsAt (now (records .entry)) count) 256 ++ drop 256 (now (marks .entry)) ⌝ }
+{
+    let mut owners = [0u32; 4096];
+    let mut lefts = [0u32; 4096];
+    let mut rights = [0u32; 4096];
+    load(records, count, &mut owners, &mut lefts, &mut rights);
+    zero_fill(work, 0, 4 * regions);
+    let mut found = [0u8; 256];
+    bridge_boundaries(
+        &owners,
+        &lefts,
+        &rights,
+        count,
+        regions,
+        work,
+        0,
+        &mut found,
+    );
+    copy(marks, &found);
+}
+
+// The bridges of records that are little-endian words: owner, left region, right region. The first 256 marks are the owners'.
+#[no_mangle]
+pub extern "C" fn probe_bridges(records: &[u8], work: &mut [u8], marks: &mut [u8]) -> ProbeResult
+    ensures { λ r. ⌜ Answer (now (records .entry)) (now (work .entry)) (now (marks .entry)) (now (work .exit)) (now (marks .exit)) (r .number) (r .detail) ⌝ }
+{
+    let n = records.len();
+    if n % 12 != 0 {
+        return ProbeResult {
+            number: 1,
+            detail: 0,
+        };
+    }
+    let count = n / 12;
+    if 4096 < count {
+        return ProbeResult {
+            number: 2,
+            detail: count as u64,
+        };
+    }
+    let regions = work.len() / 4;
+    let k = fault(records, count, regions);
+    if k < count {
+        return ProbeResult {
+            number: 3,
+            detail: k as u64,
+        };
+    }
+    if marks.len() < 256 {
+        return ProbeResult {
+            number: 4,
+            detail: 0,
+        };
+    }
+    mark_records(records, count, regions, work, marks);
+    ProbeResult {
+        number: 0,
+        detail: count as u64,
+    }
+}
