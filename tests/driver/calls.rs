@@ -216,15 +216,18 @@ mod library {
     }
 }
 
-/// What `probe_partition` writes, as u32 words: the areas; then for each span its removed and
-/// separated steps, the number of its pairs, and the pairs.
+/// What `probe_partition` writes, as u32 words: the areas and the pairs of all spans; then the
+/// removed and separated steps of each span; then the pairs, each after its span.
 pub fn partition_words(areas: u32, spans: &[Assessment]) -> Vec<u8> {
-    let mut words = vec![areas];
-    for span in spans {
-        words.extend([span.removed, span.separated, span.pairs.len() as u32]);
-        words.extend(span.pairs.iter().flatten());
-    }
-    words.iter().flat_map(|word| word.to_le_bytes()).collect()
+    let counts = spans.iter().flat_map(|span| [span.removed, span.separated]);
+    let records: Vec<u32> = spans
+        .iter()
+        .zip(0..)
+        .flat_map(|(span, owner)| span.pairs.iter().flat_map(move |pair| [owner, pair[0], pair[1]]))
+        .collect();
+    let numbers = [areas, records.len() as u32 / 3];
+    let words = numbers.into_iter().chain(counts).chain(records);
+    words.flat_map(|word| word.to_le_bytes()).collect()
 }
 
 #[derive(Clone, Debug, PartialEq)]

@@ -13,8 +13,8 @@ use oracle::api::SpanPartition;
 
 /// Steps times spans, up to which the definitions are computed too.
 const SMALL: usize = 400;
-/// Bytes for the areas, the most spans and the most pairs.
-const MOST_ROOM: usize = 4 + 256 * 12 + MOST_PAIRS * 8;
+/// Bytes for both numbers, the most spans and the most pairs.
+const MOST_ROOM: usize = 8 + 256 * 8 + MOST_PAIRS * 12;
 
 pub fn assessments(partition: &SpanPartition) -> Vec<Assessment> {
     let spans = partition.boundaries().iter().map(|span| Assessment {

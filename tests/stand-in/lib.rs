@@ -138,11 +138,12 @@ pub extern "C" fn probe_partition(
     if too_many(expect::pairs(&partition)) {
         return result((13, 0));
     }
-    let mut words = vec![partition.areas().len() as u32];
+    let mut words = vec![partition.areas().len() as u32, expect::pairs(&partition) as u32];
     for span in partition.boundaries() {
-        let pairs = &span.region_pairs;
-        words.extend([span.removed_edge_count, span.separated_edge_count, pairs.len() as u32]);
-        words.extend(pairs.iter().flatten());
+        words.extend([span.removed_edge_count, span.separated_edge_count]);
+    }
+    for (owner, span) in (0..).zip(partition.boundaries()) {
+        words.extend(span.region_pairs.iter().flat_map(|pair| [owner, pair[0], pair[1]]));
     }
     let bytes: Vec<u8> = words.iter().flat_map(|word| word.to_le_bytes()).collect();
     out[..bytes.len()].copy_from_slice(&bytes);

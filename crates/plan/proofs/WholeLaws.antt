@@ -65,9 +65,9 @@ module _ (regions firsts seconds chosen : List ℕ) (links : ℕ) where
         keep-map (linkRow regions firsts seconds) (λ (k : LinkAt). eqb (part (linkEdges chosenLinks) (k .first)) c) (λ k. eqb (part (linkEdges chosenLinks) (at firsts k)) c) (chosenFrom chosen 0 links) (λ k m. refl)
         ∙ ap (map (linkRow regions firsts seconds)) (keep-keep (λ k. eqb (part (linkEdges chosenLinks) (at firsts k)) c) (isOn chosen) (linkIn chosen firsts parts c) (upFrom 0 links)
         (λ k m.
-            let l : at firsts k < n = ranked .first-in k (omega (arith, up-mem 0 links m)) in
-            let e : part (linkEdges chosenLinks) (at firsts k) ≡ at parts (at firsts k) = part-by (at firsts k) ∙ sym (parted .each (at firsts k) (omega arith)) in
-            as-and (isOn chosen k) (eqb (part (linkEdges chosenLinks) (at firsts k)) c) ∙ ap (λ (x : ℕ). isOn chosen k && eqb x c) e))
+        let l : at firsts k < n = ranked .first-in k (omega (arith, up-mem 0 links m)) in
+        let e : part (linkEdges chosenLinks) (at firsts k) ≡ at parts (at firsts k) = part-by (at firsts k) ∙ sym (parted .each (at firsts k) (omega arith)) in
+        as-and (isOn chosen k) (eqb (part (linkEdges chosenLinks) (at firsts k)) c) ∙ ap (λ (x : ℕ). isOn chosen k && eqb x c) e))
 
     -- the group of part c
     pub group-by : (c : ℕ) → groupAt n chosenLinks c ≡ groupBy regions firsts seconds (ranksIn n joined parts c) (numbersIn links chosen firsts parts c)

@@ -7,6 +7,7 @@ ghost use Rattle.job.specs.Verdict.{meaning, numberOf, detailOf};
 use job::Verdict;
 
 mod bare_records; // the bridges of bare lists of records
+mod own_partition; // the partition alone
 
 #[repr(C)]
 pub struct ProbeResult {

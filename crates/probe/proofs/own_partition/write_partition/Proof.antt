@@ -1,0 +1,68 @@
+use mathlib.Core.Path.{refl, _∙_}
+use native.Mathlib.Omega.{arith}
+use Rattle.probe.specs.Parting.{many, short, written}
+use borrow.Author.Needs.{needs}
+use Rattle.probe.proofs.own_partition.write_partition.Statement.{statement}
+use Rattle.probe.proofs.own_partition.write_partition.Tie as tie
+use Rattle.probe.proofs.own_partition.write_partition.Reads as reads
+use Rattle.probe.proofs.own_partition.write_partition.Lts as lts
+use Rattle.probe.proofs.own_partition.write_counts.Reads as write-counts-reads
+use Rattle.probe.proofs.own_partition.write_records.Reads as write-records-reads
+use Rattle.wire.proofs.write_u32.Reads as write-u32-reads
+
+returns : tie.Need-returns
+returns c = many (c .if1 .taken) refl refl refl
+
+mul-start : tie.Need-mul-start
+mul-start c = search needs
+
+add-start : tie.Need-add-start
+add-start c = search needs
+
+mul-total : tie.Need-mul-total
+mul-total c = search needs
+
+add-total : tie.Need-add-total
+add-total c = search needs
+
+returns-2 : tie.Need-returns-2
+returns-2 c = short (omega (arith, c .before .if1 .left)) (c .if2 .taken) refl refl refl
+
+write-u32-requires : tie.Need-write-u32-requires
+write-u32-requires c κs = search needs
+
+cast-write-u32 : tie.Need-cast-write-u32
+cast-write-u32 c = search needs
+
+write-u32-requires-2 : tie.Need-write-u32-requires-2
+write-u32-requires-2 c κs = search needs
+
+write-counts-requires : tie.Need-write-counts-requires
+write-counts-requires c κs = search needs
+
+write-records-requires : tie.Need-write-records-requires
+write-records-requires c κs = search needs
+
+same-length : tie.Need-same-length
+same-length c = search needs
+
+returns-3 : tie.Need-returns-3
+returns-3 c = written (omega (arith, c .before .before .before .before .before .before .before .before .before .before .before .before .before .before .before .before .before .if1 .left)) (omega (arith, c .before .before .before .before .before .before .before .before .before .before .before .before .before .before .before .before .if2 .left)) refl refl (c .before .before .write-records .ensures ∙ (c .before .before .before .before .before .before .write-counts .ensures ∙ (c .before .before .before .before .before .before .before .before .before .before .write-u322 .kept .0 ∙ c .before .before .before .before .before .before .before .before .before .before .before .before .before .before .write-u32 .kept .0)))
+
+pub write-partition-spec : {M : Type 1} → statement M
+write-partition-spec =
+    tie.close
+    (tie.spec
+    returns
+    mul-start
+    add-start
+    mul-total
+    add-total
+    returns-2
+    write-u32-requires
+    cast-write-u32
+    write-u32-requires-2
+    write-counts-requires
+    write-records-requires
+    same-length
+    returns-3)

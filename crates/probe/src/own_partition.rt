@@ -1,0 +1,187 @@
+// The partition of a job by its boundaries' own ends, alone.
+ghost use mathlib.Core.Path.{_≡_};
+ghost use Prim.Native.Nat.{ℕ, _+_, _*_, _<_, _≤_};
+ghost use lib.ListN.{length};
+ghost use Rattle.format.specs.Sizes.{boundarySize};
+ghost use Rattle.probe.specs.Parting.{OwnSpans, Taken, Told, Parted, PartitionAnswer};
+use crate::ProbeResult;
+use format::BOUNDARY_SIZE;
+use format::HEADER_SIZE;
+use format::read_header;
+use grid::neighbors::EIGHT;
+use job::check_reduce;
+use partition::partition_by_spans;
+use ranks::fill_identity;
+use ranks::fill_spans;
+use wire::write_u32;
+
+fn size(x: u32) -> usize
+    ensures { λ r. ⌜ (r ≡ x) × (r < 0x1_0000_0000) ⌝ }
+{
+    x as usize
+}
+
+// The boundaries' own ends in their own order, the earlier end first.
+fn own_spans(job: &[u8], at: usize, count: usize, ends: &mut [u32; 1024])
+    requires { ⌜ (count ≤ 256) × (at + count * boundarySize ≤ length (now job)) × (length (now ends) ≡ 1024) ⌝ }
+    ensures { λ _. ⌜ OwnSpans (now (job .entry)) at count (now (ends .exit)) ⌝ }
+{
+    let mut order = [0u32; 256];
+    fill_identity(&mut order);
+    fill_spans(job, at, BOUNDARY_SIZE, &order, count, ends);
+}
+
+// The counts of each span, from the third word on. What stands in out is not stated, here and below: the driver compares it.
+fn write_counts(removed: &[u32; 256], separated: &[u32; 256], count: usize, out: &mut [u8])
+    requires { ⌜ (count ≤ 256) × (8 + 8 * count ≤ length (now out)) ⌝ }
+    ensures { λ _. ⌜ length (now (out .exit)) ≡ length (now (out .entry)) ⌝ }
+{
+    let mut i: usize = 0;
+    while i < count {
+        write_u32(out, 8 + 8 * i, removed[i]);
+        write_u32(out, 12 + 8 * i, separated[i]);
+        i += 1;
+    }
+}
+
+// The records, from place at on.
+fn write_records(
+    owners: &[u32; 4096],
+    lefts: &[u32; 4096],
+    rights: &[u32; 4096],
+    pairs: usize,
+    at: usize,
+    out: &mut [u8],
+)
+    requires { ⌜ (pairs ≤ 4096) × (at ≤ 4096) × (at + 12 * pairs ≤ length (now out)) ⌝ }
+    ensures { λ _. ⌜ length (now (out .exit)) ≡ length (now (out .entry)) ⌝ }
+{
+    let mut k: usize = 0;
+    while k < pairs {
+        let place = at + 12 * k;
+        write_u32(out, place, owners[k]);
+        write_u32(out, place + 4, lefts[k]);
+        write_u32(out, place + 8, rights[k]);
+        k += 1;
+    }
+}
+
+// Little-endian words: the number of areas, that of the pairs; removed and separated of each span; owner, left and right of each record.
+fn write_partition(
+    areas: u32,
+    pairs: usize,
+    count: usize,
+    removed: &[u32; 256],
+    separated: &[u32; 256],
+    owners: &[u32; 4096],
+    lefts: &[u32; 4096],
+    rights: &[u32; 4096],
+    out: &mut [u8],
+) -> ProbeResult
+    requires { ⌜ count ≤ 256 ⌝ }
+    ensures { λ r. ⌜ Told count pairs (now (out .entry)) (now (out .exit)) (r .number) (r .detail) ⌝ }
+{
+    if 4096 < pairs {
+        return ProbeResult {
+            number: 13,
+            detail: 0,
+        };
+    }
+    let start = 8 + 8 * count;
+    let total = start + 12 * pairs;
+    if out.len() < total {
+        return ProbeResult {
+            number: 22,
+            detail: total as u64,
+        };
+    }
+    write_u32(out, 0, areas);
+    write_u32(out, 4, pairs as u32);
+    write_counts(removed, separated, count, out);
+    write_records(owners, lefts, rights, pairs, start, out);
+    ProbeResult {
+        number: 0,
+        detail: total as u64,
+    }
+}
+
+fn partition_job(
+    job: &[u8],
+    width: u32,
+    height: u32,
+    at: usize,
+    count: usize,
+    work: &mut [u8],
+    out: &mut [u8],
+) -> ProbeResult
+    requires { ⌜ Taken (now job) width height at count (now work) ⌝ }
+    ensures { λ r. ⌜ Parted (now (job .entry)) (now (work .entry)) (now (out .entry)) (now (work .exit)) (now (out .exit)) (r .number) (r .detail) ⌝ }
+{
+    let n = size(width * height);
+    let mut ends = [0u32; 1024];
+    own_spans(job, at, count, &mut ends);
+    let mut removed = [0u32; 256];
+    let mut separated = [0u32; 256];
+    let mut owners = [0u32; 4096];
+    let mut lefts = [0u32; 4096];
+    let mut rights = [0u32; 4096];
+    let p = partition_by_spans(
+        &job[HEADER_SIZE..HEADER_SIZE + n],
+        width,
+        height,
+        EIGHT,
+        &ends,
+        count,
+        work,
+        &mut removed,
+        &mut separated,
+        &mut owners,
+        &mut lefts,
+        &mut rights,
+    );
+    write_partition(
+        p.areas,
+        p.pairs,
+        count,
+        &removed,
+        &separated,
+        &owners,
+        &lefts,
+        &rights,
+        out,
+    )
+}
+
+// Labels the areas in work, and tells what the partition found in out.
+#[no_mangle]
+pub extern "C" fn probe_partition(job: &[u8], work: &mut [u8], out: &mut [u8]) -> ProbeResult
+    ensures { λ r. ⌜ PartitionAnswer (now (job .entry)) (now (work .entry)) (now (out .entry)) (now (work .exit)) (now (out .exit)) (r .number) (r .detail) ⌝ }
+{
+    let v = check_reduce(job);
+    if !v.passed() {
+        return ProbeResult {
+            number: v.number(),
+            detail: v.detail(),
+        };
+    }
+    let h = read_header(job);
+    let c = h.counts;
+    let o = h.offsets;
+    let width = c.width;
+    let height = c.height;
+    if work.len() < 10 * size(width * height) {
+        return ProbeResult {
+            number: 21,
+            detail: 0,
+        };
+    }
+    partition_job(
+        job,
+        width,
+        height,
+        size(o.boundaries),
+        size(c.boundaries),
+        work,
+        out,
+    )
+}
