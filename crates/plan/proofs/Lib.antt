@@ -6,3 +6,4 @@ pub mod ValueLaws
 pub mod AcceptLaws
 pub mod JudgeLaws
 pub mod WholeLaws
+pub mod IntoLaws
