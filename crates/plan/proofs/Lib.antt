@@ -7,3 +7,4 @@ pub mod AcceptLaws
 pub mod JudgeLaws
 pub mod WholeLaws
 pub mod IntoLaws
+pub mod TakenLaws
