@@ -8,3 +8,4 @@ pub mod JudgeLaws
 pub mod WholeLaws
 pub mod IntoLaws
 pub mod TakenLaws
+pub mod GoesLaws

@@ -39,7 +39,7 @@ module _ (regions firsts seconds chosen : List ℕ) (links : ℕ) where
   unfolding isJoined joinedFrom
   joined-by i = any-by i (chosenFrom chosen 0 links)
 
-  on-mark : (b : Bool) → eqb (cond b 1 0) 1 ≡ b
+  pub on-mark : (b : Bool) → eqb (cond b 1 0) 1 ≡ b
   on-mark true = refl
   on-mark false = refl
 
