@@ -9,3 +9,4 @@ pub mod WholeLaws
 pub mod IntoLaws
 pub mod TakenLaws
 pub mod GoesLaws
+pub mod MergeLaws
