@@ -10,3 +10,4 @@ pub mod IntoLaws
 pub mod TakenLaws
 pub mod GoesLaws
 pub mod MergeLaws
+pub mod ChosenLaws
