@@ -20,11 +20,8 @@ use Rattle.groups.specs.Representative.{retained}
 use Rattle.groups.specs.Plan.{mergePlan}
 use Rattle.groups.proofs.Accepted.{accepted-below}
 use Rattle.groups.proofs.Plan.{accepted-retained}
+use Rattle.plan.specs.Into.{goesTo}
 use Rattle.plan.proofs.TakenLaws.{ownGroup, taken, serialTaken, flatTaken, serial-any, serial-accepted, flat-accepted, plan-serial, plan-flat, plan-stays}
-
--- into the serial group's rank, otherwise into the flat group's, otherwise into itself
-abbrev pub goesTo : ℕ → ℕ → ℕ → ℕ
-goesTo s f i = cond (eqb s 256) (cond (eqb f 256) i f) s
 
 -- the rank that the rank goes into by the accepted ones of the links' groups
 abbrev pub goesBy : Limits → List Item → ℕ → List LinkAt → (Group → Bool) → ℕ → ℕ

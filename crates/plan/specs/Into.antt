@@ -2,10 +2,15 @@
 use mathlib.Core.Bool.{cond}
 use mathlib.Core.List.{List}
 use Prim.Native.Nat.{ℕ}
+use lib.Dec.{eqb}
 use Rattle.links.specs.Limits.{Limits}
 use Rattle.plan.specs.Arrays.{at, isOn, ranksIn, numbersIn}
 use Rattle.plan.specs.Shape.{retainedIn}
 use Rattle.plan.specs.Told.{serialIn, flatIn}
+
+-- into the serial group's rank, otherwise into the flat group's, otherwise into itself
+abbrev pub goesTo : ℕ → ℕ → ℕ → ℕ
+goesTo s f i = cond (eqb s 256) (cond (eqb f 256) i f) s
 
 module _ (limits : Limits) (n : ℕ) (own bits lowers highers regions firsts seconds : List ℕ) (links : ℕ) where
   unfoldable pub serialInto : List ℕ → List ℕ → List ℕ → List ℕ → ℕ → ℕ

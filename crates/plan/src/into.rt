@@ -3,8 +3,8 @@ ghost use mathlib.Core.Path.{_≡_};
 ghost use Prim.Native.Nat.{ℕ, _<_, _≤_};
 ghost use lib.ListN.{length};
 ghost use Rattle.links.specs.HeldLimits.{limitsOf};
-ghost use Rattle.plan.specs.Arrays.{Filled};
-ghost use Rattle.plan.specs.Into.{serialInto, flatInto};
+ghost use Rattle.plan.specs.Arrays.{at, Filled};
+ghost use Rattle.plan.specs.Into.{serialInto, flatInto, goesTo};
 ghost use Rattle.plan.specs.Fitting.{Safe};
 use crate::judge::judge_flat;
 use crate::judge::judge_serial;
@@ -185,6 +185,27 @@ pub fn into_flat(
             parts,
             i,
         );
+        i += 1;
+    }
+}
+
+fn goes_to(s: u32, f: u32, i: u32) -> u32
+    ensures { λ r. ⌜ r ≡ goesTo s f i ⌝ }
+{
+    if s != 256 {
+        return s;
+    }
+    if f != 256 { f } else { i }
+}
+
+// Which rank each rank goes into by both.
+pub fn combine(n: usize, serial: &[u32; 256], flat: &[u32; 256], plan: &mut [u32; 256])
+    requires { ⌜ (n ≤ 256) × (length (now plan) ≡ 256) ⌝ }
+    ensures { λ r. ⌜ Filled (λ i. goesTo (at (now (serial .entry)) i) (at (now (flat .entry)) i) i) n (now (plan .exit)) ⌝ }
+{
+    let mut i: usize = 0;
+    while i < n {
+        plan[i] = goes_to(serial[i], flat[i], i as u32);
         i += 1;
     }
 }
