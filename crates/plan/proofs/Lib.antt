@@ -11,3 +11,4 @@ pub mod TakenLaws
 pub mod GoesLaws
 pub mod MergeLaws
 pub mod ChosenLaws
+pub mod EndLaws
