@@ -18,7 +18,7 @@ use Rattle.groups.specs.Links.{LinkAt}
 use Rattle.groups.specs.Serial.{serialLinks}
 use Rattle.groups.specs.Flat.{isLeft, alike, isFlatLink, flatLinks}
 use Rattle.groups.specs.Tables.{Linked, Bridged}
-use Rattle.plan.specs.Arrays.{at, isOn, linkRow, Ranked, Filled}
+use Rattle.plan.specs.Arrays.{at, isOn, Ranked, Filled}
 use Rattle.plan.specs.Shape.{bothOn, alikeIn, flatLinkIn}
 use Rattle.plan.specs.Told.{FlatInside}
 use Rattle.plan.proofs.WholeLaws.{chosenLinks, on-mark}
