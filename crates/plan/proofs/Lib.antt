@@ -6,3 +6,9 @@ pub mod ValueLaws
 pub mod AcceptLaws
 pub mod JudgeLaws
 pub mod WholeLaws
+pub mod IntoLaws
+pub mod TakenLaws
+pub mod GoesLaws
+pub mod MergeLaws
+pub mod ChosenLaws
+pub mod EndLaws

@@ -5,14 +5,14 @@ use mathlib.Core.List.{List, [], _∷_, map}
 use Prim.Native.Nat.{ℕ, _≤_, _<_}
 use native.Mathlib.Omega.{arith}
 use lib.Dec.{eqb}
-use Rattle.order.specs.Lists.{keep, upFrom}
+use Rattle.order.specs.Lists.{upFrom}
 use Rattle.order.proofs.Keep.{keep-ext, keep-keep, keep-map}
 use Rattle.order.proofs.Numbers.{up-mem}
 use Rattle.graph.specs.Path.{Edge}
 use Rattle.graph.specs.Parts.{part}
 use Rattle.groups.specs.Tests.{any}
 use Rattle.groups.specs.Links.{LinkAt, joins}
-use Rattle.groups.specs.Groups.{Group, edgeOf, linkEdges, isJoined, groupAt}
+use Rattle.groups.specs.Groups.{Group, linkEdges, isJoined, groupAt}
 use Rattle.plan.specs.Arrays.{at, isOn, linkRow, edgeRow, chosenFrom, partFrom, joinsAt, joinedFrom, inPart, linkIn, ranksIn, numbersIn, Ranked, Filled}
 use Rattle.plan.specs.Told.{groupBy}
 
@@ -39,7 +39,7 @@ module _ (regions firsts seconds chosen : List ℕ) (links : ℕ) where
   unfolding isJoined joinedFrom
   joined-by i = any-by i (chosenFrom chosen 0 links)
 
-  on-mark : (b : Bool) → eqb (cond b 1 0) 1 ≡ b
+  pub on-mark : (b : Bool) → eqb (cond b 1 0) 1 ≡ b
   on-mark true = refl
   on-mark false = refl
 

@@ -3,3 +3,4 @@ pub mod Arrays
 pub mod Shape
 pub mod Fitting
 pub mod Told
+pub mod Into

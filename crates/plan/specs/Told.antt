@@ -15,9 +15,9 @@ use Rattle.links.specs.Geometry.{squares, centreDistance}
 use Rattle.groups.specs.Tests.{every}
 use Rattle.groups.specs.Listing.{endsAt, bitsAt}
 use Rattle.groups.specs.Regions.{assessAt}
-use Rattle.groups.specs.Measuring.{passes}
+use Rattle.groups.specs.Measuring.{passes, staysInside}
 use Rattle.groups.specs.Groups.{Group}
-use Rattle.groups.specs.Flat.{leastFlatSpans}
+use Rattle.groups.specs.Flat.{leastFlatSpans, isFlat}
 use Rattle.plan.specs.Arrays.{at, isOn, linkRow}
 use Rattle.plan.specs.Shape.{endsIn, chainIn, pathIn, allAlikeIn}
 
@@ -35,6 +35,10 @@ pub record Told (dirs : List ℕ) (g : Grid) (l : List Item) (n : ℕ) (own bits
 -- which links pass
 pub record Passed (limits : Limits) (dirs : List ℕ) (g : Grid) (l : List Item) (regions firsts seconds passing : List ℕ) (links : ℕ) : Type 0 where
   pub each : (k : ℕ) → k < links → isOn passing k ≡ passes limits dirs g l (linkRow regions firsts seconds k)
+
+-- which links have a flat region inside their envelopes
+pub record FlatInside (limits : Limits) (dirs : List ℕ) (g : Grid) (l : List Item) (regions firsts seconds flat : List ℕ) (links : ℕ) : Type 0 where
+  pub each : (k : ℕ) → k < links → isOn flat k ≡ staysInside limits dirs g l (linkRow regions firsts seconds k) && isFlat dirs g l (at regions k)
 
 module _ (limits : Limits) (own lowers highers regions firsts seconds : List ℕ) where
   unfoldable pub serialIn : List ℕ → List ℕ → List ℕ → Bool

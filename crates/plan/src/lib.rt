@@ -9,3 +9,4 @@ pub mod retain; // the retained member
 pub mod accept; // the rules on a group
 pub mod select; // which links may make groups
 pub mod judge; // what becomes of the group that a part makes
+pub mod into; // which rank each rank goes into
