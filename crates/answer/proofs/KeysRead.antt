@@ -14,7 +14,8 @@ use Rattle.format.specs.Records.{sourceAt}
 use Rattle.format.specs.Decode.{sourceRecords}
 use Rattle.format.specs.Fits.{SourceFits}
 use Rattle.format.specs.declared.records.Source.{Source}
-use Rattle.answer.specs.Packed.{pack, sourcePack, packed, KeysRead}
+use Rattle.order.specs.Keys.{pack}
+use Rattle.answer.specs.Packed.{sourcePack, packed, KeysRead}
 
 packed-rows : (s : List ℕ) (at n : ℕ) → packed (sourceRecords s at n) ≡ rows n (λ k. sourcePack (sourceAt s (at + k * 8)))
 unfolding packed sourceRecords

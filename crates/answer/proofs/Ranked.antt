@@ -10,7 +10,8 @@ use lib.Seq.{getD-set-same, getD-set-other}
 use Rattle.position.specs.Order.{canonical}
 use Rattle.position.specs.declared.Span.{Span}
 use Rattle.length.specs.Total.{totalKey}
-use Rattle.answer.specs.Packed.{pack, KeyAt}
+use Rattle.order.specs.Keys.{pack}
+use Rattle.answer.specs.Packed.{KeyAt}
 use Rattle.answer.specs.Ranked.{Ranked}
 
 pub ranked-start : (ends : ℕ → Span) (bits : ℕ → ℕ) (from : ℕ) (first second third : List ℕ) → Ranked ends bits from 0 first second third first second third

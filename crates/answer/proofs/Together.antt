@@ -22,13 +22,15 @@ use Rattle.length.specs.Total.{totalKey}
 use Rattle.order.specs.Keys.{byKey}
 use Rattle.merging.specs.Keys.{observationKey}
 use Rattle.sorting.specs.Orders.{placeKey, byRun}
-use Rattle.answer.specs.Packed.{pack, sourcePack, packed, KeysRead, KeyAt}
+use Rattle.order.specs.Keys.{pack}
+use Rattle.answer.specs.Packed.{sourcePack, packed, KeysRead, KeyAt}
 use Rattle.answer.specs.Laying.{below, ownCount, seenCount, citedCount, ownStart, LaidAll}
 use Rattle.answer.specs.Squeezed.{partOf, Squeezed}
 use Rattle.answer.specs.Ranked.{RankRoom, Ranked}
 use Rattle.answer.specs.Placed.{observationFrom, boundaryOf, itself, Holds, Placed, JobPlaces, boundaryRows, observationRows}
 use Rattle.answer.proofs.Lays.{below-next}
-use Rattle.answer.proofs.Packs.{sorted-packed, sorted-fit, observation-le}
+use Rattle.merging.proofs.Packed.{sources-fit}
+use Rattle.answer.proofs.Packs.{sorted-packed, observation-le}
 
 take-map : {A B : Type 0} (f : A → B) (n : ℕ) (l : List A) → take n (map f l) ≡ map f (take n l)
 take-map f zero l = refl
@@ -128,7 +130,7 @@ module _ {s : List ℕ} {at n ats m from count : ℕ} (j : JobPlaces s at n ats 
     itself-holds b h = record {
       key = t .there b h;
       run = run-of (1024 + b) (ownStart (ownCount s at) (seenCount s at) (citedCount s ats) b) (ownCount s at b) (omega (arith, j .countable .boundary-limit)) (l .laid .own-start b h) (l .laid .own-count b h) (own-end b h);
-      fits = sorted-fit (take (ownCount s at b) (drop (ownStart (ownCount s at) (seenCount s at) (citedCount s ats) b) (sourceRecords s from count))) (part-fit (ownStart (ownCount s at) (seenCount s at) (citedCount s ats) b) (ownCount s at b));
+      fits = sources-fit (take (ownCount s at b) (drop (ownStart (ownCount s at) (seenCount s at) (citedCount s ats) b) (sourceRecords s from count))) (part-fit (ownStart (ownCount s at) (seenCount s at) (citedCount s ats) b) (ownCount s at b));
     }
 
     seen-holds : (b i : ℕ) → b < n → i < seenCount s at b
@@ -140,7 +142,7 @@ module _ {s : List ℕ} {at n ats m from count : ℕ} (j : JobPlaces s at n ats 
         record {
           key = key-kept p _ _ (omega (arith, u, observations-fit)) (r .there p u);
           run = run-of p (below (ownCount s at) (suc b) + below (citedCount s ats) p) (citedCount s ats p) (omega (arith, u, observations-fit)) (l .laid .cited-start b i h o) (l .laid .cited-count b i h o) (cited-end b p h u);
-          fits = sorted-fit (take (citedCount s ats p) (drop (below (ownCount s at) (suc b) + below (citedCount s ats) p) (sourceRecords s from count))) (part-fit (below (ownCount s at) (suc b) + below (citedCount s ats) p) (citedCount s ats p));
+          fits = sources-fit (take (citedCount s ats p) (drop (below (ownCount s at) (suc b) + below (citedCount s ats) p) (sourceRecords s from count))) (part-fit (below (ownCount s at) (suc b) + below (citedCount s ats) p) (citedCount s ats p));
         }
 
     pub placed : Placed (boundaryRows s at) (observationRows s ats) (sourceRecords s from count) n firsts f₂ g₂ h₂ starts counts₂ keys₂

@@ -3,6 +3,7 @@ use mathlib.Core.Path.{_≡_}
 use mathlib.Core.List.{List, map}
 use Prim.Native.Nat.{ℕ, _+_, _*_, _<_}
 use lib.ListN.{length, getD, take}
+use Rattle.order.specs.Keys.{pack}
 use Rattle.position.specs.declared.Span.{Span}
 use Rattle.length.specs.Total.{totalKey}
 use Rattle.format.specs.Sizes.{sourceSize}
@@ -10,9 +11,6 @@ use Rattle.format.specs.Records.{sourceAt}
 use Rattle.format.specs.Decode.{sourceRecords}
 use Rattle.format.specs.Fits.{SourceFits}
 use Rattle.format.specs.declared.records.Source.{Source}
-
-unfoldable pub pack : ℕ → ℕ → ℕ
-pack x y = x * 0x1_0000_0000 + y
 
 unfoldable pub sourcePack : Source → ℕ
 sourcePack s = pack (s .from) (s .to)

@@ -1,7 +1,7 @@
 // A u32 as a wider number, and two in one.
 ghost use mathlib.Core.Path.{_≡_};
 ghost use Prim.Native.Nat.{_<_, _≤_, _-_};
-ghost use Rattle.answer.specs.Packed.{pack};
+ghost use Rattle.order.specs.Keys.{pack};
 
 pub fn wide(x: u32) -> u64
     ensures { λ r. ⌜ (r ≡ x) × (r < 0x1_0000_0000) ⌝ }

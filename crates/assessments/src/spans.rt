@@ -8,24 +8,7 @@ ghost use Rattle.assessments.specs.Holding.{labelsOf};
 ghost use Rattle.assessments.specs.Visits.{mapOf};
 ghost use Rattle.assessments.specs.Recording.{Recorded, SpansOnMap, Arrays, Filled};
 use super::strip::assess_span;
-use position::PixelPosition;
-use position::Span;
-
-// Span i of the array.
-fn span_at(ends: &[u32; 1024], i: usize) -> Span
-    requires { ⌜ i < 256 ⌝ }
-    ensures { λ r. ⌜ r ≡ spanIn (now (ends .entry)) i ⌝ }
-{
-    let a = PixelPosition {
-        x: ends[4 * i],
-        y: ends[4 * i + 1],
-    };
-    let b = PixelPosition {
-        x: ends[4 * i + 2],
-        y: ends[4 * i + 3],
-    };
-    Span { a, b }
-}
+use marking::spans::span_at;
 
 // Puts v at the places from start to end.
 fn fill(numbers: &mut [u32], start: usize, end: usize, v: u32)

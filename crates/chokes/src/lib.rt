@@ -1,8 +1,7 @@
-// The three calls.
+// The calls from C.
 mod analysis;
 mod mark;
 mod result;
 
-pub use analysis::analyse;
 pub use mark::chokes_mark;
 pub use result::ChokesResult;

@@ -9,10 +9,10 @@ use lib.Dec.{leb, ltb}
 use Rattle.lists.specs.Rows.{All, none, more}
 use Rattle.order.specs.Orders.{same}
 use Rattle.order.specs.Sorting.{insert, sort, include, sortOnce}
-use Rattle.order.specs.Keys.{lexLe, byKey, sortBy, sortOnceBy}
+use Rattle.order.specs.Keys.{lexLe, byKey, sortBy, sortOnceBy, pack}
 use Rattle.order.proofs.Bools.{by-test}
 use Rattle.order.proofs.Members.{perm-mem}
-use Rattle.order.proofs.Packed.{pack, lex-pack}
+use Rattle.order.proofs.Packed.{lex-pack}
 use Rattle.order.proofs.Sort.{sort-perm, sort-map}
 use Rattle.position.specs.Order.{posLe, swapped, canonical}
 use Rattle.position.specs.declared.Span.{Span}
@@ -25,7 +25,7 @@ use Rattle.merging.specs.Keys.{sourceKey, sourcesKey, observationKey}
 use Rattle.merging.specs.Copies.{canonObservation}
 
 -- behind two heads
-lex-behind : (x y : ℕ) (k l m n : List ℕ) → lexLe k l ≡ lexLe m n → lexLe (x ∷ k) (y ∷ l) ≡ lexLe (x ∷ m) (y ∷ n)
+pub lex-behind : (x y : ℕ) (k l m n : List ℕ) → lexLe k l ≡ lexLe m n → lexLe (x ∷ k) (y ∷ l) ≡ lexLe (x ∷ m) (y ∷ n)
 unfolding lexLe
 lex-behind x y k l m n e = rw e refl
 

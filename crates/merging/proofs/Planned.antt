@@ -1,6 +1,6 @@
 -- What is kept by groups is what is kept by their plan.
 use mathlib.Core.Path.{_≡_, refl, sym, _∙_, ap}
-use mathlib.Core.Bool.{Bool, true, false, cond, _||_}
+use mathlib.Core.Bool.{Bool, true, false, cond}
 use mathlib.Core.List.{List, [], _∷_, _++_, map, List·Memᴰ, List·Memᴰ·head, List·Memᴰ·tail, List·Memᴰ·not-nil, List·Memᴰ·eq-of-singleton}
 use Prim.Native.Nat.{ℕ, _<_, _≤_}
 use native.Mathlib.Omega.{arith}
@@ -14,11 +14,10 @@ use Rattle.order.proofs.Keep.{keep-ext, keep-mem, mem-keep, keep-pairs}
 use Rattle.order.proofs.Pairs.{pairs-ext}
 use Rattle.order.proofs.Numbers.{up-mem, mem-up, up-strict, has-mem, mem-has}
 use Rattle.format.specs.Values.{Boundary}
-use Rattle.merging.specs.Consolidation.{consolidate}
-use Rattle.merging.specs.Groups.{Group, inAny, Good, Disjoint, WellGrouped}
+use Rattle.merging.specs.Groups.{Group, inAny, Disjoint, WellGrouped}
 use Rattle.merging.specs.Kept.{copyAt, membersOf, consolidated, slot, kept}
 use Rattle.merging.specs.Planned.{goes, members, merged, planned}
-use Rattle.merging.proofs.Groups.{outside, disjoint-symm, any-group, ranks-are}
+use Rattle.merging.proofs.Groups.{any-group, ranks-are}
 
 abbrev Mine : List Group → Type 0
 Mine gs = (g : Group) → List·Memᴰ g gs → List·Memᴰ (g .retained) (g .ranks)

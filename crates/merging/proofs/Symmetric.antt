@@ -1,7 +1,6 @@
 -- If one run is a relisting of another, so is the other of it.
-use mathlib.Core.Path.{_≡_, sym, _∙_}
+use mathlib.Core.Path.{sym, _∙_}
 use mathlib.Core.List.{List, Permᴰ·symm}
-use lib.ListN.{length}
 use Rattle.order.specs.Shuffled.{Shuffled, nil, next, swap, then}
 use Rattle.order.proofs.Shuffled.{shuffled-length}
 use Rattle.position.specs.declared.Span.{Span}

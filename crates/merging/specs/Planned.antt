@@ -1,5 +1,5 @@
 -- The kept boundaries by a plan, which gives each rank the rank that it goes into.
-use mathlib.Core.Bool.{Bool, cond}
+use mathlib.Core.Bool.{cond}
 use mathlib.Core.List.{List, [], _∷_, map}
 use Prim.Native.Nat.{ℕ}
 use lib.Dec.{eqb}

@@ -14,7 +14,8 @@ use Rattle.wire.specs.Bytes.{u64At}
 use Rattle.format.specs.Sizes.{boundarySize}
 use Rattle.format.specs.Records.{spanAt}
 use Rattle.areas.specs.Spans.{spanIn}
-use Rattle.ranks.specs.Tables.{recordPlace, packed, Records, putSpan, SpansOf, WidthsOf, RampsOf, KeysOf}
+use Rattle.order.specs.Keys.{pack}
+use Rattle.ranks.specs.Tables.{recordPlace, Records, putSpan, SpansOf, WidthsOf, RampsOf, KeysOf}
 
 -- an array whose first i entries are those of f, with f i put at i
 pub entry-next : (f : ℕ → ℕ) (l : List ℕ) (i : ℕ) {v : ℕ} → i < length l → v ≡ f i → ((k : ℕ) → k < i → getD l k 0 ≡ f k) → (k : ℕ) → k < i + 1 → getD (set l i v) k 0 ≡ f k
@@ -138,13 +139,13 @@ pub keys-start : {s : List ℕ} {at stride : ℕ} {first second : List ℕ} → 
 keys-start e f = record { whole-first = e; whole-second = f; each-first = λ i h. absurd (omega arith); each-second = λ i h. absurd (omega arith) }
 
 pub keys-next : {s : List ℕ} {at stride i : ℕ} {first second : List ℕ} {e : Span} {v w : ℕ} → KeysOf s at stride i first second → i < 256
-    → e ≡ canonical (spanAt s (at + i * stride)) → v ≡ packed (e .a .x) (e .a .y) → w ≡ packed (e .b .x) (e .b .y)
+    → e ≡ canonical (spanAt s (at + i * stride)) → v ≡ pack (e .a .x) (e .a .y) → w ≡ pack (e .b .x) (e .b .y)
     → KeysOf s at stride (i + 1) (set first i v) (set second i w)
 keys-next {s} {at} {stride} {i} {first} {second} {e} {v} {w} k h a b d = record {
   whole-first = length-set first i v ∙ k .whole-first;
   whole-second = length-set second i w ∙ k .whole-second;
-  each-first = entry-next (λ j. packed (canonical (spanAt s (at + j * stride)) .a .x) (canonical (spanAt s (at + j * stride)) .a .y)) first i (omega (arith, k .whole-first)) (b ∙ ap (λ (z : Span). packed (z .a .x) (z .a .y)) a) (k .each-first);
-  each-second = entry-next (λ j. packed (canonical (spanAt s (at + j * stride)) .b .x) (canonical (spanAt s (at + j * stride)) .b .y)) second i (omega (arith, k .whole-second)) (d ∙ ap (λ (z : Span). packed (z .b .x) (z .b .y)) a) (k .each-second);
+  each-first = entry-next (λ j. pack (canonical (spanAt s (at + j * stride)) .a .x) (canonical (spanAt s (at + j * stride)) .a .y)) first i (omega (arith, k .whole-first)) (b ∙ ap (λ (z : Span). pack (z .a .x) (z .a .y)) a) (k .each-first);
+  each-second = entry-next (λ j. pack (canonical (spanAt s (at + j * stride)) .b .x) (canonical (spanAt s (at + j * stride)) .b .y)) second i (omega (arith, k .whole-second)) (d ∙ ap (λ (z : Span). pack (z .b .x) (z .b .y)) a) (k .each-second);
 }
 
 pub identity-next : (i : ℕ) (order : List ℕ) → length order ≡ 256 → i < 256 → ((k : ℕ) → k < i → getD order k 0 ≡ k) → (k : ℕ) → k < i + 1 → getD (set order i i) k 0 ≡ k

@@ -3,6 +3,7 @@ use mathlib.Core.Path.{_≡_}
 use mathlib.Core.List.{List}
 use Prim.Native.Nat.{ℕ, _+_, _*_, _<_, _≤_}
 use lib.ListN.{length, getD, set}
+use Rattle.order.specs.Keys.{pack}
 use Rattle.position.specs.Order.{canonical}
 use Rattle.position.specs.declared.Span.{Span}
 use Rattle.wire.specs.Bytes.{u64At}
@@ -41,16 +42,12 @@ pub record RampsOf (s : List ℕ) (at : ℕ) (order : List ℕ) (n : ℕ) (ramps
   pub whole : length ramps ≡ 256
   pub each : (i : ℕ) → i < n → getD ramps i 0 ≡ getD s (recordPlace at boundarySize order i + 32) 0
 
--- the columns and rows of a position in one number, in the order of positions
-abbrev pub packed : ℕ → ℕ → ℕ
-packed x y = x * 0x1_0000_0000 + y
-
 -- the canonical ends of the records, packed, by place
 pub record KeysOf (s : List ℕ) (at stride n : ℕ) (first second : List ℕ) : Type 0 where
   pub whole-first : length first ≡ 256
   pub whole-second : length second ≡ 256
-  pub each-first : (i : ℕ) → i < n → getD first i 0 ≡ packed (canonical (spanAt s (at + i * stride)) .a .x) (canonical (spanAt s (at + i * stride)) .a .y)
-  pub each-second : (i : ℕ) → i < n → getD second i 0 ≡ packed (canonical (spanAt s (at + i * stride)) .b .x) (canonical (spanAt s (at + i * stride)) .b .y)
+  pub each-first : (i : ℕ) → i < n → getD first i 0 ≡ pack (canonical (spanAt s (at + i * stride)) .a .x) (canonical (spanAt s (at + i * stride)) .a .y)
+  pub each-second : (i : ℕ) → i < n → getD second i 0 ≡ pack (canonical (spanAt s (at + i * stride)) .b .x) (canonical (spanAt s (at + i * stride)) .b .y)
 
 -- each rank is its own place
 pub record Identity (order : List ℕ) : Type 0 where

@@ -2,10 +2,11 @@
 ghost use mathlib.Core.Path.{_≡_};
 ghost use Prim.Native.Nat.{ℕ, _+_, _*_, _<_, _≤_};
 ghost use lib.ListN.{length, getD};
+ghost use Rattle.order.specs.Keys.{pack};
 ghost use Rattle.position.specs.Order.{canonical};
 ghost use Rattle.wire.specs.Bytes.{u64At};
 ghost use Rattle.format.specs.Sizes.{boundarySize};
-ghost use Rattle.ranks.specs.Tables.{recordPlace, Records, putSpan, SpansOf, WidthsOf, RampsOf, KeysOf, Identity, packed};
+ghost use Rattle.ranks.specs.Tables.{recordPlace, Records, putSpan, SpansOf, WidthsOf, RampsOf, KeysOf, Identity};
 use format::BOUNDARY_SIZE;
 use format::read_span;
 use position::PixelPosition;
@@ -93,7 +94,7 @@ pub fn fill_ramps(s: &[u8], at: usize, order: &[u32; 256], n: usize, ramps: &mut
 
 // A position in one number that orders positions.
 fn pack(p: PixelPosition) -> u64
-    ensures { λ r. ⌜ r ≡ packed (p .x) (p .y) ⌝ }
+    ensures { λ r. ⌜ r ≡ pack (p .x) (p .y) ⌝ }
 {
     wide(p.x) * 0x1_0000_0000 + wide(p.y)
 }

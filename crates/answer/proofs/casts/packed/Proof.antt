@@ -1,5 +1,4 @@
 use native.Mathlib.Omega.{arith}
-use Rattle.answer.specs.Packed.{pack}
 use borrow.Author.Needs.{needs}
 use Rattle.answer.proofs.casts.packed.Statement.{statement}
 use Rattle.answer.proofs.casts.packed.Tie as tie
@@ -20,7 +19,6 @@ add-result : tie.Need-add-result
 add-result c = search needs
 
 returns : tie.Need-returns
-unfolding pack
 returns c = (omega arith, omega arith, omega arith)
 
 pub packed-spec : {M : Type 1} → statement M

@@ -10,7 +10,7 @@ use Rattle.assessments.proofs.spans.assess_spans.Tie as tie
 use Rattle.assessments.proofs.spans.assess_spans.Reads as reads
 use Rattle.assessments.proofs.spans.assess_spans.Lts as lts
 use Rattle.assessments.proofs.spans.fill.Reads as fill-reads
-use Rattle.assessments.proofs.spans.span_at.Reads as span-at-reads
+use Rattle.marking.proofs.spans.span_at.Reads as span-at-reads
 use Rattle.assessments.proofs.strip.assess_span.Reads as assess-span-reads
 
 abbrev Inv-loop : tie.InvT-loop
