@@ -4,3 +4,4 @@ pub mod Squeezed
 pub mod Ranked
 pub mod Placed
 pub mod Written
+pub mod Gathered
