@@ -7,3 +7,4 @@ pub mod Packs
 pub mod Decoded
 pub mod Together
 pub mod Writes
+pub mod Merged
