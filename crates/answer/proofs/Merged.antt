@@ -1,38 +1,52 @@
 -- What a kept rank's merged boundary has, of the arrays that hold the canonical copies.
-use mathlib.Core.Path.{_≡_, refl, sym, _∙_, ap}
-use mathlib.Core.Bool.{Bool, true, false, cond}
-use mathlib.Core.List.{List, [], _∷_, _++_, map, append-nil, List·Memᴰ, List·Memᴰ·head, List·Memᴰ·tail, List·Memᴰ·not-nil}
+use mathlib.Core.Path.{_≡_, refl, sym, _∙_, ap, subst}
+use mathlib.Core.Bool.{Bool, true, false, cond, not, _&&_}
+use mathlib.Core.List.{List, [], _∷_, _++_, map, flatMap, append-nil, List·Memᴰ, List·Memᴰ·head, List·Memᴰ·tail, List·Memᴰ·not-nil, List·Permᴰ, List·Permᴰ·nil, List·Permᴰ·trans, Permᴰ·refl, Permᴰ·symm, Permᴰ·append-left, Permᴰ·append-right}
 use Prim.Native.Nat.{ℕ, zero, suc, _+_, _<_}
+use native.Mathlib.Numerals.{add-one}
 use native.Mathlib.Omega.{arith}
-use borrow.Author.Tests.{eqb-true, eq-eqb}
+use borrow.Author.Tests.{eqb-true, eq-eqb, ne-eqb}
 use lib.Dec.{eqb, leb}
 use lib.ListN.{length, getD, length-map}
-use Rattle.lists.specs.Rows.{All, none}
+use Rattle.lists.specs.Rows.{rows, All, none}
 use Rattle.lists.proofs.Each.{all-append}
-use Rattle.order.specs.Sorting.{sortOnce}
+use Rattle.lists.proofs.Rows.{map-rows}
+use Rattle.lists.proofs.Flat.{flatMap-append}
+use Rattle.order.specs.Sorting.{sort, sortOnce}
 use Rattle.order.specs.Lists.{keep, gather, upFrom}
-use Rattle.order.proofs.Keep.{keep-mem, mem-keep}
-use Rattle.order.proofs.Members.{map-ext}
+use Rattle.order.proofs.Keep.{keep-mem, mem-keep, keep-append}
+use Rattle.order.proofs.Members.{map-ext, perm-mem}
 use Rattle.order.proofs.Numbers.{up-mem, mem-up, up-length, map-up-at}
 use Rattle.order.proofs.Once.{once-idem}
+use Rattle.order.specs.Keys.{byKey}
+use Rattle.order.proofs.Forgets.{sort-forgets}
+use Rattle.order.proofs.Sort.{sort-perm}
 use Rattle.position.specs.Order.{canonical}
-use Rattle.format.specs.Values.{Boundary}
+use Rattle.format.specs.Values.{Observation, Boundary}
 use Rattle.format.specs.Decode.{rampOf}
+use Rattle.format.specs.Encode.{observationsOf}
 use Rattle.format.specs.Fits.{SourceFits}
 use Rattle.format.specs.declared.records.Source.{Source}
 use Rattle.format.specs.declared.records.BoundaryRecord.{BoundaryRecord}
 use Rattle.format.specs.declared.records.ObservationRecord.{ObservationRecord}
-use Rattle.merging.specs.Copies.{sortedSources, canon}
-use Rattle.merging.specs.Consolidation.{consolidate}
+use Rattle.sorting.specs.Orders.{byRun}
+use Rattle.merging.specs.Copies.{sortedSources, canon, canonObservation, sortedObservations}
+use Rattle.merging.specs.Consolidation.{orItself, observed, consolidate}
 use Rattle.merging.specs.Kept.{noBoundary, copyAt}
 use Rattle.merging.specs.Planned.{members, merged, planned}
-use Rattle.merging.proofs.Copies.{source-order}
+use Rattle.merging.specs.Sources.{ownSources}
+use Rattle.merging.proofs.Lists.{gather-append}
+use Rattle.merging.proofs.Copies.{source-order, observation-order}
 use Rattle.merging.proofs.Packed.{sources-fit}
+use Rattle.merging.specs.Keys.{observationKey}
 use Rattle.answer.specs.Packed.{sourcePack, packed}
 use Rattle.answer.specs.Squeezed.{partOf}
-use Rattle.answer.specs.Placed.{boundaryOf, itself, Placed}
-use Rattle.answer.specs.Gathered.{copiesBy, keptBy}
+use Rattle.answer.specs.Placed.{seenOf, observationOf, boundaryOf, itself, Holds, Placed}
+use Rattle.answer.specs.Gathered.{noObservation, copiesBy, keptBy, placesFrom, Stands}
+use Rattle.answer.specs.Laying.{firstSeen}
 use Rattle.answer.proofs.Packs.{sorted-packed}
+use Rattle.answer.proofs.Together.{holds-le}
+use Rattle.answer.proofs.Matched.{Matched, nil, next, matched-append, matched-length, matched-at, matched-by, matched-gather, matched-sort, matched-rows}
 
 gather-map : {A B C : Type 0} (f : B → List C) (g : A → B) (l : List A) → gather f (map g l) ≡ gather (λ x. f (g x)) l
 unfolding gather
@@ -43,6 +57,15 @@ gather-all : {A B : Type 0} {P : B → Type 0} (f : A → List B) (l : List A) �
 unfolding gather
 gather-all f [] h = none
 gather-all f (x ∷ xs) h = all-append (h x (List·Memᴰ·head refl)) (gather-all f xs (λ y m. h y (List·Memᴰ·tail m)))
+
+map-append : {A B : Type 0} (f : A → B) (l m : List A) → map f (l ++ m) ≡ map f l ++ map f m
+map-append f [] m = refl
+map-append f (x ∷ xs) m = ap (λ t. f x ∷ t) (map-append f xs m)
+
+up-last : (a n : ℕ) → upFrom a (suc n) ≡ upFrom a n ++ ((a + n) ∷ [])
+unfolding upFrom
+up-last a zero = let e : a ≡ a + 0 = omega arith in ap (λ (z : ℕ). z ∷ []) e
+up-last a (suc n) = let e : suc a + n ≡ a + suc n = omega arith in ap (λ (l : List ℕ). a ∷ l) (up-last (suc a) n ∙ ap (λ (z : ℕ). upFrom (suc a) n ++ (z ∷ [])) e)
 
 map-at : {A B : Type 0} (f : A → B) (l : List A) (k : ℕ) (d : B) (e : A) → k < length l → getD (map f l) k d ≡ f (getD l k e)
 map-at f [] k d e h = absurd (omega arith)
@@ -175,3 +198,161 @@ module _ {bs : ℕ → BoundaryRecord} {os : ℕ → ObservationRecord} {ss : Li
       ap packed (merged-sources bs os ss order plan n i h stays)
       ∙ sym (sorted-packed (gather (λ j. copyOf bs os ss order j .sources) (members plan n i)) all-fit)
       ∙ ap (sortOnce leb) (gather-packed (λ j. copyOf bs os ss order j .sources) (λ j. partOf keys starts counts (1024 + getD order j 0)) (members plan n i) own-run)
+
+module _ {first second third starts counts keys : List ℕ} where
+  stands-matched : {l : List ℕ} {m : List Observation} → Stands first second third starts counts keys l m → Matched (Holds first second third starts counts keys) l m
+  stands-matched {l} {m} s = matched-by 0 noObservation l m (s .many) (s .each)
+
+  matched-stands : {l : List ℕ} {m : List Observation} → Matched (Holds first second third starts counts keys) l m → Stands first second third starts counts keys l m
+  matched-stands s = record { many = matched-length s; each = λ q h. matched-at s 0 noObservation q h }
+
+  pub stands-none : Stands first second third starts counts keys [] []
+  stands-none = matched-stands nil
+
+  -- Joined lists stand for joined lists.
+  pub stands-append : {k l : List ℕ} {m n : List Observation} → Stands first second third starts counts keys k m → Stands first second third starts counts keys l n → Stands first second third starts counts keys (k ++ l) (m ++ n)
+  stands-append s t = matched-stands (matched-append (stands-matched s) (stands-matched t))
+
+-- Lists that are alike but for their order, gathered.
+gather-alike : {A B : Type 0} (f g : A → List B) (l : List A) → ((x : A) → List·Permᴰ (f x) (g x)) → List·Permᴰ (gather f l) (gather g l)
+unfolding gather
+gather-alike f g [] h = List·Permᴰ·nil
+gather-alike f g (x ∷ xs) h = List·Permᴰ·trans (Permᴰ·append-right (gather f xs) (h x)) (Permᴰ·append-left (g x) (gather-alike f g xs h))
+
+itself-alike : (c : Boundary) (l m : List Observation) → List·Permᴰ l m → List·Permᴰ (orItself c l) (orItself c m)
+unfolding orItself
+itself-alike c [] [] p = Permᴰ·refl _
+itself-alike c [] (o ∷ m) p = absurd (List·Memᴰ·not-nil (perm-mem (Permᴰ·symm p) (List·Memᴰ·head refl)))
+itself-alike c (o ∷ l) [] p = absurd (List·Memᴰ·not-nil (perm-mem p (List·Memᴰ·head refl)))
+itself-alike c (o ∷ l) (u ∷ m) p = p
+
+-- A boundary's observations as the job has them, each a canonical copy.
+module _ (bs : ℕ → BoundaryRecord) (os : ℕ → ObservationRecord) (ss : List Source) (b : ℕ) where
+  abbrev seenAt : ℕ → Observation
+  seenAt k = canonObservation (observationOf bs os ss b (firstSeen (seenOf bs os ss) b + k))
+
+  seen-rows : map canonObservation (boundaryOf bs os ss b .observations) ≡ rows (seenOf bs os ss b) seenAt
+  unfolding boundaryOf
+  seen-rows = map-rows canonObservation (seenOf bs os ss b) (λ k. observationOf bs os ss b (firstSeen (seenOf bs os ss) b + k))
+
+  seen-sorted : canon (boundaryOf bs os ss b) .observations ≡ sortedObservations (rows (seenOf bs os ss b) seenAt)
+  unfolding canon
+  seen-sorted = ap sortedObservations seen-rows
+
+  -- what it observed, or itself
+  abbrev given : List Observation
+  given = orItself (canon (boundaryOf bs os ss b)) (rows (seenOf bs os ss b) seenAt)
+
+  given-alike : List·Permᴰ given (observed (canon (boundaryOf bs os ss b)))
+  unfolding observed
+  given-alike =
+      subst (λ (l : List Observation). List·Permᴰ given (orItself (canon (boundaryOf bs os ss b)) l)) (sym seen-sorted)
+      (itself-alike (canon (boundaryOf bs os ss b)) (rows (seenOf bs os ss b) seenAt) (sortedObservations (rows (seenOf bs os ss b) seenAt)) (sort-perm (byKey observationKey) (rows (seenOf bs os ss b) seenAt)))
+
+-- The places of what a boundary gives.
+module _ {R : ℕ → Observation → Type 0} (c : Boundary) (a w : ℕ) (f : ℕ → Observation) (r : R w (itself c)) where
+  given-matched : (m : ℕ) → ((k : ℕ) → k < m → R (a + k) (f k)) → Matched R (cond (eqb m 0 && true) (w ∷ []) (upFrom a m)) (orItself c (rows m f))
+  unfolding itself orItself rows
+  given-matched zero h = next r nil
+  given-matched (suc m) h = rw (ne-eqb (suc m) 0 (λ e. omega arith)) (matched-rows a (suc m) f h)
+
+seen-alone : (t : Bool) (l m : List ℕ) → cond (t && false) l m ≡ m
+seen-alone true l m = refl
+seen-alone false l m = refl
+
+module _ {bs : ℕ → BoundaryRecord} {os : ℕ → ObservationRecord} {ss : List Source} {n : ℕ} {firsts first second third starts counts keys : List ℕ} (placed : Placed bs os ss n firsts first second third starts counts keys) where
+  seen-holds : (b : ℕ) → b < n → (k : ℕ) → k < seenOf bs os ss b → Holds first second third starts counts keys (getD firsts b 0 + k) (seenAt bs os ss b k)
+  seen-holds b h k l = rw (placed .first-there b h) (placed .seen-there b k h l)
+
+  -- of a boundary that others go into, or that goes into another
+  places-given : (b : ℕ) → b < n → Matched (Holds first second third starts counts keys) (placesFrom firsts (seenOf bs os ss) false b) (given bs os ss b)
+  unfolding placesFrom
+  places-given b h = given-matched (canon (boundaryOf bs os ss b)) (getD firsts b 0) (1024 + b) (seenAt bs os ss b) (placed .itself-there b h) (seenOf bs os ss b) (seen-holds b h)
+
+  places-alone : (b : ℕ) → b < n → Matched (Holds first second third starts counts keys) (placesFrom firsts (seenOf bs os ss) true b) (rows (seenOf bs os ss b) (seenAt bs os ss b))
+  unfolding placesFrom
+  places-alone b h = rw (seen-alone (eqb (seenOf bs os ss b) 0) ((1024 + b) ∷ []) (upFrom (getD firsts b 0) (seenOf bs os ss b))) (matched-rows (getD firsts b 0) (seenOf bs os ss b) (seenAt bs os ss b) (seen-holds b h))
+
+  sorted-matched : {l : List ℕ} {m : List Observation} → Matched (Holds first second third starts counts keys) l m
+      → Matched (Holds first second third starts counts keys) (sort (byRun first second third starts counts keys) l) (sortedObservations m)
+  sorted-matched s = matched-sort (byRun first second third starts counts keys) (byKey observationKey) (λ x y a b r q. holds-le a b r q) s
+
+  module _ (order : List ℕ) (inside : (j : ℕ) → j < n → getD order j 0 < n) (plan : ℕ → ℕ) (i : ℕ) (h : i < n) (stays : plan i ≡ i) where
+    abbrev placesOf : Bool → List ℕ → List ℕ
+    placesOf t js = gather (λ j. placesFrom firsts (seenOf bs os ss) t (getD order j 0)) js
+
+    alone-matched : Matched (Holds first second third starts counts keys) (sort (byRun first second third starts counts keys) (placesOf true (i ∷ []))) (copyAt (copiesBy bs os ss order n) i .observations)
+    unfolding gather
+    alone-matched =
+        rw (append-nil (placesFrom firsts (seenOf bs os ss) true (getD order i 0)), copy-at bs os ss order n i h, seen-sorted bs os ss (getD order i 0))
+        (sorted-matched (places-alone (getD order i 0) (inside i h)))
+
+    all-given : Matched (Holds first second third starts counts keys) (placesOf false (members plan n i)) (gather (λ j. given bs os ss (getD order j 0)) (members plan n i))
+    all-given = matched-gather (λ j. placesFrom firsts (seenOf bs os ss) false (getD order j 0)) (λ j. given bs os ss (getD order j 0)) (members plan n i) (λ j m. places-given (getD order j 0) (inside j (member-below plan n i j m)))
+
+    given-observed : sortedObservations (gather (λ j. given bs os ss (getD order j 0)) (members plan n i)) ≡ sortedObservations (gather observed (map (copyAt (copiesBy bs os ss order n)) (members plan n i)))
+    given-observed =
+        sort-forgets observation-order (gather-alike (λ j. given bs os ss (getD order j 0)) (λ j. observed (copyOf bs os ss order j)) (members plan n i) (λ j. given-alike bs os ss (getD order j 0)))
+        ∙ ap sortedObservations (sym (gather-map observed (copyOf bs os ss order) (members plan n i)))
+        ∙ ap (λ (l : List Boundary). sortedObservations (gather observed l)) (sym (copies-are bs os ss order plan n i h stays))
+
+    -- The members' places in order stand for the merged boundary's observations.
+    pub merged-seen : Stands first second third starts counts keys
+        (sort (byRun first second third starts counts keys) (gather (λ j. placesFrom firsts (seenOf bs os ss) (eqb (length (members plan n i)) 1) (getD order j 0)) (members plan n i)))
+        (merged (copiesBy bs os ss order n) (members plan n i) i .observations)
+    unfolding merged consolidate
+    merged-seen = matched-stands (go (eqb (length (members plan n i)) 1) refl)
+      where
+        go : (t : Bool) → eqb (length (members plan n i)) 1 ≡ t
+            → Matched (Holds first second third starts counts keys) (sort (byRun first second third starts counts keys) (placesOf t (members plan n i)))
+            (cond t (copyAt (copiesBy bs os ss order n) i) (consolidate (copyAt (copiesBy bs os ss order n) i) (map (copyAt (copiesBy bs os ss order n)) (members plan n i))) .observations)
+        go true e = rw (member-only plan n i h stays (eqb-true (length (members plan n i)) 1 e)) alone-matched
+        go false e = subst (λ (l : List Observation). Matched (Holds first second third starts counts keys) (sort (byRun first second third starts counts keys) (placesOf false (members plan n i))) l) given-observed (sorted-matched all-given)
+
+-- One boundary more.
+pub own-last : (ks : List Boundary) (k : Boundary) → ownSources (ks ++ (k ∷ [])) ≡ ownSources ks ++ k .sources
+unfolding ownSources gather
+own-last ks k = gather-append (λ (b : Boundary). b .sources) ks (k ∷ []) ∙ ap (λ (l : List Source). ownSources ks ++ l) (append-nil (k .sources))
+
+pub observations-last : (ks : List Boundary) (k : Boundary) → observationsOf (ks ++ (k ∷ [])) ≡ observationsOf ks ++ k .observations
+unfolding observationsOf flatMap
+observations-last ks k = flatMap-append (λ (b : Boundary). b .observations) ks (k ∷ []) ∙ ap (λ (l : List Observation). observationsOf ks ++ l) (append-nil (k .observations))
+
+-- What is kept of the ranks below i.
+module _ (bs : ℕ → BoundaryRecord) (os : ℕ → ObservationRecord) (ss : List Source) (order plan : List ℕ) (n : ℕ) where
+  abbrev one : ℕ → Boundary
+  one j = merged (copiesBy bs os ss order n) (members (λ j. getD plan j 0) n j) j
+
+  abbrev stay : ℕ → Bool
+  stay j = eqb (getD plan j 0) j
+
+  unfoldable pub keptTo : ℕ → List Boundary
+  unfolding keep upFrom merged members
+  keptTo i = map (λ j. merged (copiesBy bs os ss order n) (members (λ j. getD plan j 0) n j) j) (keep (λ j. eqb (getD plan j 0) j) (upFrom 0 i))
+
+  pub kept-none : keptTo 0 ≡ []
+  unfolding keptTo keep upFrom
+  kept-none = refl
+
+  kept-next : (i : ℕ) (t : Bool) → eqb (getD plan i 0) i ≡ t → keptTo (i + 1) ≡ keptTo i ++ cond t (merged (copiesBy bs os ss order n) (members (λ j. getD plan j 0) n i) i ∷ []) []
+  unfolding keptTo keep
+  kept-next i t e =
+      ap keptTo (add-one i)
+      ∙ ap (λ (l : List ℕ). map one (keep stay l)) (up-last 0 i ∙ ap (λ (z : ℕ). upFrom 0 i ++ (z ∷ [])) (let z : 0 + i ≡ i = omega arith in z))
+      ∙ ap (map one) (keep-append stay (upFrom 0 i) (i ∷ []))
+      ∙ map-append one (keep stay (upFrom 0 i)) (keep stay (i ∷ []))
+      ∙ ap (λ (l : List Boundary). map one (keep stay (upFrom 0 i)) ++ l) (ap (λ (b : Bool). map one (cond b (i ∷ []) [])) e ∙ go t)
+    where
+      go : (t : Bool) → map one (cond t (i ∷ []) []) ≡ cond t (one i ∷ []) []
+      go true = refl
+      go false = refl
+
+  pub kept-stays : (i : ℕ) → getD plan i 0 ≡ i → keptTo (i + 1) ≡ keptTo i ++ (merged (copiesBy bs os ss order n) (members (λ j. getD plan j 0) n i) i ∷ [])
+  kept-stays i e = kept-next i true (eq-eqb (getD plan i 0) i e)
+
+  pub kept-goes : (i : ℕ) → (getD plan i 0 ≡ i → ⊥) → keptTo (i + 1) ≡ keptTo i
+  kept-goes i e = kept-next i false (ne-eqb (getD plan i 0) i e) ∙ append-nil (keptTo i)
+
+  pub kept-all : keptTo n ≡ keptBy bs os ss order plan n
+  unfolding keptTo
+  kept-all = sym (kept-list bs os ss order plan n)
