@@ -104,7 +104,7 @@ module _ (plan : ℕ → ℕ) (n i : ℕ) where
 
 module _ (bs : ℕ → BoundaryRecord) (os : ℕ → ObservationRecord) (ss : List Source) (order : List ℕ) where
   -- The copy at a rank.
-  abbrev copyOf : ℕ → Boundary
+  abbrev pub copyOf : ℕ → Boundary
   copyOf j = canon (boundaryOf bs os ss (getD order j 0))
 
   abbrev own : Boundary → List Source
