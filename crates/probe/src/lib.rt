@@ -8,6 +8,7 @@ use job::Verdict;
 
 mod bare_records; // the bridges of bare lists of records
 mod own_partition; // the partition alone
+mod own_plan; // the merge plan alone
 
 #[repr(C)]
 pub struct ProbeResult {
