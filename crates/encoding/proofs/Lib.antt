@@ -1,0 +1,4 @@
+pub mod Writing
+pub mod RecordLaws
+pub mod Lengths
+pub mod Loops
