@@ -8,12 +8,12 @@ use lib.Seq.{sets-eq}
 use Rattle.wire.specs.Bytes.{splice, u32Bytes, u64Bytes}
 use Rattle.wire.proofs.Numbers.{length-bytes}
 use Rattle.position.specs.Order.{canonical}
-use Rattle.format.specs.Records.{spanBytes, sourceBytes, rampBytes, boundaryBytes, observationBytes}
+use Rattle.format.specs.Records.{spanBytes, sourceBytes, rampBytes, boundaryBytes}
 use Rattle.format.specs.Decode.{rampOf}
 use Rattle.format.specs.Encode.{rampRecord, answerWords}
 use Rattle.format.specs.declared.records.RampRecord.{RampRecord}
 use Rattle.format.specs.declared.records.BoundaryRecord.{BoundaryRecord}
-use Rattle.format.proofs.RecordTrips.{span-trip, source-trip, ramp-trip, boundary-trip, observation-trip}
+use Rattle.format.proofs.RecordTrips.{span-trip}
 use Rattle.encoding.specs.Pieces.{keySource, keptRecord}
 use Rattle.encoding.proofs.Writing.{write-after}
 

@@ -5,3 +5,4 @@ pub mod records; // one record
 pub mod runs; // sources in a row
 pub mod sums; // how many there are
 pub mod sections; // boundaries, observations, sources
+pub mod whole; // the answer

@@ -1,7 +1,5 @@
 use Rattle.encoding.proofs.Lengths.{part-whole, part-rest}
 use lib.ListN.{getD}
-
-use Rattle.wire.specs.Bytes.{part}
 use mathlib.Core.Path.{_∙_}
 use native.Mathlib.Omega.{arith}
 use borrow.Author.Needs.{needs}

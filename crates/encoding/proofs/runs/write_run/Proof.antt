@@ -1,7 +1,6 @@
 use Rattle.encoding.proofs.Loops.{Writes, writes-start, writes-next, writes-end, key-is, run-long}
 use Rattle.encoding.specs.Pieces.{keyPiece}
 use Prim.Native.Nat.{_+_, _-_, _≤_}
-
 use native.Mathlib.Omega.{arith}
 use borrow.Author.Needs.{needs}
 use Rattle.encoding.proofs.runs.write_run.Statement.{statement}

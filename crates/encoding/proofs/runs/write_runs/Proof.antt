@@ -1,6 +1,5 @@
 use Rattle.encoding.proofs.Loops.{Running, running-start, run-room, running-next, running-end}
 use Prim.Native.Nat.{_-_}
-
 use native.Mathlib.Omega.{arith}
 use borrow.Author.Needs.{needs}
 use Rattle.encoding.proofs.runs.write_runs.Statement.{statement}

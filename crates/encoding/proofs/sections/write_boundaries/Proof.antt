@@ -2,7 +2,6 @@ use Rattle.encoding.proofs.Loops.{Writes, writes-start, writes-next, wr
 use Rattle.answer.specs.Placed.{boundaryRows}
 use Rattle.encoding.specs.Pieces.{keptPiece}
 use Prim.Native.Nat.{_+_, _-_, _≤_}
-
 use native.Mathlib.Omega.{arith}
 use borrow.Author.Needs.{needs}
 use Rattle.encoding.proofs.sections.write_boundaries.Statement.{statement}

@@ -1,7 +1,6 @@
 use Rattle.wire.specs.Bytes.{splice}
 use Rattle.encoding.proofs.Loops.{place-is}
 use mathlib.Core.Path.{_∙_, ap}
-
 use borrow.Author.Needs.{needs}
 use Rattle.encoding.proofs.sections.write_place.Statement.{statement}
 use Rattle.encoding.proofs.sections.write_place.Tie as tie

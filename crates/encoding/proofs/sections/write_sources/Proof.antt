@@ -1,6 +1,5 @@
-use Rattle.encoding.proofs.Loops.{Grouping, grouping-start, own-few, seen-few, own-room, own-kept, seen-room, grouping-next, grouping-end}
+use Rattle.encoding.proofs.Loops.{Grouping, grouping-start, own-few, seen-few, own-room, seen-room, grouping-next, grouping-end}
 use Prim.Native.Nat.{_-_}
-
 use native.Mathlib.Omega.{arith}
 use borrow.Author.Needs.{needs}
 use Rattle.encoding.proofs.sections.write_sources.Statement.{statement}

@@ -1,7 +1,6 @@
 use Rattle.job.proofs.Adding.{Added, added-start, added-next, added-end}
 use Rattle.encoding.specs.Pieces.{elements}
 use Prim.Native.Nat.{_-_}
-
 use native.Mathlib.Omega.{arith}
 use borrow.Author.Needs.{needs}
 use Rattle.encoding.proofs.sums.sum_first.Statement.{statement}

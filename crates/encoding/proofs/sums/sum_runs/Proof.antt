@@ -1,6 +1,5 @@
 use Rattle.encoding.proofs.Loops.{Cited, cited-start, cited-next, cited-end}
 use Prim.Native.Nat.{_-_}
-
 use native.Mathlib.Omega.{arith}
 use borrow.Author.Needs.{needs}
 use Rattle.encoding.proofs.sums.sum_runs.Statement.{statement}
