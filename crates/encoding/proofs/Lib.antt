@@ -5,3 +5,4 @@ pub mod Loops
 pub mod Flats
 pub mod GatheredBytes
 pub mod Wholes
+pub mod Jobs
