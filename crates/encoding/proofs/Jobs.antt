@@ -29,7 +29,8 @@ use Rattle.merging.specs.Copies.{canon}
 use Rattle.merging.specs.Kept.{noBoundary}
 use Rattle.answer.specs.Laying.{below, ownCount, seenCount, citedCount}
 use Rattle.answer.specs.Placed.{boundaryOf, boundaryRows, observationRows, JobPlaces}
-use Rattle.answer.specs.Gathered.{Ordered, copiesBy}
+use Rattle.merging.specs.Planned.{planned}
+use Rattle.answer.specs.Gathered.{Ordered, copiesBy, keptBy}
 use Rattle.answer.proofs.Decoded.{decoded}
 
 -- Of counts that add up.
@@ -90,10 +91,36 @@ module _ (s : List ℕ) (passed : firstRefusal (jobChecks s) ≡ none) where
       sym (ap (λ (l : List Boundary). canon (getD l (getD order i 0) noBoundary)) job-boundaries
       ∙ ap canon (rows-at (counts .boundaries) _ (getD order i 0) noBoundary (order-below order (counts .boundaries) i p m))))
 
-  -- By the header's own words.
-  pub job-places : (h : Header) → h ≡ headerAt s → JobPlaces s (h .offsets .boundaries) (h .counts .boundaries) (h .offsets .observations) (h .counts .observations) (h .offsets .sources) (h .counts .sources)
+  -- The header's words are those that the counts give.
+  pub record Words (at n ats m from count : ℕ) : Type 0 where
+    pub at-is : at ≡ boundariesStart counts
+    pub n-is : n ≡ counts .boundaries
+    pub ats-is : ats ≡ observationsStart counts
+    pub m-is : m ≡ counts .observations
+    pub from-is : from ≡ sourcesStart counts
+    pub count-is : count ≡ counts .sources
+
+  pub words-read : (h : Header) → h ≡ headerAt s → {at n ats m from count : ℕ} → at ≡ h .offsets .boundaries → n ≡ h .counts .boundaries → ats ≡ h .offsets .observations → m ≡ h .counts .observations
+      → from ≡ h .offsets .sources → count ≡ h .counts .sources → Words at n ats m from count
   unfolding headerAt
-  job-places h e =
+  words-read h e a b c d f g =
       let q = sections s (headerAt s) (job-passed s passed .1) in
-      subst (λ (g : Header). JobPlaces s (g .offsets .boundaries) (g .counts .boundaries) (g .offsets .observations) (g .counts .observations) (g .offsets .sources) (g .counts .sources)) (sym e)
-      (rw (q .boundaries-at, q .observations-at, q .sources-at) counts-places)
+      record {
+        at-is = a ∙ ap (λ (x : Header). x .offsets .boundaries) e ∙ q .boundaries-at;
+        n-is = b ∙ ap (λ (x : Header). x .counts .boundaries) e;
+        ats-is = c ∙ ap (λ (x : Header). x .offsets .observations) e ∙ q .observations-at;
+        m-is = d ∙ ap (λ (x : Header). x .counts .observations) e;
+        from-is = f ∙ ap (λ (x : Header). x .offsets .sources) e ∙ q .sources-at;
+        count-is = g ∙ ap (λ (x : Header). x .counts .sources) e;
+      }
+
+  module _ {at n ats m from count : ℕ} (w : Words at n ats m from count) where
+    pub job-places : JobPlaces s at n ats m from count
+    job-places = rw (w .at-is, w .n-is, w .ats-is, w .m-is, w .from-is, w .count-is) counts-places
+
+    pub kept-is : (order plan : List ℕ) → Ordered order n
+        → keptBy (boundaryRows s at) (observationRows s ats) (sourceRecords s from count) order plan n
+        ≡ planned (map (λ i. canon (getD (decode s .boundaries) (getD order i 0) noBoundary)) (upFrom 0 (counts .boundaries))) (λ i. getD plan i 0)
+    kept-is order plan p =
+        (λ i. keptBy (boundaryRows s (w .at-is i)) (observationRows s (w .ats-is i)) (sourceRecords s (w .from-is i) (w .count-is i)) order plan (w .n-is i))
+        ∙ ap (λ (l : List Boundary). planned l (λ i. getD plan i 0)) (job-copies order (subst (λ (k : ℕ). Ordered order k) (w .n-is) p))

@@ -1,14 +1,21 @@
 -- What writing an answer comes to, and what it needs.
 use mathlib.Core.Path.{_≡_}
 use mathlib.Core.List.{List}
+use mathlib.Core.Option.{none}
 use Prim.Native.Nat.{ℕ, _+_, _*_, _≤_, _<_}
 use lib.ListN.{length, getD}
 use Rattle.wire.specs.Bytes.{splice}
 use Rattle.format.specs.Sizes.{boundarySize}
 use Rattle.format.specs.Values.{Boundary}
 use Rattle.answer.specs.Laying.{below}
-use Rattle.answer.specs.Placed.{boundaryRows}
-use Rattle.answer.specs.Gathered.{Gathered}
+use Rattle.format.specs.Header.{headerAt}
+use Rattle.format.specs.declared.header.Header.{Header}
+use Rattle.format.specs.declared.records.Source.{Source}
+use Rattle.format.specs.declared.records.ObservationRecord.{ObservationRecord}
+use Rattle.job.specs.Checks.{firstRefusal}
+use Rattle.job.specs.Refusals.{jobChecks}
+use Rattle.answer.specs.Placed.{Placed, PlacedInside, boundaryRows}
+use Rattle.answer.specs.Gathered.{Ordered, Gathered}
 use Rattle.encoding.specs.Pieces.{pieces, elements, groupPiece}
 
 -- The length of the bytes is returned; they stand first if they fit, else nothing is written.
@@ -44,3 +51,24 @@ pub record SourceRoom (count : ℕ) (owns seens owned seen starts counts keys : 
 pub record RunsWritten (before : List ℕ) (at : ℕ) (bytes after : List ℕ) (r : ℕ) : Type 0 where
   pub wrote : after ≡ splice before at bytes
   pub end : r ≡ at + length bytes
+
+-- A job's boundaries by place, each place once in `order`, with room for what is gathered of them.
+pub record Placeable (s : List ℕ) (at n : ℕ) (order firsts first second third starts counts keys spare : List ℕ) : Type 0 where
+  pub os : ℕ → ObservationRecord
+  pub ss : List Source
+  pub placed : Placed (boundaryRows s at) os ss n firsts first second third starts counts keys
+  pub inside : PlacedInside (boundaryRows s at) os ss n firsts starts counts
+  pub limit : n ≤ 256
+  pub records-in : at + n * boundarySize ≤ length s
+  pub ordered : Ordered order n
+  pub keys-long : length keys ≡ 4096
+  pub spare-room : 4096 ≤ length spare
+  pub firsts-room : 256 ≤ length firsts
+  pub starts-room : 1280 ≤ length starts
+  pub counts-room : 1280 ≤ length counts
+
+-- A job that passes, with its header, and the places of its boundaries by rank.
+pub record Answerable (s : List ℕ) (h : Header) (order : List ℕ) : Type 0 where
+  pub passed : firstRefusal (jobChecks s) ≡ none
+  pub header : h ≡ headerAt s
+  pub ordered : Ordered order (h .counts .boundaries)

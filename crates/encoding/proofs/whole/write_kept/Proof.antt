@@ -44,7 +44,7 @@ add-total : tie.Need-add-total
 add-total c = omega (arith, seen-few (c .before .before .before .before .before .before .before .before .before .before .before .before .before .before .before .before .pre), own-few (c .before .before .before .before .before .before .before .before .before .before .before .before .before .before .before .before .pre), count-few (c .before .before .before .before .before .before .before .before .before .before .before .before .before .before .before .before .pre), c .before .before .sum-first .ensures, c .before .sum-first2 .ensures, c .sum-runs .ensures .1)
 
 returns : tie.Need-returns
-returns c = λ n ks e g. short-answer (c .before .before .before .before .before .before .before .before .before .before .before .before .before .before .before .before .before .pre) (c .before .before .before .sum-first .result) (c .before .before .sum-first2 .result) (c .before .sum-runs .result) (c .before .before .before .sum-first .ensures) (c .before .before .sum-first2 .ensures) (c .before .sum-runs .ensures .0) _ refl n ks e g (c .if1 .taken) refl
+returns c = λ n ks e g. short-answer (c .before .before .before .before .before .before .before .before .before .before .before .before .before .before .before .before .before .pre) (c .before .before .before .sum-first .result) (c .before .before .sum-first2 .result) (c .before .sum-runs .result) (c .before .before .before .sum-first .ensures) (c .before .before .sum-first2 .ensures) (c .before .sum-runs .ensures .0) _ refl n ks e g (omega (arith, c .if1 .taken)) refl
 
 cast-write-header : tie.Need-cast-write-header
 cast-write-header c = omega (arith, seen-few (c .before .before .before .before .before .before .before .before .before .before .before .before .before .before .before .before .before .before .pre), own-few (c .before .before .before .before .before .before .before .before .before .before .before .before .before .before .before .before .before .before .pre), count-few (c .before .before .before .before .before .before .before .before .before .before .before .before .before .before .before .before .before .before .pre), c .before .before .before .before .sum-first .ensures, c .before .before .before .sum-first2 .ensures, c .before .before .sum-runs .ensures .1)
