@@ -1,0 +1,5 @@
+pub mod Fills
+pub mod Goings
+pub mod Weights
+pub mod Sights
+pub mod Kepts
