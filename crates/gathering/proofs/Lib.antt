@@ -3,3 +3,4 @@ pub mod Goings
 pub mod Weights
 pub mod Sights
 pub mod Kepts
+pub mod Answered

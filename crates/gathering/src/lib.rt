@@ -3,3 +3,4 @@ mod casts;
 mod runs; // numbers written one after another
 mod own; // own sources
 mod seen; // places of observations
+pub mod kept; // all of these
