@@ -6,3 +6,4 @@ pub mod Flats
 pub mod GatheredBytes
 pub mod Wholes
 pub mod Jobs
+pub mod Rooms

@@ -6,3 +6,4 @@ pub mod runs; // sources in a row
 pub mod sums; // how many there are
 pub mod sections; // boundaries, observations, sources
 pub mod whole; // the answer
+pub mod from_job; // the answer of a job
