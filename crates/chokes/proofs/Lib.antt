@@ -18,3 +18,4 @@ pub mod Merges
 pub mod Leaving
 pub mod Matching
 pub mod Calling
+pub mod Finishing

@@ -6,12 +6,14 @@ use mathlib.Core.Option.{none}
 use Prim.Native.Nat.{ℕ, _≤_, _<_}
 use lib.Dec.{eqb}
 use lib.ListN.{length, getD}
+use Rattle.order.specs.Lists.{upFrom}
 use Rattle.wire.specs.Bytes.{AreBytes, splice}
 use Rattle.position.specs.Order.{canonical}
 use Rattle.position.specs.declared.Span.{Span}
 use Rattle.format.specs.Values.{Job}
 use Rattle.format.specs.Header.{headerAt, countsAt}
 use Rattle.format.specs.Decode.{decode}
+use Rattle.format.specs.Encode.{encodeAnswer}
 use Rattle.format.specs.declared.header.Header.{Header}
 use Rattle.grid.specs.Directions.{eight}
 use Rattle.areas.specs.Assessments.{records}
@@ -24,7 +26,10 @@ use Rattle.groups.specs.Listing.{noSpan}
 use Rattle.groups.specs.Regions.{regionLabels}
 use Rattle.groups.specs.Plan.{mergePlan}
 use Rattle.groups.specs.Tables.{Counted, Paired, Bridged}
+use Rattle.merging.specs.Copies.{canon}
 use Rattle.merging.specs.Follows.{placesOf}
+use Rattle.merging.specs.Kept.{noBoundary}
+use Rattle.merging.specs.Planned.{planned}
 use Rattle.merging.specs.Runs.{itemsOf, canonItem}
 use Rattle.measures.specs.Tables.{Labels}
 use Rattle.job.specs.Checks.{Check, firstRefusal}
@@ -107,6 +112,11 @@ pub record Made (checks : List Check) (j : Job) (ss : List Span) (before work or
 pub record PlanLeft (checks : List Check) (j : Job) (ss : List Span) (before work order plan : List ℕ) (number detail : ℕ) : Type 0 where
   pub refused : 0 < number → (answer : List ℕ) → leftBy number detail work answer ≡ reduced limits000 eight checks j ss before answer
   pub made : number ≡ 0 → Made checks j ss before work order plan detail
+
+-- the answer of a job by its boundaries' order and a plan
+abbrev pub answerBytes : List ℕ → List ℕ → List ℕ → List ℕ
+answerBytes s order plan =
+    encodeAnswer (planned (map (λ i. canon (getD (decode s .boundaries) (getD order i 0) noBoundary)) (upFrom 0 (countsAt s 0 .boundaries))) (λ i. getD plan i 0))
 
 -- an answer's bytes in a slice that may be too short, as number and detail say
 pub record Finished (bytes before after : List ℕ) (number detail : ℕ) : Type 0 where
