@@ -1,0 +1,4 @@
+// choke-list: lists what Reduce keeps of the job on standard input.
+fn main() {
+    printing::run();
+}

@@ -1,0 +1,4 @@
+// choke-list on input of 65,537 bytes.
+fn main() {
+    printing::run();
+}

@@ -1,0 +1,44 @@
+-- "Here it prints": the corridor.
+use mathlib.Core.Path.{_≡_, refl, sym, _∙_, ap}
+use mathlib.Core.Bool.{Bool, true, cond}
+use mathlib.Core.List.{List, [], flatMap}
+use Prim.Native.Nat.{ℕ, _≤_}
+use native.Mathlib.Omega.{arith}
+use lib.ListN.{length}
+use Rattle.wire.specs.Bytes.{part, number, bytes, numberAt}
+use Rattle.format.specs.Decode.{decodeAnswer}
+use Rattle.listing.specs.Lines.{listingOf}
+use Rattle.listing.specs.Answer.{listing, whole}
+use Rattle.listing.specs.Corridor.{corridorBytes, corridorText, words as listing·words}
+use Rattle.listing.proofs.Cases.{corridor-listing}
+use Rattle.chokes.specs.Cases.{words, upright, observed, corridor, corridorAnswer}
+use Rattle.chokes.specs.Calls.{reduceResult}
+use Rattle.chokes.proofs.Cases.{twelve-cases}
+use Rattle.printing.specs.Printed.{printed}
+use Rattle.printing.proofs.Success.{first-written}
+
+-- The answer that is listed is case 12's.
+pub same-answer : corridorBytes ≡ corridorAnswer
+unfolding corridorBytes corridorAnswer listing·words words upright observed bytes flatMap
+same-answer = refl
+
+answer-length : length corridorAnswer ≡ 152
+unfolding corridorAnswer words upright observed bytes flatMap
+answer-length = refl
+
+corridor-whole : whole corridorBytes 456 ≡ true
+unfolding whole corridorBytes listing·words numberAt part number bytes flatMap
+corridor-whole = refl
+
+corridor-listed : listingOf (decodeAnswer corridorBytes) ≡ corridorText
+unfolding listing
+corridor-listed = ap (λ (b : Bool). cond b (listingOf (decodeAnswer corridorBytes)) []) (sym corridor-whole) ∙ corridor-listing
+
+-- Reduce on the corridor, whatever the lent slices hold: the eight lines.
+pub corridor-printed : (work answer : List ℕ) → 40 ≤ length work → 152 ≤ length answer → printed (reduceResult corridor work answer) ≡ corridorText
+unfolding printed
+corridor-printed work answer w a =
+    let fits : length corridorAnswer ≤ length answer = omega (arith, a, answer-length) in
+    ap printed (twelve-cases .case12 work answer w fits)
+    ∙ ap (λ (l : List ℕ). listingOf (decodeAnswer l)) (first-written answer corridorAnswer fits ∙ sym same-answer)
+    ∙ corridor-listed

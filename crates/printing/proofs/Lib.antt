@@ -1,0 +1,4 @@
+pub mod Refusing
+pub mod Success
+pub mod Printing
+pub mod Corridor

@@ -1,0 +1,65 @@
+-- What is written is what is printed.
+use mathlib.Core.Path.{_≡_, sym, _∙_, ap, subst}
+use mathlib.Core.Bool.{Bool, cond}
+use mathlib.Core.List.{List, [], flatMap}
+use Prim.Native.Nat.{ℕ, zero, suc, _*_, _/_, _≤_}
+use native.Mathlib.Omega.{arith}
+use borrow.Author.Tests.{eq-eqb, ne-eqb}
+use lib.ListN.{length, take}
+use Rattle.wire.specs.Bytes.{part, number, bytes, numberAt}
+use Rattle.format.specs.Values.{Boundary}
+use Rattle.format.specs.Decode.{decodeAnswer}
+use Rattle.format.specs.Encode.{observationsOf, sourcesOf, answerWords, encodeAnswer}
+use Rattle.format.proofs.AnswerTrip.{length-encodeAnswer}
+use Rattle.listing.specs.Lines.{listingOf, refusedLine}
+use Rattle.listing.specs.Answer.{Writes, answerLength, listing}
+use Rattle.listing.proofs.Sizing.{is-whole}
+use Rattle.chokes.specs.Results.{Outcome}
+use Rattle.chokes.specs.Marking.{leftBy}
+use Rattle.chokes.specs.Calls.{reduceResult}
+use Rattle.printing.specs.Printed.{printed}
+use Rattle.printing.proofs.Success.{Answered, first-bytes, answered}
+
+-- The bytes of a number stand for at most that number.
+number-most : (n v : ℕ) → number (bytes n v) ≤ v
+unfolding number bytes
+number-most zero v = omega arith
+number-most (suc n) v = omega (arith, number-most n (v / 256))
+
+-- So an answer's counts give it no more than its length.
+counts-most : (bs : List Boundary) → answerLength (encodeAnswer bs) ≤ length (encodeAnswer bs)
+unfolding encodeAnswer answerWords flatMap numberAt part bytes
+counts-most bs = omega (arith, number-most 4 (length bs), number-most 4 (length (observationsOf bs)), number-most 4 (length (sourcesOf bs)), length-encodeAnswer bs)
+
+-- An answer is listed whole, where there is room.
+listed : (bs : List Boundary) (out : List ℕ) → length (encodeAnswer bs) * 3 ≤ length out → listing (encodeAnswer bs) (length out) ≡ listingOf (decodeAnswer (encodeAnswer bs))
+unfolding listing
+listed bs out h = ap (λ (b : Bool). cond b (listingOf (decodeAnswer (encodeAnswer bs))) []) (is-whole (encodeAnswer bs) out (counts-most bs) (omega (arith, counts-most bs, h)))
+
+-- The result that Reduce gave.
+module _ (job work answer : List ℕ) {number detail : ℕ} {work′ answer′ : List ℕ} (e : leftBy number detail work′ answer′ ≡ reduceResult job work answer) where
+  pub refused-text : (number ≡ 0 → ⊥) → refusedLine number detail ≡ printed (reduceResult job work answer)
+  unfolding printed
+  refused-text h =
+      ap (λ (b : Bool). cond b (listingOf (decodeAnswer (take detail answer′))) (refusedLine number detail)) (sym (ne-eqb number 0 h))
+      ∙ ap printed e
+
+  gave : number ≡ 0 → Answered (leftBy number detail work′ answer′) answer
+  gave h = subst (λ (o : Outcome). Answered o answer) (sym e) (answered job work answer (ap (λ (o : Outcome). o .number) (sym e) ∙ h))
+
+  pub detail-fits : number ≡ 0 → detail ≤ length answer
+  detail-fits h = let a = gave h in omega (arith, a .length-is, a .fits)
+
+  pub listed-text : number ≡ 0 → (out : List ℕ) → 3 * length answer ≤ length out → listing (take detail answer′) (length out) ≡ printed (reduceResult job work answer)
+  unfolding printed
+  listed-text h out room =
+      let a = gave h in
+      ap (λ (l : List ℕ). listing l (length out)) (first-bytes a)
+      ∙ listed (a .boundaries) out (omega (arith, a .fits, room))
+      ∙ ap (λ (l : List ℕ). listingOf (decodeAnswer l)) (sym (first-bytes a))
+      ∙ ap (λ (b : Bool). cond b (listingOf (decodeAnswer (take detail answer′))) (refusedLine number detail)) (sym (eq-eqb number 0 h))
+      ∙ ap printed e
+
+-- A text that was written, under another name.
+pub same-text : {text other out : List ℕ} {at : ℕ} {after : List ℕ} {r : ℕ} → text ≡ other → Writes text out at after r → Writes other out at after r
+same-text {text} {other} {out} {at} {after} {r} e w = subst (λ (t : List ℕ). Writes t out at after r) e w

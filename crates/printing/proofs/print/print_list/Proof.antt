@@ -1,0 +1,69 @@
+use mathlib.Core.Path.{sym}
+use native.Mathlib.Omega.{arith}
+use lib.Seq.{length-take-le}
+use Rattle.printing.proofs.Printing.{refused-text, detail-fits, listed-text, same-text}
+use borrow.Author.Needs.{needs}
+use Rattle.printing.proofs.print.print_list.Statement.{statement}
+use Rattle.printing.proofs.print.print_list.Tie as tie
+use Rattle.printing.proofs.print.print_list.Reads as reads
+use Rattle.printing.proofs.print.print_list.Lts as lts
+use Rattle.listing.proofs.write_listing.Reads as write-listing-reads
+use Rattle.listing.proofs.write_refused.Reads as write-refused-reads
+use Rattle.chokes.proofs.chokes_reduce.Reads as chokes-reduce-reads
+
+chokes-reduce-requires : tie.Need-chokes-reduce-requires
+chokes-reduce-requires c κs = search needs
+
+write-refused-requires : tie.Need-write-refused-requires
+write-refused-requires c κs = search needs
+
+same-length : tie.Need-same-length
+same-length c = search needs
+
+same-length-2 : tie.Need-same-length-2
+same-length-2 c = search needs
+
+same-length-3 : tie.Need-same-length-3
+same-length-3 c = search needs
+
+returns : tie.Need-returns
+returns c = (same-text (refused-text (c .before .before .before .before .before .before .before .before .before .before .before .before .before .before .before .before .args .job .now) (c .before .before .before .before .before .before .before .before .before .before .before .before .before .before .before .before .args .work .now) (c .before .before .before .before .before .before .before .before .before .before .before .before .before .before .before .before .args .answer .now) (c .before .before .before .before .before .before .before .before .before .chokes-reduce .ensures) (c .before .before .before .before .if1 .taken)) (c .before .before .write-refused .ensures .0), omega (arith, c .before .before .write-refused .ensures .1, c .before .before .write-refused .kept .1 .1 .0, c .before .before .before .before .before .before .before .before .before .before .before .before .before .before .before .before .pre .1))
+
+slice-reshare-prefix-write-listing : tie.Need-slice-reshare-prefix-write-listing
+slice-reshare-prefix-write-listing c = omega (arith, detail-fits (c .before .before .before .before .before .before .before .before .before .before .before .before .args .job .now) (c .before .before .before .before .before .before .before .before .before .before .before .before .args .work .now) (c .before .before .before .before .before .before .before .before .before .before .before .before .args .answer .now) (c .before .before .before .before .before .chokes-reduce .ensures) (c .if1 .left), c .before .before .before .before .before .chokes-reduce .kept .1 .1 .0)
+
+slice-aggregate-write-listing : tie.Need-slice-aggregate-write-listing
+slice-aggregate-write-listing c = sym (length-take-le _ _ (omega (arith, detail-fits (c .before .before .before .before .before .before .before .before .before .before .before .before .before .args .job .now) (c .before .before .before .before .before .before .before .before .before .before .before .before .before .args .work .now) (c .before .before .before .before .before .before .before .before .before .before .before .before .before .args .answer .now) (c .before .before .before .before .before .before .chokes-reduce .ensures) (c .before .if1 .left), c .before .before .before .before .before .before .chokes-reduce .kept .1 .1 .0)))
+
+write-listing-requires : tie.Need-write-listing-requires
+write-listing-requires c κs = search needs
+
+same-length-4 : tie.Need-same-length-4
+same-length-4 c = search needs
+
+same-length-5 : tie.Need-same-length-5
+same-length-5 c = search needs
+
+same-length-6 : tie.Need-same-length-6
+same-length-6 c = search needs
+
+returns-2 : tie.Need-returns-2
+returns-2 c = (same-text (listed-text (c .before .before .before .before .before .before .before .before .before .before .before .before .before .before .before .before .before .args .job .now) (c .before .before .before .before .before .before .before .before .before .before .before .before .before .before .before .before .before .args .work .now) (c .before .before .before .before .before .before .before .before .before .before .before .before .before .before .before .before .before .args .answer .now) (c .before .before .before .before .before .before .before .before .before .before .chokes-reduce .ensures) (c .before .before .before .before .before .if1 .left) (c .before .before .before .before .before .before .before .before .before .before .before .before .before .before .before .before .before .args .out .now) (c .before .before .before .before .before .before .before .before .before .before .before .before .before .before .before .before .before .pre .0)) (c .before .before .write-listing .ensures .0), c .before .before .write-listing .ensures .1)
+
+pub print-list-spec : {M : Type 1} → statement M
+print-list-spec =
+    tie.close
+    (tie.spec
+    chokes-reduce-requires
+    write-refused-requires
+    same-length
+    same-length-2
+    same-length-3
+    returns
+    slice-reshare-prefix-write-listing
+    slice-aggregate-write-listing
+    write-listing-requires
+    same-length-4
+    same-length-5
+    same-length-6
+    returns-2)

@@ -1,0 +1,25 @@
+// What choke-list prints, written into a lent slice.
+ghost use Prim.Native.Nat.{_*_, _≤_};
+ghost use lib.ListN.{length};
+ghost use Rattle.chokes.specs.Calls.{reduceResult};
+ghost use Rattle.listing.specs.Answer.{Writes};
+ghost use Rattle.printing.specs.Printed.{printed};
+use chokes::chokes_reduce;
+use listing::write_listing;
+use listing::write_refused;
+
+// Runs Reduce on a job, with lent work and answer, and writes what is printed at the start of out; gives its length.
+pub fn print_list(job: &[u8], work: &mut [u8], answer: &mut [u8], out: &mut [u8]) -> usize
+    requires { ⌜ (3 * length (now answer) ≤ length (now out)) × (40 ≤ length (now out)) ⌝ }
+    ensures { λ r. ⌜ Writes (printed (reduceResult (now (job .entry)) (now (work .entry)) (now (answer .entry)))) (now (out .entry)) 0 (now (out .exit)) r ⌝ }
+    ensures fits { λ r. ⌜ r ≤ length (now (out .exit)) ⌝ }
+{
+    let v = chokes_reduce(job, work, answer);
+    let number = v.number;
+    let detail = v.detail;
+    if number != 0 {
+        return write_refused(number, detail, out);
+    }
+    let n = detail as usize;
+    write_listing(&answer[..n], out)
+}
