@@ -1,6 +1,6 @@
 -- Demand 3 for the calls.
 use mathlib.Core.Path.{_≡_, refl, sym, _∙_, ap}
-use mathlib.Core.List.{List}
+use mathlib.Core.List.{List, []}
 use Prim.Native.Nat.{ℕ, _+_}
 use lib.ListN.{length, take, drop}
 use lib.Seq.{take-at}
@@ -9,41 +9,79 @@ use Rattle.format.specs.Values.{Base, Job}
 use Rattle.grid.specs.Cells.{Grid}
 use Rattle.topology.specs.Anchors.{anchorsOf}
 use Rattle.topology.specs.Listing.{Item}
-use Rattle.links.specs.Limits.{Limits}
-use Rattle.merging.specs.Groups.{Groups}
+use Rattle.grid.specs.Directions.{eight}
+use Rattle.links.specs.Limits.{Limits, limits000}
+use Rattle.partition.specs.Partitioned.{labelled}
+use Rattle.merging.specs.Groups.{Groups, noGroups, every}
 use Rattle.merging.specs.Runs.{rulesAnswer}
 use Rattle.merging.specs.Relisted.{Relisted, DistinctEnds}
+use Rattle.merging.proofs.Independence.{groups-well}
+use Rattle.merging.proofs.Symmetric.{relisted-symmetric}
 use Rattle.chokes.specs.Rules.{gridOf, rulesOn, rulesOf}
-use Rattle.chokes.specs.Results.{Outcome, answerOf}
-use Rattle.chokes.specs.Demand.{jobOf, spansOf, checksOf, runOf, left, SameMap, Made, wrote, SameBytes}
+use Rattle.chokes.specs.Results.{Outcome, labelsOf, answerOf, reduceWith, reduceByListWith}
+use Rattle.chokes.specs.Calls.{reduceResult, reduceByListResult}
+use Rattle.chokes.specs.Demand.{Call, reduce, reduceByList, jobOf, spansOf, checksOf, runOf, left, SameMap, Made, wrote, SameBytes}
 use Rattle.chokes.proofs.Results.{reduced-success}
-use Rattle.chokes.proofs.Rules.{listing-independent}
+use Rattle.chokes.proofs.Planned.{groups-unmatched}
+use Rattle.chokes.proofs.Rules.{listing-independent, rules-well}
 
 start : (s bs : List ℕ) → take (length bs) (splice s 0 bs) ≡ bs
 unfolding splice
 start s bs = take-at bs (drop (0 + length bs) s) (length bs) refl
 
+-- The calls' contracts, as `Made` takes them.
+pub reduce-left : (s work answer : List ℕ) → reduceResult s work answer ≡ left limits000 eight (reduce s) work answer
+unfolding reduceResult reduceWith left
+reduce-left s work answer = refl
+
+pub by-list-left : (s l work answer : List ℕ) → reduceByListResult s l work answer ≡ left limits000 eight (reduceByList s l) work answer
+unfolding reduceByListResult reduceByListWith left
+by-list-left s l work answer = refl
+
+no-groups-every : every noGroups ≡ []
+unfolding every
+no-groups-every = refl
+
 module _ (limits : Limits) (dirs : List ℕ) where
-  wrote-answer : (m : Made limits dirs) → wrote limits dirs m ≡ answerOf limits dirs (jobOf (m .call)) (spansOf (m .call))
-  unfolding left
-  wrote-answer m =
-      let a = m .accepted in
-      let e = reduced-success limits dirs (checksOf (m .call)) (jobOf (m .call)) (spansOf (m .call)) (m .work) (m .answer) (a .input) (a .room) (a .pairs) (a .fits) in
-      ap (λ (o : Outcome). take (o .detail) (o .out)) e ∙ start (m .answer) (answerOf limits dirs (jobOf (m .call)) (spansOf (m .call)))
+  module _ (m : Made limits dirs) where
+    abbrev given : List ℕ
+    given = answerOf limits dirs (jobOf (m .call)) (spansOf (m .call))
+
+    made : m .after ≡ record { number = 0; detail = length given; work = labelled (labelsOf dirs (jobOf (m .call)) (spansOf (m .call))) (m .work); out = splice (m .answer) 0 given }
+    unfolding left
+    made =
+        let a = m .accepted in
+        m .promised ∙ reduced-success limits dirs (checksOf (m .call)) (jobOf (m .call)) (spansOf (m .call)) (m .work) (m .answer) (a .input) (a .room) (a .pairs) (a .fits)
+
+    wrote-answer : wrote limits dirs m ≡ given
+    wrote-answer = ap (λ (o : Outcome). take (o .detail) (o .out)) made ∙ start (m .answer) given
+
+    succeeded : m .after .number ≡ 0
+    succeeded = ap (λ (o : Outcome). o .number) made
 
   same-rules : (a b : Job) → SameMap a b → rulesOf limits dirs a ≡ rulesOf limits dirs b
   same-rules a b s =
       ap (λ (g : Grid). rulesOn limits dirs g (anchorsOf (a .bases))) (s .grid)
       ∙ ap (λ (bs : List Base). rulesOn limits dirs (gridOf b) (anchorsOf bs)) (s .bases)
 
-  -- For every run A and run B, mixed pairs included, on one map with the same bases, relisted, no two boundaries with the same ends.
+  -- Demand 3. For every run A and run B, each a Reduce or a Reduce by list that is accepted (`Made`), on one map with the same bases (`SameMap`), no two
+  -- boundaries of A with the same ends in either order (`DistinctEnds`), and B's listing another one of A's boundaries and spans (`Relisted`: any order, "its ends
+  -- either way round", "an observation takes its sources along", sources and observations shuffled).
   pub same-bytes : (a b : Made limits dirs) → SameMap (jobOf (a .call)) (jobOf (b .call)) → DistinctEnds (jobOf (a .call) .boundaries) → Relisted (runOf (a .call)) (runOf (b .call)) → SameBytes limits dirs a b
   unfolding runOf
   same-bytes a b s d r =
-      let i = listing-independent limits dirs (jobOf (a .call)) (runOf (a .call)) (runOf (b .call)) d r in
-      let e = ap (λ (rules : List Item → Groups). rulesAnswer rules (runOf (b .call))) (same-rules (jobOf (a .call)) (jobOf (b .call)) s) in
+      let rules = rulesOf limits dirs (jobOf (b .call)) in
+      let i = listing-independent limits dirs (jobOf (b .call)) (runOf (a .call)) (runOf (b .call)) d r in
+      let e : answerOf limits dirs (jobOf (a .call)) (spansOf (a .call)) ≡ rulesAnswer rules (runOf (a .call))
+      = ap (λ (rules : List Item → Groups). rulesAnswer rules (runOf (a .call))) (same-rules (jobOf (a .call)) (jobOf (b .call)) s) in
+      let w : wrote limits dirs a ≡ rulesAnswer rules (runOf (a .call)) = wrote-answer a ∙ e in
       record {
-        bytes = wrote-answer a ∙ (i .answers ∙ (e ∙ sym (wrote-answer b)));
+        numbers = (succeeded a, succeeded b);
         ruled = wrote-answer a;
+        bytes = w ∙ (i .answers ∙ sym (wrote-answer b));
+        finished = λ ms after m t. i .merges ms after m t ∙ sym w;
         merges = i;
+        disjoint = groups-well rules (rules-well limits dirs (jobOf (b .call))) (runOf (b .call)) .apart;
+        no-groups = λ n. ap every (groups-unmatched limits dirs (jobOf (b .call)) (spansOf (b .call)) n) ∙ no-groups-every;
+        turned = relisted-symmetric r;
       }

@@ -49,7 +49,7 @@ module _ (limits : Limits) (dirs : List ℕ) (j : Job) (ss : List Span) where
   unfolding groupsOf
   groups-matched e = rw (eq-eqb (length (j .boundaries)) (length ss) e) refl
 
-  groups-unmatched : (length (j .boundaries) ≡ length ss → ⊥) → groupsOf (rulesOf limits dirs j) run ≡ noGroups
+  pub groups-unmatched : (length (j .boundaries) ≡ length ss → ⊥) → groupsOf (rulesOf limits dirs j) run ≡ noGroups
   unfolding groupsOf
   groups-unmatched n = rw (ne-eqb (length (j .boundaries)) (length ss) n) refl
 

@@ -1,19 +1,23 @@
 -- Demand 3 about the bytes that the calls leave. "Reduce and Reduce by list write just these bytes, whichever of the two listings they are
 -- given and whichever list of merges is taken".
 use mathlib.Core.Path.{_≡_}
-use mathlib.Core.List.{List}
+use mathlib.Core.List.{List, []}
 use mathlib.Core.Option.{none}
 use Prim.Native.Nat.{ℕ, _≤_}
 use lib.ListN.{length, take}
 use Rattle.position.specs.declared.Span.{Span}
-use Rattle.format.specs.Values.{Job}
+use Rattle.format.specs.Values.{Boundary, Job}
 use Rattle.format.specs.Decode.{decode, decodeList}
 use Rattle.areas.specs.Assessments.{records}
 use Rattle.links.specs.Limits.{Limits}
 use Rattle.job.specs.Checks.{Check, firstRefusal}
 use Rattle.job.specs.Refusals.{reduceChecks, byListChecks}
-use Rattle.merging.specs.Runs.{Run}
-use Rattle.merging.specs.Demand.{Independent}
+use Rattle.order.specs.Pairs.{Pairs}
+use Rattle.merging.specs.Groups.{Group, Groups, Disjoint, every}
+use Rattle.merging.specs.Runs.{Run, Matched, groupsOf}
+use Rattle.merging.specs.Relisted.{Relisted}
+use Rattle.merging.specs.Merging.{MergeList, finish}
+use Rattle.merging.specs.Demand.{MergesOn, Independent}
 use Rattle.chokes.specs.Rules.{gridOf, rulesOf}
 use Rattle.chokes.specs.Results.{Outcome, workSize, maxPairs, ownEnds, answerOf, reduced}
 
@@ -57,20 +61,37 @@ pub record SameMap (a b : Job) : Type 0 where
   pub bases : a .bases ≡ b .bases
 
 module _ (limits : Limits) (dirs : List ℕ) where
-  -- A call with slices of its own.
+  -- A call that was accepted: the slices that it was lent, and what it left by its contract (`reduce-left`, `by-list-left`).
   pub record Made : Type 0 where
     pub call : Call
     pub work : List ℕ
     pub answer : List ℕ
+    pub after : Outcome
+    pub promised : after ≡ left limits dirs call work answer
     pub accepted : Accepted limits dirs call work answer
 
   -- The bytes that it wrote: "Answers are compared over their total length."
   abbrev pub wrote : Made → List ℕ
-  wrote m = take (left limits dirs (m .call) (m .work) (m .answer) .detail) (left limits dirs (m .call) (m .work) (m .answer) .out)
+  wrote m = take (m .after .detail) (m .after .out)
 
-  -- Both calls write the same bytes, and whatever list of merges is taken on B's own listing, finishing it gives them too; no source is lost
-  -- or invented on the way.
+  -- "each group that these rules accept"
+  abbrev pub groupsIn : Made → Groups
+  groupsIn m = groupsOf (rulesOf limits dirs (jobOf (m .call))) (runOf (m .call))
+
+  -- Demand 3 of run A and run B, with the sentences of document 01 that it states.
   pub record SameBytes (a b : Made) : Type 0 where
-    pub bytes : wrote a ≡ wrote b
+    -- neither is refused, and what each writes is the answer that the rules give
+    pub numbers : (a .after .number ≡ 0) × (b .after .number ≡ 0)
     pub ruled : wrote a ≡ answerOf limits dirs (jobOf (a .call)) (spansOf (a .call))
-    pub merges : Independent (rulesOf limits dirs (jobOf (a .call))) (runOf (a .call)) (runOf (b .call))
+    -- "Reduce and Reduce by list write just these bytes, whichever of the two listings they are given"
+    pub bytes : wrote a ≡ wrote b
+    -- "and whichever list of merges is taken: this equality is one claim about the whole list of merges"; "It begins with the job's boundaries in run B's listing."
+    pub finished : (ms : List Group) (after : List Boundary) → MergeList (groupsIn b) ms → MergesOn (runOf (b .call)) ms after → finish after ≡ wrote a
+    -- "the sources are counted after each merge besides": these are the fields `came`, `during` and `answered`; `one` and `some` say that a list of merges exists
+    pub merges : Independent (rulesOf limits dirs (jobOf (b .call))) (runOf (a .call)) (runOf (b .call))
+    -- "no boundary is in two accepted groups"
+    pub disjoint : Pairs Disjoint (every (groupsIn b))
+    -- "where spans and boundaries differ in number, run B has the same spans in any order, and there are no groups"
+    pub no-groups : (Matched (runOf (b .call)) → ⊥) → every (groupsIn b) ≡ []
+    -- A is a listing of B as well
+    pub turned : Relisted (runOf (b .call)) (runOf (a .call))

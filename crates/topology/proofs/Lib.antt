@@ -6,3 +6,4 @@ pub mod Anchors
 pub mod Cases
 pub mod Counting
 pub mod Bases
+pub mod CountLoop

@@ -1,8 +1,11 @@
 // Statistics of regions: 001's `RegionStats`.
 ghost use mathlib.Core.Path.{_≡_};
-ghost use Prim.Native.Nat.{_<_, _≤_, max};
-ghost use Rattle.topology.specs.RegionStats.{elevations};
-ghost use Rattle.topology.specs.Held.{Room, statsIn, one, lesser, withCell, NoCells};
+ghost use mathlib.Core.Bool.{cond};
+ghost use Prim.Native.Nat.{ℕ, _*_, _/_, _%_, _<_, _≤_, max};
+ghost use lib.ListN.{length};
+ghost use Rattle.topology.specs.RegionStats.{elevations, regionStats};
+ghost use Rattle.topology.specs.Held.{Room, statsIn, one, lesser, withCell, NoCells, labelsOf};
+use wire::read_u32;
 
 // The box is in whole pixels, its right and lower edge past the last cell; `level_0` to `level_3` count the cells of each elevation.
 pub struct RegionStats {
@@ -87,4 +90,46 @@ impl RegionStats {
             + one(0 < self.level_2)
             + one(0 < self.level_3)
     }
+}
+
+// The column of a cell, and its row.
+fn column_of(i: usize, width: u32) -> u32
+    requires { ⌜ (i < 1048576) × (0 < width) ⌝ }
+    ensures { λ r. ⌜ (r ≡ i % width) × (r < 1048576) ⌝ }
+{
+    (i as u32) % width
+}
+
+fn row_of(i: usize, width: u32) -> u32
+    requires { ⌜ (i < 1048576) × (0 < width) ⌝ }
+    ensures { λ r. ⌜ (r ≡ i / width) × (r < 1048576) ⌝ }
+{
+    (i as u32) / width
+}
+
+// One cell more, if it is of the region.
+fn counted(stats: RegionStats, inside: bool, i: usize, width: u32, cell: u8) -> RegionStats
+    requires { ⌜ Room stats × (i < 1048576) × (0 < width) ⌝ }
+    ensures { λ r. ⌜ r ≡ cond inside (withCell stats (i % width) (i / width) cell) stats ⌝ }
+{
+    if !inside {
+        return stats;
+    }
+    stats.with(column_of(i, width), row_of(i, width), cell)
+}
+
+// The statistics of the cells that have the label; the labels are in words.
+pub fn region_stats(cells: &[u8], width: u32, labels: &[u8], region: u32) -> RegionStats
+    requires { ⌜ (0 < width) × (length (now cells) ≤ 1048576) × (length (now cells) * 4 ≤ length (now labels)) ⌝ }
+    ensures { λ r. ⌜ ((height : ℕ) → statsIn r ≡ regionStats (record { width = width; height = height; cells = now (cells .entry) }) (labelsOf (now (labels .entry)) (length (now (cells .entry)))) region) ⌝ }
+{
+    let n = cells.len();
+    let mut stats = RegionStats::none();
+    let mut i: usize = 0;
+    while i < n {
+        let label = read_u32(labels, i * 4);
+        stats = counted(stats, region == label, i, width, cells[i]);
+        i += 1;
+    }
+    stats
 }

@@ -1,0 +1,67 @@
+use mathlib.Core.Path.{_≡_}
+use Prim.Native.Nat.{ℕ, _-_, _≤_, _<_}
+use native.Mathlib.Omega.{arith}
+use lib.ListN.{length}
+use borrow.Author.Needs.{needs}
+use Rattle.topology.specs.Held.{statsAfter, labelsOf, firstCells}
+use Rattle.topology.proofs.CountLoop.{count-start, count-room, count-next, count-end}
+use Rattle.topology.proofs.stats.region_stats.Statement.{statement}
+use Rattle.topology.proofs.stats.region_stats.Tie as tie
+use Rattle.topology.proofs.stats.region_stats.Reads as reads
+use Rattle.topology.proofs.stats.region_stats.Lts as lts
+use Rattle.topology.proofs.stats.RegionStats.none.Reads as none-reads
+use Rattle.topology.proofs.stats.counted.Reads as counted-reads
+use Rattle.wire.proofs.read_u32.Reads as read-u32-reads
+
+abbrev Inv-loop : tie.InvT-loop
+Inv-loop cells width labels region n stats₀ i₀ stats i = (i ≤ length cells) × ((height : ℕ) → stats ≡ statsAfter (record { width = width; height = height; cells = cells }) (firstCells (labelsOf labels (length cells)) region i))
+
+abbrev μ-loop : tie.MeasureT-loop
+μ-loop cells width labels region n stats₀ i₀ stats i = length cells - i
+
+none-requires : tie.Need-none-requires Inv-loop μ-loop
+none-requires c κs = search needs
+
+loop-holds : tie.Need-loop-holds Inv-loop μ-loop
+loop-holds c = (omega arith, λ height. count-start (c .none .ensures) (record { width = c .before .before .before .args .width; height = height; cells = c .before .before .before .args .cells .now }) (labelsOf (c .before .before .before .args .labels .now) (length (c .before .before .before .args .cells .now))) (c .before .before .before .args .region))
+
+mul-read-u32 : tie.Need-mul-read-u32 Inv-loop μ-loop
+mul-read-u32 c = search needs
+
+read-u32-requires : tie.Need-read-u32-requires Inv-loop μ-loop
+read-u32-requires c κs = search needs
+
+shared-slice-read-counted : tie.Need-shared-slice-read-counted Inv-loop μ-loop
+shared-slice-read-counted c = search needs
+
+counted-requires : tie.Need-counted-requires Inv-loop μ-loop
+counted-requires c κs = let l : c .before .before .before .loop .i < 1048576 = omega (arith, c .before .before .loop-test .taken, c .before .before .before .before .before .before .before .pre .1) in (count-room (record { width = c .before .before .before .before .before .before .before .args .width; height = 0; cells = c .before .before .before .before .before .before .before .args .cells .now }) (c .before .before .before .before .before .before .before .args .labels .now) (length (c .before .before .before .before .before .before .before .args .cells .now)) (c .before .before .before .before .before .before .before .args .region) (c .before .before .before .loop .inv .1 0) l, l, c .before .before .before .before .before .before .before .pre .0)
+
+add-i : tie.Need-add-i Inv-loop μ-loop
+add-i c = search needs
+
+loop-less : tie.Need-loop-less Inv-loop μ-loop
+loop-less c = search needs
+
+loop-again : tie.Need-loop-again Inv-loop μ-loop
+loop-again c = (omega (arith, c .before .before .before .loop-test .taken), λ height. count-next (record { width = c .before .before .before .before .before .before .before .before .args .width; height = height; cells = c .before .before .before .before .before .before .before .before .args .cells .now }) (c .before .before .before .before .before .before .before .before .args .labels .now) (length (c .before .before .before .before .before .before .before .before .args .cells .now)) (c .before .before .before .before .before .before .before .before .args .region) (c .before .before .before .before .loop .inv .1 height) (c .before .before .before .loop-test .taken) (c .before .before .read-u32 .ensures) (c .counted .ensures))
+
+returns : tie.Need-returns Inv-loop μ-loop
+returns c = λ height. count-end (record { width = c .before .before .before .before .before .args .width; height = height; cells = c .before .before .before .before .before .args .cells .now }) (c .before .before .before .before .before .args .labels .now) (length (c .before .before .before .before .before .args .cells .now)) (c .before .before .before .before .before .args .region) (c .before .loop .inv .1 height) (omega (arith, c .before .loop .inv .0, c .loop-test .left))
+
+pub region-stats-spec : {M : Type 1} → statement M
+region-stats-spec =
+    tie.close
+    (tie.spec
+    Inv-loop
+    μ-loop
+    none-requires
+    loop-holds
+    mul-read-u32
+    read-u32-requires
+    shared-slice-read-counted
+    counted-requires
+    add-i
+    loop-less
+    loop-again
+    returns)
