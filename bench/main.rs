@@ -119,6 +119,55 @@ fn across(side: u32, shape: Shape, spans: usize) -> Draft {
     draft
 }
 
+/// Bands of walkable cells: in 34 of them four boundaries follow one another, in 26 two, and in the
+/// others one: 256 boundaries, of which 128 regions make links, on a map of 1,024 cells a side.
+fn bands() -> Draft {
+    let (side, mut rng) = (1024, Rng::new(13));
+    let mut draft = maps::with_spans([side, side], Shape::Open, 0, &mut rng);
+    for (cell, i) in draft.cells.iter_mut().zip(0..) {
+        *cell = u8::from(i / side % 8 < 6);
+    }
+    let mut columns = vec![];
+    for band in 0..128 {
+        let count = match band {
+            0..34 => 4,
+            34..60 => 2,
+            _ => 1,
+        };
+        columns.extend((0..count).map(|i| (band, 800 + 96 * i)));
+    }
+    draft.boundaries = columns
+        .into_iter()
+        .map(|(band, x)| {
+            let ends = [x, 64 * band, x, 64 * band + 48];
+            Boundary { ends, bits: 48.0_f64.to_bits(), ..Boundary::default() }
+        })
+        .collect();
+    draft.boundaries.truncate(256);
+    draft.list = draft.boundaries.iter().map(|boundary| boundary.ends).collect();
+    draft
+}
+
+/// Links and groups: what the library's plan takes beyond the partition, and what the Rust's takes
+/// after its own, which merges besides.
+fn plans(what: &str, draft: &Draft) {
+    let mut lent = Lent::new(draft);
+    let ready = rust::job(&lent.input.job);
+    let partition = ready.partition(&ready.own_spans());
+    let rust = least(|| drop(black_box(ready.kept(black_box(&partition)))));
+    let library = TABLE.plan.zip(TABLE.partition).map(|(plan, partition)| {
+        let Lent { input, work, out } = &mut lent;
+        let whole = least(|| {
+            black_box(plan(&input.job, &input.list, REDUCE, work, out));
+        });
+        let part = least(|| {
+            black_box(partition(&input.job, work, out));
+        });
+        whole - part
+    });
+    row(what, rust, library);
+}
+
 /// The partition by the Rust, and by the library where it has it by itself.
 fn partition(what: &str, draft: &Draft) {
     let mut lent = Lent::new(draft);
@@ -227,7 +276,14 @@ fn main() {
         }
     }
     bridges();
+    if !quick {
+        head("links and groups, after the partition");
+        plans("1024 x 1024 bands, 256 boundaries, 128 links", &bands());
+    }
     head("whole calls, from bytes to bytes");
+    if !quick {
+        whole(REDUCE, "1024 x 1024 bands, 256 boundaries, 128 links", &bands());
+    }
     for call in [REDUCE, BY_LIST, MARK] {
         for &side in sides {
             for (boundaries, sources) in [(4, 8), (256, 8), (4, 4096), (256, 4096)] {

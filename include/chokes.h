@@ -1,12 +1,12 @@
-/* The choke analyser: calls on byte slices.
+/* The choke analyser: three calls on byte slices.
  *
- * Link with libchokes.a (rt staticlib chokes). The form of a job is that of document 01; every field
- * is little-endian.
+ * Link with libchokes.a (./library builds it). The forms of a job, a span list and an answer are
+ * those of document 01; every field is little-endian.
  *
  * A slice is passed as its start and its length in bytes. The slices that a call is lent may not
- * overlap one another. A call reads the job and writes nothing but work and the marks; it allocates
- * nothing, keeps nothing after it returns, and always returns. Calls on slices of their own may run
- * at the same time.
+ * overlap one another. A call reads the job and the list and writes nothing but work and the answer
+ * or the marks; it allocates nothing, keeps nothing after it returns, and always returns. Calls on
+ * slices of their own may run at the same time.
  *
  * Stack: a call uses at most CHOKES_STACK_BYTES of it.
  */
@@ -20,17 +20,17 @@
 extern "C" {
 #endif
 
-/* bench/run measures 317,064 on x86-64. */
-#define CHOKES_STACK_BYTES 327680
+/* TO BE FILLED IN: bench/run measures it with the library; 0 means not measured. */
+#define CHOKES_STACK_BYTES 0
 
-/* What a call gives back: CHOKES_OK and a count, or a refusal and its detail, which is 0 unless the
- * refusal names one. */
+/* What a call gives back: CHOKES_OK and a length or count, or a refusal and its detail, which is 0
+ * unless the refusal names one. */
 struct chokes_result {
     uint32_t number;
     uint64_t detail;
 };
 
-/* Success: for Mark the number of boundaries. */
+/* Success: the answer's length in bytes; for Mark the number of boundaries. */
 #define CHOKES_OK 0u
 
 /* Refusals from the input. Work and the answer or marks are unchanged. An index is that of the first
@@ -69,14 +69,37 @@ struct chokes_result {
 #define CHOKES_OBSERVATION_BYTES 28u
 #define CHOKES_SOURCE_BYTES 8u
 #define CHOKES_SPAN_BYTES 16u
+#define CHOKES_ANSWER_HEADER_BYTES 24u
 
 /* Bytes of work to lend for a map: ten for each cell. After a success, or refusals 13, 22 and 23, it
  * holds a u32 label for each cell, then zeros; bytes past this number are unchanged. */
 #define CHOKES_WORK_BYTES(width, height) ((size_t)10 * (size_t)(width) * (size_t)(height))
 
+/* Bytes of an answer that are enough for a job with these counts. Merging gives each boundary at
+ * most one more observation, and each source at most one more place. */
+#define CHOKES_ANSWER_BYTES(boundaries, observations, sources)                                 \
+    ((size_t)CHOKES_ANSWER_HEADER_BYTES + (size_t)CHOKES_BOUNDARY_BYTES * (boundaries) +       \
+     (size_t)CHOKES_OBSERVATION_BYTES * ((size_t)(observations) + (boundaries)) +              \
+     (size_t)CHOKES_SOURCE_BYTES * 2 * (size_t)(sources))
+
+/* Enough for any job. */
+#define CHOKES_MOST_ANSWER_BYTES CHOKES_ANSWER_BYTES(256u, 1024u, 4096u)
+
 /* Mark: a byte for each boundary of the job, 1 if it is a bridge, else 0. */
 struct chokes_result chokes_mark(const uint8_t *job, size_t job_length, uint8_t *work,
                                  size_t work_length, uint8_t *marks, size_t marks_length);
+
+/* Reduce: the kept boundaries of the job, parted by its boundaries' own ends. Bytes of the answer
+ * slice past the answer's length are unchanged. */
+struct chokes_result chokes_reduce(const uint8_t *job, size_t job_length, uint8_t *work,
+                                   size_t work_length, uint8_t *answer, size_t answer_length);
+
+/* Reduce by list: as Reduce, parted by the spans of a list, four u32 each. Where there are as many
+ * spans as boundaries, span i belongs to boundary i; otherwise nothing is merged. */
+struct chokes_result chokes_reduce_by_list(const uint8_t *job, size_t job_length,
+                                           const uint8_t *list, size_t list_length, uint8_t *work,
+                                           size_t work_length, uint8_t *answer,
+                                           size_t answer_length);
 
 #ifdef __cplusplus
 }

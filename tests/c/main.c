@@ -6,6 +6,7 @@
 
 #define CELLS 4
 #define JOB_BYTES 148
+#define ANSWER_BYTES 152
 
 static int failures;
 
@@ -55,23 +56,83 @@ static void corridor(uint8_t *job)
     put_words(job, 132, sources, 4);
 }
 
+/* Its answer: one boundary kept, with both as observations. */
+static void corridor_answer(uint8_t *answer)
+{
+    static const uint32_t words[ANSWER_BYTES / 4] = {
+        1,  2, 4,  64, 120, 152,
+        8,  0, 8,  8,  0,   0x40200000, 2, 2, 0, 0,
+        8,  0, 8,  8,  0,   0x40200000, 1,
+        16, 0, 16, 8,  0,   0x40200000, 1,
+        1,  2, 2,  1,  1,   2,          2, 1};
+    put_words(answer, 0, words, ANSWER_BYTES / 4);
+}
+
 int main(void)
 {
     static const uint8_t labels[CELLS * 4] = {1, 0, 0, 0, 2, 0, 0, 0, 3, 0, 0, 0, 3};
     static const uint8_t zeros[CELLS * 6] = {0};
     static const uint8_t both[3] = {1, 1, 0xA5}, untouched[3] = {0xA5, 0xA5, 0xA5};
-    uint8_t job[JOB_BYTES], changed[JOB_BYTES], marks[3];
+    uint8_t job[JOB_BYTES], changed[JOB_BYTES], list[2 * CHOKES_SPAN_BYTES + 1];
     uint8_t work[CHOKES_WORK_BYTES(CELLS, 1) + 1], before[sizeof work];
+    uint8_t answer[ANSWER_BYTES + 8], expected[ANSWER_BYTES + 8], marks[3];
     const size_t enough = CHOKES_WORK_BYTES(CELLS, 1);
 
+    memset(list, 0, sizeof list);
     corridor(job);
+    memset(answer, 0xA5, sizeof answer);
+    memset(expected, 0xA5, sizeof expected);
     memset(work, 0xA5, sizeof work);
     memcpy(before, work, sizeof work);
     memset(marks, 0xA5, sizeof marks);
 
-    expect("work one byte short", chokes_mark(job, sizeof job, work, enough - 1, marks, sizeof marks),
+    expect("work one byte short", chokes_reduce(job, sizeof job, work, enough - 1, answer, sizeof answer),
            CHOKES_WORK_TOO_SHORT, 0);
     expect_bytes("work that is too short stays as it is", work, before, sizeof work);
+    expect("no answer slice", chokes_reduce(job, sizeof job, work, enough, answer, 0),
+           CHOKES_ANSWER_TOO_SHORT, ANSWER_BYTES);
+    expect("an answer slice one byte short",
+           chokes_reduce(job, sizeof job, work, enough, answer, ANSWER_BYTES - 1),
+           CHOKES_ANSWER_TOO_SHORT, ANSWER_BYTES);
+    expect_bytes("labels after 22", work, labels, sizeof labels);
+    expect_bytes("zeros after the labels", work + sizeof labels, zeros, sizeof zeros);
+    expect_bytes("the answer after 22", answer, expected, sizeof expected);
+
+    corridor_answer(expected);
+    expect("Reduce", chokes_reduce(job, sizeof job, work, sizeof work, answer, sizeof answer),
+           CHOKES_OK, ANSWER_BYTES);
+    expect_bytes("Reduce's answer and what follows it", answer, expected, sizeof expected);
+    expect_bytes("work past ten bytes a cell", work + enough, before + enough, 1);
+
+    memset(answer, 0xA5, sizeof answer);
+    memcpy(list, job + 52, CHOKES_SPAN_BYTES);
+    memcpy(list + CHOKES_SPAN_BYTES, job + 52 + CHOKES_BOUNDARY_BYTES, CHOKES_SPAN_BYTES);
+    expect("Reduce by list",
+           chokes_reduce_by_list(job, sizeof job, list, sizeof list - 1, work, enough, answer,
+                                 sizeof answer),
+           CHOKES_OK, ANSWER_BYTES);
+    expect_bytes("Reduce by list's answer", answer, expected, sizeof expected);
+    expect("a list of 33 bytes",
+           chokes_reduce_by_list(job, sizeof job, list, sizeof list, work, enough, answer,
+                                 sizeof answer),
+           CHOKES_BAD_LIST_LENGTH, 0);
+    put(list, CHOKES_SPAN_BYTES, 33);
+    expect("a span past the map",
+           chokes_reduce_by_list(job, sizeof job, list, sizeof list - 1, work, enough, answer,
+                                 sizeof answer),
+           CHOKES_SPAN_OFF_MAP, 1);
+
+    memcpy(work, before, sizeof work);
+    expect("one mark byte", chokes_mark(job, sizeof job, work, enough, marks, 1),
+           CHOKES_MARKS_TOO_SHORT, 0);
+    expect_bytes("labels after 23", work, labels, sizeof labels);
+    expect_bytes("marks after 23", marks, untouched, sizeof marks);
+    expect("Mark", chokes_mark(job, sizeof job, work, enough, marks, sizeof marks), CHOKES_OK, 2);
+    expect_bytes("marks, and what follows them", marks, both, sizeof both);
+    expect_bytes("work past ten bytes a cell after Mark", work + enough, before + enough, 1);
+
+    memcpy(work, before, sizeof work);
+
     expect("an empty job", chokes_mark(job, 0, work, enough, marks, sizeof marks),
            CHOKES_JOB_TOO_SHORT, 0);
     memcpy(changed, job, sizeof job);
@@ -80,24 +141,15 @@ int main(void)
            CHOKES_TOO_MANY_BOUNDARIES, 257);
     memcpy(changed, job, sizeof job);
     changed[52 + 40 + 23] = 0x80;
-    expect("a width of less than 0", chokes_mark(changed, sizeof job, work, enough, marks, sizeof marks),
+    expect("a width of less than 0",
+           chokes_reduce(changed, sizeof job, work, enough, answer, sizeof answer),
            CHOKES_BAD_WIDTH, 1);
     memcpy(changed, job, sizeof job);
     memcpy(changed + 60, changed + 52, 8);
-    expect("coincident ends", chokes_mark(changed, sizeof job, work, enough, marks, sizeof marks),
+    expect("coincident ends", chokes_reduce(changed, sizeof job, work, enough, answer, sizeof answer),
            CHOKES_ENDS_COINCIDE, 0);
     expect_bytes("refusals leave work as it is", work, before, sizeof work);
-
-    expect("one mark byte", chokes_mark(job, sizeof job, work, enough, marks, 1),
-           CHOKES_MARKS_TOO_SHORT, 0);
-    expect_bytes("labels after 23", work, labels, sizeof labels);
-    expect_bytes("marks after 23", marks, untouched, sizeof marks);
-    memcpy(work, before, sizeof work);
-    expect("Mark", chokes_mark(job, sizeof job, work, sizeof work, marks, sizeof marks), CHOKES_OK, 2);
-    expect_bytes("marks, and what follows them", marks, both, sizeof both);
-    expect_bytes("labels", work, labels, sizeof labels);
-    expect_bytes("zeros after the labels", work + sizeof labels, zeros, sizeof zeros);
-    expect_bytes("work past ten bytes a cell", work + enough, before + enough, 1);
+    expect_bytes("and the answer", answer, expected, sizeof expected);
 
     if (failures == 0) {
         printf("the C calls are as document 01 has them\n");

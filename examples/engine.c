@@ -1,0 +1,193 @@
+/* How an engine uses the three calls.
+ *
+ *   engine [JOB]
+ *
+ * Without a file it builds document 01's corridor in memory. It lends too small an answer slice
+ * first, and more when a call says how much it needs; then it prints the kept list, the marks, and
+ * whether Reduce by list with the boundaries' own ends gives the same answer. */
+#include "chokes.h"
+
+#include <stdio.h>
+#include <stdlib.h>
+#include <string.h>
+
+static uint32_t word(const uint8_t *bytes, size_t at)
+{
+    return (uint32_t)bytes[at] | (uint32_t)bytes[at + 1] << 8 | (uint32_t)bytes[at + 2] << 16 |
+           (uint32_t)bytes[at + 3] << 24;
+}
+
+static void put(uint8_t *bytes, size_t at, uint32_t value)
+{
+    bytes[at] = (uint8_t)value;
+    bytes[at + 1] = (uint8_t)(value >> 8);
+    bytes[at + 2] = (uint8_t)(value >> 16);
+    bytes[at + 3] = (uint8_t)(value >> 24);
+}
+
+static void *room(size_t size)
+{
+    void *bytes = malloc(size > 0 ? size : 1);
+    if (bytes == NULL) {
+        fprintf(stderr, "engine: no memory\n");
+        exit(1);
+    }
+    return bytes;
+}
+
+/* The corridor: four walkable cells in a row, and two boundaries across it. */
+static uint8_t *corridor(size_t *length)
+{
+    static const uint32_t header[12] = {4, 1, 0, 2, 0, 2, 48, 52, 52, 132, 132, 148};
+    uint8_t *job = room(148);
+    uint32_t i;
+    memset(job, 0, 148);
+    for (i = 0; i < 12; i++) {
+        put(job, 4 * i, header[i]);
+    }
+    memset(job + 48, 1, 4);
+    for (i = 0; i < 2; i++) {
+        uint8_t *boundary = job + 52 + CHOKES_BOUNDARY_BYTES * i;
+        put(boundary, 0, 8 * (i + 1)); /* ends (8, 0) and (8, 8), then (16, 0) and (16, 8) */
+        put(boundary, 8, 8 * (i + 1));
+        put(boundary, 12, 8);
+        put(boundary, 20, 0x40200000); /* the upper half of the bits of 8.0 */
+        put(boundary, 24, 1);          /* one source of its own: 1 2, then 2 1 */
+        put(job, 132 + 8 * i, 1 + i);
+        put(job, 136 + 8 * i, 2 - i);
+    }
+    *length = 148;
+    return job;
+}
+
+static uint8_t *from_file(const char *name, size_t *length)
+{
+    FILE *file = fopen(name, "rb");
+    size_t size = 1 << 16, got;
+    uint8_t *job = room(size);
+    *length = 0;
+    if (file == NULL) {
+        fprintf(stderr, "engine: %s can't be read\n", name);
+        exit(1);
+    }
+    while ((got = fread(job + *length, 1, size - *length, file)) > 0) {
+        *length += got;
+        if (*length == size) {
+            size *= 2;
+            job = realloc(job, size);
+            if (job == NULL) {
+                exit(1);
+            }
+        }
+    }
+    fclose(file);
+    return job;
+}
+
+static void refused(const char *call, struct chokes_result result)
+{
+    if (result.number != CHOKES_OK) {
+        printf("%s refused %u %lu\n", call, (unsigned)result.number, (unsigned long)result.detail);
+        exit(1);
+    }
+}
+
+static void print_ends(char kind, const uint8_t *record)
+{
+    printf("%c %u %u %u %u %08x%08x", kind, (unsigned)word(record, 0), (unsigned)word(record, 4),
+           (unsigned)word(record, 8), (unsigned)word(record, 12), (unsigned)word(record, 20),
+           (unsigned)word(record, 16));
+}
+
+static const uint8_t *print_sources(const uint8_t *source, uint32_t count)
+{
+    for (; count > 0; count--) {
+        printf("s %u %u\n", (unsigned)word(source, 0), (unsigned)word(source, 4));
+        source += CHOKES_SOURCE_BYTES;
+    }
+    return source;
+}
+
+/* The list as the program choke-list prints it. */
+static void print_answer(const uint8_t *answer)
+{
+    const uint8_t *boundary = answer + CHOKES_ANSWER_HEADER_BYTES;
+    const uint8_t *observation = answer + word(answer, 12);
+    const uint8_t *source = answer + word(answer, 16);
+    uint32_t boundaries = word(answer, 0), seen;
+    printf("kept %u\n", (unsigned)boundaries);
+    for (; boundaries > 0; boundaries--, boundary += CHOKES_BOUNDARY_BYTES) {
+        print_ends('b', boundary);
+        printf(" %u %u %u %u %u %u\n", (unsigned)word(boundary, 24), (unsigned)word(boundary, 28),
+               boundary[32], boundary[33], boundary[34], (unsigned)word(boundary, 36));
+        source = print_sources(source, word(boundary, 24));
+        for (seen = word(boundary, 28); seen > 0; seen--) {
+            print_ends('o', observation);
+            printf(" %u\n", (unsigned)word(observation, 24));
+            source = print_sources(source, word(observation, 24));
+            observation += CHOKES_OBSERVATION_BYTES;
+        }
+    }
+}
+
+/* The boundaries' own ends as a list of spans. */
+static uint8_t *own_spans(const uint8_t *job, uint32_t boundaries)
+{
+    uint8_t *list = room(CHOKES_SPAN_BYTES * (size_t)boundaries);
+    uint32_t i;
+    for (i = 0; i < boundaries; i++) {
+        memcpy(list + CHOKES_SPAN_BYTES * i, job + word(job, 32) + CHOKES_BOUNDARY_BYTES * i,
+               CHOKES_SPAN_BYTES);
+    }
+    return list;
+}
+
+int main(int argc, char **argv)
+{
+    size_t length, work_length, answer_length = 64;
+    uint8_t *job = argc > 1 ? from_file(argv[1], &length) : corridor(&length);
+    uint8_t *work, *answer, *again, *marks, *list;
+    struct chokes_result result;
+    uint32_t boundaries, i;
+
+    /* Ten bytes of work a cell; a header that is refused needs none. */
+    work_length = length < CHOKES_JOB_HEADER_BYTES || word(job, 0) > 1024 || word(job, 4) > 1024
+                      ? 0
+                      : CHOKES_WORK_BYTES(word(job, 0), word(job, 4));
+    work = room(work_length);
+    answer = room(answer_length);
+    result = chokes_reduce(job, length, work, work_length, answer, answer_length);
+    if (result.number == CHOKES_ANSWER_TOO_SHORT) {
+        free(answer);
+        answer_length = (size_t)result.detail;
+        answer = room(answer_length);
+        result = chokes_reduce(job, length, work, work_length, answer, answer_length);
+    }
+    refused("Reduce", result);
+    print_answer(answer);
+
+    /* The job was accepted, so its counts and offsets can be relied on. */
+    boundaries = word(job, 12);
+    marks = room(boundaries);
+    refused("Mark", chokes_mark(job, length, work, work_length, marks, boundaries));
+    printf("marks");
+    for (i = 0; i < boundaries; i++) {
+        printf(" %u", marks[i]);
+    }
+    printf("\n");
+
+    list = own_spans(job, boundaries);
+    again = room(answer_length);
+    result = chokes_reduce_by_list(job, length, list, CHOKES_SPAN_BYTES * (size_t)boundaries, work,
+                                   work_length, again, answer_length);
+    refused("Reduce by list", result);
+    printf("by list: %s\n",
+           memcmp(answer, again, (size_t)result.detail) == 0 ? "the same answer" : "another answer");
+    free(again);
+    free(list);
+    free(marks);
+    free(answer);
+    free(work);
+    free(job);
+    return 0;
+}
