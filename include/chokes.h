@@ -20,8 +20,8 @@
 extern "C" {
 #endif
 
-/* TO BE FILLED IN: bench/run measures it with the library; 0 means not measured. */
-#define CHOKES_STACK_BYTES 0
+/* bench/run measures 439,304 on x86-64. */
+#define CHOKES_STACK_BYTES 458752
 
 /* What a call gives back: CHOKES_OK and a length or count, or a refusal and its detail, which is 0
  * unless the refusal names one. */
