@@ -7,3 +7,5 @@ pub mod Packs
 pub mod Decoded
 pub mod Together
 pub mod Writes
+pub mod Matched
+pub mod Merged

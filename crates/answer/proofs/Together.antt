@@ -6,7 +6,7 @@ use native.Mathlib.Omega.{arith}
 use lib.Dec.{leb}
 use lib.ListN.{length, getD, take, drop}
 use Rattle.lists.specs.Rows.{All}
-use Rattle.lists.proofs.Rows.{sum-prefix}
+use Rattle.lists.proofs.Rows.{sum-last, sum-prefix}
 use Rattle.lists.proofs.Each.{all-take, all-drop, all-rows}
 use Rattle.wire.specs.Bytes.{part}
 use Rattle.wire.proofs.Parts.{part-part}
@@ -27,8 +27,9 @@ use Rattle.answer.specs.Packed.{sourcePack, packed, KeysRead, KeyAt}
 use Rattle.answer.specs.Laying.{below, ownCount, seenCount, citedCount, ownStart, LaidAll}
 use Rattle.answer.specs.Squeezed.{partOf, Squeezed}
 use Rattle.answer.specs.Ranked.{RankRoom, Ranked}
-use Rattle.answer.specs.Placed.{observationFrom, boundaryOf, itself, Holds, Placed, JobPlaces, boundaryRows, observationRows}
+use Rattle.answer.specs.Placed.{observationFrom, boundaryOf, itself, Holds, Placed, PlacedInside, JobPlaces, boundaryRows, observationRows}
 use Rattle.answer.proofs.Lays.{below-next}
+use Rattle.answer.proofs.Layouts.{below-none}
 use Rattle.merging.proofs.Packed.{sources-fit}
 use Rattle.answer.proofs.Packs.{sorted-packed, observation-le}
 
@@ -41,6 +42,10 @@ drop-map : {A B : Type 0} (f : A → B) (n : ℕ) (l : List A) → drop n (map f
 drop-map f zero l = refl
 drop-map f (suc n) [] = refl
 drop-map f (suc n) (x ∷ l) = drop-map f n l
+
+below-most : (n : ℕ) (f g : ℕ → ℕ) → ((i : ℕ) → i < n → f i ≤ g i) → below f n ≤ below g n
+below-most zero f g h = omega (arith, below-none f, below-none g)
+below-most (suc n) f g h = omega (arith, sum-last n f, sum-last n g, h n (omega arith), below-most n f g (λ i l. h i (omega arith)))
 
 -- A part of the numbers is of the sources there.
 part-packed : (ss : List Source) (keys : List ℕ) (n a m : ℕ) → take n keys ≡ packed ss → a + m ≤ n → part keys a m ≡ packed (take m (drop a ss))
@@ -147,6 +152,23 @@ module _ {s : List ℕ} {at n ats m from count : ℕ} (j : JobPlaces s at n ats 
 
     pub placed : Placed (boundaryRows s at) (observationRows s ats) (sourceRecords s from count) n firsts f₂ g₂ h₂ starts counts₂ keys₂
     placed = record { first-there = l .laid .first-there; itself-there = itself-holds; seen-there = seen-holds }
+
+  -- where they are
+  module _ {keys₁ keys₂ firsts starts counts₁ counts₂ : List ℕ}
+      (l : LaidAll (ownCount s at) (seenCount s at) (citedCount s ats) n firsts starts counts₁) (q : Squeezed starts keys₁ counts₁ keys₂ counts₂ 1280) where
+    own-less : (b : ℕ) → b < n → getD counts₂ (1024 + b) 0 ≤ ownCount s at b
+    own-less b h = omega (arith, q .less (1024 + b), l .laid .own-count b h)
+
+    pub placed-inside : PlacedInside (boundaryRows s at) (observationRows s ats) (sourceRecords s from count) n firsts starts counts₂
+    placed-inside = record {
+      part-in = λ w. omega (arith, q .less w, l .clear .ends w);
+      own-most = own-less;
+      own-room = omega (arith, below-most n (λ b. getD counts₂ (1024 + b) 0) (ownCount s at) own-less, j .countable .source-limit);
+      seen-in = λ b h.
+          let y = sum-prefix (b + 1) n (seenCount s at) (omega arith) in
+          omega (arith, below-next (seenCount s at) b, l .laid .first-there b h, j .countable .observation-limit);
+      seen-room = j .countable .observation-limit;
+    }
 
 -- Places that stand for observations are ordered as these are.
 module _ {first second third starts counts keys : List ℕ} where

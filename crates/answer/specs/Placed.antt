@@ -63,6 +63,14 @@ pub record Placed (bs : ℕ → BoundaryRecord) (os : ℕ → ObservationRecord)
   pub seen-there : (b k : ℕ) → b < n → k < seenOf bs os ss b
       → Holds first second third starts counts keys (firstSeen (seenOf bs os ss) b + k) (canonObservation (observationOf bs os ss b (firstSeen (seenOf bs os ss) b + k)))
 
+-- All parts are in the first 4,096 numbers, sorting made no own part longer, and the places of observations are below 1,024.
+pub record PlacedInside (bs : ℕ → BoundaryRecord) (os : ℕ → ObservationRecord) (ss : List Source) (n : ℕ) (firsts starts counts : List ℕ) : Type 0 where
+  pub part-in : (q : ℕ) → getD starts q 0 + getD counts q 0 ≤ 4096
+  pub own-most : (b : ℕ) → b < n → getD counts (1024 + b) 0 ≤ ownOf bs os ss b
+  pub own-room : below (λ b. getD counts (1024 + b) 0) n ≤ 4096
+  pub seen-in : (b : ℕ) → b < n → getD firsts b 0 + seenOf bs os ss b ≤ 1024
+  pub seen-room : below (seenOf bs os ss) n ≤ 1024
+
 -- A job's three sections, whose counts add up: n boundaries from `at`, m observations from `ats`, count sources from `from`.
 pub record JobPlaces (s : List ℕ) (at n ats m from count : ℕ) : Type 0 where
   pub countable : Countable s at n ats

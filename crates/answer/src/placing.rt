@@ -1,7 +1,7 @@
 // All that is worked out of a job by place: where each one's sources stand in `keys`, sorted and each once, and what observations are ordered by.
 ghost use mathlib.Core.Path.{_≡_};
 ghost use Rattle.format.specs.Decode.{sourceRecords};
-ghost use Rattle.answer.specs.Placed.{Placed, JobPlaces, PlaceRoom, boundaryRows, observationRows};
+ghost use Rattle.answer.specs.Placed.{Placed, PlacedInside, JobPlaces, PlaceRoom, boundaryRows, observationRows};
 use crate::keys::read_keys;
 use crate::laying::lay_boundaries;
 use crate::parts::sort_parts;
@@ -27,6 +27,7 @@ pub fn place_all(
 )
     requires { ⌜ JobPlaces (now job) at n ats m from count × PlaceRoom (now keys) (now spare) (now firsts) (now starts) (now counts) (now first) (now second) (now third) ⌝ }
     ensures { λ _. ⌜ Placed (boundaryRows (now (job .entry)) at) (observationRows (now (job .entry)) ats) (sourceRecords (now (job .entry)) from count) n (now (firsts .exit)) (now (first .exit)) (now (second .exit)) (now (third .exit)) (now (starts .exit)) (now (counts .exit)) (now (keys .exit)) ⌝ }
+    ensures inside { λ _. ⌜ PlacedInside (boundaryRows (now (job .entry)) at) (observationRows (now (job .entry)) ats) (sourceRecords (now (job .entry)) from count) n (now (firsts .exit)) (now (starts .exit)) (now (counts .exit)) ⌝ }
 {
     read_keys(job, from, count, keys);
     lay_boundaries(job, at, n, ats, firsts, starts, counts);

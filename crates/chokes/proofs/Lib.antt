@@ -8,6 +8,14 @@ pub mod Cases
 pub mod Demand
 pub mod Own
 pub mod Bridging
+pub mod Mapped
 pub mod Markable
 pub mod Copying
 pub mod Marked
+pub mod Headed
+pub mod Telling
+pub mod Merges
+pub mod Leaving
+pub mod Matching
+pub mod Calling
+pub mod Finishing

@@ -3,7 +3,6 @@ use mathlib.Core.Path.{_≡_, refl, sym, _∙_, ap}
 use mathlib.Core.List.{List, map}
 use Prim.Native.Nat.{ℕ, _+_, _*_, _-_, _≤_, _<_}
 use native.Mathlib.Omega.{arith}
-use borrow.Rule.Slice.PartMut.{mid-len}
 use lib.ListN.{length, take, drop}
 use Rattle.lists.specs.Rows.{rows}
 use Rattle.lists.proofs.Rows.{map-rows, rows-same}
@@ -12,12 +11,12 @@ use Rattle.position.specs.Order.{canonical}
 use Rattle.position.proofs.Order.{canonical-again}
 use Rattle.format.specs.Sizes.{boundarySize}
 use Rattle.format.specs.Records.{spanAt}
-use Rattle.format.specs.Header.{headerAt, countsAt, cellCount, boundariesStart}
-use Rattle.format.specs.Decode.{decode, jobWith}
+use Rattle.format.specs.Header.{countsAt, boundariesStart}
+use Rattle.format.specs.Decode.{decode}
 use Rattle.format.specs.declared.header.Header.{Header}
 use Rattle.grid.specs.Cells.{Grid}
 use Rattle.grid.specs.Directions.{eight, directionsOf}
-use Rattle.grid.proofs.Directions.{directions-eight, eight-closed}
+use Rattle.grid.proofs.Directions.{directions-eight}
 use Rattle.areas.specs.Areas.{areaLabels}
 use Rattle.areas.specs.Assessments.{records}
 use Rattle.areas.specs.Spans.{SpanFits, spanIn, spansIn}
@@ -33,6 +32,7 @@ use Rattle.chokes.specs.Rules.{gridOf}
 use Rattle.chokes.specs.Results.{ownEnds}
 use Rattle.partition.specs.Partitioned.{labelled}
 use Rattle.chokes.specs.Marking.{Bridged, Markable, Analysed}
+use Rattle.chokes.proofs.Mapped.{header-counts, map-inside, map-is, map-partitionable}
 use Rattle.chokes.proofs.Own.{boundaryPlace, own-ends, mark-laid, ends-fit}
 
 module _ {s : List ℕ} {h : Header} {work : List ℕ} (m : Markable s h work) where
@@ -40,33 +40,21 @@ module _ {s : List ℕ} {h : Header} {work : List ℕ} (m : Markable s h work) w
   laid = rw (m .header) (mark-laid s (m .passed) .1)
 
   counts-are : h .counts ≡ countsAt s 0
-  unfolding headerAt
-  counts-are = ap (λ (x : Header). x .counts) (m .header)
+  counts-are = header-counts (m .header) laid
 
   pub markable-cells : h .counts .width * h .counts .height ≤ 1_048_576
   markable-cells = cells-limit (h .counts) (laid .within)
 
   pub cells-inside : (n : ℕ) → n ≡ h .counts .width * h .counts .height → 48 + n ≤ length s
-  cells-inside n e = omega (arith, e, sections s h laid .cells-in)
+  cells-inside n e = map-inside (m .header) laid n e
 
   module _ (n : ℕ) (e : n ≡ h .counts .width * h .counts .height) where
     -- the part of the job that the cells are
     abbrev cells : List ℕ
     cells = take (48 + n - 48) (drop 48 s)
 
-    cells-are : cells ≡ decode s .cells
-    unfolding decode jobWith part
-    cells-are =
-        let c : h .counts .width * h .counts .height ≡ cellCount (countsAt s 0) = ap cellCount counts-are in
-        let k : 48 + n - 48 ≡ cellCount (countsAt s 0) = omega (arith, e, c) in
-        ap (λ (i : ℕ). take i (drop 48 s)) k
-
-    cells-long : length cells ≡ h .counts .width * h .counts .height
-    cells-long = mid-len 48 (48 + n) s (cells-inside n e) ∙ (let z : 48 + n - 48 ≡ h .counts .width * h .counts .height = omega (arith, e) in z)
-
     grid-is : mapOf (h .counts .width) (h .counts .height) cells ≡ gridOf (decode s)
-    unfolding decode jobWith
-    grid-is = rw (counts-are, cells-are) refl
+    grid-is = map-is (m .header) laid n e
 
     module _ (at count : ℕ) (a : at ≡ h .offsets .boundaries) (d : count ≡ h .counts .boundaries) (order : List ℕ) (o : Identity order) where
       count-few : count ≤ 256
@@ -100,14 +88,7 @@ module _ {s : List ℕ} {h : Header} {work : List ℕ} (m : Markable s h work) w
             rw (span-is i l, counts-are) w
 
         pub own-partitionable : Partitionable (h .counts .width) (h .counts .height) cells 495 ends count work
-        own-partitionable = record {
-          sides = record { columns = omega (arith, laid .within .width-some); rows = omega (arith, laid .within .height-some); wide = laid .within .width; high = laid .within .height };
-          whole = cells-long;
-          each = rw directions-eight (eight-closed .each);
-          spans = record { each = fits };
-          few = count-few;
-          room = rw cells-are (m .room);
-        }
+        own-partitionable = map-partitionable (m .header) laid n e (record { each = fits }) count-few (m .room)
 
         same-ends : map canonical (spansIn ends count) ≡ map canonical (ownEnds (decode s))
         unfolding spansIn

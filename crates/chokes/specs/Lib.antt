@@ -4,3 +4,4 @@ pub mod Calls
 pub mod Cases
 pub mod Demand
 pub mod Marking
+pub mod Plans

@@ -17,7 +17,7 @@ use job::check_mark;
 use ranks::fill_identity;
 use ranks::fill_spans;
 
-fn size(x: u32) -> usize
+pub fn size(x: u32) -> usize
     ensures { λ r. ⌜ (r ≡ x) × (r < 0x1_0000_0000) ⌝ }
 {
     x as usize

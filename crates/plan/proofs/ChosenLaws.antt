@@ -31,7 +31,7 @@ pair {b = b} {c = c} p q = ap (λ (t : Bool). t && b) p ∙ ap (λ (t : Bool). c
 module _ {dirs : List ℕ} {g : Grid} {anchors : List WalkPosition} {l : List Item} {regions firsts seconds : List ℕ} {n : ℕ} (linked : Linked dirs g anchors l regions firsts seconds n)
     (ranked : Ranked (length l) firsts seconds n) where
   on-chosen : (t : ℕ → Bool) {chosen : List ℕ} → Filled (λ k. cond (t k) 1 0) n chosen → (k : ℕ) → k < n → isOn chosen k ≡ t k
-  on-chosen t {chosen} p k h = ap (λ (x : ℕ). eqb x 1) (p .each k h) ∙ on-mark regions firsts seconds chosen n (t k)
+  on-chosen t {chosen} p k h = ap (λ (x : ℕ). eqb x 1) (p .each k h) ∙ on-mark (t k)
 
   pub serial-chosen : {marks chosen : List ℕ} → Bridged dirs g l marks → Filled (λ k. cond (bothOn marks (at firsts k) (at seconds k)) 1 0) n chosen →
       serialLinks dirs g anchors l ≡ chosenLinks regions firsts seconds chosen n
@@ -41,7 +41,7 @@ module _ {dirs : List ℕ} {g : Grid} {anchors : List WalkPosition} {l : List It
       (λ k h. pair (bridge (at firsts k) (ranked .first-in k h)) (bridge (at seconds k) (ranked .second-in k h)) ∙ sym (on-chosen (λ j. bothOn marks (at firsts j) (at seconds j)) p k h))
     where
       bridge : (i : ℕ) → i < length l → bridgeAt dirs g l i ≡ isOn marks i
-      bridge i h = sym (ap (λ (x : ℕ). eqb x 1) (bridged .marks-are i h) ∙ on-mark regions firsts seconds chosen n (bridgeAt dirs g l i))
+      bridge i h = sym (ap (λ (x : ℕ). eqb x 1) (bridged .marks-are i h) ∙ on-mark (bridgeAt dirs g l i))
 
   pub flat-chosen : {limits : Limits} {flat chosen : List ℕ} (own into : List ℕ) (few : length l ≤ 256) → FlatInside limits dirs g l regions firsts seconds flat n → ((i : ℕ) → i < length l → endsAt l i ≡ spanIn own i) →
       ((i : ℕ) → i < length l → at into i ≡ serialGoes limits dirs g anchors l few i) →

@@ -13,18 +13,14 @@ use Rattle.groups.specs.Serial.{acceptsSerial}
 use Rattle.groups.specs.Flat.{acceptsFlat}
 use Rattle.groups.specs.Tables.{Linked, Bridged}
 use Rattle.groups.specs.Plan.{mergePlan}
-use Rattle.plan.specs.Arrays.{at, partFrom, joinedFrom, Ranked, Filled}
+use Rattle.plan.specs.Arrays.{at, Ranked, Filled}
 use Rattle.plan.specs.Shape.{bothOn, flatLinkIn}
 use Rattle.plan.specs.Told.{Told, Passed, FlatInside}
 use Rattle.plan.specs.Into.{serialInto, flatInto, goesTo}
+use Rattle.plan.specs.Planning.{Parted}
 use Rattle.plan.proofs.GoesLaws.{serial-into, flat-into}
 use Rattle.plan.proofs.MergeLaws.{goesBy, serialGoes, flatGoes, plan-goes}
 use Rattle.plan.proofs.ChosenLaws.{serial-chosen, flat-chosen}
-
--- the parts and the joined ranks of the chosen links
-pub record Parted (chosen firsts seconds : List ℕ) (count : ℕ) (parts joined : List ℕ) : Type 0 where
-  pub parted : Filled (partFrom chosen firsts seconds 0 count) 256 parts
-  pub marked : Filled (λ i. cond (joinedFrom chosen firsts seconds 0 count i) 1 0) 256 joined
 
 module _ (limits : Limits) {dirs : List ℕ} {g : Grid} {anchors : List WalkPosition} {l : List Item} {own bits lowers highers regions firsts seconds : List ℕ} {count : ℕ}
     (few : length l ≤ 256) (told : Told dirs g l (length l) own bits lowers highers) (linked : Linked dirs g anchors l regions firsts seconds count) (ranked : Ranked (length l) firsts seconds count) where

@@ -57,7 +57,7 @@ module _ (limits : Limits) {dirs : List ℕ} {g : Grid} {l : List Item} {n : ℕ
   joined-at : (i : ℕ) → i < n → isOn joined i ≡ isJoined ks i
   joined-at i h =
       ap (λ (x : ℕ). eqb x 1) (marked .each i (omega arith))
-      ∙ (on-mark regions firsts seconds chosen count (joinedFrom chosen firsts seconds 0 count i) ∙ sym (joined-by regions firsts seconds chosen count i))
+      ∙ (on-mark (joinedFrom chosen firsts seconds 0 count i) ∙ sym (joined-by regions firsts seconds chosen count i))
 
   part-at : (i : ℕ) → i < n → at parts i ≡ part (linkEdges ks) i
   part-at i h = parted .each i (omega arith) ∙ sym (part-by regions firsts seconds chosen count i)

@@ -88,16 +88,16 @@ module _ (limits : Limits) (own lowers highers regions firsts seconds : List ℕ
 
 module _ {n : ℕ} {own bits firsts seconds : List ℕ} {links : ℕ} (safe : Safe n own bits firsts seconds links) where
   rank-fits : (i : ℕ) → i < n → RankFits own i
-  rank-fits i l = record { below = omega (arith, safe .few); bounded = safe .spans i l }
+  rank-fits i l = record { below = omega (arith, safe .fit .few); bounded = safe .fit .spans i l }
 
   pub zero-fits : RankFits own 0
   zero-fits = rank-fits 0 (safe .some)
 
   pub link-fits : (k : ℕ) → k < links → LinkFits own firsts seconds k
   link-fits k l = record {
-    below = omega (arith, safe .ranked .few);
-    first = rank-fits (at firsts k) (safe .ranked .first-in k l);
-    second = rank-fits (at seconds k) (safe .ranked .second-in k l);
+    below = omega (arith, safe .fit .ranked .few);
+    first = rank-fits (at firsts k) (safe .fit .ranked .first-in k l);
+    second = rank-fits (at seconds k) (safe .fit .ranked .second-in k l);
   }
 
   pub ranks-fit : (t : ℕ → Bool) {f : Four} → f ≡ held (keep t (upFrom 0 n)) → Ranks own f
@@ -106,17 +106,17 @@ module _ {n : ℕ} {own bits firsts seconds : List ℕ} {links : ℕ} (safe : Sa
   pub widths-fit : (t : ℕ → Bool) {f : Four} → f ≡ held (keep t (upFrom 0 n)) → Widths bits f
   widths-fit t e =
       held-slots (WidthFits bits) (keep t (upFrom 0 n)) e
-      (λ x m. let l : x < n = omega (arith, up-mem 0 n (keep-mem t (upFrom 0 n) m .0)) in record { below = omega (arith, safe .few); fits = safe .widths x l })
-      (record { below = omega arith; fits = safe .widths 0 (safe .some) })
+      (λ x m. let l : x < n = omega (arith, up-mem 0 n (keep-mem t (upFrom 0 n) m .0)) in record { below = omega (arith, safe .fit .few); fits = safe .fit .widths x l })
+      (record { below = omega arith; fits = safe .fit .widths 0 (safe .some) })
 
   pub links-fit : (t : ℕ → Bool) {f : Four} → f ≡ held (keep t (upFrom 0 links)) → Links own firsts seconds f
   links-fit t e = held-slots (LinkFits own firsts seconds) (keep t (upFrom 0 links)) e (λ x m. link-fits x (omega (arith, up-mem 0 links (keep-mem t (upFrom 0 links) m .0)))) (link-fits 0 (safe .linked))
 
   pub wider-ranked : Ranked 256 firsts seconds links
   wider-ranked = record {
-    few = safe .ranked .few;
-    first-in = λ k l. omega (arith, safe .ranked .first-in k l, safe .few);
-    second-in = λ k l. omega (arith, safe .ranked .second-in k l, safe .few);
+    few = safe .fit .ranked .few;
+    first-in = λ k l. omega (arith, safe .fit .ranked .first-in k l, safe .fit .few);
+    second-in = λ k l. omega (arith, safe .fit .ranked .second-in k l, safe .fit .few);
   }
 
 pub few-kept : (t : ℕ → Bool) (n : ℕ) {f : Four} → f ≡ held (keep t (upFrom 0 n)) → n ≤ 256 → f .count ≤ 256

@@ -12,3 +12,5 @@ pub mod GoesLaws
 pub mod MergeLaws
 pub mod ChosenLaws
 pub mod EndLaws
+pub mod PlanLaws
+pub mod FromTables

@@ -16,6 +16,11 @@ use Rattle.groups.specs.Groups.{Group, linkEdges, isJoined, groupAt}
 use Rattle.plan.specs.Arrays.{at, isOn, linkRow, edgeRow, chosenFrom, partFrom, joinsAt, joinedFrom, inPart, linkIn, ranksIn, numbersIn, Ranked, Filled}
 use Rattle.plan.specs.Told.{groupBy}
 
+-- a mark is on just if what it marks holds
+pub on-mark : (b : Bool) → eqb (cond b 1 0) 1 ≡ b
+on-mark true = refl
+on-mark false = refl
+
 module _ (regions firsts seconds chosen : List ℕ) (links : ℕ) where
   -- the chosen links
   abbrev pub chosenLinks : List LinkAt
@@ -38,10 +43,6 @@ module _ (regions firsts seconds chosen : List ℕ) (links : ℕ) where
   pub joined-by : (i : ℕ) → isJoined chosenLinks i ≡ joinedFrom chosen firsts seconds 0 links i
   unfolding isJoined joinedFrom
   joined-by i = any-by i (chosenFrom chosen 0 links)
-
-  pub on-mark : (b : Bool) → eqb (cond b 1 0) 1 ≡ b
-  on-mark true = refl
-  on-mark false = refl
 
   as-and : (a b : Bool) → cond a b false ≡ a && b
   as-and true b = refl

@@ -33,11 +33,15 @@ Widths bits f = (j : ℕ) → WidthFits bits (slot f j)
 abbrev pub Slots : ℕ → Four → Type 0
 Slots n f = (j : ℕ) → slot f j < n
 
--- n ranks and their links, at least one of each
-pub record Safe (n : ℕ) (own bits firsts seconds : List ℕ) (links : ℕ) : Type 0 where
+-- n ranks and their links
+pub record Plannable (n : ℕ) (own bits firsts seconds : List ℕ) (links : ℕ) : Type 0 where
   pub few : n ≤ 256
-  pub some : 0 < n
-  pub linked : 0 < links
   pub ranked : Ranked n firsts seconds links
   pub spans : (i : ℕ) → i < n → SpanBounded (spanIn own i)
   pub widths : (i : ℕ) → i < n → at bits i ≤ 0x40D0_0000_0000_0000
+
+-- at least one of each
+pub record Safe (n : ℕ) (own bits firsts seconds : List ℕ) (links : ℕ) : Type 0 where
+  pub some : 0 < n
+  pub linked : 0 < links
+  pub fit : Plannable n own bits firsts seconds links

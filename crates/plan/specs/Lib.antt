@@ -4,3 +4,4 @@ pub mod Shape
 pub mod Fitting
 pub mod Told
 pub mod Into
+pub mod Planning

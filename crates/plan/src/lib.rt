@@ -10,3 +10,4 @@ pub mod accept; // the rules on a group
 pub mod select; // which links may make groups
 pub mod judge; // what becomes of the group that a part makes
 pub mod into; // which rank each rank goes into
+pub mod merge; // the merge plan of all ranks

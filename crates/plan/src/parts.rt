@@ -32,7 +32,7 @@ fn moved(c: u32, high: u32, low: u32) -> u32
 }
 
 // Each rank is a part of its own.
-fn start(parts: &mut [u32; 256])
+pub fn start(parts: &mut [u32; 256])
     requires { ⌜ length (now parts) ≡ 256 ⌝ }
     ensures { λ r. ⌜ Filled (λ i. i) 256 (now (parts .exit)) ⌝ }
 {

@@ -2,11 +2,11 @@
 use mathlib.Core.Path.{_≡_, refl, _∙_, ap}
 use mathlib.Core.Logic.{by-cases}
 use mathlib.Core.List.{List}
-use Prim.Native.Nat.{ℕ, _+_, _*_, _<_, _≤_}
+use Prim.Native.Nat.{ℕ, zero, suc, _+_, _*_, _<_, _≤_}
 use native.Mathlib.Omega.{arith}
 use native.Mathlib.Decide.{ℕ-discrete}
 use native.Mathlib.Nat.{mul-le-mul-right}
-use lib.ListN.{length, getD, set, length-set}
+use lib.ListN.{length, getD, set, length-set, replicate, length-replicate}
 use lib.Seq.{getD-set-same, getD-set-other}
 use Rattle.position.specs.Order.{canonical}
 use Rattle.position.specs.declared.Span.{Span}
@@ -89,6 +89,11 @@ module _ (ends : List ℕ) (i : ℕ) (s : Span) where
         put-at (4 * k + 3) (λ e. omega arith) (λ e. omega arith) (λ e. omega arith) (λ e. n (omega arith)),
       ) refl
 
+  -- what is behind it is as it was
+  pub put-behind : (k : ℕ) → 4 * (i + 1) ≤ k → getD (putSpan ends i s) k 0 ≡ getD ends k 0
+  unfolding putSpan
+  put-behind k h = put-at k (λ e. omega arith) (λ e. omega arith) (λ e. omega arith) (λ e. omega arith)
+
 -- one more span
 pub span-next : (f : ℕ → Span) (ends : List ℕ) (i : ℕ) {s : Span} → 4 * i + 3 < length ends → s ≡ f i → ((k : ℕ) → k < i → spanIn ends k ≡ f k) → (k : ℕ) → k < i + 1 → spanIn (putSpan ends i s) k ≡ f k
 span-next f ends i {s} b e h k m =
@@ -105,24 +110,31 @@ placed {s} {at} {stride} {order} {n} r i h =
     let b : n * stride ≤ 256 * stride = mul-le-mul-right stride (r .few) in
     record { small = omega (arith, a, b, r .most); ends = omega (arith, a, r .inside) }
 
-pub spans-start : {s : List ℕ} {at stride : ℕ} {order ends : List ℕ} → length ends ≡ 1024 → SpansOf s at stride order 0 ends
-spans-start e = record { whole = e; each = λ i h. absurd (omega arith) }
+zero-at : (n k : ℕ) → _≡_ {A = ℕ} (getD (replicate n 0) k 0) 0
+zero-at zero k = refl
+zero-at (suc n) zero = refl
+zero-at (suc n) (suc k) = zero-at n k
+
+pub spans-start : {s : List ℕ} {at stride : ℕ} {order : List ℕ} → SpansOf s at stride order 0 (replicate 1024 0)
+spans-start = record { whole = length-replicate {A = ℕ} 1024 0; each = λ i h. absurd (omega arith); rest = λ k h. zero-at 1024 k }
 
 pub spans-next : {s : List ℕ} {at stride : ℕ} {order : List ℕ} {i : ℕ} {ends : List ℕ} {p : ℕ} {e : Span} → SpansOf s at stride order i ends → i < 256
     → p ≡ recordPlace at stride order i → e ≡ canonical (spanAt s p) → SpansOf s at stride order (i + 1) (putSpan ends i e)
 spans-next {s} {at} {stride} {order} {i} {ends} {p} {e} v h a b = record {
   whole = put-length ends i e ∙ v .whole;
   each = span-next (λ k. canonical (spanAt s (recordPlace at stride order k))) ends i (omega (arith, v .whole)) (b ∙ ap (λ q. canonical (spanAt s q)) a) (v .each);
+  rest = λ k m. put-behind ends i e k m ∙ v .rest k (omega arith);
 }
 
-pub widths-start : {s : List ℕ} {at : ℕ} {order bits : List ℕ} → length bits ≡ 256 → WidthsOf s at order 0 bits
-widths-start e = record { whole = e; each = λ i h. absurd (omega arith) }
+pub widths-start : {s : List ℕ} {at : ℕ} {order : List ℕ} → WidthsOf s at order 0 (replicate 256 0)
+widths-start = record { whole = length-replicate {A = ℕ} 256 0; each = λ i h. absurd (omega arith); rest = λ k h. zero-at 256 k }
 
 pub widths-next : {s : List ℕ} {at : ℕ} {order : List ℕ} {i : ℕ} {bits : List ℕ} {p v : ℕ} → WidthsOf s at order i bits → i < 256
     → p ≡ recordPlace at boundarySize order i → v ≡ u64At s (p + 16) → WidthsOf s at order (i + 1) (set bits i v)
 widths-next {s} {at} {order} {i} {bits} {p} {v} w h a b = record {
   whole = length-set bits i v ∙ w .whole;
   each = entry-next (λ k. u64At s (recordPlace at boundarySize order k + 16)) bits i (omega (arith, w .whole)) (b ∙ ap (λ q. u64At s (q + 16)) a) (w .each);
+  rest = λ k m. getD-set-other bits i k v 0 (λ q. omega arith) ∙ w .rest k (omega arith);
 }
 
 pub ramps-start : {s : List ℕ} {at : ℕ} {order ramps : List ℕ} → length ramps ≡ 256 → RampsOf s at order 0 ramps

@@ -27,15 +27,17 @@ pub record Records (s : List ℕ) (at stride : ℕ) (order : List ℕ) (n : ℕ)
 unfoldable pub putSpan : List ℕ → ℕ → Span → List ℕ
 putSpan ends i s = set (set (set (set ends (4 * i) (s .a .x)) (4 * i + 1) (s .a .y)) (4 * i + 2) (s .b .x)) (4 * i + 3) (s .b .y)
 
--- the first n spans of the array: those of the records, earlier end first
+-- the first n spans of the array: those of the records, earlier end first; the numbers behind them are 0
 pub record SpansOf (s : List ℕ) (at stride : ℕ) (order : List ℕ) (n : ℕ) (ends : List ℕ) : Type 0 where
   pub whole : length ends ≡ 1024
   pub each : (i : ℕ) → i < n → spanIn ends i ≡ canonical (spanAt s (recordPlace at stride order i))
+  pub rest : (k : ℕ) → 4 * n ≤ k → getD ends k 0 ≡ 0
 
--- the width bits of boundary records
+-- the width bits of boundary records, 0 behind them
 pub record WidthsOf (s : List ℕ) (at : ℕ) (order : List ℕ) (n : ℕ) (bits : List ℕ) : Type 0 where
   pub whole : length bits ≡ 256
   pub each : (i : ℕ) → i < n → getD bits i 0 ≡ u64At s (recordPlace at boundarySize order i + 16)
+  pub rest : (k : ℕ) → n ≤ k → getD bits k 0 ≡ 0
 
 -- the ramp ends of boundary records
 pub record RampsOf (s : List ℕ) (at : ℕ) (order : List ℕ) (n : ℕ) (ramps : List ℕ) : Type 0 where

@@ -46,7 +46,7 @@ fn put_span(ends: &mut [u32; 1024], i: usize, s: Span)
     ends[4 * i + 3] = b.y;
 }
 
-// The spans of the records by rank, earlier end first.
+// The spans of the records by rank, earlier end first, and 0 behind them.
 pub fn fill_spans(
     s: &[u8],
     at: usize,
@@ -58,6 +58,7 @@ pub fn fill_spans(
     requires { ⌜ Records (now s) at stride (now order) n × (length (now ends) ≡ 1024) ⌝ }
     ensures { λ _. ⌜ SpansOf (now (s .entry)) at stride (now (order .entry)) n (now (ends .exit)) ⌝ }
 {
+    *ends = [0u32; 1024];
     let mut i: usize = 0;
     while i < n {
         let place = record_place(s, at, stride, order, n, i);
@@ -66,11 +67,12 @@ pub fn fill_spans(
     }
 }
 
-// The widths of boundaries by rank.
+// The widths of boundaries by rank, and 0 behind them.
 pub fn fill_widths(s: &[u8], at: usize, order: &[u32; 256], n: usize, bits: &mut [u64; 256])
     requires { ⌜ Records (now s) at boundarySize (now order) n × (length (now bits) ≡ 256) ⌝ }
     ensures { λ _. ⌜ WidthsOf (now (s .entry)) at (now (order .entry)) n (now (bits .exit)) ⌝ }
 {
+    *bits = [0u64; 256];
     let mut i: usize = 0;
     while i < n {
         let place = record_place(s, at, BOUNDARY_SIZE, order, n, i);

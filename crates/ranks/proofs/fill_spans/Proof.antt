@@ -21,7 +21,7 @@ abbrev μ-loop : tie.MeasureT-loop
 μ-loop s at stride order n ends₀ i₀ ends i = n - i
 
 loop-holds : tie.Need-loop-holds Inv-loop μ-loop
-loop-holds c = (spans-start (c .before .pre .1), omega arith)
+loop-holds c = (spans-start, omega arith)
 
 record-place-requires : tie.Need-record-place-requires Inv-loop μ-loop
 record-place-requires c κs = search needs
@@ -42,10 +42,10 @@ loop-less : tie.Need-loop-less Inv-loop μ-loop
 loop-less c = search needs
 
 loop-again : tie.Need-loop-again Inv-loop μ-loop
-loop-again c = rw (c .put-span .ensures) (spans-next (c .before .before .before .before .before .before .loop .inv .0) (omega (arith, c .before .before .before .before .before .loop-test .taken, c .before .before .before .before .before .before .before .before .pre .0 .few)) (c .before .before .before .before .record-place .ensures .0) (c .before .canonical .ensures ∙ ap canonical (c .before .before .read-span .ensures)), omega (arith, c .before .before .before .before .before .loop-test .taken))
+loop-again c = rw (c .put-span .ensures) (spans-next (c .before .before .before .before .before .before .loop .inv .0) (omega (arith, c .before .before .before .before .before .loop-test .taken, c .before .before .before .before .before .before .before .before .before .pre .0 .few)) (c .before .before .before .before .record-place .ensures .0) (c .before .canonical .ensures ∙ ap canonical (c .before .before .read-span .ensures)), omega (arith, c .before .before .before .before .before .loop-test .taken))
 
 returns : tie.Need-returns Inv-loop μ-loop
-returns c = let e : c .before .loop .i ≡ c .before .before .before .args .n = omega (arith, c .before .loop .inv .1, c .loop-test .left) in rw (← e) (c .before .loop .inv .0)
+returns c = let e : c .before .loop .i ≡ c .before .before .before .before .args .n = omega (arith, c .before .loop .inv .1, c .loop-test .left) in rw (← e) (c .before .loop .inv .0)
 
 pub fill-spans-spec : {M : Type 1} → statement M
 fill-spans-spec =

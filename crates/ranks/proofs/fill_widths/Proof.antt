@@ -18,7 +18,7 @@ abbrev μ-loop : tie.MeasureT-loop
 μ-loop s at order n bits₀ i₀ bits i = n - i
 
 loop-holds : tie.Need-loop-holds Inv-loop μ-loop
-loop-holds c = (widths-start (c .before .pre .1), omega arith)
+loop-holds c = (widths-start, omega arith)
 
 record-place-requires : tie.Need-record-place-requires Inv-loop μ-loop
 record-place-requires c κs = search needs
@@ -42,10 +42,10 @@ loop-less : tie.Need-loop-less Inv-loop μ-loop
 loop-less c = search needs
 
 loop-again : tie.Need-loop-again Inv-loop μ-loop
-loop-again c = (widths-next (c .before .before .before .loop .inv .0) (omega (arith, c .before .before .loop-test .taken, c .before .before .before .before .before .pre .0 .few)) (c .before .record-place .ensures .0) (c .read-u64 .ensures), omega (arith, c .before .before .loop-test .taken))
+loop-again c = (widths-next (c .before .before .before .loop .inv .0) (omega (arith, c .before .before .loop-test .taken, c .before .before .before .before .before .before .pre .0 .few)) (c .before .record-place .ensures .0) (c .read-u64 .ensures), omega (arith, c .before .before .loop-test .taken))
 
 returns : tie.Need-returns Inv-loop μ-loop
-returns c = let e : c .before .loop .i ≡ c .before .before .before .args .n = omega (arith, c .before .loop .inv .1, c .loop-test .left) in rw (← e) (c .before .loop .inv .0)
+returns c = let e : c .before .loop .i ≡ c .before .before .before .before .args .n = omega (arith, c .before .loop .inv .1, c .loop-test .left) in rw (← e) (c .before .loop .inv .0)
 
 pub fill-widths-spec : {M : Type 1} → statement M
 fill-widths-spec =

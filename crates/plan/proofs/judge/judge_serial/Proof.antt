@@ -15,13 +15,13 @@ use Rattle.plan.proofs.gather.ranks_of.Reads as ranks-of-reads
 use Rattle.plan.proofs.retain.retained.Reads as retained-reads
 
 ranks-of-requires : tie.Need-ranks-of-requires
-ranks-of-requires c κs = c .pre .2 .few
+ranks-of-requires c κs = c .pre .2 .fit .few
 
 links-of-requires : tie.Need-links-of-requires
 links-of-requires c κs = wider-ranked (c .before .pre .2)
 
 accepts-serial-requires : tie.Need-accepts-serial-requires
-accepts-serial-requires c κs = (c .before .before .pre .0, c .before .before .pre .1, few-kept (inPart (c .before .before .args .joined .now) (c .before .before .args .parts .now) (c .before .before .args .c)) (c .before .before .args .n) (c .before .ranks-of .ensures) ((c .before .before .pre .2) .few), few-kept (linkIn (c .before .before .args .chosen .now) (c .before .before .args .firsts .now) (c .before .before .args .parts .now) (c .before .before .args .c)) (c .before .before .args .links) (c .links-of .ensures) ((c .before .before .pre .2) .ranked .few), ranks-fit (c .before .before .pre .2) (inPart (c .before .before .args .joined .now) (c .before .before .args .parts .now) (c .before .before .args .c)) (c .before .ranks-of .ensures), links-fit (c .before .before .pre .2) (linkIn (c .before .before .args .chosen .now) (c .before .before .args .firsts .now) (c .before .before .args .parts .now) (c .before .before .args .c)) (c .links-of .ensures), zero-fits (c .before .before .pre .2))
+accepts-serial-requires c κs = (c .before .before .pre .0, c .before .before .pre .1, few-kept (inPart (c .before .before .args .joined .now) (c .before .before .args .parts .now) (c .before .before .args .c)) (c .before .before .args .n) (c .before .ranks-of .ensures) ((c .before .before .pre .2) .fit .few), few-kept (linkIn (c .before .before .args .chosen .now) (c .before .before .args .firsts .now) (c .before .before .args .parts .now) (c .before .before .args .c)) (c .before .before .args .links) (c .links-of .ensures) ((c .before .before .pre .2) .fit .ranked .few), ranks-fit (c .before .before .pre .2) (inPart (c .before .before .args .joined .now) (c .before .before .args .parts .now) (c .before .before .args .c)) (c .before .ranks-of .ensures), links-fit (c .before .before .pre .2) (linkIn (c .before .before .args .chosen .now) (c .before .before .args .firsts .now) (c .before .before .args .parts .now) (c .before .before .args .c)) (c .links-of .ensures), zero-fits (c .before .before .pre .2))
 
 returns : tie.Need-returns
 returns c = (judged-no (serialIn (limitsOf (c .before .before .before .before .args .limits)) (c .before .before .before .before .args .own .now) (c .before .before .before .before .args .lowers .now) (c .before .before .before .before .args .highers .now) (c .before .before .before .before .args .regions .now) (c .before .before .before .before .args .firsts .now) (c .before .before .before .before .args .seconds .now) (c .before .before .before .before .args .passing .now)) (serial-small (limitsOf (c .before .before .before .before .args .limits)) (c .before .before .before .before .args .own .now) (c .before .before .before .before .args .lowers .now) (c .before .before .before .before .args .highers .now) (c .before .before .before .before .args .regions .now) (c .before .before .before .before .args .firsts .now) (c .before .before .before .before .args .seconds .now) (c .before .before .before .before .args .passing .now) (c .before .before .before .before .pre .0) (c .before .before .before .before .pre .1)) (ranksIn (c .before .before .before .before .args .n) (c .before .before .before .before .args .joined .now) (c .before .before .before .before .args .parts .now) (c .before .before .before .before .args .c)) (numbersIn (c .before .before .before .before .args .links) (c .before .before .before .before .args .chosen .now) (c .before .before .before .before .args .firsts .now) (c .before .before .before .before .args .parts .now) (c .before .before .before .before .args .c)) (c .before .before .before .ranks-of .ensures) (c .before .before .links-of .ensures) ((retainedIn (limitsOf (c .before .before .before .before .args .limits)) (c .before .before .before .before .args .own .now) (c .before .before .before .before .args .bits .now)) (ranksIn (c .before .before .before .before .args .n) (c .before .before .before .before .args .joined .now) (c .before .before .before .before .args .parts .now) (c .before .before .before .before .args .c))) (c .before .accepts-serial .ensures) (c .if1 .taken), omega arith)

@@ -1,0 +1,65 @@
+-- The calls from what they plan and write.
+use mathlib.Core.Path.{_≡_, refl, subst}
+use mathlib.Core.List.{List}
+use mathlib.Core.Option.{none}
+use Prim.Native.Nat.{ℕ, _≤_, _<_}
+use native.Mathlib.Omega.{arith}
+use lib.ListN.{length}
+use Rattle.format.specs.Header.{headerAt}
+use Rattle.format.specs.Decode.{decode, decodeList}
+use Rattle.grid.specs.Directions.{eight}
+use Rattle.links.specs.Limits.{limits000}
+use Rattle.answer.specs.Gathered.{Ordered}
+use Rattle.job.specs.Checks.{firstRefusal}
+use Rattle.job.specs.Refusals.{jobChecks, reduceChecks, byListChecks}
+use Rattle.chokes.specs.Results.{ownEnds, reduced, reduceWith, reduceByListWith}
+use Rattle.chokes.specs.Calls.{reduceResult, reduceByListResult}
+use Rattle.chokes.specs.Marking.{leftBy}
+use Rattle.chokes.specs.Plans.{RankedBy, Made, answerBytes, Finished}
+use Rattle.encoding.specs.Answered.{Answerable, Answered}
+use Rattle.chokes.proofs.Own.{boundary-count}
+use Rattle.chokes.proofs.Leaving.{bytesBy, ordered, left-finished}
+
+-- what is written, or not
+pub finished-short : {bytes before after : List ℕ} {r : ℕ} → Answered bytes before after r → length before < r → Finished bytes before after 22 r
+finished-short y l = record {
+  long = y .long;
+  written = λ h. absurd (omega (arith, y .long));
+  unwritten = λ h. (refl, y .unwritten h);
+}
+
+pub finished-whole : {bytes before after : List ℕ} {r : ℕ} → Answered bytes before after r → r ≤ length before → Finished bytes before after 0 r
+finished-whole y l = record {
+  long = y .long;
+  written = λ h. (refl, y .written h);
+  unwritten = λ h. absurd (omega (arith, y .long));
+}
+
+-- a plan gives an answer
+pub answerable : (s order : List ℕ) → firstRefusal (jobChecks s) ≡ none → RankedBy (decode s) order → Answerable s (headerAt s) order
+unfolding headerAt
+answerable s order e k = record { passed = e; header = refl; ordered = subst (λ (n : ℕ). Ordered order n) (boundary-count s) (ordered (decode s) order k) }
+
+bytes-here : (s order plan : List ℕ) → answerBytes s order plan ≡ bytesBy (decode s .boundaries) order plan
+bytes-here s order plan = rw (boundary-count s) refl
+
+module _ (s order plan : List ℕ) {answer out : List ℕ} {number detail : ℕ} (f : Finished (answerBytes s order plan) answer out number detail) where
+  same-bytes : Finished (bytesBy (decode s .boundaries) order plan) answer out number detail
+  same-bytes = subst (λ (bs : List ℕ). Finished bs answer out number detail) (bytes-here s order plan) f
+
+  pub reduce-finished : {work after : List ℕ} {zero : ℕ} → Made (reduceChecks s) (decode s) (ownEnds (decode s)) work after order plan zero → leftBy number detail after out ≡ reduceResult s work answer
+  unfolding reduceResult reduceWith
+  reduce-finished y = left-finished y same-bytes
+
+  pub by-list-finished : (t : List ℕ) {work after : List ℕ} {zero : ℕ} → Made (byListChecks s t) (decode s) (decodeList t) work after order plan zero → leftBy number detail after out ≡ reduceByListResult s t work answer
+  unfolding reduceByListResult reduceByListWith
+  by-list-finished t y = left-finished y same-bytes
+
+-- a refusal is the call's
+pub reduce-as : (s work answer : List ℕ) → reduced limits000 eight (reduceChecks s) (decode s) (ownEnds (decode s)) work answer ≡ reduceResult s work answer
+unfolding reduceResult reduceWith
+reduce-as s work answer = refl
+
+pub by-list-as : (s t work answer : List ℕ) → reduced limits000 eight (byListChecks s t) (decode s) (decodeList t) work answer ≡ reduceByListResult s t work answer
+unfolding reduceByListResult reduceByListWith
+by-list-as s t work answer = refl

@@ -1,0 +1,44 @@
+use mathlib.Core.Path.{_≡_, _∙_}
+use native.Mathlib.Omega.{arith}
+use Rattle.chokes.proofs.Calling.{reduce-job}
+use Rattle.chokes.proofs.Finishing.{answerable, reduce-finished, reduce-as}
+use borrow.Author.Needs.{needs}
+use Rattle.chokes.proofs.reduce.chokes_reduce.Statement.{statement}
+use Rattle.chokes.proofs.reduce.chokes_reduce.Tie as tie
+use Rattle.chokes.proofs.reduce.chokes_reduce.Reads as reads
+use Rattle.chokes.proofs.reduce.chokes_reduce.Lts as lts
+use Rattle.chokes.proofs.reduce.finish.Reads as finish-reads
+use Rattle.chokes.proofs.plans.plan_reduce.Reads as plan-reduce-reads
+
+plan-reduce-requires : tie.Need-plan-reduce-requires
+plan-reduce-requires c κs = search needs
+
+same-length : tie.Need-same-length
+same-length c = search needs
+
+returns : tie.Need-returns
+returns c = c .before .before .before .before .plan-reduce .ensures .refused (c .if1 .taken) _ ∙ reduce-as _ _ _
+
+finish-requires : tie.Need-finish-requires
+finish-requires c κs = let z : c .before .before .before .before .before .before .before .plan-reduce .result .number ≡ 0 = omega (arith, c .before .before .before .if1 .left) in let y = c .before .before .before .before .before .before .before .plan-reduce .ensures .made z in answerable _ _ (reduce-job _ (y .passed)) (y .ranks)
+
+same-length-2 : tie.Need-same-length-2
+same-length-2 c = search needs
+
+same-length-3 : tie.Need-same-length-3
+same-length-3 c = search needs
+
+returns-2 : tie.Need-returns-2
+returns-2 c = let z : c .before .before .before .before .before .before .before .before .before .before .plan-reduce .result .number ≡ 0 = omega (arith, c .before .before .before .before .before .before .if1 .left) in reduce-finished _ _ _ (c .before .before .finish .ensures) (c .before .before .before .before .before .before .before .before .before .before .plan-reduce .ensures .made z)
+
+pub chokes-reduce-spec : {M : Type 1} → statement M
+chokes-reduce-spec =
+    tie.close
+    (tie.spec
+    plan-reduce-requires
+    same-length
+    returns
+    finish-requires
+    same-length-2
+    same-length-3
+    returns-2)

@@ -1,0 +1,63 @@
+// Reduce and Reduce by list: the answer that a plan gives.
+ghost use mathlib.Core.Path.{_≡_};
+ghost use Rattle.format.specs.Header.{headerAt};
+ghost use Rattle.chokes.specs.Calls.{reduceResult, reduceByListResult};
+ghost use Rattle.chokes.specs.Marking.{leftBy};
+ghost use Rattle.chokes.specs.Plans.{answerBytes, Finished};
+ghost use Rattle.encoding.specs.Answered.{Answerable};
+use crate::plans::plan_reduce;
+use crate::plans::plan_reduce_by_list;
+use crate::result::ChokesResult;
+use encoding::from_job::write_answer;
+use format::read_header;
+
+// Writes the answer of a plan where the slice has room for it.
+fn finish(job: &[u8], order: &[u32; 256], plan: &[u32; 256], answer: &mut [u8]) -> ChokesResult
+    requires { ⌜ Answerable (now job) (headerAt (now job)) (now order) ⌝ }
+    ensures { λ r. ⌜ Finished (answerBytes (now (job .entry)) (now (order .entry)) (now (plan .entry))) (now (answer .entry)) (now (answer .exit)) (r .number) (r .detail) ⌝ }
+{
+    let room = answer.len();
+    let h = read_header(job);
+    let n = write_answer(job, h, order, plan, answer);
+    if room < n {
+        return ChokesResult {
+            number: 22,
+            detail: n as u64,
+        };
+    }
+    ChokesResult {
+        number: 0,
+        detail: n as u64,
+    }
+}
+
+#[no_mangle]
+pub extern "C" fn chokes_reduce(job: &[u8], work: &mut [u8], answer: &mut [u8]) -> ChokesResult
+    ensures { λ r. ⌜ leftBy (r .number) (r .detail) (now (work .exit)) (now (answer .exit)) ≡ reduceResult (now (job .entry)) (now (work .entry)) (now (answer .entry)) ⌝ }
+{
+    let mut order = [0u32; 256];
+    let mut plan = [0u32; 256];
+    let r = plan_reduce(job, work, &mut order, &mut plan);
+    if 0 < r.number {
+        return r;
+    }
+    finish(job, &order, &plan, answer)
+}
+
+#[no_mangle]
+pub extern "C" fn chokes_reduce_by_list(
+    job: &[u8],
+    list: &[u8],
+    work: &mut [u8],
+    answer: &mut [u8],
+) -> ChokesResult
+    ensures { λ r. ⌜ leftBy (r .number) (r .detail) (now (work .exit)) (now (answer .exit)) ≡ reduceByListResult (now (job .entry)) (now (list .entry)) (now (work .entry)) (now (answer .entry)) ⌝ }
+{
+    let mut order = [0u32; 256];
+    let mut plan = [0u32; 256];
+    let r = plan_reduce_by_list(job, list, work, &mut order, &mut plan);
+    if 0 < r.number {
+        return r;
+    }
+    finish(job, &order, &plan, answer)
+}

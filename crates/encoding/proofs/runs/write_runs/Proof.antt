@@ -1,0 +1,80 @@
+use Rattle.encoding.proofs.Loops.{Running, running-start, run-room, running-next, running-end}
+use Prim.Native.Nat.{_-_}
+use native.Mathlib.Omega.{arith}
+use borrow.Author.Needs.{needs}
+use Rattle.encoding.proofs.runs.write_runs.Statement.{statement}
+use Rattle.encoding.proofs.runs.write_runs.Tie as tie
+use Rattle.encoding.proofs.runs.write_runs.Reads as reads
+use Rattle.encoding.proofs.runs.write_runs.Lts as lts
+use Rattle.encoding.proofs.reads.index.Reads as index-reads
+use Rattle.encoding.proofs.runs.run_length.Reads as run-length-reads
+use Rattle.encoding.proofs.runs.write_run.Reads as write-run-reads
+
+abbrev Inv-loop : tie.InvT-loop
+Inv-loop s₀ at seen from n starts counts keys to₀ i₀ s to i = Running seen starts counts keys from s₀ at i n s to
+
+abbrev μ-loop : tie.MeasureT-loop
+μ-loop s₀ at seen from n starts counts keys to₀ i₀ s to i = n - i
+
+loop-holds : tie.Need-loop-holds Inv-loop μ-loop
+loop-holds c = running-start (c .before .before .before .before .before .args .seen .now) (c .before .before .before .before .before .args .starts .now) (c .before .before .before .before .before .args .counts .now) (c .before .before .before .before .before .args .keys .now) (c .before .before .before .before .before .args .from) _ _ _
+
+add-index : tie.Need-add-index Inv-loop μ-loop
+add-index c = omega (arith, c .before .loop .inv .below-count)
+
+index-requires : tie.Need-index-requires Inv-loop μ-loop
+index-requires c κs = search needs
+
+run-length-requires : tie.Need-run-length-requires Inv-loop μ-loop
+run-length-requires c κs = search needs
+
+cast-count : tie.Need-cast-count Inv-loop μ-loop
+cast-count c = search needs
+
+index-requires-2 : tie.Need-index-requires-2 Inv-loop μ-loop
+index-requires-2 c κs = search needs
+
+write-run-requires : tie.Need-write-run-requires Inv-loop μ-loop
+write-run-requires c κs = (run-room (c .before .before .before .before .before .before .before .before .before .before .before .args .seen .now) (c .before .before .before .before .before .before .before .before .before .before .before .args .starts .now) (c .before .before .before .before .before .before .before .before .before .before .before .args .counts .now) (c .before .before .before .before .before .before .before .before .before .before .before .args .keys .now) (c .before .before .before .before .before .before .before .before .before .before .before .args .from) (c .before .before .before .before .before .loop .inv) (c .before .before .before .before .before .before .before .before .before .before .before .pre .0) (c .before .before .before .before .loop-test .taken) (c .before .before .before .index .result) (c .index2 .result) (c .before .before .run-length .result) (c .before .before .before .index .ensures .0) (c .index2 .ensures .0) (c .before .before .run-length .ensures), omega (arith, c .index2 .ensures .1), omega arith)
+
+mul-to : tie.Need-mul-to Inv-loop μ-loop
+mul-to c = omega arith
+
+add-to : tie.Need-add-to Inv-loop μ-loop
+add-to c = omega (arith, run-room (c .before .before .before .before .before .before .before .before .before .before .before .before .before .before .args .seen .now) (c .before .before .before .before .before .before .before .before .before .before .before .before .before .before .args .starts .now) (c .before .before .before .before .before .before .before .before .before .before .before .before .before .before .args .counts .now) (c .before .before .before .before .before .before .before .before .before .before .before .before .before .before .args .keys .now) (c .before .before .before .before .before .before .before .before .before .before .before .before .before .before .args .from) (c .before .before .before .before .before .before .before .before .loop .inv) (c .before .before .before .before .before .before .before .before .before .before .before .before .before .before .pre .0) (c .before .before .before .before .before .before .before .loop-test .taken) (c .before .before .before .before .before .before .index .result) (c .before .before .before .index2 .result) (c .before .before .before .before .before .run-length .result) (c .before .before .before .before .before .before .index .ensures .0) (c .before .before .before .index2 .ensures .0) (c .before .before .before .before .before .run-length .ensures))
+
+add-i : tie.Need-add-i Inv-loop μ-loop
+add-i c = search needs
+
+loop-less : tie.Need-loop-less Inv-loop μ-loop
+loop-less c = search needs
+
+loop-again : tie.Need-loop-again Inv-loop μ-loop
+loop-again c = running-next (c .before .before .before .before .before .before .before .before .before .before .before .before .before .before .args .seen .now) (c .before .before .before .before .before .before .before .before .before .before .before .before .before .before .args .starts .now) (c .before .before .before .before .before .before .before .before .before .before .before .before .before .before .args .counts .now) (c .before .before .before .before .before .before .before .before .before .before .before .before .before .before .args .keys .now) (c .before .before .before .before .before .before .before .before .before .before .before .before .before .before .args .from) (c .before .before .before .before .before .before .before .before .loop .inv) (c .before .before .before .before .before .before .before .before .before .before .before .before .before .before .pre .0) (c .before .before .before .before .before .before .before .loop-test .taken) (c .before .before .before .before .before .before .index .result) (c .before .before .before .index2 .result) (c .before .before .before .before .before .run-length .result) (c .before .before .before .before .before .before .index .ensures .0) (c .before .before .before .index2 .ensures .0) (c .before .before .before .before .before .run-length .ensures) (c .before .before .write-run .ensures)
+
+same-length : tie.Need-same-length Inv-loop μ-loop
+same-length c = c .before .loop .inv .writes .long
+
+returns : tie.Need-returns Inv-loop μ-loop
+returns c = running-end (c .before .before .before .before .before .before .before .args .seen .now) (c .before .before .before .before .before .before .before .args .starts .now) (c .before .before .before .before .before .before .before .args .counts .now) (c .before .before .before .before .before .before .before .args .keys .now) (c .before .before .before .before .before .before .before .args .from) (c .before .loop .inv) (omega arith)
+
+pub write-runs-spec : {M : Type 1} → statement M
+write-runs-spec =
+    tie.close
+    (tie.spec
+    Inv-loop
+    μ-loop
+    loop-holds
+    add-index
+    index-requires
+    run-length-requires
+    cast-count
+    index-requires-2
+    write-run-requires
+    mul-to
+    add-to
+    add-i
+    loop-less
+    loop-again
+    same-length
+    returns)

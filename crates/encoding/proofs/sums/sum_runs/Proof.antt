@@ -1,0 +1,59 @@
+use Rattle.encoding.proofs.Loops.{Cited, cited-start, cited-next, cited-end}
+use Prim.Native.Nat.{_-_}
+use native.Mathlib.Omega.{arith}
+use borrow.Author.Needs.{needs}
+use Rattle.encoding.proofs.sums.sum_runs.Statement.{statement}
+use Rattle.encoding.proofs.sums.sum_runs.Tie as tie
+use Rattle.encoding.proofs.sums.sum_runs.Reads as reads
+use Rattle.encoding.proofs.sums.sum_runs.Lts as lts
+use Rattle.encoding.proofs.reads.index.Reads as index-reads
+use Rattle.encoding.proofs.runs.run_length.Reads as run-length-reads
+
+abbrev Inv-loop : tie.InvT-loop
+Inv-loop seen n starts counts keys t₀ i₀ t i = Cited seen starts counts keys n i t
+
+abbrev μ-loop : tie.MeasureT-loop
+μ-loop seen n starts counts keys t₀ i₀ t i = n - i
+
+loop-holds : tie.Need-loop-holds Inv-loop μ-loop
+loop-holds c = cited-start _ _ _ _ _
+
+index-requires : tie.Need-index-requires Inv-loop μ-loop
+index-requires c κs = search needs
+
+run-length-requires : tie.Need-run-length-requires Inv-loop μ-loop
+run-length-requires c κs = search needs
+
+cast-t : tie.Need-cast-t Inv-loop μ-loop
+cast-t c = search needs
+
+add-t : tie.Need-add-t Inv-loop μ-loop
+add-t c = omega (arith, c .before .before .before .loop .inv .small)
+
+add-i : tie.Need-add-i Inv-loop μ-loop
+add-i c = search needs
+
+loop-less : tie.Need-loop-less Inv-loop μ-loop
+loop-less c = search needs
+
+loop-again : tie.Need-loop-again Inv-loop μ-loop
+loop-again c = cited-next (c .before .before .before .before .before .before .before .before .args .seen .now) (c .before .before .before .before .before .before .before .before .args .starts .now) (c .before .before .before .before .before .before .before .before .args .counts .now) (c .before .before .before .before .before .before .before .before .args .keys .now) (c .before .index .result) (c .run-length .result) (omega arith) (c .before .before .before .loop .inv) (c .before .before .loop-test .taken) (c .before .index .ensures .0) (c .run-length .ensures)
+
+returns : tie.Need-returns Inv-loop μ-loop
+returns c = cited-end (c .before .before .before .before .before .before .args .seen .now) (c .before .before .before .before .before .before .args .starts .now) (c .before .before .before .before .before .before .args .counts .now) (c .before .before .before .before .before .before .args .keys .now) (c .before .loop .inv) (omega arith)
+
+pub sum-runs-spec : {M : Type 1} → statement M
+sum-runs-spec =
+    tie.close
+    (tie.spec
+    Inv-loop
+    μ-loop
+    loop-holds
+    index-requires
+    run-length-requires
+    cast-t
+    add-t
+    add-i
+    loop-less
+    loop-again
+    returns)

@@ -1,0 +1,22 @@
+use Rattle.encoding.specs.Pieces.{keyBits}
+use borrow.Author.Tests.{lt-ltb, le-ltb}
+use native.Mathlib.Omega.{arith}
+use borrow.Author.Needs.{needs}
+use Rattle.encoding.proofs.units.bits_of.Statement.{statement}
+use Rattle.encoding.proofs.units.bits_of.Tie as tie
+use Rattle.encoding.proofs.units.bits_of.Reads as reads
+use Rattle.encoding.proofs.units.bits_of.Lts as lts
+
+sub-result : tie.Need-sub-result
+sub-result c = search needs
+
+returns : tie.Need-returns
+unfolding keyBits
+returns c = simp (lt-ltb _ _ (c .if1 .taken))
+
+returns-2 : tie.Need-returns-2
+unfolding keyBits
+returns-2 c = simp (le-ltb _ _ (c .if1 .left), lt-ltb (c .before .args .v) 0x1_0000_0000_0000_0000 (omega arith))
+
+pub bits-of-spec : {M : Type 1} → statement M
+bits-of-spec = tie.close (tie.spec sub-result returns returns-2)

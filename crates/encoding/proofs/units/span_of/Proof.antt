@@ -1,0 +1,28 @@
+use Rattle.encoding.specs.Pieces.{keySpan}
+use borrow.Author.Needs.{needs}
+use Rattle.encoding.proofs.units.span_of.Statement.{statement}
+use Rattle.encoding.proofs.units.span_of.Tie as tie
+use Rattle.encoding.proofs.units.span_of.Reads as reads
+use Rattle.encoding.proofs.units.span_of.Lts as lts
+use Rattle.encoding.proofs.units.high.Reads as high-reads
+use Rattle.encoding.proofs.units.low.Reads as low-reads
+
+high-requires : tie.Need-high-requires
+high-requires c κs = search needs
+
+low-requires : tie.Need-low-requires
+low-requires c κs = search needs
+
+high-requires-2 : tie.Need-high-requires-2
+high-requires-2 c κs = search needs
+
+low-requires-2 : tie.Need-low-requires-2
+low-requires-2 c κs = search needs
+
+returns : tie.Need-returns
+unfolding keySpan
+returns c = cc (c .before .before .before .high .ensures, c .before .before .low .ensures, c .before .high2 .ensures, c .low2 .ensures)
+
+pub span-of-spec : {M : Type 1} → statement M
+span-of-spec =
+    tie.close (tie.spec high-requires low-requires high-requires-2 low-requires-2 returns)

@@ -1,0 +1,126 @@
+-- Those that go into one rank, one rank after another.
+use mathlib.Core.Path.{_≡_, refl, sym, _∙_, ap, subst}
+use mathlib.Core.Bool.{Bool, true, false, cond}
+use mathlib.Core.List.{List, [], _∷_, _++_, append-assoc, append-nil}
+use Prim.Native.Nat.{ℕ, _+_, _≤_, _<_}
+use native.Mathlib.Omega.{arith}
+use lib.Dec.{eqb, leb}
+use lib.ListN.{length, getD}
+use borrow.Author.Tests.{eq-eqb, eqb-true}
+use Rattle.wire.specs.Bytes.{part}
+use Rattle.wire.proofs.Parts.{length-part}
+use Rattle.order.specs.Lists.{keep, gather, upFrom}
+use Rattle.order.proofs.Bools.{is-false}
+use Rattle.lists.proofs.Rows.{sum-prefix}
+use Rattle.order.proofs.Keep.{keep-append}
+use Rattle.order.specs.Sorting.{sortOnce}
+use Rattle.sorting.specs.Between.{between, Front}
+use Rattle.merging.specs.Planned.{members}
+use Rattle.answer.specs.Laying.{below}
+use Rattle.answer.proofs.Lays.{below-next}
+use Rattle.gathering.specs.Runs.{Added, going, ownAt, ownRun, ownWeight, into}
+use Rattle.gathering.specs.Room.{OwnRoom}
+use Rattle.gathering.proofs.Fills.{up-last, added-none, added-is, added-then, added-once}
+
+-- What a test takes of one more number.
+pub keep-last : (t : ℕ → Bool) (j : ℕ) → keep t (upFrom 0 (j + 1)) ≡ keep t (upFrom 0 j) ++ cond (t j) (j ∷ []) []
+unfolding keep
+keep-last t j =
+    let e : 0 + j ≡ j = omega arith in
+    ap (keep t) (up-last 0 j ∙ ap (λ (z : ℕ). upFrom 0 j ++ (z ∷ [])) e) ∙ keep-append t (upFrom 0 j) (j ∷ [])
+
+pub gather-append : (f : ℕ → List ℕ) (l m : List ℕ) → gather f (l ++ m) ≡ gather f l ++ gather f m
+unfolding gather
+gather-append f [] m = refl
+gather-append f (x ∷ l) m = ap (λ (t : List ℕ). f x ++ t) (gather-append f l m) ∙ sym (append-assoc (f x) (gather f l) (gather f m))
+
+pub gather-one : (f : ℕ → List ℕ) (b : Bool) (j : ℕ) → gather f (cond b (j ∷ []) []) ≡ cond b (f j) []
+unfolding gather
+gather-one f true j = append-nil (f j)
+gather-one f false j = refl
+
+pub going-last : (plan : List ℕ) (j i : ℕ) → going plan (j + 1) i ≡ going plan j i ++ cond (eqb (getD plan j 0) i) (j ∷ []) []
+unfolding members
+going-last plan j i = keep-last (λ k. eqb (getD plan k 0) i) j
+
+pub going-none : (plan : List ℕ) (i : ℕ) → going plan 0 i ≡ []
+unfolding members keep upFrom
+going-none plan i = refl
+
+pub gather-last : (f : ℕ → List ℕ) (plan : List ℕ) (j i : ℕ) → gather f (going plan (j + 1) i) ≡ gather f (going plan j i) ++ cond (eqb (getD plan j 0) i) (f j) []
+gather-last f plan j i =
+    ap (gather f) (going-last plan j i)
+    ∙ (gather-append f (going plan j i) (cond (eqb (getD plan j 0) i) (j ∷ []) [])
+    ∙ ap (λ (t : List ℕ). gather f (going plan j i) ++ t) (gather-one f (eqb (getD plan j 0) i) j))
+
+pub gather-none : (f : ℕ → List ℕ) (plan : List ℕ) (i : ℕ) → gather f (going plan 0 i) ≡ []
+unfolding gather
+gather-none f plan i = ap (gather f) (going-none plan i)
+
+length-cond : {A : Type 0} (b : Bool) (l : List A) → length (cond b l []) ≡ cond b (length l) 0
+length-cond true l = refl
+length-cond false l = refl
+
+cond-le : (b : Bool) (k m : ℕ) → k ≤ m → cond b k 0 ≤ cond b m 0
+cond-le true k m h = h
+cond-le false k m h = omega arith
+
+-- One more rank's run, if it goes into rank i.
+module _ {l₀ l m : List ℕ} {from to r : ℕ} (f : ℕ → List ℕ) (plan : List ℕ) (j i : ℕ)
+    (a : Added l₀ from (gather f (going plan j i)) l to) (g : Added l to (cond (eqb (getD plan j 0) i) (f j) []) m r) where
+  pub runs-next : Added l₀ from (gather f (going plan (j + 1) i)) m r
+  runs-next = added-is (added-then a g) refl (sym (gather-last f plan j i))
+
+  pub weight-next : (w : ℕ → ℕ) → length (f j) ≤ w j → to ≤ from + below (into plan w i) j → r ≤ from + below (into plan w i) (j + 1)
+  weight-next w h e =
+      omega (arith, e, g .ends, length-cond (eqb (getD plan j 0) i) (f j), cond-le (eqb (getD plan j 0) i) (length (f j)) (w j) h, below-next (into plan w i) j)
+
+pub runs-start : (f : ℕ → List ℕ) (plan : List ℕ) (i : ℕ) (l : List ℕ) (from : ℕ) → Added l from (gather f (going plan 0 i)) l from
+runs-start f plan i l from = added-is (added-none l from) refl (sym (gather-none f plan i))
+
+pub runs-end : {l m : List ℕ} {from to : ℕ} (f : ℕ → List ℕ) (w : ℕ → ℕ) (plan : List ℕ) (i j n : ℕ) → Added l from (gather f (going plan j i)) m to → to ≤ from + below (into plan w i) j → j ≤ n → n ≤ j
+    → Added l from (gather f (going plan n i)) m to × (to ≤ from + below (into plan w i) n)
+runs-end {l} {m} {from} {to} f w plan i j n a b h k =
+    let e : j ≡ n = omega arith in
+    (added-is a refl (ap (λ (z : ℕ). gather f (going plan z i)) e), subst (λ (z : ℕ). to ≤ from + below (into plan w i) z) e b)
+
+-- Nothing of a rank that goes elsewhere, its run of one that goes there.
+pub elsewhere : (l xs : List ℕ) (to : ℕ) {x y z : ℕ} → z ≡ x → (z ≡ y → ⊥) → Added l to (cond (eqb x y) xs []) l to
+elsewhere l xs to {x} {y} e h = rw (is-false (eqb x y) (λ q. h (e ∙ eqb-true x y q))) (added-none l to)
+
+pub there : {l m xs : List ℕ} {to r x y z : ℕ} → z ≡ x → z ≡ y → Added l to xs m r → Added l to (cond (eqb x y) xs []) m r
+there {x = x} {y = y} e h a = rw (eq-eqb x y (sym e ∙ h)) a
+
+-- The own sources of rank j, which has place z.
+module _ {order starts counts keys : List ℕ} {n j : ℕ} (room : OwnRoom order starts counts keys n) (h : j < n) {z a m : ℕ}
+    (e : z ≡ getD order j 0) (s : a ≡ getD starts (1024 + z) 0) (c : m ≡ getD counts (1024 + z) 0) where
+  pub own-inside : a + m ≤ length keys
+  own-inside =
+      let b : z < n = rw e (room .order-in j h) in
+      omega (arith, s, c, room .inside z b)
+
+  pub own-count : m ≡ getD counts (1024 + getD order j 0) 0
+  own-count = c ∙ ap (λ (k : ℕ). getD counts (1024 + k) 0) e
+
+  pub own-part : part keys a m ≡ ownAt order starts counts keys j
+  own-part = ap (λ (k : ℕ). part keys k m) (s ∙ ap (λ (k : ℕ). getD starts (1024 + k) 0) e) ∙ ap (part keys (getD starts (1024 + getD order j 0) 0)) own-count
+
+  pub own-room : (plan : List ℕ) (to k : ℕ) {x i : ℕ} → x ≡ getD plan j 0 → x ≡ i → to + into plan (ownWeight order counts) i j ≤ k → to + m ≤ k
+  own-room plan to k {x} {i} p q l =
+      let v : into plan (ownWeight order counts) i j ≡ ownWeight order counts j = rw (eq-eqb (getD plan j 0) i (sym p ∙ q)) in
+      omega (arith, l, v, own-count)
+
+pub own-long : {order starts counts keys : List ℕ} {n : ℕ} → OwnRoom order starts counts keys n → (j : ℕ) → j < n → length (ownAt order starts counts keys j) ≤ ownWeight order counts j
+own-long {order} {starts} {counts} {keys} r j h =
+    let e = length-part keys (getD starts (1024 + getD order j 0) 0) (getD counts (1024 + getD order j 0) 0) (r .inside (getD order j 0) (r .order-in j h)) in
+    omega (arith, e)
+
+-- The first ranks weigh no more than all.
+pub into-part : (plan : List ℕ) (w : ℕ → ℕ) (i j n : ℕ) → j < n → below (into plan w i) j + into plan w i j ≤ below (into plan w i) n
+into-part plan w i j n h = omega (arith, below-next (into plan w i) j, sum-prefix (j + 1) n (into plan w i) (omega arith))
+
+-- These, sorted and each once.
+pub own-gathered : {l₀ l m : List ℕ} {from to r : ℕ} (order plan starts counts keys : List ℕ) (n i : ℕ) → Added l₀ from (gather (ownAt order starts counts keys) (going plan n i)) l to
+    → from ≤ length l₀ → Front l from to (sortOnce leb (between l from to)) m r → length m ≡ length l → Added l₀ from (ownRun order plan starts counts keys n i) m r
+unfolding ownRun
+own-gathered order plan starts counts keys n i a h f d = added-once a h f d

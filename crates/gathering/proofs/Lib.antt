@@ -1,0 +1,6 @@
+pub mod Fills
+pub mod Goings
+pub mod Weights
+pub mod Sights
+pub mod Kepts
+pub mod Answered

@@ -1,0 +1,23 @@
+use native.Mathlib.Omega.{arith}
+use Rattle.gathering.proofs.Sights.{counted-one, counted-none}
+use borrow.Author.Needs.{needs}
+use Rattle.gathering.proofs.casts.counted.Statement.{statement}
+use Rattle.gathering.proofs.casts.counted.Tie as tie
+use Rattle.gathering.proofs.casts.counted.Reads as reads
+use Rattle.gathering.proofs.casts.counted.Lts as lts
+use Rattle.gathering.proofs.casts.size.Reads as size-reads
+
+-- src/casts.rt:17:8
+size-requires : tie.Need-size-requires
+size-requires c κs = search needs
+
+-- src/casts.rt:18:9
+returns : tie.Need-returns
+returns c = (counted-one (c .before .size .ensures .0) (c .if1 .taken), omega arith)
+
+-- src/casts.rt:14:1
+returns-2 : tie.Need-returns-2
+returns-2 c = (counted-none (c .before .size .ensures .0) (c .if1 .left), omega arith)
+
+pub counted-spec : {M : Type 1} → statement M
+counted-spec = tie.close (tie.spec size-requires returns returns-2)

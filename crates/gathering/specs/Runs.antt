@@ -1,0 +1,89 @@
+-- What is gathered for each kept rank, and how much of the room it takes.
+use mathlib.Core.Path.{_≡_}
+use mathlib.Core.Bool.{cond}
+use mathlib.Core.List.{List, _++_, map}
+use Prim.Native.Nat.{ℕ, suc, _+_, _≤_}
+use lib.Dec.{eqb, ltb, leb}
+use lib.ListN.{length, getD, take}
+use Rattle.order.specs.Lists.{keep, gather, upFrom}
+use Rattle.order.specs.Sorting.{sort, sortOnce}
+use Rattle.sorting.specs.Orders.{byRun}
+use Rattle.merging.specs.Planned.{members}
+use Rattle.answer.specs.Laying.{below}
+use Rattle.answer.specs.Squeezed.{partOf}
+use Rattle.answer.specs.Gathered.{placesFrom}
+
+-- The first n elements of l are xs.
+pub record Filled (l : List ℕ) (n : ℕ) (xs : List ℕ) : Type 0 where
+  pub many : n ≡ length xs
+  pub there : take n l ≡ xs
+
+-- `more` written after the first `from` elements: up to r.
+pub record Added (before : List ℕ) (from : ℕ) (more after : List ℕ) (r : ℕ) : Type 0 where
+  pub long : length after ≡ length before
+  pub ends : r ≡ from + length more
+  pub there : take r after ≡ take from before ++ more
+
+-- The ranks that a plan keeps, of the first n.
+unfoldable pub keptRanks : (plan : List ℕ) → ℕ → List ℕ
+unfolding keep upFrom
+keptRanks plan n = keep (λ i. eqb (getD plan i 0) i) (upFrom 0 n)
+
+-- Of n ranks, those that go into rank i.
+abbrev pub going : (plan : List ℕ) → ℕ → ℕ → List ℕ
+going plan n i = members (λ j. getD plan j 0) n i
+
+-- The own sources of rank j.
+abbrev pub ownAt : (order starts counts keys : List ℕ) → ℕ → List ℕ
+ownAt order starts counts keys j = partOf keys starts counts (1024 + getD order j 0)
+
+-- All own sources of those that go into rank i, sorted, each once.
+unfoldable pub ownRun : (order plan starts counts keys : List ℕ) → ℕ → ℕ → List ℕ
+unfolding members gather sortOnce
+ownRun order plan starts counts keys n i = sortOnce leb (gather (ownAt order starts counts keys) (going plan n i))
+
+-- The places of what rank j observed.
+abbrev pub placesAt : (order firsts : List ℕ) (seen : ℕ → ℕ) (among : ℕ) → ℕ → List ℕ
+placesAt order firsts seen among j = placesFrom firsts seen (eqb among 1) (getD order j 0)
+
+-- The places of all that those observed that go into rank i, sorted.
+unfoldable pub seenRun : (order plan firsts first second third starts counts keys : List ℕ) (seen : ℕ → ℕ) → ℕ → ℕ → List ℕ
+unfolding members gather placesFrom sort byRun
+seenRun order plan firsts first second third starts counts keys seen n i =
+    sort (byRun first second third starts counts keys) (gather (placesAt order firsts seen (length (going plan n i))) (going plan n i))
+
+-- How many own sources rank j has, and how many places its observations take at most.
+abbrev pub ownWeight : (order counts : List ℕ) → ℕ → ℕ
+ownWeight order counts j = getD counts (1024 + getD order j 0) 0
+
+abbrev pub seenWeight : (order : List ℕ) (seen : ℕ → ℕ) → ℕ → ℕ
+seenWeight order seen j = suc (seen (getD order j 0))
+
+-- A weight of those that go into rank i, and of those that go into a lower one.
+abbrev pub into : (plan : List ℕ) (weight : ℕ → ℕ) → ℕ → ℕ → ℕ
+into plan weight i j = cond (eqb (getD plan j 0) i) (weight j) 0
+
+abbrev pub lower : (plan : List ℕ) (weight : ℕ → ℕ) → ℕ → ℕ → ℕ
+lower plan weight i j = cond (ltb (getD plan j 0) i) (weight j) 0
+
+-- The own sources of the kept ranks below i, which end at a: each one's place, how many own sources it has, and these.
+pub record OwnsBy (order plan starts counts keys : List ℕ) (n i k a : ℕ) (kept owns owned : List ℕ) : Type 0 where
+  pub few : k ≤ i
+  pub kept-there : Filled kept k (map (λ j. getD order j 0) (keptRanks plan i))
+  pub owns-there : Filled owns k (map (λ j. length (ownRun order plan starts counts keys n j)) (keptRanks plan i))
+  pub owned-there : Filled owned a (gather (ownRun order plan starts counts keys n) (keptRanks plan i))
+  pub room : a ≤ below (lower plan (ownWeight order counts) i) n
+
+-- The places of their observations, which end at a: how many each one has, and these.
+pub record SeensBy (order plan firsts first second third starts counts keys : List ℕ) (count : ℕ → ℕ) (n i k a : ℕ) (seens seen : List ℕ) : Type 0 where
+  pub few : k ≤ i
+  pub seens-there : Filled seens k (map (λ j. length (seenRun order plan firsts first second third starts counts keys count n j)) (keptRanks plan i))
+  pub seen-there : Filled seen a (gather (seenRun order plan firsts first second third starts counts keys count n) (keptRanks plan i))
+  pub room : a ≤ below (lower plan (seenWeight order count) i) n
+
+-- How many of each are gathered in all.
+abbrev pub ownTotal : (order plan starts counts keys : List ℕ) → ℕ → ℕ
+ownTotal order plan starts counts keys n = length (gather (ownRun order plan starts counts keys n) (keptRanks plan n))
+
+abbrev pub seenTotal : (order plan firsts first second third starts counts keys : List ℕ) (count : ℕ → ℕ) → ℕ → ℕ
+seenTotal order plan firsts first second third starts counts keys count n = length (gather (seenRun order plan firsts first second third starts counts keys count n) (keptRanks plan n))

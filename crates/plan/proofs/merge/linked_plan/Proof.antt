@@ -1,0 +1,25 @@
+use Rattle.plan.proofs.PlanLaws.{plan-of}
+use borrow.Author.Needs.{needs}
+use Rattle.plan.proofs.merge.linked_plan.Statement.{statement}
+use Rattle.plan.proofs.merge.linked_plan.Tie as tie
+use Rattle.plan.proofs.merge.linked_plan.Reads as reads
+use Rattle.plan.proofs.merge.linked_plan.Lts as lts
+use Rattle.plan.proofs.into.combine.Reads as combine-reads
+use Rattle.plan.proofs.merge.flat_plan.Reads as flat-plan-reads
+use Rattle.plan.proofs.merge.serial_plan.Reads as serial-plan-reads
+
+serial-plan-requires : tie.Need-serial-plan-requires
+serial-plan-requires c κs = search needs
+
+flat-plan-requires : tie.Need-flat-plan-requires
+flat-plan-requires c κs = search needs
+
+combine-requires : tie.Need-combine-requires
+combine-requires c κs = search needs
+
+returns : tie.Need-returns
+returns c = plan-of (c .before .before .before .before .before .before .before .before .before .pre .2 .fit .few) (c .before .before .before .before .before .before .before .before .before .pre .2 .some) (c .before .before .before .before .before .before .before .before .before .pre .2 .fit .ranked) (c .before .before .before .before .before .before .before .serial-plan .ensures) (c .before .before .before .before .flat-plan .ensures) (c .combine .ensures)
+
+pub linked-plan-spec : {M : Type 1} → statement M
+linked-plan-spec =
+    tie.close (tie.spec serial-plan-requires flat-plan-requires combine-requires returns)

@@ -1,0 +1,32 @@
+use native.Mathlib.Omega.{arith}
+use Rattle.plan.proofs.PlanLaws.{plan-none, plan-unlinked}
+use borrow.Author.Needs.{needs}
+use Rattle.plan.proofs.merge.merge_plan.Statement.{statement}
+use Rattle.plan.proofs.merge.merge_plan.Tie as tie
+use Rattle.plan.proofs.merge.merge_plan.Reads as reads
+use Rattle.plan.proofs.merge.merge_plan.Lts as lts
+use Rattle.plan.proofs.merge.linked_plan.Reads as linked-plan-reads
+use Rattle.plan.proofs.parts.start.Reads as start-reads
+
+start-requires : tie.Need-start-requires
+start-requires c κs = search needs
+
+returns : tie.Need-returns
+returns c = plan-none (c .start .ensures) (c .before .before .if1 .taken)
+
+start-requires-2 : tie.Need-start-requires-2
+start-requires-2 c κs = search needs
+
+returns-2 : tie.Need-returns-2
+returns-2 c = plan-unlinked (c .start2 .ensures) (c .before .before .before .before .pre .2 .few) (c .before .before .if2 .taken)
+
+linked-plan-requires : tie.Need-linked-plan-requires
+linked-plan-requires c κs = let p = c .before .before .before .pre in (p .0, p .1, record { some = omega (arith, c .before .before .if1 .left); linked = omega (arith, c .before .if2 .left); fit = p .2 }, p .3)
+
+returns-3 : tie.Need-returns-3
+returns-3 c = search needs
+
+pub merge-plan-spec : {M : Type 1} → statement M
+merge-plan-spec =
+    tie.close
+    (tie.spec start-requires returns start-requires-2 returns-2 linked-plan-requires returns-3)

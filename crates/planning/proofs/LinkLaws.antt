@@ -1,0 +1,86 @@
+-- What the links of a listing are by the arrays that hold them: different regions of the map, and ranks below the count; the owners of the records.
+use mathlib.Core.Path.{_≡_, sym, _∙_, ap, subst}
+use mathlib.Core.List.{List, List·Memᴰ}
+use Prim.Native.Nat.{ℕ, _*_, _<_, _≤_}
+use native.Mathlib.Omega.{arith}
+use borrow.Author.Tests.{ltb-true, ltb-false}
+use lib.Dec.{ltb}
+use lib.ListN.{length, getD, length-map}
+use Rattle.lists.proofs.Rows.{length-rows, rows-at}
+use Rattle.wire.specs.Bytes.{u32At}
+use Rattle.order.proofs.Bools.{by-test}
+use Rattle.order.proofs.Members.{getD-mem}
+use Rattle.order.proofs.Pairs.{pairs-at}
+use Rattle.position.specs.declared.WalkPosition.{WalkPosition}
+use Rattle.graph.specs.Records.{Record}
+use Rattle.grid.specs.Cells.{Grid, size}
+use Rattle.areas.specs.Assessments.{records}
+use Rattle.areas.proofs.Areas.{each-label-occurs}
+use Rattle.areas.proofs.Records.{records-iff}
+use Rattle.topology.specs.Held.{labelsOf}
+use Rattle.topology.specs.Listing.{Item}
+use Rattle.groups.specs.Listing.{noSpan, spansOf}
+use Rattle.groups.specs.Regions.{regionLabels, regionCount}
+use Rattle.groups.specs.Links.{LinkAt, links, IsLink}
+use Rattle.groups.specs.Tables.{recordsIn, Paired, linksIn, Linked}
+use Rattle.groups.proofs.Links.{link-iff, links-rising}
+use Rattle.candidates.specs.Owners.{recordIn, noRecord, OwnersBelow}
+use Rattle.measures.specs.Tables.{Regions, Labels}
+use Rattle.measures.specs.Judging.{Ranks}
+use Rattle.plan.specs.Arrays.{linkRow, Ranked}
+
+abbrev noLink : LinkAt
+noLink = record { region = 0; first = 0; second = 0 }
+
+-- a label that a cell can have is no more than the number of cells
+label-within : (dirs : List ℕ) (g : Grid) (l : List Item) (work : List ℕ) → labelsOf work (size g) ≡ regionLabels dirs g l → Labels work (size g) → (v : ℕ) → 0 < v → v ≤ regionCount dirs g l → v ≤ size g
+unfolding regionLabels regionCount labelsOf
+label-within dirs g l work e L v p q =
+    let w = each-label-occurs dirs g (spansOf l) v p q in
+    let x : u32At work (w .0 * 4) ≡ v = sym (rows-at (size g) (λ i. u32At work (i * 4)) (w .0) 0 (w .1)) ∙ (ap (λ (t : List ℕ). getD t (w .0) 0) e ∙ w .2) in
+    omega (arith, x, L .most (w .0) (w .1))
+
+module _ {dirs : List ℕ} {g : Grid} {anchors : List WalkPosition} {l : List Item} {regions firsts seconds : List ℕ} {r : ℕ} (L : Linked dirs g anchors l regions firsts seconds r) where
+  row-at : (k : ℕ) → k < r → getD (links dirs g anchors l) k noLink ≡ linkRow regions firsts seconds k
+  unfolding linksIn
+  row-at k h = ap (λ (t : List LinkAt). getD t k noLink) (sym (L .all)) ∙ rows-at r (linkRow regions firsts seconds) k noLink h
+
+  many : length (links dirs g anchors l) ≡ r
+  unfolding linksIn
+  many = ap (λ (t : List LinkAt). length t) (sym (L .all)) ∙ length-rows r (linkRow regions firsts seconds)
+
+  link-is : (k : ℕ) → k < r → IsLink dirs g anchors l (linkRow regions firsts seconds k)
+  link-is k h =
+      link-iff dirs g anchors l (linkRow regions firsts seconds k) .0
+      (subst (λ (j : LinkAt). List·Memᴰ j (links dirs g anchors l)) (row-at k h) (getD-mem (links dirs g anchors l) noLink k (omega (arith, many))))
+
+  rises : (j k : ℕ) → j < k → k < r → getD regions j 0 < getD regions k 0
+  rises j k h m =
+      let p = pairs-at noLink (links-rising dirs g anchors l) j k h (omega (arith, many)) in
+      let x : getD (links dirs g anchors l) j noLink .region ≡ getD regions j 0 = ap (λ (t : LinkAt). t .region) (row-at j (omega arith)) in
+      let y : getD (links dirs g anchors l) k noLink .region ≡ getD regions k 0 = ap (λ (t : LinkAt). t .region) (row-at k m) in
+      omega (arith, p, x, y)
+
+  pub regions-are : {work : List ℕ} → labelsOf work (size g) ≡ regionLabels dirs g l → Labels work (size g) → Regions regions r (size g)
+  regions-are {work} e B = record {
+    few = L .most;
+    from = λ k h. link-is k h .some;
+    to = λ k h. label-within dirs g l work e B (getD regions k 0) (link-is k h .some) (link-is k h .last);
+    apart = λ j k h m e.
+        by-test (ltb j k) (λ t. let z = rises j k (ltb-true j k t) m in absurd (omega (arith, z, e)))
+        (λ t. by-test (ltb k j) (λ s. let z = rises k j (ltb-true k j s) h in absurd (omega (arith, z, e))) (λ s. let u = ltb-false j k t in let v = ltb-false k j s in omega (arith, u, v)));
+  }
+
+pub ranks-are : {n : ℕ} {firsts seconds : List ℕ} {r : ℕ} → n ≤ 256 → Ranked n firsts seconds r → Ranks firsts seconds r
+ranks-are h R = record { first = λ k b. omega (arith, R .first-in k b); second = λ k b. omega (arith, R .second-in k b) }
+
+pub owners-are : (dirs : List ℕ) (g : Grid) (l : List Item) {owners lefts rights : List ℕ} {n : ℕ} → Paired dirs g l owners lefts rights n → OwnersBelow owners n (length l)
+unfolding recordsIn
+owners-are dirs g l {owners} {lefts} {rights} {n} P = record {
+  each = λ k h.
+      let x : getD (records dirs g (spansOf l)) k noRecord ≡ recordIn owners lefts rights k = ap (λ (t : List Record). getD t k noRecord) (sym (P .all)) ∙ rows-at n (recordIn owners lefts rights) k noRecord h in
+      let y : length (records dirs g (spansOf l)) ≡ n = ap (λ (t : List Record). length t) (sym (P .all)) ∙ length-rows n (recordIn owners lefts rights) in
+      let m = subst (λ (t : Record). List·Memᴰ t (records dirs g (spansOf l))) x (getD-mem (records dirs g (spansOf l)) noRecord k (omega (arith, y))) in
+      let b = records-iff dirs g (spansOf l) noSpan (recordIn owners lefts rights k) .0 m .0 in
+      omega (arith, b, length-map l (λ (i : Item). i .span));
+}

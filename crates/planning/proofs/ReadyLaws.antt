@@ -1,0 +1,112 @@
+-- What the parts of the planning ask for, and what they give together.
+use mathlib.Core.Path.{_≡_, refl, sym, _∙_, ap, subst}
+use mathlib.Core.List.{List}
+use Prim.Native.Nat.{ℕ, _+_, _*_, _-_, _≤_}
+use native.Mathlib.Omega.{arith}
+use lib.ListN.{length, take, drop}
+use Rattle.lists.proofs.Rows.{rows-same}
+use Rattle.wire.specs.Bytes.{part, number, numberAt, u32At}
+use Rattle.wire.proofs.Parts.{length-part, part-part}
+use Rattle.position.specs.declared.WalkPosition.{WalkPosition}
+use Rattle.links.specs.Limits.{Limits}
+use Rattle.grid.specs.Cells.{Grid}
+use Rattle.areas.specs.Spans.{Sides}
+use Rattle.topology.specs.Held.{labelsOf}
+use Rattle.topology.specs.Listing.{Item}
+use Rattle.groups.specs.Tables.{Linked}
+use Rattle.candidates.specs.Gives.{OnMap, OwnBounded}
+use Rattle.candidates.specs.Owners.{OwnersBelow}
+use Rattle.candidates.specs.Top.{Answer}
+use Rattle.measures.specs.Tables.{Labels, Regions}
+use Rattle.measures.specs.Judging.{Plain, Ranks, Measured}
+use Rattle.measures.proofs.Reading.{span-bounded, area}
+use Rattle.plan.specs.Arrays.{Ranked}
+use Rattle.plan.specs.Fitting.{Plannable}
+use Rattle.plan.specs.Planning.{PlanOf}
+use Rattle.plan.proofs.FromTables.{told, plannable, ranked, passed, flat-inside}
+use Rattle.planning.specs.Listed.{mapOf, Listed, Ready}
+use Rattle.planning.specs.Planned.{anchorsIn, LinksFrom, PlanFrom}
+use Rattle.planning.proofs.LinkLaws.{regions-are, ranks-are, owners-are}
+
+-- the first bytes, as they are lent
+abbrev pub lent : List ℕ → ℕ → List ℕ
+lent work m = take (4 * m - 0) (drop 0 work)
+
+lent-long : (work : List ℕ) (m : ℕ) → 4 * m ≤ length work → m * 4 ≤ length (lent work m)
+unfolding part
+lent-long work m h = omega (arith, length-part work 0 (4 * m - 0) (omega arith))
+
+-- they have all labels
+lent-labels : (work : List ℕ) (m : ℕ) → labelsOf (lent work m) m ≡ labelsOf work m
+unfolding labelsOf numberAt part
+lent-labels work m =
+    rows-same m (λ i. u32At (lent work m) (i * 4)) (λ i. u32At work (i * 4))
+    (λ i h. ap number (part-part work 0 (4 * m - 0) (i * 4) 4 (omega arith)) ∙ ap (λ (k : ℕ). number (part work k 4)) (let z : 0 + i * 4 ≡ i * 4 = omega arith in z))
+
+module _ {job : List ℕ} {start bases : ℕ} {cells : List ℕ} {width height n : ℕ} {own bits ramps work removed separated owners lefts rights : List ℕ} {records : ℕ}
+    (R : Ready job start bases cells width height n own bits ramps work removed separated owners lefts rights records) where
+  few : n ≤ 256
+  few = omega (arith, R .listed .told .few, R .listed .count)
+
+  on-map : OnMap job start bases width (lent work (length cells)) (length cells)
+  on-map = record {
+    there = R .there;
+    few = area (R .sides .wide) (R .sides .high) (R .whole);
+    labelled = lent-long work (length cells) (omega (arith, R .labels .room));
+    anchors = R .anchors;
+  }
+
+  own-bounded : OwnBounded own n
+  own-bounded = record { each = λ i h. span-bounded (R .plain) i (omega (arith, h, few)) refl }
+
+  owned : OwnersBelow owners records n
+  owned = subst (OwnersBelow owners records) (R .listed .count) (owners-are (R .dirs) (mapOf width height cells) (R .items) (R .listed .paired))
+
+  -- what `candidate_links` asks for
+  pub findable : OnMap job start bases width (lent work (length cells)) (length cells) × (n ≤ 256) × OwnBounded own n × (records ≤ 4096) × OwnersBelow owners records n
+  findable = (on-map, few, own-bounded, R .listed .paired .most, owned)
+
+  module _ {counts lowers highers regions firsts seconds : List ℕ} {r : ℕ}
+      (A : Answer job start bases width (labelsOf (lent work (length cells)) (length cells)) n own ramps removed separated owners lefts rights records counts lowers highers regions firsts seconds r) where
+    -- the links of a listing that the arrays tell of
+    linked : (dirs : List ℕ) (anchors : List WalkPosition) (l : List Item) (marks : List ℕ) → Listed dirs (mapOf width height cells) l n own bits ramps (labelsOf work (length cells)) removed separated owners lefts rights records marks
+        → anchors ≡ anchorsIn job start bases → Linked dirs (mapOf width height cells) anchors l regions firsts seconds r
+    linked dirs anchors l marks h e =
+        A .linked dirs (mapOf width height cells) anchors l bits (h .count) (h .told) (h .counted) (h .paired) (lent-labels work (length cells) ∙ h .labelled) refl e
+
+    own-links : Linked (R .dirs) (mapOf width height cells) (anchorsIn job start bases) (R .items) regions firsts seconds r
+    own-links = linked (R .dirs) (anchorsIn job start bases) (R .items) (R .marks) (R .listed) refl
+
+    ranked-found : Ranked n firsts seconds r
+    ranked-found = ranked own-links (R .listed .count)
+
+    -- what `measure_links` asks for
+    pub measurable : Sides width height × (length cells ≡ width * height) × Labels work (length cells) × Regions regions r (length cells) × Ranks firsts seconds r × Plain own bits
+    measurable = (R .sides, R .whole, R .labels, regions-are own-links (R .listed .labelled) (R .labels), ranks-are few ranked-found, R .plain)
+
+    module _ {limits : Limits} {passing flat : List ℕ} (M : Measured limits own bits regions firsts seconds (mapOf width height cells) (labelsOf work (length cells)) r passing flat) where
+      pub links-found : LinksFrom limits job start bases (mapOf width height cells) n own bits ramps (labelsOf work (length cells)) removed separated owners lefts rights records lowers highers regions firsts seconds passing flat r
+      links-found = record {
+        ranked = ranked-found;
+        each = λ dirs anchors l marks h e.
+            let inside : Ranked (length l) firsts seconds r = subst (λ (k : ℕ). Ranked k firsts seconds r) (sym (h .count)) ranked-found in
+            record {
+              told = told (h .told) (A .first-pairs dirs (mapOf width height cells) l bits (h .count) (h .told) (h .paired)) (h .count);
+              linked = linked dirs anchors l marks h e;
+              passed = passed (λ k b. M .passing-is dirs l ramps (h .told) (h .labelled) k b (inside .first-in k b) (inside .second-in k b));
+              flat-inside = flat-inside (λ k b. M .flat-is dirs l ramps (h .told) (h .labelled) k b (inside .first-in k b) (inside .second-in k b));
+            };
+      }
+
+  -- what `merge_plan` asks for
+  pub fit : {firsts seconds : List ℕ} {r : ℕ} → Ranked n firsts seconds r → Plannable n own bits firsts seconds r
+  fit F = plannable (R .listed .told) (R .listed .count) F
+
+pub planned : {limits : Limits} {job : List ℕ} {start bases : ℕ} {g : Grid} {n : ℕ} {own bits ramps labels removed separated owners lefts rights : List ℕ} {records : ℕ} {lowers highers regions firsts seconds passing flat : List ℕ} {r : ℕ} {marks into : List ℕ}
+    → LinksFrom limits job start bases g n own bits ramps labels removed separated owners lefts rights records lowers highers regions firsts seconds passing flat r
+    → PlanOf limits n own bits lowers highers regions firsts seconds r marks passing flat into
+    → PlanFrom limits job start bases g n own bits ramps labels removed separated owners lefts rights records marks into
+planned {g = g} {marks = marks} F P = record {
+  whole = P .whole;
+  each = λ dirs anchors l h e. let t = F .each dirs anchors l marks h e in P .each dirs g anchors l (t .told) (t .linked) (h .bridged) (t .passed) (t .flat-inside);
+}

@@ -1,0 +1,24 @@
+use borrow.Author.Needs.{needs}
+use Rattle.planning.proofs.ReadyLaws.{fit, planned}
+use Rattle.planning.proofs.plan_merges.Statement.{statement}
+use Rattle.planning.proofs.plan_merges.Tie as tie
+use Rattle.planning.proofs.plan_merges.Reads as reads
+use Rattle.planning.proofs.plan_merges.Lts as lts
+use Rattle.plan.proofs.merge.merge_plan.Reads as merge-plan-reads
+use Rattle.planning.proofs.measured_links.Reads as measured-links-reads
+
+measured-links-requires : tie.Need-measured-links-requires
+measured-links-requires c κs = search needs
+
+merge-plan-requires : tie.Need-merge-plan-requires
+merge-plan-requires c κs = let p = c .before .before .before .before .before .before .before .before .before .before .before .before .before .before .before .before .before .before .before .before .before .before .pre in (p .0, p .1, fit (p .2) (c .before .before .before .before .before .before .before .before .before .before .measured-links .ensures .1 .ranked), p .3)
+
+same-length : tie.Need-same-length
+same-length c = search needs
+
+returns : tie.Need-returns
+returns c = (c .before .before .before .before .before .before .before .before .before .before .before .measured-links .ensures .0, planned (c .before .before .before .before .before .before .before .before .before .before .before .measured-links .ensures .1) (c .merge-plan .ensures))
+
+pub plan-merges-spec : {M : Type 1} → statement M
+plan-merges-spec =
+    tie.close (tie.spec measured-links-requires merge-plan-requires same-length returns)

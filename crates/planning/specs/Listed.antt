@@ -1,0 +1,40 @@
+-- What the arrays by rank say of a listing, all together, and what must hold for its merges to be planned from them.
+use mathlib.Core.Path.{_≡_}
+use mathlib.Core.List.{List}
+use Prim.Native.Nat.{ℕ, _+_, _*_, _≤_}
+use lib.ListN.{length}
+use Rattle.format.specs.Sizes.{baseSize}
+use Rattle.grid.specs.Cells.{Grid}
+use Rattle.areas.specs.Spans.{Sides}
+use Rattle.topology.specs.AnchorLoop.{AnchorsIn}
+use Rattle.topology.specs.Held.{labelsOf}
+use Rattle.topology.specs.Listing.{Item}
+use Rattle.groups.specs.Regions.{regionLabels}
+use Rattle.groups.specs.Tables.{Boundaries, Counted, Paired, Bridged}
+use Rattle.measures.specs.Tables.{Labels}
+use Rattle.measures.specs.Judging.{Plain}
+
+abbrev pub mapOf : ℕ → ℕ → List ℕ → Grid
+mapOf width height cells = record { width = width; height = height; cells = cells }
+
+-- n boundaries, the regions of the cells, what each span does to them, and which ones are bridges
+pub record Listed (dirs : List ℕ) (g : Grid) (l : List Item) (n : ℕ) (own bits ramps labels removed separated owners lefts rights : List ℕ) (records : ℕ) (marks : List ℕ) : Type 0 where
+  pub count : length l ≡ n
+  pub told : Boundaries l own bits ramps
+  pub labelled : labels ≡ regionLabels dirs g l
+  pub counted : Counted dirs g l removed separated
+  pub paired : Paired dirs g l owners lefts rights records
+  pub bridged : Bridged dirs g l marks
+
+-- a map with labels in bytes, bases with their anchors on it, arrays of plain numbers, and some listing that they tell of
+pub record Ready (job : List ℕ) (start bases : ℕ) (cells : List ℕ) (width height n : ℕ) (own bits ramps work removed separated owners lefts rights : List ℕ) (records : ℕ) : Type 0 where
+  pub sides : Sides width height
+  pub whole : length cells ≡ width * height
+  pub labels : Labels work (length cells)
+  pub there : start + bases * baseSize ≤ length job
+  pub anchors : AnchorsIn job start bases width (length cells)
+  pub plain : Plain own bits
+  pub dirs : List ℕ
+  pub items : List Item
+  pub marks : List ℕ
+  pub listed : Listed dirs (mapOf width height cells) items n own bits ramps (labelsOf work (length cells)) removed separated owners lefts rights records marks
