@@ -6,7 +6,8 @@
 //! list. Kinds 0 to 2 are a call on the input before it (Reduce, Reduce by list, Mark): the lengths
 //! of work and of answer or marks (u32 each), the byte that both are filled with before the call,
 //! the number (u32) and detail (u64), then work and answer or marks as the call must leave them.
-//! Bytes are written as pieces: how often (u16), how many bytes (u8), and those bytes.
+//! Bytes are written as pieces: how many bytes a piece makes (u16), how many it repeats for that
+//! (u8), and those.
 
 use crate::checks::{BY_LIST, MARK, NONE, REDUCE};
 use crate::corridors;
@@ -27,10 +28,9 @@ const INPUT: u8 = 3;
 const NAMES: [&str; 3] = ["reduce", "reduce by list", "mark"];
 /// The longest record, job, list, work and answer or marks that replay takes.
 const LONGEST: usize = 65_536;
-const LONGEST_LIST: usize = 16_384;
 
 /// What the list must have at least so often.
-const WANTED: [(&str, u64); 22] = [
+const WANTED: [(&str, u64); 24] = [
     ("serial groups of 3, Reduce", 10),
     ("serial groups of 4, Reduce", 10),
     ("serial groups of 3, Reduce by list", 10),
@@ -43,8 +43,10 @@ const WANTED: [(&str, u64); 22] = [
     ("flat groups of 4, Reduce by list", 5),
     ("serial groups at 384.0", 5),
     ("flat groups at 128.0", 5),
+    ("chains of 383: merged", 2),
     ("chains of 384: merged", 2),
     ("chains of 385: not merged", 2),
+    ("pairs of 127: merged", 1),
     ("pairs of 128: merged", 1),
     ("pairs of 129: not merged", 1),
     ("groups with a member without observations", 10),
@@ -212,7 +214,7 @@ fn small(rng: &mut Rng, most: usize, draft: impl Fn(&mut Rng) -> Draft) -> Input
 impl List {
     /// An input for the calls that follow.
     fn input(&mut self, input: &Input) {
-        assert!(input.job.len() <= LONGEST && input.list.len() <= LONGEST_LIST, "a long input");
+        assert!(input.job.len() <= LONGEST && input.list.len() <= LONGEST, "a long input");
         let mut bytes = vec![INPUT];
         bytes.extend((input.job.len() as u32).to_le_bytes());
         bytes.extend((input.list.len() as u32).to_le_bytes());
@@ -328,8 +330,8 @@ impl List {
 /// Writes bytes as pieces: runs of a byte or of a word where they are shorter so, and the bytes
 /// between them as they are.
 fn pieces(bytes: &[u8], into: &mut Vec<u8>) {
-    let mut piece = |count: usize, part: &[u8]| {
-        into.extend((count as u16).to_le_bytes());
+    let mut piece = |made: usize, part: &[u8]| {
+        into.extend((made as u16).to_le_bytes());
         into.push(part.len() as u8);
         into.extend(part);
     };
@@ -341,20 +343,20 @@ fn pieces(bytes: &[u8], into: &mut Vec<u8>) {
             .max_by_key(|&(size, count)| (size * count) as isize - size as isize)
             .expect("two sizes");
         if size * count > size + 6 {
-            bytes[plain..at].chunks(255).for_each(|part| piece(1, part));
-            piece(count, &bytes[at..at + size]);
+            bytes[plain..at].chunks(255).for_each(|part| piece(part.len(), part));
+            piece(size * count, &bytes[at..at + size]);
             at += size * count;
             plain = at;
         } else {
             at += 1;
         }
     }
-    bytes[plain..].chunks(255).for_each(|part| piece(1, part));
+    bytes[plain..].chunks(255).for_each(|part| piece(part.len(), part));
 }
 
 /// How often bytes begin with their first `size` ones, as far as a piece goes.
 fn repeats(bytes: &[u8], size: usize) -> usize {
     let first = bytes.chunks_exact(size).next();
     let same = bytes.chunks_exact(size).take_while(|&part| Some(part) == first);
-    same.take(usize::from(u16::MAX)).count()
+    same.take(usize::from(u16::MAX) / size).count()
 }
