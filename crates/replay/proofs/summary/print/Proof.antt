@@ -1,9 +1,6 @@
-use Prim.Native.Nat.{_≤_, _-_, _<_}
-use mathlib.Core.Path.{_≡_}
-use native.Mathlib.Omega.{arith}
-use native.Mathlib.Nat.{mod-lt}
+use Prim.Native.Nat.{_≤_, _-_}
 use borrow.Author.Needs.{needs}
-use lib.ListN.{length, length-set}
+use lib.ListN.{length}
 use Rattle.replay.proofs.summary.print.Statement.{statement}
 use Rattle.replay.proofs.summary.print.Tie as tie
 use Rattle.replay.proofs.summary.print.Reads as reads
