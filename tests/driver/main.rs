@@ -5,9 +5,11 @@
 //!     driver random CASES SEED
 //!     driver family NAME CASES SEED
 //!     driver case SEED NUMBER
+//!     driver record FILE SEED
 //!
 //! `random` is the random cases alone, with nothing asked of what they saw; `family` those of one
 //! family: damaged, maps, records or corridors.
+//! `record` writes the list that crates/replay reads (record.rs).
 //! Every run prints its seed; `case` runs one random case of a seed again. Exit status 0 means
 //! that nothing differed and that everything that should occur did.
 
@@ -26,6 +28,7 @@ mod maps;
 mod memory;
 mod merging;
 mod partition;
+mod record;
 mod records;
 mod rng;
 mod run;
@@ -90,13 +93,14 @@ fn main() {
             }
             println!("seed {seed} case {number}: nothing differs");
         }
+        ["record", file, seed] => record::record(file, parse(seed)),
         _ => usage(),
     }
 }
 
 fn usage() -> ! {
     eprintln!("usage: driver quick | long [CASES | SECONDSs] [SEED] | random CASES SEED");
-    eprintln!("       driver family NAME CASES SEED | case SEED NUMBER");
+    eprintln!("       driver family NAME CASES SEED | case SEED NUMBER | record FILE SEED");
     exit(2)
 }
 

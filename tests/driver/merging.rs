@@ -141,7 +141,7 @@ fn merges(
 }
 
 /// Counts the groups by kind and size, and what else the run had.
-fn note(call: u32, accepted: &Accepted, groups: &[Group], tally: &mut Tally) {
+pub fn note(call: u32, accepted: &Accepted, groups: &[Group], tally: &mut Tally) {
     tally.see("runs that may merge");
     for group in groups {
         let kind = if group.serial { "serial" } else { "flat" };

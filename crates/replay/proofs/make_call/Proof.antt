@@ -1,0 +1,81 @@
+use native.Mathlib.Omega.{arith}
+use lib.ListN.{length-take}
+use borrow.Author.Needs.{needs}
+use Rattle.replay.proofs.make_call.Statement.{statement}
+use Rattle.replay.proofs.make_call.Tie as tie
+use Rattle.replay.proofs.make_call.Reads as reads
+use Rattle.replay.proofs.make_call.Lts as lts
+use Rattle.replay.proofs.calls.replay_call.Reads as replay-call-reads
+use Rattle.replay.proofs.stop.Reads as stop-reads
+use Rattle.replay.proofs.summary.count.Reads as count-reads
+use Rattle.replay.proofs.summary.next.Reads as next-reads
+
+-- src/main.rt:52:15
+add-end : tie.Need-add-end
+add-end c = search needs
+
+-- src/main.rt:53:38
+slice-aggregate-replay-call : tie.Need-slice-aggregate-replay-call
+slice-aggregate-replay-call c = simp length-take (omega arith)
+
+-- src/main.rt:53:50
+sub-replay-call : tie.Need-sub-replay-call
+sub-replay-call c = search needs
+
+-- src/main.rt:53:50
+part-replay-call-start : tie.Need-part-replay-call-start
+part-replay-call-start c = search needs
+
+-- src/main.rt:53:50
+part-replay-call-end : tie.Need-part-replay-call-end
+part-replay-call-end c = search needs
+
+-- src/main.rt:53:9
+replay-call-requires : tie.Need-replay-call-requires
+replay-call-requires c κs = search needs
+
+-- src/main.rt:55:9
+stop-requires : tie.Need-stop-requires
+stop-requires c κs = search needs
+
+-- src/main.rt:55:9
+same-length : tie.Need-same-length
+same-length c = search needs
+
+-- src/main.rt:55:9
+returns : tie.Need-returns
+returns c = search needs
+
+-- src/main.rt:57:5
+count-requires : tie.Need-count-requires
+count-requires c κs = search needs
+
+-- src/main.rt:61:16
+next-requires : tie.Need-next-requires
+next-requires c κs = search needs
+
+-- src/main.rt:47:1
+same-length-2 : tie.Need-same-length-2
+same-length-2 c = search needs
+
+-- src/main.rt:47:1
+returns-2 : tie.Need-returns-2
+returns-2 c = search needs
+
+pub make-call-spec : {M : Type 1} → statement M
+make-call-spec =
+    tie.close
+    (tie.spec
+    add-end
+    slice-aggregate-replay-call
+    sub-replay-call
+    part-replay-call-start
+    part-replay-call-end
+    replay-call-requires
+    stop-requires
+    same-length
+    returns
+    count-requires
+    next-requires
+    same-length-2
+    returns-2)
