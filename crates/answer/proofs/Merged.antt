@@ -16,7 +16,7 @@ use Rattle.order.specs.Sorting.{sort, sortOnce}
 use Rattle.order.specs.Lists.{keep, gather, upFrom}
 use Rattle.order.proofs.Keep.{keep-mem, mem-keep, keep-append}
 use Rattle.order.proofs.Members.{map-ext, perm-mem}
-use Rattle.order.proofs.Numbers.{up-mem, mem-up, up-length, map-up-at}
+use Rattle.order.proofs.Numbers.{up-mem, mem-up, up-length, map-up-at, up-last, map-at}
 use Rattle.order.proofs.Once.{once-idem}
 use Rattle.order.specs.Keys.{byKey}
 use Rattle.order.proofs.Forgets.{sort-forgets}
@@ -61,16 +61,6 @@ gather-all f (x ∷ xs) h = all-append (h x (List·Memᴰ·head refl)) (gather-a
 map-append : {A B : Type 0} (f : A → B) (l m : List A) → map f (l ++ m) ≡ map f l ++ map f m
 map-append f [] m = refl
 map-append f (x ∷ xs) m = ap (λ t. f x ∷ t) (map-append f xs m)
-
-up-last : (a n : ℕ) → upFrom a (suc n) ≡ upFrom a n ++ ((a + n) ∷ [])
-unfolding upFrom
-up-last a zero = let e : a ≡ a + 0 = omega arith in ap (λ (z : ℕ). z ∷ []) e
-up-last a (suc n) = let e : suc a + n ≡ a + suc n = omega arith in ap (λ (l : List ℕ). a ∷ l) (up-last (suc a) n ∙ ap (λ (z : ℕ). upFrom (suc a) n ++ (z ∷ [])) e)
-
-map-at : {A B : Type 0} (f : A → B) (l : List A) (k : ℕ) (d : B) (e : A) → k < length l → getD (map f l) k d ≡ f (getD l k e)
-map-at f [] k d e h = absurd (omega arith)
-map-at f (x ∷ xs) zero d e h = refl
-map-at f (x ∷ xs) (suc k) d e h = map-at f xs k d e (omega arith)
 
 -- The numbers of sources joined are their numbers joined.
 pub packed-append : (ss ts : List Source) → packed (ss ++ ts) ≡ packed ss ++ packed ts
@@ -129,7 +119,7 @@ module _ (bs : ℕ → BoundaryRecord) (os : ℕ → ObservationRecord) (ss : Li
       → getD (keptBy bs os ss order plan n) k noBoundary ≡ merged (copiesBy bs os ss order n) (members (λ j. getD plan j 0) n i) i
   kept-at plan n k i h e =
       ap (λ (l : List Boundary). getD l k noBoundary) (kept-list plan n)
-      ∙ map-at (λ i. merged (copiesBy bs os ss order n) (members (λ j. getD plan j 0) n i) i) (keep (λ i. eqb (getD plan i 0) i) (upFrom 0 n)) k noBoundary 0 h
+      ∙ map-at (λ i. merged (copiesBy bs os ss order n) (members (λ j. getD plan j 0) n i) i) (keep (λ i. eqb (getD plan i 0) i) (upFrom 0 n)) k 0 noBoundary h
       ∙ ap (λ (j : ℕ). merged (copiesBy bs os ss order n) (members (λ j. getD plan j 0) n j) j) e
 
   module _ (plan : ℕ → ℕ) (n i : ℕ) (h : i < n) (stays : plan i ≡ i) where

@@ -1,10 +1,10 @@
 -- Writes side by side.
-use mathlib.Core.Path.{_≡_, refl, _∙_, ap}
+use mathlib.Core.Path.{_≡_, _∙_, ap}
 use mathlib.Core.Logic.{inl}
 use mathlib.Core.List.{List, _++_, append-assoc}
-use Prim.Native.Nat.{ℕ, zero, suc, _+_, _≤_}
+use Prim.Native.Nat.{ℕ, _+_, _≤_}
 use native.Mathlib.Omega.{arith}
-use lib.ListN.{length, getD, length-append, replicate}
+use lib.ListN.{length, length-append, replicate}
 use Rattle.wire.specs.Bytes.{splice, u32Bytes, u64Bytes}
 use Rattle.wire.proofs.Parts.{splice-splice}
 use Rattle.wire.proofs.Numbers.{length-bytes}
@@ -12,11 +12,7 @@ use Rattle.position.specs.declared.Span.{Span}
 use Rattle.format.specs.Records.{positionBytes, spanBytes, observationBytes}
 use Rattle.answer.specs.Laying.{Apart}
 use Rattle.answer.specs.Written.{observationWords}
-
-zero-at : (n q : ℕ) → _≡_ {A = ℕ} (getD (replicate n 0) q 0) 0
-zero-at zero q = refl
-zero-at (suc n) zero = refl
-zero-at (suc n) (suc q) = zero-at n q
+use Rattle.lists.proofs.Rows.{zero-at}
 
 -- Nothing is laid yet.
 pub apart-none : (n k : ℕ) → Apart (replicate n 0) (replicate k 0) 0
@@ -25,7 +21,7 @@ apart-none n k = record {
   apart = λ q w d. inl (omega (arith, zero-at n q, zero-at k q));
 }
 
-then-write : (s : List ℕ) (i : ℕ) (bs cs : List ℕ) {t u : List ℕ} {j : ℕ} → i + length bs ≤ length s → j ≡ i + length bs → t ≡ splice s i bs → u ≡ splice t j cs → u ≡ splice s i (bs ++ cs)
+pub then-write : (s : List ℕ) (i : ℕ) (bs cs : List ℕ) {t u : List ℕ} {j : ℕ} → i + length bs ≤ length s → j ≡ i + length bs → t ≡ splice s i bs → u ≡ splice t j cs → u ≡ splice s i (bs ++ cs)
 then-write s i bs cs {t} {u} {j} h e f g = g ∙ ap (λ (l : List ℕ). splice l j cs) f ∙ ap (λ (k : ℕ). splice (splice s i bs) k cs) e ∙ splice-splice s i bs h cs
 
 pub span-written : (s : List ℕ) (i : ℕ) (e : Span) {t u v w : List ℕ} → i + 16 ≤ length s

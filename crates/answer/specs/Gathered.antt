@@ -6,7 +6,7 @@ use Prim.Native.Nat.{ℕ, _+_, _≤_, _<_}
 use lib.Dec.{eqb}
 use lib.ListN.{length, getD, take}
 use Rattle.lists.specs.Rows.{All}
-use Rattle.order.specs.Lists.{gather, upFrom}
+use Rattle.order.specs.Lists.{upFrom}
 use Rattle.position.specs.Order.{canonical}
 use Rattle.format.specs.Values.{Observation, Boundary}
 use Rattle.format.specs.Decode.{rampOf}

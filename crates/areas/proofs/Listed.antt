@@ -1,6 +1,6 @@
 -- What another listing of the spans changes: nothing of labels, and of the records only whose they are.
 use mathlib.Core.Path.{_≡_, refl, sym, _∙_, ap}
-use mathlib.Core.List.{List, [], _∷_, map, head-eq-of-cons-eq, tail-eq-of-cons-eq, List·Permᴰ, List·Permᴰ·nil, List·Permᴰ·cons, List·Permᴰ·swap, List·Permᴰ·trans, Permᴰ·symm}
+use mathlib.Core.List.{List, [], _∷_, map, head-eq-of-cons-eq, tail-eq-of-cons-eq, List·Permᴰ, Permᴰ·symm, Permᴰ·map}
 use Prim.Native.Nat.{ℕ, suc}
 use native.Mathlib.Omega.{arith}
 use lib.ListN.{length, length-map, length-append}
@@ -13,25 +13,13 @@ use Rattle.position.proofs.Order.{ordered, canonical-ordered}
 use Rattle.grid.specs.Cells.{Grid}
 use Rattle.areas.specs.Assessments.{RegionPair, recordOf, owned, assess, records}
 use Rattle.areas.proofs.Assessments.{assess-same}
+use Rattle.lists.proofs.Rows.{sum-perm}
 
 pub perm-same : {A : Type 0} {l m : List A} → List·Permᴰ l m → SameMembers l m
 perm-same p = λ y. (λ k. perm-mem p k, λ k. perm-mem (Permᴰ·symm p) k)
 
 pub eq-same : {A : Type 0} {l m : List A} → l ≡ m → SameMembers l m
 eq-same e = λ y. (λ k. rw (← e) k, λ k. rw e k)
-
-sum-perm : {l m : List ℕ} → List·Permᴰ l m → sum l ≡ sum m
-unfolding sum
-sum-perm List·Permᴰ·nil = refl
-sum-perm (List·Permᴰ·cons e p) = let k = sum-perm p in omega arith
-sum-perm (List·Permᴰ·swap e f) = omega arith
-sum-perm (List·Permᴰ·trans p q) = sum-perm p ∙ sum-perm q
-
-map-perm : {A B : Type 0} (f : A → B) {l m : List A} → List·Permᴰ l m → List·Permᴰ (map f l) (map f m)
-map-perm f List·Permᴰ·nil = List·Permᴰ·nil
-map-perm f (List·Permᴰ·cons e p) = List·Permᴰ·cons (ap f e) (map-perm f p)
-map-perm f (List·Permᴰ·swap e g) = List·Permᴰ·swap (ap f e) (ap f g)
-map-perm f (List·Permᴰ·trans p q) = List·Permᴰ·trans (map-perm f p) (map-perm f q)
 
 owned-length : (i : ℕ) (pss : List (List RegionPair)) → length (owned i pss) ≡ sum (map (λ (ps : List RegionPair). length ps) pss)
 unfolding owned sum
@@ -63,7 +51,7 @@ module _ (dirs : List ℕ) (g : Grid) where
 
   counts-perm : (ss : List Span) {us vs : List Span} → List·Permᴰ us vs → sum (pairCounts ss us) ≡ sum (pairCounts ss vs)
   unfolding pairCounts
-  counts-perm ss p = sum-perm (map-perm (λ (ps : List RegionPair). length ps) (map-perm (λ s. assess dirs g ss s .pairs) p))
+  counts-perm ss p = sum-perm (Permᴰ·map (λ (ps : List RegionPair). length ps) (Permᴰ·map (λ s. assess dirs g ss s .pairs) p))
 
   records-total : (ss : List Span) → length (records dirs g ss) ≡ sum (pairCounts ss ss)
   unfolding records pairCounts

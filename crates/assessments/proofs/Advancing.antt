@@ -2,7 +2,7 @@
 use mathlib.Core.Path.{_≡_, refl, sym, _∙_, ap, ap₂, subst}
 use mathlib.Core.Bool.{true, false, cond}
 use mathlib.Core.List.{List, [], _∷_, _++_, map, append-assoc}
-use Prim.Native.Nat.{ℕ, zero, suc, _+_, _*_, _-_, _≤_, _<_, min, max}
+use Prim.Native.Nat.{ℕ, suc, _+_, _*_, _-_, _≤_, _<_, min, max}
 use native.Mathlib.Omega.{arith}
 use borrow.Author.Tests.{eq-eqb, ne-eqb}
 use lib.ListN.{length, length-append}
@@ -22,6 +22,7 @@ use Rattle.assessments.specs.Stored.{pairOf, Ordered, Inserted, Late}
 use Rattle.assessments.specs.Holding.{labelsOf, Listed, Holds, Advances, Room, Grown}
 use Rattle.assessments.proofs.Including.{once-last}
 use Rattle.assessments.proofs.Listing.{listed-put}
+use Rattle.order.proofs.Numbers.{up-last}
 
 pub nil-right : {A : Type 0} (l : List A) → l ++ [] ≡ l
 nil-right [] = refl
@@ -94,11 +95,6 @@ gather-last : {A B : Type 0} (f : A → List B) (l : List A) (x : A) → gather 
 unfolding gather
 gather-last f [] x = nil-right (f x)
 gather-last f (y ∷ ys) x = ap (λ t. f y ++ t) (gather-last f ys x) ∙ sym (append-assoc (f y) (gather f ys) (f x))
-
-up-last : (a n : ℕ) → upFrom a (suc n) ≡ upFrom a n ++ ((a + n) ∷ [])
-unfolding upFrom
-up-last a zero = let e : a ≡ a + 0 = omega arith in ap (λ (z : ℕ). z ∷ []) e
-up-last a (suc n) = let e : suc a + n ≡ a + suc n = omega arith in ap (λ (t : List ℕ). a ∷ t) (up-last (suc a) n ∙ ap (λ (z : ℕ). upFrom (suc a) n ++ (z ∷ [])) e)
 
 -- A loop over k from first on, each turn of which assesses the steps f k: at k the steps before it are assessed, at most m.
 pub record Going (ls : List ℕ) (f : ℕ → List Edge) (first start : ℕ) (lefts₀ rights₀ : List ℕ) (s₀ : Assessed) (lefts rights : List ℕ) (s : Assessed) (k m : ℕ) : Type 0 where

@@ -25,6 +25,7 @@ use Rattle.candidates.specs.Touchers.{touchingAfter}
 use Rattle.candidates.specs.declared.touching.Touching.{Touching}
 use Rattle.candidates.specs.Found.{Given, seen, found, linkOf, upTo, Collected, Added, AllFound}
 use Rattle.candidates.proofs.NextLaws.{next-least, next-above, two-ranks}
+use Rattle.order.proofs.Numbers.{up-last}
 
 -- one number no more than another
 unit-mono : (v a x : ℕ) → a ≤ x → cond (leb v a) 1 0 ≤ cond (leb v x) 1 0
@@ -82,11 +83,6 @@ up-most lowers highers x (suc n) = omega (arith, up-most lowers highers x n, sma
     small : (b : Bool) → cond b 1 0 ≤ 1
     small true = omega arith
     small false = omega arith
-
-up-last : (a n : ℕ) → upFrom a (suc n) ≡ upFrom a n ++ ((a + n) ∷ [])
-unfolding upFrom
-up-last a zero = let e : a ≡ a + 0 = omega arith in ap (λ (m : ℕ). m ∷ []) e
-up-last a (suc n) = let e : suc a + n ≡ a + suc n = omega arith in ap (λ (l : List ℕ). a ∷ l) (up-last (suc a) n ∙ ap (λ (m : ℕ). upFrom (suc a) n ++ (m ∷ [])) e)
 
 module _ (t : ℕ → Bool) where
   keep-last : (m : ℕ) → keep t (upFrom 1 (suc m)) ≡ keep t (upFrom 1 m) ++ cond (t (suc m)) (suc m ∷ []) []

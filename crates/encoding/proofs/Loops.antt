@@ -17,8 +17,9 @@ use Rattle.lists.specs.Rows.{sum, rows}
 use Rattle.lists.proofs.Rows.{sum-prefix}
 use Rattle.encoding.specs.Pieces.{pieces, keySource, keySpan, keyBits, keptRecord, keptPiece, keyPiece, runFrom, runLength, placeRun, placePiece, runsFrom, elements, groupPiece, citedTotal}
 use Rattle.encoding.specs.Answered.{RunsWritten, SourceRoom}
-use Rattle.encoding.proofs.Writing.{write-after, pieces-none, length-next, piece-written, length-written, length-even, length-fewer}
+use Rattle.encoding.proofs.Writing.{pieces-none, length-next, piece-written, length-written, length-even, length-fewer}
 use Rattle.encoding.proofs.Lengths.{part-short}
+use Rattle.answer.proofs.Writes.{then-write}
 
 -- The first i pieces stand from `at` on.
 pub record Writes (before : List ℕ) (at : ℕ) (f : ℕ → List ℕ) (i : ℕ) (after : List ℕ) : Type 0 where
@@ -203,7 +204,7 @@ module _ (owns seens owned seen starts counts keys : List ℕ) where
       grouping-next x = record {
         below-count = omega arith;
         writes = writes-next to (runFrom owned a own ++ runsFrom seen starts counts keys q m) (r .writes) group-fits (r .place)
-            (write-after t to (runFrom owned a own) (runsFrom seen starts counts keys q m) (omega (arith, run-long owned a own, own-room)) (omega (arith, run-long owned a own)) w (x .wrote))
+            (then-write t to (runFrom owned a own) (runsFrom seen starts counts keys q m) (omega (arith, run-long owned a own, own-room)) (omega (arith, run-long owned a own)) w (x .wrote))
             group-is;
         place = omega (arith, x .end, group-long, r .place);
         owns-are = own-sum;

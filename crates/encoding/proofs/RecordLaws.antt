@@ -15,14 +15,14 @@ use Rattle.format.specs.declared.records.RampRecord.{RampRecord}
 use Rattle.format.specs.declared.records.BoundaryRecord.{BoundaryRecord}
 use Rattle.format.proofs.RecordTrips.{span-trip}
 use Rattle.encoding.specs.Pieces.{keySource, keptRecord}
-use Rattle.encoding.proofs.Writing.{write-after}
+use Rattle.answer.proofs.Writes.{then-write}
 
 pub source-written : (s : List ℕ) (i v : ℕ) {x y : ℕ} {t u : List ℕ} → i + 8 ≤ length s → x ≡ v / 0x1_0000_0000 → y ≡ v % 0x1_0000_0000
     → t ≡ splice s i (u32Bytes x) → u ≡ splice t (i + 4) (u32Bytes y) → u ≡ splice s i (sourceBytes (keySource v))
 unfolding sourceBytes keySource
 source-written s i v {x} {y} h e f a b =
     let n = length-bytes 4 x in
-    write-after s i (u32Bytes x) (u32Bytes y) (omega arith) (omega arith) a b
+    then-write s i (u32Bytes x) (u32Bytes y) (omega arith) (omega arith) a b
     ∙ ap (λ (z : ℕ). splice s i (u32Bytes z ++ u32Bytes y)) e
     ∙ ap (λ (z : ℕ). splice s i (u32Bytes (v / 0x1_0000_0000) ++ u32Bytes z)) f
 
@@ -38,7 +38,7 @@ pub ramp-written : (s : List ℕ) (i : ℕ) (r : RampRecord) {t u : List ℕ} �
     → t ≡ set (set (set (set s i (r .end)) (i + 1) (r .lower)) (i + 2) (r .upper)) (i + 3) 0 → u ≡ splice t (i + 4) (u32Bytes (r .id)) → u ≡ splice s i (rampBytes (rampRecord (rampOf r)))
 unfolding rampBytes rampRecord rampOf
 ramp-written s i r h a b =
-    write-after s i (r .end ∷ r .lower ∷ r .upper ∷ 0 ∷ []) (u32Bytes (r .id)) (omega arith) (omega arith) (a ∙ four-set s i (r .end) (r .lower) (r .upper) 0 (omega arith)) b
+    then-write s i (r .end ∷ r .lower ∷ r .upper ∷ 0 ∷ []) (u32Bytes (r .id)) (omega arith) (omega arith) (a ∙ four-set s i (r .end) (r .lower) (r .upper) 0 (omega arith)) b
 
 pub boundary-written : (s : List ℕ) (i : ℕ) (x : BoundaryRecord) (own seen : ℕ) {t u v w y : List ℕ} → i + 40 ≤ length s
     → t ≡ splice s i (spanBytes (canonical (x .ends))) → u ≡ splice t (i + 16) (u64Bytes (x .bits)) → v ≡ splice u (i + 24) (u32Bytes own) → w ≡ splice v (i + 28) (u32Bytes seen)
@@ -57,10 +57,10 @@ boundary-written s i x own seen h a b c d e =
     let m2 = length-append p1 p2 in
     let m3 = length-append (p1 ++ p2) p3 in
     let m4 = length-append ((p1 ++ p2) ++ p3) p4 in
-    let z2 = write-after s i p1 p2 (omega arith) (omega arith) a b in
-    let z3 = write-after s i (p1 ++ p2) p3 (omega arith) (omega arith) z2 c in
-    let z4 = write-after s i ((p1 ++ p2) ++ p3) p4 (omega arith) (omega arith) z3 d in
-    let z5 = write-after s i (((p1 ++ p2) ++ p3) ++ p4) p5 (omega arith) (omega arith) z4 e in
+    let z2 = then-write s i p1 p2 (omega arith) (omega arith) a b in
+    let z3 = then-write s i (p1 ++ p2) p3 (omega arith) (omega arith) z2 c in
+    let z4 = then-write s i ((p1 ++ p2) ++ p3) p4 (omega arith) (omega arith) z3 d in
+    let z5 = then-write s i (((p1 ++ p2) ++ p3) ++ p4) p5 (omega arith) (omega arith) z4 e in
     let q : (((p1 ++ p2) ++ p3) ++ p4) ++ p5 ≡ p1 ++ (p2 ++ (p3 ++ (p4 ++ p5))) = simp append-assoc in
     z5 ∙ ap (splice s i) q
 
@@ -84,10 +84,10 @@ header-written s b o n h p1 p2 p3 p4 p5 p6 =
     let m3 = length-append (w1 ++ w2) w3 in
     let m4 = length-append ((w1 ++ w2) ++ w3) w4 in
     let m5 = length-append (((w1 ++ w2) ++ w3) ++ w4) w5 in
-    let z2 = write-after s 0 w1 w2 (omega arith) (omega arith) p1 p2 in
-    let z3 = write-after s 0 (w1 ++ w2) w3 (omega arith) (omega arith) z2 p3 in
-    let z4 = write-after s 0 ((w1 ++ w2) ++ w3) w4 (omega arith) (omega arith) z3 p4 in
-    let z5 = write-after s 0 (((w1 ++ w2) ++ w3) ++ w4) w5 (omega arith) (omega arith) z4 p5 in
-    let z6 = write-after s 0 ((((w1 ++ w2) ++ w3) ++ w4) ++ w5) w6 (omega arith) (omega arith) z5 p6 in
+    let z2 = then-write s 0 w1 w2 (omega arith) (omega arith) p1 p2 in
+    let z3 = then-write s 0 (w1 ++ w2) w3 (omega arith) (omega arith) z2 p3 in
+    let z4 = then-write s 0 ((w1 ++ w2) ++ w3) w4 (omega arith) (omega arith) z3 p4 in
+    let z5 = then-write s 0 (((w1 ++ w2) ++ w3) ++ w4) w5 (omega arith) (omega arith) z4 p5 in
+    let z6 = then-write s 0 ((((w1 ++ w2) ++ w3) ++ w4) ++ w5) w6 (omega arith) (omega arith) z5 p6 in
     let q : ((((w1 ++ w2) ++ w3) ++ w4) ++ w5) ++ w6 ≡ w1 ++ (w2 ++ (w3 ++ (w4 ++ (w5 ++ (w6 ++ []))))) = simp (append-assoc, append-nil) in
     z6 ∙ ap (splice s 0) q

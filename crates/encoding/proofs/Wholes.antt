@@ -5,25 +5,20 @@ use Prim.Native.Nat.{ℕ, _+_, _*_, _≤_, _<_}
 use native.Mathlib.Omega.{arith}
 use lib.ListN.{length, getD, length-append}
 use Rattle.wire.specs.Bytes.{splice, u32Bytes}
-use Rattle.wire.proofs.Numbers.{length-bytes}
 use Rattle.lists.proofs.Flat.{length-pieces}
 use Rattle.format.specs.Values.{Boundary}
 use Rattle.format.specs.Records.{sourceBytes}
 use Rattle.format.specs.Encode.{answerWords, encodeAnswer, observationsOf, sourcesOf}
 use Rattle.format.proofs.RecordTrips.{source-trip}
-use Rattle.format.proofs.AnswerTrip.{length-encodeAnswer}
+use Rattle.format.proofs.AnswerTrip.{length-encodeAnswer, header-length}
 use Rattle.answer.specs.Laying.{below}
 use Rattle.answer.specs.Placed.{boundaryRows}
 use Rattle.answer.specs.Gathered.{Gathered}
 use Rattle.encoding.specs.Pieces.{pieces, keptPiece, placePiece, elements, groupPiece, citedTotal, answerBytes}
 use Rattle.encoding.specs.Answered.{Answered, Writable}
-use Rattle.encoding.proofs.Writing.{write-after}
 use Rattle.encoding.proofs.Loops.{kept-long, places-long}
 use Rattle.encoding.proofs.GatheredBytes.{seen-sum, own-sum, sources-sum, source-bytes, answer-bytes}
-
-header-long : (b o n : ℕ) → length (flatMap u32Bytes (answerWords b o n)) ≡ 24
-unfolding answerWords
-header-long b o n = length-pieces 4 u32Bytes (length-bytes 4) (answerWords b o n)
+use Rattle.answer.proofs.Writes.{then-write}
 
 module _ {s : List ℕ} {at count : ℕ} {kept owns seens owned seen first second third starts counts keys : List ℕ} (w : Writable s at count kept owns seens owned seen first second third starts counts keys) where
   pub count-few : count ≤ 256
@@ -73,14 +68,14 @@ module _ {s : List ℕ} {at count : ℕ} {kept owns seens owned seen first secon
         let b2 = pieces count (keptPiece (boundaryRows s at) kept owns seens) in
         let b3 = pieces o (λ k. placePiece first second third starts counts keys (getD seen k 0)) in
         let b4 = pieces count (groupPiece owns seens owned seen starts counts keys) in
-        let n1 : length b1 ≡ 24 = header-long count o (own + c) in
+        let n1 : length b1 ≡ 24 = header-length count o (own + c) in
         let n2 : length b2 ≡ count * 40 = kept-long (boundaryRows s at) kept owns seens count in
         let n3 : length b3 ≡ o * 28 = places-long first second third starts counts keys seen o in
         let m2 = length-append b1 b2 in
         let m3 = length-append (b1 ++ b2) b3 in
-        let x2 = write-after t0 0 b1 b2 (omega arith) (omega arith) p q in
-        let x3 = write-after t0 0 (b1 ++ b2) b3 (omega arith) (omega arith) x2 r in
-        let x4 = write-after t0 0 ((b1 ++ b2) ++ b3) b4 (omega arith) (omega arith) x3 u in
+        let x2 = then-write t0 0 b1 b2 (omega arith) (omega arith) p q in
+        let x3 = then-write t0 0 (b1 ++ b2) b3 (omega arith) (omega arith) x2 r in
+        let x4 = then-write t0 0 ((b1 ++ b2) ++ b3) b4 (omega arith) (omega arith) x3 u in
         let y : ((b1 ++ b2) ++ b3) ++ b4 ≡ b1 ++ (b2 ++ (b3 ++ b4)) = simp append-assoc in
         x4
         ∙ ap (splice t0 0) y

@@ -8,13 +8,11 @@ use native.Mathlib.Numerals.{add-one}
 use native.Mathlib.Omega.{arith}
 use lib.ListN.{length, take, drop, length-append, take-append-drop}
 use Rattle.wire.specs.Bytes.{splice}
-use Rattle.wire.proofs.Parts.{splice-splice, length-splice}
+use Rattle.wire.proofs.Parts.{length-splice}
 use Rattle.encoding.specs.Pieces.{pieces}
+use Rattle.answer.proofs.Writes.{then-write}
 
 -- A write beside a write is one.
-pub write-after : (s : List ℕ) (i : ℕ) (bs cs : List ℕ) {t u : List ℕ} {j : ℕ} → i + length bs ≤ length s → j ≡ i + length bs → t ≡ splice s i bs → u ≡ splice t j cs → u ≡ splice s i (bs ++ cs)
-write-after s i bs cs {t} {u} {j} h e f g = g ∙ ap (λ (l : List ℕ). splice l j cs) f ∙ ap (λ (k : ℕ). splice (splice s i bs) k cs) e ∙ splice-splice s i bs h cs
-
 -- Nothing written.
 pub write-none : (s : List ℕ) (i : ℕ) → s ≡ splice s i []
 unfolding splice
@@ -35,7 +33,7 @@ length-next n f = ap length (pieces-next n f) ∙ length-append (pieces n f) (f 
 
 -- One piece more.
 pub piece-written : (s : List ℕ) (i n : ℕ) (f : ℕ → List ℕ) {t u : List ℕ} {j : ℕ} → i + length (pieces n f) ≤ length s → j ≡ i + length (pieces n f) → t ≡ splice s i (pieces n f) → u ≡ splice t j (f n) → u ≡ splice s i (pieces (n + 1) f)
-piece-written s i n f h e p q = write-after s i (pieces n f) (f n) h e p q ∙ ap (splice s i) (sym (pieces-next n f))
+piece-written s i n f h e p q = then-write s i (pieces n f) (f n) h e p q ∙ ap (splice s i) (sym (pieces-next n f))
 
 pub length-written : (s : List ℕ) (i : ℕ) (bs : List ℕ) {t : List ℕ} → i + length bs ≤ length s → t ≡ splice s i bs → length t ≡ length s
 length-written s i bs h e = ap length e ∙ length-splice s i bs h

@@ -18,7 +18,7 @@ use Rattle.format.proofs.Trip.{number-trip}
 use Rattle.format.proofs.RowTrips.{rows-read}
 use Rattle.format.proofs.BoundaryTrips.{length-encodeBoundaries, boundaries-read}
 
-header-length : (b o n : ℕ) → length (flatMap u32Bytes (answerWords b o n)) ≡ answerHeaderSize
+pub header-length : (b o n : ℕ) → length (flatMap u32Bytes (answerWords b o n)) ≡ answerHeaderSize
 unfolding answerWords
 header-length b o n = length-pieces 4 u32Bytes (length-bytes 4) (answerWords b o n)
 

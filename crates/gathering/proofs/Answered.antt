@@ -1,7 +1,7 @@
 -- What is gathered is what an answer is written from.
 use mathlib.Core.Path.{_≡_, refl, sym, _∙_, ap, subst}
 use mathlib.Core.List.{List, [], _∷_, _++_, map, flatMap, List·Memᴰ, List·Memᴰ·head, List·Memᴰ·tail}
-use Prim.Native.Nat.{ℕ, zero, suc, _≤_, _<_}
+use Prim.Native.Nat.{ℕ, _≤_, _<_}
 use native.Mathlib.Omega.{arith}
 use borrow.Author.Tests.{eqb-true}
 use lib.Dec.{eqb}
@@ -12,7 +12,7 @@ use Rattle.lists.proofs.Each.{all-append}
 use Rattle.order.specs.Lists.{gather, upFrom}
 use Rattle.order.proofs.Members.{getD-mem}
 use Rattle.order.proofs.Keep.{keep-mem}
-use Rattle.order.proofs.Numbers.{up-mem}
+use Rattle.order.proofs.Numbers.{up-mem, map-at}
 use Rattle.format.specs.Values.{Boundary}
 use Rattle.format.specs.Encode.{observationsOf}
 use Rattle.format.specs.Fits.{SourceFits}
@@ -29,11 +29,6 @@ use Rattle.answer.specs.Gathered.{copiesBy, keptBy, Stands, Gathered}
 use Rattle.answer.proofs.Merged.{packed-append, kept-list, kept-at, merged-ends, merged-bits, merged-ramp, merged-fits, merged-own, merged-seen, stands-none, stands-append}
 use Rattle.gathering.specs.Runs.{Filled, keptRanks, going, ownRun, seenRun, ownWeight, seenWeight, OwnsBy, SeensBy}
 use Rattle.gathering.proofs.Weights.{lower-all}
-
-map-at : (f : ℕ → ℕ) (l : List ℕ) (k : ℕ) → k < length l → getD (map f l) k 0 ≡ f (getD l k 0)
-map-at f [] k h = absurd (omega arith)
-map-at f (x ∷ xs) zero h = refl
-map-at f (x ∷ xs) (suc k) h = map-at f xs k (omega arith)
 
 packed-long : (l : List Source) → length l ≡ length (packed l)
 unfolding packed
@@ -110,7 +105,7 @@ module _ {bs : ℕ → BoundaryRecord} {os : ℕ → ObservationRecord} {ss : Li
     filled-at {l} {m} f g q h =
         let c : q < length ranks = omega (arith, h, ks-long) in
         let d : q < m = omega (arith, c, g .many, length-map ranks f) in
-        sym (getD-take m l q 0 d) ∙ (ap (λ (t : List ℕ). getD t q 0) (g .there) ∙ map-at f ranks q c)
+        sym (getD-take m l q 0 d) ∙ (ap (λ (t : List ℕ). getD t q 0) (g .there) ∙ map-at f ranks q 0 0 c)
 
     owns-long : length (ownSources ks) ≡ a
     owns-long = packed-long (ownSources ks) ∙ (ap length (ap (λ (l : List Boundary). packed (ownSources l)) ks-are ∙ owns-are ranks ranks-stay) ∙ sym (o .owned-there .many))

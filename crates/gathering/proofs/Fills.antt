@@ -2,7 +2,7 @@
 use mathlib.Core.Path.{_≡_, refl, sym, _∙_, ap}
 use mathlib.Core.Bool.{Bool}
 use mathlib.Core.List.{List, [], _∷_, _++_, append-assoc, append-nil}
-use Prim.Native.Nat.{ℕ, zero, suc, _+_, _-_, _≤_, _<_}
+use Prim.Native.Nat.{ℕ, _+_, _-_, _≤_, _<_}
 use native.Mathlib.Numerals.{add-one}
 use native.Mathlib.Omega.{arith}
 use lib.Dec.{leb}
@@ -15,6 +15,7 @@ use Rattle.order.specs.Sorting.{sort, sortOnce}
 use Rattle.order.proofs.Merge.{sort-length}
 use Rattle.sorting.specs.Between.{between, Front}
 use Rattle.gathering.specs.Runs.{Filled, Added}
+use Rattle.order.proofs.Numbers.{up-last}
 
 pub filled-start : (l : List ℕ) → Filled l 0 []
 filled-start l = record { many = refl; there = refl }
@@ -67,13 +68,8 @@ part-last s a k h =
     part-join s a k 1
     ∙ ap (λ (t : List ℕ). part s a k ++ t) (part-cons s (a + k) 0 h ∙ ap (λ (t : List ℕ). getD s (a + k) 0 ∷ t) (part-none s (a + k + 1)))
 
-up-after : (a n : ℕ) → upFrom a (suc n) ≡ upFrom a n ++ ((a + n) ∷ [])
-unfolding upFrom
-up-after a zero = let e : a ≡ a + 0 = omega arith in ap (λ (z : ℕ). z ∷ []) e
-up-after a (suc n) = let e : suc a + n ≡ a + suc n = omega arith in ap (λ (t : List ℕ). a ∷ t) (up-after (suc a) n ∙ ap (λ (z : ℕ). upFrom (suc a) n ++ (z ∷ [])) e)
-
-pub up-last : (a n : ℕ) → upFrom a (n + 1) ≡ upFrom a n ++ ((a + n) ∷ [])
-up-last a n = rw add-one (up-after a n)
+pub up-next : (a n : ℕ) → upFrom a (n + 1) ≡ upFrom a n ++ ((a + n) ∷ [])
+up-next a n = rw add-one (up-last a n)
 
 -- One more of a run.
 pub keys-next : {l m : List ℕ} {to r : ℕ} (keys : List ℕ) (a k : ℕ) → Added l to (part keys a k) m r → r ≡ to + k → to + k < length m → a + k < length keys
@@ -86,7 +82,7 @@ pub places-next : {l m : List ℕ} {to r : ℕ} (p k : ℕ) → Added l to (upFr
     → Added l to (upFrom p (k + 1)) (set m (to + k) (p + k)) (to + (k + 1))
 places-next {l} {m} {to} {r} p k f e h =
     let g : Added l to (upFrom p k) m (to + k) = added-is f e refl in
-    added-is (added-put (p + k) g h) (omega arith) (sym (up-last p k))
+    added-is (added-put (p + k) g h) (omega arith) (sym (up-next p k))
 
 pub keys-start : (keys l : List ℕ) (a to : ℕ) → Added l to (part keys a 0) l (to + 0)
 keys-start keys l a to = added-is (added-none l to) (omega arith) (sym (part-none keys a))

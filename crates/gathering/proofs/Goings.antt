@@ -1,7 +1,7 @@
 -- Those that go into one rank, one rank after another.
 use mathlib.Core.Path.{_≡_, refl, sym, _∙_, ap, subst}
 use mathlib.Core.Bool.{Bool, true, false, cond}
-use mathlib.Core.List.{List, [], _∷_, _++_, append-assoc, append-nil}
+use mathlib.Core.List.{List, [], _∷_, _++_, append-nil}
 use Prim.Native.Nat.{ℕ, _+_, _≤_, _<_}
 use native.Mathlib.Omega.{arith}
 use lib.Dec.{eqb, leb}
@@ -20,19 +20,15 @@ use Rattle.answer.specs.Laying.{below}
 use Rattle.answer.proofs.Lays.{below-next}
 use Rattle.gathering.specs.Runs.{Added, going, ownAt, ownRun, ownWeight, into}
 use Rattle.gathering.specs.Room.{OwnRoom}
-use Rattle.gathering.proofs.Fills.{up-last, added-none, added-is, added-then, added-once}
+use Rattle.gathering.proofs.Fills.{up-next, added-none, added-is, added-then, added-once}
+use Rattle.merging.proofs.Lists.{gather-append}
 
 -- What a test takes of one more number.
 pub keep-last : (t : ℕ → Bool) (j : ℕ) → keep t (upFrom 0 (j + 1)) ≡ keep t (upFrom 0 j) ++ cond (t j) (j ∷ []) []
 unfolding keep
 keep-last t j =
     let e : 0 + j ≡ j = omega arith in
-    ap (keep t) (up-last 0 j ∙ ap (λ (z : ℕ). upFrom 0 j ++ (z ∷ [])) e) ∙ keep-append t (upFrom 0 j) (j ∷ [])
-
-pub gather-append : (f : ℕ → List ℕ) (l m : List ℕ) → gather f (l ++ m) ≡ gather f l ++ gather f m
-unfolding gather
-gather-append f [] m = refl
-gather-append f (x ∷ l) m = ap (λ (t : List ℕ). f x ++ t) (gather-append f l m) ∙ sym (append-assoc (f x) (gather f l) (gather f m))
+    ap (keep t) (up-next 0 j ∙ ap (λ (z : ℕ). upFrom 0 j ++ (z ∷ [])) e) ∙ keep-append t (upFrom 0 j) (j ∷ [])
 
 pub gather-one : (f : ℕ → List ℕ) (b : Bool) (j : ℕ) → gather f (cond b (j ∷ []) []) ≡ cond b (f j) []
 unfolding gather

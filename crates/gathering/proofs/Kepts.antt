@@ -11,8 +11,9 @@ use Rattle.order.specs.Lists.{keep, gather, upFrom}
 use Rattle.answer.specs.Laying.{below}
 use Rattle.gathering.specs.Runs.{Filled, Added, keptRanks, ownRun, seenRun, ownWeight, seenWeight, into, OwnsBy, SeensBy, ownTotal, seenTotal}
 use Rattle.gathering.proofs.Fills.{filled-start, filled-is, filled-put, filled-then}
-use Rattle.gathering.proofs.Goings.{keep-last, gather-append}
+use Rattle.gathering.proofs.Goings.{keep-last}
 use Rattle.gathering.proofs.Weights.{lower-next}
+use Rattle.merging.proofs.Lists.{gather-append}
 
 ranks-none : (plan : List ℕ) → keptRanks plan 0 ≡ []
 unfolding keptRanks keep upFrom

@@ -2,7 +2,7 @@
 use mathlib.Core.Path.{_≡_, refl, sym, _∙_, ap}
 use mathlib.Core.Logic.{by-cases}
 use mathlib.Core.Bool.{Bool, true, false, cond}
-use mathlib.Core.List.{List, _∷_, map, List·Permᴰ, List·Permᴰ·nil, List·Permᴰ·cons, List·Permᴰ·swap, List·Permᴰ·trans, Permᴰ·symm, List·Memᴰ, map-map}
+use mathlib.Core.List.{List, _∷_, map, Permᴰ·symm, Permᴰ·map, List·Memᴰ, map-map}
 use Prim.Native.Nat.{ℕ, zero, suc, _+_, _≤_, _<_}
 use native.Mathlib.Decide.{ℕ-discrete}
 use native.Mathlib.Omega.{arith}
@@ -10,7 +10,7 @@ use borrow.Author.Tests.{eq-eqb, ne-eqb, lt-ltb, le-ltb, ltb-false, ltb-true}
 use lib.Dec.{eqb, ltb}
 use lib.ListN.{length, getD, length-map}
 use Rattle.lists.specs.Rows.{rows, sum}
-use Rattle.lists.proofs.Rows.{sum-last, rows-same}
+use Rattle.lists.proofs.Rows.{sum-last, rows-same, sum-perm}
 use Rattle.order.specs.Lists.{upFrom}
 use Rattle.order.proofs.Bools.{by-test}
 use Rattle.order.proofs.Members.{perm-mem, getD-mem}
@@ -47,13 +47,6 @@ lower-all plan w i zero = omega (arith, below-none (lower plan w i))
 lower-all plan w i (suc n) = omega (arith, lower-all plan w i n, sum-last n (lower plan w i), sum-last n w, cond-most (ltb (getD plan n 0) i) (w n))
 
 -- A sum over the places is a sum over the ranks.
-sum-perm : (f : ℕ → ℕ) {l m : List ℕ} → List·Permᴰ l m → sum (map f l) ≡ sum (map f m)
-unfolding sum
-sum-perm f List·Permᴰ·nil = refl
-sum-perm f (List·Permᴰ·cons e p) = omega (arith, ap f e, sum-perm f p)
-sum-perm f (List·Permᴰ·swap e g) = omega (arith, ap f e, ap f g)
-sum-perm f (List·Permᴰ·trans p q) = sum-perm f p ∙ sum-perm f q
-
 rows-up : (f : ℕ → ℕ) (a n : ℕ) → map f (upFrom a n) ≡ rows n (λ k. f (a + k))
 unfolding upFrom rows
 rows-up f a zero = refl
@@ -68,7 +61,7 @@ pub below-order : (order : List ℕ) (n : ℕ) → Ordered order n → (f : ℕ 
 below-order order n p f =
     below-up (λ j. f (getD order j 0)) n
     ∙ (sym (ap sum (map-map f (λ j. getD order j 0) (upFrom 0 n)))
-    ∙ (sym (sum-perm f p) ∙ sym (below-up f n)))
+    ∙ (sym (sum-perm (Permᴰ·map f p)) ∙ sym (below-up f n)))
 
 pub order-inside : (order : List ℕ) (n : ℕ) → Ordered order n → (j : ℕ) → j < n → getD order j 0 < n
 order-inside order n p j h =

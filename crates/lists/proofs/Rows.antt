@@ -1,10 +1,10 @@
 -- Laws of rows and of sums.
 use mathlib.Core.Path.{_≡_, refl, _∙_, ap}
-use mathlib.Core.List.{List, [], _∷_, _++_, map}
+use mathlib.Core.List.{List, [], _∷_, _++_, map, List·Permᴰ, List·Permᴰ·nil, List·Permᴰ·cons, List·Permᴰ·swap, List·Permᴰ·trans}
 use Prim.Native.Nat.{ℕ, zero, suc, _+_, _-_, _≤_, _<_}
 use native.Mathlib.Nat.{zero-add, suc-add}
 use native.Mathlib.Omega.{arith}
-use lib.ListN.{length, getD}
+use lib.ListN.{length, getD, replicate}
 use Rattle.lists.specs.Rows.{rows, sum, more}
 
 module _ {A : Type 0} where
@@ -66,3 +66,17 @@ sum-prefix k n f h =
     let s : sum (rows n f) ≡ sum (rows k f) + sum (rows (n - k) (λ i. f (k + i)))
     = ap (λ (m : ℕ). sum (rows m f)) e ∙ ap sum (rows-split k (n - k) f) ∙ sum-append (rows k f) (rows (n - k) (λ i. f (k + i))) in
     omega arith
+
+-- The order of the terms changes no sum.
+pub sum-perm : {l m : List ℕ} → List·Permᴰ l m → sum l ≡ sum m
+unfolding sum
+sum-perm List·Permᴰ·nil = refl
+sum-perm (List·Permᴰ·cons e p) = let k = sum-perm p in omega arith
+sum-perm (List·Permᴰ·swap e f) = omega arith
+sum-perm (List·Permᴰ·trans p q) = sum-perm p ∙ sum-perm q
+
+-- What zeros have at a place.
+pub zero-at : (n k : ℕ) → _≡_ {A = ℕ} (getD (replicate n 0) k 0) 0
+zero-at zero k = refl
+zero-at (suc n) zero = refl
+zero-at (suc n) (suc k) = zero-at n k

@@ -2,7 +2,7 @@
 use mathlib.Core.Path.{_≡_, refl, _∙_, ap}
 use mathlib.Core.Logic.{⊎-elim, by-cases}
 use mathlib.Core.Bool.{true}
-use mathlib.Core.List.{List, [], _∷_, map, map-map, List·Memᴰ, List·Memᴰ·head, List·Memᴰ·tail, List·Memᴰ·not-nil}
+use mathlib.Core.List.{List, [], _∷_, _++_, map, map-map, List·Memᴰ, List·Memᴰ·head, List·Memᴰ·tail, List·Memᴰ·not-nil}
 use Prim.Native.Nat.{ℕ, zero, suc, _+_, _<_, _≤_}
 use native.Mathlib.Omega.{arith}
 use native.Mathlib.Decide.{ℕ-discrete}
@@ -35,6 +35,18 @@ pub up-length : (a n : ℕ) → length (upFrom a n) ≡ n
 unfolding upFrom
 up-length a zero = refl
 up-length a (suc n) = ap suc (up-length (suc a) n)
+
+-- the last one last
+pub up-last : (a n : ℕ) → upFrom a (suc n) ≡ upFrom a n ++ ((a + n) ∷ [])
+unfolding upFrom
+up-last a zero = let e : a ≡ a + 0 = omega arith in ap (λ (z : ℕ). z ∷ []) e
+up-last a (suc n) = let e : suc a + n ≡ a + suc n = omega arith in ap (λ (l : List ℕ). a ∷ l) (up-last (suc a) n ∙ ap (λ (z : ℕ). upFrom (suc a) n ++ (z ∷ [])) e)
+
+-- what a map gives at a place
+pub map-at : {A B : Type 0} (f : A → B) (l : List A) (i : ℕ) (d : A) (z : B) → i < length l → getD (map f l) i z ≡ f (getD l i d)
+map-at f [] i d z h = absurd (omega arith)
+map-at f (x ∷ xs) zero d z h = refl
+map-at f (x ∷ xs) (suc i) d z h = map-at f xs i d z (omega arith)
 
 -- what a function gives at each number of the row
 pub map-up-at : {A : Type 0} (f : ℕ → A) (a n i : ℕ) (d : A) → i < n → getD (map f (upFrom a n)) i d ≡ f (a + i)

@@ -56,7 +56,7 @@ module _ {l : List Item} {own bits ramps : List ℕ} (b : Boundaries l own bits 
 
 -- links join ranks of the listing
 module _ {dirs : List ℕ} {g : Grid} {anchors : List WalkPosition} {l : List Item} {regions firsts seconds : List ℕ} {count : ℕ} (linked : Linked dirs g anchors l regions firsts seconds count) where
-  is-link : (k : ℕ) → k < count → IsLink dirs g anchors l (linkRow regions firsts seconds k)
+  pub is-link : (k : ℕ) → k < count → IsLink dirs g anchors l (linkRow regions firsts seconds k)
   unfolding linksIn
   is-link k h = link-iff dirs g anchors l (linkRow regions firsts seconds k) .0 (subst (List·Memᴰ (linkRow regions firsts seconds k)) (linked .all) member)
     where

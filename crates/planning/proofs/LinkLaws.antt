@@ -21,13 +21,14 @@ use Rattle.topology.specs.Held.{labelsOf}
 use Rattle.topology.specs.Listing.{Item}
 use Rattle.groups.specs.Listing.{noSpan, spansOf}
 use Rattle.groups.specs.Regions.{regionLabels, regionCount}
-use Rattle.groups.specs.Links.{LinkAt, links, IsLink}
+use Rattle.groups.specs.Links.{LinkAt, links}
 use Rattle.groups.specs.Tables.{recordsIn, Paired, linksIn, Linked}
-use Rattle.groups.proofs.Links.{link-iff, links-rising}
+use Rattle.groups.proofs.Links.{links-rising}
 use Rattle.candidates.specs.Owners.{recordIn, noRecord, OwnersBelow}
 use Rattle.measures.specs.Tables.{Regions, Labels}
 use Rattle.measures.specs.Judging.{Ranks}
 use Rattle.plan.specs.Arrays.{linkRow, Ranked}
+use Rattle.plan.proofs.FromTables.{is-link}
 
 abbrev noLink : LinkAt
 noLink = record { region = 0; first = 0; second = 0 }
@@ -49,11 +50,6 @@ module _ {dirs : List ℕ} {g : Grid} {anchors : List WalkPosition} {l : List It
   unfolding linksIn
   many = ap (λ (t : List LinkAt). length t) (sym (L .all)) ∙ length-rows r (linkRow regions firsts seconds)
 
-  link-is : (k : ℕ) → k < r → IsLink dirs g anchors l (linkRow regions firsts seconds k)
-  link-is k h =
-      link-iff dirs g anchors l (linkRow regions firsts seconds k) .0
-      (subst (λ (j : LinkAt). List·Memᴰ j (links dirs g anchors l)) (row-at k h) (getD-mem (links dirs g anchors l) noLink k (omega (arith, many))))
-
   rises : (j k : ℕ) → j < k → k < r → getD regions j 0 < getD regions k 0
   rises j k h m =
       let p = pairs-at noLink (links-rising dirs g anchors l) j k h (omega (arith, many)) in
@@ -64,8 +60,8 @@ module _ {dirs : List ℕ} {g : Grid} {anchors : List WalkPosition} {l : List It
   pub regions-are : {work : List ℕ} → labelsOf work (size g) ≡ regionLabels dirs g l → Labels work (size g) → Regions regions r (size g)
   regions-are {work} e B = record {
     few = L .most;
-    from = λ k h. link-is k h .some;
-    to = λ k h. label-within dirs g l work e B (getD regions k 0) (link-is k h .some) (link-is k h .last);
+    from = λ k h. is-link L k h .some;
+    to = λ k h. label-within dirs g l work e B (getD regions k 0) (is-link L k h .some) (is-link L k h .last);
     apart = λ j k h m e.
         by-test (ltb j k) (λ t. let z = rises j k (ltb-true j k t) m in absurd (omega (arith, z, e)))
         (λ t. by-test (ltb k j) (λ s. let z = rises k j (ltb-true k j s) h in absurd (omega (arith, z, e))) (λ s. let u = ltb-false j k t in let v = ltb-false k j s in omega (arith, u, v)));

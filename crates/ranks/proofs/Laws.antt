@@ -2,7 +2,7 @@
 use mathlib.Core.Path.{_≡_, refl, _∙_, ap}
 use mathlib.Core.Logic.{by-cases}
 use mathlib.Core.List.{List}
-use Prim.Native.Nat.{ℕ, zero, suc, _+_, _*_, _<_, _≤_}
+use Prim.Native.Nat.{ℕ, _+_, _*_, _<_, _≤_}
 use native.Mathlib.Omega.{arith}
 use native.Mathlib.Decide.{ℕ-discrete}
 use native.Mathlib.Nat.{mul-le-mul-right}
@@ -16,6 +16,7 @@ use Rattle.format.specs.Records.{spanAt}
 use Rattle.areas.specs.Spans.{spanIn}
 use Rattle.order.specs.Keys.{pack}
 use Rattle.ranks.specs.Tables.{recordPlace, Records, putSpan, SpansOf, WidthsOf, RampsOf, KeysOf}
+use Rattle.lists.proofs.Rows.{zero-at}
 
 -- an array whose first i entries are those of f, with f i put at i
 pub entry-next : (f : ℕ → ℕ) (l : List ℕ) (i : ℕ) {v : ℕ} → i < length l → v ≡ f i → ((k : ℕ) → k < i → getD l k 0 ≡ f k) → (k : ℕ) → k < i + 1 → getD (set l i v) k 0 ≡ f k
@@ -109,11 +110,6 @@ placed {s} {at} {stride} {order} {n} r i h =
     let a : (getD order i 0 + 1) * stride ≤ n * stride = mul-le-mul-right stride (let z = r .named i h in omega arith) in
     let b : n * stride ≤ 256 * stride = mul-le-mul-right stride (r .few) in
     record { small = omega (arith, a, b, r .most); ends = omega (arith, a, r .inside) }
-
-zero-at : (n k : ℕ) → _≡_ {A = ℕ} (getD (replicate n 0) k 0) 0
-zero-at zero k = refl
-zero-at (suc n) zero = refl
-zero-at (suc n) (suc k) = zero-at n k
 
 pub spans-start : {s : List ℕ} {at stride : ℕ} {order : List ℕ} → SpansOf s at stride order 0 (replicate 1024 0)
 spans-start = record { whole = length-replicate {A = ℕ} 1024 0; each = λ i h. absurd (omega arith); rest = λ k h. zero-at 1024 k }

@@ -9,7 +9,7 @@ use lib.Dec.{ltb, eqb}
 use lib.ListN.{length, length-append}
 use Rattle.order.specs.Lists.{keep, upFrom}
 use Rattle.order.proofs.Keep.{keep-append}
-use Rattle.order.proofs.Numbers.{up-length}
+use Rattle.order.proofs.Numbers.{up-length, up-last}
 use Rattle.grid.specs.Cells.{Grid, rampCell, elevation, columnOf, rowOf, cellAt}
 use Rattle.areas.specs.Areas.{labelAt}
 use Rattle.topology.specs.Extremes.{least, greatest}
@@ -123,11 +123,6 @@ module _ (g : Grid) where
     third = omega (arith, keep-most (λ i. eqb (elevation g i) 2) cs);
     fourth = omega (arith, keep-most (λ i. eqb (elevation g i) 3) cs);
   }
-
-up-last : (a n : ℕ) → upFrom a (suc n) ≡ upFrom a n ++ ((a + n) ∷ [])
-unfolding upFrom
-up-last a zero = let e : a + 0 ≡ a = omega arith in rw e
-up-last a (suc n) = let e : a + suc n ≡ suc a + n = omega arith in rw e (ap (λ (l : List ℕ). a ∷ l) (up-last (suc a) n))
 
 -- the next cell has the label, or has not
 pub cells-in : (ls : List ℕ) (r i : ℕ) → eqb r (labelAt ls i) ≡ true → firstCells ls r (suc i) ≡ firstCells ls r i ++ (i ∷ [])
