@@ -17,13 +17,13 @@ use Rattle.merging.specs.Runs.{rulesAnswer}
 use Rattle.merging.specs.Relisted.{Relisted, DistinctEnds}
 use Rattle.merging.proofs.Independence.{groups-well}
 use Rattle.merging.proofs.Symmetric.{relisted-symmetric}
-use Rattle.chokes.specs.Rules.{gridOf, rulesOn, rulesOf}
-use Rattle.chokes.specs.Results.{Outcome, labelsOf, answerOf, reduceWith, reduceByListWith}
-use Rattle.chokes.specs.Calls.{reduceResult, reduceByListResult}
+use Rattle.results.specs.Rules.{gridOf, rulesOn, rulesOf}
+use Rattle.results.specs.Results.{Outcome, labelsOf, answerOf, reduceWith, reduceByListWith}
+use Rattle.results.specs.Calls.{reduceResult, reduceByListResult}
 use Rattle.chokes.specs.Demand.{Call, reduce, reduceByList, jobOf, spansOf, checksOf, runOf, left, SameMap, Made, wrote, SameBytes}
-use Rattle.chokes.proofs.Results.{reduced-success}
-use Rattle.chokes.proofs.Planned.{groups-unmatched}
-use Rattle.chokes.proofs.Rules.{listing-independent, rules-well}
+use Rattle.results.proofs.Results.{reduced-success}
+use Rattle.results.proofs.Planned.{groups-unmatched}
+use Rattle.results.proofs.Rules.{listing-independent, rules-well}
 
 start : (s bs : List ℕ) → take (length bs) (splice s 0 bs) ≡ bs
 unfolding splice

@@ -12,13 +12,12 @@ use Rattle.links.specs.Limits.{limits000}
 use Rattle.answer.specs.Gathered.{Ordered}
 use Rattle.job.specs.Checks.{firstRefusal}
 use Rattle.job.specs.Refusals.{jobChecks, reduceChecks, byListChecks}
-use Rattle.chokes.specs.Results.{ownEnds, reduced, reduceWith, reduceByListWith}
-use Rattle.chokes.specs.Calls.{reduceResult, reduceByListResult}
-use Rattle.chokes.specs.Marking.{leftBy}
-use Rattle.chokes.specs.Plans.{RankedBy, Made, answerBytes, Finished}
+use Rattle.results.specs.Results.{ownEnds, reduced, reduceWith, reduceByListWith, leftBy}
+use Rattle.results.specs.Calls.{reduceResult, reduceByListResult}
+use Rattle.analysis.specs.Plans.{RankedBy, Made, answerBytes, Finished}
 use Rattle.encoding.specs.Answered.{Answerable, Answered}
-use Rattle.chokes.proofs.Own.{boundary-count}
-use Rattle.chokes.proofs.Leaving.{bytesBy, ordered, left-finished}
+use Rattle.results.proofs.Own.{boundary-count}
+use Rattle.analysis.proofs.Leaving.{bytesBy, ordered, left-finished}
 
 -- what is written, or not
 pub finished-short : {bytes before after : List ℕ} {r : ℕ} → Answered bytes before after r → length before < r → Finished bytes before after 22 r

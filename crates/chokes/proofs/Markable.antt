@@ -28,12 +28,13 @@ use Rattle.partition.specs.declared.Partition.{Partition}
 use Rattle.ranks.specs.Tables.{recordPlace, Records, SpansOf, Identity}
 use Rattle.job.specs.Passed.{Laid}
 use Rattle.job.proofs.Limits.{cells-limit, sections}
-use Rattle.chokes.specs.Rules.{gridOf}
-use Rattle.chokes.specs.Results.{ownEnds}
+use Rattle.results.specs.Rules.{gridOf}
+use Rattle.results.specs.Results.{ownEnds}
 use Rattle.partition.specs.Partitioned.{labelled}
-use Rattle.chokes.specs.Marking.{Bridged, Markable, Analysed}
-use Rattle.chokes.proofs.Mapped.{header-counts, map-inside, map-is, map-partitionable}
-use Rattle.chokes.proofs.Own.{boundaryPlace, own-ends, mark-laid, ends-fit}
+use Rattle.analysis.specs.Bridging.{Bridged}
+use Rattle.chokes.specs.Marking.{Markable, Analysed}
+use Rattle.analysis.proofs.Mapped.{header-counts, map-inside, map-is, map-partitionable}
+use Rattle.results.proofs.Own.{boundaryPlace, own-ends, mark-laid, ends-fit}
 
 module _ {s : List ℕ} {h : Header} {work : List ℕ} (m : Markable s h work) where
   laid : Laid s h

@@ -27,12 +27,12 @@ use Rattle.job.specs.Refusals.{markChecks}
 use Rattle.job.specs.Verdict.{passes, numberOf, detailOf}
 use Rattle.job.proofs.Firsts.{skip, stop, clear, append-none, append-some}
 use Rattle.job.proofs.Limits.{cells-limit, sections}
-use Rattle.chokes.specs.Rules.{gridOf}
-use Rattle.chokes.specs.Results.{workSize, ownEnds, marksOf, markWith, maxPairs, afterWork, outcome, workCheck, pairCheck}
-use Rattle.chokes.specs.Calls.{markResult}
-use Rattle.chokes.specs.Marking.{Analysed, copied, leftBy}
-use Rattle.chokes.proofs.Own.{boundary-count, mark-laid}
-use Rattle.chokes.proofs.Results.{mark-success}
+use Rattle.results.specs.Rules.{gridOf}
+use Rattle.results.specs.Results.{workSize, ownEnds, marksOf, markWith, maxPairs, afterWork, outcome, workCheck, pairCheck, leftBy}
+use Rattle.results.specs.Calls.{markResult}
+use Rattle.chokes.specs.Marking.{Analysed, copied}
+use Rattle.results.proofs.Own.{boundary-count, mark-laid}
+use Rattle.results.proofs.Results.{mark-success}
 
 module _ (s : List ℕ) (e : firstRefusal (markChecks s) ≡ none) where
   cells-number : length (decode s .cells) ≡ cellCount (headerAt s .counts)

@@ -18,8 +18,8 @@ use Rattle.merging.specs.Runs.{Run, Matched, groupsOf}
 use Rattle.merging.specs.Relisted.{Relisted}
 use Rattle.merging.specs.Merging.{MergeList, finish}
 use Rattle.merging.specs.Demand.{MergesOn, Independent}
-use Rattle.chokes.specs.Rules.{gridOf, rulesOf}
-use Rattle.chokes.specs.Results.{Outcome, workSize, maxPairs, ownEnds, answerOf, reduced}
+use Rattle.results.specs.Rules.{gridOf, rulesOf}
+use Rattle.results.specs.Results.{Outcome, workSize, maxPairs, ownEnds, answerOf, reduced}
 
 -- A call with its input: a job, or a job and a list.
 pub data Call : Type 0 where

@@ -11,19 +11,14 @@ use Rattle.format.specs.Values.{Job}
 use Rattle.format.specs.Header.{headerAt}
 use Rattle.format.specs.Decode.{decode}
 use Rattle.format.specs.declared.header.Header.{Header}
-use Rattle.grid.specs.Cells.{Grid}
 use Rattle.grid.specs.Directions.{eight}
 use Rattle.areas.specs.Assessments.{records}
-use Rattle.bridges.specs.Marks.{bridgeMarks}
 use Rattle.job.specs.Checks.{firstRefusal}
 use Rattle.job.specs.Refusals.{markChecks}
-use Rattle.chokes.specs.Rules.{gridOf}
-use Rattle.chokes.specs.Results.{Outcome, workSize, maxPairs, labelsOf}
+use Rattle.results.specs.Rules.{gridOf}
+use Rattle.results.specs.Results.{workSize, maxPairs, labelsOf}
+use Rattle.analysis.specs.Bridging.{Bridged}
 use Rattle.partition.specs.Partitioned.{labelled}
-
--- the marks of the boundaries, where the pairs are no more than a call takes
-abbrev pub Bridged : List ℕ → Grid → List Span → List ℕ → Type 0
-Bridged dirs g ss marks = length (records dirs g ss) ≤ maxPairs → marks ≡ bridgeMarks (records dirs g ss) 256
 
 -- a job that Mark takes, its header, and ten bytes of work a cell
 pub record Markable (s : List ℕ) (h : Header) (work : List ℕ) : Type 0 where
@@ -41,7 +36,3 @@ pub record Analysed (j : Job) (ss : List Span) (before work marks : List ℕ) (p
 -- the first n bytes are those of another list
 abbrev pub copied : List ℕ → ℕ → List ℕ → List ℕ
 copied from n to = splice to 0 (rows n (λ k. getD from k 0))
-
--- what a call left
-abbrev pub leftBy : ℕ → ℕ → List ℕ → List ℕ → Outcome
-leftBy number detail work out = record { number = number; detail = detail; work = work; out = out }

@@ -3,12 +3,13 @@ ghost use mathlib.Core.Path.{_≡_};
 ghost use Prim.Native.Nat.{_≤_, _<_};
 ghost use lib.ListN.{length};
 ghost use Rattle.format.specs.Decode.{decode};
-ghost use Rattle.chokes.specs.Calls.{markResult};
-ghost use Rattle.chokes.specs.Marking.{Markable, Analysed, copied, leftBy};
-ghost use Rattle.chokes.specs.Results.{ownEnds};
-use crate::analysis::MAX_PAIRS;
-use crate::analysis::analyse;
-use crate::result::ChokesResult;
+ghost use Rattle.results.specs.Calls.{markResult};
+ghost use Rattle.chokes.specs.Marking.{Markable, Analysed, copied};
+ghost use Rattle.results.specs.Results.{ownEnds, leftBy};
+use analysis::ChokesResult;
+use analysis::MAX_PAIRS;
+use analysis::analyse;
+use analysis::size;
 use format::BOUNDARY_SIZE;
 use format::HEADER_SIZE;
 use format::Header;
@@ -16,12 +17,6 @@ use format::read_header;
 use job::check_mark;
 use ranks::fill_identity;
 use ranks::fill_spans;
-
-pub fn size(x: u32) -> usize
-    ensures { λ r. ⌜ (r ≡ x) × (r < 0x1_0000_0000) ⌝ }
-{
-    x as usize
-}
 
 // Partitions a job by its boundaries' own ends; gives the number of region pairs.
 fn analyse_boundaries(job: &[u8], h: Header, work: &mut [u8], marks: &mut [u8; 256]) -> usize

@@ -1,13 +1,13 @@
 // Reduce and Reduce by list: the answer that a plan gives.
 ghost use mathlib.Core.Path.{_≡_};
 ghost use Rattle.format.specs.Header.{headerAt};
-ghost use Rattle.chokes.specs.Calls.{reduceResult, reduceByListResult};
-ghost use Rattle.chokes.specs.Marking.{leftBy};
-ghost use Rattle.chokes.specs.Plans.{answerBytes, Finished};
+ghost use Rattle.results.specs.Calls.{reduceResult, reduceByListResult};
+ghost use Rattle.results.specs.Results.{leftBy};
+ghost use Rattle.analysis.specs.Plans.{answerBytes, Finished};
 ghost use Rattle.encoding.specs.Answered.{Answerable};
-use crate::plans::plan_reduce;
-use crate::plans::plan_reduce_by_list;
-use crate::result::ChokesResult;
+use analysis::ChokesResult;
+use analysis::plan_reduce;
+use analysis::plan_reduce_by_list;
 use encoding::from_job::write_answer;
 use format::read_header;
 

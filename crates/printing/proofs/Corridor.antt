@@ -11,9 +11,9 @@ use Rattle.listing.specs.Lines.{listingOf}
 use Rattle.listing.specs.Answer.{listing, whole}
 use Rattle.listing.specs.Corridor.{corridorBytes, corridorText, words as listing·words}
 use Rattle.listing.proofs.Cases.{corridor-listing}
-use Rattle.chokes.specs.Cases.{words, upright, observed, corridor, corridorAnswer}
-use Rattle.chokes.specs.Calls.{reduceResult}
-use Rattle.chokes.proofs.Cases.{twelve-cases}
+use Rattle.results.specs.Cases.{words, upright, observed, corridor, corridorAnswer}
+use Rattle.results.specs.Calls.{reduceResult}
+use Rattle.results.proofs.Cases.{twelve-cases}
 use Rattle.printing.specs.Printed.{printed}
 use Rattle.printing.proofs.Success.{first-written}
 

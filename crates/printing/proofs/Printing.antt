@@ -14,9 +14,8 @@ use Rattle.format.proofs.AnswerTrip.{length-encodeAnswer}
 use Rattle.listing.specs.Lines.{listingOf, refusedLine}
 use Rattle.listing.specs.Answer.{Writes, answerLength, listing}
 use Rattle.listing.proofs.Sizing.{is-whole}
-use Rattle.chokes.specs.Results.{Outcome}
-use Rattle.chokes.specs.Marking.{leftBy}
-use Rattle.chokes.specs.Calls.{reduceResult}
+use Rattle.results.specs.Results.{Outcome, leftBy}
+use Rattle.results.specs.Calls.{reduceResult}
 use Rattle.printing.specs.Printed.{printed}
 use Rattle.printing.proofs.Success.{Answered, first-bytes, answered}
 

@@ -21,9 +21,9 @@ use Rattle.merging.specs.Runs.{reduceRun, rulesAnswer, keptOf}
 use Rattle.job.specs.Checks.{Refusal, Check, check, firstRefusal}
 use Rattle.job.specs.Refusals.{reduceChecks}
 use Rattle.job.proofs.Firsts.{none-head}
-use Rattle.chokes.specs.Rules.{rulesOf}
-use Rattle.chokes.specs.Results.{Outcome, ownEnds, labelsOf, answerOf, workCheck, pairCheck, afterWork, outcome, reduced, reduceWith}
-use Rattle.chokes.specs.Calls.{reduceResult}
+use Rattle.results.specs.Rules.{rulesOf}
+use Rattle.results.specs.Results.{Outcome, ownEnds, labelsOf, answerOf, workCheck, pairCheck, afterWork, outcome, reduced, reduceWith}
+use Rattle.results.specs.Calls.{reduceResult}
 use Rattle.printing.proofs.Refusing.{Numbered, numbered, refused-numbered, reduce-numbered}
 
 -- What was written, into an answer slice that has room for it.

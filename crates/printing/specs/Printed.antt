@@ -6,7 +6,7 @@ use lib.Dec.{eqb}
 use lib.ListN.{take}
 use Rattle.format.specs.Decode.{decodeAnswer}
 use Rattle.listing.specs.Lines.{listingOf, refusedLine}
-use Rattle.chokes.specs.Results.{Outcome}
+use Rattle.results.specs.Results.{Outcome}
 
 -- "a refusal prints `refused`, number, detail on one line"; else "kept: the number of boundaries. Then for each …", of the answer, whose length is the detail.
 unfoldable pub printed : Outcome → List ℕ

@@ -1,7 +1,7 @@
 // What choke-list prints, written into a lent slice.
 ghost use Prim.Native.Nat.{_*_, _≤_};
 ghost use lib.ListN.{length};
-ghost use Rattle.chokes.specs.Calls.{reduceResult};
+ghost use Rattle.results.specs.Calls.{reduceResult};
 ghost use Rattle.listing.specs.Answer.{Writes};
 ghost use Rattle.printing.specs.Printed.{printed};
 use chokes::chokes_reduce;

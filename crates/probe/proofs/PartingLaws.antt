@@ -34,10 +34,10 @@ use Rattle.job.specs.Refusals.{reduceChecks}
 use Rattle.job.specs.Verdict.{passes}
 use Rattle.job.proofs.Limits.{sections}
 use Rattle.job.proofs.Passing.{reduce-passed}
-use Rattle.chokes.specs.Rules.{gridOf}
-use Rattle.chokes.specs.Results.{ownEnds}
-use Rattle.chokes.proofs.Checked.{Checked, boundariesAt, checked, checked-sides}
-use Rattle.chokes.proofs.RankedTables.{own-listed-fit, own-labels-listed, own-records-listed}
+use Rattle.results.specs.Rules.{gridOf}
+use Rattle.results.specs.Results.{ownEnds}
+use Rattle.analysis.proofs.Checked.{Checked, boundariesAt, checked, checked-sides}
+use Rattle.analysis.proofs.RankedTables.{own-listed-fit, own-labels-listed, own-records-listed}
 use Rattle.probe.specs.Parting.{OwnSpans, Taken, Told, many, short, written, Parted}
 
 -- records in their own order

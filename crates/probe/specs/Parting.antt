@@ -16,8 +16,8 @@ use Rattle.ranks.specs.Tables.{Identity, SpansOf}
 use Rattle.job.specs.Checks.{firstRefusal}
 use Rattle.job.specs.Refusals.{reduceChecks}
 use Rattle.job.specs.Verdict.{passes, numberOf, detailOf}
-use Rattle.chokes.specs.Rules.{gridOf}
-use Rattle.chokes.specs.Results.{ownEnds}
+use Rattle.results.specs.Rules.{gridOf}
+use Rattle.results.specs.Results.{ownEnds}
 
 -- the spans of count records from place at on, in their own order
 pub record OwnSpans (s : List ℕ) (at count : ℕ) (ends : List ℕ) : Type 0 where

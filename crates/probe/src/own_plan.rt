@@ -3,9 +3,9 @@ ghost use mathlib.Core.Path.{_≡_};
 ghost use Prim.Native.Nat.{_≤_, _<_};
 ghost use lib.ListN.{length};
 use crate::ProbeResult;
-use chokes::ChokesResult;
-use chokes::plan_reduce;
-use chokes::plan_reduce_by_list;
+use analysis::ChokesResult;
+use analysis::plan_reduce;
+use analysis::plan_reduce_by_list;
 use format::read_header;
 use wire::write_u32;
 

@@ -5,8 +5,8 @@ use Rattle.chokes.proofs.mark.analyse_boundaries.Statement.{statement}
 use Rattle.chokes.proofs.mark.analyse_boundaries.Tie as tie
 use Rattle.chokes.proofs.mark.analyse_boundaries.Reads as reads
 use Rattle.chokes.proofs.mark.analyse_boundaries.Lts as lts
-use Rattle.chokes.proofs.analysis.analyse.Reads as analyse-reads
-use Rattle.chokes.proofs.mark.size.Reads as size-reads
+use Rattle.analysis.proofs.analyse.Reads as analyse-reads
+use Rattle.analysis.proofs.size.Reads as size-reads
 use Rattle.ranks.proofs.fill_identity.Reads as fill-identity-reads
 use Rattle.ranks.proofs.fill_spans.Reads as fill-spans-reads
 

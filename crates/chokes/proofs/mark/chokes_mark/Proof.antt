@@ -3,8 +3,8 @@ use native.Mathlib.Omega.{arith}
 use lib.ListN.{length}
 use Rattle.format.specs.Decode.{decode}
 use Rattle.job.proofs.Passing.{went-on}
-use Rattle.chokes.specs.Results.{workSize}
-use Rattle.chokes.proofs.Own.{mark-laid}
+use Rattle.results.specs.Results.{workSize}
+use Rattle.results.proofs.Own.{mark-laid}
 use Rattle.chokes.proofs.Marked.{work-size, mark-cells, mark-count, mark-boundaries, mark-refused, mark-short, mark-many, mark-no-room, mark-done}
 use borrow.Author.Needs.{needs}
 use Rattle.chokes.proofs.mark.chokes_mark.Statement.{statement}
@@ -13,7 +13,7 @@ use Rattle.chokes.proofs.mark.chokes_mark.Reads as reads
 use Rattle.chokes.proofs.mark.chokes_mark.Lts as lts
 use Rattle.chokes.proofs.mark.analyse_boundaries.Reads as analyse-boundaries-reads
 use Rattle.chokes.proofs.mark.copy_first.Reads as copy-first-reads
-use Rattle.chokes.proofs.mark.size.Reads as size-reads
+use Rattle.analysis.proofs.size.Reads as size-reads
 use Rattle.format.proofs.read_header.Reads as read-header-reads
 use Rattle.job.proofs.check_mark.Reads as check-mark-reads
 use Rattle.job.proofs.verdict.Verdict.detail.Reads as detail-reads

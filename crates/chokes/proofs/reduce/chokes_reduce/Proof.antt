@@ -1,6 +1,6 @@
 use mathlib.Core.Path.{_≡_, _∙_}
 use native.Mathlib.Omega.{arith}
-use Rattle.chokes.proofs.Calling.{reduce-job}
+use Rattle.analysis.proofs.Calling.{reduce-job}
 use Rattle.chokes.proofs.Finishing.{answerable, reduce-finished, reduce-as}
 use borrow.Author.Needs.{needs}
 use Rattle.chokes.proofs.reduce.chokes_reduce.Statement.{statement}
@@ -8,7 +8,7 @@ use Rattle.chokes.proofs.reduce.chokes_reduce.Tie as tie
 use Rattle.chokes.proofs.reduce.chokes_reduce.Reads as reads
 use Rattle.chokes.proofs.reduce.chokes_reduce.Lts as lts
 use Rattle.chokes.proofs.reduce.finish.Reads as finish-reads
-use Rattle.chokes.proofs.plans.plan_reduce.Reads as plan-reduce-reads
+use Rattle.analysis.proofs.plan_reduce.Reads as plan-reduce-reads
 
 plan-reduce-requires : tie.Need-plan-reduce-requires
 plan-reduce-requires c κs = search needs

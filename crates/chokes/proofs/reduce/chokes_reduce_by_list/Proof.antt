@@ -1,6 +1,6 @@
 use mathlib.Core.Path.{_≡_, _∙_}
 use native.Mathlib.Omega.{arith}
-use Rattle.chokes.proofs.Calling.{by-list-job}
+use Rattle.analysis.proofs.Calling.{by-list-job}
 use Rattle.chokes.proofs.Finishing.{answerable, by-list-finished, by-list-as}
 use borrow.Author.Needs.{needs}
 use Rattle.chokes.proofs.reduce.chokes_reduce_by_list.Statement.{statement}
@@ -8,7 +8,7 @@ use Rattle.chokes.proofs.reduce.chokes_reduce_by_list.Tie as tie
 use Rattle.chokes.proofs.reduce.chokes_reduce_by_list.Reads as reads
 use Rattle.chokes.proofs.reduce.chokes_reduce_by_list.Lts as lts
 use Rattle.chokes.proofs.reduce.finish.Reads as finish-reads
-use Rattle.chokes.proofs.plans.plan_reduce_by_list.Reads as plan-reduce-by-list-reads
+use Rattle.analysis.proofs.plan_reduce_by_list.Reads as plan-reduce-by-list-reads
 
 plan-reduce-by-list-requires : tie.Need-plan-reduce-by-list-requires
 plan-reduce-by-list-requires c κs = search needs

@@ -1,5 +1,5 @@
 use native.Mathlib.Omega.{arith}
-use Rattle.chokes.proofs.Calling.{header-there}
+use Rattle.analysis.proofs.Calling.{header-there}
 use Rattle.chokes.proofs.Finishing.{finished-short, finished-whole}
 use borrow.Author.Needs.{needs}
 use Rattle.chokes.proofs.reduce.finish.Statement.{statement}

@@ -1,0 +1,106 @@
+-- The table of the bridge walk after a partition: all zero, within the work, and records that the walk takes.
+use mathlib.Core.Path.{_≡_, sym, _∙_, ap}
+use mathlib.Core.Logic.{by-cases}
+use mathlib.Core.List.{List, _++_, flatMap}
+use Prim.Native.Nat.{ℕ, _+_, _*_, _≤_, _<_}
+use native.Mathlib.Omega.{arith}
+use native.Mathlib.Decide.{decLt}
+use lib.ListN.{length, getD, drop, replicate, length-append, length-replicate, getD-replicate}
+use Rattle.lists.proofs.Flat.{length-pieces}
+use Rattle.wire.specs.Bytes.{part, number, numberAt, u32At, u32Bytes}
+use Rattle.wire.proofs.Parts.{part-left, part-right}
+use Rattle.wire.proofs.Numbers.{length-bytes}
+use Rattle.wire.proofs.Words.{four-bytes}
+use Rattle.grid.specs.Cells.{Grid, size}
+use Rattle.areas.specs.Areas.{areaLabels}
+use Rattle.areas.specs.Spans.{spansIn}
+use Rattle.areas.specs.Assessments.{records}
+use Rattle.areas.proofs.Areas.{area-labels-length}
+use Rattle.assessments.specs.Recording.{recordsIn}
+use Rattle.bridges.specs.Slices.{Owners}
+use Rattle.bridges.specs.Names.{Labelled}
+use Rattle.bridges.specs.Marks.{recordsOf, bridgeMarks}
+use Rattle.partition.specs.Partitioned.{labelled, Partitioned}
+use Rattle.partition.specs.declared.Partition.{Partition}
+use Rattle.analysis.specs.Bridging.{Bridged}
+
+module _ (ls before : List ℕ) where
+  abbrev zeros : List ℕ
+  zeros = replicate (6 * length ls) 0
+
+  flat-long : length (flatMap u32Bytes ls) ≡ 4 * length ls
+  flat-long = length-pieces 4 u32Bytes (λ v. length-bytes 4 v) ls ∙ (let z : length ls * 4 ≡ 4 * length ls = omega arith in z)
+
+  zeros-long : length zeros ≡ 6 * length ls
+  zeros-long = length-replicate (6 * length ls) 0
+
+  zero-at : (i : ℕ) → i < 6 * length ls → getD zeros i 0 ≡ 0
+  zero-at i h = getD-replicate (6 * length ls) i 0 0 h
+
+  zero-word : (x : ℕ) → x < length ls → u32At zeros (4 * x) ≡ 0
+  zero-word x h =
+      omega (
+        arith,
+        four-bytes zeros (4 * x) (omega (arith, zeros-long)),
+        zero-at (4 * x) (omega arith),
+        zero-at (4 * x + 1) (omega arith),
+        zero-at (4 * x + 2) (omega arith),
+        zero-at (4 * x + 3) (omega arith),
+      )
+
+  pub table-zero : (x : ℕ) → x < length ls → u32At (labelled ls before) (4 * length ls + 4 * x) ≡ 0
+  unfolding labelled numberAt
+  table-zero x h =
+      ap (λ (a : ℕ). number (part (flatMap u32Bytes ls ++ (zeros ++ drop (10 * length ls) before)) (a + 4 * x) 4)) (sym flat-long)
+      ∙ (ap number (part-right (flatMap u32Bytes ls) (zeros ++ drop (10 * length ls) before) (4 * x) 4)
+      ∙ (ap number (part-left zeros (drop (10 * length ls) before) (4 * x) 4 (omega (arith, zeros-long))) ∙ zero-word x h))
+
+  pub table-inside : 8 * length ls ≤ length (labelled ls before)
+  unfolding labelled
+  table-inside =
+      omega (
+        arith,
+        length-append (flatMap u32Bytes ls) (zeros ++ drop (10 * length ls) before),
+        length-append zeros (drop (10 * length ls) before),
+        flat-long,
+        zeros-long,
+      )
+
+module _ {dirs : List ℕ} {g : Grid} {ends : List ℕ} {count : ℕ} {before work removed separated owners lefts rights : List ℕ} {p : Partition}
+    (r : Partitioned dirs g ends count before work removed separated owners lefts rights p) where
+  -- over 4,096 pairs nothing is asked of the marks
+  pub unbridged : {marks : List ℕ} → 4096 < p .pairs → Bridged dirs g (spansIn ends count) marks
+  unbridged h = λ few. absurd (omega (arith, r .pairs-are few))
+
+  pub few-pairs : p .pairs ≤ 4096 → length (records dirs g (spansIn ends count)) ≤ 4096
+  few-pairs h = by-cases (decLt 4096 (length (records dirs g (spansIn ends count)))) (λ o. absurd (omega (arith, r .over o))) (λ o. omega arith)
+
+  pub owners-in : count ≤ 256 → p .pairs ≤ 4096 → Owners (p .pairs) owners
+  owners-in c h = λ k l. let z = r .owners-few (few-pairs h) k l in omega arith
+
+  pub labels-in : (n : ℕ) → n ≡ size g → p .pairs ≤ 4096 → Labelled (p .pairs) lefts rights n
+  labels-in n e h = rw e (record {
+    few = h;
+    left-from = λ k l. r .regions (few-pairs h) k l .some;
+    left-to = λ k l. let z = r .regions (few-pairs h) k l in omega (arith, z .apart, z .most);
+    right-from = λ k l. let z = r .regions (few-pairs h) k l in omega (arith, z .apart, z .some);
+    right-to = λ k l. r .regions (few-pairs h) k l .most;
+  })
+
+  labels-long : length (areaLabels dirs g (spansIn ends count)) ≡ size g
+  labels-long = area-labels-length dirs g (spansIn ends count)
+
+  pub room-in : (n : ℕ) → n ≡ size g → 4 * n + 4 * n ≤ length work
+  room-in n e = rw (r .work-is) (omega (arith, e, labels-long, table-inside (areaLabels dirs g (spansIn ends count)) before))
+
+  pub zero-in : (n : ℕ) → n ≡ size g → (x : ℕ) → x < n → u32At work (4 * n + 4 * x) ≡ 0
+  zero-in n e x h =
+      let z : n ≡ length (areaLabels dirs g (spansIn ends count)) = e ∙ sym labels-long in
+      let b : x < length (areaLabels dirs g (spansIn ends count)) = omega (arith, z) in
+      ap (λ (w : List ℕ). u32At w (4 * n + 4 * x)) (r .work-is)
+      ∙ (ap (λ (a : ℕ). u32At (labelled (areaLabels dirs g (spansIn ends count)) before) (4 * a + 4 * x)) z
+      ∙ table-zero (areaLabels dirs g (spansIn ends count)) before x b)
+
+  pub bridged : {marks : List ℕ} → marks ≡ bridgeMarks (recordsOf (p .pairs) owners lefts rights) 256 → Bridged dirs g (spansIn ends count) marks
+  unfolding recordsIn recordsOf
+  bridged e = λ few. e ∙ ap (λ rs. bridgeMarks rs 256) (r .records-are few)

@@ -1,0 +1,11 @@
+pub mod Ranked
+pub mod Checked
+pub mod RankedTables
+pub mod Bridging
+pub mod Mapped
+pub mod Headed
+pub mod Telling
+pub mod Merges
+pub mod Leaving
+pub mod Matching
+pub mod Calling

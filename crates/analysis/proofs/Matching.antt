@@ -1,0 +1,186 @@
+-- A job partitioned by as many spans as it has boundaries, and by more or fewer.
+use mathlib.Core.Path.{_≡_, refl, sym, _∙_, ap, subst}
+use mathlib.Core.Bool.{Bool, true, cond}
+use mathlib.Core.List.{List}
+use mathlib.Core.Option.{none}
+use Prim.Native.Nat.{ℕ, _+_, _*_, _-_, _/_, _≤_, _<_}
+use native.Mathlib.Omega.{arith}
+use borrow.Author.Tests.{ne-eqb}
+use lib.ListN.{length, getD, take, drop}
+use Rattle.position.specs.declared.Span.{Span}
+use Rattle.format.specs.Sizes.{boundarySize, spanSize}
+use Rattle.format.specs.Header.{countsAt}
+use Rattle.format.specs.Decode.{decode, decodeList}
+use Rattle.format.specs.declared.header.Counts.{Counts}
+use Rattle.format.specs.declared.header.Header.{Header}
+use Rattle.format.proofs.ListTrip.{length-decodeList}
+use Rattle.grid.specs.Cells.{Grid, size}
+use Rattle.grid.specs.Directions.{eight, directionsOf}
+use Rattle.grid.proofs.Directions.{directions-eight}
+use Rattle.areas.specs.Spans.{spansIn, SpansFit}
+use Rattle.areas.specs.Assessments.{records}
+use Rattle.assessments.specs.Visits.{mapOf}
+use Rattle.topology.specs.Anchors.{anchorsOf}
+use Rattle.groups.specs.Plan.{mergePlan}
+use Rattle.links.specs.Limits.{limits000}
+use Rattle.ranks.specs.Tables.{Records, SpansOf, Identity}
+use Rattle.job.specs.Checks.{firstRefusal}
+use Rattle.job.specs.Refusals.{reduceChecks, byListChecks}
+use Rattle.partition.specs.Partitioned.{labelled, Partitionable, Partitioned}
+use Rattle.partition.specs.declared.Partition.{Partition}
+use Rattle.results.specs.Rules.{gridOf}
+use Rattle.results.specs.Results.{workSize, ownEnds}
+use Rattle.analysis.specs.Bridging.{Bridged}
+use Rattle.analysis.specs.Plans.{listingOf, planOf, Headed, RankedJob, Plannable, EndsBy, SomeEnds, Told, SomeTold, Drawn}
+use Rattle.analysis.proofs.Ranked.{ByRank}
+use Rattle.analysis.proofs.Checked.{boundariesAt, Checked, ListChecked, checked, by-list-checked}
+use Rattle.analysis.proofs.RankedTables.{order-in, own-ends-ranked, list-ends-ranked, own-ends-fit, list-ends-fit, own-matched, list-matched, list-records, labels-listed, records-listed}
+use Rattle.analysis.proofs.Headed.{headed-checked, headed-laid, headed-cells, counts-are, count-is, start-is}
+use Rattle.analysis.proofs.Mapped.{map-cells, map-long, map-is, map-partitionable}
+use Rattle.analysis.proofs.Merges.{plan-ranks}
+use Rattle.analysis.proofs.Telling.{told-work, told-over, told-pairs, told-few, told}
+
+-- the map and the directions of a partition are the job's
+module _ {s : List ℕ} {h : Header} (d : Headed s h) (n : ℕ) (e : n ≡ h .counts .width * h .counts .height) where
+  abbrev cells : List ℕ
+  cells = take (48 + n - 48) (drop 48 s)
+
+  pub on-job : {ends before after removed separated owners lefts rights : List ℕ} {count m : ℕ} {q : Partition} → count ≡ m
+      → Partitioned (directionsOf 495) (mapOf (h .counts .width) (h .counts .height) cells) ends count before after removed separated owners lefts rights q
+      → Partitioned eight (gridOf (decode s)) ends m before after removed separated owners lefts rights q
+  on-job {ends} {before} {after} {removed} {separated} {owners} {lefts} {rights} {count} {m} {q} f r =
+      subst (λ (k : ℕ). Partitioned eight (gridOf (decode s)) ends k before after removed separated owners lefts rights q) f
+      (subst (λ (g : Grid). Partitioned eight g ends count before after removed separated owners lefts rights q) (map-is (d .header) (headed-laid d) n e)
+      (subst (λ (ds : List ℕ). Partitioned ds (mapOf (h .counts .width) (h .counts .height) cells) ends count before after removed separated owners lefts rights q) directions-eight r))
+
+  pub marks-on-job : (ends : List ℕ) {marks : List ℕ} {count m : ℕ} → count ≡ m → Bridged (directionsOf 495) (mapOf (h .counts .width) (h .counts .height) cells) (spansIn ends count) marks
+      → Bridged eight (gridOf (decode s)) (spansIn ends m) marks
+  marks-on-job ends {marks} {count} {m} f b =
+      subst (λ (k : ℕ). Bridged eight (gridOf (decode s)) (spansIn ends k) marks) f
+      (subst (λ (g : Grid). Bridged eight g (spansIn ends count) marks) (map-is (d .header) (headed-laid d) n e)
+      (subst (λ (ds : List ℕ). Bridged ds (mapOf (h .counts .width) (h .counts .height) cells) (spansIn ends count) marks) directions-eight b))
+
+  cells-few : size (gridOf (decode s)) ≤ 1048576
+  cells-few = omega (arith, ap length (map-cells (d .header) (headed-laid d) n e), map-long (d .header) (headed-laid d) n e, headed-cells d)
+
+-- as many spans as boundaries
+module _ {s : List ℕ} {h : Header} {order before : List ℕ} (p : Plannable s h order before) (n : ℕ) (e : n ≡ h .counts .width * h .counts .height) (count : ℕ) (f : count ≡ h .counts .boundaries) where
+  abbrev d : Headed s h
+  d = p .job .headed
+
+  c : Checked (p .job .headed .distinct) s
+  c = headed-checked (p .job .headed)
+
+  pub matched-partitionable : {ends : List ℕ} → SpansFit (h .counts .width) (h .counts .height) ends (h .counts .boundaries) → Partitionable (h .counts .width) (h .counts .height) (take (48 + n - 48) (drop 48 s)) 495 ends count before
+  matched-partitionable {ends} t = map-partitionable (d .header) (headed-laid d) n e (rw f t) (omega (arith, f, headed-laid d .within .boundaries)) (p .room)
+
+  module _ {ends after removed separated owners lefts rights : List ℕ} {q : Partition}
+      (r : Partitioned (directionsOf 495) (mapOf (h .counts .width) (h .counts .height) (take (48 + n - 48) (drop 48 s))) ends count before after removed separated owners lefts rights q) where
+    standard : Partitioned eight (gridOf (decode s)) ends (countsAt s 0 .boundaries) before after removed separated owners lefts rights q
+    standard = on-job d n e (f ∙ count-is d) r
+
+    -- 13
+    pub matched-many : {plan : List ℕ} → 4096 < q .pairs → (ss : List Span) → EndsBy s order ends ss → Drawn (decode s) ss before after plan (q .pairs)
+    matched-many l ss m = record {
+      work-is = told-work c (plan-ranks (p .job)) m standard;
+      over = told-over c (plan-ranks (p .job)) m standard;
+      pairs-are = told-pairs c (plan-ranks (p .job)) m standard;
+      plan-is = λ few. absurd (omega (arith, told-few c (plan-ranks (p .job)) m standard few));
+    }
+
+    module _ {marks : List ℕ} (b : Bridged (directionsOf 495) (mapOf (h .counts .width) (h .counts .height) (take (48 + n - 48) (drop 48 s))) (spansIn ends count) marks) (l : q .pairs ≤ 4096) where
+      matched-told : (ss : List Span) → EndsBy s order ends ss → Told s after removed separated owners lefts rights (q .pairs) marks ss
+      matched-told ss m = told c (plan-ranks (p .job)) m standard (cells-few d n e) l (marks-on-job d n e ends (f ∙ count-is d) b)
+
+      pub some-told : SomeEnds s order ends → SomeTold s after removed separated owners lefts rights (q .pairs) marks
+      some-told m = record { spans = m .spans; are = matched-told (m .spans) (m .are) }
+
+      pub matched-drawn : {work plan : List ℕ} → work ≡ after
+          → ((ss : List Span) → Told s after removed separated owners lefts rights (q .pairs) marks ss → (i : ℕ) → i < length (decode s .boundaries) → getD plan i 0 ≡ planOf limits000 eight (decode s) ss i)
+          → (ss : List Span) → EndsBy s order ends ss → Drawn (decode s) ss before work plan (q .pairs)
+      matched-drawn w t ss m = record {
+        work-is = w ∙ told-work c (plan-ranks (p .job)) m standard;
+        over = told-over c (plan-ranks (p .job)) m standard;
+        pairs-are = told-pairs c (plan-ranks (p .job)) m standard;
+        plan-is = λ few. t ss (matched-told ss m);
+      }
+
+-- the boundaries' own ends
+module _ {s : List ℕ} {h : Header} {order : List ℕ} (p : RankedJob s h order) (at n : ℕ) (a : at ≡ h .offsets .boundaries) (e : n ≡ h .counts .boundaries) {ends : List ℕ} (o : SpansOf s at boundarySize order n ends) where
+  here : SpansOf s (boundariesAt s) boundarySize order (countsAt s 0 .boundaries) ends
+  here = subst (λ (k : ℕ). SpansOf s (boundariesAt s) boundarySize order k ends) (e ∙ count-is (p .headed)) (subst (λ (k : ℕ). SpansOf s k boundarySize order n ends) (a ∙ start-is (p .headed)) o)
+
+  pub own-by : EndsBy s order ends (ownEnds (decode s))
+  own-by = record { matched = own-matched s; each = own-ends-ranked (headed-checked (p .headed)) (plan-ranks p) ends here }
+
+  pub own-fit : firstRefusal (reduceChecks s) ≡ none → SpansFit (h .counts .width) (h .counts .height) ends (h .counts .boundaries)
+  unfolding reduceChecks
+  own-fit f = subst (λ (k : Counts). SpansFit (k .width) (k .height) ends (k .boundaries)) (sym (counts-are (p .headed))) (own-ends-fit (checked true s (p .headed .bytes) f) (plan-ranks p) refl ends here)
+
+-- the spans of a list
+module _ {s : List ℕ} {h : Header} (d : Headed s h) (t : List ℕ) (f : firstRefusal (byListChecks s t) ≡ none) where
+  list-right : ListChecked (countsAt s 0 .width) (countsAt s 0 .height) t
+  list-right = by-list-checked s t (d .bytes) f .1
+
+  list-inside : (length t / spanSize) * spanSize ≤ length t
+  list-inside = omega arith
+
+  -- as many as boundaries
+  module _ {order : List ℕ} (k : ByRank (decode s .boundaries) order) (n : ℕ) (e : n ≡ h .counts .boundaries) (m : length t / spanSize ≡ h .counts .boundaries) where
+    same : length t / spanSize ≡ countsAt s 0 .boundaries
+    same = m ∙ count-is d
+
+    count-here : n ≡ countsAt s 0 .boundaries
+    count-here = e ∙ count-is d
+
+    pub list-matched-records : Records t 0 spanSize order n
+    list-matched-records = rw count-here (list-records t order (countsAt s 0 .boundaries) (headed-checked d .allowed .boundaries) (omega (arith, same)) (order-in (headed-checked d) k))
+
+    module _ {ends : List ℕ} (o : SpansOf t 0 spanSize order n ends) where
+      list-here : SpansOf t 0 spanSize order (countsAt s 0 .boundaries) ends
+      list-here = subst (λ (i : ℕ). SpansOf t 0 spanSize order i ends) count-here o
+
+      pub list-by : EndsBy s order ends (decodeList t)
+      list-by = record { matched = list-matched (headed-checked d) t same; each = list-ends-ranked (headed-checked d) k t same ends list-here }
+
+      pub list-fit : SpansFit (h .counts .width) (h .counts .height) ends (h .counts .boundaries)
+      list-fit = subst (λ (x : Counts). SpansFit (x .width) (x .height) ends (x .boundaries)) (sym (counts-are d))
+          (list-ends-fit list-right order (countsAt s 0 .boundaries) (λ i l. let w = order-in (headed-checked d) k i l in omega (arith, same)) ends list-here)
+
+  -- more or fewer
+  module _ (n : ℕ) (e : n ≡ length t / spanSize) {order : List ℕ} (k : Identity order) where
+    few : n ≤ 256
+    few = omega (arith, e, list-right .few)
+
+    pub list-unmatched-records : Records t 0 spanSize order n
+    list-unmatched-records = list-records t order n few (omega (arith, e)) (λ i l. let w = k .each i (omega (arith, few)) in omega (arith, w))
+
+    module _ {ends : List ℕ} (o : SpansOf t 0 spanSize order n ends) (cells : ℕ) (f₂ : cells ≡ h .counts .width * h .counts .height) where
+      all-here : SpansOf t 0 spanSize order (length t / spanSize) ends
+      all-here = subst (λ (i : ℕ). SpansOf t 0 spanSize order i ends) e o
+
+      all-fit : SpansFit (h .counts .width) (h .counts .height) ends n
+      all-fit = subst (λ (x : Counts). SpansFit (x .width) (x .height) ends n) (sym (counts-are d))
+          (list-ends-fit list-right order n (λ i l. let w = k .each i (omega (arith, few)) in omega (arith, w, e)) ends o)
+
+      pub unmatched-partitionable : {work : List ℕ} → workSize (decode s) ≤ length work → Partitionable (h .counts .width) (h .counts .height) (take (48 + cells - 48) (drop 48 s)) 495 ends n work
+      unmatched-partitionable room = map-partitionable (d .header) (headed-laid d) cells f₂ all-fit few room
+
+      pub unmatched-drawn : (n ≡ h .counts .boundaries → ⊥) → {before after removed separated owners lefts rights : List ℕ} {q : Partition}
+          → Partitioned (directionsOf 495) (mapOf (h .counts .width) (h .counts .height) (take (48 + cells - 48) (drop 48 s))) ends n before after removed separated owners lefts rights q
+          → Drawn (decode s) (decodeList t) before after order (q .pairs)
+      unfolding planOf
+      unmatched-drawn ne {before} {after} {removed} {separated} {owners} {lefts} {rights} {q} r =
+          let g : Grid = gridOf (decode s) in
+          let y = on-job d cells f₂ e r in
+          let x : records eight g (decodeList t) ≡ records eight g (spansIn ends (length t / spanSize)) = records-listed t (list-right .few) k ends all-here eight g in
+          let differ : length (decode s .boundaries) ≡ length (decodeList t) → ⊥ = λ z. ne (let u = headed-checked d .count in let v = length-decodeList t in let w = count-is d in omega (arith, z)) in
+          record {
+            work-is = y .work-is ∙ ap (λ (ls : List ℕ). labelled ls before) (sym (labels-listed t (list-right .few) k ends all-here eight g));
+            over = rw x (y .over);
+            pairs-are = rw x (y .pairs-are);
+            plan-is = λ z i l.
+                let u = headed-checked d .count in
+                let v = headed-checked d .allowed .boundaries in
+                k .each i (omega arith) ∙ ap (λ (b : Bool). cond b (mergePlan limits000 eight g (anchorsOf (decode s .bases)) (listingOf (decode s) (decodeList t)) i) i) (sym (ne-eqb _ _ differ));
+          }

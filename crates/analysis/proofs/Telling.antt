@@ -1,0 +1,158 @@
+-- What a partition by spans in the order of ranks says of the listing.
+use mathlib.Core.Path.{_≡_, refl, sym, _∙_, ap}
+use mathlib.Core.Bool.{Bool, cond}
+use mathlib.Core.List.{List, _++_, flatMap}
+use Prim.Native.Nat.{ℕ, _+_, _*_, _≤_, _<_}
+use native.Mathlib.Omega.{arith}
+use lib.ListN.{length, getD, drop, replicate, List·getD-map}
+use lib.Seq.{drop-append-seam}
+use Rattle.lists.proofs.Rows.{rows-at, rows-same}
+use Rattle.wire.specs.Bytes.{splice, u32At, u32Bytes}
+use Rattle.position.specs.declared.Span.{Span}
+use Rattle.format.specs.Header.{countsAt}
+use Rattle.format.specs.Decode.{decode}
+use Rattle.graph.specs.Bridges.{isBridge}
+use Rattle.grid.specs.Cells.{Grid, size}
+use Rattle.grid.specs.Directions.{eight}
+use Rattle.areas.specs.Areas.{areaLabels, labelAt}
+use Rattle.areas.specs.Assessments.{records, assess}
+use Rattle.areas.specs.Spans.{spanIn, spansIn}
+use Rattle.areas.proofs.Areas.{area-labels-length}
+use Rattle.components.proofs.LabelWords.{word-read}
+use Rattle.topology.specs.Held.{labelsOf as labelsIn}
+use Rattle.topology.specs.Listing.{Item}
+use Rattle.groups.specs.Listing as Rank
+use Rattle.groups.specs.Regions.{regionLabels, assessAt, bridgeAt}
+use Rattle.groups.specs.Tables.{recordsIn, Counted, Paired, Bridged as BridgesOf}
+use Rattle.assessments.specs.Recording.{recordsIn as recordsFrom}
+use Rattle.bridges.specs.Marks.{bridgeMarks}
+use Rattle.measures.specs.Tables.{Labels}
+use Rattle.partition.specs.Partitioned.{labelled, Partitioned}
+use Rattle.partition.specs.declared.Partition.{Partition}
+use Rattle.results.specs.Rules.{gridOf}
+use Rattle.results.specs.Results.{maxPairs, labelsOf}
+use Rattle.analysis.specs.Bridging.{Bridged}
+use Rattle.analysis.specs.Plans.{listingOf, EndsBy, Told}
+use Rattle.analysis.proofs.Bridging.{few-pairs, room-in, zero-in}
+use Rattle.analysis.proofs.Ranked.{by-rows, ByRank}
+use Rattle.analysis.proofs.Checked.{Checked}
+use Rattle.analysis.proofs.RankedTables.{listed-count, spans-ranked, labels-in, records-in}
+
+-- the labels in the first bytes of the work
+module _ (ls before : List ℕ) (small : (i : ℕ) → i < length ls → getD ls i 0 < 4294967296) where
+  first-written : labelled ls before ≡ splice (labelled ls before) 0 (flatMap u32Bytes ls)
+  unfolding labelled splice
+  first-written =
+      let rest : List ℕ = replicate (6 * length ls) 0 ++ drop (10 * length ls) before in
+      let z : 0 + length (flatMap u32Bytes ls) ≡ length (flatMap u32Bytes ls) = omega arith in
+      ap (λ (t : List ℕ). flatMap u32Bytes ls ++ t) (sym (ap (λ (i : ℕ). drop i (flatMap u32Bytes ls ++ rest)) z ∙ drop-append-seam (flatMap u32Bytes ls) rest))
+
+  pub label-read : (i : ℕ) → i < length ls → u32At (labelled ls before) (i * 4) ≡ getD ls i 0
+  label-read i h =
+      let z : i * 4 ≡ 4 * i = omega arith in
+      ap (λ (k : ℕ). u32At (labelled ls before) k) z
+      ∙ (ap (λ (w : List ℕ). u32At w (4 * i)) first-written ∙ word-read (labelled ls before) ls i h (small i h))
+
+  pub labels-read : labelsIn (labelled ls before) (length ls) ≡ ls
+  unfolding labelsIn
+  labels-read =
+      rows-same (length ls) (λ i. u32At (labelled ls before) (i * 4)) (λ i. getD ls i 0) label-read
+      ∙ sym (by-rows ls (length ls) (λ i. getD ls i 0) 0 refl (λ i h. refl))
+
+module _ {distinct : Bool} {s : List ℕ} (c : Checked distinct s) {order : List ℕ} (k : ByRank (decode s .boundaries) order) {ends : List ℕ} {ss : List Span} (m : EndsBy s order ends ss)
+    {before work removed separated owners lefts rights : List ℕ} {p : Partition}
+    (r : Partitioned eight (gridOf (decode s)) ends (countsAt s 0 .boundaries) before work removed separated owners lefts rights p) where
+  abbrev n : ℕ
+  n = countsAt s 0 .boundaries
+
+  abbrev g : Grid
+  g = gridOf (decode s)
+
+  abbrev ts : List Span
+  ts = spansIn ends n
+
+  abbrev l : List Item
+  l = listingOf (decode s) ss
+
+  spans-are : Rank.spansOf l ≡ ts
+  spans-are = spans-ranked c k ss (m .matched) ends (m .each)
+
+  count : length l ≡ n
+  count = listed-count c k ss (m .matched)
+
+  inside : {i : ℕ} → i < length l → i < n
+  inside {i} h = omega (arith, count)
+
+  pub told-work : work ≡ labelled (labelsOf eight (decode s) ss) before
+  told-work = r .work-is ∙ ap (λ (ls : List ℕ). labelled ls before) (sym (labels-in c k ss (m .matched) eight g ends (m .each)))
+
+  pairs-alike : length (records eight g ss) ≡ length (records eight g ts)
+  pairs-alike = records-in c k ss (m .matched) eight g ends (m .each)
+
+  pub told-over : maxPairs < length (records eight g ss) → p .pairs ≡ 4_097
+  told-over h = r .over (omega (arith, pairs-alike))
+
+  pub told-pairs : length (records eight g ss) ≤ maxPairs → p .pairs ≡ length (records eight g ss)
+  told-pairs h = r .pairs-are (omega (arith, pairs-alike)) ∙ sym pairs-alike
+
+  pub told-few : length (records eight g ss) ≤ maxPairs → p .pairs ≤ 4096
+  told-few h = omega (arith, told-pairs h)
+
+  module _ (few : size g ≤ 1048576) where
+    labels-long : length (areaLabels eight g ts) ≡ size g
+    labels-long = area-labels-length eight g ts
+
+    small : (i : ℕ) → i < length (areaLabels eight g ts) → getD (areaLabels eight g ts) i 0 < 4294967296
+    small i h = omega (arith, r .labels-few i (omega (arith, labels-long)))
+
+    labels-are : labelsIn work (size g) ≡ regionLabels eight g l
+    unfolding regionLabels
+    labels-are =
+        ap (λ (w : List ℕ). labelsIn w (size g)) (r .work-is)
+        ∙ (ap (λ (i : ℕ). labelsIn (labelled (areaLabels eight g ts) before) i) (sym labels-long)
+        ∙ (labels-read (areaLabels eight g ts) before small ∙ ap (areaLabels eight g) (sym spans-are)))
+
+    labels-there : Labels work (size g)
+    labels-there = record {
+      room = omega (arith, room-in r (size g) refl);
+      most = λ i h.
+          let b : i < length (areaLabels eight g ts) = omega (arith, labels-long) in
+          let e : u32At work (i * 4) ≡ labelAt (areaLabels eight g ts) i = ap (λ (w : List ℕ). u32At w (i * 4)) (r .work-is) ∙ label-read (areaLabels eight g ts) before small i b in
+          omega (arith, e, r .labels-few i h);
+      clear = zero-in r (size g) refl;
+    }
+
+    module _ (h : p .pairs ≤ 4096) {marks : List ℕ} (b : Bridged eight g ts marks) where
+      few-records : length (records eight g ts) ≤ 4096
+      few-records = few-pairs r h
+
+      span-is : (i : ℕ) → i < n → getD l i Rank.noItem .span ≡ spanIn ends i
+      unfolding spansIn
+      span-is i o =
+          sym (List·getD-map (λ (x : Item). x .span) l i Rank.noItem) ∙ (ap (λ (xs : List Span). getD xs i Rank.noSpan) spans-are ∙ rows-at n (spanIn ends) i Rank.noSpan o)
+
+      assess-is : (i : ℕ) → i < n → assessAt eight g l i ≡ assess eight g ts (spanIn ends i)
+      unfolding assessAt
+      assess-is i o = ap (λ (xs : List Span). assess eight g xs (getD l i Rank.noItem .span)) spans-are ∙ ap (assess eight g ts) (span-is i o)
+
+      counted : Counted eight g l removed separated
+      counted = record {
+        removed-is = λ i o. r .removed-are few-records i (inside o) ∙ sym (ap (λ a. a .removed) (assess-is i (inside o)));
+        separated-is = λ i o. r .separated-are few-records i (inside o) ∙ sym (ap (λ a. a .separated) (assess-is i (inside o)));
+      }
+
+      paired : Paired eight g l owners lefts rights (p .pairs)
+      unfolding recordsIn recordsFrom
+      paired = record { most = h; all = r .records-are few-records ∙ ap (records eight g) (sym spans-are) }
+
+      bridged : BridgesOf eight g l marks
+      unfolding bridgeAt bridgeMarks
+      bridged = record {
+        marks-are = λ i o.
+            let few-ranks = c .allowed .boundaries in
+            ap (λ (x : List ℕ). getD x i 0) (b few-records)
+            ∙ (rows-at 256 (λ j. cond (isBridge (records eight g ts) j) 1 0) i 0 (omega (arith, inside o)) ∙ ap (λ (xs : List Span). cond (isBridge (records eight g xs) i) 1 0) (sym spans-are));
+      }
+
+      pub told : Told s work removed separated owners lefts rights (p .pairs) marks ss
+      told = record { matched = m .matched; labels-are = labels-are; counted = counted; paired = paired; bridged = bridged; labels = labels-there }

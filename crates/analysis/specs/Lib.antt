@@ -1,0 +1,2 @@
+pub mod Bridging
+pub mod Plans

@@ -1,0 +1,124 @@
+-- What Reduce and Reduce by list plan: a job's boundaries by rank, and the rank that each rank goes into.
+use mathlib.Core.Path.{_≡_}
+use mathlib.Core.Bool.{Bool, cond}
+use mathlib.Core.List.{List, map}
+use mathlib.Core.Option.{none}
+use Prim.Native.Nat.{ℕ, _≤_, _<_}
+use lib.Dec.{eqb}
+use lib.ListN.{length, getD}
+use Rattle.order.specs.Lists.{upFrom}
+use Rattle.wire.specs.Bytes.{AreBytes, splice}
+use Rattle.position.specs.Order.{canonical}
+use Rattle.position.specs.declared.Span.{Span}
+use Rattle.format.specs.Values.{Job}
+use Rattle.format.specs.Header.{headerAt, countsAt}
+use Rattle.format.specs.Decode.{decode}
+use Rattle.format.specs.Encode.{encodeAnswer}
+use Rattle.format.specs.declared.header.Header.{Header}
+use Rattle.grid.specs.Directions.{eight}
+use Rattle.areas.specs.Assessments.{records}
+use Rattle.areas.specs.Spans.{spanIn}
+use Rattle.topology.specs.Anchors.{anchorsOf}
+use Rattle.topology.specs.Held.{labelsOf as labelsIn}
+use Rattle.topology.specs.Listing.{Item, listing}
+use Rattle.links.specs.Limits.{Limits, limits000}
+use Rattle.groups.specs.Listing.{noSpan}
+use Rattle.groups.specs.Regions.{regionLabels}
+use Rattle.groups.specs.Plan.{mergePlan}
+use Rattle.groups.specs.Tables.{Counted, Paired, Bridged}
+use Rattle.merging.specs.Copies.{canon}
+use Rattle.merging.specs.Follows.{placesOf}
+use Rattle.merging.specs.Kept.{noBoundary}
+use Rattle.merging.specs.Planned.{planned}
+use Rattle.merging.specs.Runs.{itemsOf, canonItem}
+use Rattle.measures.specs.Tables.{Labels}
+use Rattle.job.specs.Checks.{Check, firstRefusal}
+use Rattle.job.specs.Refusals.{boundaryChecks}
+use Rattle.partition.specs.Partitioned.{labelled}
+use Rattle.results.specs.Rules.{gridOf}
+use Rattle.results.specs.Results.{workSize, maxPairs, labelsOf, reduced, leftBy}
+
+-- a run's canonical copies in their listing, each with its span
+abbrev pub listingOf : Job → List Span → List Item
+listingOf j ss = listing (map canonItem (itemsOf (record { boundaries = j .boundaries; spans = ss })))
+
+-- the rank that a rank goes into: itself where spans and boundaries differ in number
+unfoldable pub planOf : Limits → List ℕ → Job → List Span → ℕ → ℕ
+unfolding mergePlan
+planOf limits dirs j ss i = cond (eqb (length (j .boundaries)) (length ss)) (mergePlan limits dirs (gridOf j) (anchorsOf (j .bases)) (listingOf j ss) i) i
+
+-- the places of a job's boundaries by rank
+abbrev pub RankedBy : Job → List ℕ → Type 0
+RankedBy j order = (i : ℕ) → i < length (j .boundaries) → getD order i 0 ≡ getD (placesOf (j .boundaries)) i 0
+
+-- the bytes of a job past 1 to 11, or 1 to 12, and its header
+pub record Headed (s : List ℕ) (h : Header) : Type 0 where
+  pub distinct : Bool
+  pub bytes : AreBytes s
+  pub passed : firstRefusal (boundaryChecks distinct s) ≡ none
+  pub header : h ≡ headerAt s
+
+-- with its boundaries by rank
+pub record RankedJob (s : List ℕ) (h : Header) (order : List ℕ) : Type 0 where
+  pub headed : Headed s h
+  pub ranks : RankedBy (decode s) order
+
+-- and ten bytes of work a cell
+pub record Plannable (s : List ℕ) (h : Header) (order work : List ℕ) : Type 0 where
+  pub job : RankedJob s h order
+  pub room : workSize (decode s) ≤ length work
+
+-- an array of as many spans as boundaries, by rank
+pub record EndsBy (s order ends : List ℕ) (ss : List Span) : Type 0 where
+  pub matched : length (decode s .boundaries) ≡ length ss
+  pub each : (i : ℕ) → i < countsAt s 0 .boundaries → spanIn ends i ≡ canonical (getD ss (getD order i 0) noSpan)
+
+pub record SomeEnds (s order ends : List ℕ) : Type 0 where
+  pub spans : List Span
+  pub are : EndsBy s order ends spans
+
+-- what a partition by the spans and its bridges say of the listing
+pub record Told (s work removed separated owners lefts rights : List ℕ) (pairs : ℕ) (marks : List ℕ) (ss : List Span) : Type 0 where
+  pub matched : length (decode s .boundaries) ≡ length ss
+  pub labels-are : labelsIn work (length (decode s .cells)) ≡ regionLabels eight (gridOf (decode s)) (listingOf (decode s) ss)
+  pub counted : Counted eight (gridOf (decode s)) (listingOf (decode s) ss) removed separated
+  pub paired : Paired eight (gridOf (decode s)) (listingOf (decode s) ss) owners lefts rights pairs
+  pub bridged : Bridged eight (gridOf (decode s)) (listingOf (decode s) ss) marks
+  pub labels : Labels work (length (decode s .cells))
+
+pub record SomeTold (s work removed separated owners lefts rights : List ℕ) (pairs : ℕ) (marks : List ℕ) : Type 0 where
+  pub spans : List Span
+  pub are : Told s work removed separated owners lefts rights pairs marks spans
+
+-- a job partitioned by the spans: the work, the number of region pairs (4,097 where they are over 4,096), and the plan
+pub record Drawn (j : Job) (ss : List Span) (before work plan : List ℕ) (pairs : ℕ) : Type 0 where
+  pub work-is : work ≡ labelled (labelsOf eight j ss) before
+  pub over : maxPairs < length (records eight (gridOf j) ss) → pairs ≡ 4_097
+  pub pairs-are : length (records eight (gridOf j) ss) ≤ maxPairs → pairs ≡ length (records eight (gridOf j) ss)
+  pub plan-is : length (records eight (gridOf j) ss) ≤ maxPairs → (i : ℕ) → i < length (j .boundaries) → getD plan i 0 ≡ planOf limits000 eight j ss i
+
+-- a call's plan, once it is past 13
+pub record Made (checks : List Check) (j : Job) (ss : List Span) (before work order plan : List ℕ) (detail : ℕ) : Type 0 where
+  pub passed : firstRefusal checks ≡ none
+  pub room : workSize j ≤ length before
+  pub few : length (records eight (gridOf j) ss) ≤ maxPairs
+  pub nothing : detail ≡ 0
+  pub work-is : work ≡ labelled (labelsOf eight j ss) before
+  pub ranks : RankedBy j order
+  pub plan-is : (i : ℕ) → i < length (j .boundaries) → getD plan i 0 ≡ planOf limits000 eight j ss i
+
+-- number 0 with the plan, or the number and detail of the refusal that the call leaves whatever its answer slice is
+pub record PlanLeft (checks : List Check) (j : Job) (ss : List Span) (before work order plan : List ℕ) (number detail : ℕ) : Type 0 where
+  pub refused : 0 < number → (answer : List ℕ) → leftBy number detail work answer ≡ reduced limits000 eight checks j ss before answer
+  pub made : number ≡ 0 → Made checks j ss before work order plan detail
+
+-- the answer of a job by its boundaries' order and a plan
+abbrev pub answerBytes : List ℕ → List ℕ → List ℕ → List ℕ
+answerBytes s order plan =
+    encodeAnswer (planned (map (λ i. canon (getD (decode s .boundaries) (getD order i 0) noBoundary)) (upFrom 0 (countsAt s 0 .boundaries))) (λ i. getD plan i 0))
+
+-- an answer's bytes in a slice that may be too short, as number and detail say
+pub record Finished (bytes before after : List ℕ) (number detail : ℕ) : Type 0 where
+  pub long : detail ≡ length bytes
+  pub written : length bytes ≤ length before → (number ≡ 0) × (after ≡ splice before 0 bytes)
+  pub unwritten : length before < length bytes → (number ≡ 22) × (after ≡ before)

@@ -1,0 +1,255 @@
+// The plan of a job's merges: its boundaries by rank, and the rank that each rank goes into.
+ghost use mathlib.Core.Path.{_≡_};
+ghost use mathlib.Core.List.{List};
+ghost use mathlib.Core.Option.{none};
+ghost use Prim.Native.Nat.{ℕ, _≤_, _<_, _/_};
+ghost use lib.ListN.{length, getD};
+ghost use Rattle.position.specs.declared.Span.{Span};
+ghost use Rattle.format.specs.Sizes.{spanSize};
+ghost use Rattle.format.specs.Decode.{decode, decodeList};
+ghost use Rattle.grid.specs.Directions.{eight};
+ghost use Rattle.areas.specs.Spans.{SpansFit};
+ghost use Rattle.links.specs.Limits.{limits000};
+ghost use Rattle.job.specs.Checks.{firstRefusal};
+ghost use Rattle.job.specs.Refusals.{reduceChecks, byListChecks};
+ghost use Rattle.results.specs.Results.{workSize, ownEnds};
+ghost use Rattle.analysis.specs.Plans.{planOf, RankedBy, Headed, RankedJob, Plannable, EndsBy, SomeEnds, Told, SomeTold, Drawn};
+use crate::bridged::MAX_PAIRS;
+use crate::bridged::analyse;
+use crate::casts::size;
+use format::BOUNDARY_SIZE;
+use format::HEADER_SIZE;
+use format::Header;
+use format::SPAN_SIZE;
+use links::limits::Limits;
+use planning::plan_merges;
+use ranks::fill_identity;
+use ranks::fill_keys;
+use ranks::fill_ramps;
+use ranks::fill_spans;
+use ranks::fill_widths;
+use sorting::ranks::sort_ranks;
+
+// The places of a job's boundaries by rank.
+pub fn order_boundaries(job: &[u8], h: Header, order: &mut [u32; 256])
+    requires { ⌜ Headed (now job) h × (length (now order) ≡ 256) ⌝ }
+    ensures { λ _. ⌜ RankedBy (decode (now (job .entry))) (now (order .exit)) ⌝ }
+{
+    let c = h.counts;
+    let o = h.offsets;
+    let n = size(c.boundaries);
+    let at = size(o.boundaries);
+    let mut first = [0u64; 256];
+    let mut second = [0u64; 256];
+    fill_keys(job, at, n, &mut first, &mut second);
+    sort_ranks(order, n, &first, &second);
+}
+
+// The plan where the map is partitioned.
+fn plan_listing(
+    job: &[u8],
+    h: Header,
+    order: &[u32; 256],
+    work: &mut [u8],
+    removed: &[u32; 256],
+    separated: &[u32; 256],
+    owners: &[u32; 4096],
+    lefts: &[u32; 4096],
+    rights: &[u32; 4096],
+    pairs: usize,
+    marks: &[u8; 256],
+    plan: &mut [u32; 256],
+)
+    requires { ⌜ RankedJob (now job) h (now order) × SomeTold (now job) (now work) (now removed) (now separated) (now owners) (now lefts) (now rights) pairs (now marks) × (length (now plan) ≡ 256) ⌝ }
+    ensures work { λ _. ⌜ now (work .exit) ≡ now (work .entry) ⌝ }
+    ensures plan { λ _. ⌜ ((ss : List Span) → Told (now (job .entry)) (now (work .entry)) (now (removed .entry)) (now (separated .entry)) (now (owners .entry)) (now (lefts .entry)) (now (rights .entry)) pairs (now (marks .entry)) ss → (i : ℕ) → i < length (decode (now (job .entry)) .boundaries) → getD (now (plan .exit)) i 0 ≡ planOf limits000 eight (decode (now (job .entry))) ss i) ⌝ }
+{
+    let c = h.counts;
+    let o = h.offsets;
+    let n = size(c.width * c.height);
+    let count = size(c.boundaries);
+    let at = size(o.boundaries);
+    let mut own = [0u32; 1024];
+    fill_spans(job, at, BOUNDARY_SIZE, order, count, &mut own);
+    let mut bits = [0u64; 256];
+    fill_widths(job, at, order, count, &mut bits);
+    let mut ramps = [0u8; 256];
+    fill_ramps(job, at, order, count, &mut ramps);
+    plan_merges(
+        Limits::of_000(),
+        job,
+        size(o.bases),
+        size(c.bases),
+        &job[HEADER_SIZE..HEADER_SIZE + n],
+        c.width,
+        c.height,
+        count,
+        &own,
+        &bits,
+        &ramps,
+        work,
+        removed,
+        separated,
+        owners,
+        lefts,
+        rights,
+        pairs,
+        marks,
+        plan,
+    );
+}
+
+// Partitions a job by as many spans as it has boundaries, by rank, and plans its merges where the region pairs aren't too many; gives their number.
+fn plan_matched(
+    job: &[u8],
+    h: Header,
+    ends: &[u32; 1024],
+    order: &[u32; 256],
+    work: &mut [u8],
+    plan: &mut [u32; 256],
+) -> usize
+    requires { ⌜ Plannable (now job) h (now order) (now work) × SpansFit (h .counts .width) (h .counts .height) (now ends) (h .counts .boundaries) × SomeEnds (now job) (now order) (now ends) × (length (now plan) ≡ 256) ⌝ }
+    ensures { λ r. ⌜ ((ss : List Span) → EndsBy (now (job .entry)) (now (order .entry)) (now (ends .entry)) ss → Drawn (decode (now (job .entry))) ss (now (work .entry)) (now (work .exit)) (now (plan .exit)) r) ⌝ }
+{
+    let c = h.counts;
+    let n = size(c.width * c.height);
+    let count = size(c.boundaries);
+    let mut removed = [0u32; 256];
+    let mut separated = [0u32; 256];
+    let mut owners = [0u32; 4096];
+    let mut lefts = [0u32; 4096];
+    let mut rights = [0u32; 4096];
+    let mut marks = [0u8; 256];
+    let p = analyse(
+        &job[HEADER_SIZE..HEADER_SIZE + n],
+        c.width,
+        c.height,
+        ends,
+        count,
+        work,
+        &mut removed,
+        &mut separated,
+        &mut owners,
+        &mut lefts,
+        &mut rights,
+        &mut marks,
+    );
+    let pairs = p.pairs;
+    if MAX_PAIRS < pairs {
+        return pairs;
+    }
+    plan_listing(
+        job,
+        h,
+        order,
+        work,
+        &removed,
+        &separated,
+        &owners,
+        &lefts,
+        &rights,
+        pairs,
+        &marks,
+        plan,
+    );
+    pairs
+}
+
+// By the boundaries' own ends.
+pub fn plan_own(
+    job: &[u8],
+    h: Header,
+    order: &[u32; 256],
+    work: &mut [u8],
+    plan: &mut [u32; 256],
+) -> usize
+    requires { ⌜ Plannable (now job) h (now order) (now work) × (firstRefusal (reduceChecks (now job)) ≡ none) × (length (now plan) ≡ 256) ⌝ }
+    ensures { λ r. ⌜ Drawn (decode (now (job .entry))) (ownEnds (decode (now (job .entry)))) (now (work .entry)) (now (work .exit)) (now (plan .exit)) r ⌝ }
+{
+    let c = h.counts;
+    let o = h.offsets;
+    let count = size(c.boundaries);
+    let at = size(o.boundaries);
+    let mut ends = [0u32; 1024];
+    fill_spans(job, at, BOUNDARY_SIZE, order, count, &mut ends);
+    plan_matched(job, h, &ends, order, work, plan)
+}
+
+// By the spans of a list, as many as boundaries.
+fn plan_listed(
+    job: &[u8],
+    h: Header,
+    list: &[u8],
+    order: &[u32; 256],
+    work: &mut [u8],
+    plan: &mut [u32; 256],
+) -> usize
+    requires { ⌜ Plannable (now job) h (now order) (now work) × (firstRefusal (byListChecks (now job) (now list)) ≡ none) × (length (now list) / spanSize ≡ h .counts .boundaries) × (length (now plan) ≡ 256) ⌝ }
+    ensures { λ r. ⌜ Drawn (decode (now (job .entry))) (decodeList (now (list .entry))) (now (work .entry)) (now (work .exit)) (now (plan .exit)) r ⌝ }
+{
+    let c = h.counts;
+    let count = size(c.boundaries);
+    let mut ends = [0u32; 1024];
+    fill_spans(list, 0, SPAN_SIZE, order, count, &mut ends);
+    plan_matched(job, h, &ends, order, work, plan)
+}
+
+// By the spans of a list, more or fewer than boundaries: each rank goes into itself.
+fn plan_unmatched(
+    job: &[u8],
+    h: Header,
+    list: &[u8],
+    n: usize,
+    work: &mut [u8],
+    plan: &mut [u32; 256],
+) -> usize
+    requires { ⌜ Headed (now job) h × (workSize (decode (now job)) ≤ length (now work)) × (firstRefusal (byListChecks (now job) (now list)) ≡ none) × (n ≡ length (now list) / spanSize) × (n ≡ h .counts .boundaries → ⊥) × (length (now plan) ≡ 256) ⌝ }
+    ensures { λ r. ⌜ Drawn (decode (now (job .entry))) (decodeList (now (list .entry))) (now (work .entry)) (now (work .exit)) (now (plan .exit)) r ⌝ }
+{
+    let c = h.counts;
+    let cells = size(c.width * c.height);
+    fill_identity(plan);
+    let mut ends = [0u32; 1024];
+    fill_spans(list, 0, SPAN_SIZE, plan, n, &mut ends);
+    let mut removed = [0u32; 256];
+    let mut separated = [0u32; 256];
+    let mut owners = [0u32; 4096];
+    let mut lefts = [0u32; 4096];
+    let mut rights = [0u32; 4096];
+    let mut marks = [0u8; 256];
+    let p = analyse(
+        &job[HEADER_SIZE..HEADER_SIZE + cells],
+        c.width,
+        c.height,
+        &ends,
+        n,
+        work,
+        &mut removed,
+        &mut separated,
+        &mut owners,
+        &mut lefts,
+        &mut rights,
+        &mut marks,
+    );
+    p.pairs
+}
+
+// By the spans of a list.
+pub fn plan_by_list(
+    job: &[u8],
+    h: Header,
+    list: &[u8],
+    order: &[u32; 256],
+    work: &mut [u8],
+    plan: &mut [u32; 256],
+) -> usize
+    requires { ⌜ Plannable (now job) h (now order) (now work) × (firstRefusal (byListChecks (now job) (now list)) ≡ none) × (length (now plan) ≡ 256) ⌝ }
+    ensures { λ r. ⌜ Drawn (decode (now (job .entry))) (decodeList (now (list .entry))) (now (work .entry)) (now (work .exit)) (now (plan .exit)) r ⌝ }
+{
+    let c = h.counts;
+    let n = list.len() / SPAN_SIZE;
+    if n == size(c.boundaries) {
+        return plan_listed(job, h, list, order, work, plan);
+    }
+    plan_unmatched(job, h, list, n, work, plan)
+}

@@ -1,0 +1,95 @@
+// Checks, partition and plan of Reduce and Reduce by list: all but the answer.
+ghost use Rattle.format.specs.Decode.{decode, decodeList};
+ghost use Rattle.job.specs.Refusals.{reduceChecks, byListChecks};
+ghost use Rattle.results.specs.Results.{ownEnds};
+ghost use Rattle.analysis.specs.Plans.{PlanLeft};
+use crate::bridged::MAX_PAIRS;
+use crate::casts::size;
+use crate::drawing::order_boundaries;
+use crate::drawing::plan_by_list;
+use crate::drawing::plan_own;
+use crate::result::ChokesResult;
+use format::read_header;
+use job::check_reduce;
+use job::check_reduce_by_list;
+
+// The merges of a job by its boundaries' own ends: number 0 and the plan by rank, or a refusal.
+pub fn plan_reduce(
+    job: &[u8],
+    work: &mut [u8],
+    order: &mut [u32; 256],
+    plan: &mut [u32; 256],
+) -> ChokesResult
+    ensures { λ r. ⌜ PlanLeft (reduceChecks (now (job .entry))) (decode (now (job .entry))) (ownEnds (decode (now (job .entry)))) (now (work .entry)) (now (work .exit)) (now (order .exit)) (now (plan .exit)) (r .number) (r .detail) ⌝ }
+{
+    let v = check_reduce(job);
+    if !v.passed() {
+        return ChokesResult {
+            number: v.number(),
+            detail: v.detail(),
+        };
+    }
+    let h = read_header(job);
+    let c = h.counts;
+    if work.len() < 10 * size(c.width * c.height) {
+        return ChokesResult {
+            number: 21,
+            detail: 0,
+        };
+    }
+    *order = [0u32; 256];
+    *plan = [0u32; 256];
+    order_boundaries(job, h, order);
+    let pairs = plan_own(job, h, order, work, plan);
+    if MAX_PAIRS < pairs {
+        return ChokesResult {
+            number: 13,
+            detail: 0,
+        };
+    }
+    ChokesResult {
+        number: 0,
+        detail: 0,
+    }
+}
+
+// The merges of a job by the spans of a list.
+pub fn plan_reduce_by_list(
+    job: &[u8],
+    list: &[u8],
+    work: &mut [u8],
+    order: &mut [u32; 256],
+    plan: &mut [u32; 256],
+) -> ChokesResult
+    ensures { λ r. ⌜ PlanLeft (byListChecks (now (job .entry)) (now (list .entry))) (decode (now (job .entry))) (decodeList (now (list .entry))) (now (work .entry)) (now (work .exit)) (now (order .exit)) (now (plan .exit)) (r .number) (r .detail) ⌝ }
+{
+    let v = check_reduce_by_list(job, list);
+    if !v.passed() {
+        return ChokesResult {
+            number: v.number(),
+            detail: v.detail(),
+        };
+    }
+    let h = read_header(job);
+    let c = h.counts;
+    if work.len() < 10 * size(c.width * c.height) {
+        return ChokesResult {
+            number: 21,
+            detail: 0,
+        };
+    }
+    *order = [0u32; 256];
+    *plan = [0u32; 256];
+    order_boundaries(job, h, order);
+    let pairs = plan_by_list(job, h, list, order, work, plan);
+    if MAX_PAIRS < pairs {
+        return ChokesResult {
+            number: 13,
+            detail: 0,
+        };
+    }
+    ChokesResult {
+        number: 0,
+        detail: 0,
+    }
+}

@@ -1,0 +1,281 @@
+-- The twelve cases hold.
+use mathlib.Core.Path.{_≡_, refl, _∙_, ap}
+use mathlib.Core.List.{List, [], _∷_, map}
+use mathlib.Core.Option.{none, some}
+use Prim.Native.Nat.{ℕ, _≤_, _<_}
+use borrow.Author.Tests.{lt-leb}
+use lib.Dec.{lit≤}
+use lib.Ieee.{neg, add, sub, mul, div, lt, le, ofBits, ofInt, toBits}
+use lib.ListN.{length}
+use Rattle.order.specs.Lists.{gather, upFrom, has}
+use Rattle.order.specs.Sorting.{sort, insert, sortOnce, include}
+use Rattle.order.specs.Keys.{lexLe}
+use Rattle.wire.specs.Bytes.{number, numberAt, bytes, splice}
+use Rattle.length.specs.Length.{lengthOf}
+use Rattle.length.specs.Total.{totalKey}
+use Rattle.length.proofs.Cases.{length-case}
+use Rattle.format.specs.Values.{Base, Observation, Boundary, Job}
+use Rattle.format.specs.Records.{spanAt, baseAt, boundaryAt, sourceAt, spanBytes, sourceBytes, boundaryBytes, observationBytes}
+use Rattle.format.specs.Header.{countsAt, headerAt, offsetsOf}
+use Rattle.format.specs.Decode.{decode, decodeList, jobWith, baseRecords, boundaryRecords, observationRecords, sourceRecords, decodeBoundaries, sourceCount}
+use Rattle.format.specs.Encode.{encodeAnswer, answerWords, encodeBoundaries, boundaryRecord, observationRecord, observationsOf, sourcesOf}
+use Rattle.graph.specs.Parts.{part as partOf}
+use Rattle.graph.specs.Labels.{count}
+use Rattle.graph.proofs.Cases.{bridge-cases}
+use Rattle.areas.specs.Areas.{areaLabels}
+use Rattle.areas.specs.Assessments.{records}
+use Rattle.areas.proofs.Cases.{cut-cases}
+use Rattle.grid.specs.Directions.{eight}
+use Rattle.links.specs.Limits.{limits000}
+use Rattle.job.specs.Checks.{firstRefusal, each}
+use Rattle.job.specs.Refusals.{reduceChecks, markChecks, byListChecks, listChecks, spanCheck, boundaryChecks, jobChecks, layoutChecks, headerChecks, recordChecks, cellCheck, baseCheck, sumsFault, rampCheck, widthCheck, endsChecks, endsCheck, spanChecks}
+use Rattle.job.proofs.Cases.{refusal-cases}
+use Rattle.position.specs.Order.{posSame, posLe, canonical}
+use Rattle.position.specs.declared.Span.{Span}
+use Rattle.format.specs.declared.records.Source.{Source}
+use Rattle.topology.specs.Anchors.{anchorsOf}
+use Rattle.topology.specs.Listing.{spanKey, endsKey}
+use Rattle.merging.specs.Keys.{sourceKey, sourcesKey, observationKey}
+use Rattle.merging.specs.Copies.{canonObservation, canon, copiesOf}
+use Rattle.merging.specs.Consolidation.{orItself, observed, consolidate}
+use Rattle.merging.specs.Groups.{Groups, noGroups, every}
+use Rattle.merging.specs.Kept.{membersOf, consolidated, slot, kept}
+use Rattle.merging.specs.Runs.{Run, reduceRun, itemsOf, canonItem, groupsOf, keptOf, rulesAnswer}
+use Rattle.results.specs.Rules.{gridOf, rulesOn, rulesOf}
+use Rattle.partition.specs.Partitioned.{labelled}
+use Rattle.results.specs.Results.{Outcome, workSize, ownEnds, labelsOf, answerOf, marksOf, reduced, reduceWith, reduceByListWith}
+use Rattle.results.specs.Calls.{reduceResult, reduceByListResult, markResult}
+use Rattle.results.specs.Cases.{words, oneCell, corridor, anchored, corridorAnswer, anchoredAnswer, leaves, Gives, oneSpan, OtherCalls, TwelveCases}
+use Rattle.results.proofs.Results.{reduced-success, mark-success}
+
+-- The corridor's boundaries.
+abbrev column : ℕ → Span
+column x = record { a = record { x = x; y = 0 }; b = record { x = x; y = 8 } }
+
+abbrev boundary : ℕ → List Source → List Observation → Boundary
+boundary x sources observations = record { ends = column x; bits = 0x4020_0000_0000_0000; ramp = record { end = 0; lower = 0; upper = 0; id = 0 }; sources = sources; observations = observations }
+
+abbrev source : ℕ → ℕ → Source
+source m n = record { from = m; to = n }
+
+abbrev first : Boundary
+first = boundary 8 (source 1 2 ∷ []) []
+
+abbrev second : Boundary
+second = boundary 16 (source 2 1 ∷ []) []
+
+abbrev job : List Base → Job
+job bases = record { width = 4; height = 1; cells = 1 ∷ 1 ∷ 1 ∷ 1 ∷ []; bases = bases; boundaries = first ∷ second ∷ [] }
+
+abbrev anchor : Base
+anchor = record { id = 7; anchor = some (record { x = 1; y = 0 }) }
+
+abbrev seen : ℕ → ℕ → ℕ → Observation
+seen x m n = record { ends = column x; bits = 0x4020_0000_0000_0000; sources = source m n ∷ [] }
+
+-- The two merged.
+abbrev merged : Boundary
+merged = boundary 8 (source 1 2 ∷ source 2 1 ∷ []) (seen 8 1 2 ∷ seen 16 2 1 ∷ [])
+
+abbrev pair : Groups
+pair = record { serial = []; flat = record { ranks = 0 ∷ 1 ∷ []; retained = 0 } ∷ [] }
+
+-- Both jobs pass the checks, and decode to these values.
+corridor-passes : firstRefusal (reduceChecks corridor) ≡ none
+unfolding corridor reduceChecks boundaryChecks jobChecks layoutChecks headerChecks recordChecks each cellCheck baseCheck sumsFault rampCheck widthCheck endsChecks endsCheck spanChecks firstRefusal headerAt offsetsOf boundaryAt baseAt numberAt bytes boundaryRecords observationRecords sourceCount posSame
+corridor-passes = refl
+
+anchored-passes : firstRefusal (reduceChecks anchored) ≡ none
+unfolding anchored reduceChecks boundaryChecks jobChecks layoutChecks headerChecks recordChecks each cellCheck baseCheck sumsFault rampCheck widthCheck endsChecks endsCheck spanChecks firstRefusal headerAt offsetsOf boundaryAt baseAt numberAt bytes boundaryRecords observationRecords sourceCount posSame
+anchored-passes = refl
+
+corridor-job : decode corridor ≡ job []
+unfolding corridor decode jobWith decodeBoundaries numberAt bytes countsAt baseRecords baseAt boundaryRecords observationRecords sourceRecords boundaryAt sourceAt
+corridor-job = refl
+
+anchored-job : decode anchored ≡ job (anchor ∷ [])
+unfolding anchored decode jobWith decodeBoundaries numberAt bytes countsAt baseRecords baseAt boundaryRecords observationRecords sourceRecords boundaryAt sourceAt
+anchored-job = refl
+
+-- Labels and groups.
+job-labels : (bases : List Base) → labelsOf eight (job bases) (ownEnds (job bases)) ≡ 1 ∷ 2 ∷ 3 ∷ 3 ∷ []
+unfolding areaLabels partOf count upFrom
+job-labels bases = refl
+
+job-pairs : (bases : List Base) → length (records eight (gridOf (job bases)) (ownEnds (job bases))) ≡ 2
+unfolding records partOf count upFrom
+job-pairs bases = refl
+
+abbrev run : Run
+run = reduceRun (first ∷ second ∷ [])
+
+corridor-groups : groupsOf (rulesOf limits000 eight (job [])) run ≡ pair
+unfolding groupsOf itemsOf canonItem canon canonical posLe endsKey spanKey sourceKey sort insert sortOnce include lexLe rulesOn anchorsOf partOf count upFrom lengthOf ofInt ofBits toBits neg add sub mul div lt le
+corridor-groups = refl
+
+anchored-groups : groupsOf (rulesOf limits000 eight (job (anchor ∷ []))) run ≡ noGroups
+unfolding groupsOf itemsOf canonItem canon canonical posLe endsKey spanKey sourceKey sort insert sortOnce include lexLe rulesOn anchorsOf partOf count upFrom lengthOf ofInt ofBits toBits neg add sub mul div lt le
+anchored-groups = refl
+
+-- What is kept.
+pair-kept : kept (copiesOf (first ∷ second ∷ [])) (every pair) ≡ merged ∷ []
+unfolding keptOf every kept slot consolidated consolidate membersOf observed orItself copiesOf canon canonObservation canonical posLe endsKey spanKey sourceKey sourcesKey observationKey totalKey sort insert sortOnce include lexLe gather upFrom has
+pair-kept = refl
+
+none-kept : kept (copiesOf (first ∷ second ∷ [])) (every noGroups) ≡ first ∷ second ∷ []
+unfolding keptOf every kept slot consolidated consolidate membersOf observed orItself copiesOf canon canonObservation canonical posLe endsKey spanKey sourceKey sourcesKey observationKey totalKey sort insert sortOnce include lexLe gather upFrom has
+none-kept = refl
+
+merged-bytes : encodeAnswer (merged ∷ []) ≡ corridorAnswer
+unfolding corridorAnswer encodeAnswer answerWords encodeBoundaries boundaryRecord observationRecord observationsOf sourcesOf boundaryBytes observationBytes sourceBytes spanBytes bytes
+merged-bytes = refl
+
+both-bytes : encodeAnswer (first ∷ second ∷ []) ≡ anchoredAnswer
+unfolding anchoredAnswer encodeAnswer answerWords encodeBoundaries boundaryRecord observationRecord observationsOf sourcesOf boundaryBytes observationBytes sourceBytes spanBytes bytes
+both-bytes = refl
+
+-- The answers, from the jobs' bytes.
+abbrev answer : List ℕ → List ℕ
+answer s = answerOf limits000 eight (decode s) (ownEnds (decode s))
+
+corridor-answer : answer corridor ≡ corridorAnswer
+unfolding rulesAnswer keptOf
+corridor-answer =
+    ap (λ (j : Job). answerOf limits000 eight j (ownEnds j)) corridor-job
+    ∙ ap (λ (g : Groups). encodeAnswer (kept (copiesOf (first ∷ second ∷ [])) (every g))) corridor-groups
+    ∙ ap encodeAnswer pair-kept
+    ∙ merged-bytes
+
+anchored-answer : answer anchored ≡ anchoredAnswer
+unfolding rulesAnswer keptOf
+anchored-answer =
+    ap (λ (j : Job). answerOf limits000 eight j (ownEnds j)) anchored-job
+    ∙ ap (λ (g : Groups). encodeAnswer (kept (copiesOf (first ∷ second ∷ [])) (every g))) anchored-groups
+    ∙ ap encodeAnswer none-kept
+    ∙ both-bytes
+
+-- A job that passes and decodes to the corridor's map gives its answer.
+gives : (s : List ℕ) (bases : List Base) (written : List ℕ) → firstRefusal (reduceChecks s) ≡ none → decode s ≡ job bases → answer s ≡ written → Gives s (1 ∷ 2 ∷ 3 ∷ 3 ∷ []) written
+unfolding reduceResult reduceWith labelled words
+gives s bases written p d a work out w o =
+    let few : length (records eight (gridOf (decode s)) (ownEnds (decode s))) ≤ 4096
+    = rw (d, job-pairs bases) (lit≤ tt) in
+    let room : workSize (decode s) ≤ length work = rw d w in
+    let fits : length (answer s) ≤ length out = rw a o in
+    let labels : labelsOf eight (decode s) (ownEnds (decode s)) ≡ 1 ∷ 2 ∷ 3 ∷ 3 ∷ [] = rw d (job-labels bases) in
+    reduced-success limits000 eight (reduceChecks s) (decode s) (ownEnds (decode s)) work out p room few fits
+    ∙ ap (λ (l : List ℕ). record { number = 0; detail = length (answer s); work = labelled l work; out = splice out 0 (answer s) }) labels
+    ∙ ap (λ (l : List ℕ). leaves (length l) (1 ∷ 2 ∷ 3 ∷ 3 ∷ []) l work out) a
+
+-- The corridor's marks.
+corridor-marked : firstRefusal (markChecks corridor) ≡ none
+unfolding markChecks corridor reduceChecks boundaryChecks jobChecks layoutChecks headerChecks recordChecks each cellCheck baseCheck sumsFault rampCheck widthCheck endsChecks endsCheck spanChecks firstRefusal headerAt offsetsOf boundaryAt baseAt numberAt bytes boundaryRecords observationRecords sourceCount posSame
+corridor-marked = refl
+
+job-marks : marksOf eight (job []) ≡ 1 ∷ 1 ∷ []
+unfolding marksOf partOf count upFrom
+job-marks = refl
+
+-- Two boundaries at one place: neither is a bridge.
+doubled-marks : marksOf eight (record { width = 4; height = 1; cells = 1 ∷ 1 ∷ 1 ∷ 1 ∷ []; bases = []; boundaries = first ∷ first ∷ [] }) ≡ 0 ∷ 0 ∷ []
+unfolding marksOf partOf count upFrom
+doubled-marks = refl
+
+marks-left : (work marks : List ℕ) → 40 ≤ length work → 2 ≤ length marks → markResult corridor work marks ≡ leaves 2 (1 ∷ 2 ∷ 3 ∷ 3 ∷ []) (1 ∷ 1 ∷ []) work marks
+unfolding markResult labelled words
+marks-left work marks w m =
+    let d = corridor-job in
+    let few : length (records eight (gridOf (decode corridor)) (ownEnds (decode corridor))) ≤ 4096 = rw (d, job-pairs []) (lit≤ tt) in
+    let room : workSize (decode corridor) ≤ length work = rw d w in
+    let fits : length (decode corridor .boundaries) ≤ length marks = rw d m in
+    mark-success eight corridor work marks corridor-marked room few fits
+    ∙ ap (λ (j : Job). record { number = 0; detail = length (j .boundaries); work = labelled (labelsOf eight j (ownEnds j)) work; out = splice marks 0 (marksOf eight j) }) d
+    ∙ ap (λ (l : List ℕ). record { number = 0; detail = 2; work = labelled l work; out = splice marks 0 (marksOf eight (job [])) }) (job-labels [])
+    ∙ ap (λ (l : List ℕ). leaves 2 (1 ∷ 2 ∷ 3 ∷ 3 ∷ []) l work marks) job-marks
+
+-- The corridor by a list of one span.
+listed-passes : firstRefusal (byListChecks corridor oneSpan) ≡ none
+unfolding byListChecks listChecks spanCheck oneSpan spanAt corridor reduceChecks boundaryChecks jobChecks layoutChecks headerChecks recordChecks each cellCheck baseCheck sumsFault rampCheck widthCheck endsChecks endsCheck spanChecks firstRefusal headerAt offsetsOf boundaryAt baseAt numberAt bytes boundaryRecords observationRecords sourceCount posSame
+listed-passes = refl
+
+listed : decodeList oneSpan ≡ column 8 ∷ []
+unfolding decodeList oneSpan spanAt numberAt bytes
+listed = refl
+
+listed-labels : labelsOf eight (job []) (column 8 ∷ []) ≡ 1 ∷ 2 ∷ 2 ∷ 2 ∷ []
+unfolding areaLabels partOf count upFrom
+listed-labels = refl
+
+listed-pairs : length (records eight (gridOf (job [])) (column 8 ∷ [])) ≡ 1
+unfolding records partOf count upFrom
+listed-pairs = refl
+
+listed-answer : answerOf limits000 eight (job []) (column 8 ∷ []) ≡ anchoredAnswer
+unfolding rulesAnswer keptOf groupsOf
+listed-answer = ap encodeAnswer none-kept ∙ both-bytes
+
+list-left : (work out : List ℕ) → 40 ≤ length work → length anchoredAnswer ≤ length out
+    → reduceByListResult corridor oneSpan work out ≡ leaves (length anchoredAnswer) (1 ∷ 2 ∷ 2 ∷ 2 ∷ []) anchoredAnswer work out
+unfolding reduceByListResult reduceByListWith labelled words
+list-left work out w o =
+    let few : length (records eight (gridOf (job [])) (column 8 ∷ [])) ≤ 4096 = rw listed-pairs (lit≤ tt) in
+    let fits : length (answerOf limits000 eight (job []) (column 8 ∷ [])) ≤ length out = rw listed-answer o in
+    ap (λ (j : Job). reduced limits000 eight (byListChecks corridor oneSpan) j (decodeList oneSpan) work out) corridor-job
+    ∙ ap (λ (l : List Span). reduced limits000 eight (byListChecks corridor oneSpan) (job []) l work out) listed
+    ∙ reduced-success limits000 eight (byListChecks corridor oneSpan) (job []) (column 8 ∷ []) work out listed-passes w few fits
+    ∙ ap (λ (l : List ℕ). record { number = 0; detail = length (answerOf limits000 eight (job []) (column 8 ∷ [])); work = labelled l work; out = splice out 0 (answerOf limits000 eight (job []) (column 8 ∷ [])) }) listed-labels
+    ∙ ap (λ (l : List ℕ). leaves (length l) (1 ∷ 2 ∷ 2 ∷ 2 ∷ []) l work out) listed-answer
+
+pub other-calls : OtherCalls
+other-calls = record { marks = marks-left; by-list = list-left }
+
+-- One cell, of any kind.
+abbrev oneJob : ℕ → Job
+oneJob c = record { width = 1; height = 1; cells = c ∷ []; bases = []; boundaries = [] }
+
+one-passes : (c : ℕ) → c < 32 → firstRefusal (reduceChecks (oneCell c)) ≡ none
+unfolding oneCell reduceChecks boundaryChecks jobChecks layoutChecks headerChecks recordChecks each cellCheck baseCheck sumsFault rampCheck widthCheck endsChecks endsCheck spanChecks firstRefusal headerAt offsetsOf boundaryAt baseAt numberAt bytes boundaryRecords observationRecords sourceCount posSame
+one-passes c h = rw (lt-leb 32 c h)
+
+one-job : (c : ℕ) → decode (oneCell c) ≡ oneJob c
+unfolding oneCell decode jobWith decodeBoundaries numberAt bytes countsAt baseRecords baseAt boundaryRecords observationRecords sourceRecords boundaryAt sourceAt
+one-job c = refl
+
+one-pairs : (c : ℕ) → length (records eight (gridOf (oneJob c)) []) ≡ 0
+unfolding records
+one-pairs c = refl
+
+one-answer : (c : ℕ) → answerOf limits000 eight (oneJob c) [] ≡ words (0 ∷ 0 ∷ 0 ∷ 24 ∷ 24 ∷ 24 ∷ [])
+unfolding rulesAnswer keptOf kept copiesOf sort gather upFrom encodeAnswer answerWords encodeBoundaries observationsOf sourcesOf words bytes
+one-answer c = refl
+
+six-words : length (words (0 ∷ 0 ∷ 0 ∷ 24 ∷ 24 ∷ 24 ∷ [])) ≡ 24
+unfolding words bytes
+six-words = refl
+
+eleven : (c : ℕ) → c < 32 → (work out : List ℕ) → 10 ≤ length work → 24 ≤ length out
+    → reduceResult (oneCell c) work out
+    ≡ record { number = 0; detail = 24; work = labelled (labelsOf eight (oneJob c) []) work; out = splice out 0 (words (0 ∷ 0 ∷ 0 ∷ 24 ∷ 24 ∷ 24 ∷ [])) }
+unfolding reduceResult reduceWith
+eleven c h work out w o =
+    let d = one-job c in
+    let few : length (records eight (gridOf (oneJob c)) []) ≤ 4096 = rw one-pairs (lit≤ tt) in
+    let size : length (answerOf limits000 eight (oneJob c) []) ≡ 24 = ap (λ (l : List ℕ). length l) (one-answer c) ∙ six-words in
+    let fits : length (answerOf limits000 eight (oneJob c) []) ≤ length out = rw size o in
+    rw d (reduced-success limits000 eight (reduceChecks (oneCell c)) (oneJob c) [] work out (one-passes c h) w few fits
+    ∙ ap (λ (l : List ℕ). left (length l) l) (one-answer c)
+    ∙ ap (λ (n : ℕ). left n (words (0 ∷ 0 ∷ 0 ∷ 24 ∷ 24 ∷ 24 ∷ []))) six-words)
+  where
+    left : ℕ → List ℕ → Outcome
+    left n l = record { number = 0; detail = n; work = labelled (labelsOf eight (oneJob c) []) work; out = splice out 0 l }
+
+pub twelve-cases : TwelveCases
+twelve-cases = record {
+  lengths = length-case;
+  cuts = cut-cases;
+  bridges = bridge-cases;
+  refusals = refusal-cases;
+  case11 = λ c h work out w o. let e = eleven c h work out w o in (ap (λ (r : Outcome). r .number) e, (ap (λ (r : Outcome). r .detail) e, ap (λ (r : Outcome). r .out) e));
+  case12 = gives corridor [] corridorAnswer corridor-passes corridor-job corridor-answer;
+  case12-anchored = gives anchored (anchor ∷ []) anchoredAnswer anchored-passes anchored-job anchored-answer;
+}

@@ -1,0 +1,5 @@
+pub mod Rules
+pub mod Planned
+pub mod Results
+pub mod Cases
+pub mod Own

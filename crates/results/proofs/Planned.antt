@@ -1,0 +1,74 @@
+-- The answer that the rules give, by the plan of the accepted groups.
+use mathlib.Core.Path.{_≡_, refl, sym, _∙_, ap}
+use mathlib.Core.List.{List, [], _∷_, map, List·Memᴰ, List·Memᴰ·not-nil, Memᴰ·of-map}
+use Prim.Native.Nat.{ℕ, _≤_}
+use borrow.Author.Tests.{eq-eqb, ne-eqb}
+use lib.ListN.{length}
+use Rattle.order.specs.Lists.{has}
+use Rattle.position.specs.declared.Span.{Span}
+use Rattle.format.specs.Values.{Job}
+use Rattle.format.specs.Encode.{encodeAnswer}
+use Rattle.topology.specs.Anchors.{anchorsOf}
+use Rattle.topology.specs.Listing.{Item, listing}
+use Rattle.links.specs.Limits.{Limits}
+use Rattle.groups.specs.Groups as Link
+use Rattle.groups.specs.Flat.{accepted}
+use Rattle.groups.specs.Plan.{goesInto, mergePlan}
+use Rattle.groups.proofs.Accepted.{accepted-two}
+use Rattle.merging.specs.Copies.{copiesOf}
+use Rattle.merging.specs.Groups.{Group, noGroups, every}
+use Rattle.merging.specs.Planned.{goes, planned}
+use Rattle.merging.specs.Runs.{Run, itemsOf, canonItem, groupsOf, keptOf, rulesAnswer}
+use Rattle.merging.proofs.Independence.{groups-well}
+use Rattle.merging.proofs.Planned.{kept-planned, planned-ext}
+use Rattle.results.specs.Rules.{gridOf, groupOf, rulesOf}
+use Rattle.results.specs.Results.{answerOf}
+use Rattle.results.proofs.Rules.{every-group, rules-well}
+
+-- A run's canonical copies in their listing, each with its span.
+abbrev pub listed : Job → List Span → List Item
+listed j ss = listing (map canonItem (itemsOf (record { boundaries = j .boundaries; spans = ss })))
+
+goes-into : (limits : Limits) (l : List Item) (hs : List Link.Group) (i : ℕ) → goes (map (groupOf limits l) hs) i ≡ goesInto limits l hs i
+unfolding goes goesInto
+goes-into limits l [] i = refl
+goes-into limits l (a ∷ hs) i = rw (goes-into limits l hs i) refl
+
+module _ (limits : Limits) (dirs : List ℕ) (j : Job) (ss : List Span) where
+  abbrev run : Run
+  run = record { boundaries = j .boundaries; spans = ss }
+
+  -- what the rules accept has two ranks or more
+  two-all : (l : List Item) (a : Group) → List·Memᴰ a (every (rulesOf limits dirs j l)) → 2 ≤ length (a .ranks)
+  two-all l a m =
+      let n : List·Memᴰ a (map (groupOf limits l) (accepted limits dirs (gridOf j) (anchorsOf (j .bases)) l)) = rw (← every-group limits dirs j l) m in
+      let w = Memᴰ·of-map (groupOf limits l) (accepted limits dirs (gridOf j) (anchorsOf (j .bases)) l) n in
+      rw (sym (w .2)) (accepted-two limits dirs (gridOf j) (anchorsOf (j .bases)) l (w .1))
+
+  groups-matched : length (j .boundaries) ≡ length ss → groupsOf (rulesOf limits dirs j) run ≡ rulesOf limits dirs j (listed j ss)
+  unfolding groupsOf
+  groups-matched e = rw (eq-eqb (length (j .boundaries)) (length ss) e) refl
+
+  pub groups-unmatched : (length (j .boundaries) ≡ length ss → ⊥) → groupsOf (rulesOf limits dirs j) run ≡ noGroups
+  unfolding groupsOf
+  groups-unmatched n = rw (ne-eqb (length (j .boundaries)) (length ss) n) refl
+
+  -- spans and boundaries are alike in number
+  pub matched-answer : length (j .boundaries) ≡ length ss
+      → answerOf limits dirs j ss ≡ encodeAnswer (planned (copiesOf (j .boundaries)) (mergePlan limits dirs (gridOf j) (anchorsOf (j .bases)) (listed j ss)))
+  unfolding rulesAnswer keptOf mergePlan
+  matched-answer e =
+      let l = listed j ss in
+      let gs : groupsOf (rulesOf limits dirs j) run ≡ rulesOf limits dirs j l = groups-matched e in
+      let w = groups-well (rulesOf limits dirs j) (rules-well limits dirs j) run in
+      ap encodeAnswer (kept-planned (copiesOf (j .boundaries)) (every (groupsOf (rulesOf limits dirs j) run)) w (λ a m. two-all l a (rw (← gs) m))
+      ∙ planned-ext (copiesOf (j .boundaries)) _ _ (λ i h. ap (λ hs. goes (every hs) i) gs ∙ (ap (λ hs. goes hs i) (every-group limits dirs j l) ∙ goes-into limits l (accepted limits dirs (gridOf j) (anchorsOf (j .bases)) l) i)))
+
+  -- they differ in number
+  pub unmatched-answer : (length (j .boundaries) ≡ length ss → ⊥) → answerOf limits dirs j ss ≡ encodeAnswer (planned (copiesOf (j .boundaries)) (λ i. i))
+  unfolding rulesAnswer keptOf every goes
+  unmatched-answer n =
+      let gs = groups-unmatched n in
+      let w = groups-well (rulesOf limits dirs j) (rules-well limits dirs j) run in
+      ap encodeAnswer (kept-planned (copiesOf (j .boundaries)) (every (groupsOf (rulesOf limits dirs j) run)) w (λ a m. let z : List·Memᴰ a [] = rw (← ap every gs) m in absurd (List·Memᴰ·not-nil z))
+      ∙ planned-ext (copiesOf (j .boundaries)) _ _ (λ i h. ap (λ hs. goes (every hs) i) gs))

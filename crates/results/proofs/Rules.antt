@@ -1,0 +1,54 @@
+-- The rules' groups are well formed, for every job, direction set and limits; so what is proved of any rules holds of them.
+use mathlib.Core.Path.{_≡_, refl, sym, ap}
+use mathlib.Core.List.{List, [], _∷_, _++_, map, List·Memᴰ, Memᴰ·of-map}
+use Prim.Native.Nat.{ℕ}
+use lib.ListN.{length}
+use Rattle.order.specs.Pairs.{Pairs}
+use Rattle.order.proofs.Pairs.{pairs-map}
+use Rattle.format.specs.Values.{Job}
+use Rattle.topology.specs.Anchors.{anchorsOf}
+use Rattle.topology.specs.Listing.{Item}
+use Rattle.links.specs.Limits.{Limits}
+use Rattle.groups.specs.Serial.{serialGroups}
+use Rattle.groups.specs.Flat.{flatGroups, accepted}
+use Rattle.groups.proofs.Accepted.{groups-disjoint, accepted-rising, accepted-below}
+use Rattle.groups.proofs.Plan.{accepted-retained}
+use Rattle.merging.specs.Groups.{Group, every, Good, Disjoint, WellGrouped}
+use Rattle.merging.specs.Runs.{Run, groupsOf}
+use Rattle.merging.specs.Follows.{Follows}
+use Rattle.merging.specs.Relisted.{Relisted, DistinctEnds}
+use Rattle.merging.specs.Demand.{Independent}
+use Rattle.merging.proofs.Independence.{kept-follows, demand-three}
+use Rattle.results.specs.Rules.{gridOf, groupOf, rulesOn, rulesOf}
+
+map-join : {A B : Type 0} (f : A → B) (l m : List A) → map f l ++ map f m ≡ map f (l ++ m)
+map-join f [] m = refl
+map-join f (x ∷ l) m = ap (λ t. f x ∷ t) (map-join f l m)
+
+module _ (limits : Limits) (dirs : List ℕ) (j : Job) where
+  pub every-group : (l : List Item) → every (rulesOf limits dirs j l) ≡ map (groupOf limits l) (accepted limits dirs (gridOf j) (anchorsOf (j .bases)) l)
+  unfolding every rulesOn accepted
+  every-group l = map-join (groupOf limits l) (serialGroups limits dirs (gridOf j) (anchorsOf (j .bases)) l) (flatGroups limits dirs (gridOf j) (anchorsOf (j .bases)) l)
+
+  pub rules-well : (l : List Item) → WellGrouped (length l) (every (rulesOf limits dirs j l))
+  rules-well l = rw every-group (record { good = good; apart = apart })
+    where
+      good : (g : Group) → List·Memᴰ g (map (groupOf limits l) (accepted limits dirs (gridOf j) (anchorsOf (j .bases)) l)) → Good (length l) g
+      good g m =
+          let w = Memᴰ·of-map (groupOf limits l) (accepted limits dirs (gridOf j) (anchorsOf (j .bases)) l) m in
+          rw (sym (w .2)) (record {
+            ascending = accepted-rising limits dirs (gridOf j) (anchorsOf (j .bases)) l (w .1);
+            below = accepted-below limits dirs (gridOf j) (anchorsOf (j .bases)) l (w .1);
+            mine = accepted-retained limits dirs (gridOf j) (anchorsOf (j .bases)) l (w .1);
+          })
+
+      apart : Pairs Disjoint (map (groupOf limits l) (accepted limits dirs (gridOf j) (anchorsOf (j .bases)) l))
+      apart = pairs-map (groupOf limits l) (λ a b d. d) (groups-disjoint limits dirs (gridOf j) (anchorsOf (j .bases)) l)
+
+  -- "the list follows the merging rules"
+  pub list-follows : (r : Run) → Follows (r .boundaries) (every (groupsOf (rulesOf limits dirs j) r))
+  list-follows = kept-follows (rulesOf limits dirs j) rules-well
+
+  -- Demand 3 for these rules.
+  pub listing-independent : (a b : Run) → DistinctEnds (a .boundaries) → Relisted a b → Independent (rulesOf limits dirs j) a b
+  listing-independent = demand-three (rulesOf limits dirs j) rules-well

@@ -1,0 +1,4 @@
+pub mod Rules
+pub mod Results
+pub mod Calls
+pub mod Cases
