@@ -12,7 +12,7 @@ use Rattle.order.specs.Keys.{byKey}
 use Rattle.order.specs.Lists.{upFrom}
 use Rattle.order.proofs.Members.{perm-mem, getD-mem, map-ext}
 use Rattle.order.proofs.Merge.{sort-length}
-use Rattle.order.proofs.Numbers.{up-mem, up-length, map-places}
+use Rattle.order.proofs.Numbers.{up-mem, up-length, map-places, map-at}
 use Rattle.order.proofs.Places.{sort-places}
 use Rattle.order.proofs.Sort.{sort-perm, sort-map}
 use Rattle.position.specs.Order.{canonical}
@@ -41,12 +41,6 @@ use Rattle.merging.proofs.Packed.{packFirst, packSecond, ends-packed, sort-alik
 use Rattle.ranks.specs.Tables.{KeysOf}
 use Rattle.sorting.specs.Orders.{byTwo}
 use Rattle.results.proofs.Planned.{listed}
-
--- what a map gives at a place
-pub map-at : {A B : Type 0} (f : A → B) (l : List A) (i : ℕ) (d : A) (z : B) → i < length l → getD (map f l) i z ≡ f (getD l i d)
-map-at f [] i d z h = absurd (omega arith)
-map-at f (x ∷ xs) zero d z h = refl
-map-at f (x ∷ xs) (suc i) d z h = map-at f xs i d z (omega arith)
 
 -- a list whose members are known by place
 pub by-rows : {A : Type 0} (l : List A) (n : ℕ) (f : ℕ → A) (d : A) → length l ≡ n → ((i : ℕ) → i < n → getD l i d ≡ f i) → l ≡ rows n f

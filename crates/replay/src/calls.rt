@@ -7,7 +7,7 @@ use crate::compare::difference;
 use crate::pieces::expand;
 use crate::pieces::fill;
 use crate::reading::size;
-use chokes::ChokesResult;
+use analysis::ChokesResult;
 use wire::read_u32;
 use wire::read_u64;
 
