@@ -1,0 +1,79 @@
+//! What the library returned, as coverage: libFuzzer keeps an input that sets a counter not set so
+//! far. And how often each number came, printed at the end of a run.
+
+use crate::checks::{Refusal, MARK};
+use std::sync::atomic::{AtomicU64, AtomicU8, Ordering::Relaxed};
+use std::sync::Once;
+
+/// Counters of a call: numbers, details by number, kept and merged boundaries, observations more
+/// than the job's, labels.
+const EACH: usize = 1024;
+const DETAILS: usize = 32;
+const KEPT: usize = DETAILS + 32 * 16;
+const OBSERVED: usize = KEPT + 16 * 16;
+const LABELS: usize = OBSERVED + 16;
+
+#[link_section = "__libfuzzer_extra_counters"]
+static COUNTERS: [AtomicU8; 3 * EACH] = [const { AtomicU8::new(0) }; 3 * EACH];
+
+/// Calls by call and number, and answers with fewer boundaries than the job.
+static NUMBERS: [[AtomicU64; 32]; 3] = [const { [const { AtomicU64::new(0) }; 32] }; 3];
+static MERGED: AtomicU64 = AtomicU64::new(0);
+
+extern "C" {
+    fn atexit(function: extern "C" fn()) -> i32;
+}
+
+pub fn note(call: u32, (number, detail): Refusal, job: &[u8], work: &[u8], out: &[u8]) {
+    static AT_END: Once = Once::new();
+    // The function prints counters that live as long as the process.
+    AT_END.call_once(|| assert_eq!(unsafe { atexit(print) }, 0, "a function for the end"));
+    let set = |i: usize| COUNTERS[call as usize * EACH + i].store(1, Relaxed);
+    let number = number.min(31) as usize;
+    NUMBERS[call as usize][number].fetch_add(1, Relaxed);
+    set(number);
+    set(DETAILS + 16 * number + log(detail).min(15));
+    if [0, 13, 22, 23].contains(&number) {
+        let labels = (0..work.len() / 10).map(|cell| word(work, cell)).max().unwrap_or(0);
+        set(LABELS + (labels as usize).min(16 + log(labels.into())));
+    }
+    if number != 0 {
+        return;
+    }
+    let boundaries = word(job, 3) as usize;
+    if call == MARK {
+        let bridges = out[..boundaries].iter().filter(|&&mark| mark == 1).count();
+        set(KEPT + 16 * bridges.min(15) + boundaries.min(15));
+        return;
+    }
+    let [kept, observations] = [0, 1].map(|i| word(out, i) as usize);
+    let merged = boundaries.wrapping_sub(kept);
+    set(KEPT + 16 * merged.min(15) + boundaries.min(15));
+    set(OBSERVED + observations.wrapping_sub(word(job, 4) as usize).min(15));
+    if merged > 0 {
+        MERGED.fetch_add(1, Relaxed);
+    }
+}
+
+/// Binary digits.
+fn log(value: u64) -> usize {
+    (64 - value.leading_zeros()) as usize
+}
+
+/// Word i of a slice, 0 past its end.
+fn word(bytes: &[u8], i: usize) -> u32 {
+    let word = bytes.get(4 * i..4 * i + 4).and_then(|bytes| bytes.try_into().ok());
+    word.map_or(0, u32::from_le_bytes)
+}
+
+extern "C" fn print() {
+    let mut calls = 0;
+    for (numbers, name) in NUMBERS.iter().zip(crate::NAMES) {
+        let counts = numbers.iter().map(|count| count.load(Relaxed)).enumerate();
+        let seen: Vec<_> = counts.filter(|&(_, count)| count > 0).collect();
+        calls += seen.iter().map(|&(_, count)| count).sum::<u64>();
+        let seen: Vec<_> = seen.iter().map(|(i, count)| format!("{i}: {count}")).collect();
+        eprintln!("calls of {name} by number: {}", seen.join(", "));
+    }
+    eprintln!("calls: {calls}; answers with merges: {}", MERGED.load(Relaxed));
+}

@@ -1,0 +1,54 @@
+//! The three calls of include/chokes.h.
+
+use crate::checks::{Refusal, BY_LIST, MARK};
+
+#[repr(C)]
+struct CallResult {
+    number: u32,
+    detail: u64,
+}
+
+#[link(name = "chokes")]
+extern "C" {
+    fn chokes_mark(
+        job: *const u8,
+        job_length: usize,
+        work: *mut u8,
+        work_length: usize,
+        marks: *mut u8,
+        marks_length: usize,
+    ) -> CallResult;
+    fn chokes_reduce(
+        job: *const u8,
+        job_length: usize,
+        work: *mut u8,
+        work_length: usize,
+        answer: *mut u8,
+        answer_length: usize,
+    ) -> CallResult;
+    fn chokes_reduce_by_list(
+        job: *const u8,
+        job_length: usize,
+        list: *const u8,
+        list_length: usize,
+        work: *mut u8,
+        work_length: usize,
+        answer: *mut u8,
+        answer_length: usize,
+    ) -> CallResult;
+}
+
+/// A call on job, list, work and the slice that it writes, the answer or the marks.
+pub fn call(call: u32, job: &[u8], list: &[u8], work: &mut [u8], out: &mut [u8]) -> Refusal {
+    let (j, jn, l, ln) = (job.as_ptr(), job.len(), list.as_ptr(), list.len());
+    let (w, wn, o, on) = (work.as_mut_ptr(), work.len(), out.as_mut_ptr(), out.len());
+    // Each slice is passed as its start and length, and they overlap nowhere.
+    let result = unsafe {
+        match call {
+            BY_LIST => chokes_reduce_by_list(j, jn, l, ln, w, wn, o, on),
+            MARK => chokes_mark(j, jn, w, wn, o, on),
+            _ => chokes_reduce(j, jn, w, wn, o, on),
+        }
+    };
+    (result.number, result.detail)
+}

@@ -1,0 +1,87 @@
+//! Writes the seeds of a fuzz run to a folder: the jobs that are named, and inputs of the driver's
+//! families.
+//!
+//!     seeds FOLDER JOB...
+
+#[path = "../driver/checks.rs"]
+#[allow(dead_code)]
+mod checks;
+#[path = "../driver/corridors.rs"]
+mod corridors;
+#[path = "../driver/damage.rs"]
+#[allow(dead_code)]
+mod damage;
+#[path = "../driver/draft.rs"]
+#[allow(dead_code)]
+mod draft;
+#[path = "../driver/maps.rs"]
+#[allow(dead_code)]
+mod maps;
+#[path = "../driver/rng.rs"]
+#[allow(dead_code)]
+mod rng;
+#[path = "../driver/rust.rs"]
+#[allow(dead_code)]
+mod rust;
+#[path = "../driver/values.rs"]
+#[allow(dead_code)]
+mod values;
+
+#[allow(dead_code)]
+mod case;
+
+use case::Case;
+use damage::REFUSALS;
+use draft::{Draft, Input};
+use rng::Rng;
+use std::{env, fs, io};
+
+/// The longest input of a run, as tests/fuzz/run has it.
+const LONGEST: usize = 16_384;
+
+fn main() -> io::Result<()> {
+    let mut arguments = env::args().skip(1);
+    let folder = arguments.next().expect("a folder");
+    let mut written = 0;
+    let mut write = |case: Case| -> io::Result<()> {
+        let bytes = case.bytes();
+        if bytes.len() <= LONGEST {
+            fs::write(format!("{folder}/{written:04}"), bytes)?;
+            written += 1;
+        }
+        Ok(())
+    };
+    for file in arguments {
+        let job = fs::read(file)?;
+        let ends = rust::own_spans(&job).into_iter().flatten();
+        let list = ends.flat_map(u32::to_le_bytes).collect();
+        write(Case { lengths: 5, fill: 0, input: Input { job, list } })?;
+    }
+    for (number, draft) in drafts() {
+        let mut rng = Rng::of_case(1, number);
+        write(Case { lengths: rng.byte(), fill: rng.byte(), input: draft.input() })?;
+    }
+    println!("{written} seeds in {folder}");
+    Ok(())
+}
+
+/// Drafts damaged for each refusal, maps, corridors, and region pairs at their limit and one over.
+fn drafts() -> Vec<(u64, Draft)> {
+    let mut drafts = Vec::new();
+    let mut make = |number: u64, draft: &dyn Fn(&mut Rng) -> Draft| {
+        drafts.push((number, draft(&mut Rng::of_case(2, number))));
+    };
+    for (i, refusal) in (0..64).zip(REFUSALS.into_iter().cycle()) {
+        make(1 << 32 | i, &|rng| {
+            let mut draft = draft::random(rng);
+            damage::damage(refusal, &mut draft, rng);
+            draft
+        });
+    }
+    (0..100).for_each(|i| make(2 << 32 | i, &maps::random));
+    (0..100).for_each(|i| make(4 << 32 | i, &corridors::random));
+    for pairs in [4096, 4097] {
+        make(5 << 32 | pairs as u64, &|rng| maps::many_pairs(pairs, rng));
+    }
+    drafts
+}
