@@ -34,8 +34,8 @@ use Rattle.merging.specs.Groups.{every}
 use Rattle.merging.specs.Kept.{membersOf, consolidated, slot, kept}
 use Rattle.merging.specs.Runs.{reduceRun, itemsOf, canonItem, groupsOf, keptOf}
 use Rattle.areas.specs.Areas.{areaLabels}
-use Rattle.chokes.specs.Rules.{rulesOn, rulesOf}
-use Rattle.chokes.specs.Results.{ownEnds, labelsOf, marksOf}
+use Rattle.results.specs.Rules.{rulesOn, rulesOf}
+use Rattle.results.specs.Results.{ownEnds, labelsOf, marksOf}
 
 abbrev span : ℕ → ℕ → ℕ → ℕ → Span
 span a b c d = record { a = record { x = a; y = b }; b = record { x = c; y = d } }
