@@ -239,7 +239,11 @@ fn parts(what: &str, draft: &Draft) {
     }
     let bridges = least(|| drop(black_box(job.bridges(black_box(&partition)))));
     let (_, mark) = timed(MARK, what, &mut lent);
-    row(&format!("the bridges, {what}"), bridges, mark.map(|mark| mark - library));
+    row(
+        &format!("the bridges (the library: Mark less its partition), {what}"),
+        bridges,
+        mark.map(|mark| mark - library),
+    );
     whole(MARK, what, draft);
     whole(REDUCE, what, draft);
 }
