@@ -1,8 +1,9 @@
 //! Times the proved library and the real Rust on the same inputs, and measures the library's stack.
 //!
-//!     bench [quick]
+//!     bench [quick | grow]
 //!
-//! Times are in milliseconds, the least of several runs. Of a whole call the Rust's time begins with
+//! `quick` leaves out the largest maps, and `grow` all but the families that grow, which are also
+//! plotted to docs/benchmark.svg. Times are in milliseconds, the least of several runs. Of a whole call the Rust's time begins with
 //! the job's bytes and ends with the answer's, as the library's does; of a partition it is that of
 //! `partition_by_spans` alone, where the library checks the job besides.
 
@@ -18,9 +19,11 @@ mod draft;
 #[path = "../tests/driver/expect.rs"]
 #[allow(dead_code)]
 mod expect;
+mod grow;
 #[path = "../tests/driver/maps.rs"]
 #[allow(dead_code)]
 mod maps;
+mod plot;
 #[path = "../tests/driver/rng.rs"]
 #[allow(dead_code)]
 mod rng;
@@ -42,12 +45,14 @@ use std::time::{Duration, Instant};
 const CALLS: [&str; 3] = ["Reduce", "Reduce by list", "Mark"];
 /// The largest answer of any job.
 const ANSWER: usize = 1 << 18;
+/// How often the two sides take turns.
+const ROUNDS: usize = 5;
 
 /// The least time of some runs: at least three, more while they are short.
 fn least(mut run: impl FnMut()) -> f64 {
     let start = Instant::now();
     let (mut least, mut runs) = (f64::INFINITY, 0);
-    while runs < 3 || runs < 200 && start.elapsed() < Duration::from_millis(300) {
+    while runs < 2 || runs < 1000 && start.elapsed() < Duration::from_millis(60) {
         let once = Instant::now();
         run();
         least = least.min(once.elapsed().as_secs_f64() * 1e3);
@@ -59,13 +64,13 @@ fn least(mut run: impl FnMut()) -> f64 {
 /// A row of the table: what was run, the Rust's time, the library's, and their ratio.
 fn row(what: &str, rust: f64, library: Option<f64>) {
     match library {
-        Some(time) => println!("{what:<58}{rust:>12.3}{time:>12.3}{:>9.2}", time / rust),
-        None => println!("{what:<58}{rust:>12.3}{:>12}{:>9}", "-", "-"),
+        Some(time) => println!("| {what} | {rust:.3} | {time:.3} | {:.2} |", time / rust),
+        None => println!("| {what} | {rust:.3} | - | - |"),
     }
 }
 
 fn head(title: &str) {
-    println!("\n{title:<58}{:>12}{:>12}{:>9}", "Rust, ms", "library, ms", "ratio");
+    println!("\n| {title} | Rust, ms | library, ms | ratio |\n|---|--:|--:|--:|");
 }
 
 /// The slices of a call, lent again and again.
@@ -188,20 +193,59 @@ fn partition(what: &str, draft: &Draft) {
     row(what, rust, library);
 }
 
-/// A whole call from bytes to bytes.
-fn whole(call: u32, what: &str, draft: &Draft) {
-    let mut lent = Lent::new(draft);
+/// The times of a whole call from bytes to bytes, the two sides in turn.
+fn timed(call: u32, what: &str, lent: &mut Lent) -> (f64, Option<f64>) {
     let expected = Expected::of(call, &lent.input.job, &lent.input.list);
     let number = expected.left(&lent.work, &lent.out).result.0;
     let said = lent.call(call);
     assert!(said.is_none_or(|said| said.0 == number), "the two sides agree on {what}");
-    let rust = least(|| drop(black_box(by_rust(call, &lent.input))));
-    let library = TABLE.whole(call).is_some().then(|| {
-        least(|| {
-            black_box(lent.call(call));
-        })
-    });
+    let (mut rust, mut library) = (f64::INFINITY, said.map(|_| f64::INFINITY));
+    for _ in 0..ROUNDS {
+        rust = rust.min(least(|| drop(black_box(by_rust(call, &lent.input)))));
+        library = library.map(|time| {
+            time.min(least(|| {
+                black_box(lent.call(call));
+            }))
+        });
+    }
+    (rust, library)
+}
+
+fn whole(call: u32, what: &str, draft: &Draft) {
+    let (rust, library) = timed(call, what, &mut Lent::new(draft));
     row(&format!("{}, {what}", CALLS[call as usize]), rust, library);
+}
+
+/// Where a call's time goes: the checks, the partition with its region pairs, and the bridges.
+fn parts(what: &str, draft: &Draft) {
+    let mut lent = Lent::new(draft);
+    let job = rust::job(&lent.input.job);
+    let spans = job.own_spans();
+    let partition = job.partition(&spans);
+    let read = least(|| drop(black_box(rust::job(black_box(&lent.input.job)))));
+    let check = least(|| {
+        black_box(calls::check(MARK, &lent.input.job, &lent.input.list));
+    });
+    row(&format!("reading the job (the library: its checks), {what}"), read, Some(check));
+    let (mut rust, mut library) = (f64::INFINITY, f64::INFINITY);
+    if let Some(function) = TABLE.partition {
+        for _ in 0..ROUNDS {
+            rust = rust.min(least(|| drop(black_box(job.partition(black_box(&spans))))));
+            library = library.min(least(|| {
+                black_box(function(&lent.input.job, &mut lent.work, &mut lent.out));
+            }));
+        }
+        row(&format!("the partition, {what}"), rust, Some(library - check));
+    }
+    let bridges = least(|| drop(black_box(job.bridges(black_box(&partition)))));
+    let (_, mark) = timed(MARK, what, &mut lent);
+    row(
+        &format!("the bridges (the library: Mark less its partition), {what}"),
+        bridges,
+        mark.map(|mark| mark - library),
+    );
+    whole(MARK, what, draft);
+    whole(REDUCE, what, draft);
 }
 
 /// What the Rust makes of a job: the answer's bytes, or the marks.
@@ -248,9 +292,9 @@ fn stacks() {
     println!("\nstack of a call, bytes beyond an empty thread's");
     let mut rng = Rng::new(3);
     let jobs = [
-        ("1,024 x 1,024, 256 boundaries, 4,096 sources", job(1024, Shape::Open, 256, 4096)),
+        ("1,024 × 1,024, 256 boundaries, 4,096 sources", job(1024, Shape::Open, 256, 4096)),
         ("4,096 region pairs", maps::many_pairs(4096, &mut rng)),
-        ("64 x 64, 4 boundaries", job(64, Shape::Noise, 4, 8)),
+        ("64 × 64, 4 boundaries", job(64, Shape::Noise, 4, 8)),
     ];
     for (what, draft) in &jobs {
         for call in [REDUCE, BY_LIST, MARK] {
@@ -264,31 +308,42 @@ fn stacks() {
     }
 }
 
+/// The families that grow: tables, and the plot.
+fn growing() {
+    let families = grow::families();
+    grow::print(&families);
+    grow::sorts();
+    std::fs::write("docs/benchmark.svg", plot::svg(&families)).expect("docs can be written");
+}
+
 fn main() {
     let quick = std::env::args().any(|argument| argument == "quick");
+    if std::env::args().any(|argument| argument == "grow") {
+        return growing();
+    }
     let sides: &[u32] = if quick { &[64, 256] } else { &[64, 256, 1024] };
     let largest = sides[sides.len() - 1];
 
     head("partition");
     for spans in [0, 256] {
-        let what = format!("{largest} x {largest} open, {spans} spans");
+        let what = format!("{largest} × {largest} open, {spans} spans");
         partition(&what, &across(largest, Shape::Open, spans));
     }
     head("growth of the partition, 16 spans");
     let shapes = [(Shape::Spiral, "spiral"), (Shape::Comb, "comb"), (Shape::Noise, "noise")];
     for (shape, name) in shapes {
         for side in [128, 256, 512, 1024].into_iter().filter(|&side| side <= largest) {
-            partition(&format!("{name} {side} x {side}"), &across(side, shape, 16));
+            partition(&format!("{name} {side} × {side}"), &across(side, shape, 16));
         }
     }
     bridges();
     if !quick {
-        head("the plan: 1024 x 1024 bands, 256 boundaries, 128 links");
+        head("the plan: 1,024 × 1,024 bands, 256 boundaries, 128 links");
         plans("bands", &bands());
     }
     head("whole calls, from bytes to bytes");
     if !quick {
-        whole(REDUCE, "1024 x 1024 bands, 256 boundaries, 128 links", &bands());
+        whole(REDUCE, "1,024 × 1,024 bands, 256 boundaries, 128 links", &bands());
     }
     for call in [REDUCE, BY_LIST, MARK] {
         for &side in sides {
@@ -296,10 +351,18 @@ fn main() {
                 if call == MARK && sources > 8 {
                     continue;
                 }
-                let what = format!("{side} x {side}, {boundaries} boundaries, {sources} sources");
+                let what = format!("{side} × {side}, {boundaries} boundaries, {sources} sources");
                 whole(call, &what, &job(side, Shape::Open, boundaries, sources));
             }
         }
+    }
+    head("parts of a call");
+    for (side, boundaries) in [(64, 4), (64, 256), (largest, 256)] {
+        let what = format!("{side} × {side}, {boundaries} boundaries");
+        parts(&what, &job(side, Shape::Open, boundaries, 8));
+    }
+    if !quick {
+        growing();
     }
     stacks();
 }
