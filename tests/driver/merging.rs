@@ -23,7 +23,8 @@ pub fn compare(
         if expect::pairs(&accepted.partition) > MOST_PAIRS {
             continue;
         }
-        let groups = accepted.job.groups(&accepted.partition);
+        // These runs are not the call's.
+        let groups = oracle::count::uncounted(|| accepted.job.groups(&accepted.partition));
         note(call, &accepted, &groups, tally);
         plan(call, input, &accepted, &groups, lent, rng, tally)?;
         relistings(call, input, &groups, lent, rng, tally)?;

@@ -47,13 +47,8 @@ impl Job {
     }
 
     /// The groups that the Rust merges. Each boundary gets a source that names it, so that what is
-    /// kept names its members; on a map of nothing but ramps only serial groups are left. These runs
-    /// are not the call's, and are not counted.
+    /// kept names its members; on a map of nothing but ramps only serial groups are left.
     pub fn groups(&self, partition: &SpanPartition) -> Vec<Group> {
-        oracle::count::uncounted(|| self.groups_by_source(partition))
-    }
-
-    fn groups_by_source(&self, partition: &SpanPartition) -> Vec<Group> {
         let named = self.boundaries.iter().enumerate().map(|(i, boundary)| TopologyBoundary {
             sources: vec![[i as u32, 0]],
             observations: vec![],
