@@ -4,7 +4,7 @@ use crate::calls;
 use crate::checks::{self, Refusal, BY_LIST, HEADER, MARK, NONE, REDUCE, SPAN};
 use crate::draft::Input;
 use crate::lent::Lent;
-use crate::memory::Guarded;
+use crate::memory::Room;
 use crate::rng::Rng;
 use crate::rust;
 use crate::tally::Tally;
@@ -47,7 +47,7 @@ fn parts(
     input: &Input,
     lent: [&[u8]; 2],
     expected: [Refusal; 3],
-    out: &mut Guarded,
+    out: &mut Room,
     rng: &mut Rng,
     tally: &mut Tally,
 ) -> Result<(), String> {

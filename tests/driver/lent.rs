@@ -1,14 +1,14 @@
 //! The memory that a call is lent: each slice ends at a page that can't be touched, and begins
-//! after bytes that must stay as they are.
+//! after bytes that must stay as they are; or each is an allocation of its own and of just its length.
 
-use crate::memory::Guarded;
+use crate::memory::{Guarded, Room};
 
 /// Bytes before each slice that are looked at after the call.
 const BEFORE: usize = 64;
 const UNTOUCHED: u8 = 0x5A;
 
 pub struct Lent {
-    rooms: [Guarded; 4],
+    rooms: [Room; 4],
 }
 
 /// The slices of one call.
@@ -24,11 +24,15 @@ impl Lent {
     /// Room for the largest job, list, work and answer of a run.
     pub fn new() -> Self {
         let room = |size| Guarded::new(size).expect("room for the slices of a call");
-        Self { rooms: [1 << 21, 1 << 17, 11 << 20, 1 << 18].map(room) }
+        Self { rooms: [1 << 21, 1 << 17, 11 << 20, 1 << 18].map(|size| Room::Guarded(room(size))) }
+    }
+
+    pub fn on_heap() -> Self {
+        Self { rooms: [0; 4].map(|_| Room::Heap(Box::default())) }
     }
 
     /// Slices for job and list alone, and the room for what is written.
-    pub fn inputs(&mut self, job: &[u8], list: &[u8]) -> (&mut [u8], &mut [u8], &mut Guarded) {
+    pub fn inputs(&mut self, job: &[u8], list: &[u8]) -> (&mut [u8], &mut [u8], &mut Room) {
         let [jobs, lists, _, outs] = &mut self.rooms;
         let (jobs, lists) = (jobs.last(job.len()), lists.last(list.len()));
         jobs.copy_from_slice(job);
@@ -39,8 +43,9 @@ impl Lent {
     /// Slices that hold these bytes.
     pub fn lend(&mut self, job: &[u8], list: &[u8], work: &[u8], out: &[u8]) -> Slices<'_> {
         let [jobs, lists, works, outs] = &mut self.rooms;
-        fn of<'a>(room: &'a mut Guarded, bytes: &[u8]) -> (&'a mut [u8], &'a mut [u8]) {
-            let (before, slice) = room.last(BEFORE + bytes.len()).split_at_mut(BEFORE);
+        fn of<'a>(room: &'a mut Room, bytes: &[u8]) -> (&'a mut [u8], &'a mut [u8]) {
+            let before = if matches!(room, Room::Heap(_)) { 0 } else { BEFORE };
+            let (before, slice) = room.last(before + bytes.len()).split_at_mut(before);
             before.fill(UNTOUCHED);
             slice.copy_from_slice(bytes);
             (before, slice)

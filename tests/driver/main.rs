@@ -1,14 +1,16 @@
 //! Compares the proved library with document 01's checks, stated anew, and with the real Rust.
 //!
 //!     driver quick
-//!     driver long [CASES | SECONDSs] [SEED]
+//!     driver long [CASES | SECONDSs | CALLScalls] [SEED]
 //!     driver random CASES SEED
+//!     driver heap CASES SEED
 //!     driver family NAME CASES SEED
 //!     driver case SEED NUMBER
 //!     driver record FILE SEED
 //!
 //! `random` is the random cases alone, with nothing asked of what they saw; `family` those of one
-//! family: damaged, maps, records or corridors.
+//! family: damaged, maps, records or corridors. `heap` is random cases with every slice an allocation
+//! of its own and of just its length, for valgrind.
 //! `record` writes the list that crates/replay reads (record.rs).
 //! Every run prints its seed; `case` runs one random case of a seed again. Exit status 0 means
 //! that nothing differed and that everything that should occur did.
@@ -17,6 +19,7 @@ mod calls;
 mod checks;
 mod compare;
 mod corridors;
+mod coverage;
 mod damage;
 mod definition;
 mod draft;
@@ -51,6 +54,8 @@ const LONG: Limit = Limit::Time(Duration::from_secs(600));
 enum Limit {
     Cases(u64),
     Time(Duration),
+    /// Whole calls compared.
+    Calls(u64),
 }
 
 fn main() {
@@ -72,6 +77,14 @@ fn main() {
             families::small_maps(&mut run);
             families::limits(&mut run);
             println!("seed {seed}: {done} random cases, nothing differs");
+        }
+        ["heap", cases, seed] => {
+            let (mut run, mut done) = (Run::on_heap(parse(seed)), 0);
+            while done < parse(cases) {
+                done = families::round(&mut run, done);
+            }
+            run.tally.print_whole();
+            println!("seed {seed}: {done} random cases on the heap, nothing differs");
         }
         ["family", name, cases, seed] => {
             let (start, mut run) = (Instant::now(), Run::new(parse(seed)));
@@ -99,8 +112,9 @@ fn main() {
 }
 
 fn usage() -> ! {
-    eprintln!("usage: driver quick | long [CASES | SECONDSs] [SEED] | random CASES SEED");
-    eprintln!("       driver family NAME CASES SEED | case SEED NUMBER | record FILE SEED");
+    eprintln!("usage: driver quick | long [CASES | SECONDSs | CALLScalls] [SEED]");
+    eprintln!("       driver random CASES SEED | heap CASES SEED | family NAME CASES SEED");
+    eprintln!("       driver case SEED NUMBER | record FILE SEED");
     exit(2)
 }
 
@@ -109,9 +123,12 @@ fn parse(text: &str) -> u64 {
 }
 
 fn parse_limit(text: &str) -> Limit {
-    match text.strip_suffix('s') {
-        Some(seconds) => Limit::Time(Duration::from_secs(parse(seconds))),
-        None => Limit::Cases(parse(text)),
+    if let Some(calls) = text.strip_suffix("calls") {
+        Limit::Calls(parse(calls))
+    } else if let Some(seconds) = text.strip_suffix('s') {
+        Limit::Time(Duration::from_secs(parse(seconds)))
+    } else {
+        Limit::Cases(parse(text))
     }
 }
 
@@ -119,7 +136,7 @@ fn parse_limit(text: &str) -> Limit {
 fn whole(seed: u64, limit: Limit, rounds: usize) {
     let start = Instant::now();
     println!("seed {seed}");
-    smoke::all(seed);
+    oracle::count::uncounted(|| smoke::all(seed));
     let mut run = Run::new(seed);
     exhaustive::all(&mut run, rounds);
     families::small_maps(&mut run);
@@ -128,12 +145,16 @@ fn whole(seed: u64, limit: Limit, rounds: usize) {
     while match limit {
         Limit::Cases(cases) => done < cases,
         Limit::Time(time) => start.elapsed() < time,
+        Limit::Calls(calls) => run.tally.calls < calls,
     } {
         done = families::round(&mut run, done);
     }
     run.tally.print();
-    let missing = run.tally.missing();
+    coverage::print();
+    let mut missing = run.tally.missing();
+    missing.extend(coverage::missing());
     missing.iter().for_each(|what| eprintln!("not tested: {what}"));
-    println!("{done} random cases; {:.1} s", start.elapsed().as_secs_f64());
+    let (calls, time) = (run.tally.calls, start.elapsed().as_secs_f64());
+    println!("{done} random cases, {calls} whole calls compared; {time:.1} s");
     exit(i32::from(!missing.is_empty()));
 }

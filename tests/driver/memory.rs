@@ -1,5 +1,6 @@
 //! Memory for the slices that a call is lent: each ends at a page that can't be touched, so that
-//! a read or write past the end stops the run; and slices of lengths that pass 32 bits.
+//! a read or write past the end stops the run; and slices of lengths that pass 32 bits. Or each is an
+//! allocation of its own, whose ends a tool like valgrind knows.
 
 use std::ffi::c_void;
 use std::sync::atomic::{AtomicU64, Ordering};
@@ -53,6 +54,26 @@ impl Guarded {
         assert!(length <= self.size, "the slice fits the mapping");
         // Within the mapping, which lives as long as the run, and lent once at a time.
         unsafe { std::slice::from_raw_parts_mut(self.start.add(self.size - length), length) }
+    }
+}
+
+/// Where a slice is taken from.
+pub enum Room {
+    Guarded(Guarded),
+    /// The last slice that was lent.
+    Heap(Box<[u8]>),
+}
+
+impl Room {
+    /// The last `length` bytes; on the heap, a new allocation of just that length.
+    pub fn last(&mut self, length: usize) -> &mut [u8] {
+        match self {
+            Room::Guarded(guarded) => guarded.last(length),
+            Room::Heap(slice) => {
+                *slice = vec![0; length].into_boxed_slice();
+                slice
+            }
+        }
     }
 }
 

@@ -23,7 +23,8 @@ pub fn compare(
         if expect::pairs(&accepted.partition) > MOST_PAIRS {
             continue;
         }
-        let groups = accepted.job.groups(&accepted.partition);
+        // These runs are not the call's.
+        let groups = oracle::count::uncounted(|| accepted.job.groups(&accepted.partition));
         note(call, &accepted, &groups, tally);
         plan(call, input, &accepted, &groups, lent, rng, tally)?;
         relistings(call, input, &groups, lent, rng, tally)?;
@@ -84,25 +85,32 @@ fn relistings(
     if other != answer {
         return Err("the Rust's answer depends on the listing".to_string());
     }
-    same(call, &again, &answer, lent)?;
+    same(call, &again, &answer, lent, tally)?;
     if call == REDUCE {
         // The same run as one of Reduce by list.
         let spans = relisted.boundaries.iter().map(|boundary| boundary.ends).collect();
         let listed = Values { spans, ..relisted.clone() }.draft().input();
-        same(BY_LIST, &listed, &answer, lent)?;
+        same(BY_LIST, &listed, &answer, lent, tally)?;
     }
     tally.see("relistings");
     merges(&values.boundaries, &relisted.boundaries, groups, &answer, rng, tally)
 }
 
 /// That the call gives these answer bytes.
-fn same(call: u32, input: &Input, answer: &[u8], lent: &mut Lent) -> Result<(), String> {
+fn same(
+    call: u32,
+    input: &Input,
+    answer: &[u8],
+    lent: &mut Lent,
+    tally: &mut Tally,
+) -> Result<(), String> {
     let Some(function) = TABLE.whole(call) else { return Ok(()) };
     let cells = u32::from_le_bytes(input.job[24..28].try_into().expect("four bytes"));
     let bases = u32::from_le_bytes(input.job[28..32].try_into().expect("four bytes"));
     let work = vec![0x77; expect::WORK * (bases - cells) as usize];
     let lent = lent.lend(&input.job, &input.list, &work, &vec![0x99; answer.len()]);
     let said = function(lent.job, lent.list, lent.work, lent.out);
+    tally.calls += 1;
     if said == (0, answer.len() as u64) && *lent.out == *answer {
         return Ok(());
     }

@@ -32,8 +32,17 @@ pub struct Run {
 
 impl Run {
     pub fn new(seed: u64) -> Self {
+        Self::with(seed, Lent::new())
+    }
+
+    /// A run whose slices are allocations of their own.
+    pub fn on_heap(seed: u64) -> Self {
+        Self::with(seed, Lent::on_heap())
+    }
+
+    fn with(seed: u64, lent: Lent) -> Self {
         memory::SEED.store(seed, Ordering::Relaxed);
-        Self { seed, tally: Tally::default(), lent: RefCell::new(Lent::new()), case: 0 }
+        Self { seed, tally: Tally::default(), lent: RefCell::new(lent), case: 0 }
     }
 
     /// The random numbers of the next case.

@@ -54,6 +54,8 @@ pub struct Tally {
     pub inputs: u64,
     /// For each call, how often a whole call was to end with each number.
     whole: [[u64; 24]; 3],
+    /// Whole calls compared, those on relistings among them.
+    pub calls: u64,
     seen_besides: BTreeMap<String, u64>,
 }
 
@@ -128,7 +130,8 @@ impl Tally {
     }
 
     pub fn print_whole(&self) {
-        println!("whole calls by number");
+        println!("whole calls compared, those on relistings among them: {}", self.calls);
+        println!("whole calls by number, without relistings");
         for (call, name) in CALLS.iter().enumerate() {
             let refused: u64 = (1..=17).filter(|&n| n != 13).map(|n| self.whole[call][n]).sum();
             let late = WHOLE.map(|n| format!(", {n}: {}", self.whole[call][n as usize])).concat();

@@ -61,6 +61,7 @@ fn one(
     let name = CALLS[call as usize];
     let lent = lent.lend(&input.job, &input.list, &work, &out);
     let said = function(lent.job, lent.list, lent.work, lent.out);
+    tally.calls += 1;
     if said != left.result {
         return Err(format!("{name}: expected {:?}, got {said:?}", left.result));
     }
