@@ -30,13 +30,19 @@ enum Order {
     Falling,
     Random,
     Equal,
+    Few,
+    Pairs,
+    Scales,
 }
 
-const ORDERS: [(Order, &str); 4] = [
+const ORDERS: [(Order, &str); 7] = [
     (Order::Rising, "rising"),
     (Order::Falling, "falling"),
     (Order::Random, "in random order"),
     (Order::Equal, "all equal"),
+    (Order::Few, "of four kinds"),
+    (Order::Pairs, "of 64 by 64 kinds"),
+    (Order::Scales, "of every size from 1 to 32 binary digits"),
 ];
 
 /// Numbers in an order.
@@ -47,6 +53,9 @@ fn numbers(count: usize, order: Order, rng: &mut Rng) -> Vec<u32> {
             Order::Falling => count as u32 - i,
             Order::Random => rng.word(),
             Order::Equal => 7,
+            Order::Few => rng.within(0, 3),
+            Order::Pairs => rng.within(0, 63) << 16 | rng.within(0, 63),
+            Order::Scales => rng.word() >> rng.within(0, 31),
         })
         .collect()
 }
@@ -99,7 +108,8 @@ const SIDE: u32 = 32;
 fn sources(side: u32, count: usize, order: Order, holders: usize) -> Draft {
     let mut rng = Rng::new(19);
     let mut draft = job(side, Shape::Open, holders.max(4), 0);
-    draft.sources = numbers(count, order, &mut rng).into_iter().map(|i| [i / 3, i]).collect();
+    let halves = |i: u32| if order == Order::Pairs { [i >> 16, i & 0xffff] } else { [i / 3, i] };
+    draft.sources = numbers(count, order, &mut rng).into_iter().map(halves).collect();
     for (i, boundary) in draft.boundaries.iter_mut().take(holders).enumerate() {
         boundary.sources = ((i + 1) * count / holders - i * count / holders) as u32;
     }
@@ -139,7 +149,7 @@ pub fn families() -> Vec<Family> {
         family(
             "cells of an open map, 4 boundaries".to_string(),
             "cells",
-            (5..=10).map(|i| 1 << (2 * i)),
+            (3..=10).map(|i| 1 << (2 * i)),
             |cells| job(side(cells), Shape::Open, 4, 8),
         ),
         family(

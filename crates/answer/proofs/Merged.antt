@@ -35,7 +35,7 @@ use Rattle.merging.specs.Consolidation.{orItself, observed, consolidate}
 use Rattle.merging.specs.Kept.{noBoundary, copyAt}
 use Rattle.merging.specs.Planned.{members, merged, planned}
 use Rattle.merging.specs.Sources.{ownSources}
-use Rattle.merging.proofs.Lists.{gather-append}
+use Rattle.order.proofs.Gather.{gather-last}
 use Rattle.merging.proofs.Copies.{source-order, observation-order}
 use Rattle.merging.proofs.Packed.{sources-fit}
 use Rattle.merging.specs.Keys.{observationKey}
@@ -301,8 +301,8 @@ module _ {bs : ℕ → BoundaryRecord} {os : ℕ → ObservationRecord} {ss : Li
 
 -- One boundary more.
 pub own-last : (ks : List Boundary) (k : Boundary) → ownSources (ks ++ (k ∷ [])) ≡ ownSources ks ++ k .sources
-unfolding ownSources gather
-own-last ks k = gather-append (λ (b : Boundary). b .sources) ks (k ∷ []) ∙ ap (λ (l : List Source). ownSources ks ++ l) (append-nil (k .sources))
+unfolding ownSources
+own-last ks k = gather-last (λ (b : Boundary). b .sources) ks k
 
 pub observations-last : (ks : List Boundary) (k : Boundary) → observationsOf (ks ++ (k ∷ [])) ≡ observationsOf ks ++ k .observations
 unfolding observationsOf flatMap

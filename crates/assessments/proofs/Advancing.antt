@@ -1,7 +1,7 @@
 -- One more step assessed, and steps one after another.
 use mathlib.Core.Path.{_≡_, refl, sym, _∙_, ap, ap₂, subst}
 use mathlib.Core.Bool.{true, false, cond}
-use mathlib.Core.List.{List, [], _∷_, _++_, map, append-assoc}
+use mathlib.Core.List.{List, [], _∷_, _++_, map, append-assoc, append-nil}
 use Prim.Native.Nat.{ℕ, suc, _+_, _*_, _-_, _≤_, _<_, min, max}
 use native.Mathlib.Omega.{arith}
 use borrow.Author.Tests.{eq-eqb, ne-eqb}
@@ -11,6 +11,7 @@ use Rattle.wire.specs.Bytes.{u32At}
 use Rattle.order.specs.Lists.{keep, gather, upFrom}
 use Rattle.order.specs.Keys.{byKey, sortOnceBy}
 use Rattle.order.specs.Sorting.{include}
+use Rattle.order.proofs.Gather.{gather-last}
 use Rattle.order.proofs.Keep.{keep-append}
 use Rattle.graph.specs.Path.{Edge}
 use Rattle.areas.specs.Areas.{labelAt}
@@ -23,10 +24,6 @@ use Rattle.assessments.specs.Holding.{labelsOf, Listed, Holds, Advances,
 use Rattle.assessments.proofs.Including.{once-last}
 use Rattle.assessments.proofs.Listing.{listed-put}
 use Rattle.order.proofs.Numbers.{up-last}
-
-pub nil-right : {A : Type 0} (l : List A) → l ++ [] ≡ l
-nil-right [] = refl
-nil-right (x ∷ xs) = ap (λ t. x ∷ t) (nil-right xs)
 
 pub map-append : {A B : Type 0} (f : A → B) (l m : List A) → map f (l ++ m) ≡ map f l ++ map f m
 map-append f [] m = refl
@@ -42,7 +39,7 @@ module _ (ls : List ℕ) (ds : List Edge) (e : Edge) where
   unfolding keep
   kept-same h =
       let f : isSeparated ls e ≡ false = rw (eq-eqb (labelAt ls (e .left)) (labelAt ls (e .right)) h) in
-      keep-append (isSeparated ls) ds (e ∷ []) ∙ (ap (λ (b : _). keep (isSeparated ls) ds ++ cond b (e ∷ []) []) f ∙ nil-right (keep (isSeparated ls) ds))
+      keep-append (isSeparated ls) ds (e ∷ []) ∙ (ap (λ (b : _). keep (isSeparated ls) ds ++ cond b (e ∷ []) []) f ∙ append-nil (keep (isSeparated ls) ds))
 
   kept-more : (labelAt ls (e .left) ≡ labelAt ls (e .right) → ⊥) → keep (isSeparated ls) (ds ++ (e ∷ [])) ≡ keep (isSeparated ls) ds ++ (e ∷ [])
   unfolding keep
@@ -62,7 +59,7 @@ module _ (ls : List ℕ) (ds : List Edge) (e : Edge) where
 -- no step
 pub advance-none : (ls : List ℕ) {es : List Edge} {start : ℕ} {lefts rights : List ℕ} {s : Assessed} → es ≡ [] → Advances ls es start lefts rights s lefts rights s
 advance-none ls {es} {start} {lefts} {rights} {s} h lefts₀ rights₀ ds was =
-    subst (λ (z : List Edge). Holds (assessment ls z) lefts₀ rights₀ start lefts rights s) (sym (ap (λ (z : List Edge). ds ++ z) h ∙ nil-right ds)) was
+    subst (λ (z : List Edge). Holds (assessment ls z) lefts₀ rights₀ start lefts rights s) (sym (ap (λ (z : List Edge). ds ++ z) h ∙ append-nil ds)) was
 
 module _ (ls : List ℕ) (e : Edge) {start : ℕ} {lefts rights : List ℕ} {s : Assessed} where
   -- a step whose labels are equal
@@ -89,12 +86,6 @@ module _ (ls : List ℕ) (e : Edge) {start : ℕ} {lefts rights : List ℕ} {s :
         (ap (λ (q : RegionPair). include (byKey pairKey) q (assessment ls ds .pairs)) ep ∙ sym (pairs-more ls ds e h))
         (listed-put (map (labelPair ls) (keep (isSeparated ls) ds)) (was .pairs) p late ins);
   }
-
--- the numbers of a row, the last one last
-gather-last : {A B : Type 0} (f : A → List B) (l : List A) (x : A) → gather f (l ++ (x ∷ [])) ≡ gather f l ++ f x
-unfolding gather
-gather-last f [] x = nil-right (f x)
-gather-last f (y ∷ ys) x = ap (λ t. f y ++ t) (gather-last f ys x) ∙ sym (append-assoc (f y) (gather f ys) (f x))
 
 -- A loop over k from first on, each turn of which assesses the steps f k: at k the steps before it are assessed, at most m.
 pub record Going (ls : List ℕ) (f : ℕ → List Edge) (first start : ℕ) (lefts₀ rights₀ : List ℕ) (s₀ : Assessed) (lefts rights : List ℕ) (s : Assessed) (k m : ℕ) : Type 0 where

@@ -1,7 +1,7 @@
 -- The records of the spans, span by span.
 use mathlib.Core.Path.{_≡_, refl, sym, _∙_, ap, ap₂, subst}
 use mathlib.Core.Logic.{by-cases}
-use mathlib.Core.List.{List, [], _∷_, _++_, map, append-assoc}
+use mathlib.Core.List.{List, [], _∷_, _++_, map, append-assoc, append-nil}
 use Prim.Native.Nat.{ℕ, zero, suc, _+_, _-_, _≤_, _<_}
 use native.Mathlib.Omega.{arith}
 use native.Mathlib.Numerals.{add-one}
@@ -22,7 +22,7 @@ use Rattle.assessments.specs.Stored.{at, pairAt}
 use Rattle.assessments.specs.Holding.{pairsIn, Holds}
 use Rattle.assessments.specs.Visits.{OnMap}
 use Rattle.assessments.specs.Recording.{recordsIn, assessed, recordsOf, Counted, Recorded, SpansOnMap, Arrays, Filled}
-use Rattle.assessments.proofs.Advancing.{nil-right, map-append}
+use Rattle.assessments.proofs.Advancing.{map-append}
 
 -- with the areas' labels these are the records of the areas
 pub records-are : (dirs : List ℕ) (g : Grid) (ss : List Span) → recordsOf (areaLabels dirs g ss) dirs g ss ≡ records dirs g ss
@@ -31,7 +31,7 @@ records-are dirs g ss = refl
 
 owned-last : (i : ℕ) (pss : List (List RegionPair)) (ps : List RegionPair) → owned i (pss ++ (ps ∷ [])) ≡ owned i pss ++ map (recordOf (i + length pss)) ps
 unfolding owned
-owned-last i [] ps = let e : i ≡ i + 0 = omega arith in nil-right (map (recordOf i) ps) ∙ ap (λ (k : ℕ). map (recordOf k) ps) e
+owned-last i [] ps = let e : i ≡ i + 0 = omega arith in append-nil (map (recordOf i) ps) ∙ ap (λ (k : ℕ). map (recordOf k) ps) e
 owned-last i (qs ∷ pss) ps =
     let e : suc i + length pss ≡ i + suc (length pss) = omega arith in
     ap (λ (t : List Record). map (recordOf i) qs ++ t) (owned-last (suc i) pss ps ∙ ap (λ (k : ℕ). owned (suc i) pss ++ map (recordOf k) ps) e)

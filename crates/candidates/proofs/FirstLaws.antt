@@ -14,7 +14,7 @@ use lib.Seq.{getD-set-same, getD-set-other}
 use Rattle.lists.specs.Rows.{rows}
 use Rattle.lists.proofs.Rows.{rows-last, length-rows}
 use Rattle.order.specs.Lists.{keep}
-use Rattle.order.proofs.Keep.{keep-append}
+use Rattle.order.proofs.Keep.{keep-append, keep-length}
 use Rattle.graph.specs.Records.{Record}
 use Rattle.candidates.specs.Owners.{recordIn, noRecord, ofOwner, Firsts}
 
@@ -103,16 +103,8 @@ module _ (owners lefts rights : List ℕ) (k : ℕ) {counts lowers highers : Lis
 
 -- an owner has no more records than there are
 own-few : (f : ℕ → Record) (k i : ℕ) → length (ofOwner f k i) ≤ k
-unfolding ofOwner keep rows
-own-few f k i = omega (arith, kept-few (rows k f), length-rows k f)
-  where
-    kept-few : (l : List Record) → length (keep (λ (r : Record). eqb (r .owner) i) l) ≤ length l
-    kept-few [] = omega arith
-    kept-few (x ∷ xs) = go (eqb (x .owner) i) (kept-few xs)
-      where
-        go : (b : Bool) → length (keep (λ (r : Record). eqb (r .owner) i) xs) ≤ length xs → length (cond b (x ∷ keep (λ (r : Record). eqb (r .owner) i) xs) (keep (λ (r : Record). eqb (r .owner) i) xs)) ≤ suc (length xs)
-        go true e = omega arith
-        go false e = omega arith
+unfolding ofOwner
+own-few f k i = omega (arith, keep-length (λ (r : Record). eqb (r .owner) i) (rows k f), length-rows k f)
 
 pub count-few : {owners lefts rights : List ℕ} {k : ℕ} {counts lowers highers : List ℕ} → Firsts owners lefts rights k counts lowers highers → k ≤ 4096 → (i : ℕ) → i < 256 → getD counts i 0 ≤ 4096
 count-few {owners} {lefts} {rights} {k} h l i m = omega (arith, h .counts-are i m, own-few (recordIn owners lefts rights) k i)

@@ -21,7 +21,7 @@ use Rattle.answer.proofs.Lays.{below-next}
 use Rattle.gathering.specs.Runs.{Added, going, ownAt, ownRun, ownWeight, into}
 use Rattle.gathering.specs.Room.{OwnRoom}
 use Rattle.gathering.proofs.Fills.{up-next, added-none, added-is, added-then, added-once}
-use Rattle.merging.proofs.Lists.{gather-append}
+use Rattle.order.proofs.Gather.{gather-append}
 
 -- What a test takes of one more number.
 pub keep-last : (t : ℕ → Bool) (j : ℕ) → keep t (upFrom 0 (j + 1)) ≡ keep t (upFrom 0 j) ++ cond (t j) (j ∷ []) []

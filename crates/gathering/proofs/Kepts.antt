@@ -13,7 +13,7 @@ use Rattle.gathering.specs.Runs.{Filled, Added, keptRanks, ownRun, seenR
 use Rattle.gathering.proofs.Fills.{filled-start, filled-is, filled-put, filled-then}
 use Rattle.gathering.proofs.Goings.{keep-last}
 use Rattle.gathering.proofs.Weights.{lower-next}
-use Rattle.merging.proofs.Lists.{gather-append}
+use Rattle.order.proofs.Gather.{gather-last}
 
 ranks-none : (plan : List ℕ) → keptRanks plan 0 ≡ []
 unfolding keptRanks keep upFrom
@@ -26,10 +26,6 @@ ranks-last plan i = keep-last (λ j. eqb (getD plan j 0) j) i
 map-one : (f : ℕ → ℕ) (l : List ℕ) (i : ℕ) → map f (l ++ (i ∷ [])) ≡ map f l ++ (f i ∷ [])
 map-one f [] i = refl
 map-one f (x ∷ l) i = ap (λ (t : List ℕ). f x ∷ t) (map-one f l i)
-
-gather-one-more : (f : ℕ → List ℕ) (l : List ℕ) (i : ℕ) → gather f (l ++ (i ∷ [])) ≡ gather f l ++ f i
-unfolding gather
-gather-one-more f l i = gather-append f l (i ∷ []) ∙ ap (λ (t : List ℕ). gather f l ++ t) (append-nil (f i))
 
 module _ (plan : List ℕ) (i : ℕ) {z : ℕ} (e : z ≡ getD plan i 0) where
   module _ (d : z ≡ i → ⊥) where
@@ -59,7 +55,7 @@ module _ (plan : List ℕ) (i : ℕ) {z : ℕ} (e : z ≡ getD plan i 0) where
         (ap (λ (y : ℕ). map f (keptRanks plan i) ++ (y ∷ [])) q ∙ (sym (map-one f (keptRanks plan i) i) ∙ ap (map f) (sym ranks-on)))
 
     then-on : {l m : List ℕ} {a r : ℕ} (f : ℕ → List ℕ) → Filled l a (gather f (keptRanks plan i)) → Added l a (f i) m r → Filled m r (gather f (keptRanks plan (i + 1)))
-    then-on f a g = filled-is (filled-then a g) refl (sym (gather-one-more f (keptRanks plan i) i) ∙ ap (gather f) (sym ranks-on))
+    then-on f a g = filled-is (filled-then a g) refl (sym (gather-last f (keptRanks plan i) i) ∙ ap (gather f) (sym ranks-on))
 
 module _ (order plan starts counts keys : List ℕ) (n : ℕ) where
   abbrev run : ℕ → List ℕ

@@ -15,7 +15,8 @@ use Rattle.groups.specs.Tests.{every}
 use Rattle.topology.specs.Listing.{Item}
 use Rattle.groups.specs.Groups.{Group}
 use Rattle.groups.specs.SimplePath.{degree, endsOf, firstEnd, lastEnd, isPath, outerRegion, simplePath, IsSimplePath}
-use Rattle.groups.proofs.Tests.{every-mem, mem-every, keep-length}
+use Rattle.groups.proofs.Tests.{every-mem, mem-every}
+use Rattle.order.proofs.Keep.{keep-length}
 
 module _ (limits : Limits) (dirs : List ℕ) (g : Grid) (l : List Item) (least : ℕ) (a : Group) where
   pub simple-path-iff : (simplePath limits dirs g l least a ≡ true) ↔ IsSimplePath limits dirs g l least a

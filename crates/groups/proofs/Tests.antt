@@ -1,12 +1,10 @@
--- Laws of the tests of a list's members, and of how many pass one.
+-- Laws of the tests of a list's members.
 use mathlib.Core.Path.{_≡_, refl}
 use mathlib.Core.Logic.{⊎-elim}
-use mathlib.Core.Bool.{Bool, true, false, cond}
+use mathlib.Core.Bool.{Bool, true}
 use mathlib.Core.List.{List, [], _∷_, List·Memᴰ, List·Memᴰ·head, List·Memᴰ·tail}
-use Prim.Native.Nat.{suc, _≤_}
 use native.Mathlib.Omega.{arith}
 use lib.ListN.{length, getD}
-use Rattle.order.specs.Lists.{keep}
 use Rattle.order.proofs.Bools.{clash, and-parts, and-both, or-cases, or-right}
 use Rattle.groups.specs.Tests.{every, any}
 
@@ -33,15 +31,6 @@ module _ {A : Type 0} (t : A → Bool) where
       ⊎-elim (λ (e : t y ≡ true). (y, List·Memᴰ·head refl, e))
       (λ (e : any t ys ≡ true). let w = any-mem ys e in (w .0, List·Memᴰ·tail (w .1), w .2))
       (or-cases (t y) (any t ys) h)
-
-  pub keep-length : (l : List A) → length (keep t l) ≤ length l
-  unfolding keep
-  keep-length [] = omega arith
-  keep-length (x ∷ xs) = go (t x) (keep-length xs)
-    where
-      go : (s : Bool) → length (keep t xs) ≤ length xs → length (cond s (x ∷ keep t xs) (keep t xs)) ≤ suc (length xs)
-      go true h = omega arith
-      go false h = omega arith
 
 -- a list of two
 pub two-members : {A : Type 0} (l : List A) (d : A) → length l ≡ 2 → l ≡ getD l 0 d ∷ getD l 1 d ∷ []

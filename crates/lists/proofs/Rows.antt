@@ -1,10 +1,11 @@
 -- Laws of rows and of sums.
-use mathlib.Core.Path.{_≡_, refl, _∙_, ap}
+use mathlib.Core.Path.{_≡_, refl, sym, _∙_, ap}
 use mathlib.Core.List.{List, [], _∷_, _++_, map, List·Permᴰ, List·Permᴰ·nil, List·Permᴰ·cons, List·Permᴰ·swap, List·Permᴰ·trans}
 use Prim.Native.Nat.{ℕ, zero, suc, _+_, _-_, _≤_, _<_}
 use native.Mathlib.Nat.{zero-add, suc-add}
 use native.Mathlib.Omega.{arith}
-use lib.ListN.{length, getD, replicate}
+use lib.ListN.{length, getD, take, drop, replicate, take-append-drop}
+use lib.Seq.{take-suc}
 use Rattle.lists.specs.Rows.{rows, sum, more}
 
 module _ {A : Type 0} where
@@ -53,6 +54,16 @@ pub sum-append : (xs ys : List ℕ) → sum (xs ++ ys) ≡ sum xs + sum ys
 unfolding sum
 sum-append [] ys = omega arith
 sum-append (x ∷ xs) ys = let e : sum (xs ++ ys) ≡ sum xs + sum ys = sum-append xs ys in omega arith
+
+-- One more member adds its number; a front part adds up to no more than the whole.
+pub sum-take : (xs : List ℕ) (n : ℕ) → n < length xs → sum (take (suc n) xs) ≡ sum (take n xs) + getD xs n 0
+unfolding sum
+sum-take xs n h = rw (take-suc xs n 0 h) (sum-append (take n xs) (getD xs n 0 ∷ []) ∙ omega arith)
+
+pub sum-front : (xs : List ℕ) (n : ℕ) → sum (take n xs) ≤ sum xs
+sum-front xs n =
+    let e : sum xs ≡ sum (take n xs) + sum (drop n xs) = ap sum (sym (take-append-drop n xs)) ∙ sum-append (take n xs) (drop n xs) in
+    omega arith
 
 -- One more row adds its number.
 pub sum-last : (n : ℕ) (f : ℕ → ℕ) → sum (rows (suc n) f) ≡ sum (rows n f) + f n

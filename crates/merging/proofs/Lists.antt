@@ -2,7 +2,7 @@
 use mathlib.Core.Path.{_≡_, refl, ap}
 use mathlib.Core.Logic.{⊎-elim}
 use mathlib.Core.Bool.{Bool, false}
-use mathlib.Core.List.{List, [], _∷_, _++_, map, flatMap, append-assoc, List·Memᴰ, List·Memᴰ·append-cases, Memᴰ·append-left, Memᴰ·append-right, List·Permᴰ, Permᴰ·refl}
+use mathlib.Core.List.{List, [], _∷_, _++_, map, flatMap, List·Memᴰ, List·Memᴰ·append-cases, Memᴰ·append-left, Memᴰ·append-right, List·Permᴰ, Permᴰ·refl}
 use Rattle.order.specs.Orders.{same, Told}
 use Rattle.order.specs.Lists.{gather}
 use Rattle.order.specs.Pairs.{SameMembers}
@@ -33,11 +33,6 @@ module _ {A B : Type 0} (f : A → List B) where
   unfolding flatMap gather
   flat-gather [] = refl
   flat-gather (x ∷ xs) = ap (λ (k : List B). f x ++ k) (flat-gather xs)
-
-  pub gather-append : (l m : List A) → gather f (l ++ m) ≡ gather f l ++ gather f m
-  unfolding gather
-  gather-append [] m = refl
-  gather-append (x ∷ xs) m = rw (gather-append xs m, append-assoc)
 
   -- A change of the members that keeps what each gives.
   pub gather-changed : (h : A → A) → ((x : A) → SameMembers (f (h x)) (f x)) → (l : List A) → SameMembers (gather f (map h l)) (gather f l)

@@ -13,7 +13,7 @@ use Rattle.order.proofs.Members.{getD-mem, mem-getD, perm-members, members-sym,
 use Rattle.order.proofs.Keep.{keep-mem, mem-keep, keep-split}
 use Rattle.order.proofs.Bools.{by-test}
 use Rattle.order.proofs.Numbers.{up-mem, mem-up}
-use Rattle.order.proofs.Gather.{gather-mem, mem-gather, gather-perm}
+use Rattle.order.proofs.Gather.{gather-append, gather-mem, mem-gather, gather-perm}
 use Rattle.order.proofs.Sort.{sort-perm}
 use Rattle.order.proofs.Once.{once-members}
 use Rattle.format.specs.Values.{Observation, Boundary}
@@ -27,7 +27,7 @@ use Rattle.merging.specs.Kept.{noBoundary, copyAt, membersOf, consolidat
 use Rattle.merging.specs.Follows.{replaced}
 use Rattle.merging.specs.Merging.{isMember, taken, left, MergeStep, Merges, done, merge, Throughout}
 use Rattle.merging.specs.Sources.{ownSources, SameSources}
-use Rattle.merging.proofs.Lists.{members-refl, members-eq, append-members, flat-gather, gather-append, gather-changed}
+use Rattle.merging.proofs.Lists.{members-refl, members-eq, append-members, flat-gather, gather-changed}
 use Rattle.merging.proofs.Copies.{source-order}
 use Rattle.merging.proofs.Groups.{any-group}
 use Rattle.merging.proofs.Kept.{kept-whole}

@@ -1,7 +1,7 @@
 -- Laws of `gather`.
-use mathlib.Core.Path.{refl, subst}
+use mathlib.Core.Path.{_≡_, refl, _∙_, ap, subst}
 use mathlib.Core.Logic.{⊎-elim}
-use mathlib.Core.List.{List, [], _∷_, _++_, append-assoc, List·Memᴰ, List·Memᴰ·head, List·Memᴰ·tail, List·Memᴰ·not-nil, List·Memᴰ·append-cases, Memᴰ·append-left, Memᴰ·append-right, List·Permᴰ, List·Permᴰ·nil, List·Permᴰ·cons, List·Permᴰ·swap, List·Permᴰ·trans, Permᴰ·append-left, Permᴰ·append-right, List·Permᴰ·append-comm}
+use mathlib.Core.List.{List, [], _∷_, _++_, append-assoc, append-nil, List·Memᴰ, List·Memᴰ·head, List·Memᴰ·tail, List·Memᴰ·not-nil, List·Memᴰ·append-cases, Memᴰ·append-left, Memᴰ·append-right, List·Permᴰ, List·Permᴰ·nil, List·Permᴰ·cons, List·Permᴰ·swap, List·Permᴰ·trans, Permᴰ·append-left, Permᴰ·append-right, List·Permᴰ·append-comm}
 use Rattle.order.specs.Lists.{gather}
 use Rattle.order.specs.Pairs.{Pairs, none, more}
 use Rattle.order.proofs.Pairs.{pairs-append}
@@ -11,6 +11,16 @@ perm-front : {A : Type 0} (l m n : List A) → List·Permᴰ (l ++ (m ++ n)) (m 
 perm-front l m n = rw (← append-assoc l m n, ← append-assoc m l n) (Permᴰ·append-right n (List·Permᴰ·append-comm l m))
 
 module _ {A B : Type 0} (f : A → List B) where
+  pub gather-append : (l m : List A) → gather f (l ++ m) ≡ gather f l ++ gather f m
+  unfolding gather
+  gather-append [] m = refl
+  gather-append (x ∷ xs) m = rw (gather-append xs m, append-assoc)
+
+  -- the last one last
+  pub gather-last : (l : List A) (x : A) → gather f (l ++ (x ∷ [])) ≡ gather f l ++ f x
+  unfolding gather
+  gather-last l x = gather-append l (x ∷ []) ∙ ap (λ (m : List B). gather f l ++ m) (append-nil (f x))
+
   pub gather-mem : (l : List A) {y : B} → List·Memᴰ y (gather f l) → (x : A) × List·Memᴰ x l × List·Memᴰ y (f x)
   unfolding gather
   gather-mem [] n = absurd (List·Memᴰ·not-nil n)
@@ -37,3 +47,15 @@ module _ {A B : Type 0} (f : A → List B) where
   gather-pairs o none = none
   gather-pairs o (more {x = x} {xs = xs} g t) =
       pairs-append (o x) (gather-pairs o t) (λ b c m n. let r = gather-mem xs n in g (r .0) (r .1) b c m (r .2))
+
+-- lists that agree, or are permuted, for each member
+module _ {A B : Type 0} (f g : A → List B) where
+  pub gather-ext : (l : List A) → ((x : A) → List·Memᴰ x l → f x ≡ g x) → gather f l ≡ gather g l
+  unfolding gather
+  gather-ext [] h = refl
+  gather-ext (x ∷ xs) h = rw (h x (List·Memᴰ·head refl), gather-ext xs (λ y n. h y (List·Memᴰ·tail n)))
+
+  pub gather-perms : ((x : A) → List·Permᴰ (f x) (g x)) → (l : List A) → List·Permᴰ (gather f l) (gather g l)
+  unfolding gather
+  gather-perms h [] = List·Permᴰ·nil
+  gather-perms h (x ∷ xs) = List·Permᴰ·trans (Permᴰ·append-right (gather f xs) (h x)) (Permᴰ·append-left (g x) (gather-perms h xs))

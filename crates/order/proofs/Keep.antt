@@ -3,7 +3,7 @@ use mathlib.Core.Path.{_≡_, refl, ap}
 use mathlib.Core.Logic.{_↔_}
 use mathlib.Core.Bool.{Bool, true, false, cond, not, _&&_, _||_}
 use mathlib.Core.List.{List, [], _∷_, _++_, map, List·Memᴰ, List·Memᴰ·head, List·Memᴰ·tail, List·Memᴰ·not-nil, List·Permᴰ, List·Permᴰ·nil, List·Permᴰ·cons, List·Permᴰ·swap, List·Permᴰ·trans, Permᴰ·refl, Permᴰ·symm, Permᴰ·middle}
-use Prim.Native.Nat.{_+_, _<_}
+use Prim.Native.Nat.{suc, _+_, _≤_, _<_}
 use native.Mathlib.Omega.{arith}
 use lib.ListN.{length}
 use Rattle.order.specs.Lists.{keep}
@@ -34,6 +34,16 @@ module _ {A : Type 0} where
       go : (s : Bool) → List·Memᴰ y (keep t xs) → List·Memᴰ y (cond s (x ∷ keep t xs) (keep t xs))
       go true k = List·Memᴰ·tail k
       go false k = k
+
+  -- no more are kept than there are
+  pub keep-length : (t : A → Bool) (l : List A) → length (keep t l) ≤ length l
+  unfolding keep
+  keep-length t [] = omega arith
+  keep-length t (x ∷ xs) = go (t x) (keep-length t xs)
+    where
+      go : (s : Bool) → length (keep t xs) ≤ length xs → length (cond s (x ∷ keep t xs) (keep t xs)) ≤ suc (length xs)
+      go true h = omega arith
+      go false h = omega arith
 
   pub keep-append : (t : A → Bool) (l m : List A) → keep t (l ++ m) ≡ keep t l ++ keep t m
   unfolding keep

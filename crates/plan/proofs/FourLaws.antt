@@ -10,7 +10,7 @@ use lib.Dec.{eqb}
 use lib.ListN.{length, getD, length-map}
 use Rattle.order.specs.Lists.{keep, upFrom}
 use Rattle.order.proofs.Numbers.{up-length}
-use Rattle.groups.proofs.Tests.{keep-length}
+use Rattle.order.proofs.Keep.{keep-length}
 use Rattle.plan.specs.declared.four.Four.{Four}
 use Rattle.plan.specs.Four.{held, pushed, slot, listed, Below}
 

@@ -9,14 +9,13 @@ use lib.Ieee.{le}
 use lib.ListN.{length, getD}
 use Rattle.order.specs.Lists.{keep, upFrom}
 use Rattle.order.proofs.Bools.{by-test, clash, and-parts}
-use Rattle.order.proofs.Keep.{keep-mem}
+use Rattle.order.proofs.Keep.{keep-mem, keep-length}
 use Rattle.order.proofs.Numbers.{up-mem, up-length}
 use Rattle.areas.specs.Spans.{spanIn}
 use Rattle.links.specs.Limits.{Limits}
 use Rattle.links.specs.Geometry.{centreDistance}
 use Rattle.groups.specs.Tests.{every}
 use Rattle.groups.specs.Flat.{leastFlatSpans}
-use Rattle.groups.proofs.Tests.{keep-length}
 use Rattle.plan.specs.declared.four.Four.{Four}
 use Rattle.plan.specs.Four.{held, listed}
 use Rattle.plan.specs.Arrays.{at, isOn, Ranked}

@@ -15,7 +15,7 @@ use Rattle.areas.specs.Spans.{spanIn}
 use Rattle.topology.specs.FullPair.{otherRegion}
 use Rattle.topology.specs.Numbers.{pairOf}
 use Rattle.groups.specs.Tests.{every}
-use Rattle.groups.proofs.Tests.{keep-length}
+use Rattle.order.proofs.Keep.{keep-length}
 use Rattle.links.specs.Limits.{Limits}
 use Rattle.links.specs.Sums.{noLater, ascendingSum, distanceSum}
 use Rattle.links.specs.Held.{SpanBounded, Number}
