@@ -198,6 +198,9 @@ pub fn measure_links(
     ensures work { λ _. ⌜ now (work .exit) ≡ now (work .entry) ⌝ }
     ensures marks { λ _. ⌜ Measured (limitsOf limits) (now (own .entry)) (now (bits .entry)) (now (regions .entry)) (now (firsts .entry)) (now (seconds .entry)) (record { width = width; height = height; cells = now (cells .entry) }) (labelsOf (now (work .entry)) (length (now (cells .entry)))) links (now (passing .exit)) (now (flat .exit)) ⌝ }
 {
+    if links == 0 {
+        return;
+    }
     let n = cells.len();
     let count = links as u32;
     number_all(work, n, regions, count);
