@@ -13,7 +13,7 @@ use Rattle.bridges.proofs.Zeros.{Upd, zeros-pos, zeros-upd, zeros-le}
 use Rattle.bridges.specs.Walk.{zeros, Joins, forth, back, Touches, First, Parted, Walk}
 use Rattle.bridges.proofs.Moves.{scan-parent, scan-seen, push, pop, pop-root, is-bridge, not-bridge, step-on, nothing, end}
 use Rattle.bridges.specs.Slices.{at, pick, put, Graph, Owners, Sized, PartedBy, Sound, Told, Stacked, Held, Between, choose, marking}
-use Rattle.bridges.specs.declared.Frame.{Frame}
+use Rattle.bridges.specs.declared.frame.Frame.{Frame}
 use Rattle.bridges.proofs.Retell.{retell}
 
 pub put-at : (f : ℕ → ℕ) (i v : ℕ) → put f i v i ≡ v
