@@ -3,7 +3,7 @@ use native.Mathlib.Omega.{arith}
 use Prim.Native.Nat.{ℕ}
 use lib.ListN.{set}
 use Rattle.bridges.specs.Slices.{at}
-use Rattle.bridges.proofs.Turn.{mark-set, mark-kept}
+use Rattle.bridges.proofs.Leaving.{mark-set, mark-kept}
 use borrow.Author.Needs.{needs}
 use Rattle.bridges.proofs.stack.leave.Statement.{statement}
 use Rattle.bridges.proofs.stack.leave.Tie as tie

@@ -1,6 +1,6 @@
 use mathlib.Core.Path.{refl, _∙_}
 use native.Mathlib.Omega.{arith}
-use Rattle.bridges.proofs.Turn.{passed}
+use Rattle.bridges.proofs.Roots.{passed}
 use borrow.Author.Needs.{needs}
 use Rattle.bridges.proofs.walk.visit.Statement.{statement}
 use Rattle.bridges.proofs.walk.visit.Tie as tie

@@ -9,7 +9,11 @@ use Rattle.bridges.specs.Walk.{zeros, Joins, First}
 use Rattle.bridges.specs.Slices.{at}
 use Rattle.bridges.specs.declared.frame.Frame.{Frame}
 use Rattle.bridges.proofs.Chains.{follows, follows-as}
-use Rattle.bridges.proofs.Turn.{Loop, Hand, Stop, take, skipped, seen, end-in, set-as, rooted, ended, recast, high, unrolled, roomy, timely, falls, found-at, leaving, left-at, emptied-at}
+use Rattle.bridges.proofs.Puts.{set-as}
+use Rattle.bridges.proofs.Turn.{Loop, Hand, Stop, take, skipped, seen, end-in, recast}
+use Rattle.bridges.proofs.Entering.{rooted}
+use Rattle.bridges.proofs.Heights.{high, unrolled, roomy, timely, falls, found-at, leaving, left-at, emptied-at}
+use Rattle.bridges.proofs.Roots.{ended}
 use Rattle.bridges.proofs.walk.walk.Statement.{statement}
 use Rattle.bridges.proofs.walk.walk.Tie as tie
 use Rattle.bridges.proofs.walk.walk.Reads as reads

@@ -3,7 +3,7 @@ use native.Mathlib.Omega.{arith}
 use Prim.Native.Nat.{_-_, _≤_}
 use borrow.Author.Needs.{needs}
 use Rattle.bridges.specs.Slices.{Between}
-use Rattle.bridges.proofs.Turn.{cleared}
+use Rattle.bridges.proofs.Roots.{cleared}
 use Rattle.bridges.proofs.Meaning.{answered}
 use Rattle.bridges.proofs.walk.walk_all.Statement.{statement}
 use Rattle.bridges.proofs.walk.walk_all.Tie as tie
