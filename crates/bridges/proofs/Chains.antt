@@ -9,7 +9,7 @@ use lib.ListN.{length, set, length-set, replicate, length-replicate, getD-replic
 use lib.Seq.{getD-set-same, getD-set-other}
 use Rattle.bridges.specs.Walk.{Touches, First}
 use Rattle.bridges.specs.Slices.{at, Graph, Linked}
-use Rattle.bridges.specs.declared.Frame.{Frame}
+use Rattle.bridges.specs.declared.frame.Frame.{Frame}
 
 -- what follows record j in the chain of a region that it touches
 pub follows : {K : ℕ} {lefts rights heads leftNexts rightNexts : List ℕ} → Linked K lefts rights heads leftNexts rightNexts 0 →

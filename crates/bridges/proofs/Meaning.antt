@@ -20,7 +20,7 @@ use Rattle.bridges.specs.Walk.{Joins, forth, back, Without}
 use Rattle.bridges.specs.Slices.{at, PartedBy, Sound, Between}
 use Rattle.bridges.specs.Marks.{recordsOf, bridgeMarks}
 use Rattle.bridges.proofs.Steps.{moved}
-use Rattle.bridges.proofs.Turn.{finished}
+use Rattle.bridges.proofs.Roots.{finished}
 
 -- a list is made of its own values
 list-rows : (l : List ℕ) (f : ℕ → ℕ) → ((i : ℕ) → i < length l → at l i ≡ f i) → l ≡ rows (length l) f

@@ -10,7 +10,7 @@ use lib.Seq.{getD-set-same, getD-set-other}
 use Rattle.wire.specs.Bytes.{splice, u32At, u32Bytes}
 use Rattle.bridges.specs.Slices.{at, put}
 use Rattle.bridges.specs.Names.{Labelled, Table, Stands, Named, Numbered, Forgotten}
-use Rattle.bridges.proofs.Turn.{put-at, put-off}
+use Rattle.bridges.proofs.Puts.{put-at, put-off}
 use Rattle.bridges.proofs.Table.{table-set, table-own, table-clear}
 
 -- one more label has a word: it had one, or gets the one of its place

@@ -6,7 +6,7 @@ use mathlib.Core.List.{List}
 use Prim.Native.Nat.{ℕ, _+_, _≤_, _<_}
 use lib.Dec.{eqb, ltb}
 use lib.ListN.{length, getD, set}
-use Rattle.bridges.specs.declared.Frame.{Frame}
+use Rattle.bridges.specs.declared.frame.Frame.{Frame}
 use Rattle.bridges.specs.Walk.{First, Parted, Walk}
 
 -- a list as a function of the index

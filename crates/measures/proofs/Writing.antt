@@ -13,7 +13,7 @@ use Rattle.wire.proofs.Words.{four-bytes}
 use Rattle.topology.specs.Held.{labelsOf}
 use Rattle.bridges.specs.Names.{Table}
 use Rattle.bridges.specs.Slices.{put}
-use Rattle.bridges.proofs.Turn.{put-at, put-off}
+use Rattle.bridges.proofs.Puts.{put-at, put-off}
 use Rattle.bridges.proofs.Table.{table-set, table-clear}
 use Rattle.measures.specs.Tables.{at, Regions, Labels, Written, Later, Cleared, numberOf, Numbered}
 

@@ -6,9 +6,9 @@ use Rattle.bridges.proofs.bridge_boundaries.Statement.{statement}
 use Rattle.bridges.proofs.bridge_boundaries.Tie as tie
 use Rattle.bridges.proofs.bridge_boundaries.Reads as reads
 use Rattle.bridges.proofs.bridge_boundaries.Lts as lts
-use Rattle.bridges.proofs.forget_all.Reads as forget-all-reads
+use Rattle.bridges.proofs.numbering.forget_all.Reads as forget-all-reads
 use Rattle.bridges.proofs.mark_bridges.Reads as mark-bridges-reads
-use Rattle.bridges.proofs.number_all.Reads as number-all-reads
+use Rattle.bridges.proofs.numbering.number_all.Reads as number-all-reads
 
 cast-n : tie.Need-cast-n
 cast-n c = search needs

@@ -5,8 +5,8 @@ use Rattle.bridges.proofs.mark_bridges.Statement.{statement}
 use Rattle.bridges.proofs.mark_bridges.Tie as tie
 use Rattle.bridges.proofs.mark_bridges.Reads as reads
 use Rattle.bridges.proofs.mark_bridges.Lts as lts
-use Rattle.bridges.proofs.link.Reads as link-reads
-use Rattle.bridges.proofs.walk_all.Reads as walk-all-reads
+use Rattle.bridges.proofs.chaining.link.Reads as link-reads
+use Rattle.bridges.proofs.walk.walk_all.Reads as walk-all-reads
 
 link-requires : tie.Need-link-requires
 link-requires c κs =

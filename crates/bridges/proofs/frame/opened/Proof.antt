@@ -1,0 +1,22 @@
+use mathlib.Core.Path.{refl}
+use borrow.Author.Needs.{needs}
+use Rattle.bridges.proofs.frame.opened.Statement.{statement}
+use Rattle.bridges.proofs.frame.opened.Tie as tie
+use Rattle.bridges.proofs.frame.opened.Reads as reads
+use Rattle.bridges.proofs.frame.opened.Lts as lts
+use Rattle.bridges.proofs.casts.size.Reads as size-reads
+
+size-requires : tie.Need-size-requires
+size-requires c κs = search needs
+
+mul-t6 : tie.Need-mul-t6
+mul-t6 c = search needs
+
+element-copy-out-t9 : tie.Need-element-copy-out-t9
+element-copy-out-t9 c = search needs
+
+returns : tie.Need-returns
+returns c = (refl, refl, rw (c .before .size .ensures .0), refl)
+
+pub opened-spec : {M : Type 1} → statement M
+opened-spec = tie.close (tie.spec size-requires mul-t6 element-copy-out-t9 returns)

@@ -1,0 +1,84 @@
+use mathlib.Core.Path.{_∙_, ap}
+use native.Mathlib.Omega.{arith}
+use Prim.Native.Nat.{ℕ}
+use lib.ListN.{set}
+use Rattle.bridges.specs.Slices.{at}
+use Rattle.bridges.proofs.Leaving.{mark-set, mark-kept}
+use borrow.Author.Needs.{needs}
+use Rattle.bridges.proofs.stack.leave.Statement.{statement}
+use Rattle.bridges.proofs.stack.leave.Tie as tie
+use Rattle.bridges.proofs.stack.leave.Reads as reads
+use Rattle.bridges.proofs.stack.leave.Lts as lts
+use Rattle.bridges.proofs.stack.least.Reads as least-reads
+use Rattle.bridges.proofs.casts.size.Reads as size-reads
+use Rattle.bridges.proofs.stack.time_of.Reads as time-of-reads
+
+mul-least : tie.Need-mul-least
+mul-least c = search needs
+
+element-copy-out-least : tie.Need-element-copy-out-least
+element-copy-out-least c = search needs
+
+least-requires : tie.Need-least-requires
+least-requires c κs = search needs
+
+mul-lows : tie.Need-mul-lows
+mul-lows c = search needs
+
+element-write-lows : tie.Need-element-write-lows
+element-write-lows c = search needs
+
+mul-time-of : tie.Need-mul-time-of
+mul-time-of c = search needs
+
+element-copy-out-time-of : tie.Need-element-copy-out-time-of
+element-copy-out-time-of c = search needs
+
+time-of-requires : tie.Need-time-of-requires
+time-of-requires c κs = search needs
+
+size-requires : tie.Need-size-requires
+size-requires c κs = search needs
+
+mul-size : tie.Need-mul-size
+mul-size c = search needs
+
+element-copy-out-size : tie.Need-element-copy-out-size
+element-copy-out-size c = search needs
+
+size-requires-2 : tie.Need-size-requires-2
+size-requires-2 c κs = search needs
+
+element-write-marks : tie.Need-element-write-marks
+element-write-marks c = omega (arith, c .size2 .ensures .0, ap (at (c .before .before .before .before .before .before .before .before .args .owners .now)) (c .before .before .size .ensures .0), c .before .before .before .before .before .before .before .before .pre .3)
+
+returns : tie.Need-returns
+returns c =
+    let a = c .before .before .before .before .before .before .before .before .args in
+    let o = c .size2 .ensures .0 ∙ ap (at (a .owners .now)) (c .before .before .size .ensures .0) in
+    (rw (c .before .before .before .before .before .before .least .ensures), ap (λ (x : ℕ). set (a .marks .now) x 1) o ∙ mark-set (at (a .disc .now) (at (a .stack .now) (a .up))) (a .f .low) (a .marks .now) (at (a .owners .now) (a .f .parent)) (omega (arith, c .before .before .before .if1 .taken, c .before .before .before .before .time-of .ensures)))
+
+returns-2 : tie.Need-returns-2
+returns-2 c =
+    let a = c .before .before .before .before .before .args in
+    (rw (c .before .before .before .least .ensures), mark-kept (at (a .disc .now) (at (a .stack .now) (a .up))) (a .f .low) (a .marks .now) (at (a .owners .now) (a .f .parent)) (omega (arith, c .if1 .left, c .before .time-of .ensures)))
+
+pub leave-spec : {M : Type 1} → statement M
+leave-spec =
+    tie.close
+    (tie.spec
+    mul-least
+    element-copy-out-least
+    least-requires
+    mul-lows
+    element-write-lows
+    mul-time-of
+    element-copy-out-time-of
+    time-of-requires
+    size-requires
+    mul-size
+    element-copy-out-size
+    size-requires-2
+    element-write-marks
+    returns
+    returns-2)

@@ -1,0 +1,21 @@
+use borrow.Author.Needs.{needs}
+use Rattle.bridges.proofs.stack.time_of.Statement.{statement}
+use Rattle.bridges.proofs.stack.time_of.Tie as tie
+use Rattle.bridges.proofs.stack.time_of.Reads as reads
+use Rattle.bridges.proofs.stack.time_of.Lts as lts
+use Rattle.bridges.proofs.casts.size.Reads as size-reads
+
+size-requires : tie.Need-size-requires
+size-requires c κs = search needs
+
+mul-result : tie.Need-mul-result
+mul-result c = search needs
+
+element-copy-out-result : tie.Need-element-copy-out-result
+element-copy-out-result c = search needs
+
+returns : tie.Need-returns
+returns c = rw (c .before .size .ensures .0)
+
+pub time-of-spec : {M : Type 1} → statement M
+time-of-spec = tie.close (tie.spec size-requires mul-result element-copy-out-result returns)

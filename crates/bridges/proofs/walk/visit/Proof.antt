@@ -1,0 +1,35 @@
+use mathlib.Core.Path.{refl, _∙_}
+use native.Mathlib.Omega.{arith}
+use Rattle.bridges.proofs.Roots.{passed}
+use borrow.Author.Needs.{needs}
+use Rattle.bridges.proofs.walk.visit.Statement.{statement}
+use Rattle.bridges.proofs.walk.visit.Tie as tie
+use Rattle.bridges.proofs.walk.visit.Reads as reads
+use Rattle.bridges.proofs.walk.visit.Lts as lts
+use Rattle.bridges.proofs.stack.time_of.Reads as time-of-reads
+use Rattle.bridges.proofs.walk.walk.Reads as walk-reads
+
+mul-root : tie.Need-mul-root
+mul-root c = search needs
+
+element-copy-out-root : tie.Need-element-copy-out-root
+element-copy-out-root c = search needs
+
+time-of-requires : tie.Need-time-of-requires
+time-of-requires c κs = c .before .before .pre .0 .graph .left-in _ (c .before .before .pre .2)
+
+returns : tie.Need-returns
+returns c = passed (c .before .before .before .before .pre .0) (λ z. c .if1 .taken (c .before .time-of .ensures ∙ z))
+
+walk-requires : tie.Need-walk-requires
+walk-requires c κs =
+    let p = c .before .before .before .before .before .before .before .before .before .before .pre in
+    (p .0, p .1, p .0 .graph .left-in _ (p .2), omega (arith, c .before .before .before .before .before .before .if1 .left, c .before .before .before .before .before .before .before .time-of .ensures), refl)
+
+returns-2 : tie.Need-returns-2
+returns-2 c = search needs
+
+pub visit-spec : {M : Type 1} → statement M
+visit-spec =
+    tie.close
+    (tie.spec mul-root element-copy-out-root time-of-requires returns walk-requires returns-2)
