@@ -17,3 +17,4 @@ pub mod Meaning
 pub mod Table
 pub mod Names
 pub mod Small
+pub mod Unmarked

@@ -67,6 +67,10 @@ pub fn bridge_boundaries(
     ensures marks { λ _. ⌜ now (marks .exit) ≡ bridgeMarks (recordsOf count (now (owners .entry)) (now (lefts .entry)) (now (rights .entry))) 256 ⌝ }
     ensures work { λ _. ⌜ now (work .exit) ≡ now (work .entry) ⌝ }
 {
+    if count == 0 {
+        *marks = [0u8; 256];
+        return;
+    }
     let n = count as u32;
     let mut small_lefts = [0u32; 4096];
     let mut small_rights = [0u32; 4096];
