@@ -101,6 +101,18 @@ fn corridors(boundaries: u32) -> Draft {
     draft
 }
 
+/// A corridor of one row that two boundaries cut, as in document 01's corridor.
+fn corridor(cells: u32) -> Draft {
+    let mut draft = maps::with_spans([cells, 1], Shape::Open, 0, &mut Rng::new(29));
+    draft.boundaries = [cells / 4, cells / 2]
+        .map(|column| {
+            let (x, bits) = (8 * column, 8.0_f64.to_bits());
+            Boundary { ends: [x, 0, x, 8], bits, ..Boundary::default() }
+        })
+        .to_vec();
+    draft
+}
+
 /// The side of the maps on which records grow: small, so that these take the most of the time.
 const SIDE: u32 = 32;
 
@@ -151,6 +163,12 @@ pub fn families() -> Vec<Family> {
             "cells",
             (3..=10).map(|i| 1 << (2 * i)),
             |cells| job(side(cells), Shape::Open, 4, 8),
+        ),
+        family(
+            "cells of a corridor, one row that 2 boundaries cut".to_string(),
+            "cells",
+            (1..=5).map(|i| 1 << (2 * i)),
+            |cells| corridor(cells as u32),
         ),
         family(
             "boundaries on an open map of 256 × 256".to_string(),
