@@ -16,7 +16,7 @@ use Rattle.areas.specs.Areas.{areaLabels}
 use Rattle.areas.specs.Spans.{spansIn}
 use Rattle.areas.specs.Assessments.{records}
 use Rattle.areas.proofs.Areas.{area-labels-length}
-use Rattle.assessments.specs.Recording.{recordsIn}
+use Rattle.areas.specs.Arrays.{recordsIn}
 use Rattle.bridges.specs.Slices.{Owners}
 use Rattle.bridges.specs.Names.{Labelled}
 use Rattle.bridges.specs.Marks.{recordsOf, bridgeMarks}

@@ -1,5 +1,5 @@
 -- What the checks that passed say of each boundary of a job and of each span of a list.
-use mathlib.Core.Path.{_≡_, refl, _∙_}
+use mathlib.Core.Path.{_≡_}
 use mathlib.Core.Bool.{Bool, true, false, cond}
 use mathlib.Core.List.{List}
 use mathlib.Core.Option.{none}
@@ -9,11 +9,10 @@ use borrow.Author.Tests.{ltb-false}
 use lib.Dec.{ltb}
 use lib.ListN.{length}
 use Rattle.lists.specs.Rows.{All}
-use Rattle.order.proofs.Bools.{clash, is-false, or-parts}
+use Rattle.order.proofs.Bools.{or-parts}
 use Rattle.position.specs.Order.{posLe, posSame, swapped, canonical}
-use Rattle.position.specs.declared.PixelPosition.{PixelPosition}
 use Rattle.position.specs.declared.Span.{Span}
-use Rattle.position.proofs.Order.{same-means, canonical-ordered}
+use Rattle.position.proofs.Order.{other-way, canonical-ordered}
 use Rattle.wire.specs.Bytes.{AreBytes, u64At}
 use Rattle.format.specs.Sizes.{boundarySize, spanSize}
 use Rattle.format.specs.Bounds.{cellPixels, maxSpans, maxWidthBits}
@@ -24,7 +23,7 @@ use Rattle.format.specs.Fits.{BoundaryFits, CountsAllowed}
 use Rattle.format.specs.declared.header.Counts.{Counts}
 use Rattle.format.proofs.BoundaryTrips.{boundaries-decoded}
 use Rattle.format.proofs.JobTrip.{decode-fits}
-use Rattle.areas.specs.Bounds.{Bounded}
+use Rattle.position.specs.Bounds.{Bounded}
 use Rattle.areas.specs.Spans.{SpanFits, Sides}
 use Rattle.job.specs.Checks.{firstRefusal, each}
 use Rattle.job.specs.Faults.{positionFault, endsFault, widthFault}
@@ -68,16 +67,13 @@ module _ (width height : ℕ) (e : Span) where
     record { column = omega (arith, o .b-column); row = omega (arith, o .b-row) },
   )
 
-same-turned : (p q : PixelPosition) → posSame p q ≡ false → posSame q p ≡ false
-same-turned p q f = is-false (posSame q p) (λ h. let e : q ≡ p = same-means q p h in let g : posSame p q ≡ posSame q p = rw e refl in clash (g ∙ h) f)
-
 canonical-apart : (e : Span) → posSame (e .a) (e .b) ≡ false → posSame (canonical e .a) (canonical e .b) ≡ false
 unfolding canonical
 canonical-apart e f = go (posLe (e .a) (e .b))
   where
     go : (t : Bool) → posSame (cond t e (swapped e) .a) (cond t e (swapped e) .b) ≡ false
     go true = f
-    go false = same-turned (e .a) (e .b) f
+    go false = other-way (e .a) (e .b) f
 
 pub canonical-span-fits : (width height : ℕ) (e : Span) → OnMap width height e → posSame (e .a) (e .b) ≡ false → SpanFits width height (canonical e)
 canonical-span-fits width height e o f =

@@ -31,9 +31,9 @@ use Rattle.job.specs.Verdict.{meaning, passes, numberOf, detailOf}
 use Rattle.job.specs.declared.verdict.Verdict.{Verdict}
 use Rattle.job.specs.declared.verdict.Verdict.the-variants.{Passed, ShortHeader, MapSize, TooMany, TooManyBoundaries, Layout, CellBits, AnchorOffMap, CountsDiffer, RampForm, WidthRange, EndOffMap, EndsCoincide, ListLength, TooManySpans, SpanOffMap, SpanCoincides}
 use Rattle.job.proofs.Firsts.{skip, stop, clear, append-none, append-some}
-use Rattle.results.specs.Rules.{gridOf}
+use Rattle.results.specs.Rules.{gridOf, listingOf}
 use Rattle.results.specs.Results.{workSize, maxPairs, afterWork, outcome, workCheck, pairCheck, labelsOf, answerOf, reduced, leftBy}
-use Rattle.analysis.specs.Plans.{listingOf, planOf, RankedBy, Drawn, Made, PlanLeft, Finished}
+use Rattle.analysis.specs.Plans.{planOf, RankedBy, Drawn, Made, PlanLeft, Finished}
 use Rattle.results.proofs.Planned.{matched-answer, unmatched-answer}
 use Rattle.analysis.proofs.Ranked.{ByRank, places-perm, places-ranked, copies-ranked}
 use Rattle.results.proofs.Results.{reduced-success}

@@ -28,10 +28,10 @@ use Rattle.job.specs.Checks.{firstRefusal}
 use Rattle.job.specs.Refusals.{reduceChecks, byListChecks}
 use Rattle.partition.specs.Partitioned.{labelled, Partitionable, Partitioned}
 use Rattle.partition.specs.declared.Partition.{Partition}
-use Rattle.results.specs.Rules.{gridOf}
+use Rattle.results.specs.Rules.{gridOf, listingOf}
 use Rattle.results.specs.Results.{workSize, ownEnds}
 use Rattle.analysis.specs.Bridging.{Bridged}
-use Rattle.analysis.specs.Plans.{listingOf, planOf, Headed, RankedJob, Plannable, EndsBy, SomeEnds, Told, SomeTold, Drawn}
+use Rattle.analysis.specs.Plans.{planOf, Headed, RankedJob, Plannable, EndsBy, SomeEnds, Told, SomeTold, Drawn}
 use Rattle.analysis.proofs.Ranked.{ByRank}
 use Rattle.analysis.proofs.Checked.{boundariesAt, Checked, ListChecked, checked, by-list-checked}
 use Rattle.analysis.proofs.RankedTables.{order-in, own-ends-ranked, list-ends-ranked, own-ends-fit, list-ends-fit, own-matched, list-matched, list-records, labels-listed, records-listed}

@@ -24,8 +24,8 @@ use Rattle.groups.specs.Plan.{mergePlan}
 use Rattle.groups.specs.Tables.{Boundaries}
 use Rattle.measures.specs.Judging.{Plain}
 use Rattle.ranks.specs.Tables.{Records, SpansOf, WidthsOf, RampsOf}
-use Rattle.results.specs.Rules.{gridOf}
-use Rattle.analysis.specs.Plans.{listingOf, planOf, RankedJob, Told}
+use Rattle.results.specs.Rules.{gridOf, listingOf}
+use Rattle.analysis.specs.Plans.{planOf, RankedJob, Told}
 use Rattle.planning.specs.Listed.{mapOf, Listed, Ready}
 use Rattle.planning.specs.Planned.{anchorsIn, PlanFrom}
 use Rattle.planning.proofs.PlainLaws.{plain-arrays}

@@ -40,7 +40,7 @@ use Rattle.merging.proofs.Kept.{copies-places}
 use Rattle.merging.proofs.Packed.{packFirst, packSecond, ends-packed, sort-alike}
 use Rattle.ranks.specs.Tables.{KeysOf}
 use Rattle.sorting.specs.Orders.{byTwo}
-use Rattle.results.proofs.Planned.{listed}
+use Rattle.results.specs.Rules.{listingOf}
 
 -- a list whose members are known by place
 pub by-rows : {A : Type 0} (l : List A) (n : ℕ) (f : ℕ → A) (d : A) → length l ≡ n → ((i : ℕ) → i < n → getD l i d ≡ f i) → l ≡ rows n f
@@ -159,7 +159,7 @@ module _ (j : Job) (ss : List Span) (e : length (j .boundaries) ≡ length ss) w
   items-places = rw (zip-length (j .boundaries) ss e)
       (sort-alike (byPlace (byKey itemKey) items noItem) (endsLe (j .boundaries)) (upFrom 0 (length (j .boundaries))) (λ x y m n. places-alike x y))
 
-  pub listed-places : listed j ss ≡ map (λ k. canonItem (itemAt k)) (placesOf (j .boundaries))
+  pub listed-places : listingOf j ss ≡ map (λ k. canonItem (itemAt k)) (placesOf (j .boundaries))
   unfolding itemsOf
   listed-places =
       sort-map canonItem (byKey itemKey) (byKey itemKey) (λ a b. rw (key-item a, key-item b) refl) items
@@ -167,32 +167,32 @@ module _ (j : Job) (ss : List Span) (e : length (j .boundaries) ≡ length ss) w
       ∙ (map-map canonItem (λ k. getD items k noItem) (placesOf (j .boundaries))
       ∙ map-ext (λ k. canonItem (getD items k noItem)) (λ k. canonItem (itemAt k)) (placesOf (j .boundaries)) (λ k m. ap canonItem (zip-at (j .boundaries) ss e k))))
 
-  pub listed-length : length (listed j ss) ≡ length (j .boundaries)
+  pub listed-length : length (listingOf j ss) ≡ length (j .boundaries)
   listed-length = ap length listed-places ∙ (length-map (placesOf (j .boundaries)) (λ k. canonItem (itemAt k)) ∙ places-count (j .boundaries))
 
-  pub listed-at : (i : ℕ) → i < length (j .boundaries) → getD (listed j ss) i noItem ≡ canonItem (itemAt (getD (placesOf (j .boundaries)) i 0))
+  pub listed-at : (i : ℕ) → i < length (j .boundaries) → getD (listingOf j ss) i noItem ≡ canonItem (itemAt (getD (placesOf (j .boundaries)) i 0))
   listed-at i h =
       let c = places-count (j .boundaries) in
       ap (λ (l : List Item). getD l i noItem) listed-places ∙ map-at (λ k. canonItem (itemAt k)) (placesOf (j .boundaries)) i 0 noItem (omega arith)
 
   -- the spans, canonical and by rank
-  pub spans-places : spansOf (listed j ss) ≡ map (λ k. canonical (getD ss k noSpan)) (placesOf (j .boundaries))
+  pub spans-places : spansOf (listingOf j ss) ≡ map (λ k. canonical (getD ss k noSpan)) (placesOf (j .boundaries))
   unfolding canonItem
   spans-places = ap (map (λ (i : Item). i .span)) listed-places ∙ map-map (λ (i : Item). i .span) (λ k. canonItem (itemAt k)) (placesOf (j .boundaries))
 
-  spans-perm : List·Permᴰ (map canonical ss) (map canonical (spansOf (listed j ss)))
+  spans-perm : List·Permᴰ (map canonical ss) (map canonical (spansOf (listingOf j ss)))
   spans-perm =
       let a : map canonical ss ≡ map (λ k. canonical (getD ss k noSpan)) (upFrom 0 (length (j .boundaries)))
       = ap (map canonical) (sym (map-places ss noSpan)) ∙ (map-map canonical (λ k. getD ss k noSpan) (upFrom 0 (length ss)) ∙ ap (λ (n : ℕ). map (λ k. canonical (getD ss k noSpan)) (upFrom 0 n)) (sym e)) in
-      let b : map canonical (spansOf (listed j ss)) ≡ map (λ k. canonical (getD ss k noSpan)) (placesOf (j .boundaries))
+      let b : map canonical (spansOf (listingOf j ss)) ≡ map (λ k. canonical (getD ss k noSpan)) (placesOf (j .boundaries))
       = ap (map canonical) spans-places ∙ (map-map canonical (λ k. canonical (getD ss k noSpan)) (placesOf (j .boundaries))
       ∙ map-ext (λ k. canonical (canonical (getD ss k noSpan))) (λ k. canonical (getD ss k noSpan)) (placesOf (j .boundaries)) (λ k m. canonical-again (getD ss k noSpan))) in
       rw (a, b) (Permᴰ·map (λ k. canonical (getD ss k noSpan)) (places-perm (j .boundaries)))
 
   -- labels and the number of region pairs are those of the listing's spans
   module _ (dirs : List ℕ) (g : Grid) where
-    pub labels-ranked : areaLabels dirs g ss ≡ areaLabels dirs g (spansOf (listed j ss))
-    labels-ranked = labels-depend-on-the-set dirs g ss (spansOf (listed j ss)) (perm-same spans-perm)
+    pub labels-ranked : areaLabels dirs g ss ≡ areaLabels dirs g (spansOf (listingOf j ss))
+    labels-ranked = labels-depend-on-the-set dirs g ss (spansOf (listingOf j ss)) (perm-same spans-perm)
 
-    pub records-ranked : length (records dirs g ss) ≡ length (records dirs g (spansOf (listed j ss)))
-    records-ranked = records-count dirs g ss (spansOf (listed j ss)) spans-perm
+    pub records-ranked : length (records dirs g ss) ≡ length (records dirs g (spansOf (listingOf j ss)))
+    records-ranked = records-count dirs g ss (spansOf (listingOf j ss)) spans-perm

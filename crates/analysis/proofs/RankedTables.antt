@@ -28,7 +28,7 @@ use Rattle.format.proofs.ListTrip.{length-decodeList}
 use Rattle.grid.specs.Cells.{Grid}
 use Rattle.areas.specs.Areas.{areaLabels}
 use Rattle.areas.specs.Assessments.{records}
-use Rattle.areas.specs.Bounds.{Bounded}
+use Rattle.position.specs.Bounds.{Bounded}
 use Rattle.areas.specs.Spans.{spanIn, spansIn, SpansFit}
 use Rattle.areas.proofs.Areas.{labels-depend-on-the-set}
 use Rattle.areas.proofs.Listed.{eq-same, records-same}
@@ -41,8 +41,8 @@ use Rattle.merging.specs.Follows.{placesOf}
 use Rattle.merging.specs.Runs.{canonItem}
 use Rattle.ranks.specs.Tables.{Records, KeysOf, SpansOf, WidthsOf, RampsOf, Identity}
 use Rattle.sorting.specs.Orders.{byTwo}
+use Rattle.results.specs.Rules.{listingOf}
 use Rattle.results.specs.Results.{ownEnds}
-use Rattle.results.proofs.Planned.{listed}
 use Rattle.analysis.proofs.Ranked.{by-rows, ByRank, place-below, rank-below, order-ranked, listed-length, listed-at, labels-ranked, records-ranked}
 use Rattle.analysis.proofs.Checked.{canonical-on-map, on-map-bounded, canonical-span-fits, boundariesAt, Checked, ListChecked}
 
@@ -127,7 +127,7 @@ module _ {distinct : Bool} {s : List ℕ} (c : Checked distinct s) {order : List
 
   module _ (ss : List Span) (e : length (decode s .boundaries) ≡ length ss) where
     abbrev l : List Item
-    l = listed (decode s) ss
+    l = listingOf (decode s) ss
 
     pub listed-count : length l ≡ n
     listed-count = listed-length (decode s) ss e ∙ c .count

@@ -23,16 +23,15 @@ use Rattle.topology.specs.Held.{labelsOf as labelsIn}
 use Rattle.topology.specs.Listing.{Item}
 use Rattle.groups.specs.Listing as Rank
 use Rattle.groups.specs.Regions.{regionLabels, assessAt, bridgeAt}
-use Rattle.groups.specs.Tables.{recordsIn, Counted, Paired, Bridged as BridgesOf}
-use Rattle.assessments.specs.Recording.{recordsIn as recordsFrom}
+use Rattle.groups.specs.Tables.{Counted, Paired, Bridged as BridgesOf}
 use Rattle.bridges.specs.Marks.{bridgeMarks}
 use Rattle.measures.specs.Tables.{Labels}
 use Rattle.partition.specs.Partitioned.{labelled, Partitioned}
 use Rattle.partition.specs.declared.Partition.{Partition}
-use Rattle.results.specs.Rules.{gridOf}
+use Rattle.results.specs.Rules.{gridOf, listingOf}
 use Rattle.results.specs.Results.{maxPairs, labelsOf}
 use Rattle.analysis.specs.Bridging.{Bridged}
-use Rattle.analysis.specs.Plans.{listingOf, EndsBy, Told}
+use Rattle.analysis.specs.Plans.{EndsBy, Told}
 use Rattle.analysis.proofs.Bridging.{few-pairs, room-in, zero-in}
 use Rattle.analysis.proofs.Ranked.{by-rows, ByRank}
 use Rattle.analysis.proofs.Checked.{Checked}
@@ -142,7 +141,6 @@ module _ {distinct : Bool} {s : List ℕ} (c : Checked distinct s) {order : List
       }
 
       paired : Paired eight g l owners lefts rights (p .pairs)
-      unfolding recordsIn recordsFrom
       paired = record { most = h; all = r .records-are few-records ∙ ap (records eight g) (sym spans-are) }
 
       bridged : BridgesOf eight g l marks

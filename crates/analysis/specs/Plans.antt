@@ -20,7 +20,6 @@ use Rattle.areas.specs.Assessments.{records}
 use Rattle.areas.specs.Spans.{spanIn}
 use Rattle.topology.specs.Anchors.{anchorsOf}
 use Rattle.topology.specs.Held.{labelsOf as labelsIn}
-use Rattle.topology.specs.Listing.{Item, listing}
 use Rattle.links.specs.Limits.{Limits, limits000}
 use Rattle.groups.specs.Listing.{noSpan}
 use Rattle.groups.specs.Regions.{regionLabels}
@@ -30,17 +29,12 @@ use Rattle.merging.specs.Copies.{canon}
 use Rattle.merging.specs.Follows.{placesOf}
 use Rattle.merging.specs.Kept.{noBoundary}
 use Rattle.merging.specs.Planned.{planned}
-use Rattle.merging.specs.Runs.{itemsOf, canonItem}
 use Rattle.measures.specs.Tables.{Labels}
 use Rattle.job.specs.Checks.{Check, firstRefusal}
 use Rattle.job.specs.Refusals.{boundaryChecks}
 use Rattle.partition.specs.Partitioned.{labelled}
-use Rattle.results.specs.Rules.{gridOf}
+use Rattle.results.specs.Rules.{gridOf, listingOf}
 use Rattle.results.specs.Results.{workSize, maxPairs, labelsOf, reduced, leftBy}
-
--- a run's canonical copies in their listing, each with its span
-abbrev pub listingOf : Job → List Span → List Item
-listingOf j ss = listing (map canonItem (itemsOf (record { boundaries = j .boundaries; spans = ss })))
 
 -- the rank that a rank goes into: itself where spans and boundaries differ in number
 unfoldable pub planOf : Limits → List ℕ → Job → List Span → ℕ → ℕ

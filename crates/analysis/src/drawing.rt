@@ -16,7 +16,6 @@ ghost use Rattle.results.specs.Results.{workSize, ownEnds};
 ghost use Rattle.analysis.specs.Plans.{planOf, RankedBy, Headed, RankedJob, Plannable, EndsBy, SomeEnds, Told, SomeTold, Drawn};
 use crate::bridged::MAX_PAIRS;
 use crate::bridged::analyse;
-use crate::casts::size;
 use format::BOUNDARY_SIZE;
 use format::HEADER_SIZE;
 use format::Header;
@@ -29,6 +28,7 @@ use ranks::fill_ramps;
 use ranks::fill_spans;
 use ranks::fill_widths;
 use sorting::ranks::sort_ranks;
+use wire::size;
 
 // The places of a job's boundaries by rank.
 pub fn order_boundaries(job: &[u8], h: Header, order: &mut [u32; 256])

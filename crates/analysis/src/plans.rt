@@ -4,7 +4,6 @@ ghost use Rattle.job.specs.Refusals.{reduceChecks, byListChecks};
 ghost use Rattle.results.specs.Results.{ownEnds};
 ghost use Rattle.analysis.specs.Plans.{PlanLeft};
 use crate::bridged::MAX_PAIRS;
-use crate::casts::size;
 use crate::drawing::order_boundaries;
 use crate::drawing::plan_by_list;
 use crate::drawing::plan_own;
@@ -12,6 +11,7 @@ use crate::result::ChokesResult;
 use format::read_header;
 use job::check_reduce;
 use job::check_reduce_by_list;
+use wire::size;
 
 // The merges of a job by its boundaries' own ends: number 0 and the plan by rank, or a refusal.
 pub fn plan_reduce(

@@ -3,11 +3,11 @@ ghost use mathlib.Core.Path.{_≡_};
 ghost use Prim.Native.Nat.{_+_, _*_, _≤_};
 ghost use lib.ListN.{length, getD};
 ghost use Rattle.answer.specs.Laying.{below, ownCount, seenCount, citedCount, Apart, LayRoom, Lays, LaidOut, Countable, PlanRoom, LaidAll};
-use crate::casts::size;
 use format::BOUNDARY_SIZE;
 use format::OBSERVATION_SIZE;
 use format::read_boundary;
 use format::read_observation;
+use wire::size;
 
 // The sources of the n observations from place p on, from `run` on: where they end.
 fn lay_observations(

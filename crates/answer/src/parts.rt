@@ -3,8 +3,8 @@ ghost use mathlib.Core.Path.{_≡_};
 ghost use Prim.Native.Nat.{_+_, _≤_};
 ghost use lib.ListN.{length};
 ghost use Rattle.answer.specs.Squeezed.{PartsRoom, Squeezed};
-use crate::casts::size;
 use sorting::numbers::sort_unique;
+use wire::size;
 
 pub fn sort_parts(keys: &mut [u64], spare: &mut [u64], starts: &[u32], counts: &mut [u32], n: usize)
     requires { ⌜ PartsRoom (now keys) (now spare) (now starts) (now counts) n ⌝ }

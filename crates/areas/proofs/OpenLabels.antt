@@ -35,7 +35,7 @@ use Rattle.areas.specs.Open.{isOpen, bitOf, openByte, later, bitAt, name
 use Rattle.areas.proofs.Named.{Names, named-names, names-named}
 
 -- the bits of a sum of bits
-bit-small : (b : Bool) → bitOf b ≤ 1
+pub bit-small : (b : Bool) → bitOf b ≤ 1
 bit-small true = omega arith
 bit-small false = omega arith
 

@@ -1,4 +1,3 @@
-pub mod Bounds
 pub mod Segments
 pub mod Spans
 pub mod Cuts
@@ -7,3 +6,4 @@ pub mod Areas
 pub mod Assessments
 pub mod Cases
 pub mod Open
+pub mod Arrays

@@ -6,7 +6,7 @@ ghost use Prim.Native.Nat.{ℕ, _*_, _<_, _≤_, min, max};
 ghost use Rattle.position.specs.Order.{posLe};
 ghost use Rattle.grid.specs.Cells.{Grid, centre, columnOf, rowOf};
 ghost use Rattle.grid.specs.Steps.{stepOf};
-ghost use Rattle.areas.specs.Bounds.{Bounded};
+ghost use Rattle.position.specs.Bounds.{Bounded};
 ghost use Rattle.areas.specs.Segments.{crossPlus, crossMinus, side, above, below, onSegment, opposite, meets};
 ghost use Rattle.areas.specs.Cuts.{cuts, cutBy};
 use position::PixelPosition;

@@ -15,6 +15,7 @@ use Rattle.areas.specs.Spans.{Sides}
 use Rattle.areas.specs.declared.candidates.CellRange.{CellRange}
 use Rattle.areas.specs.Strip.{tall, cellOf, stripAxis, stripMinor}
 use Rattle.areas.proofs.StripCells.{axis-on, minor-on}
+use Rattle.marking.proofs.Halves.{place-fits}
 use Rattle.assessments.specs.declared.steps.Assessed.{Assessed}
 use Rattle.assessments.specs.Holding.{pairsIn, Holds, Room}
 use Rattle.assessments.specs.Visits.{mapOf, within, cutFrom, cutBeside, cutAlong}
@@ -34,13 +35,9 @@ beside-small {w} {h} d s {c} l = go (tall s) l
     go false l = omega (arith, d .high)
 
 module _ (w h : ℕ) (cs : List ℕ) (s : Span) (c cm : ℕ) {x y : ℕ} where
-  in-go : (t : Bool) → c < cond t h w → cm < cond t w h → x ≡ cond t cm c → y ≡ cond t c cm → (x < w) × (y < h)
-  in-go true a b e f = (omega arith, omega arith)
-  in-go false a b e f = (omega arith, omega arith)
-
   -- the place is on the map
   pub place-in : {t : Bool} → t ≡ tall s → c < cond (tall s) h w → cm < cond (tall s) w h → x ≡ cond t cm c → y ≡ cond t c cm → (x < w) × (y < h)
-  place-in et a b e f = in-go (tall s) a b (e ∙ ap (λ (z : Bool). cond z cm c) et) (f ∙ ap (λ (z : Bool). cond z c cm) et)
+  place-in et a b e f = place-fits (tall s) w h c cm x y a b (e ∙ ap (λ (z : Bool). cond z cm c) et) (f ∙ ap (λ (z : Bool). cond z c cm) et)
 
   cell-go : (t : Bool) → x ≡ cond t cm c → y ≡ cond t c cm → y * w + x ≡ cond t (c * w + cm) (cm * w + c)
   cell-go true e f = rw (e, f)

@@ -14,9 +14,7 @@ use Rattle.grid.specs.Steps.{neighbour, columnTo, rowTo, hasStep, stepOf, Place
 use Rattle.grid.proofs.Index.{walkable-on}
 use Rattle.grid.proofs.Reach.{place-column, place-row, place-on}
 use Rattle.grid.proofs.Steps.{Leads, leads-means, has-step, column-to, row-to}
-use Rattle.areas.specs.Bounds.{Bounded}
 use Rattle.areas.specs.Cuts.{cutBy}
-use Rattle.areas.specs.Spans.{SpanFits, Sides}
 use Rattle.assessments.specs.Visits.{mapOf, OnMap, isCutIn, cutIn}
 
 module _ (dirs : List ℕ) (g : Grid) (s : Span) (i d : ℕ) where
@@ -40,10 +38,6 @@ module _ (dirs : List ℕ) (g : Grid) (s : Span) (i d : ℕ) where
   pub is-step : {x y : ℕ} → x ≡ i → y ≡ neighbour g i d → has d dirs ≡ true → hasStep g i d ≡ true → cutBy g s (stepOf i (neighbour g i d)) ≡ true →
       stepOf x y ∷ [] ≡ cutIn dirs g s i d
   is-step ex ey e f h = ap (λ (z : Edge). z ∷ []) (ap₂ stepOf ex ey) ∙ sym (list-is true (go-cut true true true (sym e) (sym f) (sym h)))
-
--- the ends of a span on the map
-pub bounded : {w h : ℕ} {s : Span} → Sides w h → SpanFits w h s → Bounded (s .a) × Bounded (s .b)
-bounded d f = (record { column = omega arith; row = omega arith }, record { column = omega arith; row = omega arith })
 
 pub on-map : {w h : ℕ} {cs labels : List ℕ} {s : Span} {k i : ℕ} → OnMap w h cs labels s → i < length cs → k ≡ i → k < w * h
 on-map m l e = omega (arith, m .whole)

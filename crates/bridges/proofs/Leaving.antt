@@ -4,13 +4,13 @@ use native.Mathlib.Omega.{arith}
 use native.Mathlib.Decide.{decLt, ℕ-discrete}
 use mathlib.Core.Path.{_≡_, refl, sym, _∙_, ap, subst}
 use mathlib.Core.Logic.{inl, inr, ⊎-elim, by-cases}
-use mathlib.Core.Bool.{Bool}
+use mathlib.Core.Bool.{Bool, cond}
 use mathlib.Core.List.{List}
 use lib.ListN.{length, set, length-set}
 use lib.Seq.{getD-set-same, getD-set-other}
 use borrow.Author.Tests.{lt-ltb, le-ltb}
 use Rattle.bridges.specs.Walk.{Parted, Walk}
-use Rattle.bridges.specs.Slices.{at, put, Sound, Told, Stacked, choose, marking}
+use Rattle.bridges.specs.Slices.{at, put, Sound, Told, Stacked, marking}
 use Rattle.bridges.specs.declared.frame.Frame.{Frame}
 use Rattle.bridges.proofs.Retell.{retell}
 use Rattle.bridges.proofs.Pops.{is-bridge, not-bridge, pop, pop-root}
@@ -19,10 +19,10 @@ use Rattle.bridges.proofs.Turn.{Loop, Hand, resized}
 
 -- the mark that a frame's end leaves
 pub mark-set : (d low : ℕ) (marks : List ℕ) (b : ℕ) → d < low → set marks b 1 ≡ marking d low marks b
-mark-set d low marks b l = sym (ap (λ (t : Bool). choose t (set marks b 1) marks) (lt-ltb d low l))
+mark-set d low marks b l = sym (ap (λ (t : Bool). cond t (set marks b 1) marks) (lt-ltb d low l))
 
 pub mark-kept : (d low : ℕ) (marks : List ℕ) (b : ℕ) → low ≤ d → marks ≡ marking d low marks b
-mark-kept d low marks b l = sym (ap (λ (t : Bool). choose t (set marks b 1) marks) (le-ltb d low l))
+mark-kept d low marks b l = sym (ap (λ (t : Bool). cond t (set marks b 1) marks) (le-ltb d low l))
 
 -- marks grow, and the mark that is set is right
 module _ (owners marks : List ℕ) (k d low : ℕ) (on : at owners k < length marks) where

@@ -3,19 +3,19 @@ use Prim.Native.Nat.{ℕ, _<_}
 use native.Mathlib.Decide.{ℕ-discrete}
 use mathlib.Core.Path.{_≡_, refl, sym, _∙_, ap}
 use mathlib.Core.Logic.{by-cases}
-use mathlib.Core.Bool.{Bool}
+use mathlib.Core.Bool.{Bool, cond}
 use mathlib.Core.List.{List}
 use lib.ListN.{length, set}
 use lib.Seq.{getD-set-same, getD-set-other}
 use borrow.Author.Tests.{eq-eqb, ne-eqb}
 use Rattle.bridges.proofs.Zeros.{Upd}
-use Rattle.bridges.specs.Slices.{at, pick, put}
+use Rattle.bridges.specs.Slices.{at, put}
 
 pub put-at : (f : ℕ → ℕ) (i v : ℕ) → put f i v i ≡ v
-put-at f i v = ap (λ (b : Bool). pick b v (f i)) (eq-eqb i i refl)
+put-at f i v = ap (λ (b : Bool). cond b v (f i)) (eq-eqb i i refl)
 
 pub put-off : (f : ℕ → ℕ) (i v j : ℕ) → (j ≡ i → ⊥) → put f i v j ≡ f j
-put-off f i v j h = ap (λ (b : Bool). pick b v (f j)) (ne-eqb j i h)
+put-off f i v j h = ap (λ (b : Bool). cond b v (f j)) (ne-eqb j i h)
 
 pub putting : (f : ℕ → ℕ) (i v : ℕ) → Upd f (put f i v) i v
 putting f i v = record { at = put-at f i v; off = λ j h. put-off f i v j h }

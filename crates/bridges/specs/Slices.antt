@@ -1,7 +1,7 @@
 -- What the bridge walk asks of its arrays, and its state over them. K is the number of records.
 use mathlib.Core.Path.{_≡_}
 use mathlib.Core.Logic.{_⊎_}
-use mathlib.Core.Bool.{Bool, true, false}
+use mathlib.Core.Bool.{cond}
 use mathlib.Core.List.{List}
 use Prim.Native.Nat.{ℕ, _+_, _≤_, _<_}
 use lib.Dec.{eqb, ltb}
@@ -13,13 +13,9 @@ use Rattle.bridges.specs.Walk.{First, Parted, Walk}
 abbrev pub at : List ℕ → ℕ → ℕ
 at l i = getD l i 0
 
-abbrev pub pick : Bool → ℕ → ℕ → ℕ
-pick true a b = a
-pick false a b = b
-
 -- f with v at i
 abbrev pub put : (ℕ → ℕ) → ℕ → ℕ → ℕ → ℕ
-put f i v j = pick (eqb j i) v (f j)
+put f i v j = cond (eqb j i) v (f j)
 
 -- there are at most 4,096 records, and their ends are regions below 8,192
 pub record Graph (K : ℕ) (lefts rights : List ℕ) : Type 0 where
@@ -84,10 +80,6 @@ pub record Between (K : ℕ) (owners lefts rights disc stack parents nexts lows 
   pub walk : Stacked K owners lefts rights r disc stack parents nexts lows marks 0 time
   pub sound : Sound K owners lefts rights marks
 
-abbrev pub choose : Bool → List ℕ → List ℕ → List ℕ
-choose true a b = a
-choose false a b = b
-
 -- the marks with one more at b, if what the parent knows is before low
 abbrev pub marking : ℕ → ℕ → List ℕ → ℕ → List ℕ
-marking d low marks b = choose (ltb d low) (set marks b 1) marks
+marking d low marks b = cond (ltb d low) (set marks b 1) marks

@@ -3,7 +3,7 @@ ghost use mathlib.Core.Path.{_≡_};
 ghost use Prim.Native.Nat.{_<_};
 ghost use lib.ListN.{set};
 ghost use Rattle.bridges.specs.Slices.{at, Graph, Linked};
-use crate::casts::size;
+use wire::size;
 
 // Puts record k before the chains of its two regions.
 fn link_record(

@@ -3,7 +3,7 @@ ghost use mathlib.Core.Path.{_≡_};
 ghost use Prim.Native.Nat.{_<_, min};
 ghost use Rattle.bridges.specs.Walk.{Joins, Touches};
 ghost use Rattle.bridges.specs.Slices.{at};
-use crate::casts::size;
+use wire::size;
 
 // A region on the walk's stack: the record by which it was entered, the next record to look at, and the earliest region known behind it.
 pub struct Frame {

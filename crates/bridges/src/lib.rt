@@ -1,5 +1,4 @@
 // The boundaries that are bridges of the graph of records, by a walk in depth (Tarjan).
-mod casts;
 mod chaining; // the records that touch each region, in chains
 mod frame; // a frame of the walk, and what it reads
 mod numbering; // numbers for the labels of regions

@@ -5,8 +5,8 @@ ghost use Prim.Native.Nat.{ℕ, _+_, _*_, _-_, _≤_, _<_};
 ghost use lib.ListN.{length};
 ghost use Rattle.wire.specs.Bytes.{splice, u32At, u32Bytes};
 ghost use Rattle.bridges.specs.Names.{Labelled, Numbered, Forgotten};
-use crate::casts::size;
 use wire::read_u32;
+use wire::size;
 use wire::write_u32;
 
 // The number of a label that stands at a place: the one that it has, or that of the place.

@@ -3,8 +3,8 @@ ghost use mathlib.Core.Path.{_≡_};
 ghost use Prim.Native.Nat.{_<_, min};
 ghost use lib.ListN.{set};
 ghost use Rattle.bridges.specs.Slices.{at, marking};
-use crate::casts::size;
 use crate::frame::Frame;
+use wire::size;
 
 // When the region was found, 0 if it was not.
 pub fn time_of(disc: &[u32; 8192], region: u32) -> u32

@@ -3,7 +3,6 @@ ghost use mathlib.Core.Path.{_≡_};
 ghost use Prim.Native.Nat.{_+_, _<_};
 ghost use Rattle.bridges.specs.Marks.{recordsOf, bridgeMarks};
 ghost use Rattle.bridges.specs.Slices.{at, Graph, Owners, Linked, Between};
-use crate::casts::size;
 use crate::frame::after;
 use crate::frame::opened;
 use crate::frame::other_end;
@@ -12,6 +11,7 @@ use crate::stack::leave;
 use crate::stack::load;
 use crate::stack::save;
 use crate::stack::time_of;
+use wire::size;
 
 // Walks all that is connected with root, an end of record r that was not found before, and marks the bridges there. Gives the time of the last region found.
 fn walk(

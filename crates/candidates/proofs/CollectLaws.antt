@@ -18,7 +18,8 @@ use Rattle.order.proofs.Keep.{keep-append}
 use Rattle.topology.specs.AnchorLoop.{anchoredBy}
 use Rattle.groups.specs.Links.{LinkAt}
 use Rattle.groups.specs.Tables.{linksIn}
-use Rattle.candidates.specs.Owners.{recordIn, OwnersBelow}
+use Rattle.graph.specs.Records.{recordIn}
+use Rattle.candidates.specs.Owners.{OwnersBelow}
 use Rattle.candidates.specs.Next.{nextAfter}
 use Rattle.candidates.specs.Gives.{hasRegion, TwoBelow, joinsTwo}
 use Rattle.candidates.specs.Touchers.{touchingAfter}

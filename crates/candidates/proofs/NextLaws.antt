@@ -11,8 +11,8 @@ use lib.Dec.{eqb, ltb}
 use lib.ListN.{length, getD}
 use Rattle.order.proofs.Bools.{and-parts, or-cases}
 use Rattle.order.proofs.Members.{getD-mem}
-use Rattle.graph.specs.Records.{Record}
-use Rattle.candidates.specs.Owners.{recordIn, inRecord, OwnersBelow}
+use Rattle.graph.specs.Records.{Record, recordIn}
+use Rattle.candidates.specs.Owners.{inRecord, OwnersBelow}
 use Rattle.candidates.specs.Touchers.{touchingAfter, touchers}
 use Rattle.candidates.specs.Next.{nearer, nextAfter}
 use Rattle.candidates.specs.Gives.{hasRegion}

@@ -13,9 +13,10 @@ use Rattle.order.specs.Pairs.{Pairs, none, more}
 use Rattle.order.proofs.Keep.{keep-append, keep-all, keep-none}
 use Rattle.order.proofs.Pairs.{pairs-append}
 use Rattle.position.specs.declared.Span.{Span}
-use Rattle.graph.specs.Records.{Record}
+use Rattle.graph.specs.Records.{Record, recordIn, noRecord}
 use Rattle.grid.specs.Cells.{Grid}
 use Rattle.areas.specs.Assessments.{RegionPair, recordOf, owned, assess, records}
+use Rattle.areas.specs.Arrays.{recordsIn}
 use Rattle.position.specs.Order.{posSame}
 use Rattle.topology.specs.Numbers.{isFull}
 use Rattle.topology.specs.FullPair.{noPair, hasFullPair}
@@ -23,8 +24,8 @@ use Rattle.topology.specs.Listing.{Item}
 use Rattle.groups.specs.Listing.{noItem, noSpan, spansOf}
 use Rattle.groups.specs.Regions.{assessAt}
 use Rattle.groups.specs.Links.{linkable}
-use Rattle.groups.specs.Tables.{recordsIn, Boundaries, Counted, Paired, FirstPairs}
-use Rattle.candidates.specs.Owners.{recordIn, noRecord, ofOwner, Firsts}
+use Rattle.groups.specs.Tables.{Boundaries, Counted, Paired, FirstPairs}
+use Rattle.candidates.specs.Owners.{ofOwner, Firsts}
 use Rattle.candidates.specs.Linkable.{canLink}
 
 of-rank : (s : ℕ) (ps : List RegionPair) {r : Record} → List·Memᴰ r (map (recordOf s) ps) → r .owner ≡ s

@@ -19,17 +19,18 @@ use Rattle.order.proofs.Members.{getD-mem, mem-getD}
 use Rattle.order.proofs.Pairs.{pairs-append, pairs-at, pairs-ext}
 use Rattle.order.proofs.Keep.{keep-mem, mem-keep, keep-pairs}
 use Rattle.order.proofs.Numbers.{up-mem, mem-up, up-strict}
-use Rattle.graph.specs.Records.{Record}
+use Rattle.graph.specs.Records.{Record, recordIn}
 use Rattle.grid.specs.Cells.{Grid}
 use Rattle.areas.specs.Assessments.{Assessment, recordOf, regionsOf, assess, records}
+use Rattle.areas.specs.Arrays.{recordsIn}
 use Rattle.areas.proofs.Records.{records-iff}
 use Rattle.topology.specs.FullPair.{touches}
 use Rattle.topology.proofs.FullPair.{touches-iff}
 use Rattle.topology.specs.Listing.{Item}
 use Rattle.groups.specs.Listing.{noSpan, spansOf}
 use Rattle.groups.specs.Regions.{assessAt, touching}
-use Rattle.groups.specs.Tables.{recordsIn, Paired}
-use Rattle.candidates.specs.Owners.{recordIn, inRecord}
+use Rattle.groups.specs.Tables.{Paired}
+use Rattle.candidates.specs.Owners.{inRecord}
 use Rattle.candidates.specs.Touchers.{withOwner, touched, touchingAfter, touchers}
 use Rattle.candidates.specs.declared.touching.Touching.{Touching}
 use Rattle.candidates.proofs.OwnerLaws.{owned-rising, span-of}

@@ -9,7 +9,7 @@ use Rattle.order.specs.Lists.{keep, upFrom}
 use Rattle.topology.specs.AnchorLoop.{anchoredBy}
 use Rattle.groups.specs.Links.{LinkAt}
 use Rattle.groups.specs.Tables.{linksIn}
-use Rattle.candidates.specs.Owners.{recordIn}
+use Rattle.graph.specs.Records.{recordIn}
 use Rattle.candidates.specs.Touchers.{touchingAfter}
 use Rattle.candidates.specs.Gives.{joinsTwo}
 use Rattle.candidates.specs.declared.touching.Touching.{Touching}

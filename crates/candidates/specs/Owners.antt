@@ -8,12 +8,7 @@ use lib.ListN.{length, getD}
 use Rattle.lists.specs.Rows.{rows}
 use Rattle.order.specs.Lists.{keep}
 use Rattle.graph.specs.Records.{Record}
-
-abbrev pub recordIn : List ℕ → List ℕ → List ℕ → ℕ → Record
-recordIn owners lefts rights k = record { owner = getD owners k 0; left = getD lefts k 0; right = getD rights k 0 }
-
-abbrev pub noRecord : Record
-noRecord = record { owner = 0; left = 0; right = 0 }
+pub use Rattle.graph.specs.Records.{recordIn, noRecord}
 
 -- the region is one of the record's two
 abbrev pub inRecord : ℕ → Record → Bool

@@ -11,12 +11,7 @@ ghost use Rattle.candidates.specs.Gives.{hasRegion, OnMap, OwnBounded, T
 use links::geometry::centres_differ;
 use marking::spans::span_at;
 use topology::anchored::is_anchored;
-
-fn size(x: u32) -> usize
-    ensures { λ r. ⌜ (r ≡ x) × (r < 4294967296) ⌝ }
-{
-    x as usize
-}
+use wire::size;
 
 // The rank can be linked, and the region is one of its pair.
 fn has_region(

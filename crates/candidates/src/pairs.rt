@@ -5,12 +5,7 @@ ghost use Prim.Native.Nat.{ℕ, _+_, _<_, _≤_};
 ghost use lib.Dec.{eqb};
 ghost use lib.ListN.{length, getD, set};
 ghost use Rattle.candidates.specs.Owners.{OwnersBelow, Firsts};
-
-fn size(x: u32) -> usize
-    ensures { λ r. ⌜ (r ≡ x) × (r < 4294967296) ⌝ }
-{
-    x as usize
-}
+use wire::size;
 
 // One pair more of a rank.
 fn add_pair(

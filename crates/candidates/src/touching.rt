@@ -3,7 +3,7 @@ ghost use mathlib.Core.Path.{_≡_};
 ghost use mathlib.Core.Bool.{cond, _||_};
 ghost use Prim.Native.Nat.{_≤_, _<_};
 ghost use lib.Dec.{eqb};
-ghost use Rattle.candidates.specs.Owners.{recordIn};
+ghost use Rattle.graph.specs.Records.{recordIn};
 ghost use Rattle.candidates.specs.Touchers.{withOwner, touched, touchingAfter};
 
 // How many owners touch a region, the first two, and the last.

@@ -1,14 +1,13 @@
 -- One more byte copied.
 use mathlib.Core.Path.{_≡_, refl, sym, _∙_, ap}
-use mathlib.Core.List.{List, [], _∷_, _++_}
+use mathlib.Core.List.{List, [], _∷_}
 use Prim.Native.Nat.{ℕ, suc, _+_, _≤_, _<_}
 use native.Mathlib.Omega.{arith}
-use lib.ListN.{length, getD, set, take, drop}
-use lib.Seq.{set-split}
+use lib.ListN.{length, getD, set}
 use Rattle.lists.specs.Rows.{rows}
 use Rattle.lists.proofs.Rows.{length-rows, rows-last}
 use Rattle.wire.specs.Bytes.{splice}
-use Rattle.wire.proofs.Parts.{length-splice, splice-splice}
+use Rattle.wire.proofs.Parts.{set-splice, length-splice, splice-splice}
 use Rattle.chokes.specs.Marking.{copied}
 
 pub record Copied (from : List ℕ) (n : ℕ) (start to : List ℕ) (i : ℕ) : Type 0 where
@@ -25,10 +24,6 @@ copied-long {from} {n} {start} {to} {i} c =
     ap (λ (l : List ℕ). length l) (c .is)
     ∙ length-splice start 0 (rows i (λ k. getD from k 0)) (omega (arith, c .below, c .room, length-rows i (λ k. getD from k 0)))
 
-one-byte : (l : List ℕ) (i v : ℕ) → i < length l → set l i v ≡ splice l i (v ∷ [])
-unfolding splice
-one-byte l i v h = set-split l i v h ∙ (let z : suc i ≡ i + 1 = omega arith in ap (λ (k : ℕ). take i l ++ (v ∷ drop k l)) z)
-
 pub copied-next : {from : List ℕ} {n : ℕ} {start to : List ℕ} {i : ℕ} → Copied from n start to i → i < n → Copied from n start (set to i (getD from i 0)) (i + 1)
 copied-next {from} {n} {start} {to} {i} c h = record {
   is =
@@ -36,7 +31,7 @@ copied-next {from} {n} {start} {to} {i} c h = record {
       let len = length-rows i f in
       let z : i ≡ 0 + length (rows i f) = omega (arith, len) in
       let q : suc i ≡ i + 1 = omega arith in
-      one-byte to i (f i) (omega (arith, copied-long c, c .room))
+      set-splice to i (f i) (omega (arith, copied-long c, c .room))
       ∙ (ap (λ (l : List ℕ). splice l i (f i ∷ [])) (c .is)
       ∙ (ap (λ (k : ℕ). splice (splice start 0 (rows i f)) k (f i ∷ [])) z
       ∙ (splice-splice start 0 (rows i f) (omega (arith, len, c .room)) (f i ∷ [])

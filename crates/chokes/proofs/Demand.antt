@@ -25,9 +25,10 @@ use Rattle.results.proofs.Results.{reduced-success}
 use Rattle.results.proofs.Planned.{groups-unmatched}
 use Rattle.results.proofs.Rules.{listing-independent, rules-well}
 
-start : (s bs : List ℕ) → take (length bs) (splice s 0 bs) ≡ bs
+-- What was written at the start of a slice is what the slice starts with.
+pub first-written : (s bs : List ℕ) → take (length bs) (splice s 0 bs) ≡ bs
 unfolding splice
-start s bs = take-at bs (drop (0 + length bs) s) (length bs) refl
+first-written s bs = take-at bs (drop (0 + length bs) s) (length bs) refl
 
 -- The calls' contracts, as `Made` takes them.
 pub reduce-left : (s work answer : List ℕ) → reduceResult s work answer ≡ left limits000 eight (reduce s) work answer
@@ -54,7 +55,7 @@ module _ (limits : Limits) (dirs : List ℕ) where
         m .promised ∙ reduced-success limits dirs (checksOf (m .call)) (jobOf (m .call)) (spansOf (m .call)) (m .work) (m .answer) (a .input) (a .room) (a .pairs) (a .fits)
 
     wrote-answer : wrote limits dirs m ≡ given
-    wrote-answer = ap (λ (o : Outcome). take (o .detail) (o .out)) made ∙ start (m .answer) given
+    wrote-answer = ap (λ (o : Outcome). take (o .detail) (o .out)) made ∙ first-written (m .answer) given
 
     succeeded : m .after .number ≡ 0
     succeeded = ap (λ (o : Outcome). o .number) made

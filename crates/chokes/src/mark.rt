@@ -9,7 +9,6 @@ ghost use Rattle.results.specs.Results.{ownEnds, leftBy};
 use analysis::ChokesResult;
 use analysis::MAX_PAIRS;
 use analysis::analyse;
-use analysis::size;
 use format::BOUNDARY_SIZE;
 use format::HEADER_SIZE;
 use format::Header;
@@ -17,6 +16,7 @@ use format::read_header;
 use job::check_mark;
 use ranks::fill_identity;
 use ranks::fill_spans;
+use wire::size;
 
 // Partitions a job by its boundaries' own ends; gives the number of region pairs.
 fn analyse_boundaries(job: &[u8], h: Header, work: &mut [u8], marks: &mut [u8; 256]) -> usize

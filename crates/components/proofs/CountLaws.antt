@@ -7,11 +7,10 @@ use native.Mathlib.Omega.{arith}
 use borrow.Author.Tests.{eq-eqb, ne-eqb}
 use lib.Dec.{eqb}
 use lib.ListN.{length, set, take, drop, replicate, length-append, length-replicate, take-append-drop}
-use lib.Seq.{set-split}
 use Rattle.order.specs.Lists.{keep}
 use Rattle.order.proofs.Keep.{keep-append}
 use Rattle.wire.specs.Bytes.{splice}
-use Rattle.wire.proofs.Parts.{splice-splice, length-splice}
+use Rattle.wire.proofs.Parts.{set-splice, splice-splice, length-splice}
 use Rattle.areas.specs.Areas.{cellCount}
 use Rattle.components.specs.Forests.{word}
 use Rattle.components.specs.Numbered.{words}
@@ -31,10 +30,6 @@ count-next w n r =
 zeros-last : (k : ℕ) → _≡_ {A = List ℕ} (replicate k 0 ++ (0 ∷ [])) (replicate (suc k) 0)
 zeros-last zero = refl
 zeros-last (suc k) = ap (λ (l : List ℕ). 0 ∷ l) (zeros-last k)
-
-set-splice : (w : List ℕ) (i v : ℕ) → i < length w → set w i v ≡ splice w i (v ∷ [])
-unfolding splice
-set-splice w i v l = set-split w i v l ∙ ap (λ (k : ℕ). take i w ++ (v ∷ drop k w)) (let z : suc i ≡ i + 1 = omega arith in z)
 
 pub fill-start : (s : List ℕ) (from : ℕ) → s ≡ splice s from (replicate (from - from) 0)
 unfolding splice

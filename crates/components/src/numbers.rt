@@ -8,18 +8,13 @@ ghost use Rattle.graph.specs.Labelling.{Among};
 ghost use Rattle.components.specs.Forests.{word, Forest};
 ghost use Rattle.components.specs.Numbered.{walks, nextLabel, Numbered};
 use wire::read_u32;
+use wire::size;
 use wire::write_u32;
 
 fn larger(a: u32, b: u32) -> u32
     ensures { λ r. ⌜ r ≡ max a b ⌝ }
 {
     if a < b { b } else { a }
-}
-
-fn size(x: u32) -> usize
-    ensures { λ r. ⌜ (r ≡ x) × (r < 4294967296) ⌝ }
-{
-    x as usize
 }
 
 fn label_of(cells: &[u8], work: &[u8], i: usize, count: u32) -> u32

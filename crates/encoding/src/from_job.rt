@@ -1,5 +1,4 @@
 // A job's answer, from the order of its boundaries and the plan of what goes into what.
-ghost use mathlib.Core.Path.{_≡_};
 ghost use mathlib.Core.List.{List, map};
 ghost use Prim.Native.Nat.{ℕ};
 ghost use lib.ListN.{getD};
@@ -19,6 +18,7 @@ use crate::whole::write_kept;
 use answer::placing::place_all;
 use format::Header;
 use gathering::kept::gather_kept;
+use wire::size;
 
 // The answer from what was worked out by place.
 fn write_placed(
@@ -84,12 +84,6 @@ fn write_placed(
         keys,
         answer,
     )
-}
-
-fn size(x: u32) -> usize
-    ensures { λ r. ⌜ r ≡ x ⌝ }
-{
-    x as usize
 }
 
 // The answer's length; the answer itself where it fits.

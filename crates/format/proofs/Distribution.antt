@@ -111,17 +111,18 @@ unfolding observationsWith sourceCount sum flatMap
 observed-with [] ss = refl
 observed-with (o ∷ os) ss = rw (observed-with os (drop (o .sources) ss)) (sym (take-add (o .sources) (sourceCount os) ss))
 
-length-with : (os : List ObservationRecord) (ss : List Source) → length (observationsWith os ss) ≡ length os
+-- An observation for each record.
+pub length-observationsWith : (os : List ObservationRecord) (ss : List Source) → length (observationsWith os ss) ≡ length os
 unfolding observationsWith
-length-with [] ss = refl
-length-with (o ∷ os) ss = ap suc (length-with os (drop (o .sources) ss))
+length-observationsWith [] ss = refl
+length-observationsWith (o ∷ os) ss = ap suc (length-observationsWith os (drop (o .sources) ss))
 
 boundary-record : (r : BoundaryRecord) (os : List ObservationRecord) (ss : List Source)
     → length os ≡ r .observations → r .sources ≤ length ss → r .ramp .zero ≡ 0 → boundaryRecord (boundaryWith r os ss) ≡ r
 unfolding boundaryRecord boundaryWith rampRecord rampOf
 boundary-record r os ss n l z =
     let e : length (take (r .sources) ss) ≡ r .sources = length-take-le (r .sources) ss l in
-    let f : length (observationsWith os (drop (r .sources) ss)) ≡ r .observations = length-with os (drop (r .sources) ss) ∙ n in
+    let f : length (observationsWith os (drop (r .sources) ss)) ≡ r .observations = length-observationsWith os (drop (r .sources) ss) ∙ n in
     λ i. record {
       ends = r .ends;
       bits = r .bits;

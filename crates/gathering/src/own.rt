@@ -10,9 +10,9 @@ ghost use Rattle.answer.specs.Laying.{below};
 ghost use Rattle.gathering.specs.Runs.{Added, going, ownAt, ownRun, ownWeight, into, OwnsBy, ownTotal};
 ghost use Rattle.gathering.specs.Room.{OwnRoom, OwnsRoom};
 use crate::casts::counted;
-use crate::casts::size;
 use crate::runs::append_keys;
 use sorting::numbers::sort_unique;
+use wire::size;
 
 // The own sources of rank j, if it goes into rank i: where they end.
 fn add_own(

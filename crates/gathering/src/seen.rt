@@ -11,11 +11,11 @@ ghost use Rattle.answer.specs.Gathered.{placesFrom};
 ghost use Rattle.gathering.specs.Runs.{Added, going, placesAt, seenRun, seenWeight, into, SeensBy, seenTotal};
 ghost use Rattle.gathering.specs.Room.{SeenRoom, SeensRoom};
 use crate::casts::counted;
-use crate::casts::size;
 use crate::runs::append_places;
 use format::BOUNDARY_SIZE;
 use format::read_boundary;
 use sorting::places::sort_places;
+use wire::size;
 
 // How many ranks go into rank i.
 fn count_going(plan: &[u32; 256], n: usize, i: usize) -> usize

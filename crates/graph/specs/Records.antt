@@ -16,6 +16,10 @@ pub record Record : Type 0 where
 abbrev pub noRecord : Record
 noRecord = record { owner = 0; left = 0; right = 0 }
 
+-- record k of three arrays
+abbrev pub recordIn : List ℕ → List ℕ → List ℕ → ℕ → Record
+recordIn owners lefts rights k = record { owner = getD owners k 0; left = getD lefts k 0; right = getD rights k 0 }
+
 -- the record at a place
 abbrev pub at : List Record → ℕ → Record
 at rs k = getD rs k noRecord

@@ -7,11 +7,11 @@ use lib.ListN.{length, getD}
 use Rattle.lists.specs.Rows.{rows}
 use Rattle.position.specs.declared.WalkPosition.{WalkPosition}
 use Rattle.format.specs.Bounds.{maxWidthBits}
-use Rattle.graph.specs.Records.{Record}
 use Rattle.grid.specs.Cells.{Grid}
-use Rattle.areas.specs.Bounds.{Bounded}
+use Rattle.position.specs.Bounds.{Bounded}
 use Rattle.areas.specs.Spans.{spanIn}
 use Rattle.areas.specs.Assessments.{records}
+use Rattle.areas.specs.Arrays.{recordsIn}
 use Rattle.topology.specs.FullPair.{fullPair}
 use Rattle.topology.specs.Listing.{Item}
 use Rattle.groups.specs.Listing.{spansOf, boundaryAt, endsAt, bitsAt}
@@ -26,11 +26,6 @@ pub record Boundaries (l : List Item) (own bits ramps : List ℕ) : Type 0 where
   pub widths : (i : ℕ) → i < length l → bitsAt l i ≡ getD bits i 0
   pub fitting : (i : ℕ) → i < length l → bitsAt l i ≤ maxWidthBits
   pub ramp-ends : (i : ℕ) → i < length l → boundaryAt l i .ramp .end ≡ getD ramps i 0
-
--- the first n records of three arrays
-unfoldable pub recordsIn : List ℕ → List ℕ → List ℕ → ℕ → List Record
-unfolding rows
-recordsIn owners lefts rights n = rows n (λ k. record { owner = getD owners k 0; left = getD lefts k 0; right = getD rights k 0 })
 
 module _ (dirs : List ℕ) (g : Grid) (l : List Item) where
   -- steps removed and separated by each span
@@ -53,10 +48,14 @@ module _ (dirs : List ℕ) (g : Grid) (l : List Item) where
   pub record Bridged (marks : List ℕ) : Type 0 where
     pub marks-are : (i : ℕ) → i < length l → getD marks i 0 ≡ cond (bridgeAt dirs g l i) 1 0
 
--- the first n links of three arrays
+-- link k of three arrays
+abbrev pub linkRow : List ℕ → List ℕ → List ℕ → ℕ → LinkAt
+linkRow regions firsts seconds k = record { region = getD regions k 0; first = getD firsts k 0; second = getD seconds k 0 }
+
+-- the first n of them
 unfoldable pub linksIn : List ℕ → List ℕ → List ℕ → ℕ → List LinkAt
 unfolding rows
-linksIn regions firsts seconds n = rows n (λ k. record { region = getD regions k 0; first = getD firsts k 0; second = getD seconds k 0 })
+linksIn regions firsts seconds n = rows n (linkRow regions firsts seconds)
 
 -- the links of the map, in the order of their regions
 pub record Linked (dirs : List ℕ) (g : Grid) (anchors : List WalkPosition) (l : List Item) (regions firsts seconds : List ℕ) (n : ℕ) : Type 0 where

@@ -8,7 +8,6 @@ use crate::bases::check_bases;
 use crate::boundaries::check_ends;
 use crate::boundaries::check_ramps;
 use crate::boundaries::check_widths;
-use crate::casts::size;
 use crate::cells::check_cells;
 use crate::header::check_header;
 use crate::spans::check_list;
@@ -17,6 +16,7 @@ use crate::verdict::Verdict;
 use format::HEADER_SIZE;
 use format::Header;
 use format::read_header;
+use wire::size;
 
 // 1 to 5.
 fn check_layout(job: &[u8]) -> Verdict

@@ -9,10 +9,10 @@ ghost use Rattle.job.specs.SpanEnds.{spanEnds};
 ghost use Rattle.job.specs.Verdict.{passes};
 use crate::calls::check_reduce;
 use crate::calls::check_reduce_by_list;
-use crate::casts::size;
 use format::BOUNDARY_SIZE;
 use format::SPAN_SIZE;
 use format::read_header;
+use wire::size;
 
 // Reduce takes the job, and it has a boundary i.
 fn job_has(job: &[u8], i: usize) -> bool

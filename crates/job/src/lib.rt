@@ -2,7 +2,6 @@
 mod bases;
 mod boundaries;
 mod calls;
-mod casts;
 mod cells;
 mod ends;
 mod header;

@@ -7,13 +7,13 @@ ghost use Rattle.format.specs.Decode.{boundaryRecords, observationRecords, obse
 ghost use Rattle.format.specs.Bounds.{maxBoundaries, maxObservations};
 ghost use Rattle.job.specs.Passed.{Laid};
 ghost use Rattle.job.specs.Refusals.{sumsFault};
-use crate::casts::size;
-use crate::casts::wide;
 use format::BOUNDARY_SIZE;
 use format::Header;
 use format::OBSERVATION_SIZE;
 use format::read_boundary;
 use format::read_observation;
+use wire::size;
+use wire::wide;
 
 fn observation_total(job: &[u8], at: usize, n: usize) -> u64
     requires { ⌜ (at + n * boundarySize ≤ length (now job)) × (n ≤ maxBoundaries) ⌝ }

@@ -1,21 +1,16 @@
--- Points, directions and bounds as the code holds them, and the positions that a map can have.
-use Prim.Native.Nat.{ℕ, _≤_}
+-- Points, directions and bounds as the code holds them, and the spans that a map can have.
+use Prim.Native.Nat.{ℕ}
 use mathlib.Core.Bool.{not, cond}
 use lib.Dec.{T}
 use lib.Ieee.{Float, binary64, ofBits, lt, isNan}
 use Rattle.position.specs.Order.{swapped}
-use Rattle.position.specs.declared.PixelPosition.{PixelPosition}
+use Rattle.position.specs.Bounds.{Bounded}
 use Rattle.position.specs.declared.Span.{Span}
 use Rattle.length.specs.Floats.{_⊕_, _⊗_, whole}
 use Rattle.links.specs.Geometry.{Vector, Doubled, four, eight, pointOf, dot}
 use Rattle.links.specs.Link.{Bounds, widened}
 use Rattle.links.specs.declared.geometry.Point.{Point}
 use Rattle.links.specs.declared.geometry.Range.{Range}
-
--- Each coordinate is at most 8 · 1,024.
-pub record Bounded (p : PixelPosition) : Type 0 where
-  pub column : p .x ≤ 8192
-  pub row : p .y ≤ 8192
 
 pub record SpanBounded (s : Span) : Type 0 where
   pub first : Bounded (s .a)

@@ -6,7 +6,7 @@ use Prim.Native.Nat.{ℕ, _*_, _≤_}
 use native.Mathlib.Omega.{arith}
 use lib.ListN.{length, getD}
 use Rattle.lists.specs.Rows.{rows, sum}
-use Rattle.wire.specs.Bytes.{part, number, bytes, numberAt, u32At}
+use Rattle.wire.specs.Bytes.{words, part, number, bytes, numberAt, u32At}
 use Rattle.format.specs.Values.{Boundary}
 use Rattle.format.specs.Encode.{observationsOf, sourcesOf, answerWords, encodeAnswer}
 use Rattle.format.specs.Fits.{AnswerFits}
@@ -16,7 +16,7 @@ use Rattle.format.proofs.AnswerTrip.{length-encodeAnswer, answer-words, decodeA
 use Rattle.listing.specs.Digits.{glyph, lastDigits, placesFrom, places, digits, hexDigits}
 use Rattle.listing.specs.Lines.{fieldText, bitsText, endsText, rampText, sourceLine, sourceLines, observationFields, observationLine, observationText, observationTexts, boundaryFields, boundaryLine, boundaryText, boundaryTexts, keptLine, listingOf}
 use Rattle.listing.specs.Answer.{answerLength, whole, listing}
-use Rattle.listing.specs.Corridor.{words, corridorBytes, corridorText}
+use Rattle.listing.specs.Corridor.{corridorBytes, corridorText}
 use Rattle.listing.proofs.Sizing.{is-whole}
 
 -- "Here it prints": the corridor's answer, in a slice of three times its length.

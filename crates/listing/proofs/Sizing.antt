@@ -2,7 +2,7 @@
 use mathlib.Core.Path.{_≡_, refl, sym, _∙_, ap, subst}
 use mathlib.Core.Bool.{Bool, true, false, cond, _&&_}
 use mathlib.Core.List.{List, [], _∷_, _++_, flatMap, append-nil}
-use Prim.Native.Nat.{ℕ, suc, _+_, _*_, _≤_, _<_}
+use Prim.Native.Nat.{ℕ, _+_, _*_, _≤_, _<_}
 use native.Mathlib.Omega.{arith}
 use borrow.Author.Tests.{le-leb, lt-leb}
 use lib.Dec.{leb}
@@ -12,6 +12,7 @@ use Rattle.lists.specs.Rows.{sum, All, more}
 use Rattle.lists.proofs.Rows.{length-rows}
 use Rattle.position.specs.declared.Span.{Span}
 use Rattle.wire.specs.Bytes.{AreBytes, u32At}
+use Rattle.wire.proofs.Parts.{splice-none}
 use Rattle.format.specs.Values.{Ramp, Boundary}
 use Rattle.format.specs.Fits.{SourceFits, SpanFits, RampFits, ObservationFits, BoundaryFits}
 use Rattle.format.specs.Records.{boundaryAt, observationAt, sourceAt}
@@ -19,10 +20,11 @@ use Rattle.format.specs.Decode.{boundaryRecords, observationRecords, sourceReco
 use Rattle.format.specs.declared.records.BoundaryRecord.{BoundaryRecord}
 use Rattle.format.specs.declared.records.ObservationRecord.{ObservationRecord}
 use Rattle.format.specs.declared.records.Source.{Source}
+use Rattle.format.proofs.Distribution.{length-observationsWith, length-boundariesWith}
 use Rattle.format.proofs.BoundaryTrips.{decoded-within}
 use Rattle.listing.specs.Lines.{newline, fieldText, bitsText, endsText, rampText, sourceLine, sourceLines, observationFields, observationLine, observationText, observationTexts, boundaryFields, boundaryLine, boundaryText, boundaryTexts, keptLine, listingOf}
 use Rattle.listing.specs.Answer.{Writes, answerLength, whole, listing}
-use Rattle.listing.proofs.Writing.{Left, start, splice-none}
+use Rattle.listing.proofs.Writing.{Left, start}
 use Rattle.listing.proofs.Pieces.{word-length, byte-length, length-bits}
 
 ends-most : (e : Span) → SpanFits e → length (endsText e) ≤ 44
@@ -109,11 +111,6 @@ observations-most (o ∷ os) ss (more p h) k =
       observations-most os d h (omega (arith, parts (o .sources) ss)),
     )
 
-length-observed : (os : List ObservationRecord) (ss : List Source) → length (observationsWith os ss) ≡ length os
-unfolding observationsWith
-length-observed [] ss = refl
-length-observed (o ∷ os) ss = ap suc (length-observed os (drop (o .sources) ss))
-
 boundaries-most : (bs : List BoundaryRecord) (os : List ObservationRecord) (ss : List Source) → All BoundaryFits (boundariesWith bs os ss) → length os < 4_294_967_296 → length ss < 4_294_967_296
     → length (boundaryTexts (boundariesWith bs os ss)) ≤ length bs * 120 + length os * 84 + length ss * 24
 unfolding boundaryTexts boundariesWith boundaryWith boundaryText boundaryLine flatMap
@@ -132,17 +129,12 @@ boundaries-most (r ∷ rs) os ss (more p h) i j =
       length-append (line ++ (sourceLines t ++ lines)) (boundaryTexts (boundariesWith rs (drop (r .observations) os) others)),
       length-append line (sourceLines t ++ lines),
       length-append (sourceLines t) lines,
-      boundary-most (r .ends) (r .bits) (length t) (length (observationsWith seen d)) (boundaryWith r seen ss .ramp) (p .ends) (omega (arith, parts (r .sources) ss)) (omega (arith, length-observed seen d, parts (r .observations) os)) (p .ramp),
+      boundary-most (r .ends) (r .bits) (length t) (length (observationsWith seen d)) (boundaryWith r seen ss .ramp) (p .ends) (omega (arith, parts (r .sources) ss)) (omega (arith, length-observationsWith seen d, parts (r .observations) os)) (p .ramp),
       sources-most t (p .sources),
       observations-most seen d (p .observations) (omega (arith, parts (r .sources) ss)),
       ap length (drop-drop (sourceCount seen) (r .sources) ss),
       boundaries-most rs (drop (r .observations) os) others h (omega (arith, parts (r .observations) os)) (omega (arith, parts (r .sources + sourceCount seen) ss)),
     )
-
-length-bounded : (bs : List BoundaryRecord) (os : List ObservationRecord) (ss : List Source) → length (boundariesWith bs os ss) ≡ length bs
-unfolding boundariesWith
-length-bounded [] os ss = refl
-length-bounded (r ∷ rs) os ss = ap suc (length-bounded rs (drop (r .observations) os) (drop (r .sources + sourceCount (take (r .observations) os)) ss))
 
 and-false : (b : Bool) → b && false ≡ false
 and-false true = refl
@@ -192,7 +184,7 @@ module _ (s out : List ℕ) where
 
     count : length records ≡ b
     unfolding decodeBoundaries boundaryRecords
-    count = length-bounded (boundaryRecords s 24 b) (observationRecords s (24 + b * 40) o) (sourceRecords s (24 + b * 40 + o * 28) n) ∙ length-rows b (λ i. boundaryAt s (24 + i * 40))
+    count = length-boundariesWith (boundaryRecords s 24 b) (observationRecords s (24 + b * 40) o) (sourceRecords s (24 + b * 40 + o * 28) n) ∙ length-rows b (λ i. boundaryAt s (24 + i * 40))
 
     most : length (boundaryTexts records) ≤ b * 120 + o * 84 + n * 24
     unfolding decodeBoundaries boundaryRecords observationRecords sourceRecords

@@ -11,8 +11,7 @@ use borrow.Author.Tests.{lt-ltb, le-ltb}
 use lib.ListN.{length, set, take, drop, length-append}
 use lib.Seq.{set-append-left, take-set-lt, take-suc-set, length-take-le}
 use Rattle.wire.specs.Bytes.{splice}
-use Rattle.wire.proofs.Parts.{length-splice}
-use Rattle.listing.proofs.Writing.{splice-none}
+use Rattle.wire.proofs.Parts.{splice-none, length-splice}
 use Rattle.listing.specs.Answer.{Writes}
 use Rattle.listing.specs.Digits.{glyph, lastDigits, placesFrom, places, digits, hexDigits}
 

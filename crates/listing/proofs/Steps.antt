@@ -14,6 +14,7 @@ use Rattle.format.specs.Decode.{boundaryRecords, observationRecords, sourceReco
 use Rattle.format.specs.declared.records.BoundaryRecord.{BoundaryRecord}
 use Rattle.format.specs.declared.records.ObservationRecord.{ObservationRecord}
 use Rattle.format.specs.declared.records.Source.{Source}
+use Rattle.format.proofs.Distribution.{length-observationsWith}
 use Rattle.listing.specs.Lines.{sourceLine, sourceLines, observationFields, observationLine, observationText, observationTexts, boundaryFields, boundaryLine, boundaryText, boundaryTexts}
 use Rattle.listing.specs.Answer.{Room, Writes, observationsAt, sourcesAt, observationHere, Inside, Moved}
 use Rattle.listing.specs.declared.walk.Cursor.{Cursor}
@@ -258,11 +259,6 @@ module _ (s : List ℕ) (n : ℕ) (c : Cursor) (out : List ℕ) where
       observations = ap (λ (k : ℕ). drop k (observationsAt s d)) (sym over) ∙ l .observations;
       sources = ap (λ (k : ℕ). drop (sourceCount (take k (observationsAt s d))) (sourcesAt s d)) (sym over) ∙ l .sources;
     }
-
-length-observationsWith : (os : List ObservationRecord) (ss : List Source) → length (observationsWith os ss) ≡ length os
-unfolding observationsWith
-length-observationsWith [] ss = refl
-length-observationsWith (o ∷ os) ss = ap suc (length-observationsWith os (drop (o .sources) ss))
 
 -- The boundary at a place is written in three pieces, the last of them from the cursor past its own sources, and then passed.
 module _ (s : List ℕ) (place : ℕ) (c : Cursor) (b : BoundaryRecord) (n m : ℕ) (e : b ≡ boundaryAt s place) (h : n ≡ min (b .sources) (c .sources)) (k : m ≡ min (b .observations) (c .observations)) where

@@ -3,15 +3,11 @@ use mathlib.Core.Path.{_≡_, refl, sym, _∙_, ap, subst}
 use mathlib.Core.List.{List, [], _∷_, _++_, append-assoc, append-nil}
 use Prim.Native.Nat.{ℕ, suc, _+_, _≤_, _<_}
 use native.Mathlib.Omega.{arith}
-use lib.ListN.{length, set, getD, take, drop, length-append, take-append-drop, drop-of-length-le}
-use lib.Seq.{set-split, drop-cons}
+use lib.ListN.{length, set, getD, drop, length-append, drop-of-length-le}
+use lib.Seq.{drop-cons}
 use Rattle.wire.specs.Bytes.{splice}
-use Rattle.wire.proofs.Parts.{length-splice, splice-splice}
+use Rattle.wire.proofs.Parts.{splice-none, set-splice, length-splice, splice-splice}
 use Rattle.listing.specs.Answer.{Room, Writes}
-
-pub splice-none : (s : List ℕ) (i : ℕ) → splice s i [] ≡ s
-unfolding splice
-splice-none s i = let e : i + 0 ≡ i = omega arith in ap (λ (k : ℕ). take i s ++ drop k s) e ∙ take-append-drop i s
 
 -- Texts one after another.
 abbrev pub joined : List (List ℕ) → List ℕ
@@ -70,10 +66,7 @@ module _ {whole out : List ℕ} {at : ℕ} where
 
 -- A store is a text of one byte.
 pub byte-writes : (b : ℕ) (s : List ℕ) (at : ℕ) → at < length s → Writes (b ∷ []) s at (set s at b) (at + 1)
-unfolding splice
-byte-writes b s at h =
-    let e : suc at ≡ at + 1 = omega arith in
-    record { is = set-split s at b h ∙ ap (λ (k : ℕ). take at s ++ (b ∷ drop k s)) e; end = refl }
+byte-writes b s at h = record { is = set-splice s at b h; end = refl }
 
 -- The first i bytes of a text that stands elsewhere are copied.
 abbrev pub Copied : List ℕ → List ℕ → ℕ → List ℕ → ℕ → Type 0

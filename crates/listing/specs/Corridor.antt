@@ -1,11 +1,7 @@
 -- The corridor's answer and its listing (document 01, 'Corridor').
 use Prim.Native.Nat.{ℕ}
-use mathlib.Core.List.{List, [], _∷_, _++_, flatMap}
-use Rattle.wire.specs.Bytes.{u32Bytes, u64Bytes}
-
-unfoldable pub words : List ℕ → List ℕ
-unfolding flatMap
-words ws = flatMap u32Bytes ws
+use mathlib.Core.List.{List, [], _∷_, _++_}
+use Rattle.wire.specs.Bytes.{words, u64Bytes}
 
 -- A width of 8.
 abbrev pub width8 : List ℕ

@@ -1,5 +1,4 @@
 // What choke-list prints: an answer's listing, or a refusal.
-ghost use mathlib.Core.Path.{_≡_};
 ghost use Prim.Native.Nat.{_+_, _*_, _≤_, _<_};
 ghost use lib.ListN.{length};
 ghost use Rattle.wire.specs.Bytes.{splice};
@@ -13,12 +12,7 @@ use crate::lines::write_word;
 use crate::walk::Cursor;
 use crate::walk::write_boundaries;
 use wire::read_u32;
-
-fn size(x: u32) -> usize
-    ensures { λ r. ⌜ (r ≡ x) × (r < 4294967296) ⌝ }
-{
-    x as usize
-}
+use wire::size;
 
 fn write_kept(n: u32, out: &mut [u8], at: usize) -> usize
     requires { ⌜ Room (keptLine n) (now out) at ⌝ }

@@ -16,10 +16,7 @@ use Rattle.areas.specs.Cuts.{cutBy, isCut}
 use Rattle.areas.specs.Open.{isOpen, bitOf, openByte}
 use Rattle.areas.specs.Strip.{InStrip}
 use Rattle.areas.proofs.StripCells.{cut-in}
-
-pub bit-small : (t : Bool) → bitOf t ≤ 1
-bit-small true = omega arith
-bit-small false = omega arith
+use Rattle.areas.proofs.OpenLabels.{bit-small}
 
 -- a byte of four bits
 abbrev pub byteOf : Bool → Bool → Bool → Bool → ℕ

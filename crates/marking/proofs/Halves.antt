@@ -17,7 +17,7 @@ use Rattle.grid.specs.Steps.{leadsOn}
 use Rattle.grid.proofs.Index.{index-split, column-of, row-of, column-in, row-in}
 use Rattle.grid.proofs.Steps.{Leads, leads-means}
 use Rattle.grid.proofs.Reach.{gridOf}
-use Rattle.areas.specs.Bounds.{Bounded}
+use Rattle.position.specs.Bounds.{Bounded}
 use Rattle.areas.specs.Open.{openByte}
 use Rattle.areas.specs.Spans.{Sides, SpanFits}
 use Rattle.areas.specs.Strip.{InRange, InStrip, tall, majorOf, minorOf, stripAxis, stripMinor}
@@ -157,6 +157,7 @@ leads-at w h x y d l e = go (leads-means (gridOf w h []) (y * w + x) d e) (colum
     go : Leads (gridOf w h []) (y * w + x) d → columnOf (gridOf w h []) (y * w + x) ≡ x → rowOf (gridOf w h []) (y * w + x) ≡ y → (0 < x + d % 3) × (x + d % 3 ≤ w) × (0 < y + d / 3) × (y + d / 3 ≤ h)
     go m p q = (omega arith, omega arith, omega arith, omega arith)
 
+-- the ends of a span on the map
 pub ends-bounded : {w h : ℕ} {s : Span} → Sides w h → SpanFits w h s → Bounded (s .a) × Bounded (s .b)
 ends-bounded d f = (record { column = omega arith; row = omega arith }, record { column = omega arith; row = omega arith })
 

@@ -30,9 +30,9 @@ use Rattle.groups.specs.Listing.{endsAt, bitsAt}
 use Rattle.groups.specs.Regions.{regionLabels, cellsOf, statsOf}
 use Rattle.groups.specs.Measuring.{valueOf, measuredAt, passes, staysInside}
 use Rattle.groups.specs.Flat.{isFlat}
-use Rattle.groups.specs.Tables.{Boundaries}
+use Rattle.groups.specs.Tables.{Boundaries, linkRow}
 use Rattle.measures.specs.Tables.{at}
-use Rattle.measures.specs.Judging.{valueIn, linkIn, flatIn, linkNow, statsNow, Running, Judged, Measured}
+use Rattle.measures.specs.Judging.{valueIn, flatIn, linkNow, statsNow, Running, Judged, Measured}
 
 module _ {limits : Limits} {own bits regions firsts seconds : List ℕ} {g : Grid} {ls : List ℕ} where
   pub judge-start : (n : ℕ) → Judged limits own bits regions firsts seconds g ls n 0 (replicate 256 0) (replicate 256 0)
@@ -76,7 +76,7 @@ module _ {limits : Limits} {own bits regions firsts seconds : List ℕ} {g : Gri
   module _ {n links : ℕ} {ps fs : List ℕ} (many : length ls ≡ n) (J : Judged limits own bits regions firsts seconds g ls n links ps fs)
       (dirs : List ℕ) (l : List Item) (ramps : List ℕ) (B : Boundaries l own bits ramps) (labels : ls ≡ regionLabels dirs g l) (k : ℕ) (b : k < links)
       (first : at firsts k < length l) (second : at seconds k < length l) where
-    value : valueIn own bits (at firsts k) (at seconds k) ≡ valueOf l (linkIn regions firsts seconds k)
+    value : valueIn own bits (at firsts k) (at seconds k) ≡ valueOf l (linkRow regions firsts seconds k)
     value =
         ap (λ (s : Span). linkOf (side s (at bits (at firsts k))) (side (spanIn own (at seconds k)) (at bits (at seconds k)))) (sym (B .ends (at firsts k) first))
         ∙ (ap (λ (z : ℕ). linkOf (side (endsAt l (at firsts k)) z) (side (spanIn own (at seconds k)) (at bits (at seconds k)))) (sym (B .widths (at firsts k) first))
@@ -95,32 +95,32 @@ module _ {limits : Limits} {own bits regions firsts seconds : List ℕ} {g : Gri
     stats =
         ap (λ (cs : List ℕ). statsIn (statsAfter g cs)) all ∙ (after-all g ls (at regions k) ∙ ap (λ (t : List ℕ). regionStats g t (at regions k)) labels)
 
-    measure : measuredIn limits (linkNow limits own bits regions firsts seconds g ls k n) ≡ measuredAt limits dirs g l (linkIn regions firsts seconds k)
+    measure : measuredIn limits (linkNow limits own bits regions firsts seconds g ls k n) ≡ measuredAt limits dirs g l (linkRow regions firsts seconds k)
     unfolding measuredAt
     measure =
         after-measured limits (valueIn own bits (at firsts k) (at seconds k)) (g .width) (firstCells ls (at regions k) n)
         ∙ (ap (λ (t : Link). measured limits t (g .width) (firstCells ls (at regions k) n)) value
-        ∙ ap (λ (cs : List ℕ). measured limits (valueOf l (linkIn regions firsts seconds k)) (g .width) cs) cells)
+        ∙ ap (λ (cs : List ℕ). measured limits (valueOf l (linkRow regions firsts seconds k)) (g .width) cs) cells)
 
-    inside : linkNow limits own bits regions firsts seconds g ls k n .inside ≡ staysInside limits dirs g l (linkIn regions firsts seconds k)
+    inside : linkNow limits own bits regions firsts seconds g ls k n .inside ≡ staysInside limits dirs g l (linkRow regions firsts seconds k)
     unfolding linkAfter staysInside
     inside =
         ap (λ (t : Link). insideFlat limits t (g .width) (firstCells ls (at regions k) n)) value
-        ∙ ap (λ (cs : List ℕ). insideFlat limits (valueOf l (linkIn regions firsts seconds k)) (g .width) cs) cells
+        ∙ ap (λ (cs : List ℕ). insideFlat limits (valueOf l (linkRow regions firsts seconds k)) (g .width) cs) cells
 
     flat : (not (statsNow limits own bits regions firsts seconds g ls k n .«has_ramp») && eqb (elevations (statsIn (statsNow limits own bits regions firsts seconds g ls k n))) 1) ≡ isFlat dirs g l (at regions k)
     unfolding isFlat
     flat = ap (λ (t : RegionStats). not (t .hasRamp) && eqb (elevations t) 1) stats
 
-    passing-right : at ps k ≡ cond (passes limits dirs g l (linkIn regions firsts seconds k)) 1 0
+    passing-right : at ps k ≡ cond (passes limits dirs g l (linkRow regions firsts seconds k)) 1 0
     unfolding passes
     passing-right = J .passing-is k b ∙ ap (λ (t : Measure). cond (passing t) 1 0) measure
 
-    flat-right : at fs k ≡ cond (staysInside limits dirs g l (linkIn regions firsts seconds k) && isFlat dirs g l (at regions k)) 1 0
+    flat-right : at fs k ≡ cond (staysInside limits dirs g l (linkRow regions firsts seconds k) && isFlat dirs g l (at regions k)) 1 0
     flat-right =
         J .flat-is k b
         ∙ (ap (λ (t : Bool). cond (t && (not (statsNow limits own bits regions firsts seconds g ls k n .«has_ramp») && eqb (elevations (statsIn (statsNow limits own bits regions firsts seconds g ls k n))) 1)) 1 0) inside
-        ∙ ap (λ (t : Bool). cond (staysInside limits dirs g l (linkIn regions firsts seconds k) && t) 1 0) flat)
+        ∙ ap (λ (t : Bool). cond (staysInside limits dirs g l (linkRow regions firsts seconds k) && t) 1 0) flat)
 
   pub judged-measured : {n links : ℕ} {ps fs : List ℕ} → length ls ≡ n → Judged limits own bits regions firsts seconds g ls n links ps fs → Measured limits own bits regions firsts seconds g ls links ps fs
   judged-measured many J = record {

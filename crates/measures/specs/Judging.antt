@@ -17,10 +17,9 @@ use Rattle.topology.specs.Held.{statsIn, statsAfter, firstCells}
 use Rattle.topology.specs.declared.stats.RegionStats.{RegionStats as StatsHeld}
 use Rattle.topology.specs.Listing.{Item}
 use Rattle.groups.specs.Regions.{regionLabels}
-use Rattle.groups.specs.Links.{LinkAt}
 use Rattle.groups.specs.Measuring.{passes, staysInside}
 use Rattle.groups.specs.Flat.{isFlat}
-use Rattle.groups.specs.Tables.{Boundaries}
+use Rattle.groups.specs.Tables.{Boundaries, linkRow}
 use Rattle.measures.specs.Tables.{at}
 
 -- each coordinate is at most 8 · 1,024, and each width at most that of a job
@@ -36,10 +35,6 @@ pub record Ranks (firsts seconds : List ℕ) (links : ℕ) : Type 0 where
 -- the link of two ranks
 abbrev pub valueIn : List ℕ → List ℕ → ℕ → ℕ → Link
 valueIn own bits first second = linkOf (side (spanIn own first) (at bits first)) (side (spanIn own second) (at bits second))
-
--- link k
-abbrev pub linkIn : List ℕ → List ℕ → List ℕ → ℕ → LinkAt
-linkIn regions firsts seconds k = record { region = at regions k; first = at firsts k; second = at seconds k }
 
 -- a link without a cell for each of the first k
 pub record Filled (own bits firsts seconds : List ℕ) (k : ℕ) (table : List LinkHeld) : Type 0 where
@@ -74,6 +69,6 @@ module _ (limits : Limits) (own bits regions firsts seconds : List ℕ) (g : Gri
   -- where the arrays are those of a listing, and the labels those of its regions: which links pass, and which are flat
   pub record Measured (links : ℕ) (passing-marks flat-marks : List ℕ) : Type 0 where
     pub passing-is : (dirs : List ℕ) (l : List Item) (ramps : List ℕ) → Boundaries l own bits ramps → ls ≡ regionLabels dirs g l → (k : ℕ) → k < links → at firsts k < length l → at seconds k < length l
-        → at passing-marks k ≡ cond (passes limits dirs g l (linkIn regions firsts seconds k)) 1 0
+        → at passing-marks k ≡ cond (passes limits dirs g l (linkRow regions firsts seconds k)) 1 0
     pub flat-is : (dirs : List ℕ) (l : List Item) (ramps : List ℕ) → Boundaries l own bits ramps → ls ≡ regionLabels dirs g l → (k : ℕ) → k < links → at firsts k < length l → at seconds k < length l
-        → at flat-marks k ≡ cond (staysInside limits dirs g l (linkIn regions firsts seconds k) && isFlat dirs g l (at regions k)) 1 0
+        → at flat-marks k ≡ cond (staysInside limits dirs g l (linkRow regions firsts seconds k) && isFlat dirs g l (at regions k)) 1 0

@@ -19,14 +19,8 @@ use links::link::link_of;
 use marking::spans::span_at;
 use topology::stats::RegionStats;
 use wire::read_u32;
+use wire::size;
 use wire::write_u32;
-
-// A number of a table, as an index.
-fn size(x: u32) -> usize
-    ensures { λ r. ⌜ (r ≡ x) × (r < 0x1_0000_0000) ⌝ }
-{
-    x as usize
-}
 
 fn flag(t: bool) -> u8
     ensures { λ r. ⌜ r ≡ cond t 1 0 ⌝ }

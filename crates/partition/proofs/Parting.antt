@@ -20,7 +20,8 @@ use Rattle.areas.proofs.Assessments.{pair-labels}
 use Rattle.areas.proofs.Records.{records-iff}
 use Rattle.components.proofs.LabelWords.{area-count-few, area-label-small, word-read}
 use Rattle.assessments.specs.Holding.{labelsOf}
-use Rattle.assessments.specs.Recording.{recordsIn, assessed, recordsOf, Recorded}
+use Rattle.areas.specs.Arrays.{recordsIn}
+use Rattle.assessments.specs.Recording.{assessed, recordsOf, Recorded}
 use Rattle.partition.specs.Partitioned.{labelled, AreasIn, Regions, Partitioned}
 use Rattle.partition.proofs.Labelling.{flat-long}
 

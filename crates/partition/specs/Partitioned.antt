@@ -10,7 +10,7 @@ use Rattle.grid.specs.Directions.{IsDirection, directionsOf}
 use Rattle.areas.specs.Areas.{areaLabels, areaCount, labelAt}
 use Rattle.areas.specs.Assessments.{assess, records}
 use Rattle.areas.specs.Spans.{Sides, SpansFit, spanIn, spansIn}
-use Rattle.assessments.specs.Recording.{recordsIn}
+use Rattle.areas.specs.Arrays.{recordsIn}
 use Rattle.partition.specs.declared.Partition.{Partition}
 
 -- "a u32 label per cell first, then zeros to ten times the cells; later bytes are unchanged"

@@ -9,11 +9,9 @@ use lib.ListN.{length, getD}
 use Rattle.order.proofs.Members.{getD-mem}
 use Rattle.lists.specs.Rows.{rows}
 use Rattle.lists.proofs.Rows.{length-rows, rows-at}
-use Rattle.position.specs.declared.PixelPosition.{PixelPosition}
 use Rattle.position.specs.declared.WalkPosition.{WalkPosition}
 use Rattle.grid.specs.Cells.{Grid}
-use Rattle.areas.specs.Bounds as area
-use Rattle.links.specs.Held.{Bounded, SpanBounded}
+use Rattle.links.specs.Held.{SpanBounded}
 use Rattle.links.specs.Limits.{Limits}
 use Rattle.topology.specs.FullPair.{fullPair}
 use Rattle.topology.specs.Numbers.{pairOf}
@@ -22,9 +20,9 @@ use Rattle.groups.specs.Regions.{assessAt}
 use Rattle.groups.specs.Links.{LinkAt, links, IsLink}
 use Rattle.groups.specs.Measuring.{passes, staysInside}
 use Rattle.groups.specs.Flat.{isFlat}
-use Rattle.groups.specs.Tables.{Boundaries, FirstPairs, linksIn, Linked}
+use Rattle.groups.specs.Tables.{Boundaries, FirstPairs, linkRow, linksIn, Linked}
 use Rattle.groups.proofs.Links.{link-iff}
-use Rattle.plan.specs.Arrays.{at, linkRow, Ranked}
+use Rattle.plan.specs.Arrays.{at, Ranked}
 use Rattle.plan.specs.Told.{Told, Passed, FlatInside}
 use Rattle.plan.specs.Fitting.{Plannable}
 use Rattle.plan.proofs.WholeLaws.{on-mark}
@@ -40,9 +38,6 @@ module _ {l : List Item} {own bits ramps : List ℕ} (b : Boundaries l own bits 
         ap (λ (x : ℕ). pairOf x (fullPair (assessAt dirs g l i) .higher)) (sym (p .lower-is i k)) ∙ ap (pairOf (at lowers i)) (sym (p .higher-is i k));
   }
 
-  held : {p : PixelPosition} → area.Bounded p → Bounded p
-  held a = record { column = a .column; row = a .row }
-
   -- the links may be of any two ranks
   pub plannable : {n : ℕ} → length l ≡ n → {firsts seconds : List ℕ} {count : ℕ} → Ranked n firsts seconds count → Plannable n own bits firsts seconds count
   plannable e r = record {
@@ -50,7 +45,7 @@ module _ {l : List Item} {own bits ramps : List ℕ} (b : Boundaries l own bits 
     ranked = r;
     spans = λ i h.
         let k : i < length l = omega (arith, e) in
-        subst SpanBounded (b .ends i k) (record { first = held (b .bounded i k .0); second = held (b .bounded i k .1) });
+        subst SpanBounded (b .ends i k) (record { first = b .bounded i k .0; second = b .bounded i k .1 });
     widths = λ i h. let k : i < length l = omega (arith, e) in omega (arith, b .fitting i k, b .widths i k);
   }
 

@@ -19,8 +19,8 @@ use Rattle.groups.specs.Groups.{Group, linkEdges, isJoined, groupAt}
 use Rattle.groups.specs.Serial.{acceptsSerial}
 use Rattle.groups.specs.Flat.{acceptsFlat}
 use Rattle.groups.specs.Representative.{retained}
-use Rattle.groups.specs.Tables.{linksIn, Linked}
-use Rattle.plan.specs.Arrays.{at, isOn, linkRow, chosenFrom, partFrom, joinedFrom, inPart, linkIn, ranksIn, numbersIn, Ranked, Filled}
+use Rattle.groups.specs.Tables.{linkRow, linksIn, Linked}
+use Rattle.plan.specs.Arrays.{at, isOn, chosenFrom, partFrom, joinedFrom, inPart, linkIn, ranksIn, numbersIn, Ranked, Filled}
 use Rattle.plan.specs.Shape.{retainedIn}
 use Rattle.plan.specs.Told.{Told, Passed, serialIn, flatIn}
 use Rattle.plan.specs.Into.{serialInto, flatInto}

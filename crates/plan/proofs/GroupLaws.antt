@@ -35,7 +35,8 @@ use Rattle.groups.specs.SimplePath.{linksAt, degree, endsOf, isPath, noLink, ou
 use Rattle.groups.specs.Serial.{rankDistance, chainSum, endDistance, acceptsSerial}
 use Rattle.groups.specs.Flat.{alike, acceptsFlat, leastFlatSpans}
 use Rattle.groups.specs.Representative.{leastWidth, distanceTo, nearer, eligible, retained, widthAt}
-use Rattle.plan.specs.Arrays.{at, isOn, joinsAt, linkRow}
+use Rattle.groups.specs.Tables.{linkRow}
+use Rattle.plan.specs.Arrays.{at, isOn, joinsAt}
 use Rattle.plan.specs.Shape.{degreeIn, endsIn, regularIn, gapIn, chainIn, outerIn, pathIn, alikeIn, allAlikeIn, leastIn, sumIn, nearerIn, fineIn, eligibleIn, retainedIn}
 use Rattle.plan.specs.Told.{groupBy, Told, Passed, serialIn, flatIn}
 use Rattle.plan.proofs.ShapeLaws.{at-each}

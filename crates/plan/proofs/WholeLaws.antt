@@ -13,7 +13,8 @@ use Rattle.graph.specs.Parts.{part}
 use Rattle.groups.specs.Tests.{any}
 use Rattle.groups.specs.Links.{LinkAt, joins}
 use Rattle.groups.specs.Groups.{Group, linkEdges, isJoined, groupAt}
-use Rattle.plan.specs.Arrays.{at, isOn, linkRow, edgeRow, chosenFrom, partFrom, joinsAt, joinedFrom, inPart, linkIn, ranksIn, numbersIn, Ranked, Filled}
+use Rattle.groups.specs.Tables.{linkRow}
+use Rattle.plan.specs.Arrays.{at, isOn, edgeRow, chosenFrom, partFrom, joinsAt, joinedFrom, inPart, linkIn, ranksIn, numbersIn, Ranked, Filled}
 use Rattle.plan.specs.Told.{groupBy}
 
 -- a mark is on just if what it marks holds

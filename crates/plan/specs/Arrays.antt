@@ -9,17 +9,12 @@ use Rattle.order.specs.Lists.{keep, upFrom}
 use Rattle.graph.specs.Path.{Edge}
 use Rattle.graph.specs.Parts.{part}
 use Rattle.groups.specs.Tests.{any}
-use Rattle.groups.specs.Links.{LinkAt}
 
 abbrev pub at : List ℕ → ℕ → ℕ
 at xs i = getD xs i 0
 
 abbrev pub isOn : List ℕ → ℕ → Bool
 isOn xs i = eqb (at xs i) 1
-
--- link k of three arrays
-abbrev pub linkRow : List ℕ → List ℕ → List ℕ → ℕ → LinkAt
-linkRow regions firsts seconds k = record { region = getD regions k 0; first = getD firsts k 0; second = getD seconds k 0 }
 
 abbrev pub edgeRow : List ℕ → List ℕ → ℕ → Edge
 edgeRow firsts seconds k = record { left = at firsts k; right = at seconds k }

@@ -18,7 +18,8 @@ use Rattle.groups.specs.Regions.{assessAt}
 use Rattle.groups.specs.Measuring.{passes, staysInside}
 use Rattle.groups.specs.Groups.{Group}
 use Rattle.groups.specs.Flat.{leastFlatSpans, isFlat}
-use Rattle.plan.specs.Arrays.{at, isOn, linkRow}
+use Rattle.groups.specs.Tables.{linkRow}
+use Rattle.plan.specs.Arrays.{at, isOn}
 use Rattle.plan.specs.Shape.{endsIn, chainIn, pathIn, allAlikeIn}
 
 -- the group of some ranks and links

@@ -10,6 +10,7 @@ use crate::four::Four;
 use links::geometry::centre_distance;
 use links::sums::ascending_sum;
 use marking::spans::span_at;
+use wire::size;
 
 // How far apart the centres of two ranks are.
 pub fn rank_distance(own: &[u32; 1024], i: usize, j: usize) -> f64
@@ -19,17 +20,11 @@ pub fn rank_distance(own: &[u32; 1024], i: usize, j: usize) -> f64
     centre_distance(span_at(own, i), span_at(own, j))
 }
 
-fn index(x: u32) -> usize
-    ensures { λ r. ⌜ r ≡ x ⌝ }
-{
-    x as usize
-}
-
 fn gap(own: &[u32; 1024], firsts: &[u32; 256], seconds: &[u32; 256], k: usize) -> f64
     requires { ⌜ LinkFits (now own) (now firsts) (now seconds) k ⌝ }
     ensures { λ r. ⌜ r ≡ gapIn (now (firsts .entry)) (now (seconds .entry)) (now (own .entry)) k ⌝ }
 {
-    rank_distance(own, index(firsts[k]), index(seconds[k]))
+    rank_distance(own, size(firsts[k]), size(seconds[k]))
 }
 
 // Of two links or three, in ascending order.

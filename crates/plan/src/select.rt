@@ -10,17 +10,12 @@ ghost use Rattle.plan.specs.Shape.{alikeIn, bothOn, flatLinkIn};
 ghost use Rattle.plan.specs.Fitting.{RankFits, LinkFits};
 use crate::alike::alike;
 use links::limits::Limits;
+use wire::size;
 
 fn mark(on: bool) -> u8
     ensures { λ r. ⌜ r ≡ cond on 1 0 ⌝ }
 {
     if on { 1 } else { 0 }
-}
-
-fn index(x: u32) -> usize
-    ensures { λ r. ⌜ r ≡ x ⌝ }
-{
-    x as usize
 }
 
 // Both ranks are marked.
@@ -44,7 +39,7 @@ pub fn select_serial(
 {
     let mut k: usize = 0;
     while k < links {
-        chosen[k] = mark(both_on(marks, index(firsts[k]), index(seconds[k])));
+        chosen[k] = mark(both_on(marks, size(firsts[k]), size(seconds[k])));
         k += 1;
     }
 }
@@ -95,8 +90,8 @@ pub fn select_flat(
             own,
             flat[k],
             into,
-            index(firsts[k]),
-            index(seconds[k]),
+            size(firsts[k]),
+            size(seconds[k]),
         ));
         k += 1;
     }

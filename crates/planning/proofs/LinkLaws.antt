@@ -12,9 +12,10 @@ use Rattle.order.proofs.Bools.{by-test}
 use Rattle.order.proofs.Members.{getD-mem}
 use Rattle.order.proofs.Pairs.{pairs-at}
 use Rattle.position.specs.declared.WalkPosition.{WalkPosition}
-use Rattle.graph.specs.Records.{Record}
+use Rattle.graph.specs.Records.{Record, recordIn, noRecord}
 use Rattle.grid.specs.Cells.{Grid, size}
 use Rattle.areas.specs.Assessments.{records}
+use Rattle.areas.specs.Arrays.{recordsIn}
 use Rattle.areas.proofs.Areas.{each-label-occurs}
 use Rattle.areas.proofs.Records.{records-iff}
 use Rattle.topology.specs.Held.{labelsOf}
@@ -22,16 +23,14 @@ use Rattle.topology.specs.Listing.{Item}
 use Rattle.groups.specs.Listing.{noSpan, spansOf}
 use Rattle.groups.specs.Regions.{regionLabels, regionCount}
 use Rattle.groups.specs.Links.{LinkAt, links}
-use Rattle.groups.specs.Tables.{recordsIn, Paired, linksIn, Linked}
+use Rattle.groups.specs.SimplePath.{noLink}
+use Rattle.groups.specs.Tables.{Paired, linkRow, linksIn, Linked}
 use Rattle.groups.proofs.Links.{links-rising}
-use Rattle.candidates.specs.Owners.{recordIn, noRecord, OwnersBelow}
+use Rattle.candidates.specs.Owners.{OwnersBelow}
 use Rattle.measures.specs.Tables.{Regions, Labels}
 use Rattle.measures.specs.Judging.{Ranks}
-use Rattle.plan.specs.Arrays.{linkRow, Ranked}
+use Rattle.plan.specs.Arrays.{Ranked}
 use Rattle.plan.proofs.FromTables.{is-link}
-
-abbrev noLink : LinkAt
-noLink = record { region = 0; first = 0; second = 0 }
 
 -- a label that a cell can have is no more than the number of cells
 label-within : (dirs : List ℕ) (g : Grid) (l : List Item) (work : List ℕ) → labelsOf work (size g) ≡ regionLabels dirs g l → Labels work (size g) → (v : ℕ) → 0 < v → v ≤ regionCount dirs g l → v ≤ size g

@@ -1,5 +1,5 @@
 -- Positions are totally ordered, and canonical ends do not depend on how a span is listed.
-use mathlib.Core.Path.{_≡_, refl, sym}
+use mathlib.Core.Path.{_≡_, refl, sym, _∙_, ap}
 use mathlib.Core.Bool.{Bool, true, false, cond, _&&_}
 use Prim.Native.Nat.{ℕ, _≤_, _<_}
 use native.Mathlib.Omega.{arith}
@@ -66,6 +66,17 @@ same-means p q e = go (eqb (p .x) (q .x)) refl e
     go : (s : Bool) → eqb (p .x) (q .x) ≡ s → s && eqb (p .y) (q .y) ≡ true → p ≡ q
     go true f g = by-fields p q (eqb-true (p .x) (q .x) f) (eqb-true (p .y) (q .y) g)
     go false f g = let z : _≡_ {A = ℕ} 0 1 = cc in absurd (omega arith)
+
+pub other-way : (p q : PixelPosition) → posSame p q ≡ false → posSame q p ≡ false
+other-way p q h = go (posSame q p) refl
+  where
+    go : (t : Bool) → posSame q p ≡ t → t ≡ false
+    go false e = refl
+    go true e =
+        let m = same-means q p e in
+        let z : _≡_ {A = Bool} true false = sym e ∙ (ap (λ u. posSame u p) m ∙ (ap (λ u. posSame p u) (sym m) ∙ h)) in
+        let n : _≡_ {A = ℕ} 0 1 = cc in
+        absurd (omega arith)
 
 -- A span listed the other way round has the same canonical ends.
 pub canonical-swapped : (s : Span) → canonical (swapped s) ≡ canonical s

@@ -5,21 +5,21 @@ use mathlib.Core.List.{List, [], flatMap}
 use Prim.Native.Nat.{ℕ, _≤_}
 use native.Mathlib.Omega.{arith}
 use lib.ListN.{length}
-use Rattle.wire.specs.Bytes.{part, number, bytes, numberAt}
+use Rattle.wire.specs.Bytes.{words, part, number, bytes, numberAt}
 use Rattle.format.specs.Decode.{decodeAnswer}
 use Rattle.listing.specs.Lines.{listingOf}
 use Rattle.listing.specs.Answer.{listing, whole}
-use Rattle.listing.specs.Corridor.{corridorBytes, corridorText, words as listing·words}
+use Rattle.listing.specs.Corridor.{corridorBytes, corridorText}
 use Rattle.listing.proofs.Cases.{corridor-listing}
-use Rattle.results.specs.Cases.{words, upright, observed, corridor, corridorAnswer}
+use Rattle.results.specs.Cases.{upright, observed, corridor, corridorAnswer}
 use Rattle.results.specs.Calls.{reduceResult}
 use Rattle.results.proofs.Cases.{twelve-cases}
+use Rattle.chokes.proofs.Demand.{first-written}
 use Rattle.printing.specs.Printed.{printed}
-use Rattle.printing.proofs.Success.{first-written}
 
 -- The answer that is listed is case 12's.
 pub same-answer : corridorBytes ≡ corridorAnswer
-unfolding corridorBytes corridorAnswer listing·words words upright observed bytes flatMap
+unfolding corridorBytes corridorAnswer words upright observed bytes flatMap
 same-answer = refl
 
 answer-length : length corridorAnswer ≡ 152
@@ -27,7 +27,7 @@ unfolding corridorAnswer words upright observed bytes flatMap
 answer-length = refl
 
 corridor-whole : whole corridorBytes 456 ≡ true
-unfolding whole corridorBytes listing·words numberAt part number bytes flatMap
+unfolding whole corridorBytes numberAt part number bytes flatMap
 corridor-whole = refl
 
 corridor-listed : listingOf (decodeAnswer corridorBytes) ≡ corridorText
@@ -40,5 +40,5 @@ unfolding printed
 corridor-printed work answer w a =
     let fits : length corridorAnswer ≤ length answer = omega (arith, a, answer-length) in
     ap printed (twelve-cases .case12 work answer w fits)
-    ∙ ap (λ (l : List ℕ). listingOf (decodeAnswer l)) (first-written answer corridorAnswer fits ∙ sym same-answer)
+    ∙ ap (λ (l : List ℕ). listingOf (decodeAnswer l)) (first-written answer corridorAnswer ∙ sym same-answer)
     ∙ corridor-listed

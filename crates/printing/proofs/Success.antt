@@ -10,8 +10,7 @@ use lib.Dec.{ltb}
 use lib.ListN.{length, take}
 use Rattle.lists.specs.Rows.{All, none as all-none}
 use Rattle.lists.proofs.Each.{all-append}
-use Rattle.wire.specs.Bytes.{part, splice}
-use Rattle.wire.proofs.Parts.{splice-same}
+use Rattle.wire.specs.Bytes.{splice}
 use Rattle.format.specs.Values.{Boundary}
 use Rattle.format.specs.Decode.{decode}
 use Rattle.format.specs.Encode.{encodeAnswer}
@@ -24,6 +23,7 @@ use Rattle.job.proofs.Firsts.{none-head}
 use Rattle.results.specs.Rules.{rulesOf}
 use Rattle.results.specs.Results.{Outcome, ownEnds, labelsOf, answerOf, workCheck, pairCheck, afterWork, outcome, reduced, reduceWith}
 use Rattle.results.specs.Calls.{reduceResult}
+use Rattle.chokes.proofs.Demand.{first-written}
 use Rattle.printing.proofs.Refusing.{Numbered, numbered, refused-numbered, reduce-numbered}
 
 -- What was written, into an answer slice that has room for it.
@@ -33,17 +33,12 @@ pub record Answered (o : Outcome) (answer : List ℕ) : Type 0 where
   pub out-is : o .out ≡ splice answer 0 (encodeAnswer boundaries)
   pub fits : length (encodeAnswer boundaries) ≤ length answer
 
--- What was written at the start of a slice is what the slice starts with.
-pub first-written : (s bs : List ℕ) → length bs ≤ length s → take (length bs) (splice s 0 bs) ≡ bs
-unfolding part
-first-written s bs h = splice-same s 0 bs (omega arith)
-
 -- The first bytes are the answer.
 pub first-bytes : {o : Outcome} {answer : List ℕ} (a : Answered o answer) → take (o .detail) (o .out) ≡ encodeAnswer (a .boundaries)
 first-bytes {o} {answer} a =
     ap (λ (n : ℕ). take n (o .out)) (a .length-is)
     ∙ ap (take (length (encodeAnswer (a .boundaries)))) (a .out-is)
-    ∙ first-written answer (encodeAnswer (a .boundaries)) (a .fits)
+    ∙ first-written answer (encodeAnswer (a .boundaries))
 
 module _ (s work answer : List ℕ) where
   abbrev written : List ℕ

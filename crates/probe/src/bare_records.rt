@@ -12,13 +12,7 @@ use crate::copy;
 use bridges::bridge_boundaries;
 use components::zero_fill;
 use wire::read_u32;
-
-// A number of a record, as an index.
-fn size(x: u32) -> usize
-    ensures { λ r. ⌜ (r ≡ x) × (r < 0x1_0000_0000) ⌝ }
-{
-    x as usize
-}
+use wire::size;
 
 fn fits(owner: usize, left: usize, right: usize, regions: usize) -> bool
     ensures { λ r. ⌜ r ≡ fitting owner left right regions ⌝ }

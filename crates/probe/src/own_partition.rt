@@ -13,13 +13,8 @@ use job::check_reduce;
 use partition::partition_by_spans;
 use ranks::fill_identity;
 use ranks::fill_spans;
+use wire::size;
 use wire::write_u32;
-
-fn size(x: u32) -> usize
-    ensures { λ r. ⌜ (r ≡ x) × (r < 0x1_0000_0000) ⌝ }
-{
-    x as usize
-}
 
 // The boundaries' own ends in their own order, the earlier end first.
 fn own_spans(job: &[u8], at: usize, count: usize, ends: &mut [u32; 1024])

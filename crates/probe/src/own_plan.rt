@@ -7,13 +7,8 @@ use analysis::ChokesResult;
 use analysis::plan_reduce;
 use analysis::plan_reduce_by_list;
 use format::read_header;
+use wire::size;
 use wire::write_u32;
-
-fn size(x: u32) -> usize
-    ensures { λ r. ⌜ (r ≡ x) × (r < 0x1_0000_0000) ⌝ }
-{
-    x as usize
-}
 
 // The plan of Reduce, or of Reduce by list where `which` isn't 0.
 fn plan_of(

@@ -12,18 +12,8 @@ use format::read_span;
 use position::PixelPosition;
 use position::Span;
 use wire::read_u64;
-
-fn size(v: u32) -> usize
-    ensures { λ r. ⌜ (r ≡ v) × (r < 0x1_0000_0000) ⌝ }
-{
-    v as usize
-}
-
-fn wide(v: u32) -> u64
-    ensures { λ r. ⌜ (r ≡ v) × (r < 0x1_0000_0000) ⌝ }
-{
-    v as u64
-}
+use wire::size;
+use wire::wide;
 
 // Where the record of a rank begins.
 fn record_place(s: &[u8], at: usize, stride: usize, order: &[u32; 256], n: usize, i: usize) -> usize

@@ -6,10 +6,10 @@ use crate::compare::NOT_WHOLE;
 use crate::compare::difference;
 use crate::pieces::expand;
 use crate::pieces::fill;
-use crate::reading::size;
 use analysis::ChokesResult;
 use wire::read_u32;
 use wire::read_u64;
+use wire::size;
 
 // The numbers of the calls.
 pub const REDUCE: u8 = 0;

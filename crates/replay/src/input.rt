@@ -2,8 +2,8 @@
 ghost use Prim.Native.Nat.{_+_, _≤_};
 ghost use lib.ListN.{length};
 use crate::pieces::expand;
-use crate::reading::size;
 use wire::read_u32;
+use wire::size;
 
 // The lengths of the job and of the list behind it, and whether the item was whole.
 pub struct Input {

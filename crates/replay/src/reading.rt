@@ -10,17 +10,12 @@ use crate::compare::SAME;
 use crate::compare::TOO_LONG;
 use libc::STDIN_FILENO;
 use wire::read_u32;
+use wire::size;
 
 pub struct Got {
     pub state: u32,
     pub bytes: usize,
     pub kind: u8,
-}
-
-pub fn size(x: u32) -> usize
-    ensures { λ r. ⌜ (r ≡ x) × (r < 0x1_0000_0000) ⌝ }
-{
-    x as usize
 }
 
 fn failed(state: u32) -> Got

@@ -9,6 +9,7 @@ use crate::compare::OTHER_NUMBER;
 use crate::compare::OTHER_WORK;
 use crate::compare::TOO_LONG;
 use libc::STDOUT_FILENO;
+use wire::size;
 
 // Numbers that a call may end with, and a call's place among the counts.
 pub const NUMBERS: usize = 24;
@@ -24,16 +25,10 @@ fn place(kind: u8) -> usize
     kind as usize
 }
 
-fn index(number: u32) -> usize
-    ensures { λ r. ⌜ r ≡ number ⌝ }
-{
-    number as usize
-}
-
 pub fn count(counts: &mut [u64], kind: u8, number: u32)
     requires { ⌜ (kind < 3) × (number < 24) × (72 ≤ length (now counts)) ⌝ }
 {
-    let i = place(kind) * 24 + index(number);
+    let i = place(kind) * 24 + size(number);
     counts[i] = next(counts[i]);
 }
 

@@ -10,7 +10,7 @@ use lib.ListN.{length}
 use Rattle.order.specs.Lists.{gather, upFrom, has}
 use Rattle.order.specs.Sorting.{sort, insert, sortOnce, include}
 use Rattle.order.specs.Keys.{lexLe}
-use Rattle.wire.specs.Bytes.{number, numberAt, bytes, splice}
+use Rattle.wire.specs.Bytes.{words, number, numberAt, bytes, splice}
 use Rattle.length.specs.Length.{lengthOf}
 use Rattle.length.specs.Total.{totalKey}
 use Rattle.length.proofs.Cases.{length-case}
@@ -45,7 +45,7 @@ use Rattle.results.specs.Rules.{gridOf, rulesOn, rulesOf}
 use Rattle.partition.specs.Partitioned.{labelled}
 use Rattle.results.specs.Results.{Outcome, workSize, ownEnds, labelsOf, answerOf, marksOf, reduced, reduceWith, reduceByListWith}
 use Rattle.results.specs.Calls.{reduceResult, reduceByListResult, markResult}
-use Rattle.results.specs.Cases.{words, oneCell, corridor, anchored, corridorAnswer, anchoredAnswer, leaves, Gives, oneSpan, OtherCalls, TwelveCases}
+use Rattle.results.specs.Cases.{oneCell, corridor, anchored, corridorAnswer, anchoredAnswer, leaves, Gives, oneSpan, OtherCalls, TwelveCases}
 use Rattle.results.proofs.Results.{reduced-success, mark-success}
 
 -- The corridor's boundaries.

@@ -12,9 +12,8 @@ use Rattle.lists.specs.Rows.{rows}
 use Rattle.lists.proofs.Rows.{length-rows, map-rows}
 use Rattle.order.proofs.Bools.{or-parts}
 use Rattle.position.specs.Order.{posLe, posSame, canonical, swapped}
-use Rattle.position.specs.declared.PixelPosition.{PixelPosition}
 use Rattle.position.specs.declared.Span.{Span}
-use Rattle.position.proofs.Order.{le-total, same-means, canonical-swapped, ordered}
+use Rattle.position.proofs.Order.{le-total, other-way, canonical-swapped, ordered}
 use Rattle.format.specs.Sizes.{headerSize, boundarySize}
 use Rattle.format.specs.Values.{Boundary}
 use Rattle.format.specs.Records.{spanAt, boundaryAt}
@@ -51,17 +50,6 @@ pub boundary-count : (s : List ℕ) → length (decode s .boundaries) ≡ counts
 boundary-count s =
     sym (length-map (decode s .boundaries) (λ (b : Boundary). b .ends))
     ∙ (ap (λ (l : List Span). length l) (own-ends s) ∙ length-rows (countsAt s 0 .boundaries) (λ k. spanAt s (boundaryPlace s k)))
-
-other-way : (p q : PixelPosition) → posSame p q ≡ false → posSame q p ≡ false
-other-way p q h = go (posSame q p) refl
-  where
-    go : (t : Bool) → posSame q p ≡ t → t ≡ false
-    go false e = refl
-    go true e =
-        let m = same-means q p e in
-        let z : _≡_ {A = Bool} true false = sym e ∙ (ap (λ u. posSame u p) m ∙ (ap (λ u. posSame p u) (sym m) ∙ h)) in
-        let n : _≡_ {A = ℕ} 0 1 = cc in
-        absurd (omega arith)
 
 -- a span with no fault fits the map, earlier end first
 pub canonical-fits : {w h : ℕ} (e : Span) → endsFault w h e ≡ false → posSame (e .a) (e .b) ≡ false → SpanFits w h (canonical e)

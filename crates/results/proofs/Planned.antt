@@ -9,7 +9,7 @@ use Rattle.position.specs.declared.Span.{Span}
 use Rattle.format.specs.Values.{Job}
 use Rattle.format.specs.Encode.{encodeAnswer}
 use Rattle.topology.specs.Anchors.{anchorsOf}
-use Rattle.topology.specs.Listing.{Item, listing}
+use Rattle.topology.specs.Listing.{Item}
 use Rattle.links.specs.Limits.{Limits}
 use Rattle.groups.specs.Groups as Link
 use Rattle.groups.specs.Flat.{accepted}
@@ -18,16 +18,12 @@ use Rattle.groups.proofs.Accepted.{accepted-two}
 use Rattle.merging.specs.Copies.{copiesOf}
 use Rattle.merging.specs.Groups.{Group, noGroups, every}
 use Rattle.merging.specs.Planned.{goes, planned}
-use Rattle.merging.specs.Runs.{Run, itemsOf, canonItem, groupsOf, keptOf, rulesAnswer}
+use Rattle.merging.specs.Runs.{Run, groupsOf, keptOf, rulesAnswer}
 use Rattle.merging.proofs.Independence.{groups-well}
 use Rattle.merging.proofs.Planned.{kept-planned, planned-ext}
-use Rattle.results.specs.Rules.{gridOf, groupOf, rulesOf}
+use Rattle.results.specs.Rules.{gridOf, listingOf, groupOf, rulesOf}
 use Rattle.results.specs.Results.{answerOf}
 use Rattle.results.proofs.Rules.{every-group, rules-well}
-
--- A run's canonical copies in their listing, each with its span.
-abbrev pub listed : Job → List Span → List Item
-listed j ss = listing (map canonItem (itemsOf (record { boundaries = j .boundaries; spans = ss })))
 
 goes-into : (limits : Limits) (l : List Item) (hs : List Link.Group) (i : ℕ) → goes (map (groupOf limits l) hs) i ≡ goesInto limits l hs i
 unfolding goes goesInto
@@ -45,7 +41,7 @@ module _ (limits : Limits) (dirs : List ℕ) (j : Job) (ss : List Span) where
       let w = Memᴰ·of-map (groupOf limits l) (accepted limits dirs (gridOf j) (anchorsOf (j .bases)) l) n in
       rw (sym (w .2)) (accepted-two limits dirs (gridOf j) (anchorsOf (j .bases)) l (w .1))
 
-  groups-matched : length (j .boundaries) ≡ length ss → groupsOf (rulesOf limits dirs j) run ≡ rulesOf limits dirs j (listed j ss)
+  groups-matched : length (j .boundaries) ≡ length ss → groupsOf (rulesOf limits dirs j) run ≡ rulesOf limits dirs j (listingOf j ss)
   unfolding groupsOf
   groups-matched e = rw (eq-eqb (length (j .boundaries)) (length ss) e) refl
 
@@ -55,10 +51,10 @@ module _ (limits : Limits) (dirs : List ℕ) (j : Job) (ss : List Span) where
 
   -- spans and boundaries are alike in number
   pub matched-answer : length (j .boundaries) ≡ length ss
-      → answerOf limits dirs j ss ≡ encodeAnswer (planned (copiesOf (j .boundaries)) (mergePlan limits dirs (gridOf j) (anchorsOf (j .bases)) (listed j ss)))
+      → answerOf limits dirs j ss ≡ encodeAnswer (planned (copiesOf (j .boundaries)) (mergePlan limits dirs (gridOf j) (anchorsOf (j .bases)) (listingOf j ss)))
   unfolding rulesAnswer keptOf mergePlan
   matched-answer e =
-      let l = listed j ss in
+      let l = listingOf j ss in
       let gs : groupsOf (rulesOf limits dirs j) run ≡ rulesOf limits dirs j l = groups-matched e in
       let w = groups-well (rulesOf limits dirs j) (rules-well limits dirs j) run in
       ap encodeAnswer (kept-planned (copiesOf (j .boundaries)) (every (groupsOf (rulesOf limits dirs j) run)) w (λ a m. two-all l a (rw (← gs) m))

@@ -1,20 +1,15 @@
 -- "The table below is proved as a whole from the definitions": the twelve cases.
 use mathlib.Core.Path.{_≡_}
-use mathlib.Core.List.{List, [], _∷_, _++_, flatMap}
+use mathlib.Core.List.{List, [], _∷_, _++_}
 use Prim.Native.Nat.{ℕ, _≤_, _<_}
 use lib.ListN.{length, drop, replicate}
-use Rattle.wire.specs.Bytes.{splice, u32Bytes, u64Bytes}
+use Rattle.wire.specs.Bytes.{words, splice, u64Bytes}
 use Rattle.length.specs.Cases.{LengthCase}
 use Rattle.areas.specs.Cases.{CutCases}
 use Rattle.graph.specs.Cases.{BridgeCases}
 use Rattle.job.specs.Cases.{RefusalCases}
 use Rattle.results.specs.Results.{Outcome}
 use Rattle.results.specs.Calls.{reduceResult, reduceByListResult, markResult}
-
--- u32 after u32.
-unfoldable pub words : List ℕ → List ℕ
-unfolding flatMap
-words ws = flatMap u32Bytes ws
 
 -- A map of 1 × 1 cells with no boundaries.
 unfoldable pub oneCell : ℕ → List ℕ

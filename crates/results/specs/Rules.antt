@@ -1,20 +1,26 @@
 -- The merging rules of a map, as the groups that they accept.
 use mathlib.Core.List.{List, map}
 use Prim.Native.Nat.{ℕ}
+use Rattle.position.specs.declared.Span.{Span}
 use Rattle.position.specs.declared.WalkPosition.{WalkPosition}
 use Rattle.format.specs.Values.{Job}
 use Rattle.grid.specs.Cells.{Grid}
 use Rattle.topology.specs.Anchors.{anchorsOf}
-use Rattle.topology.specs.Listing.{Item}
+use Rattle.topology.specs.Listing.{Item, listing}
 use Rattle.links.specs.Limits.{Limits}
 use Rattle.groups.specs.Groups as Link
 use Rattle.groups.specs.Serial.{serialGroups}
 use Rattle.groups.specs.Flat.{flatGroups}
 use Rattle.groups.specs.Representative.{retained}
 use Rattle.merging.specs.Groups.{Group, Groups}
+use Rattle.merging.specs.Runs.{itemsOf, canonItem}
 
 abbrev pub gridOf : Job → Grid
 gridOf j = record { width = j .width; height = j .height; cells = j .cells }
+
+-- A run's canonical copies in their listing, each with its span.
+abbrev pub listingOf : Job → List Span → List Item
+listingOf j ss = listing (map canonItem (itemsOf (record { boundaries = j .boundaries; spans = ss })))
 
 -- A group of links with the member that it keeps.
 abbrev pub groupOf : Limits → List Item → Link.Group → Group

@@ -10,12 +10,7 @@ use format::NO_ANCHOR;
 use format::read_base;
 use position::WalkPosition;
 use wire::read_u32;
-
-fn size(x: u32) -> usize
-    ensures { λ r. ⌜ (r ≡ x) × (r < 4294967296) ⌝ }
-{
-    x as usize
-}
+use wire::size;
 
 // The anchor's cell has the label.
 fn anchor_in(labels: &[u8], n: usize, width: u32, p: WalkPosition, region: u32) -> bool

@@ -5,8 +5,8 @@ use Prim.Native.Nat.{ℕ, zero, suc, _+_, _-_, _≤_, _<_}
 use native.Mathlib.Nat.{zero-add, suc-add}
 use native.Mathlib.Numerals.{add-one}
 use native.Mathlib.Omega.{arith}
-use lib.ListN.{length, getD, take, drop, length-append, length-drop}
-use lib.Seq.{drop-cons, take-append-le, drop-append-le, drop-append-add, take-at, drop-at, getD-drop, getD-take, drop-drop, take-add, take-take, length-take-le, take-length, take-nil}
+use lib.ListN.{length, getD, set, take, drop, length-append, length-drop, take-append-drop}
+use lib.Seq.{set-split, drop-cons, take-append-le, drop-append-le, drop-append-add, take-at, drop-at, getD-drop, getD-take, drop-drop, take-add, take-take, length-take-le, take-length, take-nil}
 use Rattle.wire.specs.Bytes.{part, splice}
 
 pub length-part : (s : List ℕ) (i n : ℕ) → i + n ≤ length s → length (part s i n) ≡ n
@@ -62,6 +62,15 @@ part-right a b i n = ap (take n) (drop-append-add a b i)
 pub part-middle : (a b c : List ℕ) (i : ℕ) → length a ≡ i → part (a ++ (b ++ c)) i (length b) ≡ b
 unfolding part
 part-middle a b c i e = ap (take (length b)) (drop-at a (b ++ c) i e) ∙ take-at b c (length b) refl
+
+pub splice-none : (s : List ℕ) (i : ℕ) → splice s i [] ≡ s
+unfolding splice
+splice-none s i = let e : i + 0 ≡ i = omega arith in ap (λ (k : ℕ). take i s ++ drop k s) e ∙ take-append-drop i s
+
+-- One element written.
+pub set-splice : (s : List ℕ) (i v : ℕ) → i < length s → set s i v ≡ splice s i (v ∷ [])
+unfolding splice
+set-splice s i v h = set-split s i v h ∙ ap (λ (k : ℕ). take i s ++ (v ∷ drop k s)) (let z : suc i ≡ i + 1 = omega arith in z)
 
 module _ (s : List ℕ) (i : ℕ) (bs : List ℕ) (fits : i + length bs ≤ length s) where
   head-length : length (take i s ++ bs) ≡ i + length bs

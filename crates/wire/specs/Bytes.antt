@@ -1,6 +1,6 @@
 -- Numbers in bytes, and parts of byte lists. Document 01: "Fields are little-endian."
 use Prim.Native.Nat.{ℕ, zero, suc, _+_, _*_, _/_, _%_, _<_}
-use mathlib.Core.List.{List, [], _∷_, _++_}
+use mathlib.Core.List.{List, [], _∷_, _++_, flatMap}
 use lib.ListN.{length, getD, take, drop}
 
 -- The part of s that starts at i and is n long; shorter where s ends before.
@@ -38,6 +38,11 @@ u32Bytes v = bytes 4 v
 
 abbrev pub u64Bytes : ℕ → List ℕ
 u64Bytes v = bytes 8 v
+
+-- u32 after u32.
+unfoldable pub words : List ℕ → List ℕ
+unfolding flatMap
+words ws = flatMap u32Bytes ws
 
 -- Every element is a byte, as those of a byte slice are.
 abbrev pub AreBytes : List ℕ → Type 0

@@ -10,10 +10,18 @@ fn byte(x: u8) -> u32
     x as u32
 }
 
-fn wide(x: u32) -> u64
+// A number in a wider type.
+pub fn wide(x: u32) -> u64
     ensures { λ r. ⌜ (r ≡ x) × (r < 0x1_0000_0000) ⌝ }
 {
     x as u64
+}
+
+// A number as an index.
+pub fn size(x: u32) -> usize
+    ensures { λ r. ⌜ (r ≡ x) × (r < 0x1_0000_0000) ⌝ }
+{
+    x as usize
 }
 
 pub fn read_u32(s: &[u8], at: usize) -> u32

@@ -12,7 +12,7 @@ use Rattle.measures.proofs.clear_all.Tie as tie
 use Rattle.measures.proofs.clear_all.Reads as reads
 use Rattle.measures.proofs.clear_all.Lts as lts
 use Rattle.measures.proofs.put_word.Reads as put-word-reads
-use Rattle.measures.proofs.size.Reads as size-reads
+use Rattle.wire.proofs.size.Reads as size-reads
 
 abbrev Inv-loop : tie.InvT-loop
 Inv-loop work₀ n regions links k₀ work k = (k ≤ links) × (length work ≡ length work₀) × ((start : List ℕ) → Labels start n → Written start work₀ n regions links → Cleared start work n regions links k)

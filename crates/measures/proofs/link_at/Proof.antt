@@ -9,7 +9,7 @@ use Rattle.measures.proofs.link_at.Reads as reads
 use Rattle.measures.proofs.link_at.Lts as lts
 use Rattle.links.proofs.link.link_of.Reads as link-of-reads
 use Rattle.marking.proofs.spans.span_at.Reads as span-at-reads
-use Rattle.measures.proofs.size.Reads as size-reads
+use Rattle.wire.proofs.size.Reads as size-reads
 
 size-requires : tie.Need-size-requires
 size-requires c κs = search needs

@@ -21,9 +21,9 @@ use Rattle.measures.proofs.next_column.Reads as next-column-reads
 use Rattle.measures.proofs.next_row.Reads as next-row-reads
 use Rattle.measures.proofs.number_at.Reads as number-at-reads
 use Rattle.measures.proofs.passing_mark.Reads as passing-mark-reads
-use Rattle.measures.proofs.size.Reads as size-reads
 use Rattle.topology.proofs.stats.RegionStats.none.Reads as none-reads
 use Rattle.topology.proofs.stats.RegionStats.with.Reads as with-reads
+use Rattle.wire.proofs.size.Reads as size-reads
 
 abbrev Inv-loop : tie.InvT-loop
 Inv-loop cells width height work regions firsts seconds links own bits limits passing flat n table₀ stats k₀ table k = (k ≤ links) × Filled own bits firsts seconds k table

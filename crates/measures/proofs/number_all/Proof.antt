@@ -10,7 +10,7 @@ use Rattle.measures.proofs.number_all.Tie as tie
 use Rattle.measures.proofs.number_all.Reads as reads
 use Rattle.measures.proofs.number_all.Lts as lts
 use Rattle.measures.proofs.put_word.Reads as put-word-reads
-use Rattle.measures.proofs.size.Reads as size-reads
+use Rattle.wire.proofs.size.Reads as size-reads
 
 abbrev Inv-loop : tie.InvT-loop
 Inv-loop work₀ n regions links k₀ work k = (k ≤ links) × Written work₀ work n regions k

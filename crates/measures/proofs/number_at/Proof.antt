@@ -8,8 +8,8 @@ use Rattle.measures.proofs.number_at.Statement.{statement}
 use Rattle.measures.proofs.number_at.Tie as tie
 use Rattle.measures.proofs.number_at.Reads as reads
 use Rattle.measures.proofs.number_at.Lts as lts
-use Rattle.measures.proofs.size.Reads as size-reads
 use Rattle.wire.proofs.read_u32.Reads as read-u32-reads
+use Rattle.wire.proofs.size.Reads as size-reads
 
 mul-read-u32 : tie.Need-mul-read-u32
 mul-read-u32 c = search needs

@@ -7,7 +7,7 @@ use Rattle.measures.proofs.put_word.Statement.{statement}
 use Rattle.measures.proofs.put_word.Tie as tie
 use Rattle.measures.proofs.put_word.Reads as reads
 use Rattle.measures.proofs.put_word.Lts as lts
-use Rattle.measures.proofs.size.Reads as size-reads
+use Rattle.wire.proofs.size.Reads as size-reads
 use Rattle.wire.proofs.write_u32.Reads as write-u32-reads
 
 mul-write-u32 : tie.Need-mul-write-u32

@@ -7,7 +7,7 @@ use Rattle.ranks.proofs.record_place.Statement.{statement}
 use Rattle.ranks.proofs.record_place.Tie as tie
 use Rattle.ranks.proofs.record_place.Reads as reads
 use Rattle.ranks.proofs.record_place.Lts as lts
-use Rattle.ranks.proofs.size.Reads as size-reads
+use Rattle.wire.proofs.size.Reads as size-reads
 
 mul-size : tie.Need-mul-size
 mul-size c = search needs

@@ -8,12 +8,12 @@ use Rattle.analysis.proofs.drawing.plan_listing.Statement.{statement}
 use Rattle.analysis.proofs.drawing.plan_listing.Tie as tie
 use Rattle.analysis.proofs.drawing.plan_listing.Reads as reads
 use Rattle.analysis.proofs.drawing.plan_listing.Lts as lts
-use Rattle.analysis.proofs.casts.size.Reads as size-reads
-use Rattle.planning.proofs.plan_merges.Reads as plan-merges-reads
 use Rattle.links.proofs.limits.Limits.of_000.Reads as of-000-reads
+use Rattle.planning.proofs.plan_merges.Reads as plan-merges-reads
 use Rattle.ranks.proofs.fill_ramps.Reads as fill-ramps-reads
 use Rattle.ranks.proofs.fill_spans.Reads as fill-spans-reads
 use Rattle.ranks.proofs.fill_widths.Reads as fill-widths-reads
+use Rattle.wire.proofs.size.Reads as size-reads
 
 mul-size : tie.Need-mul-size
 mul-size c = omega (arith, headed-cells (c .before .before .before .before .before .pre .0 .headed))

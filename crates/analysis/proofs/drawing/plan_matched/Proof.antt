@@ -9,7 +9,7 @@ use Rattle.analysis.proofs.drawing.plan_matched.Reads as reads
 use Rattle.analysis.proofs.drawing.plan_matched.Lts as lts
 use Rattle.analysis.proofs.bridged.analyse.Reads as analyse-reads
 use Rattle.analysis.proofs.drawing.plan_listing.Reads as plan-listing-reads
-use Rattle.analysis.proofs.casts.size.Reads as size-reads
+use Rattle.wire.proofs.size.Reads as size-reads
 
 mul-size : tie.Need-mul-size
 mul-size c = omega (arith, headed-cells (c .before .before .before .before .pre .0 .job .headed))

@@ -7,8 +7,8 @@ use Rattle.analysis.proofs.drawing.plan_own.Tie as tie
 use Rattle.analysis.proofs.drawing.plan_own.Reads as reads
 use Rattle.analysis.proofs.drawing.plan_own.Lts as lts
 use Rattle.analysis.proofs.drawing.plan_matched.Reads as plan-matched-reads
-use Rattle.analysis.proofs.casts.size.Reads as size-reads
 use Rattle.ranks.proofs.fill_spans.Reads as fill-spans-reads
+use Rattle.wire.proofs.size.Reads as size-reads
 
 size-requires : tie.Need-size-requires
 size-requires c κs = search needs

@@ -9,9 +9,9 @@ use Rattle.analysis.proofs.drawing.plan_unmatched.Tie as tie
 use Rattle.analysis.proofs.drawing.plan_unmatched.Reads as reads
 use Rattle.analysis.proofs.drawing.plan_unmatched.Lts as lts
 use Rattle.analysis.proofs.bridged.analyse.Reads as analyse-reads
-use Rattle.analysis.proofs.casts.size.Reads as size-reads
 use Rattle.ranks.proofs.fill_identity.Reads as fill-identity-reads
 use Rattle.ranks.proofs.fill_spans.Reads as fill-spans-reads
+use Rattle.wire.proofs.size.Reads as size-reads
 
 mul-size : tie.Need-mul-size
 mul-size c = omega (arith, headed-cells (c .before .before .before .before .before .pre .0))

@@ -10,9 +10,9 @@ use Rattle.answer.proofs.laying.lay_boundaries.Statement.{statement}
 use Rattle.answer.proofs.laying.lay_boundaries.Tie as tie
 use Rattle.answer.proofs.laying.lay_boundaries.Reads as reads
 use Rattle.answer.proofs.laying.lay_boundaries.Lts as lts
-use Rattle.answer.proofs.casts.size.Reads as size-reads
 use Rattle.answer.proofs.laying.lay_observations.Reads as lay-observations-reads
 use Rattle.format.proofs.read_boundary.Reads as read-boundary-reads
+use Rattle.wire.proofs.size.Reads as size-reads
 
 abbrev Inv-loop : tie.InvT-loop
 Inv-loop job at n ats firsts₀ starts₀ counts₀ run₀ p₀ b₀ firsts starts counts run p b = (b ≤ n) × Layout (ownCount job at) (seenCount job at) (citedCount job ats) firsts starts counts b p run × (length firsts ≡ length firsts₀) × (length starts ≡ length starts₀) × (length counts ≡ length counts₀)

@@ -9,8 +9,8 @@ use Rattle.answer.proofs.parts.sort_parts.Statement.{statement}
 use Rattle.answer.proofs.parts.sort_parts.Tie as tie
 use Rattle.answer.proofs.parts.sort_parts.Reads as reads
 use Rattle.answer.proofs.parts.sort_parts.Lts as lts
-use Rattle.answer.proofs.casts.size.Reads as size-reads
 use Rattle.sorting.proofs.numbers.sort_unique.Reads as sort-unique-reads
+use Rattle.wire.proofs.size.Reads as size-reads
 
 abbrev Inv-loop : tie.InvT-loop
 Inv-loop keys₀ spare₀ starts counts₀ n q₀ keys spare counts q = (q ≤ n) × Squeezed starts keys₀ counts₀ keys counts q × (length spare ≡ length spare₀)

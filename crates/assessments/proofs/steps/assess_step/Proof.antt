@@ -1,8 +1,9 @@
 use mathlib.Core.Path.{sym, _∙_}
 use native.Mathlib.Omega.{arith}
 use borrow.Author.Tests.{not-true, not-false}
+use Rattle.marking.proofs.Halves.{ends-bounded}
 use Rattle.assessments.proofs.Advancing.{advance-none, grown-none, advance-as}
-use Rattle.assessments.proofs.Stepping.{not-among, not-step, not-cut, is-step, bounded, arrives, fits-label-at, here-on, there-on, there-in, index-here, index-there, step-cut, on-map}
+use Rattle.assessments.proofs.Stepping.{not-among, not-step, not-cut, is-step, arrives, fits-label-at, here-on, there-on, there-in, index-here, index-there, step-cut, on-map}
 use borrow.Author.Needs.{needs}
 use Rattle.assessments.proofs.steps.assess_step.Statement.{statement}
 use Rattle.assessments.proofs.steps.assess_step.Tie as tie
@@ -33,7 +34,7 @@ place-to-requires c κs = let a = arrives (c .before .before .before .before .be
 cut-by-requires : tie.Need-cut-by-requires
 cut-by-requires c κs =
     let p = c .before .before .before .before .before .before .before .before .before .pre in
-    let b = bounded (p .0 .sides) (p .0 .span) in
+    let b = ends-bounded (p .0 .sides) (p .0 .span) in
     let i = there-in (c .before .before .before .before .before .before .before .before .before .args .position) (c .before .before .before .before .before .before .before .before .before .pre .0) (c .before .before .before .before .before .before .before .before .before .pre .1) (c .before .before .before .before .before .before .before .before .before .pre .2) (c .before .before .before .before .before .before .before .before .before .args .d) (sym (c .before .before .step-at .ensures) ∙ not-false _ (c .before .if2 .left)) (p .3) (c .place-to .result) (c .place-to .ensures .0) in (b .0, b .1, p .0 .span .ordered, omega arith, omega arith, i .0, i .1)
 
 returns-3 : tie.Need-returns-3

@@ -5,7 +5,7 @@ use Rattle.bridges.proofs.frame.after.Statement.{statement}
 use Rattle.bridges.proofs.frame.after.Tie as tie
 use Rattle.bridges.proofs.frame.after.Reads as reads
 use Rattle.bridges.proofs.frame.after.Lts as lts
-use Rattle.bridges.proofs.casts.size.Reads as size-reads
+use Rattle.wire.proofs.size.Reads as size-reads
 
 size-requires : tie.Need-size-requires
 size-requires c κs = search needs

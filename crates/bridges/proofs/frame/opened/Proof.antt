@@ -4,7 +4,7 @@ use Rattle.bridges.proofs.frame.opened.Statement.{statement}
 use Rattle.bridges.proofs.frame.opened.Tie as tie
 use Rattle.bridges.proofs.frame.opened.Reads as reads
 use Rattle.bridges.proofs.frame.opened.Lts as lts
-use Rattle.bridges.proofs.casts.size.Reads as size-reads
+use Rattle.wire.proofs.size.Reads as size-reads
 
 size-requires : tie.Need-size-requires
 size-requires c κs = search needs

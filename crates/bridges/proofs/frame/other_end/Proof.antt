@@ -7,7 +7,7 @@ use Rattle.bridges.proofs.frame.other_end.Statement.{statement}
 use Rattle.bridges.proofs.frame.other_end.Tie as tie
 use Rattle.bridges.proofs.frame.other_end.Reads as reads
 use Rattle.bridges.proofs.frame.other_end.Lts as lts
-use Rattle.bridges.proofs.casts.size.Reads as size-reads
+use Rattle.wire.proofs.size.Reads as size-reads
 
 size-requires : tie.Need-size-requires
 size-requires c κs = search needs

@@ -7,7 +7,7 @@ use Rattle.bridges.proofs.numbering.forget.Statement.{statement}
 use Rattle.bridges.proofs.numbering.forget.Tie as tie
 use Rattle.bridges.proofs.numbering.forget.Reads as reads
 use Rattle.bridges.proofs.numbering.forget.Lts as lts
-use Rattle.bridges.proofs.casts.size.Reads as size-reads
+use Rattle.wire.proofs.size.Reads as size-reads
 use Rattle.wire.proofs.write_u32.Reads as write-u32-reads
 
 sub-size : tie.Need-sub-size

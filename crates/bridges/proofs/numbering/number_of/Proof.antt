@@ -7,8 +7,8 @@ use Rattle.bridges.proofs.numbering.number_of.Statement.{statement}
 use Rattle.bridges.proofs.numbering.number_of.Tie as tie
 use Rattle.bridges.proofs.numbering.number_of.Reads as reads
 use Rattle.bridges.proofs.numbering.number_of.Lts as lts
-use Rattle.bridges.proofs.casts.size.Reads as size-reads
 use Rattle.wire.proofs.read_u32.Reads as read-u32-reads
+use Rattle.wire.proofs.size.Reads as size-reads
 use Rattle.wire.proofs.write_u32.Reads as write-u32-reads
 
 sub-size : tie.Need-sub-size

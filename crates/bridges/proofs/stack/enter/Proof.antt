@@ -4,7 +4,7 @@ use Rattle.bridges.proofs.stack.enter.Statement.{statement}
 use Rattle.bridges.proofs.stack.enter.Tie as tie
 use Rattle.bridges.proofs.stack.enter.Reads as reads
 use Rattle.bridges.proofs.stack.enter.Lts as lts
-use Rattle.bridges.proofs.casts.size.Reads as size-reads
+use Rattle.wire.proofs.size.Reads as size-reads
 
 size-requires : tie.Need-size-requires
 size-requires c κs = search needs

@@ -10,8 +10,8 @@ use Rattle.bridges.proofs.stack.leave.Tie as tie
 use Rattle.bridges.proofs.stack.leave.Reads as reads
 use Rattle.bridges.proofs.stack.leave.Lts as lts
 use Rattle.bridges.proofs.stack.least.Reads as least-reads
-use Rattle.bridges.proofs.casts.size.Reads as size-reads
 use Rattle.bridges.proofs.stack.time_of.Reads as time-of-reads
+use Rattle.wire.proofs.size.Reads as size-reads
 
 mul-least : tie.Need-mul-least
 mul-least c = search needs

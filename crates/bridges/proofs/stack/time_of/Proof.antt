@@ -3,7 +3,7 @@ use Rattle.bridges.proofs.stack.time_of.Statement.{statement}
 use Rattle.bridges.proofs.stack.time_of.Tie as tie
 use Rattle.bridges.proofs.stack.time_of.Reads as reads
 use Rattle.bridges.proofs.stack.time_of.Lts as lts
-use Rattle.bridges.proofs.casts.size.Reads as size-reads
+use Rattle.wire.proofs.size.Reads as size-reads
 
 size-requires : tie.Need-size-requires
 size-requires c κs = search needs

@@ -9,8 +9,8 @@ use Rattle.bridges.proofs.walk.walk_all.Statement.{statement}
 use Rattle.bridges.proofs.walk.walk_all.Tie as tie
 use Rattle.bridges.proofs.walk.walk_all.Reads as reads
 use Rattle.bridges.proofs.walk.walk_all.Lts as lts
-use Rattle.bridges.proofs.casts.size.Reads as size-reads
 use Rattle.bridges.proofs.walk.visit.Reads as visit-reads
+use Rattle.wire.proofs.size.Reads as size-reads
 
 abbrev Inv-loop : tie.InvT-loop
 Inv-loop owners lefts rights count heads left-nexts right-nexts marks₀ disc₀ stack₀ parents₀ nexts₀ lows₀ end time₀ r₀ marks disc stack parents nexts lows time r = (r ≤ end) × (end ≡ count) × Between count owners lefts rights disc stack parents nexts lows marks r time

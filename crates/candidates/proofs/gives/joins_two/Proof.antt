@@ -7,9 +7,9 @@ use Rattle.candidates.proofs.gives.joins_two.Tie as tie
 use Rattle.candidates.proofs.gives.joins_two.Reads as reads
 use Rattle.candidates.proofs.gives.joins_two.Lts as lts
 use Rattle.candidates.proofs.gives.has_region.Reads as has-region-reads
-use Rattle.candidates.proofs.gives.size.Reads as size-reads
 use Rattle.links.proofs.geometry.centres_differ.Reads as centres-differ-reads
 use Rattle.marking.proofs.spans.span_at.Reads as span-at-reads
+use Rattle.wire.proofs.size.Reads as size-reads
 
 returns : tie.Need-returns
 returns c = not-joined _ _ _ _ _ _ _ (c .if1 .taken)

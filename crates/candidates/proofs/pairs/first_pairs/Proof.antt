@@ -9,7 +9,7 @@ use Rattle.candidates.proofs.pairs.first_pairs.Tie as tie
 use Rattle.candidates.proofs.pairs.first_pairs.Reads as reads
 use Rattle.candidates.proofs.pairs.first_pairs.Lts as lts
 use Rattle.candidates.proofs.pairs.add_pair.Reads as add-pair-reads
-use Rattle.candidates.proofs.pairs.size.Reads as size-reads
+use Rattle.wire.proofs.size.Reads as size-reads
 
 abbrev Inv-loop : tie.InvT-loop
 Inv-loop owners lefts rights records counts₀ lowers₀ highers₀ k₀ counts lowers highers k = (k ≤ records) × Firsts owners lefts rights k counts lowers highers

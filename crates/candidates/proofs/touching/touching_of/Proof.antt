@@ -1,7 +1,7 @@
 use mathlib.Core.Path.{_≡_, refl}
 use native.Mathlib.Omega.{arith}
 use Prim.Native.Nat.{_-_, _≤_}
-use Rattle.candidates.specs.Owners.{recordIn}
+use Rattle.graph.specs.Records.{recordIn}
 use Rattle.candidates.specs.Touchers.{touchingAfter}
 use Rattle.candidates.proofs.StepLaws.{touch-next, touch-end}
 use borrow.Author.Needs.{needs}

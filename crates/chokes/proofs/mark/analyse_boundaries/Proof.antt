@@ -6,9 +6,9 @@ use Rattle.chokes.proofs.mark.analyse_boundaries.Tie as tie
 use Rattle.chokes.proofs.mark.analyse_boundaries.Reads as reads
 use Rattle.chokes.proofs.mark.analyse_boundaries.Lts as lts
 use Rattle.analysis.proofs.analyse.Reads as analyse-reads
-use Rattle.analysis.proofs.size.Reads as size-reads
 use Rattle.ranks.proofs.fill_identity.Reads as fill-identity-reads
 use Rattle.ranks.proofs.fill_spans.Reads as fill-spans-reads
+use Rattle.wire.proofs.size.Reads as size-reads
 
 mul-size : tie.Need-mul-size
 mul-size c = omega (arith, markable-cells (c .before .before .before .before .before .pre))

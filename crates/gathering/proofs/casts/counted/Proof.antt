@@ -5,7 +5,7 @@ use Rattle.gathering.proofs.casts.counted.Statement.{statement}
 use Rattle.gathering.proofs.casts.counted.Tie as tie
 use Rattle.gathering.proofs.casts.counted.Reads as reads
 use Rattle.gathering.proofs.casts.counted.Lts as lts
-use Rattle.gathering.proofs.casts.size.Reads as size-reads
+use Rattle.wire.proofs.size.Reads as size-reads
 
 -- src/casts.rt:17:8
 size-requires : tie.Need-size-requires

@@ -8,8 +8,8 @@ use Rattle.gathering.proofs.own.add_own.Statement.{statement}
 use Rattle.gathering.proofs.own.add_own.Tie as tie
 use Rattle.gathering.proofs.own.add_own.Reads as reads
 use Rattle.gathering.proofs.own.add_own.Lts as lts
-use Rattle.gathering.proofs.casts.size.Reads as size-reads
 use Rattle.gathering.proofs.runs.append_keys.Reads as append-keys-reads
+use Rattle.wire.proofs.size.Reads as size-reads
 
 -- src/own.rt:32:13
 mul-size : tie.Need-mul-size

@@ -9,8 +9,8 @@ use Rattle.gathering.proofs.own.own_rank.Statement.{statement}
 use Rattle.gathering.proofs.own.own_rank.Tie as tie
 use Rattle.gathering.proofs.own.own_rank.Reads as reads
 use Rattle.gathering.proofs.own.own_rank.Lts as lts
-use Rattle.gathering.proofs.casts.size.Reads as size-reads
 use Rattle.gathering.proofs.own.gather_own.Reads as gather-own-reads
+use Rattle.wire.proofs.size.Reads as size-reads
 
 -- src/own.rt:103:13
 mul-size : tie.Need-mul-size

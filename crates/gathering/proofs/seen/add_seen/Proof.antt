@@ -11,8 +11,8 @@ use Rattle.gathering.proofs.seen.add_seen.Tie as tie
 use Rattle.gathering.proofs.seen.add_seen.Reads as reads
 use Rattle.gathering.proofs.seen.add_seen.Lts as lts
 use Rattle.format.proofs.read_boundary.Reads as read-boundary-reads
-use Rattle.gathering.proofs.casts.size.Reads as size-reads
 use Rattle.gathering.proofs.seen.add_places.Reads as add-places-reads
+use Rattle.wire.proofs.size.Reads as size-reads
 
 -- src/seen.rt:63:13
 mul-size : tie.Need-mul-size

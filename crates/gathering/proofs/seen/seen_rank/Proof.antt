@@ -10,8 +10,8 @@ use Rattle.gathering.proofs.seen.seen_rank.Statement.{statement}
 use Rattle.gathering.proofs.seen.seen_rank.Tie as tie
 use Rattle.gathering.proofs.seen.seen_rank.Reads as reads
 use Rattle.gathering.proofs.seen.seen_rank.Lts as lts
-use Rattle.gathering.proofs.casts.size.Reads as size-reads
 use Rattle.gathering.proofs.seen.gather_seen.Reads as gather-seen-reads
+use Rattle.wire.proofs.size.Reads as size-reads
 
 -- src/seen.rt:161:13
 mul-size : tie.Need-mul-size

@@ -7,10 +7,10 @@ use Rattle.listing.proofs.listing.write_listing.Statement.{statement}
 use Rattle.listing.proofs.listing.write_listing.Tie as tie
 use Rattle.listing.proofs.listing.write_listing.Reads as reads
 use Rattle.listing.proofs.listing.write_listing.Lts as lts
-use Rattle.listing.proofs.listing.size.Reads as size-reads
 use Rattle.listing.proofs.listing.write_kept.Reads as write-kept-reads
 use Rattle.listing.proofs.walk.write_boundaries.Reads as write-boundaries-reads
 use Rattle.wire.proofs.read_u32.Reads as read-u32-reads
+use Rattle.wire.proofs.size.Reads as size-reads
 
 returns : tie.Need-returns
 returns c = (no-header _ _ (c .if1 .taken), omega arith)

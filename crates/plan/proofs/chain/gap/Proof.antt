@@ -10,42 +10,42 @@ use Rattle.plan.proofs.chain.gap.Statement.{statement}
 use Rattle.plan.proofs.chain.gap.Tie as tie
 use Rattle.plan.proofs.chain.gap.Reads as reads
 use Rattle.plan.proofs.chain.gap.Lts as lts
-use Rattle.plan.proofs.chain.index.Reads as index-reads
 use Rattle.plan.proofs.chain.rank_distance.Reads as rank-distance-reads
+use Rattle.wire.proofs.size.Reads as size-reads
 
-mul-index : tie.Need-mul-index
-mul-index c = search needs
+mul-size : tie.Need-mul-size
+mul-size c = search needs
 
-element-copy-out-index : tie.Need-element-copy-out-index
-element-copy-out-index c = search needs
+element-copy-out-size : tie.Need-element-copy-out-size
+element-copy-out-size c = search needs
 
-index-requires : tie.Need-index-requires
-index-requires c κs = search needs
+size-requires : tie.Need-size-requires
+size-requires c κs = search needs
 
-mul-index-2 : tie.Need-mul-index-2
-mul-index-2 c = search needs
+mul-size-2 : tie.Need-mul-size-2
+mul-size-2 c = search needs
 
-element-copy-out-index-2 : tie.Need-element-copy-out-index-2
-element-copy-out-index-2 c = search needs
+element-copy-out-size-2 : tie.Need-element-copy-out-size-2
+element-copy-out-size-2 c = search needs
 
-index-requires-2 : tie.Need-index-requires-2
-index-requires-2 c κs = search needs
+size-requires-2 : tie.Need-size-requires-2
+size-requires-2 c κs = search needs
 
 rank-distance-requires : tie.Need-rank-distance-requires
-rank-distance-requires c κs = (subst (RankFits (c .before .before .before .before .args .own .now)) (sym (c .before .before .index .ensures)) (c .before .before .before .before .pre .first), subst (RankFits (c .before .before .before .before .args .own .now)) (sym (c .index2 .ensures)) (c .before .before .before .before .pre .second))
+rank-distance-requires c κs = (subst (RankFits (c .before .before .before .before .args .own .now)) (sym (c .before .before .size .ensures .0)) (c .before .before .before .before .pre .first), subst (RankFits (c .before .before .before .before .args .own .now)) (sym (c .size2 .ensures .0)) (c .before .before .before .before .pre .second))
 
 returns : tie.Need-returns
-returns c = c .rank-distance .ensures ∙ both (λ (i j : ℕ). centreDistance (spanIn (c .before .before .before .before .before .args .own .now) i) (spanIn (c .before .before .before .before .before .args .own .now) j)) (c .before .before .before .index .ensures) (c .before .index2 .ensures)
+returns c = c .rank-distance .ensures ∙ both (λ (i j : ℕ). centreDistance (spanIn (c .before .before .before .before .before .args .own .now) i) (spanIn (c .before .before .before .before .before .args .own .now) j)) (c .before .before .before .size .ensures .0) (c .before .size2 .ensures .0)
 
 pub gap-spec : {M : Type 1} → statement M
 gap-spec =
     tie.close
     (tie.spec
-    mul-index
-    element-copy-out-index
-    index-requires
-    mul-index-2
-    element-copy-out-index-2
-    index-requires-2
+    mul-size
+    element-copy-out-size
+    size-requires
+    mul-size-2
+    element-copy-out-size-2
+    size-requires-2
     rank-distance-requires
     returns)

@@ -6,7 +6,7 @@ use Rattle.plan.proofs.parts.join_link.Tie as tie
 use Rattle.plan.proofs.parts.join_link.Reads as reads
 use Rattle.plan.proofs.parts.join_link.Lts as lts
 use Rattle.plan.proofs.parts.join_parts.Reads as join-parts-reads
-use Rattle.plan.proofs.parts.size.Reads as size-reads
+use Rattle.wire.proofs.size.Reads as size-reads
 
 returns : tie.Need-returns
 returns c = link-no (c .before .args .on) (c .before .args .first) (c .before .args .second) (c .before .args .parts .now) (c .if1 .taken) (c .before .pre .0)

@@ -14,9 +14,9 @@ use Rattle.plan.proofs.select.select_flat.Statement.{statement}
 use Rattle.plan.proofs.select.select_flat.Tie as tie
 use Rattle.plan.proofs.select.select_flat.Reads as reads
 use Rattle.plan.proofs.select.select_flat.Lts as lts
-use Rattle.plan.proofs.select.index.Reads as index-reads
 use Rattle.plan.proofs.select.is_flat_link.Reads as is-flat-link-reads
 use Rattle.plan.proofs.select.mark.Reads as mark-reads
+use Rattle.wire.proofs.size.Reads as size-reads
 
 abbrev Inv-loop : tie.InvT-loop
 Inv-loop limits own flat into firsts seconds links chosen₀ k₀ chosen k = (k ≤ links) × Filled (λ j. cond (flatLinkIn (limitsOf limits) own into (at flat j) (at firsts j) (at seconds j)) 1 0) k chosen
@@ -30,26 +30,26 @@ loop-holds c = (omega arith, filled-none (c .pre .0))
 element-copy-out-is-flat-link : tie.Need-element-copy-out-is-flat-link Inv-loop μ-loop
 element-copy-out-is-flat-link c = search needs
 
-mul-index : tie.Need-mul-index Inv-loop μ-loop
-mul-index c = search needs
+mul-size : tie.Need-mul-size Inv-loop μ-loop
+mul-size c = search needs
 
-element-copy-out-index : tie.Need-element-copy-out-index Inv-loop μ-loop
-element-copy-out-index c = search needs
+element-copy-out-size : tie.Need-element-copy-out-size Inv-loop μ-loop
+element-copy-out-size c = search needs
 
-index-requires : tie.Need-index-requires Inv-loop μ-loop
-index-requires c κs = search needs
+size-requires : tie.Need-size-requires Inv-loop μ-loop
+size-requires c κs = search needs
 
-mul-index-2 : tie.Need-mul-index-2 Inv-loop μ-loop
-mul-index-2 c = search needs
+mul-size-2 : tie.Need-mul-size-2 Inv-loop μ-loop
+mul-size-2 c = search needs
 
-element-copy-out-index-2 : tie.Need-element-copy-out-index-2 Inv-loop μ-loop
-element-copy-out-index-2 c = search needs
+element-copy-out-size-2 : tie.Need-element-copy-out-size-2 Inv-loop μ-loop
+element-copy-out-size-2 c = search needs
 
-index-requires-2 : tie.Need-index-requires-2 Inv-loop μ-loop
-index-requires-2 c κs = search needs
+size-requires-2 : tie.Need-size-requires-2 Inv-loop μ-loop
+size-requires-2 c κs = search needs
 
 is-flat-link-requires : tie.Need-is-flat-link-requires Inv-loop μ-loop
-is-flat-link-requires c κs = (subst (RankFits (c .before .before .before .before .before .before .before .args .own .now)) (sym (c .before .before .index .ensures)) (c .before .before .before .before .before .before .before .pre .2 (c .before .before .before .before .before .before .loop .k) (c .before .before .before .before .before .loop-test .taken) .first), subst (RankFits (c .before .before .before .before .before .before .before .args .own .now)) (sym (c .index2 .ensures)) (c .before .before .before .before .before .before .before .pre .2 (c .before .before .before .before .before .before .loop .k) (c .before .before .before .before .before .loop-test .taken) .second))
+is-flat-link-requires c κs = (subst (RankFits (c .before .before .before .before .before .before .before .args .own .now)) (sym (c .before .before .size .ensures .0)) (c .before .before .before .before .before .before .before .pre .2 (c .before .before .before .before .before .before .loop .k) (c .before .before .before .before .before .loop-test .taken) .first), subst (RankFits (c .before .before .before .before .before .before .before .args .own .now)) (sym (c .size2 .ensures .0)) (c .before .before .before .before .before .before .before .pre .2 (c .before .before .before .before .before .before .loop .k) (c .before .before .before .before .before .loop-test .taken) .second))
 
 mark-requires : tie.Need-mark-requires Inv-loop μ-loop
 mark-requires c κs = search needs
@@ -64,7 +64,7 @@ loop-less : tie.Need-loop-less Inv-loop μ-loop
 loop-less c = search needs
 
 loop-again : tie.Need-loop-again Inv-loop μ-loop
-loop-again c = (omega (arith, c .before .before .before .before .before .before .before .loop-test .taken), filled-next (c .mark .result) (c .before .before .before .before .before .before .before .before .loop .inv .1) (omega (arith, c .before .before .before .before .before .before .before .loop-test .taken, c .before .before .before .before .before .before .before .before .before .pre .1)) (c .mark .ensures ∙ ap (λ (t : Bool). cond t 1 0) (c .before .is-flat-link .ensures ∙ both (flatLinkIn (limitsOf (c .before .before .before .before .before .before .before .before .before .args .limits)) (c .before .before .before .before .before .before .before .before .before .args .own .now) (c .before .before .before .before .before .before .before .before .before .args .into .now) (at (c .before .before .before .before .before .before .before .before .before .args .flat .now) (c .before .before .before .before .before .before .before .before .loop .k))) (c .before .before .before .before .index .ensures) (c .before .before .index2 .ensures))))
+loop-again c = (omega (arith, c .before .before .before .before .before .before .before .loop-test .taken), filled-next (c .mark .result) (c .before .before .before .before .before .before .before .before .loop .inv .1) (omega (arith, c .before .before .before .before .before .before .before .loop-test .taken, c .before .before .before .before .before .before .before .before .before .pre .1)) (c .mark .ensures ∙ ap (λ (t : Bool). cond t 1 0) (c .before .is-flat-link .ensures ∙ both (flatLinkIn (limitsOf (c .before .before .before .before .before .before .before .before .before .args .limits)) (c .before .before .before .before .before .before .before .before .before .args .own .now) (c .before .before .before .before .before .before .before .before .before .args .into .now) (at (c .before .before .before .before .before .before .before .before .before .args .flat .now) (c .before .before .before .before .before .before .before .before .loop .k))) (c .before .before .before .before .size .ensures .0) (c .before .before .size2 .ensures .0))))
 
 returns : tie.Need-returns Inv-loop μ-loop
 returns c = filled-upto (c .before .loop .inv .1) (c .loop-test .left)
@@ -77,12 +77,12 @@ select-flat-spec =
     μ-loop
     loop-holds
     element-copy-out-is-flat-link
-    mul-index
-    element-copy-out-index
-    index-requires
-    mul-index-2
-    element-copy-out-index-2
-    index-requires-2
+    mul-size
+    element-copy-out-size
+    size-requires
+    mul-size-2
+    element-copy-out-size-2
+    size-requires-2
     is-flat-link-requires
     mark-requires
     element-write-chosen

@@ -5,8 +5,8 @@ use Rattle.probe.proofs.bare_records.record_fits.Tie as tie
 use Rattle.probe.proofs.bare_records.record_fits.Reads as reads
 use Rattle.probe.proofs.bare_records.record_fits.Lts as lts
 use Rattle.probe.proofs.bare_records.fits.Reads as fits-reads
-use Rattle.probe.proofs.bare_records.size.Reads as size-reads
 use Rattle.wire.proofs.read_u32.Reads as read-u32-reads
+use Rattle.wire.proofs.size.Reads as size-reads
 
 mul-at : tie.Need-mul-at
 mul-at c = search needs

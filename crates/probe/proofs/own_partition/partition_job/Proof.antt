@@ -9,8 +9,8 @@ use Rattle.probe.proofs.own_partition.partition_job.Reads as reads
 use Rattle.probe.proofs.own_partition.partition_job.Lts as lts
 use Rattle.partition.proofs.partition_by_spans.Reads as partition-by-spans-reads
 use Rattle.probe.proofs.own_partition.own_spans.Reads as own-spans-reads
-use Rattle.probe.proofs.own_partition.size.Reads as size-reads
 use Rattle.probe.proofs.own_partition.write_partition.Reads as write-partition-reads
+use Rattle.wire.proofs.size.Reads as size-reads
 
 mul-size : tie.Need-mul-size
 mul-size c = omega (arith, taken-few (c .before .before .before .pre))

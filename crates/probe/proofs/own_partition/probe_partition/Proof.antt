@@ -14,7 +14,7 @@ use Rattle.job.proofs.verdict.Verdict.detail.Reads as detail-reads
 use Rattle.job.proofs.verdict.Verdict.number.Reads as number-reads
 use Rattle.job.proofs.verdict.Verdict.passed.Reads as passed-reads
 use Rattle.probe.proofs.own_partition.partition_job.Reads as partition-job-reads
-use Rattle.probe.proofs.own_partition.size.Reads as size-reads
+use Rattle.wire.proofs.size.Reads as size-reads
 
 check-reduce-requires : tie.Need-check-reduce-requires
 check-reduce-requires c κs = search needs

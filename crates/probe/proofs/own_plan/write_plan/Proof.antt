@@ -9,7 +9,7 @@ use Rattle.probe.proofs.own_plan.write_plan.Reads as reads
 use Rattle.probe.proofs.own_plan.write_plan.Lts as lts
 use Rattle.probe.proofs.own_plan.entry.Reads as entry-reads
 use Rattle.probe.proofs.own_plan.put.Reads as put-reads
-use Rattle.probe.proofs.own_plan.size.Reads as size-reads
+use Rattle.wire.proofs.size.Reads as size-reads
 
 abbrev Inv-loop : tie.InvT-loop
 Inv-loop order plan n out₀ i₀ out i = (i ≤ n) × (n ≤ 256) × (length out ≡ length out₀)

@@ -6,8 +6,8 @@ use Rattle.topology.proofs.anchored.anchor_in.Statement.{statement}
 use Rattle.topology.proofs.anchored.anchor_in.Tie as tie
 use Rattle.topology.proofs.anchored.anchor_in.Reads as reads
 use Rattle.topology.proofs.anchored.anchor_in.Lts as lts
-use Rattle.topology.proofs.anchored.size.Reads as size-reads
 use Rattle.wire.proofs.read_u32.Reads as read-u32-reads
+use Rattle.wire.proofs.size.Reads as size-reads
 
 returns : tie.Need-returns
 returns c = not-hit (labelsOf (c .before .before .args .labels .now) (c .before .before .args .n)) (c .before .before .args .width) (c .before .before .args .p) (c .before .before .args .region) (c .if1 .taken)
