@@ -128,6 +128,18 @@ fn sources(side: u32, count: usize, order: Order, holders: usize) -> Draft {
     draft
 }
 
+/// Sources of one boundary of which nearly all share every bucket but the last: the most stack that
+/// a sort takes.
+pub fn deepest() -> Draft {
+    let mut draft = sources(64, 4096, Order::Few, 1);
+    for (source, i) in draft.sources.iter_mut().zip(0..) {
+        let key = if i < 9 { 1_u64 << (63 - 7 * i) } else { i % 100 };
+        *source = [(key >> 32) as u32, key as u32];
+    }
+    draft.sources.swap(0, 4095);
+    draft
+}
+
 /// Observations of one boundary in an order, with as many sources each.
 fn observations(side: u32, count: usize, order: Order, each: u32) -> Draft {
     let mut rng = Rng::new(23);

@@ -295,6 +295,7 @@ fn stacks() {
         ("1,024 × 1,024, 256 boundaries, 4,096 sources", job(1024, Shape::Open, 256, 4096)),
         ("4,096 region pairs", maps::many_pairs(4096, &mut rng)),
         ("64 × 64, 4 boundaries", job(64, Shape::Noise, 4, 8)),
+        ("4,096 sources of one boundary that are spread ten times", grow::deepest()),
     ];
     for (what, draft) in &jobs {
         for call in [REDUCE, BY_LIST, MARK] {
@@ -320,6 +321,9 @@ fn main() {
     let quick = std::env::args().any(|argument| argument == "quick");
     if std::env::args().any(|argument| argument == "grow") {
         return growing();
+    }
+    if std::env::args().any(|argument| argument == "stack") {
+        return stacks();
     }
     let sides: &[u32] = if quick { &[64, 256] } else { &[64, 256, 1024] };
     let largest = sides[sides.len() - 1];
