@@ -8,7 +8,7 @@ use borrow.Author.Tests.{lt-ltb, eq-eqb, ne-eqb}
 use lib.Dec.{ltb, eqb}
 use lib.ListN.{length, length-append}
 use Rattle.order.specs.Lists.{keep, upFrom}
-use Rattle.order.proofs.Keep.{keep-append}
+use Rattle.order.proofs.Keep.{keep-append, keep-length}
 use Rattle.order.proofs.Numbers.{up-length, up-last}
 use Rattle.grid.specs.Cells.{Grid, rampCell, elevation, columnOf, rowOf, cellAt}
 use Rattle.areas.specs.Areas.{labelAt}
@@ -81,15 +81,6 @@ some-last zero true = refl
 some-last zero false = refl
 some-last (suc n) b = lt-ltb 0 (suc n + one b) (omega arith) ∙ sym (let e : ltb 0 (suc n) ≡ true = lt-ltb 0 (suc n) (omega arith) in rw e)
 
-keep-most : (t : ℕ → Bool) (cs : List ℕ) → length (keep t cs) ≤ length cs
-unfolding keep
-keep-most t [] = omega arith
-keep-most t (c ∷ cs) = go (t c) (keep-most t cs)
-  where
-    go : (s : Bool) → length (keep t cs) ≤ length cs → length (cond s (c ∷ keep t cs) (keep t cs)) ≤ suc (length cs)
-    go true h = omega arith
-    go false h = omega arith
-
 module _ (g : Grid) where
   pub after-next : (cs : List ℕ) (c : ℕ) → withCell (statsAfter g cs) (columnOf g c) (rowOf g c) (cellAt g c) ≡ statsAfter g (cs ++ (c ∷ []))
   unfolding withCell statsAfter rampCell elevation
@@ -118,10 +109,10 @@ module _ (g : Grid) where
   unfolding statsAfter
   after-room cs h = record {
     cells = h;
-    first = omega (arith, keep-most (λ i. eqb (elevation g i) 0) cs);
-    second = omega (arith, keep-most (λ i. eqb (elevation g i) 1) cs);
-    third = omega (arith, keep-most (λ i. eqb (elevation g i) 2) cs);
-    fourth = omega (arith, keep-most (λ i. eqb (elevation g i) 3) cs);
+    first = omega (arith, keep-length (λ i. eqb (elevation g i) 0) cs);
+    second = omega (arith, keep-length (λ i. eqb (elevation g i) 1) cs);
+    third = omega (arith, keep-length (λ i. eqb (elevation g i) 2) cs);
+    fourth = omega (arith, keep-length (λ i. eqb (elevation g i) 3) cs);
   }
 
 -- the next cell has the label, or has not
@@ -137,7 +128,7 @@ cells-out ls r i h =
 
 pub cells-most : (ls : List ℕ) (r i : ℕ) → length (firstCells ls r i) ≤ i
 unfolding firstCells
-cells-most ls r i = omega (arith, keep-most (λ j. eqb r (labelAt ls j)) (upFrom 0 i), up-length 0 i)
+cells-most ls r i = omega (arith, keep-length (λ j. eqb r (labelAt ls j)) (upFrom 0 i), up-length 0 i)
 
 -- all cells
 pub cells-all : (ls : List ℕ) (r : ℕ) → firstCells ls r (length ls) ≡ regionCells ls r
