@@ -7,7 +7,8 @@ use native.Mathlib.Nat.{le-trans, mul-le-mul, mul-le-mul-right, mul-lt-mul-of-po
 use native.Mathlib.Omega.{arith}
 use lib.Pow.{pow-pos, pow-add}
 use lib.IntN.{pos}
-use lib.Ieee.{Float, fin, binary64, fits, round, ofBits, size}
+use lib.Dec.{T}
+use lib.Ieee.{Float, fin, binary64, fits, round, div, ofInt, ofBits, size}
 use lib.Ieee.Digits.{size-lt, size-le, size-reaches}
 use lib.Ieee.Exact.{HasValue}
 use lib.Ieee.Fits.{round-fits}
@@ -22,7 +23,7 @@ use Rattle.length.proofs.Values.{cross, is-plain}
 use Rattle.length.proofs.Unique.{nearest-unique}
 use Rattle.length.proofs.Exact.{exact-nearest, exact-square}
 use Rattle.length.proofs.Near.{nearest}
-use Rattle.length.proofs.Quotient.{exact}
+use Rattle.length.proofs.Quotient.{exact, quotient}
 
 -- r is the root of d, and R that of d * p * p: so R is r with more digits
 module _ (d r q R Q p : ℕ) (h : Rooted d r q) (H : Rooted (d * (p * p)) R Q) (P : 0 < p) where
@@ -104,12 +105,24 @@ is-length d x D h e = let f = length-unique d (x .value) D h in λ i. record { v
 half-exact : (s : ℕ) (x : Float) → HasValue x false s 2 → Exact (s * s) x
 half-exact s x h = let e = ap (λ (z : ℕ). z * z) (cross x s 2 h) in omega arith
 
+half-nearest : (s : ℕ) (x : Float) → HasValue x false s 2 → T (fits binary64 x) → NearestLength (s * s) x
+half-nearest s x v f = exact-nearest (s * s) x (record { held = f; plain = is-plain x s 2 v }) (half-exact s x v)
+
 pub length-half : (s : ℕ) → s * s ≤ 2 ^ 29 → HasValue (lengthOf (s * s)) false s 2
 length-half s D =
     let x = round binary64 false s 2 in
     let v : HasValue x false s 2 = exact s 1 (omega arith) (omega (arith, le-square s)) in
-    let p : Plain x = record { held = round-fits binary64 false s 2; plain = is-plain x s 2 v } in
-    subst (λ (y : Float). HasValue y false s 2) (length-unique (s * s) x D (exact-nearest (s * s) x p (half-exact s x v))) v
+    subst (λ (y : Float). HasValue y false s 2) (length-unique (s * s) x D (half-nearest s x v (round-fits binary64 false s 2))) v
+
+-- and so the quotient of its root and 2.0
+two : ofBits binary64 0x4000_0000_0000_0000 ≡ ofInt binary64 (pos 2)
+unfolding ofBits ofInt
+two = refl
+
+pub root-halved : (d s : ℕ) → 0 < s → d ≤ 2 ^ 29 → s * s ≡ d → NearestLength d (div binary64 (ofInt binary64 (pos s)) (ofBits binary64 0x4000_0000_0000_0000))
+root-halved d s S D e =
+    let q = quotient s 2 1 refl (omega arith) S (omega (arith, le-square s)) in
+    rw (two, ← e) (half-nearest s (div binary64 (ofInt binary64 (pos s)) (ofInt binary64 (pos 2))) (q .0) (q .1))
 
 -- so the length is √d ÷ 2 itself if d is a square, and only then
 pub length-exact : (d : ℕ) → d ≤ 2 ^ 29 → (isSquare d ≡ true) ↔ Exact d (lengthOf d)

@@ -8,6 +8,7 @@ mod Unique
 mod Exact
 mod Near
 mod Quotient
+mod Doubling
 mod Loop
 pub mod Lengths
 pub mod Total

@@ -1,16 +1,16 @@
--- What holds of length_of's loop, at each turn, as it starts, and what it gives as it ends.
+-- What holds of length_of's loop, at each turn, as it starts, and what twice as many digits give as it ends.
 use mathlib.Core.Path.{_≡_, refl, sym, ap, subst, _∙_}
 use Prim.Native.Nat.{ℕ, zero, suc, _+_, _*_, _^_, _≤_, _<_}
-use native.Mathlib.Nat.{lt-of-not-le}
+use native.Mathlib.Nat.{lt-of-not-le, mul-le-mul}
 use native.Mathlib.Omega.{arith}
 use native.Mathlib.Decide.{decLe}
 use lib.IntN.{pos}
 use lib.Dec.{T, le→leb}
-use lib.Pow.{pow-pos, pow-mono}
+use lib.Pow.{pow-pos, pow-mono, pow-add}
 use lib.Ieee.{binary64, div, ofInt, inFloat}
-use Rattle.length.specs.Root.{Rooted, Step}
+use Rattle.length.specs.Root.{Rooted, Step, Doubled}
 use Rattle.length.specs.Nearest.{NearestLength}
-use Rattle.length.proofs.Squares.{le-square}
+use Rattle.length.proofs.Squares.{le-square, root-lt}
 use Rattle.length.proofs.Roots.{root-pos}
 use Rattle.length.proofs.Near.{nearest}
 use Rattle.length.proofs.Quotient.{quotient}
@@ -48,6 +48,17 @@ turn d R Q p S U g h s = record {
 pub grows : (d R Q p S U : ℕ) → Going d R Q p → Step R Q 0 S U → R < S
 grows d R Q p S U g s = omega (arith, g .power, g .under, s .least, pow-pos (g .k))
 
+-- twice as many digits
+pub lengthen : (d R Q p S U : ℕ) → Going d R Q p → R < 2 ^ 27 → Doubled R Q S U → Going d S U (p * 0x800_0000)
+lengthen d R Q p S U g h s = record {
+  k = g .k + 27;
+  power = ap (λ (z : ℕ). z * 0x800_0000) (g .power) ∙ sym (pow-add 2 (g .k) 27);
+  sum = omega (arith, g .sum, s .sum);
+  small = s .small;
+  under = omega (arith, g .under, s .least);
+  below = root-lt {a = S} {b = 2 ^ 54} (omega (arith, s .sum, g .small, mul-le-mul h h));
+}
+
 -- at the end
 few : (d R Q p : ℕ) (g : Going d R Q p) → g .k ≤ 53
 few d R Q p g = go (decLe (g .k) 53)
@@ -56,14 +67,17 @@ few d R Q p g = go (decLe (g .k) 53)
     go (yes h) = h
     go (no f) = absurd (omega (arith, pow-mono {i = 54} {j = g .k} (lt-of-not-le f), g .power, g .under, g .below))
 
+pub small-casts : (n : ℕ) → n ≤ 2 ^ 53 → T (inFloat binary64 (pos n))
+unfolding inFloat
+small-casts n h = le→leb n (2 ^ 53) h
+
 -- M is half of R, rounded up
 module _ (d R Q p M : ℕ) (g : Going d R Q p) (l : 2 ^ 53 ≤ R) (m : R ≤ 2 * M) (n : 2 * M ≤ R + 1) where
   half : (0 < M) × (M ≤ 2 ^ 53)
   half = omega (arith, g .below)
 
   pub root-casts : T (inFloat binary64 (pos M))
-  unfolding inFloat
-  root-casts = le→leb M (2 ^ 53) (half .1)
+  root-casts = small-casts M (half .1)
 
   pub finish : d ≤ 2 ^ 29 → NearestLength d (div binary64 (ofInt binary64 (pos M)) (ofInt binary64 (pos p)))
   finish h = go (g .k) (g .power) (few d R Q p g)
@@ -75,5 +89,4 @@ module _ (d R Q p M : ℕ) (g : Going d R Q p) (l : 2 ^ 53 ≤ R) (m : R ≤ 2 *
           nearest d R Q k M (div binary64 (ofInt binary64 (pos M)) (ofInt binary64 (pos p))) (g .sum ∙ ap (λ (z : ℕ). d * (z * z)) e) (g .small) l (q .0) (q .1) m n
 
 pub power-casts : (d R Q p : ℕ) → Going d R Q p → T (inFloat binary64 (pos p))
-unfolding inFloat
-power-casts d R Q p g = le→leb p (2 ^ 53) (subst (λ (z : ℕ). z ≤ 2 ^ 53) (sym (g .power)) (pow-mono (few d R Q p g)))
+power-casts d R Q p g = small-casts p (subst (λ (z : ℕ). z ≤ 2 ^ 53) (sym (g .power)) (pow-mono (few d R Q p g)))

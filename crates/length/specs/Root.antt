@@ -1,7 +1,7 @@
 -- Whole square roots.
 use mathlib.Core.Path.{_≡_}
 use mathlib.Core.Bool.{Bool, cond}
-use Prim.Native.Nat.{ℕ, zero, suc, _+_, _-_, _*_, _/_, _≤_}
+use Prim.Native.Nat.{ℕ, zero, suc, _+_, _-_, _*_, _/_, _^_, _≤_}
 use lib.Dec.{leb, eqb}
 use lib.Ieee.{size}
 use Rattle.length.specs.declared.Root.{Root}
@@ -48,3 +48,9 @@ pub record Step (r q b s t : ℕ) : Type 0 where
   pub small : t ≤ 2 * s
   pub least : 2 * r ≤ s
   pub most : s ≤ 2 * r + 1
+
+-- As many binary digits more as r has, 27: s, with t left over, is to n · 2^54 as r, with q left over, is to n.
+pub record Doubled (r q s t : ℕ) : Type 0 where
+  pub sum : s * s + t ≡ (r * r + q) * 2 ^ 54
+  pub small : t ≤ 2 * s
+  pub least : r * 2 ^ 27 ≤ s

@@ -1,7 +1,7 @@
 // The whole square root of a number, and the length of a doubled difference: the f64 nearest to half a square root.
 ghost use mathlib.Core.Path.{_≡_};
 ghost use Prim.Native.Nat.{ℕ, _*_, _^_, _≤_, _<_};
-ghost use Rattle.length.specs.Root.{Step, rootOf};
+ghost use Rattle.length.specs.Root.{Step, Doubled, rootOf};
 ghost use Rattle.length.specs.Length.{lengthAt};
 
 pub mod floats;
@@ -36,6 +36,31 @@ fn digit(r: Root, b: u64) -> Root
     }
 }
 
+// Twice as many binary digits of a root that has 27: by one division, for the digits so far are the first half of the root's
+// (Zimmermann 1999, Karatsuba square root).
+fn doubled(r: Root) -> Root
+    requires { ⌜ (2 ^ 26 ≤ r .root) × (r .root < 2 ^ 27) × (r .rem ≤ 2 * r .root) ⌝ }
+    ensures { λ s. ⌜ Doubled (r .root) (r .rem) (s .root) (s .rem) ⌝ }
+{
+    let twice = r.root * 2;
+    let over = r.rem * 0x800_0000;
+    let half = over / twice;
+    let root = r.root * 0x800_0000 + half;
+    let rem = over % twice * 0x800_0000;
+    let square = half * half;
+    if square <= rem {
+        Root {
+            root,
+            rem: rem - square,
+        }
+    } else {
+        Root {
+            root: root - 1,
+            rem: rem + (root * 2 - 1) - square,
+        }
+    }
+}
+
 // The whole square root of n, and the rest.
 pub fn root_of(n: u64) -> Root
     requires { ⌜ n < 2 ^ 36 ⌝ }
@@ -50,8 +75,8 @@ pub fn root_of(n: u64) -> Root
     r
 }
 
-// The length of d, the sum of the squares of two doubled differences. The root gets digits after the point until it has
-// 54, one more than an f64 holds; the last one says whether to round up.
+// The length of d, the sum of the squares of two doubled differences. A square's is half its root. Any other root gets digits
+// after the point until it has 54, one more than an f64 holds; the last one says whether to round up.
 pub fn length_of(d: u32) -> Length
     requires { ⌜ d ≤ 2 ^ 29 ⌝ }
     ensures { λ r. ⌜ r ≡ lengthAt d ⌝ }
@@ -63,16 +88,23 @@ pub fn length_of(d: u32) -> Length
         };
     }
     let mut r = root_of(d as u64);
-    let rest = r.rem;
+    if r.rem == 0 {
+        return Length {
+            value: (r.root as f64) / 2.0,
+            exact: true,
+        };
+    }
     let mut p = 1u64;
-    while r.root < 0x20_0000_0000_0000 {
+    while r.root < 0x400_0000 {
         r = digit(r, 0);
         p = p * 2;
     }
+    r = doubled(r);
+    p = p * 0x800_0000;
     let m = r.root / 2 + r.root % 2;
     let value = (m as f64) / (p as f64);
     Length {
         value,
-        exact: rest == 0,
+        exact: false,
     }
 }

@@ -1,21 +1,23 @@
--- The loop's invariant is `Going`, of proofs/Loop.antt, and its measure what the root is below 2 ^ 54.
-use mathlib.Core.Path.{refl, ap}
-use Prim.Native.Nat.{_-_, _^_}
+-- The loop's invariant is `Going`, of proofs/Loop.antt, with a root below 2 ^ 27; its measure is what the root is below 2 ^ 54.
+use mathlib.Core.Path.{refl, sym, ap, _∙_}
+use Prim.Native.Nat.{_-_, _*_, _^_, _<_}
 use native.Mathlib.Omega.{arith}
+use borrow.Author.Tests.{eq-eqb, ne-eqb}
 use lib.Dec.{eqb}
 use Rattle.length.specs.Root.{isSquare}
 use Rattle.length.specs.declared.Root.{Root}
-use Rattle.length.proofs.Roots.{rooted}
-use Rattle.length.proofs.Loop.{Going, start, turn, grows, root-casts, power-casts, finish}
-use Rattle.length.proofs.Lengths.{zero-nearest, is-length}
+use Rattle.length.proofs.Roots.{rooted, root-pos}
+use Rattle.length.proofs.Squares.{le-square, root-lt}
+use Rattle.length.proofs.Loop.{small-casts, Going, start, turn, grows, lengthen, root-casts, power-casts, finish}
+use Rattle.length.proofs.Lengths.{zero-nearest, root-halved, is-length}
 use Rattle.length.proofs.length_of.Statement.{statement}
 use Rattle.length.proofs.length_of.Tie as tie
 
 abbrev Inv-loop : tie.InvT-loop
-Inv-loop d r₀ rest p₀ r p = Going d (r .root) (r .rem) p
+Inv-loop d r₀ p₀ r p = Going d (r .root) (r .rem) p × (r .root < 2 ^ 27)
 
 abbrev μ-loop : tie.MeasureT-loop
-μ-loop d r₀ rest p₀ r p = 2 ^ 54 - r .root
+μ-loop d r₀ p₀ r p = 2 ^ 54 - r .root
 
 returns : tie.Need-returns Inv-loop μ-loop
 unfolding isSquare
@@ -24,10 +26,29 @@ returns c = rw (c .if1 .taken) (is-length 0 _ (omega arith) zero-nearest refl)
 root-of-requires : tie.Need-root-of-requires Inv-loop μ-loop
 root-of-requires c κs = omega arith
 
+int-to-float-t8 : tie.Need-int-to-float-t8 Inv-loop μ-loop
+int-to-float-t8 c =
+    let entry = c .before .before .before .before .before in
+    let r = c .before .before .before .root-of .result in
+    small-casts (r .root) (omega (arith, le-square (r .root), rooted (entry .args .d) r (c .before .before .before .root-of .ensures) .sum))
+
+returns-2 : tie.Need-returns-2 Inv-loop μ-loop
+unfolding isSquare
+returns-2 c =
+    let entry = c .before .before .before .before .before in
+    let found = c .before .before .before .root-of in
+    let r = found .result in
+    let w = rooted (entry .args .d) r (found .ensures) in
+    is-length (entry .args .d) _ (entry .pre)
+    (root-halved (entry .args .d) (r .root) (root-pos (entry .args .d) (r .root) (r .rem) w (omega (arith, c .before .before .before .before .if1 .left))) (entry .pre) (omega (arith, w .sum)))
+    (sym (eq-eqb (r .rem) 0 (c .before .if2 .taken)) ∙ ap (λ (x : Root). eqb (x .rem) 0) (found .ensures))
+
 loop-holds : tie.Need-loop-holds Inv-loop μ-loop
 loop-holds c =
-    let entry = c .before .before in
-    start (entry .args .d) (c .root-of .result .root) (c .root-of .result .rem) (omega (arith, c .before .if1 .left)) (entry .pre) (rooted (entry .args .d) (c .root-of .result) (c .root-of .ensures))
+    let entry = c .before .before .before .before in
+    let r = c .before .before .root-of .result in
+    let w = rooted (entry .args .d) r (c .before .before .root-of .ensures) in
+    (start (entry .args .d) (r .root) (r .rem) (omega (arith, c .before .before .before .if1 .left)) (entry .pre) w, root-lt {a = r .root} {b = 2 ^ 27} (omega (arith, w .sum)))
 
 digit-requires : tie.Need-digit-requires Inv-loop μ-loop
 digit-requires c κs = omega arith
@@ -38,35 +59,50 @@ mul-p c = omega arith
 loop-less : tie.Need-loop-less Inv-loop μ-loop
 loop-less c =
     let l = c .before .before .before .loop in
-    omega (arith, grows _ (l .r .root) (l .r .rem) (l .p) (c .digit .result .root) (c .digit .result .rem) (l .inv) (c .digit .ensures))
+    omega (arith, grows _ (l .r .root) (l .r .rem) (l .p) (c .digit .result .root) (c .digit .result .rem) (l .inv .0) (c .digit .ensures))
 
 loop-again : tie.Need-loop-again Inv-loop μ-loop
 loop-again c =
     let l = c .before .before .before .loop in
-    turn _ (l .r .root) (l .r .rem) (l .p) (c .digit .result .root) (c .digit .result .rem) (l .inv) (omega arith) (c .digit .ensures)
+    (turn _ (l .r .root) (l .r .rem) (l .p) (c .digit .result .root) (c .digit .result .rem) (l .inv .0) (omega arith) (c .digit .ensures), omega (arith, c .digit .ensures .most))
+
+doubled-requires : tie.Need-doubled-requires Inv-loop μ-loop
+doubled-requires c κs = omega arith
+
+mul-p-2 : tie.Need-mul-p-2 Inv-loop μ-loop
+mul-p-2 c =
+    omega arith
 
 add-m : tie.Need-add-m Inv-loop μ-loop
-add-m c = omega arith
+add-m c =
+    omega arith
 
 int-to-float-value : tie.Need-int-to-float-value Inv-loop μ-loop
 int-to-float-value c =
-    let l = c .before .before .before .before .before .loop in
-    root-casts _ (l .r .root) (l .r .rem) (l .p) _ (l .inv) (omega arith) (omega arith) (omega arith)
+    let l = c .before .before .before .before .before .before .loop in
+    let f = c .before .before .before .doubled in
+    let g = lengthen _ (l .r .root) (l .r .rem) (l .p) (f .result .root) (f .result .rem) (l .inv .0) (l .inv .1) (f .ensures) in
+    root-casts _ (f .result .root) (f .result .rem) (l .p * 0x800_0000) _ g (omega (arith, f .ensures .least)) (omega arith) (omega arith)
 
 int-to-float-value-2 : tie.Need-int-to-float-value-2 Inv-loop μ-loop
 int-to-float-value-2 c =
-    let l = c .before .before .before .before .before .before .loop in
-    power-casts _ (l .r .root) (l .r .rem) (l .p) (l .inv)
+    let l = c .before .before .before .before .before .before .before .loop in
+    let f = c .before .before .before .before .doubled in
+    let g = lengthen _ (l .r .root) (l .r .rem) (l .p) (f .result .root) (f .result .rem) (l .inv .0) (l .inv .1) (f .ensures) in
+    power-casts _ (f .result .root) (f .result .rem) (l .p * 0x800_0000) g
 
-returns-2 : tie.Need-returns-2 Inv-loop μ-loop
+returns-3 : tie.Need-returns-3 Inv-loop μ-loop
 unfolding isSquare
-returns-2 c =
-    let at-loop = c .before .before .before .before .before .before in
-    let l = at-loop .loop in
-    let entry = at-loop .before .before .before in
+returns-3 c =
+    let l = c .before .before .before .before .before .before .before .loop in
+    let f = c .before .before .before .before .doubled in
+    let g = lengthen _ (l .r .root) (l .r .rem) (l .p) (f .result .root) (f .result .rem) (l .inv .0) (l .inv .1) (f .ensures) in
+    let at-loop = c .before .before .before .before .before .before .before in
+    let entry = at-loop .before .before .before .before .before in
+    let found = at-loop .before .before .before .root-of in
     is-length (entry .args .d) _ (entry .pre)
-    (finish (entry .args .d) (l .r .root) (l .r .rem) (l .p) _ (l .inv) (omega arith) (omega arith) (omega arith) (entry .pre))
-    (ap (λ (r : Root). eqb (r .rem) 0) (at-loop .before .root-of .ensures))
+    (finish (entry .args .d) (f .result .root) (f .result .rem) (l .p * 0x800_0000) _ g (omega (arith, f .ensures .least)) (omega arith) (omega arith) (entry .pre))
+    (sym (ne-eqb (found .result .rem) 0 (at-loop .before .if2 .left)) ∙ ap (λ (x : Root). eqb (x .rem) 0) (found .ensures))
 
 pub length-of-spec : {M : Type 1} → statement M
 length-of-spec =
@@ -76,12 +112,16 @@ length-of-spec =
     μ-loop
     returns
     root-of-requires
+    int-to-float-t8
+    returns-2
     loop-holds
     digit-requires
     mul-p
     loop-less
     loop-again
+    doubled-requires
+    mul-p-2
     add-m
     int-to-float-value
     int-to-float-value-2
-    returns-2)
+    returns-3)
