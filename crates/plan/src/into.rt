@@ -9,6 +9,7 @@ ghost use Rattle.plan.specs.Fitting.{Safe};
 use crate::judge::judge_flat;
 use crate::judge::judge_serial;
 use links::limits::Limits;
+use wire::size;
 
 fn short(x: usize) -> u32
     requires { ⌜ x ≤ 256 ⌝ }
@@ -17,7 +18,23 @@ fn short(x: usize) -> u32
     x as u32
 }
 
-// The rank that rank i goes into by the serial group of its part.
+// The first rank of rank i's part, if it is earlier and goes where i goes; else i.
+fn judged_before(joined: &[u8; 256], parts: &[u32; 256], i: usize) -> usize
+    requires { ⌜ i < 256 ⌝ }
+    ensures { λ r. ⌜ (r ≤ i) × (at (now (joined .entry)) r ≡ at (now (joined .entry)) i) × (at (now (parts .entry)) r ≡ at (now (parts .entry)) i) ⌝ }
+{
+    let c = size(parts[i]);
+    if c < i {
+        if joined[c] == joined[i] {
+            if parts[c] == parts[i] {
+                return c;
+            }
+        }
+    }
+    i
+}
+
+// The rank that rank i goes into by the serial group of its part; each part is judged at its first rank.
 fn one_serial(
     limits: Limits,
     n: usize,
@@ -33,13 +50,18 @@ fn one_serial(
     chosen: &[u8; 256],
     joined: &[u8; 256],
     parts: &[u32; 256],
+    into: &[u32; 256],
     i: usize,
 ) -> u32
-    requires { ⌜ (3 ≤ limits .«least_spans») × (limits .«most_spans» ≤ 4) × Safe n (now own) (now bits) (now firsts) (now seconds) links × (i < 256) ⌝ }
+    requires { ⌜ (3 ≤ limits .«least_spans») × (limits .«most_spans» ≤ 4) × Safe n (now own) (now bits) (now firsts) (now seconds) links × (i < 256) × Filled (serialInto (limitsOf limits) n (now own) (now bits) (now lowers) (now highers) (now regions) (now firsts) (now seconds) links (now passing) (now chosen) (now joined) (now parts)) i (now into) ⌝ }
     ensures { λ r. ⌜ r ≡ serialInto (limitsOf limits) n (now (own .entry)) (now (bits .entry)) (now (lowers .entry)) (now (highers .entry)) (now (regions .entry)) (now (firsts .entry)) (now (seconds .entry)) links (now (passing .entry)) (now (chosen .entry)) (now (joined .entry)) (now (parts .entry)) i ⌝ }
 {
     if joined[i] != 1 {
         return 256;
+    }
+    let e = judged_before(joined, parts, i);
+    if e < i {
+        return into[e];
     }
     let c = parts[i];
     short(judge_serial(
@@ -99,13 +121,14 @@ pub fn into_serial(
             chosen,
             joined,
             parts,
+            into,
             i,
         );
         i += 1;
     }
 }
 
-// The rank that rank i goes into by the flat group of its part.
+// The rank that rank i goes into by the flat group of its part; each part is judged at its first rank.
 fn one_flat(
     limits: Limits,
     n: usize,
@@ -120,13 +143,18 @@ fn one_flat(
     chosen: &[u8; 256],
     joined: &[u8; 256],
     parts: &[u32; 256],
+    into: &[u32; 256],
     i: usize,
 ) -> u32
-    requires { ⌜ (limits .«most_spans» ≤ 4) × Safe n (now own) (now bits) (now firsts) (now seconds) links × (i < 256) ⌝ }
+    requires { ⌜ (limits .«most_spans» ≤ 4) × Safe n (now own) (now bits) (now firsts) (now seconds) links × (i < 256) × Filled (flatInto (limitsOf limits) n (now own) (now bits) (now lowers) (now highers) (now regions) (now firsts) (now seconds) links (now chosen) (now joined) (now parts)) i (now into) ⌝ }
     ensures { λ r. ⌜ r ≡ flatInto (limitsOf limits) n (now (own .entry)) (now (bits .entry)) (now (lowers .entry)) (now (highers .entry)) (now (regions .entry)) (now (firsts .entry)) (now (seconds .entry)) links (now (chosen .entry)) (now (joined .entry)) (now (parts .entry)) i ⌝ }
 {
     if joined[i] != 1 {
         return 256;
+    }
+    let e = judged_before(joined, parts, i);
+    if e < i {
+        return into[e];
     }
     let c = parts[i];
     short(judge_flat(
@@ -183,6 +211,7 @@ pub fn into_flat(
             chosen,
             joined,
             parts,
+            into,
             i,
         );
         i += 1;

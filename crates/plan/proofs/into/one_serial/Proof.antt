@@ -1,13 +1,10 @@
 use mathlib.Core.Path.{_∙_}
 use Rattle.plan.specs.Into.{serialInto}
-use Rattle.plan.proofs.IntoLaws.{no-group, one-group}
+use Rattle.plan.proofs.IntoLaws.{no-group, one-group, together-serial}
+use native.Mathlib.Omega.{arith}
 use borrow.Author.Needs.{needs}
 use Rattle.plan.proofs.into.one_serial.Statement.{statement}
 use Rattle.plan.proofs.into.one_serial.Tie as tie
-use Rattle.plan.proofs.into.one_serial.Reads as reads
-use Rattle.plan.proofs.into.one_serial.Lts as lts
-use Rattle.plan.proofs.into.short.Reads as short-reads
-use Rattle.plan.proofs.judge.judge_serial.Reads as judge-serial-reads
 
 element-copy-out-if1 : tie.Need-element-copy-out-if1
 element-copy-out-if1 c = search needs
@@ -15,6 +12,21 @@ element-copy-out-if1 c = search needs
 returns : tie.Need-returns
 unfolding serialInto
 returns c = no-group _ (c .if1 .taken)
+
+judged-before-requires : tie.Need-judged-before-requires
+judged-before-requires c κs = search needs
+
+mul-result : tie.Need-mul-result
+mul-result c = search needs
+
+element-copy-out-result : tie.Need-element-copy-out-result
+element-copy-out-result c = search needs
+
+returns-2 : tie.Need-returns-2
+returns-2 c =
+    let entry = c .before .before .before .before .before in
+    let e = c .before .before .judged-before in
+    entry .pre .4 .each (e .result) (omega (arith, c .before .if2 .taken)) ∙ together-serial _ _ _ _ _ _ _ _ _ _ _ _ _ _ _ (e .ensures .1) (e .ensures .2) _
 
 mul-c : tie.Need-mul-c
 mul-c c = search needs
@@ -28,9 +40,9 @@ judge-serial-requires c κs = search needs
 short-requires : tie.Need-short-requires
 short-requires c κs = search needs
 
-returns-2 : tie.Need-returns-2
+returns-3 : tie.Need-returns-3
 unfolding serialInto
-returns-2 c = one-group (c .before .before .before .if1 .left) (c .short .ensures ∙ c .before .judge-serial .ensures .0)
+returns-3 c = one-group (c .before .before .before .before .before .if1 .left) (c .short .ensures ∙ c .before .judge-serial .ensures .0)
 
 pub one-serial-spec : {M : Type 1} → statement M
 one-serial-spec =
@@ -38,8 +50,12 @@ one-serial-spec =
     (tie.spec
     element-copy-out-if1
     returns
+    judged-before-requires
+    mul-result
+    element-copy-out-result
+    returns-2
     mul-c
     element-copy-out-c
     judge-serial-requires
     short-requires
-    returns-2)
+    returns-3)
