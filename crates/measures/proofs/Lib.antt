@@ -2,3 +2,4 @@ pub mod Writing
 pub mod Reading
 pub mod Turns
 pub mod Meaning
+mod Singly

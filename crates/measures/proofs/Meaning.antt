@@ -44,11 +44,11 @@ module _ {limits : Limits} {own bits regions firsts seconds : List ℕ} {g : Gri
   }
 
   -- link k by its marks
-  pub judge-next : {n k links : ℕ} {table : List LinkHeld} {stats : List StatsHeld} {ps fs : List ℕ} {p f : ℕ} (d e : LinkHeld) (h : StatsHeld) → links ≤ 256 → k < links
-      → Running limits own bits regions firsts seconds g ls links n table stats → Judged limits own bits regions firsts seconds g ls n k ps fs
-      → p ≡ cond (passing (measuredIn limits (getD table k d))) 1 0 → f ≡ cond (flatIn (getD table k e) (getD stats k h)) 1 0
+  pub judge-next : {n k : ℕ} {ps fs : List ℕ} {p f : ℕ} → k < 256 → Judged limits own bits regions firsts seconds g ls n k ps fs
+      → p ≡ cond (passing (measuredIn limits (linkNow limits own bits regions firsts seconds g ls k n))) 1 0
+      → f ≡ cond (flatIn (linkNow limits own bits regions firsts seconds g ls k n) (statsNow limits own bits regions firsts seconds g ls k n)) 1 0
       → Judged limits own bits regions firsts seconds g ls n (k + 1) (set ps k p) (set fs k f)
-  judge-next {n} {k} {links} {table} {stats} {ps} {fs} {p} {f} d e h few l R J u v = record {
+  judge-next {n} {k} {ps} {fs} {p} {f} l J u v = record {
     long = length-set ps k p ∙ J .long;
     flat-long = length-set fs k f ∙ J .flat-long;
     passing-is = λ j b.
@@ -56,19 +56,38 @@ module _ {limits : Limits} {own bits regions firsts seconds : List ℕ} {g : Gri
         (λ q.
         ap (λ (z : ℕ). at (set ps k p) z) q
         ∙ (getD-set-same ps k p 0 (omega (arith, J .long))
-        ∙ (u ∙ (ap (λ (t : LinkHeld). cond (passing (measuredIn limits t)) 1 0) (R .link-is k d l) ∙ ap (λ (z : ℕ). cond (passing (measuredIn limits (linkNow limits own bits regions firsts seconds g ls z n))) 1 0) (sym q)))))
+        ∙ (u ∙ ap (λ (z : ℕ). cond (passing (measuredIn limits (linkNow limits own bits regions firsts seconds g ls z n))) 1 0) (sym q))))
         (λ q. getD-set-other ps k j p 0 q ∙ J .passing-is j (omega arith));
     flat-is = λ j b.
         by-cases (ℕ-discrete j k)
         (λ q.
         ap (λ (z : ℕ). at (set fs k f) z) q
         ∙ (getD-set-same fs k f 0 (omega (arith, J .flat-long))
-        ∙ (v
-        ∙ (ap (λ (t : LinkHeld). cond (flatIn t (getD stats k h)) 1 0) (R .link-is k e l)
-        ∙ (ap (λ (t : StatsHeld). cond (flatIn (linkNow limits own bits regions firsts seconds g ls k n) t) 1 0) (R .stats-is k h l)
-        ∙ ap (λ (z : ℕ). cond (flatIn (linkNow limits own bits regions firsts seconds g ls z n) (statsNow limits own bits regions firsts seconds g ls z n)) 1 0) (sym q))))))
+        ∙ (v ∙ ap (λ (z : ℕ). cond (flatIn (linkNow limits own bits regions firsts seconds g ls z n) (statsNow limits own bits regions firsts seconds g ls z n)) 1 0) (sym q))))
         (λ q. getD-set-other fs k j f 0 q ∙ J .flat-is j (omega arith));
   }
+
+  -- from tables of links and statistics
+  pub judge-row : {n k links : ℕ} {table : List LinkHeld} {stats : List StatsHeld} {ps fs : List ℕ} {p f : ℕ} (d e : LinkHeld) (h : StatsHeld) → links ≤ 256 → k < links
+      → Running limits own bits regions firsts seconds g ls links n table stats → Judged limits own bits regions firsts seconds g ls n k ps fs
+      → p ≡ cond (passing (measuredIn limits (getD table k d))) 1 0 → f ≡ cond (flatIn (getD table k e) (getD stats k h)) 1 0
+      → Judged limits own bits regions firsts seconds g ls n (k + 1) (set ps k p) (set fs k f)
+  judge-row {n} {k} {stats = stats} d e h few l R J u v =
+      judge-next (omega arith) J (u ∙ ap (λ (t : LinkHeld). cond (passing (measuredIn limits t)) 1 0) (R .link-is k d l))
+      (v
+      ∙ (ap (λ (t : LinkHeld). cond (flatIn t (getD stats k h)) 1 0) (R .link-is k e l)
+      ∙ ap (λ (t : StatsHeld). cond (flatIn (linkNow limits own bits regions firsts seconds g ls k n) t) 1 0) (R .stats-is k h l)))
+
+  -- from a link and statistics that are by themselves
+  pub judge-one : {n k : ℕ} {ps fs : List ℕ} {p f : ℕ} {r : LinkHeld} {s : StatsHeld} → length ls ≡ n → k < 256 → Judged limits own bits regions firsts seconds g ls n k ps fs
+      → r ≡ linkNow limits own bits regions firsts seconds g ls k n → statsIn s ≡ regionStats g ls (at regions k)
+      → p ≡ cond (passing (measuredIn limits r)) 1 0 → f ≡ cond (flatIn r s) 1 0 → Judged limits own bits regions firsts seconds g ls n (k + 1) (set ps k p) (set fs k f)
+  judge-one {n} {k} {r = r} many l J e q u v =
+      judge-next l J (u ∙ ap (λ (t : LinkHeld). cond (passing (measuredIn limits t)) 1 0) e)
+      (v
+      ∙ (ap (λ (t : RegionStats). cond (r .inside && (not (t .hasRamp) && eqb (elevations t) 1)) 1 0)
+      (q ∙ sym (ap (λ (cs : List ℕ). statsIn (statsAfter g cs)) (ap (λ (z : ℕ). firstCells ls (at regions k) z) (sym many) ∙ cells-all ls (at regions k)) ∙ after-all g ls (at regions k)))
+      ∙ ap (λ (t : LinkHeld). cond (flatIn t (statsNow limits own bits regions firsts seconds g ls k n)) 1 0) e))
 
   pub judge-end : {n k links : ℕ} {ps fs : List ℕ} → k ≡ links → Judged limits own bits regions firsts seconds g ls n k ps fs → Judged limits own bits regions firsts seconds g ls n links ps fs
   judge-end {n} {ps = ps} {fs = fs} e J = subst (λ (z : ℕ). Judged limits own bits regions firsts seconds g ls n z ps fs) e J
@@ -127,6 +146,14 @@ module _ {limits : Limits} {own bits regions firsts seconds : List ℕ} {g : Gri
     passing-is = λ dirs l ramps B labels k b first second. passing-right many J dirs l ramps B labels k b first second;
     flat-is = λ dirs l ramps B labels k b first second. flat-right many J dirs l ramps B labels k b first second;
   }
+
+-- nothing is to be said of no links
+pub none-measured : {limits : Limits} {own bits regions firsts seconds : List ℕ} {g : Grid} {ls : List ℕ} {links : ℕ} {ps fs : List ℕ} → links ≡ 0
+    → Measured limits own bits regions firsts seconds g ls links ps fs
+none-measured e = record {
+  passing-is = λ dirs l ramps B labels k b first second. absurd (omega (arith, b));
+  flat-is = λ dirs l ramps B labels k b first second. absurd (omega (arith, b));
+}
 
 pub labels-many : (s : List ℕ) (n : ℕ) → length (labelsOf s n) ≡ n
 unfolding labelsOf

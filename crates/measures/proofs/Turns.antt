@@ -64,7 +64,7 @@ fill-next {own} {bits} {firsts} {seconds} {k} {table} {v} F b e = record {
 pub fill-end : {own bits firsts seconds : List ℕ} {k links : ℕ} {table : List LinkHeld} → k ≡ links → Filled own bits firsts seconds k table → Filled own bits firsts seconds links table
 fill-end {own} {bits} {firsts} {seconds} {table = table} e F = subst (λ (z : ℕ). Filled own bits firsts seconds z table) e F
 
-no-cells : (ls : List ℕ) (r : ℕ) → [] ≡ firstCells ls r 0
+pub no-cells : (ls : List ℕ) (r : ℕ) → [] ≡ firstCells ls r 0
 unfolding firstCells keep upFrom
 no-cells ls r = refl
 

@@ -41,6 +41,10 @@ pub record Filled (own bits firsts seconds : List ℕ) (k : ℕ) (table : List L
   pub long : length table ≡ 256
   pub link-is : (j : ℕ) (d : LinkHeld) → j < k → getD table j d ≡ noCell (valueIn own bits (at firsts j) (at seconds j))
 
+-- a link that began without a cell has those of the region among the first n
+abbrev pub AllCells : Limits → ℕ → List ℕ → ℕ → ℕ → LinkHeld → LinkHeld → Type 0
+AllCells limits width ls region n start r = (k : Link) → start ≡ noCell k → r ≡ linkAfter limits k width (firstCells ls region n)
+
 -- the cells of a region stay inside the flat envelope, none is a ramp, and they have one elevation
 abbrev pub flatIn : LinkHeld → StatsHeld → Bool
 flatIn link stats = link .inside && (not (stats .«has_ramp») && eqb (elevations (statsIn stats)) 1)

@@ -1,4 +1,6 @@
-// The links of the map, measured by one pass over its cells: 000's `measure_links`.
+// The links of the map, measured by its cells: 000's `measure_links`.
+mod few; // each link by a pass of its own
+
 ghost use mathlib.Core.Path.{_≡_};
 ghost use mathlib.Core.Bool.{cond};
 ghost use mathlib.Core.List.{List};
@@ -13,6 +15,7 @@ ghost use Rattle.links.specs.Measure.{passing};
 ghost use Rattle.topology.specs.Held.{labelsOf};
 ghost use Rattle.measures.specs.Tables.{Regions, Labels, Written, Numbered, numberOf};
 ghost use Rattle.measures.specs.Judging.{Plain, Ranks, valueIn, flatIn, Judged, Measured};
+use few::measure_few;
 use links::limits::Limits;
 use links::link::Link;
 use links::link::link_of;
@@ -172,6 +175,9 @@ fn measure_all(
     }
 }
 
+// How many cells may be passed over in all where each link is measured by itself; beyond, all are by one pass.
+const FEW: usize = 1024;
+
 // Marks each link that passes, and each one with a flat region inside its envelope, with 1, and every other with 0. The table is left as it was.
 pub fn measure_links(
     cells: &[u8],
@@ -196,6 +202,24 @@ pub fn measure_links(
         return;
     }
     let n = cells.len();
+    if links * n <= FEW {
+        measure_few(
+            cells,
+            width,
+            height,
+            work,
+            regions,
+            firsts,
+            seconds,
+            links,
+            own,
+            bits,
+            limits,
+            passing,
+            flat,
+        );
+        return;
+    }
     let count = links as u32;
     number_all(work, n, regions, count);
     measure_all(

@@ -1,7 +1,7 @@
--- The pass over the cells that counts those of one region.
+-- A pass over the cells that takes in those of one region.
 use mathlib.Core.Path.{_≡_, sym, _∙_, ap}
 use mathlib.Core.Bool.{Bool, true, false, cond, not}
-use mathlib.Core.List.{List}
+use mathlib.Core.List.{List, [], _∷_, _++_}
 use Prim.Native.Nat.{ℕ, _+_, _*_, _/_, _%_, _<_}
 use native.Mathlib.Omega.{arith}
 use native.Mathlib.Numerals.{add-one}
@@ -26,32 +26,39 @@ column-small i w h = omega (arith, mod-le i w)
 pub row-small : (i w : ℕ) → i < 1048576 → i / w < 1048576
 row-small i w h = omega (arith, div-le-self i w)
 
-pub left-out : (t : Bool) {s : StatsHeld} (x : StatsHeld) → not t ≡ true → s ≡ cond t x s
+pub left-out : {A : Type 0} (t : Bool) {s : A} (x : A) → not t ≡ true → s ≡ cond t x s
 left-out t x h = let e = not-true t h in rw e
 
-pub put-in : (t : Bool) (s : StatsHeld) {x : StatsHeld} {a b : ℕ} (column row cell : ℕ) → not t ≡ false → x ≡ withCell s a b cell → a ≡ column → b ≡ row → x ≡ cond t (withCell s column row cell) s
-put-in t s {x} {a} {b} column row cell h e p q = let k = not-false t h in rw k (e ∙ (ap (λ (y : ℕ). withCell s y b cell) p ∙ ap (λ (y : ℕ). withCell s column y cell) q))
+pub put-in : {A : Type 0} (t : Bool) (with : ℕ → ℕ → A) (s : A) {x : A} {a b : ℕ} (column row : ℕ) → not t ≡ false → x ≡ with a b → a ≡ column → b ≡ row → x ≡ cond t (with column row) s
+put-in t with s {x} {a} {b} column row h e p q = let k = not-false t h in rw k (e ∙ (ap (λ (y : ℕ). with y b) p ∙ ap (λ (y : ℕ). with column y) q))
 
 pub count-start : {s : StatsHeld} → NoCells s → (g : Grid) (ls : List ℕ) (r : ℕ) → s ≡ statsAfter g (firstCells ls r 0)
 unfolding firstCells keep upFrom
 count-start h g ls r = h .after g
+
+-- what some cells come to, after those of the region among the first i, and after one cell more
+pub pass-next : {A : Type 0} (after : List ℕ → A) (bytes : List ℕ) (n r : ℕ) {i : ℕ} {s : A} → s ≡ after (firstCells (labelsOf bytes n) r i)
+    → i < n → {v : ℕ} → v ≡ u32At bytes (i * 4) → {more : A} → ((cs : List ℕ) → s ≡ after cs → more ≡ after (cs ++ (i ∷ []))) → {t : A} → t ≡ cond (eqb r v) more s
+    → t ≡ after (firstCells (labelsOf bytes n) r (i + 1))
+pass-next {A} after bytes n r {i} {s} now l {v} e {more} step {t} f =
+    rw add-one
+    (by-test (eqb r v)
+    (λ h. f ∙ (rw h (step (firstCells ls r i) now ∙ ap after (sym (cells-in ls r i (same ∙ h))))))
+    (λ h. f ∙ (rw h (now ∙ ap after (sym (cells-out ls r i (same ∙ h)))))))
+  where
+    ls : List ℕ
+    ls = labelsOf bytes n
+
+    same : eqb r (labelAt ls i) ≡ eqb r v
+    same = ap (eqb r) (label-is bytes n i l ∙ sym e)
 
 module _ (g : Grid) (bytes : List ℕ) (n r : ℕ) {i : ℕ} {s : StatsHeld} (now : s ≡ statsAfter g (firstCells (labelsOf bytes n) r i)) where
   pub count-room : i < 1048576 → Room s
   count-room h = rw now (after-room g (firstCells (labelsOf bytes n) r i) (omega (arith, cells-most (labelsOf bytes n) r i)))
 
   pub count-next : i < n → {v : ℕ} → v ≡ u32At bytes (i * 4) → {t : StatsHeld} → t ≡ cond (eqb r v) (withCell s (columnOf g i) (rowOf g i) (cellAt g i)) s → t ≡ statsAfter g (firstCells (labelsOf bytes n) r (i + 1))
-  count-next l {v} e {t} f =
-      rw add-one
-      (by-test (eqb r v)
-      (λ h. f ∙ (rw h (ap (λ (x : StatsHeld). withCell x (columnOf g i) (rowOf g i) (cellAt g i)) now ∙ (after-next g (firstCells ls r i) i ∙ ap (statsAfter g) (sym (cells-in ls r i (same ∙ h)))))))
-      (λ h. f ∙ (rw h (now ∙ ap (statsAfter g) (sym (cells-out ls r i (same ∙ h)))))))
-    where
-      ls : List ℕ
-      ls = labelsOf bytes n
-
-      same : eqb r (labelAt ls i) ≡ eqb r v
-      same = ap (eqb r) (label-is bytes n i l ∙ sym e)
+  count-next l e f =
+      pass-next (statsAfter g) bytes n r now l e (λ cs h. ap (λ (x : StatsHeld). withCell x (columnOf g i) (rowOf g i) (cellAt g i)) h ∙ after-next g cs i) f
 
   pub count-end : i ≡ n → statsIn s ≡ regionStats g (labelsOf bytes n) r
   unfolding labelsOf

@@ -93,14 +93,14 @@ impl RegionStats {
 }
 
 // The column of a cell, and its row.
-fn column_of(i: usize, width: u32) -> u32
+pub fn column_of(i: usize, width: u32) -> u32
     requires { ⌜ (i < 1048576) × (0 < width) ⌝ }
     ensures { λ r. ⌜ (r ≡ i % width) × (r < 1048576) ⌝ }
 {
     (i as u32) % width
 }
 
-fn row_of(i: usize, width: u32) -> u32
+pub fn row_of(i: usize, width: u32) -> u32
     requires { ⌜ (i < 1048576) × (0 < width) ⌝ }
     ensures { λ r. ⌜ (r ≡ i / width) × (r < 1048576) ⌝ }
 {

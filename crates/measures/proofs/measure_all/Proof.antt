@@ -9,7 +9,7 @@ use Rattle.topology.specs.Held.{labelsOf}
 use Rattle.measures.specs.Judging.{Filled, Running, Judged}
 use Rattle.measures.proofs.Reading.{area}
 use Rattle.measures.proofs.Turns.{place-of, row-below, next-place, fill-start, fill-next, fill-end, pass-start, pass-end, turn-out, turn-on, turn-room, turn-in}
-use Rattle.measures.proofs.Meaning.{judge-start, judge-next, judge-end}
+use Rattle.measures.proofs.Meaning.{judge-start, judge-row, judge-end}
 use Rattle.measures.proofs.measure_all.Statement.{statement}
 use Rattle.measures.proofs.measure_all.Tie as tie
 use Rattle.measures.proofs.measure_all.Reads as reads
@@ -205,7 +205,7 @@ loop3-less : tie.Need-loop3-less Inv-loop μ-loop Inv-loop2 μ-loop2 Inv-loop3 �
 loop3-less c = omega (arith, c .before .before .before .before .before .loop3-test .taken)
 
 loop3-again : tie.Need-loop3-again Inv-loop μ-loop Inv-loop2 μ-loop2 Inv-loop3 μ-loop3
-loop3-again c = (omega (arith, c .before .before .before .before .before .loop3-test .taken), c .before .before .before .before .before .before .loop3 .inv .1, judge-next _ _ _ (c .before .before .before .before .before .before .before .before .before .before .before .before .before .before .before .before .before .pre .4 .few) (c .before .before .before .before .before .loop3-test .taken) (c .before .before .before .before .before .before .loop3 .inv .1) (c .before .before .before .before .before .before .loop3 .inv .2) (c .before .before .before .passing-mark .ensures) (c .flat-mark .ensures))
+loop3-again c = (omega (arith, c .before .before .before .before .before .loop3-test .taken), c .before .before .before .before .before .before .loop3 .inv .1, judge-row _ _ _ (c .before .before .before .before .before .before .before .before .before .before .before .before .before .before .before .before .before .pre .4 .few) (c .before .before .before .before .before .loop3-test .taken) (c .before .before .before .before .before .before .loop3 .inv .1) (c .before .before .before .before .before .before .loop3 .inv .2) (c .before .before .before .passing-mark .ensures) (c .flat-mark .ensures))
 
 returns : tie.Need-returns Inv-loop μ-loop Inv-loop2 μ-loop2 Inv-loop3 μ-loop3
 returns c = judge-end (let z : c .before .loop3 .m ≡ c .before .before .before .before .before .before .before .before .before .before .before .before .args .links = omega (arith, c .before .loop3 .inv .0, c .loop3-test .left) in z) (c .before .loop3 .inv .2)

@@ -23,7 +23,7 @@ with-requires : tie.Need-with-requires
 with-requires c κs = search needs
 
 returns-2 : tie.Need-returns-2
-returns-2 c = let a = c .before .before .before .before .args in put-in (a .inside) (a .stats) (a .i % a .width) (a .i / a .width) (a .cell) (c .before .before .before .if1 .left) (c .with .ensures) (c .before .before .column-of .ensures .0) (c .before .row-of .ensures .0)
+returns-2 c = let a = c .before .before .before .before .args in put-in (a .inside) (λ x y. withCell (a .stats) x y (a .cell)) (a .stats) (a .i % a .width) (a .i / a .width) (c .before .before .before .if1 .left) (c .with .ensures) (c .before .before .column-of .ensures .0) (c .before .row-of .ensures .0)
 
 pub counted-spec : {M : Type 1} → statement M
 counted-spec =

@@ -1,0 +1,30 @@
+use Prim.Native.Nat.{_/_, _%_}
+use Rattle.links.specs.HeldLimits.{limitsOf}
+use Rattle.links.specs.HeldLink.{withCell}
+use Rattle.topology.proofs.CountLoop.{left-out, put-in}
+use borrow.Author.Needs.{needs}
+use Rattle.measures.proofs.few.counted.Statement.{statement}
+use Rattle.measures.proofs.few.counted.Tie as tie
+
+returns : tie.Need-returns
+returns c =
+    let a = c .before .args in
+    left-out (a .inside) (withCell (limitsOf (a .limits)) (a .link) (a .i % a .width) (a .i / a .width)) (c .if1 .taken)
+
+column-of-requires : tie.Need-column-of-requires
+column-of-requires c κs = search needs
+
+row-of-requires : tie.Need-row-of-requires
+row-of-requires c κs = search needs
+
+at-requires : tie.Need-at-requires
+at-requires c κs = search needs
+
+returns-2 : tie.Need-returns-2
+returns-2 c =
+    let a = c .before .before .before .before .args in
+    put-in (a .inside) (withCell (limitsOf (a .limits)) (a .link)) (a .link) (a .i % a .width) (a .i / a .width) (c .before .before .before .if1 .left) (c .at .ensures) (c .before .before .column-of .ensures .0) (c .before .row-of .ensures .0)
+
+pub counted-spec : {M : Type 1} → statement M
+counted-spec =
+    tie.close (tie.spec returns column-of-requires row-of-requires at-requires returns-2)

@@ -1,0 +1,59 @@
+use Prim.Native.Nat.{_-_, _≤_}
+use native.Mathlib.Omega.{arith}
+use borrow.Author.Needs.{needs}
+use Rattle.links.specs.HeldLimits.{limitsOf}
+use Rattle.topology.specs.Held.{labelsOf}
+use Rattle.measures.specs.Judging.{AllCells}
+use Rattle.measures.proofs.Singly.{one-start, one-next, one-end}
+use Rattle.measures.proofs.few.measure_one.Statement.{statement}
+use Rattle.measures.proofs.few.measure_one.Tie as tie
+
+abbrev Inv-loop : tie.InvT-loop
+Inv-loop n width labels region limits link₀ i₀ link i = (i ≤ n) × AllCells (limitsOf limits) width (labelsOf labels n) region i link₀ link
+
+abbrev μ-loop : tie.MeasureT-loop
+μ-loop n width labels region limits link₀ i₀ link i = n - i
+
+loop-holds : tie.Need-loop-holds Inv-loop μ-loop
+loop-holds c = (omega arith, one-start _ _ _ _ _)
+
+mul-read-u32 : tie.Need-mul-read-u32 Inv-loop μ-loop
+mul-read-u32 c = search needs
+
+read-u32-requires : tie.Need-read-u32-requires Inv-loop μ-loop
+read-u32-requires c κs = search needs
+
+counted-requires : tie.Need-counted-requires Inv-loop μ-loop
+counted-requires c κs = search needs
+
+add-i : tie.Need-add-i Inv-loop μ-loop
+add-i c = search needs
+
+loop-less : tie.Need-loop-less Inv-loop μ-loop
+loop-less c = search needs
+
+loop-again : tie.Need-loop-again Inv-loop μ-loop
+loop-again c =
+    let a = c .before .before .before .before .before .args in
+    let l = c .before .before .before .loop in
+    (omega (arith, c .before .before .loop-test .taken), one-next _ _ (a .labels .now) (a .n) (a .region) (l .inv .1) (c .before .before .loop-test .taken) (c .before .read-u32 .ensures) (c .counted .ensures))
+
+returns : tie.Need-returns Inv-loop μ-loop
+returns c =
+    let l = c .before .loop in
+    one-end _ _ _ _ (omega (arith, l .inv .0, c .loop-test .left)) (l .inv .1)
+
+pub measure-one-spec : {M : Type 1} → statement M
+measure-one-spec =
+    tie.close
+    (tie.spec
+    Inv-loop
+    μ-loop
+    loop-holds
+    mul-read-u32
+    read-u32-requires
+    counted-requires
+    add-i
+    loop-less
+    loop-again
+    returns)
