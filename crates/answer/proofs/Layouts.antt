@@ -19,8 +19,8 @@ below-none f = refl
 below-suc : (f : ℕ → ℕ) (i : ℕ) → below f (suc i) ≡ below f i + f i
 below-suc f i = sum-last i f
 
-pub layout-start : (s : List ℕ) (at ats : ℕ) {firsts starts counts : List ℕ} → PlanRoom firsts starts counts
-    → Layout (ownCount s at) (seenCount s at) (citedCount s ats) firsts starts counts 0 0 0
+pub layout-start : (s : List ℕ) (at ats : ℕ) {base n : ℕ} {firsts starts counts : List ℕ} → PlanRoom base n firsts starts counts
+    → Layout (ownCount s at) (seenCount s at) (citedCount s ats) base n firsts starts counts 0 0 0
 layout-start s at ats g = record {
   place = sym (below-none (seenCount s at));
   running = omega (arith, below-none (ownCount s at), below-none (citedCount s ats));
@@ -38,12 +38,12 @@ layout-start s at ats g = record {
 }
 
 -- What the limits leave at boundary b.
-module _ {s : List ℕ} {at n ats : ℕ} (g : Countable s at n ats) {firsts starts counts : List ℕ} {b p run : ℕ}
-    (l : Layout (ownCount s at) (seenCount s at) (citedCount s ats) firsts starts counts b p run) (h : b < n) where
-  pub observations-fit : p + seenCount s at b ≤ 1024
-  observations-fit =
+module _ {s : List ℕ} {at n ats base : ℕ} (g : Countable s at n ats base) {firsts starts counts : List ℕ} {b p run : ℕ}
+    (l : Layout (ownCount s at) (seenCount s at) (citedCount s ats) base n firsts starts counts b p run) (h : b < n) where
+  pub observations-below : p + seenCount s at b ≤ base
+  observations-below =
       let m = sum-prefix (b + 1) n (seenCount s at) (omega arith) in
-      omega (arith, below-next (seenCount s at) b, l .place, g .observation-limit)
+      omega (arith, below-next (seenCount s at) b, l .place, g .observations-fit)
 
   pub observations-inside : ats + (p + seenCount s at b) * 28 ≤ length s
   observations-inside =
@@ -65,23 +65,23 @@ module _ {s : List ℕ} {at n ats : ℕ} (g : Countable s at n ats) {firsts star
       omega (arith, sources-fit)
 
   pub places-fit : p ≤ 1024
-  places-fit = omega (arith, observations-fit)
+  places-fit = omega (arith, observations-below, g .observation-limit)
 
-  pub boundary-fits : b < 256
-  boundary-fits = omega (arith, g .boundary-limit)
+  pub own-place : base + b < 1280
+  own-place = omega (arith, g .boundary-limit, g .observation-limit)
 
   -- the room for its observations, once its own sources are laid
-  pub room-for : {v w r : ℕ} → v ≡ ownCount s at b → w ≡ seenCount s at b → r ≡ run + v → LayRoom s ats p w r (set starts (1024 + b) run) (set counts (1024 + b) v)
+  pub room-for : {v w r : ℕ} → v ≡ ownCount s at b → w ≡ seenCount s at b → r ≡ run + v → LayRoom s ats p w r (set starts (base + b) run) (set counts (base + b) v)
   room-for {v} {w} {r} x y z = record {
     inside = rw y observations-inside;
-    starts-room = simp length-set (omega (arith, l .starts-room, observations-fit));
-    counts-room = simp length-set (omega (arith, l .counts-room, observations-fit));
+    starts-room = simp length-set (omega (arith, l .starts-room, observations-below));
+    counts-room = simp length-set (omega (arith, l .counts-room, observations-below));
     small = rw (z, x, y) sources-fit;
-    clear = rw z (apart-next v (l .clear) (omega (arith, l .starts-room, boundary-fits)) (omega (arith, l .counts-room, boundary-fits)));
+    clear = rw z (apart-next v (l .clear) (omega (arith, l .starts-room)) (omega (arith, l .counts-room)));
   }
 
   module _ {v w r : ℕ} {starts′ counts′ : List ℕ} (x : v ≡ ownCount s at b) (y : w ≡ seenCount s at b)
-      (t : Lays (citedCount s ats) p w (run + v) (set starts (1024 + b) run) (set counts (1024 + b) v) starts′ counts′ r) where
+      (t : Lays (citedCount s ats) p w (run + v) (set starts (base + b) run) (set counts (base + b) v) starts′ counts′ r) where
     abbrev own : ℕ → ℕ
     own = ownCount s at
 
@@ -91,40 +91,40 @@ module _ {s : List ℕ} {at n ats : ℕ} (g : Countable s at n ats) {firsts star
     abbrev cited : ℕ → ℕ
     cited = citedCount s ats
 
-    fit : p + w ≤ 1024
-    fit = rw y observations-fit
+    fit : p + w ≤ base
+    fit = rw y observations-below
 
     earlier : (c k : ℕ) → c < b → k < seen c → below seen c + k < p
     earlier c k i j =
         let m = sum-prefix (c + 1) b seen (omega arith) in
         omega (arith, below-next seen c, l .place)
 
-    own-kept : (c : ℕ) → c ≢ b → (getD starts′ (1024 + c) 0 ≡ getD starts (1024 + c) 0) × (getD counts′ (1024 + c) 0 ≡ getD counts (1024 + c) 0)
+    own-kept : (c : ℕ) → c ≢ b → (getD starts′ (base + c) 0 ≡ getD starts (base + c) 0) × (getD counts′ (base + c) 0 ≡ getD counts (base + c) 0)
     own-kept c i = (
-      t .start-after (1024 + c) (omega (arith, fit)) ∙ getD-set-other starts (1024 + b) (1024 + c) run 0 (λ e. i (omega arith)),
-      t .count-after (1024 + c) (omega (arith, fit)) ∙ getD-set-other counts (1024 + b) (1024 + c) v 0 (λ e. i (omega arith)),
+      t .start-after (base + c) (omega (arith, fit)) ∙ getD-set-other starts (base + b) (base + c) run 0 (λ e. i (omega arith)),
+      t .count-after (base + c) (omega (arith, fit)) ∙ getD-set-other counts (base + b) (base + c) v 0 (λ e. i (omega arith)),
     )
 
-    own-new : (getD starts′ (1024 + b) 0 ≡ run) × (getD counts′ (1024 + b) 0 ≡ v)
+    own-new : (getD starts′ (base + b) 0 ≡ run) × (getD counts′ (base + b) 0 ≡ v)
     own-new = (
-      t .start-after (1024 + b) (omega (arith, fit)) ∙ getD-set-same starts (1024 + b) run 0 (omega (arith, l .starts-room, boundary-fits)),
-      t .count-after (1024 + b) (omega (arith, fit)) ∙ getD-set-same counts (1024 + b) v 0 (omega (arith, l .counts-room, boundary-fits)),
+      t .start-after (base + b) (omega (arith, fit)) ∙ getD-set-same starts (base + b) run 0 (omega (arith, l .starts-room)),
+      t .count-after (base + b) (omega (arith, fit)) ∙ getD-set-same counts (base + b) v 0 (omega (arith, l .counts-room)),
     )
 
     cited-kept : (q : ℕ) → q < p → (getD starts′ q 0 ≡ getD starts q 0) × (getD counts′ q 0 ≡ getD counts q 0)
     cited-kept q i = (
-      t .start-before q i ∙ getD-set-other starts (1024 + b) q run 0 (λ e. omega (arith, places-fit)),
-      t .count-before q i ∙ getD-set-other counts (1024 + b) q v 0 (λ e. omega (arith, places-fit)),
+      t .start-before q i ∙ getD-set-other starts (base + b) q run 0 (λ e. omega (arith, observations-below)),
+      t .count-before q i ∙ getD-set-other counts (base + b) q v 0 (λ e. omega (arith, observations-below)),
     )
 
     cited-new : (k : ℕ) → k < seen b → (getD starts′ (p + k) 0 ≡ below own (suc b) + below cited (p + k)) × (getD counts′ (p + k) 0 ≡ cited (p + k))
     cited-new k i = (omega (arith, t .start-there k (rw y i), l .running, below-suc own b, x), t .count-there k (rw y i))
 
-    laid-next : LaidOut own seen cited (b + 1) (set firsts b p) starts′ counts′
+    laid-next : LaidOut own seen cited base (b + 1) (set firsts b p) starts′ counts′
     laid-next = record {
       first-there = λ c i.
           by-cases (ℕ-discrete c b)
-          (λ e. rw e (getD-set-same firsts b p 0 (omega (arith, l .firsts-room, boundary-fits)) ∙ l .place))
+          (λ e. rw e (getD-set-same firsts b p 0 (omega (arith, l .firsts-room)) ∙ l .place))
           (λ d. getD-set-other firsts b c p 0 d ∙ l .laid .first-there c (omega arith));
       own-start = λ c i.
           by-cases (ℕ-discrete c b)
@@ -144,7 +144,7 @@ module _ {s : List ℕ} {at n ats : ℕ} (g : Countable s at n ats) {firsts star
           (λ d. cited-kept (below seen c + k) (earlier c k (omega arith) j) .1 ∙ l .laid .cited-count c k (omega arith) j);
     }
 
-    pub layout-next : Layout own seen cited (set firsts b p) starts′ counts′ (b + 1) (p + w) r
+    pub layout-next : Layout own seen cited base n (set firsts b p) starts′ counts′ (b + 1) (p + w) r
     layout-next = record {
       place = omega (arith, below-next seen b, l .place, y);
       running = omega (arith, t .end, l .running, below-next own b, x);
@@ -159,22 +159,21 @@ module _ {s : List ℕ} {at n ats : ℕ} (g : Countable s at n ats) {firsts star
     firsts-long e = length-set firsts b p ∙ e
 
     pub starts-long : {m : ℕ} → length starts ≡ m → length starts′ ≡ m
-    starts-long e = t .starts-long ∙ length-set starts (1024 + b) run ∙ e
+    starts-long e = t .starts-long ∙ length-set starts (base + b) run ∙ e
 
     pub counts-long : {m : ℕ} → length counts ≡ m → length counts′ ≡ m
-    counts-long e = t .counts-long ∙ length-set counts (1024 + b) v ∙ e
+    counts-long e = t .counts-long ∙ length-set counts (base + b) v ∙ e
 
 pub apart-wider : {starts counts : List ℕ} {r t : ℕ} → Apart starts counts r → r ≤ t → Apart starts counts t
 apart-wider a h = record { ends = λ q. omega (arith, a .ends q); apart = a .apart }
 
-pub layout-end : {s : List ℕ} {at n ats : ℕ} → Countable s at n ats → {firsts starts counts : List ℕ} {b p run : ℕ}
-    → Layout (ownCount s at) (seenCount s at) (citedCount s ats) firsts starts counts b p run → b ≤ n → n ≤ b
-    → LaidAll (ownCount s at) (seenCount s at) (citedCount s ats) n firsts starts counts
-layout-end {s} {at} {n} {ats} g {firsts} {starts} {counts} {b} {p} {run} l h k =
+pub layout-end : {s : List ℕ} {at n ats base : ℕ} → Countable s at n ats base → {firsts starts counts : List ℕ} {b p run : ℕ}
+    → Layout (ownCount s at) (seenCount s at) (citedCount s ats) base n firsts starts counts b p run → b ≤ n → n ≤ b
+    → LaidAll (ownCount s at) (seenCount s at) (citedCount s ats) base n firsts starts counts
+layout-end {s} {at} {n} {ats} {base} g {firsts} {starts} {counts} {b} {p} {run} l h k =
     let e : b ≡ n = omega arith in
-    let f : below (ownCount s at) b + below (citedCount s ats) (below (seenCount s at) b) ≤ 4096 = rw e (g .source-limit) in
-    let d : below (citedCount s ats) p ≡ below (citedCount s ats) (below (seenCount s at) b) = ap (below (citedCount s ats)) (l .place) in
+    let d : run ≡ below (ownCount s at) n + below (citedCount s ats) (below (seenCount s at) n) = rw (← e, ← l .place) (l .running) in
     record {
-      laid = subst (λ (z : ℕ). LaidOut (ownCount s at) (seenCount s at) (citedCount s ats) z firsts starts counts) e (l .laid);
-      clear = apart-wider (l .clear) (omega (arith, l .running, f, d));
+      laid = subst (λ (z : ℕ). LaidOut (ownCount s at) (seenCount s at) (citedCount s ats) base z firsts starts counts) e (l .laid);
+      clear = apart-wider (l .clear) (omega (arith, d));
     }

@@ -1,7 +1,7 @@
 -- What a kept rank's merged boundary has, of the arrays that hold the canonical copies.
 use mathlib.Core.Path.{_≡_, refl, sym, _∙_, ap, subst}
 use mathlib.Core.Bool.{Bool, true, false, cond, not, _&&_}
-use mathlib.Core.List.{List, [], _∷_, _++_, map, flatMap, append-nil, List·Memᴰ, List·Memᴰ·head, List·Memᴰ·tail, List·Memᴰ·not-nil, List·Permᴰ, List·Permᴰ·nil, List·Permᴰ·trans, Permᴰ·refl, Permᴰ·symm, Permᴰ·append-left, Permᴰ·append-right}
+use mathlib.Core.List.{List, [], _∷_, _++_, map, flatMap, append-nil, map-append, List·Memᴰ, List·Memᴰ·head, List·Memᴰ·tail, List·Memᴰ·not-nil, List·Permᴰ, List·Permᴰ·nil, List·Permᴰ·trans, Permᴰ·refl, Permᴰ·symm, Permᴰ·append-left, Permᴰ·append-right}
 use Prim.Native.Nat.{ℕ, zero, suc, _+_, _<_}
 use native.Mathlib.Numerals.{add-one}
 use native.Mathlib.Omega.{arith}
@@ -57,10 +57,6 @@ gather-all : {A B : Type 0} {P : B → Type 0} (f : A → List B) (l : List A) �
 unfolding gather
 gather-all f [] h = none
 gather-all f (x ∷ xs) h = all-append (h x (List·Memᴰ·head refl)) (gather-all f xs (λ y m. h y (List·Memᴰ·tail m)))
-
-map-append : {A B : Type 0} (f : A → B) (l m : List A) → map f (l ++ m) ≡ map f l ++ map f m
-map-append f [] m = refl
-map-append f (x ∷ xs) m = ap (λ t. f x ∷ t) (map-append f xs m)
 
 -- The numbers of sources joined are their numbers joined.
 pub packed-append : (ss ts : List Source) → packed (ss ++ ts) ≡ packed ss ++ packed ts
@@ -166,13 +162,13 @@ module _ (bs : ℕ → BoundaryRecord) (os : ℕ → ObservationRecord) (ss : Li
         go false e = ap (λ (l : List Boundary). sortedSources (gather own l)) copies-are
 
 -- What the arrays hold of it.
-module _ {bs : ℕ → BoundaryRecord} {os : ℕ → ObservationRecord} {ss : List Source} {n : ℕ} {firsts first second third starts counts keys : List ℕ} (placed : Placed bs os ss n firsts first second third starts counts keys)
+module _ {bs : ℕ → BoundaryRecord} {os : ℕ → ObservationRecord} {ss : List Source} {base n : ℕ} {firsts first second third starts counts keys : List ℕ} (placed : Placed bs os ss base n firsts first second third starts counts keys)
     (order : List ℕ) (inside : (j : ℕ) → j < n → getD order j 0 < n) (plan : ℕ → ℕ) (i : ℕ) (h : i < n) (stays : plan i ≡ i) where
   own-fit : (j : ℕ) → List·Memᴰ j (members plan n i) → All SourceFits (copyOf bs os ss order j .sources)
   unfolding itself
   own-fit j m = placed .itself-there (getD order j 0) (inside j (member-below plan n i j m)) .fits
 
-  own-run : (j : ℕ) → List·Memᴰ j (members plan n i) → packed (copyOf bs os ss order j .sources) ≡ partOf keys starts counts (1024 + getD order j 0)
+  own-run : (j : ℕ) → List·Memᴰ j (members plan n i) → packed (copyOf bs os ss order j .sources) ≡ partOf keys starts counts (base + getD order j 0)
   unfolding itself
   own-run j m = sym (placed .itself-there (getD order j 0) (inside j (member-below plan n i j m)) .run)
 
@@ -183,11 +179,11 @@ module _ {bs : ℕ → BoundaryRecord} {os : ℕ → ObservationRecord} {ss : Li
   merged-fits = rw (merged-sources bs os ss order plan n i h stays) (sources-fit (gather (λ j. copyOf bs os ss order j .sources) (members plan n i)) all-fit)
 
   -- The members' own sources, sorted as numbers and each once.
-  pub merged-own : packed (merged (copiesBy bs os ss order n) (members plan n i) i .sources) ≡ sortOnce leb (gather (λ j. partOf keys starts counts (1024 + getD order j 0)) (members plan n i))
+  pub merged-own : packed (merged (copiesBy bs os ss order n) (members plan n i) i .sources) ≡ sortOnce leb (gather (λ j. partOf keys starts counts (base + getD order j 0)) (members plan n i))
   merged-own =
       ap packed (merged-sources bs os ss order plan n i h stays)
       ∙ sym (sorted-packed (gather (λ j. copyOf bs os ss order j .sources) (members plan n i)) all-fit)
-      ∙ ap (sortOnce leb) (gather-packed (λ j. copyOf bs os ss order j .sources) (λ j. partOf keys starts counts (1024 + getD order j 0)) (members plan n i) own-run)
+      ∙ ap (sortOnce leb) (gather-packed (λ j. copyOf bs os ss order j .sources) (λ j. partOf keys starts counts (base + getD order j 0)) (members plan n i) own-run)
 
 module _ {first second third starts counts keys : List ℕ} where
   stands-matched : {l : List ℕ} {m : List Observation} → Stands first second third starts counts keys l m → Matched (Holds first second third starts counts keys) l m
@@ -250,18 +246,18 @@ seen-alone : (t : Bool) (l m : List ℕ) → cond (t && false) l m ≡ m
 seen-alone true l m = refl
 seen-alone false l m = refl
 
-module _ {bs : ℕ → BoundaryRecord} {os : ℕ → ObservationRecord} {ss : List Source} {n : ℕ} {firsts first second third starts counts keys : List ℕ} (placed : Placed bs os ss n firsts first second third starts counts keys) where
+module _ {bs : ℕ → BoundaryRecord} {os : ℕ → ObservationRecord} {ss : List Source} {base n : ℕ} {firsts first second third starts counts keys : List ℕ} (placed : Placed bs os ss base n firsts first second third starts counts keys) where
   seen-holds : (b : ℕ) → b < n → (k : ℕ) → k < seenOf bs os ss b → Holds first second third starts counts keys (getD firsts b 0 + k) (seenAt bs os ss b k)
   seen-holds b h k l = rw (placed .first-there b h) (placed .seen-there b k h l)
 
   -- of a boundary that others go into, or that goes into another
-  places-given : (b : ℕ) → b < n → Matched (Holds first second third starts counts keys) (placesFrom firsts (seenOf bs os ss) false b) (given bs os ss b)
+  places-given : (b : ℕ) → b < n → Matched (Holds first second third starts counts keys) (placesFrom base firsts (seenOf bs os ss) false b) (given bs os ss b)
   unfolding placesFrom
-  places-given b h = given-matched (canon (boundaryOf bs os ss b)) (getD firsts b 0) (1024 + b) (seenAt bs os ss b) (placed .itself-there b h) (seenOf bs os ss b) (seen-holds b h)
+  places-given b h = given-matched (canon (boundaryOf bs os ss b)) (getD firsts b 0) (base + b) (seenAt bs os ss b) (placed .itself-there b h) (seenOf bs os ss b) (seen-holds b h)
 
-  places-alone : (b : ℕ) → b < n → Matched (Holds first second third starts counts keys) (placesFrom firsts (seenOf bs os ss) true b) (rows (seenOf bs os ss b) (seenAt bs os ss b))
+  places-alone : (b : ℕ) → b < n → Matched (Holds first second third starts counts keys) (placesFrom base firsts (seenOf bs os ss) true b) (rows (seenOf bs os ss b) (seenAt bs os ss b))
   unfolding placesFrom
-  places-alone b h = rw (seen-alone (eqb (seenOf bs os ss b) 0) ((1024 + b) ∷ []) (upFrom (getD firsts b 0) (seenOf bs os ss b))) (matched-rows (getD firsts b 0) (seenOf bs os ss b) (seenAt bs os ss b) (seen-holds b h))
+  places-alone b h = rw (seen-alone (eqb (seenOf bs os ss b) 0) ((base + b) ∷ []) (upFrom (getD firsts b 0) (seenOf bs os ss b))) (matched-rows (getD firsts b 0) (seenOf bs os ss b) (seenAt bs os ss b) (seen-holds b h))
 
   sorted-matched : {l : List ℕ} {m : List Observation} → Matched (Holds first second third starts counts keys) l m
       → Matched (Holds first second third starts counts keys) (sort (byRun first second third starts counts keys) l) (sortedObservations m)
@@ -269,16 +265,16 @@ module _ {bs : ℕ → BoundaryRecord} {os : ℕ → ObservationRecord} {ss : Li
 
   module _ (order : List ℕ) (inside : (j : ℕ) → j < n → getD order j 0 < n) (plan : ℕ → ℕ) (i : ℕ) (h : i < n) (stays : plan i ≡ i) where
     abbrev placesOf : Bool → List ℕ → List ℕ
-    placesOf t js = gather (λ j. placesFrom firsts (seenOf bs os ss) t (getD order j 0)) js
+    placesOf t js = gather (λ j. placesFrom base firsts (seenOf bs os ss) t (getD order j 0)) js
 
     alone-matched : Matched (Holds first second third starts counts keys) (sort (byRun first second third starts counts keys) (placesOf true (i ∷ []))) (copyAt (copiesBy bs os ss order n) i .observations)
     unfolding gather
     alone-matched =
-        rw (append-nil (placesFrom firsts (seenOf bs os ss) true (getD order i 0)), copy-at bs os ss order n i h, seen-sorted bs os ss (getD order i 0))
+        rw (append-nil (placesFrom base firsts (seenOf bs os ss) true (getD order i 0)), copy-at bs os ss order n i h, seen-sorted bs os ss (getD order i 0))
         (sorted-matched (places-alone (getD order i 0) (inside i h)))
 
     all-given : Matched (Holds first second third starts counts keys) (placesOf false (members plan n i)) (gather (λ j. given bs os ss (getD order j 0)) (members plan n i))
-    all-given = matched-gather (λ j. placesFrom firsts (seenOf bs os ss) false (getD order j 0)) (λ j. given bs os ss (getD order j 0)) (members plan n i) (λ j m. places-given (getD order j 0) (inside j (member-below plan n i j m)))
+    all-given = matched-gather (λ j. placesFrom base firsts (seenOf bs os ss) false (getD order j 0)) (λ j. given bs os ss (getD order j 0)) (members plan n i) (λ j m. places-given (getD order j 0) (inside j (member-below plan n i j m)))
 
     given-observed : sortedObservations (gather (λ j. given bs os ss (getD order j 0)) (members plan n i)) ≡ sortedObservations (gather observed (map (copyAt (copiesBy bs os ss order n)) (members plan n i)))
     given-observed =
@@ -288,7 +284,7 @@ module _ {bs : ℕ → BoundaryRecord} {os : ℕ → ObservationRecord} {ss : Li
 
     -- The members' places in order stand for the merged boundary's observations.
     pub merged-seen : Stands first second third starts counts keys
-        (sort (byRun first second third starts counts keys) (gather (λ j. placesFrom firsts (seenOf bs os ss) (eqb (length (members plan n i)) 1) (getD order j 0)) (members plan n i)))
+        (sort (byRun first second third starts counts keys) (gather (λ j. placesFrom base firsts (seenOf bs os ss) (eqb (length (members plan n i)) 1) (getD order j 0)) (members plan n i)))
         (merged (copiesBy bs os ss order n) (members plan n i) i .observations)
     unfolding merged consolidate
     merged-seen = matched-stands (go (eqb (length (members plan n i)) 1) refl)

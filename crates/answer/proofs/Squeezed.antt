@@ -50,15 +50,15 @@ squeezed-start starts keys counts = record {
   todo = λ w h. refl;
 }
 
-module _ {starts keys₀ counts₀ keys counts : List ℕ} {q : ℕ} (clear : Apart starts counts₀ 4096) (s : Squeezed starts keys₀ counts₀ keys counts q) where
-  pub part-within : getD starts q 0 + getD counts q 0 ≤ 4096
-  part-within = omega (arith, clear .ends q, s .later q (omega arith))
+module _ {starts keys₀ counts₀ keys counts : List ℕ} {q limit : ℕ} (clear : Apart starts counts₀ limit) (s : Squeezed starts keys₀ counts₀ keys counts q) where
+  pub same : getD counts q 0 ≡ getD counts₀ q 0
+  same = s .later q (omega arith)
+
+  pub part-within : getD starts q 0 + getD counts q 0 ≤ limit
+  part-within = omega (arith, clear .ends q, same)
 
   module _ {keys′ : List ℕ} {a to e v : ℕ} (h : q < length counts) (x : a ≡ getD starts q 0) (t : to ≡ a + getD counts q 0)
       (f : Front keys a to (sortOnce leb (between keys a to)) keys′ e) (y : v ≡ e - a) (long : length keys′ ≡ length keys) where
-    same : getD counts q 0 ≡ getD counts₀ q 0
-    same = s .later q (omega arith)
-
     whole : between keys a to ≡ partOf keys₀ starts counts₀ q
     whole =
         let z : to - a ≡ getD counts₀ q 0 = omega (arith, same, t) in

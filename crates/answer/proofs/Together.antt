@@ -25,11 +25,11 @@ use Rattle.sorting.specs.Orders.{placeKey, byRun}
 use Rattle.order.specs.Keys.{pack}
 use Rattle.answer.specs.Packed.{sourcePack, packed, KeysRead, KeyAt}
 use Rattle.answer.specs.Laying.{below, ownCount, seenCount, citedCount, ownStart, LaidAll}
-use Rattle.answer.specs.Squeezed.{partOf, Squeezed}
+use Rattle.answer.specs.Squeezed.{partOf, PartsRoom, Squeezed}
 use Rattle.answer.specs.Ranked.{RankRoom, Ranked}
-use Rattle.answer.specs.Placed.{observationFrom, boundaryOf, itself, Holds, Placed, PlacedInside, JobPlaces, boundaryRows, observationRows}
+use Rattle.answer.specs.Placed.{observationFrom, boundaryOf, itself, Holds, Placed, PlacedInside, JobPlaces, PlaceRoom, boundaryRows, observationRows}
 use Rattle.answer.proofs.Lays.{below-next}
-use Rattle.answer.proofs.Layouts.{below-none}
+use Rattle.answer.proofs.Layouts.{below-none, apart-wider}
 use Rattle.merging.proofs.Packed.{sources-fit}
 use Rattle.answer.proofs.Packs.{sorted-packed, observation-le}
 
@@ -69,16 +69,24 @@ ranks-after r t = record {
 }
 
 module _ {s : List ℕ} {at n ats m from count : ℕ} (j : JobPlaces s at n ats m from count) where
-  pub count-fits : count ≤ 4096
-  count-fits =
-      let e : below (citedCount s ats) (below (seenCount s at) n) ≡ below (citedCount s ats) m = ap (below (citedCount s ats)) (j .observations-add) in
-      omega (arith, j .sources-add, j .countable .source-limit)
+  total : below (ownCount s at) n + below (citedCount s ats) (below (seenCount s at) n) ≡ count
+  total = rw (j .observations-add) (j .sources-add)
 
-  pub observations-fit : m ≤ 1024
-  observations-fit = omega (arith, j .observations-add, j .countable .observation-limit)
+  pub places-few : m + n ≤ 1280
+  places-few = omega (arith, j .countable .observation-limit, j .countable .boundary-limit)
 
   pub observations-inside : ats + m * 28 ≤ length s
   observations-inside = omega (arith, j .observations-add, j .countable .observations-in)
+
+  -- Room to sort the parts, once they are laid.
+  pub parts-room : {keys₀ keys spare firsts₀ firsts starts₀ starts counts₀ counts f g h : List ℕ} → PlaceRoom n m count keys₀ spare firsts₀ starts₀ counts₀ f g h → KeysRead s from count keys₀ keys
+      → LaidAll (ownCount s at) (seenCount s at) (citedCount s ats) m n firsts starts counts → length starts ≡ length starts₀ → length counts ≡ length counts₀ → PartsRoom keys spare starts counts (m + n)
+  parts-room r k l x y = record {
+    starts-room = omega (arith, r .plan .starts-room);
+    counts-room = omega (arith, r .plan .counts-room);
+    clear = apart-wider (l .clear) (omega (arith, total, k .long, r .keys-room));
+    spare-room = λ q. omega (arith, l .clear .ends q, total, r .spare-room);
+  }
 
   own-end : (b : ℕ) → b < n → ownStart (ownCount s at) (seenCount s at) (citedCount s ats) b + ownCount s at b ≤ count
   own-end b h =
@@ -99,10 +107,10 @@ module _ {s : List ℕ} {at n ats m from count : ℕ} (j : JobPlaces s at n ats 
       omega (arith, below-next (citedCount s ats) p, j .sources-add)
 
   module _ {keys₀ keys₁ keys₂ firsts starts counts₁ counts₂ f₀ g₀ h₀ f₁ g₁ h₁ f₂ g₂ h₂ : List ℕ}
-      (k : KeysRead s from count keys₀ keys₁) (l : LaidAll (ownCount s at) (seenCount s at) (citedCount s ats) n firsts starts counts₁)
-      (q : Squeezed starts keys₁ counts₁ keys₂ counts₂ 1280)
+      (k : KeysRead s from count keys₀ keys₁) (l : LaidAll (ownCount s at) (seenCount s at) (citedCount s ats) m n firsts starts counts₁)
+      (q : Squeezed starts keys₁ counts₁ keys₂ counts₂ (m + n))
       (r : Ranked (λ i. observationAt s (ats + i * 28) .ends) (λ i. observationAt s (ats + i * 28) .bits) 0 m f₀ g₀ h₀ f₁ g₁ h₁)
-      (t : Ranked (λ i. boundaryAt s (at + i * 40) .ends) (λ i. boundaryAt s (at + i * 40) .bits) 1024 n f₁ g₁ h₁ f₂ g₂ h₂) where
+      (t : Ranked (λ i. boundaryAt s (at + i * 40) .ends) (λ i. boundaryAt s (at + i * 40) .bits) m n f₁ g₁ h₁ f₂ g₂ h₂) where
     all-fit : All SourceFits (sourceRecords s from count)
     unfolding sourceRecords
     all-fit = all-rows count (λ i. sourceAt s (from + i * 8)) (k .fits)
@@ -111,14 +119,14 @@ module _ {s : List ℕ} {at n ats m from count : ℕ} (j : JobPlaces s at n ats 
     part-fit a c = all-take c (all-drop a all-fit)
 
     -- a part's sources, sorted
-    run-of : (w a c : ℕ) → w < 1280 → getD starts w 0 ≡ a → getD counts₁ w 0 ≡ c → a + c ≤ count
+    run-of : (w a c : ℕ) → w < m + n → getD starts w 0 ≡ a → getD counts₁ w 0 ≡ c → a + c ≤ count
         → partOf keys₂ starts counts₂ w ≡ packed (sortedSources (take c (drop a (sourceRecords s from count))))
     run-of w a c h x y z =
         q .done w h
         ∙ ap (sortOnce leb) (ap (λ (i : ℕ). part keys₁ i (getD counts₁ w 0)) x ∙ ap (part keys₁ a) y ∙ part-packed (sourceRecords s from count) keys₁ count a c (k .there) z)
         ∙ sorted-packed (take c (drop a (sourceRecords s from count))) (part-fit a c)
 
-    key-kept : (p : ℕ) (e : Span) (bits : ℕ) → p < 1024 → KeyAt f₁ g₁ h₁ (0 + p) e bits → KeyAt f₂ g₂ h₂ p e bits
+    key-kept : (p : ℕ) (e : Span) (bits : ℕ) → p < m → KeyAt f₁ g₁ h₁ (0 + p) e bits → KeyAt f₂ g₂ h₂ p e bits
     key-kept p e bits h o =
         let z : 0 + p ≡ p = omega arith in
         let i = subst (λ (w : ℕ). KeyAt f₁ g₁ h₁ w e bits) z o in
@@ -130,11 +138,11 @@ module _ {s : List ℕ} {at n ats m from count : ℕ} (j : JobPlaces s at n ats 
           second-fits = i .second-fits;
         }
 
-    itself-holds : (b : ℕ) → b < n → Holds f₂ g₂ h₂ starts counts₂ keys₂ (1024 + b) (itself (canon (boundaryOf (boundaryRows s at) (observationRows s ats) (sourceRecords s from count) b)))
+    itself-holds : (b : ℕ) → b < n → Holds f₂ g₂ h₂ starts counts₂ keys₂ (m + b) (itself (canon (boundaryOf (boundaryRows s at) (observationRows s ats) (sourceRecords s from count) b)))
     unfolding itself canon boundaryOf
     itself-holds b h = record {
       key = t .there b h;
-      run = run-of (1024 + b) (ownStart (ownCount s at) (seenCount s at) (citedCount s ats) b) (ownCount s at b) (omega (arith, j .countable .boundary-limit)) (l .laid .own-start b h) (l .laid .own-count b h) (own-end b h);
+      run = run-of (m + b) (ownStart (ownCount s at) (seenCount s at) (citedCount s ats) b) (ownCount s at b) (omega arith) (l .laid .own-start b h) (l .laid .own-count b h) (own-end b h);
       fits = sources-fit (take (ownCount s at b) (drop (ownStart (ownCount s at) (seenCount s at) (citedCount s ats) b) (sourceRecords s from count))) (part-fit (ownStart (ownCount s at) (seenCount s at) (citedCount s ats) b) (ownCount s at b));
     }
 
@@ -145,29 +153,29 @@ module _ {s : List ℕ} {at n ats m from count : ℕ} (j : JobPlaces s at n ats 
         let p = below (seenCount s at) b + i in
         let u = place-below b i h o in
         record {
-          key = key-kept p _ _ (omega (arith, u, observations-fit)) (r .there p u);
-          run = run-of p (below (ownCount s at) (suc b) + below (citedCount s ats) p) (citedCount s ats p) (omega (arith, u, observations-fit)) (l .laid .cited-start b i h o) (l .laid .cited-count b i h o) (cited-end b p h u);
+          key = key-kept p _ _ u (r .there p u);
+          run = run-of p (below (ownCount s at) (suc b) + below (citedCount s ats) p) (citedCount s ats p) (omega arith) (l .laid .cited-start b i h o) (l .laid .cited-count b i h o) (cited-end b p h u);
           fits = sources-fit (take (citedCount s ats p) (drop (below (ownCount s at) (suc b) + below (citedCount s ats) p) (sourceRecords s from count))) (part-fit (below (ownCount s at) (suc b) + below (citedCount s ats) p) (citedCount s ats p));
         }
 
-    pub placed : Placed (boundaryRows s at) (observationRows s ats) (sourceRecords s from count) n firsts f₂ g₂ h₂ starts counts₂ keys₂
+    pub placed : Placed (boundaryRows s at) (observationRows s ats) (sourceRecords s from count) m n firsts f₂ g₂ h₂ starts counts₂ keys₂
     placed = record { first-there = l .laid .first-there; itself-there = itself-holds; seen-there = seen-holds }
 
   -- where they are
   module _ {keys₁ keys₂ firsts starts counts₁ counts₂ : List ℕ}
-      (l : LaidAll (ownCount s at) (seenCount s at) (citedCount s ats) n firsts starts counts₁) (q : Squeezed starts keys₁ counts₁ keys₂ counts₂ 1280) where
-    own-less : (b : ℕ) → b < n → getD counts₂ (1024 + b) 0 ≤ ownCount s at b
-    own-less b h = omega (arith, q .less (1024 + b), l .laid .own-count b h)
+      (l : LaidAll (ownCount s at) (seenCount s at) (citedCount s ats) m n firsts starts counts₁) (q : Squeezed starts keys₁ counts₁ keys₂ counts₂ (m + n)) where
+    own-less : (b : ℕ) → b < n → getD counts₂ (m + b) 0 ≤ ownCount s at b
+    own-less b h = omega (arith, q .less (m + b), l .laid .own-count b h)
 
-    pub placed-inside : PlacedInside (boundaryRows s at) (observationRows s ats) (sourceRecords s from count) n firsts starts counts₂
+    pub placed-inside : PlacedInside (boundaryRows s at) (observationRows s ats) (sourceRecords s from count) m n count firsts starts counts₂
     placed-inside = record {
-      part-in = λ w. omega (arith, q .less w, l .clear .ends w);
+      part-in = λ w. omega (arith, q .less w, l .clear .ends w, total);
       own-most = own-less;
-      own-room = omega (arith, below-most n (λ b. getD counts₂ (1024 + b) 0) (ownCount s at) own-less, j .countable .source-limit);
+      own-room = omega (arith, below-most n (λ b. getD counts₂ (m + b) 0) (ownCount s at) own-less, j .sources-add);
       seen-in = λ b h.
           let y = sum-prefix (b + 1) n (seenCount s at) (omega arith) in
-          omega (arith, below-next (seenCount s at) b, l .laid .first-there b h, j .countable .observation-limit);
-      seen-room = j .countable .observation-limit;
+          omega (arith, below-next (seenCount s at) b, l .laid .first-there b h, j .observations-add);
+      seen-room = omega (arith, j .observations-add);
     }
 
 -- Places that stand for observations are ordered as these are.

@@ -38,10 +38,10 @@ module _ (bs : ℕ → BoundaryRecord) (os : ℕ → ObservationRecord) (ss : Li
   abbrev pub keptBy : List ℕ → List ℕ → ℕ → List Boundary
   keptBy order plan n = planned (copiesBy order n) (λ i. getD plan i 0)
 
--- The places of what the boundary at place b observed: itself where it observed nothing and isn't alone.
-unfoldable pub placesFrom : (firsts : List ℕ) (seen : ℕ → ℕ) → Bool → ℕ → List ℕ
+-- The places of what the boundary at place b observed: itself, at `base` and b, where it observed nothing and isn't alone.
+unfoldable pub placesFrom : (base : ℕ) (firsts : List ℕ) (seen : ℕ → ℕ) → Bool → ℕ → List ℕ
 unfolding upFrom
-placesFrom firsts seen alone b = cond (eqb (seen b) 0 && not alone) ((1024 + b) ∷ []) (upFrom (getD firsts b 0) (seen b))
+placesFrom base firsts seen alone b = cond (eqb (seen b) 0 && not alone) ((base + b) ∷ []) (upFrom (getD firsts b 0) (seen b))
 
 -- Places that stand for observations.
 pub record Stands (first second third starts counts keys places : List ℕ) (l : List Observation) : Type 0 where

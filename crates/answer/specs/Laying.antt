@@ -60,40 +60,41 @@ ownStart own seen cited b = below own b + below cited (firstSeen seen b)
 abbrev pub citedStart : (own cited : ℕ → ℕ) → ℕ → ℕ → ℕ
 citedStart own cited b p = below own (suc b) + below cited p
 
--- The parts of the first n boundaries and of their observations: an observation's at its place, a boundary's own at 1,024 and its place.
-pub record LaidOut (own seen cited : ℕ → ℕ) (n : ℕ) (firsts starts counts : List ℕ) : Type 0 where
+-- The parts of the first n boundaries and of their observations: an observation's at its place, a boundary's own at `base` and its place.
+pub record LaidOut (own seen cited : ℕ → ℕ) (base n : ℕ) (firsts starts counts : List ℕ) : Type 0 where
   pub first-there : (b : ℕ) → b < n → getD firsts b 0 ≡ firstSeen seen b
-  pub own-start : (b : ℕ) → b < n → getD starts (1024 + b) 0 ≡ ownStart own seen cited b
-  pub own-count : (b : ℕ) → b < n → getD counts (1024 + b) 0 ≡ own b
+  pub own-start : (b : ℕ) → b < n → getD starts (base + b) 0 ≡ ownStart own seen cited b
+  pub own-count : (b : ℕ) → b < n → getD counts (base + b) 0 ≡ own b
   pub cited-start : (b k : ℕ) → b < n → k < seen b → getD starts (firstSeen seen b + k) 0 ≡ citedStart own cited b (firstSeen seen b + k)
   pub cited-count : (b k : ℕ) → b < n → k < seen b → getD counts (firstSeen seen b + k) 0 ≡ cited (firstSeen seen b + k)
 
--- A job's boundaries and observations, in the job, whose counts add up to no more than the limits.
-pub record Countable (s : List ℕ) (at n ats : ℕ) : Type 0 where
+-- A job's boundaries and at most `base` observations, in the job, whose counts add up to no more than the limits.
+pub record Countable (s : List ℕ) (at n ats base : ℕ) : Type 0 where
   pub boundaries-in : at + n * boundarySize ≤ length s
   pub boundary-limit : n ≤ 256
   pub observations-in : ats + below (seenCount s at) n * observationSize ≤ length s
-  pub observation-limit : below (seenCount s at) n ≤ 1024
+  pub observations-fit : below (seenCount s at) n ≤ base
+  pub observation-limit : base ≤ 1024
   pub source-limit : below (ownCount s at) n + below (citedCount s ats) (below (seenCount s at) n) ≤ 4096
 
 -- Room for all the parts.
-pub record PlanRoom (firsts starts counts : List ℕ) : Type 0 where
-  pub firsts-room : 256 ≤ length firsts
-  pub starts-room : 1280 ≤ length starts
-  pub counts-room : 1280 ≤ length counts
+pub record PlanRoom (base n : ℕ) (firsts starts counts : List ℕ) : Type 0 where
+  pub firsts-room : n ≤ length firsts
+  pub starts-room : base + n ≤ length starts
+  pub counts-room : base + n ≤ length counts
   pub clear : Apart starts counts 0
 
--- The parts of the first b boundaries: their observations end at place p, their sources at `run`.
-pub record Layout (own seen cited : ℕ → ℕ) (firsts starts counts : List ℕ) (b p run : ℕ) : Type 0 where
+-- The parts of the first b of n boundaries: their observations end at place p, their sources at `run`.
+pub record Layout (own seen cited : ℕ → ℕ) (base n : ℕ) (firsts starts counts : List ℕ) (b p run : ℕ) : Type 0 where
   pub place : p ≡ below seen b
   pub running : run ≡ below own b + below cited p
-  pub laid : LaidOut own seen cited b firsts starts counts
+  pub laid : LaidOut own seen cited base b firsts starts counts
   pub clear : Apart starts counts run
-  pub firsts-room : 256 ≤ length firsts
-  pub starts-room : 1280 ≤ length starts
-  pub counts-room : 1280 ≤ length counts
+  pub firsts-room : n ≤ length firsts
+  pub starts-room : base + n ≤ length starts
+  pub counts-room : base + n ≤ length counts
 
--- The parts of all n boundaries.
-pub record LaidAll (own seen cited : ℕ → ℕ) (n : ℕ) (firsts starts counts : List ℕ) : Type 0 where
-  pub laid : LaidOut own seen cited n firsts starts counts
-  pub clear : Apart starts counts 4096
+-- The parts of all n boundaries, among as many numbers as there are sources.
+pub record LaidAll (own seen cited : ℕ → ℕ) (base n : ℕ) (firsts starts counts : List ℕ) : Type 0 where
+  pub laid : LaidOut own seen cited base n firsts starts counts
+  pub clear : Apart starts counts (below own n + below cited (below seen n))

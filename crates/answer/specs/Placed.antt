@@ -28,9 +28,9 @@ module _ (bs : ℕ → BoundaryRecord) (os : ℕ → ObservationRecord) (ss : Li
   abbrev pub citedOf : ℕ → ℕ
   citedOf p = os p .sources
 
-  -- The observation at place p, after `base` sources of boundaries.
+  -- The observation at place p, after `past` sources of boundaries.
   unfoldable pub observationFrom : ℕ → ℕ → Observation
-  observationFrom base p = record { ends = os p .ends; bits = os p .bits; sources = take (citedOf p) (drop (base + below citedOf p) ss) }
+  observationFrom past p = record { ends = os p .ends; bits = os p .bits; sources = take (citedOf p) (drop (past + below citedOf p) ss) }
 
   -- The one at place p, which is of boundary b.
   abbrev pub observationOf : ℕ → ℕ → Observation
@@ -56,34 +56,34 @@ pub record Holds (first second third starts counts keys : List ℕ) (p : ℕ) (o
   pub run : partOf keys starts counts p ≡ packed (o .sources)
   pub fits : All SourceFits (o .sources)
 
--- The canonical copies of n boundaries: each one's observations at their places, and each as an observation at 1,024 and its place.
-pub record Placed (bs : ℕ → BoundaryRecord) (os : ℕ → ObservationRecord) (ss : List Source) (n : ℕ) (firsts first second third starts counts keys : List ℕ) : Type 0 where
+-- The canonical copies of n boundaries: each one's observations at their places, and each as an observation at `base` and its place.
+pub record Placed (bs : ℕ → BoundaryRecord) (os : ℕ → ObservationRecord) (ss : List Source) (base n : ℕ) (firsts first second third starts counts keys : List ℕ) : Type 0 where
   pub first-there : (b : ℕ) → b < n → getD firsts b 0 ≡ firstSeen (seenOf bs os ss) b
-  pub itself-there : (b : ℕ) → b < n → Holds first second third starts counts keys (1024 + b) (itself (canon (boundaryOf bs os ss b)))
+  pub itself-there : (b : ℕ) → b < n → Holds first second third starts counts keys (base + b) (itself (canon (boundaryOf bs os ss b)))
   pub seen-there : (b k : ℕ) → b < n → k < seenOf bs os ss b
       → Holds first second third starts counts keys (firstSeen (seenOf bs os ss) b + k) (canonObservation (observationOf bs os ss b (firstSeen (seenOf bs os ss) b + k)))
 
--- All parts are in the first 4,096 numbers, sorting made no own part longer, and the places of observations are below 1,024.
-pub record PlacedInside (bs : ℕ → BoundaryRecord) (os : ℕ → ObservationRecord) (ss : List Source) (n : ℕ) (firsts starts counts : List ℕ) : Type 0 where
-  pub part-in : (q : ℕ) → getD starts q 0 + getD counts q 0 ≤ 4096
-  pub own-most : (b : ℕ) → b < n → getD counts (1024 + b) 0 ≤ ownOf bs os ss b
-  pub own-room : below (λ b. getD counts (1024 + b) 0) n ≤ 4096
-  pub seen-in : (b : ℕ) → b < n → getD firsts b 0 + seenOf bs os ss b ≤ 1024
-  pub seen-room : below (seenOf bs os ss) n ≤ 1024
+-- All parts are in the first `count` numbers, sorting made no own part longer, and the places of observations are below `base`.
+pub record PlacedInside (bs : ℕ → BoundaryRecord) (os : ℕ → ObservationRecord) (ss : List Source) (base n count : ℕ) (firsts starts counts : List ℕ) : Type 0 where
+  pub part-in : (q : ℕ) → getD starts q 0 + getD counts q 0 ≤ count
+  pub own-most : (b : ℕ) → b < n → getD counts (base + b) 0 ≤ ownOf bs os ss b
+  pub own-room : below (λ b. getD counts (base + b) 0) n ≤ count
+  pub seen-in : (b : ℕ) → b < n → getD firsts b 0 + seenOf bs os ss b ≤ base
+  pub seen-room : below (seenOf bs os ss) n ≤ base
 
 -- A job's three sections, whose counts add up: n boundaries from `at`, m observations from `ats`, count sources from `from`.
 pub record JobPlaces (s : List ℕ) (at n ats m from count : ℕ) : Type 0 where
-  pub countable : Countable s at n ats
+  pub countable : Countable s at n ats m
   pub observations-add : below (seenCount s at) n ≡ m
   pub sources-in : from + count * sourceSize ≤ length s
   pub sources-add : below (ownCount s at) n + below (citedCount s ats) m ≡ count
 
--- Room for what is worked out of any job.
-pub record PlaceRoom (keys spare firsts starts counts first second third : List ℕ) : Type 0 where
-  pub keys-room : 4096 ≤ length keys
-  pub spare-room : 4096 ≤ length spare
-  pub plan : PlanRoom firsts starts counts
-  pub ranks : RankRoom first second third 1280
+-- Room for what is worked out of n boundaries, m observations and `count` sources.
+pub record PlaceRoom (n m count : ℕ) (keys spare firsts starts counts first second third : List ℕ) : Type 0 where
+  pub keys-room : count ≤ length keys
+  pub spare-room : count ≤ length spare
+  pub plan : PlanRoom m n firsts starts counts
+  pub ranks : RankRoom first second third (m + n)
 
 abbrev pub boundaryRows : List ℕ → ℕ → ℕ → BoundaryRecord
 boundaryRows s at b = boundaryAt s (at + b * boundarySize)

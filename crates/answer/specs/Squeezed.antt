@@ -1,7 +1,7 @@
 -- Parts of a list of numbers, each sorted where it stands, with each number once.
 use mathlib.Core.Path.{_≡_}
 use mathlib.Core.List.{List}
-use Prim.Native.Nat.{ℕ, _≤_, _<_}
+use Prim.Native.Nat.{ℕ, _+_, _≤_, _<_}
 use lib.Dec.{leb}
 use lib.ListN.{length, getD}
 use Rattle.wire.specs.Bytes.{part}
@@ -12,12 +12,12 @@ use Rattle.answer.specs.Laying.{Apart}
 abbrev pub partOf : (keys starts counts : List ℕ) → ℕ → List ℕ
 partOf keys starts counts w = part keys (getD starts w 0) (getD counts w 0)
 
+-- The parts of n places stand in `keys`, and there is room to sort each.
 pub record PartsRoom (keys spare starts counts : List ℕ) (n : ℕ) : Type 0 where
-  pub keys-room : 4096 ≤ length keys
-  pub spare-room : 4096 ≤ length spare
   pub starts-room : n ≤ length starts
   pub counts-room : n ≤ length counts
-  pub clear : Apart starts counts 4096
+  pub clear : Apart starts counts (length keys)
+  pub spare-room : (q : ℕ) → getD starts q 0 + getD counts q 0 ≤ length spare
 
 -- The parts of the places below q are sorted, the others as they were.
 pub record Squeezed (starts keys₀ counts₀ keys counts : List ℕ) (q : ℕ) : Type 0 where

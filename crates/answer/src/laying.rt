@@ -36,18 +36,19 @@ fn lay_observations(
 }
 
 // The sources of the n boundaries and of their observations: for each where they start and how many there are, at an observation's
-// place and at 1,024 and a boundary's; and each boundary's first observation.
+// place and at `base` and a boundary's; and each boundary's first observation.
 pub fn lay_boundaries(
     job: &[u8],
     at: usize,
     n: usize,
     ats: usize,
+    base: usize,
     firsts: &mut [u32],
     starts: &mut [u32],
     counts: &mut [u32],
 )
-    requires { ⌜ Countable (now job) at n ats × PlanRoom (now firsts) (now starts) (now counts) ⌝ }
-    ensures { λ _. ⌜ LaidAll (ownCount (now (job .entry)) at) (seenCount (now (job .entry)) at) (citedCount (now (job .entry)) ats) n (now (firsts .exit)) (now (starts .exit)) (now (counts .exit)) ⌝ }
+    requires { ⌜ Countable (now job) at n ats base × PlanRoom base n (now firsts) (now starts) (now counts) ⌝ }
+    ensures { λ _. ⌜ LaidAll (ownCount (now (job .entry)) at) (seenCount (now (job .entry)) at) (citedCount (now (job .entry)) ats) base n (now (firsts .exit)) (now (starts .exit)) (now (counts .exit)) ⌝ }
 {
     let mut run: u32 = 0;
     let mut p: usize = 0;
@@ -57,8 +58,8 @@ pub fn lay_boundaries(
         let own = x.sources;
         let seen = size(x.observations);
         firsts[b] = p as u32;
-        starts[1024 + b] = run;
-        counts[1024 + b] = own;
+        starts[base + b] = run;
+        counts[base + b] = own;
         run = lay_observations(job, ats, p, seen, run + own, starts, counts);
         p += seen;
         b += 1;

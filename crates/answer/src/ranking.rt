@@ -38,17 +38,18 @@ pub fn rank_observations(
     }
 }
 
-// The n boundaries from `at` on, each at 1,024 and its place.
+// The n boundaries from `at` on, each at `base` and its place.
 pub fn rank_boundaries(
     job: &[u8],
     at: usize,
     n: usize,
+    base: usize,
     first: &mut [u64],
     second: &mut [u64],
     third: &mut [u64],
 )
-    requires { ⌜ (at + n * boundarySize ≤ length (now job)) × RankRoom (now first) (now second) (now third) (1024 + n) ⌝ }
-    ensures { λ _. ⌜ Ranked (λ k. boundaryAt (now (job .entry)) (at + k * boundarySize) .ends) (λ k. boundaryAt (now (job .entry)) (at + k * boundarySize) .bits) 1024 n (now (first .entry)) (now (second .entry)) (now (third .entry)) (now (first .exit)) (now (second .exit)) (now (third .exit)) ⌝ }
+    requires { ⌜ (at + n * boundarySize ≤ length (now job)) × RankRoom (now first) (now second) (now third) (base + n) ⌝ }
+    ensures { λ _. ⌜ Ranked (λ k. boundaryAt (now (job .entry)) (at + k * boundarySize) .ends) (λ k. boundaryAt (now (job .entry)) (at + k * boundarySize) .bits) base n (now (first .entry)) (now (second .entry)) (now (third .entry)) (now (first .exit)) (now (second .exit)) (now (third .exit)) ⌝ }
 {
     let mut p: usize = 0;
     while p < n {
@@ -57,9 +58,9 @@ pub fn rank_boundaries(
         let f = e.canonical();
         let a = f.a;
         let b = f.b;
-        first[1024 + p] = packed(a.x, a.y);
-        second[1024 + p] = packed(b.x, b.y);
-        third[1024 + p] = total_key(x.bits);
+        first[base + p] = packed(a.x, a.y);
+        second[base + p] = packed(b.x, b.y);
+        third[base + p] = total_key(x.bits);
         p += 1;
     }
 }

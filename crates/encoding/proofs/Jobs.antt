@@ -31,6 +31,7 @@ use Rattle.answer.specs.Laying.{below, ownCount, seenCount, citedCount}
 use Rattle.answer.specs.Placed.{boundaryOf, boundaryRows, observationRows, JobPlaces}
 use Rattle.merging.specs.Planned.{planned}
 use Rattle.answer.specs.Gathered.{Ordered, copiesBy, keptBy}
+use Rattle.encoding.specs.Answered.{keptOf}
 use Rattle.answer.proofs.Decoded.{decoded}
 
 -- Of counts that add up.
@@ -55,7 +56,8 @@ module _ (s : List ℕ) (c : Counts) (f : FormedWith c s) (w : CountsAllowed c) 
           boundaries-in = omega arith;
           boundary-limit = w .boundaries;
           observations-in = omega (arith, seen-adds);
-          observation-limit = omega (arith, seen-adds, w .observations);
+          observations-fit = omega (arith, seen-adds);
+          observation-limit = w .observations;
           source-limit = omega (arith, sources-add, w .sources);
         };
         observations-add = seen-adds;
@@ -70,6 +72,9 @@ module _ (s : List ℕ) (passed : firstRefusal (jobChecks s) ≡ none) where
   allowed : CountsAllowed (countsAt s 0)
   unfolding headerAt
   allowed = job-passed s passed .1 .within
+
+  pub counts-allowed : (h : Header) → h ≡ headerAt s → CountsAllowed (h .counts)
+  counts-allowed h e = subst (λ (x : Header). CountsAllowed (x .counts)) (sym e) (job-passed s passed .1 .within)
 
   abbrev counts : Counts
   counts = countsAt s 0
@@ -120,7 +125,7 @@ module _ (s : List ℕ) (passed : firstRefusal (jobChecks s) ≡ none) where
 
     pub kept-is : (order plan : List ℕ) → Ordered order n
         → keptBy (boundaryRows s at) (observationRows s ats) (sourceRecords s from count) order plan n
-        ≡ planned (map (λ i. canon (getD (decode s .boundaries) (getD order i 0) noBoundary)) (upFrom 0 (counts .boundaries))) (λ i. getD plan i 0)
+        ≡ keptOf s order plan
     kept-is order plan p =
         (λ i. keptBy (boundaryRows s (w .at-is i)) (observationRows s (w .ats-is i)) (sourceRecords s (w .from-is i) (w .count-is i)) order plan (w .n-is i))
         ∙ ap (λ (l : List Boundary). planned l (λ i. getD plan i 0)) (job-copies order (subst (λ (k : ℕ). Ordered order k) (w .n-is) p))

@@ -1,20 +1,27 @@
 -- What writing an answer comes to, and what it needs.
 use mathlib.Core.Path.{_≡_}
-use mathlib.Core.List.{List}
+use mathlib.Core.List.{List, map}
 use mathlib.Core.Option.{none}
 use Prim.Native.Nat.{ℕ, _+_, _*_, _≤_, _<_}
-use lib.ListN.{length, getD}
+use lib.ListN.{length, getD, replicate}
 use Rattle.wire.specs.Bytes.{splice}
 use Rattle.format.specs.Sizes.{boundarySize}
 use Rattle.format.specs.Values.{Boundary}
-use Rattle.answer.specs.Laying.{below}
-use Rattle.format.specs.Header.{headerAt}
+use Rattle.order.specs.Lists.{upFrom}
+use Rattle.answer.specs.Laying.{below, Apart}
+use Rattle.answer.specs.Ranked.{RankRoom}
+use Rattle.format.specs.Header.{countsAt, headerAt}
+use Rattle.format.specs.Decode.{decode}
+use Rattle.merging.specs.Copies.{canon}
+use Rattle.merging.specs.Kept.{noBoundary}
+use Rattle.merging.specs.Planned.{planned}
+use Rattle.gathering.specs.Room.{GatherRoom}
 use Rattle.format.specs.declared.header.Header.{Header}
 use Rattle.format.specs.declared.records.Source.{Source}
 use Rattle.format.specs.declared.records.ObservationRecord.{ObservationRecord}
 use Rattle.job.specs.Checks.{firstRefusal}
 use Rattle.job.specs.Refusals.{jobChecks}
-use Rattle.answer.specs.Placed.{Placed, PlacedInside, boundaryRows}
+use Rattle.answer.specs.Placed.{Placed, boundaryRows}
 use Rattle.answer.specs.Gathered.{Ordered, Gathered}
 use Rattle.encoding.specs.Pieces.{pieces, elements, groupPiece}
 
@@ -52,23 +59,34 @@ pub record RunsWritten (before : List ℕ) (at : ℕ) (bytes after : List ℕ) (
   pub wrote : after ≡ splice before at bytes
   pub end : r ≡ at + length bytes
 
--- A job's boundaries by place, each place once in `order`, with room for what is gathered of them.
-pub record Placeable (s : List ℕ) (at n : ℕ) (order firsts first second third starts counts keys spare : List ℕ) : Type 0 where
+-- A job's boundaries by place, with room for what is gathered of them, in new arrays for what is kept of each.
+pub record Placeable (s : List ℕ) (at base n : ℕ) (order firsts first second third starts counts keys spare owned seen places : List ℕ) : Type 0 where
   pub os : ℕ → ObservationRecord
   pub ss : List Source
-  pub placed : Placed (boundaryRows s at) os ss n firsts first second third starts counts keys
-  pub inside : PlacedInside (boundaryRows s at) os ss n firsts starts counts
-  pub limit : n ≤ 256
-  pub records-in : at + n * boundarySize ≤ length s
-  pub ordered : Ordered order n
-  pub keys-long : length keys ≡ 4096
-  pub spare-room : 4096 ≤ length spare
-  pub firsts-room : 256 ≤ length firsts
-  pub starts-room : 1280 ≤ length starts
-  pub counts-room : 1280 ≤ length counts
+  pub placed : Placed (boundaryRows s at) os ss base n firsts first second third starts counts keys
+  pub room : GatherRoom s at base n order firsts starts counts keys spare (replicate 256 0) (replicate 256 0) (replicate 256 0) owned seen places
+  pub keys-few : length keys ≤ 4096
+
+-- Room to work out the answer of n boundaries, m observations and `count` sources.
+pub record WorkRoom (n m count : ℕ) (keys spare owned starts counts first second third seen places : List ℕ) : Type 0 where
+  pub keys-room : count ≤ length keys
+  pub keys-few : length keys ≤ 4096
+  pub spare-room : count ≤ length spare
+  pub owned-room : count ≤ length owned
+  pub starts-room : m + n ≤ length starts
+  pub counts-room : m + n ≤ length counts
+  pub clear : Apart starts counts 0
+  pub ranks : RankRoom first second third (m + n)
+  pub seen-room : m + n ≤ length seen
+  pub places-room : m + n ≤ length places
 
 -- A job that passes, with its header, and the places of its boundaries by rank.
 pub record Answerable (s : List ℕ) (h : Header) (order : List ℕ) : Type 0 where
   pub passed : firstRefusal (jobChecks s) ≡ none
   pub header : h ≡ headerAt s
   pub ordered : Ordered order (h .counts .boundaries)
+
+-- What a plan keeps of a job's boundaries, canonical and by rank.
+abbrev pub keptOf : (s order plan : List ℕ) → List Boundary
+keptOf s order plan =
+    planned (map (λ i. canon (getD (decode s .boundaries) (getD order i 0) noBoundary)) (upFrom 0 (countsAt s 0 .boundaries))) (λ i. getD plan i 0)

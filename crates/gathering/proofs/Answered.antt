@@ -34,8 +34,8 @@ packed-long : (l : List Source) → length l ≡ length (packed l)
 unfolding packed
 packed-long l = sym (length-map l sourcePack)
 
-module _ {bs : ℕ → BoundaryRecord} {os : ℕ → ObservationRecord} {ss : List Source} {n : ℕ} {firsts first second third starts counts keys : List ℕ}
-    (placed : Placed bs os ss n firsts first second third starts counts keys) (order plan : List ℕ) (inside : (j : ℕ) → j < n → getD order j 0 < n) where
+module _ {bs : ℕ → BoundaryRecord} {os : ℕ → ObservationRecord} {ss : List Source} {base n : ℕ} {firsts first second third starts counts keys : List ℕ}
+    (placed : Placed bs os ss base n firsts first second third starts counts keys) (order plan : List ℕ) (inside : (j : ℕ) → j < n → getD order j 0 < n) where
   -- What goes into rank i.
   abbrev whole : ℕ → Boundary
   whole i = merged (copiesBy bs os ss order n) (going plan n i) i
@@ -43,14 +43,14 @@ module _ {bs : ℕ → BoundaryRecord} {os : ℕ → ObservationRecord} {ss : Li
   abbrev Stays : ℕ → Type 0
   Stays i = (i < n) × (getD plan i 0 ≡ i)
 
-  own-run : (i : ℕ) → Stays i → packed (whole i .sources) ≡ ownRun order plan starts counts keys n i
+  own-run : (i : ℕ) → Stays i → packed (whole i .sources) ≡ ownRun base order plan starts counts keys n i
   unfolding ownRun
   own-run i h = merged-own placed order inside (λ j. getD plan j 0) i (h .0) (h .1)
 
   own-fits : (i : ℕ) → Stays i → All SourceFits (whole i .sources)
   own-fits i h = merged-fits placed order inside (λ j. getD plan j 0) i (h .0) (h .1)
 
-  seen-run : (i : ℕ) → Stays i → Stands first second third starts counts keys (seenRun order plan firsts first second third starts counts keys (seenOf bs os ss) n i) (whole i .observations)
+  seen-run : (i : ℕ) → Stays i → Stands first second third starts counts keys (seenRun base order plan firsts first second third starts counts keys (seenOf bs os ss) n i) (whole i .observations)
   unfolding seenRun
   seen-run i h = merged-seen placed order inside (λ j. getD plan j 0) i (h .0) (h .1)
 
@@ -61,10 +61,10 @@ module _ {bs : ℕ → BoundaryRecord} {os : ℕ → ObservationRecord} {ss : Li
       let u = up-mem 0 n (k .0) in
       (omega (arith, u .1), eqb-true (getD plan i 0) i (k .1))
 
-  owns-are : (l : List ℕ) → ((i : ℕ) → List·Memᴰ i l → Stays i) → packed (ownSources (map whole l)) ≡ gather (ownRun order plan starts counts keys n) l
+  owns-are : (l : List ℕ) → ((i : ℕ) → List·Memᴰ i l → Stays i) → packed (ownSources (map whole l)) ≡ gather (ownRun base order plan starts counts keys n) l
   unfolding ownSources gather packed
   owns-are [] h = refl
-  owns-are (i ∷ l) h = packed-append (whole i .sources) (ownSources (map whole l)) ∙ (ap (λ (t : List ℕ). t ++ packed (ownSources (map whole l))) (own-run i (h i (List·Memᴰ·head refl))) ∙ ap (λ (t : List ℕ). ownRun order plan starts counts keys n i ++ t) (owns-are l (λ j m. h j (List·Memᴰ·tail m))))
+  owns-are (i ∷ l) h = packed-append (whole i .sources) (ownSources (map whole l)) ∙ (ap (λ (t : List ℕ). t ++ packed (ownSources (map whole l))) (own-run i (h i (List·Memᴰ·head refl))) ∙ ap (λ (t : List ℕ). ownRun base order plan starts counts keys n i ++ t) (owns-are l (λ j m. h j (List·Memᴰ·tail m))))
 
   owns-fit : (l : List ℕ) → ((i : ℕ) → List·Memᴰ i l → Stays i) → All SourceFits (ownSources (map whole l))
   unfolding ownSources gather
@@ -72,14 +72,14 @@ module _ {bs : ℕ → BoundaryRecord} {os : ℕ → ObservationRecord} {ss : Li
   owns-fit (i ∷ l) h = all-append (own-fits i (h i (List·Memᴰ·head refl))) (owns-fit l (λ j m. h j (List·Memᴰ·tail m)))
 
   seens-are : (l : List ℕ) → ((i : ℕ) → List·Memᴰ i l → Stays i)
-      → Stands first second third starts counts keys (gather (seenRun order plan firsts first second third starts counts keys (seenOf bs os ss) n) l) (observationsOf (map whole l))
+      → Stands first second third starts counts keys (gather (seenRun base order plan firsts first second third starts counts keys (seenOf bs os ss) n) l) (observationsOf (map whole l))
   unfolding observationsOf flatMap gather
   seens-are [] h = stands-none
   seens-are (i ∷ l) h = stands-append (seen-run i (h i (List·Memᴰ·head refl))) (seens-are l (λ j m. h j (List·Memᴰ·tail m)))
 
-  module _ {k r a b : ℕ} {kept owns seens owned seen : List ℕ} (o : OwnsBy order plan starts counts keys n n k a kept owns owned)
-      (s : SeensBy order plan firsts first second third starts counts keys (seenOf bs os ss) n n r b seens seen)
-      (small : below (ownWeight order counts) n ≤ 4096) (few : below (seenWeight order (seenOf bs os ss)) n ≤ 1280) where
+  module _ {k r a b : ℕ} {kept owns seens owned seen : List ℕ} (o : OwnsBy base order plan starts counts keys n n k a kept owns owned)
+      (s : SeensBy base order plan firsts first second third starts counts keys (seenOf bs os ss) n n r b seens seen)
+      (small : below (ownWeight base order counts) n ≤ 4096) (few : below (seenWeight order (seenOf bs os ss)) n ≤ 1280) where
     abbrev ranks : List ℕ
     ranks = keptRanks plan n
 
@@ -110,8 +110,8 @@ module _ {bs : ℕ → BoundaryRecord} {os : ℕ → ObservationRecord} {ss : Li
     owns-long : length (ownSources ks) ≡ a
     owns-long = packed-long (ownSources ks) ∙ (ap length (ap (λ (l : List Boundary). packed (ownSources l)) ks-are ∙ owns-are ranks ranks-stay) ∙ sym (o .owned-there .many))
 
-    stands-all : Stands first second third starts counts keys (gather (seenRun order plan firsts first second third starts counts keys (seenOf bs os ss) n) ranks) (observationsOf ks)
-    stands-all = subst (λ (l : List Boundary). Stands first second third starts counts keys (gather (seenRun order plan firsts first second third starts counts keys (seenOf bs os ss) n) ranks) (observationsOf l)) (sym ks-are) (seens-are ranks ranks-stay)
+    stands-all : Stands first second third starts counts keys (gather (seenRun base order plan firsts first second third starts counts keys (seenOf bs os ss) n) ranks) (observationsOf ks)
+    stands-all = subst (λ (l : List Boundary). Stands first second third starts counts keys (gather (seenRun base order plan firsts first second third starts counts keys (seenOf bs os ss) n) ranks) (observationsOf l)) (sym ks-are) (seens-are ranks ranks-stay)
 
     seens-long : length (observationsOf ks) ≡ b
     seens-long = sym (stands-all .many) ∙ sym (s .seen-there .many)
@@ -128,13 +128,13 @@ module _ {bs : ℕ → BoundaryRecord} {os : ℕ → ObservationRecord} {ss : Li
         bits-are = λ q h. rw (kept-is q h, ks-at q h) (merged-bits bs os ss order (λ j. getD plan j 0) n (getD ranks q 0) (rank-at q h .0) (rank-at q h .1));
         ramp-is = λ q h. rw (kept-is q h, ks-at q h) (merged-ramp bs os ss order (λ j. getD plan j 0) n (getD ranks q 0) (rank-at q h .0) (rank-at q h .1));
         own-count = λ q h.
-            filled-at (λ j. length (ownRun order plan starts counts keys n j)) (o .owns-there) q h
+            filled-at (λ j. length (ownRun base order plan starts counts keys n j)) (o .owns-there) q h
             ∙ (sym (ap length (own-run (getD ranks q 0) (rank-at q h)))
             ∙ (sym (packed-long (whole (getD ranks q 0) .sources)) ∙ ap (λ (z : Boundary). length (z .sources)) (sym (ks-at q h))));
         seen-count = λ q h.
-            filled-at (λ j. length (seenRun order plan firsts first second third starts counts keys (seenOf bs os ss) n j)) (s .seens-there) q h
+            filled-at (λ j. length (seenRun base order plan firsts first second third starts counts keys (seenOf bs os ss) n j)) (s .seens-there) q h
             ∙ (seen-run (getD ranks q 0) (rank-at q h) .many ∙ ap (λ (z : Boundary). length (z .observations)) (sym (ks-at q h)));
-        own-room = omega (arith, owns-long, o .room, lower-all plan (ownWeight order counts) n n, small);
+        own-room = omega (arith, owns-long, o .room, lower-all plan (ownWeight base order counts) n n, small);
         own-there = ap (λ (m : ℕ). take m owned) owns-long ∙ (o .owned-there .there ∙ sym (ap (λ (l : List Boundary). packed (ownSources l)) ks-are ∙ owns-are ranks ranks-stay));
         own-fits = rw ks-are (owns-fit ranks ranks-stay);
         seen-room = omega (arith, seens-long, s .room, lower-all plan (seenWeight order (seenOf bs os ss)) n n, few);

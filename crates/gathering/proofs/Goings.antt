@@ -88,27 +88,27 @@ pub there : {l m xs : List ℕ} {to r x y z : ℕ} → z ≡ x → z ≡ y → A
 there {x = x} {y = y} e h a = rw (eq-eqb x y (sym e ∙ h)) a
 
 -- The own sources of rank j, which has place z.
-module _ {order starts counts keys : List ℕ} {n j : ℕ} (room : OwnRoom order starts counts keys n) (h : j < n) {z a m : ℕ}
-    (e : z ≡ getD order j 0) (s : a ≡ getD starts (1024 + z) 0) (c : m ≡ getD counts (1024 + z) 0) where
+module _ {base : ℕ} {order starts counts keys : List ℕ} {n j : ℕ} (room : OwnRoom base order starts counts keys n) (h : j < n) {z a m : ℕ}
+    (e : z ≡ getD order j 0) (s : a ≡ getD starts (base + z) 0) (c : m ≡ getD counts (base + z) 0) where
   pub own-inside : a + m ≤ length keys
   own-inside =
       let b : z < n = rw e (room .order-in j h) in
       omega (arith, s, c, room .inside z b)
 
-  pub own-count : m ≡ getD counts (1024 + getD order j 0) 0
-  own-count = c ∙ ap (λ (k : ℕ). getD counts (1024 + k) 0) e
+  pub own-count : m ≡ getD counts (base + getD order j 0) 0
+  own-count = c ∙ ap (λ (k : ℕ). getD counts (base + k) 0) e
 
-  pub own-part : part keys a m ≡ ownAt order starts counts keys j
-  own-part = ap (λ (k : ℕ). part keys k m) (s ∙ ap (λ (k : ℕ). getD starts (1024 + k) 0) e) ∙ ap (part keys (getD starts (1024 + getD order j 0) 0)) own-count
+  pub own-part : part keys a m ≡ ownAt base order starts counts keys j
+  own-part = ap (λ (k : ℕ). part keys k m) (s ∙ ap (λ (k : ℕ). getD starts (base + k) 0) e) ∙ ap (part keys (getD starts (base + getD order j 0) 0)) own-count
 
-  pub own-room : (plan : List ℕ) (to k : ℕ) {x i : ℕ} → x ≡ getD plan j 0 → x ≡ i → to + into plan (ownWeight order counts) i j ≤ k → to + m ≤ k
+  pub own-room : (plan : List ℕ) (to k : ℕ) {x i : ℕ} → x ≡ getD plan j 0 → x ≡ i → to + into plan (ownWeight base order counts) i j ≤ k → to + m ≤ k
   own-room plan to k {x} {i} p q l =
-      let v : into plan (ownWeight order counts) i j ≡ ownWeight order counts j = rw (eq-eqb (getD plan j 0) i (sym p ∙ q)) in
+      let v : into plan (ownWeight base order counts) i j ≡ ownWeight base order counts j = rw (eq-eqb (getD plan j 0) i (sym p ∙ q)) in
       omega (arith, l, v, own-count)
 
-pub own-long : {order starts counts keys : List ℕ} {n : ℕ} → OwnRoom order starts counts keys n → (j : ℕ) → j < n → length (ownAt order starts counts keys j) ≤ ownWeight order counts j
-own-long {order} {starts} {counts} {keys} r j h =
-    let e = length-part keys (getD starts (1024 + getD order j 0) 0) (getD counts (1024 + getD order j 0) 0) (r .inside (getD order j 0) (r .order-in j h)) in
+pub own-long : {base : ℕ} {order starts counts keys : List ℕ} {n : ℕ} → OwnRoom base order starts counts keys n → (j : ℕ) → j < n → length (ownAt base order starts counts keys j) ≤ ownWeight base order counts j
+own-long {base} {order} {starts} {counts} {keys} r j h =
+    let e = length-part keys (getD starts (base + getD order j 0) 0) (getD counts (base + getD order j 0) 0) (r .inside (getD order j 0) (r .order-in j h)) in
     omega (arith, e)
 
 -- The first ranks weigh no more than all.
@@ -116,7 +116,7 @@ pub into-part : (plan : List ℕ) (w : ℕ → ℕ) (i j n : ℕ) → j < n → 
 into-part plan w i j n h = omega (arith, below-next (into plan w i) j, sum-prefix (j + 1) n (into plan w i) (omega arith))
 
 -- These, sorted and each once.
-pub own-gathered : {l₀ l m : List ℕ} {from to r : ℕ} (order plan starts counts keys : List ℕ) (n i : ℕ) → Added l₀ from (gather (ownAt order starts counts keys) (going plan n i)) l to
-    → from ≤ length l₀ → Front l from to (sortOnce leb (between l from to)) m r → length m ≡ length l → Added l₀ from (ownRun order plan starts counts keys n i) m r
+pub own-gathered : {l₀ l m : List ℕ} {from to r : ℕ} (base : ℕ) (order plan starts counts keys : List ℕ) (n i : ℕ) → Added l₀ from (gather (ownAt base order starts counts keys) (going plan n i)) l to
+    → from ≤ length l₀ → Front l from to (sortOnce leb (between l from to)) m r → length m ≡ length l → Added l₀ from (ownRun base order plan starts counts keys n i) m r
 unfolding ownRun
-own-gathered order plan starts counts keys n i a h f d = added-once a h f d
+own-gathered base order plan starts counts keys n i a h f d = added-once a h f d

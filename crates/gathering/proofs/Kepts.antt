@@ -1,7 +1,7 @@
 -- One kept rank after another.
 use mathlib.Core.Path.{_≡_, refl, sym, _∙_, ap, subst}
 use mathlib.Core.Bool.{Bool, true, false, cond}
-use mathlib.Core.List.{List, [], _∷_, _++_, map, append-nil}
+use mathlib.Core.List.{List, [], _∷_, _++_, map, append-nil, map-append}
 use Prim.Native.Nat.{ℕ, _+_, _-_, _≤_, _<_}
 use native.Mathlib.Omega.{arith}
 use borrow.Author.Tests.{eq-eqb, ne-eqb}
@@ -22,10 +22,6 @@ ranks-none plan = refl
 ranks-last : (plan : List ℕ) (i : ℕ) → keptRanks plan (i + 1) ≡ keptRanks plan i ++ cond (eqb (getD plan i 0) i) (i ∷ []) []
 unfolding keptRanks
 ranks-last plan i = keep-last (λ j. eqb (getD plan j 0) j) i
-
-map-one : (f : ℕ → ℕ) (l : List ℕ) (i : ℕ) → map f (l ++ (i ∷ [])) ≡ map f l ++ (f i ∷ [])
-map-one f [] i = refl
-map-one f (x ∷ l) i = ap (λ (t : List ℕ). f x ∷ t) (map-one f l i)
 
 module _ (plan : List ℕ) (i : ℕ) {z : ℕ} (e : z ≡ getD plan i 0) where
   module _ (d : z ≡ i → ⊥) where
@@ -52,17 +48,17 @@ module _ (plan : List ℕ) (i : ℕ) {z : ℕ} (e : z ≡ getD plan i 0) where
         → Filled (set l k v) (k + cond (eqb (getD plan i 0) i) 1 0) (map f (keptRanks plan (i + 1)))
     put-on {l} {k} {v} f a h q =
         filled-is (filled-put v a h) (sym (count-on k))
-        (ap (λ (y : ℕ). map f (keptRanks plan i) ++ (y ∷ [])) q ∙ (sym (map-one f (keptRanks plan i) i) ∙ ap (map f) (sym ranks-on)))
+        (ap (λ (y : ℕ). map f (keptRanks plan i) ++ (y ∷ [])) q ∙ (sym (map-append f (keptRanks plan i) (i ∷ [])) ∙ ap (map f) (sym ranks-on)))
 
     then-on : {l m : List ℕ} {a r : ℕ} (f : ℕ → List ℕ) → Filled l a (gather f (keptRanks plan i)) → Added l a (f i) m r → Filled m r (gather f (keptRanks plan (i + 1)))
     then-on f a g = filled-is (filled-then a g) refl (sym (gather-last f (keptRanks plan i) i) ∙ ap (gather f) (sym ranks-on))
 
-module _ (order plan starts counts keys : List ℕ) (n : ℕ) where
+module _ (base : ℕ) (order plan starts counts keys : List ℕ) (n : ℕ) where
   abbrev run : ℕ → List ℕ
-  run = ownRun order plan starts counts keys n
+  run = ownRun base order plan starts counts keys n
 
   abbrev state : ℕ → ℕ → ℕ → List ℕ → List ℕ → List ℕ → Type 0
-  state = OwnsBy order plan starts counts keys n
+  state = OwnsBy base order plan starts counts keys n
 
   pub owns-start : (kept owns owned : List ℕ) → state 0 0 0 kept owns owned
   unfolding gather
@@ -81,34 +77,34 @@ module _ (order plan starts counts keys : List ℕ) (n : ℕ) where
       kept-there = filled-is (s .kept-there) (sym (count-off plan i e d k)) (ap (map (λ j. getD order j 0)) (sym (ranks-off plan i e d)));
       owns-there = filled-is (s .owns-there) (sym (count-off plan i e d k)) (ap (map (λ j. length (run j))) (sym (ranks-off plan i e d)));
       owned-there = filled-is (s .owned-there) refl (ap (gather run) (sym (ranks-off plan i e d)));
-      room = omega (arith, s .room, lower-next plan (ownWeight order counts) i n);
+      room = omega (arith, s .room, lower-next plan (ownWeight base order counts) i n);
     }
 
-    pub owns-keep : z ≡ i → {p v r : ℕ} {owned′ : List ℕ} → Added owned a (run i) owned′ r → r ≤ a + below (into plan (ownWeight order counts) i) n
+    pub owns-keep : z ≡ i → {p v r : ℕ} {owned′ : List ℕ} → Added owned a (run i) owned′ r → r ≤ a + below (into plan (ownWeight base order counts) i) n
         → k < length kept → k < length owns → p ≡ getD order i 0 → v ≡ r - a → state (i + 1) (k + cond (eqb (getD plan i 0) i) 1 0) r (set kept k p) (set owns k v) owned′
     owns-keep d {p} {v} {r} g b h l x y = record {
       few = omega (arith, count-on plan i e d k, s .few);
       kept-there = put-on plan i e d (λ j. getD order j 0) (s .kept-there) h x;
       owns-there = put-on plan i e d (λ j. length (run j)) (s .owns-there) l (omega (arith, y, g .ends));
       owned-there = then-on plan i e d run (s .owned-there) g;
-      room = omega (arith, s .room, b, lower-next plan (ownWeight order counts) i n);
+      room = omega (arith, s .room, b, lower-next plan (ownWeight base order counts) i n);
     }
 
-  pub owns-end : {i k a : ℕ} {kept owns owned : List ℕ} → state i k a kept owns owned → i ≤ n → n ≤ i → state n k (ownTotal order plan starts counts keys n) kept owns owned
+  pub owns-end : {i k a : ℕ} {kept owns owned : List ℕ} → state i k a kept owns owned → i ≤ n → n ≤ i → state n k (ownTotal base order plan starts counts keys n) kept owns owned
   owns-end {i} {k} {a} {kept} {owns} {owned} s h l =
       let e : i ≡ n = omega arith in
-      let d : a ≡ ownTotal order plan starts counts keys n = s .owned-there .many ∙ ap (λ (y : ℕ). length (gather run (keptRanks plan y))) e in
+      let d : a ≡ ownTotal base order plan starts counts keys n = s .owned-there .many ∙ ap (λ (y : ℕ). length (gather run (keptRanks plan y))) e in
       subst (λ (y : ℕ). state n k y kept owns owned) d (subst (λ (y : ℕ). state y k a kept owns owned) e s)
 
-pub owns-counted : {order plan starts counts keys kept owns owned : List ℕ} {n i v w a : ℕ} (k : ℕ) → w ≡ v → OwnsBy order plan starts counts keys n i (k + v) a kept owns owned → OwnsBy order plan starts counts keys n i (k + w) a kept owns owned
+pub owns-counted : {base : ℕ} {order plan starts counts keys kept owns owned : List ℕ} {n i v w a : ℕ} (k : ℕ) → w ≡ v → OwnsBy base order plan starts counts keys n i (k + v) a kept owns owned → OwnsBy base order plan starts counts keys n i (k + w) a kept owns owned
 owns-counted k e s = rw e s
 
-module _ (order plan firsts first second third starts counts keys : List ℕ) (count : ℕ → ℕ) (n : ℕ) where
+module _ (base : ℕ) (order plan firsts first second third starts counts keys : List ℕ) (count : ℕ → ℕ) (n : ℕ) where
   abbrev sights : ℕ → List ℕ
-  sights = seenRun order plan firsts first second third starts counts keys count n
+  sights = seenRun base order plan firsts first second third starts counts keys count n
 
   abbrev seenState : ℕ → ℕ → ℕ → List ℕ → List ℕ → Type 0
-  seenState = SeensBy order plan firsts first second third starts counts keys count n
+  seenState = SeensBy base order plan firsts first second third starts counts keys count n
 
   pub seens-start : (seens seen : List ℕ) → seenState 0 0 0 seens seen
   unfolding gather
@@ -137,12 +133,12 @@ module _ (order plan firsts first second third starts counts keys : List ℕ) (c
       room = omega (arith, s .room, b, lower-next plan (seenWeight order count) i n);
     }
 
-  pub seens-end : {i k a : ℕ} {seens seen : List ℕ} → seenState i k a seens seen → i ≤ n → n ≤ i → seenState n k (seenTotal order plan firsts first second third starts counts keys count n) seens seen
+  pub seens-end : {i k a : ℕ} {seens seen : List ℕ} → seenState i k a seens seen → i ≤ n → n ≤ i → seenState n k (seenTotal base order plan firsts first second third starts counts keys count n) seens seen
   seens-end {i} {k} {a} {seens} {seen} s h l =
       let e : i ≡ n = omega arith in
-      let d : a ≡ seenTotal order plan firsts first second third starts counts keys count n = s .seen-there .many ∙ ap (λ (y : ℕ). length (gather sights (keptRanks plan y))) e in
+      let d : a ≡ seenTotal base order plan firsts first second third starts counts keys count n = s .seen-there .many ∙ ap (λ (y : ℕ). length (gather sights (keptRanks plan y))) e in
       subst (λ (y : ℕ). seenState n k y seens seen) d (subst (λ (y : ℕ). seenState y k a seens seen) e s)
 
-pub seens-counted : {order plan firsts first second third starts counts keys seens seen : List ℕ} {count : ℕ → ℕ} {n i v w a : ℕ} (k : ℕ) → w ≡ v
-    → SeensBy order plan firsts first second third starts counts keys count n i (k + v) a seens seen → SeensBy order plan firsts first second third starts counts keys count n i (k + w) a seens seen
+pub seens-counted : {base : ℕ} {order plan firsts first second third starts counts keys seens seen : List ℕ} {count : ℕ → ℕ} {n i v w a : ℕ} (k : ℕ) → w ≡ v
+    → SeensBy base order plan firsts first second third starts counts keys count n i (k + v) a seens seen → SeensBy base order plan firsts first second third starts counts keys count n i (k + w) a seens seen
 seens-counted k e s = rw e s

@@ -21,16 +21,16 @@ use Rattle.gathering.proofs.Fills.{added-none, added-is, added-sorted}
 use Rattle.gathering.proofs.Goings.{going-last, going-none}
 
 -- Of one that observed something, of one alone that observed nothing, and of one of several that observed nothing.
-module _ {p k b : ℕ} (among : ℕ) (firsts : List ℕ) (count : ℕ → ℕ) (e : getD firsts b 0 ≡ p) (f : count b ≡ k) where
-  pub places-some : {l m : List ℕ} {to r : ℕ} → (k ≡ 0 → ⊥) → Added l to (upFrom p k) m r → Added l to (placesFrom firsts count (eqb among 1) b) m r
+module _ {p k b : ℕ} (base among : ℕ) (firsts : List ℕ) (count : ℕ → ℕ) (e : getD firsts b 0 ≡ p) (f : count b ≡ k) where
+  pub places-some : {l m : List ℕ} {to r : ℕ} → (k ≡ 0 → ⊥) → Added l to (upFrom p k) m r → Added l to (placesFrom base firsts count (eqb among 1) b) m r
   unfolding placesFrom
   places-some d a = rw (f, e, ne-eqb k 0 d) a
 
-  pub places-alone : (l : List ℕ) (to : ℕ) → k ≡ 0 → among ≡ 1 → Added l to (placesFrom firsts count (eqb among 1) b) l to
+  pub places-alone : (l : List ℕ) (to : ℕ) → k ≡ 0 → among ≡ 1 → Added l to (placesFrom base firsts count (eqb among 1) b) l to
   unfolding placesFrom upFrom
   places-alone l to z h = rw (f, z, eq-eqb among 1 h) (added-none l to)
 
-  pub places-itself : {l m : List ℕ} {to r : ℕ} → k ≡ 0 → (among ≡ 1 → ⊥) → Added l to (upFrom (1024 + b) 1) m r → Added l to (placesFrom firsts count (eqb among 1) b) m r
+  pub places-itself : {l m : List ℕ} {to r : ℕ} → k ≡ 0 → (among ≡ 1 → ⊥) → Added l to (upFrom (base + b) 1) m r → Added l to (placesFrom base firsts count (eqb among 1) b) m r
   unfolding placesFrom upFrom
   places-itself z h a = rw (f, z, ne-eqb among 1 h) a
 
@@ -38,16 +38,19 @@ cond-long : (t : Bool) (x : ℕ) (l : List ℕ) → length (cond t (x ∷ []) l)
 cond-long true x l = omega arith
 cond-long false x l = omega arith
 
-pub places-long : (order firsts : List ℕ) (count : ℕ → ℕ) (among j : ℕ) → length (placesAt order firsts count among j) ≤ seenWeight order count j
+pub places-long : (base : ℕ) (order firsts : List ℕ) (count : ℕ → ℕ) (among j : ℕ) → length (placesAt base order firsts count among j) ≤ seenWeight order count j
 unfolding placesFrom
-places-long order firsts count among j =
+places-long base order firsts count among j =
     let b : ℕ = getD order j 0 in
-    omega (arith, cond-long (eqb (count b) 0 && not (eqb among 1)) (1024 + b) (upFrom (getD firsts b 0) (count b)), up-length (getD firsts b 0) (count b))
+    omega (arith, cond-long (eqb (count b) 0 && not (eqb among 1)) (base + b) (upFrom (getD firsts b 0) (count b)), up-length (getD firsts b 0) (count b))
 
 -- What rank j observed, which has place z.
-module _ {s order firsts : List ℕ} {at n j : ℕ} (room : SeenRoom s at order firsts n) (h : j < n) {z : ℕ} (e : z ≡ getD order j 0) where
+module _ {s order firsts : List ℕ} {at base n j : ℕ} (room : SeenRoom s at base order firsts n) (h : j < n) {z : ℕ} (e : z ≡ getD order j 0) where
   pub place-small : z < n
   place-small = rw e (room .order-in j h)
+
+  pub own-place : base + z < 1280
+  own-place = omega (arith, place-small, room .few, room .base-few)
 
   pub seen-room : (plan : List ℕ) (to k m : ℕ) {x i : ℕ} → m ≡ seenCount s at z → x ≡ getD plan j 0 → x ≡ i
       → to + into plan (seenWeight order (seenCount s at)) i j ≤ k → to + m + 1 ≤ k
@@ -55,11 +58,11 @@ module _ {s order firsts : List ℕ} {at n j : ℕ} (room : SeenRoom s at order 
       let v : into plan (seenWeight order (seenCount s at)) i j ≡ seenWeight order (seenCount s at) j = rw (eq-eqb (getD plan j 0) i (sym p ∙ q)) in
       omega (arith, l, v, c, ap (seenCount s at) e)
 
-  pub places-inside : {p m : ℕ} → p ≡ getD firsts z 0 → m ≡ seenCount s at z → p + m ≤ 1024
-  places-inside a b = omega (arith, a, b, room .places-in z place-small)
+  pub places-inside : {p m : ℕ} → p ≡ getD firsts z 0 → m ≡ seenCount s at z → p + m ≤ 1280
+  places-inside a b = omega (arith, a, b, room .places-in z place-small, room .base-few)
 
-  pub places-there : {l m : List ℕ} {to r : ℕ} (among : ℕ) → Added l to (placesFrom firsts (seenCount s at) (eqb among 1) z) m r → Added l to (placesAt order firsts (seenCount s at) among j) m r
-  places-there among a = added-is a refl (ap (placesFrom firsts (seenCount s at) (eqb among 1)) e)
+  pub places-there : {l m : List ℕ} {to r : ℕ} (among : ℕ) → Added l to (placesFrom base firsts (seenCount s at) (eqb among 1) z) m r → Added l to (placesAt base order firsts (seenCount s at) among j) m r
+  places-there among a = added-is a refl (ap (placesFrom base firsts (seenCount s at) (eqb among 1)) e)
 
 length-one : (t : Bool) (j : ℕ) → length (cond t (j ∷ []) []) ≡ cond t 1 0
 length-one true j = refl
@@ -82,11 +85,11 @@ pub count-end : {c : ℕ} (plan : List ℕ) (i j n : ℕ) → c ≡ length (goin
 count-end plan i j n e h k = let d : j ≡ n = omega arith in e ∙ ap (λ (z : ℕ). length (going plan z i)) d
 
 -- These, sorted.
-pub seen-gathered : {l₀ l m : List ℕ} {from to among : ℕ} (order plan firsts first second third starts counts keys : List ℕ) (count : ℕ → ℕ) (n i : ℕ)
-    → among ≡ length (going plan n i) → Added l₀ from (gather (placesAt order firsts count among) (going plan n i)) l to → from ≤ length l₀ → to ≤ length l
+pub seen-gathered : {l₀ l m : List ℕ} {from to among : ℕ} (base : ℕ) (order plan firsts first second third starts counts keys : List ℕ) (count : ℕ → ℕ) (n i : ℕ)
+    → among ≡ length (going plan n i) → Added l₀ from (gather (placesAt base order firsts count among) (going plan n i)) l to → from ≤ length l₀ → to ≤ length l
     → m ≡ splice l from (sort (byRun first second third starts counts keys) (between l from to))
-    → Added l₀ from (seenRun order plan firsts first second third starts counts keys count n i) m to
+    → Added l₀ from (seenRun base order plan firsts first second third starts counts keys count n i) m to
 unfolding seenRun
-seen-gathered order plan firsts first second third starts counts keys count n i d a h b e =
+seen-gathered base order plan firsts first second third starts counts keys count n i d a h b e =
     added-is (added-sorted a h (byRun first second third starts counts keys) b e) refl
-    (ap (λ (z : ℕ). sort (byRun first second third starts counts keys) (gather (placesAt order firsts count z) (going plan n i))) d)
+    (ap (λ (z : ℕ). sort (byRun first second third starts counts keys) (gather (placesAt base order firsts count z) (going plan n i))) d)

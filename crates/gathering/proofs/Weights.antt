@@ -18,7 +18,7 @@ use Rattle.order.proofs.Numbers.{up-mem, map-up-at, up-length}
 use Rattle.answer.specs.Laying.{below, seenCount}
 use Rattle.answer.specs.Gathered.{Ordered}
 use Rattle.answer.proofs.Layouts.{below-none}
-use Rattle.gathering.specs.Runs.{into, lower}
+use Rattle.gathering.specs.Runs.{into, lower, ownWeight, seenWeight}
 use Rattle.gathering.specs.Room.{OwnsRoom, SeensRoom, GatherRoom}
 
 -- Those that go into a lower rank, and those that go into this one.
@@ -75,42 +75,49 @@ below-suc : (f : ℕ → ℕ) (n : ℕ) → below (λ j. suc (f j)) n ≡ n + be
 below-suc f zero = omega (arith, below-none f, below-none (λ j. suc (f j)))
 below-suc f (suc n) = omega (arith, below-suc f n, sum-last n f, sum-last n (λ j. suc (f j)))
 
-module _ {s : List ℕ} {at n : ℕ} {order firsts starts counts keys spare kept owns seens owned seen places : List ℕ}
-    (room : GatherRoom s at n order firsts starts counts keys spare kept owns seens owned seen places) where
-  pub owns-room : OwnsRoom order starts counts keys spare kept owns owned n
+module _ {s : List ℕ} {at base n : ℕ} {order firsts starts counts keys spare kept owns seens owned seen places : List ℕ}
+    (room : GatherRoom s at base n order firsts starts counts keys spare kept owns seens owned seen places) where
+  own-weight : below (ownWeight base order counts) n ≡ below (λ b. getD counts (base + b) 0) n
+  own-weight = below-order order n (room .ordered) (λ b. getD counts (base + b) 0)
+
+  seen-weight : below (seenWeight order (seenCount s at)) n ≤ base + n
+  seen-weight = omega (arith, below-order order n (room .ordered) (seenCount s at), below-suc (λ j. seenCount s at (getD order j 0)) n, room .seen-small)
+
+  pub owns-room : OwnsRoom base order starts counts keys spare kept owns owned n
   owns-room = record {
     own = record {
       few = room .few;
       order-in = order-inside order n (room .ordered);
       starts-room = room .starts-room;
       counts-room = room .counts-room;
-      inside = λ b h. omega (arith, room .parts-in b h, room .keys-room);
+      inside = room .parts-in;
     };
-    small = omega (arith, below-order order n (room .ordered) (λ b. getD counts (1024 + b) 0), room .own-small);
-    spare-room = room .spare-room;
-    owned-room = room .owned-room;
+    small = rw own-weight (room .own-small);
+    spare-room = rw own-weight (room .spare-room);
+    owned-room = rw own-weight (room .owned-room);
     kept-room = room .kept-room;
     owns-room = room .owns-room;
   }
 
-  pub seens-room : SeensRoom s at order firsts seens seen places n
+  pub seens-room : SeensRoom s at base order firsts seens seen places n
   seens-room = record {
     own = record {
       few = room .few;
+      base-few = room .base-few;
       order-in = order-inside order n (room .ordered);
       records-in = room .records-in;
       firsts-room = room .firsts-room;
       places-in = room .places-in;
     };
-    small = omega (arith, below-order order n (room .ordered) (seenCount s at), below-suc (λ j. seenCount s at (getD order j 0)) n, room .seen-small, room .few);
+    small = omega (arith, seen-weight, room .few, room .base-few);
     seens-room = room .seens-room;
-    seen-room = room .seen-room;
-    spare-room = room .places-room;
+    seen-room = omega (arith, seen-weight, room .seen-room);
+    spare-room = omega (arith, seen-weight, room .places-room);
   }
 
 -- Room stays room in lists that are as long.
-pub owns-room-same : {order starts counts keys spare kept owns owned spare′ kept′ owns′ owned′ : List ℕ} {n : ℕ} → OwnsRoom order starts counts keys spare kept owns owned n
-    → length spare′ ≡ length spare → length kept′ ≡ length kept → length owns′ ≡ length owns → length owned′ ≡ length owned → OwnsRoom order starts counts keys spare′ kept′ owns′ owned′ n
+pub owns-room-same : {base : ℕ} {order starts counts keys spare kept owns owned spare′ kept′ owns′ owned′ : List ℕ} {n : ℕ} → OwnsRoom base order starts counts keys spare kept owns owned n
+    → length spare′ ≡ length spare → length kept′ ≡ length kept → length owns′ ≡ length owns → length owned′ ≡ length owned → OwnsRoom base order starts counts keys spare′ kept′ owns′ owned′ n
 owns-room-same r a b c d = record {
   own = r .own;
   small = r .small;
@@ -120,8 +127,8 @@ owns-room-same r a b c d = record {
   owns-room = omega (arith, r .owns-room, c);
 }
 
-pub seens-room-same : {s order firsts seens seen spare seens′ seen′ spare′ : List ℕ} {at n : ℕ} → SeensRoom s at order firsts seens seen spare n
-    → length seens′ ≡ length seens → length seen′ ≡ length seen → length spare′ ≡ length spare → SeensRoom s at order firsts seens′ seen′ spare′ n
+pub seens-room-same : {s order firsts seens seen spare seens′ seen′ spare′ : List ℕ} {at base n : ℕ} → SeensRoom s at base order firsts seens seen spare n
+    → length seens′ ≡ length seens → length seen′ ≡ length seen → length spare′ ≡ length spare → SeensRoom s at base order firsts seens′ seen′ spare′ n
 seens-room-same r a b c = record {
   own = r .own;
   small = r .small;

@@ -8,55 +8,56 @@ use Rattle.answer.specs.Gathered.{Ordered}
 use Rattle.gathering.specs.Runs.{ownWeight, seenWeight}
 
 -- Each rank's own sources are in `keys`.
-pub record OwnRoom (order starts counts keys : List ℕ) (n : ℕ) : Type 0 where
+pub record OwnRoom (base : ℕ) (order starts counts keys : List ℕ) (n : ℕ) : Type 0 where
   pub few : n ≤ 256
   pub order-in : (j : ℕ) → j < n → getD order j 0 < n
-  pub starts-room : 1280 ≤ length starts
-  pub counts-room : 1280 ≤ length counts
-  pub inside : (b : ℕ) → b < n → getD starts (1024 + b) 0 + getD counts (1024 + b) 0 ≤ length keys
+  pub starts-room : base + n ≤ length starts
+  pub counts-room : base + n ≤ length counts
+  pub inside : (b : ℕ) → b < n → getD starts (base + b) 0 + getD counts (base + b) 0 ≤ length keys
 
--- Each rank's record is in the job, and its observations' places are below 1,024.
-pub record SeenRoom (s : List ℕ) (at : ℕ) (order firsts : List ℕ) (n : ℕ) : Type 0 where
+-- Each rank's record is in the job, and its observations' places are below `base`.
+pub record SeenRoom (s : List ℕ) (at base : ℕ) (order firsts : List ℕ) (n : ℕ) : Type 0 where
   pub few : n ≤ 256
+  pub base-few : base ≤ 1024
   pub order-in : (j : ℕ) → j < n → getD order j 0 < n
   pub records-in : at + n * boundarySize ≤ length s
-  pub firsts-room : 256 ≤ length firsts
-  pub places-in : (b : ℕ) → b < n → getD firsts b 0 + seenCount s at b ≤ 1024
+  pub firsts-room : n ≤ length firsts
+  pub places-in : (b : ℕ) → b < n → getD firsts b 0 + seenCount s at b ≤ base
 
 -- Room for all own sources that are gathered.
-pub record OwnsRoom (order starts counts keys spare kept owns owned : List ℕ) (n : ℕ) : Type 0 where
-  pub own : OwnRoom order starts counts keys n
-  pub small : below (ownWeight order counts) n ≤ 4096
-  pub spare-room : 4096 ≤ length spare
-  pub owned-room : 4096 ≤ length owned
-  pub kept-room : 256 ≤ length kept
-  pub owns-room : 256 ≤ length owns
+pub record OwnsRoom (base : ℕ) (order starts counts keys spare kept owns owned : List ℕ) (n : ℕ) : Type 0 where
+  pub own : OwnRoom base order starts counts keys n
+  pub small : below (ownWeight base order counts) n ≤ 4096
+  pub spare-room : below (ownWeight base order counts) n ≤ length spare
+  pub owned-room : below (ownWeight base order counts) n ≤ length owned
+  pub kept-room : n ≤ length kept
+  pub owns-room : n ≤ length owns
 
 -- Room for all places that are gathered.
-pub record SeensRoom (s : List ℕ) (at : ℕ) (order firsts seens seen spare : List ℕ) (n : ℕ) : Type 0 where
-  pub own : SeenRoom s at order firsts n
+pub record SeensRoom (s : List ℕ) (at base : ℕ) (order firsts seens seen spare : List ℕ) (n : ℕ) : Type 0 where
+  pub own : SeenRoom s at base order firsts n
   pub small : below (seenWeight order (seenCount s at)) n ≤ 1280
-  pub seens-room : 256 ≤ length seens
-  pub seen-room : 1280 ≤ length seen
-  pub spare-room : 1280 ≤ length spare
+  pub seens-room : n ≤ length seens
+  pub seen-room : below (seenWeight order (seenCount s at)) n ≤ length seen
+  pub spare-room : below (seenWeight order (seenCount s at)) n ≤ length spare
 
 -- What a job's n boundaries need, by place.
-pub record GatherRoom (s : List ℕ) (at n : ℕ) (order firsts starts counts keys spare kept owns seens owned seen places : List ℕ) : Type 0 where
+pub record GatherRoom (s : List ℕ) (at base n : ℕ) (order firsts starts counts keys spare kept owns seens owned seen places : List ℕ) : Type 0 where
   pub few : n ≤ 256
+  pub base-few : base ≤ 1024
   pub ordered : Ordered order n
   pub records-in : at + n * boundarySize ≤ length s
-  pub keys-room : 4096 ≤ length keys
-  pub spare-room : 4096 ≤ length spare
-  pub owned-room : 4096 ≤ length owned
-  pub seen-room : 1280 ≤ length seen
-  pub places-room : 1280 ≤ length places
-  pub starts-room : 1280 ≤ length starts
-  pub counts-room : 1280 ≤ length counts
-  pub firsts-room : 256 ≤ length firsts
-  pub kept-room : 256 ≤ length kept
-  pub owns-room : 256 ≤ length owns
-  pub seens-room : 256 ≤ length seens
-  pub places-in : (b : ℕ) → b < n → getD firsts b 0 + seenCount s at b ≤ 1024
-  pub parts-in : (b : ℕ) → b < n → getD starts (1024 + b) 0 + getD counts (1024 + b) 0 ≤ 4096
-  pub own-small : below (λ b. getD counts (1024 + b) 0) n ≤ 4096
-  pub seen-small : below (seenCount s at) n ≤ 1024
+  pub seen-room : base + n ≤ length seen
+  pub places-room : base + n ≤ length places
+  pub starts-room : base + n ≤ length starts
+  pub counts-room : base + n ≤ length counts
+  pub firsts-room : n ≤ length firsts
+  pub kept-room : n ≤ length kept
+  pub owns-room : n ≤ length owns
+  pub seens-room : n ≤ length seens
+  pub places-in : (b : ℕ) → b < n → getD firsts b 0 + seenCount s at b ≤ base
+  pub parts-in : (b : ℕ) → b < n → getD starts (base + b) 0 + getD counts (base + b) 0 ≤ length keys
+  pub own-small : below (λ b. getD counts (base + b) 0) n ≤ 4096
+  pub spare-room : below (λ b. getD counts (base + b) 0) n ≤ length spare
+  pub owned-room : below (λ b. getD counts (base + b) 0) n ≤ length owned
+  pub seen-small : below (seenCount s at) n ≤ base

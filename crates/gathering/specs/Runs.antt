@@ -34,27 +34,27 @@ abbrev pub going : (plan : List ℕ) → ℕ → ℕ → List ℕ
 going plan n i = members (λ j. getD plan j 0) n i
 
 -- The own sources of rank j.
-abbrev pub ownAt : (order starts counts keys : List ℕ) → ℕ → List ℕ
-ownAt order starts counts keys j = partOf keys starts counts (1024 + getD order j 0)
+abbrev pub ownAt : (base : ℕ) (order starts counts keys : List ℕ) → ℕ → List ℕ
+ownAt base order starts counts keys j = partOf keys starts counts (base + getD order j 0)
 
 -- All own sources of those that go into rank i, sorted, each once.
-unfoldable pub ownRun : (order plan starts counts keys : List ℕ) → ℕ → ℕ → List ℕ
+unfoldable pub ownRun : (base : ℕ) (order plan starts counts keys : List ℕ) → ℕ → ℕ → List ℕ
 unfolding members gather sortOnce
-ownRun order plan starts counts keys n i = sortOnce leb (gather (ownAt order starts counts keys) (going plan n i))
+ownRun base order plan starts counts keys n i = sortOnce leb (gather (ownAt base order starts counts keys) (going plan n i))
 
 -- The places of what rank j observed.
-abbrev pub placesAt : (order firsts : List ℕ) (seen : ℕ → ℕ) (among : ℕ) → ℕ → List ℕ
-placesAt order firsts seen among j = placesFrom firsts seen (eqb among 1) (getD order j 0)
+abbrev pub placesAt : (base : ℕ) (order firsts : List ℕ) (seen : ℕ → ℕ) (among : ℕ) → ℕ → List ℕ
+placesAt base order firsts seen among j = placesFrom base firsts seen (eqb among 1) (getD order j 0)
 
 -- The places of all that those observed that go into rank i, sorted.
-unfoldable pub seenRun : (order plan firsts first second third starts counts keys : List ℕ) (seen : ℕ → ℕ) → ℕ → ℕ → List ℕ
+unfoldable pub seenRun : (base : ℕ) (order plan firsts first second third starts counts keys : List ℕ) (seen : ℕ → ℕ) → ℕ → ℕ → List ℕ
 unfolding members gather placesFrom sort byRun
-seenRun order plan firsts first second third starts counts keys seen n i =
-    sort (byRun first second third starts counts keys) (gather (placesAt order firsts seen (length (going plan n i))) (going plan n i))
+seenRun base order plan firsts first second third starts counts keys seen n i =
+    sort (byRun first second third starts counts keys) (gather (placesAt base order firsts seen (length (going plan n i))) (going plan n i))
 
 -- How many own sources rank j has, and how many places its observations take at most.
-abbrev pub ownWeight : (order counts : List ℕ) → ℕ → ℕ
-ownWeight order counts j = getD counts (1024 + getD order j 0) 0
+abbrev pub ownWeight : (base : ℕ) (order counts : List ℕ) → ℕ → ℕ
+ownWeight base order counts j = getD counts (base + getD order j 0) 0
 
 abbrev pub seenWeight : (order : List ℕ) (seen : ℕ → ℕ) → ℕ → ℕ
 seenWeight order seen j = suc (seen (getD order j 0))
@@ -67,23 +67,23 @@ abbrev pub lower : (plan : List ℕ) (weight : ℕ → ℕ) → ℕ → ℕ → 
 lower plan weight i j = cond (ltb (getD plan j 0) i) (weight j) 0
 
 -- The own sources of the kept ranks below i, which end at a: each one's place, how many own sources it has, and these.
-pub record OwnsBy (order plan starts counts keys : List ℕ) (n i k a : ℕ) (kept owns owned : List ℕ) : Type 0 where
+pub record OwnsBy (base : ℕ) (order plan starts counts keys : List ℕ) (n i k a : ℕ) (kept owns owned : List ℕ) : Type 0 where
   pub few : k ≤ i
   pub kept-there : Filled kept k (map (λ j. getD order j 0) (keptRanks plan i))
-  pub owns-there : Filled owns k (map (λ j. length (ownRun order plan starts counts keys n j)) (keptRanks plan i))
-  pub owned-there : Filled owned a (gather (ownRun order plan starts counts keys n) (keptRanks plan i))
-  pub room : a ≤ below (lower plan (ownWeight order counts) i) n
+  pub owns-there : Filled owns k (map (λ j. length (ownRun base order plan starts counts keys n j)) (keptRanks plan i))
+  pub owned-there : Filled owned a (gather (ownRun base order plan starts counts keys n) (keptRanks plan i))
+  pub room : a ≤ below (lower plan (ownWeight base order counts) i) n
 
 -- The places of their observations, which end at a: how many each one has, and these.
-pub record SeensBy (order plan firsts first second third starts counts keys : List ℕ) (count : ℕ → ℕ) (n i k a : ℕ) (seens seen : List ℕ) : Type 0 where
+pub record SeensBy (base : ℕ) (order plan firsts first second third starts counts keys : List ℕ) (count : ℕ → ℕ) (n i k a : ℕ) (seens seen : List ℕ) : Type 0 where
   pub few : k ≤ i
-  pub seens-there : Filled seens k (map (λ j. length (seenRun order plan firsts first second third starts counts keys count n j)) (keptRanks plan i))
-  pub seen-there : Filled seen a (gather (seenRun order plan firsts first second third starts counts keys count n) (keptRanks plan i))
+  pub seens-there : Filled seens k (map (λ j. length (seenRun base order plan firsts first second third starts counts keys count n j)) (keptRanks plan i))
+  pub seen-there : Filled seen a (gather (seenRun base order plan firsts first second third starts counts keys count n) (keptRanks plan i))
   pub room : a ≤ below (lower plan (seenWeight order count) i) n
 
 -- How many of each are gathered in all.
-abbrev pub ownTotal : (order plan starts counts keys : List ℕ) → ℕ → ℕ
-ownTotal order plan starts counts keys n = length (gather (ownRun order plan starts counts keys n) (keptRanks plan n))
+abbrev pub ownTotal : (base : ℕ) (order plan starts counts keys : List ℕ) → ℕ → ℕ
+ownTotal base order plan starts counts keys n = length (gather (ownRun base order plan starts counts keys n) (keptRanks plan n))
 
-abbrev pub seenTotal : (order plan firsts first second third starts counts keys : List ℕ) (count : ℕ → ℕ) → ℕ → ℕ
-seenTotal order plan firsts first second third starts counts keys count n = length (gather (seenRun order plan firsts first second third starts counts keys count n) (keptRanks plan n))
+abbrev pub seenTotal : (base : ℕ) (order plan firsts first second third starts counts keys : List ℕ) (count : ℕ → ℕ) → ℕ → ℕ
+seenTotal base order plan firsts first second third starts counts keys count n = length (gather (seenRun base order plan firsts first second third starts counts keys count n) (keptRanks plan n))

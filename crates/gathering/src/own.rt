@@ -21,19 +21,20 @@ fn add_own(
     n: usize,
     j: usize,
     i: usize,
+    base: usize,
     starts: &[u32],
     counts: &[u32],
     keys: &[u64],
     owned: &mut [u64],
     to: usize,
 ) -> usize
-    requires { ⌜ OwnRoom (now order) (now starts) (now counts) (now keys) n × (j < n) × (to + into (now plan) (ownWeight (now order) (now counts)) i j ≤ length (now owned)) ⌝ }
-    ensures { λ r. ⌜ Added (now (owned .entry)) to (cond (eqb (getD (now (plan .entry)) j 0) i) (ownAt (now (order .entry)) (now (starts .entry)) (now (counts .entry)) (now (keys .entry)) j) []) (now (owned .exit)) r ⌝ }
+    requires { ⌜ OwnRoom base (now order) (now starts) (now counts) (now keys) n × (j < n) × (to + into (now plan) (ownWeight base (now order) (now counts)) i j ≤ length (now owned)) ⌝ }
+    ensures { λ r. ⌜ Added (now (owned .entry)) to (cond (eqb (getD (now (plan .entry)) j 0) i) (ownAt base (now (order .entry)) (now (starts .entry)) (now (counts .entry)) (now (keys .entry)) j) []) (now (owned .exit)) r ⌝ }
 {
     if size(plan[j]) != i {
         return to;
     }
-    let p = 1024 + size(order[j]);
+    let p = base + size(order[j]);
     append_keys(keys, size(starts[p]), size(counts[p]), owned, to)
 }
 
@@ -43,19 +44,20 @@ fn add_owns(
     plan: &[u32; 256],
     n: usize,
     i: usize,
+    base: usize,
     starts: &[u32],
     counts: &[u32],
     keys: &[u64],
     owned: &mut [u64],
     from: usize,
 ) -> usize
-    requires { ⌜ OwnRoom (now order) (now starts) (now counts) (now keys) n × (from + below (into (now plan) (ownWeight (now order) (now counts)) i) n ≤ length (now owned)) ⌝ }
-    ensures { λ r. ⌜ Added (now (owned .entry)) from (gather (ownAt (now (order .entry)) (now (starts .entry)) (now (counts .entry)) (now (keys .entry))) (going (now (plan .entry)) n i)) (now (owned .exit)) r × (r ≤ from + below (into (now (plan .entry)) (ownWeight (now (order .entry)) (now (counts .entry))) i) n) ⌝ }
+    requires { ⌜ OwnRoom base (now order) (now starts) (now counts) (now keys) n × (from + below (into (now plan) (ownWeight base (now order) (now counts)) i) n ≤ length (now owned)) ⌝ }
+    ensures { λ r. ⌜ Added (now (owned .entry)) from (gather (ownAt base (now (order .entry)) (now (starts .entry)) (now (counts .entry)) (now (keys .entry))) (going (now (plan .entry)) n i)) (now (owned .exit)) r × (r ≤ from + below (into (now (plan .entry)) (ownWeight base (now (order .entry)) (now (counts .entry))) i) n) ⌝ }
 {
     let mut to = from;
     let mut j: usize = 0;
     while j < n {
-        to = add_own(order, plan, n, j, i, starts, counts, keys, owned, to);
+        to = add_own(order, plan, n, j, i, base, starts, counts, keys, owned, to);
         j += 1;
     }
     to
@@ -67,6 +69,7 @@ fn gather_own(
     plan: &[u32; 256],
     n: usize,
     i: usize,
+    base: usize,
     starts: &[u32],
     counts: &[u32],
     keys: &[u64],
@@ -74,10 +77,10 @@ fn gather_own(
     owned: &mut [u64],
     from: usize,
 ) -> usize
-    requires { ⌜ OwnRoom (now order) (now starts) (now counts) (now keys) n × (from + below (into (now plan) (ownWeight (now order) (now counts)) i) n ≤ length (now owned)) × (from + below (into (now plan) (ownWeight (now order) (now counts)) i) n ≤ length (now spare)) ⌝ }
-    ensures { λ r. ⌜ Added (now (owned .entry)) from (ownRun (now (order .entry)) (now (plan .entry)) (now (starts .entry)) (now (counts .entry)) (now (keys .entry)) n i) (now (owned .exit)) r × (r ≤ from + below (into (now (plan .entry)) (ownWeight (now (order .entry)) (now (counts .entry))) i) n) ⌝ }
+    requires { ⌜ OwnRoom base (now order) (now starts) (now counts) (now keys) n × (from + below (into (now plan) (ownWeight base (now order) (now counts)) i) n ≤ length (now owned)) × (from + below (into (now plan) (ownWeight base (now order) (now counts)) i) n ≤ length (now spare)) ⌝ }
+    ensures { λ r. ⌜ Added (now (owned .entry)) from (ownRun base (now (order .entry)) (now (plan .entry)) (now (starts .entry)) (now (counts .entry)) (now (keys .entry)) n i) (now (owned .exit)) r × (r ≤ from + below (into (now (plan .entry)) (ownWeight base (now (order .entry)) (now (counts .entry))) i) n) ⌝ }
 {
-    let end = add_owns(order, plan, n, i, starts, counts, keys, owned, from);
+    let end = add_owns(order, plan, n, i, base, starts, counts, keys, owned, from);
     sort_unique(owned, spare, from, end)
 }
 
@@ -87,6 +90,7 @@ fn own_rank(
     plan: &[u32; 256],
     n: usize,
     i: usize,
+    base: usize,
     starts: &[u32],
     counts: &[u32],
     keys: &[u64],
@@ -97,13 +101,25 @@ fn own_rank(
     k: usize,
     a: usize,
 ) -> usize
-    requires { ⌜ OwnsRoom (now order) (now starts) (now counts) (now keys) (now spare) (now kept) (now owns) (now owned) n × (i < n) × OwnsBy (now order) (now plan) (now starts) (now counts) (now keys) n i k a (now kept) (now owns) (now owned) ⌝ }
-    ensures { λ r. ⌜ OwnsBy (now (order .entry)) (now (plan .entry)) (now (starts .entry)) (now (counts .entry)) (now (keys .entry)) n (i + 1) (k + cond (eqb (getD (now (plan .entry)) i 0) i) 1 0) r (now (kept .exit)) (now (owns .exit)) (now (owned .exit)) ⌝ }
+    requires { ⌜ OwnsRoom base (now order) (now starts) (now counts) (now keys) (now spare) (now kept) (now owns) (now owned) n × (i < n) × OwnsBy base (now order) (now plan) (now starts) (now counts) (now keys) n i k a (now kept) (now owns) (now owned) ⌝ }
+    ensures { λ r. ⌜ OwnsBy base (now (order .entry)) (now (plan .entry)) (now (starts .entry)) (now (counts .entry)) (now (keys .entry)) n (i + 1) (k + cond (eqb (getD (now (plan .entry)) i 0) i) 1 0) r (now (kept .exit)) (now (owns .exit)) (now (owned .exit)) ⌝ }
 {
     if size(plan[i]) != i {
         return a;
     }
-    let r = gather_own(order, plan, n, i, starts, counts, keys, spare, owned, a);
+    let r = gather_own(
+        order,
+        plan,
+        n,
+        i,
+        base,
+        starts,
+        counts,
+        keys,
+        spare,
+        owned,
+        a,
+    );
     kept[k] = order[i];
     owns[k] = (r - a) as u32;
     r
@@ -114,6 +130,7 @@ pub fn gather_owns(
     order: &[u32; 256],
     plan: &[u32; 256],
     n: usize,
+    base: usize,
     starts: &[u32],
     counts: &[u32],
     keys: &[u64],
@@ -122,8 +139,8 @@ pub fn gather_owns(
     owns: &mut [u32],
     owned: &mut [u64],
 ) -> usize
-    requires { ⌜ OwnsRoom (now order) (now starts) (now counts) (now keys) (now spare) (now kept) (now owns) (now owned) n ⌝ }
-    ensures { λ r. ⌜ OwnsBy (now (order .entry)) (now (plan .entry)) (now (starts .entry)) (now (counts .entry)) (now (keys .entry)) n n r (ownTotal (now (order .entry)) (now (plan .entry)) (now (starts .entry)) (now (counts .entry)) (now (keys .entry)) n) (now (kept .exit)) (now (owns .exit)) (now (owned .exit)) ⌝ }
+    requires { ⌜ OwnsRoom base (now order) (now starts) (now counts) (now keys) (now spare) (now kept) (now owns) (now owned) n ⌝ }
+    ensures { λ r. ⌜ OwnsBy base (now (order .entry)) (now (plan .entry)) (now (starts .entry)) (now (counts .entry)) (now (keys .entry)) n n r (ownTotal base (now (order .entry)) (now (plan .entry)) (now (starts .entry)) (now (counts .entry)) (now (keys .entry)) n) (now (kept .exit)) (now (owns .exit)) (now (owned .exit)) ⌝ }
 {
     let mut k: usize = 0;
     let mut a: usize = 0;
@@ -134,6 +151,7 @@ pub fn gather_owns(
             plan,
             n,
             i,
+            base,
             starts,
             counts,
             keys,

@@ -32,9 +32,17 @@ fn count_going(plan: &[u32; 256], n: usize, i: usize) -> usize
 }
 
 // The places of the m observations of the boundary at place b, the first at p: itself where it observed nothing and isn't alone.
-fn add_places(b: usize, p: usize, m: usize, among: usize, seen: &mut [u32], to: usize) -> usize
-    requires { ⌜ (b < 256) × (p + m ≤ 1024) × (to + m + 1 ≤ length (now seen)) ⌝ }
-    ensures { λ r. ⌜ ((firsts : List ℕ) (count : ℕ → ℕ) → getD firsts b 0 ≡ p → count b ≡ m → Added (now (seen .entry)) to (placesFrom firsts count (eqb among 1) b) (now (seen .exit)) r) ⌝ }
+fn add_places(
+    base: usize,
+    b: usize,
+    p: usize,
+    m: usize,
+    among: usize,
+    seen: &mut [u32],
+    to: usize,
+) -> usize
+    requires { ⌜ (base + b < 1280) × (p + m ≤ 1280) × (to + m + 1 ≤ length (now seen)) ⌝ }
+    ensures { λ r. ⌜ ((firsts : List ℕ) (count : ℕ → ℕ) → getD firsts b 0 ≡ p → count b ≡ m → Added (now (seen .entry)) to (placesFrom base firsts count (eqb among 1) b) (now (seen .exit)) r) ⌝ }
 {
     if m != 0 {
         return append_places(p, m, seen, to);
@@ -42,7 +50,7 @@ fn add_places(b: usize, p: usize, m: usize, among: usize, seen: &mut [u32], to: 
     if among == 1 {
         return to;
     }
-    append_places(1024 + b, 1, seen, to)
+    append_places(base + b, 1, seen, to)
 }
 
 // The places of what rank j observed, if it goes into rank i.
@@ -54,20 +62,29 @@ fn add_seen(
     n: usize,
     j: usize,
     i: usize,
+    base: usize,
     firsts: &[u32],
     among: usize,
     seen: &mut [u32],
     to: usize,
 ) -> usize
-    requires { ⌜ SeenRoom (now job) at (now order) (now firsts) n × (j < n) × (to + into (now plan) (seenWeight (now order) (seenCount (now job) at)) i j ≤ length (now seen)) ⌝ }
-    ensures { λ r. ⌜ Added (now (seen .entry)) to (cond (eqb (getD (now (plan .entry)) j 0) i) (placesAt (now (order .entry)) (now (firsts .entry)) (seenCount (now (job .entry)) at) among j) []) (now (seen .exit)) r ⌝ }
+    requires { ⌜ SeenRoom (now job) at base (now order) (now firsts) n × (j < n) × (to + into (now plan) (seenWeight (now order) (seenCount (now job) at)) i j ≤ length (now seen)) ⌝ }
+    ensures { λ r. ⌜ Added (now (seen .entry)) to (cond (eqb (getD (now (plan .entry)) j 0) i) (placesAt base (now (order .entry)) (now (firsts .entry)) (seenCount (now (job .entry)) at) among j) []) (now (seen .exit)) r ⌝ }
 {
     if size(plan[j]) != i {
         return to;
     }
     let b = size(order[j]);
     let x = read_boundary(job, at + b * BOUNDARY_SIZE);
-    add_places(b, size(firsts[b]), size(x.observations), among, seen, to)
+    add_places(
+        base,
+        b,
+        size(firsts[b]),
+        size(x.observations),
+        among,
+        seen,
+        to,
+    )
 }
 
 // The places of what all observed that go into rank i.
@@ -78,18 +95,19 @@ fn add_seens(
     plan: &[u32; 256],
     n: usize,
     i: usize,
+    base: usize,
     firsts: &[u32],
     among: usize,
     seen: &mut [u32],
     from: usize,
 ) -> usize
-    requires { ⌜ SeenRoom (now job) at (now order) (now firsts) n × (from + below (into (now plan) (seenWeight (now order) (seenCount (now job) at)) i) n ≤ length (now seen)) ⌝ }
-    ensures { λ r. ⌜ Added (now (seen .entry)) from (gather (placesAt (now (order .entry)) (now (firsts .entry)) (seenCount (now (job .entry)) at) among) (going (now (plan .entry)) n i)) (now (seen .exit)) r × (r ≤ from + below (into (now (plan .entry)) (seenWeight (now (order .entry)) (seenCount (now (job .entry)) at)) i) n) ⌝ }
+    requires { ⌜ SeenRoom (now job) at base (now order) (now firsts) n × (from + below (into (now plan) (seenWeight (now order) (seenCount (now job) at)) i) n ≤ length (now seen)) ⌝ }
+    ensures { λ r. ⌜ Added (now (seen .entry)) from (gather (placesAt base (now (order .entry)) (now (firsts .entry)) (seenCount (now (job .entry)) at) among) (going (now (plan .entry)) n i)) (now (seen .exit)) r × (r ≤ from + below (into (now (plan .entry)) (seenWeight (now (order .entry)) (seenCount (now (job .entry)) at)) i) n) ⌝ }
 {
     let mut to = from;
     let mut j: usize = 0;
     while j < n {
-        to = add_seen(job, at, order, plan, n, j, i, firsts, among, seen, to);
+        to = add_seen(job, at, order, plan, n, j, i, base, firsts, among, seen, to);
         j += 1;
     }
     to
@@ -103,6 +121,7 @@ fn gather_seen(
     plan: &[u32; 256],
     n: usize,
     i: usize,
+    base: usize,
     firsts: &[u32],
     first: &[u64],
     second: &[u64],
@@ -114,11 +133,11 @@ fn gather_seen(
     spare: &mut [u32],
     from: usize,
 ) -> usize
-    requires { ⌜ SeenRoom (now job) at (now order) (now firsts) n × (from + below (into (now plan) (seenWeight (now order) (seenCount (now job) at)) i) n ≤ length (now seen)) × (from + below (into (now plan) (seenWeight (now order) (seenCount (now job) at)) i) n ≤ length (now spare)) ⌝ }
-    ensures { λ r. ⌜ Added (now (seen .entry)) from (seenRun (now (order .entry)) (now (plan .entry)) (now (firsts .entry)) (now (first .entry)) (now (second .entry)) (now (third .entry)) (now (starts .entry)) (now (counts .entry)) (now (keys .entry)) (seenCount (now (job .entry)) at) n i) (now (seen .exit)) r × (r ≤ from + below (into (now (plan .entry)) (seenWeight (now (order .entry)) (seenCount (now (job .entry)) at)) i) n) ⌝ }
+    requires { ⌜ SeenRoom (now job) at base (now order) (now firsts) n × (from + below (into (now plan) (seenWeight (now order) (seenCount (now job) at)) i) n ≤ length (now seen)) × (from + below (into (now plan) (seenWeight (now order) (seenCount (now job) at)) i) n ≤ length (now spare)) ⌝ }
+    ensures { λ r. ⌜ Added (now (seen .entry)) from (seenRun base (now (order .entry)) (now (plan .entry)) (now (firsts .entry)) (now (first .entry)) (now (second .entry)) (now (third .entry)) (now (starts .entry)) (now (counts .entry)) (now (keys .entry)) (seenCount (now (job .entry)) at) n i) (now (seen .exit)) r × (r ≤ from + below (into (now (plan .entry)) (seenWeight (now (order .entry)) (seenCount (now (job .entry)) at)) i) n) ⌝ }
 {
     let among = count_going(plan, n, i);
-    let end = add_seens(job, at, order, plan, n, i, firsts, among, seen, from);
+    let end = add_seens(job, at, order, plan, n, i, base, firsts, among, seen, from);
     sort_places(
         seen,
         spare,
@@ -142,6 +161,7 @@ fn seen_rank(
     plan: &[u32; 256],
     n: usize,
     i: usize,
+    base: usize,
     firsts: &[u32],
     first: &[u64],
     second: &[u64],
@@ -155,8 +175,8 @@ fn seen_rank(
     k: usize,
     a: usize,
 ) -> usize
-    requires { ⌜ SeensRoom (now job) at (now order) (now firsts) (now seens) (now seen) (now spare) n × (i < n) × SeensBy (now order) (now plan) (now firsts) (now first) (now second) (now third) (now starts) (now counts) (now keys) (seenCount (now job) at) n i k a (now seens) (now seen) ⌝ }
-    ensures { λ r. ⌜ SeensBy (now (order .entry)) (now (plan .entry)) (now (firsts .entry)) (now (first .entry)) (now (second .entry)) (now (third .entry)) (now (starts .entry)) (now (counts .entry)) (now (keys .entry)) (seenCount (now (job .entry)) at) n (i + 1) (k + cond (eqb (getD (now (plan .entry)) i 0) i) 1 0) r (now (seens .exit)) (now (seen .exit)) ⌝ }
+    requires { ⌜ SeensRoom (now job) at base (now order) (now firsts) (now seens) (now seen) (now spare) n × (i < n) × SeensBy base (now order) (now plan) (now firsts) (now first) (now second) (now third) (now starts) (now counts) (now keys) (seenCount (now job) at) n i k a (now seens) (now seen) ⌝ }
+    ensures { λ r. ⌜ SeensBy base (now (order .entry)) (now (plan .entry)) (now (firsts .entry)) (now (first .entry)) (now (second .entry)) (now (third .entry)) (now (starts .entry)) (now (counts .entry)) (now (keys .entry)) (seenCount (now (job .entry)) at) n (i + 1) (k + cond (eqb (getD (now (plan .entry)) i 0) i) 1 0) r (now (seens .exit)) (now (seen .exit)) ⌝ }
 {
     if size(plan[i]) != i {
         return a;
@@ -168,6 +188,7 @@ fn seen_rank(
         plan,
         n,
         i,
+        base,
         firsts,
         first,
         second,
@@ -190,6 +211,7 @@ pub fn gather_seens(
     order: &[u32; 256],
     plan: &[u32; 256],
     n: usize,
+    base: usize,
     firsts: &[u32],
     first: &[u64],
     second: &[u64],
@@ -201,8 +223,8 @@ pub fn gather_seens(
     seen: &mut [u32],
     spare: &mut [u32],
 ) -> usize
-    requires { ⌜ SeensRoom (now job) at (now order) (now firsts) (now seens) (now seen) (now spare) n ⌝ }
-    ensures { λ r. ⌜ SeensBy (now (order .entry)) (now (plan .entry)) (now (firsts .entry)) (now (first .entry)) (now (second .entry)) (now (third .entry)) (now (starts .entry)) (now (counts .entry)) (now (keys .entry)) (seenCount (now (job .entry)) at) n n r (seenTotal (now (order .entry)) (now (plan .entry)) (now (firsts .entry)) (now (first .entry)) (now (second .entry)) (now (third .entry)) (now (starts .entry)) (now (counts .entry)) (now (keys .entry)) (seenCount (now (job .entry)) at) n) (now (seens .exit)) (now (seen .exit)) ⌝ }
+    requires { ⌜ SeensRoom (now job) at base (now order) (now firsts) (now seens) (now seen) (now spare) n ⌝ }
+    ensures { λ r. ⌜ SeensBy base (now (order .entry)) (now (plan .entry)) (now (firsts .entry)) (now (first .entry)) (now (second .entry)) (now (third .entry)) (now (starts .entry)) (now (counts .entry)) (now (keys .entry)) (seenCount (now (job .entry)) at) n n r (seenTotal base (now (order .entry)) (now (plan .entry)) (now (firsts .entry)) (now (first .entry)) (now (second .entry)) (now (third .entry)) (now (starts .entry)) (now (counts .entry)) (now (keys .entry)) (seenCount (now (job .entry)) at) n) (now (seens .exit)) (now (seen .exit)) ⌝ }
 {
     let mut k: usize = 0;
     let mut a: usize = 0;
@@ -215,6 +237,7 @@ pub fn gather_seens(
             plan,
             n,
             i,
+            base,
             firsts,
             first,
             second,

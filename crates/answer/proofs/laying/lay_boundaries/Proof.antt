@@ -5,7 +5,7 @@ use lib.ListN.{length}
 use borrow.Author.Needs.{needs}
 use Rattle.format.specs.declared.records.BoundaryRecord.{BoundaryRecord}
 use Rattle.answer.specs.Laying.{Layout, ownCount, seenCount, citedCount}
-use Rattle.answer.proofs.Layouts.{layout-start, layout-next, layout-end, firsts-long, starts-long, counts-long, room-for, own-fits, places-fit, boundary-fits, observations-fit}
+use Rattle.answer.proofs.Layouts.{layout-start, layout-next, layout-end, firsts-long, starts-long, counts-long, room-for, own-fits, places-fit, own-place, observations-below}
 use Rattle.answer.proofs.laying.lay_boundaries.Statement.{statement}
 use Rattle.answer.proofs.laying.lay_boundaries.Tie as tie
 use Rattle.answer.proofs.laying.lay_boundaries.Reads as reads
@@ -15,10 +15,10 @@ use Rattle.format.proofs.read_boundary.Reads as read-boundary-reads
 use Rattle.wire.proofs.size.Reads as size-reads
 
 abbrev Inv-loop : tie.InvT-loop
-Inv-loop job at n ats firsts₀ starts₀ counts₀ run₀ p₀ b₀ firsts starts counts run p b = (b ≤ n) × Layout (ownCount job at) (seenCount job at) (citedCount job ats) firsts starts counts b p run × (length firsts ≡ length firsts₀) × (length starts ≡ length starts₀) × (length counts ≡ length counts₀)
+Inv-loop job at n ats base firsts₀ starts₀ counts₀ run₀ p₀ b₀ firsts starts counts run p b = (b ≤ n) × Layout (ownCount job at) (seenCount job at) (citedCount job ats) base n firsts starts counts b p run × (length firsts ≡ length firsts₀) × (length starts ≡ length starts₀) × (length counts ≡ length counts₀)
 
 abbrev μ-loop : tie.MeasureT-loop
-μ-loop job at n ats firsts₀ starts₀ counts₀ run₀ p₀ b₀ firsts starts counts run p b = n - b
+μ-loop job at n ats base firsts₀ starts₀ counts₀ run₀ p₀ b₀ firsts starts counts run p b = n - b
 
 loop-holds : tie.Need-loop-holds Inv-loop μ-loop
 loop-holds c = (omega arith, layout-start _ _ _ (c .before .before .before .before .pre .1), refl, refl, refl)
@@ -42,25 +42,25 @@ mul-firsts : tie.Need-mul-firsts Inv-loop μ-loop
 mul-firsts c = search needs
 
 slice-write-firsts : tie.Need-slice-write-firsts Inv-loop μ-loop
-slice-write-firsts c = omega (arith, boundary-fits (c .before .before .before .before .before .before .before .before .pre .0) (c .before .before .before .loop .inv .1) (c .before .before .loop-test .taken), (c .before .before .before .loop .inv .1) .firsts-room)
+slice-write-firsts c = omega (arith, own-place (c .before .before .before .before .before .before .before .before .pre .0) (c .before .before .before .loop .inv .1) (c .before .before .loop-test .taken), (c .before .before .before .loop .inv .1) .firsts-room)
 
 add-starts : tie.Need-add-starts Inv-loop μ-loop
-add-starts c = omega (arith, boundary-fits (c .before .before .before .before .before .before .before .before .pre .0) (c .before .before .before .loop .inv .1) (c .before .before .loop-test .taken))
+add-starts c = omega (arith, own-place (c .before .before .before .before .before .before .before .before .pre .0) (c .before .before .before .loop .inv .1) (c .before .before .loop-test .taken))
 
 mul-starts : tie.Need-mul-starts Inv-loop μ-loop
 mul-starts c = search needs
 
 slice-write-starts : tie.Need-slice-write-starts Inv-loop μ-loop
-slice-write-starts c = omega (arith, boundary-fits (c .before .before .before .before .before .before .before .before .pre .0) (c .before .before .before .loop .inv .1) (c .before .before .loop-test .taken), (c .before .before .before .loop .inv .1) .starts-room)
+slice-write-starts c = omega (arith, own-place (c .before .before .before .before .before .before .before .before .pre .0) (c .before .before .before .loop .inv .1) (c .before .before .loop-test .taken), (c .before .before .before .loop .inv .1) .starts-room)
 
 add-counts : tie.Need-add-counts Inv-loop μ-loop
-add-counts c = omega (arith, boundary-fits (c .before .before .before .before .before .before .before .before .pre .0) (c .before .before .before .loop .inv .1) (c .before .before .loop-test .taken))
+add-counts c = omega (arith, own-place (c .before .before .before .before .before .before .before .before .pre .0) (c .before .before .before .loop .inv .1) (c .before .before .loop-test .taken))
 
 mul-counts : tie.Need-mul-counts Inv-loop μ-loop
 mul-counts c = search needs
 
 slice-write-counts : tie.Need-slice-write-counts Inv-loop μ-loop
-slice-write-counts c = omega (arith, boundary-fits (c .before .before .before .before .before .before .before .before .pre .0) (c .before .before .before .loop .inv .1) (c .before .before .loop-test .taken), (c .before .before .before .loop .inv .1) .counts-room)
+slice-write-counts c = omega (arith, own-place (c .before .before .before .before .before .before .before .before .pre .0) (c .before .before .before .loop .inv .1) (c .before .before .loop-test .taken), (c .before .before .before .loop .inv .1) .counts-room)
 
 add-lay-observations : tie.Need-add-lay-observations Inv-loop μ-loop
 add-lay-observations c = omega (arith, own-fits (c .before .before .before .before .before .before .before .before .pre .0) (c .before .before .before .loop .inv .1) (c .before .before .loop-test .taken), ap (λ (r : BoundaryRecord). r .sources) (c .before .read-boundary .ensures))
@@ -69,7 +69,7 @@ lay-observations-requires : tie.Need-lay-observations-requires Inv-loop μ-loop
 lay-observations-requires c κs = room-for (c .before .before .before .before .before .before .before .before .before .before .pre .0) (c .before .before .before .before .before .loop .inv .1) (c .before .before .before .before .loop-test .taken) (ap (λ (r : BoundaryRecord). r .sources) (c .before .before .before .read-boundary .ensures)) (c .before .before .size .ensures .0 ∙ ap (λ (r : BoundaryRecord). r .observations) (c .before .before .before .read-boundary .ensures)) refl
 
 add-p : tie.Need-add-p Inv-loop μ-loop
-add-p c = omega (arith, observations-fit (c .before .before .before .before .before .before .before .before .before .before .before .before .before .before .before .pre .0) (c .before .before .before .before .before .before .before .before .before .before .loop .inv .1) (c .before .before .before .before .before .before .before .before .before .loop-test .taken), c .before .before .before .before .before .before .before .size .ensures .0 ∙ ap (λ (r : BoundaryRecord). r .observations) (c .before .before .before .before .before .before .before .before .read-boundary .ensures))
+add-p c = omega (arith, places-fit (c .before .before .before .before .before .before .before .before .before .before .before .before .before .before .before .pre .0) (c .before .before .before .before .before .before .before .before .before .before .loop .inv .1) (c .before .before .before .before .before .before .before .before .before .loop-test .taken), c .before .before .before .before .before .before .before .size .ensures .0 ∙ ap (λ (r : BoundaryRecord). r .observations) (c .before .before .before .before .before .before .before .before .read-boundary .ensures))
 
 add-b : tie.Need-add-b Inv-loop μ-loop
 add-b c = search needs

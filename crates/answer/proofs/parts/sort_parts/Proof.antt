@@ -4,7 +4,7 @@ use native.Mathlib.Omega.{arith}
 use lib.ListN.{length}
 use borrow.Author.Needs.{needs}
 use Rattle.answer.specs.Squeezed.{Squeezed}
-use Rattle.answer.proofs.Squeezed.{squeezed-start, part-within, squeezed-next, squeezed-end}
+use Rattle.answer.proofs.Squeezed.{squeezed-start, same, part-within, squeezed-next, squeezed-end}
 use Rattle.answer.proofs.parts.sort_parts.Statement.{statement}
 use Rattle.answer.proofs.parts.sort_parts.Tie as tie
 use Rattle.answer.proofs.parts.sort_parts.Reads as reads
@@ -43,13 +43,13 @@ add-sort-unique : tie.Need-add-sort-unique Inv-loop μ-loop
 add-sort-unique c = search needs
 
 sort-unique-requires : tie.Need-sort-unique-requires Inv-loop μ-loop
-sort-unique-requires c κs = (omega arith, omega (arith, part-within (c .before .before .before .before .before .before .before .before .before .before .before .before .pre .clear) (c .before .before .before .before .before .before .before .loop .inv .1), c .before .before .before .before .size .ensures .0, c .size2 .ensures .0, c .before .before .before .before .before .before .before .before .before .before .before .before .pre .keys-room, (c .before .before .before .before .before .before .before .loop .inv .1) .keys-long), omega (arith, part-within (c .before .before .before .before .before .before .before .before .before .before .before .before .pre .clear) (c .before .before .before .before .before .before .before .loop .inv .1), c .before .before .before .before .size .ensures .0, c .size2 .ensures .0, c .before .before .before .before .before .before .before .before .before .before .before .before .pre .spare-room, c .before .before .before .before .before .before .before .loop .inv .2))
+sort-unique-requires c κs = (omega arith, omega (arith, part-within (c .before .before .before .before .before .before .before .before .before .before .before .before .pre .clear) (c .before .before .before .before .before .before .before .loop .inv .1), c .before .before .before .before .size .ensures .0, c .size2 .ensures .0, (c .before .before .before .before .before .before .before .loop .inv .1) .keys-long), omega (arith, same (c .before .before .before .before .before .before .before .before .before .before .before .before .pre .clear) (c .before .before .before .before .before .before .before .loop .inv .1), c .before .before .before .before .size .ensures .0, c .size2 .ensures .0, c .before .before .before .before .before .before .before .before .before .before .before .before .pre .spare-room (c .before .before .before .before .before .before .before .loop .q), c .before .before .before .before .before .before .before .loop .inv .2))
 
 sub-counts : tie.Need-sub-counts Inv-loop μ-loop
 sub-counts c = omega (arith, c .before .before .before .before .sort-unique .ensures .ends)
 
 cast-counts : tie.Need-cast-counts Inv-loop μ-loop
-cast-counts c = omega (arith, c .before .before .before .before .sort-unique .ensures .within, part-within (c .before .before .before .before .before .before .before .before .before .before .before .before .before .before .before .before .before .pre .clear) (c .before .before .before .before .before .before .before .before .before .before .before .before .loop .inv .1), c .before .before .before .before .before .before .before .before .before .size .ensures .0, c .before .before .before .before .before .size2 .ensures .0)
+cast-counts c = omega (arith, c .before .before .before .before .sort-unique .ensures .within, c .before .before .before .before .before .size2 .ensures .1)
 
 mul-counts : tie.Need-mul-counts Inv-loop μ-loop
 mul-counts c = search needs

@@ -1,5 +1,5 @@
 use native.Mathlib.Omega.{arith}
-use Rattle.answer.proofs.Together.{placed, placed-inside, ranks-room, ranks-after, count-fits, observations-fit, observations-inside}
+use Rattle.answer.proofs.Together.{placed, placed-inside, ranks-room, ranks-after, parts-room, places-few, observations-inside}
 use borrow.Author.Needs.{needs}
 use Rattle.answer.proofs.placing.place_all.Statement.{statement}
 use Rattle.answer.proofs.placing.place_all.Tie as tie
@@ -12,19 +12,22 @@ use Rattle.answer.proofs.ranking.rank_boundaries.Reads as rank-boundari
 use Rattle.answer.proofs.ranking.rank_observations.Reads as rank-observations-reads
 
 read-keys-requires : tie.Need-read-keys-requires
-read-keys-requires c κs = (c .before .before .before .before .before .before .before .before .before .before .pre .0 .sources-in, omega (arith, count-fits (c .before .before .before .before .before .before .before .before .before .before .pre .0), c .before .before .before .before .before .before .before .before .before .before .pre .1 .keys-room))
+read-keys-requires c κs = (c .before .before .before .before .before .before .before .before .before .before .pre .0 .sources-in, c .before .before .before .before .before .before .before .before .before .before .pre .1 .keys-room)
 
 lay-boundaries-requires : tie.Need-lay-boundaries-requires
 lay-boundaries-requires c κs = search needs
 
+add-sort-parts : tie.Need-add-sort-parts
+add-sort-parts c = omega (arith, places-few (c .before .before .before .before .before .before .before .before .before .before .before .before .before .before .before .before .before .before .before .before .before .before .before .before .before .before .before .pre .0))
+
 sort-parts-requires : tie.Need-sort-parts-requires
-sort-parts-requires c κs = record { keys-room = omega (arith, c .before .before .before .before .before .before .before .before .before .before .before .before .before .before .before .before .read-keys .ensures .long, c .before .before .before .before .before .before .before .before .before .before .before .before .before .before .before .before .before .before .before .before .before .before .before .before .before .before .before .pre .1 .keys-room); spare-room = omega (arith, c .before .before .before .before .before .before .before .before .before .before .before .before .before .before .before .before .before .before .before .before .before .before .before .before .before .before .before .pre .1 .spare-room); starts-room = omega (arith, c .before .before .before .before .before .before .before .before .before .before .before .before .before .before .before .before .before .before .before .before .before .before .before .before .before .before .before .pre .1 .plan .starts-room); counts-room = omega (arith, c .before .before .before .before .before .before .before .before .before .before .before .before .before .before .before .before .before .before .before .before .before .before .before .before .before .before .before .pre .1 .plan .counts-room); clear = c .before .before .before .before .before .before .before .before .before .before .lay-boundaries .ensures .clear }
+sort-parts-requires c κs = parts-room (c .before .before .before .before .before .before .before .before .before .before .before .before .before .before .before .before .before .before .before .before .before .before .before .before .before .before .before .pre .0) (c .before .before .before .before .before .before .before .before .before .before .before .before .before .before .before .before .before .before .before .before .before .before .before .before .before .before .before .pre .1) (c .before .before .before .before .before .before .before .before .before .before .before .before .before .before .before .before .read-keys .ensures) (c .before .before .before .before .before .before .before .before .before .before .lay-boundaries .ensures) (omega arith) (omega arith)
 
 rank-observations-requires : tie.Need-rank-observations-requires
-rank-observations-requires c κs = (observations-inside (c .before .before .before .before .before .before .before .before .before .before .before .before .before .before .before .before .before .before .before .before .before .before .before .before .before .before .before .before .before .before .before .before .before .before .before .before .before .pre .0), ranks-room (c .before .before .before .before .before .before .before .before .before .before .before .before .before .before .before .before .before .before .before .before .before .before .before .before .before .before .before .before .before .before .before .before .before .before .before .before .before .pre .1 .ranks) (omega (arith, observations-fit (c .before .before .before .before .before .before .before .before .before .before .before .before .before .before .before .before .before .before .before .before .before .before .before .before .before .before .before .before .before .before .before .before .before .before .before .before .before .pre .0))))
+rank-observations-requires c κs = (observations-inside (c .before .before .before .before .before .before .before .before .before .before .before .before .before .before .before .before .before .before .before .before .before .before .before .before .before .before .before .before .before .before .before .before .before .before .before .before .before .pre .0), ranks-room (c .before .before .before .before .before .before .before .before .before .before .before .before .before .before .before .before .before .before .before .before .before .before .before .before .before .before .before .before .before .before .before .before .before .before .before .before .before .pre .1 .ranks) (omega arith))
 
 rank-boundaries-requires : tie.Need-rank-boundaries-requires
-rank-boundaries-requires c κs = (c .before .before .before .before .before .before .before .before .before .before .before .before .before .before .before .before .before .before .before .before .before .before .before .before .before .before .before .before .before .before .before .before .before .before .before .before .before .before .before .before .before .before .before .before .before .before .before .pre .0 .countable .boundaries-in, ranks-room (ranks-after (c .before .before .before .before .before .before .before .before .before .before .before .before .before .before .before .before .before .before .before .before .before .before .before .before .before .before .before .before .before .before .before .before .before .before .before .before .before .before .before .before .before .before .before .before .before .before .before .pre .1 .ranks) (c .before .before .before .before .before .before .before .before .before .rank-observations .ensures)) (omega (arith, c .before .before .before .before .before .before .before .before .before .before .before .before .before .before .before .before .before .before .before .before .before .before .before .before .before .before .before .before .before .before .before .before .before .before .before .before .before .before .before .before .before .before .before .before .before .before .before .pre .0 .countable .boundary-limit)))
+rank-boundaries-requires c κs = (c .before .before .before .before .before .before .before .before .before .before .before .before .before .before .before .before .before .before .before .before .before .before .before .before .before .before .before .before .before .before .before .before .before .before .before .before .before .before .before .before .before .before .before .before .before .before .before .pre .0 .countable .boundaries-in, ranks-after (c .before .before .before .before .before .before .before .before .before .before .before .before .before .before .before .before .before .before .before .before .before .before .before .before .before .before .before .before .before .before .before .before .before .before .before .before .before .before .before .before .before .before .before .before .before .before .before .pre .1 .ranks) (c .before .before .before .before .before .before .before .before .before .rank-observations .ensures))
 
 same-length : tie.Need-same-length
 same-length c = omega (arith, c .before .before .before .before .before .before .before .before .before .before .before .before .before .before .before .before .before .before .before .before .before .before .before .before .before .before .sort-parts .ensures .keys-long, c .before .before .before .before .before .before .before .before .before .before .before .before .before .before .before .before .before .before .before .before .before .before .before .before .before .before .before .before .before .before .before .before .before .before .before .before .before .before .before .before .before .before .before .read-keys .ensures .long)
@@ -59,6 +62,7 @@ place-all-spec =
     (tie.spec
     read-keys-requires
     lay-boundaries-requires
+    add-sort-parts
     sort-parts-requires
     rank-observations-requires
     rank-boundaries-requires

@@ -18,10 +18,10 @@ use Rattle.length.proofs.floats.total_key.Reads as total-key-reads
 use Rattle.position.proofs.Span.canonical.Reads as canonical-reads
 
 abbrev Inv-loop : tie.InvT-loop
-Inv-loop job at n first₀ second₀ third₀ p₀ first second third p = (p ≤ n) × Ranked (λ k. boundaryAt job (at + k * 40) .ends) (λ k. boundaryAt job (at + k * 40) .bits) 1024 p first₀ second₀ third₀ first second third
+Inv-loop job at n base first₀ second₀ third₀ p₀ first second third p = (p ≤ n) × Ranked (λ k. boundaryAt job (at + k * 40) .ends) (λ k. boundaryAt job (at + k * 40) .bits) base p first₀ second₀ third₀ first second third
 
 abbrev μ-loop : tie.MeasureT-loop
-μ-loop job at n first₀ second₀ third₀ p₀ first second third p = n - p
+μ-loop job at n base first₀ second₀ third₀ p₀ first second third p = n - p
 
 loop-holds : tie.Need-loop-holds Inv-loop μ-loop
 loop-holds c = (omega arith, ranked-start _ _ _ _ _ _)
@@ -42,10 +42,10 @@ packed-requires : tie.Need-packed-requires Inv-loop μ-loop
 packed-requires c κs = search needs
 
 add-first : tie.Need-add-first Inv-loop μ-loop
-add-first c = omega (arith, c .before .before .before .before .before .before .before .before .before .before .before .before .pre .1 .first-room)
+add-first c = omega (arith, c .before .before .before .before .before .before .before .before .before .before .before .before .pre .1 .first-room, c .before .before .before .before .before .before .before .before .before .before .before .before .good .1 .1 .1 .1 .0)
 
 mul-first : tie.Need-mul-first Inv-loop μ-loop
-mul-first c = search needs
+mul-first c = omega (arith, c .before .before .before .before .before .before .before .before .before .before .before .before .pre .1 .first-room, c .before .before .before .before .before .before .before .before .before .before .before .before .good .1 .1 .1 .1 .0 .1)
 
 slice-write-first : tie.Need-slice-write-first Inv-loop μ-loop
 slice-write-first c = omega (arith, c .before .before .before .before .before .before .before .before .before .before .before .before .pre .1 .first-room, (c .before .before .before .before .before .before .before .loop .inv .1) .first-long)
@@ -54,10 +54,10 @@ packed-requires-2 : tie.Need-packed-requires-2 Inv-loop μ-loop
 packed-requires-2 c κs = search needs
 
 add-second : tie.Need-add-second Inv-loop μ-loop
-add-second c = omega (arith, c .before .before .before .before .before .before .before .before .before .before .before .before .before .pre .1 .second-room)
+add-second c = omega (arith, c .before .before .before .before .before .before .before .before .before .before .before .before .before .pre .1 .second-room, c .before .before .before .before .before .before .before .before .before .before .before .before .before .good .1 .1 .1 .1 .1 .0)
 
 mul-second : tie.Need-mul-second Inv-loop μ-loop
-mul-second c = search needs
+mul-second c = omega (arith, c .before .before .before .before .before .before .before .before .before .before .before .before .before .pre .1 .second-room, c .before .before .before .before .before .before .before .before .before .before .before .before .before .good .1 .1 .1 .1 .1 .0 .1)
 
 slice-write-second : tie.Need-slice-write-second Inv-loop μ-loop
 slice-write-second c = omega (arith, c .before .before .before .before .before .before .before .before .before .before .before .before .before .pre .1 .second-room, (c .before .before .before .before .before .before .before .before .loop .inv .1) .second-long)
@@ -66,10 +66,10 @@ total-key-requires : tie.Need-total-key-requires Inv-loop μ-loop
 total-key-requires c κs = search needs
 
 add-third : tie.Need-add-third Inv-loop μ-loop
-add-third c = omega (arith, c .before .before .before .before .before .before .before .before .before .before .before .before .before .before .pre .1 .third-room)
+add-third c = omega (arith, c .before .before .before .before .before .before .before .before .before .before .before .before .before .before .pre .1 .third-room, c .before .before .before .before .before .before .before .before .before .before .before .before .before .before .good .1 .1 .1 .1 .1 .1 .0)
 
 mul-third : tie.Need-mul-third Inv-loop μ-loop
-mul-third c = search needs
+mul-third c = omega (arith, c .before .before .before .before .before .before .before .before .before .before .before .before .before .before .pre .1 .third-room, c .before .before .before .before .before .before .before .before .before .before .before .before .before .before .good .1 .1 .1 .1 .1 .1 .0 .1)
 
 slice-write-third : tie.Need-slice-write-third Inv-loop μ-loop
 slice-write-third c = omega (arith, c .before .before .before .before .before .before .before .before .before .before .before .before .before .before .pre .1 .third-room, (c .before .before .before .before .before .before .before .before .before .loop .inv .1) .third-long)

@@ -1,6 +1,4 @@
-use Rattle.encoding.proofs.Rooms.{gather-room}
 use mathlib.Core.Path.{sym}
-use native.Mathlib.Omega.{arith}
 use borrow.Author.Needs.{needs}
 use Rattle.encoding.proofs.from_job.write_placed.Statement.{statement}
 use Rattle.encoding.proofs.from_job.write_placed.Tie as tie
@@ -18,17 +16,8 @@ slice-aggregate-gather-kept-2 c = search needs
 slice-aggregate-gather-kept-3 : tie.Need-slice-aggregate-gather-kept-3
 slice-aggregate-gather-kept-3 c = search needs
 
-slice-aggregate-gather-kept-4 : tie.Need-slice-aggregate-gather-kept-4
-slice-aggregate-gather-kept-4 c = search needs
-
-slice-aggregate-gather-kept-5 : tie.Need-slice-aggregate-gather-kept-5
-slice-aggregate-gather-kept-5 c = search needs
-
-slice-aggregate-gather-kept-6 : tie.Need-slice-aggregate-gather-kept-6
-slice-aggregate-gather-kept-6 c = search needs
-
 gather-kept-requires : tie.Need-gather-kept-requires
-gather-kept-requires c κs = gather-room (c .before .before .before .before .before .before .before .before .before .before .before .before .before .before .before .before .before .pre)
+gather-kept-requires c κs = search needs
 
 slice-aggregate-write-kept : tie.Need-slice-aggregate-write-kept
 slice-aggregate-write-kept c = search needs
@@ -39,14 +28,16 @@ slice-aggregate-write-kept-2 c = search needs
 slice-aggregate-write-kept-3 : tie.Need-slice-aggregate-write-kept-3
 slice-aggregate-write-kept-3 c = search needs
 
-slice-aggregate-write-kept-4 : tie.Need-slice-aggregate-write-kept-4
-slice-aggregate-write-kept-4 c = search needs
-
-slice-aggregate-write-kept-5 : tie.Need-slice-aggregate-write-kept-5
-slice-aggregate-write-kept-5 c = search needs
-
 write-kept-requires : tie.Need-write-kept-requires
-write-kept-requires c κs = record { n = c .before .before .before .before .before .before .before .before .before .before .before .before .before .before .before .before .before .before .before .before .before .before .before .before .before .before .before .before .before .before .before .before .args .n; ks = _; many = sym (c .before .before .before .before .before .before .before .before .before .before .before .before .before .before .gather-kept .ensures (c .before .before .before .before .before .before .before .before .before .before .before .before .before .before .before .before .before .before .before .before .before .before .before .before .before .before .before .before .before .before .before .before .pre .os) (c .before .before .before .before .before .before .before .before .before .before .before .before .before .before .before .before .before .before .before .before .before .before .before .before .before .before .before .before .before .before .before .before .pre .ss) (c .before .before .before .before .before .before .before .before .before .before .before .before .before .before .before .before .before .before .before .before .before .before .before .before .before .before .before .before .before .before .before .before .pre .placed) .1); gathered = c .before .before .before .before .before .before .before .before .before .before .before .before .before .before .gather-kept .ensures (c .before .before .before .before .before .before .before .before .before .before .before .before .before .before .before .before .before .before .before .before .before .before .before .before .before .before .before .before .before .before .before .before .pre .os) (c .before .before .before .before .before .before .before .before .before .before .before .before .before .before .before .before .before .before .before .before .before .before .before .before .before .before .before .before .before .before .before .before .pre .ss) (c .before .before .before .before .before .before .before .before .before .before .before .before .before .before .before .before .before .before .before .before .before .before .before .before .before .before .before .before .before .before .before .before .pre .placed) .0; limit = c .before .before .before .before .before .before .before .before .before .before .before .before .before .before .before .before .before .before .before .before .before .before .before .before .before .before .before .before .before .before .before .before .pre .limit; inside = c .before .before .before .before .before .before .before .before .before .before .before .before .before .before .before .before .before .before .before .before .before .before .before .before .before .before .before .before .before .before .before .before .pre .records-in; keys-few = omega (arith, c .before .before .before .before .before .before .before .before .before .before .before .before .before .before .before .before .before .before .before .before .before .before .before .before .before .before .before .before .before .before .before .before .pre .keys-long) }
+write-kept-requires c κs = record {
+  n = c .before .before .before .before .before .before .before .before .before .before .before .before .before .before .before .before .before .before .before .before .before .before .before .before .before .before .before .before .before .before .before .before .before .before .before .before .before .before .args .n;
+  ks = _;
+  many = sym (c .before .before .before .before .before .before .before .before .before .before .before .before .before .before .before .before .before .gather-kept .ensures (c .before .before .before .before .before .before .before .before .before .before .before .before .before .before .before .before .before .before .before .before .before .before .before .before .before .before .before .before .before .before .before .before .before .before .before .before .before .before .pre .os) (c .before .before .before .before .before .before .before .before .before .before .before .before .before .before .before .before .before .before .before .before .before .before .before .before .before .before .before .before .before .before .before .before .before .before .before .before .before .before .pre .ss) (c .before .before .before .before .before .before .before .before .before .before .before .before .before .before .before .before .before .before .before .before .before .before .before .before .before .before .before .before .before .before .before .before .before .before .before .before .before .before .pre .placed) .1);
+  gathered = c .before .before .before .before .before .before .before .before .before .before .before .before .before .before .before .before .before .gather-kept .ensures (c .before .before .before .before .before .before .before .before .before .before .before .before .before .before .before .before .before .before .before .before .before .before .before .before .before .before .before .before .before .before .before .before .before .before .before .before .before .before .pre .os) (c .before .before .before .before .before .before .before .before .before .before .before .before .before .before .before .before .before .before .before .before .before .before .before .before .before .before .before .before .before .before .before .before .before .before .before .before .before .before .pre .ss) (c .before .before .before .before .before .before .before .before .before .before .before .before .before .before .before .before .before .before .before .before .before .before .before .before .before .before .before .before .before .before .before .before .before .before .before .before .before .before .pre .placed) .0;
+  limit = c .before .before .before .before .before .before .before .before .before .before .before .before .before .before .before .before .before .before .before .before .before .before .before .before .before .before .before .before .before .before .before .before .before .before .before .before .before .before .pre .room .few;
+  inside = c .before .before .before .before .before .before .before .before .before .before .before .before .before .before .before .before .before .before .before .before .before .before .before .before .before .before .before .before .before .before .before .before .before .before .before .before .before .before .pre .room .records-in;
+  keys-few = c .before .before .before .before .before .before .before .before .before .before .before .before .before .before .before .before .before .before .before .before .before .before .before .before .before .before .before .before .before .before .before .before .before .before .before .before .before .before .pre .keys-few;
+}
 
 same-length : tie.Need-same-length
 same-length c = search needs
@@ -54,8 +45,18 @@ same-length c = search needs
 same-length-2 : tie.Need-same-length-2
 same-length-2 c = search needs
 
+same-length-3 : tie.Need-same-length-3
+same-length-3 c = search needs
+
+same-length-4 : tie.Need-same-length-4
+same-length-4 c = search needs
+
+same-length-5 : tie.Need-same-length-5
+same-length-5 c = search needs
+
 returns : tie.Need-returns
-returns c = λ os ss p. c .before .before .write-kept .ensures (c .before .before .before .before .before .before .before .before .before .before .before .before .before .before .before .before .before .before .before .before .before .before .before .before .before .before .before .before .before .before .before .before .before .before .before .args .n) _ (sym (c .before .before .before .before .before .before .before .before .before .before .before .before .before .before .before .before .before .gather-kept .ensures os ss p .1)) (c .before .before .before .before .before .before .before .before .before .before .before .before .before .before .before .before .before .gather-kept .ensures os ss p .0)
+returns c = λ os ss p.
+    c .before .before .write-kept .ensures (c .before .before .before .before .before .before .before .before .before .before .before .before .before .before .before .before .before .before .before .before .before .before .before .before .before .before .before .before .before .before .before .before .before .before .before .before .before .before .before .before .before .args .n) _ (sym (c .before .before .before .before .before .before .before .before .before .before .before .before .before .before .before .before .before .before .before .before .gather-kept .ensures os ss p .1)) (c .before .before .before .before .before .before .before .before .before .before .before .before .before .before .before .before .before .before .before .before .gather-kept .ensures os ss p .0)
 
 pub write-placed-spec : {M : Type 1} → statement M
 write-placed-spec =
@@ -64,16 +65,14 @@ write-placed-spec =
     slice-aggregate-gather-kept
     slice-aggregate-gather-kept-2
     slice-aggregate-gather-kept-3
-    slice-aggregate-gather-kept-4
-    slice-aggregate-gather-kept-5
-    slice-aggregate-gather-kept-6
     gather-kept-requires
     slice-aggregate-write-kept
     slice-aggregate-write-kept-2
     slice-aggregate-write-kept-3
-    slice-aggregate-write-kept-4
-    slice-aggregate-write-kept-5
     write-kept-requires
     same-length
     same-length-2
+    same-length-3
+    same-length-4
+    same-length-5
     returns)

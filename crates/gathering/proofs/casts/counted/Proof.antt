@@ -7,15 +7,12 @@ use Rattle.gathering.proofs.casts.counted.Reads as reads
 use Rattle.gathering.proofs.casts.counted.Lts as lts
 use Rattle.wire.proofs.size.Reads as size-reads
 
--- src/casts.rt:17:8
 size-requires : tie.Need-size-requires
 size-requires c κs = search needs
 
--- src/casts.rt:18:9
 returns : tie.Need-returns
 returns c = (counted-one (c .before .size .ensures .0) (c .if1 .taken), omega arith)
 
--- src/casts.rt:14:1
 returns-2 : tie.Need-returns-2
 returns-2 c = (counted-none (c .before .size .ensures .0) (c .if1 .left), omega arith)
 

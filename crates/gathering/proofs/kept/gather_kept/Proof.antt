@@ -8,43 +8,33 @@ use Rattle.gathering.proofs.kept.gather_kept.Lts as lts
 use Rattle.gathering.proofs.own.gather_owns.Reads as gather-owns-reads
 use Rattle.gathering.proofs.seen.gather_seens.Reads as gather-seens-reads
 
--- src/kept.rt:39:5
 gather-seens-requires : tie.Need-gather-seens-requires
 gather-seens-requires c κs = seens-room (c .before .before .before .before .before .before .before .before .before .before .before .before .before .before .before .before .before .before .pre)
 
--- src/kept.rt:56:5
 gather-owns-requires : tie.Need-gather-owns-requires
 gather-owns-requires c κs = owns-room (c .before .before .before .before .before .before .before .before .before .before .before .before .before .before .before .before .before .before .before .before .before .before .before .before .before .before .before .before .before .pre)
 
--- src/kept.rt:15:1
 same-length : tie.Need-same-length
 same-length c = search needs
 
--- src/kept.rt:15:1
 same-length-2 : tie.Need-same-length-2
 same-length-2 c = search needs
 
--- src/kept.rt:15:1
 same-length-3 : tie.Need-same-length-3
 same-length-3 c = search needs
 
--- src/kept.rt:15:1
 same-length-4 : tie.Need-same-length-4
 same-length-4 c = search needs
 
--- src/kept.rt:15:1
 same-length-5 : tie.Need-same-length-5
 same-length-5 c = search needs
 
--- src/kept.rt:15:1
 same-length-6 : tie.Need-same-length-6
 same-length-6 c = search needs
 
--- src/kept.rt:15:1
 same-length-7 : tie.Need-same-length-7
 same-length-7 c = search needs
 
--- src/kept.rt:15:1
 returns : tie.Need-returns
 returns c = λ os ss p. gathered p (c .before .before .before .before .before .before .before .before .before .before .before .before .before .before .before .before .before .before .before .before .before .before .before .before .before .before .before .before .before .before .before .before .before .before .before .before .before .before .args .order .now) (c .before .before .before .before .before .before .before .before .before .before .before .before .before .before .before .before .before .before .before .before .before .before .before .before .before .before .before .before .before .before .before .before .before .before .before .before .before .before .args .plan .now) (order-inside (c .before .before .before .before .before .before .before .before .before .before .before .before .before .before .before .before .before .before .before .before .before .before .before .before .before .before .before .before .before .before .before .before .before .before .before .before .before .before .args .order .now) (c .before .before .before .before .before .before .before .before .before .before .before .before .before .before .before .before .before .before .before .before .before .before .before .before .before .before .before .before .before .before .before .before .before .before .before .before .before .before .args .n) (c .before .before .before .before .before .before .before .before .before .before .before .before .before .before .before .before .before .before .before .before .before .before .before .before .before .before .before .before .before .before .before .before .before .before .before .before .before .before .pre .ordered)) (c .before .before .before .before .before .before .before .before .gather-owns .ensures) (c .before .before .before .before .before .before .before .before .before .before .before .before .before .before .before .before .before .before .before .gather-seens .ensures) (owns-room (c .before .before .before .before .before .before .before .before .before .before .before .before .before .before .before .before .before .before .before .before .before .before .before .before .before .before .before .before .before .before .before .before .before .before .before .before .before .before .pre) .small) (seens-room (c .before .before .before .before .before .before .before .before .before .before .before .before .before .before .before .before .before .before .before .before .before .before .before .before .before .before .before .before .before .before .before .before .before .before .before .before .before .before .pre) .small)
 

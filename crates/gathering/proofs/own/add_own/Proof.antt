@@ -11,71 +11,54 @@ use Rattle.gathering.proofs.own.add_own.Lts as lts
 use Rattle.gathering.proofs.runs.append_keys.Reads as append-keys-reads
 use Rattle.wire.proofs.size.Reads as size-reads
 
--- src/own.rt:32:13
 mul-size : tie.Need-mul-size
 mul-size c = search needs
 
--- src/own.rt:32:13
 element-copy-out-size : tie.Need-element-copy-out-size
 element-copy-out-size c = search needs
 
--- src/own.rt:32:8
 size-requires : tie.Need-size-requires
 size-requires c κs = search needs
 
--- src/own.rt:33:9
 returns : tie.Need-returns
 returns c = elsewhere _ _ _ (c .before .size .ensures .0) (c .if1 .taken)
 
--- src/own.rt:35:25
 mul-size-2 : tie.Need-mul-size-2
 mul-size-2 c = search needs
 
--- src/own.rt:35:25
 element-copy-out-size-2 : tie.Need-element-copy-out-size-2
 element-copy-out-size-2 c = search needs
 
--- src/own.rt:35:20
 size-requires-2 : tie.Need-size-requires-2
 size-requires-2 c κs = search needs
 
--- src/own.rt:35:13
 add-p : tie.Need-add-p
 add-p c = search needs
 
--- src/own.rt:36:28
 mul-size-3 : tie.Need-mul-size-3
 mul-size-3 c = search needs
 
--- src/own.rt:36:28
 shared-slice-read-size : tie.Need-shared-slice-read-size
 shared-slice-read-size c = omega (arith, c .before .before .before .before .before .before .before .before .before .before .pre .0 .starts-room, c .before .size2 .ensures .0, c .before .before .before .before .before .before .before .before .before .before .pre .0 .order-in _ (c .before .before .before .before .before .before .before .before .before .before .pre .1), c .before .before .before .before .before .before .before .before .before .before .pre .0 .few)
 
--- src/own.rt:36:23
 size-requires-3 : tie.Need-size-requires-3
 size-requires-3 c κs = search needs
 
--- src/own.rt:36:45
 mul-size-4 : tie.Need-mul-size-4
 mul-size-4 c = search needs
 
--- src/own.rt:36:45
 shared-slice-read-size-2 : tie.Need-shared-slice-read-size-2
 shared-slice-read-size-2 c = omega (arith, c .before .before .before .before .before .before .before .before .before .before .before .before .pre .0 .counts-room, c .before .before .before .size2 .ensures .0, c .before .before .before .before .before .before .before .before .before .before .before .before .pre .0 .order-in _ (c .before .before .before .before .before .before .before .before .before .before .before .before .pre .1), c .before .before .before .before .before .before .before .before .before .before .before .before .pre .0 .few)
 
--- src/own.rt:36:40
 size-requires-4 : tie.Need-size-requires-4
 size-requires-4 c κs = search needs
 
--- src/own.rt:36:5
 append-keys-requires : tie.Need-append-keys-requires
 append-keys-requires c κs = (own-inside (c .before .before .before .before .before .before .before .before .before .before .before .before .before .before .pre .0) (c .before .before .before .before .before .before .before .before .before .before .before .before .before .before .pre .1) (c .before .before .before .before .before .size2 .ensures .0) (c .before .before .before .size3 .ensures .0) (c .before .size4 .ensures .0), own-room (c .before .before .before .before .before .before .before .before .before .before .before .before .before .before .pre .0) (c .before .before .before .before .before .before .before .before .before .before .before .before .before .before .pre .1) (c .before .before .before .before .before .size2 .ensures .0) (c .before .before .before .size3 .ensures .0) (c .before .size4 .ensures .0) (c .before .before .before .before .before .before .before .before .before .before .before .before .before .before .args .plan .now) (c .before .before .before .before .before .before .before .before .before .before .before .before .before .before .args .to) (length (c .before .before .before .before .before .before .before .before .before .before .before .before .before .before .args .owned .now)) (c .before .before .before .before .before .before .before .before .size .ensures .0) (c .before .before .before .before .before .before .before .if1 .left) (c .before .before .before .before .before .before .before .before .before .before .before .before .before .before .pre .2))
 
--- src/own.rt:17:1
 same-length : tie.Need-same-length
 same-length c = search needs
 
--- src/own.rt:17:1
 returns-2 : tie.Need-returns-2
 returns-2 c = there (c .before .before .before .before .before .before .before .before .before .before .before .size .ensures .0) (c .before .before .before .before .before .before .before .before .before .before .if1 .left) (added-is (c .before .before .append-keys .ensures) refl (own-part (c .before .before .before .before .before .before .before .before .before .before .before .before .before .before .before .before .before .pre .0) (c .before .before .before .before .before .before .before .before .before .before .before .before .before .before .before .before .before .pre .1) (c .before .before .before .before .before .before .before .before .size2 .ensures .0) (c .before .before .before .before .before .before .size3 .ensures .0) (c .before .before .before .before .size4 .ensures .0)))
 

@@ -8,25 +8,20 @@ use Rattle.gathering.proofs.own.gather_own.Lts as lts
 use Rattle.gathering.proofs.own.add_owns.Reads as add-owns-reads
 use Rattle.sorting.proofs.numbers.sort_unique.Reads as sort-unique-reads
 
--- src/own.rt:79:9
 add-owns-requires : tie.Need-add-owns-requires
 add-owns-requires c κs = search needs
 
--- src/own.rt:80:5
 sort-unique-requires : tie.Need-sort-unique-requires
 sort-unique-requires c κs = (omega (arith, c .before .before .before .before .add-owns .ensures .0 .ends), omega (arith, c .before .before .before .before .add-owns .ensures .1, c .before .before .before .before .before .before .before .before .before .before .before .pre .1, c .before .before .before .before .add-owns .ensures .0 .long), omega (arith, c .before .before .before .before .add-owns .ensures .1, c .before .before .before .before .before .before .before .before .before .before .before .pre .2))
 
--- src/own.rt:64:1
 same-length : tie.Need-same-length
 same-length c = search needs
 
--- src/own.rt:64:1
 same-length-2 : tie.Need-same-length-2
 same-length-2 c = search needs
 
--- src/own.rt:64:1
 returns : tie.Need-returns
-returns c = (own-gathered (c .before .before .before .before .before .before .before .before .before .before .before .before .before .before .before .before .args .order .now) (c .before .before .before .before .before .before .before .before .before .before .before .before .before .before .before .before .args .plan .now) (c .before .before .before .before .before .before .before .before .before .before .before .before .before .before .before .before .args .starts .now) (c .before .before .before .before .before .before .before .before .before .before .before .before .before .before .before .before .args .counts .now) (c .before .before .before .before .before .before .before .before .before .before .before .before .before .before .before .before .args .keys .now) (c .before .before .before .before .before .before .before .before .before .before .before .before .before .before .before .before .args .n) (c .before .before .before .before .before .before .before .before .before .before .before .before .before .before .before .before .args .i) (c .before .before .before .before .before .before .before .before .before .add-owns .ensures .0) (omega (arith, c .before .before .before .before .before .before .before .before .before .before .before .before .before .before .before .before .pre .1)) (c .before .before .before .before .sort-unique .ensures) (omega arith), omega (arith, c .before .before .before .before .before .before .before .before .before .add-owns .ensures .1, c .before .before .before .before .sort-unique .ensures .within))
+returns c = (own-gathered (c .before .before .before .before .before .before .before .before .before .before .before .before .before .before .before .before .args .base) (c .before .before .before .before .before .before .before .before .before .before .before .before .before .before .before .before .args .order .now) (c .before .before .before .before .before .before .before .before .before .before .before .before .before .before .before .before .args .plan .now) (c .before .before .before .before .before .before .before .before .before .before .before .before .before .before .before .before .args .starts .now) (c .before .before .before .before .before .before .before .before .before .before .before .before .before .before .before .before .args .counts .now) (c .before .before .before .before .before .before .before .before .before .before .before .before .before .before .before .before .args .keys .now) (c .before .before .before .before .before .before .before .before .before .before .before .before .before .before .before .before .args .n) (c .before .before .before .before .before .before .before .before .before .before .before .before .before .before .before .before .args .i) (c .before .before .before .before .before .before .before .before .before .add-owns .ensures .0) (omega (arith, c .before .before .before .before .before .before .before .before .before .before .before .before .before .before .before .before .pre .1)) (c .before .before .before .before .sort-unique .ensures) (omega arith), omega (arith, c .before .before .before .before .before .before .before .before .before .add-owns .ensures .1, c .before .before .before .before .sort-unique .ensures .within))
 
 pub gather-own-spec : {M : Type 1} → statement M
 gather-own-spec =

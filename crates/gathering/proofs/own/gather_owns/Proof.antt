@@ -14,66 +14,52 @@ use Rattle.gathering.proofs.casts.counted.Reads as counted-reads
 use Rattle.gathering.proofs.own.own_rank.Reads as own-rank-reads
 
 abbrev Inv-loop : tie.InvT-loop
-Inv-loop order plan n starts counts keys spare₀ kept₀ owns₀ owned₀ k₀ a₀ i₀ spare kept owns owned k a i = (i ≤ n) × OwnsBy order plan starts counts keys n i k a kept owns owned × (length spare ≡ length spare₀) × (length kept ≡ length kept₀) × (length owns ≡ length owns₀) × (length owned ≡ length owned₀)
+Inv-loop order plan n base starts counts keys spare₀ kept₀ owns₀ owned₀ k₀ a₀ i₀ spare kept owns owned k a i = (i ≤ n) × OwnsBy base order plan starts counts keys n i k a kept owns owned × (length spare ≡ length spare₀) × (length kept ≡ length kept₀) × (length owns ≡ length owns₀) × (length owned ≡ length owned₀)
 
 abbrev μ-loop : tie.MeasureT-loop
-μ-loop order plan n starts counts keys spare₀ kept₀ owns₀ owned₀ k₀ a₀ i₀ spare kept owns owned k a i = n - i
+μ-loop order plan n base starts counts keys spare₀ kept₀ owns₀ owned₀ k₀ a₀ i₀ spare kept owns owned k a i = n - i
 
--- src/own.rt:131:5
 loop-holds : tie.Need-loop-holds Inv-loop μ-loop
-loop-holds c = (omega arith, owns-start (c .before .before .before .before .before .before .before .args .order .now) (c .before .before .before .before .before .before .before .args .plan .now) (c .before .before .before .before .before .before .before .args .starts .now) (c .before .before .before .before .before .before .before .args .counts .now) (c .before .before .before .before .before .before .before .args .keys .now) (c .before .before .before .before .before .before .before .args .n) _ _ _, refl, refl, refl, refl)
+loop-holds c = (omega arith, owns-start (c .before .before .before .before .before .before .before .args .base) (c .before .before .before .before .before .before .before .args .order .now) (c .before .before .before .before .before .before .before .args .plan .now) (c .before .before .before .before .before .before .before .args .starts .now) (c .before .before .before .before .before .before .before .args .counts .now) (c .before .before .before .before .before .before .before .args .keys .now) (c .before .before .before .before .before .before .before .args .n) _ _ _, refl, refl, refl, refl)
 
--- src/own.rt:132:9
 own-rank-requires : tie.Need-own-rank-requires Inv-loop μ-loop
 own-rank-requires c κs = (owns-room-same (c .before .before .before .before .before .before .before .before .before .before .before .before .before .pre) (c .before .before .before .before .before .loop .inv .2) (c .before .before .before .before .before .loop .inv .3) (c .before .before .before .before .before .loop .inv .4) (c .before .before .before .before .before .loop .inv .5), c .before .before .before .before .loop-test .taken, c .before .before .before .before .before .loop .inv .1)
 
--- src/own.rt:133:22
 mul-counted : tie.Need-mul-counted Inv-loop μ-loop
 mul-counted c = search needs
 
--- src/own.rt:133:22
 element-copy-out-counted : tie.Need-element-copy-out-counted Inv-loop μ-loop
 element-copy-out-counted c = search needs
 
--- src/own.rt:133:14
 counted-requires : tie.Need-counted-requires Inv-loop μ-loop
 counted-requires c κs = search needs
 
--- src/own.rt:133:9
 add-k : tie.Need-add-k Inv-loop μ-loop
 add-k c = omega (arith, c .counted .ensures .1, c .before .before .before .before .before .before .before .before .before .before .before .before .before .before .before .before .loop .inv .1 .few, c .before .before .before .before .before .before .before .before .before .before .before .before .before .before .before .before .before .before .before .before .before .before .before .before .pre .own .few)
 
--- src/own.rt:134:9
 add-i : tie.Need-add-i Inv-loop μ-loop
 add-i c = search needs
 
--- src/own.rt:131:5
 loop-less : tie.Need-loop-less Inv-loop μ-loop
 loop-less c = search needs
 
--- src/own.rt:131:5
 loop-again : tie.Need-loop-again Inv-loop μ-loop
 loop-again c = (omega arith, owns-counted (c .before .before .before .before .before .before .before .before .before .before .before .before .before .before .before .before .loop .k) (c .counted .ensures .0) (c .before .before .before .before .before .before .before .before .before .before .own-rank .ensures), omega (arith, c .before .before .before .before .before .before .before .before .before .before .before .before .before .before .before .before .loop .inv .2), omega (arith, c .before .before .before .before .before .before .before .before .before .before .before .before .before .before .before .before .loop .inv .3), omega (arith, c .before .before .before .before .before .before .before .before .before .before .before .before .before .before .before .before .loop .inv .4), omega (arith, c .before .before .before .before .before .before .before .before .before .before .before .before .before .before .before .before .loop .inv .5))
 
--- src/own.rt:113:1
 same-length : tie.Need-same-length Inv-loop μ-loop
 same-length c = c .before .loop .inv .2
 
--- src/own.rt:113:1
 same-length-2 : tie.Need-same-length-2 Inv-loop μ-loop
 same-length-2 c = c .before .loop .inv .3
 
--- src/own.rt:113:1
 same-length-3 : tie.Need-same-length-3 Inv-loop μ-loop
 same-length-3 c = c .before .loop .inv .4
 
--- src/own.rt:113:1
 same-length-4 : tie.Need-same-length-4 Inv-loop μ-loop
 same-length-4 c = c .before .loop .inv .5
 
--- src/own.rt:113:1
 returns : tie.Need-returns Inv-loop μ-loop
-returns c = owns-end (c .before .before .before .before .before .before .before .before .before .args .order .now) (c .before .before .before .before .before .before .before .before .before .args .plan .now) (c .before .before .before .before .before .before .before .before .before .args .starts .now) (c .before .before .before .before .before .before .before .before .before .args .counts .now) (c .before .before .before .before .before .before .before .before .before .args .keys .now) (c .before .before .before .before .before .before .before .before .before .args .n) (c .before .loop .inv .1) (c .before .loop .inv .0) (omega arith)
+returns c = owns-end (c .before .before .before .before .before .before .before .before .before .args .base) (c .before .before .before .before .before .before .before .before .before .args .order .now) (c .before .before .before .before .before .before .before .before .before .args .plan .now) (c .before .before .before .before .before .before .before .before .before .args .starts .now) (c .before .before .before .before .before .before .before .before .before .args .counts .now) (c .before .before .before .before .before .before .before .before .before .args .keys .now) (c .before .before .before .before .before .before .before .before .before .args .n) (c .before .loop .inv .1) (c .before .loop .inv .0) (omega arith)
 
 pub gather-owns-spec : {M : Type 1} → statement M
 gather-owns-spec =

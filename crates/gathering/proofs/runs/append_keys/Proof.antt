@@ -16,55 +16,42 @@ Inv-loop keys a m owned₀ to k₀ owned k = (k ≤ m) × Added owned₀ to (par
 abbrev μ-loop : tie.MeasureT-loop
 μ-loop keys a m owned₀ to k₀ owned k = m - k
 
--- src/runs.rt:16:5
 loop-holds : tie.Need-loop-holds Inv-loop μ-loop
 loop-holds c = (omega arith, keys-start _ _ _ _)
 
--- src/runs.rt:17:30
 add-owned : tie.Need-add-owned Inv-loop μ-loop
 add-owned c = search needs
 
--- src/runs.rt:17:25
 mul-owned : tie.Need-mul-owned Inv-loop μ-loop
 mul-owned c = search needs
 
--- src/runs.rt:17:25
 shared-slice-read-owned : tie.Need-shared-slice-read-owned Inv-loop μ-loop
 shared-slice-read-owned c = search needs
 
--- src/runs.rt:17:15
 add-owned-2 : tie.Need-add-owned-2 Inv-loop μ-loop
 add-owned-2 c = search needs
 
--- src/runs.rt:17:9
 mul-owned-2 : tie.Need-mul-owned-2 Inv-loop μ-loop
 mul-owned-2 c = search needs
 
--- src/runs.rt:17:9
 slice-write-owned : tie.Need-slice-write-owned Inv-loop μ-loop
 slice-write-owned c = search needs
 
--- src/runs.rt:18:9
 add-k : tie.Need-add-k Inv-loop μ-loop
 add-k c = search needs
 
--- src/runs.rt:16:5
 loop-less : tie.Need-loop-less Inv-loop μ-loop
 loop-less c = search needs
 
--- src/runs.rt:16:5
 loop-again : tie.Need-loop-again Inv-loop μ-loop
 loop-again c = (omega arith, keys-next _ _ _ (c .before .before .loop .inv .1) refl (omega arith) (omega arith))
 
--- src/runs.rt:20:5
 add-result : tie.Need-add-result Inv-loop μ-loop
 add-result c = search needs
 
--- src/runs.rt:11:1
 same-length : tie.Need-same-length Inv-loop μ-loop
 same-length c = c .before .loop .inv .1 .long
 
--- src/runs.rt:11:1
 returns : tie.Need-returns Inv-loop μ-loop
 returns c = run-end (part _ _) _ _ (c .before .loop .inv .1) refl (c .before .loop .inv .0) (omega arith)
 

@@ -16,51 +16,39 @@ Inv-loop p m seen₀ to k₀ seen k = (k ≤ m) × Added seen₀ to (upFrom p k)
 abbrev μ-loop : tie.MeasureT-loop
 μ-loop p m seen₀ to k₀ seen k = m - k
 
--- src/runs.rt:29:5
 loop-holds : tie.Need-loop-holds Inv-loop μ-loop
 loop-holds c = (omega arith, places-start _ _ _)
 
--- src/runs.rt:30:25
 add-seen : tie.Need-add-seen Inv-loop μ-loop
 add-seen c = search needs
 
--- src/runs.rt:30:24
 cast-seen : tie.Need-cast-seen Inv-loop μ-loop
 cast-seen c = search needs
 
--- src/runs.rt:30:14
 add-seen-2 : tie.Need-add-seen-2 Inv-loop μ-loop
 add-seen-2 c = search needs
 
--- src/runs.rt:30:9
 mul-seen : tie.Need-mul-seen Inv-loop μ-loop
 mul-seen c = search needs
 
--- src/runs.rt:30:9
 slice-write-seen : tie.Need-slice-write-seen Inv-loop μ-loop
 slice-write-seen c = search needs
 
--- src/runs.rt:31:9
 add-k : tie.Need-add-k Inv-loop μ-loop
 add-k c = search needs
 
--- src/runs.rt:29:5
 loop-less : tie.Need-loop-less Inv-loop μ-loop
 loop-less c = search needs
 
--- src/runs.rt:29:5
 loop-again : tie.Need-loop-again Inv-loop μ-loop
 loop-again c = (omega arith, places-next _ _ (c .before .loop .inv .1) refl (omega arith))
 
--- src/runs.rt:33:5
 add-result : tie.Need-add-result Inv-loop μ-loop
 add-result c = search needs
 
--- src/runs.rt:24:1
 same-length : tie.Need-same-length Inv-loop μ-loop
 same-length c = c .before .loop .inv .1 .long
 
--- src/runs.rt:24:1
 returns : tie.Need-returns Inv-loop μ-loop
 returns c = run-end (upFrom _) _ _ (c .before .loop .inv .1) refl (c .before .loop .inv .0) (omega arith)
 

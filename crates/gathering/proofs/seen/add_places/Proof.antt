@@ -6,37 +6,29 @@ use Rattle.gathering.proofs.seen.add_places.Reads as reads
 use Rattle.gathering.proofs.seen.add_places.Lts as lts
 use Rattle.gathering.proofs.runs.append_places.Reads as append-places-reads
 
--- src/seen.rt:40:9
 append-places-requires : tie.Need-append-places-requires
 append-places-requires c κs = search needs
 
--- src/seen.rt:40:9
 same-length : tie.Need-same-length
 same-length c = search needs
 
--- src/seen.rt:40:9
 returns : tie.Need-returns
-returns c = λ firsts count e f. places-some (c .before .before .before .before .before .before .args .among) firsts count e f (c .before .before .before .before .if1 .taken) (c .before .before .append-places .ensures)
+returns c = λ firsts count e f. places-some _ (c .before .before .before .before .before .before .args .among) firsts count e f (c .before .before .before .before .if1 .taken) (c .before .before .append-places .ensures)
 
--- src/seen.rt:43:9
 returns-2 : tie.Need-returns-2
-returns-2 c = λ firsts count e f. places-alone _ firsts count e f _ _ (c .before .if1 .left) (c .if2 .taken)
+returns-2 c = λ firsts count e f. places-alone _ _ firsts count e f _ _ (c .before .if1 .left) (c .if2 .taken)
 
--- src/seen.rt:45:19
 add-append-places : tie.Need-add-append-places
 add-append-places c = search needs
 
--- src/seen.rt:45:5
 append-places-requires-2 : tie.Need-append-places-requires-2
 append-places-requires-2 c κs = search needs
 
--- src/seen.rt:35:1
 same-length-2 : tie.Need-same-length-2
 same-length-2 c = search needs
 
--- src/seen.rt:35:1
 returns-3 : tie.Need-returns-3
-returns-3 c = λ firsts count e f. places-itself _ firsts count e f (c .before .before .before .before .before .if1 .left) (c .before .before .before .before .if2 .left) (c .before .before .append-places2 .ensures)
+returns-3 c = λ firsts count e f. places-itself _ _ firsts count e f (c .before .before .before .before .before .if1 .left) (c .before .before .before .before .if2 .left) (c .before .before .append-places2 .ensures)
 
 pub add-places-spec : {M : Type 1} → statement M
 add-places-spec =

@@ -4,7 +4,7 @@ use native.Mathlib.Omega.{arith}
 use lib.ListN.{length}
 use Rattle.format.specs.declared.records.BoundaryRecord.{BoundaryRecord}
 use Rattle.gathering.proofs.Goings.{elsewhere, there}
-use Rattle.gathering.proofs.Sights.{place-small, places-inside, seen-room, places-there}
+use Rattle.gathering.proofs.Sights.{own-place, place-small, places-inside, seen-room, places-there}
 use borrow.Author.Needs.{needs}
 use Rattle.gathering.proofs.seen.add_seen.Statement.{statement}
 use Rattle.gathering.proofs.seen.add_seen.Tie as tie
@@ -14,71 +14,54 @@ use Rattle.format.proofs.read_boundary.Reads as read-boundary-reads
 use Rattle.gathering.proofs.seen.add_places.Reads as add-places-reads
 use Rattle.wire.proofs.size.Reads as size-reads
 
--- src/seen.rt:63:13
 mul-size : tie.Need-mul-size
 mul-size c = search needs
 
--- src/seen.rt:63:13
 element-copy-out-size : tie.Need-element-copy-out-size
 element-copy-out-size c = search needs
 
--- src/seen.rt:63:8
 size-requires : tie.Need-size-requires
 size-requires c κs = search needs
 
--- src/seen.rt:64:9
 returns : tie.Need-returns
 returns c = elsewhere _ _ _ (c .before .size .ensures .0) (c .if1 .taken)
 
--- src/seen.rt:66:18
 mul-size-2 : tie.Need-mul-size-2
 mul-size-2 c = search needs
 
--- src/seen.rt:66:18
 element-copy-out-size-2 : tie.Need-element-copy-out-size-2
 element-copy-out-size-2 c = search needs
 
--- src/seen.rt:66:9
 size-requires-2 : tie.Need-size-requires-2
 size-requires-2 c κs = search needs
 
--- src/seen.rt:67:37
 mul-read-boundary : tie.Need-mul-read-boundary
 mul-read-boundary c = search needs
 
--- src/seen.rt:67:32
 add-read-boundary : tie.Need-add-read-boundary
 add-read-boundary c = search needs
 
--- src/seen.rt:67:9
 read-boundary-requires : tie.Need-read-boundary-requires
 read-boundary-requires c κs = omega (arith, c .before .before .before .before .before .before .before .before .pre .0 .records-in, place-small (c .before .before .before .before .before .before .before .before .pre .0) (c .before .before .before .before .before .before .before .before .pre .1) (c .size2 .ensures .0))
 
--- src/seen.rt:68:24
 mul-size-3 : tie.Need-mul-size-3
 mul-size-3 c = search needs
 
--- src/seen.rt:68:24
 shared-slice-read-size : tie.Need-shared-slice-read-size
 shared-slice-read-size c = omega (arith, c .before .before .before .before .before .before .before .before .before .before .pre .0 .firsts-room, c .before .before .before .before .before .before .before .before .before .before .pre .0 .few, place-small (c .before .before .before .before .before .before .before .before .before .before .pre .0) (c .before .before .before .before .before .before .before .before .before .before .pre .1) (c .before .before .size2 .ensures .0))
 
--- src/seen.rt:68:19
 size-requires-3 : tie.Need-size-requires-3
 size-requires-3 c κs = search needs
 
--- src/seen.rt:68:36
 size-requires-4 : tie.Need-size-requires-4
 size-requires-4 c κs = search needs
 
--- src/seen.rt:68:5
 add-places-requires : tie.Need-add-places-requires
-add-places-requires c κs = (omega (arith, c .before .before .before .before .before .before .before .before .before .before .before .before .before .pre .0 .few, place-small (c .before .before .before .before .before .before .before .before .before .before .before .before .before .pre .0) (c .before .before .before .before .before .before .before .before .before .before .before .before .before .pre .1) (c .before .before .before .before .before .size2 .ensures .0)), places-inside (c .before .before .before .before .before .before .before .before .before .before .before .before .before .pre .0) (c .before .before .before .before .before .before .before .before .before .before .before .before .before .pre .1) (c .before .before .before .before .before .size2 .ensures .0) (c .before .before .size3 .ensures .0) (c .before .size4 .ensures .0 ∙ ap (λ (r : BoundaryRecord). r .observations) (c .before .before .before .before .read-boundary .ensures)), seen-room (c .before .before .before .before .before .before .before .before .before .before .before .before .before .pre .0) (c .before .before .before .before .before .before .before .before .before .before .before .before .before .pre .1) (c .before .before .before .before .before .size2 .ensures .0) (c .before .before .before .before .before .before .before .before .before .before .before .before .before .args .plan .now) (c .before .before .before .before .before .before .before .before .before .before .before .before .before .args .to) (length (c .before .before .before .before .before .before .before .before .before .before .before .before .before .args .seen .now)) (c .before .size4 .result) (c .before .size4 .ensures .0 ∙ ap (λ (r : BoundaryRecord). r .observations) (c .before .before .before .before .read-boundary .ensures)) (c .before .before .before .before .before .before .before .before .size .ensures .0) (c .before .before .before .before .before .before .before .if1 .left) (c .before .before .before .before .before .before .before .before .before .before .before .before .before .pre .2))
+add-places-requires c κs = (own-place (c .before .before .before .before .before .before .before .before .before .before .before .before .before .pre .0) (c .before .before .before .before .before .before .before .before .before .before .before .before .before .pre .1) (c .before .before .before .before .before .size2 .ensures .0), places-inside (c .before .before .before .before .before .before .before .before .before .before .before .before .before .pre .0) (c .before .before .before .before .before .before .before .before .before .before .before .before .before .pre .1) (c .before .before .before .before .before .size2 .ensures .0) (c .before .before .size3 .ensures .0) (c .before .size4 .ensures .0 ∙ ap (λ (r : BoundaryRecord). r .observations) (c .before .before .before .before .read-boundary .ensures)), seen-room (c .before .before .before .before .before .before .before .before .before .before .before .before .before .pre .0) (c .before .before .before .before .before .before .before .before .before .before .before .before .before .pre .1) (c .before .before .before .before .before .size2 .ensures .0) (c .before .before .before .before .before .before .before .before .before .before .before .before .before .args .plan .now) (c .before .before .before .before .before .before .before .before .before .before .before .before .before .args .to) (length (c .before .before .before .before .before .before .before .before .before .before .before .before .before .args .seen .now)) (c .before .size4 .result) (c .before .size4 .ensures .0 ∙ ap (λ (r : BoundaryRecord). r .observations) (c .before .before .before .before .read-boundary .ensures)) (c .before .before .before .before .before .before .before .before .size .ensures .0) (c .before .before .before .before .before .before .before .if1 .left) (c .before .before .before .before .before .before .before .before .before .before .before .before .before .pre .2))
 
--- src/seen.rt:47:1
 same-length : tie.Need-same-length
 same-length c = search needs
 
--- src/seen.rt:47:1
 returns-2 : tie.Need-returns-2
 returns-2 c = there (c .before .before .before .before .before .before .before .before .before .before .before .size .ensures .0) (c .before .before .before .before .before .before .before .before .before .before .if1 .left) (places-there (c .before .before .before .before .before .before .before .before .before .before .before .before .before .before .before .before .pre .0) (c .before .before .before .before .before .before .before .before .before .before .before .before .before .before .before .before .pre .1) (c .before .before .before .before .before .before .before .before .size2 .ensures .0) (c .before .before .before .before .before .before .before .before .before .before .before .before .before .before .before .before .args .among) (c .before .before .add-places .ensures (c .before .before .before .before .before .before .before .before .before .before .before .before .before .before .before .before .args .firsts .now) (seenCount (c .before .before .before .before .before .before .before .before .before .before .before .before .before .before .before .before .args .job .now) (c .before .before .before .before .before .before .before .before .before .before .before .before .before .before .before .before .args .at)) (sym (c .before .before .before .before .before .size3 .ensures .0)) (sym (c .before .before .before .before .size4 .ensures .0 ∙ ap (λ (r : BoundaryRecord). r .observations) (c .before .before .before .before .before .before .before .read-boundary .ensures)))))
 

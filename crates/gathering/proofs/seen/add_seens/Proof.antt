@@ -13,38 +13,31 @@ use Rattle.gathering.proofs.seen.add_seens.Lts as lts
 use Rattle.gathering.proofs.seen.add_seen.Reads as add-seen-reads
 
 abbrev Inv-loop : tie.InvT-loop
-Inv-loop job at order plan n i firsts among seen₀ from to₀ j₀ seen to j = (j ≤ n) × Added seen₀ from (gather (placesAt order firsts (seenCount job at) among) (going plan j i)) seen to × (to ≤ from + below (into plan (seenWeight order (seenCount job at)) i) j)
+Inv-loop job at order plan n i base firsts among seen₀ from to₀ j₀ seen to j = (j ≤ n) × Added seen₀ from (gather (placesAt base order firsts (seenCount job at) among) (going plan j i)) seen to × (to ≤ from + below (into plan (seenWeight order (seenCount job at)) i) j)
 
 abbrev μ-loop : tie.MeasureT-loop
-μ-loop job at order plan n i firsts among seen₀ from to₀ j₀ seen to j = n - j
+μ-loop job at order plan n i base firsts among seen₀ from to₀ j₀ seen to j = n - j
 
--- src/seen.rt:89:5
 loop-holds : tie.Need-loop-holds Inv-loop μ-loop
-loop-holds c = (omega arith, runs-start (placesAt (c .before .before .before .args .order .now) (c .before .before .before .args .firsts .now) (seenCount (c .before .before .before .args .job .now) (c .before .before .before .args .at)) (c .before .before .before .args .among)) (c .before .before .before .args .plan .now) (c .before .before .before .args .i) _ _, omega arith)
+loop-holds c = (omega arith, runs-start (placesAt (c .before .before .before .args .base) (c .before .before .before .args .order .now) (c .before .before .before .args .firsts .now) (seenCount (c .before .before .before .args .job .now) (c .before .before .before .args .at)) (c .before .before .before .args .among)) (c .before .before .before .args .plan .now) (c .before .before .before .args .i) _ _, omega arith)
 
--- src/seen.rt:90:9
 add-seen-requires : tie.Need-add-seen-requires Inv-loop μ-loop
 add-seen-requires c κs = (c .before .before .before .before .before .before .pre .0, c .before .loop-test .taken, omega (arith, c .before .before .loop .inv .2, into-part (c .before .before .before .before .before .before .args .plan .now) (seenWeight (c .before .before .before .before .before .before .args .order .now) (seenCount (c .before .before .before .before .before .before .args .job .now) (c .before .before .before .before .before .before .args .at))) (c .before .before .before .before .before .before .args .i) (c .before .before .loop .j) (c .before .before .before .before .before .before .args .n) (c .before .loop-test .taken), c .before .before .before .before .before .before .pre .1, c .before .before .loop .inv .1 .long))
 
--- src/seen.rt:91:9
 add-j : tie.Need-add-j Inv-loop μ-loop
 add-j c = search needs
 
--- src/seen.rt:89:5
 loop-less : tie.Need-loop-less Inv-loop μ-loop
 loop-less c = search needs
 
--- src/seen.rt:89:5
 loop-again : tie.Need-loop-again Inv-loop μ-loop
-loop-again c = (omega arith, runs-next (placesAt (c .before .before .before .before .before .before .before .before .before .args .order .now) (c .before .before .before .before .before .before .before .before .before .args .firsts .now) (seenCount (c .before .before .before .before .before .before .before .before .before .args .job .now) (c .before .before .before .before .before .before .before .before .before .args .at)) (c .before .before .before .before .before .before .before .before .before .args .among)) (c .before .before .before .before .before .before .before .before .before .args .plan .now) (c .before .before .before .before .before .loop .j) (c .before .before .before .before .before .before .before .before .before .args .i) (c .before .before .before .before .before .loop .inv .1) (c .before .before .add-seen .ensures), weight-next (placesAt (c .before .before .before .before .before .before .before .before .before .args .order .now) (c .before .before .before .before .before .before .before .before .before .args .firsts .now) (seenCount (c .before .before .before .before .before .before .before .before .before .args .job .now) (c .before .before .before .before .before .before .before .before .before .args .at)) (c .before .before .before .before .before .before .before .before .before .args .among)) (c .before .before .before .before .before .before .before .before .before .args .plan .now) (c .before .before .before .before .before .loop .j) (c .before .before .before .before .before .before .before .before .before .args .i) (c .before .before .before .before .before .loop .inv .1) (c .before .before .add-seen .ensures) (seenWeight (c .before .before .before .before .before .before .before .before .before .args .order .now) (seenCount (c .before .before .before .before .before .before .before .before .before .args .job .now) (c .before .before .before .before .before .before .before .before .before .args .at))) (places-long (c .before .before .before .before .before .before .before .before .before .args .order .now) (c .before .before .before .before .before .before .before .before .before .args .firsts .now) (seenCount (c .before .before .before .before .before .before .before .before .before .args .job .now) (c .before .before .before .before .before .before .before .before .before .args .at)) (c .before .before .before .before .before .before .before .before .before .args .among) (c .before .before .before .before .before .loop .j)) (c .before .before .before .before .before .loop .inv .2))
+loop-again c = (omega arith, runs-next (placesAt (c .before .before .before .before .before .before .before .before .before .args .base) (c .before .before .before .before .before .before .before .before .before .args .order .now) (c .before .before .before .before .before .before .before .before .before .args .firsts .now) (seenCount (c .before .before .before .before .before .before .before .before .before .args .job .now) (c .before .before .before .before .before .before .before .before .before .args .at)) (c .before .before .before .before .before .before .before .before .before .args .among)) (c .before .before .before .before .before .before .before .before .before .args .plan .now) (c .before .before .before .before .before .loop .j) (c .before .before .before .before .before .before .before .before .before .args .i) (c .before .before .before .before .before .loop .inv .1) (c .before .before .add-seen .ensures), weight-next (placesAt (c .before .before .before .before .before .before .before .before .before .args .base) (c .before .before .before .before .before .before .before .before .before .args .order .now) (c .before .before .before .before .before .before .before .before .before .args .firsts .now) (seenCount (c .before .before .before .before .before .before .before .before .before .args .job .now) (c .before .before .before .before .before .before .before .before .before .args .at)) (c .before .before .before .before .before .before .before .before .before .args .among)) (c .before .before .before .before .before .before .before .before .before .args .plan .now) (c .before .before .before .before .before .loop .j) (c .before .before .before .before .before .before .before .before .before .args .i) (c .before .before .before .before .before .loop .inv .1) (c .before .before .add-seen .ensures) (seenWeight (c .before .before .before .before .before .before .before .before .before .args .order .now) (seenCount (c .before .before .before .before .before .before .before .before .before .args .job .now) (c .before .before .before .before .before .before .before .before .before .args .at))) (places-long (c .before .before .before .before .before .before .before .before .before .args .base) (c .before .before .before .before .before .before .before .before .before .args .order .now) (c .before .before .before .before .before .before .before .before .before .args .firsts .now) (seenCount (c .before .before .before .before .before .before .before .before .before .args .job .now) (c .before .before .before .before .before .before .before .before .before .args .at)) (c .before .before .before .before .before .before .before .before .before .args .among) (c .before .before .before .before .before .loop .j)) (c .before .before .before .before .before .loop .inv .2))
 
--- src/seen.rt:72:1
 same-length : tie.Need-same-length Inv-loop μ-loop
 same-length c = c .before .loop .inv .1 .long
 
--- src/seen.rt:72:1
 returns : tie.Need-returns Inv-loop μ-loop
-returns c = runs-end (placesAt (c .before .before .before .before .before .args .order .now) (c .before .before .before .before .before .args .firsts .now) (seenCount (c .before .before .before .before .before .args .job .now) (c .before .before .before .before .before .args .at)) (c .before .before .before .before .before .args .among)) (seenWeight (c .before .before .before .before .before .args .order .now) (seenCount (c .before .before .before .before .before .args .job .now) (c .before .before .before .before .before .args .at))) (c .before .before .before .before .before .args .plan .now) (c .before .before .before .before .before .args .i) (c .before .loop .j) (c .before .before .before .before .before .args .n) (c .before .loop .inv .1) (c .before .loop .inv .2) (c .before .loop .inv .0) (omega arith)
+returns c = runs-end (placesAt (c .before .before .before .before .before .args .base) (c .before .before .before .before .before .args .order .now) (c .before .before .before .before .before .args .firsts .now) (seenCount (c .before .before .before .before .before .args .job .now) (c .before .before .before .before .before .args .at)) (c .before .before .before .before .before .args .among)) (seenWeight (c .before .before .before .before .before .args .order .now) (seenCount (c .before .before .before .before .before .args .job .now) (c .before .before .before .before .before .args .at))) (c .before .before .before .before .before .args .plan .now) (c .before .before .before .before .before .args .i) (c .before .loop .j) (c .before .before .before .before .before .args .n) (c .before .loop .inv .1) (c .before .loop .inv .2) (c .before .loop .inv .0) (omega arith)
 
 pub add-seens-spec : {M : Type 1} → statement M
 add-seens-spec =

@@ -17,39 +17,30 @@ Inv-loop plan n i count₀ j₀ count j = (j ≤ n) × (count ≡ length (going 
 abbrev μ-loop : tie.MeasureT-loop
 μ-loop plan n i count₀ j₀ count j = n - j
 
--- src/seen.rt:27:5
 loop-holds : tie.Need-loop-holds Inv-loop μ-loop
 loop-holds c = (omega arith, count-start (c .args .plan .now) (c .args .i), omega arith)
 
--- src/seen.rt:28:26
 mul-counted : tie.Need-mul-counted Inv-loop μ-loop
 mul-counted c = search needs
 
--- src/seen.rt:28:26
 element-copy-out-counted : tie.Need-element-copy-out-counted Inv-loop μ-loop
 element-copy-out-counted c = search needs
 
--- src/seen.rt:28:18
 counted-requires : tie.Need-counted-requires Inv-loop μ-loop
 counted-requires c κs = search needs
 
--- src/seen.rt:28:9
 add-count : tie.Need-add-count Inv-loop μ-loop
 add-count c = search needs
 
--- src/seen.rt:29:9
 add-j : tie.Need-add-j Inv-loop μ-loop
 add-j c = search needs
 
--- src/seen.rt:27:5
 loop-less : tie.Need-loop-less Inv-loop μ-loop
 loop-less c = search needs
 
--- src/seen.rt:27:5
 loop-again : tie.Need-loop-again Inv-loop μ-loop
 loop-again c = (omega arith, count-next (c .before .before .before .before .args .plan .now) (c .before .before .before .before .args .i) (c .before .before .before .loop .j) (c .before .before .before .loop .inv .1) (c .counted .ensures .0), omega (arith, c .counted .ensures .1, c .before .before .before .loop .inv .2))
 
--- src/seen.rt:21:1
 returns : tie.Need-returns Inv-loop μ-loop
 returns c = count-end (c .before .before .args .plan .now) (c .before .before .args .i) (c .before .loop .j) (c .before .before .args .n) (c .before .loop .inv .1) (c .before .loop .inv .0) (omega arith)
 
