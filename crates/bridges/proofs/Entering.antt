@@ -17,9 +17,9 @@ use Rattle.bridges.proofs.Puts.{put-at, put-off, set-put}
 use Rattle.bridges.proofs.Turn.{Loop, Hand, resized}
 
 -- a frame at region w, entered over record j, goes on the stack; v is the first record that touches w
-module _ (K : ℕ) (owners lefts rights disc stack parents marks : List ℕ) {nx lw : ℕ → ℕ} {r h time : ℕ}
+module _ (K : ℕ) {R : ℕ} (owners lefts rights disc stack parents marks : List ℕ) {nx lw : ℕ → ℕ} {r h time : ℕ}
     (W : Walk K (at lefts) (at rights) (length disc) r (Told owners marks) (at disc) (at stack) (at parents) nx lw h time)
-    (nexts lows : List ℕ) (Z : Sized disc stack parents nexts lows marks) (hs : h < length disc) (el : (m : ℕ) → m < h → at lows m ≡ lw m) (w j v : ℕ) (fv : First K (at lefts) (at rights) 0 w v)
+    (nexts lows : List ℕ) (Z : Sized R disc stack parents nexts lows) (hs : h < length disc) (el : (m : ℕ) → m < h → at lows m ≡ lw m) (w j v : ℕ) (fv : First K (at lefts) (at rights) 0 w v)
     (new : at disc w ≡ 0) (on : w < length disc) (first : h ≡ 0 → K ≤ j)
     (over : (m : ℕ) → m + 1 ≡ h → (j < K) × Joins (at lefts) (at rights) j (at stack m) w)
     (adv : (m i : ℕ) → m < h → i < at nexts m → i < K → Touches (at lefts) (at rights) i (at stack m) → (i < nx m) ⊎ ((m + 1 ≡ h) × (i ≡ j))) where
@@ -88,12 +88,14 @@ module _ (K : ℕ) (owners lefts rights disc stack parents marks : List ℕ) {nx
       (old m (omega arith) (omega (arith, below nexts v m (omega arith)))))
 
 -- the first frame
-pub rooted : {K : ℕ} {owners lefts rights disc stack parents nexts lows marks : List ℕ} {r time : ℕ} → Between K owners lefts rights disc stack parents nexts lows marks r time →
+pub rooted : {K R : ℕ} {owners lefts rights disc stack parents nexts lows marks : List ℕ} {r time : ℕ} → Between K R owners lefts rights disc stack parents nexts lows marks r time →
     (root v : ℕ) → root < length disc → at disc root ≡ 0 → root ≡ at lefts r → First K (at lefts) (at rights) 0 root v →
-    Loop K owners lefts rights (set disc root (time + 1)) (set stack 0 root) (set parents 0 K) (set nexts 0 v) (set lows 0 (time + 1)) marks r 1 (time + 1)
-rooted {K} {owners} {lefts} {rights} {disc} {stack} {parents} {nexts} {lows} {marks} {r} {time} B root v on new is fv = record {
+    Loop K R owners lefts rights (set disc root (time + 1)) (set stack 0 root) (set parents 0 K) (set nexts 0 v) (set lows 0 (time + 1)) marks r 1 (time + 1)
+rooted {K} {R} {owners} {lefts} {rights} {disc} {stack} {parents} {nexts} {lows} {marks} {r} {time} B root v on new is fv = record {
   graph = B .graph;
-  sized = resized _ _ _ _ _ _ _ _ _ _ _ _ (B .sized) (simp length-set) (simp length-set) (simp length-set) (simp length-set) (simp length-set) refl;
+  sized = resized _ _ _ _ _ _ _ _ _ _ (B .sized) (simp length-set) (simp length-set) (simp length-set) (simp length-set) (simp length-set);
+  owners-are = B .owners-are;
+  marks-are = B .marks-are;
   marked = B .marked;
   walk =
       entered K owners lefts rights disc stack parents marks (B .walk) nexts lows (B .sized) (omega arith) (λ m l. refl) root K v fv new on (λ e. omega arith) (λ m e. absurd (omega arith))
@@ -106,15 +108,17 @@ rooted {K} {owners} {lefts} {rights} {disc} {stack} {parents} {nexts} {lows} {ma
 }
 
 -- the last frame finds a region, and another frame is entered there
-pub found : {K : ℕ} {owners lefts rights disc stack parents nexts lows marks : List ℕ} {r top time : ℕ} (f g : Frame) (w v : ℕ) →
-    Loop K owners lefts rights disc stack parents nexts lows marks r (top + 1) time → Hand K owners lefts rights disc stack parents nexts lows marks r top time f →
+pub found : {K R : ℕ} {owners lefts rights disc stack parents nexts lows marks : List ℕ} {r top time : ℕ} (f g : Frame) (w v : ℕ) →
+    Loop K R owners lefts rights disc stack parents nexts lows marks r (top + 1) time → Hand K owners lefts rights disc stack parents nexts lows marks r top time f →
     f .next < K → Joins (at lefts) (at rights) (f .next) (f .region) w → w < length disc → at disc w ≡ 0 →
     First K (at lefts) (at rights) (f .next + 1) (f .region) (g .next) → g .low ≡ f .low → First K (at lefts) (at rights) 0 w v →
-    Loop K owners lefts rights (set disc w (time + 1)) (set stack (top + 1) w) (set parents (top + 1) (f .next)) (set (set nexts top (g .next)) (top + 1) v)
+    Loop K R owners lefts rights (set disc w (time + 1)) (set stack (top + 1) w) (set parents (top + 1) (f .next)) (set (set nexts top (g .next)) (top + 1) v)
     (set (set lows top (g .low)) (top + 1) (time + 1)) marks r (top + 1 + 1) (time + 1)
-found {K} {owners} {lefts} {rights} {disc} {stack} {parents} {nexts} {lows} {marks} {r} {top} {time} f g w v L H k t on new gn gl fv = record {
+found {K} {R} {owners} {lefts} {rights} {disc} {stack} {parents} {nexts} {lows} {marks} {r} {top} {time} f g w v L H k t on new gn gl fv = record {
   graph = L .graph;
-  sized = resized _ _ _ _ _ _ _ _ _ _ _ _ (L .sized) (simp length-set) (simp length-set) (simp length-set) (simp length-set) (simp length-set) refl;
+  sized = resized _ _ _ _ _ _ _ _ _ _ (L .sized) (simp length-set) (simp length-set) (simp length-set) (simp length-set) (simp length-set);
+  owners-are = L .owners-are;
+  marks-are = L .marks-are;
   marked = L .marked;
   walk =
       entered K owners lefts rights disc stack parents marks (H .walk) (set nexts top (g .next)) (set lows top (g .low)) Z roomy
@@ -126,8 +130,8 @@ found {K} {owners} {lefts} {rights} {disc} {stack} {parents} {nexts} {lows} {mar
       lows-agree w (f .next) v fv new on (λ e. absurd (omega arith)) over adv touch;
 }
   where
-    Z : Sized disc stack parents (set nexts top (g .next)) (set lows top (g .low)) marks
-    Z = resized _ _ _ _ _ _ _ _ _ _ _ _ (L .sized) refl refl refl (simp length-set) (simp length-set) refl
+    Z : Sized R disc stack parents (set nexts top (g .next)) (set lows top (g .low))
+    Z = resized _ _ _ _ _ _ _ _ _ _ (L .sized) refl refl refl (simp length-set) (simp length-set)
 
     -- a frame for each region found, and w is not
     roomy : top + 1 < length disc

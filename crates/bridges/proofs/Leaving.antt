@@ -67,13 +67,15 @@ module _ (owners marks : List ℕ) (k d low : ℕ) (on : at owners k < length ma
   marks-length = by-cases (decLt d low) (λ l. ap length (yes-case l) ∙ length-set marks (at owners k) 1) (λ l. ap length (no-case l))
 
 -- the last frame is done, and is left for the one below it
-pub left : {K : ℕ} {owners lefts rights disc stack parents nexts lows marks : List ℕ} {r top time : ℕ} (f : Frame) (up : ℕ) →
-    Loop K owners lefts rights disc stack parents nexts lows marks r (top + 1) time → Hand K owners lefts rights disc stack parents nexts lows marks r top time f →
+pub left : {K R : ℕ} {owners lefts rights disc stack parents nexts lows marks : List ℕ} {r top time : ℕ} (f : Frame) (up : ℕ) →
+    Loop K R owners lefts rights disc stack parents nexts lows marks r (top + 1) time → Hand K owners lefts rights disc stack parents nexts lows marks r top time f →
     K ≤ f .next → top ≡ up + 1 →
-    Loop K owners lefts rights disc stack parents nexts (set lows up (min (at lows up) (f .low))) (marking (at disc (at stack up)) (f .low) marks (at owners (f .parent))) r top time
-left {K} {owners} {lefts} {rights} {disc} {stack} {parents} {nexts} {lows} {marks} {r} {top} {time} f up L H all e = record {
+    Loop K R owners lefts rights disc stack parents nexts (set lows up (min (at lows up) (f .low))) (marking (at disc (at stack up)) (f .low) marks (at owners (f .parent))) r top time
+left {K} {R} {owners} {lefts} {rights} {disc} {stack} {parents} {nexts} {lows} {marks} {r} {top} {time} f up L H all e = record {
   graph = L .graph;
-  sized = resized _ _ _ _ _ _ _ _ _ _ _ _ (L .sized) refl refl refl refl (simp length-set) (marks-length owners marks (f .parent) (at disc (at stack up)) (f .low) pin);
+  sized = resized _ _ _ _ _ _ _ _ _ _ (L .sized) refl refl refl refl (simp length-set);
+  owners-are = L .owners-are;
+  marks-are = marks-length owners marks (f .parent) (at disc (at stack up)) (f .low) pin ∙ L .marks-are;
   marked = L .marked;
   walk = subst (λ (x : ℕ). Stacked K owners lefts rights r disc stack parents nexts lows′ marks′ x time) (sym e) done;
   sound = marks-sound owners marks (f .parent) (at disc (at stack up)) (f .low) pin K lefts rights (L .sound) pk (λ l. subst B (sym pe) (is-bridge K lf rt W alln (omega (arith, lt))));
@@ -115,7 +117,7 @@ left {K} {owners} {lefts} {rights} {disc} {stack} {parents} {nexts} {lows} {mark
     pk = omega (arith, pe, W .tree up (omega arith) .0)
 
     pin : at owners (f .parent) < length marks
-    pin = omega (arith, L .marked (f .parent) pk, L .sized .marks-are)
+    pin = omega (arith, L .marked (f .parent) pk, L .marks-are)
 
     nt : nx (up + 1) ≡ f .next
     nt = ap nx (sym e) ∙ put-at (at nexts) top (f .next)
@@ -159,12 +161,14 @@ left {K} {owners} {lefts} {rights} {disc} {stack} {parents} {nexts} {lows} {mark
             sym (put-off lw up (min (lw up) (lw (up + 1))) m z))
 
 -- the first frame is done
-pub emptied : {K : ℕ} {owners lefts rights disc stack parents nexts lows marks : List ℕ} {r top time : ℕ} (f : Frame) →
-    Loop K owners lefts rights disc stack parents nexts lows marks r (top + 1) time → Hand K owners lefts rights disc stack parents nexts lows marks r top time f →
-    K ≤ f .next → top ≡ 0 → Loop K owners lefts rights disc stack parents nexts lows marks r 0 time
-emptied {K} {owners} {lefts} {rights} {disc} {stack} {parents} {nexts} {lows} {marks} {r} {top} {time} f L H all e = record {
+pub emptied : {K R : ℕ} {owners lefts rights disc stack parents nexts lows marks : List ℕ} {r top time : ℕ} (f : Frame) →
+    Loop K R owners lefts rights disc stack parents nexts lows marks r (top + 1) time → Hand K owners lefts rights disc stack parents nexts lows marks r top time f →
+    K ≤ f .next → top ≡ 0 → Loop K R owners lefts rights disc stack parents nexts lows marks r 0 time
+emptied {K} {R} {owners} {lefts} {rights} {disc} {stack} {parents} {nexts} {lows} {marks} {r} {top} {time} f L H all e = record {
   graph = L .graph;
   sized = L .sized;
+  owners-are = L .owners-are;
+  marks-are = L .marks-are;
   marked = L .marked;
   walk =
       retell (pop-root K (at lefts) (at rights) W (omega (arith, ap nx (sym e) ∙ put-at (at nexts) top (f .next)))) (at stack) (at parents) (at nexts) (at lows)

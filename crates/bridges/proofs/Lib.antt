@@ -11,6 +11,7 @@ pub mod Turn
 pub mod Entering
 pub mod Leaving
 pub mod Heights
+pub mod Lent
 pub mod Roots
 pub mod Chains
 pub mod Meaning

@@ -125,7 +125,7 @@ module _ (K : ℕ) (owners lefts rights : List ℕ) where
           none e (inr z) = clash (bridge-iff rs b .1 (to-bridge b (z .1))) e
 
 -- the walk is at its end: the marks are those of the definition
-pub answered : {K : ℕ} {owners lefts rights disc stack parents nexts lows marks : List ℕ} {r time : ℕ} → Between K owners lefts rights disc stack parents nexts lows marks r time →
+pub answered : {K R : ℕ} {owners lefts rights disc stack parents nexts lows marks : List ℕ} {r time : ℕ} → Between K R owners lefts rights disc stack parents nexts lows marks r time →
     r ≡ K → (n : ℕ) → length marks ≡ n → marks ≡ bridgeMarks (recordsOf K owners lefts rights) n
-answered {K} {owners} {lefts} {rights} {marks = marks} B e n l =
+answered {K} {R} {owners} {lefts} {rights} {marks = marks} B e n l =
     marks-are K owners lefts rights marks (B .sound) (finished B e) ∙ ap (bridgeMarks (recordsOf K owners lefts rights)) l

@@ -41,7 +41,7 @@ module _ {K : ℕ} {lefts rights : List ℕ} {regions base : ℕ} {start work : 
 
 -- both ends of record k have their numbers
 pub numbered-one : {K : ℕ} {lefts rights : List ℕ} {regions base : ℕ} {start work smallLefts smallRights : List ℕ} {k : ℕ}
-    (N : Numbered K lefts rights regions base start work smallLefts smallRights k) → k < 4096 → {work₁ work₂ : List ℕ} {v w : ℕ}
+    (N : Numbered K lefts rights regions base start work smallLefts smallRights k) → k < K → {work₁ work₂ : List ℕ} {v w : ℕ}
     (A : Next K lefts rights regions base start work₁ (N .words) (at lefts k - 1) v) → (C : Next K lefts rights regions base start work₂ (A .words) (at rights k - 1) w) →
     Numbered K lefts rights regions base start work₂ (set smallLefts k v) (set smallRights k w) (k + 1)
 numbered-one {lefts = lefts} {rights} {smallLefts = smallLefts} {smallRights} {k} N b {v = v} {w} A C = record {
@@ -71,13 +71,13 @@ numbered-one {lefts = lefts} {rights} {smallLefts = smallLefts} {smallRights} {k
 }
 
 -- two labels have one number only if they are one
-pub named-apart : {K : ℕ} {lefts rights : List ℕ} {x y v : ℕ} → K ≤ 4096 → Named K lefts rights x v → Named K lefts rights y v → x ≡ y
-named-apart {K} {lefts} {rights} {x} {y} {v} few A C = ⊎-elim (λ a. ⊎-elim (λ c. both-left a c) (λ c. absurd (omega (arith, a .1, c .1, A .inside))) (C .is)) (λ a. ⊎-elim (λ c. absurd (omega (arith, a .1, c .1, C .inside))) (λ c. both-right a c) (C .is)) (A .is)
+pub named-apart : {K : ℕ} {lefts rights : List ℕ} {x y v : ℕ} → Named K lefts rights x v → Named K lefts rights y v → x ≡ y
+named-apart {K} {lefts} {rights} {x} {y} {v} A C = ⊎-elim (λ a. ⊎-elim (λ c. both-left a c) (λ c. absurd (omega (arith, a .1, c .1))) (C .is)) (λ a. ⊎-elim (λ c. absurd (omega (arith, a .1, c .1))) (λ c. both-right a c) (C .is)) (A .is)
   where
-    both-left : (at lefts (A .place) ≡ x + 1) × (v ≡ A .place + 1) → (at lefts (C .place) ≡ y + 1) × (v ≡ C .place + 1) → x ≡ y
+    both-left : (at lefts (A .place) ≡ x + 1) × (v ≡ 2 * A .place + 1) → (at lefts (C .place) ≡ y + 1) × (v ≡ 2 * C .place + 1) → x ≡ y
     both-left a c = omega (arith, a .0, c .0, ap (at lefts) (let z : A .place ≡ C .place = omega (arith, a .1, c .1) in z))
 
-    both-right : (at rights (A .place) ≡ x + 1) × (v ≡ A .place + 4097) → (at rights (C .place) ≡ y + 1) × (v ≡ C .place + 4097) → x ≡ y
+    both-right : (at rights (A .place) ≡ x + 1) × (v ≡ 2 * A .place + 2) → (at rights (C .place) ≡ y + 1) × (v ≡ 2 * C .place + 2) → x ≡ y
     both-right a c = omega (arith, a .0, c .0, ap (at rights) (let z : A .place ≡ C .place = omega (arith, a .1, c .1) in z))
 
 -- the words of record k's ends are 0 again
@@ -125,7 +125,7 @@ forgotten-one {K} {lefts} {rights} {regions} {base} {start} {work} {k} F L fits 
 
 -- no label has a number
 pub unnumbered : {K : ℕ} {lefts rights : List ℕ} {regions base : ℕ} (start : List ℕ) {smallLefts smallRights : List ℕ} → ((x : ℕ) → x < regions → u32At start (base + 4 * x) ≡ 0) →
-    length smallLefts ≡ 4096 → length smallRights ≡ 4096 → Numbered K lefts rights regions base start start smallLefts smallRights 0
+    K ≤ length smallLefts → K ≤ length smallRights → Numbered K lefts rights regions base start start smallLefts smallRights 0
 unnumbered {regions = regions} {base} start z a b = record {
   words = λ x. 0;
   table = record { as-long = refl; word = z; before = λ i l. refl; behind = λ i l. refl };
@@ -171,12 +171,12 @@ next-step {K} {lefts} {rights} {regions} {base} {start} {work} {work′} {f} T N
 pub numbered-at : {K : ℕ} {lefts rights : List ℕ} {regions base : ℕ} {start work work₁ work₂ smallLefts smallRights : List ℕ} {k j v w : ℕ} → j ≡ k → k < K →
     Labelled K lefts rights regions → base + 4 * regions ≤ length work → Numbered K lefts rights regions base start work smallLefts smallRights k →
     ((u32At work (base + 4 * (at lefts j - 1)) ≡ 0 → ⊥) → (u32At work (base + 4 * (at lefts j - 1)) ≡ v + 1) × (work₁ ≡ work)) →
-    (u32At work (base + 4 * (at lefts j - 1)) ≡ 0 → (v ≡ k) × (work₁ ≡ splice work (base + 4 * (at lefts j - 1)) (u32Bytes (k + 1)))) →
+    (u32At work (base + 4 * (at lefts j - 1)) ≡ 0 → (v ≡ 2 * k) × (work₁ ≡ splice work (base + 4 * (at lefts j - 1)) (u32Bytes (2 * k + 1)))) →
     ((u32At work₁ (base + 4 * (at rights j - 1)) ≡ 0 → ⊥) → (u32At work₁ (base + 4 * (at rights j - 1)) ≡ w + 1) × (work₂ ≡ work₁)) →
-    (u32At work₁ (base + 4 * (at rights j - 1)) ≡ 0 → (w ≡ k + 4096) × (work₂ ≡ splice work₁ (base + 4 * (at rights j - 1)) (u32Bytes (k + 4096 + 1)))) →
+    (u32At work₁ (base + 4 * (at rights j - 1)) ≡ 0 → (w ≡ 2 * k + 1) × (work₂ ≡ splice work₁ (base + 4 * (at rights j - 1)) (u32Bytes (2 * k + 1 + 1)))) →
     Numbered K lefts rights regions base start work₂ (set smallLefts j v) (set smallRights j w) (k + 1)
 numbered-at {K} {lefts} {rights} {regions} {base} {start} {work} {work₁} {work₂} {smallLefts} {smallRights} {k} {j} {v} {w} e b L fits N₀ old₁ new₁ old₂ new₂ =
-    subst (λ (i : ℕ). Numbered K lefts rights regions base start work₂ (set smallLefts j v) (set smallRights j w) (i + 1)) e (numbered-one N (omega (arith, L .few)) A C)
+    subst (λ (i : ℕ). Numbered K lefts rights regions base start work₂ (set smallLefts j v) (set smallRights j w) (i + 1)) e (numbered-one N in-range A C)
   where
     N : Numbered K lefts rights regions base start work smallLefts smallRights j
     N = subst (Numbered K lefts rights regions base start work smallLefts smallRights) (sym e) N₀
@@ -189,12 +189,12 @@ numbered-at {K} {lefts} {rights} {regions} {base} {start} {work} {work₁} {work
 
     A : Next K lefts rights regions base start work₁ (N .words) (at lefts j - 1) v
     A =
-        next-step (N .table) (N .named) room (at lefts j - 1) (omega (arith, L .left-from j in-range, L .left-to j in-range)) v k (omega (arith, L .few))
+        next-step (N .table) (N .named) room (at lefts j - 1) (omega (arith, L .left-from j in-range, L .left-to j in-range)) v (2 * k) (omega (arith, L .few))
         (record { place = j; inside = in-range; is = inl (omega (arith, L .left-from j in-range), omega arith) }) old₁ new₁
 
     C : Next K lefts rights regions base start work₂ (A .words) (at rights j - 1) w
     C =
-        next-step (A .table) (A .named) room (at rights j - 1) (omega (arith, L .right-from j in-range, L .right-to j in-range)) w (k + 4096) (omega (arith, L .few))
+        next-step (A .table) (A .named) room (at rights j - 1) (omega (arith, L .right-from j in-range, L .right-to j in-range)) w (2 * k + 1) (omega (arith, L .few))
         (record { place = j; inside = in-range; is = inr (omega (arith, L .right-from j in-range), omega arith) }) old₂ new₂
 
 -- the words of record k's ends are 0 again; j is k as an index

@@ -3,7 +3,7 @@ use mathlib.Core.Path.{_≡_, sym, _∙_, ap, subst}
 use mathlib.Core.Logic.{⊎-elim}
 use mathlib.Core.Bool.{Bool, cond}
 use mathlib.Core.List.{List}
-use Prim.Native.Nat.{ℕ, _+_, _-_, _<_}
+use Prim.Native.Nat.{ℕ, _+_, _*_, _-_, _≤_, _<_}
 use native.Mathlib.Omega.{arith}
 use lib.ListN.{length}
 use Rattle.lists.proofs.Rows.{length-rows, rows-at, rows-same}
@@ -26,15 +26,18 @@ nth K owners lefts rights k l = rows-at K (λ k. record { owner = at owners k; l
 
 module _ {K : ℕ} {lefts rights : List ℕ} {regions base : ℕ} {start work smallLefts smallRights : List ℕ} (L : Labelled K lefts rights regions)
     (N : Numbered K lefts rights regions base start work smallLefts smallRights K) where
-  below : (x v : ℕ) → Named K lefts rights x (v + 1) → v < 8192
-  below x v n = ⊎-elim (λ u. omega (arith, u .1, n .inside, L .few)) (λ u. omega (arith, u .1, n .inside, L .few)) (n .is)
+  below : (x v : ℕ) → Named K lefts rights x (v + 1) → v < 2 * K
+  below x v n = ⊎-elim (λ u. omega (arith, u .1, n .inside)) (λ u. omega (arith, u .1, n .inside)) (n .is)
 
   -- the small numbers are in range
-  pub small-graph : Graph K smallLefts smallRights
-  small-graph = record {
+  pub small-graph : (R : ℕ) → 2 * K ≤ R → R ≤ 8192 → Graph K R smallLefts smallRights
+  small-graph R enough near = record {
     few = L .few;
-    left-in = λ k l. below (at lefts k - 1) (at smallLefts k) (subst (Named K lefts rights (at lefts k - 1)) (N .left k l) (N .named (at lefts k - 1) (omega (arith, N .left k l))));
-    right-in = λ k l. below (at rights k - 1) (at smallRights k) (subst (Named K lefts rights (at rights k - 1)) (N .right k l) (N .named (at rights k - 1) (omega (arith, N .right k l))));
+    near = near;
+    lefts-are = N .lefts-are;
+    rights-are = N .rights-are;
+    left-in = λ k l. omega (arith, below (at lefts k - 1) (at smallLefts k) (subst (Named K lefts rights (at lefts k - 1)) (N .left k l) (N .named (at lefts k - 1) (omega (arith, N .left k l)))));
+    right-in = λ k l. omega (arith, below (at rights k - 1) (at smallRights k) (subst (Named K lefts rights (at rights k - 1)) (N .right k l) (N .named (at rights k - 1) (omega (arith, N .right k l)))));
   }
 
   module _ (owners : List ℕ) where
@@ -78,7 +81,7 @@ module _ {K : ℕ} {lefts rights : List ℕ} {regions base : ℕ} {start work sm
           let q = occurs b y in
           let w : N .words (b - 1) ≡ N .words (a - 1) = omega (arith, p .1, q .1, e) in
           let z : a - 1 ≡ b - 1
-          = named-apart (L .few) (N .named (a - 1) (p .1)) (subst (Named K lefts rights (b - 1)) w (N .named (b - 1) (q .1))) in
+          = named-apart (N .named (a - 1) (p .1)) (subst (Named K lefts rights (b - 1)) w (N .named (b - 1) (q .1))) in
           omega (arith, p .0, q .0, z);
     }
 

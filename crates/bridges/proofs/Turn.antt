@@ -13,9 +13,11 @@ use Rattle.bridges.proofs.Retell.{retell}
 use Rattle.bridges.proofs.Scans.{scan-parent, scan-seen}
 use Rattle.bridges.proofs.Puts.{put-at, put-off, reputting}
 
-pub record Loop (K : ℕ) (owners lefts rights disc stack parents nexts lows marks : List ℕ) (r h time : ℕ) : Type 0 where
-  pub graph : Graph K lefts rights
-  pub sized : Sized disc stack parents nexts lows marks
+pub record Loop (K R : ℕ) (owners lefts rights disc stack parents nexts lows marks : List ℕ) (r h time : ℕ) : Type 0 where
+  pub graph : Graph K R lefts rights
+  pub sized : Sized R disc stack parents nexts lows
+  pub owners-are : K ≤ length owners
+  pub marks-are : length marks ≡ 256
   pub marked : Owners K owners
   pub walk : Stacked K owners lefts rights r disc stack parents nexts lows marks h time
   pub sound : Sound K owners lefts rights marks
@@ -31,39 +33,47 @@ pub record Hand (K : ℕ) (owners lefts rights disc stack parents nexts lows mar
   pub touching : f .next < K → Touches (at lefts) (at rights) (f .next) (f .region)
 
 -- how the inner loop stopped
-pub record Stop (K : ℕ) (lefts rights disc : List ℕ) (f : Frame) (w j : ℕ) : Type 0 where
+pub record Stop (K R : ℕ) (lefts rights disc : List ℕ) (f : Frame) (w j : ℕ) : Type 0 where
   pub is : j < K → j ≡ f .next
   pub joins : j < K → Joins (at lefts) (at rights) (f .next) (f .region) w
-  pub within : j < K → w < 8192
+  pub within : j < K → w < R
   pub new : j < K → at disc w ≡ 0
   pub all : K ≤ j → K ≤ f .next
 
 -- the region that a record leads to is in range
-pub end-in : {K : ℕ} {lefts rights : List ℕ} {j x w : ℕ} → Graph K lefts rights → j < K → Joins (at lefts) (at rights) j x w → w < 8192
+pub end-in : {K R : ℕ} {lefts rights : List ℕ} {j x w : ℕ} → Graph K R lefts rights → j < K → Joins (at lefts) (at rights) j x w → w < R
 end-in {j = j} G l (forth p q) = omega (arith, q, G .right-in j l)
 end-in {j = j} G l (back p q) = omega (arith, p, G .left-in j l)
 
-pub resized : (d s p n l m d′ s′ p′ n′ l′ m′ : List ℕ) → Sized d s p n l m → length d′ ≡ length d → length s′ ≡ length s → length p′ ≡ length p → length n′ ≡ length n →
-    length l′ ≡ length l → length m′ ≡ length m → Sized d′ s′ p′ n′ l′ m′
-resized d s p n l m d′ s′ p′ n′ l′ m′ Z a b c e f g = record {
+-- a frame has its places
+pub slots : {R : ℕ} {disc stack parents nexts lows : List ℕ} → Sized R disc stack parents nexts lows → (m : ℕ) → m < R →
+    (m < length stack) × (m < length parents) × (m < length nexts) × (m < length lows)
+slots Z m l = (omega (arith, Z .stack-are), omega (arith, Z .parents-are), omega (arith, Z .nexts-are), omega (arith, Z .lows-are))
+
+pub resized : (d s p n l d′ s′ p′ n′ l′ : List ℕ) {R : ℕ} → Sized R d s p n l → length d′ ≡ length d → length s′ ≡ length s → length p′ ≡ length p → length n′ ≡ length n →
+    length l′ ≡ length l → Sized R d′ s′ p′ n′ l′
+resized d s p n l d′ s′ p′ n′ l′ Z a b c e f = record {
   disc-are = a ∙ Z .disc-are;
   stack-are = b ∙ Z .stack-are;
   parents-are = c ∙ Z .parents-are;
   nexts-are = e ∙ Z .nexts-are;
   lows-are = f ∙ Z .lows-are;
-  marks-are = g ∙ Z .marks-are;
 }
 
+-- the same at numbers that are equal
+pub sized-as : {R R′ : ℕ} {disc stack parents nexts lows : List ℕ} → R′ ≡ R → Sized R disc stack parents nexts lows → Sized R′ disc stack parents nexts lows
+sized-as e Z = rw e Z
+
 -- the same walk at lists that are equal
-pub recast : {K : ℕ} {owners lefts rights disc stack parents nexts lows marks : List ℕ} {r h time : ℕ} (disc′ stack′ parents′ nexts′ lows′ marks′ : List ℕ) (h′ time′ : ℕ) →
+pub recast : {K R : ℕ} {owners lefts rights disc stack parents nexts lows marks : List ℕ} {r h time : ℕ} (disc′ stack′ parents′ nexts′ lows′ marks′ : List ℕ) (h′ time′ : ℕ) →
     disc′ ≡ disc → stack′ ≡ stack → parents′ ≡ parents → nexts′ ≡ nexts → lows′ ≡ lows → marks′ ≡ marks → h′ ≡ h → time′ ≡ time →
-    Loop K owners lefts rights disc stack parents nexts lows marks r h time → Loop K owners lefts rights disc′ stack′ parents′ nexts′ lows′ marks′ r h′ time′
+    Loop K R owners lefts rights disc stack parents nexts lows marks r h time → Loop K R owners lefts rights disc′ stack′ parents′ nexts′ lows′ marks′ r h′ time′
 recast d s p n l m h t a b c e f g i j L = rw (a, b, c, e, f, g, i, j) L
 
 module _ {K : ℕ} {owners lefts rights disc stack parents nexts lows marks : List ℕ} {r : ℕ} where
-  pub take : {top time : ℕ} (f : Frame) → Loop K owners lefts rights disc stack parents nexts lows marks r (top + 1) time → f .region ≡ at stack top → f .parent ≡ at parents top →
+  pub take : {R top time : ℕ} (f : Frame) → Loop K R owners lefts rights disc stack parents nexts lows marks r (top + 1) time → f .region ≡ at stack top → f .parent ≡ at parents top →
       f .next ≡ at nexts top → f .low ≡ at lows top → Hand K owners lefts rights disc stack parents nexts lows marks r top time f
-  take {top} f L a b c d = record {
+  take {top = top} f L a b c d = record {
     walk =
         retell (L .walk) (at stack) (at parents) (put (at nexts) top (f .next)) (put (at lows) top (f .low)) (λ m l. refl) (λ m l. refl)
         (λ m l. same (at nexts) (f .next) c m) (λ m l. same (at lows) (f .low) d m);

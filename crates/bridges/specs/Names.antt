@@ -1,4 +1,4 @@
--- Labels of regions under small numbers: a label's number is the first place where it stands, k at the left of record k and 4096 + k at its right.
+-- Labels of regions under small numbers: a label's number is the first place where it stands, 2k at the left of record k and 2k + 1 at its right.
 -- The numbers stand in a table of u32 words, one a label: 0 where it has none yet, and its number and 1 where it has one.
 use mathlib.Core.Path.{_≡_}
 use mathlib.Core.Logic.{_⊎_}
@@ -11,6 +11,8 @@ use Rattle.bridges.specs.Slices.{at}
 -- there are at most 4,096 records, and their ends are labels from 1 to `regions`
 pub record Labelled (K : ℕ) (lefts rights : List ℕ) (regions : ℕ) : Type 0 where
   pub few : K ≤ 4096
+  pub lefts-are : K ≤ length lefts
+  pub rights-are : K ≤ length rights
   pub left-from : (k : ℕ) → k < K → 0 < at lefts k
   pub left-to : (k : ℕ) → k < K → at lefts k ≤ regions
   pub right-from : (k : ℕ) → k < K → 0 < at rights k
@@ -34,15 +36,15 @@ pub record Stands (K : ℕ) (lefts rights : List ℕ) (k x : ℕ) : Type 0 where
 pub record Named (K : ℕ) (lefts rights : List ℕ) (x v : ℕ) : Type 0 where
   pub place : ℕ
   pub inside : place < K
-  pub is : ((at lefts place ≡ x + 1) × (v ≡ place + 1)) ⊎ ((at rights place ≡ x + 1) × (v ≡ place + 4097))
+  pub is : ((at lefts place ≡ x + 1) × (v ≡ 2 * place + 1)) ⊎ ((at rights place ≡ x + 1) × (v ≡ 2 * place + 2))
 
 -- the ends of the first k records have their numbers
 pub record Numbered (K : ℕ) (lefts rights : List ℕ) (regions base : ℕ) (start work smallLefts smallRights : List ℕ) (k : ℕ) : Type 0 where
   pub words : ℕ → ℕ
   pub table : Table start regions base words work
   pub named : (x : ℕ) → 0 < words x → Named K lefts rights x (words x)
-  pub lefts-are : length smallLefts ≡ 4096
-  pub rights-are : length smallRights ≡ 4096
+  pub lefts-are : K ≤ length smallLefts
+  pub rights-are : K ≤ length smallRights
   pub left : (i : ℕ) → i < k → words (at lefts i - 1) ≡ at smallLefts i + 1
   pub right : (i : ℕ) → i < k → words (at rights i - 1) ≡ at smallRights i + 1
 

@@ -1,6 +1,7 @@
 // A frame of the walk, and what it reads of the records.
 ghost use mathlib.Core.Path.{_≡_};
 ghost use Prim.Native.Nat.{_<_, min};
+ghost use lib.ListN.{length};
 ghost use Rattle.bridges.specs.Walk.{Joins, Touches};
 ghost use Rattle.bridges.specs.Slices.{at};
 use wire::size;
@@ -44,8 +45,8 @@ impl Frame {
 }
 
 // A frame at a region that is found now, with all its records to look at.
-pub fn opened(heads: &[u32; 8192], region: u32, parent: u32, time: u32) -> Frame
-    requires { ⌜ region < 8192 ⌝ }
+pub fn opened(heads: &[u32], region: u32, parent: u32, time: u32) -> Frame
+    requires { ⌜ region < length (now heads) ⌝ }
     ensures { λ r. ⌜ (r .region ≡ region) × (r .parent ≡ parent) × (r .next ≡ at (now (heads .entry)) region) × (r .low ≡ time) ⌝ }
 {
     Frame {
@@ -57,8 +58,8 @@ pub fn opened(heads: &[u32; 8192], region: u32, parent: u32, time: u32) -> Frame
 }
 
 // The region that the frame's next record joins with its own.
-pub fn other_end(lefts: &[u32; 4096], rights: &[u32; 4096], f: Frame) -> u32
-    requires { ⌜ (f .next < 4096) × Touches (at (now lefts)) (at (now rights)) (f .next) (f .region) ⌝ }
+pub fn other_end(lefts: &[u32], rights: &[u32], f: Frame) -> u32
+    requires { ⌜ (f .next < length (now lefts)) × (f .next < length (now rights)) × Touches (at (now lefts)) (at (now rights)) (f .next) (f .region) ⌝ }
     ensures { λ r. ⌜ Joins (at (now (lefts .entry))) (at (now (rights .entry))) (f .next) (f .region) r ⌝ }
 {
     let j = size(f.next);
@@ -69,13 +70,8 @@ pub fn other_end(lefts: &[u32; 4096], rights: &[u32; 4096], f: Frame) -> u32
 }
 
 // What follows the frame's next record in the chain of its region.
-pub fn after(
-    lefts: &[u32; 4096],
-    left_nexts: &[u32; 4096],
-    right_nexts: &[u32; 4096],
-    f: Frame,
-) -> u32
-    requires { ⌜ f .next < 4096 ⌝ }
+pub fn after(lefts: &[u32], left_nexts: &[u32], right_nexts: &[u32], f: Frame) -> u32
+    requires { ⌜ (f .next < length (now lefts)) × (f .next < length (now «left_nexts»)) × (f .next < length (now «right_nexts»)) ⌝ }
     ensures left { λ r. ⌜ (at (now (lefts .entry)) (f .next) ≡ f .region → r ≡ at (now («left_nexts» .entry)) (f .next)) ⌝ }
     ensures right { λ r. ⌜ ((at (now (lefts .entry)) (f .next) ≡ f .region → ⊥) → r ≡ at (now («right_nexts» .entry)) (f .next)) ⌝ }
 {

@@ -1,4 +1,4 @@
-// Numbers under 8,192 for the labels of regions, through words that are 0 before and after.
+// Numbers for the labels of regions, under two for each record, through words that are 0 before and after.
 ghost use mathlib.Core.Path.{_≡_};
 ghost use mathlib.Core.List.{List};
 ghost use Prim.Native.Nat.{ℕ, _+_, _*_, _-_, _≤_, _<_};
@@ -26,36 +26,36 @@ fn number_of(work: &mut [u8], base: usize, label: u32, place: u32) -> u32
 
 // Gives the ends of record k their numbers.
 fn number_record(
-    lefts: &[u32; 4096],
-    rights: &[u32; 4096],
+    lefts: &[u32],
+    rights: &[u32],
     count: u32,
     k: u32,
     regions: usize,
     work: &mut [u8],
     base: usize,
-    small_lefts: &mut [u32; 4096],
-    small_rights: &mut [u32; 4096],
+    small_lefts: &mut [u32],
+    small_rights: &mut [u32],
 )
-    requires { ⌜ (k < count) × Labelled count (now lefts) (now rights) regions × (base + 4 * regions ≤ length (now work)) ⌝ }
+    requires { ⌜ (k < count) × Labelled count (now lefts) (now rights) regions × (base + 4 * regions ≤ length (now work)) × (count ≤ length (now «small_lefts»)) × (count ≤ length (now «small_rights»)) ⌝ }
     ensures { λ _. ⌜ ((start : List ℕ) → Numbered count (now (lefts .entry)) (now (rights .entry)) regions base start (now (work .entry)) (now («small_lefts» .entry)) (now («small_rights» .entry)) k → Numbered count (now (lefts .entry)) (now (rights .entry)) regions base start (now (work .exit)) (now («small_lefts» .exit)) (now («small_rights» .exit)) (k + 1)) ⌝ }
 {
     let at = size(k);
-    small_lefts[at] = number_of(work, base, lefts[at], k);
-    small_rights[at] = number_of(work, base, rights[at], k + 4096);
+    small_lefts[at] = number_of(work, base, lefts[at], 2 * k);
+    small_rights[at] = number_of(work, base, rights[at], 2 * k + 1);
 }
 
 // Gives every label its number.
 pub fn number_all(
-    lefts: &[u32; 4096],
-    rights: &[u32; 4096],
+    lefts: &[u32],
+    rights: &[u32],
     count: u32,
     regions: usize,
     work: &mut [u8],
     base: usize,
-    small_lefts: &mut [u32; 4096],
-    small_rights: &mut [u32; 4096],
+    small_lefts: &mut [u32],
+    small_rights: &mut [u32],
 )
-    requires { ⌜ Labelled count (now lefts) (now rights) regions × (base + 4 * regions ≤ length (now work)) × ((x : ℕ) → x < regions → u32At (now work) (base + 4 * x) ≡ 0) × (length (now «small_lefts») ≡ 4096) × (length (now «small_rights») ≡ 4096) ⌝ }
+    requires { ⌜ Labelled count (now lefts) (now rights) regions × (base + 4 * regions ≤ length (now work)) × ((x : ℕ) → x < regions → u32At (now work) (base + 4 * x) ≡ 0) × (count ≤ length (now «small_lefts»)) × (count ≤ length (now «small_rights»)) ⌝ }
     ensures { λ _. ⌜ Numbered count (now (lefts .entry)) (now (rights .entry)) regions base (now (work .entry)) (now (work .exit)) (now («small_lefts» .exit)) (now («small_rights» .exit)) count ⌝ }
 {
     let mut k = 0;
@@ -85,8 +85,8 @@ fn forget(work: &mut [u8], base: usize, label: u32)
 
 // Takes the words of the ends of record k back to 0.
 fn forget_record(
-    lefts: &[u32; 4096],
-    rights: &[u32; 4096],
+    lefts: &[u32],
+    rights: &[u32],
     count: u32,
     k: u32,
     regions: usize,
@@ -103,8 +103,8 @@ fn forget_record(
 
 // Takes the words of every record's ends back to 0.
 pub fn forget_all(
-    lefts: &[u32; 4096],
-    rights: &[u32; 4096],
+    lefts: &[u32],
+    rights: &[u32],
     count: u32,
     regions: usize,
     work: &mut [u8],

@@ -1,8 +1,9 @@
 // The walk in depth, from every record.
 ghost use mathlib.Core.Path.{_≡_};
-ghost use Prim.Native.Nat.{_+_, _<_};
+ghost use Prim.Native.Nat.{ℕ, _+_, _≤_, _<_};
+ghost use lib.ListN.{length};
 ghost use Rattle.bridges.specs.Marks.{recordsOf, bridgeMarks};
-ghost use Rattle.bridges.specs.Slices.{at, Graph, Owners, Linked, Between};
+ghost use Rattle.bridges.specs.Slices.{at, Graph, Owners, Sized, Linked, Between};
 use crate::frame::after;
 use crate::frame::opened;
 use crate::frame::other_end;
@@ -15,25 +16,25 @@ use wire::size;
 
 // Walks all that is connected with root, an end of record r that was not found before, and marks the bridges there. Gives the time of the last region found.
 fn walk(
-    owners: &[u32; 4096],
-    lefts: &[u32; 4096],
-    rights: &[u32; 4096],
+    owners: &[u32],
+    lefts: &[u32],
+    rights: &[u32],
     count: u32,
-    heads: &[u32; 8192],
-    left_nexts: &[u32; 4096],
-    right_nexts: &[u32; 4096],
-    disc: &mut [u32; 8192],
-    stack: &mut [u32; 8192],
-    parents: &mut [u32; 8192],
-    nexts: &mut [u32; 8192],
-    lows: &mut [u32; 8192],
+    heads: &[u32],
+    left_nexts: &[u32],
+    right_nexts: &[u32],
+    disc: &mut [u32],
+    stack: &mut [u32],
+    parents: &mut [u32],
+    nexts: &mut [u32],
+    lows: &mut [u32],
     marks: &mut [u8; 256],
     r: usize,
     root: u32,
     start: u32,
 ) -> u32
-    requires { ⌜ Between count (now owners) (now lefts) (now rights) (now disc) (now stack) (now parents) (now nexts) (now lows) (now marks) r start × Linked count (now lefts) (now rights) (now heads) (now «left_nexts») (now «right_nexts») 0 × (root < 8192) × (at (now disc) root ≡ 0) × (root ≡ at (now lefts) r) ⌝ }
-    ensures { λ t. ⌜ Between count (now (owners .entry)) (now (lefts .entry)) (now (rights .entry)) (now (disc .exit)) (now (stack .exit)) (now (parents .exit)) (now (nexts .exit)) (now (lows .exit)) (now (marks .exit)) (r + 1) t ⌝ }
+    requires { ⌜ Between count (length (now heads)) (now owners) (now lefts) (now rights) (now disc) (now stack) (now parents) (now nexts) (now lows) (now marks) r start × Linked count (length (now heads)) (now lefts) (now rights) (now heads) (now «left_nexts») (now «right_nexts») 0 × (root < length (now heads)) × (at (now disc) root ≡ 0) × (root ≡ at (now lefts) r) ⌝ }
+    ensures { λ t. ⌜ Between count (length (now (heads .entry))) (now (owners .entry)) (now (lefts .entry)) (now (rights .entry)) (now (disc .exit)) (now (stack .exit)) (now (parents .exit)) (now (nexts .exit)) (now (lows .exit)) (now (marks .exit)) (r + 1) t ⌝ }
 {
     let mut time = start + 1;
     enter(
@@ -96,24 +97,24 @@ fn walk(
 
 // Walks from record r, where its end is not found yet.
 fn visit(
-    owners: &[u32; 4096],
-    lefts: &[u32; 4096],
-    rights: &[u32; 4096],
+    owners: &[u32],
+    lefts: &[u32],
+    rights: &[u32],
     count: u32,
-    heads: &[u32; 8192],
-    left_nexts: &[u32; 4096],
-    right_nexts: &[u32; 4096],
-    disc: &mut [u32; 8192],
-    stack: &mut [u32; 8192],
-    parents: &mut [u32; 8192],
-    nexts: &mut [u32; 8192],
-    lows: &mut [u32; 8192],
+    heads: &[u32],
+    left_nexts: &[u32],
+    right_nexts: &[u32],
+    disc: &mut [u32],
+    stack: &mut [u32],
+    parents: &mut [u32],
+    nexts: &mut [u32],
+    lows: &mut [u32],
     marks: &mut [u8; 256],
     r: usize,
     time: u32,
 ) -> u32
-    requires { ⌜ Between count (now owners) (now lefts) (now rights) (now disc) (now stack) (now parents) (now nexts) (now lows) (now marks) r time × Linked count (now lefts) (now rights) (now heads) (now «left_nexts») (now «right_nexts») 0 × (r < count) ⌝ }
-    ensures { λ t. ⌜ Between count (now (owners .entry)) (now (lefts .entry)) (now (rights .entry)) (now (disc .exit)) (now (stack .exit)) (now (parents .exit)) (now (nexts .exit)) (now (lows .exit)) (now (marks .exit)) (r + 1) t ⌝ }
+    requires { ⌜ Between count (length (now heads)) (now owners) (now lefts) (now rights) (now disc) (now stack) (now parents) (now nexts) (now lows) (now marks) r time × Linked count (length (now heads)) (now lefts) (now rights) (now heads) (now «left_nexts») (now «right_nexts») 0 × (r < count) ⌝ }
+    ensures { λ t. ⌜ Between count (length (now (heads .entry))) (now (owners .entry)) (now (lefts .entry)) (now (rights .entry)) (now (disc .exit)) (now (stack .exit)) (now (parents .exit)) (now (nexts .exit)) (now (lows .exit)) (now (marks .exit)) (r + 1) t ⌝ }
 {
     let root = lefts[r];
     if time_of(disc, root) != 0 {
@@ -139,26 +140,26 @@ fn visit(
     )
 }
 
-// Walks from every record, and marks the bridges.
+// Walks from every record, and marks the bridges, where no region is found yet.
 pub fn walk_all(
-    owners: &[u32; 4096],
-    lefts: &[u32; 4096],
-    rights: &[u32; 4096],
+    owners: &[u32],
+    lefts: &[u32],
+    rights: &[u32],
     count: u32,
-    heads: &[u32; 8192],
-    left_nexts: &[u32; 4096],
-    right_nexts: &[u32; 4096],
+    heads: &[u32],
+    left_nexts: &[u32],
+    right_nexts: &[u32],
+    disc: &mut [u32],
+    stack: &mut [u32],
+    parents: &mut [u32],
+    nexts: &mut [u32],
+    lows: &mut [u32],
     marks: &mut [u8; 256],
 )
-    requires { ⌜ Graph count (now lefts) (now rights) × Owners count (now owners) × Linked count (now lefts) (now rights) (now heads) (now «left_nexts») (now «right_nexts») 0 ⌝ }
+    requires { ⌜ Graph count (length (now heads)) (now lefts) (now rights) × Owners count (now owners) × (count ≤ length (now owners)) × Linked count (length (now heads)) (now lefts) (now rights) (now heads) (now «left_nexts») (now «right_nexts») 0 × Sized (length (now heads)) (now disc) (now stack) (now parents) (now nexts) (now lows) × ((x : ℕ) → at (now disc) x ≡ 0) ⌝ }
     ensures { λ _. ⌜ now (marks .exit) ≡ bridgeMarks (recordsOf count (now (owners .entry)) (now (lefts .entry)) (now (rights .entry))) 256 ⌝ }
 {
     *marks = [0u8; 256];
-    let mut disc = [0u32; 8192];
-    let mut stack = [0u32; 8192];
-    let mut parents = [0u32; 8192];
-    let mut nexts = [0u32; 8192];
-    let mut lows = [0u32; 8192];
     let end = size(count);
     let mut time = 0;
     let mut r = 0;
@@ -171,11 +172,11 @@ pub fn walk_all(
             heads,
             left_nexts,
             right_nexts,
-            &mut disc,
-            &mut stack,
-            &mut parents,
-            &mut nexts,
-            &mut lows,
+            disc,
+            stack,
+            parents,
+            nexts,
+            lows,
             marks,
             r,
             time,

@@ -7,6 +7,7 @@ use Rattle.bridges.proofs.chaining.link_record.Tie as tie
 use Rattle.bridges.proofs.chaining.link_record.Reads as reads
 use Rattle.bridges.proofs.chaining.link_record.Lts as lts
 use Rattle.wire.proofs.size.Reads as size-reads
+use lib.ListN.{length-set}
 
 size-requires : tie.Need-size-requires
 size-requires c κs = search needs
@@ -14,8 +15,8 @@ size-requires c κs = search needs
 mul-size : tie.Need-mul-size
 mul-size c = search needs
 
-element-copy-out-size : tie.Need-element-copy-out-size
-element-copy-out-size c = search needs
+shared-slice-read-size : tie.Need-shared-slice-read-size
+shared-slice-read-size c = search needs
 
 size-requires-2 : tie.Need-size-requires-2
 size-requires-2 c κs = search needs
@@ -23,8 +24,8 @@ size-requires-2 c κs = search needs
 mul-size-2 : tie.Need-mul-size-2
 mul-size-2 c = search needs
 
-element-copy-out-size-2 : tie.Need-element-copy-out-size-2
-element-copy-out-size-2 c = search needs
+shared-slice-read-size-2 : tie.Need-shared-slice-read-size-2
+shared-slice-read-size-2 c = search needs
 
 size-requires-3 : tie.Need-size-requires-3
 size-requires-3 c κs = search needs
@@ -32,38 +33,47 @@ size-requires-3 c κs = search needs
 mul-left-nexts : tie.Need-mul-left-nexts
 mul-left-nexts c = search needs
 
-element-copy-out-left-nexts : tie.Need-element-copy-out-left-nexts
-element-copy-out-left-nexts c = omega (arith, c .before .before .size2 .ensures .0, ap (at (c .before .before .before .before .before .args .lefts .now)) (c .before .before .before .before .size .ensures .0), c .before .before .before .before .before .pre .1)
+slice-read-left-nexts : tie.Need-slice-read-left-nexts
+slice-read-left-nexts c = omega (arith, c .before .before .before .size2 .ensures .0, ap (at (c .before .before .before .before .before .before .before .before .before .before .before .args .lefts .now)) (c .before .before .before .before .before .size .ensures .0), c .before .before .before .before .before .before .before .before .before .before .before .pre .4)
 
 mul-left-nexts-2 : tie.Need-mul-left-nexts-2
 mul-left-nexts-2 c = search needs
 
-element-write-left-nexts : tie.Need-element-write-left-nexts
-element-write-left-nexts c = search needs
+slice-write-left-nexts : tie.Need-slice-write-left-nexts
+slice-write-left-nexts c = search needs
 
 mul-right-nexts : tie.Need-mul-right-nexts
 mul-right-nexts c = search needs
 
-element-copy-out-right-nexts : tie.Need-element-copy-out-right-nexts
-element-copy-out-right-nexts c = omega (arith, c .before .size3 .ensures .0, ap (at (c .before .before .before .before .before .before .args .rights .now)) (c .before .before .before .before .before .size .ensures .0), c .before .before .before .before .before .before .pre .2)
+slice-read-right-nexts : tie.Need-slice-read-right-nexts
+slice-read-right-nexts c = omega (arith, c .before .before .size3 .ensures .0, ap (at (c .before .before .before .before .before .before .before .before .before .before .before .before .args .rights .now)) (c .before .before .before .before .before .before .size .ensures .0), c .before .before .before .before .before .before .before .before .before .before .before .before .pre .5)
 
 mul-right-nexts-2 : tie.Need-mul-right-nexts-2
 mul-right-nexts-2 c = search needs
 
-element-write-right-nexts : tie.Need-element-write-right-nexts
-element-write-right-nexts c = search needs
+slice-write-right-nexts : tie.Need-slice-write-right-nexts
+slice-write-right-nexts c = search needs
 
 mul-heads : tie.Need-mul-heads
 mul-heads c = search needs
 
-element-write-heads : tie.Need-element-write-heads
-element-write-heads c = omega (arith, c .before .before .before .before .size2 .ensures .0, ap (at (c .before .before .before .before .before .before .before .args .lefts .now)) (c .before .before .before .before .before .before .size .ensures .0), c .before .before .before .before .before .before .before .pre .1)
+slice-write-heads : tie.Need-slice-write-heads
+slice-write-heads c = omega (arith, c .before .before .before .before .size2 .ensures .0, ap (at (c .before .before .before .before .before .before .before .before .before .before .before .before .args .lefts .now)) (c .before .before .before .before .before .before .size .ensures .0), c .before .before .before .before .before .before .before .before .before .before .before .before .pre .4)
 
 mul-heads-2 : tie.Need-mul-heads-2
 mul-heads-2 c = search needs
 
-element-write-heads-2 : tie.Need-element-write-heads-2
-element-write-heads-2 c = omega (arith, c .before .before .size3 .ensures .0, ap (at (c .before .before .before .before .before .before .before .args .rights .now)) (c .before .before .before .before .before .before .size .ensures .0), c .before .before .before .before .before .before .before .pre .2)
+slice-write-heads-2 : tie.Need-slice-write-heads-2
+slice-write-heads-2 c = simp length-set (omega (arith, c .before .before .size3 .ensures .0, ap (at (c .before .before .before .before .before .before .before .before .before .before .before .before .args .rights .now)) (c .before .before .before .before .before .before .size .ensures .0), c .before .before .before .before .before .before .before .before .before .before .before .before .pre .5))
+
+same-length : tie.Need-same-length
+same-length c = simp length-set
+
+same-length-2 : tie.Need-same-length-2
+same-length-2 c = search needs
+
+same-length-3 : tie.Need-same-length-3
+same-length-3 c = search needs
 
 returns : tie.Need-returns
 returns c =
@@ -78,21 +88,24 @@ link-record-spec =
     (tie.spec
     size-requires
     mul-size
-    element-copy-out-size
+    shared-slice-read-size
     size-requires-2
     mul-size-2
-    element-copy-out-size-2
+    shared-slice-read-size-2
     size-requires-3
     mul-left-nexts
-    element-copy-out-left-nexts
+    slice-read-left-nexts
     mul-left-nexts-2
-    element-write-left-nexts
+    slice-write-left-nexts
     mul-right-nexts
-    element-copy-out-right-nexts
+    slice-read-right-nexts
     mul-right-nexts-2
-    element-write-right-nexts
+    slice-write-right-nexts
     mul-heads
-    element-write-heads
+    slice-write-heads
     mul-heads-2
-    element-write-heads-2
+    slice-write-heads-2
+    same-length
+    same-length-2
+    same-length-3
     returns)

@@ -12,11 +12,11 @@ size-requires c κs = search needs
 mul-t6 : tie.Need-mul-t6
 mul-t6 c = search needs
 
-element-copy-out-t9 : tie.Need-element-copy-out-t9
-element-copy-out-t9 c = search needs
+shared-slice-read-t8 : tie.Need-shared-slice-read-t8
+shared-slice-read-t8 c = search needs
 
 returns : tie.Need-returns
 returns c = (refl, refl, rw (c .before .size .ensures .0), refl)
 
 pub opened-spec : {M : Type 1} → statement M
-opened-spec = tie.close (tie.spec size-requires mul-t6 element-copy-out-t9 returns)
+opened-spec = tie.close (tie.spec size-requires mul-t6 shared-slice-read-t8 returns)

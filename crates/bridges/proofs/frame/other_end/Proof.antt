@@ -15,31 +15,31 @@ size-requires c κs = search needs
 mul-if1 : tie.Need-mul-if1
 mul-if1 c = search needs
 
-element-copy-out-if1 : tie.Need-element-copy-out-if1
-element-copy-out-if1 c = search needs
+shared-slice-read-if1 : tie.Need-shared-slice-read-if1
+shared-slice-read-if1 c = search needs
 
 mul-result : tie.Need-mul-result
 mul-result c = search needs
 
-element-copy-out-result : tie.Need-element-copy-out-result
-element-copy-out-result c = search needs
+shared-slice-read-result : tie.Need-shared-slice-read-result
+shared-slice-read-result c = search needs
 
 returns : tie.Need-returns
 returns c =
     let e = c .before .before .before .before .size .ensures .0 in
-    forth (ap (at (c .before .before .before .before .before .args .lefts .now)) (sym e) ∙ c .before .if1 .taken) (ap (at (c .before .before .before .before .before .args .rights .now)) (sym e))
+    forth (ap (at (c .before .before .before .before .before .before .before .args .lefts .now)) (sym e) ∙ c .before .if1 .taken) (ap (at (c .before .before .before .before .before .before .before .args .rights .now)) (sym e))
 
 mul-result-2 : tie.Need-mul-result-2
 mul-result-2 c = search needs
 
-element-copy-out-result-2 : tie.Need-element-copy-out-result-2
-element-copy-out-result-2 c = search needs
+shared-slice-read-result-2 : tie.Need-shared-slice-read-result-2
+shared-slice-read-result-2 c = search needs
 
 returns-2 : tie.Need-returns-2
 returns-2 c =
     let e = c .before .before .before .before .size .ensures .0 in
-    back (ap (at (c .before .before .before .before .before .args .lefts .now)) (sym e))
-    (⊎-elim (λ z. absurd (c .before .if1 .left (ap (at (c .before .before .before .before .before .args .lefts .now)) e ∙ z))) (λ z. z) (c .before .before .before .before .before .pre .1))
+    back (ap (at (c .before .before .before .before .before .before .before .args .lefts .now)) (sym e))
+    (⊎-elim (λ z. absurd (c .before .if1 .left (ap (at (c .before .before .before .before .before .before .before .args .lefts .now)) e ∙ z))) (λ z. z) (c .before .before .before .before .before .before .before .pre .2))
 
 pub other-end-spec : {M : Type 1} → statement M
 other-end-spec =
@@ -47,10 +47,10 @@ other-end-spec =
     (tie.spec
     size-requires
     mul-if1
-    element-copy-out-if1
+    shared-slice-read-if1
     mul-result
-    element-copy-out-result
+    shared-slice-read-result
     returns
     mul-result-2
-    element-copy-out-result-2
+    shared-slice-read-result-2
     returns-2)

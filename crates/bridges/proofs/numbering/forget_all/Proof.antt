@@ -20,10 +20,10 @@ loop-holds : tie.Need-loop-holds Inv-loop μ-loop
 loop-holds c = (omega arith, refl, λ s f. f)
 
 forget-record-requires : tie.Need-forget-record-requires Inv-loop μ-loop
-forget-record-requires c κs = (c .before .loop-test .taken, c .before .before .before .before .pre .0, omega (arith, c .before .before .before .before .pre .1, c .before .before .loop .inv .1))
+forget-record-requires c κs = (c .before .loop-test .taken, c .before .before .before .before .before .before .pre .0, omega (arith, c .before .before .before .before .before .before .pre .1, c .before .before .loop .inv .1))
 
 add-k : tie.Need-add-k Inv-loop μ-loop
-add-k c = omega (arith, c .before .before .before .before .loop-test .taken, c .before .before .before .before .before .before .before .pre .0 .few)
+add-k c = omega (arith, c .before .before .before .before .loop-test .taken, c .before .before .before .before .before .before .before .before .before .pre .0 .few)
 
 loop-less : tie.Need-loop-less Inv-loop μ-loop
 loop-less c = omega (arith, c .before .before .before .before .loop-test .taken)
@@ -35,7 +35,7 @@ same-length : tie.Need-same-length Inv-loop μ-loop
 same-length c = c .before .loop .inv .1
 
 returns : tie.Need-returns Inv-loop μ-loop
-returns c = λ s f. subst (Forgotten _ _ _ _ _ s _) (let z : c .before .loop .k ≡ c .before .before .before .args .count = omega (arith, c .before .loop .inv .0, c .loop-test .left) in z) (c .before .loop .inv .2 s f)
+returns c = λ s f. subst (Forgotten _ _ _ _ _ s _) (let z : c .before .loop .k ≡ c .before .before .before .before .before .args .count = omega (arith, c .before .loop .inv .0, c .loop-test .left) in z) (c .before .loop .inv .2 s f)
 
 pub forget-all-spec : {M : Type 1} → statement M
 forget-all-spec =

@@ -12,32 +12,47 @@ size-requires c κs = search needs
 mul-disc : tie.Need-mul-disc
 mul-disc c = search needs
 
-element-write-disc : tie.Need-element-write-disc
-element-write-disc c = search needs
+slice-write-disc : tie.Need-slice-write-disc
+slice-write-disc c = search needs
 
 mul-stack : tie.Need-mul-stack
 mul-stack c = search needs
 
-element-write-stack : tie.Need-element-write-stack
-element-write-stack c = search needs
+slice-write-stack : tie.Need-slice-write-stack
+slice-write-stack c = search needs
 
 mul-parents : tie.Need-mul-parents
 mul-parents c = search needs
 
-element-write-parents : tie.Need-element-write-parents
-element-write-parents c = search needs
+slice-write-parents : tie.Need-slice-write-parents
+slice-write-parents c = search needs
 
 mul-nexts : tie.Need-mul-nexts
 mul-nexts c = search needs
 
-element-write-nexts : tie.Need-element-write-nexts
-element-write-nexts c = search needs
+slice-write-nexts : tie.Need-slice-write-nexts
+slice-write-nexts c = search needs
 
 mul-lows : tie.Need-mul-lows
 mul-lows c = search needs
 
-element-write-lows : tie.Need-element-write-lows
-element-write-lows c = search needs
+slice-write-lows : tie.Need-slice-write-lows
+slice-write-lows c = search needs
+
+same-length : tie.Need-same-length
+same-length c = search needs
+
+same-length-2 : tie.Need-same-length-2
+same-length-2 c = search needs
+
+same-length-3 : tie.Need-same-length-3
+same-length-3 c = search needs
+
+same-length-4 : tie.Need-same-length-4
+same-length-4 c = search needs
+
+same-length-5 : tie.Need-same-length-5
+same-length-5 c = search needs
 
 returns : tie.Need-returns
 returns c = (rw (c .size .ensures .0), refl, refl, refl, refl)
@@ -48,13 +63,18 @@ enter-spec =
     (tie.spec
     size-requires
     mul-disc
-    element-write-disc
+    slice-write-disc
     mul-stack
-    element-write-stack
+    slice-write-stack
     mul-parents
-    element-write-parents
+    slice-write-parents
     mul-nexts
-    element-write-nexts
+    slice-write-nexts
     mul-lows
-    element-write-lows
+    slice-write-lows
+    same-length
+    same-length-2
+    same-length-3
+    same-length-4
+    same-length-5
     returns)

@@ -11,11 +11,11 @@ size-requires c κs = search needs
 mul-result : tie.Need-mul-result
 mul-result c = search needs
 
-element-copy-out-result : tie.Need-element-copy-out-result
-element-copy-out-result c = search needs
+shared-slice-read-result : tie.Need-shared-slice-read-result
+shared-slice-read-result c = search needs
 
 returns : tie.Need-returns
 returns c = rw (c .before .size .ensures .0)
 
 pub time-of-spec : {M : Type 1} → statement M
-time-of-spec = tie.close (tie.spec size-requires mul-result element-copy-out-result returns)
+time-of-spec = tie.close (tie.spec size-requires mul-result shared-slice-read-result returns)
