@@ -6,6 +6,7 @@ use Prim.Native.Nat.{ℕ, _+_, _*_, _≤_, _<_}
 use native.Mathlib.Omega.{arith}
 use native.Mathlib.Decide.{decLt}
 use lib.ListN.{length, getD, drop, replicate, length-append, length-replicate, getD-replicate}
+use lib.Seq.{drop-append-seam, drop-append-add}
 use Rattle.lists.proofs.Flat.{length-pieces}
 use Rattle.wire.specs.Bytes.{part, number, numberAt, u32At, u32Bytes}
 use Rattle.wire.proofs.Parts.{part-left, part-right}
@@ -66,21 +67,33 @@ module _ (ls before : List ℕ) where
         zeros-long,
       )
 
-module _ {dirs : List ℕ} {g : Grid} {ends : List ℕ} {count : ℕ} {before work removed separated owners lefts rights : List ℕ} {p : Partition}
-    (r : Partitioned dirs g ends count before work removed separated owners lefts rights p) where
-  -- over 4,096 pairs nothing is asked of the marks
-  pub unbridged : {marks : List ℕ} → 4096 < p .pairs → Bridged dirs g (spansIn ends count) marks
+  -- labels written again change nothing
+  pub labelled-again : labelled ls (labelled ls before) ≡ labelled ls before
+  unfolding labelled
+  labelled-again =
+      let z : 10 * length ls ≡ length (flatMap u32Bytes ls) + 6 * length ls = omega (arith, flat-long) in
+      ap (λ (t : List ℕ). flatMap u32Bytes ls ++ (zeros ++ t))
+      (ap (λ (i : ℕ). drop i (flatMap u32Bytes ls ++ (zeros ++ drop (10 * length ls) before))) z
+      ∙ (drop-append-add (flatMap u32Bytes ls) (zeros ++ drop (10 * length ls) before) (6 * length ls)
+      ∙ (ap (λ (i : ℕ). drop i (zeros ++ drop (10 * length ls) before)) (sym zeros-long) ∙ drop-append-seam zeros (drop (10 * length ls) before))))
+
+module _ {most : ℕ} {dirs : List ℕ} {g : Grid} {ends : List ℕ} {count : ℕ} {before work removed separated owners lefts rights : List ℕ} {p : Partition}
+    (r : Partitioned most dirs g ends count before work removed separated owners lefts rights p) where
+  -- over `most` pairs nothing is asked of the marks
+  pub unbridged : {marks : List ℕ} → most < p .pairs → Bridged most dirs g (spansIn ends count) marks
   unbridged h = λ few. absurd (omega (arith, r .pairs-are few))
 
-  pub few-pairs : p .pairs ≤ 4096 → length (records dirs g (spansIn ends count)) ≤ 4096
-  few-pairs h = by-cases (decLt 4096 (length (records dirs g (spansIn ends count)))) (λ o. absurd (omega (arith, r .over o))) (λ o. omega arith)
+  pub few-pairs : p .pairs ≤ most → length (records dirs g (spansIn ends count)) ≤ most
+  few-pairs h = by-cases (decLt most (length (records dirs g (spansIn ends count)))) (λ o. absurd (omega (arith, r .over o))) (λ o. omega arith)
 
-  pub owners-in : count ≤ 256 → p .pairs ≤ 4096 → Owners (p .pairs) owners
+  pub owners-in : count ≤ 256 → p .pairs ≤ most → Owners (p .pairs) owners
   owners-in c h = λ k l. let z = r .owners-few (few-pairs h) k l in omega arith
 
-  pub labels-in : (n : ℕ) → n ≡ size g → p .pairs ≤ 4096 → Labelled (p .pairs) lefts rights n
-  labels-in n e h = rw e (record {
-    few = h;
+  pub labels-in : (n : ℕ) → n ≡ size g → most ≤ 4096 → length lefts ≡ most → length rights ≡ most → p .pairs ≤ most → Labelled (p .pairs) lefts rights n
+  labels-in n e few el er h = rw e (record {
+    few = omega arith;
+    lefts-are = omega arith;
+    rights-are = omega arith;
     left-from = λ k l. r .regions (few-pairs h) k l .some;
     left-to = λ k l. let z = r .regions (few-pairs h) k l in omega (arith, z .apart, z .most);
     right-from = λ k l. let z = r .regions (few-pairs h) k l in omega (arith, z .apart, z .some);
@@ -101,6 +114,6 @@ module _ {dirs : List ℕ} {g : Grid} {ends : List ℕ} {count : ℕ} {before wo
       ∙ (ap (λ (a : ℕ). u32At (labelled (areaLabels dirs g (spansIn ends count)) before) (4 * a + 4 * x)) z
       ∙ table-zero (areaLabels dirs g (spansIn ends count)) before x b)
 
-  pub bridged : {marks : List ℕ} → marks ≡ bridgeMarks (recordsOf (p .pairs) owners lefts rights) 256 → Bridged dirs g (spansIn ends count) marks
+  pub bridged : {marks : List ℕ} → marks ≡ bridgeMarks (recordsOf (p .pairs) owners lefts rights) 256 → Bridged most dirs g (spansIn ends count) marks
   unfolding recordsIn recordsOf
   bridged e = λ few. e ∙ ap (λ rs. bridgeMarks rs 256) (r .records-are few)

@@ -34,6 +34,7 @@ use Rattle.job.proofs.Firsts.{skip, stop, clear, append-none, append-some}
 use Rattle.results.specs.Rules.{gridOf, listingOf}
 use Rattle.results.specs.Results.{workSize, maxPairs, afterWork, outcome, workCheck, pairCheck, labelsOf, answerOf, reduced, leftBy}
 use Rattle.analysis.specs.Plans.{planOf, RankedBy, Drawn, Made, PlanLeft, Finished}
+use Rattle.analysis.proofs.Within.{parted-many, parted-few}
 use Rattle.results.proofs.Planned.{matched-answer, unmatched-answer}
 use Rattle.analysis.proofs.Ranked.{ByRank, places-perm, places-ranked, copies-ranked}
 use Rattle.results.proofs.Results.{reduced-success}
@@ -91,12 +92,6 @@ module _ (checks : List Check) (j : Job) (ss : List Span) (before : List ℕ) wh
     }
 
     module _ (w : workSize j ≤ length before) {after plan : List ℕ} {pairs : ℕ} (y : Drawn j ss before after plan pairs) where
-      many : 4096 < pairs → maxPairs < length (records eight (gridOf j) ss)
-      many h = by-cases (decLt maxPairs (length (records eight (gridOf j) ss))) (λ l. l) (λ l. let z = y .pairs-are (omega arith) in absurd (omega arith))
-
-      few : pairs ≤ 4096 → length (records eight (gridOf j) ss) ≤ maxPairs
-      few h = by-cases (decLt maxPairs (length (records eight (gridOf j) ss))) (λ l. let z = y .over l in absurd (omega arith)) (λ l. omega arith)
-
       -- 13
       pub left-many : {order : List ℕ} → 4096 < pairs → PlanLeft checks j ss before after order plan 13 0
       unfolding reduced outcome afterWork
@@ -105,7 +100,7 @@ module _ (checks : List Check) (j : Job) (ss : List Span) (before : List ℕ) wh
             let n = length (answerOf limits000 eight j ss) in
             let a : firstRefusal (checks ++ (workCheck j before ∷ [])) ≡ none = append-none checks _ e ∙ clear 21 0 (le-ltb _ _ w) in
             let b : firstRefusal (pairCheck eight j ss ∷ check (ltb (length answer) n) 22 n ∷ []) ≡ some (record { number = 13; detail = 0 })
-            = stop 13 0 (check (ltb (length answer) n) 22 n ∷ []) (lt-ltb _ _ (many h)) in
+            = stop 13 0 (check (ltb (length answer) n) 22 n ∷ []) (lt-ltb _ _ (parted-many y h)) in
             rw (a, b, y .work-is) refl;
         made = λ z. absurd (omega (arith, z));
       }
@@ -114,7 +109,7 @@ module _ (checks : List Check) (j : Job) (ss : List Span) (before : List ℕ) wh
       pub left-made : {order : List ℕ} → pairs ≤ 4096 → RankedBy j order → PlanLeft checks j ss before after order plan 0 0
       left-made h k = record {
         refused = λ s. absurd (omega (arith, s));
-        made = λ z. record { passed = e; room = w; few = few h; nothing = refl; work-is = y .work-is; ranks = k; plan-is = y .plan-is (few h) };
+        made = λ z. record { passed = e; room = w; few = parted-few y h; nothing = refl; work-is = y .work-is; ranks = k; plan-is = y .told (parted-few y h) };
       }
 
 -- 22

@@ -2,6 +2,7 @@ pub mod Ranked
 pub mod Checked
 pub mod RankedTables
 pub mod Bridging
+pub mod Within
 pub mod Mapped
 pub mod Headed
 pub mod Telling

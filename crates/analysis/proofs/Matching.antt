@@ -29,9 +29,9 @@ use Rattle.job.specs.Refusals.{reduceChecks, byListChecks}
 use Rattle.partition.specs.Partitioned.{labelled, Partitionable, Partitioned}
 use Rattle.partition.specs.declared.Partition.{Partition}
 use Rattle.results.specs.Rules.{gridOf, listingOf}
-use Rattle.results.specs.Results.{workSize, ownEnds}
-use Rattle.analysis.specs.Bridging.{Bridged}
-use Rattle.analysis.specs.Plans.{planOf, Headed, RankedJob, Plannable, EndsBy, SomeEnds, Told, SomeTold, Drawn}
+use Rattle.results.specs.Results.{workSize, maxPairs, ownEnds}
+use Rattle.analysis.specs.Bridging.{Bridged, MarkedWithin}
+use Rattle.analysis.specs.Plans.{planOf, Headed, RankedJob, Plannable, EndsBy, SomeEnds, Told, SomeTold, DrawnWithin, Drawn}
 use Rattle.analysis.proofs.Ranked.{ByRank}
 use Rattle.analysis.proofs.Checked.{boundariesAt, Checked, ListChecked, checked, by-list-checked}
 use Rattle.analysis.proofs.RankedTables.{order-in, own-ends-ranked, list-ends-ranked, own-ends-fit, list-ends-fit, own-matched, list-matched, list-records, labels-listed, records-listed}
@@ -45,20 +45,11 @@ module _ {s : List ℕ} {h : Header} (d : Headed s h) (n : ℕ) (e : n ≡ h .co
   abbrev cells : List ℕ
   cells = take (48 + n - 48) (drop 48 s)
 
-  pub on-job : {ends before after removed separated owners lefts rights : List ℕ} {count m : ℕ} {q : Partition} → count ≡ m
-      → Partitioned (directionsOf 495) (mapOf (h .counts .width) (h .counts .height) cells) ends count before after removed separated owners lefts rights q
-      → Partitioned eight (gridOf (decode s)) ends m before after removed separated owners lefts rights q
-  on-job {ends} {before} {after} {removed} {separated} {owners} {lefts} {rights} {count} {m} {q} f r =
-      subst (λ (k : ℕ). Partitioned eight (gridOf (decode s)) ends k before after removed separated owners lefts rights q) f
-      (subst (λ (g : Grid). Partitioned eight g ends count before after removed separated owners lefts rights q) (map-is (d .header) (headed-laid d) n e)
-      (subst (λ (ds : List ℕ). Partitioned ds (mapOf (h .counts .width) (h .counts .height) cells) ends count before after removed separated owners lefts rights q) directions-eight r))
-
-  pub marks-on-job : (ends : List ℕ) {marks : List ℕ} {count m : ℕ} → count ≡ m → Bridged (directionsOf 495) (mapOf (h .counts .width) (h .counts .height) cells) (spansIn ends count) marks
-      → Bridged eight (gridOf (decode s)) (spansIn ends m) marks
-  marks-on-job ends {marks} {count} {m} f b =
-      subst (λ (k : ℕ). Bridged eight (gridOf (decode s)) (spansIn ends k) marks) f
-      (subst (λ (g : Grid). Bridged eight g (spansIn ends count) marks) (map-is (d .header) (headed-laid d) n e)
-      (subst (λ (ds : List ℕ). Bridged ds (mapOf (h .counts .width) (h .counts .height) cells) (spansIn ends count) marks) directions-eight b))
+  pub on-job : (P : List ℕ → Grid → ℕ → Type 0) {count m : ℕ} → count ≡ m → P (directionsOf 495) (mapOf (h .counts .width) (h .counts .height) cells) count → P eight (gridOf (decode s)) m
+  on-job P {count} f r =
+      subst (P eight (gridOf (decode s))) f
+      (subst (λ (g : Grid). P eight g count) (map-is (d .header) (headed-laid d) n e)
+      (subst (λ (ds : List ℕ). P ds (mapOf (h .counts .width) (h .counts .height) cells) count) directions-eight r))
 
   cells-few : size (gridOf (decode s)) ≤ 1048576
   cells-few = omega (arith, ap length (map-cells (d .header) (headed-laid d) n e), map-long (d .header) (headed-laid d) n e, headed-cells d)
@@ -74,35 +65,35 @@ module _ {s : List ℕ} {h : Header} {order before : List ℕ} (p : Plannable s 
   pub matched-partitionable : {ends : List ℕ} → SpansFit (h .counts .width) (h .counts .height) ends (h .counts .boundaries) → Partitionable (h .counts .width) (h .counts .height) (take (48 + n - 48) (drop 48 s)) 495 ends count before
   matched-partitionable {ends} t = map-partitionable (d .header) (headed-laid d) n e (rw f t) (omega (arith, f, headed-laid d .within .boundaries)) (p .room)
 
-  module _ {ends after removed separated owners lefts rights : List ℕ} {q : Partition}
-      (r : Partitioned (directionsOf 495) (mapOf (h .counts .width) (h .counts .height) (take (48 + n - 48) (drop 48 s))) ends count before after removed separated owners lefts rights q) where
-    standard : Partitioned eight (gridOf (decode s)) ends (countsAt s 0 .boundaries) before after removed separated owners lefts rights q
-    standard = on-job d n e (f ∙ count-is d) r
+  module _ {most : ℕ} {ends after removed separated owners lefts rights : List ℕ} {q : Partition}
+      (r : Partitioned most (directionsOf 495) (mapOf (h .counts .width) (h .counts .height) (take (48 + n - 48) (drop 48 s))) ends count before after removed separated owners lefts rights q) where
+    standard : Partitioned most eight (gridOf (decode s)) ends (countsAt s 0 .boundaries) before after removed separated owners lefts rights q
+    standard = on-job d n e (λ ds g k. Partitioned most ds g ends k before after removed separated owners lefts rights q) (f ∙ count-is d) r
 
-    -- 13
-    pub matched-many : {plan : List ℕ} → 4096 < q .pairs → (ss : List Span) → EndsBy s order ends ss → Drawn (decode s) ss before after plan (q .pairs)
-    matched-many l ss m = record {
+    -- over `most`
+    pub matched-many : (plan : List ℕ) → most < q .pairs → (ss : List Span) → EndsBy s order ends ss → DrawnWithin most (decode s) ss before after plan (q .pairs)
+    matched-many plan l ss m = record {
       work-is = told-work c (plan-ranks (p .job)) m standard;
       over = told-over c (plan-ranks (p .job)) m standard;
       pairs-are = told-pairs c (plan-ranks (p .job)) m standard;
-      plan-is = λ few. absurd (omega (arith, told-few c (plan-ranks (p .job)) m standard few));
+      told = λ few. absurd (omega (arith, told-few c (plan-ranks (p .job)) m standard few));
     }
 
-    module _ {marks : List ℕ} (b : Bridged (directionsOf 495) (mapOf (h .counts .width) (h .counts .height) (take (48 + n - 48) (drop 48 s))) (spansIn ends count) marks) (l : q .pairs ≤ 4096) where
+    module _ (small : most ≤ 4096) {marks : List ℕ} (b : Bridged most (directionsOf 495) (mapOf (h .counts .width) (h .counts .height) (take (48 + n - 48) (drop 48 s))) (spansIn ends count) marks) (l : q .pairs ≤ most) where
       matched-told : (ss : List Span) → EndsBy s order ends ss → Told s after removed separated owners lefts rights (q .pairs) marks ss
-      matched-told ss m = told c (plan-ranks (p .job)) m standard (cells-few d n e) l (marks-on-job d n e ends (f ∙ count-is d) b)
+      matched-told ss m = told c (plan-ranks (p .job)) m standard (cells-few d n e) small l (on-job d n e (λ ds g k. Bridged most ds g (spansIn ends k) marks) (f ∙ count-is d) b)
 
       pub some-told : SomeEnds s order ends → SomeTold s after removed separated owners lefts rights (q .pairs) marks
       some-told m = record { spans = m .spans; are = matched-told (m .spans) (m .are) }
 
-      pub matched-drawn : {work plan : List ℕ} → work ≡ after
+      pub matched-drawn : {work : List ℕ} (plan : List ℕ) → work ≡ after
           → ((ss : List Span) → Told s after removed separated owners lefts rights (q .pairs) marks ss → (i : ℕ) → i < length (decode s .boundaries) → getD plan i 0 ≡ planOf limits000 eight (decode s) ss i)
-          → (ss : List Span) → EndsBy s order ends ss → Drawn (decode s) ss before work plan (q .pairs)
-      matched-drawn w t ss m = record {
+          → (ss : List Span) → EndsBy s order ends ss → DrawnWithin most (decode s) ss before work plan (q .pairs)
+      matched-drawn plan w t ss m = record {
         work-is = w ∙ told-work c (plan-ranks (p .job)) m standard;
         over = told-over c (plan-ranks (p .job)) m standard;
         pairs-are = told-pairs c (plan-ranks (p .job)) m standard;
-        plan-is = λ few. t ss (matched-told ss m);
+        told = λ few. t ss (matched-told ss m);
       }
 
 -- the boundaries' own ends
@@ -166,20 +157,20 @@ module _ {s : List ℕ} {h : Header} (d : Headed s h) (t : List ℕ) (f : firstR
       pub unmatched-partitionable : {work : List ℕ} → workSize (decode s) ≤ length work → Partitionable (h .counts .width) (h .counts .height) (take (48 + cells - 48) (drop 48 s)) 495 ends n work
       unmatched-partitionable room = map-partitionable (d .header) (headed-laid d) cells f₂ all-fit few room
 
-      pub unmatched-drawn : (n ≡ h .counts .boundaries → ⊥) → {before after removed separated owners lefts rights : List ℕ} {q : Partition}
-          → Partitioned (directionsOf 495) (mapOf (h .counts .width) (h .counts .height) (take (48 + cells - 48) (drop 48 s))) ends n before after removed separated owners lefts rights q
-          → Drawn (decode s) (decodeList t) before after order (q .pairs)
+      pub unmatched-drawn : (n ≡ h .counts .boundaries → ⊥) → {before after marks : List ℕ} {pairs : ℕ}
+          → MarkedWithin maxPairs (directionsOf 495) (mapOf (h .counts .width) (h .counts .height) (take (48 + cells - 48) (drop 48 s))) (spansIn ends n) marks before after pairs
+          → Drawn (decode s) (decodeList t) before after order pairs
       unfolding planOf
-      unmatched-drawn ne {before} {after} {removed} {separated} {owners} {lefts} {rights} {q} r =
+      unmatched-drawn ne {before} {after} {marks} {pairs} r =
           let g : Grid = gridOf (decode s) in
-          let y = on-job d cells f₂ e r in
+          let y = on-job d cells f₂ (λ ds g k. MarkedWithin maxPairs ds g (spansIn ends k) marks before after pairs) e r in
           let x : records eight g (decodeList t) ≡ records eight g (spansIn ends (length t / spanSize)) = records-listed t (list-right .few) k ends all-here eight g in
           let differ : length (decode s .boundaries) ≡ length (decodeList t) → ⊥ = λ z. ne (let u = headed-checked d .count in let v = length-decodeList t in let w = count-is d in omega (arith, z)) in
           record {
             work-is = y .work-is ∙ ap (λ (ls : List ℕ). labelled ls before) (sym (labels-listed t (list-right .few) k ends all-here eight g));
             over = rw x (y .over);
             pairs-are = rw x (y .pairs-are);
-            plan-is = λ z i l.
+            told = λ z i l.
                 let u = headed-checked d .count in
                 let v = headed-checked d .allowed .boundaries in
                 k .each i (omega arith) ∙ ap (λ (b : Bool). cond b (mergePlan limits000 eight g (anchorsOf (decode s .bases)) (listingOf (decode s) (decodeList t)) i) i) (sym (ne-eqb _ _ differ));

@@ -22,6 +22,7 @@ use Rattle.links.specs.HeldLimits.{limitsOf}
 use Rattle.links.specs.declared.limits.Limits.{Limits as LimitsHeld}
 use Rattle.groups.specs.Plan.{mergePlan}
 use Rattle.groups.specs.Tables.{Boundaries}
+use Rattle.candidates.specs.Owners.{Stored}
 use Rattle.measures.specs.Judging.{Plain}
 use Rattle.ranks.specs.Tables.{Records, SpansOf, WidthsOf, RampsOf}
 use Rattle.results.specs.Rules.{gridOf, listingOf}
@@ -102,15 +103,16 @@ module _ {s : List ℕ} {h : Header} {order : List ℕ} (p : RankedJob s h order
       cells-whole : length (decode s .cells) ≡ countsAt s 0 .width * countsAt s 0 .height
       cells-whole = ap length (sym (map-cells (p .headed .header) (headed-laid (p .headed)) _ refl)) ∙ (map-long (p .headed .header) (headed-laid (p .headed)) _ refl ∙ ap (λ (a : Counts). a .width * a .height) (counts-are (p .headed)))
 
-      ready-here : Ready s (basesStart (countsAt s 0)) (countsAt s 0 .bases) (decode s .cells) (countsAt s 0 .width) (countsAt s 0 .height) count own bits ramps after removed separated owners lefts rights pairs
+      ready-here : Stored owners lefts rights pairs → Ready s (basesStart (countsAt s 0)) (countsAt s 0 .bases) (decode s .cells) (countsAt s 0 .width) (countsAt s 0 .height) count own bits ramps after removed separated owners lefts rights pairs
       unfolding decode jobWith
-      ready-here = record {
+      ready-here st = record {
         sides = checked-sides c;
         whole = cells-whole;
         labels = t .labels;
         there = bases-inside (p .headed);
         anchors = rw cells-whole (anchors-in (p .headed));
         plain = plain;
+        stored = st;
         dirs = eight;
         items = l;
         marks = marks;
@@ -130,8 +132,8 @@ module _ {s : List ℕ} {h : Header} {order : List ℕ} (p : RankedJob s h order
         count-at : n ≡ count
         count-at = e₃ ∙ count-is (p .headed)
 
-        pub ready : Ready s start bases cells (h .counts .width) (h .counts .height) n own bits ramps after removed separated owners lefts rights pairs
-        ready = rw (start-at, bases-at, count-at, map-cells (p .headed .header) (headed-laid (p .headed)) size e₄, counts-are (p .headed)) ready-here
+        pub ready : Stored owners lefts rights pairs → Ready s start bases cells (h .counts .width) (h .counts .height) n own bits ramps after removed separated owners lefts rights pairs
+        ready st = rw (start-at, bases-at, count-at, map-cells (p .headed .header) (headed-laid (p .headed)) size e₄, counts-are (p .headed)) (ready-here st)
 
         -- what the plan then is
         pub planned-as : {limits : LimitsHeld} {into : List ℕ} → limitsOf limits ≡ limits000

@@ -29,7 +29,7 @@ use Rattle.measures.specs.Tables.{Labels}
 use Rattle.partition.specs.Partitioned.{labelled, Partitioned}
 use Rattle.partition.specs.declared.Partition.{Partition}
 use Rattle.results.specs.Rules.{gridOf, listingOf}
-use Rattle.results.specs.Results.{maxPairs, labelsOf}
+use Rattle.results.specs.Results.{labelsOf}
 use Rattle.analysis.specs.Bridging.{Bridged}
 use Rattle.analysis.specs.Plans.{EndsBy, Told}
 use Rattle.analysis.proofs.Bridging.{few-pairs, room-in, zero-in}
@@ -59,8 +59,8 @@ module _ (ls before : List ℕ) (small : (i : ℕ) → i < length ls → getD ls
       ∙ sym (by-rows ls (length ls) (λ i. getD ls i 0) 0 refl (λ i h. refl))
 
 module _ {distinct : Bool} {s : List ℕ} (c : Checked distinct s) {order : List ℕ} (k : ByRank (decode s .boundaries) order) {ends : List ℕ} {ss : List Span} (m : EndsBy s order ends ss)
-    {before work removed separated owners lefts rights : List ℕ} {p : Partition}
-    (r : Partitioned eight (gridOf (decode s)) ends (countsAt s 0 .boundaries) before work removed separated owners lefts rights p) where
+    {most : ℕ} {before work removed separated owners lefts rights : List ℕ} {p : Partition}
+    (r : Partitioned most eight (gridOf (decode s)) ends (countsAt s 0 .boundaries) before work removed separated owners lefts rights p) where
   abbrev n : ℕ
   n = countsAt s 0 .boundaries
 
@@ -88,13 +88,13 @@ module _ {distinct : Bool} {s : List ℕ} (c : Checked distinct s) {order : List
   pairs-alike : length (records eight g ss) ≡ length (records eight g ts)
   pairs-alike = records-in c k ss (m .matched) eight g ends (m .each)
 
-  pub told-over : maxPairs < length (records eight g ss) → p .pairs ≡ 4_097
+  pub told-over : most < length (records eight g ss) → p .pairs ≡ most + 1
   told-over h = r .over (omega (arith, pairs-alike))
 
-  pub told-pairs : length (records eight g ss) ≤ maxPairs → p .pairs ≡ length (records eight g ss)
+  pub told-pairs : length (records eight g ss) ≤ most → p .pairs ≡ length (records eight g ss)
   told-pairs h = r .pairs-are (omega (arith, pairs-alike)) ∙ sym pairs-alike
 
-  pub told-few : length (records eight g ss) ≤ maxPairs → p .pairs ≤ 4096
+  pub told-few : length (records eight g ss) ≤ most → p .pairs ≤ most
   told-few h = omega (arith, told-pairs h)
 
   module _ (few : size g ≤ 1048576) where
@@ -121,8 +121,8 @@ module _ {distinct : Bool} {s : List ℕ} (c : Checked distinct s) {order : List
       clear = zero-in r (size g) refl;
     }
 
-    module _ (h : p .pairs ≤ 4096) {marks : List ℕ} (b : Bridged eight g ts marks) where
-      few-records : length (records eight g ts) ≤ 4096
+    module _ (room : most ≤ 4096) (h : p .pairs ≤ most) {marks : List ℕ} (b : Bridged most eight g ts marks) where
+      few-records : length (records eight g ts) ≤ most
       few-records = few-pairs r h
 
       span-is : (i : ℕ) → i < n → getD l i Rank.noItem .span ≡ spanIn ends i
@@ -141,7 +141,7 @@ module _ {distinct : Bool} {s : List ℕ} (c : Checked distinct s) {order : List
       }
 
       paired : Paired eight g l owners lefts rights (p .pairs)
-      paired = record { most = h; all = r .records-are few-records ∙ ap (records eight g) (sym spans-are) }
+      paired = record { most = omega arith; all = r .records-are few-records ∙ ap (records eight g) (sym spans-are) }
 
       bridged : BridgesOf eight g l marks
       unfolding bridgeAt bridgeMarks

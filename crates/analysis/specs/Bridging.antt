@@ -1,14 +1,35 @@
--- What the bridge marks of a partition are.
+-- What is left of a partition with room for some number of region pairs, and what its bridge marks are.
 use mathlib.Core.Path.{_≡_}
 use mathlib.Core.List.{List}
-use Prim.Native.Nat.{ℕ, _≤_}
+use Prim.Native.Nat.{ℕ, _+_, _≤_, _<_}
 use lib.ListN.{length}
 use Rattle.position.specs.declared.Span.{Span}
+use Rattle.graph.specs.Records.{Record}
 use Rattle.grid.specs.Cells.{Grid}
+use Rattle.areas.specs.Areas.{areaLabels}
 use Rattle.areas.specs.Assessments.{records}
 use Rattle.bridges.specs.Marks.{bridgeMarks}
+use Rattle.partition.specs.Partitioned.{labelled}
 use Rattle.results.specs.Results.{maxPairs}
 
--- the marks of the boundaries, where the pairs are no more than a call takes
-abbrev pub Bridged : List ℕ → Grid → List Span → List ℕ → Type 0
-Bridged dirs g ss marks = length (records dirs g ss) ≤ maxPairs → marks ≡ bridgeMarks (records dirs g ss) 256
+-- the marks of the boundaries, where the pairs are at most `most`
+abbrev pub Bridged : ℕ → List ℕ → Grid → List Span → List ℕ → Type 0
+Bridged most dirs g ss marks = length (records dirs g ss) ≤ most → marks ≡ bridgeMarks (records dirs g ss) 256
+
+-- three arrays of one length, at most as many as the pairs that a call takes
+pub record Alike (owners lefts rights : List ℕ) : Type 0 where
+  pub owners-are : length owners ≡ length lefts
+  pub rights-are : length rights ≡ length lefts
+  pub few : length lefts ≤ maxPairs
+
+-- the work has the labels ls, and pairs is the number of the region pairs rs, or one more than `most` where they are over it; where they are not, Told holds
+pub record PartedWithin (most : ℕ) (ls : List ℕ) (rs : List Record) (Told : Type 0) (before work : List ℕ) (pairs : ℕ) : Type 0 where
+  pub work-is : work ≡ labelled ls before
+  pub over : most < length rs → pairs ≡ most + 1
+  pub pairs-are : length rs ≤ most → pairs ≡ length rs
+  pub told : length rs ≤ most → Told
+
+-- a map parted by spans, with its bridge marks
+abbrev pub MarkedWithin : ℕ → List ℕ → Grid → List Span → List ℕ → List ℕ → List ℕ → ℕ → Type 0
+MarkedWithin most dirs g ss marks before work pairs =
+    PartedWithin most (areaLabels dirs g ss) (records dirs g ss) (marks ≡ bridgeMarks (records dirs g ss) 256) before work pairs

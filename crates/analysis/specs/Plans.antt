@@ -34,6 +34,7 @@ use Rattle.job.specs.Checks.{Check, firstRefusal}
 use Rattle.job.specs.Refusals.{boundaryChecks}
 use Rattle.partition.specs.Partitioned.{labelled}
 use Rattle.results.specs.Rules.{gridOf, listingOf}
+use Rattle.analysis.specs.Bridging.{PartedWithin}
 use Rattle.results.specs.Results.{workSize, maxPairs, labelsOf, reduced, leftBy}
 
 -- the rank that a rank goes into: itself where spans and boundaries differ in number
@@ -84,12 +85,14 @@ pub record SomeTold (s work removed separated owners lefts rights : List ℕ) (p
   pub spans : List Span
   pub are : Told s work removed separated owners lefts rights pairs marks spans
 
--- a job partitioned by the spans: the work, the number of region pairs (4,097 where they are over 4,096), and the plan
-pub record Drawn (j : Job) (ss : List Span) (before work plan : List ℕ) (pairs : ℕ) : Type 0 where
-  pub work-is : work ≡ labelled (labelsOf eight j ss) before
-  pub over : maxPairs < length (records eight (gridOf j) ss) → pairs ≡ 4_097
-  pub pairs-are : length (records eight (gridOf j) ss) ≤ maxPairs → pairs ≡ length (records eight (gridOf j) ss)
-  pub plan-is : length (records eight (gridOf j) ss) ≤ maxPairs → (i : ℕ) → i < length (j .boundaries) → getD plan i 0 ≡ planOf limits000 eight j ss i
+-- a job partitioned by the spans with room for `most` region pairs: the work, their number (one more than `most` where they are over it), and the plan
+abbrev pub DrawnWithin : ℕ → Job → List Span → List ℕ → List ℕ → List ℕ → ℕ → Type 0
+DrawnWithin most j ss before work plan pairs =
+    PartedWithin most (labelsOf eight j ss) (records eight (gridOf j) ss) ((i : ℕ) → i < length (j .boundaries) → getD plan i 0 ≡ planOf limits000 eight j ss i) before work pairs
+
+-- with room for as many as a call takes: 4,097 stands for over 4,096
+abbrev pub Drawn : Job → List Span → List ℕ → List ℕ → List ℕ → ℕ → Type 0
+Drawn j ss before work plan pairs = DrawnWithin maxPairs j ss before work plan pairs
 
 -- a call's plan, once it is past 13
 pub record Made (checks : List Check) (j : Job) (ss : List Span) (before work order plan : List ℕ) (detail : ℕ) : Type 0 where

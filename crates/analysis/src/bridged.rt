@@ -1,11 +1,12 @@
 // Partition, records and bridges: the core of all calls.
-ghost use mathlib.Core.Path.{_≡_};
+ghost use lib.ListN.{length};
 ghost use Rattle.grid.specs.Directions.{directionsOf};
 ghost use Rattle.areas.specs.Spans.{spansIn};
 ghost use Rattle.assessments.specs.Recording.{Arrays};
 ghost use Rattle.assessments.specs.Visits.{mapOf};
 ghost use Rattle.partition.specs.Partitioned.{Partitionable, Partitioned};
-ghost use Rattle.analysis.specs.Bridging.{Bridged};
+ghost use Rattle.results.specs.Results.{maxPairs};
+ghost use Rattle.analysis.specs.Bridging.{Bridged, MarkedWithin};
 use bridges::bridge_boundaries;
 use grid::neighbors::EIGHT;
 use partition::Partition;
@@ -14,7 +15,19 @@ use partition::partition_by_spans;
 // "13 over 4,096 region pairs in all."
 pub const MAX_PAIRS: usize = 4_096;
 
-// Partitions a map by spans, and marks the spans that are bridges where the region pairs aren't too many.
+// A map of few cells and spans is parted with room for few region pairs first, which costs little to clear.
+const FEW_CELLS: usize = 1_024;
+
+const FEW_SPANS: usize = 16;
+
+pub const FEW_PAIRS: usize = 64;
+
+// Whether room for few region pairs is tried first. Nothing is promised: either answer is right.
+pub fn is_small(cells: usize, spans: usize) -> bool {
+    (cells <= FEW_CELLS) & (spans <= FEW_SPANS)
+}
+
+// Partitions a map by spans, and marks the spans that are bridges where the arrays have room for the region pairs.
 pub fn analyse(
     cells: &[u8],
     width: u32,
@@ -24,16 +37,17 @@ pub fn analyse(
     work: &mut [u8],
     removed: &mut [u32; 256],
     separated: &mut [u32; 256],
-    owners: &mut [u32; 4096],
-    lefts: &mut [u32; 4096],
-    rights: &mut [u32; 4096],
+    owners: &mut [u32],
+    lefts: &mut [u32],
+    rights: &mut [u32],
     marks: &mut [u8; 256],
 ) -> Partition
-    requires { ⌜ Partitionable width height (now cells) 495 (now ends) count (now work) × Arrays (now removed) (now separated) (now owners) (now lefts) (now rights) ⌝ }
-    ensures { λ r. ⌜ Partitioned (directionsOf 495) (mapOf width height (now (cells .entry))) (now (ends .entry)) count (now (work .entry)) (now (work .exit)) (now (removed .exit)) (now (separated .exit)) (now (owners .exit)) (now (lefts .exit)) (now (rights .exit)) r ⌝ }
-    ensures marks { λ _. ⌜ Bridged (directionsOf 495) (mapOf width height (now (cells .entry))) (spansIn (now (ends .entry)) count) (now (marks .exit)) ⌝ }
+    requires { ⌜ Partitionable width height (now cells) 495 (now ends) count (now work) × Arrays (length (now lefts)) (now removed) (now separated) (now owners) (now lefts) (now rights) ⌝ }
+    ensures { λ r. ⌜ Partitioned (length (now (lefts .entry))) (directionsOf 495) (mapOf width height (now (cells .entry))) (now (ends .entry)) count (now (work .entry)) (now (work .exit)) (now (removed .exit)) (now (separated .exit)) (now (owners .exit)) (now (lefts .exit)) (now (rights .exit)) r ⌝ }
+    ensures marks { λ _. ⌜ Bridged (length (now (lefts .entry))) (directionsOf 495) (mapOf width height (now (cells .entry))) (spansIn (now (ends .entry)) count) (now (marks .exit)) ⌝ }
 {
     let n = cells.len();
+    let most = lefts.len();
     let p = partition_by_spans(
         cells,
         width,
@@ -49,9 +63,102 @@ pub fn analyse(
         rights,
     );
     let pairs = p.pairs;
-    if MAX_PAIRS < pairs {
+    if most < pairs {
         return p;
     }
     bridge_boundaries(owners, lefts, rights, pairs, n, work, 4 * n, marks);
     p
+}
+
+// Partitions a map by spans and marks those that are bridges, with room for few region pairs; gives their number.
+fn analyse_few(
+    cells: &[u8],
+    width: u32,
+    height: u32,
+    ends: &[u32; 1024],
+    count: usize,
+    work: &mut [u8],
+    marks: &mut [u8; 256],
+) -> usize
+    requires { ⌜ Partitionable width height (now cells) 495 (now ends) count (now work) ⌝ }
+    ensures { λ r. ⌜ MarkedWithin 64 (directionsOf 495) (mapOf width height (now (cells .entry))) (spansIn (now (ends .entry)) count) (now (marks .exit)) (now (work .entry)) (now (work .exit)) r ⌝ }
+{
+    let mut removed = [0u32; 256];
+    let mut separated = [0u32; 256];
+    let mut owners = [0u32; FEW_PAIRS];
+    let mut lefts = [0u32; FEW_PAIRS];
+    let mut rights = [0u32; FEW_PAIRS];
+    let p = analyse(
+        cells,
+        width,
+        height,
+        ends,
+        count,
+        work,
+        &mut removed,
+        &mut separated,
+        &mut owners,
+        &mut lefts,
+        &mut rights,
+        marks,
+    );
+    p.pairs
+}
+
+// The same, with room for as many as a call takes.
+fn analyse_many(
+    cells: &[u8],
+    width: u32,
+    height: u32,
+    ends: &[u32; 1024],
+    count: usize,
+    work: &mut [u8],
+    marks: &mut [u8; 256],
+) -> usize
+    requires { ⌜ Partitionable width height (now cells) 495 (now ends) count (now work) ⌝ }
+    ensures { λ r. ⌜ MarkedWithin maxPairs (directionsOf 495) (mapOf width height (now (cells .entry))) (spansIn (now (ends .entry)) count) (now (marks .exit)) (now (work .entry)) (now (work .exit)) r ⌝ }
+{
+    let mut removed = [0u32; 256];
+    let mut separated = [0u32; 256];
+    let mut owners = [0u32; MAX_PAIRS];
+    let mut lefts = [0u32; MAX_PAIRS];
+    let mut rights = [0u32; MAX_PAIRS];
+    let p = analyse(
+        cells,
+        width,
+        height,
+        ends,
+        count,
+        work,
+        &mut removed,
+        &mut separated,
+        &mut owners,
+        &mut lefts,
+        &mut rights,
+        marks,
+    );
+    p.pairs
+}
+
+// Partitions a map by spans, and marks those that are bridges where the region pairs aren't too many; gives the number of pairs.
+pub fn find_bridges(
+    cells: &[u8],
+    width: u32,
+    height: u32,
+    ends: &[u32; 1024],
+    count: usize,
+    work: &mut [u8],
+    marks: &mut [u8; 256],
+) -> usize
+    requires { ⌜ Partitionable width height (now cells) 495 (now ends) count (now work) ⌝ }
+    ensures { λ r. ⌜ MarkedWithin maxPairs (directionsOf 495) (mapOf width height (now (cells .entry))) (spansIn (now (ends .entry)) count) (now (marks .exit)) (now (work .entry)) (now (work .exit)) r ⌝ }
+{
+    if !is_small(cells.len(), count) {
+        return analyse_many(cells, width, height, ends, count, work, marks);
+    }
+    let pairs = analyse_few(cells, width, height, ends, count, work, marks);
+    if pairs <= FEW_PAIRS {
+        return pairs;
+    }
+    analyse_many(cells, width, height, ends, count, work, marks)
 }

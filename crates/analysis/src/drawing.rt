@@ -10,12 +10,17 @@ ghost use Rattle.format.specs.Decode.{decode, decodeList};
 ghost use Rattle.grid.specs.Directions.{eight};
 ghost use Rattle.areas.specs.Spans.{SpansFit};
 ghost use Rattle.links.specs.Limits.{limits000};
+ghost use Rattle.candidates.specs.Owners.{Stored};
 ghost use Rattle.job.specs.Checks.{firstRefusal};
 ghost use Rattle.job.specs.Refusals.{reduceChecks, byListChecks};
 ghost use Rattle.results.specs.Results.{workSize, ownEnds};
-ghost use Rattle.analysis.specs.Plans.{planOf, RankedBy, Headed, RankedJob, Plannable, EndsBy, SomeEnds, Told, SomeTold, Drawn};
+ghost use Rattle.analysis.specs.Bridging.{Alike};
+ghost use Rattle.analysis.specs.Plans.{planOf, RankedBy, Headed, RankedJob, Plannable, EndsBy, SomeEnds, Told, SomeTold, DrawnWithin, Drawn};
+use crate::bridged::FEW_PAIRS;
 use crate::bridged::MAX_PAIRS;
 use crate::bridged::analyse;
+use crate::bridged::find_bridges;
+use crate::bridged::is_small;
 use format::BOUNDARY_SIZE;
 use format::HEADER_SIZE;
 use format::Header;
@@ -53,16 +58,17 @@ fn plan_listing(
     work: &mut [u8],
     removed: &[u32; 256],
     separated: &[u32; 256],
-    owners: &[u32; 4096],
-    lefts: &[u32; 4096],
-    rights: &[u32; 4096],
+    owners: &[u32],
+    lefts: &[u32],
+    rights: &[u32],
     pairs: usize,
     marks: &[u8; 256],
     plan: &mut [u32; 256],
 )
-    requires { ⌜ RankedJob (now job) h (now order) × SomeTold (now job) (now work) (now removed) (now separated) (now owners) (now lefts) (now rights) pairs (now marks) × (length (now plan) ≡ 256) ⌝ }
+    requires { ⌜ RankedJob (now job) h (now order) × SomeTold (now job) (now work) (now removed) (now separated) (now owners) (now lefts) (now rights) pairs (now marks) × Stored (now owners) (now lefts) (now rights) pairs × (length (now plan) ≡ 256) ⌝ }
     ensures work { λ _. ⌜ now (work .exit) ≡ now (work .entry) ⌝ }
     ensures plan { λ _. ⌜ ((ss : List Span) → Told (now (job .entry)) (now (work .entry)) (now (removed .entry)) (now (separated .entry)) (now (owners .entry)) (now (lefts .entry)) (now (rights .entry)) pairs (now (marks .entry)) ss → (i : ℕ) → i < length (decode (now (job .entry)) .boundaries) → getD (now (plan .exit)) i 0 ≡ planOf limits000 eight (decode (now (job .entry))) ss i) ⌝ }
+    ensures whole { λ _. ⌜ length (now (plan .exit)) ≡ 256 ⌝ }
 {
     let c = h.counts;
     let o = h.offsets;
@@ -99,7 +105,122 @@ fn plan_listing(
     );
 }
 
-// Partitions a job by as many spans as it has boundaries, by rank, and plans its merges where the region pairs aren't too many; gives their number.
+// Partitions a job by as many spans as it has boundaries, by rank, and plans its merges where the arrays have room for the region pairs; gives their number.
+fn plan_with(
+    job: &[u8],
+    h: Header,
+    ends: &[u32; 1024],
+    order: &[u32; 256],
+    work: &mut [u8],
+    owners: &mut [u32],
+    lefts: &mut [u32],
+    rights: &mut [u32],
+    plan: &mut [u32; 256],
+) -> usize
+    requires { ⌜ Plannable (now job) h (now order) (now work) × SpansFit (h .counts .width) (h .counts .height) (now ends) (h .counts .boundaries) × SomeEnds (now job) (now order) (now ends) × Alike (now owners) (now lefts) (now rights) × (length (now plan) ≡ 256) ⌝ }
+    ensures { λ r. ⌜ ((ss : List Span) → EndsBy (now (job .entry)) (now (order .entry)) (now (ends .entry)) ss → DrawnWithin (length (now (lefts .entry))) (decode (now (job .entry))) ss (now (work .entry)) (now (work .exit)) (now (plan .exit)) r) ⌝ }
+    ensures whole { λ _. ⌜ length (now (plan .exit)) ≡ 256 ⌝ }
+{
+    let c = h.counts;
+    let n = size(c.width * c.height);
+    let count = size(c.boundaries);
+    let most = lefts.len();
+    let mut removed = [0u32; 256];
+    let mut separated = [0u32; 256];
+    let mut marks = [0u8; 256];
+    let p = analyse(
+        &job[HEADER_SIZE..HEADER_SIZE + n],
+        c.width,
+        c.height,
+        ends,
+        count,
+        work,
+        &mut removed,
+        &mut separated,
+        owners,
+        lefts,
+        rights,
+        &mut marks,
+    );
+    let pairs = p.pairs;
+    if most < pairs {
+        return pairs;
+    }
+    plan_listing(
+        job,
+        h,
+        order,
+        work,
+        &removed,
+        &separated,
+        owners,
+        lefts,
+        rights,
+        pairs,
+        &marks,
+        plan,
+    );
+    pairs
+}
+
+// The same, with room for few region pairs.
+fn plan_few(
+    job: &[u8],
+    h: Header,
+    ends: &[u32; 1024],
+    order: &[u32; 256],
+    work: &mut [u8],
+    plan: &mut [u32; 256],
+) -> usize
+    requires { ⌜ Plannable (now job) h (now order) (now work) × SpansFit (h .counts .width) (h .counts .height) (now ends) (h .counts .boundaries) × SomeEnds (now job) (now order) (now ends) × (length (now plan) ≡ 256) ⌝ }
+    ensures { λ r. ⌜ ((ss : List Span) → EndsBy (now (job .entry)) (now (order .entry)) (now (ends .entry)) ss → DrawnWithin 64 (decode (now (job .entry))) ss (now (work .entry)) (now (work .exit)) (now (plan .exit)) r) ⌝ }
+    ensures whole { λ _. ⌜ length (now (plan .exit)) ≡ 256 ⌝ }
+{
+    let mut owners = [0u32; FEW_PAIRS];
+    let mut lefts = [0u32; FEW_PAIRS];
+    let mut rights = [0u32; FEW_PAIRS];
+    plan_with(
+        job,
+        h,
+        ends,
+        order,
+        work,
+        &mut owners,
+        &mut lefts,
+        &mut rights,
+        plan,
+    )
+}
+
+// The same, with room for as many as a call takes.
+fn plan_many(
+    job: &[u8],
+    h: Header,
+    ends: &[u32; 1024],
+    order: &[u32; 256],
+    work: &mut [u8],
+    plan: &mut [u32; 256],
+) -> usize
+    requires { ⌜ Plannable (now job) h (now order) (now work) × SpansFit (h .counts .width) (h .counts .height) (now ends) (h .counts .boundaries) × SomeEnds (now job) (now order) (now ends) × (length (now plan) ≡ 256) ⌝ }
+    ensures { λ r. ⌜ ((ss : List Span) → EndsBy (now (job .entry)) (now (order .entry)) (now (ends .entry)) ss → Drawn (decode (now (job .entry))) ss (now (work .entry)) (now (work .exit)) (now (plan .exit)) r) ⌝ }
+{
+    let mut owners = [0u32; MAX_PAIRS];
+    let mut lefts = [0u32; MAX_PAIRS];
+    let mut rights = [0u32; MAX_PAIRS];
+    plan_with(
+        job,
+        h,
+        ends,
+        order,
+        work,
+        &mut owners,
+        &mut lefts,
+        &mut rights,
+        plan,
+    )
+}
+
+// The same, with as much room as the region pairs take.
 fn plan_matched(
     job: &[u8],
     h: Header,
@@ -112,47 +233,14 @@ fn plan_matched(
     ensures { λ r. ⌜ ((ss : List Span) → EndsBy (now (job .entry)) (now (order .entry)) (now (ends .entry)) ss → Drawn (decode (now (job .entry))) ss (now (work .entry)) (now (work .exit)) (now (plan .exit)) r) ⌝ }
 {
     let c = h.counts;
-    let n = size(c.width * c.height);
-    let count = size(c.boundaries);
-    let mut removed = [0u32; 256];
-    let mut separated = [0u32; 256];
-    let mut owners = [0u32; 4096];
-    let mut lefts = [0u32; 4096];
-    let mut rights = [0u32; 4096];
-    let mut marks = [0u8; 256];
-    let p = analyse(
-        &job[HEADER_SIZE..HEADER_SIZE + n],
-        c.width,
-        c.height,
-        ends,
-        count,
-        work,
-        &mut removed,
-        &mut separated,
-        &mut owners,
-        &mut lefts,
-        &mut rights,
-        &mut marks,
-    );
-    let pairs = p.pairs;
-    if MAX_PAIRS < pairs {
+    if !is_small(size(c.width * c.height), size(c.boundaries)) {
+        return plan_many(job, h, ends, order, work, plan);
+    }
+    let pairs = plan_few(job, h, ends, order, work, plan);
+    if pairs <= FEW_PAIRS {
         return pairs;
     }
-    plan_listing(
-        job,
-        h,
-        order,
-        work,
-        &removed,
-        &separated,
-        &owners,
-        &lefts,
-        &rights,
-        pairs,
-        &marks,
-        plan,
-    );
-    pairs
+    plan_many(job, h, ends, order, work, plan)
 }
 
 // By the boundaries' own ends.
@@ -211,27 +299,16 @@ fn plan_unmatched(
     fill_identity(plan);
     let mut ends = [0u32; 1024];
     fill_spans(list, 0, SPAN_SIZE, plan, n, &mut ends);
-    let mut removed = [0u32; 256];
-    let mut separated = [0u32; 256];
-    let mut owners = [0u32; 4096];
-    let mut lefts = [0u32; 4096];
-    let mut rights = [0u32; 4096];
     let mut marks = [0u8; 256];
-    let p = analyse(
+    find_bridges(
         &job[HEADER_SIZE..HEADER_SIZE + cells],
         c.width,
         c.height,
         &ends,
         n,
         work,
-        &mut removed,
-        &mut separated,
-        &mut owners,
-        &mut lefts,
-        &mut rights,
         &mut marks,
-    );
-    p.pairs
+    )
 }
 
 // By the spans of a list.

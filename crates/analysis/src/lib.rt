@@ -5,7 +5,7 @@ mod plans; // with the checks
 mod result;
 
 pub use bridged::MAX_PAIRS;
-pub use bridged::analyse;
+pub use bridged::find_bridges;
 pub use plans::plan_reduce;
 pub use plans::plan_reduce_by_list;
 pub use result::ChokesResult;

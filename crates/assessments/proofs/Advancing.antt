@@ -1,7 +1,7 @@
 -- One more step assessed, and steps one after another.
 use mathlib.Core.Path.{_≡_, refl, sym, _∙_, ap, ap₂, subst}
 use mathlib.Core.Bool.{true, false, cond}
-use mathlib.Core.List.{List, [], _∷_, _++_, map, append-assoc, append-nil}
+use mathlib.Core.List.{List, [], _∷_, _++_, map, map-append, append-assoc, append-nil}
 use Prim.Native.Nat.{ℕ, suc, _+_, _*_, _-_, _≤_, _<_, min, max}
 use native.Mathlib.Omega.{arith}
 use borrow.Author.Tests.{eq-eqb, ne-eqb}
@@ -24,10 +24,6 @@ use Rattle.assessments.specs.Holding.{labelsOf, Listed, Holds, Advances,
 use Rattle.assessments.proofs.Including.{once-last}
 use Rattle.assessments.proofs.Listing.{listed-put}
 use Rattle.order.proofs.Numbers.{up-last}
-
-pub map-append : {A B : Type 0} (f : A → B) (l m : List A) → map f (l ++ m) ≡ map f l ++ map f m
-map-append f [] m = refl
-map-append f (x ∷ xs) m = ap (λ t. f x ∷ t) (map-append f xs m)
 
 -- the label in the bytes
 pub label-of : (bytes : List ℕ) (n i : ℕ) → i < n → labelAt (labelsOf bytes n) i ≡ u32At bytes (4 * i)
@@ -57,32 +53,32 @@ module _ (ls : List ℕ) (ds : List Edge) (e : Edge) where
       ∙ (ap (sortOnceBy pairKey) (map-append (labelPair ls) (keep (isSeparated ls) ds) (e ∷ [])) ∙ once-last pair-order (labelPair ls e) (map (labelPair ls) (keep (isSeparated ls) ds)))
 
 -- no step
-pub advance-none : (ls : List ℕ) {es : List Edge} {start : ℕ} {lefts rights : List ℕ} {s : Assessed} → es ≡ [] → Advances ls es start lefts rights s lefts rights s
-advance-none ls {es} {start} {lefts} {rights} {s} h lefts₀ rights₀ ds was =
-    subst (λ (z : List Edge). Holds (assessment ls z) lefts₀ rights₀ start lefts rights s) (sym (ap (λ (z : List Edge). ds ++ z) h ∙ append-nil ds)) was
+pub advance-none : (ls : List ℕ) {es : List Edge} {most start : ℕ} {lefts rights : List ℕ} {s : Assessed} → es ≡ [] → Advances most ls es start lefts rights s lefts rights s
+advance-none ls {es} {most} {start} {lefts} {rights} {s} h lefts₀ rights₀ ds was =
+    subst (λ (z : List Edge). Holds most (assessment ls z) lefts₀ rights₀ start lefts rights s) (sym (ap (λ (z : List Edge). ds ++ z) h ∙ append-nil ds)) was
 
-module _ (ls : List ℕ) (e : Edge) {start : ℕ} {lefts rights : List ℕ} {s : Assessed} where
+module _ (ls : List ℕ) (e : Edge) {most start : ℕ} {lefts rights : List ℕ} {s : Assessed} where
   -- a step whose labels are equal
   pub advance-same : {s′ : Assessed} → labelAt ls (e .left) ≡ labelAt ls (e .right) → s′ .removed ≡ s .removed + 1 → s′ .separated ≡ s .separated → s′ .end ≡ s .end →
-      Advances ls (e ∷ []) start lefts rights s lefts rights s′
+      Advances most ls (e ∷ []) start lefts rights s lefts rights s′
   unfolding assessment
   advance-same {s′} h er es ee lefts₀ rights₀ ds was = record {
     removed = omega (arith, er, was .removed, one-more ls ds e);
     separated = es ∙ (was .separated ∙ ap length (sym (kept-same ls ds e h)));
-    pairs = subst (λ (ps : List RegionPair). Listed ps lefts₀ rights₀ start lefts rights (s′ .end)) (ap (λ (z : List Edge). sortOnceBy pairKey (map (labelPair ls) z)) (sym (kept-same ls ds e h)))
-        (subst (λ (k : ℕ). Listed (assessment ls ds .pairs) lefts₀ rights₀ start lefts rights k) (sym ee) (was .pairs));
+    pairs = subst (λ (ps : List RegionPair). Listed most ps lefts₀ rights₀ start lefts rights (s′ .end)) (ap (λ (z : List Edge). sortOnceBy pairKey (map (labelPair ls) z)) (sym (kept-same ls ds e h)))
+        (subst (λ (k : ℕ). Listed most (assessment ls ds .pairs) lefts₀ rights₀ start lefts rights k) (sym ee) (was .pairs));
   }
 
   -- a step whose labels differ
   pub advance-put : {lefts′ rights′ : List ℕ} {s′ : Assessed} (p : RegionPair) → (labelAt ls (e .left) ≡ labelAt ls (e .right) → ⊥) → p ≡ labelPair ls e →
-      s′ .removed ≡ s .removed + 1 → s′ .separated ≡ s .separated + 1 → Late lefts rights lefts′ rights′ (s .end) (s′ .end) →
-      (s .end ≤ 4096 → Ordered lefts rights start (s .end) → Inserted p lefts rights lefts′ rights′ start (s .end) (s′ .end)) →
-      Advances ls (e ∷ []) start lefts rights s lefts′ rights′ s′
+      s′ .removed ≡ s .removed + 1 → s′ .separated ≡ s .separated + 1 → Late most lefts rights lefts′ rights′ (s .end) (s′ .end) →
+      (s .end ≤ most → Ordered lefts rights start (s .end) → Inserted most p lefts rights lefts′ rights′ start (s .end) (s′ .end)) →
+      Advances most ls (e ∷ []) start lefts rights s lefts′ rights′ s′
   unfolding assessment
   advance-put {lefts′} {rights′} {s′} p h ep er es late ins lefts₀ rights₀ ds was = record {
     removed = omega (arith, er, was .removed, one-more ls ds e);
     separated = omega (arith, es, was .separated, ap length (kept-more ls ds e h), length-append (keep (isSeparated ls) ds) (e ∷ []));
-    pairs = subst (λ (ps : List RegionPair). Listed ps lefts₀ rights₀ start lefts′ rights′ (s′ .end))
+    pairs = subst (λ (ps : List RegionPair). Listed most ps lefts₀ rights₀ start lefts′ rights′ (s′ .end))
         (ap (λ (q : RegionPair). include (byKey pairKey) q (assessment ls ds .pairs)) ep ∙ sym (pairs-more ls ds e h))
         (listed-put (map (labelPair ls) (keep (isSeparated ls) ds)) (was .pairs) p late ins);
   }
@@ -90,10 +86,10 @@ module _ (ls : List ℕ) (e : Edge) {start : ℕ} {lefts rights : List ℕ} {s :
 -- A loop over k from first on, each turn of which assesses the steps f k: at k the steps before it are assessed, at most m.
 pub record Going (ls : List ℕ) (f : ℕ → List Edge) (first start : ℕ) (lefts₀ rights₀ : List ℕ) (s₀ : Assessed) (lefts rights : List ℕ) (s : Assessed) (k m : ℕ) : Type 0 where
   pub reached : first ≤ k
-  pub lefts-are : length lefts ≡ 4096
-  pub rights-are : length rights ≡ 4096
-  pub grown : Grown start m s₀ s
-  pub did : Advances ls (gather f (upFrom first (k - first))) start lefts₀ rights₀ s₀ lefts rights s
+  pub lefts-are : length lefts ≡ length lefts₀
+  pub rights-are : length rights ≡ length rights₀
+  pub grown : Grown (length lefts₀) start m s₀ s
+  pub did : Advances (length lefts₀) ls (gather f (upFrom first (k - first))) start lefts₀ rights₀ s₀ lefts rights s
 
 module _ (ls : List ℕ) (f : ℕ → List Edge) {first start : ℕ} {lefts₀ rights₀ : List ℕ} {s₀ : Assessed} where
   pub going-start : (m p : ℕ) → Room start p lefts₀ rights₀ s₀ → Going ls f first start lefts₀ rights₀ s₀ lefts₀ rights₀ s₀ first m
@@ -102,8 +98,8 @@ module _ (ls : List ℕ) (f : ℕ → List Edge) {first start : ℕ} {lefts₀ r
       let e : first - first ≡ 0 = omega arith in
       record {
         reached = omega arith;
-        lefts-are = r .lefts-are;
-        rights-are = r .rights-are;
+        lefts-are = refl;
+        rights-are = refl;
         grown = record { from = r .from; to = r .to; removed = omega arith; separated = omega arith };
         did = advance-none ls (ap (λ (n : ℕ). gather f (upFrom first n)) e);
       }
@@ -113,24 +109,24 @@ module _ (ls : List ℕ) (f : ℕ → List Edge) {first start : ℕ} {lefts₀ r
     pub going-room : (p q : ℕ) → Room start p lefts₀ rights₀ s₀ → m + q ≤ p → Room start q lefts rights s
     going-room p q r h = record {
       from = g .grown .from;
-      to = g .grown .to;
+      to = omega (arith, g .grown .to, g .lefts-are);
       removed = omega (arith, g .grown .removed, r .removed);
       separated = omega (arith, g .grown .separated, r .separated);
-      lefts-are = g .lefts-are;
-      rights-are = g .rights-are;
+      alike = omega (arith, g .lefts-are, g .rights-are, r .alike);
+      few = omega (arith, g .lefts-are, r .few);
     }
 
-    pub going-next : {lefts′ rights′ : List ℕ} {s′ : Assessed} (m′ q : ℕ) → m + q ≤ m′ → length lefts′ ≡ length lefts → length rights′ ≡ length rights → Grown start q s s′ →
-        Advances ls (f k) start lefts rights s lefts′ rights′ s′ → Going ls f first start lefts₀ rights₀ s₀ lefts′ rights′ s′ (k + 1) m′
+    pub going-next : {lefts′ rights′ : List ℕ} {s′ : Assessed} (m′ q : ℕ) → m + q ≤ m′ → length lefts′ ≡ length lefts → length rights′ ≡ length rights → Grown (length lefts) start q s s′ →
+        Advances (length lefts) ls (f k) start lefts rights s lefts′ rights′ s′ → Going ls f first start lefts₀ rights₀ s₀ lefts′ rights′ s′ (k + 1) m′
     going-next {lefts′} {rights′} {s′} m′ q h el er grew adv = record {
       reached = omega (arith, g .reached);
       lefts-are = el ∙ g .lefts-are;
       rights-are = er ∙ g .rights-are;
-      grown = record { from = grew .from; to = grew .to; removed = omega (arith, grew .removed, g .grown .removed); separated = omega (arith, grew .separated, g .grown .separated) };
+      grown = record { from = grew .from; to = omega (arith, grew .to, g .lefts-are); removed = omega (arith, grew .removed, g .grown .removed); separated = omega (arith, grew .separated, g .grown .separated) };
       did = λ l r ds was.
-          subst (λ (z : List Edge). Holds (assessment ls z) l r start lefts′ rights′ s′)
+          subst (λ (z : List Edge). Holds (length lefts₀) (assessment ls z) l r start lefts′ rights′ s′)
           (append-assoc ds (gather f (upFrom first (k - first))) (f k) ∙ ap (λ (z : List Edge). ds ++ z) joined)
-          (adv l r (ds ++ gather f (upFrom first (k - first))) (g .did l r ds was));
+          (subst (λ (z : ℕ). Advances z ls (f k) start lefts rights s lefts′ rights′ s′) (g .lefts-are) adv l r (ds ++ gather f (upFrom first (k - first))) (g .did l r ds was));
     }
       where
         joined : gather f (upFrom first (k - first)) ++ f k ≡ gather f (upFrom first (k + 1 - first))
@@ -141,15 +137,15 @@ module _ (ls : List ℕ) (f : ℕ → List Edge) {first start : ℕ} {lefts₀ r
             ∙ (sym (gather-last f (upFrom first (k - first)) (first + (k - first))) ∙ (ap (gather f) (sym (up-last first (k - first))) ∙ ap (λ (z : ℕ). gather f (upFrom first z)) (sym e)))
 
     -- all of them
-    pub going-end : (n : ℕ) {es : List Edge} → k - first ≡ n → es ≡ gather f (upFrom first n) → Advances ls es start lefts₀ rights₀ s₀ lefts rights s
+    pub going-end : (n : ℕ) {es : List Edge} → k - first ≡ n → es ≡ gather f (upFrom first n) → Advances (length lefts₀) ls es start lefts₀ rights₀ s₀ lefts rights s
     going-end n {es} e h =
-        subst (λ (z : List Edge). Advances ls z start lefts₀ rights₀ s₀ lefts rights s) (ap (λ (z : ℕ). gather f (upFrom first z)) e ∙ sym h) (g .did)
+        subst (λ (z : List Edge). Advances (length lefts₀) ls z start lefts₀ rights₀ s₀ lefts rights s) (ap (λ (z : ℕ). gather f (upFrom first z)) e ∙ sym h) (g .did)
 
 -- more may have been allowed
-pub grown-more : {start m : ℕ} {s t : Assessed} (n : ℕ) → Grown start m s t → m ≤ n → Grown start n s t
+pub grown-more : {most start m : ℕ} {s t : Assessed} (n : ℕ) → Grown most start m s t → m ≤ n → Grown most start n s t
 grown-more n g h = record { from = g .from; to = g .to; removed = omega (arith, g .removed); separated = omega (arith, g .separated) }
 
-pub grown-none : {start m : ℕ} {lefts rights : List ℕ} {s : Assessed} (n : ℕ) → Room start m lefts rights s → Grown start n s s
+pub grown-none : {start m : ℕ} {lefts rights : List ℕ} {s : Assessed} (n : ℕ) → Room start m lefts rights s → Grown (length lefts) start n s s
 grown-none n r = record { from = r .from; to = r .to; removed = omega arith; separated = omega arith }
 
 -- the labels x and y of two cells
@@ -170,6 +166,6 @@ module _ (bytes : List ℕ) {n i j x y : ℕ} (a : i < n) (b : j < n) (ex : x �
   label-pair e f = ap₂ pairOf (e ∙ ap₂ min left-label right-label) (f ∙ ap₂ max left-label right-label)
 
 -- the same steps, told otherwise
-pub advance-as : (ls : List ℕ) {ds es : List Edge} {start : ℕ} {lefts rights lefts′ rights′ : List ℕ} {s s′ : Assessed} → ds ≡ es →
-    Advances ls ds start lefts rights s lefts′ rights′ s′ → Advances ls es start lefts rights s lefts′ rights′ s′
-advance-as ls {ds} {es} {start} {lefts} {rights} {lefts′} {rights′} {s} {s′} e a = subst (λ (z : List Edge). Advances ls z start lefts rights s lefts′ rights′ s′) e a
+pub advance-as : (ls : List ℕ) {ds es : List Edge} {most start : ℕ} {lefts rights lefts′ rights′ : List ℕ} {s s′ : Assessed} → ds ≡ es →
+    Advances most ls ds start lefts rights s lefts′ rights′ s′ → Advances most ls es start lefts rights s lefts′ rights′ s′
+advance-as ls {ds} {es} {most} {start} {lefts} {rights} {lefts′} {rights′} {s} {s′} e a = subst (λ (z : List Edge). Advances most ls z start lefts rights s lefts′ rights′ s′) e a

@@ -11,15 +11,15 @@ use Rattle.assessments.specs.Stored.{at}
 use Rattle.assessments.specs.Recording.{Filled}
 
 pub record Filling (s₀ s : List ℕ) (start end v k : ℕ) : Type 0 where
-  pub long : length s ≡ 4096
+  pub long : length s ≡ length s₀
   pub reached : start ≤ k
   pub til : k ≤ end
   pub filled : Filled s₀ s start k v
 
-pub filling-start : {s : List ℕ} {start end v : ℕ} → length s ≡ 4096 → start ≤ end → Filling s s start end v start
-filling-start e h = record { long = e; reached = omega arith; til = h; filled = record { below = λ j l. refl; here = λ j l k. absurd (omega arith) } }
+pub filling-start : {s : List ℕ} {start end v : ℕ} → start ≤ end → Filling s s start end v start
+filling-start h = record { long = refl; reached = omega arith; til = h; filled = record { below = λ j l. refl; here = λ j l k. absurd (omega arith) } }
 
-pub filling-next : {s₀ s : List ℕ} {start end v k : ℕ} → end ≤ 4096 → Filling s₀ s start end v k → k < end → Filling s₀ (set s k v) start end v (k + 1)
+pub filling-next : {s₀ s : List ℕ} {start end v k : ℕ} → end ≤ length s₀ → Filling s₀ s start end v k → k < end → Filling s₀ (set s k v) start end v (k + 1)
 filling-next {s₀} {s} {start} {end} {v} {k} small f h = record {
   long = length-set s k v ∙ f .long;
   reached = omega (arith, f .reached);

@@ -48,7 +48,7 @@ module _ (w h : ℕ) (cs : List ℕ) (s : Span) (c cm : ℕ) {x y : ℕ} where
   unfolding cellOf
   place-cell et e f = cell-go (tall s) (e ∙ ap (λ (z : Bool). cond z cm c) et) (f ∙ ap (λ (z : Bool). cond z c cm) et)
 
-pub holds-none : (ls lefts rights : List ℕ) {start : ℕ} → start ≤ 4096 → Holds (assessment ls []) lefts rights start lefts rights (record { removed = 0; separated = 0; end = start })
+pub holds-none : (ls lefts rights : List ℕ) {most start : ℕ} → start ≤ most → Holds most (assessment ls []) lefts rights start lefts rights (record { removed = 0; separated = 0; end = start })
 unfolding assessment keep sortOnce pairsIn rows
 holds-none ls lefts rights h = record {
   removed = refl;
@@ -56,9 +56,9 @@ holds-none ls lefts rights h = record {
   pairs = record { left-kept = λ j l. refl; right-kept = λ j l. refl; fits = λ l. (omega arith, refl); over = λ l. absurd (omega arith) };
 }
 
-pub room-start : {lefts rights : List ℕ} {start : ℕ} → start ≤ 4096 → length lefts ≡ 4096 → length rights ≡ 4096 →
+pub room-start : {lefts rights : List ℕ} {start : ℕ} → start ≤ length lefts → length rights ≡ length lefts → length lefts ≤ 4096 →
     Room start 4194304 lefts rights (record { removed = 0; separated = 0; end = start })
-room-start h l r = record { from = omega arith; to = omega arith; removed = omega arith; separated = omega arith; lefts-are = l; rights-are = r }
+room-start h e f = record { from = omega arith; to = omega arith; removed = omega arith; separated = omega arith; alike = e; few = f }
 
 -- the last of a range
 pub last-in : {w h : ℕ} → Sides w h → (s : Span) (c : ℕ) {r : CellRange} → r ≡ stripMinor w h s c → r .last < cond (tall s) w h
@@ -81,5 +81,5 @@ pub along-is : (dirs : List ℕ) (g : Grid) (s : Span) (r : CellRange) → r ≡
 unfolding cutAlong
 along-is dirs g s r e = ap (λ (z : CellRange). gather (cutBeside dirs g s) (within z)) (sym e)
 
-pub holds-as : {a b : Assessment} {lefts₀ rights₀ lefts rights : List ℕ} {start : ℕ} {s : Assessed} → a ≡ b → Holds a lefts₀ rights₀ start lefts rights s → Holds b lefts₀ rights₀ start lefts rights s
-holds-as {lefts₀ = lefts₀} {rights₀ = rights₀} {lefts = lefts} {rights = rights} {start = start} {s = s} e h = subst (λ (z : Assessment). Holds z lefts₀ rights₀ start lefts rights s) e h
+pub holds-as : {most : ℕ} {a b : Assessment} {lefts₀ rights₀ lefts rights : List ℕ} {start : ℕ} {s : Assessed} → a ≡ b → Holds most a lefts₀ rights₀ start lefts rights s → Holds most b lefts₀ rights₀ start lefts rights s
+holds-as {most = most} {lefts₀ = lefts₀} {rights₀ = rights₀} {lefts = lefts} {rights = rights} {start = start} {s = s} e h = subst (λ (z : Assessment). Holds most z lefts₀ rights₀ start lefts rights s) e h

@@ -1,7 +1,7 @@
 -- The records of the spans, span by span.
 use mathlib.Core.Path.{_≡_, refl, sym, _∙_, ap, ap₂, subst}
 use mathlib.Core.Logic.{by-cases}
-use mathlib.Core.List.{List, [], _∷_, _++_, map, append-assoc, append-nil}
+use mathlib.Core.List.{List, [], _∷_, _++_, map, map-append, append-assoc, append-nil}
 use Prim.Native.Nat.{ℕ, zero, suc, _+_, _-_, _≤_, _<_}
 use native.Mathlib.Omega.{arith}
 use native.Mathlib.Numerals.{add-one}
@@ -22,7 +22,6 @@ use Rattle.assessments.specs.Stored.{at, pairAt}
 use Rattle.assessments.specs.Holding.{pairsIn, Holds}
 use Rattle.assessments.specs.Visits.{OnMap}
 use Rattle.assessments.specs.Recording.{recordsIn, assessed, recordsOf, Counted, Recorded, SpansOnMap, Arrays, Filled}
-use Rattle.assessments.proofs.Advancing.{map-append}
 
 -- with the areas' labels these are the records of the areas
 pub records-are : (dirs : List ℕ) (g : Grid) (ss : List Span) → recordsOf (areaLabels dirs g ss) dirs g ss ≡ records dirs g ss
@@ -61,37 +60,37 @@ module _ (ls dirs : List ℕ) (g : Grid) (ends : List ℕ) where
   up-more n zero = let e : n + 0 ≡ n = omega arith in rw e (omega arith)
   up-more n (suc m) = let e : n + suc m ≡ suc (n + m) = omega arith in rw e (omega (arith, up-more n m, up-length (n + m)))
 
-  -- The loop at span i, with end records.
-  pub record Recording (removed separated owners lefts rights : List ℕ) (i end : ℕ) : Type 0 where
-    pub arrays : Arrays removed separated owners lefts rights
+  -- The loop at span i, with end records of most.
+  pub record Recording (most : ℕ) (removed separated owners lefts rights : List ℕ) (i end : ℕ) : Type 0 where
+    pub arrays : Arrays most removed separated owners lefts rights
     pub ended : end ≡ length (upTo i)
-    pub few : end ≤ 4096
+    pub few : end ≤ most
     pub told : recordsIn owners lefts rights end ≡ upTo i
     pub counted : Counted ls dirs g ends i removed separated
 
-  pub recording-start : {removed separated owners lefts rights : List ℕ} → Arrays removed separated owners lefts rights → Recording removed separated owners lefts rights 0 0
+  pub recording-start : {most : ℕ} {removed separated owners lefts rights : List ℕ} → Arrays most removed separated owners lefts rights → Recording most removed separated owners lefts rights 0 0
   unfolding recordsIn rows recordsOf spansIn owned
   recording-start a = record { arrays = a; ended = refl; few = omega arith; told = refl; counted = λ i l. absurd (omega arith) }
 
-  module _ {removed separated owners lefts rights : List ℕ} {i end : ℕ} (r : Recording removed separated owners lefts rights i end)
-      {lefts′ rights′ : List ℕ} {s : Assessed} (h : Holds (assessed ls dirs g (spanIn ends i)) lefts rights end lefts′ rights′ s) where
-    -- over 4,096
-    pub recording-over : (n : ℕ) → i < n → 4096 < s .end → {removed′ separated′ owners′ : List ℕ} → Recorded ls dirs g ends n removed′ separated′ owners′ lefts′ rights′ 4097
+  module _ {most : ℕ} {removed separated owners lefts rights : List ℕ} {i end : ℕ} (r : Recording most removed separated owners lefts rights i end)
+      {lefts′ rights′ : List ℕ} {s : Assessed} (h : Holds most (assessed ls dirs g (spanIn ends i)) lefts rights end lefts′ rights′ s) where
+    -- over most
+    pub recording-over : (n : ℕ) → i < n → most < s .end → {removed′ separated′ owners′ : List ℕ} → Recorded ls dirs g most ends n removed′ separated′ owners′ lefts′ rights′ (most + 1)
     recording-over n l o =
-        let many : 4096 < end + length (pairsBy (spanIn ends i)) = by-many in
+        let many : most < end + length (pairsBy (spanIn ends i)) = by-many in
         let e : suc i + (n - suc i) ≡ n = omega arith in
-        let m : 4096 < length (upTo n) = subst (λ (z : ℕ). 4096 < length (upTo z)) e (omega (arith, up-more (suc i) (n - suc i), up-length i, r .ended)) in
+        let m : most < length (upTo n) = subst (λ (z : ℕ). most < length (upTo z)) e (omega (arith, up-more (suc i) (n - suc i), up-length i, r .ended)) in
         record { fits = λ k. absurd (omega arith); over = λ k. refl }
       where
-        by-many : 4096 < end + length (pairsBy (spanIn ends i))
+        by-many : most < end + length (pairsBy (spanIn ends i))
         by-many = by-lt (λ k. omega (arith, h .pairs .fits k .0))
           where
-            by-lt : (end + length (pairsBy (spanIn ends i)) ≤ 4096 → ⊥) → 4096 < end + length (pairsBy (spanIn ends i))
-            by-lt f = by-cases (decLe (end + length (pairsBy (spanIn ends i))) 4096) (λ k. absurd (f k)) (λ k. omega arith)
+            by-lt : (end + length (pairsBy (spanIn ends i)) ≤ most → ⊥) → most < end + length (pairsBy (spanIn ends i))
+            by-lt f = by-cases (decLe (end + length (pairsBy (spanIn ends i))) most) (λ k. absurd (f k)) (λ k. omega arith)
 
-    module _ (small : s .end ≤ 4096) where
-      fitting : end + length (pairsBy (spanIn ends i)) ≤ 4096
-      fitting = by-cases (decLe (end + length (pairsBy (spanIn ends i))) 4096) (λ k. k) (λ k. absurd (omega (arith, h .pairs .over (omega arith))))
+    module _ (small : s .end ≤ most) where
+      fitting : end + length (pairsBy (spanIn ends i)) ≤ most
+      fitting = by-cases (decLe (end + length (pairsBy (spanIn ends i))) most) (λ k. k) (λ k. absurd (omega (arith, h .pairs .over (omega arith))))
 
       new-end : s .end ≡ end + length (pairsBy (spanIn ends i))
       new-end = h .pairs .fits fitting .0
@@ -117,7 +116,7 @@ module _ (ls dirs : List ℕ) (g : Grid) (ends : List ℕ) where
               (λ k l. rw (f .here (end + k) (omega arith) (omega (arith, new-end))))
 
       pub recording-next : {owners′ : List ℕ} → i < 256 → Filled owners owners′ end (s .end) i → length owners′ ≡ length owners → length lefts′ ≡ length lefts → length rights′ ≡ length rights →
-          Recording (set removed i (s .removed)) (set separated i (s .separated)) owners′ lefts′ rights′ (i + 1) (s .end)
+          Recording most (set removed i (s .removed)) (set separated i (s .separated)) owners′ lefts′ rights′ (i + 1) (s .end)
       recording-next {owners′} l f eo el er = record {
         arrays = record {
           removed-are = length-set removed i (s .removed) ∙ r .arrays .removed-are;
@@ -125,6 +124,7 @@ module _ (ls dirs : List ℕ) (g : Grid) (ends : List ℕ) where
           owners-are = eo ∙ r .arrays .owners-are;
           lefts-are = el ∙ r .arrays .lefts-are;
           rights-are = er ∙ r .arrays .rights-are;
+          few = r .arrays .few;
         };
         ended = rw add-one (new-end ∙ omega (arith, up-length i, r .ended));
         few = small;
@@ -141,9 +141,9 @@ module _ (ls dirs : List ℕ) (g : Grid) (ends : List ℕ) where
               ))
               (λ e. let q = r .counted k (omega arith) in (getD-set-other removed i k (s .removed) 0 e ∙ q .0, getD-set-other separated i k (s .separated) 0 e ∙ q .1))
 
-  pub recording-end : {removed separated owners lefts rights : List ℕ} {i end n : ℕ} → Recording removed separated owners lefts rights i end → i ≡ n → Recorded ls dirs g ends n removed separated owners lefts rights end
-  recording-end {removed} {separated} {owners} {lefts} {rights} {i} {end} r e =
-      subst (λ (z : ℕ). Recorded ls dirs g ends z removed separated owners lefts rights end) e
+  pub recording-end : {most : ℕ} {removed separated owners lefts rights : List ℕ} {i end n : ℕ} → Recording most removed separated owners lefts rights i end → i ≡ n → Recorded ls dirs g most ends n removed separated owners lefts rights end
+  recording-end {most} {removed} {separated} {owners} {lefts} {rights} {i} {end} r e =
+      subst (λ (z : ℕ). Recorded ls dirs g most ends z removed separated owners lefts rights end) e
       (record { fits = λ h. (r .ended, r .told, r .counted); over = λ h. absurd (omega (arith, r .ended, r .few)) })
 
 -- one span of several on a map
@@ -151,7 +151,9 @@ pub span-on : {w h : ℕ} {cs labels ends : List ℕ} {n i : ℕ} {s : Span} →
 span-on {w} {h} {cs} {labels} m l e = subst (λ (z : Span). OnMap w h cs labels z) (sym e) (record { sides = m .sides; whole = m .whole; labelled = m .labelled; span = m .spans .each _ l })
 
 -- what the assessment of the span in hand holds
-pub span-holds : (ls dirs : List ℕ) (g : Grid) (ends : List ℕ) (i : ℕ) (s : Span) {lefts₀ rights₀ lefts rights : List ℕ} {start : ℕ} {a : Assessed} → s ≡ spanIn ends i →
-    Holds (assessment ls (cutSteps dirs g s)) lefts₀ rights₀ start lefts rights a → Holds (assessed ls dirs g (spanIn ends i)) lefts₀ rights₀ start lefts rights a
+pub span-holds : (ls dirs : List ℕ) (g : Grid) (ends : List ℕ) (i : ℕ) (s : Span) {lefts₀ rights₀ lefts rights : List ℕ} {start most m : ℕ} {a : Assessed} → s ≡ spanIn ends i → m ≡ most →
+    Holds m (assessment ls (cutSteps dirs g s)) lefts₀ rights₀ start lefts rights a → Holds most (assessed ls dirs g (spanIn ends i)) lefts₀ rights₀ start lefts rights a
 unfolding assessed
-span-holds ls dirs g ends i s {lefts₀} {rights₀} {lefts} {rights} {start} {a} e h = subst (λ (z : Span). Holds (assessment ls (cutSteps dirs g z)) lefts₀ rights₀ start lefts rights a) e h
+span-holds ls dirs g ends i s {lefts₀} {rights₀} {lefts} {rights} {start} {most} {m} {a} e f h =
+    subst (λ (z : Span). Holds most (assessment ls (cutSteps dirs g z)) lefts₀ rights₀ start lefts rights a) e
+    (subst (λ (k : ℕ). Holds k (assessment ls (cutSteps dirs g s)) lefts₀ rights₀ start lefts rights a) f h)

@@ -18,37 +18,37 @@ labelsOf bytes n = rows n (λ i. u32At bytes (4 * i))
 unfoldable pub pairsIn : List ℕ → List ℕ → ℕ → ℕ → List RegionPair
 pairsIn lefts rights start n = rows n (λ k. pairAt lefts rights (start + k))
 
--- the pairs ps stand from start to end, and what stood before start is as it was; where 4,096 places are too few, the end is 4,097
-pub record Listed (ps : List RegionPair) (lefts₀ rights₀ : List ℕ) (start : ℕ) (lefts rights : List ℕ) (end : ℕ) : Type 0 where
+-- the pairs ps stand from start to end, and what stood before start is as it was; where most places are too few, the end is one more
+pub record Listed (most : ℕ) (ps : List RegionPair) (lefts₀ rights₀ : List ℕ) (start : ℕ) (lefts rights : List ℕ) (end : ℕ) : Type 0 where
   pub left-kept : (j : ℕ) → j < start → at lefts j ≡ at lefts₀ j
   pub right-kept : (j : ℕ) → j < start → at rights j ≡ at rights₀ j
-  pub fits : start + length ps ≤ 4096 → (end ≡ start + length ps) × (pairsIn lefts rights start (length ps) ≡ ps)
-  pub over : 4096 < start + length ps → end ≡ 4097
+  pub fits : start + length ps ≤ most → (end ≡ start + length ps) × (pairsIn lefts rights start (length ps) ≡ ps)
+  pub over : most < start + length ps → end ≡ most + 1
 
 -- the counts and the pairs are those of a
-pub record Holds (a : Assessment) (lefts₀ rights₀ : List ℕ) (start : ℕ) (lefts rights : List ℕ) (s : Assessed) : Type 0 where
+pub record Holds (most : ℕ) (a : Assessment) (lefts₀ rights₀ : List ℕ) (start : ℕ) (lefts rights : List ℕ) (s : Assessed) : Type 0 where
   pub removed : s .removed ≡ a .removed
   pub separated : s .separated ≡ a .separated
-  pub pairs : Listed (a .pairs) lefts₀ rights₀ start lefts rights (s .end)
+  pub pairs : Listed most (a .pairs) lefts₀ rights₀ start lefts rights (s .end)
 
 -- the steps es are assessed besides those before
-abbrev pub Advances : List ℕ → List Edge → ℕ → List ℕ → List ℕ → Assessed → List ℕ → List ℕ → Assessed → Type 0
-Advances ls es start lefts rights s lefts′ rights′ s′ =
-    (lefts₀ rights₀ : List ℕ) (ds : List Edge) → Holds (assessment ls ds) lefts₀ rights₀ start lefts rights s →
-    Holds (assessment ls (ds ++ es)) lefts₀ rights₀ start lefts′ rights′ s′
+abbrev pub Advances : ℕ → List ℕ → List Edge → ℕ → List ℕ → List ℕ → Assessed → List ℕ → List ℕ → Assessed → Type 0
+Advances most ls es start lefts rights s lefts′ rights′ s′ =
+    (lefts₀ rights₀ : List ℕ) (ds : List Edge) → Holds most (assessment ls ds) lefts₀ rights₀ start lefts rights s →
+    Holds most (assessment ls (ds ++ es)) lefts₀ rights₀ start lefts′ rights′ s′
 
--- there is room for m more steps
+-- there is room for m more steps, in arrays of one length
 pub record Room (start m : ℕ) (lefts rights : List ℕ) (s : Assessed) : Type 0 where
   pub from : start ≤ s .end
-  pub to : s .end ≤ 4097
+  pub to : s .end ≤ length lefts + 1
   pub removed : s .removed + m ≤ 0xFFFF_FFFF
   pub separated : s .separated + m ≤ 0xFFFF_FFFF
-  pub lefts-are : length lefts ≡ 4096
-  pub rights-are : length rights ≡ 4096
+  pub alike : length rights ≡ length lefts
+  pub few : length lefts ≤ 4096
 
--- at most m steps more
-pub record Grown (start m : ℕ) (s t : Assessed) : Type 0 where
+-- at most m steps more, and the end at most one past most places
+pub record Grown (most start m : ℕ) (s t : Assessed) : Type 0 where
   pub from : start ≤ t .end
-  pub to : t .end ≤ 4097
+  pub to : t .end ≤ most + 1
   pub removed : t .removed ≤ s .removed + m
   pub separated : t .separated ≤ s .separated + m

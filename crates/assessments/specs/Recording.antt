@@ -1,7 +1,7 @@
 -- The pairs of all spans as records, a span's place being the owner, in three arrays; and the counts of each span.
 use mathlib.Core.Path.{_≡_}
 use mathlib.Core.List.{List, map}
-use Prim.Native.Nat.{ℕ, _*_, _≤_, _<_}
+use Prim.Native.Nat.{ℕ, _+_, _*_, _≤_, _<_}
 use lib.ListN.{length}
 use Rattle.position.specs.declared.Span.{Span}
 use Rattle.graph.specs.Records.{Record}
@@ -28,11 +28,11 @@ module _ (ls dirs : List ℕ) (g : Grid) where
   Counted ends n removed separated =
       (i : ℕ) → i < n → (at removed i ≡ assessed (spanIn ends i) .removed) × (at separated i ≡ assessed (spanIn ends i) .separated)
 
-  -- what is left of the first n spans, and r: the number of records, or 4,097 where they are over 4,096
-  pub record Recorded (ends : List ℕ) (n : ℕ) (removed separated owners lefts rights : List ℕ) (r : ℕ) : Type 0 where
-    pub fits : length (recordsOf (spansIn ends n)) ≤ 4096 →
+  -- what is left of the first n spans in arrays of most records, and r: the number of records, or one more than most where they are over it
+  pub record Recorded (most : ℕ) (ends : List ℕ) (n : ℕ) (removed separated owners lefts rights : List ℕ) (r : ℕ) : Type 0 where
+    pub fits : length (recordsOf (spansIn ends n)) ≤ most →
         (r ≡ length (recordsOf (spansIn ends n))) × (recordsIn owners lefts rights r ≡ recordsOf (spansIn ends n)) × Counted ends n removed separated
-    pub over : 4096 < length (recordsOf (spansIn ends n)) → r ≡ 4097
+    pub over : most < length (recordsOf (spansIn ends n)) → r ≡ most + 1
 
 -- the bytes of a map and of its labels, and spans on it
 pub record SpansOnMap (width height : ℕ) (cs labels ends : List ℕ) (n : ℕ) : Type 0 where
@@ -42,13 +42,14 @@ pub record SpansOnMap (width height : ℕ) (cs labels ends : List ℕ) (n : ℕ)
   pub spans : SpansFit width height ends n
   pub few : n ≤ 256
 
--- the arrays have their lengths
-pub record Arrays (removed separated owners lefts rights : List ℕ) : Type 0 where
+-- the arrays have their lengths, those of records most
+pub record Arrays (most : ℕ) (removed separated owners lefts rights : List ℕ) : Type 0 where
   pub removed-are : length removed ≡ 256
   pub separated-are : length separated ≡ 256
-  pub owners-are : length owners ≡ 4096
-  pub lefts-are : length lefts ≡ 4096
-  pub rights-are : length rights ≡ 4096
+  pub owners-are : length owners ≡ most
+  pub lefts-are : length lefts ≡ most
+  pub rights-are : length rights ≡ most
+  pub few : most ≤ 4096
 
 -- v stands from start to end, and what stood before start is as it was
 pub record Filled (s₀ s : List ℕ) (start end v : ℕ) : Type 0 where

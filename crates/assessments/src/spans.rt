@@ -12,7 +12,7 @@ use marking::spans::span_at;
 
 // Puts v at the places from start to end.
 fn fill(numbers: &mut [u32], start: usize, end: usize, v: u32)
-    requires { ⌜ (start ≤ end) × (end ≤ 4096) × (length (now numbers) ≡ 4096) ⌝ }
+    requires { ⌜ (start ≤ end) × (end ≤ length (now numbers)) × (length (now numbers) ≤ 4096) ⌝ }
     ensures { λ r. ⌜ Filled (now (numbers .entry)) (now (numbers .exit)) start end v ⌝ }
 {
     let mut k = start;
@@ -22,7 +22,7 @@ fn fill(numbers: &mut [u32], start: usize, end: usize, v: u32)
     }
 }
 
-// The counts of the first spans, and their pairs as records in the order of the spans. Gives the number of records, and 4097 where they are over 4096.
+// The counts of the first spans, and their pairs as records in the order of the spans. Gives the number of records, and one more than the arrays hold where they are over that.
 pub fn assess_spans(
     cells: &[u8],
     width: u32,
@@ -37,9 +37,10 @@ pub fn assess_spans(
     lefts: &mut [u32],
     rights: &mut [u32],
 ) -> usize
-    requires { ⌜ SpansOnMap width height (now cells) (now labels) (now ends) count × Arrays (now removed) (now separated) (now owners) (now lefts) (now rights) ⌝ }
-    ensures { λ r. ⌜ Recorded (labelsOf (now (labels .entry)) (width * height)) (directionsOf directions) (mapOf width height (now (cells .entry))) (now (ends .entry)) count (now (removed .exit)) (now (separated .exit)) (now (owners .exit)) (now (lefts .exit)) (now (rights .exit)) r ⌝ }
+    requires { ⌜ SpansOnMap width height (now cells) (now labels) (now ends) count × Arrays (length (now lefts)) (now removed) (now separated) (now owners) (now lefts) (now rights) ⌝ }
+    ensures { λ r. ⌜ Recorded (labelsOf (now (labels .entry)) (width * height)) (directionsOf directions) (mapOf width height (now (cells .entry))) (length (now (lefts .entry))) (now (ends .entry)) count (now (removed .exit)) (now (separated .exit)) (now (owners .exit)) (now (lefts .exit)) (now (rights .exit)) r ⌝ }
 {
+    let most = lefts.len();
     let mut end: usize = 0;
     let mut i: usize = 0;
     while i < count {
@@ -56,8 +57,8 @@ pub fn assess_spans(
             end,
         );
         let next = a.end;
-        if 4096 < next {
-            return 4097;
+        if most < next {
+            return most + 1;
         }
         removed[i] = a.removed;
         separated[i] = a.separated;

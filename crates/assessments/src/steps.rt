@@ -37,8 +37,8 @@ fn count_step(
     state: Assessed,
 ) -> Assessed
     requires { ⌜ (4 * i + 4 ≤ length (now labels)) × (4 * j + 4 ≤ length (now labels)) × Room start 1 (now lefts) (now rights) state ⌝ }
-    ensures { λ r. ⌜ Grown start 1 state r ⌝ }
-    ensures { λ r. ⌜ ((n : ℕ) → i < n → j < n → Advances (labelsOf (now (labels .entry)) n) (stepOf i j ∷ []) start (now (lefts .entry)) (now (rights .entry)) state (now (lefts .exit)) (now (rights .exit)) r) ⌝ }
+    ensures { λ r. ⌜ Grown (length (now (lefts .entry))) start 1 state r ⌝ }
+    ensures { λ r. ⌜ ((n : ℕ) → i < n → j < n → Advances (length (now (lefts .entry))) (labelsOf (now (labels .entry)) n) (stepOf i j ∷ []) start (now (lefts .entry)) (now (rights .entry)) state (now (lefts .exit)) (now (rights .exit)) r) ⌝ }
 {
     let removed = state.removed + 1;
     let separated = state.separated;
@@ -76,8 +76,8 @@ fn assess_step(
     state: Assessed,
 ) -> Assessed
     requires { ⌜ OnMap width height (now cells) (now labels) span × (position .x < width) × (position .y < height) × (d < 9) × Room start 1 (now lefts) (now rights) state ⌝ }
-    ensures { λ r. ⌜ Grown start 1 state r ⌝ }
-    ensures { λ r. ⌜ Advances (labelsOf (now (labels .entry)) (width * height)) (cutIn (directionsOf directions) (mapOf width height (now (cells .entry))) span (position .y * width + position .x) d) start (now (lefts .entry)) (now (rights .entry)) state (now (lefts .exit)) (now (rights .exit)) r ⌝ }
+    ensures { λ r. ⌜ Grown (length (now (lefts .entry))) start 1 state r ⌝ }
+    ensures { λ r. ⌜ Advances (length (now (lefts .entry))) (labelsOf (now (labels .entry)) (width * height)) (cutIn (directionsOf directions) (mapOf width height (now (cells .entry))) span (position .y * width + position .x) d) start (now (lefts .entry)) (now (rights .entry)) state (now (lefts .exit)) (now (rights .exit)) r ⌝ }
 {
     if !has_direction(directions, d) {
         return state;
@@ -115,8 +115,8 @@ pub fn assess_cell(
     state: Assessed,
 ) -> Assessed
     requires { ⌜ OnMap width height (now cells) (now labels) span × (position .x < width) × (position .y < height) × Room start 4 (now lefts) (now rights) state ⌝ }
-    ensures { λ r. ⌜ Grown start 4 state r ⌝ }
-    ensures { λ r. ⌜ Advances (labelsOf (now (labels .entry)) (width * height)) (cutFrom (directionsOf directions) (mapOf width height (now (cells .entry))) span (position .y * width + position .x)) start (now (lefts .entry)) (now (rights .entry)) state (now (lefts .exit)) (now (rights .exit)) r ⌝ }
+    ensures { λ r. ⌜ Grown (length (now (lefts .entry))) start 4 state r ⌝ }
+    ensures { λ r. ⌜ Advances (length (now (lefts .entry))) (labelsOf (now (labels .entry)) (width * height)) (cutFrom (directionsOf directions) (mapOf width height (now (cells .entry))) span (position .y * width + position .x)) start (now (lefts .entry)) (now (rights .entry)) state (now (lefts .exit)) (now (rights .exit)) r ⌝ }
 {
     let mut done = state;
     let mut d: u32 = 5;

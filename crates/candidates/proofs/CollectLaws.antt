@@ -2,7 +2,7 @@
 use mathlib.Core.Path.{_≡_, refl, sym, _∙_, ap, subst}
 use mathlib.Core.Logic.{⊎-elim, by-cases}
 use mathlib.Core.Bool.{Bool, true, false, cond, not, _&&_, _||_}
-use mathlib.Core.List.{List, [], _∷_, _++_, map, append-nil}
+use mathlib.Core.List.{List, [], _∷_, _++_, map, map-append, append-nil}
 use Prim.Native.Nat.{ℕ, zero, suc, _+_, _-_, _*_, _<_, _≤_}
 use native.Mathlib.Omega.{arith}
 use native.Mathlib.Decide.{ℕ-discrete}
@@ -171,10 +171,6 @@ module _ (d : Given) (n : ℕ) (below : OwnersBelow (d .owners) (d .count) n) wh
       gap : (a e : ℕ) → ((y : ℕ) → a < y → y ≤ a + e → found d y ≡ false) → keep (found d) (upFrom 1 (a + e)) ≡ keep (found d) (upFrom 1 a)
       gap a e h = keep-within (found d) a e h
 
-map-last : (f : ℕ → LinkAt) (l : List ℕ) (x : ℕ) → map f (l ++ (x ∷ [])) ≡ map f l ++ (f x ∷ [])
-map-last f [] x = refl
-map-last f (y ∷ ys) x = ap (λ (m : List LinkAt). f y ∷ m) (map-last f ys x)
-
 links-more : (rs fs ss : List ℕ) (c r a b : ℕ) → c < length rs → c < length fs → c < length ss → linksIn (set rs c r) (set fs c a) (set ss c b) (c + 1) ≡ linksIn rs fs ss c ++ (record { region = r; first = a; second = b } ∷ [])
 unfolding linksIn
 links-more rs fs ss c r a b h k m =
@@ -216,7 +212,7 @@ module _ (d : Given) (n : ℕ) (below : OwnersBelow (d .owners) (d .count) n) wh
             seconds-length = ap (λ (x : List ℕ). length x) e3 ∙ (length-set ss count (seen d r .second) ∙ c .seconds-length);
             room = omega (arith, e0, c .room, room-next d n below after r q l);
             all = rw (e0, e1, e2, e3) (links-more rs fs ss count r (seen d r .first) (seen d r .second) (omega (arith, c .regions-length)) (omega (arith, c .firsts-length)) (omega (arith, c .seconds-length))
-                ∙ (ap (λ (x : List LinkAt). x ++ (linkOf d r ∷ [])) (c .all) ∙ (sym (map-last (linkOf d) (keep (found d) (upFrom 1 after)) r) ∙ ap (map (linkOf d)) (sym (kept true q)))));
+                ∙ (ap (λ (x : List LinkAt). x ++ (linkOf d r ∷ [])) (c .all) ∙ (sym (map-append (linkOf d) (keep (found d) (upFrom 1 after)) (r ∷ [])) ∙ ap (map (linkOf d)) (sym (kept true q)))));
           }
       go false q =
           let w = a .same q in

@@ -9,7 +9,7 @@ use native.Mathlib.Omega.{arith}
 use native.Mathlib.Decide.{ℕ-discrete}
 use borrow.Author.Tests.{eq-eqb, ne-eqb}
 use lib.Dec.{eqb}
-use lib.ListN.{length, getD, set, length-set, replicate, length-replicate, getD-replicate}
+use lib.ListN.{length, getD, length-append, set, length-set, replicate, length-replicate, getD-replicate}
 use lib.Seq.{getD-set-same, getD-set-other}
 use Rattle.lists.specs.Rows.{rows}
 use Rattle.lists.proofs.Rows.{rows-last, length-rows}
@@ -26,10 +26,6 @@ own-last : (f : ℕ → Record) (k i : ℕ) → ofOwner f (k + 1) i ≡ cond (eq
 unfolding ofOwner keep
 own-last f k i =
     rw add-one (ap (keep (λ (r : Record). eqb (r .owner) i)) (rows-last k f) ∙ (keep-append (λ (r : Record). eqb (r .owner) i) (rows k f) (f k ∷ []) ∙ one-kept (eqb (f k .owner) i) (keep (λ (r : Record). eqb (r .owner) i) (rows k f)) (f k)))
-
-length-last : (l : List Record) (x : Record) → length (l ++ (x ∷ [])) ≡ length l + 1
-length-last [] x = refl
-length-last (y ∷ ys) x = let e : length (ys ++ (x ∷ [])) ≡ length ys + 1 = length-last ys x in omega arith
 
 first-of : (l : List Record) (x : Record) {n : ℕ} → n ≡ length l → getD (l ++ (x ∷ [])) 0 noRecord ≡ cond (eqb n 0) x (getD l 0 noRecord)
 first-of [] x {n} e = rw (eq-eqb n 0 e)
@@ -79,7 +75,7 @@ module _ (owners lefts rights : List ℕ) (k : ℕ) {counts lowers highers : Lis
   count-next : (i : ℕ) → i < 256 → getD (set counts o (getD counts o 0 + 1)) i 0 ≡ length (ofOwner f (k + 1) i)
   count-next i l =
       by-cases (ℕ-discrete i o)
-      (λ e. rw (mine i e, length-last (ofOwner f k i) (f k), ← e) (getD-set-same counts i (getD counts i 0 + 1) 0 (omega (arith, h .counts-length)) ∙ ap (λ (n : ℕ). n + 1) (h .counts-are i l)))
+      (λ e. rw (mine i e, length-append (ofOwner f k i) (f k ∷ []), ← e) (getD-set-same counts i (getD counts i 0 + 1) 0 (omega (arith, h .counts-length)) ∙ ap (λ (n : ℕ). n + 1) (h .counts-are i l)))
       (λ e. rw (others i e) (getD-set-other counts o i (getD counts o 0 + 1) 0 e ∙ h .counts-are i l))
 
   field-is : (field : Record → ℕ) (xs : List ℕ) → length xs ≡ 256 → ((i : ℕ) → i < 256 → getD xs i 0 ≡ field (getD (ofOwner f k i) 0 noRecord)) → (i : ℕ) → i < 256

@@ -8,7 +8,7 @@ use native.Mathlib.Omega.{arith}
 use native.Mathlib.Decide.{ℕ-discrete}
 use borrow.Author.Tests.{eqb-true, eqb-false, ltb-true, ltb-false, not-true}
 use lib.Dec.{eqb, ltb}
-use lib.ListN.{length, getD}
+use lib.ListN.{length, getD, length-append}
 use Rattle.order.proofs.Bools.{and-parts, or-cases}
 use Rattle.order.proofs.Members.{getD-mem}
 use Rattle.graph.specs.Records.{Record, recordIn}
@@ -16,7 +16,7 @@ use Rattle.candidates.specs.Owners.{inRecord, OwnersBelow}
 use Rattle.candidates.specs.Touchers.{touchingAfter, touchers}
 use Rattle.candidates.specs.Next.{nearer, nextAfter}
 use Rattle.candidates.specs.Gives.{hasRegion}
-use Rattle.candidates.proofs.ToucherLaws.{told, toucher-touches, length-last}
+use Rattle.candidates.proofs.ToucherLaws.{told, toucher-touches}
 
 -- what is nearer: above, no more than before, and no more than the number if that is above
 record Nearer (after b x c : ℕ) : Type 0 where
@@ -78,7 +78,7 @@ module _ (marks lowers highers : List ℕ) (after : ℕ) where
 two-apart : (l : List ℕ) (o : ℕ) → (eqb (length l) 0 || not (eqb (getD l (length l - 1) 0) o)) ≡ true → length (l ++ (o ∷ [])) ≡ 2 → getD (l ++ (o ∷ [])) 0 0 ≡ getD (l ++ (o ∷ [])) 1 0 → ⊥
 two-apart [] o h e q = omega (arith, e)
 two-apart (x ∷ []) o h e q = eqb-false x o (not-true (eqb x o) h) q
-two-apart (x ∷ y ∷ ys) o h e q = omega (arith, e, length-last ys o)
+two-apart (x ∷ y ∷ ys) o h e q = omega (arith, e, length-append ys (o ∷ []))
 
 module _ (f : ℕ → Record) (r : ℕ) where
   apart : (k : ℕ) → length (touchers f r k) ≡ 2 → getD (touchers f r k) 0 0 ≡ getD (touchers f r k) 1 0 → ⊥

@@ -8,7 +8,7 @@ use native.Mathlib.Omega.{arith}
 use native.Mathlib.Decide.{ℕ-discrete}
 use borrow.Author.Tests.{eqb-true, eqb-false, ne-eqb, not-true}
 use lib.Dec.{eqb}
-use lib.ListN.{length, getD, length-map}
+use lib.ListN.{length, getD, length-append, length-map}
 use lib.Seq.{getD-append-seam}
 use Rattle.lists.specs.Rows.{rows}
 use Rattle.lists.proofs.Rows.{rows-at, length-rows}
@@ -42,10 +42,6 @@ heldOf l = record { count = length l; first = getD l 0 0; second = getD l 1 0; l
 same-held : {a b c d x y z w : ℕ} → a ≡ x → b ≡ y → c ≡ z → d ≡ w → _≡_ {A = Touching} (record { count = a; first = b; second = c; last = d }) (record { count = x; first = y; second = z; last = w })
 same-held e f g h = rw (e, f, g, h)
 
-pub length-last : (l : List ℕ) (o : ℕ) → length (l ++ (o ∷ [])) ≡ length l + 1
-length-last [] o = refl
-length-last (x ∷ xs) o = let e : length (xs ++ (o ∷ [])) ≡ length xs + 1 = length-last xs o in omega arith
-
 first-more : (l : List ℕ) (o : ℕ) → cond (eqb (length l) 0) o (getD l 0 0) ≡ getD (l ++ (o ∷ [])) 0 0
 first-more [] o = refl
 first-more (x ∷ xs) o = rw (ne-eqb (length (x ∷ xs)) 0 (λ z. omega arith))
@@ -56,10 +52,10 @@ second-more (x ∷ []) o = refl
 second-more (x ∷ y ∷ ys) o = rw (ne-eqb (length (x ∷ y ∷ ys)) 1 (λ z. omega arith))
 
 last-more : (l : List ℕ) (o : ℕ) → o ≡ getD (l ++ (o ∷ [])) (length (l ++ (o ∷ [])) - 1) 0
-last-more l o = let e : length l ≡ length (l ++ (o ∷ [])) - 1 = omega (arith, length-last l o) in sym (getD-append-seam l o [] 0) ∙ ap (λ (n : ℕ). getD (l ++ (o ∷ [])) n 0) e
+last-more l o = let e : length l ≡ length (l ++ (o ∷ [])) - 1 = omega (arith, length-append l (o ∷ [])) in sym (getD-append-seam l o [] 0) ∙ ap (λ (n : ℕ). getD (l ++ (o ∷ [])) n 0) e
 
 held-more : (l : List ℕ) (o : ℕ) → withOwner (heldOf l) o ≡ heldOf (l ++ (o ∷ []))
-held-more l o = same-held (sym (length-last l o)) (first-more l o) (second-more l o) (last-more l o)
+held-more l o = same-held (sym (length-append l (o ∷ []))) (first-more l o) (second-more l o) (last-more l o)
 
 module _ (f : ℕ → Record) (r : ℕ) where
   -- the owner is added

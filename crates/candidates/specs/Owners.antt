@@ -2,7 +2,7 @@
 use mathlib.Core.Path.{_≡_}
 use mathlib.Core.Bool.{Bool, _||_}
 use mathlib.Core.List.{List}
-use Prim.Native.Nat.{ℕ, _<_}
+use Prim.Native.Nat.{ℕ, _<_, _≤_}
 use lib.Dec.{eqb}
 use lib.ListN.{length, getD}
 use Rattle.lists.specs.Rows.{rows}
@@ -18,6 +18,13 @@ inRecord r p = eqb r (p .left) || eqb r (p .right)
 unfoldable pub ofOwner : (ℕ → Record) → ℕ → ℕ → List Record
 unfolding keep rows
 ofOwner f k i = keep (λ (r : Record). eqb (r .owner) i) (rows k f)
+
+-- the arrays have room for the records, of which there are at most 4,096
+pub record Stored (owners lefts rights : List ℕ) (records : ℕ) : Type 0 where
+  pub few : records ≤ 4096
+  pub in-owners : records ≤ length owners
+  pub in-lefts : records ≤ length lefts
+  pub in-rights : records ≤ length rights
 
 -- each owner is one of the first n ranks
 pub record OwnersBelow (owners : List ℕ) (records n : ℕ) : Type 0 where

@@ -3,7 +3,7 @@ ghost use mathlib.Core.Path.{_≡_};
 ghost use mathlib.Core.Bool.{true};
 ghost use Prim.Native.Nat.{_<_, _≤_};
 ghost use Rattle.topology.specs.Held.{labelsOf};
-ghost use Rattle.candidates.specs.Owners.{OwnersBelow};
+ghost use Rattle.candidates.specs.Owners.{Stored, OwnersBelow};
 ghost use Rattle.candidates.specs.Gives.{OnMap, OwnBounded};
 ghost use Rattle.candidates.specs.Found.{given, found, Added, AllFound};
 use crate::gives::gives_link;
@@ -23,9 +23,9 @@ fn consider(
     linkables: &[u8; 256],
     lowers: &[u32; 256],
     highers: &[u32; 256],
-    owners: &[u32; 4096],
-    lefts: &[u32; 4096],
-    rights: &[u32; 4096],
+    owners: &[u32],
+    lefts: &[u32],
+    rights: &[u32],
     records: usize,
     region: u32,
     count: usize,
@@ -33,7 +33,7 @@ fn consider(
     firsts: &mut [u32; 256],
     seconds: &mut [u32; 256],
 ) -> usize
-    requires { ⌜ OnMap (now job) «bases_at» bases width (now labels) cells × (n ≤ 256) × OwnBounded (now own) n × (records ≤ 4096) × OwnersBelow (now owners) records n × (found (given (now job) «bases_at» bases width (labelsOf (now labels) cells) (now own) (now linkables) (now lowers) (now highers) (now owners) (now lefts) (now rights) records) region ≡ true → count < 256) ⌝ }
+    requires { ⌜ OnMap (now job) «bases_at» bases width (now labels) cells × (n ≤ 256) × OwnBounded (now own) n × Stored (now owners) (now lefts) (now rights) records × OwnersBelow (now owners) records n × (found (given (now job) «bases_at» bases width (labelsOf (now labels) cells) (now own) (now linkables) (now lowers) (now highers) (now owners) (now lefts) (now rights) records) region ≡ true → count < 256) ⌝ }
     ensures { λ r. ⌜ Added (given (now (job .entry)) «bases_at» bases width (labelsOf (now (labels .entry)) cells) (now (own .entry)) (now (linkables .entry)) (now (lowers .entry)) (now (highers .entry)) (now (owners .entry)) (now (lefts .entry)) (now (rights .entry)) records) region count (now (regions .entry)) (now (firsts .entry)) (now (seconds .entry)) r (now (regions .exit)) (now (firsts .exit)) (now (seconds .exit)) ⌝ }
 {
     let t = touching_of(owners, lefts, rights, records, region);
@@ -77,15 +77,15 @@ pub fn collect(
     linkables: &[u8; 256],
     lowers: &[u32; 256],
     highers: &[u32; 256],
-    owners: &[u32; 4096],
-    lefts: &[u32; 4096],
-    rights: &[u32; 4096],
+    owners: &[u32],
+    lefts: &[u32],
+    rights: &[u32],
     records: usize,
     regions: &mut [u32; 256],
     firsts: &mut [u32; 256],
     seconds: &mut [u32; 256],
 ) -> usize
-    requires { ⌜ OnMap (now job) «bases_at» bases width (now labels) cells × (n ≤ 256) × OwnBounded (now own) n × (records ≤ 4096) × OwnersBelow (now owners) records n ⌝ }
+    requires { ⌜ OnMap (now job) «bases_at» bases width (now labels) cells × (n ≤ 256) × OwnBounded (now own) n × Stored (now owners) (now lefts) (now rights) records × OwnersBelow (now owners) records n ⌝ }
     ensures { λ r. ⌜ AllFound (given (now (job .entry)) «bases_at» bases width (labelsOf (now (labels .entry)) cells) (now (own .entry)) (now (linkables .entry)) (now (lowers .entry)) (now (highers .entry)) (now (owners .entry)) (now (lefts .entry)) (now (rights .entry)) records) (now (regions .exit)) (now (firsts .exit)) (now (seconds .exit)) r ⌝ }
 {
     *regions = [0u32; 256];

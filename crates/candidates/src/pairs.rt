@@ -4,7 +4,7 @@ ghost use mathlib.Core.Bool.{cond};
 ghost use Prim.Native.Nat.{ℕ, _+_, _<_, _≤_};
 ghost use lib.Dec.{eqb};
 ghost use lib.ListN.{length, getD, set};
-ghost use Rattle.candidates.specs.Owners.{OwnersBelow, Firsts};
+ghost use Rattle.candidates.specs.Owners.{Stored, OwnersBelow, Firsts};
 use wire::size;
 
 // One pair more of a rank.
@@ -31,15 +31,15 @@ fn add_pair(
 
 // For each rank how many records it has, and the regions of the first one, 0 where there is none.
 pub fn first_pairs(
-    owners: &[u32; 4096],
-    lefts: &[u32; 4096],
-    rights: &[u32; 4096],
+    owners: &[u32],
+    lefts: &[u32],
+    rights: &[u32],
     records: usize,
     counts: &mut [u32; 256],
     lowers: &mut [u32; 256],
     highers: &mut [u32; 256],
 )
-    requires { ⌜ (records ≤ 4096) × OwnersBelow (now owners) records 256 ⌝ }
+    requires { ⌜ Stored (now owners) (now lefts) (now rights) records × OwnersBelow (now owners) records 256 ⌝ }
     ensures { λ r. ⌜ Firsts (now (owners .entry)) (now (lefts .entry)) (now (rights .entry)) records (now (counts .exit)) (now (lowers .exit)) (now (highers .exit)) ⌝ }
 {
     *counts = [0u32; 256];

@@ -4,6 +4,7 @@ ghost use mathlib.Core.Bool.{cond, _||_};
 ghost use Prim.Native.Nat.{_≤_, _<_};
 ghost use lib.Dec.{eqb};
 ghost use Rattle.graph.specs.Records.{recordIn};
+ghost use Rattle.candidates.specs.Owners.{Stored};
 ghost use Rattle.candidates.specs.Touchers.{withOwner, touched, touchingAfter};
 
 // How many owners touch a region, the first two, and the last.
@@ -53,13 +54,13 @@ impl Touching {
 
 // Of the owners of the records, in their order.
 pub fn touching_of(
-    owners: &[u32; 4096],
-    lefts: &[u32; 4096],
-    rights: &[u32; 4096],
+    owners: &[u32],
+    lefts: &[u32],
+    rights: &[u32],
     records: usize,
     region: u32,
 ) -> Touching
-    requires { ⌜ records ≤ 4096 ⌝ }
+    requires { ⌜ Stored (now owners) (now lefts) (now rights) records ⌝ }
     ensures { λ r. ⌜ r ≡ touchingAfter (recordIn (now (owners .entry)) (now (lefts .entry)) (now (rights .entry))) region records ⌝ }
 {
     let mut t = Touching {

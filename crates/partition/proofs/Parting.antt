@@ -78,20 +78,20 @@ zeros-after dirs g ss {before} {w} {w′} {from} {to} a f t e =
     ∙ ap (λ (i : ℕ). flatMap u32Bytes (areaLabels dirs g ss) ++ (zeros i ++ drop (10 * length (areaLabels dirs g ss)) before)) z)))
 
 -- what the records and counts are by the labels of the areas
-module _ (dirs : List ℕ) (g : Grid) (few : size g ≤ 1048576) (ends : List ℕ) (count : ℕ) {removed separated owners lefts rights : List ℕ} {r : ℕ}
-    (recorded : Recorded (areaLabels dirs g (spansIn ends count)) dirs g ends count removed separated owners lefts rights r) where
+module _ (dirs : List ℕ) (g : Grid) (few : size g ≤ 1048576) (ends : List ℕ) (count : ℕ) {most : ℕ} {removed separated owners lefts rights : List ℕ} {r : ℕ}
+    (recorded : Recorded (areaLabels dirs g (spansIn ends count)) dirs g most ends count removed separated owners lefts rights r) where
   abbrev spans : List Span
   spans = spansIn ends count
 
   abbrev rs : List Record
   rs = records dirs g spans
 
-  pairs-fit : length rs ≤ 4096 → (r ≡ length rs) × (recordsIn owners lefts rights r ≡ rs)
+  pairs-fit : length rs ≤ most → (r ≡ length rs) × (recordsIn owners lefts rights r ≡ rs)
       × ((i : ℕ) → i < count → (getD removed i 0 ≡ assess dirs g spans (spanIn ends i) .removed) × (getD separated i 0 ≡ assess dirs g spans (spanIn ends i) .separated))
   unfolding recordsOf assessed records assess
   pairs-fit h = recorded .fits h
 
-  pairs-over : 4096 < length rs → r ≡ 4097
+  pairs-over : most < length rs → r ≡ most + 1
   unfolding recordsOf assessed records assess
   pairs-over h = recorded .over h
 
@@ -100,7 +100,7 @@ module _ (dirs : List ℕ) (g : Grid) (few : size g ≤ 1048576) (ends : List �
   spans-long = length-rows count (spanIn ends)
 
   -- record k of the arrays
-  at-place : length rs ≤ 4096 → (k : ℕ) → k < r → (getD owners k 0 < count) × Regions (size g) (getD lefts k 0) (getD rights k 0)
+  at-place : length rs ≤ most → (k : ℕ) → k < r → (getD owners k 0 < count) × Regions (size g) (getD lefts k 0) (getD rights k 0)
   unfolding recordsIn
   at-place h k l =
       let here : Record = record { owner = getD owners k 0; left = getD lefts k 0; right = getD rights k 0 } in
@@ -112,7 +112,7 @@ module _ (dirs : List ℕ) (g : Grid) (few : size g ≤ 1048576) (ends : List �
       (omega (arith, q .0, spans-long), q .1)
 
   pub partitioned : {before work : List ℕ} {a : ℕ} → work ≡ labelled (areaLabels dirs g spans) before → a ≡ areaCount dirs g spans →
-      Partitioned dirs g ends count before work removed separated owners lefts rights (record { areas = a; pairs = r })
+      Partitioned most dirs g ends count before work removed separated owners lefts rights (record { areas = a; pairs = r })
   partitioned w a = record {
     work-is = w;
     areas-are = a;
@@ -145,11 +145,11 @@ module _ (dirs : List ℕ) (g : Grid) (ss : List Span) {before w : List ℕ} {a 
 
 -- all parts of the partition
 pub all-parted : (dirs : List ℕ) (g : Grid) (ends : List ℕ) (count : ℕ) → size g ≤ 1048576 → {p : ℕ} → size g ≡ p →
-    {before w w′ removed separated owners lefts rights : List ℕ} {from to a r : ℕ} → AreasIn dirs g (spansIn ends count) before w a →
-    Recorded (labelsOf (take (4 * size g - 0) (drop 0 w)) p) dirs g ends count removed separated owners lefts rights r →
+    {before w w′ removed separated owners lefts rights : List ℕ} {most from to a r : ℕ} → AreasIn dirs g (spansIn ends count) before w a →
+    Recorded (labelsOf (take (4 * size g - 0) (drop 0 w)) p) dirs g most ends count removed separated owners lefts rights r →
     w′ ≡ splice w from (replicate (to - from) 0) → from ≡ 4 * size g → to ≡ 10 * size g →
-    Partitioned dirs g ends count before w′ removed separated owners lefts rights (record { areas = a; pairs = r })
-all-parted dirs g ends count few h {before} {w} {w′} {removed} {separated} {owners} {lefts} {rights} {from} {to} {a} {r} areas recorded e f t =
+    Partitioned most dirs g ends count before w′ removed separated owners lefts rights (record { areas = a; pairs = r })
+all-parted dirs g ends count few h {before} {w} {w′} {removed} {separated} {owners} {lefts} {rights} {most} {from} {to} {a} {r} areas recorded e f t =
     partitioned dirs g few ends count
-    (subst (λ (ls : List ℕ). Recorded ls dirs g ends count removed separated owners lefts rights r) (lent-labels dirs g (spansIn ends count) areas few h) recorded)
+    (subst (λ (ls : List ℕ). Recorded ls dirs g most ends count removed separated owners lefts rights r) (lent-labels dirs g (spansIn ends count) areas few h) recorded)
     (zeros-after dirs g (spansIn ends count) areas f t e) (areas .total)

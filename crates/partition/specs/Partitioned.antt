@@ -1,7 +1,7 @@
 -- What a map and spans must be to be partitioned, and what the partition leaves in lent bytes and arrays.
 use mathlib.Core.Path.{_≡_}
 use mathlib.Core.List.{List, _++_, flatMap, List·Memᴰ}
-use Prim.Native.Nat.{ℕ, _*_, _≤_, _<_}
+use Prim.Native.Nat.{ℕ, _+_, _*_, _≤_, _<_}
 use lib.ListN.{length, getD, take, drop, replicate}
 use Rattle.wire.specs.Bytes.{u32Bytes}
 use Rattle.position.specs.declared.Span.{Span}
@@ -40,18 +40,18 @@ pub record Regions (n left right : ℕ) : Type 0 where
   pub apart : left < right
   pub most : right ≤ n
 
--- the areas that the first count spans make, their number, and the region pairs and counts of each span; 4,097 pairs stand for over 4,096
-pub record Partitioned (dirs : List ℕ) (g : Grid) (ends : List ℕ) (count : ℕ) (before work removed separated owners lefts rights : List ℕ) (p : Partition) : Type 0 where
+-- the areas that the first count spans make, their number, and the region pairs and counts of each span, in arrays of most pairs; one more stands for over most
+pub record Partitioned (most : ℕ) (dirs : List ℕ) (g : Grid) (ends : List ℕ) (count : ℕ) (before work removed separated owners lefts rights : List ℕ) (p : Partition) : Type 0 where
   pub work-is : work ≡ labelled (areaLabels dirs g (spansIn ends count)) before
   pub areas-are : p .areas ≡ areaCount dirs g (spansIn ends count)
   pub areas-few : areaCount dirs g (spansIn ends count) ≤ size g
   pub labels-few : (i : ℕ) → i < size g → labelAt (areaLabels dirs g (spansIn ends count)) i ≤ size g
-  pub over : 4096 < length (records dirs g (spansIn ends count)) → p .pairs ≡ 4097
-  pub pairs-are : length (records dirs g (spansIn ends count)) ≤ 4096 → p .pairs ≡ length (records dirs g (spansIn ends count))
-  pub records-are : length (records dirs g (spansIn ends count)) ≤ 4096 → recordsIn owners lefts rights (p .pairs) ≡ records dirs g (spansIn ends count)
-  pub removed-are : length (records dirs g (spansIn ends count)) ≤ 4096 → (i : ℕ) → i < count →
+  pub over : most < length (records dirs g (spansIn ends count)) → p .pairs ≡ most + 1
+  pub pairs-are : length (records dirs g (spansIn ends count)) ≤ most → p .pairs ≡ length (records dirs g (spansIn ends count))
+  pub records-are : length (records dirs g (spansIn ends count)) ≤ most → recordsIn owners lefts rights (p .pairs) ≡ records dirs g (spansIn ends count)
+  pub removed-are : length (records dirs g (spansIn ends count)) ≤ most → (i : ℕ) → i < count →
       getD removed i 0 ≡ assess dirs g (spansIn ends count) (spanIn ends i) .removed
-  pub separated-are : length (records dirs g (spansIn ends count)) ≤ 4096 → (i : ℕ) → i < count →
+  pub separated-are : length (records dirs g (spansIn ends count)) ≤ most → (i : ℕ) → i < count →
       getD separated i 0 ≡ assess dirs g (spansIn ends count) (spanIn ends i) .separated
-  pub owners-few : length (records dirs g (spansIn ends count)) ≤ 4096 → (k : ℕ) → k < p .pairs → getD owners k 0 < count
-  pub regions : length (records dirs g (spansIn ends count)) ≤ 4096 → (k : ℕ) → k < p .pairs → Regions (size g) (getD lefts k 0) (getD rights k 0)
+  pub owners-few : length (records dirs g (spansIn ends count)) ≤ most → (k : ℕ) → k < p .pairs → getD owners k 0 < count
+  pub regions : length (records dirs g (spansIn ends count)) ≤ most → (k : ℕ) → k < p .pairs → Regions (size g) (getD lefts k 0) (getD rights k 0)

@@ -1,6 +1,7 @@
 // The areas that spans part a map into, and what each span does to them, in lent bytes.
 ghost use mathlib.Core.Path.{_≡_};
 ghost use Prim.Native.Nat.{_*_};
+ghost use lib.ListN.{length};
 ghost use Rattle.grid.specs.Directions.{directionsOf};
 ghost use Rattle.areas.specs.Spans.{spansIn};
 ghost use Rattle.assessments.specs.Recording.{Arrays};
@@ -11,7 +12,7 @@ use components::components;
 use components::zero_fill;
 use marking::spans::mark_spans;
 
-// The number of areas, and that of region pairs: 4,097 where they are over 4,096.
+// The number of areas, and that of region pairs: one more than the arrays hold where they are over that.
 pub struct Partition {
     pub areas: u32,
     pub pairs: usize,
@@ -51,8 +52,8 @@ pub fn partition_by_spans(
     lefts: &mut [u32],
     rights: &mut [u32],
 ) -> Partition
-    requires { ⌜ Partitionable width height (now cells) directions (now ends) count (now work) × Arrays (now removed) (now separated) (now owners) (now lefts) (now rights) ⌝ }
-    ensures { λ r. ⌜ Partitioned (directionsOf directions) (mapOf width height (now (cells .entry))) (now (ends .entry)) count (now (work .entry)) (now (work .exit)) (now (removed .exit)) (now (separated .exit)) (now (owners .exit)) (now (lefts .exit)) (now (rights .exit)) r ⌝ }
+    requires { ⌜ Partitionable width height (now cells) directions (now ends) count (now work) × Arrays (length (now lefts)) (now removed) (now separated) (now owners) (now lefts) (now rights) ⌝ }
+    ensures { λ r. ⌜ Partitioned (length (now (lefts .entry))) (directionsOf directions) (mapOf width height (now (cells .entry))) (now (ends .entry)) count (now (work .entry)) (now (work .exit)) (now (removed .exit)) (now (separated .exit)) (now (owners .exit)) (now (lefts .exit)) (now (rights .exit)) r ⌝ }
 {
     let n = cells.len();
     let areas = label_areas(cells, width, height, directions, ends, count, work);

@@ -15,7 +15,7 @@ use Rattle.topology.specs.Held.{labelsOf}
 use Rattle.topology.specs.Listing.{Item}
 use Rattle.groups.specs.Tables.{Linked}
 use Rattle.candidates.specs.Gives.{OnMap, OwnBounded}
-use Rattle.candidates.specs.Owners.{OwnersBelow}
+use Rattle.candidates.specs.Owners.{Stored, OwnersBelow}
 use Rattle.candidates.specs.Top.{Answer}
 use Rattle.measures.specs.Tables.{Labels, Regions}
 use Rattle.measures.specs.Judging.{Plain, Ranks, Measured}
@@ -63,8 +63,8 @@ module _ {job : List ℕ} {start bases : ℕ} {cells : List ℕ} {width height n
   owned = subst (OwnersBelow owners records) (R .listed .count) (owners-are (R .dirs) (mapOf width height cells) (R .items) (R .listed .paired))
 
   -- what `candidate_links` asks for
-  pub findable : OnMap job start bases width (lent work (length cells)) (length cells) × (n ≤ 256) × OwnBounded own n × (records ≤ 4096) × OwnersBelow owners records n
-  findable = (on-map, few, own-bounded, R .listed .paired .most, owned)
+  pub findable : OnMap job start bases width (lent work (length cells)) (length cells) × (n ≤ 256) × OwnBounded own n × Stored owners lefts rights records × OwnersBelow owners records n
+  findable = (on-map, few, own-bounded, R .stored, owned)
 
   module _ {counts lowers highers regions firsts seconds : List ℕ} {r : ℕ}
       (A : Answer job start bases width (labelsOf (lent work (length cells)) (length cells)) n own ramps removed separated owners lefts rights records counts lowers highers regions firsts seconds r) where

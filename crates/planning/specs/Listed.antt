@@ -11,6 +11,7 @@ use Rattle.topology.specs.Held.{labelsOf}
 use Rattle.topology.specs.Listing.{Item}
 use Rattle.groups.specs.Regions.{regionLabels}
 use Rattle.groups.specs.Tables.{Boundaries, Counted, Paired, Bridged}
+use Rattle.candidates.specs.Owners.{Stored}
 use Rattle.measures.specs.Tables.{Labels}
 use Rattle.measures.specs.Judging.{Plain}
 
@@ -26,7 +27,7 @@ pub record Listed (dirs : List ℕ) (g : Grid) (l : List Item) (n : ℕ) (own bi
   pub paired : Paired dirs g l owners lefts rights records
   pub bridged : Bridged dirs g l marks
 
--- a map with labels in bytes, bases with their anchors on it, arrays of plain numbers, and some listing that they tell of
+-- a map with labels in bytes, bases with their anchors on it, arrays of plain numbers, room for the records, and some listing that they tell of
 pub record Ready (job : List ℕ) (start bases : ℕ) (cells : List ℕ) (width height n : ℕ) (own bits ramps work removed separated owners lefts rights : List ℕ) (records : ℕ) : Type 0 where
   pub sides : Sides width height
   pub whole : length cells ≡ width * height
@@ -34,6 +35,7 @@ pub record Ready (job : List ℕ) (start bases : ℕ) (cells : List ℕ) (width 
   pub there : start + bases * baseSize ≤ length job
   pub anchors : AnchorsIn job start bases width (length cells)
   pub plain : Plain own bits
+  pub stored : Stored owners lefts rights records
   pub dirs : List ℕ
   pub items : List Item
   pub marks : List ℕ

@@ -9,7 +9,7 @@ use Rattle.candidates.proofs.linkable.find_linkables.Reads as find-link
 use Rattle.candidates.proofs.pairs.first_pairs.Reads as first-pairs-reads
 
 first-pairs-requires : tie.Need-first-pairs-requires
-first-pairs-requires c κs = let p = c .before .before .before .before .before .pre in (p .3, below-all (p .1) (p .4))
+first-pairs-requires c κs = let p = c .before .before .before .before .before .before .before .before .pre in (p .3, below-all (p .1) (p .4))
 
 find-linkables-requires : tie.Need-find-linkables-requires
 find-linkables-requires c κs = search needs
@@ -19,7 +19,7 @@ collect-requires c κs = search needs
 
 returns : tie.Need-returns
 returns c =
-    let a = c .before .before .before .before .before .before .before .before .before .before .before .before .before .before .before .before .args in
+    let a = c .before .before .before .before .before .before .before .before .before .before .before .before .before .before .before .before .before .before .before .args in
     answered (a .job .now) (a .bases-at) (a .bases) (a .width) _ (a .own .now) (a .owners .now) (a .lefts .now) (a .rights .now) (a .records) (c .before .before .before .before .before .before .before .before .before .before .first-pairs .ensures) (c .before .before .before .before .before .before .before .find-linkables .ensures) (c .collect .ensures)
 
 pub candidate-links-spec : {M : Type 1} → statement M

@@ -20,16 +20,16 @@ part-candidate-links-end : tie.Need-part-candidate-links-end
 part-candidate-links-end c = search needs
 
 candidate-links-requires : tie.Need-candidate-links-requires
-candidate-links-requires c κs = findable (c .before .before .before .before .before .before .before .before .before .before .before .pre)
+candidate-links-requires c κs = findable (c .before .before .before .before .before .before .before .before .before .before .before .before .before .before .pre)
 
 measure-links-requires : tie.Need-measure-links-requires
-measure-links-requires c κs = measurable (c .before .before .before .before .before .before .before .before .before .before .before .before .before .before .before .before .before .before .pre) (c .before .before .before .before .before .before .candidate-links .ensures)
+measure-links-requires c κs = measurable (c .before .before .before .before .before .before .before .before .before .before .before .before .before .before .before .before .before .before .before .before .before .pre) (c .before .before .before .before .before .before .candidate-links .ensures)
 
 same-length : tie.Need-same-length
 same-length c = search needs
 
 returns : tie.Need-returns
-returns c = (c .before .before .measure-links .ensures .0, links-found (c .before .before .before .before .before .before .before .before .before .before .before .before .before .before .before .before .before .before .before .before .before .pre) (c .before .before .before .before .before .before .before .before .before .candidate-links .ensures) (c .before .before .measure-links .ensures .1))
+returns c = (c .before .before .measure-links .ensures .0, links-found (c .before .before .before .before .before .before .before .before .before .before .before .before .before .before .before .before .before .before .before .before .before .before .before .before .pre) (c .before .before .before .before .before .before .before .before .before .candidate-links .ensures) (c .before .before .measure-links .ensures .1))
 
 pub measured-links-spec : {M : Type 1} → statement M
 measured-links-spec =

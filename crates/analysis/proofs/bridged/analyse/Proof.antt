@@ -1,4 +1,4 @@
-use mathlib.Core.Path.{refl}
+use mathlib.Core.Path.{refl, _∙_}
 use native.Mathlib.Nat.{mul-le-mul}
 use native.Mathlib.Omega.{arith}
 use Rattle.analysis.proofs.Bridging.{unbridged, owners-in, labels-in, room-in, zero-in, bridged}
@@ -16,20 +16,43 @@ partition-by-spans-requires c κs = search needs
 same-length : tie.Need-same-length
 same-length c = search needs
 
-returns : tie.Need-returns
-returns c = let r = c .before .before .before .partition-by-spans .ensures in (r, unbridged r (c .if1 .taken))
-
-mul-bridge-boundaries : tie.Need-mul-bridge-boundaries
-mul-bridge-boundaries c = let p = c .before .before .before .before .before .before .before .before .before .before .before .before .before .before .before .before .pre .0 in omega (arith, p .whole, mul-le-mul (p .sides .wide) (p .sides .high))
-
-bridge-boundaries-requires : tie.Need-bridge-boundaries-requires
-bridge-boundaries-requires c κs = let r = c .before .before .before .before .before .before .before .before .partition-by-spans .ensures in let few = c .before .before .before .before .before .if1 .left in (owners-in r (c .before .before .before .before .before .before .before .before .before .before .before .before .before .before .before .before .before .pre .0 .few) few, labels-in r _ refl few, room-in r _ refl, zero-in r _ refl)
-
 same-length-2 : tie.Need-same-length-2
 same-length-2 c = search needs
 
+same-length-3 : tie.Need-same-length-3
+same-length-3 c = search needs
+
+same-length-4 : tie.Need-same-length-4
+same-length-4 c = search needs
+
+returns : tie.Need-returns
+returns c = let r = c .before .before .before .before .before .before .before .before .before .partition-by-spans .ensures in (r, unbridged r (c .if1 .taken))
+
+mul-bridge-boundaries : tie.Need-mul-bridge-boundaries
+mul-bridge-boundaries c = let p = c .before .before .before .before .before .before .before .before .before .before .before .before .before .before .before .before .before .before .before .before .before .before .before .before .before .pre .0 in omega (arith, p .whole, mul-le-mul (p .sides .wide) (p .sides .high))
+
+bridge-boundaries-requires : tie.Need-bridge-boundaries-requires
+bridge-boundaries-requires c κs =
+    let p = c .before .before .before .before .before .before .before .before .before .before .before .before .before .before .before .before .before .before .before .before .before .before .before .before .before .before .pre in
+    let r = c .before .before .before .before .before .before .before .before .before .before .before .before .before .before .partition-by-spans .ensures in
+    let k = c .before .before .before .before .before .before .before .before .before .before .before .before .before .before .partition-by-spans .kept in
+    let few = c .before .before .before .before .before .if1 .left in
+    (owners-in r (p .0 .few) few, omega (arith, few, k .1 .1 .1 .1 .1 .1 .1 .1 .1 .0, p .1 .owners-are), labels-in r _ refl (p .1 .few) (k .1 .1 .1 .1 .1 .1 .1 .1 .1 .1 .0) (k .1 .1 .1 .1 .1 .1 .1 .1 .1 .1 .1 .0 ∙ p .1 .rights-are) few, room-in r _ refl, zero-in r _ refl)
+
+same-length-5 : tie.Need-same-length-5
+same-length-5 c = search needs
+
+same-length-6 : tie.Need-same-length-6
+same-length-6 c = search needs
+
+same-length-7 : tie.Need-same-length-7
+same-length-7 c = search needs
+
+same-length-8 : tie.Need-same-length-8
+same-length-8 c = search needs
+
 returns-2 : tie.Need-returns-2
-returns-2 c = let r = c .before .before .before .before .before .before .before .before .before .before .before .partition-by-spans .ensures in let e = c .before .before .bridge-boundaries .ensures in (rw (e .1) r, bridged r (e .0))
+returns-2 c = let r = c .before .before .before .before .before .before .before .before .before .before .before .before .before .before .before .before .before .partition-by-spans .ensures in let e = c .before .before .bridge-boundaries .ensures in (rw (e .1) r, bridged r (e .0))
 
 pub analyse-spec : {M : Type 1} → statement M
 analyse-spec =
@@ -37,8 +60,14 @@ analyse-spec =
     (tie.spec
     partition-by-spans-requires
     same-length
+    same-length-2
+    same-length-3
+    same-length-4
     returns
     mul-bridge-boundaries
     bridge-boundaries-requires
-    same-length-2
+    same-length-5
+    same-length-6
+    same-length-7
+    same-length-8
     returns-2)

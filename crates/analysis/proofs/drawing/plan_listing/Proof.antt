@@ -16,7 +16,7 @@ use Rattle.ranks.proofs.fill_widths.Reads as fill-widths-reads
 use Rattle.wire.proofs.size.Reads as size-reads
 
 mul-size : tie.Need-mul-size
-mul-size c = omega (arith, headed-cells (c .before .before .before .before .before .pre .0 .headed))
+mul-size c = omega (arith, headed-cells (c .before .before .before .before .before .before .before .before .pre .0 .headed))
 
 size-requires : tie.Need-size-requires
 size-requires c κs = search needs
@@ -28,13 +28,13 @@ size-requires-3 : tie.Need-size-requires-3
 size-requires-3 c κs = search needs
 
 fill-spans-requires : tie.Need-fill-spans-requires
-fill-spans-requires c κs = (plan-records (c .before .before .before .before .before .before .before .before .before .pre .0) _ _ (c .before .size3 .ensures .0) (c .before .before .size2 .ensures .0), refl)
+fill-spans-requires c κs = (plan-records (c .before .before .before .before .before .before .before .before .before .before .before .before .pre .0) _ _ (c .before .size3 .ensures .0) (c .before .before .size2 .ensures .0), refl)
 
 fill-widths-requires : tie.Need-fill-widths-requires
-fill-widths-requires c κs = (plan-records (c .before .before .before .before .before .before .before .before .before .before .before .pre .0) _ _ (c .before .before .before .size3 .ensures .0) (c .before .before .before .before .size2 .ensures .0), refl)
+fill-widths-requires c κs = (plan-records (c .before .before .before .before .before .before .before .before .before .before .before .before .before .before .pre .0) _ _ (c .before .before .before .size3 .ensures .0) (c .before .before .before .before .size2 .ensures .0), refl)
 
 fill-ramps-requires : tie.Need-fill-ramps-requires
-fill-ramps-requires c κs = (plan-records (c .before .before .before .before .before .before .before .before .before .before .before .before .before .pre .0) _ _ (c .before .before .before .before .before .size3 .ensures .0) (c .before .before .before .before .before .before .size2 .ensures .0), refl)
+fill-ramps-requires c κs = (plan-records (c .before .before .before .before .before .before .before .before .before .before .before .before .before .before .before .before .pre .0) _ _ (c .before .before .before .before .before .size3 .ensures .0) (c .before .before .before .before .before .before .size2 .ensures .0), refl)
 
 of-000-requires : tie.Need-of-000-requires
 of-000-requires c κs = search needs
@@ -55,16 +55,16 @@ part-plan-merges-start : tie.Need-part-plan-merges-start
 part-plan-merges-start c = search needs
 
 part-plan-merges-end : tie.Need-part-plan-merges-end
-part-plan-merges-end c = omega (arith, map-inside (c .before .before .before .before .before .before .before .before .before .before .before .before .before .before .before .before .before .pre .0 .headed .header) (headed-laid (c .before .before .before .before .before .before .before .before .before .before .before .before .before .before .before .before .before .pre .0 .headed)) _ (c .before .before .before .before .before .before .before .before .before .before .before .size .ensures .0))
+part-plan-merges-end c = omega (arith, map-inside (c .before .before .before .before .before .before .before .before .before .before .before .before .before .before .before .before .before .before .before .before .pre .0 .headed .header) (headed-laid (c .before .before .before .before .before .before .before .before .before .before .before .before .before .before .before .before .before .before .before .before .pre .0 .headed)) _ (c .before .before .before .before .before .before .before .before .before .before .before .size .ensures .0))
 
 plan-merges-requires : tie.Need-plan-merges-requires
-plan-merges-requires c κs = let p = c .before .before .before .before .before .before .before .before .before .before .before .before .before .before .before .before .before .before .before .before .before .before .before .pre .0 in let a = c .before .before .before .before .before .before .before .before .before .before .before .before .before .before .before .size3 .ensures .0 in let n = c .before .before .before .before .before .before .before .before .before .before .before .before .before .before .before .before .size2 .ensures .0 in (least-three (c .before .before .before .before .before .before .before .before .of-000 .ensures), most-four (c .before .before .before .before .before .before .before .before .of-000 .ensures), ready p (own-array p a n (c .before .before .before .before .before .before .before .before .before .before .before .before .before .fill-spans .ensures)) (widths-array p a n (c .before .before .before .before .before .before .before .before .before .before .before .fill-widths .ensures)) (ramps-array p a n (c .before .before .before .before .before .before .before .before .before .fill-ramps .ensures)) (c .before .before .before .before .before .before .before .before .before .before .before .before .before .before .before .before .before .before .before .before .before .before .before .pre .1 .are) _ _ _ (c .before .before .before .before .before .before .before .size4 .ensures .0) (c .before .before .before .before .before .before .size5 .ensures .0) n _ (c .before .before .before .before .before .before .before .before .before .before .before .before .before .before .before .before .before .size .ensures .0), c .before .before .before .before .before .before .before .before .before .before .before .before .before .before .before .before .before .before .before .before .before .before .before .pre .2)
+plan-merges-requires c κs = let p = c .before .before .before .before .before .before .before .before .before .before .before .before .before .before .before .before .before .before .before .before .before .before .before .before .before .before .pre .0 in let a = c .before .before .before .before .before .before .before .before .before .before .before .before .before .before .before .size3 .ensures .0 in let n = c .before .before .before .before .before .before .before .before .before .before .before .before .before .before .before .before .size2 .ensures .0 in (least-three (c .before .before .before .before .before .before .before .before .of-000 .ensures), most-four (c .before .before .before .before .before .before .before .before .of-000 .ensures), ready p (own-array p a n (c .before .before .before .before .before .before .before .before .before .before .before .before .before .fill-spans .ensures)) (widths-array p a n (c .before .before .before .before .before .before .before .before .before .before .before .fill-widths .ensures)) (ramps-array p a n (c .before .before .before .before .before .before .before .before .before .fill-ramps .ensures)) (c .before .before .before .before .before .before .before .before .before .before .before .before .before .before .before .before .before .before .before .before .before .before .before .before .before .before .pre .1 .are) _ _ _ (c .before .before .before .before .before .before .before .size4 .ensures .0) (c .before .before .before .before .before .before .size5 .ensures .0) n _ (c .before .before .before .before .before .before .before .before .before .before .before .before .before .before .before .before .before .size .ensures .0) (c .before .before .before .before .before .before .before .before .before .before .before .before .before .before .before .before .before .before .before .before .before .before .before .before .before .before .pre .2), c .before .before .before .before .before .before .before .before .before .before .before .before .before .before .before .before .before .before .before .before .before .before .before .before .before .before .pre .3)
 
 same-length : tie.Need-same-length
 same-length c = search needs
 
 returns : tie.Need-returns
-returns c = let p = c .before .before .before .before .before .before .before .before .before .before .before .before .before .before .before .before .before .before .before .before .before .before .before .before .before .before .pre .0 in let a = c .before .before .before .before .before .before .before .before .before .before .before .before .before .before .before .before .before .before .size3 .ensures .0 in let n = c .before .before .before .before .before .before .before .before .before .before .before .before .before .before .before .before .before .before .before .size2 .ensures .0 in (c .before .before .plan-merges .ensures .0, λ ss t. planned-as p (own-array p a n (c .before .before .before .before .before .before .before .before .before .before .before .before .before .before .before .before .fill-spans .ensures)) (widths-array p a n (c .before .before .before .before .before .before .before .before .before .before .before .before .before .before .fill-widths .ensures)) (ramps-array p a n (c .before .before .before .before .before .before .before .before .before .before .before .before .fill-ramps .ensures)) t _ _ _ (c .before .before .before .before .before .before .before .before .before .before .size4 .ensures .0) (c .before .before .before .before .before .before .before .before .before .size5 .ensures .0) n _ (c .before .before .before .before .before .before .before .before .before .before .before .before .before .before .before .before .before .before .before .before .size .ensures .0) (c .before .before .before .before .before .before .before .before .before .before .before .of-000 .ensures) (c .before .before .plan-merges .ensures .1))
+returns c = let p = c .before .before .before .before .before .before .before .before .before .before .before .before .before .before .before .before .before .before .before .before .before .before .before .before .before .before .before .before .before .pre .0 in let a = c .before .before .before .before .before .before .before .before .before .before .before .before .before .before .before .before .before .before .size3 .ensures .0 in let n = c .before .before .before .before .before .before .before .before .before .before .before .before .before .before .before .before .before .before .before .size2 .ensures .0 in (c .before .before .plan-merges .ensures .0, (λ ss t. planned-as p (own-array p a n (c .before .before .before .before .before .before .before .before .before .before .before .before .before .before .before .before .fill-spans .ensures)) (widths-array p a n (c .before .before .before .before .before .before .before .before .before .before .before .before .before .before .fill-widths .ensures)) (ramps-array p a n (c .before .before .before .before .before .before .before .before .before .before .before .before .fill-ramps .ensures)) t _ _ _ (c .before .before .before .before .before .before .before .before .before .before .size4 .ensures .0) (c .before .before .before .before .before .before .before .before .before .size5 .ensures .0) n _ (c .before .before .before .before .before .before .before .before .before .before .before .before .before .before .before .before .before .before .before .before .size .ensures .0) (c .before .before .before .before .before .before .before .before .before .before .before .of-000 .ensures) (c .before .before .plan-merges .ensures .1), c .before .before .plan-merges .ensures .1 .whole))
 
 pub plan-listing-spec : {M : Type 1} → statement M
 plan-listing-spec =

@@ -1,14 +1,14 @@
 use native.Mathlib.Omega.{arith}
-use Rattle.analysis.proofs.Headed.{headed-laid, headed-cells}
-use Rattle.analysis.proofs.Mapped.{map-inside}
-use Rattle.analysis.proofs.Matching.{matched-partitionable, matched-many, some-told, matched-drawn}
+use Rattle.analysis.proofs.Headed.{headed-cells}
+use Rattle.analysis.proofs.Within.{parted-wider, parted-again}
 use borrow.Author.Needs.{needs}
 use Rattle.analysis.proofs.drawing.plan_matched.Statement.{statement}
 use Rattle.analysis.proofs.drawing.plan_matched.Tie as tie
 use Rattle.analysis.proofs.drawing.plan_matched.Reads as reads
 use Rattle.analysis.proofs.drawing.plan_matched.Lts as lts
-use Rattle.analysis.proofs.bridged.analyse.Reads as analyse-reads
-use Rattle.analysis.proofs.drawing.plan_listing.Reads as plan-listing-reads
+use Rattle.analysis.proofs.bridged.is_small.Reads as is-small-reads
+use Rattle.analysis.proofs.drawing.plan_few.Reads as plan-few-reads
+use Rattle.analysis.proofs.drawing.plan_many.Reads as plan-many-reads
 use Rattle.wire.proofs.size.Reads as size-reads
 
 mul-size : tie.Need-mul-size
@@ -20,35 +20,35 @@ size-requires c κs = search needs
 size-requires-2 : tie.Need-size-requires-2
 size-requires-2 c κs = search needs
 
-add-analyse : tie.Need-add-analyse
-add-analyse c = search needs
+is-small-requires : tie.Need-is-small-requires
+is-small-requires c κs = search needs
 
-sub-analyse : tie.Need-sub-analyse
-sub-analyse c = search needs
-
-part-analyse-start : tie.Need-part-analyse-start
-part-analyse-start c = search needs
-
-part-analyse-end : tie.Need-part-analyse-end
-part-analyse-end c = omega (arith, map-inside (c .before .before .before .before .before .before .pre .0 .job .headed .header) (headed-laid (c .before .before .before .before .before .before .pre .0 .job .headed)) _ (c .before .size .ensures .0))
-
-analyse-requires : tie.Need-analyse-requires
-analyse-requires c κs = (matched-partitionable (c .before .before .before .before .before .before .before .before .before .before .before .before .before .before .pre .0) _ (c .before .before .before .before .before .before .before .before .before .size .ensures .0) _ (c .before .before .before .before .before .before .before .before .size2 .ensures .0) (c .before .before .before .before .before .before .before .before .before .before .before .before .before .before .pre .1), search needs)
+plan-many-requires : tie.Need-plan-many-requires
+plan-many-requires c κs = search needs
 
 same-length : tie.Need-same-length
 same-length c = search needs
 
 returns : tie.Need-returns
-returns c = matched-many (c .before .before .before .before .before .before .before .before .before .before .before .before .before .before .before .before .before .before .pre .0) _ (c .before .before .before .before .before .before .before .before .before .before .before .before .before .size .ensures .0) _ (c .before .before .before .before .before .before .before .before .before .before .before .before .size2 .ensures .0) (c .before .before .before .analyse .ensures .0) (c .if1 .taken)
+returns c = search needs
 
-plan-listing-requires : tie.Need-plan-listing-requires
-plan-listing-requires c κs = (c .before .before .before .before .before .before .before .before .before .before .before .before .before .before .before .before .before .before .before .before .before .before .before .before .before .before .pre .0 .job, some-told (c .before .before .before .before .before .before .before .before .before .before .before .before .before .before .before .before .before .before .before .before .before .before .before .before .before .before .pre .0) _ (c .before .before .before .before .before .before .before .before .before .before .before .before .before .before .before .before .before .before .before .before .before .size .ensures .0) _ (c .before .before .before .before .before .before .before .before .before .before .before .before .before .before .before .before .before .before .before .before .size2 .ensures .0) (c .before .before .before .before .before .before .before .before .before .before .before .analyse .ensures .0) (c .before .before .before .before .before .before .before .before .before .before .before .analyse .ensures .1) (c .before .before .before .before .before .before .before .before .if1 .left) (c .before .before .before .before .before .before .before .before .before .before .before .before .before .before .before .before .before .before .before .before .before .before .before .before .before .before .pre .2), c .before .before .before .before .before .before .before .before .before .before .before .before .before .before .before .before .before .before .before .before .before .before .before .before .before .before .pre .3)
+plan-few-requires : tie.Need-plan-few-requires
+plan-few-requires c κs = search needs
 
 same-length-2 : tie.Need-same-length-2
 same-length-2 c = search needs
 
 returns-2 : tie.Need-returns-2
-returns-2 c = matched-drawn (c .before .before .before .before .before .before .before .before .before .before .before .before .before .before .before .before .before .before .before .before .before .before .before .before .before .before .before .before .before .pre .0) _ (c .before .before .before .before .before .before .before .before .before .before .before .before .before .before .before .before .before .before .before .before .before .before .before .before .size .ensures .0) _ (c .before .before .before .before .before .before .before .before .before .before .before .before .before .before .before .before .before .before .before .before .before .before .before .size2 .ensures .0) (c .before .before .before .before .before .before .before .before .before .before .before .before .before .before .analyse .ensures .0) (c .before .before .before .before .before .before .before .before .before .before .before .before .before .before .analyse .ensures .1) (c .before .before .before .before .before .before .before .before .before .before .before .if1 .left) (c .before .before .plan-listing .ensures .0) (c .before .before .plan-listing .ensures .1)
+returns-2 c = λ ss e. parted-wider (c .before .before .before .plan-few .ensures .0 ss e) (omega arith) (c .if2 .taken)
+
+plan-many-requires-2 : tie.Need-plan-many-requires-2
+plan-many-requires-2 c κs = let p = c .before .before .before .before .before .before .before .before .before .before .before .before .before .before .before .before .pre in (record { job = p .0 .job; room = omega (arith, p .0 .room, c .before .before .before .before .before .plan-few .kept .1 .1 .1 .1 .0) }, p .1, p .2, c .before .before .before .before .before .plan-few .ensures .1)
+
+same-length-3 : tie.Need-same-length-3
+same-length-3 c = search needs
+
+returns-3 : tie.Need-returns-3
+returns-3 c = λ ss e. parted-again (c .before .before .before .before .before .before .before .before .plan-few .ensures .0 ss e) (c .before .before .plan-many2 .ensures ss e)
 
 pub plan-matched-spec : {M : Type 1} → statement M
 plan-matched-spec =
@@ -57,13 +57,13 @@ plan-matched-spec =
     mul-size
     size-requires
     size-requires-2
-    add-analyse
-    sub-analyse
-    part-analyse-start
-    part-analyse-end
-    analyse-requires
+    is-small-requires
+    plan-many-requires
     same-length
     returns
-    plan-listing-requires
+    plan-few-requires
     same-length-2
-    returns-2)
+    returns-2
+    plan-many-requires-2
+    same-length-3
+    returns-3)

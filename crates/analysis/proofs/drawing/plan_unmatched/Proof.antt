@@ -8,7 +8,7 @@ use Rattle.analysis.proofs.drawing.plan_unmatched.Statement.{statement}
 use Rattle.analysis.proofs.drawing.plan_unmatched.Tie as tie
 use Rattle.analysis.proofs.drawing.plan_unmatched.Reads as reads
 use Rattle.analysis.proofs.drawing.plan_unmatched.Lts as lts
-use Rattle.analysis.proofs.bridged.analyse.Reads as analyse-reads
+use Rattle.analysis.proofs.bridged.find_bridges.Reads as find-bridges-reads
 use Rattle.ranks.proofs.fill_identity.Reads as fill-identity-reads
 use Rattle.ranks.proofs.fill_spans.Reads as fill-spans-reads
 use Rattle.wire.proofs.size.Reads as size-reads
@@ -25,26 +25,26 @@ fill-identity-requires c κs = search needs
 fill-spans-requires : tie.Need-fill-spans-requires
 fill-spans-requires c κs = (list-unmatched-records (c .before .before .before .before .before .before .before .before .before .before .pre .0) _ (c .before .before .before .before .before .before .before .before .before .before .pre .2) _ (c .before .before .before .before .before .before .before .before .before .before .pre .3) (c .before .before .fill-identity .ensures), refl)
 
-add-analyse : tie.Need-add-analyse
-add-analyse c = search needs
+add-find-bridges : tie.Need-add-find-bridges
+add-find-bridges c = search needs
 
-sub-analyse : tie.Need-sub-analyse
-sub-analyse c = search needs
+sub-find-bridges : tie.Need-sub-find-bridges
+sub-find-bridges c = search needs
 
-part-analyse-start : tie.Need-part-analyse-start
-part-analyse-start c = search needs
+part-find-bridges-start : tie.Need-part-find-bridges-start
+part-find-bridges-start c = search needs
 
-part-analyse-end : tie.Need-part-analyse-end
-part-analyse-end c = omega (arith, map-inside (c .before .before .before .before .before .before .before .before .before .before .before .pre .0 .header) (headed-laid (c .before .before .before .before .before .before .before .before .before .before .before .pre .0)) _ (c .before .before .before .before .before .size .ensures .0))
+part-find-bridges-end : tie.Need-part-find-bridges-end
+part-find-bridges-end c = omega (arith, map-inside (c .before .before .before .before .before .before .before .before .before .before .before .pre .0 .header) (headed-laid (c .before .before .before .before .before .before .before .before .before .before .before .pre .0)) _ (c .before .before .before .before .before .size .ensures .0))
 
-analyse-requires : tie.Need-analyse-requires
-analyse-requires c κs = (unmatched-partitionable (c .before .before .before .before .before .before .before .before .before .before .before .before .before .before .before .before .before .before .before .before .pre .0) _ (c .before .before .before .before .before .before .before .before .before .before .before .before .before .before .before .before .before .before .before .before .pre .2) _ (c .before .before .before .before .before .before .before .before .before .before .before .before .before .before .before .before .before .before .before .before .pre .3) (c .before .before .before .before .before .before .before .before .before .before .before .before .fill-identity .ensures) (c .before .before .before .before .before .before .before .before .before .fill-spans .ensures) _ (c .before .before .before .before .before .before .before .before .before .before .before .before .before .before .size .ensures .0) (c .before .before .before .before .before .before .before .before .before .before .before .before .before .before .before .before .before .before .before .before .pre .1), search needs)
+find-bridges-requires : tie.Need-find-bridges-requires
+find-bridges-requires c κs = unmatched-partitionable (c .before .before .before .before .before .before .before .before .before .before .before .before .before .before .before .pre .0) _ (c .before .before .before .before .before .before .before .before .before .before .before .before .before .before .before .pre .2) _ (c .before .before .before .before .before .before .before .before .before .before .before .before .before .before .before .pre .3) (c .before .before .before .before .before .before .before .fill-identity .ensures) (c .before .before .before .before .fill-spans .ensures) _ (c .before .before .before .before .before .before .before .before .before .size .ensures .0) (c .before .before .before .before .before .before .before .before .before .before .before .before .before .before .before .pre .1)
 
 same-length : tie.Need-same-length
 same-length c = search needs
 
 returns : tie.Need-returns
-returns c = unmatched-drawn (c .before .before .before .before .before .before .before .before .before .before .before .before .before .before .before .before .before .before .before .before .before .before .before .pre .0) _ (c .before .before .before .before .before .before .before .before .before .before .before .before .before .before .before .before .before .before .before .before .before .before .before .pre .2) _ (c .before .before .before .before .before .before .before .before .before .before .before .before .before .before .before .before .before .before .before .before .before .before .before .pre .3) (c .before .before .before .before .before .before .before .before .before .before .before .before .before .before .before .fill-identity .ensures) (c .before .before .before .before .before .before .before .before .before .before .before .before .fill-spans .ensures) _ (c .before .before .before .before .before .before .before .before .before .before .before .before .before .before .before .before .before .size .ensures .0) (c .before .before .before .before .before .before .before .before .before .before .before .before .before .before .before .before .before .before .before .before .before .before .before .pre .4) (c .before .before .analyse .ensures .0)
+returns c = unmatched-drawn (c .before .before .before .before .before .before .before .before .before .before .before .before .before .before .before .before .before .before .pre .0) _ (c .before .before .before .before .before .before .before .before .before .before .before .before .before .before .before .before .before .before .pre .2) _ (c .before .before .before .before .before .before .before .before .before .before .before .before .before .before .before .before .before .before .pre .3) (c .before .before .before .before .before .before .before .before .before .before .fill-identity .ensures) (c .before .before .before .before .before .before .before .fill-spans .ensures) _ (c .before .before .before .before .before .before .before .before .before .before .before .before .size .ensures .0) (c .before .before .before .before .before .before .before .before .before .before .before .before .before .before .before .before .before .before .pre .4) (c .before .before .find-bridges .ensures)
 
 pub plan-unmatched-spec : {M : Type 1} → statement M
 plan-unmatched-spec =
@@ -54,10 +54,10 @@ plan-unmatched-spec =
     size-requires
     fill-identity-requires
     fill-spans-requires
-    add-analyse
-    sub-analyse
-    part-analyse-start
-    part-analyse-end
-    analyse-requires
+    add-find-bridges
+    sub-find-bridges
+    part-find-bridges-start
+    part-find-bridges-end
+    find-bridges-requires
     same-length
     returns)

@@ -1,6 +1,7 @@
 use mathlib.Core.Path.{sym, _∙_}
 use Prim.Native.Nat.{_*_, _-_, _≤_}
 use native.Mathlib.Omega.{arith}
+use lib.ListN.{length}
 use Rattle.grid.specs.Directions.{directionsOf}
 use Rattle.assessments.specs.Holding.{labelsOf}
 use Rattle.assessments.specs.Visits.{mapOf}
@@ -14,11 +15,11 @@ use Rattle.marking.proofs.spans.span_at.Reads as span-at-reads
 use Rattle.assessments.proofs.strip.assess_span.Reads as assess-span-reads
 
 abbrev Inv-loop : tie.InvT-loop
-Inv-loop cells width height directions labels ends count removed₀ separated₀ owners₀ lefts₀ rights₀ end₀ i₀ removed separated owners lefts rights end i =
-    (i ≤ count) × Recording (labelsOf labels (width * height)) (directionsOf directions) (mapOf width height cells) ends removed separated owners lefts rights i end
+Inv-loop cells width height directions labels ends count removed₀ separated₀ owners₀ lefts₀ rights₀ most end₀ i₀ removed separated owners lefts rights end i =
+    (i ≤ count) × Recording (labelsOf labels (width * height)) (directionsOf directions) (mapOf width height cells) ends (length lefts₀) removed separated owners lefts rights i end
 
 abbrev μ-loop : tie.MeasureT-loop
-μ-loop cells width height directions labels ends count removed₀ separated₀ owners₀ lefts₀ rights₀ end₀ i₀ removed separated owners lefts rights end i =
+μ-loop cells width height directions labels ends count removed₀ separated₀ owners₀ lefts₀ rights₀ most end₀ i₀ removed separated owners lefts rights end i =
     count - i
 
 loop-holds : tie.Need-loop-holds Inv-loop μ-loop
@@ -30,7 +31,10 @@ span-at-requires c κs = omega (arith, c .before .before .before .before .before
 assess-span-requires : tie.Need-assess-span-requires Inv-loop μ-loop
 assess-span-requires c κs =
     let r = c .before .before .before .before .loop .inv .1 in
-    (span-on (c .before .before .before .before .before .before .before .before .before .before .before .before .pre .0) (c .before .before .before .loop-test .taken) (c .before .before .span-at .ensures), r .few, r .arrays .lefts-are, r .arrays .rights-are)
+    (span-on (c .before .before .before .before .before .before .before .before .before .before .before .before .pre .0) (c .before .before .before .loop-test .taken) (c .before .before .span-at .ensures), omega (arith, r .few, r .arrays .lefts-are), r .arrays .rights-are ∙ sym (r .arrays .lefts-are), omega (arith, r .arrays .lefts-are, r .arrays .few))
+
+add-result : tie.Need-add-result Inv-loop μ-loop
+add-result c = omega (arith, c .before .before .before .before .before .before .before .before .before .before .before .before .before .before .before .before .before .before .pre .1 .few)
 
 same-length : tie.Need-same-length Inv-loop μ-loop
 same-length c = c .before .before .before .before .before .before .before .before .before .before .loop .inv .1 .arrays .removed-are ∙ sym (c .before .before .before .before .before .before .before .before .before .before .before .before .before .before .before .before .before .before .pre .1 .removed-are)
@@ -49,7 +53,7 @@ same-length-5 c = c .before .before .before .before .before .assess-span .kept .
 
 returns : tie.Need-returns Inv-loop μ-loop
 returns c =
-    let h = span-holds (labelsOf (c .before .before .before .before .before .before .before .before .before .before .before .before .before .before .before .before .before .before .args .labels .now) (c .before .before .before .before .before .before .before .before .before .before .before .before .before .before .before .before .before .before .args .width * c .before .before .before .before .before .before .before .before .before .before .before .before .before .before .before .before .before .before .args .height)) (directionsOf (c .before .before .before .before .before .before .before .before .before .before .before .before .before .before .before .before .before .before .args .directions)) (mapOf (c .before .before .before .before .before .before .before .before .before .before .before .before .before .before .before .before .before .before .args .width) (c .before .before .before .before .before .before .before .before .before .before .before .before .before .before .before .before .before .before .args .height) (c .before .before .before .before .before .before .before .before .before .before .before .before .before .before .before .before .before .before .args .cells .now)) (c .before .before .before .before .before .before .before .before .before .before .before .before .before .before .before .before .before .before .args .ends .now) (c .before .before .before .before .before .before .before .before .before .before .loop .i) (c .before .before .before .before .before .before .before .before .span-at .result) (c .before .before .before .before .before .before .before .before .span-at .ensures) (c .before .before .before .before .before .assess-span .ensures) in
+    let h = span-holds (labelsOf (c .before .before .before .before .before .before .before .before .before .before .before .before .before .before .before .before .before .before .args .labels .now) (c .before .before .before .before .before .before .before .before .before .before .before .before .before .before .before .before .before .before .args .width * c .before .before .before .before .before .before .before .before .before .before .before .before .before .before .before .before .before .before .args .height)) (directionsOf (c .before .before .before .before .before .before .before .before .before .before .before .before .before .before .before .before .before .before .args .directions)) (mapOf (c .before .before .before .before .before .before .before .before .before .before .before .before .before .before .before .before .before .before .args .width) (c .before .before .before .before .before .before .before .before .before .before .before .before .before .before .before .before .before .before .args .height) (c .before .before .before .before .before .before .before .before .before .before .before .before .before .before .before .before .before .before .args .cells .now)) (c .before .before .before .before .before .before .before .before .before .before .before .before .before .before .before .before .before .before .args .ends .now) (c .before .before .before .before .before .before .before .before .before .before .loop .i) (c .before .before .before .before .before .before .before .before .span-at .result) (c .before .before .before .before .before .before .before .before .span-at .ensures) (c .before .before .before .before .before .before .before .before .before .before .loop .inv .1 .arrays .lefts-are) (c .before .before .before .before .before .assess-span .ensures) in
     recording-over _ _ _ _ (c .before .before .before .before .before .before .before .before .before .before .loop .inv .1) h _ (c .before .before .before .before .before .before .before .before .before .loop-test .taken) (c .if1 .taken)
 
 mul-removed : tie.Need-mul-removed Inv-loop μ-loop
@@ -69,9 +73,9 @@ cast-fill c = omega (arith, c .before .before .before .before .before .before .b
 
 fill-requires : tie.Need-fill-requires Inv-loop μ-loop
 fill-requires c κs =
-    let h = span-holds (labelsOf (c .before .before .before .before .before .before .before .before .before .before .before .before .before .before .before .before .before .before .before .args .labels .now) (c .before .before .before .before .before .before .before .before .before .before .before .before .before .before .before .before .before .before .before .args .width * c .before .before .before .before .before .before .before .before .before .before .before .before .before .before .before .before .before .before .before .args .height)) (directionsOf (c .before .before .before .before .before .before .before .before .before .before .before .before .before .before .before .before .before .before .before .args .directions)) (mapOf (c .before .before .before .before .before .before .before .before .before .before .before .before .before .before .before .before .before .before .before .args .width) (c .before .before .before .before .before .before .before .before .before .before .before .before .before .before .before .before .before .before .before .args .height) (c .before .before .before .before .before .before .before .before .before .before .before .before .before .before .before .before .before .before .before .args .cells .now)) (c .before .before .before .before .before .before .before .before .before .before .before .before .before .before .before .before .before .before .before .args .ends .now) (c .before .before .before .before .before .before .before .before .before .before .before .loop .i) (c .before .before .before .before .before .before .before .before .before .span-at .result) (c .before .before .before .before .before .before .before .before .before .span-at .ensures) (c .before .before .before .before .before .before .assess-span .ensures) in
+    let h = span-holds (labelsOf (c .before .before .before .before .before .before .before .before .before .before .before .before .before .before .before .before .before .before .before .args .labels .now) (c .before .before .before .before .before .before .before .before .before .before .before .before .before .before .before .before .before .before .before .args .width * c .before .before .before .before .before .before .before .before .before .before .before .before .before .before .before .before .before .before .before .args .height)) (directionsOf (c .before .before .before .before .before .before .before .before .before .before .before .before .before .before .before .before .before .before .before .args .directions)) (mapOf (c .before .before .before .before .before .before .before .before .before .before .before .before .before .before .before .before .before .before .before .args .width) (c .before .before .before .before .before .before .before .before .before .before .before .before .before .before .before .before .before .before .before .args .height) (c .before .before .before .before .before .before .before .before .before .before .before .before .before .before .before .before .before .before .before .args .cells .now)) (c .before .before .before .before .before .before .before .before .before .before .before .before .before .before .before .before .before .before .before .args .ends .now) (c .before .before .before .before .before .before .before .before .before .before .before .loop .i) (c .before .before .before .before .before .before .before .before .before .span-at .result) (c .before .before .before .before .before .before .before .before .before .span-at .ensures) (c .before .before .before .before .before .before .before .before .before .before .before .loop .inv .1 .arrays .lefts-are) (c .before .before .before .before .before .before .assess-span .ensures) in
     let r = c .before .before .before .before .before .before .before .before .before .before .before .loop .inv .1 in
-    let m = c .before .if1 .left in (grows _ _ _ _ r h m, m, r .arrays .owners-are)
+    let m = c .before .if1 .left in (grows _ _ _ _ r h m, omega (arith, m, r .arrays .owners-are), omega (arith, r .arrays .owners-are, r .arrays .few))
 
 add-i : tie.Need-add-i Inv-loop μ-loop
 add-i c = omega (arith, c .before .before .before .before .before .before .before .before .before .before .before .before .before .before .before .before .before .before .before .before .before .before .pre .0 .few, c .before .before .before .before .before .before .before .before .before .before .before .before .before .loop-test .taken)
@@ -81,7 +85,7 @@ loop-less c = omega (arith, c .before .before .before .before .before .before .b
 
 loop-again : tie.Need-loop-again Inv-loop μ-loop
 loop-again c =
-    let h = span-holds (labelsOf (c .before .before .before .before .before .before .before .before .before .before .before .before .before .before .before .before .before .before .before .before .before .before .args .labels .now) (c .before .before .before .before .before .before .before .before .before .before .before .before .before .before .before .before .before .before .before .before .before .before .args .width * c .before .before .before .before .before .before .before .before .before .before .before .before .before .before .before .before .before .before .before .before .before .before .args .height)) (directionsOf (c .before .before .before .before .before .before .before .before .before .before .before .before .before .before .before .before .before .before .before .before .before .before .args .directions)) (mapOf (c .before .before .before .before .before .before .before .before .before .before .before .before .before .before .before .before .before .before .before .before .before .before .args .width) (c .before .before .before .before .before .before .before .before .before .before .before .before .before .before .before .before .before .before .before .before .before .before .args .height) (c .before .before .before .before .before .before .before .before .before .before .before .before .before .before .before .before .before .before .before .before .before .before .args .cells .now)) (c .before .before .before .before .before .before .before .before .before .before .before .before .before .before .before .before .before .before .before .before .before .before .args .ends .now) (c .before .before .before .before .before .before .before .before .before .before .before .before .before .before .loop .i) (c .before .before .before .before .before .before .before .before .before .before .before .before .span-at .result) (c .before .before .before .before .before .before .before .before .before .before .before .before .span-at .ensures) (c .before .before .before .before .before .before .before .before .before .assess-span .ensures) in
+    let h = span-holds (labelsOf (c .before .before .before .before .before .before .before .before .before .before .before .before .before .before .before .before .before .before .before .before .before .before .args .labels .now) (c .before .before .before .before .before .before .before .before .before .before .before .before .before .before .before .before .before .before .before .before .before .before .args .width * c .before .before .before .before .before .before .before .before .before .before .before .before .before .before .before .before .before .before .before .before .before .before .args .height)) (directionsOf (c .before .before .before .before .before .before .before .before .before .before .before .before .before .before .before .before .before .before .before .before .before .before .args .directions)) (mapOf (c .before .before .before .before .before .before .before .before .before .before .before .before .before .before .before .before .before .before .before .before .before .before .args .width) (c .before .before .before .before .before .before .before .before .before .before .before .before .before .before .before .before .before .before .before .before .before .before .args .height) (c .before .before .before .before .before .before .before .before .before .before .before .before .before .before .before .before .before .before .before .before .before .before .args .cells .now)) (c .before .before .before .before .before .before .before .before .before .before .before .before .before .before .before .before .before .before .before .before .before .before .args .ends .now) (c .before .before .before .before .before .before .before .before .before .before .before .before .before .before .loop .i) (c .before .before .before .before .before .before .before .before .before .before .before .before .span-at .result) (c .before .before .before .before .before .before .before .before .before .before .before .before .span-at .ensures) (c .before .before .before .before .before .before .before .before .before .before .before .before .before .before .loop .inv .1 .arrays .lefts-are) (c .before .before .before .before .before .before .before .before .before .assess-span .ensures) in
     let r = c .before .before .before .before .before .before .before .before .before .before .before .before .before .before .loop .inv .1 in
     (omega (arith, c .before .before .before .before .before .before .before .before .before .before .before .before .before .loop-test .taken), recording-next _ _ _ _ r h (c .before .before .before .before .if1 .left) (omega (arith, c .before .before .before .before .before .before .before .before .before .before .before .before .before .before .before .before .before .before .before .before .before .before .pre .0 .few, c .before .before .before .before .before .before .before .before .before .before .before .before .before .loop-test .taken)) (c .before .before .fill .ensures) (c .before .before .fill .kept .0) (c .before .before .before .before .before .before .before .before .before .assess-span .kept .1 .1 .1 .1 .1 .1 .0) (c .before .before .before .before .before .before .before .before .before .assess-span .kept .1 .1 .1 .1 .1 .1 .1 .0))
 
@@ -112,6 +116,7 @@ assess-spans-spec =
     loop-holds
     span-at-requires
     assess-span-requires
+    add-result
     same-length
     same-length-2
     same-length-3

@@ -35,10 +35,10 @@ loop-again : tie.Need-loop-again Inv-loop μ-loop
 loop-again c = (omega arith, going-next _ _ (c .before .before .before .before .before .before .before .before .loop .inv .1) _ 1 (omega (arith, c .before .before .before .before .before .before .before .before .loop .inv .1 .reached)) (c .before .before .before .before .assess-step .kept .1 .1 .1 .1 .1 .1 .1 .1 .0) (c .before .before .before .before .assess-step .kept .1 .1 .1 .1 .1 .1 .1 .1 .1 .0) (c .before .before .before .before .assess-step .ensures .0) (c .before .before .before .before .assess-step .ensures .1))
 
 same-length : tie.Need-same-length Inv-loop μ-loop
-same-length c = c .before .loop .inv .1 .lefts-are ∙ sym (c .before .before .before .before .before .before .pre .3 .lefts-are)
+same-length c = c .before .loop .inv .1 .lefts-are
 
 same-length-2 : tie.Need-same-length-2 Inv-loop μ-loop
-same-length-2 c = c .before .loop .inv .1 .rights-are ∙ sym (c .before .before .before .before .before .before .pre .3 .rights-are)
+same-length-2 c = c .before .loop .inv .1 .rights-are
 
 returns : tie.Need-returns Inv-loop μ-loop
 unfolding cutFrom

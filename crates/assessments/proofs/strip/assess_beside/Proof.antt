@@ -61,10 +61,10 @@ loop-again c =
     )
 
 same-length : tie.Need-same-length Inv-loop μ-loop
-same-length c = c .before .loop .inv .1 .lefts-are ∙ sym (c .before .before .before .before .before .before .before .before .pre .2 .lefts-are)
+same-length c = c .before .loop .inv .1 .lefts-are
 
 same-length-2 : tie.Need-same-length-2 Inv-loop μ-loop
-same-length-2 c = c .before .loop .inv .1 .rights-are ∙ sym (c .before .before .before .before .before .before .before .before .pre .2 .rights-are)
+same-length-2 c = c .before .loop .inv .1 .rights-are
 
 returns : tie.Need-returns Inv-loop μ-loop
 returns c =

@@ -45,10 +45,10 @@ loop-again : tie.Need-loop-again Inv-loop μ-loop
 loop-again c = (omega (arith, c .before .before .before .before .before .before .before .before .loop .inv .0, c .before .before .before .before .before .before .before .loop-test .taken), going-next _ _ (c .before .before .before .before .before .before .before .before .loop .inv .1) _ 4096 (omega (arith, c .before .before .before .before .before .before .before .before .loop .inv .1 .reached)) (c .before .before .before .before .assess-beside .kept .1 .1 .1 .1 .1 .1 .1 .0) (c .before .before .before .before .assess-beside .kept .1 .1 .1 .1 .1 .1 .1 .1 .0) (c .before .before .before .before .assess-beside .ensures .0) (c .before .before .before .before .assess-beside .ensures .1))
 
 same-length : tie.Need-same-length Inv-loop μ-loop
-same-length c = c .before .loop .inv .1 .lefts-are ∙ sym (c .before .before .before .before .before .before .before .pre .2)
+same-length c = c .before .loop .inv .1 .lefts-are
 
 same-length-2 : tie.Need-same-length-2 Inv-loop μ-loop
-same-length-2 c = c .before .loop .inv .1 .rights-are ∙ sym (c .before .before .before .before .before .before .before .pre .3)
+same-length-2 c = c .before .loop .inv .1 .rights-are
 
 returns : tie.Need-returns Inv-loop μ-loop
 returns c =

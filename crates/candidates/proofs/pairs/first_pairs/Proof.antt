@@ -21,10 +21,10 @@ loop-holds : tie.Need-loop-holds Inv-loop μ-loop
 loop-holds c = (omega arith, firsts-start _ _ _ 256 refl)
 
 mul-size : tie.Need-mul-size Inv-loop μ-loop
-mul-size c = omega (arith, c .before .before .before .before .before .pre .0, c .loop-test .taken)
+mul-size c = omega (arith, c .before .before .before .before .before .before .before .before .pre .0 .few, c .loop-test .taken)
 
-element-copy-out-size : tie.Need-element-copy-out-size Inv-loop μ-loop
-element-copy-out-size c = omega (arith, c .before .before .before .before .before .pre .0, c .loop-test .taken)
+shared-slice-read-size : tie.Need-shared-slice-read-size Inv-loop μ-loop
+shared-slice-read-size c = search needs
 
 size-requires : tie.Need-size-requires Inv-loop μ-loop
 size-requires c κs = search needs
@@ -32,17 +32,17 @@ size-requires c κs = search needs
 mul-add-pair : tie.Need-mul-add-pair Inv-loop μ-loop
 mul-add-pair c = search needs
 
-element-copy-out-add-pair : tie.Need-element-copy-out-add-pair Inv-loop μ-loop
-element-copy-out-add-pair c = search needs
+shared-slice-read-add-pair : tie.Need-shared-slice-read-add-pair Inv-loop μ-loop
+shared-slice-read-add-pair c = search needs
 
 mul-add-pair-2 : tie.Need-mul-add-pair-2 Inv-loop μ-loop
 mul-add-pair-2 c = search needs
 
-element-copy-out-add-pair-2 : tie.Need-element-copy-out-add-pair-2 Inv-loop μ-loop
-element-copy-out-add-pair-2 c = search needs
+shared-slice-read-add-pair-2 : tie.Need-shared-slice-read-add-pair-2 Inv-loop μ-loop
+shared-slice-read-add-pair-2 c = search needs
 
 add-pair-requires : tie.Need-add-pair-requires Inv-loop μ-loop
-add-pair-requires c κs = let k = c .before .before .before .before .before .before .before .before .loop .k in let p = c .before .before .before .before .before .before .before .before .before .before .before .before .pre in let m = p .1 .each k (c .before .before .before .before .before .before .before .loop-test .taken) in let e = c .before .before .before .before .before .size .ensures .0 in let few = count-few (c .before .before .before .before .before .before .before .before .loop .inv .1) (omega (arith, c .before .before .before .before .before .before .before .before .loop .inv .0, p .0)) (c .before .before .before .before .before .size .result) (omega (arith, e, m)) in (omega (arith, e, m), few)
+add-pair-requires c κs = let k = c .before .before .before .before .before .before .before .before .loop .k in let p = c .before .before .before .before .before .before .before .before .before .before .before .before .before .before .before .pre in let m = p .1 .each k (c .before .before .before .before .before .before .before .loop-test .taken) in let e = c .before .before .before .before .before .size .ensures .0 in let few = count-few (c .before .before .before .before .before .before .before .before .loop .inv .1) (omega (arith, c .before .before .before .before .before .before .before .before .loop .inv .0, p .0 .few)) (c .before .before .before .before .before .size .result) (omega (arith, e, m)) in (omega (arith, e, m), few)
 
 add-k : tie.Need-add-k Inv-loop μ-loop
 add-k c = search needs
@@ -51,10 +51,10 @@ loop-less : tie.Need-loop-less Inv-loop μ-loop
 loop-less c = search needs
 
 loop-again : tie.Need-loop-again Inv-loop μ-loop
-loop-again c = let m = c .before .before .before .before .before .before .before .before .before .loop in let a = c .before .before .before .before .before .before .before .before .before .before .before .before .before .args in let e = c .before .before .before .before .before .before .size .ensures .0 in let w = c .add-pair .ensures in (omega (arith, c .before .before .before .before .before .before .before .before .loop-test .taken), firsts-at {owners = a .owners .now} {lefts = a .lefts .now} {rights = a .rights .now} {k = m .k} e (w .0) (w .1 .0) (w .1 .1) (m .inv .1))
+loop-again c = let m = c .before .before .before .before .before .before .before .before .before .loop in let a = c .before .before .before .before .before .before .before .before .before .before .before .before .before .before .before .before .args in let e = c .before .before .before .before .before .before .size .ensures .0 in let w = c .add-pair .ensures in (omega (arith, c .before .before .before .before .before .before .before .before .loop-test .taken), firsts-at {owners = a .owners .now} {lefts = a .lefts .now} {rights = a .rights .now} {k = m .k} e (w .0) (w .1 .0) (w .1 .1) (m .inv .1))
 
 returns : tie.Need-returns Inv-loop μ-loop
-returns c = firsts-end {k = c .before .loop .k} {n = c .before .before .before .before .before .args .records} (omega (arith, c .before .loop .inv .0, c .loop-test .left)) (c .before .loop .inv .1)
+returns c = firsts-end {k = c .before .loop .k} {n = c .before .before .before .before .before .before .before .before .args .records} (omega (arith, c .before .loop .inv .0, c .loop-test .left)) (c .before .loop .inv .1)
 
 pub first-pairs-spec : {M : Type 1} → statement M
 first-pairs-spec =
@@ -64,12 +64,12 @@ first-pairs-spec =
     μ-loop
     loop-holds
     mul-size
-    element-copy-out-size
+    shared-slice-read-size
     size-requires
     mul-add-pair
-    element-copy-out-add-pair
+    shared-slice-read-add-pair
     mul-add-pair-2
-    element-copy-out-add-pair-2
+    shared-slice-read-add-pair-2
     add-pair-requires
     add-k
     loop-less

@@ -24,23 +24,23 @@ loop-holds c = (omega arith, refl, omega arith)
 mul-after : tie.Need-mul-after Inv-loop μ-loop
 mul-after c = search needs
 
-element-copy-out-after : tie.Need-element-copy-out-after Inv-loop μ-loop
-element-copy-out-after c = search needs
+shared-slice-read-after : tie.Need-shared-slice-read-after Inv-loop μ-loop
+shared-slice-read-after c = search needs
 
 mul-after-2 : tie.Need-mul-after-2 Inv-loop μ-loop
 mul-after-2 c = search needs
 
-element-copy-out-after-2 : tie.Need-element-copy-out-after-2 Inv-loop μ-loop
-element-copy-out-after-2 c = search needs
+shared-slice-read-after-2 : tie.Need-shared-slice-read-after-2 Inv-loop μ-loop
+shared-slice-read-after-2 c = search needs
 
 mul-after-3 : tie.Need-mul-after-3 Inv-loop μ-loop
 mul-after-3 c = search needs
 
-element-copy-out-after-3 : tie.Need-element-copy-out-after-3 Inv-loop μ-loop
-element-copy-out-after-3 c = search needs
+shared-slice-read-after-3 : tie.Need-shared-slice-read-after-3 Inv-loop μ-loop
+shared-slice-read-after-3 c = search needs
 
 after-requires : tie.Need-after-requires Inv-loop μ-loop
-after-requires c κs = omega (arith, c .before .before .before .before .loop .inv .2, c .before .before .before .before .loop .inv .0, c .before .before .before .before .before .pre)
+after-requires c κs = omega (arith, c .before .before .before .before .loop .inv .2, c .before .before .before .before .loop .inv .0, c .before .before .before .before .before .before .before .before .pre .few)
 
 add-k : tie.Need-add-k Inv-loop μ-loop
 add-k c = search needs
@@ -49,10 +49,10 @@ loop-less : tie.Need-loop-less Inv-loop μ-loop
 loop-less c = search needs
 
 loop-again : tie.Need-loop-again Inv-loop μ-loop
-loop-again c = let a = c .before .before .before .before .before .before .args in let w = touch-next (recordIn (a .owners .now) (a .lefts .now) (a .rights .now)) (a .region) (c .before .before .before .before .before .loop .k) (c .before .before .before .before .before .loop .inv .1) (c .before .before .before .before .before .loop .inv .2) (c .after .ensures) in (omega (arith, c .before .before .before .before .loop-test .taken), w .0, w .1)
+loop-again c = let a = c .before .before .before .before .before .before .before .before .before .args in let w = touch-next (recordIn (a .owners .now) (a .lefts .now) (a .rights .now)) (a .region) (c .before .before .before .before .before .loop .k) (c .before .before .before .before .before .loop .inv .1) (c .before .before .before .before .before .loop .inv .2) (c .after .ensures) in (omega (arith, c .before .before .before .before .loop-test .taken), w .0, w .1)
 
 returns : tie.Need-returns Inv-loop μ-loop
-returns c = touch-end (recordIn (c .before .before .args .owners .now) (c .before .before .args .lefts .now) (c .before .before .args .rights .now)) _ {k = c .before .loop .k} {n = c .before .before .args .records} (omega (arith, c .before .loop .inv .0, c .loop-test .left)) (c .before .loop .inv .1)
+returns c = touch-end (recordIn (c .before .before .before .before .before .args .owners .now) (c .before .before .before .before .before .args .lefts .now) (c .before .before .before .before .before .args .rights .now)) _ {k = c .before .loop .k} {n = c .before .before .before .before .before .args .records} (omega (arith, c .before .loop .inv .0, c .loop-test .left)) (c .before .loop .inv .1)
 
 pub touching-of-spec : {M : Type 1} → statement M
 touching-of-spec =
@@ -62,11 +62,11 @@ touching-of-spec =
     μ-loop
     loop-holds
     mul-after
-    element-copy-out-after
+    shared-slice-read-after
     mul-after-2
-    element-copy-out-after-2
+    shared-slice-read-after-2
     mul-after-3
-    element-copy-out-after-3
+    shared-slice-read-after-3
     after-requires
     add-k
     loop-less

@@ -1,0 +1,39 @@
+use mathlib.Core.Path.{refl}
+use Prim.Native.Nat.{ℕ}
+use native.Mathlib.Omega.{arith}
+use lib.ListN.{length-replicate}
+use borrow.Author.Needs.{needs}
+use Rattle.analysis.proofs.bridged.analyse_many.Statement.{statement}
+use Rattle.analysis.proofs.bridged.analyse_many.Tie as tie
+use Rattle.analysis.proofs.bridged.analyse_many.Reads as reads
+use Rattle.analysis.proofs.bridged.analyse_many.Lts as lts
+use Rattle.analysis.proofs.bridged.analyse.Reads as analyse-reads
+
+slice-aggregate-analyse : tie.Need-slice-aggregate-analyse
+slice-aggregate-analyse c = search needs
+
+slice-aggregate-analyse-2 : tie.Need-slice-aggregate-analyse-2
+slice-aggregate-analyse-2 c = search needs
+
+slice-aggregate-analyse-3 : tie.Need-slice-aggregate-analyse-3
+slice-aggregate-analyse-3 c = search needs
+
+analyse-requires : tie.Need-analyse-requires
+analyse-requires c κs = (c .before .before .before .before .before .before .before .before .before .pre, record { removed-are = refl; separated-are = refl; owners-are = refl; lefts-are = refl; rights-are = refl; few = omega (arith, length-replicate {A = ℕ} 4096 0) })
+
+same-length : tie.Need-same-length
+same-length c = search needs
+
+returns : tie.Need-returns
+returns c = search needs
+
+pub analyse-many-spec : {M : Type 1} → statement M
+analyse-many-spec =
+    tie.close
+    (tie.spec
+    slice-aggregate-analyse
+    slice-aggregate-analyse-2
+    slice-aggregate-analyse-3
+    analyse-requires
+    same-length
+    returns)
