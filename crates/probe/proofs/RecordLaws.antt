@@ -102,6 +102,8 @@ loaded-owners {s} {owners} {lefts} {rights} {n} regions a f k h = omega (arith, 
 pub loaded-labels : {s owners lefts rights : List ℕ} {n : ℕ} {regions : ℕ} → Loaded s n owners lefts rights → n ≤ 4096 → AllFit s regions n → Labelled n lefts rights regions
 loaded-labels {s} {owners} {lefts} {rights} {n} {regions} a few f = record {
   few = few;
+  lefts-are = omega (arith, a .lefts-are);
+  rights-are = omega (arith, a .rights-are);
   left-from = λ k h. omega (arith, a .left k h, fits-is s regions k (f k h) .left-from);
   left-to = λ k h. omega (arith, a .left k h, fits-is s regions k (f k h) .left-to);
   right-from = λ k h. omega (arith, a .right k h, fits-is s regions k (f k h) .right-from);

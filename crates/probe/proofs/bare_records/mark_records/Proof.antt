@@ -1,4 +1,5 @@
 use Rattle.probe.proofs.RecordLaws.{loaded-owners, loaded-labels, zero-room, zero-table, zero-end, found-length, marks-end}
+use native.Mathlib.Omega.{arith}
 use borrow.Author.Needs.{needs}
 use Rattle.probe.proofs.bare_records.mark_records.Statement.{statement}
 use Rattle.probe.proofs.bare_records.mark_records.Tie as tie
@@ -27,8 +28,23 @@ mul-zero-fill c = search needs
 zero-fill-requires : tie.Need-zero-fill-requires
 zero-fill-requires c κs = search needs
 
+slice-aggregate-bridge-boundaries : tie.Need-slice-aggregate-bridge-boundaries
+slice-aggregate-bridge-boundaries c = search needs
+
+slice-aggregate-bridge-boundaries-2 : tie.Need-slice-aggregate-bridge-boundaries-2
+slice-aggregate-bridge-boundaries-2 c = search needs
+
+slice-aggregate-bridge-boundaries-3 : tie.Need-slice-aggregate-bridge-boundaries-3
+slice-aggregate-bridge-boundaries-3 c = search needs
+
 bridge-boundaries-requires : tie.Need-bridge-boundaries-requires
-bridge-boundaries-requires c κs = (loaded-owners (c .before .before .before .before .before .before .before .before .before .before .before .before .before .before .before .before .before .before .before .args .regions) (c .before .before .before .before .before .before .before .before .before .before .before .before .load .ensures) (c .before .before .before .before .before .before .before .before .before .before .before .before .before .before .before .before .before .before .before .pre .2), loaded-labels (c .before .before .before .before .before .before .before .before .before .before .before .before .load .ensures) (c .before .before .before .before .before .before .before .before .before .before .before .before .before .before .before .before .before .before .before .pre .0) (c .before .before .before .before .before .before .before .before .before .before .before .before .before .before .before .before .before .before .before .pre .2), zero-room (c .before .before .before .before .before .before .before .before .before .before .before .before .before .before .before .before .before .before .before .args .work .now) (c .before .before .before .before .before .before .before .before .before .before .before .before .before .before .before .before .before .before .before .args .regions) (c .before .before .before .before .before .before .before .zero-fill .ensures) (c .before .before .before .before .before .before .before .before .before .before .before .before .before .before .before .before .before .before .before .pre .3), zero-table (c .before .before .before .before .before .before .before .before .before .before .before .before .before .before .before .before .before .before .before .args .work .now) (c .before .before .before .before .before .before .before .before .before .before .before .before .before .before .before .before .before .before .before .args .regions) (c .before .before .before .before .before .before .before .zero-fill .ensures) (c .before .before .before .before .before .before .before .before .before .before .before .before .before .before .before .before .before .before .before .pre .3))
+bridge-boundaries-requires c κs =
+    let w = c .before .before .before .before .before .before .before .before .before .before .before .before .before .before .before .before .before .before .before .args .work .now in
+    let regions = c .before .before .before .before .before .before .before .before .before .before .before .before .before .before .before .before .before .before .before .args .regions in
+    let p = c .before .before .before .before .before .before .before .before .before .before .before .before .before .before .before .before .before .before .before .pre in
+    let l = c .before .before .before .before .before .before .before .before .before .before .before .before .load .ensures in
+    let z = c .before .before .before .before .before .before .before .zero-fill .ensures in
+    (loaded-owners regions l (p .2), omega (arith, l .owners-are, p .0), loaded-labels l (p .0) (p .2), zero-room w regions z (p .3), zero-table w regions z (p .3))
 
 slice-aggregate-copy : tie.Need-slice-aggregate-copy
 slice-aggregate-copy c = found-length _ (c .before .before .before .before .bridge-boundaries .ensures .0)
@@ -43,7 +59,10 @@ same-length-2 : tie.Need-same-length-2
 same-length-2 c = search needs
 
 returns : tie.Need-returns
-returns c = (zero-end (c .before .before .before .before .before .before .before .before .before .before .before .before .before .before .before .before .before .before .before .before .before .before .before .before .before .before .before .args .work .now) (c .before .before .before .before .before .before .before .before .before .before .before .before .before .before .before .before .before .before .before .before .before .before .before .before .before .before .before .args .regions) (c .before .before .before .before .before .before .before .bridge-boundaries .ensures .1) (c .before .before .before .before .before .before .before .before .before .before .before .before .before .before .before .zero-fill .ensures), marks-end (c .before .before .before .before .before .before .before .before .before .before .before .before .before .before .before .before .before .before .before .before .before .before .before .before .before .before .before .args .marks .now) (c .before .before .before .before .before .before .before .before .before .before .before .before .before .before .before .before .before .before .before .before .load .ensures) (c .before .before .before .before .before .before .before .bridge-boundaries .ensures .0) (c .before .before .before .before .before .before .before .before .before .before .before .before .before .before .before .before .before .before .before .before .before .before .before .before .before .before .before .pre .4) (c .before .before .copy .ensures .1))
+returns c =
+    let a = c .before .before .before .before .before .before .before .before .before .before .before .before .before .before .before .before .before .before .before .before .before .before .before .before .before .before .before .args in
+    let b = c .before .before .before .before .before .before .before .bridge-boundaries .ensures in
+    (zero-end (a .work .now) (a .regions) (b .1) (c .before .before .before .before .before .before .before .before .before .before .before .before .before .before .before .zero-fill .ensures), marks-end (a .marks .now) (c .before .before .before .before .before .before .before .before .before .before .before .before .before .before .before .before .before .before .before .before .load .ensures) (b .0) (c .before .before .before .before .before .before .before .before .before .before .before .before .before .before .before .before .before .before .before .before .before .before .before .before .before .before .before .pre .4) (c .before .before .copy .ensures .1))
 
 pub mark-records-spec : {M : Type 1} → statement M
 mark-records-spec =
@@ -55,6 +74,9 @@ mark-records-spec =
     load-requires
     mul-zero-fill
     zero-fill-requires
+    slice-aggregate-bridge-boundaries
+    slice-aggregate-bridge-boundaries-2
+    slice-aggregate-bridge-boundaries-3
     bridge-boundaries-requires
     slice-aggregate-copy
     copy-requires
