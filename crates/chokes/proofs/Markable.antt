@@ -23,15 +23,13 @@ use Rattle.areas.specs.Spans.{SpanFits, spanIn, spansIn}
 use Rattle.areas.proofs.Areas.{labels-depend-on-the-set}
 use Rattle.areas.proofs.Listed.{eq-same, records-same}
 use Rattle.assessments.specs.Visits.{mapOf}
-use Rattle.partition.specs.Partitioned.{Partitionable, Partitioned}
-use Rattle.partition.specs.declared.Partition.{Partition}
+use Rattle.partition.specs.Partitioned.{Partitionable}
 use Rattle.ranks.specs.Tables.{recordPlace, Records, SpansOf, Identity}
 use Rattle.job.specs.Passed.{Laid}
 use Rattle.job.proofs.Limits.{cells-limit, sections}
 use Rattle.results.specs.Rules.{gridOf}
-use Rattle.results.specs.Results.{ownEnds}
-use Rattle.partition.specs.Partitioned.{labelled}
-use Rattle.analysis.specs.Bridging.{Bridged}
+use Rattle.results.specs.Results.{maxPairs, ownEnds}
+use Rattle.analysis.specs.Bridging.{MarkedWithin}
 use Rattle.chokes.specs.Marking.{Markable, Analysed}
 use Rattle.analysis.proofs.Mapped.{header-counts, map-inside, map-is, map-partitionable}
 use Rattle.results.proofs.Own.{boundaryPlace, own-ends, mark-laid, ends-fit}
@@ -110,14 +108,7 @@ module _ {s : List ℕ} {h : Header} {work : List ℕ} (m : Markable s h work) w
             ap (λ ds. areaLabels ds (mapOf (h .counts .width) (h .counts .height) cells) (spansIn ends count)) directions-eight
             ∙ (ap (λ (g : Grid). areaLabels eight g (spansIn ends count)) grid-is ∙ labels-depend-on-the-set eight (gridOf (decode s)) (spansIn ends count) (ownEnds (decode s)) (eq-same same-ends))
 
-        pub own-analysed : {after removed separated owners lefts rights marks : List ℕ} {p : Partition}
-            → Partitioned (directionsOf 495) (mapOf (h .counts .width) (h .counts .height) cells) ends count work after removed separated owners lefts rights p
-            → Bridged (directionsOf 495) (mapOf (h .counts .width) (h .counts .height) cells) (spansIn ends count) marks
-            → Analysed (decode s) (ownEnds (decode s)) work after marks (p .pairs)
-        unfolding labelled
-        own-analysed r b = record {
-          work-is = r .work-is ∙ ap (λ ls. labelled ls work) labels-are;
-          over = rw (← records-are) (r .over);
-          pairs-are = rw (← records-are) (r .pairs-are);
-          marks-are = rw (← records-are) b;
-        }
+        pub own-analysed : {after marks : List ℕ} {pairs : ℕ}
+            → MarkedWithin maxPairs (directionsOf 495) (mapOf (h .counts .width) (h .counts .height) cells) (spansIn ends count) marks work after pairs
+            → Analysed (decode s) (ownEnds (decode s)) work after marks pairs
+        own-analysed r = rw (← records-are, ← labels-are) r

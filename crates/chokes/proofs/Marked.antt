@@ -1,8 +1,6 @@
 -- What Mark leaves at each of its returns.
 use mathlib.Core.Path.{_≡_, refl, sym, _∙_, ap}
 use mathlib.Core.Bool.{Bool, true, false, not, cond}
-use mathlib.Core.Logic.{by-cases}
-use native.Mathlib.Decide.{decLt}
 use mathlib.Core.List.{List, [], _∷_, _++_}
 use mathlib.Core.Option.{Option, none, some}
 use Prim.Native.Nat.{ℕ, _+_, _*_, _≤_, _<_}
@@ -28,8 +26,9 @@ use Rattle.job.specs.Verdict.{passes, numberOf, detailOf}
 use Rattle.job.proofs.Firsts.{skip, stop, clear, append-none, append-some}
 use Rattle.job.proofs.Limits.{cells-limit, sections}
 use Rattle.results.specs.Rules.{gridOf}
-use Rattle.results.specs.Results.{workSize, ownEnds, marksOf, markWith, maxPairs, afterWork, outcome, workCheck, pairCheck, leftBy}
+use Rattle.results.specs.Results.{workSize, ownEnds, marksOf, markWith, afterWork, outcome, workCheck, pairCheck, leftBy}
 use Rattle.results.specs.Calls.{markResult}
+use Rattle.analysis.proofs.Within.{parted-many, parted-few}
 use Rattle.chokes.specs.Marking.{Analysed, copied}
 use Rattle.results.proofs.Own.{boundary-count, mark-laid}
 use Rattle.results.proofs.Results.{mark-success}
@@ -84,18 +83,12 @@ module _ (s work marks : List ℕ) where
       passed-on : firstRefusal (markChecks s ++ (workCheck (decode s) work ∷ [])) ≡ none
       passed-on = append-none (markChecks s) _ e ∙ clear 21 0 (le-ltb _ _ w)
 
-      many : 4096 < pairs → maxPairs < length rs
-      many h = by-cases (decLt maxPairs (length rs)) (λ l. l) (λ l. let z = y .pairs-are (omega arith) in absurd (omega arith))
-
-      few : pairs ≤ 4096 → length rs ≤ maxPairs
-      few h = by-cases (decLt maxPairs (length rs)) (λ l. let z = y .over l in absurd (omega arith)) (λ l. omega arith)
-
       -- 13
       pub mark-many : 4096 < pairs → leftBy 13 0 after marks ≡ markResult s work marks
       unfolding markResult markWith outcome afterWork
       mark-many h =
           let b : firstRefusal (pairCheck eight (decode s) (ownEnds (decode s)) ∷ shortMarks ∷ []) ≡ some (record { number = 13; detail = 0 })
-          = stop 13 0 (shortMarks ∷ []) (lt-ltb _ _ (many h)) in
+          = stop 13 0 (shortMarks ∷ []) (lt-ltb _ _ (parted-many y h)) in
           rw (passed-on, b, y .work-is) refl
 
       -- 23
@@ -103,14 +96,14 @@ module _ (s work marks : List ℕ) where
       unfolding markResult markWith outcome afterWork
       mark-no-room h l =
           let b : firstRefusal (pairCheck eight (decode s) (ownEnds (decode s)) ∷ shortMarks ∷ []) ≡ some (record { number = 23; detail = 0 })
-          = skip 13 0 (shortMarks ∷ []) (le-ltb _ _ (few h)) ∙ stop 23 0 [] (lt-ltb _ _ l) in
+          = skip 13 0 (shortMarks ∷ []) (le-ltb _ _ (parted-few y h)) ∙ stop 23 0 [] (lt-ltb _ _ l) in
           rw (passed-on, b, y .work-is) refl
 
       marks-copied : pairs ≤ 4096 → (n : ℕ) → n ≤ 256 → n ≡ length (decode s .boundaries) → rows n (λ k. getD bridges k 0) ≡ marksOf eight (decode s)
       unfolding marksOf bridgeMarks markOf
       marks-copied h n l z =
           rows-same n (λ k. getD bridges k 0) (λ b. cond (isBridge rs b) 1 0)
-          (λ k i. ap (λ (b : List ℕ). getD b k 0) (y .marks-are (few h)) ∙ rows-at 256 (λ b. cond (isBridge rs b) 1 0) k 0 (omega arith))
+          (λ k i. ap (λ (b : List ℕ). getD b k 0) (y .told (parted-few y h)) ∙ rows-at 256 (λ b. cond (isBridge rs b) 1 0) k 0 (omega arith))
           ∙ ap (λ m. rows m (λ b. cond (isBridge rs b) 1 0)) z
 
       -- success
@@ -119,5 +112,5 @@ module _ (s work marks : List ℕ) where
       unfolding markResult
       mark-done h n l z m out o =
           let c : out ≡ splice marks 0 (marksOf eight (decode s)) = o ∙ ap (λ bs. splice marks 0 bs) (marks-copied h n l z) in
-          let q = mark-success eight s work marks e w (few h) (omega (arith, z)) in
+          let q = mark-success eight s work marks e w (parted-few y h) (omega (arith, z)) in
           rw (c, z, y .work-is) (sym q)

@@ -2,7 +2,7 @@
 use mathlib.Core.Path.{_≡_}
 use mathlib.Core.List.{List}
 use mathlib.Core.Option.{none}
-use Prim.Native.Nat.{ℕ, _≤_, _<_}
+use Prim.Native.Nat.{ℕ, _≤_}
 use lib.ListN.{length, getD}
 use Rattle.lists.specs.Rows.{rows}
 use Rattle.wire.specs.Bytes.{splice}
@@ -12,13 +12,11 @@ use Rattle.format.specs.Header.{headerAt}
 use Rattle.format.specs.Decode.{decode}
 use Rattle.format.specs.declared.header.Header.{Header}
 use Rattle.grid.specs.Directions.{eight}
-use Rattle.areas.specs.Assessments.{records}
 use Rattle.job.specs.Checks.{firstRefusal}
 use Rattle.job.specs.Refusals.{markChecks}
 use Rattle.results.specs.Rules.{gridOf}
-use Rattle.results.specs.Results.{workSize, maxPairs, labelsOf}
-use Rattle.analysis.specs.Bridging.{Bridged}
-use Rattle.partition.specs.Partitioned.{labelled}
+use Rattle.results.specs.Results.{workSize, maxPairs}
+use Rattle.analysis.specs.Bridging.{MarkedWithin}
 
 -- a job that Mark takes, its header, and ten bytes of work a cell
 pub record Markable (s : List ℕ) (h : Header) (work : List ℕ) : Type 0 where
@@ -27,11 +25,8 @@ pub record Markable (s : List ℕ) (h : Header) (work : List ℕ) : Type 0 where
   pub room : workSize (decode s) ≤ length work
 
 -- a job partitioned by the spans: the work, the number of region pairs (4,097 where they are over 4,096), and the bridge marks
-pub record Analysed (j : Job) (ss : List Span) (before work marks : List ℕ) (pairs : ℕ) : Type 0 where
-  pub work-is : work ≡ labelled (labelsOf eight j ss) before
-  pub over : maxPairs < length (records eight (gridOf j) ss) → pairs ≡ 4_097
-  pub pairs-are : length (records eight (gridOf j) ss) ≤ maxPairs → pairs ≡ length (records eight (gridOf j) ss)
-  pub marks-are : Bridged eight (gridOf j) ss marks
+abbrev pub Analysed : Job → List Span → List ℕ → List ℕ → List ℕ → ℕ → Type 0
+Analysed j ss before work marks pairs = MarkedWithin maxPairs eight (gridOf j) ss marks before work pairs
 
 -- the first n bytes are those of another list
 abbrev pub copied : List ℕ → ℕ → List ℕ → List ℕ

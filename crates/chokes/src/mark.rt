@@ -8,7 +8,7 @@ ghost use Rattle.chokes.specs.Marking.{Markable, Analysed, copied};
 ghost use Rattle.results.specs.Results.{ownEnds, leftBy};
 use analysis::ChokesResult;
 use analysis::MAX_PAIRS;
-use analysis::analyse;
+use analysis::find_bridges;
 use format::BOUNDARY_SIZE;
 use format::HEADER_SIZE;
 use format::Header;
@@ -38,26 +38,15 @@ fn analyse_boundaries(job: &[u8], h: Header, work: &mut [u8], marks: &mut [u8; 2
         count,
         &mut ends,
     );
-    let mut removed = [0u32; 256];
-    let mut separated = [0u32; 256];
-    let mut owners = [0u32; 4096];
-    let mut lefts = [0u32; 4096];
-    let mut rights = [0u32; 4096];
-    let p = analyse(
+    find_bridges(
         &job[HEADER_SIZE..HEADER_SIZE + n],
         c.width,
         c.height,
         &ends,
         count,
         work,
-        &mut removed,
-        &mut separated,
-        &mut owners,
-        &mut lefts,
-        &mut rights,
         marks,
-    );
-    p.pairs
+    )
 }
 
 // Copies the first n bytes.

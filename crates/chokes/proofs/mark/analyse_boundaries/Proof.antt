@@ -5,7 +5,7 @@ use Rattle.chokes.proofs.mark.analyse_boundaries.Statement.{statement}
 use Rattle.chokes.proofs.mark.analyse_boundaries.Tie as tie
 use Rattle.chokes.proofs.mark.analyse_boundaries.Reads as reads
 use Rattle.chokes.proofs.mark.analyse_boundaries.Lts as lts
-use Rattle.analysis.proofs.analyse.Reads as analyse-reads
+use Rattle.analysis.proofs.find_bridges.Reads as find-bridges-reads
 use Rattle.ranks.proofs.fill_identity.Reads as fill-identity-reads
 use Rattle.ranks.proofs.fill_spans.Reads as fill-spans-reads
 use Rattle.wire.proofs.size.Reads as size-reads
@@ -28,26 +28,26 @@ size-requires-3 c κs = search needs
 fill-spans-requires : tie.Need-fill-spans-requires
 fill-spans-requires c κs = (own-records (c .before .before .before .before .before .before .before .before .before .before .before .before .pre) _ (c .before .before .before .before .before .before .size .ensures .0) _ _ (c .before .before .size3 .ensures .0) (c .before .before .before .before .before .size2 .ensures .0) _ (c .before .before .before .fill-identity .ensures), search needs)
 
-add-analyse : tie.Need-add-analyse
-add-analyse c = search needs
+add-find-bridges : tie.Need-add-find-bridges
+add-find-bridges c = search needs
 
-sub-analyse : tie.Need-sub-analyse
-sub-analyse c = search needs
+sub-find-bridges : tie.Need-sub-find-bridges
+sub-find-bridges c = search needs
 
-part-analyse-start : tie.Need-part-analyse-start
-part-analyse-start c = search needs
+part-find-bridges-start : tie.Need-part-find-bridges-start
+part-find-bridges-start c = search needs
 
-part-analyse-end : tie.Need-part-analyse-end
-part-analyse-end c = omega (arith, cells-inside (c .before .before .before .before .before .before .before .before .before .before .before .before .before .pre) _ (c .before .before .before .before .before .before .before .size .ensures .0))
+part-find-bridges-end : tie.Need-part-find-bridges-end
+part-find-bridges-end c = omega (arith, cells-inside (c .before .before .before .before .before .before .before .before .before .before .before .before .before .pre) _ (c .before .before .before .before .before .before .before .size .ensures .0))
 
-analyse-requires : tie.Need-analyse-requires
-analyse-requires c κs = (own-partitionable (c .before .before .before .before .before .before .before .before .before .before .before .before .before .before .before .before .before .before .before .before .before .before .pre) _ (c .before .before .before .before .before .before .before .before .before .before .before .before .before .before .before .before .size .ensures .0) _ _ (c .before .before .before .before .before .before .before .before .before .before .before .before .size3 .ensures .0) (c .before .before .before .before .before .before .before .before .before .before .before .before .before .before .before .size2 .ensures .0) _ (c .before .before .before .before .before .before .before .before .before .before .before .before .before .fill-identity .ensures) _ (c .before .before .before .before .before .before .before .before .before .fill-spans .ensures), search needs)
+find-bridges-requires : tie.Need-find-bridges-requires
+find-bridges-requires c κs = own-partitionable (c .before .before .before .before .before .before .before .before .before .before .before .before .before .before .before .before .before .pre) _ (c .before .before .before .before .before .before .before .before .before .before .before .size .ensures .0) _ _ (c .before .before .before .before .before .before .before .size3 .ensures .0) (c .before .before .before .before .before .before .before .before .before .before .size2 .ensures .0) _ (c .before .before .before .before .before .before .before .before .fill-identity .ensures) _ (c .before .before .before .before .fill-spans .ensures)
 
 same-length : tie.Need-same-length
 same-length c = search needs
 
 returns : tie.Need-returns
-returns c = own-analysed (c .before .before .before .before .before .before .before .before .before .before .before .before .before .before .before .before .before .before .before .before .before .before .before .before .before .pre) _ (c .before .before .before .before .before .before .before .before .before .before .before .before .before .before .before .before .before .before .before .size .ensures .0) _ _ (c .before .before .before .before .before .before .before .before .before .before .before .before .before .before .before .size3 .ensures .0) (c .before .before .before .before .before .before .before .before .before .before .before .before .before .before .before .before .before .before .size2 .ensures .0) _ (c .before .before .before .before .before .before .before .before .before .before .before .before .before .before .before .before .fill-identity .ensures) _ (c .before .before .before .before .before .before .before .before .before .before .before .before .fill-spans .ensures) (c .before .before .analyse .ensures .0) (c .before .before .analyse .ensures .1)
+returns c = own-analysed (c .before .before .before .before .before .before .before .before .before .before .before .before .before .before .before .before .before .before .before .before .pre) _ (c .before .before .before .before .before .before .before .before .before .before .before .before .before .before .size .ensures .0) _ _ (c .before .before .before .before .before .before .before .before .before .before .size3 .ensures .0) (c .before .before .before .before .before .before .before .before .before .before .before .before .before .size2 .ensures .0) _ (c .before .before .before .before .before .before .before .before .before .before .before .fill-identity .ensures) _ (c .before .before .before .before .before .before .before .fill-spans .ensures) (c .before .before .find-bridges .ensures)
 
 pub analyse-boundaries-spec : {M : Type 1} → statement M
 analyse-boundaries-spec =
@@ -59,10 +59,10 @@ analyse-boundaries-spec =
     fill-identity-requires
     size-requires-3
     fill-spans-requires
-    add-analyse
-    sub-analyse
-    part-analyse-start
-    part-analyse-end
-    analyse-requires
+    add-find-bridges
+    sub-find-bridges
+    part-find-bridges-start
+    part-find-bridges-end
+    find-bridges-requires
     same-length
     returns)
