@@ -297,3 +297,16 @@ fn list(draft: &mut Draft, rng: &mut Rng) {
         _ => {}
     }
 }
+
+/// A corridor of one row, so many columns long, with spans at its start: a link between each two.
+pub fn long(columns: u32, spans: u32, rng: &mut Rng) -> Draft {
+    let mut draft = valid([columns, 1], [0; 5], rng);
+    draft.cells = vec![1; columns as usize];
+    let ends = |span: u32| [16 * span + 8, 0, 16 * span + 8, 8];
+    let bits = 8.0_f64.to_bits();
+    draft.boundaries =
+        (0..spans).map(|span| Boundary { ends: ends(span), bits, ..Boundary::default() }).collect();
+    draft.share(rng.below(9), rng.below(9), rng);
+    draft.list = (0..spans).map(ends).collect();
+    draft
+}

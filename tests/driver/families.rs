@@ -107,6 +107,35 @@ pub fn limits(run: &mut Run) {
     }
 }
 
+/// Numbers about the sizes beyond which the library works in other arrays or by another pass: 64
+/// region pairs and 16 spans on a small map, 64 records, 64 boundaries and observations, 64 sources,
+/// and links that pass over 1,024 cells.
+pub fn sizes(run: &mut Run) {
+    let parted = [(7, 9), (8, 8), (5, 13), (13, 5), (32, 2), (33, 2), (4, 16), (4, 17), (20, 15)];
+    for (rows, spans) in parted {
+        let mut rng = run.next_case();
+        let draft = maps::rows_parted(rows, spans, &mut rng);
+        run.draft(&draft, &mut rng, on_maps);
+    }
+    for (places, sources) in [63, 64, 65].into_iter().flat_map(|n| [63, 64, 65].map(|m| (n, m))) {
+        for boundaries in [1, 3, 20, 63] {
+            let mut rng = run.next_case();
+            let counts = [1, boundaries, places - boundaries, sources, boundaries];
+            let draft = draft::valid([4, 3], counts, &mut rng);
+            run.draft(&draft, &mut rng, merging::compare);
+        }
+    }
+    for (shape, records) in (0..6).flat_map(|shape| [63, 64, 65].map(|n| (shape, n))) {
+        let mut rng = run.next_case();
+        run.records(&records::shaped(shape, records, &mut rng));
+    }
+    for (columns, spans) in [(1023, 2), (1024, 2), (512, 3), (513, 3), (341, 4), (342, 4)] {
+        let mut rng = run.next_case();
+        let draft = corridors::long(columns, spans, &mut rng);
+        run.draft(&draft, &mut rng, merging::compare);
+    }
+}
+
 /// A random draft with up to three kinds of damage. The kinds are those from some place of the
 /// order on, so that the last refusals come first as well.
 fn damaged(rng: &mut Rng) -> Draft {

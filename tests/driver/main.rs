@@ -76,6 +76,7 @@ fn main() {
             run.start(0);
             families::small_maps(&mut run);
             families::limits(&mut run);
+            families::sizes(&mut run);
             println!("seed {seed}: {done} random cases, nothing differs");
         }
         ["heap", cases, seed] => {
@@ -141,6 +142,7 @@ fn whole(seed: u64, limit: Limit, rounds: usize) {
     exhaustive::all(&mut run, rounds);
     families::small_maps(&mut run);
     families::limits(&mut run);
+    families::sizes(&mut run);
     let mut done = 0;
     while match limit {
         Limit::Cases(cases) => done < cases,

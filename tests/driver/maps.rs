@@ -187,3 +187,17 @@ pub fn many_pairs(pairs: usize, rng: &mut Rng) -> Draft {
     draft.list = spans;
     draft
 }
+
+/// Rows of open cells, apart from one another, and spans that go across all of them: a region pair
+/// for each row and span.
+pub fn rows_parted(rows: u32, spans: u32, rng: &mut Rng) -> Draft {
+    let (width, height) = (spans + 1, 2 * rows - 1);
+    let mut draft = valid([width, height], [0; 5], rng);
+    draft.cells = (0..width * height).map(|i| u8::from(i / width % 2 == 0)).collect();
+    let ends = |span: u32| [8 * span, 0, 8 * span, 8 * height];
+    draft.boundaries =
+        (1..=spans).map(|span| Boundary { ends: ends(span), ..draft.boundary(rng) }).collect();
+    draft.share(rng.below(70), rng.below(70), rng);
+    draft.list = (1..=spans).map(ends).collect();
+    draft
+}
