@@ -183,7 +183,7 @@ module _ {s : List ℕ} {width height at count : ℕ} {work : List ℕ} (t : Tak
           ∙ ap length (sym (own-records-listed past (o .identity) ends spans-own eight (gridOf (decode s))))
 
       pub all-parted : {out workEnd outEnd removed separated owners lefts rights : List ℕ} {p : Partition} {number detail : ℕ}
-          → Partitioned (directionsOf 495) (mapOf width height cs) ends count work workEnd removed separated owners lefts rights p
+          → Partitioned 4096 (directionsOf 495) (mapOf width height cs) ends count work workEnd removed separated owners lefts rights p
           → Told count (p .pairs) out outEnd number detail → Parted s work out workEnd outEnd number detail
       all-parted q told = record {
         work-is = q .work-is ∙ ap (λ (l : List ℕ). labelled l work) labels-own;
