@@ -8,7 +8,7 @@ use native.Mathlib.Omega.{arith}
 use native.Mathlib.Decide.{ℕ-discrete}
 use borrow.Author.Tests.{eq-eqb, ne-eqb}
 use lib.Dec.{eqb}
-use lib.ListN.{length, getD, set, length-set}
+use lib.ListN.{length, getD, set, length-set, replicate, length-replicate, getD-replicate}
 use lib.Seq.{getD-set-same, getD-set-other}
 use Rattle.order.specs.Lists.{keep, upFrom}
 use Rattle.graph.specs.Parts.{join, part}
@@ -114,13 +114,8 @@ module _ (chosen firsts seconds : List ℕ) (n : ℕ) where
       let z : n - 0 ≡ n = omega arith in
       subst (λ (m : ℕ). Filled (partFrom chosen firsts seconds 0 m) 256 xs) z (subst (λ (m : ℕ). Filled (parted m) 256 xs) e p)
 
-  -- one of the links from k on joins the rank
-  pub record Met (i k : ℕ) (b : Bool) : Type 0 where
-    pub is : b ≡ joinedFrom chosen firsts seconds k (n - k) i
-
-  pub met-start : (i : ℕ) → Met i n false
-  unfolding joinedFrom chosenFrom keep any upFrom
-  met-start i = record { is = let e : n - n ≡ 0 = omega arith in ap (λ (m : ℕ). joinedFrom chosen firsts seconds n m i) (sym e) }
+  abbrev marked : ℕ → ℕ → ℕ
+  marked k i = cond (joinedFrom chosen firsts seconds k (n - k) i) 1 0
 
   joined-step : (j : ℕ) → j < n → (i : ℕ) → joinedFrom chosen firsts seconds j (n - j) i ≡ (isOn chosen j && joinsAt firsts seconds i j) || joinedFrom chosen firsts seconds (suc j) (n - suc j) i
   unfolding joinedFrom chosenFrom keep any
@@ -133,13 +128,58 @@ module _ (chosen firsts seconds : List ℕ) (n : ℕ) where
       choose true = refl
       choose false = refl
 
-  pub met-next : {i k : ℕ} {b d : Bool} (x : Bool) → 0 < k → k ≤ n → Met i k b → x ≡ isOn chosen (k - 1) && joinsAt firsts seconds i (k - 1) → d ≡ x || b → Met i (k - 1) d
-  met-next {i} {k} {b} {d} x l h p e q =
-      let z : k ≡ suc (k - 1) = omega arith in
-      let w = subst (λ (m : ℕ). Met i m b) z p in
-      record { is = q ∙ (ap (λ (s : Bool). s || b) e ∙ (ap (λ (s : Bool). (isOn chosen (k - 1) && joinsAt firsts seconds i (k - 1)) || s) (w .is) ∙ sym (joined-step (k - 1) (omega arith) i))) }
+  pub marks-start : Filled (marked n) 256 (replicate 256 0)
+  unfolding joinedFrom chosenFrom keep any upFrom
+  marks-start = record {
+    size = length-replicate {A = ℕ} 256 0;
+    each = λ i l.
+        getD-replicate {A = ℕ} 256 i 0 0 l
+        ∙ (let e : n - n ≡ 0 = omega arith in ap (λ (m : ℕ). cond (joinedFrom chosen firsts seconds n m i) 1 0) (sym e));
+  }
 
-  pub met-end : {i k : ℕ} {b : Bool} → Met i k b → k ≡ 0 → b ≡ joinedFrom chosen firsts seconds 0 n i
-  met-end {i} {k} {b} p e =
+  either : (a b : Bool) → _≡_ {A = ℕ} (cond a 1 (cond b 1 0)) (cond (a || b) 1 0)
+  either true b = refl
+  either false b = refl
+
+  mark-turn : (j : ℕ) {xs ys : List ℕ} → j < n → Filled (marked (suc j)) 256 xs → Filled (λ i. cond (isOn chosen j && joinsAt firsts seconds i j) 1 (at xs i)) 256 ys → Filled (marked j) 256 ys
+  mark-turn j {xs} l p q = filled-as q (λ i h.
+      ap (λ (m : ℕ). cond (isOn chosen j && joinsAt firsts seconds i j) 1 m) (p .each i h)
+      ∙ (either (isOn chosen j && joinsAt firsts seconds i j) (joinedFrom chosen firsts seconds (suc j) (n - suc j) i) ∙ ap (λ (b : Bool). cond b 1 0) (sym (joined-step j l i))))
+
+  pub marks-next : {k : ℕ} {xs ys : List ℕ} → 0 < k → k ≤ n → Filled (marked k) 256 xs → Filled (λ i. cond (isOn chosen (k - 1) && joinsAt firsts seconds i (k - 1)) 1 (at xs i)) 256 ys → Filled (marked (k - 1)) 256 ys
+  marks-next {k} {xs} l h p q =
+      let z : k ≡ suc (k - 1) = omega arith in
+      mark-turn (k - 1) (omega arith) (subst (λ (m : ℕ). Filled (marked m) 256 xs) z p) q
+
+  pub marks-end : {k : ℕ} {xs : List ℕ} → Filled (marked k) 256 xs → k ≡ 0 → Filled (λ i. cond (joinedFrom chosen firsts seconds 0 n i) 1 0) 256 xs
+  marks-end {k} {xs} p e =
       let z : n - 0 ≡ n = omega arith in
-      p .is ∙ (ap (λ (m : ℕ). joinedFrom chosen firsts seconds m (n - m) i) e ∙ ap (λ (m : ℕ). joinedFrom chosen firsts seconds 0 m i) z)
+      subst (λ (m : ℕ). Filled (λ i. cond (joinedFrom chosen firsts seconds 0 m i) 1 0) 256 xs) z (subst (λ (m : ℕ). Filled (marked m) 256 xs) e p)
+
+-- the two ranks of a chosen link
+pub mark-yes : (on first second : ℕ) {a b : ℕ} (xs : List ℕ) → on ≡ 1 → a ≡ first → b ≡ second → length xs ≡ 256 → first < 256 → second < 256
+    → Filled (λ i. cond (eqb on 1 && (eqb i first || eqb i second)) 1 (at xs i)) 256 (set (set xs a 1) b 1)
+mark-yes on first second {a} {b} xs e p q n l h =
+    let o = eq-eqb on 1 e in
+    rw (o, p, q) (record {
+      size = length-set (set xs first 1) second 1 ∙ (length-set xs first 1 ∙ n);
+      each = λ i m.
+          by-cases (ℕ-discrete i second)
+          (λ s.
+          let t = eq-eqb i second s in
+          ap (λ (z : ℕ). getD (set (set xs first 1) second 1) z 0) s
+          ∙ (getD-set-same (set xs first 1) second 1 0 (omega (arith, length-set xs first 1, n)) ∙ (rw (t, or-true (eqb i first)) refl)))
+          (λ s.
+          let t = ne-eqb i second s in
+          getD-set-other (set xs first 1) second i 1 0 s
+          ∙ by-cases (ℕ-discrete i first)
+          (λ r. let u = eq-eqb i first r in ap (λ (z : ℕ). getD (set xs first 1) z 0) r ∙ (getD-set-same xs first 1 0 (omega (arith, n)) ∙ (rw u refl)))
+          (λ r. let u = ne-eqb i first r in getD-set-other xs first i 1 0 r ∙ (rw (u, t) refl)));
+    })
+  where
+    or-true : (x : Bool) → (x || true) ≡ true
+    or-true true = refl
+    or-true false = refl
+
+pub mark-no : (on first second : ℕ) (xs : List ℕ) → (on ≡ 1 → ⊥) → length xs ≡ 256 → Filled (λ i. cond (eqb on 1 && (eqb i first || eqb i second)) 1 (at xs i)) 256 xs
+mark-no on first second xs n e = let h = ne-eqb on 1 n in rw h (record { size = e; each = λ i l. refl })

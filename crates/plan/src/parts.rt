@@ -84,39 +84,19 @@ pub fn find_parts(
     }
 }
 
-fn chosen_joins(on: u8, first: u32, second: u32, i: u32) -> bool
-    ensures { λ r. ⌜ r ≡ eqb on 1 && (eqb i first || eqb i second) ⌝ }
+// Marks the two ranks of the link with 1, if it is chosen.
+fn mark_link(joined: &mut [u8; 256], on: u8, first: u32, second: u32)
+    requires { ⌜ (length (now joined) ≡ 256) × (first < 256) × (second < 256) ⌝ }
+    ensures { λ r. ⌜ Filled (λ i. cond (eqb on 1 && (eqb i first || eqb i second)) 1 (at (now (joined .entry)) i)) 256 (now (joined .exit)) ⌝ }
 {
-    (on == 1) & ((i == first) | (i == second))
-}
-
-// One of the chosen links joins the rank.
-fn is_joined(
-    chosen: &[u8; 256],
-    firsts: &[u32; 256],
-    seconds: &[u32; 256],
-    links: usize,
-    i: u32,
-) -> bool
-    requires { ⌜ links ≤ 256 ⌝ }
-    ensures { λ r. ⌜ r ≡ joinedFrom (now (chosen .entry)) (now (firsts .entry)) (now (seconds .entry)) 0 links i ⌝ }
-{
-    let mut joined = false;
-    let mut k = links;
-    while 0 < k {
-        k -= 1;
-        joined = chosen_joins(chosen[k], firsts[k], seconds[k], i) | joined;
+    if on != 1 {
+        return;
     }
-    joined
+    joined[size(first)] = 1;
+    joined[size(second)] = 1;
 }
 
-fn mark(on: bool) -> u8
-    ensures { λ r. ⌜ r ≡ cond on 1 0 ⌝ }
-{
-    if on { 1 } else { 0 }
-}
-
-// 1 for each rank that one of the chosen links joins.
+// 1 for each rank that one of the chosen links joins, 0 for every other.
 pub fn mark_joined(
     chosen: &[u8; 256],
     firsts: &[u32; 256],
@@ -124,12 +104,13 @@ pub fn mark_joined(
     links: usize,
     joined: &mut [u8; 256],
 )
-    requires { ⌜ (length (now joined) ≡ 256) × (links ≤ 256) ⌝ }
+    requires { ⌜ Ranked 256 (now firsts) (now seconds) links ⌝ }
     ensures { λ r. ⌜ Filled (λ i. cond (joinedFrom (now (chosen .entry)) (now (firsts .entry)) (now (seconds .entry)) 0 links i) 1 0) 256 (now (joined .exit)) ⌝ }
 {
-    let mut i: usize = 0;
-    while i < 256 {
-        joined[i] = mark(is_joined(chosen, firsts, seconds, links, i as u32));
-        i += 1;
+    *joined = [0u8; 256];
+    let mut k = links;
+    while 0 < k {
+        k -= 1;
+        mark_link(joined, chosen[k], firsts[k], seconds[k]);
     }
 }

@@ -1,48 +1,60 @@
-use mathlib.Core.Path.{_∙_, ap}
-use mathlib.Core.Bool.{Bool, cond}
-use Prim.Native.Nat.{_-_}
+use mathlib.Core.Bool.{cond}
+use Prim.Native.Nat.{_-_, _≤_, _<_}
+use native.Mathlib.Omega.{arith}
 use borrow.Author.Needs.{needs}
 use Rattle.plan.specs.Arrays.{joinedFrom, Filled}
-use Rattle.plan.proofs.ArrayLaws.{filled-none, filled-next, filled-all}
+use Rattle.plan.proofs.ArrayLaws.{marks-start, marks-next, marks-end}
 use Rattle.plan.proofs.parts.mark_joined.Statement.{statement}
 use Rattle.plan.proofs.parts.mark_joined.Tie as tie
-use Rattle.plan.proofs.parts.mark_joined.Reads as reads
-use Rattle.plan.proofs.parts.mark_joined.Lts as lts
-use Rattle.plan.proofs.parts.is_joined.Reads as is-joined-reads
-use Rattle.plan.proofs.parts.mark.Reads as mark-reads
 
 abbrev Inv-loop : tie.InvT-loop
-Inv-loop chosen firsts seconds links joined₀ i₀ joined i = Filled (λ j. cond (joinedFrom chosen firsts seconds 0 links j) 1 0) i joined
+Inv-loop chosen firsts seconds links joined₀ k₀ joined k =
+    (k ≤ links) × Filled (λ i. cond (joinedFrom chosen firsts seconds k (links - k) i) 1 0) 256 joined
 
 abbrev μ-loop : tie.MeasureT-loop
-μ-loop chosen firsts seconds links joined₀ i₀ joined i = 256 - i
+μ-loop chosen firsts seconds links joined₀ k₀ joined k = k
 
 loop-holds : tie.Need-loop-holds Inv-loop μ-loop
-loop-holds c = filled-none (c .pre .0)
+loop-holds c = (omega arith, marks-start (c .before .args .chosen .now) (c .before .args .firsts .now) (c .before .args .seconds .now) (c .before .args .links))
 
-cast-is-joined : tie.Need-cast-is-joined Inv-loop μ-loop
-cast-is-joined c = search needs
+sub-k : tie.Need-sub-k Inv-loop μ-loop
+sub-k c = search needs
 
-is-joined-requires : tie.Need-is-joined-requires Inv-loop μ-loop
-is-joined-requires c κs = search needs
+element-copy-out-mark-link : tie.Need-element-copy-out-mark-link Inv-loop μ-loop
+element-copy-out-mark-link c = omega (arith, c .before .before .loop .inv .0, c .before .before .before .before .pre .few)
 
-mark-requires : tie.Need-mark-requires Inv-loop μ-loop
-mark-requires c κs = search needs
+mul-mark-link : tie.Need-mul-mark-link Inv-loop μ-loop
+mul-mark-link c = omega (arith, c .before .before .before .loop .inv .0, c .before .before .before .before .before .pre .few)
 
-element-write-joined : tie.Need-element-write-joined Inv-loop μ-loop
-element-write-joined c = search needs
+element-copy-out-mark-link-2 : tie.Need-element-copy-out-mark-link-2 Inv-loop μ-loop
+element-copy-out-mark-link-2 c = omega (arith, c .before .before .before .loop .inv .0, c .before .before .before .before .before .pre .few)
 
-add-i : tie.Need-add-i Inv-loop μ-loop
-add-i c = search needs
+mul-mark-link-2 : tie.Need-mul-mark-link-2 Inv-loop μ-loop
+mul-mark-link-2 c = omega (arith, c .before .before .before .before .loop .inv .0, c .before .before .before .before .before .before .pre .few)
+
+element-copy-out-mark-link-3 : tie.Need-element-copy-out-mark-link-3 Inv-loop μ-loop
+element-copy-out-mark-link-3 c = omega (arith, c .before .before .before .before .loop .inv .0, c .before .before .before .before .before .before .pre .few)
+
+mark-link-requires : tie.Need-mark-link-requires Inv-loop μ-loop
+mark-link-requires c κs =
+    let l = c .before .before .before .before .before .loop in
+    let p = c .before .before .before .before .before .before .before .pre in
+    let on : l .k - 1 < c .before .before .before .before .before .before .before .args .links = omega (arith, l .inv .0, c .before .before .before .before .loop-test .taken) in
+    (l .inv .1 .size, p .first-in (l .k - 1) on, p .second-in (l .k - 1) on)
 
 loop-less : tie.Need-loop-less Inv-loop μ-loop
 loop-less c = search needs
 
 loop-again : tie.Need-loop-again Inv-loop μ-loop
-loop-again c = filled-next (c .mark .result) (c .before .before .before .loop .inv) (c .before .before .loop-test .taken) (c .mark .ensures ∙ ap (λ (b : Bool). cond b 1 0) (c .before .is-joined .ensures))
+loop-again c =
+    let l = c .before .before .before .before .before .before .loop in
+    let a = c .before .before .before .before .before .before .before .before .args in
+    (omega (arith, l .inv .0), marks-next (a .chosen .now) (a .firsts .now) (a .seconds .now) (a .links) (c .before .before .before .before .before .loop-test .taken) (l .inv .0) (l .inv .1) (c .mark-link .ensures))
 
 returns : tie.Need-returns Inv-loop μ-loop
-returns c = filled-all (c .before .loop .inv) (c .loop-test .left)
+returns c =
+    let a = c .before .before .before .args in
+    marks-end (a .chosen .now) (a .firsts .now) (a .seconds .now) (a .links) (c .before .loop .inv .1) (omega (arith, c .loop-test .left))
 
 pub mark-joined-spec : {M : Type 1} → statement M
 mark-joined-spec =
@@ -51,11 +63,13 @@ mark-joined-spec =
     Inv-loop
     μ-loop
     loop-holds
-    cast-is-joined
-    is-joined-requires
-    mark-requires
-    element-write-joined
-    add-i
+    sub-k
+    element-copy-out-mark-link
+    mul-mark-link
+    element-copy-out-mark-link-2
+    mul-mark-link-2
+    element-copy-out-mark-link-3
+    mark-link-requires
     loop-less
     loop-again
     returns)
