@@ -25,9 +25,11 @@ use wire::size;
 
 // The most sources of a small job, and the most places: boundaries and observations together.
 const SMALL: usize = 64;
-// The most of any job.
+
+// The most sources of any job.
 const MOST_SOURCES: usize = MAX_SOURCES as usize;
 
+// The most places of any job.
 const MOST_PLACES: usize = (MAX_OBSERVATIONS + MAX_BOUNDARIES) as usize;
 
 // The answer from what was worked out by place.
