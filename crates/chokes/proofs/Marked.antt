@@ -19,7 +19,7 @@ use Rattle.grid.specs.Directions.{eight}
 use Rattle.graph.specs.Records.{Record}
 use Rattle.graph.specs.Bridges.{isBridge, markOf}
 use Rattle.areas.specs.Assessments.{records}
-use Rattle.bridges.specs.Marks.{bridgeMarks}
+use Rattle.walk.specs.Marks.{bridgeMarks}
 use Rattle.job.specs.Checks.{Refusal, Check, check, firstRefusal}
 use Rattle.job.specs.Refusals.{markChecks}
 use Rattle.job.specs.Verdict.{passes, numberOf, detailOf}
