@@ -18,9 +18,9 @@ use Rattle.areas.specs.Spans.{spansIn}
 use Rattle.areas.specs.Assessments.{records}
 use Rattle.areas.proofs.Areas.{area-labels-length}
 use Rattle.areas.specs.Arrays.{recordsIn}
-use Rattle.bridges.specs.Slices.{Owners}
+use Rattle.walk.specs.Slices.{Owners}
 use Rattle.bridges.specs.Names.{Labelled}
-use Rattle.bridges.specs.Marks.{recordsOf, bridgeMarks}
+use Rattle.walk.specs.Marks.{recordsOf, bridgeMarks}
 use Rattle.partition.specs.Partitioned.{labelled, Partitioned}
 use Rattle.partition.specs.declared.Partition.{Partition}
 use Rattle.analysis.specs.Bridging.{Bridged}

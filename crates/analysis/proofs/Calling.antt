@@ -10,9 +10,9 @@ use Rattle.format.specs.Sizes.{headerSize}
 use Rattle.format.specs.Header.{headerAt}
 use Rattle.format.specs.Decode.{decode}
 use Rattle.format.specs.declared.header.Header.{Header}
-use Rattle.job.specs.Checks.{firstRefusal}
+use Rattle.checks.specs.Checks.{firstRefusal}
 use Rattle.job.specs.Refusals.{jobChecks, boundaryChecks, reduceChecks, byListChecks}
-use Rattle.job.proofs.Firsts.{none-left}
+use Rattle.checks.proofs.Firsts.{none-left}
 use Rattle.job.proofs.Passing.{job-passed}
 use Rattle.results.specs.Results.{workSize}
 use Rattle.analysis.specs.Plans.{Headed}

@@ -25,11 +25,12 @@ use Rattle.format.proofs.BoundaryTrips.{boundaries-decoded}
 use Rattle.format.proofs.JobTrip.{decode-fits}
 use Rattle.position.specs.Bounds.{Bounded}
 use Rattle.areas.specs.Spans.{SpanFits, Sides}
-use Rattle.job.specs.Checks.{firstRefusal, each}
-use Rattle.job.specs.Faults.{positionFault, endsFault, widthFault}
-use Rattle.job.specs.Refusals.{layoutChecks, recordChecks, jobChecks, sumsFault, cellCheck, baseCheck, rampCheck, widthCheck, spanChecks, endsCheck, endsChecks, spanCheck, listChecks, boundaryChecks, byListChecks}
-use Rattle.job.proofs.Firsts.{none-left, none-right, none-head, each-none}
-use Rattle.job.proofs.Limits.{sections}
+use Rattle.checks.specs.Checks.{firstRefusal, each}
+use Rattle.checks.specs.Faults.{positionFault, endsFault, widthFault}
+use Rattle.checks.specs.Single.{sumsFault, cellCheck, baseCheck, rampCheck, widthCheck, spanChecks, endsCheck, spanCheck, listChecks}
+use Rattle.job.specs.Refusals.{layoutChecks, recordChecks, jobChecks, endsChecks, boundaryChecks, byListChecks}
+use Rattle.checks.proofs.Firsts.{none-left, none-right, none-head, each-none}
+use Rattle.checks.proofs.Limits.{sections}
 use Rattle.job.proofs.Passing.{job-passed}
 use Rattle.job.proofs.Formed.{job-formed}
 

@@ -24,12 +24,13 @@ use Rattle.topology.specs.AnchorLoop.{AnchorsIn}
 use Rattle.topology.specs.Held.{isNone}
 use Rattle.ranks.specs.Tables.{KeysOf}
 use Rattle.sorting.specs.Orders.{byTwo}
-use Rattle.job.specs.Checks.{firstRefusal, each}
-use Rattle.job.specs.Faults.{anchorFault}
-use Rattle.job.specs.Passed.{Laid}
-use Rattle.job.specs.Refusals.{jobChecks, layoutChecks, recordChecks, boundaryChecks, cellCheck, baseCheck}
-use Rattle.job.proofs.Firsts.{none-left, none-right, none-head, each-none}
-use Rattle.job.proofs.Limits.{cells-limit, sections}
+use Rattle.checks.specs.Checks.{firstRefusal, each}
+use Rattle.checks.specs.Faults.{anchorFault}
+use Rattle.checks.specs.Passed.{Laid}
+use Rattle.checks.specs.Single.{cellCheck, baseCheck}
+use Rattle.job.specs.Refusals.{jobChecks, layoutChecks, recordChecks, boundaryChecks}
+use Rattle.checks.proofs.Firsts.{none-left, none-right, none-head, each-none}
+use Rattle.checks.proofs.Limits.{cells-limit, sections}
 use Rattle.job.proofs.Passing.{boundaries-passed}
 use Rattle.analysis.specs.Plans.{RankedBy, Headed}
 use Rattle.analysis.proofs.Checked.{boundariesAt, Checked, checked}

@@ -26,11 +26,11 @@ use Rattle.merging.specs.Kept.{noBoundary}
 use Rattle.merging.specs.Planned.{planned}
 use Rattle.merging.proofs.Planned.{planned-ext}
 use Rattle.answer.specs.Gathered.{Ordered}
-use Rattle.job.specs.Checks.{Refusal, Check, check, firstRefusal}
-use Rattle.job.specs.Verdict.{meaning, passes, numberOf, detailOf}
-use Rattle.job.specs.declared.verdict.Verdict.{Verdict}
-use Rattle.job.specs.declared.verdict.Verdict.the-variants.{Passed, ShortHeader, MapSize, TooMany, TooManyBoundaries, Layout, CellBits, AnchorOffMap, CountsDiffer, RampForm, WidthRange, EndOffMap, EndsCoincide, ListLength, TooManySpans, SpanOffMap, SpanCoincides}
-use Rattle.job.proofs.Firsts.{skip, stop, clear, append-none, append-some}
+use Rattle.checks.specs.Checks.{Refusal, Check, check, firstRefusal}
+use Rattle.checks.specs.Verdict.{meaning, passes, numberOf, detailOf}
+use Rattle.checks.specs.declared.verdict.Verdict.{Verdict}
+use Rattle.checks.specs.declared.verdict.Verdict.the-variants.{Passed, ShortHeader, MapSize, TooMany, TooManyBoundaries, Layout, CellBits, AnchorOffMap, CountsDiffer, RampForm, WidthRange, EndOffMap, EndsCoincide, ListLength, TooManySpans, SpanOffMap, SpanCoincides}
+use Rattle.checks.proofs.Firsts.{skip, stop, clear, append-none, append-some}
 use Rattle.results.specs.Rules.{gridOf, listingOf}
 use Rattle.results.specs.Results.{workSize, maxPairs, afterWork, outcome, workCheck, pairCheck, labelsOf, answerOf, reduced, leftBy}
 use Rattle.analysis.specs.Plans.{planOf, RankedBy, Drawn, Made, PlanLeft, Finished}

@@ -12,8 +12,8 @@ use Rattle.format.specs.declared.header.Header.{Header}
 use Rattle.areas.specs.Spans.{SpansFit}
 use Rattle.assessments.specs.Visits.{mapOf}
 use Rattle.grid.proofs.Directions.{directions-eight, eight-closed}
-use Rattle.job.specs.Passed.{Laid}
-use Rattle.job.proofs.Limits.{sections}
+use Rattle.checks.specs.Passed.{Laid}
+use Rattle.checks.proofs.Limits.{sections}
 use Rattle.partition.specs.Partitioned.{Partitionable}
 use Rattle.results.specs.Rules.{gridOf}
 use Rattle.results.specs.Results.{workSize}

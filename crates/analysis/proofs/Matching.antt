@@ -24,7 +24,7 @@ use Rattle.topology.specs.Anchors.{anchorsOf}
 use Rattle.groups.specs.Plan.{mergePlan}
 use Rattle.links.specs.Limits.{limits000}
 use Rattle.ranks.specs.Tables.{Records, SpansOf, Identity}
-use Rattle.job.specs.Checks.{firstRefusal}
+use Rattle.checks.specs.Checks.{firstRefusal}
 use Rattle.job.specs.Refusals.{reduceChecks, byListChecks}
 use Rattle.partition.specs.Partitioned.{labelled, Partitionable, Partitioned}
 use Rattle.partition.specs.declared.Partition.{Partition}

@@ -24,7 +24,7 @@ use Rattle.topology.specs.Listing.{Item}
 use Rattle.groups.specs.Listing as Rank
 use Rattle.groups.specs.Regions.{regionLabels, assessAt, bridgeAt}
 use Rattle.groups.specs.Tables.{Counted, Paired, Bridged as BridgesOf}
-use Rattle.bridges.specs.Marks.{bridgeMarks}
+use Rattle.walk.specs.Marks.{bridgeMarks}
 use Rattle.measures.specs.Tables.{Labels}
 use Rattle.partition.specs.Partitioned.{labelled, Partitioned}
 use Rattle.partition.specs.declared.Partition.{Partition}

@@ -8,7 +8,7 @@ use Rattle.graph.specs.Records.{Record}
 use Rattle.grid.specs.Cells.{Grid}
 use Rattle.areas.specs.Areas.{areaLabels}
 use Rattle.areas.specs.Assessments.{records}
-use Rattle.bridges.specs.Marks.{bridgeMarks}
+use Rattle.walk.specs.Marks.{bridgeMarks}
 use Rattle.partition.specs.Partitioned.{labelled}
 use Rattle.results.specs.Results.{maxPairs}
 

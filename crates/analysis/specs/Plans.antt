@@ -30,7 +30,7 @@ use Rattle.merging.specs.Follows.{placesOf}
 use Rattle.merging.specs.Kept.{noBoundary}
 use Rattle.merging.specs.Planned.{planned}
 use Rattle.measures.specs.Tables.{Labels}
-use Rattle.job.specs.Checks.{Check, firstRefusal}
+use Rattle.checks.specs.Checks.{Check, firstRefusal}
 use Rattle.job.specs.Refusals.{boundaryChecks}
 use Rattle.partition.specs.Partitioned.{labelled}
 use Rattle.results.specs.Rules.{gridOf, listingOf}

@@ -11,7 +11,7 @@ ghost use Rattle.grid.specs.Directions.{eight};
 ghost use Rattle.areas.specs.Spans.{SpansFit};
 ghost use Rattle.links.specs.Limits.{limits000};
 ghost use Rattle.candidates.specs.Owners.{Stored};
-ghost use Rattle.job.specs.Checks.{firstRefusal};
+ghost use Rattle.checks.specs.Checks.{firstRefusal};
 ghost use Rattle.job.specs.Refusals.{reduceChecks, byListChecks};
 ghost use Rattle.results.specs.Results.{workSize, ownEnds};
 ghost use Rattle.analysis.specs.Bridging.{Alike};

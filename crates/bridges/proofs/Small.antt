@@ -10,8 +10,8 @@ use Rattle.lists.proofs.Rows.{length-rows, rows-at, rows-same}
 use Rattle.graph.specs.Records as records
 use Rattle.graph.specs.Bridges.{isBridge}
 use Rattle.graph.proofs.Renaming.{Occurs, Renaming, same-bridges}
-use Rattle.bridges.specs.Slices.{at, Graph}
-use Rattle.bridges.specs.Marks.{recordsOf, bridgeMarks}
+use Rattle.walk.specs.Slices.{at, Graph}
+use Rattle.walk.specs.Marks.{recordsOf, bridgeMarks}
 use Rattle.bridges.specs.Names.{Labelled, Named, Numbered}
 use Rattle.bridges.proofs.Names.{named-apart}
 

@@ -5,7 +5,7 @@ use Prim.Native.Nat.{ℕ, zero, suc}
 use lib.ListN.{replicate}
 use Rattle.lists.specs.Rows.{rows}
 use Rattle.graph.specs.Bridges.{isBridge}
-use Rattle.bridges.specs.Marks.{recordsOf, bridgeMarks}
+use Rattle.walk.specs.Marks.{recordsOf, bridgeMarks}
 
 rows-zero : (n : ℕ) → rows n (λ _. 0) ≡ replicate {A = ℕ} n 0
 unfolding rows

@@ -1,5 +1,1 @@
-pub mod Steps
-pub mod Walk
-pub mod Slices
-pub mod Marks
 pub mod Names

@@ -6,7 +6,7 @@ use mathlib.Core.List.{List}
 use Prim.Native.Nat.{ℕ, _+_, _*_, _-_, _≤_, _<_}
 use lib.ListN.{length, getD}
 use Rattle.wire.specs.Bytes.{u32At}
-use Rattle.bridges.specs.Slices.{at}
+use Rattle.walk.specs.Slices.{at}
 
 -- there are at most 4,096 records, and their ends are labels from 1 to `regions`
 pub record Labelled (K : ℕ) (lefts rights : List ℕ) (regions : ℕ) : Type 0 where

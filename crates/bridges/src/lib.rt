@@ -1,20 +1,16 @@
-// The boundaries that are bridges of the graph of records, by a walk in depth (Tarjan).
-mod chaining; // the records that touch each region, in chains
-mod frame; // a frame of the walk, and what it reads
+// The boundaries that are bridges of the graph of records, by the walk, under small numbers for the labels of regions.
 mod numbering; // numbers for the labels of regions
-mod stack; // the walk's frames, in arrays
-mod walk; // the walk, from every record
 
 ghost use mathlib.Core.Path.{_≡_};
 ghost use Prim.Native.Nat.{ℕ, _+_, _*_, _≤_, _<_};
 ghost use lib.ListN.{length};
-ghost use Rattle.bridges.specs.Marks.{recordsOf, bridgeMarks};
+ghost use Rattle.walk.specs.Marks.{recordsOf, bridgeMarks};
 ghost use Rattle.wire.specs.Bytes.{u32At};
 ghost use Rattle.bridges.specs.Names.{Labelled};
-ghost use Rattle.bridges.specs.Slices.{Owners, Lent};
-use chaining::link;
+ghost use Rattle.walk.specs.Slices.{Owners, Lent};
 use numbering::forget_all;
 use numbering::number_all;
+use walk::link;
 use walk::walk_all;
 
 // The most records of a walk on short arrays, which cost little to clear.

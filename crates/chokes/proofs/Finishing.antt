@@ -10,7 +10,7 @@ use Rattle.format.specs.Decode.{decode, decodeList}
 use Rattle.grid.specs.Directions.{eight}
 use Rattle.links.specs.Limits.{limits000}
 use Rattle.answer.specs.Gathered.{Ordered}
-use Rattle.job.specs.Checks.{firstRefusal}
+use Rattle.checks.specs.Checks.{firstRefusal}
 use Rattle.job.specs.Refusals.{jobChecks, reduceChecks, byListChecks}
 use Rattle.results.specs.Results.{ownEnds, reduced, reduceWith, reduceByListWith, leftBy}
 use Rattle.results.specs.Calls.{reduceResult, reduceByListResult}

@@ -25,8 +25,8 @@ use Rattle.areas.proofs.Listed.{eq-same, records-same}
 use Rattle.assessments.specs.Visits.{mapOf}
 use Rattle.partition.specs.Partitioned.{Partitionable}
 use Rattle.ranks.specs.Tables.{recordPlace, Records, SpansOf, Identity}
-use Rattle.job.specs.Passed.{Laid}
-use Rattle.job.proofs.Limits.{cells-limit, sections}
+use Rattle.checks.specs.Passed.{Laid}
+use Rattle.checks.proofs.Limits.{cells-limit, sections}
 use Rattle.results.specs.Rules.{gridOf}
 use Rattle.results.specs.Results.{maxPairs, ownEnds}
 use Rattle.analysis.specs.Bridging.{MarkedWithin}

@@ -19,12 +19,12 @@ use Rattle.grid.specs.Directions.{eight}
 use Rattle.graph.specs.Records.{Record}
 use Rattle.graph.specs.Bridges.{isBridge, markOf}
 use Rattle.areas.specs.Assessments.{records}
-use Rattle.bridges.specs.Marks.{bridgeMarks}
-use Rattle.job.specs.Checks.{Refusal, Check, check, firstRefusal}
+use Rattle.walk.specs.Marks.{bridgeMarks}
+use Rattle.checks.specs.Checks.{Refusal, Check, check, firstRefusal}
 use Rattle.job.specs.Refusals.{markChecks}
-use Rattle.job.specs.Verdict.{passes, numberOf, detailOf}
-use Rattle.job.proofs.Firsts.{skip, stop, clear, append-none, append-some}
-use Rattle.job.proofs.Limits.{cells-limit, sections}
+use Rattle.checks.specs.Verdict.{passes, numberOf, detailOf}
+use Rattle.checks.proofs.Firsts.{skip, stop, clear, append-none, append-some}
+use Rattle.checks.proofs.Limits.{cells-limit, sections}
 use Rattle.results.specs.Rules.{gridOf}
 use Rattle.results.specs.Results.{workSize, ownEnds, marksOf, markWith, afterWork, outcome, workCheck, pairCheck, leftBy}
 use Rattle.results.specs.Calls.{markResult}

@@ -10,7 +10,7 @@ use Rattle.format.specs.Values.{Boundary, Job}
 use Rattle.format.specs.Decode.{decode, decodeList}
 use Rattle.areas.specs.Assessments.{records}
 use Rattle.links.specs.Limits.{Limits}
-use Rattle.job.specs.Checks.{Check, firstRefusal}
+use Rattle.checks.specs.Checks.{Check, firstRefusal}
 use Rattle.job.specs.Refusals.{reduceChecks, byListChecks}
 use Rattle.order.specs.Pairs.{Pairs}
 use Rattle.merging.specs.Groups.{Group, Groups, Disjoint, every}

@@ -12,7 +12,7 @@ use Rattle.format.specs.Header.{headerAt}
 use Rattle.format.specs.Decode.{decode}
 use Rattle.format.specs.declared.header.Header.{Header}
 use Rattle.grid.specs.Directions.{eight}
-use Rattle.job.specs.Checks.{firstRefusal}
+use Rattle.checks.specs.Checks.{firstRefusal}
 use Rattle.job.specs.Refusals.{markChecks}
 use Rattle.results.specs.Rules.{gridOf}
 use Rattle.results.specs.Results.{workSize, maxPairs}

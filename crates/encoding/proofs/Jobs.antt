@@ -19,10 +19,10 @@ use Rattle.format.specs.declared.header.Counts.{Counts}
 use Rattle.format.specs.declared.header.Header.{Header}
 use Rattle.format.specs.declared.records.BoundaryRecord.{BoundaryRecord}
 use Rattle.format.specs.declared.records.ObservationRecord.{ObservationRecord}
-use Rattle.job.specs.Checks.{firstRefusal}
+use Rattle.checks.specs.Checks.{firstRefusal}
 use Rattle.job.specs.Refusals.{jobChecks}
-use Rattle.job.proofs.Adding.{sum-field}
-use Rattle.job.proofs.Limits.{sections}
+use Rattle.checks.proofs.Adding.{sum-field}
+use Rattle.checks.proofs.Limits.{sections}
 use Rattle.job.proofs.Passing.{job-passed}
 use Rattle.job.proofs.Formed.{job-formed}
 use Rattle.merging.specs.Copies.{canon}

@@ -19,7 +19,7 @@ use Rattle.gathering.specs.Room.{GatherRoom}
 use Rattle.format.specs.declared.header.Header.{Header}
 use Rattle.format.specs.declared.records.Source.{Source}
 use Rattle.format.specs.declared.records.ObservationRecord.{ObservationRecord}
-use Rattle.job.specs.Checks.{firstRefusal}
+use Rattle.checks.specs.Checks.{firstRefusal}
 use Rattle.job.specs.Refusals.{jobChecks}
 use Rattle.answer.specs.Placed.{Placed, boundaryRows}
 use Rattle.answer.specs.Gathered.{Ordered, Gathered}

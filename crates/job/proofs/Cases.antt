@@ -11,11 +11,12 @@ use lib.Dec.{ltb}
 use Rattle.format.specs.Bounds.{maxBoundaries, maxWidthBits}
 use Rattle.format.specs.Header.{headerAt, cellCount, basesStart, boundariesStart}
 use Rattle.format.specs.declared.header.Counts.{Counts}
-use Rattle.job.specs.Checks.{Refusal, Check, check, firstRefusal, each}
-use Rattle.job.specs.Faults.{widthFault}
-use Rattle.job.specs.Refusals.{headerChecks, layoutChecks, recordChecks, jobChecks, boundaryChecks, reduceChecks, markChecks, byListChecks, cellCheck, baseCheck, sumsFault, rampCheck, widthCheck}
+use Rattle.checks.specs.Checks.{Refusal, Check, check, firstRefusal, each}
+use Rattle.checks.specs.Faults.{widthFault}
+use Rattle.checks.specs.Single.{headerChecks, cellCheck, baseCheck, sumsFault, rampCheck, widthCheck}
+use Rattle.job.specs.Refusals.{layoutChecks, recordChecks, jobChecks, boundaryChecks, reduceChecks, markChecks, byListChecks}
 use Rattle.job.specs.Cases.{AllRefuse, FirstWidth, PassesThree, RefusalCases, upToRamps, bitsAt}
-use Rattle.job.proofs.Firsts.{skip, stop, clear, append-none, append-some, none-left, none-right, none-head, each-next, each-found}
+use Rattle.checks.proofs.Firsts.{skip, stop, clear, append-none, append-some, none-left, none-right, none-head, each-next, each-found}
 
 -- What refuses the job is what every call gives.
 all-refuse : (s : List ℕ) (r : Refusal) → firstRefusal (jobChecks s) ≡ some r → AllRefuse s r

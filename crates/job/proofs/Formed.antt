@@ -21,11 +21,12 @@ use Rattle.format.specs.declared.records.RampRecord.{RampRecord}
 use Rattle.format.specs.declared.records.BoundaryRecord.{BoundaryRecord}
 use Rattle.format.specs.declared.records.ObservationRecord.{ObservationRecord}
 use Rattle.format.proofs.JobTrip.{encode-decode}
-use Rattle.job.specs.Checks.{check, firstRefusal, each}
-use Rattle.job.specs.Faults.{rampFault}
-use Rattle.job.specs.Refusals.{layoutChecks, recordChecks, jobChecks, sumsFault, cellCheck, baseCheck, rampCheck, widthCheck}
+use Rattle.checks.specs.Checks.{check, firstRefusal, each}
+use Rattle.checks.specs.Faults.{rampFault}
+use Rattle.checks.specs.Single.{sumsFault, cellCheck, baseCheck, rampCheck, widthCheck}
+use Rattle.job.specs.Refusals.{layoutChecks, recordChecks, jobChecks}
 use Rattle.order.proofs.Bools.{and-parts, or-parts}
-use Rattle.job.proofs.Firsts.{none-right, none-left, none-head, each-none}
+use Rattle.checks.proofs.Firsts.{none-right, none-left, none-head, each-none}
 use Rattle.job.proofs.Passing.{job-passed}
 
 zero-byte : (r : RampRecord) → rampFault r ≡ false → r .zero ≡ 0

@@ -11,12 +11,13 @@ use Rattle.format.specs.Sizes.{headerSize}
 use Rattle.format.specs.Header.{headerAt, offsetsOf}
 use Rattle.format.specs.declared.header.Header.{Header}
 use Rattle.format.specs.declared.header.Offsets.{Offsets}
-use Rattle.job.specs.Checks.{Refusal, Check, firstRefusal, each}
-use Rattle.job.specs.Passed.{Laid}
-use Rattle.job.specs.Refusals.{headerChecks, layoutChecks, jobChecks, boundaryChecks, reduceChecks}
-use Rattle.job.specs.Verdict.{passes}
-use Rattle.job.proofs.Firsts.{append-some, none-left, none-right, none-head}
-use Rattle.job.proofs.Words.{header-passed}
+use Rattle.checks.specs.Checks.{Refusal, Check, firstRefusal, each}
+use Rattle.checks.specs.Passed.{Laid}
+use Rattle.checks.specs.Single.{headerChecks}
+use Rattle.job.specs.Refusals.{layoutChecks, jobChecks, boundaryChecks, reduceChecks}
+use Rattle.checks.specs.Verdict.{passes}
+use Rattle.checks.proofs.Firsts.{append-some, none-left, none-right, none-head}
+use Rattle.checks.proofs.Words.{header-passed}
 
 -- The code's test whether to go on: an answer that is none.
 pub stopped : {o : Option Refusal} {t : Bool} (a b : List Check) → o ≡ firstRefusal a → t ≡ passes o → not t ≡ true → o ≡ firstRefusal (a ++ b)

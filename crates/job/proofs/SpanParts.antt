@@ -9,11 +9,12 @@ use lib.Dec.{ltb}
 use lib.ListN.{length}
 use Rattle.format.specs.Sizes.{headerSize, boundarySize, spanSize}
 use Rattle.format.specs.Header.{headerAt, boundariesStart}
-use Rattle.job.specs.Checks.{firstRefusal}
-use Rattle.job.specs.Refusals.{reduceChecks, byListChecks, spanCount}
-use Rattle.job.specs.Verdict.{passes}
+use Rattle.checks.specs.Checks.{firstRefusal}
+use Rattle.checks.specs.Single.{spanCount}
+use Rattle.job.specs.Refusals.{reduceChecks, byListChecks}
+use Rattle.checks.specs.Verdict.{passes}
 use Rattle.order.proofs.Bools.{and-parts}
-use Rattle.job.proofs.Limits.{sections}
+use Rattle.checks.proofs.Limits.{sections}
 use Rattle.job.proofs.Passing.{passes-none, reduce-passed}
 
 -- Boundary i's ends in a job that Reduce takes.

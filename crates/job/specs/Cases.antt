@@ -9,9 +9,10 @@ use Rattle.format.specs.Sizes.{headerSize, boundarySize}
 use Rattle.format.specs.Records.{boundaryAt}
 use Rattle.format.specs.Header.{headerAt, cellCount, basesStart, boundariesStart}
 use Rattle.format.specs.declared.header.Counts.{Counts}
-use Rattle.job.specs.Checks.{Refusal, Check, check, firstRefusal, each}
-use Rattle.job.specs.Faults.{sizeFault, countFault, boundaryCountFault, widthFault}
-use Rattle.job.specs.Refusals.{layoutChecks, cellCheck, baseCheck, sumsFault, rampCheck, reduceChecks, markChecks, byListChecks}
+use Rattle.checks.specs.Checks.{Refusal, Check, check, firstRefusal, each}
+use Rattle.checks.specs.Faults.{sizeFault, countFault, boundaryCountFault, widthFault}
+use Rattle.checks.specs.Single.{cellCheck, baseCheck, sumsFault, rampCheck}
+use Rattle.job.specs.Refusals.{layoutChecks, reduceChecks, markChecks, byListChecks}
 
 -- Every call gives the refusal, whatever its list.
 pub record AllRefuse (s : List ℕ) (r : Refusal) : Type 0 where

@@ -8,9 +8,10 @@ use lib.Dec.{ltb, eqb}
 use Rattle.wire.specs.Bytes.{part}
 use Rattle.format.specs.Sizes.{boundarySize, spanSize}
 use Rattle.format.specs.Header.{headerAt, boundariesStart}
-use Rattle.job.specs.Checks.{firstRefusal}
-use Rattle.job.specs.Refusals.{reduceChecks, byListChecks, spanCount}
-use Rattle.job.specs.Verdict.{passes}
+use Rattle.checks.specs.Checks.{firstRefusal}
+use Rattle.checks.specs.Single.{spanCount}
+use Rattle.job.specs.Refusals.{reduceChecks, byListChecks}
+use Rattle.checks.specs.Verdict.{passes}
 
 unfoldable pub jobEnds : List ℕ → ℕ → List ℕ
 unfolding part

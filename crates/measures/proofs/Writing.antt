@@ -12,8 +12,8 @@ use Rattle.wire.specs.Bytes.{u32At, u32Bytes, splice}
 use Rattle.wire.proofs.Words.{four-bytes}
 use Rattle.topology.specs.Held.{labelsOf}
 use Rattle.bridges.specs.Names.{Table}
-use Rattle.bridges.specs.Slices.{put}
-use Rattle.bridges.proofs.Puts.{put-at, put-off}
+use Rattle.walk.specs.Slices.{put}
+use Rattle.walk.proofs.Puts.{put-at, put-off}
 use Rattle.bridges.proofs.Table.{table-set, table-clear}
 use Rattle.measures.specs.Tables.{at, Regions, Labels, Written, Later, Cleared, numberOf, Numbered}
 

@@ -9,9 +9,10 @@ use Rattle.lists.specs.Rows.{All, none as all-none, more}
 use Rattle.lists.proofs.Each.{all-append}
 use Rattle.format.specs.declared.header.Counts.{Counts}
 use Rattle.format.specs.declared.header.Header.{Header}
-use Rattle.job.specs.Checks.{Refusal, Check, check, firstRefusal, each}
-use Rattle.job.specs.Refusals.{headerChecks, cellCheck, baseCheck, rampCheck, widthCheck, recordChecks, layoutChecks, jobChecks, spanChecks, endsCheck, endsChecks, boundaryChecks, reduceChecks}
-use Rattle.job.proofs.Firsts.{never, same-refusal}
+use Rattle.checks.specs.Checks.{Refusal, Check, check, firstRefusal, each}
+use Rattle.checks.specs.Single.{headerChecks, cellCheck, baseCheck, rampCheck, widthCheck, spanChecks, endsCheck}
+use Rattle.job.specs.Refusals.{recordChecks, layoutChecks, jobChecks, endsChecks, boundaryChecks, reduceChecks}
+use Rattle.checks.proofs.Firsts.{never, same-refusal}
 
 -- A check whose refusal has a number over 0.
 abbrev pub Numbered : Check → Type 0

@@ -17,9 +17,9 @@ use Rattle.format.specs.Encode.{encodeAnswer}
 use Rattle.grid.specs.Directions.{eight}
 use Rattle.links.specs.Limits.{limits000}
 use Rattle.merging.specs.Runs.{reduceRun, rulesAnswer, keptOf}
-use Rattle.job.specs.Checks.{Refusal, Check, check, firstRefusal}
+use Rattle.checks.specs.Checks.{Refusal, Check, check, firstRefusal}
 use Rattle.job.specs.Refusals.{reduceChecks}
-use Rattle.job.proofs.Firsts.{none-head}
+use Rattle.checks.proofs.Firsts.{none-head}
 use Rattle.results.specs.Rules.{rulesOf}
 use Rattle.results.specs.Results.{Outcome, ownEnds, labelsOf, answerOf, workCheck, pairCheck, afterWork, outcome, reduced, reduceWith}
 use Rattle.results.specs.Calls.{reduceResult}

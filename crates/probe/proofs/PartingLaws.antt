@@ -29,10 +29,10 @@ use Rattle.assessments.specs.Visits.{mapOf}
 use Rattle.partition.specs.Partitioned.{labelled, Partitionable, Partitioned}
 use Rattle.partition.specs.declared.Partition.{Partition}
 use Rattle.ranks.specs.Tables.{Identity, Records, SpansOf}
-use Rattle.job.specs.Checks.{Refusal, firstRefusal}
+use Rattle.checks.specs.Checks.{Refusal, firstRefusal}
 use Rattle.job.specs.Refusals.{reduceChecks}
-use Rattle.job.specs.Verdict.{passes}
-use Rattle.job.proofs.Limits.{sections}
+use Rattle.checks.specs.Verdict.{passes}
+use Rattle.checks.proofs.Limits.{sections}
 use Rattle.job.proofs.Passing.{reduce-passed}
 use Rattle.results.specs.Rules.{gridOf}
 use Rattle.results.specs.Results.{ownEnds}

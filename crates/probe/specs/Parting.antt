@@ -13,9 +13,9 @@ use Rattle.areas.specs.Areas.{areaLabels}
 use Rattle.areas.specs.Assessments.{records}
 use Rattle.partition.specs.Partitioned.{labelled}
 use Rattle.ranks.specs.Tables.{Identity, SpansOf}
-use Rattle.job.specs.Checks.{firstRefusal}
+use Rattle.checks.specs.Checks.{firstRefusal}
 use Rattle.job.specs.Refusals.{reduceChecks}
-use Rattle.job.specs.Verdict.{passes, numberOf, detailOf}
+use Rattle.checks.specs.Verdict.{passes, numberOf, detailOf}
 use Rattle.results.specs.Rules.{gridOf}
 use Rattle.results.specs.Results.{ownEnds}
 

@@ -3,8 +3,8 @@ ghost use mathlib.Core.Path.{_≡_};
 ghost use Rattle.probe.specs.Probe.{checked, copied};
 ghost use lib.ListN.{length};
 ghost use Rattle.job.specs.SpanEnds.{spanEnds};
-ghost use Rattle.job.specs.Verdict.{meaning, numberOf, detailOf};
-use job::Verdict;
+ghost use Rattle.checks.specs.Verdict.{meaning, numberOf, detailOf};
+use checks::Verdict;
 
 mod bare_records; // the bridges of bare lists of records
 mod own_partition; // the partition alone

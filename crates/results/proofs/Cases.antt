@@ -27,8 +27,9 @@ use Rattle.areas.specs.Assessments.{records}
 use Rattle.areas.proofs.Cases.{cut-cases}
 use Rattle.grid.specs.Directions.{eight}
 use Rattle.links.specs.Limits.{limits000}
-use Rattle.job.specs.Checks.{firstRefusal, each}
-use Rattle.job.specs.Refusals.{reduceChecks, markChecks, byListChecks, listChecks, spanCheck, boundaryChecks, jobChecks, layoutChecks, headerChecks, recordChecks, cellCheck, baseCheck, sumsFault, rampCheck, widthCheck, endsChecks, endsCheck, spanChecks}
+use Rattle.checks.specs.Checks.{firstRefusal, each}
+use Rattle.checks.specs.Single.{listChecks, spanCheck, headerChecks, cellCheck, baseCheck, sumsFault, rampCheck, widthCheck, endsCheck, spanChecks}
+use Rattle.job.specs.Refusals.{reduceChecks, markChecks, byListChecks, boundaryChecks, jobChecks, layoutChecks, recordChecks, endsChecks}
 use Rattle.job.proofs.Cases.{refusal-cases}
 use Rattle.position.specs.Order.{posSame, posLe, canonical}
 use Rattle.position.specs.declared.Span.{Span}

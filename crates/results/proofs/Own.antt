@@ -23,11 +23,12 @@ use Rattle.format.specs.declared.records.Source.{Source}
 use Rattle.format.specs.declared.records.BoundaryRecord.{BoundaryRecord}
 use Rattle.format.specs.declared.records.ObservationRecord.{ObservationRecord}
 use Rattle.areas.specs.Spans.{SpanFits}
-use Rattle.job.specs.Checks.{firstRefusal}
-use Rattle.job.specs.Faults.{endsFault, positionFault}
-use Rattle.job.specs.Passed.{Laid}
-use Rattle.job.specs.Refusals.{jobChecks, spanChecks, endsCheck, endsChecks, boundaryChecks, markChecks}
-use Rattle.job.proofs.Firsts.{none-right, none-head, each-none}
+use Rattle.checks.specs.Checks.{firstRefusal}
+use Rattle.checks.specs.Faults.{endsFault, positionFault}
+use Rattle.checks.specs.Passed.{Laid}
+use Rattle.checks.specs.Single.{spanChecks, endsCheck}
+use Rattle.job.specs.Refusals.{jobChecks, endsChecks, boundaryChecks, markChecks}
+use Rattle.checks.proofs.Firsts.{none-right, none-head, each-none}
 use Rattle.job.proofs.Passing.{boundaries-passed}
 use Rattle.results.specs.Results.{ownEnds}
 

@@ -13,8 +13,8 @@ use Rattle.areas.specs.Assessments.{records}
 use Rattle.links.specs.Limits.{Limits}
 use Rattle.format.specs.Decode.{decode}
 use Rattle.job.specs.Refusals.{markChecks}
-use Rattle.job.specs.Checks.{Check, check, firstRefusal}
-use Rattle.job.proofs.Firsts.{skip, clear, append-none}
+use Rattle.checks.specs.Checks.{Check, check, firstRefusal}
+use Rattle.checks.proofs.Firsts.{skip, clear, append-none}
 use Rattle.results.specs.Rules.{gridOf}
 use Rattle.partition.specs.Partitioned.{labelled}
 use Rattle.results.specs.Results.{workSize, ownEnds, marksOf, markWith, maxPairs, afterWork, outcome, workCheck, labelsOf, pairCheck, answerOf, reduced}

@@ -15,7 +15,7 @@ use Rattle.areas.specs.Areas.{areaLabels}
 use Rattle.areas.specs.Assessments.{records}
 use Rattle.links.specs.Limits.{Limits}
 use Rattle.partition.specs.Partitioned.{labelled}
-use Rattle.job.specs.Checks.{Refusal, Check, check, firstRefusal}
+use Rattle.checks.specs.Checks.{Refusal, Check, check, firstRefusal}
 use Rattle.job.specs.Refusals.{reduceChecks, markChecks, byListChecks}
 use Rattle.merging.specs.Runs.{rulesAnswer}
 use Rattle.results.specs.Rules.{gridOf, rulesOf}

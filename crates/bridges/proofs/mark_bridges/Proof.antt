@@ -3,14 +3,14 @@ use Rattle.bridges.proofs.mark_bridges.Statement.{statement}
 use Rattle.bridges.proofs.mark_bridges.Tie as tie
 use Rattle.bridges.proofs.mark_bridges.Reads as reads
 use Rattle.bridges.proofs.mark_bridges.Lts as lts
-use Rattle.bridges.proofs.chaining.link.Reads as link-reads
+use Rattle.walk.proofs.link.Reads as link-reads
 use Rattle.bridges.proofs.numbering.forget_all.Reads as forget-all-reads
 use Rattle.bridges.proofs.numbering.number_all.Reads as number-all-reads
-use Rattle.bridges.proofs.walk.walk_all.Reads as walk-all-reads
+use Rattle.walk.proofs.walk_all.Reads as walk-all-reads
 use mathlib.Core.Path.{_∙_}
 use native.Mathlib.Omega.{arith}
-use Rattle.bridges.proofs.Chains.{unlinked, linked-here}
-use Rattle.bridges.proofs.Turn.{sized-as}
+use Rattle.walk.proofs.Chains.{unlinked, linked-here}
+use Rattle.walk.proofs.Turn.{sized-as}
 use Rattle.bridges.proofs.Names.{remembered, restored}
 use Rattle.bridges.proofs.Small.{small-graph, small-marks}
 

@@ -1,5 +1,5 @@
 use mathlib.Core.Path.{_∙_, ap}
-use Rattle.job.specs.Verdict.{numberOf, detailOf}
+use Rattle.checks.specs.Verdict.{numberOf, detailOf}
 use borrow.Author.Needs.{needs}
 use Rattle.probe.proofs.probe_check.Statement.{statement}
 use Rattle.probe.proofs.probe_check.Tie as tie

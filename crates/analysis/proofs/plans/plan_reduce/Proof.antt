@@ -13,9 +13,9 @@ use Rattle.analysis.proofs.drawing.order_boundaries.Reads as order-boun
 use Rattle.analysis.proofs.drawing.plan_own.Reads as plan-own-reads
 use Rattle.format.proofs.read_header.Reads as read-header-reads
 use Rattle.job.proofs.check_reduce.Reads as check-reduce-reads
-use Rattle.job.proofs.verdict.Verdict.detail.Reads as detail-reads
-use Rattle.job.proofs.verdict.Verdict.number.Reads as number-reads
-use Rattle.job.proofs.verdict.Verdict.passed.Reads as passed-reads
+use Rattle.checks.proofs.verdict.Verdict.detail.Reads as detail-reads
+use Rattle.checks.proofs.verdict.Verdict.number.Reads as number-reads
+use Rattle.checks.proofs.verdict.Verdict.passed.Reads as passed-reads
 use Rattle.wire.proofs.size.Reads as size-reads
 
 check-reduce-requires : tie.Need-check-reduce-requires

@@ -13,9 +13,9 @@ use Rattle.analysis.proofs.drawing.order_boundaries.Reads as order-boun
 use Rattle.analysis.proofs.drawing.plan_by_list.Reads as plan-by-list-reads
 use Rattle.format.proofs.read_header.Reads as read-header-reads
 use Rattle.job.proofs.check_reduce_by_list.Reads as check-reduce-by-list-reads
-use Rattle.job.proofs.verdict.Verdict.detail.Reads as detail-reads
-use Rattle.job.proofs.verdict.Verdict.number.Reads as number-reads
-use Rattle.job.proofs.verdict.Verdict.passed.Reads as passed-reads
+use Rattle.checks.proofs.verdict.Verdict.detail.Reads as detail-reads
+use Rattle.checks.proofs.verdict.Verdict.number.Reads as number-reads
+use Rattle.checks.proofs.verdict.Verdict.passed.Reads as passed-reads
 use Rattle.wire.proofs.size.Reads as size-reads
 
 check-reduce-by-list-requires : tie.Need-check-reduce-by-list-requires

@@ -15,9 +15,9 @@ use Rattle.chokes.proofs.mark.analyse_boundaries.Reads as analyse-bound
 use Rattle.chokes.proofs.mark.copy_first.Reads as copy-first-reads
 use Rattle.format.proofs.read_header.Reads as read-header-reads
 use Rattle.job.proofs.check_mark.Reads as check-mark-reads
-use Rattle.job.proofs.verdict.Verdict.detail.Reads as detail-reads
-use Rattle.job.proofs.verdict.Verdict.number.Reads as number-reads
-use Rattle.job.proofs.verdict.Verdict.passed.Reads as passed-reads
+use Rattle.checks.proofs.verdict.Verdict.detail.Reads as detail-reads
+use Rattle.checks.proofs.verdict.Verdict.number.Reads as number-reads
+use Rattle.checks.proofs.verdict.Verdict.passed.Reads as passed-reads
 use Rattle.wire.proofs.size.Reads as size-reads
 
 check-mark-requires : tie.Need-check-mark-requires

@@ -1,4 +1,4 @@
-use Rattle.job.proofs.Adding.{Added, added-start, added-next, added-end}
+use Rattle.checks.proofs.Adding.{Added, added-start, added-next, added-end}
 use Rattle.encoding.specs.Pieces.{elements}
 use Prim.Native.Nat.{_-_}
 use native.Mathlib.Omega.{arith}

@@ -1,10 +1,11 @@
 use mathlib.Core.Path.{sym, _∙_, ap}
 use native.Mathlib.Omega.{arith}
 use Rattle.format.specs.declared.header.Header.{Header}
-use Rattle.job.specs.Checks.{firstRefusal}
-use Rattle.job.specs.Refusals.{jobChecks, endsChecks, boundaryChecks, endsCheck}
-use Rattle.job.proofs.Firsts.{append-none}
-use Rattle.job.proofs.Limits.{sections}
+use Rattle.checks.specs.Checks.{firstRefusal}
+use Rattle.checks.specs.Single.{endsCheck}
+use Rattle.job.specs.Refusals.{jobChecks, endsChecks, boundaryChecks}
+use Rattle.checks.proofs.Firsts.{append-none}
+use Rattle.checks.proofs.Limits.{sections}
 use Rattle.job.proofs.Passing.{stopped, went-on, moved, laid-read, job-passed}
 use borrow.Author.Needs.{needs}
 use Rattle.job.proofs.calls.check_boundaries.Statement.{statement}

@@ -1,8 +1,8 @@
 use mathlib.Core.Path.{sym, _∙_, ap}
 use Rattle.format.specs.declared.header.Header.{Header}
-use Rattle.job.specs.Checks.{firstRefusal}
+use Rattle.checks.specs.Checks.{firstRefusal}
 use Rattle.job.specs.Refusals.{layoutChecks, recordChecks, jobChecks}
-use Rattle.job.proofs.Firsts.{append-none}
+use Rattle.checks.proofs.Firsts.{append-none}
 use Rattle.job.proofs.Passing.{stopped, went-on, laid-read, layout-passed}
 use borrow.Author.Needs.{needs}
 use Rattle.job.proofs.calls.check_job.Statement.{statement}

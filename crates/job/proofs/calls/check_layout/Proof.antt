@@ -6,9 +6,10 @@ use lib.Dec.{eqb}
 use lib.ListN.{length}
 use Rattle.format.specs.Header.{headerAt}
 use Rattle.format.specs.declared.header.Header.{Header}
-use Rattle.job.specs.Checks.{firstRefusal}
-use Rattle.job.specs.Refusals.{headerChecks, layoutChecks}
-use Rattle.job.proofs.Firsts.{skip, stop, clear, append-none, told}
+use Rattle.checks.specs.Checks.{firstRefusal}
+use Rattle.checks.specs.Single.{headerChecks}
+use Rattle.job.specs.Refusals.{layoutChecks}
+use Rattle.checks.proofs.Firsts.{skip, stop, clear, append-none, told}
 use Rattle.job.proofs.Passing.{stopped, went-on}
 use borrow.Author.Needs.{needs}
 use Rattle.job.proofs.calls.check_layout.Statement.{statement}

@@ -2,10 +2,11 @@ use mathlib.Core.Path.{sym, _∙_, ap}
 use Prim.Native.Nat.{ℕ}
 use native.Mathlib.Omega.{arith}
 use Rattle.format.specs.Header.{cellCount, basesStart, boundariesStart}
-use Rattle.job.specs.Checks.{firstRefusal, each}
-use Rattle.job.specs.Refusals.{recordChecks, cellCheck, baseCheck, rampCheck, widthCheck}
-use Rattle.job.proofs.Firsts.{skip, stop, append-none}
-use Rattle.job.proofs.Limits.{cells-limit, sections}
+use Rattle.checks.specs.Checks.{firstRefusal, each}
+use Rattle.checks.specs.Single.{cellCheck, baseCheck, rampCheck, widthCheck}
+use Rattle.job.specs.Refusals.{recordChecks}
+use Rattle.checks.proofs.Firsts.{skip, stop, append-none}
+use Rattle.checks.proofs.Limits.{cells-limit, sections}
 use Rattle.job.proofs.Passing.{stopped, went-on, moved}
 use borrow.Author.Needs.{needs}
 use Rattle.job.proofs.calls.check_records.Statement.{statement}

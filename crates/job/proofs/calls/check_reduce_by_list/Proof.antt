@@ -2,9 +2,10 @@ use mathlib.Core.Path.{sym, _∙_, ap}
 use mathlib.Core.Bool.{false}
 use native.Mathlib.Omega.{arith}
 use Rattle.format.specs.declared.header.Header.{Header}
-use Rattle.job.specs.Checks.{firstRefusal}
-use Rattle.job.specs.Refusals.{boundaryChecks, byListChecks, listChecks}
-use Rattle.job.proofs.Firsts.{append-none}
+use Rattle.checks.specs.Checks.{firstRefusal}
+use Rattle.checks.specs.Single.{listChecks}
+use Rattle.job.specs.Refusals.{boundaryChecks, byListChecks}
+use Rattle.checks.proofs.Firsts.{append-none}
 use Rattle.job.proofs.Passing.{stopped, went-on, laid-read, boundaries-passed}
 use borrow.Author.Needs.{needs}
 use Rattle.job.proofs.calls.check_reduce_by_list.Statement.{statement}

@@ -9,10 +9,11 @@ use lib.ListN.{take, drop}
 use Rattle.wire.specs.Bytes.{part}
 use Rattle.format.specs.Header.{headerAt, boundariesStart}
 use Rattle.format.specs.declared.header.Header.{Header}
-use Rattle.job.specs.Checks.{firstRefusal}
-use Rattle.job.specs.Refusals.{reduceChecks, byListChecks, spanCount}
+use Rattle.checks.specs.Checks.{firstRefusal}
+use Rattle.checks.specs.Single.{spanCount}
+use Rattle.job.specs.Refusals.{reduceChecks, byListChecks}
 use Rattle.job.specs.SpanEnds.{jobEnds, listEnds, spanEnds}
-use Rattle.job.specs.Verdict.{passes}
+use Rattle.checks.specs.Verdict.{passes}
 use Rattle.job.proofs.SpanParts.{job-part, list-part}
 use borrow.Author.Needs.{needs}
 use Rattle.job.proofs.ends.span_ends.Statement.{statement}

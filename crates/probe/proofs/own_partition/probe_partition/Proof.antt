@@ -1,6 +1,6 @@
 use mathlib.Core.Path.{refl, sym, _∙_, ap}
 use native.Mathlib.Omega.{arith}
-use Rattle.job.specs.Verdict.{meaning, passes, numberOf, detailOf}
+use Rattle.checks.specs.Verdict.{meaning, passes, numberOf, detailOf}
 use Rattle.probe.specs.Parting.{refused, cramped, parted}
 use Rattle.probe.proofs.PartingLaws.{passed-none, not-passed, header-in, header-few, header-cells, taken}
 use borrow.Author.Needs.{needs}
@@ -10,9 +10,9 @@ use Rattle.probe.proofs.own_partition.probe_partition.Reads as reads
 use Rattle.probe.proofs.own_partition.probe_partition.Lts as lts
 use Rattle.format.proofs.read_header.Reads as read-header-reads
 use Rattle.job.proofs.check_reduce.Reads as check-reduce-reads
-use Rattle.job.proofs.verdict.Verdict.detail.Reads as detail-reads
-use Rattle.job.proofs.verdict.Verdict.number.Reads as number-reads
-use Rattle.job.proofs.verdict.Verdict.passed.Reads as passed-reads
+use Rattle.checks.proofs.verdict.Verdict.detail.Reads as detail-reads
+use Rattle.checks.proofs.verdict.Verdict.number.Reads as number-reads
+use Rattle.checks.proofs.verdict.Verdict.passed.Reads as passed-reads
 use Rattle.probe.proofs.own_partition.partition_job.Reads as partition-job-reads
 use Rattle.wire.proofs.size.Reads as size-reads
 

@@ -1,0 +1,5 @@
+pub mod Firsts
+pub mod Limits
+pub mod Adding
+pub mod Words
+pub mod First

@@ -1,0 +1,64 @@
+use mathlib.Core.List.{[]}
+use Prim.Native.Nat.{_-_}
+use borrow.Author.Needs.{needs}
+use Rattle.checks.proofs.Firsts.{Clean, clean-start, clean-next, clean-found, clean-end, clear, stop, told}
+use Rattle.format.specs.declared.records.BaseRecord.{BaseRecord}
+use Rattle.checks.specs.Faults.{anchorFault}
+use Rattle.checks.specs.Single.{baseCheck}
+use Rattle.checks.proofs.bases.check_bases.Statement.{statement}
+use Rattle.checks.proofs.bases.check_bases.Tie as tie
+
+abbrev Inv-loop : tie.InvT-loop
+Inv-loop job at n width height i₀ i = Clean (baseCheck job width height at) n i
+
+abbrev μ-loop : tie.MeasureT-loop
+μ-loop job at n width height i₀ i = n - i
+
+loop-holds : tie.Need-loop-holds Inv-loop μ-loop
+loop-holds c = clean-start _ _
+
+mul-read-base : tie.Need-mul-read-base Inv-loop μ-loop
+mul-read-base c = search needs
+
+add-read-base : tie.Need-add-read-base Inv-loop μ-loop
+add-read-base c = search needs
+
+read-base-requires : tie.Need-read-base-requires Inv-loop μ-loop
+read-base-requires c κs = search needs
+
+anchor-fault-requires : tie.Need-anchor-fault-requires Inv-loop μ-loop
+anchor-fault-requires c κs = search needs
+
+returns : tie.Need-returns Inv-loop μ-loop
+unfolding baseCheck
+returns c = clean-found (c .before .before .before .before .loop .inv) (c .before .before .before .loop-test .taken) (stop 7 _ [] (told (λ (b : BaseRecord). anchorFault (c .before .before .before .before .before .before .args .width) (c .before .before .before .before .before .before .args .height) (b .anchor)) (c .before .before .read-base .ensures) (c .before .anchor-fault .ensures) (c .if1 .taken)))
+
+add-i : tie.Need-add-i Inv-loop μ-loop
+add-i c = search needs
+
+loop-less : tie.Need-loop-less Inv-loop μ-loop
+loop-less c = search needs
+
+loop-again : tie.Need-loop-again Inv-loop μ-loop
+unfolding baseCheck
+loop-again c = clean-next (c .before .before .before .before .loop .inv) (c .before .before .before .loop-test .taken) (clear 7 _ (told (λ (b : BaseRecord). anchorFault (c .before .before .before .before .before .before .args .width) (c .before .before .before .before .before .before .args .height) (b .anchor)) (c .before .before .read-base .ensures) (c .before .anchor-fault .ensures) (c .if1 .left)))
+
+returns-2 : tie.Need-returns-2 Inv-loop μ-loop
+returns-2 c = clean-end (c .before .loop .inv) (c .loop-test .left)
+
+pub check-bases-spec : {M : Type 1} → statement M
+check-bases-spec =
+    tie.close
+    (tie.spec
+    Inv-loop
+    μ-loop
+    loop-holds
+    mul-read-base
+    add-read-base
+    read-base-requires
+    anchor-fault-requires
+    returns
+    add-i
+    loop-less
+    loop-again
+    returns-2)

@@ -1,0 +1,73 @@
+use mathlib.Core.Path.{_≡_}
+use mathlib.Core.Bool.{not, _&&_}
+use mathlib.Core.List.{List}
+use Prim.Native.Nat.{ℕ, _+_}
+use native.Mathlib.Omega.{arith}
+use lib.Dec.{eqb}
+use Rattle.format.specs.Decode.{boundaryRecords, observationRecords, observationTotal, ownTotal, sourceCount}
+use Rattle.format.specs.declared.header.Header.{Header}
+use Rattle.checks.specs.Passed.{Laid}
+use Rattle.checks.specs.Single.{sumsFault}
+use Rattle.checks.proofs.Limits.{sections}
+use borrow.Author.Needs.{needs}
+use Rattle.checks.proofs.sums.sums_fault.Statement.{statement}
+use Rattle.checks.proofs.sums.sums_fault.Tie as tie
+
+-- What the three sums say of the job.
+sums-told : (s : List ℕ) (h : Header) → Laid s h
+    → {at n from m o w k u v : ℕ}
+    → at ≡ h .offsets .boundaries → n ≡ h .counts .boundaries → from ≡ h .offsets .observations → m ≡ h .counts .observations
+    → o ≡ observationTotal (boundaryRecords s at n) → w ≡ ownTotal (boundaryRecords s at n) → k ≡ sourceCount (observationRecords s from m)
+    → u ≡ h .counts .observations → v ≡ h .counts .sources
+    → not (eqb o u && eqb (w + k) v) ≡ sumsFault s (h .counts)
+unfolding sumsFault
+sums-told s h l a b c d e f g i j = let q = sections s h l in cc (q .boundaries-at, q .observations-at)
+
+size-requires : tie.Need-size-requires
+size-requires c κs = search needs
+
+size-requires-2 : tie.Need-size-requires-2
+size-requires-2 c κs = search needs
+
+observation-total-requires : tie.Need-observation-total-requires
+observation-total-requires c κs = let q = sections _ _ (c .before .before .before .before .before .pre) in (omega (arith, q .boundaries-in), omega arith)
+
+own-total-requires : tie.Need-own-total-requires
+own-total-requires c κs = let q = sections _ _ (c .before .before .before .before .before .before .pre) in (omega (arith, q .boundaries-in), omega arith)
+
+size-requires-3 : tie.Need-size-requires-3
+size-requires-3 c κs = search needs
+
+size-requires-4 : tie.Need-size-requires-4
+size-requires-4 c κs = search needs
+
+source-count-requires : tie.Need-source-count-requires
+source-count-requires c κs = let q = sections _ _ (c .before .before .before .before .before .before .before .before .before .pre) in (omega (arith, q .observations-in), omega arith)
+
+add-sources : tie.Need-add-sources
+add-sources c = search needs
+
+wide-requires : tie.Need-wide-requires
+wide-requires c κs = search needs
+
+wide-requires-2 : tie.Need-wide-requires-2
+wide-requires-2 c κs = search needs
+
+returns : tie.Need-returns
+returns c = sums-told _ _ (c .before .before .before .before .before .before .before .before .before .before .before .before .pre) (c .before .before .before .before .before .before .before .before .size .ensures .0) (c .before .before .before .before .before .before .before .size2 .ensures .0) (c .before .before .before .before .size3 .ensures .0) (c .before .before .before .size4 .ensures .0) (c .before .before .before .before .before .before .observation-total .ensures) (c .before .before .before .before .before .own-total .ensures .0) (c .before .before .source-count .ensures .0) (c .before .wide .ensures .0) (c .wide2 .ensures .0)
+
+pub sums-fault-spec : {M : Type 1} → statement M
+sums-fault-spec =
+    tie.close
+    (tie.spec
+    size-requires
+    size-requires-2
+    observation-total-requires
+    own-total-requires
+    size-requires-3
+    size-requires-4
+    source-count-requires
+    add-sources
+    wide-requires
+    wide-requires-2
+    returns)

@@ -1,0 +1,16 @@
+pub mod Steps
+pub mod Zeros
+pub mod Climb
+pub mod Scans
+pub mod Pushes
+pub mod Pops
+pub mod Passing
+pub mod Retell
+pub mod Puts
+pub mod Turn
+pub mod Entering
+pub mod Leaving
+pub mod Heights
+pub mod Roots
+pub mod Chains
+pub mod Meaning
