@@ -12,6 +12,10 @@ use Rattle.walk.specs.Marks.{bridgeMarks}
 use Rattle.partition.specs.Partitioned.{labelled}
 use Rattle.results.specs.Results.{maxPairs}
 
+-- the region pairs that a small map is first parted with room for
+abbrev pub fewPairs : ℕ
+fewPairs = 64
+
 -- the marks of the boundaries, where the pairs are at most `most`
 abbrev pub Bridged : ℕ → List ℕ → Grid → List Span → List ℕ → Type 0
 Bridged most dirs g ss marks = length (records dirs g ss) ≤ most → marks ≡ bridgeMarks (records dirs g ss) 256

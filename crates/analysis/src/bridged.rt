@@ -6,7 +6,7 @@ ghost use Rattle.assessments.specs.Recording.{Arrays};
 ghost use Rattle.assessments.specs.Visits.{mapOf};
 ghost use Rattle.partition.specs.Partitioned.{Partitionable, Partitioned};
 ghost use Rattle.results.specs.Results.{maxPairs};
-ghost use Rattle.analysis.specs.Bridging.{Bridged, MarkedWithin};
+ghost use Rattle.analysis.specs.Bridging.{fewPairs, Bridged, MarkedWithin};
 use bridges::bridge_boundaries;
 use grid::neighbors::EIGHT;
 use partition::Partition;
@@ -81,7 +81,7 @@ fn analyse_few(
     marks: &mut [u8; 256],
 ) -> usize
     requires { ⌜ Partitionable width height (now cells) 495 (now ends) count (now work) ⌝ }
-    ensures { λ r. ⌜ MarkedWithin 64 (directionsOf 495) (mapOf width height (now (cells .entry))) (spansIn (now (ends .entry)) count) (now (marks .exit)) (now (work .entry)) (now (work .exit)) r ⌝ }
+    ensures { λ r. ⌜ MarkedWithin fewPairs (directionsOf 495) (mapOf width height (now (cells .entry))) (spansIn (now (ends .entry)) count) (now (marks .exit)) (now (work .entry)) (now (work .exit)) r ⌝ }
 {
     let mut removed = [0u32; 256];
     let mut separated = [0u32; 256];

@@ -14,7 +14,7 @@ ghost use Rattle.candidates.specs.Owners.{Stored};
 ghost use Rattle.checks.specs.Checks.{firstRefusal};
 ghost use Rattle.job.specs.Refusals.{reduceChecks, byListChecks};
 ghost use Rattle.results.specs.Results.{workSize, ownEnds};
-ghost use Rattle.analysis.specs.Bridging.{Alike};
+ghost use Rattle.analysis.specs.Bridging.{fewPairs, Alike};
 ghost use Rattle.analysis.specs.Plans.{planOf, RankedBy, Headed, RankedJob, Plannable, EndsBy, SomeEnds, Told, SomeTold, DrawnWithin, Drawn};
 use crate::bridged::FEW_PAIRS;
 use crate::bridged::MAX_PAIRS;
@@ -173,7 +173,7 @@ fn plan_few(
     plan: &mut [u32; 256],
 ) -> usize
     requires { ⌜ Plannable (now job) h (now order) (now work) × SpansFit (h .counts .width) (h .counts .height) (now ends) (h .counts .boundaries) × SomeEnds (now job) (now order) (now ends) × (length (now plan) ≡ 256) ⌝ }
-    ensures { λ r. ⌜ ((ss : List Span) → EndsBy (now (job .entry)) (now (order .entry)) (now (ends .entry)) ss → DrawnWithin 64 (decode (now (job .entry))) ss (now (work .entry)) (now (work .exit)) (now (plan .exit)) r) ⌝ }
+    ensures { λ r. ⌜ ((ss : List Span) → EndsBy (now (job .entry)) (now (order .entry)) (now (ends .entry)) ss → DrawnWithin fewPairs (decode (now (job .entry))) ss (now (work .entry)) (now (work .exit)) (now (plan .exit)) r) ⌝ }
     ensures whole { λ _. ⌜ length (now (plan .exit)) ≡ 256 ⌝ }
 {
     let mut owners = [0u32; FEW_PAIRS];

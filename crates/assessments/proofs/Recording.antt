@@ -6,7 +6,7 @@ use Prim.Native.Nat.{ℕ, zero, suc, _+_, _-_, _≤_, _<_}
 use native.Mathlib.Omega.{arith}
 use native.Mathlib.Numerals.{add-one}
 use native.Mathlib.Decide.{ℕ-discrete, decLe}
-use lib.ListN.{length, set, length-set, length-append, length-map}
+use lib.ListN.{length, set, replicate, length-set, length-append, length-map, length-replicate}
 use lib.Seq.{getD-set-same, getD-set-other}
 use Rattle.lists.specs.Rows.{rows}
 use Rattle.lists.proofs.Rows.{length-rows, rows-same, rows-split, rows-last, map-rows}
@@ -145,6 +145,13 @@ module _ (ls dirs : List ℕ) (g : Grid) (ends : List ℕ) where
   recording-end {most} {removed} {separated} {owners} {lefts} {rights} {i} {end} r e =
       subst (λ (z : ℕ). Recorded ls dirs g most ends z removed separated owners lefts rights end) e
       (record { fits = λ h. (r .ended, r .told, r .counted); over = λ h. absurd (omega (arith, r .ended, r .few)) })
+
+-- arrays of zeros
+pub zero-arrays : (most : ℕ) → most ≤ 4096 → Arrays most (replicate 256 0) (replicate 256 0) (replicate most 0) (replicate most 0) (replicate most 0)
+zero-arrays most h =
+    let e = length-replicate {A = ℕ} most 0 in
+    let k = length-replicate {A = ℕ} 256 0 in
+    record { removed-are = k; separated-are = k; owners-are = e; lefts-are = e; rights-are = e; few = h }
 
 -- one span of several on a map
 pub span-on : {w h : ℕ} {cs labels ends : List ℕ} {n i : ℕ} {s : Span} → SpansOnMap w h cs labels ends n → i < n → s ≡ spanIn ends i → OnMap w h cs labels s

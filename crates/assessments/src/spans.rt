@@ -1,9 +1,7 @@
 // What each span of a list does to the areas.
-ghost use mathlib.Core.Path.{_≡_};
 ghost use Prim.Native.Nat.{_*_, _<_, _≤_};
 ghost use lib.ListN.{length};
 ghost use Rattle.grid.specs.Directions.{directionsOf};
-ghost use Rattle.areas.specs.Spans.{spanIn};
 ghost use Rattle.assessments.specs.Holding.{labelsOf};
 ghost use Rattle.assessments.specs.Visits.{mapOf};
 ghost use Rattle.assessments.specs.Recording.{Recorded, SpansOnMap, Arrays, Filled};

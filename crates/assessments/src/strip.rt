@@ -1,7 +1,7 @@
 // The steps that a span cuts, over its strip.
 ghost use mathlib.Core.Path.{_≡_};
 ghost use mathlib.Core.Bool.{cond};
-ghost use Prim.Native.Nat.{ℕ, _*_, _<_, _≤_};
+ghost use Prim.Native.Nat.{_*_, _<_, _≤_};
 ghost use lib.ListN.{length};
 ghost use Rattle.grid.specs.Directions.{directionsOf};
 ghost use Rattle.areas.specs.Assessments.{assessment};

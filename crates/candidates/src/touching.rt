@@ -1,7 +1,7 @@
 // The ranks that touch a region.
 ghost use mathlib.Core.Path.{_≡_};
 ghost use mathlib.Core.Bool.{cond, _||_};
-ghost use Prim.Native.Nat.{_≤_, _<_};
+ghost use Prim.Native.Nat.{_<_};
 ghost use lib.Dec.{eqb};
 ghost use Rattle.graph.specs.Records.{recordIn};
 ghost use Rattle.candidates.specs.Owners.{Stored};

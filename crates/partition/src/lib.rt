@@ -1,5 +1,4 @@
 // The areas that spans part a map into, and what each span does to them, in lent bytes.
-ghost use mathlib.Core.Path.{_≡_};
 ghost use Prim.Native.Nat.{_*_};
 ghost use lib.ListN.{length};
 ghost use Rattle.grid.specs.Directions.{directionsOf};

@@ -28,7 +28,7 @@ same-length-2 : tie.Need-same-length-2
 same-length-2 c = search needs
 
 returns-2 : tie.Need-returns-2
-returns-2 c = parted-wider (c .before .before .before .analyse-few .ensures) (omega arith) (c .if2 .taken)
+returns-2 c = parted-wider (c .before .before .before .analyse-few .ensures) (omega arith) (omega arith)
 
 analyse-many-requires-2 : tie.Need-analyse-many-requires-2
 analyse-many-requires-2 c κs = search needs

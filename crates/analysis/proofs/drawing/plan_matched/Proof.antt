@@ -39,7 +39,7 @@ same-length-2 : tie.Need-same-length-2
 same-length-2 c = search needs
 
 returns-2 : tie.Need-returns-2
-returns-2 c = λ ss e. parted-wider (c .before .before .before .plan-few .ensures .0 ss e) (omega arith) (c .if2 .taken)
+returns-2 c = λ ss e. parted-wider (c .before .before .before .plan-few .ensures .0 ss e) (omega arith) (omega arith)
 
 plan-many-requires-2 : tie.Need-plan-many-requires-2
 plan-many-requires-2 c κs = let p = c .before .before .before .before .before .before .before .before .before .before .before .before .before .before .before .before .pre in (record { job = p .0 .job; room = omega (arith, p .0 .room, c .before .before .before .before .before .plan-few .kept .1 .1 .1 .1 .0) }, p .1, p .2, c .before .before .before .before .before .plan-few .ensures .1)

@@ -1,7 +1,7 @@
-use Prim.Native.Nat.{ℕ, _+_, _-_}
+use Prim.Native.Nat.{_+_, _-_}
 use mathlib.Core.Path.{refl}
 use native.Mathlib.Omega.{arith}
-use lib.ListN.{length-replicate}
+use Rattle.assessments.proofs.Recording.{zero-arrays}
 use Rattle.probe.proofs.PartingLaws.{taken-few, taken-count, taken-inside, taken-map, taken-partitionable, all-parted}
 use borrow.Author.Needs.{needs}
 use Rattle.probe.proofs.own_partition.partition_job.Statement.{statement}
@@ -50,7 +50,7 @@ slice-aggregate-partition-by-spans-5 : tie.Need-slice-aggregate-partition-by-spa
 slice-aggregate-partition-by-spans-5 c = search needs
 
 partition-by-spans-requires : tie.Need-partition-by-spans-requires
-partition-by-spans-requires c κs = (taken-partitionable (c .before .before .before .before .before .before .before .before .before .before .before .before .before .before .pre) (λ i. omega (arith, c .before .before .before .before .before .before .before .before .before .before .before .before .before .shared-slice-known .given i)) (c .before .before .before .before .before .before .before .before .own-spans .ensures) (48 + c .before .before .before .before .before .before .before .before .before .before .size .result - 48) (omega (arith, c .before .before .before .before .before .before .before .before .before .before .size .ensures .0)), record { removed-are = refl; separated-are = refl; owners-are = refl; lefts-are = refl; rights-are = refl; few = omega (arith, length-replicate {A = ℕ} 4096 0) })
+partition-by-spans-requires c κs = (taken-partitionable (c .before .before .before .before .before .before .before .before .before .before .before .before .before .before .pre) (λ i. omega (arith, c .before .before .before .before .before .before .before .before .before .before .before .before .before .shared-slice-known .given i)) (c .before .before .before .before .before .before .before .before .own-spans .ensures) (48 + c .before .before .before .before .before .before .before .before .before .before .size .result - 48) (omega (arith, c .before .before .before .before .before .before .before .before .before .before .size .ensures .0)), zero-arrays 4096 (omega arith))
 
 write-partition-requires : tie.Need-write-partition-requires
 write-partition-requires c κs = taken-count (c .before .before .before .before .before .before .before .before .before .before .before .before .before .before .before .before .before .before .before .before .before .before .before .before .before .before .before .before .pre) (λ i. omega (arith, c .before .before .before .before .before .before .before .before .before .before .before .before .before .before .before .before .before .before .before .before .before .before .before .before .before .before .before .shared-slice-known .given i))
