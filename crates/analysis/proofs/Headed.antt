@@ -23,7 +23,7 @@ use Rattle.format.specs.declared.header.Header.{Header}
 use Rattle.topology.specs.AnchorLoop.{AnchorsIn}
 use Rattle.topology.specs.Held.{isNone}
 use Rattle.ranks.specs.Tables.{KeysOf}
-use Rattle.sorting.specs.Orders.{byTwo}
+use Rattle.places.specs.Orders.{byTwo}
 use Rattle.checks.specs.Checks.{firstRefusal, each}
 use Rattle.checks.specs.Faults.{anchorFault}
 use Rattle.checks.specs.Passed.{Laid}

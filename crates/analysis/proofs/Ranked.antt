@@ -39,7 +39,7 @@ use Rattle.merging.proofs.Copies.{key-canon}
 use Rattle.merging.proofs.Kept.{copies-places}
 use Rattle.merging.proofs.Packed.{packFirst, packSecond, ends-packed, sort-alike}
 use Rattle.ranks.specs.Tables.{KeysOf}
-use Rattle.sorting.specs.Orders.{byTwo}
+use Rattle.places.specs.Orders.{byTwo}
 use Rattle.results.specs.Rules.{listingOf}
 
 -- a list whose members are known by place

@@ -40,7 +40,7 @@ use Rattle.merging.specs.Kept.{noBoundary}
 use Rattle.merging.specs.Follows.{placesOf}
 use Rattle.merging.specs.Runs.{canonItem}
 use Rattle.ranks.specs.Tables.{Records, KeysOf, SpansOf, WidthsOf, RampsOf, Identity}
-use Rattle.sorting.specs.Orders.{byTwo}
+use Rattle.places.specs.Orders.{byTwo}
 use Rattle.results.specs.Rules.{listingOf}
 use Rattle.results.specs.Results.{ownEnds}
 use Rattle.analysis.proofs.Ranked.{by-rows, ByRank, place-below, rank-below, order-ranked, listed-length, listed-at, labels-ranked, records-ranked}

@@ -26,13 +26,13 @@ use format::HEADER_SIZE;
 use format::Header;
 use format::SPAN_SIZE;
 use links::limits::Limits;
+use places::ranks::sort_ranks;
 use planning::plan_merges;
 use ranks::fill_identity;
 use ranks::fill_keys;
 use ranks::fill_ramps;
 use ranks::fill_spans;
 use ranks::fill_widths;
-use sorting::ranks::sort_ranks;
 use wire::size;
 
 // The places of a job's boundaries by rank.

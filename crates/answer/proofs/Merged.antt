@@ -29,7 +29,7 @@ use Rattle.format.specs.Fits.{SourceFits}
 use Rattle.format.specs.declared.records.Source.{Source}
 use Rattle.format.specs.declared.records.BoundaryRecord.{BoundaryRecord}
 use Rattle.format.specs.declared.records.ObservationRecord.{ObservationRecord}
-use Rattle.sorting.specs.Orders.{byRun}
+use Rattle.places.specs.Orders.{byRun}
 use Rattle.merging.specs.Copies.{sortedSources, canon, canonObservation, sortedObservations}
 use Rattle.merging.specs.Consolidation.{orItself, observed, consolidate}
 use Rattle.merging.specs.Kept.{noBoundary, copyAt}

@@ -21,7 +21,7 @@ use Rattle.merging.specs.Copies.{sortedSources, canon, canonObservation}
 use Rattle.length.specs.Total.{totalKey}
 use Rattle.order.specs.Keys.{byKey}
 use Rattle.merging.specs.Keys.{observationKey}
-use Rattle.sorting.specs.Orders.{placeKey, byRun}
+use Rattle.places.specs.Orders.{placeKey, byRun}
 use Rattle.order.specs.Keys.{pack}
 use Rattle.answer.specs.Packed.{sourcePack, packed, KeysRead, KeyAt}
 use Rattle.answer.specs.Laying.{below, ownCount, seenCount, citedCount, ownStart, LaidAll}

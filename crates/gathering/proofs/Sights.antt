@@ -12,7 +12,7 @@ use Rattle.order.specs.Lists.{gather, upFrom}
 use Rattle.order.specs.Sorting.{sort}
 use Rattle.order.proofs.Numbers.{up-length}
 use Rattle.sorting.specs.Between.{between}
-use Rattle.sorting.specs.Orders.{byRun}
+use Rattle.places.specs.Orders.{byRun}
 use Rattle.answer.specs.Laying.{seenCount}
 use Rattle.answer.specs.Gathered.{placesFrom}
 use Rattle.gathering.specs.Runs.{Added, going, placesAt, seenRun, seenWeight, into}

@@ -7,7 +7,7 @@ use lib.Dec.{eqb, ltb, leb}
 use lib.ListN.{length, getD, take}
 use Rattle.order.specs.Lists.{keep, gather, upFrom}
 use Rattle.order.specs.Sorting.{sort, sortOnce}
-use Rattle.sorting.specs.Orders.{byRun}
+use Rattle.places.specs.Orders.{byRun}
 use Rattle.merging.specs.Planned.{members}
 use Rattle.answer.specs.Laying.{below}
 use Rattle.answer.specs.Squeezed.{partOf}

@@ -14,7 +14,7 @@ use crate::casts::counted;
 use crate::runs::append_places;
 use format::BOUNDARY_SIZE;
 use format::read_boundary;
-use sorting::places::sort_places;
+use places::places::sort_places;
 use wire::size;
 
 // How many ranks go into rank i.

@@ -7,7 +7,7 @@ use Rattle.analysis.proofs.drawing.order_boundaries.Tie as tie
 use Rattle.analysis.proofs.drawing.order_boundaries.Reads as reads
 use Rattle.analysis.proofs.drawing.order_boundaries.Lts as lts
 use Rattle.ranks.proofs.fill_keys.Reads as fill-keys-reads
-use Rattle.sorting.proofs.ranks.sort_ranks.Reads as sort-ranks-reads
+use Rattle.places.proofs.ranks.sort_ranks.Reads as sort-ranks-reads
 use Rattle.wire.proofs.size.Reads as size-reads
 
 size-requires : tie.Need-size-requires

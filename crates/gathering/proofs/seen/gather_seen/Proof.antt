@@ -8,7 +8,7 @@ use Rattle.gathering.proofs.seen.gather_seen.Reads as reads
 use Rattle.gathering.proofs.seen.gather_seen.Lts as lts
 use Rattle.gathering.proofs.seen.add_seens.Reads as add-seens-reads
 use Rattle.gathering.proofs.seen.count_going.Reads as count-going-reads
-use Rattle.sorting.proofs.places.sort_places.Reads as sort-places-reads
+use Rattle.places.proofs.places.sort_places.Reads as sort-places-reads
 
 count-going-requires : tie.Need-count-going-requires
 count-going-requires c κs = search needs
