@@ -1,4 +1,4 @@
--- The single checks 2 to 17, of the words or of one record.
+-- The checks one by one, with number and detail: of the header, of a cell or record, of the counts, of the list.
 use Prim.Native.Nat.{ℕ, _+_, _*_, _/_, _%_}
 use mathlib.Core.Bool.{Bool, true, not, _&&_}
 use mathlib.Core.List.{List, [], _∷_}
