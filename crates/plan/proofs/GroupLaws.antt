@@ -8,6 +8,7 @@ use borrow.Author.Tests.{eqb-true}
 use lib.Dec.{eqb, leb}
 use lib.Ieee.{Float, binary64, le, ofBits}
 use lib.ListN.{length, getD, length-map}
+use Rattle.lists.specs.Rows.{at}
 use Rattle.order.specs.Lists.{keep}
 use Rattle.order.specs.Sorting.{insert, sort}
 use Rattle.order.proofs.Keep.{keep-mem, keep-ext, keep-map}
@@ -36,7 +37,7 @@ use Rattle.groups.specs.Serial.{rankDistance, chainSum, endDistance, acceptsSer
 use Rattle.groups.specs.Flat.{alike, acceptsFlat, leastFlatSpans}
 use Rattle.groups.specs.Representative.{leastWidth, distanceTo, nearer, eligible, retained, widthAt}
 use Rattle.groups.specs.Tables.{linkRow}
-use Rattle.plan.specs.Arrays.{at, isOn, joinsAt}
+use Rattle.plan.specs.Arrays.{isOn, joinsAt}
 use Rattle.plan.specs.Shape.{degreeIn, endsIn, regularIn, gapIn, chainIn, outerIn, pathIn, alikeIn, allAlikeIn, leastIn, sumIn, nearerIn, fineIn, eligibleIn, retainedIn}
 use Rattle.plan.specs.Told.{groupBy, Told, Passed, serialIn, flatIn}
 use Rattle.plan.proofs.ShapeLaws.{at-each}

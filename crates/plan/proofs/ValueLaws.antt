@@ -7,6 +7,7 @@ use native.Mathlib.Omega.{arith}
 use lib.Dec.{eqb, leb}
 use lib.Ieee.{Float, binary64, ofBits}
 use lib.ListN.{length, getD, take, length-map}
+use Rattle.lists.specs.Rows.{at}
 use Rattle.order.specs.Lists.{keep, upFrom}
 use Rattle.order.specs.Sorting.{sort}
 use Rattle.length.specs.Total.{totalLe}
@@ -22,7 +23,7 @@ use Rattle.links.specs.Held.{SpanBounded, Number}
 use Rattle.links.proofs.Numbers.{distance-number, distance-sum-number}
 use Rattle.plan.specs.declared.four.Four.{Four}
 use Rattle.plan.specs.Four.{held, slot, listed}
-use Rattle.plan.specs.Arrays.{at, joinsAt}
+use Rattle.plan.specs.Arrays.{joinsAt}
 use Rattle.plan.specs.Shape.{degreeIn, endsIn, regularIn, outerIn, alikeIn, allAlikeIn, gapIn, chainIn, leastIn, sumIn, nearerIn, fineIn, eligibleIn, retainedIn}
 use Rattle.plan.specs.Fitting.{RankFits}
 use Rattle.plan.proofs.FourLaws.{Picked, listed-held}
