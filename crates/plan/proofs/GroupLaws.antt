@@ -1,7 +1,7 @@
 -- The rules on a group, by arrays.
 use mathlib.Core.Path.{_≡_, refl, sym, _∙_, ap}
 use mathlib.Core.Bool.{Bool, true, false, not, _&&_}
-use mathlib.Core.List.{List, [], _∷_, map, List·Memᴰ, List·Memᴰ·head, List·Memᴰ·tail, Permᴰ·symm}
+use mathlib.Core.List.{List, [], _∷_, map, map-map, List·Memᴰ, List·Memᴰ·head, List·Memᴰ·tail, Permᴰ·symm}
 use Prim.Native.Nat.{ℕ, suc, _<_}
 use native.Mathlib.Omega.{arith}
 use borrow.Author.Tests.{eqb-true}
@@ -59,11 +59,7 @@ every-map f t u (x ∷ xs) h =
     rw (a, b)
 
 map-both : {A B C : Type 0} (f : A → B) (h : B → C) (u : A → C) (l : List A) → ((y : A) → List·Memᴰ y l → h (f y) ≡ u y) → map h (map f l) ≡ map u l
-map-both f h u [] e = refl
-map-both f h u (x ∷ xs) e =
-    let a : h (f x) ≡ u x = e x (List·Memᴰ·head refl) in
-    let b : map h (map f xs) ≡ map u xs = map-both f h u xs (λ y m. e y (List·Memᴰ·tail m)) in
-    rw (a, b)
+map-both f h u l e = map-map h f l ∙ map-ext (λ y. h (f y)) u l e
 
 -- the last test matters only where the fourth passes
 abbrev shaped : Bool → Bool → Bool → Bool → Bool → Bool → Bool

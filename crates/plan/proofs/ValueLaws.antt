@@ -1,7 +1,7 @@
 -- Distances and widths of the ranks and links that are kept.
 use mathlib.Core.Path.{_≡_, refl, sym, _∙_, ap, subst}
 use mathlib.Core.Bool.{Bool, true, false, cond, _&&_}
-use mathlib.Core.List.{List, [], _∷_, map}
+use mathlib.Core.List.{List, [], _∷_, map, map-map}
 use Prim.Native.Nat.{ℕ, zero, suc, _-_, _≤_, _<_}
 use native.Mathlib.Omega.{arith}
 use lib.Dec.{eqb, leb}
@@ -94,13 +94,9 @@ sum-listed own f i l h {s} {a} {b} {c} {d} {r} es ea eb ec ed e = (whole, subst 
         ∙ (ap (λ (t : Span). distanceSum (spanIn own i) (take (f .count) (span 0 ∷ span 1 ∷ span 2 ∷ t ∷ []))) ed
         ∙ ap (λ (l : List Span). distanceSum (spanIn own i) l) (all-four (spanIn own) (slot f) (f .count) h))))))
 
-map-twice : {A : Type 0} (g : ℕ → A) (v : ℕ → ℕ) (l : List ℕ) → map (λ i. g (v i)) l ≡ map g (map v l)
-map-twice g v [] = refl
-map-twice g v (x ∷ xs) = ap (λ t. g (v x) ∷ t) (map-twice g v xs)
-
 pub least-listed : (bits : List ℕ) (f : Four) {k x : ℕ} → First totalLe (λ i. at bits (slot f i)) (f .count) k x → k ≡ 0 → x ≡ leastIn bits (listed f)
 unfolding leastIn listed
-least-listed bits f p e = first-end totalLe (λ i. at bits (slot f i)) (f .count) p e ∙ ap (λ (l : List ℕ). getD (sort totalLe l) 0 0) (map-twice (at bits) (slot f) (upFrom 0 (f .count)))
+least-listed bits f p e = first-end totalLe (λ i. at bits (slot f i)) (f .count) p e ∙ ap (λ (l : List ℕ). getD (sort totalLe l) 0 0) (sym (map-map (at bits) (slot f) (upFrom 0 (f .count))))
 
 pub first-listed : (le : ℕ → ℕ → Bool) (f : Four) {k x : ℕ} → First le (slot f) (f .count) k x → k ≡ 0 → x ≡ getD (sort le (listed f)) 0 0
 unfolding listed
