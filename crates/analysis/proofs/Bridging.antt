@@ -12,15 +12,15 @@ use Rattle.wire.specs.Bytes.{part, number, numberAt, u32At, u32Bytes}
 use Rattle.wire.proofs.Parts.{part-left, part-right}
 use Rattle.wire.proofs.Numbers.{length-bytes}
 use Rattle.wire.proofs.Words.{four-bytes}
+use Rattle.graph.specs.Records.{recordsIn}
 use Rattle.grid.specs.Cells.{Grid, size}
 use Rattle.areas.specs.Areas.{areaLabels}
 use Rattle.areas.specs.Spans.{spansIn}
 use Rattle.areas.specs.Assessments.{records}
 use Rattle.areas.proofs.Areas.{area-labels-length}
-use Rattle.areas.specs.Arrays.{recordsIn}
 use Rattle.walk.specs.Slices.{Owners}
 use Rattle.bridges.specs.Names.{Labelled}
-use Rattle.walk.specs.Marks.{recordsOf, bridgeMarks}
+use Rattle.walk.specs.Marks.{bridgeMarks}
 use Rattle.partition.specs.Partitioned.{labelled, Partitioned}
 use Rattle.partition.specs.declared.Partition.{Partition}
 use Rattle.analysis.specs.Bridging.{Bridged}
@@ -114,6 +114,5 @@ module _ {most : ℕ} {dirs : List ℕ} {g : Grid} {ends : List ℕ} {count : �
       ∙ (ap (λ (a : ℕ). u32At (labelled (areaLabels dirs g (spansIn ends count)) before) (4 * a + 4 * x)) z
       ∙ table-zero (areaLabels dirs g (spansIn ends count)) before x b)
 
-  pub bridged : {marks : List ℕ} → marks ≡ bridgeMarks (recordsOf (p .pairs) owners lefts rights) 256 → Bridged most dirs g (spansIn ends count) marks
-  unfolding recordsIn recordsOf
+  pub bridged : {marks : List ℕ} → marks ≡ bridgeMarks (recordsIn owners lefts rights (p .pairs)) 256 → Bridged most dirs g (spansIn ends count) marks
   bridged e = λ few. e ∙ ap (λ rs. bridgeMarks rs 256) (r .records-are few)

@@ -6,6 +6,7 @@ use lib.Dec.{leb}
 use Rattle.lists.specs.Rows.{All}
 use Rattle.order.specs.Keys.{lexLe, byKey, pack}
 use Rattle.order.specs.Sorting.{sortOnce}
+use Rattle.order.proofs.Lexical.{lex-behind}
 use Rattle.order.proofs.Packed.{lex-pack}
 use Rattle.format.specs.Values.{Observation}
 use Rattle.format.specs.Fits.{SourceFits}
@@ -14,7 +15,7 @@ use Rattle.length.specs.Total.{totalKey}
 use Rattle.topology.specs.Listing.{spanKey}
 use Rattle.merging.specs.Keys.{sourcesKey, observationKey}
 use Rattle.merging.specs.Copies.{sortedSources}
-use Rattle.merging.proofs.Packed.{lex-behind, sources-packed, sources-once}
+use Rattle.merging.proofs.Packed.{sources-packed, sources-once}
 use Rattle.answer.specs.Packed.{sourcePack, packed}
 
 -- Sources sorted as numbers are the sorted sources.

@@ -6,4 +6,3 @@ pub mod Areas
 pub mod Assessments
 pub mod Cases
 pub mod Open
-pub mod Arrays

@@ -7,7 +7,7 @@ use native.Mathlib.Omega.{arith}
 use native.Mathlib.Decide.{ℕ-discrete}
 use lib.ListN.{length, set, length-set}
 use lib.Seq.{getD-set-same, getD-set-other}
-use Rattle.assessments.specs.Stored.{at}
+use Rattle.lists.specs.Rows.{at}
 use Rattle.assessments.specs.Recording.{Filled}
 
 pub record Filling (s₀ s : List ℕ) (start end v k : ℕ) : Type 0 where

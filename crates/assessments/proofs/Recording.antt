@@ -8,20 +8,20 @@ use native.Mathlib.Numerals.{add-one}
 use native.Mathlib.Decide.{ℕ-discrete, decLe}
 use lib.ListN.{length, set, replicate, length-set, length-append, length-map, length-replicate}
 use lib.Seq.{getD-set-same, getD-set-other}
-use Rattle.lists.specs.Rows.{rows}
+use Rattle.lists.specs.Rows.{at, rows}
 use Rattle.lists.proofs.Rows.{length-rows, rows-same, rows-split, rows-last, map-rows}
 use Rattle.position.specs.declared.Span.{Span}
-use Rattle.graph.specs.Records.{Record}
+use Rattle.graph.specs.Records.{Record, recordIn, recordsIn}
 use Rattle.grid.specs.Cells.{Grid}
 use Rattle.areas.specs.Areas.{areaLabels}
 use Rattle.areas.specs.Cuts.{cutSteps}
 use Rattle.areas.specs.Assessments.{RegionPair, assessment, recordOf, owned, assess, records}
 use Rattle.areas.specs.Spans.{spanIn, spansIn}
 use Rattle.assessments.specs.declared.steps.Assessed.{Assessed}
-use Rattle.assessments.specs.Stored.{at, pairAt}
+use Rattle.assessments.specs.Stored.{pairAt}
 use Rattle.assessments.specs.Holding.{pairsIn, Holds}
 use Rattle.assessments.specs.Visits.{OnMap}
-use Rattle.assessments.specs.Recording.{recordsIn, assessed, recordsOf, Counted, Recorded, SpansOnMap, Arrays, Filled}
+use Rattle.assessments.specs.Recording.{assessed, recordsOf, Counted, Recorded, SpansOnMap, Arrays, Filled}
 
 -- with the areas' labels these are the records of the areas
 pub records-are : (dirs : List ℕ) (g : Grid) (ss : List Span) → recordsOf (areaLabels dirs g ss) dirs g ss ≡ records dirs g ss
@@ -103,16 +103,16 @@ module _ (ls dirs : List ℕ) (g : Grid) (ends : List ℕ) where
       told-next {owners′} f =
           let ps = pairsBy (spanIn ends i) in
           ap (recordsIn owners′ lefts′ rights′) new-end
-          ∙ (rows-split end (length ps) (λ k. record { owner = at owners′ k; left = at lefts′ k; right = at rights′ k })
+          ∙ (rows-split end (length ps) (recordIn owners′ lefts′ rights′)
           ∙ (ap₂ _++_ (old ∙ r .told) (new ∙ (sym (map-rows (recordOf i) (length ps) (λ k. pairAt lefts′ rights′ (end + k))) ∙ ap (map (recordOf i)) (h .pairs .fits fitting .1)))
           ∙ sym (up-next i)))
         where
-          old : rows end (λ k. record { owner = at owners′ k; left = at lefts′ k; right = at rights′ k }) ≡ recordsIn owners lefts rights end
-          old = rows-same end (λ k. record { owner = at owners′ k; left = at lefts′ k; right = at rights′ k }) (λ k. record { owner = at owners k; left = at lefts k; right = at rights k })
+          old : recordsIn owners′ lefts′ rights′ end ≡ recordsIn owners lefts rights end
+          old = rows-same end (recordIn owners′ lefts′ rights′) (recordIn owners lefts rights)
               (λ k l. rw (f .below k l, h .pairs .left-kept k l, h .pairs .right-kept k l))
 
-          new : rows (length (pairsBy (spanIn ends i))) (λ k. record { owner = at owners′ (end + k); left = at lefts′ (end + k); right = at rights′ (end + k) }) ≡ rows (length (pairsBy (spanIn ends i))) (λ k. recordOf i (pairAt lefts′ rights′ (end + k)))
-          new = rows-same (length (pairsBy (spanIn ends i))) (λ k. record { owner = at owners′ (end + k); left = at lefts′ (end + k); right = at rights′ (end + k) }) (λ k. recordOf i (pairAt lefts′ rights′ (end + k)))
+          new : rows (length (pairsBy (spanIn ends i))) (λ k. recordIn owners′ lefts′ rights′ (end + k)) ≡ rows (length (pairsBy (spanIn ends i))) (λ k. recordOf i (pairAt lefts′ rights′ (end + k)))
+          new = rows-same (length (pairsBy (spanIn ends i))) (λ k. recordIn owners′ lefts′ rights′ (end + k)) (λ k. recordOf i (pairAt lefts′ rights′ (end + k)))
               (λ k l. rw (f .here (end + k) (omega arith) (omega (arith, new-end))))
 
       pub recording-next : {owners′ : List ℕ} → i < 256 → Filled owners owners′ end (s .end) i → length owners′ ≡ length owners → length lefts′ ≡ length lefts → length rights′ ≡ length rights →

@@ -3,14 +3,13 @@ use mathlib.Core.Path.{_≡_}
 use mathlib.Core.List.{List, map}
 use Prim.Native.Nat.{ℕ, _+_, _*_, _≤_, _<_}
 use lib.ListN.{length}
+use Rattle.lists.specs.Rows.{at}
 use Rattle.position.specs.declared.Span.{Span}
-use Rattle.graph.specs.Records.{Record}
+use Rattle.graph.specs.Records.{Record, recordsIn}
 use Rattle.grid.specs.Cells.{Grid}
 use Rattle.areas.specs.Cuts.{cutSteps}
 use Rattle.areas.specs.Assessments.{Assessment, assessment, owned}
-unfoldable pub use Rattle.areas.specs.Arrays.{recordsIn}
 use Rattle.areas.specs.Spans.{Sides, SpansFit, spanIn, spansIn}
-use Rattle.assessments.specs.Stored.{at}
 
 module _ (ls dirs : List ℕ) (g : Grid) where
   -- of a span, by the labels ls

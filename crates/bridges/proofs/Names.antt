@@ -7,8 +7,9 @@ use native.Mathlib.Omega.{arith}
 use native.Mathlib.Decide.{ℕ-discrete}
 use lib.ListN.{length, set, length-set}
 use lib.Seq.{getD-set-same, getD-set-other}
+use Rattle.lists.specs.Rows.{at}
 use Rattle.wire.specs.Bytes.{splice, u32At, u32Bytes}
-use Rattle.walk.specs.Slices.{at, put}
+use Rattle.walk.specs.Slices.{put}
 use Rattle.bridges.specs.Names.{Labelled, Table, Stands, Named, Numbered, Forgotten}
 use Rattle.walk.proofs.Puts.{put-at, put-off}
 use Rattle.bridges.proofs.Table.{table-set, table-own, table-clear}

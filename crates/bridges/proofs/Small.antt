@@ -5,24 +5,17 @@ use mathlib.Core.Bool.{Bool, cond}
 use mathlib.Core.List.{List}
 use Prim.Native.Nat.{ℕ, _+_, _*_, _-_, _≤_, _<_}
 use native.Mathlib.Omega.{arith}
-use lib.ListN.{length}
-use Rattle.lists.proofs.Rows.{length-rows, rows-at, rows-same}
+use Rattle.lists.specs.Rows.{at}
+use Rattle.lists.proofs.Rows.{rows-same}
 use Rattle.graph.specs.Records as records
+use Rattle.graph.specs.Records.{recordsIn}
 use Rattle.graph.specs.Bridges.{isBridge}
+use Rattle.graph.proofs.Records.{records-length, records-at}
 use Rattle.graph.proofs.Renaming.{Occurs, Renaming, same-bridges}
-use Rattle.walk.specs.Slices.{at, Graph}
-use Rattle.walk.specs.Marks.{recordsOf, bridgeMarks}
+use Rattle.walk.specs.Slices.{Graph}
+use Rattle.walk.specs.Marks.{bridgeMarks}
 use Rattle.bridges.specs.Names.{Labelled, Named, Numbered}
 use Rattle.bridges.proofs.Names.{named-apart}
-
-many : (K : ℕ) (owners lefts rights : List ℕ) → length (recordsOf K owners lefts rights) ≡ K
-unfolding recordsOf
-many K owners lefts rights = length-rows K (λ k. record { owner = at owners k; left = at lefts k; right = at rights k })
-
-nth : (K : ℕ) (owners lefts rights : List ℕ) (k : ℕ) → k < K →
-    records.at (recordsOf K owners lefts rights) k ≡ record { owner = at owners k; left = at lefts k; right = at rights k }
-unfolding recordsOf
-nth K owners lefts rights k l = rows-at K (λ k. record { owner = at owners k; left = at lefts k; right = at rights k }) k records.noRecord l
 
 module _ {K : ℕ} {lefts rights : List ℕ} {regions base : ℕ} {start work smallLefts smallRights : List ℕ} (L : Labelled K lefts rights regions)
     (N : Numbered K lefts rights regions base start work smallLefts smallRights K) where
@@ -42,15 +35,15 @@ module _ {K : ℕ} {lefts rights : List ℕ} {regions base : ℕ} {start work sm
 
   module _ (owners : List ℕ) where
     abbrev rs : List records.Record
-    rs = recordsOf K owners lefts rights
+    rs = recordsIn owners lefts rights K
 
     abbrev ss : List records.Record
-    ss = recordsOf K owners smallLefts smallRights
+    ss = recordsIn owners smallLefts smallRights K
 
     occurs : (a : ℕ) → Occurs rs a → (0 < a) × (0 < N .words (a - 1))
     occurs a o =
-        let l : o .place < K = omega (arith, o .inside, many K owners lefts rights) in
-        let e = nth K owners lefts rights (o .place) l in
+        let l : o .place < K = omega (arith, o .inside, records-length owners lefts rights K) in
+        let e = records-at owners lefts rights K (o .place) l in
         ⊎-elim
         (λ u.
         let q : at lefts (o .place) ≡ a = sym (ap (λ (r : records.Record). r .left) e) ∙ u in
@@ -62,20 +55,20 @@ module _ {K : ℕ} {lefts rights : List ℕ} {regions base : ℕ} {start work sm
 
     renaming : Renaming (λ (a : ℕ). N .words (a - 1) - 1) rs ss
     renaming = record {
-      as-many = many K owners smallLefts smallRights ∙ sym (many K owners lefts rights);
+      as-many = records-length owners smallLefts smallRights K ∙ sym (records-length owners lefts rights K);
       owner = λ k l.
-          let b : k < K = omega (arith, l, many K owners lefts rights) in
-          ap (λ (r : records.Record). r .owner) (nth K owners smallLefts smallRights k b) ∙ sym (ap (λ (r : records.Record). r .owner) (nth K owners lefts rights k b));
+          let b : k < K = omega (arith, l, records-length owners lefts rights K) in
+          ap (λ (r : records.Record). r .owner) (records-at owners smallLefts smallRights K k b) ∙ sym (ap (λ (r : records.Record). r .owner) (records-at owners lefts rights K k b));
       left = λ k l.
-          let b : k < K = omega (arith, l, many K owners lefts rights) in
+          let b : k < K = omega (arith, l, records-length owners lefts rights K) in
           let m : at smallLefts k ≡ N .words (at lefts k - 1) - 1 = omega (arith, N .left k b) in
-          ap (λ (r : records.Record). r .left) (nth K owners smallLefts smallRights k b) ∙ m
-          ∙ sym (ap (λ (r : records.Record). N .words (r .left - 1) - 1) (nth K owners lefts rights k b));
+          ap (λ (r : records.Record). r .left) (records-at owners smallLefts smallRights K k b) ∙ m
+          ∙ sym (ap (λ (r : records.Record). N .words (r .left - 1) - 1) (records-at owners lefts rights K k b));
       right = λ k l.
-          let b : k < K = omega (arith, l, many K owners lefts rights) in
+          let b : k < K = omega (arith, l, records-length owners lefts rights K) in
           let m : at smallRights k ≡ N .words (at rights k - 1) - 1 = omega (arith, N .right k b) in
-          ap (λ (r : records.Record). r .right) (nth K owners smallLefts smallRights k b) ∙ m
-          ∙ sym (ap (λ (r : records.Record). N .words (r .right - 1) - 1) (nth K owners lefts rights k b));
+          ap (λ (r : records.Record). r .right) (records-at owners smallLefts smallRights K k b) ∙ m
+          ∙ sym (ap (λ (r : records.Record). N .words (r .right - 1) - 1) (records-at owners lefts rights K k b));
       apart = λ a b x y e.
           let p = occurs a x in
           let q = occurs b y in
@@ -86,7 +79,7 @@ module _ {K : ℕ} {lefts rights : List ℕ} {regions base : ℕ} {start work sm
     }
 
     -- the marks are the same
-    pub small-marks : (n : ℕ) → bridgeMarks (recordsOf K owners smallLefts smallRights) n ≡ bridgeMarks (recordsOf K owners lefts rights) n
+    pub small-marks : (n : ℕ) → bridgeMarks (recordsIn owners smallLefts smallRights K) n ≡ bridgeMarks (recordsIn owners lefts rights K) n
     unfolding bridgeMarks
     small-marks n =
         rows-same n (λ b. cond (isBridge ss b) 1 0) (λ b. cond (isBridge rs b) 1 0) (λ b l. ap (λ (t : Bool). cond t 1 0) (same-bridges renaming b))

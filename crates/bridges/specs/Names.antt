@@ -5,8 +5,8 @@ use mathlib.Core.Logic.{_⊎_}
 use mathlib.Core.List.{List}
 use Prim.Native.Nat.{ℕ, _+_, _*_, _-_, _≤_, _<_}
 use lib.ListN.{length, getD}
+use Rattle.lists.specs.Rows.{at}
 use Rattle.wire.specs.Bytes.{u32At}
-use Rattle.walk.specs.Slices.{at}
 
 -- there are at most 4,096 records, and their ends are labels from 1 to `regions`
 pub record Labelled (K : ℕ) (lefts rights : List ℕ) (regions : ℕ) : Type 0 where

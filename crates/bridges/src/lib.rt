@@ -4,7 +4,8 @@ mod numbering; // numbers for the labels of regions
 ghost use mathlib.Core.Path.{_≡_};
 ghost use Prim.Native.Nat.{ℕ, _+_, _*_, _≤_, _<_};
 ghost use lib.ListN.{length};
-ghost use Rattle.walk.specs.Marks.{recordsOf, bridgeMarks};
+ghost use Rattle.graph.specs.Records.{recordsIn};
+ghost use Rattle.walk.specs.Marks.{bridgeMarks};
 ghost use Rattle.wire.specs.Bytes.{u32At};
 ghost use Rattle.bridges.specs.Names.{Labelled};
 ghost use Rattle.walk.specs.Slices.{Owners, Lent};
@@ -50,7 +51,7 @@ fn mark_bridges(
     marks: &mut [u8; 256],
 )
     requires { ⌜ Owners count (now owners) × (count ≤ length (now owners)) × Labelled count (now lefts) (now rights) regions × (base + 4 * regions ≤ length (now work)) × ((x : ℕ) → x < regions → u32At (now work) (base + 4 * x) ≡ 0) × Lent count (length (now heads)) (now «small_lefts») (now «small_rights») (now heads) (now «left_nexts») (now «right_nexts») (now disc) (now stack) (now parents) (now nexts) (now lows) ⌝ }
-    ensures marks { λ _. ⌜ now (marks .exit) ≡ bridgeMarks (recordsOf count (now (owners .entry)) (now (lefts .entry)) (now (rights .entry))) 256 ⌝ }
+    ensures marks { λ _. ⌜ now (marks .exit) ≡ bridgeMarks (recordsIn (now (owners .entry)) (now (lefts .entry)) (now (rights .entry)) count) 256 ⌝ }
     ensures work { λ _. ⌜ now (work .exit) ≡ now (work .entry) ⌝ }
 {
     number_all(
@@ -101,7 +102,7 @@ fn mark_few(
     marks: &mut [u8; 256],
 )
     requires { ⌜ Owners count (now owners) × (count ≤ length (now owners)) × Labelled count (now lefts) (now rights) regions × (base + 4 * regions ≤ length (now work)) × ((x : ℕ) → x < regions → u32At (now work) (base + 4 * x) ≡ 0) × (count ≤ 64) ⌝ }
-    ensures marks { λ _. ⌜ now (marks .exit) ≡ bridgeMarks (recordsOf count (now (owners .entry)) (now (lefts .entry)) (now (rights .entry))) 256 ⌝ }
+    ensures marks { λ _. ⌜ now (marks .exit) ≡ bridgeMarks (recordsIn (now (owners .entry)) (now (lefts .entry)) (now (rights .entry)) count) 256 ⌝ }
     ensures work { λ _. ⌜ now (work .exit) ≡ now (work .entry) ⌝ }
 {
     let mut small_lefts = [0u32; FEW];
@@ -148,7 +149,7 @@ fn mark_many(
     marks: &mut [u8; 256],
 )
     requires { ⌜ Owners count (now owners) × (count ≤ length (now owners)) × Labelled count (now lefts) (now rights) regions × (base + 4 * regions ≤ length (now work)) × ((x : ℕ) → x < regions → u32At (now work) (base + 4 * x) ≡ 0) ⌝ }
-    ensures marks { λ _. ⌜ now (marks .exit) ≡ bridgeMarks (recordsOf count (now (owners .entry)) (now (lefts .entry)) (now (rights .entry))) 256 ⌝ }
+    ensures marks { λ _. ⌜ now (marks .exit) ≡ bridgeMarks (recordsIn (now (owners .entry)) (now (lefts .entry)) (now (rights .entry)) count) 256 ⌝ }
     ensures work { λ _. ⌜ now (work .exit) ≡ now (work .entry) ⌝ }
 {
     let mut small_lefts = [0u32; MOST];
@@ -195,7 +196,7 @@ pub fn bridge_boundaries(
     marks: &mut [u8; 256],
 )
     requires { ⌜ Owners count (now owners) × (count ≤ length (now owners)) × Labelled count (now lefts) (now rights) regions × (base + 4 * regions ≤ length (now work)) × ((x : ℕ) → x < regions → u32At (now work) (base + 4 * x) ≡ 0) ⌝ }
-    ensures marks { λ _. ⌜ now (marks .exit) ≡ bridgeMarks (recordsOf count (now (owners .entry)) (now (lefts .entry)) (now (rights .entry))) 256 ⌝ }
+    ensures marks { λ _. ⌜ now (marks .exit) ≡ bridgeMarks (recordsIn (now (owners .entry)) (now (lefts .entry)) (now (rights .entry)) count) 256 ⌝ }
     ensures work { λ _. ⌜ now (work .exit) ≡ now (work .entry) ⌝ }
 {
     if count == 0 {

@@ -15,8 +15,8 @@ use Rattle.lists.specs.Rows.{rows}
 use Rattle.lists.proofs.Rows.{rows-last, length-rows}
 use Rattle.order.specs.Lists.{keep}
 use Rattle.order.proofs.Keep.{keep-append, keep-length}
-use Rattle.graph.specs.Records.{Record}
-use Rattle.candidates.specs.Owners.{recordIn, noRecord, ofOwner, Firsts}
+use Rattle.graph.specs.Records.{Record, recordIn, noRecord}
+use Rattle.candidates.specs.Owners.{ofOwner, Firsts}
 
 one-kept : (b : Bool) (l : List Record) (x : Record) → l ++ cond b (x ∷ []) [] ≡ cond b (l ++ (x ∷ [])) l
 one-kept true l x = refl

@@ -13,10 +13,9 @@ use Rattle.order.specs.Pairs.{Pairs, none, more}
 use Rattle.order.proofs.Keep.{keep-append, keep-all, keep-none}
 use Rattle.order.proofs.Pairs.{pairs-append}
 use Rattle.position.specs.declared.Span.{Span}
-use Rattle.graph.specs.Records.{Record, recordIn, noRecord}
+use Rattle.graph.specs.Records.{Record, recordIn, recordsIn, noRecord}
 use Rattle.grid.specs.Cells.{Grid}
 use Rattle.areas.specs.Assessments.{RegionPair, recordOf, owned, assess, records}
-use Rattle.areas.specs.Arrays.{recordsIn}
 use Rattle.position.specs.Order.{posSame}
 use Rattle.topology.specs.Numbers.{isFull}
 use Rattle.topology.specs.FullPair.{noPair, hasFullPair}

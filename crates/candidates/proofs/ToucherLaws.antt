@@ -19,10 +19,9 @@ use Rattle.order.proofs.Members.{getD-mem, mem-getD}
 use Rattle.order.proofs.Pairs.{pairs-append, pairs-at, pairs-ext}
 use Rattle.order.proofs.Keep.{keep-mem, mem-keep, keep-pairs}
 use Rattle.order.proofs.Numbers.{up-mem, mem-up, up-strict}
-use Rattle.graph.specs.Records.{Record, recordIn}
+use Rattle.graph.specs.Records.{Record, recordIn, recordsIn}
 use Rattle.grid.specs.Cells.{Grid}
 use Rattle.areas.specs.Assessments.{Assessment, recordOf, regionsOf, assess, records}
-use Rattle.areas.specs.Arrays.{recordsIn}
 use Rattle.areas.proofs.Records.{records-iff}
 use Rattle.topology.specs.FullPair.{touches}
 use Rattle.topology.proofs.FullPair.{touches-iff}

@@ -7,8 +7,7 @@ use lib.Dec.{eqb}
 use lib.ListN.{length, getD}
 use Rattle.lists.specs.Rows.{rows}
 use Rattle.order.specs.Lists.{keep}
-use Rattle.graph.specs.Records.{Record}
-pub use Rattle.graph.specs.Records.{recordIn, noRecord}
+use Rattle.graph.specs.Records.{Record, recordIn, noRecord}
 
 -- the region is one of the record's two
 abbrev pub inRecord : ℕ → Record → Bool

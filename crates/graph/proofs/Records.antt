@@ -1,13 +1,23 @@
--- What is left when some records are taken away.
+-- Records in arrays, and what is left when some records are taken away.
 use mathlib.Core.Path.{_≡_, refl, sym, ap, subst}
 use mathlib.Core.Bool.{Bool, true, false, cond}
 use mathlib.Core.List.{List, [], _∷_, List·Memᴰ, List·Memᴰ·head, List·Memᴰ·tail, List·Memᴰ·not-nil, Memᴰ·map, Memᴰ·of-map, Memᴰ·cast}
 use Prim.Native.Nat.{ℕ, zero, suc, _<_}
 use native.Mathlib.Omega.{arith}
 use lib.ListN.{length}
+use Rattle.lists.proofs.Rows.{length-rows, rows-at}
 use Rattle.graph.specs.Path.{Edge, Path}
-use Rattle.graph.specs.Records.{Record, at, edgeOf, edges, without, Remains}
+use Rattle.graph.specs.Records.{Record, noRecord, recordIn, recordsIn, at, edgeOf, edges, without, Remains}
 use Rattle.graph.proofs.Paths.{path-more}
+
+module _ (owners lefts rights : List ℕ) (n : ℕ) where
+  pub records-length : length (recordsIn owners lefts rights n) ≡ n
+  unfolding recordsIn
+  records-length = length-rows n (recordIn owners lefts rights)
+
+  pub records-at : (k : ℕ) → k < n → at (recordsIn owners lefts rights n) k ≡ recordIn owners lefts rights k
+  unfolding recordsIn
+  records-at k h = rows-at n (recordIn owners lefts rights) k noRecord h
 
 -- a record that is left behind a first one
 remains-behind : {gone : ℕ → Record → Bool} {s r : Record} {rs : List Record} → Remains (λ k. gone (suc k)) rs r → Remains gone (s ∷ rs) r

@@ -5,6 +5,7 @@ use mathlib.Core.List.{List, [], _∷_, map}
 use Prim.Native.Nat.{ℕ, suc, _<_}
 use lib.Dec.{eqb}
 use lib.ListN.{length, getD}
+use Rattle.lists.specs.Rows.{rows}
 use Rattle.graph.specs.Path.{Edge}
 
 -- one region pair of one boundary
@@ -19,6 +20,11 @@ noRecord = record { owner = 0; left = 0; right = 0 }
 -- record k of three arrays
 abbrev pub recordIn : List ℕ → List ℕ → List ℕ → ℕ → Record
 recordIn owners lefts rights k = record { owner = getD owners k 0; left = getD lefts k 0; right = getD rights k 0 }
+
+-- the first n of them
+unfoldable pub recordsIn : List ℕ → List ℕ → List ℕ → ℕ → List Record
+unfolding rows
+recordsIn owners lefts rights n = rows n (recordIn owners lefts rights)
 
 -- the record at a place
 abbrev pub at : List Record → ℕ → Record

@@ -7,11 +7,11 @@ use lib.ListN.{length, getD}
 use Rattle.lists.specs.Rows.{rows}
 use Rattle.position.specs.declared.WalkPosition.{WalkPosition}
 use Rattle.format.specs.Bounds.{maxWidthBits}
+use Rattle.graph.specs.Records.{recordsIn}
 use Rattle.grid.specs.Cells.{Grid}
 use Rattle.position.specs.Bounds.{Bounded}
 use Rattle.areas.specs.Spans.{spanIn}
 use Rattle.areas.specs.Assessments.{records}
-use Rattle.areas.specs.Arrays.{recordsIn}
 use Rattle.topology.specs.FullPair.{fullPair}
 use Rattle.topology.specs.Listing.{Item}
 use Rattle.groups.specs.Listing.{spansOf, boundaryAt, endsAt, bitsAt}

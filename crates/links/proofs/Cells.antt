@@ -1,7 +1,7 @@
 -- The laws of a link that is measured cell by cell: it begins with no cell, takes each of its region's cells, and then has its measure.
 use mathlib.Core.Path.{_≡_, refl, _∙_, ap}
 use mathlib.Core.Bool.{Bool, true, false, _&&_}
-use mathlib.Core.List.{List, [], _∷_, _++_, map}
+use mathlib.Core.List.{List, [], _∷_, _++_, map, map-append}
 use Prim.Native.Nat.{ℕ, _/_, _%_}
 use lib.Ieee.{Float}
 use Rattle.links.specs.Limits.{Limits}
@@ -17,12 +17,8 @@ unfolding widenedBy
 widened-last b [] v = refl
 widened-last b (u ∷ us) v = widened-last (widened b u) us v
 
-map-last : (f : ℕ → Float) (cs : List ℕ) (c : ℕ) → map f (cs ++ (c ∷ [])) ≡ map f cs ++ (f c ∷ [])
-map-last f [] c = refl
-map-last f (d ∷ ds) c = ap (λ (l : List Float). f d ∷ l) (map-last f ds c)
-
 pub bounds-last : (f : ℕ → Float) (cs : List ℕ) (c : ℕ) → boundsOf (map f (cs ++ (c ∷ []))) ≡ widened (boundsOf (map f cs)) (f c)
-bounds-last f cs c = ap boundsOf (map-last f cs c) ∙ widened-last noBounds (map f cs) (f c)
+bounds-last f cs c = ap boundsOf (map-append f cs (c ∷ [])) ∙ widened-last noBounds (map f cs) (f c)
 
 and-assoc : (p q r : Bool) → (p && (q && r)) ≡ ((p && q) && r)
 and-assoc true q r = refl

@@ -9,6 +9,7 @@ use native.Mathlib.Decide.{ℕ-discrete}
 use lib.Dec.{eqb}
 use lib.ListN.{length, getD, set, length-set, replicate, length-replicate}
 use lib.Seq.{getD-set-same, getD-set-other}
+use Rattle.lists.specs.Rows.{at}
 use Rattle.lists.proofs.Rows.{length-rows}
 use Rattle.wire.specs.Bytes.{u32At}
 use Rattle.position.specs.declared.Span.{Span}
@@ -31,7 +32,6 @@ use Rattle.groups.specs.Regions.{regionLabels, cellsOf, statsOf}
 use Rattle.groups.specs.Measuring.{valueOf, measuredAt, passes, staysInside}
 use Rattle.groups.specs.Flat.{isFlat}
 use Rattle.groups.specs.Tables.{Boundaries, linkRow}
-use Rattle.measures.specs.Tables.{at}
 use Rattle.measures.specs.Judging.{valueIn, flatIn, linkNow, statsNow, Running, Judged, Measured}
 
 module _ {limits : Limits} {own bits regions firsts seconds : List ℕ} {g : Grid} {ls : List ℕ} where

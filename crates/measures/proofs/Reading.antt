@@ -5,13 +5,14 @@ use Prim.Native.Nat.{ℕ, _+_, _*_, _-_, _≤_, _<_}
 use native.Mathlib.Nat.{mul-le-mul}
 use native.Mathlib.Omega.{arith}
 use borrow.Author.Tests.{eq-eqb, ne-eqb}
+use Rattle.lists.specs.Rows.{at}
 use Rattle.wire.specs.Bytes.{u32At}
 use Rattle.position.specs.declared.Span.{Span}
 use Rattle.areas.specs.Spans.{spanIn}
 use Rattle.links.specs.Link.{linkOf}
 use Rattle.links.specs.Held.{SpanBounded}
 use Rattle.links.specs.HeldLink.{side, noCell}
-use Rattle.measures.specs.Tables.{at, numberOf}
+use Rattle.measures.specs.Tables.{numberOf}
 use Rattle.measures.specs.Judging.{Plain, valueIn}
 
 pub number-zero : (work : List ℕ) (n : ℕ) {r : ℕ} → r ≡ 0 → 0 ≡ numberOf work n r

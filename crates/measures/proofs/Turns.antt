@@ -10,6 +10,7 @@ use borrow.Author.Tests.{eq-eqb, ne-eqb}
 use lib.Dec.{eqb}
 use lib.ListN.{getD, set, length-set, replicate, length-replicate, getD-replicate}
 use lib.Seq.{getD-set-same, getD-set-other}
+use Rattle.lists.specs.Rows.{at}
 use Rattle.wire.specs.Bytes.{u32At}
 use Rattle.order.specs.Lists.{keep, upFrom}
 use Rattle.grid.specs.Cells.{Grid, Whole, size, cellAt}
@@ -23,7 +24,7 @@ use Rattle.topology.specs.Held.{Room, NoCells, withCell as withStats, statsAfte
 use Rattle.topology.specs.declared.stats.RegionStats.{RegionStats as StatsHeld}
 use Rattle.topology.proofs.Counting.{after-next as stats-next, after-room, cells-in, cells-out, cells-most}
 use Rattle.topology.proofs.Bases.{label-is}
-use Rattle.measures.specs.Tables.{at, numberOf, Numbered}
+use Rattle.measures.specs.Tables.{numberOf, Numbered}
 use Rattle.measures.specs.Judging.{valueIn, Filled, linkNow, statsNow, Running}
 
 -- the cell of a column and a row

@@ -7,6 +7,7 @@ use native.Mathlib.Omega.{arith}
 use native.Mathlib.Decide.{ℕ-discrete}
 use borrow.Author.Tests.{eq-eqb, ne-eqb}
 use lib.ListN.{length}
+use Rattle.lists.specs.Rows.{at}
 use Rattle.lists.proofs.Rows.{rows-same}
 use Rattle.wire.specs.Bytes.{u32At, u32Bytes, splice}
 use Rattle.wire.proofs.Words.{four-bytes}
@@ -15,7 +16,7 @@ use Rattle.bridges.specs.Names.{Table}
 use Rattle.walk.specs.Slices.{put}
 use Rattle.walk.proofs.Puts.{put-at, put-off}
 use Rattle.bridges.proofs.Table.{table-set, table-clear}
-use Rattle.measures.specs.Tables.{at, Regions, Labels, Written, Later, Cleared, numberOf, Numbered}
+use Rattle.measures.specs.Tables.{Regions, Labels, Written, Later, Cleared, numberOf, Numbered}
 
 blank : {start : List ℕ} {n : ℕ} → Labels start n → Table start n (4 * n) (λ x. 0) start
 blank L = record { as-long = refl; word = λ x l. L .clear x l; before = λ i l. refl; behind = λ i l. refl }

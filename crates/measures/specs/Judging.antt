@@ -5,6 +5,7 @@ use mathlib.Core.List.{List}
 use Prim.Native.Nat.{ℕ, _≤_, _<_}
 use lib.Dec.{eqb}
 use lib.ListN.{length, getD}
+use Rattle.lists.specs.Rows.{at}
 use Rattle.grid.specs.Cells.{Grid}
 use Rattle.areas.specs.Spans.{spanIn}
 use Rattle.links.specs.Limits.{Limits}
@@ -20,7 +21,6 @@ use Rattle.groups.specs.Regions.{regionLabels}
 use Rattle.groups.specs.Measuring.{passes, staysInside}
 use Rattle.groups.specs.Flat.{isFlat}
 use Rattle.groups.specs.Tables.{Boundaries, linkRow}
-use Rattle.measures.specs.Tables.{at}
 
 -- each coordinate is at most 8 · 1,024, and each width at most that of a job
 pub record Plain (own bits : List ℕ) : Type 0 where

@@ -4,12 +4,10 @@ use mathlib.Core.Bool.{cond}
 use mathlib.Core.List.{List}
 use Prim.Native.Nat.{ℕ, _+_, _*_, _-_, _≤_, _<_}
 use lib.Dec.{eqb}
-use lib.ListN.{length, getD}
+use lib.ListN.{length}
+use Rattle.lists.specs.Rows.{at}
 use Rattle.wire.specs.Bytes.{u32At}
 use Rattle.bridges.specs.Names.{Table}
-
-abbrev pub at : List ℕ → ℕ → ℕ
-at l i = getD l i 0
 
 -- the regions of the links are different labels from 1 to n
 pub record Regions (regions : List ℕ) (links n : ℕ) : Type 0 where

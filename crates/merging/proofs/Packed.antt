@@ -3,15 +3,13 @@ use mathlib.Core.Path.{_≡_, refl, _∙_, ap}
 use mathlib.Core.Bool.{Bool, true, false, cond}
 use mathlib.Core.List.{List, [], _∷_, _++_, map, List·Memᴰ, List·Memᴰ·head, List·Memᴰ·tail, Permᴰ·symm}
 use Prim.Native.Nat.{ℕ}
-use native.Mathlib.Omega.{arith}
-use borrow.Author.Tests.{ltb-true, ltb-false, le-leb, lt-leb}
-use lib.Dec.{leb, ltb}
+use lib.Dec.{leb}
 use Rattle.lists.specs.Rows.{All, none, more}
 use Rattle.order.specs.Orders.{same}
 use Rattle.order.specs.Sorting.{insert, sort, include, sortOnce}
 use Rattle.order.specs.Keys.{lexLe, byKey, sortBy, sortOnceBy, pack}
-use Rattle.order.proofs.Bools.{by-test}
 use Rattle.order.proofs.Members.{perm-mem}
+use Rattle.order.proofs.Lexical.{lex-behind, lex-one}
 use Rattle.order.proofs.Packed.{lex-pack}
 use Rattle.order.proofs.Sort.{sort-perm, sort-map}
 use Rattle.position.specs.Order.{posLe, swapped, canonical}
@@ -23,19 +21,6 @@ use Rattle.topology.specs.Listing.{spanKey, endsKey}
 use Rattle.length.specs.Total.{totalKey}
 use Rattle.merging.specs.Keys.{sourceKey, sourcesKey, observationKey}
 use Rattle.merging.specs.Copies.{canonObservation}
-
--- behind two heads
-pub lex-behind : (x y : ℕ) (k l m n : List ℕ) → lexLe k l ≡ lexLe m n → lexLe (x ∷ k) (y ∷ l) ≡ lexLe (x ∷ m) (y ∷ n)
-unfolding lexLe
-lex-behind x y k l m n e = rw e refl
-
--- lists of one number
-lex-one : (x y : ℕ) → lexLe (x ∷ []) (y ∷ []) ≡ leb x y
-unfolding lexLe
-lex-one x y =
-    by-test (ltb x y) (λ e. let a = ltb-true x y e in rw (e, le-leb x y (omega arith)) refl)
-    (λ e. by-test (ltb y x) (λ f. let a = ltb-true y x f in rw (e, f, lt-leb x y (omega arith)) refl)
-    (λ f. let a = ltb-false x y e in let b = ltb-false y x f in rw (e, f, le-leb x y (omega arith)) refl))
 
 pub canonical-fits : (s : Span) → SpanFits s → SpanFits (canonical s)
 unfolding canonical

@@ -11,6 +11,7 @@ pub mod Stable
 pub mod Places
 pub mod Forgets
 pub mod Once
+pub mod Lexical
 pub mod Keys
 pub mod Cases
 pub mod Merge

@@ -10,7 +10,7 @@ use Rattle.lists.proofs.Rows.{length-rows, rows-at}
 use Rattle.order.proofs.Members.{getD-mem}
 use Rattle.wire.specs.Bytes.{splice, u32At, u32Bytes}
 use Rattle.position.specs.declared.Span.{Span}
-use Rattle.graph.specs.Records.{Record}
+use Rattle.graph.specs.Records.{Record, recordIn, recordsIn}
 use Rattle.grid.specs.Cells.{Grid, size}
 use Rattle.areas.specs.Areas.{areaLabels, areaCount, labelAt}
 use Rattle.areas.specs.Assessments.{assess, records, regionsOf}
@@ -20,7 +20,6 @@ use Rattle.areas.proofs.Assessments.{pair-labels}
 use Rattle.areas.proofs.Records.{records-iff}
 use Rattle.components.proofs.LabelWords.{area-count-few, area-label-small, word-read}
 use Rattle.assessments.specs.Holding.{labelsOf}
-use Rattle.areas.specs.Arrays.{recordsIn}
 use Rattle.assessments.specs.Recording.{assessed, recordsOf, Recorded}
 use Rattle.partition.specs.Partitioned.{labelled, AreasIn, Regions, Partitioned}
 use Rattle.partition.proofs.Labelling.{flat-long}
@@ -103,10 +102,9 @@ module _ (dirs : List ℕ) (g : Grid) (few : size g ≤ 1048576) (ends : List �
   at-place : length rs ≤ most → (k : ℕ) → k < r → (getD owners k 0 < count) × Regions (size g) (getD lefts k 0) (getD rights k 0)
   unfolding recordsIn
   at-place h k l =
-      let here : Record = record { owner = getD owners k 0; left = getD lefts k 0; right = getD rights k 0 } in
-      let f : ℕ → Record = λ i. record { owner = getD owners i 0; left = getD lefts i 0; right = getD rights i 0 } in
+      let here : Record = recordIn owners lefts rights k in
       let p = pairs-fit h in
-      let e : getD rs k here ≡ here = ap (λ (x : List Record). getD x k here) (sym (p .1)) ∙ rows-at r f k here l in
+      let e : getD rs k here ≡ here = ap (λ (x : List Record). getD x k here) (sym (p .1)) ∙ rows-at r (recordIn owners lefts rights) k here l in
       let m : List·Memᴰ (getD rs k here) rs = getD-mem rs here k (omega (arith, p .0)) in
       let q = record-in dirs g few spans (spanIn ends 0) here (Memᴰ·cast (sym e) m) in
       (omega (arith, q .0, spans-long), q .1)

@@ -5,12 +5,12 @@ use Prim.Native.Nat.{ℕ, _+_, _*_, _≤_, _<_}
 use lib.ListN.{length, getD, take, drop, replicate}
 use Rattle.wire.specs.Bytes.{u32Bytes}
 use Rattle.position.specs.declared.Span.{Span}
+use Rattle.graph.specs.Records.{recordsIn}
 use Rattle.grid.specs.Cells.{Grid, size}
 use Rattle.grid.specs.Directions.{IsDirection, directionsOf}
 use Rattle.areas.specs.Areas.{areaLabels, areaCount, labelAt}
 use Rattle.areas.specs.Assessments.{assess, records}
 use Rattle.areas.specs.Spans.{Sides, SpansFit, spanIn, spansIn}
-use Rattle.areas.specs.Arrays.{recordsIn}
 use Rattle.partition.specs.declared.Partition.{Partition}
 
 -- "a u32 label per cell first, then zeros to ten times the cells; later bytes are unchanged"

@@ -10,10 +10,11 @@ use borrow.Author.Tests.{eq-eqb, ne-eqb}
 use lib.Dec.{eqb}
 use lib.ListN.{length, getD, set, length-set, replicate, length-replicate, getD-replicate}
 use lib.Seq.{getD-set-same, getD-set-other}
+use Rattle.lists.specs.Rows.{at}
 use Rattle.order.specs.Lists.{keep, upFrom}
 use Rattle.graph.specs.Parts.{join, part}
 use Rattle.groups.specs.Tests.{any}
-use Rattle.plan.specs.Arrays.{at, isOn, edgeRow, chosenFrom, partFrom, joinsAt, joinedFrom, Filled}
+use Rattle.plan.specs.Arrays.{isOn, edgeRow, chosenFrom, partFrom, joinsAt, joinedFrom, Filled}
 use Rattle.plan.proofs.FourLaws.{up-down}
 
 pub pick-yes : (c high low : ℕ) → c ≡ high → low ≡ cond (eqb c high) low c

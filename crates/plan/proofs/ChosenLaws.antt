@@ -5,6 +5,7 @@ use mathlib.Core.List.{List}
 use Prim.Native.Nat.{ℕ, _≤_, _<_}
 use lib.Dec.{eqb}
 use lib.ListN.{length}
+use Rattle.lists.specs.Rows.{at}
 use Rattle.position.specs.declared.Span.{Span}
 use Rattle.position.specs.declared.WalkPosition.{WalkPosition}
 use Rattle.grid.specs.Cells.{Grid}
@@ -18,7 +19,7 @@ use Rattle.groups.specs.Links.{LinkAt}
 use Rattle.groups.specs.Serial.{serialLinks}
 use Rattle.groups.specs.Flat.{isLeft, alike, isFlatLink, flatLinks}
 use Rattle.groups.specs.Tables.{Linked, Bridged}
-use Rattle.plan.specs.Arrays.{at, isOn, Ranked, Filled}
+use Rattle.plan.specs.Arrays.{isOn, Ranked, Filled}
 use Rattle.plan.specs.Shape.{bothOn, alikeIn, flatLinkIn}
 use Rattle.plan.specs.Told.{FlatInside}
 use Rattle.plan.proofs.WholeLaws.{chosenLinks, on-mark}

@@ -4,6 +4,7 @@ use mathlib.Core.Bool.{cond}
 use mathlib.Core.List.{List}
 use Prim.Native.Nat.{ℕ, _≤_, _<_}
 use lib.ListN.{length}
+use Rattle.lists.specs.Rows.{at}
 use Rattle.position.specs.declared.WalkPosition.{WalkPosition}
 use Rattle.grid.specs.Cells.{Grid}
 use Rattle.links.specs.Limits.{Limits}
@@ -13,7 +14,7 @@ use Rattle.groups.specs.Serial.{acceptsSerial}
 use Rattle.groups.specs.Flat.{acceptsFlat}
 use Rattle.groups.specs.Tables.{Linked, Bridged}
 use Rattle.groups.specs.Plan.{mergePlan}
-use Rattle.plan.specs.Arrays.{at, Ranked, Filled}
+use Rattle.plan.specs.Arrays.{Ranked, Filled}
 use Rattle.plan.specs.Shape.{bothOn, flatLinkIn}
 use Rattle.plan.specs.Told.{Told, Passed, FlatInside}
 use Rattle.plan.specs.Into.{serialInto, flatInto, goesTo}

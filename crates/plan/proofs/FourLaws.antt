@@ -1,7 +1,7 @@
 -- What is kept of lists, and of lists picked from the last number to the first.
 use mathlib.Core.Path.{_≡_, refl, sym, _∙_, ap, subst}
 use mathlib.Core.Bool.{Bool, true, false, cond}
-use mathlib.Core.List.{List, [], _∷_, map}
+use mathlib.Core.List.{List, [], _∷_, map, map-id}
 use Prim.Native.Nat.{ℕ, suc, _-_, _≤_, _<_}
 use native.Mathlib.Omega.{arith}
 use native.Mathlib.Numerals.{add-one}
@@ -65,10 +65,6 @@ pub up-none : (n : ℕ) → upFrom n (n - n) ≡ []
 unfolding upFrom
 up-none n = let e : n - n ≡ 0 = omega arith in ap (upFrom n) e
 
-pub map-same : (xs : List ℕ) → map (λ i. i) xs ≡ xs
-map-same [] = refl
-map-same (x ∷ xs) = ap (λ (t : List ℕ). x ∷ t) (map-same xs)
-
 -- what is kept of the values of k, …, n - 1 that pass
 module _ (t : ℕ → Bool) (v : ℕ → ℕ) (n : ℕ) where
   abbrev rest : ℕ → List ℕ
@@ -110,4 +106,4 @@ module _ (t : ℕ → Bool) (v : ℕ → ℕ) (n : ℕ) where
       p .is ∙ ap (λ (l : List ℕ). held (keep t (map v l))) a
 
 pub picked-whole : (t : ℕ → Bool) (n : ℕ) {k : ℕ} {f : Four} → Picked t (λ i. i) n k f → k ≡ 0 → f ≡ held (keep t (upFrom 0 n))
-picked-whole t n p e = picked-end t (λ i. i) n p e ∙ ap (λ (l : List ℕ). held (keep t l)) (map-same (upFrom 0 n))
+picked-whole t n p e = picked-end t (λ i. i) n p e ∙ ap (λ (l : List ℕ). held (keep t l)) (map-id (upFrom 0 n))

@@ -7,7 +7,7 @@ use native.Mathlib.Omega.{arith}
 use lib.Dec.{eqb}
 use lib.ListN.{length, getD}
 use Rattle.order.proofs.Members.{getD-mem}
-use Rattle.lists.specs.Rows.{rows}
+use Rattle.lists.specs.Rows.{at, rows}
 use Rattle.lists.proofs.Rows.{length-rows, rows-at}
 use Rattle.position.specs.declared.WalkPosition.{WalkPosition}
 use Rattle.grid.specs.Cells.{Grid}
@@ -22,7 +22,7 @@ use Rattle.groups.specs.Measuring.{passes, staysInside}
 use Rattle.groups.specs.Flat.{isFlat}
 use Rattle.groups.specs.Tables.{Boundaries, FirstPairs, linkRow, linksIn, Linked}
 use Rattle.groups.proofs.Links.{link-iff}
-use Rattle.plan.specs.Arrays.{at, Ranked}
+use Rattle.plan.specs.Arrays.{Ranked}
 use Rattle.plan.specs.Told.{Told, Passed, FlatInside}
 use Rattle.plan.specs.Fitting.{Plannable}
 use Rattle.plan.proofs.WholeLaws.{on-mark}

@@ -5,7 +5,7 @@ use mathlib.Core.List.{List, _∷_, map, List·Memᴰ}
 use Prim.Native.Nat.{ℕ, zero, suc, _+_, _≤_, _<_}
 use native.Mathlib.Omega.{arith}
 use lib.Dec.{eqb}
-use Rattle.lists.specs.Rows.{rows}
+use Rattle.lists.specs.Rows.{at, rows}
 use Rattle.order.specs.Lists.{keep, upFrom}
 use Rattle.order.proofs.Keep.{keep-mem, keep-map}
 use Rattle.order.proofs.Numbers.{up-mem}
@@ -20,7 +20,7 @@ use Rattle.groups.specs.Serial.{acceptsSerial}
 use Rattle.groups.specs.Flat.{acceptsFlat}
 use Rattle.groups.specs.Representative.{retained}
 use Rattle.groups.specs.Tables.{linkRow, linksIn, Linked}
-use Rattle.plan.specs.Arrays.{at, isOn, chosenFrom, partFrom, joinedFrom, inPart, linkIn, ranksIn, numbersIn, Ranked, Filled}
+use Rattle.plan.specs.Arrays.{isOn, chosenFrom, partFrom, joinedFrom, inPart, linkIn, ranksIn, numbersIn, Ranked, Filled}
 use Rattle.plan.specs.Shape.{retainedIn}
 use Rattle.plan.specs.Told.{Told, Passed, serialIn, flatIn}
 use Rattle.plan.specs.Into.{serialInto, flatInto}

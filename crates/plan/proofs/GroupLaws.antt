@@ -1,13 +1,14 @@
 -- The rules on a group, by arrays.
 use mathlib.Core.Path.{_≡_, refl, sym, _∙_, ap}
 use mathlib.Core.Bool.{Bool, true, false, not, _&&_}
-use mathlib.Core.List.{List, [], _∷_, map, List·Memᴰ, List·Memᴰ·head, List·Memᴰ·tail, Permᴰ·symm}
+use mathlib.Core.List.{List, [], _∷_, map, map-map, List·Memᴰ, List·Memᴰ·head, List·Memᴰ·tail, Permᴰ·symm}
 use Prim.Native.Nat.{ℕ, suc, _<_}
 use native.Mathlib.Omega.{arith}
 use borrow.Author.Tests.{eqb-true}
 use lib.Dec.{eqb, leb}
 use lib.Ieee.{Float, binary64, le, ofBits}
 use lib.ListN.{length, getD, length-map}
+use Rattle.lists.specs.Rows.{at}
 use Rattle.order.specs.Lists.{keep}
 use Rattle.order.specs.Sorting.{insert, sort}
 use Rattle.order.proofs.Keep.{keep-mem, keep-ext, keep-map}
@@ -36,7 +37,7 @@ use Rattle.groups.specs.Serial.{rankDistance, chainSum, endDistance, acceptsSer
 use Rattle.groups.specs.Flat.{alike, acceptsFlat, leastFlatSpans}
 use Rattle.groups.specs.Representative.{leastWidth, distanceTo, nearer, eligible, retained, widthAt}
 use Rattle.groups.specs.Tables.{linkRow}
-use Rattle.plan.specs.Arrays.{at, isOn, joinsAt}
+use Rattle.plan.specs.Arrays.{isOn, joinsAt}
 use Rattle.plan.specs.Shape.{degreeIn, endsIn, regularIn, gapIn, chainIn, outerIn, pathIn, alikeIn, allAlikeIn, leastIn, sumIn, nearerIn, fineIn, eligibleIn, retainedIn}
 use Rattle.plan.specs.Told.{groupBy, Told, Passed, serialIn, flatIn}
 use Rattle.plan.proofs.ShapeLaws.{at-each}
@@ -58,11 +59,7 @@ every-map f t u (x ∷ xs) h =
     rw (a, b)
 
 map-both : {A B C : Type 0} (f : A → B) (h : B → C) (u : A → C) (l : List A) → ((y : A) → List·Memᴰ y l → h (f y) ≡ u y) → map h (map f l) ≡ map u l
-map-both f h u [] e = refl
-map-both f h u (x ∷ xs) e =
-    let a : h (f x) ≡ u x = e x (List·Memᴰ·head refl) in
-    let b : map h (map f xs) ≡ map u xs = map-both f h u xs (λ y m. e y (List·Memᴰ·tail m)) in
-    rw (a, b)
+map-both f h u l e = map-map h f l ∙ map-ext (λ y. h (f y)) u l e
 
 -- the last test matters only where the fourth passes
 abbrev shaped : Bool → Bool → Bool → Bool → Bool → Bool → Bool

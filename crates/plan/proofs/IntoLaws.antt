@@ -5,8 +5,9 @@ use mathlib.Core.List.{List}
 use Prim.Native.Nat.{ℕ}
 use borrow.Author.Tests.{eq-eqb, ne-eqb}
 use lib.Dec.{eqb}
+use Rattle.lists.specs.Rows.{at}
 use Rattle.links.specs.Limits.{Limits}
-use Rattle.plan.specs.Arrays.{at, ranksIn, numbersIn}
+use Rattle.plan.specs.Arrays.{ranksIn, numbersIn}
 use Rattle.plan.specs.Shape.{retainedIn}
 use Rattle.plan.specs.Told.{serialIn, flatIn}
 use Rattle.plan.specs.Into.{serialInto, flatInto, goesTo}

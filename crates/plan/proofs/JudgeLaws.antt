@@ -7,6 +7,7 @@ use native.Mathlib.Omega.{arith}
 use borrow.Author.Tests.{not-true, not-false}
 use lib.Ieee.{le}
 use lib.ListN.{length, getD}
+use Rattle.lists.specs.Rows.{at}
 use Rattle.order.specs.Lists.{keep, upFrom}
 use Rattle.order.proofs.Bools.{by-test, clash, and-parts}
 use Rattle.order.proofs.Keep.{keep-mem, keep-length}
@@ -18,7 +19,7 @@ use Rattle.groups.specs.Tests.{every}
 use Rattle.groups.specs.Flat.{leastFlatSpans}
 use Rattle.plan.specs.declared.four.Four.{Four}
 use Rattle.plan.specs.Four.{held, listed}
-use Rattle.plan.specs.Arrays.{at, isOn, Ranked}
+use Rattle.plan.specs.Arrays.{isOn, Ranked}
 use Rattle.plan.specs.Shape.{endsIn, chainIn, pathIn, allAlikeIn}
 use Rattle.plan.specs.Told.{serialIn, flatIn}
 use Rattle.plan.specs.Fitting.{RankFits, LinkFits, WidthFits, Ranks, Links, Widths, Safe}

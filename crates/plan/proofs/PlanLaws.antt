@@ -5,7 +5,7 @@ use Prim.Native.Nat.{ℕ, _≤_, _<_}
 use native.Mathlib.Omega.{arith}
 use lib.ListN.{length}
 use Rattle.order.specs.Lists.{keep}
-use Rattle.lists.specs.Rows.{rows}
+use Rattle.lists.specs.Rows.{at, rows}
 use Rattle.position.specs.declared.WalkPosition.{WalkPosition}
 use Rattle.grid.specs.Cells.{Grid}
 use Rattle.links.specs.Limits.{Limits}
@@ -17,7 +17,7 @@ use Rattle.groups.specs.Serial.{serialLinks}
 use Rattle.groups.specs.Flat.{flatLinks}
 use Rattle.groups.specs.Tables.{linksIn, Linked, Bridged}
 use Rattle.groups.specs.Plan.{mergePlan}
-use Rattle.plan.specs.Arrays.{at, Ranked, Filled}
+use Rattle.plan.specs.Arrays.{Ranked, Filled}
 use Rattle.plan.specs.Told.{Told, Passed, FlatInside}
 use Rattle.plan.specs.Into.{goesTo}
 use Rattle.plan.specs.Planning.{SerialPlan, FlatPlan, PlanOf}

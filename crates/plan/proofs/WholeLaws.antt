@@ -5,6 +5,7 @@ use mathlib.Core.List.{List, [], _∷_, map}
 use Prim.Native.Nat.{ℕ, _≤_, _<_}
 use native.Mathlib.Omega.{arith}
 use lib.Dec.{eqb}
+use Rattle.lists.specs.Rows.{at}
 use Rattle.order.specs.Lists.{upFrom}
 use Rattle.order.proofs.Keep.{keep-ext, keep-keep, keep-map}
 use Rattle.order.proofs.Numbers.{up-mem}
@@ -14,7 +15,7 @@ use Rattle.groups.specs.Tests.{any}
 use Rattle.groups.specs.Links.{LinkAt, joins}
 use Rattle.groups.specs.Groups.{Group, linkEdges, isJoined, groupAt}
 use Rattle.groups.specs.Tables.{linkRow}
-use Rattle.plan.specs.Arrays.{at, isOn, edgeRow, chosenFrom, partFrom, joinsAt, joinedFrom, inPart, linkIn, ranksIn, numbersIn, Ranked, Filled}
+use Rattle.plan.specs.Arrays.{isOn, edgeRow, chosenFrom, partFrom, joinsAt, joinedFrom, inPart, linkIn, ranksIn, numbersIn, Ranked, Filled}
 use Rattle.plan.specs.Told.{groupBy}
 
 -- a mark is on just if what it marks holds

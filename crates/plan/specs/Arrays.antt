@@ -4,14 +4,12 @@ use mathlib.Core.Bool.{Bool, _&&_, _||_}
 use mathlib.Core.List.{List, map}
 use Prim.Native.Nat.{ℕ, _<_, _≤_}
 use lib.Dec.{eqb}
-use lib.ListN.{length, getD}
+use lib.ListN.{length}
+use Rattle.lists.specs.Rows.{at}
 use Rattle.order.specs.Lists.{keep, upFrom}
 use Rattle.graph.specs.Path.{Edge}
 use Rattle.graph.specs.Parts.{part}
 use Rattle.groups.specs.Tests.{any}
-
-abbrev pub at : List ℕ → ℕ → ℕ
-at xs i = getD xs i 0
 
 abbrev pub isOn : List ℕ → ℕ → Bool
 isOn xs i = eqb (at xs i) 1

@@ -1,11 +1,12 @@
 -- What makes a rank and a link safe to look at.
 use Prim.Native.Nat.{ℕ, _<_, _≤_}
 use mathlib.Core.List.{List}
+use Rattle.lists.specs.Rows.{at}
 use Rattle.areas.specs.Spans.{spanIn}
 use Rattle.links.specs.Held.{SpanBounded}
 use Rattle.plan.specs.declared.four.Four.{Four}
 use Rattle.plan.specs.Four.{slot}
-use Rattle.plan.specs.Arrays.{at, Ranked}
+use Rattle.plan.specs.Arrays.{Ranked}
 
 pub record RankFits (own : List ℕ) (i : ℕ) : Type 0 where
   pub below : i < 256

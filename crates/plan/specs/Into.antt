@@ -3,8 +3,9 @@ use mathlib.Core.Bool.{cond}
 use mathlib.Core.List.{List}
 use Prim.Native.Nat.{ℕ}
 use lib.Dec.{eqb}
+use Rattle.lists.specs.Rows.{at}
 use Rattle.links.specs.Limits.{Limits}
-use Rattle.plan.specs.Arrays.{at, isOn, ranksIn, numbersIn}
+use Rattle.plan.specs.Arrays.{isOn, ranksIn, numbersIn}
 use Rattle.plan.specs.Shape.{retainedIn}
 use Rattle.plan.specs.Told.{serialIn, flatIn}
 

@@ -4,13 +4,14 @@ use mathlib.Core.Bool.{cond}
 use mathlib.Core.List.{List}
 use Prim.Native.Nat.{ℕ, _<_}
 use lib.ListN.{length, getD}
+use Rattle.lists.specs.Rows.{at}
 use Rattle.position.specs.declared.WalkPosition.{WalkPosition}
 use Rattle.grid.specs.Cells.{Grid}
 use Rattle.links.specs.Limits.{Limits}
 use Rattle.topology.specs.Listing.{Item}
 use Rattle.groups.specs.Tables.{Linked, Bridged}
 use Rattle.groups.specs.Plan.{mergePlan}
-use Rattle.plan.specs.Arrays.{at, partFrom, joinedFrom, Filled}
+use Rattle.plan.specs.Arrays.{partFrom, joinedFrom, Filled}
 use Rattle.plan.specs.Shape.{bothOn, flatLinkIn}
 use Rattle.plan.specs.Told.{Told, Passed, FlatInside}
 use Rattle.plan.specs.Into.{serialInto, flatInto}

@@ -5,6 +5,7 @@ use Prim.Native.Nat.{ℕ, suc}
 use lib.Dec.{leb, eqb}
 use lib.Ieee.{Float, binary64, le, ofBits}
 use lib.ListN.{length, getD}
+use Rattle.lists.specs.Rows.{at}
 use Rattle.order.specs.Lists.{keep}
 use Rattle.order.specs.Sorting.{sort}
 use Rattle.length.specs.Floats.{_⊕_}
@@ -17,7 +18,7 @@ use Rattle.links.specs.Geometry.{squares, centreDistance}
 use Rattle.links.specs.Parallel.{nearbyParallel}
 use Rattle.links.specs.Sums.{addedTo, sumOf, noLater, ascendingSum, distanceSum}
 use Rattle.groups.specs.Tests.{every}
-use Rattle.plan.specs.Arrays.{at, isOn, joinsAt}
+use Rattle.plan.specs.Arrays.{isOn, joinsAt}
 
 module _ (firsts seconds : List ℕ) where
   -- how many of the links join a rank

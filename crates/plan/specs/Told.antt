@@ -5,6 +5,7 @@ use mathlib.Core.List.{List, map}
 use Prim.Native.Nat.{ℕ, _<_}
 use lib.Ieee.{le}
 use lib.ListN.{length, getD}
+use Rattle.lists.specs.Rows.{at}
 use Rattle.grid.specs.Cells.{Grid}
 use Rattle.areas.specs.Spans.{spanIn}
 use Rattle.topology.specs.FullPair.{fullPair}
@@ -19,7 +20,7 @@ use Rattle.groups.specs.Measuring.{passes, staysInside}
 use Rattle.groups.specs.Groups.{Group}
 use Rattle.groups.specs.Flat.{leastFlatSpans, isFlat}
 use Rattle.groups.specs.Tables.{linkRow}
-use Rattle.plan.specs.Arrays.{at, isOn}
+use Rattle.plan.specs.Arrays.{isOn}
 use Rattle.plan.specs.Shape.{endsIn, chainIn, pathIn, allAlikeIn}
 
 -- the group of some ranks and links

@@ -2,8 +2,9 @@
 ghost use mathlib.Core.Path.{_≡_};
 ghost use Prim.Native.Nat.{ℕ, _<_, _≤_};
 ghost use lib.ListN.{length};
+ghost use Rattle.lists.specs.Rows.{at};
 ghost use Rattle.links.specs.HeldLimits.{limitsOf};
-ghost use Rattle.plan.specs.Arrays.{at, Filled};
+ghost use Rattle.plan.specs.Arrays.{Filled};
 ghost use Rattle.plan.specs.Into.{serialInto, flatInto, goesTo};
 ghost use Rattle.plan.specs.Fitting.{Safe};
 use crate::judge::judge_flat;

@@ -4,8 +4,9 @@ ghost use mathlib.Core.Bool.{Bool, cond, _||_, _&&_};
 ghost use Prim.Native.Nat.{ℕ, _<_, _≤_, min, max};
 ghost use lib.Dec.{eqb};
 ghost use lib.ListN.{length};
+ghost use Rattle.lists.specs.Rows.{at};
 ghost use Rattle.graph.specs.Parts.{join};
-ghost use Rattle.plan.specs.Arrays.{at, isOn, joinsAt, partFrom, joinedFrom, Ranked, Filled};
+ghost use Rattle.plan.specs.Arrays.{isOn, joinsAt, partFrom, joinedFrom, Ranked, Filled};
 use wire::size;
 
 fn smaller(a: u32, b: u32) -> u32

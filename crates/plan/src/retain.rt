@@ -9,7 +9,6 @@ ghost use Rattle.length.specs.Total.{totalLe};
 ghost use Rattle.links.specs.Held.{Number};
 ghost use Rattle.links.specs.HeldLimits.{limitsOf};
 ghost use Rattle.plan.specs.Four.{held, listed};
-ghost use Rattle.plan.specs.Arrays.{at};
 ghost use Rattle.plan.specs.Shape.{leastIn, sumIn, nearerIn, fineIn, retainedIn};
 ghost use Rattle.plan.specs.Fitting.{RankFits, WidthFits, Ranks, Widths};
 use crate::four::Four;

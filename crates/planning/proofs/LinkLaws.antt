@@ -13,9 +13,9 @@ use Rattle.order.proofs.Members.{getD-mem}
 use Rattle.order.proofs.Pairs.{pairs-at}
 use Rattle.position.specs.declared.WalkPosition.{WalkPosition}
 use Rattle.graph.specs.Records.{Record, recordIn, noRecord}
+use Rattle.graph.proofs.Records.{records-length, records-at}
 use Rattle.grid.specs.Cells.{Grid, size}
 use Rattle.areas.specs.Assessments.{records}
-use Rattle.areas.specs.Arrays.{recordsIn}
 use Rattle.areas.proofs.Areas.{each-label-occurs}
 use Rattle.areas.proofs.Records.{records-iff}
 use Rattle.topology.specs.Held.{labelsOf}
@@ -70,11 +70,10 @@ pub ranks-are : {n : ℕ} {firsts seconds : List ℕ} {r : ℕ} → n ≤ 256 �
 ranks-are h R = record { first = λ k b. omega (arith, R .first-in k b); second = λ k b. omega (arith, R .second-in k b) }
 
 pub owners-are : (dirs : List ℕ) (g : Grid) (l : List Item) {owners lefts rights : List ℕ} {n : ℕ} → Paired dirs g l owners lefts rights n → OwnersBelow owners n (length l)
-unfolding recordsIn
 owners-are dirs g l {owners} {lefts} {rights} {n} P = record {
   each = λ k h.
-      let x : getD (records dirs g (spansOf l)) k noRecord ≡ recordIn owners lefts rights k = ap (λ (t : List Record). getD t k noRecord) (sym (P .all)) ∙ rows-at n (recordIn owners lefts rights) k noRecord h in
-      let y : length (records dirs g (spansOf l)) ≡ n = ap (λ (t : List Record). length t) (sym (P .all)) ∙ length-rows n (recordIn owners lefts rights) in
+      let x : getD (records dirs g (spansOf l)) k noRecord ≡ recordIn owners lefts rights k = ap (λ (t : List Record). getD t k noRecord) (sym (P .all)) ∙ records-at owners lefts rights n k h in
+      let y : length (records dirs g (spansOf l)) ≡ n = ap (λ (t : List Record). length t) (sym (P .all)) ∙ records-length owners lefts rights n in
       let m = subst (λ (t : Record). List·Memᴰ t (records dirs g (spansOf l))) x (getD-mem (records dirs g (spansOf l)) noRecord k (omega (arith, y))) in
       let b = records-iff dirs g (spansOf l) noSpan (recordIn owners lefts rights k) .0 m .0 in
       omega (arith, b, length-map l (λ (i : Item). i .span));

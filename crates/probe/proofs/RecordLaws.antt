@@ -14,8 +14,8 @@ use Rattle.lists.proofs.Rows.{length-rows, rows-same}
 use Rattle.wire.specs.Bytes.{splice, u32At}
 use Rattle.wire.proofs.Parts.{length-splice}
 use Rattle.wire.proofs.Words.{four-bytes}
-use Rattle.graph.specs.Records.{Record}
-use Rattle.walk.specs.Marks.{recordsOf, bridgeMarks}
+use Rattle.graph.specs.Records.{Record, recordIn, recordsIn}
+use Rattle.walk.specs.Marks.{bridgeMarks}
 use Rattle.bridges.specs.Names.{Labelled}
 use Rattle.walk.specs.Slices.{Owners}
 use Rattle.probe.specs.Probe.{copied}
@@ -49,10 +49,10 @@ loaded-next {s} {owners} {lefts} {rights} {k} {x} {y} {z} a h p q r = record {
 }
 
 -- what was read is the records of the bytes
-pub same-records : {s owners lefts rights : List ℕ} {n : ℕ} → Loaded s n owners lefts rights → recordsOf n owners lefts rights ≡ recordsAt s n
-unfolding recordsOf recordsAt
+pub same-records : {s owners lefts rights : List ℕ} {n : ℕ} → Loaded s n owners lefts rights → recordsIn owners lefts rights n ≡ recordsAt s n
+unfolding recordsIn recordsAt
 same-records {s} {owners} {lefts} {rights} {n} a =
-    rows-same n (λ k. record { owner = getD owners k 0; left = getD lefts k 0; right = getD rights k 0 }) (λ k. record { owner = ownerAt s k; left = leftAt s k; right = rightAt s k })
+    rows-same n (recordIn owners lefts rights) (λ k. record { owner = ownerAt s k; left = leftAt s k; right = rightAt s k })
     (λ k h.
     let p : getD owners k 0 ≡ ownerAt s k = a .owner k h in
     let q : getD lefts k 0 ≡ leftAt s k = a .left k h in
@@ -151,5 +151,5 @@ zero-end w regions q e = q ∙ zeros-are w regions e
 pub found-length : {found : List ℕ} (rs : List Record) → found ≡ bridgeMarks rs 256 → 256 ≡ length found
 found-length rs e = sym (ap (λ (t : List ℕ). length t) e ∙ marks-length rs 256)
 
-pub marks-end : {s owners lefts rights found out : List ℕ} {n : ℕ} (marks : List ℕ) → Loaded s n owners lefts rights → found ≡ bridgeMarks (recordsOf n owners lefts rights) 256 → 256 ≤ length marks → out ≡ copied marks found → out ≡ bridgeMarks (recordsAt s n) 256 ++ drop 256 marks
+pub marks-end : {s owners lefts rights found out : List ℕ} {n : ℕ} (marks : List ℕ) → Loaded s n owners lefts rights → found ≡ bridgeMarks (recordsIn owners lefts rights n) 256 → 256 ≤ length marks → out ≡ copied marks found → out ≡ bridgeMarks (recordsAt s n) 256 ++ drop 256 marks
 marks-end {s} {n = n} marks a e h q = q ∙ marks-copied marks (recordsAt s n) (e ∙ ap (λ (rs : List Record). bridgeMarks rs 256) (same-records a)) h

@@ -1,6 +1,6 @@
 -- The rules' groups are well formed, for every job, direction set and limits; so what is proved of any rules holds of them.
-use mathlib.Core.Path.{_≡_, refl, sym, ap}
-use mathlib.Core.List.{List, [], _∷_, _++_, map, List·Memᴰ, Memᴰ·of-map}
+use mathlib.Core.Path.{_≡_, sym}
+use mathlib.Core.List.{List, map, map-append, List·Memᴰ, Memᴰ·of-map}
 use Prim.Native.Nat.{ℕ}
 use lib.ListN.{length}
 use Rattle.order.specs.Pairs.{Pairs}
@@ -21,14 +21,10 @@ use Rattle.merging.specs.Demand.{Independent}
 use Rattle.merging.proofs.Independence.{kept-follows, demand-three}
 use Rattle.results.specs.Rules.{gridOf, groupOf, rulesOn, rulesOf}
 
-map-join : {A B : Type 0} (f : A → B) (l m : List A) → map f l ++ map f m ≡ map f (l ++ m)
-map-join f [] m = refl
-map-join f (x ∷ l) m = ap (λ t. f x ∷ t) (map-join f l m)
-
 module _ (limits : Limits) (dirs : List ℕ) (j : Job) where
   pub every-group : (l : List Item) → every (rulesOf limits dirs j l) ≡ map (groupOf limits l) (accepted limits dirs (gridOf j) (anchorsOf (j .bases)) l)
   unfolding every rulesOn accepted
-  every-group l = map-join (groupOf limits l) (serialGroups limits dirs (gridOf j) (anchorsOf (j .bases)) l) (flatGroups limits dirs (gridOf j) (anchorsOf (j .bases)) l)
+  every-group l = sym (map-append (groupOf limits l) (serialGroups limits dirs (gridOf j) (anchorsOf (j .bases)) l) (flatGroups limits dirs (gridOf j) (anchorsOf (j .bases)) l))
 
   pub rules-well : (l : List Item) → WellGrouped (length l) (every (rulesOf limits dirs j l))
   rules-well l = rw every-group (record { good = good; apart = apart })

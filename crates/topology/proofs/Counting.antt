@@ -1,12 +1,12 @@
 -- The laws of statistics that are counted cell by cell.
 use mathlib.Core.Path.{_≡_, refl, sym, _∙_, ap}
 use mathlib.Core.Bool.{Bool, true, false, cond, _||_}
-use mathlib.Core.List.{List, [], _∷_, _++_, map, append-nil}
+use mathlib.Core.List.{List, [], _∷_, _++_, map, map-append, append-nil}
 use Prim.Native.Nat.{ℕ, zero, suc, _+_, _<_, _≤_, min, max}
 use native.Mathlib.Omega.{arith}
 use borrow.Author.Tests.{lt-ltb, eq-eqb, ne-eqb}
 use lib.Dec.{ltb, eqb}
-use lib.ListN.{length, length-append}
+use lib.ListN.{length, length-append, length-map}
 use Rattle.order.specs.Lists.{keep, upFrom}
 use Rattle.order.proofs.Keep.{keep-append, keep-length}
 use Rattle.order.proofs.Numbers.{up-length, up-last}
@@ -54,19 +54,11 @@ unfolding greatest
 greatest-last [] y = omega arith
 greatest-last (x ∷ xs) y = let e = greatest-last xs y in rw e (omega arith)
 
-map-last : (f : ℕ → ℕ) (cs : List ℕ) (c : ℕ) → map f (cs ++ (c ∷ [])) ≡ map f cs ++ (f c ∷ [])
-map-last f [] c = refl
-map-last f (d ∷ ds) c = ap (λ (l : List ℕ). f d ∷ l) (map-last f ds c)
-
-map-length : (f : ℕ → ℕ) (cs : List ℕ) → length (map f cs) ≡ length cs
-map-length f [] = refl
-map-length f (d ∷ ds) = ap suc (map-length f ds)
-
 least-of : (f : ℕ → ℕ) (cs : List ℕ) (c : ℕ) → least (map f (cs ++ (c ∷ []))) ≡ lesser (length cs) (least (map f cs)) (f c)
-least-of f cs c = ap least (map-last f cs c) ∙ (least-last (map f cs) (f c) ∙ ap (λ (n : ℕ). lesser n (least (map f cs)) (f c)) (map-length f cs))
+least-of f cs c = ap least (map-append f cs (c ∷ [])) ∙ (least-last (map f cs) (f c) ∙ ap (λ (n : ℕ). lesser n (least (map f cs)) (f c)) (length-map cs f))
 
 greatest-of : (f : ℕ → ℕ) (cs : List ℕ) (c : ℕ) → greatest (map f (cs ++ (c ∷ []))) ≡ max (greatest (map f cs)) (f c)
-greatest-of f cs c = ap greatest (map-last f cs c) ∙ greatest-last (map f cs) (f c)
+greatest-of f cs c = ap greatest (map-append f cs (c ∷ [])) ∙ greatest-last (map f cs) (f c)
 
 pub kept-last : (t : ℕ → Bool) (cs : List ℕ) (c : ℕ) → length (keep t (cs ++ (c ∷ []))) ≡ length (keep t cs) + one (t c)
 unfolding keep

@@ -7,8 +7,9 @@ use native.Mathlib.Omega.{arith}
 use native.Mathlib.Decide.{ℕ-discrete}
 use lib.ListN.{length, set, length-set}
 use lib.Seq.{getD-set-same, getD-set-other}
+use Rattle.lists.specs.Rows.{at}
 use Rattle.walk.specs.Walk.{Touches, First}
-use Rattle.walk.specs.Slices.{at, Graph, Linked}
+use Rattle.walk.specs.Slices.{Graph, Linked}
 use Rattle.walk.specs.declared.frame.Frame.{Frame}
 
 -- what follows record j in the chain of a region that it touches

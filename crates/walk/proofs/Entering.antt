@@ -7,9 +7,10 @@ use mathlib.Core.Logic.{_⊎_, inl, inr, ⊎-elim, by-cases}
 use mathlib.Core.List.{List}
 use lib.ListN.{length, set, length-set}
 use lib.Seq.{getD-set-same, getD-set-other}
+use Rattle.lists.specs.Rows.{at}
 use Rattle.walk.proofs.Zeros.{Upd, zeros-pos}
 use Rattle.walk.specs.Walk.{Joins, Touches, First, Walk}
-use Rattle.walk.specs.Slices.{at, put, Sized, Told, Between}
+use Rattle.walk.specs.Slices.{put, Sized, Told, Between}
 use Rattle.walk.specs.declared.frame.Frame.{Frame}
 use Rattle.walk.proofs.Retell.{retell}
 use Rattle.walk.proofs.Pushes.{push}

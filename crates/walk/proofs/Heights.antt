@@ -5,9 +5,10 @@ use mathlib.Core.Path.{_≡_, sym, _∙_, ap, subst, subst₂}
 use mathlib.Core.List.{List}
 use lib.ListN.{length, set, length-set}
 use lib.Seq.{getD-set-same, getD-set-other}
+use Rattle.lists.specs.Rows.{at}
 use Rattle.walk.proofs.Zeros.{zeros-pos, zeros-upd}
 use Rattle.walk.specs.Walk.{zeros, First}
-use Rattle.walk.specs.Slices.{at, marking}
+use Rattle.walk.specs.Slices.{marking}
 use Rattle.walk.specs.declared.frame.Frame.{Frame}
 use Rattle.walk.proofs.Turn.{Loop, Hand, Stop}
 use Rattle.walk.proofs.Entering.{found}

@@ -9,8 +9,9 @@ use mathlib.Core.List.{List}
 use lib.ListN.{length, set, length-set}
 use lib.Seq.{getD-set-same, getD-set-other}
 use borrow.Author.Tests.{lt-ltb, le-ltb}
+use Rattle.lists.specs.Rows.{at}
 use Rattle.walk.specs.Walk.{Parted, Walk}
-use Rattle.walk.specs.Slices.{at, put, Sound, Told, Stacked, marking}
+use Rattle.walk.specs.Slices.{put, Sound, Told, Stacked, marking}
 use Rattle.walk.specs.declared.frame.Frame.{Frame}
 use Rattle.walk.proofs.Retell.{retell}
 use Rattle.walk.proofs.Pops.{is-bridge, not-bridge, pop, pop-root}

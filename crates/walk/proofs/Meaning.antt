@@ -8,17 +8,17 @@ use native.Mathlib.Omega.{arith}
 use borrow.Author.Tests.{eqb-false, ne-eqb}
 use lib.ListN.{length}
 use Rattle.order.proofs.Bools.{clash, by-test}
-use Rattle.lists.specs.Rows.{rows}
-use Rattle.lists.proofs.Rows.{length-rows, rows-at}
+use Rattle.lists.specs.Rows.{at, rows}
 use Rattle.graph.specs.Path as graph
 use Rattle.graph.specs.Records as records
+use Rattle.graph.specs.Records.{recordsIn}
 use Rattle.graph.specs.Bridges.{Bridge, isBridge}
-use Rattle.graph.proofs.Records.{edge-remains, remains-edge}
+use Rattle.graph.proofs.Records.{records-length, records-at, edge-remains, remains-edge}
 use Rattle.graph.proofs.Bridges.{bridge-iff}
 use Rattle.walk.specs.Steps.{Connected, here, onward}
 use Rattle.walk.specs.Walk.{Joins, forth, back, Without}
-use Rattle.walk.specs.Slices.{at, PartedBy, Sound, Between}
-use Rattle.walk.specs.Marks.{recordsOf, bridgeMarks}
+use Rattle.walk.specs.Slices.{PartedBy, Sound, Between}
+use Rattle.walk.specs.Marks.{bridgeMarks}
 use Rattle.walk.proofs.Steps.{moved}
 use Rattle.walk.proofs.Roots.{finished}
 
@@ -33,19 +33,11 @@ list-rows (x ∷ l) f h =
 
 module _ (K : ℕ) (owners lefts rights : List ℕ) where
   abbrev rs : List records.Record
-  rs = recordsOf K owners lefts rights
+  rs = recordsIn owners lefts rights K
 
   -- the record at a place
   abbrev nth : ℕ → records.Record
-  nth k = record { owner = at owners k; left = at lefts k; right = at rights k }
-
-  records-length : length rs ≡ K
-  unfolding recordsOf
-  records-length = length-rows K nth
-
-  records-at : (k : ℕ) → k < K → records.at rs k ≡ nth k
-  unfolding recordsOf
-  records-at k l = rows-at K nth k records.noRecord l
+  nth = records.recordIn owners lefts rights
 
   -- a path over the other records, in the walk's words and in the definition's
   to-path : (k : ℕ) {a b : ℕ} → Connected (Without K (at lefts) (at rights) k) a b → graph.Path (records.edges (records.without (records.only k) rs)) a b
@@ -53,12 +45,12 @@ module _ (K : ℕ) (owners lefts rights : List ℕ) where
   to-path k (onward {a} {b} s p) = graph.onward member (joins (s .joins)) (to-path k p)
     where
       e : records.at rs (s .by) ≡ nth (s .by)
-      e = records-at (s .by) (s .below)
+      e = records-at owners lefts rights K (s .by) (s .below)
 
       member : List·Memᴰ (records.edgeOf (records.at rs (s .by))) (records.edges (records.without (records.only k) rs))
       member =
           remains-edge (records.only k) rs
-          (record { place = s .by; inside = omega (arith, records-length, s .below); spared = ne-eqb (s .by) k (s .other); stands = refl })
+          (record { place = s .by; inside = omega (arith, records-length owners lefts rights K, s .below); spared = ne-eqb (s .by) k (s .other); stands = refl })
 
       joins : Joins (at lefts) (at rights) (s .by) a b → graph.Joins (records.edgeOf (records.at rs (s .by))) a b
       joins (forth p q) = graph.forth (ap (λ (r : records.Record). r .left) e ∙ p) (ap (λ (r : records.Record). r .right) e ∙ q)
@@ -76,10 +68,10 @@ module _ (K : ℕ) (owners lefts rights : List ℕ) where
       v = w .1
 
       below : v .place < K
-      below = omega (arith, records-length, v .inside)
+      below = omega (arith, records-length owners lefts rights K, v .inside)
 
       same : records.edgeOf (nth (v .place)) ≡ e
-      same = ap records.edgeOf (sym (records-at (v .place) below) ∙ v .stands) ∙ w .2
+      same = ap records.edgeOf (sym (records-at owners lefts rights K (v .place) below) ∙ v .stands) ∙ w .2
 
       joins : graph.Joins e a b → Joins (at lefts) (at rights) (v .place) a b
       joins (graph.forth p q) = forth (ap (λ (x : graph.Edge). x .left) same ∙ p) (ap (λ (x : graph.Edge). x .right) same ∙ q)
@@ -92,18 +84,18 @@ module _ (K : ℕ) (owners lefts rights : List ℕ) where
   -- a boundary with a record that parts its regions is a bridge
   to-bridge : (b : ℕ) → PartedBy K owners lefts rights b → Bridge rs b
   to-bridge b w =
-      let e = records-at (w .place) (w .inside) in
+      let e = records-at owners lefts rights K (w .place) (w .inside) in
       record {
         place = w .place;
-        inside = omega (arith, records-length, w .inside);
+        inside = omega (arith, records-length owners lefts rights K, w .inside);
         owned = ap (λ (r : records.Record). r .owner) e ∙ w .owned;
         parted = λ p. w .parted (moved (ap (λ (r : records.Record). r .left) e) (ap (λ (r : records.Record). r .right) e) (of-path (w .place) p));
       }
 
   of-bridge : (b : ℕ) → Bridge rs b → PartedBy K owners lefts rights b
   of-bridge b w =
-      let l : w .place < K = omega (arith, records-length, w .inside) in
-      let e = records-at (w .place) l in
+      let l : w .place < K = omega (arith, records-length owners lefts rights K, w .inside) in
+      let e = records-at owners lefts rights K (w .place) l in
       record {
         place = w .place;
         inside = l;
@@ -126,6 +118,6 @@ module _ (K : ℕ) (owners lefts rights : List ℕ) where
 
 -- the walk is at its end: the marks are those of the definition
 pub answered : {K R : ℕ} {owners lefts rights disc stack parents nexts lows marks : List ℕ} {r time : ℕ} → Between K R owners lefts rights disc stack parents nexts lows marks r time →
-    r ≡ K → (n : ℕ) → length marks ≡ n → marks ≡ bridgeMarks (recordsOf K owners lefts rights) n
+    r ≡ K → (n : ℕ) → length marks ≡ n → marks ≡ bridgeMarks (recordsIn owners lefts rights K) n
 answered {K} {R} {owners} {lefts} {rights} {marks = marks} B e n l =
-    marks-are K owners lefts rights marks (B .sound) (finished B e) ∙ ap (bridgeMarks (recordsOf K owners lefts rights)) l
+    marks-are K owners lefts rights marks (B .sound) (finished B e) ∙ ap (bridgeMarks (recordsIn owners lefts rights K)) l

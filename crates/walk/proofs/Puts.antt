@@ -8,8 +8,9 @@ use mathlib.Core.List.{List}
 use lib.ListN.{length, set}
 use lib.Seq.{getD-set-same, getD-set-other}
 use borrow.Author.Tests.{eq-eqb, ne-eqb}
+use Rattle.lists.specs.Rows.{at}
 use Rattle.walk.proofs.Zeros.{Upd}
-use Rattle.walk.specs.Slices.{at, put}
+use Rattle.walk.specs.Slices.{put}
 
 pub put-at : (f : ℕ → ℕ) (i v : ℕ) → put f i v i ≡ v
 put-at f i v = ap (λ (b : Bool). cond b v (f i)) (eq-eqb i i refl)

@@ -5,9 +5,10 @@ use mathlib.Core.Path.{_≡_, _∙_, subst}
 use mathlib.Core.Logic.{inl}
 use mathlib.Core.List.{List}
 use lib.ListN.{length, replicate, length-replicate, getD-replicate}
+use Rattle.lists.specs.Rows.{at}
 use Rattle.walk.proofs.Zeros.{zeros-le}
 use Rattle.walk.specs.Walk.{Walk}
-use Rattle.walk.specs.Slices.{at, Graph, Owners, Sized, PartedBy, Told, Between}
+use Rattle.walk.specs.Slices.{Graph, Owners, Sized, PartedBy, Told, Between}
 use Rattle.walk.proofs.Passing.{nothing, end, step-on}
 use Rattle.walk.proofs.Turn.{Loop}
 

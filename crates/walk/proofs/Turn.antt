@@ -6,8 +6,9 @@ use mathlib.Core.Path.{_≡_, refl, sym, _∙_, ap, subst, subst₂}
 use mathlib.Core.Logic.{by-cases}
 use mathlib.Core.List.{List}
 use lib.ListN.{length}
+use Rattle.lists.specs.Rows.{at}
 use Rattle.walk.specs.Walk.{Joins, forth, back, Touches, First}
-use Rattle.walk.specs.Slices.{at, put, Graph, Owners, Sized, Sound, Stacked, Held}
+use Rattle.walk.specs.Slices.{put, Graph, Owners, Sized, Sound, Stacked, Held}
 use Rattle.walk.specs.declared.frame.Frame.{Frame}
 use Rattle.walk.proofs.Retell.{retell}
 use Rattle.walk.proofs.Scans.{scan-parent, scan-seen}

@@ -5,13 +5,10 @@ use mathlib.Core.Bool.{cond}
 use mathlib.Core.List.{List}
 use Prim.Native.Nat.{ℕ, _+_, _*_, _≤_, _<_}
 use lib.Dec.{eqb, ltb}
-use lib.ListN.{length, getD, set}
+use lib.ListN.{length, set}
+use Rattle.lists.specs.Rows.{at}
 use Rattle.walk.specs.declared.frame.Frame.{Frame}
 use Rattle.walk.specs.Walk.{First, Parted, Walk}
-
--- a list as a function of the index
-abbrev pub at : List ℕ → ℕ → ℕ
-at l i = getD l i 0
 
 -- f with v at i
 abbrev pub put : (ℕ → ℕ) → ℕ → ℕ → ℕ → ℕ

@@ -2,7 +2,8 @@
 ghost use mathlib.Core.Path.{_≡_};
 ghost use Prim.Native.Nat.{_<_};
 ghost use lib.ListN.{length, set};
-ghost use Rattle.walk.specs.Slices.{at, Graph, Linked};
+ghost use Rattle.lists.specs.Rows.{at};
+ghost use Rattle.walk.specs.Slices.{Graph, Linked};
 use wire::size;
 
 // Puts record k before the chains of its two regions.

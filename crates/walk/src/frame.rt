@@ -2,8 +2,8 @@
 ghost use mathlib.Core.Path.{_≡_};
 ghost use Prim.Native.Nat.{_<_, min};
 ghost use lib.ListN.{length};
+ghost use Rattle.lists.specs.Rows.{at};
 ghost use Rattle.walk.specs.Walk.{Joins, Touches};
-ghost use Rattle.walk.specs.Slices.{at};
 use wire::size;
 
 // A region on the walk's stack: the record by which it was entered, the next record to look at, and the earliest region known behind it.

@@ -2,7 +2,8 @@
 ghost use mathlib.Core.Path.{_≡_};
 ghost use Prim.Native.Nat.{_<_, min};
 ghost use lib.ListN.{length, set};
-ghost use Rattle.walk.specs.Slices.{at, marking};
+ghost use Rattle.lists.specs.Rows.{at};
+ghost use Rattle.walk.specs.Slices.{marking};
 use crate::frame::Frame;
 use wire::size;
 

@@ -2,8 +2,10 @@
 ghost use mathlib.Core.Path.{_≡_};
 ghost use Prim.Native.Nat.{ℕ, _+_, _≤_, _<_};
 ghost use lib.ListN.{length};
-ghost use Rattle.walk.specs.Marks.{recordsOf, bridgeMarks};
-ghost use Rattle.walk.specs.Slices.{at, Graph, Owners, Sized, Linked, Between};
+ghost use Rattle.lists.specs.Rows.{at};
+ghost use Rattle.graph.specs.Records.{recordsIn};
+ghost use Rattle.walk.specs.Marks.{bridgeMarks};
+ghost use Rattle.walk.specs.Slices.{Graph, Owners, Sized, Linked, Between};
 use crate::frame::after;
 use crate::frame::opened;
 use crate::frame::other_end;
@@ -157,7 +159,7 @@ pub fn walk_all(
     marks: &mut [u8; 256],
 )
     requires { ⌜ Graph count (length (now heads)) (now lefts) (now rights) × Owners count (now owners) × (count ≤ length (now owners)) × Linked count (length (now heads)) (now lefts) (now rights) (now heads) (now «left_nexts») (now «right_nexts») 0 × Sized (length (now heads)) (now disc) (now stack) (now parents) (now nexts) (now lows) × ((x : ℕ) → at (now disc) x ≡ 0) ⌝ }
-    ensures { λ _. ⌜ now (marks .exit) ≡ bridgeMarks (recordsOf count (now (owners .entry)) (now (lefts .entry)) (now (rights .entry))) 256 ⌝ }
+    ensures { λ _. ⌜ now (marks .exit) ≡ bridgeMarks (recordsIn (now (owners .entry)) (now (lefts .entry)) (now (rights .entry)) count) 256 ⌝ }
 {
     *marks = [0u8; 256];
     let end = size(count);

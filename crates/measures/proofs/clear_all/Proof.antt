@@ -4,8 +4,9 @@ use Prim.Native.Nat.{ℕ, _+_, _*_, _-_, _≤_}
 use native.Mathlib.Omega.{arith}
 use lib.ListN.{length}
 use borrow.Author.Needs.{needs}
+use Rattle.lists.specs.Rows.{at}
 use Rattle.wire.specs.Bytes.{splice, u32Bytes}
-use Rattle.measures.specs.Tables.{at, Written, Cleared, Labels}
+use Rattle.measures.specs.Tables.{Written, Cleared, Labels}
 use Rattle.measures.proofs.Writing.{clear-start, clear-next, clear-end}
 use Rattle.measures.proofs.clear_all.Statement.{statement}
 use Rattle.measures.proofs.clear_all.Tie as tie

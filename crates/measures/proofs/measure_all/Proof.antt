@@ -3,7 +3,7 @@ use Prim.Native.Nat.{_+_, _*_, _-_, _≤_, _<_}
 use native.Mathlib.Omega.{arith}
 use lib.ListN.{length}
 use borrow.Author.Needs.{needs}
-use Rattle.measures.specs.Tables.{at}
+use Rattle.lists.specs.Rows.{at}
 use Rattle.links.specs.HeldLimits.{limitsOf}
 use Rattle.topology.specs.Held.{labelsOf}
 use Rattle.measures.specs.Judging.{Filled, Running, Judged}

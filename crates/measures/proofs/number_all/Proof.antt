@@ -2,8 +2,9 @@ use mathlib.Core.Path.{_≡_, _∙_, ap, subst}
 use Prim.Native.Nat.{ℕ, _+_, _*_, _-_, _≤_}
 use native.Mathlib.Omega.{arith}
 use borrow.Author.Needs.{needs}
+use Rattle.lists.specs.Rows.{at}
 use Rattle.wire.specs.Bytes.{splice, u32Bytes}
-use Rattle.measures.specs.Tables.{at, Written}
+use Rattle.measures.specs.Tables.{Written}
 use Rattle.measures.proofs.Writing.{write-start, write-next}
 use Rattle.measures.proofs.number_all.Statement.{statement}
 use Rattle.measures.proofs.number_all.Tie as tie

@@ -1,6 +1,6 @@
 use mathlib.Core.Path.{ap}
 use native.Mathlib.Omega.{arith}
-use Rattle.walk.specs.Slices.{at}
+use Rattle.lists.specs.Rows.{at}
 use Rattle.bridges.proofs.Names.{numbered-at}
 use borrow.Author.Needs.{needs}
 use Rattle.bridges.proofs.numbering.number_record.Statement.{statement}

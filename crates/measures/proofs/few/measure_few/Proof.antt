@@ -3,9 +3,9 @@ use Prim.Native.Nat.{_-_, _≤_}
 use native.Mathlib.Omega.{arith}
 use lib.ListN.{length}
 use borrow.Author.Needs.{needs}
+use Rattle.lists.specs.Rows.{at}
 use Rattle.links.specs.HeldLimits.{limitsOf}
 use Rattle.topology.specs.Held.{labelsOf}
-use Rattle.measures.specs.Tables.{at}
 use Rattle.measures.specs.Judging.{valueIn, Judged}
 use Rattle.measures.proofs.Reading.{area}
 use Rattle.measures.proofs.Meaning.{judge-start, judge-one, judge-end, labels-many}

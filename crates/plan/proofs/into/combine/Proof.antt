@@ -1,7 +1,8 @@
 use Prim.Native.Nat.{_-_, _≤_}
 use native.Mathlib.Omega.{arith}
 use borrow.Author.Needs.{needs}
-use Rattle.plan.specs.Arrays.{at, Filled}
+use Rattle.lists.specs.Rows.{at}
+use Rattle.plan.specs.Arrays.{Filled}
 use Rattle.plan.specs.Into.{goesTo}
 use Rattle.plan.proofs.ArrayLaws.{filled-none, filled-next, filled-upto}
 use Rattle.plan.proofs.into.combine.Statement.{statement}

@@ -3,8 +3,8 @@ use Prim.Native.Nat.{ℕ, _-_, _≤_}
 use native.Mathlib.Omega.{arith}
 use borrow.Author.Needs.{needs}
 use mathlib.Core.Path.{subst}
+use Rattle.lists.specs.Rows.{at}
 use Rattle.length.specs.Total.{totalLe}
-use Rattle.plan.specs.Arrays.{at}
 use Rattle.plan.specs.Four.{slot}
 use Rattle.plan.proofs.ShapeLaws.{First, first-start, first-next}
 use Rattle.plan.proofs.ValueLaws.{least-listed}

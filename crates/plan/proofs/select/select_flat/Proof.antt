@@ -4,8 +4,9 @@ use Prim.Native.Nat.{_-_, _≤_}
 use native.Mathlib.Omega.{arith}
 use borrow.Author.Needs.{needs}
 use mathlib.Core.Path.{subst}
+use Rattle.lists.specs.Rows.{at}
 use Rattle.links.specs.HeldLimits.{limitsOf}
-use Rattle.plan.specs.Arrays.{at, Filled}
+use Rattle.plan.specs.Arrays.{Filled}
 use Rattle.plan.specs.Shape.{flatLinkIn}
 use Rattle.plan.specs.Fitting.{RankFits}
 use Rattle.plan.proofs.ArrayLaws.{filled-none, filled-next, filled-upto}

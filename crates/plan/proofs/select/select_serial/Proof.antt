@@ -4,7 +4,8 @@ use Prim.Native.Nat.{ℕ, _-_, _≤_, _<_}
 use native.Mathlib.Omega.{arith}
 use borrow.Author.Needs.{needs}
 use mathlib.Core.Path.{subst}
-use Rattle.plan.specs.Arrays.{at, Filled}
+use Rattle.lists.specs.Rows.{at}
+use Rattle.plan.specs.Arrays.{Filled}
 use Rattle.plan.specs.Shape.{bothOn}
 use Rattle.plan.proofs.ArrayLaws.{filled-none, filled-next, filled-upto}
 use Rattle.plan.proofs.ValueLaws.{both}

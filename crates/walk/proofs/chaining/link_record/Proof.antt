@@ -1,7 +1,7 @@
 use mathlib.Core.Path.{ap}
 use native.Mathlib.Omega.{arith}
-use Rattle.walk.specs.Slices.{at}
 use borrow.Author.Needs.{needs}
+use Rattle.lists.specs.Rows.{at}
 use Rattle.walk.proofs.chaining.link_record.Statement.{statement}
 use Rattle.walk.proofs.chaining.link_record.Tie as tie
 use Rattle.walk.proofs.chaining.link_record.Reads as reads

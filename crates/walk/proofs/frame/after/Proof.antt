@@ -1,6 +1,6 @@
 use mathlib.Core.Path.{sym, _∙_, ap}
-use Rattle.walk.specs.Slices.{at}
 use borrow.Author.Needs.{needs}
+use Rattle.lists.specs.Rows.{at}
 use Rattle.walk.proofs.frame.after.Statement.{statement}
 use Rattle.walk.proofs.frame.after.Tie as tie
 use Rattle.walk.proofs.frame.after.Reads as reads

@@ -1,6 +1,6 @@
 use mathlib.Core.Path.{sym, _∙_, ap}
-use Rattle.walk.specs.Slices.{at}
 use mathlib.Core.Logic.{⊎-elim}
+use Rattle.lists.specs.Rows.{at}
 use Rattle.walk.specs.Walk.{forth, back}
 use borrow.Author.Needs.{needs}
 use Rattle.walk.proofs.frame.other_end.Statement.{statement}

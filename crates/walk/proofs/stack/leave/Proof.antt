@@ -2,7 +2,7 @@ use mathlib.Core.Path.{_∙_, ap}
 use native.Mathlib.Omega.{arith}
 use Prim.Native.Nat.{ℕ}
 use lib.ListN.{set}
-use Rattle.walk.specs.Slices.{at}
+use Rattle.lists.specs.Rows.{at}
 use Rattle.walk.proofs.Leaving.{mark-set, mark-kept}
 use borrow.Author.Needs.{needs}
 use Rattle.walk.proofs.stack.leave.Statement.{statement}

@@ -5,8 +5,8 @@ use mathlib.Core.Logic.{⊎-elim}
 use mathlib.Core.List.{List}
 use borrow.Author.Needs.{needs}
 use lib.ListN.{length, set}
+use Rattle.lists.specs.Rows.{at}
 use Rattle.walk.specs.Walk.{zeros, Joins, First}
-use Rattle.walk.specs.Slices.{at}
 use Rattle.walk.specs.declared.frame.Frame.{Frame}
 use Rattle.walk.proofs.Chains.{chain-in, follows, follows-as}
 use Rattle.walk.proofs.Puts.{set-as}
