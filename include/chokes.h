@@ -20,8 +20,8 @@
 extern "C" {
 #endif
 
-/* bench/run measures 439,304 on x86-64. */
-#define CHOKES_STACK_BYTES 458752
+/* bench/run measures 388,540 on x86-64. */
+#define CHOKES_STACK_BYTES 409600
 
 /* What a call gives back: CHOKES_OK and a length or count, or a refusal and its detail, which is 0
  * unless the refusal names one. */
