@@ -21,7 +21,7 @@ use Rattle.merging.specs.Copies.{sortedSources, canon, canonObservation}
 use Rattle.length.specs.Total.{totalKey}
 use Rattle.order.specs.Keys.{byKey}
 use Rattle.merging.specs.Keys.{observationKey}
-use Rattle.places.specs.Orders.{placeKey, byRun}
+use Rattle.places.specs.Orders.{restKey, placeKey, byRun}
 use Rattle.order.specs.Keys.{pack}
 use Rattle.answer.specs.Packed.{sourcePack, packed, KeysRead, KeyAt}
 use Rattle.answer.specs.Laying.{below, ownCount, seenCount, citedCount, ownStart, LaidAll}
@@ -182,7 +182,7 @@ module _ {s : List ℕ} {at n ats m from count : ℕ} (j : JobPlaces s at n ats 
 module _ {first second third starts counts keys : List ℕ} where
   key-of : {p : ℕ} (o : Observation) → Holds first second third starts counts keys p o
       → placeKey first second third starts counts keys p ≡ pack (o .ends .a .x) (o .ends .a .y) ∷ pack (o .ends .b .x) (o .ends .b .y) ∷ totalKey (o .bits) ∷ packed (o .sources)
-  unfolding placeKey
+  unfolding placeKey restKey
   key-of o h = rw (h .key .first-is, h .key .second-is, h .key .third-is, h .run)
 
   pub holds-le : {p q : ℕ} (o u : Observation) → Holds first second third starts counts keys p o → Holds first second third starts counts keys q u
