@@ -6,6 +6,7 @@ use Prim.Native.Nat.{ℕ, _+_, _*_, _-_, _≤_, _<_}
 use native.Mathlib.Omega.{arith}
 use borrow.Author.Tests.{eq-eqb}
 use lib.ListN.{length, getD, take, drop}
+use Rattle.areas.specs.Words.{labelsIn}
 use Rattle.position.specs.declared.Span.{Span}
 use Rattle.format.specs.Sizes.{boundarySize}
 use Rattle.format.specs.Header.{countsAt, basesStart}
@@ -15,7 +16,6 @@ use Rattle.format.specs.declared.header.Counts.{Counts}
 use Rattle.grid.specs.Cells.{Grid}
 use Rattle.grid.specs.Directions.{eight}
 use Rattle.topology.specs.Anchors.{anchorsOf}
-use Rattle.topology.specs.Held.{labelsOf as labelsIn}
 use Rattle.topology.specs.Listing.{Item}
 use Rattle.links.specs.Limits.{Limits, limits000}
 use Rattle.links.specs.HeldLimits.{limitsOf}

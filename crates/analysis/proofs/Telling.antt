@@ -6,8 +6,8 @@ use Prim.Native.Nat.{ℕ, _+_, _*_, _≤_, _<_}
 use native.Mathlib.Omega.{arith}
 use lib.ListN.{length, getD, drop, replicate, List·getD-map}
 use lib.Seq.{drop-append-seam}
-use Rattle.lists.proofs.Rows.{rows-at, rows-same}
-use Rattle.wire.specs.Bytes.{splice, u32At, u32Bytes}
+use Rattle.lists.proofs.Rows.{rows-at}
+use Rattle.wire.specs.Bytes.{splice, u32Bytes}
 use Rattle.position.specs.declared.Span.{Span}
 use Rattle.format.specs.Header.{countsAt}
 use Rattle.format.specs.Decode.{decode}
@@ -18,8 +18,8 @@ use Rattle.areas.specs.Areas.{areaLabels, labelAt}
 use Rattle.areas.specs.Assessments.{records, assess}
 use Rattle.areas.specs.Spans.{spanIn, spansIn}
 use Rattle.areas.proofs.Areas.{area-labels-length}
-use Rattle.components.proofs.LabelWords.{word-read}
-use Rattle.topology.specs.Held.{labelsOf as labelsIn}
+use Rattle.areas.specs.Words.{word, labelsIn}
+use Rattle.components.proofs.LabelWords.{word-read, labels-read}
 use Rattle.topology.specs.Listing.{Item}
 use Rattle.groups.specs.Listing as Rank
 use Rattle.groups.specs.Regions.{regionLabels, assessAt, bridgeAt}
@@ -33,7 +33,7 @@ use Rattle.results.specs.Results.{labelsOf}
 use Rattle.analysis.specs.Bridging.{Bridged}
 use Rattle.analysis.specs.Plans.{EndsBy, Told}
 use Rattle.analysis.proofs.Bridging.{few-pairs, room-in, zero-in}
-use Rattle.analysis.proofs.Ranked.{by-rows, ByRank}
+use Rattle.analysis.proofs.Ranked.{ByRank}
 use Rattle.analysis.proofs.Checked.{Checked}
 use Rattle.analysis.proofs.RankedTables.{listed-count, spans-ranked, labels-in, records-in}
 
@@ -46,17 +46,11 @@ module _ (ls before : List ℕ) (small : (i : ℕ) → i < length ls → getD ls
       let z : 0 + length (flatMap u32Bytes ls) ≡ length (flatMap u32Bytes ls) = omega arith in
       ap (λ (t : List ℕ). flatMap u32Bytes ls ++ t) (sym (ap (λ (i : ℕ). drop i (flatMap u32Bytes ls ++ rest)) z ∙ drop-append-seam (flatMap u32Bytes ls) rest))
 
-  pub label-read : (i : ℕ) → i < length ls → u32At (labelled ls before) (i * 4) ≡ getD ls i 0
-  label-read i h =
-      let z : i * 4 ≡ 4 * i = omega arith in
-      ap (λ (k : ℕ). u32At (labelled ls before) k) z
-      ∙ (ap (λ (w : List ℕ). u32At w (4 * i)) first-written ∙ word-read (labelled ls before) ls i h (small i h))
+  pub label-read : (i : ℕ) → i < length ls → word (labelled ls before) i ≡ getD ls i 0
+  label-read i h = ap (λ (w : List ℕ). word w i) first-written ∙ word-read (labelled ls before) ls i h (small i h)
 
-  pub labels-read : labelsIn (labelled ls before) (length ls) ≡ ls
-  unfolding labelsIn
-  labels-read =
-      rows-same (length ls) (λ i. u32At (labelled ls before) (i * 4)) (λ i. getD ls i 0) label-read
-      ∙ sym (by-rows ls (length ls) (λ i. getD ls i 0) 0 refl (λ i h. refl))
+  pub all-read : labelsIn (labelled ls before) (length ls) ≡ ls
+  all-read = ap (λ (w : List ℕ). labelsIn w (length ls)) first-written ∙ labels-read (labelled ls before) ls (length ls) refl small
 
 module _ {distinct : Bool} {s : List ℕ} (c : Checked distinct s) {order : List ℕ} (k : ByRank (decode s .boundaries) order) {ends : List ℕ} {ss : List Span} (m : EndsBy s order ends ss)
     {most : ℕ} {before work removed separated owners lefts rights : List ℕ} {p : Partition}
@@ -109,14 +103,14 @@ module _ {distinct : Bool} {s : List ℕ} (c : Checked distinct s) {order : List
     labels-are =
         ap (λ (w : List ℕ). labelsIn w (size g)) (r .work-is)
         ∙ (ap (λ (i : ℕ). labelsIn (labelled (areaLabels eight g ts) before) i) (sym labels-long)
-        ∙ (labels-read (areaLabels eight g ts) before small ∙ ap (areaLabels eight g) (sym spans-are)))
+        ∙ (all-read (areaLabels eight g ts) before small ∙ ap (areaLabels eight g) (sym spans-are)))
 
     labels-there : Labels work (size g)
     labels-there = record {
       room = omega (arith, room-in r (size g) refl);
       most = λ i h.
           let b : i < length (areaLabels eight g ts) = omega (arith, labels-long) in
-          let e : u32At work (i * 4) ≡ labelAt (areaLabels eight g ts) i = ap (λ (w : List ℕ). u32At w (i * 4)) (r .work-is) ∙ label-read (areaLabels eight g ts) before small i b in
+          let e : word work i ≡ labelAt (areaLabels eight g ts) i = ap (λ (w : List ℕ). word w i) (r .work-is) ∙ label-read (areaLabels eight g ts) before small i b in
           omega (arith, e, r .labels-few i h);
       clear = zero-in r (size g) refl;
     }

@@ -18,8 +18,8 @@ use Rattle.format.specs.declared.header.Header.{Header}
 use Rattle.grid.specs.Directions.{eight}
 use Rattle.areas.specs.Assessments.{records}
 use Rattle.areas.specs.Spans.{spanIn}
+use Rattle.areas.specs.Words.{labelsIn}
 use Rattle.topology.specs.Anchors.{anchorsOf}
-use Rattle.topology.specs.Held.{labelsOf as labelsIn}
 use Rattle.links.specs.Limits.{Limits, limits000}
 use Rattle.groups.specs.Listing.{noSpan}
 use Rattle.groups.specs.Regions.{regionLabels}

@@ -17,3 +17,4 @@ pub mod Walkable
 pub mod Cases
 pub mod Named
 pub mod OpenLabels
+pub mod Words

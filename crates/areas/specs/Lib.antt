@@ -6,3 +6,4 @@ pub mod Areas
 pub mod Assessments
 pub mod Cases
 pub mod Open
+pub mod Words

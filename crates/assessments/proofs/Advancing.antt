@@ -7,7 +7,6 @@ use native.Mathlib.Omega.{arith}
 use borrow.Author.Tests.{eq-eqb, ne-eqb}
 use lib.ListN.{length, length-append}
 use Rattle.lists.proofs.Rows.{rows-at}
-use Rattle.wire.specs.Bytes.{u32At}
 use Rattle.order.specs.Lists.{keep, gather, upFrom}
 use Rattle.order.specs.Keys.{byKey, sortOnceBy}
 use Rattle.order.specs.Sorting.{include}
@@ -17,18 +16,15 @@ use Rattle.graph.specs.Path.{Edge}
 use Rattle.areas.specs.Areas.{labelAt}
 use Rattle.areas.specs.Assessments.{RegionPair, pairKey, isSeparated, labelPair, assessment}
 use Rattle.areas.proofs.Assessments.{pair-order}
+use Rattle.areas.specs.Words.{word, labelsIn}
+use Rattle.areas.proofs.Words.{label-in}
 use Rattle.assessments.specs.declared.steps.Assessed.{Assessed}
 use Rattle.grid.specs.Steps.{stepOf}
 use Rattle.assessments.specs.Stored.{pairOf, Ordered, Inserted, Late}
-use Rattle.assessments.specs.Holding.{labelsOf, Listed, Holds, Advances, Room, Grown}
+use Rattle.assessments.specs.Holding.{Listed, Holds, Advances, Room, Grown}
 use Rattle.assessments.proofs.Including.{once-last}
 use Rattle.assessments.proofs.Listing.{listed-put}
 use Rattle.order.proofs.Numbers.{up-last}
-
--- the label in the bytes
-pub label-of : (bytes : List ℕ) (n i : ℕ) → i < n → labelAt (labelsOf bytes n) i ≡ u32At bytes (4 * i)
-unfolding labelsOf
-label-of bytes n i l = rows-at n (λ k. u32At bytes (4 * k)) i 0 l
 
 module _ (ls : List ℕ) (ds : List Edge) (e : Edge) where
   kept-same : labelAt ls (e .left) ≡ labelAt ls (e .right) → keep (isSeparated ls) (ds ++ (e ∷ [])) ≡ keep (isSeparated ls) ds
@@ -149,20 +145,20 @@ pub grown-none : {start m : ℕ} {lefts rights : List ℕ} {s : Assessed} (n : �
 grown-none n r = record { from = r .from; to = r .to; removed = omega arith; separated = omega arith }
 
 -- the labels x and y of two cells
-module _ (bytes : List ℕ) {n i j x y : ℕ} (a : i < n) (b : j < n) (ex : x ≡ u32At bytes (4 * i)) (ey : y ≡ u32At bytes (4 * j)) where
-  left-label : x ≡ labelAt (labelsOf bytes n) i
-  left-label = ex ∙ sym (label-of bytes n i a)
+module _ (bytes : List ℕ) {n i j x y : ℕ} (a : i < n) (b : j < n) (ex : x ≡ word bytes i) (ey : y ≡ word bytes j) where
+  left-label : x ≡ labelAt (labelsIn bytes n) i
+  left-label = ex ∙ sym (label-in bytes n i a)
 
-  right-label : y ≡ labelAt (labelsOf bytes n) j
-  right-label = ey ∙ sym (label-of bytes n j b)
+  right-label : y ≡ labelAt (labelsIn bytes n) j
+  right-label = ey ∙ sym (label-in bytes n j b)
 
-  pub labels-alike : x ≡ y → labelAt (labelsOf bytes n) i ≡ labelAt (labelsOf bytes n) j
+  pub labels-alike : x ≡ y → labelAt (labelsIn bytes n) i ≡ labelAt (labelsIn bytes n) j
   labels-alike h = sym left-label ∙ (h ∙ right-label)
 
-  pub labels-apart : (x ≡ y → ⊥) → labelAt (labelsOf bytes n) i ≡ labelAt (labelsOf bytes n) j → ⊥
+  pub labels-apart : (x ≡ y → ⊥) → labelAt (labelsIn bytes n) i ≡ labelAt (labelsIn bytes n) j → ⊥
   labels-apart h e = h (left-label ∙ (e ∙ sym right-label))
 
-  pub label-pair : {lo hi : ℕ} → lo ≡ min x y → hi ≡ max x y → pairOf lo hi ≡ labelPair (labelsOf bytes n) (stepOf i j)
+  pub label-pair : {lo hi : ℕ} → lo ≡ min x y → hi ≡ max x y → pairOf lo hi ≡ labelPair (labelsIn bytes n) (stepOf i j)
   label-pair e f = ap₂ pairOf (e ∙ ap₂ min left-label right-label) (f ∙ ap₂ max left-label right-label)
 
 -- the same steps, told otherwise

@@ -4,15 +4,10 @@ use mathlib.Core.List.{List, _++_}
 use Prim.Native.Nat.{ℕ, _+_, _*_, _≤_, _<_}
 use lib.ListN.{length}
 use Rattle.lists.specs.Rows.{at, rows}
-use Rattle.wire.specs.Bytes.{u32At}
 use Rattle.graph.specs.Path.{Edge}
 use Rattle.areas.specs.Assessments.{RegionPair, Assessment, assessment}
 use Rattle.assessments.specs.declared.steps.Assessed.{Assessed}
 use Rattle.assessments.specs.Stored.{pairAt}
-
--- the labels of n cells, in four bytes each
-unfoldable pub labelsOf : List ℕ → ℕ → List ℕ
-labelsOf bytes n = rows n (λ i. u32At bytes (4 * i))
 
 -- n pairs from place start on
 unfoldable pub pairsIn : List ℕ → List ℕ → ℕ → ℕ → List RegionPair

@@ -1,8 +1,8 @@
 // What each span of a list does to the areas.
 ghost use Prim.Native.Nat.{_*_, _<_, _≤_};
 ghost use lib.ListN.{length};
+ghost use Rattle.areas.specs.Words.{labelsIn};
 ghost use Rattle.grid.specs.Directions.{directionsOf};
-ghost use Rattle.assessments.specs.Holding.{labelsOf};
 ghost use Rattle.assessments.specs.Visits.{mapOf};
 ghost use Rattle.assessments.specs.Recording.{Recorded, SpansOnMap, Arrays, Filled};
 use super::strip::assess_span;
@@ -36,7 +36,7 @@ pub fn assess_spans(
     rights: &mut [u32],
 ) -> usize
     requires { ⌜ SpansOnMap width height (now cells) (now labels) (now ends) count × Arrays (length (now lefts)) (now removed) (now separated) (now owners) (now lefts) (now rights) ⌝ }
-    ensures { λ r. ⌜ Recorded (labelsOf (now (labels .entry)) (width * height)) (directionsOf directions) (mapOf width height (now (cells .entry))) (length (now (lefts .entry))) (now (ends .entry)) count (now (removed .exit)) (now (separated .exit)) (now (owners .exit)) (now (lefts .exit)) (now (rights .exit)) r ⌝ }
+    ensures { λ r. ⌜ Recorded (labelsIn (now (labels .entry)) (width * height)) (directionsOf directions) (mapOf width height (now (cells .entry))) (length (now (lefts .entry))) (now (ends .entry)) count (now (removed .exit)) (now (separated .exit)) (now (owners .exit)) (now (lefts .exit)) (now (rights .exit)) r ⌝ }
 {
     let most = lefts.len();
     let mut end: usize = 0;

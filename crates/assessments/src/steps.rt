@@ -2,9 +2,10 @@
 ghost use mathlib.Core.List.{[], _∷_};
 ghost use Prim.Native.Nat.{ℕ, _+_, _*_, _<_, _≤_};
 ghost use lib.ListN.{length};
+ghost use Rattle.areas.specs.Words.{labelsIn};
 ghost use Rattle.grid.specs.Directions.{directionsOf};
 ghost use Rattle.grid.specs.Steps.{stepOf};
-ghost use Rattle.assessments.specs.Holding.{labelsOf, Advances, Room, Grown};
+ghost use Rattle.assessments.specs.Holding.{Advances, Room, Grown};
 ghost use Rattle.assessments.specs.Visits.{mapOf, OnMap, cutIn, cutFrom};
 use super::pairs::insert_pair;
 use areas::geometry::cut_by;
@@ -37,7 +38,7 @@ fn count_step(
 ) -> Assessed
     requires { ⌜ (4 * i + 4 ≤ length (now labels)) × (4 * j + 4 ≤ length (now labels)) × Room start 1 (now lefts) (now rights) state ⌝ }
     ensures { λ r. ⌜ Grown (length (now (lefts .entry))) start 1 state r ⌝ }
-    ensures { λ r. ⌜ ((n : ℕ) → i < n → j < n → Advances (length (now (lefts .entry))) (labelsOf (now (labels .entry)) n) (stepOf i j ∷ []) start (now (lefts .entry)) (now (rights .entry)) state (now (lefts .exit)) (now (rights .exit)) r) ⌝ }
+    ensures { λ r. ⌜ ((n : ℕ) → i < n → j < n → Advances (length (now (lefts .entry))) (labelsIn (now (labels .entry)) n) (stepOf i j ∷ []) start (now (lefts .entry)) (now (rights .entry)) state (now (lefts .exit)) (now (rights .exit)) r) ⌝ }
 {
     let removed = state.removed + 1;
     let separated = state.separated;
@@ -76,7 +77,7 @@ fn assess_step(
 ) -> Assessed
     requires { ⌜ OnMap width height (now cells) (now labels) span × (position .x < width) × (position .y < height) × (d < 9) × Room start 1 (now lefts) (now rights) state ⌝ }
     ensures { λ r. ⌜ Grown (length (now (lefts .entry))) start 1 state r ⌝ }
-    ensures { λ r. ⌜ Advances (length (now (lefts .entry))) (labelsOf (now (labels .entry)) (width * height)) (cutIn (directionsOf directions) (mapOf width height (now (cells .entry))) span (position .y * width + position .x) d) start (now (lefts .entry)) (now (rights .entry)) state (now (lefts .exit)) (now (rights .exit)) r ⌝ }
+    ensures { λ r. ⌜ Advances (length (now (lefts .entry))) (labelsIn (now (labels .entry)) (width * height)) (cutIn (directionsOf directions) (mapOf width height (now (cells .entry))) span (position .y * width + position .x) d) start (now (lefts .entry)) (now (rights .entry)) state (now (lefts .exit)) (now (rights .exit)) r ⌝ }
 {
     if !has_direction(directions, d) {
         return state;
@@ -115,7 +116,7 @@ pub fn assess_cell(
 ) -> Assessed
     requires { ⌜ OnMap width height (now cells) (now labels) span × (position .x < width) × (position .y < height) × Room start 4 (now lefts) (now rights) state ⌝ }
     ensures { λ r. ⌜ Grown (length (now (lefts .entry))) start 4 state r ⌝ }
-    ensures { λ r. ⌜ Advances (length (now (lefts .entry))) (labelsOf (now (labels .entry)) (width * height)) (cutFrom (directionsOf directions) (mapOf width height (now (cells .entry))) span (position .y * width + position .x)) start (now (lefts .entry)) (now (rights .entry)) state (now (lefts .exit)) (now (rights .exit)) r ⌝ }
+    ensures { λ r. ⌜ Advances (length (now (lefts .entry))) (labelsIn (now (labels .entry)) (width * height)) (cutFrom (directionsOf directions) (mapOf width height (now (cells .entry))) span (position .y * width + position .x)) start (now (lefts .entry)) (now (rights .entry)) state (now (lefts .exit)) (now (rights .exit)) r ⌝ }
 {
     let mut done = state;
     let mut d: u32 = 5;

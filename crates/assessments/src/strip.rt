@@ -7,7 +7,8 @@ ghost use Rattle.grid.specs.Directions.{directionsOf};
 ghost use Rattle.areas.specs.Assessments.{assessment};
 ghost use Rattle.areas.specs.Cuts.{cutSteps};
 ghost use Rattle.areas.specs.Strip.{tall};
-ghost use Rattle.assessments.specs.Holding.{labelsOf, Holds, Advances, Room, Grown};
+ghost use Rattle.areas.specs.Words.{labelsIn};
+ghost use Rattle.assessments.specs.Holding.{Holds, Advances, Room, Grown};
 ghost use Rattle.assessments.specs.Visits.{mapOf, OnMap, cutBeside};
 use super::steps::Assessed;
 use super::steps::assess_cell;
@@ -44,7 +45,7 @@ fn assess_beside(
 ) -> Assessed
     requires { ⌜ OnMap width height (now cells) (now labels) span × (c < cond (tall span) height width) × Room start 4096 (now lefts) (now rights) state ⌝ }
     ensures { λ r. ⌜ Grown (length (now (lefts .entry))) start 4096 state r ⌝ }
-    ensures { λ r. ⌜ Advances (length (now (lefts .entry))) (labelsOf (now (labels .entry)) (width * height)) (cutBeside (directionsOf directions) (mapOf width height (now (cells .entry))) span c) start (now (lefts .entry)) (now (rights .entry)) state (now (lefts .exit)) (now (rights .exit)) r ⌝ }
+    ensures { λ r. ⌜ Advances (length (now (lefts .entry))) (labelsIn (now (labels .entry)) (width * height)) (cutBeside (directionsOf directions) (mapOf width height (now (cells .entry))) span c) start (now (lefts .entry)) (now (rights .entry)) state (now (lefts .exit)) (now (rights .exit)) r ⌝ }
 {
     let tall = is_tall(span);
     let range = strip_minor(span, width, height, c);
@@ -83,7 +84,7 @@ pub fn assess_span(
     start: usize,
 ) -> Assessed
     requires { ⌜ OnMap width height (now cells) (now labels) span × (start ≤ length (now lefts)) × (length (now rights) ≡ length (now lefts)) × (length (now lefts) ≤ 4096) ⌝ }
-    ensures { λ r. ⌜ Holds (length (now (lefts .entry))) (assessment (labelsOf (now (labels .entry)) (width * height)) (cutSteps (directionsOf directions) (mapOf width height (now (cells .entry))) span)) (now (lefts .entry)) (now (rights .entry)) start (now (lefts .exit)) (now (rights .exit)) r ⌝ }
+    ensures { λ r. ⌜ Holds (length (now (lefts .entry))) (assessment (labelsIn (now (labels .entry)) (width * height)) (cutSteps (directionsOf directions) (mapOf width height (now (cells .entry))) span)) (now (lefts .entry)) (now (rights .entry)) start (now (lefts .exit)) (now (rights .exit)) r ⌝ }
 {
     let range = strip_axis(span, width, height);
     let last = range.last;

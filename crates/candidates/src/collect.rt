@@ -2,7 +2,7 @@
 ghost use mathlib.Core.Path.{_≡_};
 ghost use mathlib.Core.Bool.{true};
 ghost use Prim.Native.Nat.{_<_, _≤_};
-ghost use Rattle.topology.specs.Held.{labelsOf};
+ghost use Rattle.areas.specs.Words.{labelsIn};
 ghost use Rattle.candidates.specs.Owners.{Stored, OwnersBelow};
 ghost use Rattle.candidates.specs.Gives.{OnMap, OwnBounded};
 ghost use Rattle.candidates.specs.Found.{given, found, Added, AllFound};
@@ -33,8 +33,8 @@ fn consider(
     firsts: &mut [u32; 256],
     seconds: &mut [u32; 256],
 ) -> usize
-    requires { ⌜ OnMap (now job) «bases_at» bases width (now labels) cells × (n ≤ 256) × OwnBounded (now own) n × Stored (now owners) (now lefts) (now rights) records × OwnersBelow (now owners) records n × (found (given (now job) «bases_at» bases width (labelsOf (now labels) cells) (now own) (now linkables) (now lowers) (now highers) (now owners) (now lefts) (now rights) records) region ≡ true → count < 256) ⌝ }
-    ensures { λ r. ⌜ Added (given (now (job .entry)) «bases_at» bases width (labelsOf (now (labels .entry)) cells) (now (own .entry)) (now (linkables .entry)) (now (lowers .entry)) (now (highers .entry)) (now (owners .entry)) (now (lefts .entry)) (now (rights .entry)) records) region count (now (regions .entry)) (now (firsts .entry)) (now (seconds .entry)) r (now (regions .exit)) (now (firsts .exit)) (now (seconds .exit)) ⌝ }
+    requires { ⌜ OnMap (now job) «bases_at» bases width (now labels) cells × (n ≤ 256) × OwnBounded (now own) n × Stored (now owners) (now lefts) (now rights) records × OwnersBelow (now owners) records n × (found (given (now job) «bases_at» bases width (labelsIn (now labels) cells) (now own) (now linkables) (now lowers) (now highers) (now owners) (now lefts) (now rights) records) region ≡ true → count < 256) ⌝ }
+    ensures { λ r. ⌜ Added (given (now (job .entry)) «bases_at» bases width (labelsIn (now (labels .entry)) cells) (now (own .entry)) (now (linkables .entry)) (now (lowers .entry)) (now (highers .entry)) (now (owners .entry)) (now (lefts .entry)) (now (rights .entry)) records) region count (now (regions .entry)) (now (firsts .entry)) (now (seconds .entry)) r (now (regions .exit)) (now (firsts .exit)) (now (seconds .exit)) ⌝ }
 {
     let t = touching_of(owners, lefts, rights, records, region);
     let first = t.first;
@@ -86,7 +86,7 @@ pub fn collect(
     seconds: &mut [u32; 256],
 ) -> usize
     requires { ⌜ OnMap (now job) «bases_at» bases width (now labels) cells × (n ≤ 256) × OwnBounded (now own) n × Stored (now owners) (now lefts) (now rights) records × OwnersBelow (now owners) records n ⌝ }
-    ensures { λ r. ⌜ AllFound (given (now (job .entry)) «bases_at» bases width (labelsOf (now (labels .entry)) cells) (now (own .entry)) (now (linkables .entry)) (now (lowers .entry)) (now (highers .entry)) (now (owners .entry)) (now (lefts .entry)) (now (rights .entry)) records) (now (regions .exit)) (now (firsts .exit)) (now (seconds .exit)) r ⌝ }
+    ensures { λ r. ⌜ AllFound (given (now (job .entry)) «bases_at» bases width (labelsIn (now (labels .entry)) cells) (now (own .entry)) (now (linkables .entry)) (now (lowers .entry)) (now (highers .entry)) (now (owners .entry)) (now (lefts .entry)) (now (rights .entry)) records) (now (regions .exit)) (now (firsts .exit)) (now (seconds .exit)) r ⌝ }
 {
     *regions = [0u32; 256];
     *firsts = [0u32; 256];

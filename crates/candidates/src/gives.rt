@@ -4,9 +4,9 @@ ghost use mathlib.Core.Bool.{not, _&&_};
 ghost use Prim.Native.Nat.{_<_, _≤_};
 ghost use lib.Dec.{eqb};
 ghost use lib.ListN.{length, getD};
+ghost use Rattle.areas.specs.Words.{labelsIn};
 ghost use Rattle.format.specs.Sizes.{baseSize};
 ghost use Rattle.topology.specs.AnchorLoop.{anchoredBy};
-ghost use Rattle.topology.specs.Held.{labelsOf};
 ghost use Rattle.candidates.specs.Gives.{hasRegion, OnMap, OwnBounded, TwoBelow, joinsTwo};
 use links::geometry::centres_differ;
 use marking::spans::span_at;
@@ -71,7 +71,7 @@ pub fn gives_link(
     region: u32,
 ) -> bool
     requires { ⌜ OnMap (now job) «bases_at» bases width (now labels) cells × (n ≤ 256) × OwnBounded (now own) n × TwoBelow count first second n ⌝ }
-    ensures { λ r. ⌜ r ≡ not (anchoredBy (now (job .entry)) «bases_at» bases width (labelsOf (now (labels .entry)) cells) region) && joinsTwo (now (own .entry)) (now (linkables .entry)) (now (lowers .entry)) (now (highers .entry)) region count first second ⌝ }
+    ensures { λ r. ⌜ r ≡ not (anchoredBy (now (job .entry)) «bases_at» bases width (labelsIn (now (labels .entry)) cells) region) && joinsTwo (now (own .entry)) (now (linkables .entry)) (now (lowers .entry)) (now (highers .entry)) region count first second ⌝ }
 {
     let anchored = is_anchored(job, bases_at, bases, width, labels, cells, region);
     let joins = joins_two(

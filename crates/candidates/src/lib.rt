@@ -1,6 +1,6 @@
 // The links between boundaries that regions give: 000's `candidate_links`, without its measures.
 ghost use Prim.Native.Nat.{_≤_};
-ghost use Rattle.topology.specs.Held.{labelsOf};
+ghost use Rattle.areas.specs.Words.{labelsIn};
 ghost use Rattle.candidates.specs.Owners.{Stored, OwnersBelow};
 ghost use Rattle.candidates.specs.Gives.{OnMap, OwnBounded};
 ghost use Rattle.candidates.specs.Top.{Answer};
@@ -41,7 +41,7 @@ pub fn candidate_links(
     seconds: &mut [u32; 256],
 ) -> usize
     requires { ⌜ OnMap (now job) «bases_at» bases width (now labels) cells × (n ≤ 256) × OwnBounded (now own) n × Stored (now owners) (now lefts) (now rights) records × OwnersBelow (now owners) records n ⌝ }
-    ensures { λ r. ⌜ Answer (now (job .entry)) «bases_at» bases width (labelsOf (now (labels .entry)) cells) n (now (own .entry)) (now (ramps .entry)) (now (removed .entry)) (now (separated .entry)) (now (owners .entry)) (now (lefts .entry)) (now (rights .entry)) records (now (counts .exit)) (now (lowers .exit)) (now (highers .exit)) (now (regions .exit)) (now (firsts .exit)) (now (seconds .exit)) r ⌝ }
+    ensures { λ r. ⌜ Answer (now (job .entry)) «bases_at» bases width (labelsIn (now (labels .entry)) cells) n (now (own .entry)) (now (ramps .entry)) (now (removed .entry)) (now (separated .entry)) (now (owners .entry)) (now (lefts .entry)) (now (rights .entry)) records (now (counts .exit)) (now (lowers .exit)) (now (highers .exit)) (now (regions .exit)) (now (firsts .exit)) (now (seconds .exit)) r ⌝ }
 {
     let mut linkables = [0u8; 256];
     first_pairs(owners, lefts, rights, records, counts, lowers, highers);

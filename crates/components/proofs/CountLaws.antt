@@ -12,20 +12,19 @@ use Rattle.order.proofs.Keep.{keep-append}
 use Rattle.wire.specs.Bytes.{splice}
 use Rattle.wire.proofs.Parts.{set-splice, splice-splice, length-splice}
 use Rattle.areas.specs.Areas.{cellCount}
-use Rattle.components.specs.Forests.{word}
-use Rattle.components.specs.Numbered.{words}
-use Rattle.components.proofs.LabelWords.{words-last}
+use Rattle.areas.specs.Words.{word, labelsIn}
+use Rattle.areas.proofs.Words.{words-last}
 
 one-kept : (b : Bool) (x : ℕ) → length (cond b (x ∷ []) []) ≡ cond b 1 0
 one-kept true x = refl
 one-kept false x = refl
 
-pub count-next : (w : List ℕ) (n r : ℕ) → cellCount (words (n + 1) w) r ≡ cellCount (words n w) r + cond (eqb r (word w n)) 1 0
+pub count-next : (w : List ℕ) (n r : ℕ) → cellCount (labelsIn w (n + 1)) r ≡ cellCount (labelsIn w n) r + cond (eqb r (word w n)) 1 0
 unfolding cellCount keep
 count-next w n r =
     ap (λ (l : List ℕ). length (keep (eqb r) l)) (words-last w n)
-    ∙ (ap length (keep-append (eqb r) (words n w) (word w n ∷ []))
-    ∙ (length-append (keep (eqb r) (words n w)) (keep (eqb r) (word w n ∷ [])) ∙ ap (λ (k : ℕ). length (keep (eqb r) (words n w)) + k) (one-kept (eqb r (word w n)) (word w n))))
+    ∙ (ap length (keep-append (eqb r) (labelsIn w n) (word w n ∷ []))
+    ∙ (length-append (keep (eqb r) (labelsIn w n)) (keep (eqb r) (word w n ∷ [])) ∙ ap (λ (k : ℕ). length (keep (eqb r) (labelsIn w n)) + k) (one-kept (eqb r (word w n)) (word w n))))
 
 zeros-last : (k : ℕ) → _≡_ {A = List ℕ} (replicate k 0 ++ (0 ∷ [])) (replicate (suc k) 0)
 zeros-last zero = refl

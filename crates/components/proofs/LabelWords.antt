@@ -5,11 +5,10 @@ use mathlib.Core.List.{List, [], _∷_, _++_, map, flatMap, append-assoc}
 use Prim.Native.Nat.{ℕ, zero, suc, _+_, _*_, _≤_, _<_}
 use native.Mathlib.Omega.{arith}
 use native.Mathlib.Numerals.{add-one}
-use lib.ListN.{length, getD, drop, length-map}
+use lib.ListN.{length, getD, drop}
 use lib.Seq.{ext-getD}
 use Rattle.order.specs.Lists.{upFrom}
 use Rattle.order.proofs.Bools.{by-test}
-use Rattle.order.proofs.Numbers.{up-length, map-up-at}
 use Rattle.lists.proofs.Flat.{flatMap-append, length-pieces}
 use Rattle.wire.specs.Bytes.{splice, number, bytes, part, numberAt, u32Bytes}
 use Rattle.wire.proofs.Numbers.{length-bytes, number-bytes}
@@ -24,9 +23,9 @@ use Rattle.areas.specs.Areas.{areaLabels, areaCount, labelAt}
 use Rattle.areas.specs.Cuts.{uncutSteps}
 use Rattle.areas.specs.Open.{named}
 use Rattle.areas.proofs.Areas.{area-labels-length, label-at-most}
-use Rattle.components.specs.Forests.{word}
+use Rattle.areas.proofs.Words.{labels-many, label-in}
+use Rattle.areas.specs.Words.{word, labelsIn}
 use Rattle.components.specs.Joining.{Sound}
-use Rattle.components.specs.Numbered.{words}
 
 -- one more number
 pub map-up-last : {A : Type 0} (f : ℕ → A) (a n : ℕ) → map f (upFrom a (suc n)) ≡ map f (upFrom a n) ++ (f (a + n) ∷ [])
@@ -40,9 +39,6 @@ map-up-next f n = rw add-one (map-up-last f 0 n ∙ ap (λ (x : ℕ). map f (upF
 pub labels-last : (on : ℕ → Bool) (es : List Edge) (n : ℕ) → labels (n + 1) on es ≡ labels n on es ++ (label on es n ∷ [])
 unfolding labels
 labels-last on es n = map-up-next (label on es) n
-
-pub words-last : (w : List ℕ) (n : ℕ) → words (n + 1) w ≡ words n w ++ (word w n ∷ [])
-words-last w n = map-up-next (word w) n
 
 -- four bytes a number
 pub bytes-length : (ls : List ℕ) → length (flatMap u32Bytes ls) ≡ 4 * length ls
@@ -80,17 +76,12 @@ module _ (s ls : List ℕ) where
   unfolding splice
   word-read j l small = flat-read ls (drop (0 + length (flatMap u32Bytes ls)) s) j l small
 
-  -- the words are the numbers
-  pub words-read : (n : ℕ) → length ls ≡ n → ((j : ℕ) → j < n → getD ls j 0 < 4294967296) → words n (splice s 0 (flatMap u32Bytes ls)) ≡ ls
-  words-read n e small = ext-getD 0 (words n (splice s 0 (flatMap u32Bytes ls))) ls (long ∙ sym e) (λ i l. here i (omega (arith, long)))
-    where
-      long : length (words n (splice s 0 (flatMap u32Bytes ls))) ≡ n
-      long = length-map (upFrom 0 n) (word (splice s 0 (flatMap u32Bytes ls))) ∙ up-length 0 n
-
-      here : (i : ℕ) → i < n → getD (words n (splice s 0 (flatMap u32Bytes ls))) i 0 ≡ getD ls i 0
-      here i l =
-          map-up-at (word (splice s 0 (flatMap u32Bytes ls))) 0 n i 0 l
-          ∙ (ap (word (splice s 0 (flatMap u32Bytes ls))) (let z : 0 + i ≡ i = omega arith in z) ∙ word-read i (omega (arith, e)) (small i l))
+  -- the labels are the numbers
+  pub labels-read : (n : ℕ) → length ls ≡ n → ((j : ℕ) → j < n → getD ls j 0 < 4294967296) → labelsIn (splice s 0 (flatMap u32Bytes ls)) n ≡ ls
+  labels-read n e small =
+      let w = splice s 0 (flatMap u32Bytes ls) in
+      ext-getD 0 (labelsIn w n) ls (labels-many w n ∙ sym e)
+      (λ i l. let h : i < n = omega (arith, l, labels-many w n) in label-in w n i h ∙ word-read i (omega (arith, e)) (small i h))
 
 -- there are no more labels than vertices
 count-most : (t : ℕ → Bool) (n : ℕ) → count t n ≤ n
@@ -106,9 +97,9 @@ module _ (dirs : List ℕ) (g : Grid) (ss : List Span) (few : size g ≤ 1048576
   pub area-label-small : (i : ℕ) → i < size g → labelAt (areaLabels dirs g ss) i < 4294967296
   area-label-small i l = omega (arith, label-at-most dirs g ss i l, area-count-few)
 
-  -- the words that `components` leaves are the labels of the areas
-  pub area-words : (s : List ℕ) → words (size g) (splice s 0 (flatMap u32Bytes (areaLabels dirs g ss))) ≡ areaLabels dirs g ss
-  area-words s = words-read s (areaLabels dirs g ss) (size g) (area-labels-length dirs g ss) area-label-small
+  -- what `components` leaves are the labels of the areas
+  pub area-labels-read : (s : List ℕ) → labelsIn (splice s 0 (flatMap u32Bytes (areaLabels dirs g ss))) (size g) ≡ areaLabels dirs g ss
+  area-labels-read s = labels-read s (areaLabels dirs g ss) (size g) (area-labels-length dirs g ss) area-label-small
 
 -- edges between walkable cells of a map
 pub sound-of : (g : Grid) (width : ℕ) (bytes : List ℕ) → Among (walkable g) (named width bytes) → Sound (g .cells) width bytes

@@ -15,7 +15,8 @@ use Rattle.grid.specs.Steps.{stepOf}
 use Rattle.grid.proofs.Index.{walkable-on}
 use Rattle.areas.specs.Open.{later, bitAt, named}
 use Rattle.areas.proofs.Named.{names-named}
-use Rattle.components.specs.Forests.{word, Forest, Kept}
+use Rattle.areas.specs.Words.{word}
+use Rattle.components.specs.Forests.{Forest, Kept}
 use Rattle.components.specs.Joining.{Sound, Within, JoinedAll}
 use Rattle.components.specs.Numbered.{walks, Numbered}
 use Rattle.components.proofs.WordLaws.{kept-trans, drop-more}

@@ -10,6 +10,7 @@ use native.Mathlib.Decide.{ℕ-discrete}
 use borrow.Author.Tests.{eq-eqb, ne-eqb, eqb-true}
 use lib.Dec.{eqb}
 use lib.ListN.{length, take}
+use Rattle.areas.specs.Words.{word}
 use Rattle.order.specs.Lists.{upFrom}
 use Rattle.order.proofs.Bools.{by-test, and-parts, and-both, is-false}
 use Rattle.wire.specs.Bytes.{splice, number, part, numberAt, u32Bytes}
@@ -21,7 +22,7 @@ use Rattle.graph.proofs.Paths.{path-kept}
 use Rattle.graph.proofs.Parts.{part-iff, part-le}
 use Rattle.graph.proofs.Labels.{label-max}
 use Rattle.graph.proofs.Count.{count-yes}
-use Rattle.components.specs.Forests.{word, Forest, Kept}
+use Rattle.components.specs.Forests.{Forest, Kept}
 use Rattle.components.specs.Numbered.{nextLabel, Numbered}
 use Rattle.components.proofs.WordLaws.{kept-none, kept-trans, kept-more, put-kept, put-upd, put-other}
 use Rattle.components.proofs.LabelWords.{bytes-last}

@@ -11,7 +11,8 @@ use lib.Seq.{getD-drop}
 use Rattle.wire.specs.Bytes.{part}
 use Rattle.wire.proofs.Parts.{part-at, length-part}
 use Rattle.areas.specs.Open.{later, bitAt}
-use Rattle.components.specs.Forests.{word, Usable, Forest, Kept}
+use Rattle.areas.specs.Words.{word}
+use Rattle.components.specs.Forests.{Usable, Forest, Kept}
 use Rattle.components.specs.Joining.{addedFrom, joinedTo, Joined, Within, Ready, JoinedFrom, JoinedAll}
 use Rattle.components.proofs.WordLaws.{kept-none, kept-trans}
 use Rattle.components.proofs.ForestLaws.{forest-start, forest-same}

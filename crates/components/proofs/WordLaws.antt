@@ -7,11 +7,12 @@ use native.Mathlib.Omega.{arith}
 use native.Mathlib.Decide.{ℕ-discrete, decLt}
 use lib.ListN.{length, drop}
 use lib.Seq.{drop-drop}
+use Rattle.areas.specs.Words.{word}
 use Rattle.wire.specs.Bytes.{splice, u32Bytes}
 use Rattle.wire.proofs.Numbers.{length-bytes}
 use Rattle.wire.proofs.Parts.{length-splice, drop-splice}
 use Rattle.wire.proofs.Words.{read-same, read-before, read-after}
-use Rattle.components.specs.Forests.{word, Usable, Kept}
+use Rattle.components.specs.Forests.{Usable, Kept}
 
 -- q is p with v at i
 pub record Upd (p q : ℕ → ℕ) (i v : ℕ) : Type 0 where

@@ -3,13 +3,9 @@ use mathlib.Core.Path.{_≡_}
 use mathlib.Core.List.{List}
 use Prim.Native.Nat.{ℕ, _+_, _*_, _≤_, _<_}
 use lib.ListN.{length, drop}
-use Rattle.wire.specs.Bytes.{u32At}
 use Rattle.graph.specs.Path.{Edge}
 use Rattle.graph.specs.Parts.{part}
-
--- the word of a vertex
-abbrev pub word : List ℕ → ℕ → ℕ
-word w i = u32At w (4 * i)
+use Rattle.areas.specs.Words.{word}
 
 -- i fits a word, the words up to i are in the bytes, and no parent comes after its vertex
 pub record Usable (i : ℕ) (w : List ℕ) : Type 0 where

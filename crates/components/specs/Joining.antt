@@ -8,7 +8,8 @@ use Rattle.graph.specs.Path.{Edge}
 use Rattle.graph.specs.Labelling.{Among}
 use Rattle.grid.specs.Steps.{stepOf}
 use Rattle.areas.specs.Open.{later, bitAt, named}
-use Rattle.components.specs.Forests.{word, Usable, Forest, Kept}
+use Rattle.areas.specs.Words.{word}
+use Rattle.components.specs.Forests.{Usable, Forest, Kept}
 use Rattle.components.specs.Numbered.{walks}
 
 -- every edge that the open bytes name leads between two walkable cells

@@ -1,15 +1,13 @@
 -- The labels of cells in bytes.
 use mathlib.Core.Path.{_≡_}
 use mathlib.Core.Bool.{Bool, cond}
-use mathlib.Core.List.{List, map, flatMap}
+use mathlib.Core.List.{List, flatMap}
 use Prim.Native.Nat.{ℕ, _+_, _%_}
 use lib.Dec.{eqb}
 use lib.ListN.{getD}
-use Rattle.order.specs.Lists.{upFrom}
 use Rattle.wire.specs.Bytes.{splice, u32Bytes}
 use Rattle.graph.specs.Path.{Edge}
 use Rattle.graph.specs.Labels.{labels, labelCount}
-use Rattle.components.specs.Forests.{word}
 
 -- the byte of a cell says that it is walkable
 abbrev pub walks : List ℕ → ℕ → Bool
@@ -18,10 +16,6 @@ walks cells i = eqb (getD cells i 0 % 2) 1
 -- the label of cell i, where the cells before it have theirs, the others their parents, and `count` labels are in use
 abbrev pub nextLabel : Bool → (ℕ → ℕ) → ℕ → ℕ → ℕ
 nextLabel on p i count = cond on (cond (eqb (p i) i) (count + 1) (p (p i))) 0
-
--- the first n words
-abbrev pub words : ℕ → List ℕ → List ℕ
-words n w = map (word w) (upFrom 0 n)
 
 -- w is s with the labels of the first n vertices in its first words, and there are `count` labels
 pub record Numbered (n : ℕ) (on : ℕ → Bool) (es : List Edge) (s w : List ℕ) (count : ℕ) : Type 0 where

@@ -6,7 +6,7 @@ ghost use lib.Dec.{eqb};
 ghost use lib.ListN.{length, replicate};
 ghost use Rattle.wire.specs.Bytes.{splice};
 ghost use Rattle.areas.specs.Areas.{cellCount};
-ghost use Rattle.components.specs.Numbered.{words};
+ghost use Rattle.areas.specs.Words.{labelsIn};
 use wire::read_u32;
 
 fn tally(a: u32, b: u32) -> u32
@@ -18,7 +18,7 @@ fn tally(a: u32, b: u32) -> u32
 // How many of the first n words are the label.
 pub fn count_cells(work: &[u8], n: usize, label: u32) -> u32
     requires { ⌜ (n ≤ 1048576) × (4 * n ≤ length (now work)) ⌝ }
-    ensures { λ r. ⌜ r ≡ cellCount (words n (now (work .entry))) label ⌝ }
+    ensures { λ r. ⌜ r ≡ cellCount (labelsIn (now (work .entry)) n) label ⌝ }
 {
     let mut count: u32 = 0;
     let mut i: usize = 0;

@@ -2,8 +2,8 @@
 ghost use mathlib.Core.Path.{_≡_};
 ghost use Prim.Native.Nat.{ℕ, _+_, _*_, _≤_, _<_};
 ghost use lib.ListN.{length, getD};
+ghost use Rattle.areas.specs.Words.{word};
 ghost use Rattle.wire.specs.Bytes.{part};
-ghost use Rattle.components.specs.Forests.{word};
 ghost use Rattle.components.specs.Joining.{Ready, Within, JoinedFrom, JoinedAll};
 use crate::parents::join_if;
 

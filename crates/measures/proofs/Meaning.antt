@@ -15,6 +15,7 @@ use Rattle.wire.specs.Bytes.{u32At}
 use Rattle.position.specs.declared.Span.{Span}
 use Rattle.grid.specs.Cells.{Grid}
 use Rattle.areas.specs.Spans.{spanIn}
+use Rattle.areas.specs.Words.{labelsIn}
 use Rattle.links.specs.Limits.{Limits}
 use Rattle.links.specs.Link.{Link, linkOf}
 use Rattle.links.specs.Measure.{Measured as Measure, measured, passing}
@@ -23,7 +24,7 @@ use Rattle.links.specs.HeldLink.{side, linkAfter, measuredIn}
 use Rattle.links.specs.declared.link.Link.{Link as LinkHeld}
 use Rattle.links.proofs.Cells.{after-measured}
 use Rattle.topology.specs.RegionStats.{RegionStats, regionCells, regionStats, elevations}
-use Rattle.topology.specs.Held.{statsIn, statsAfter, labelsOf, firstCells}
+use Rattle.topology.specs.Held.{statsIn, statsAfter, firstCells}
 use Rattle.topology.specs.declared.stats.RegionStats.{RegionStats as StatsHeld}
 use Rattle.topology.specs.Listing.{Item}
 use Rattle.topology.proofs.Counting.{after-all, cells-all}
@@ -154,10 +155,6 @@ none-measured e = record {
   passing-is = λ dirs l ramps B labels k b first second. absurd (omega (arith, b));
   flat-is = λ dirs l ramps B labels k b first second. absurd (omega (arith, b));
 }
-
-pub labels-many : (s : List ℕ) (n : ℕ) → length (labelsOf s n) ≡ n
-unfolding labelsOf
-labels-many s n = length-rows n (λ i. u32At s (i * 4))
 
 -- by labels that are the same
 pub measured-by : {limits : Limits} {own bits regions firsts seconds : List ℕ} {g : Grid} {ls ms : List ℕ} {n links : ℕ} {ps fs : List ℕ} → length ms ≡ n → ls ≡ ms

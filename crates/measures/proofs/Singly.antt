@@ -4,12 +4,12 @@ use mathlib.Core.Bool.{cond}
 use mathlib.Core.List.{List}
 use Prim.Native.Nat.{ℕ, _+_, _*_, _/_, _%_, _<_}
 use lib.Dec.{eqb}
+use Rattle.areas.specs.Words.{word, labelsIn}
 use Rattle.wire.specs.Bytes.{u32At}
 use Rattle.links.specs.Limits.{Limits}
 use Rattle.links.specs.HeldLink.{withCell, linkAfter}
 use Rattle.links.specs.declared.link.Link.{Link as LinkHeld}
 use Rattle.links.proofs.Cells.{after-none, after-next}
-use Rattle.topology.specs.Held.{labelsOf}
 use Rattle.topology.proofs.CountLoop.{pass-next}
 use Rattle.measures.specs.Judging.{AllCells}
 use Rattle.measures.proofs.Turns.{no-cells}
@@ -17,8 +17,8 @@ use Rattle.measures.proofs.Turns.{no-cells}
 pub one-start : (limits : Limits) (width : ℕ) (ls : List ℕ) (region : ℕ) (start : LinkHeld) → AllCells limits width ls region 0 start start
 one-start limits width ls region start k e = e ∙ (after-none limits k width ∙ ap (λ (cs : List ℕ). linkAfter limits k width cs) (no-cells ls region))
 
-pub one-next : (limits : Limits) (width : ℕ) (bytes : List ℕ) (n region : ℕ) {i : ℕ} {start link t : LinkHeld} → AllCells limits width (labelsOf bytes n) region i start link
-    → i < n → {v : ℕ} → v ≡ u32At bytes (i * 4) → t ≡ cond (eqb region v) (withCell limits link (i % width) (i / width)) link → AllCells limits width (labelsOf bytes n) region (i + 1) start t
+pub one-next : (limits : Limits) (width : ℕ) (bytes : List ℕ) (n region : ℕ) {i : ℕ} {start link t : LinkHeld} → AllCells limits width (labelsIn bytes n) region i start link
+    → i < n → {v : ℕ} → v ≡ word bytes i → t ≡ cond (eqb region v) (withCell limits link (i % width) (i / width)) link → AllCells limits width (labelsIn bytes n) region (i + 1) start t
 one-next limits width bytes n region {i} now l q f k e =
     pass-next (linkAfter limits k width) bytes n region (now k e) l q (λ cs h. ap (λ (x : LinkHeld). withCell limits x (i % width) (i / width)) h ∙ after-next limits k width cs i) f
 

@@ -16,14 +16,15 @@ use Rattle.order.specs.Lists.{keep, upFrom}
 use Rattle.grid.specs.Cells.{Grid, Whole, size, cellAt}
 use Rattle.grid.proofs.Index.{column-of, row-of, row-in}
 use Rattle.areas.specs.Areas.{labelAt}
+use Rattle.areas.specs.Words.{word, labelsIn}
+use Rattle.areas.proofs.Words.{label-in}
 use Rattle.links.specs.Limits.{Limits}
 use Rattle.links.specs.HeldLink.{noCell, withCell, linkAfter}
 use Rattle.links.specs.declared.link.Link.{Link as LinkHeld}
 use Rattle.links.proofs.Cells.{after-none, after-next}
-use Rattle.topology.specs.Held.{Room, NoCells, withCell as withStats, statsAfter, labelsOf, firstCells}
+use Rattle.topology.specs.Held.{Room, NoCells, withCell as withStats, statsAfter, firstCells}
 use Rattle.topology.specs.declared.stats.RegionStats.{RegionStats as StatsHeld}
 use Rattle.topology.proofs.Counting.{after-next as stats-next, after-room, cells-in, cells-out, cells-most}
-use Rattle.topology.proofs.Bases.{label-is}
 use Rattle.measures.specs.Tables.{numberOf, Numbered}
 use Rattle.measures.specs.Judging.{valueIn, Filled, linkNow, statsNow, Running}
 
@@ -87,13 +88,13 @@ module _ {limits : Limits} {own bits regions firsts seconds : List ℕ} {g : Gri
   pass-end {links} {table = table} {stats = stats} e R = subst (λ (z : ℕ). Running limits own bits regions firsts seconds g ls links z table stats) e R
 
 module _ {limits : Limits} {own bits regions firsts seconds : List ℕ} {g : Grid} {work : List ℕ} {n links i : ℕ} {table : List LinkHeld} {stats : List StatsHeld}
-    (N : Numbered work n regions links) (on : i < n) (R : Running limits own bits regions firsts seconds g (labelsOf work n) links i table stats)
-    (v : ℕ) (number : v ≡ numberOf work n (u32At work (i * 4))) where
+    (N : Numbered work n regions links) (on : i < n) (R : Running limits own bits regions firsts seconds g (labelsIn work n) links i table stats)
+    (v : ℕ) (number : v ≡ numberOf work n (word work i)) where
   abbrev ls : List ℕ
-  ls = labelsOf work n
+  ls = labelsIn work n
 
-  label : labelAt ls i ≡ u32At work (i * 4)
-  label = label-is work n i on
+  label : labelAt ls i ≡ word work i
+  label = label-in work n i on
 
   -- a link with another number has another region
   other : (k : ℕ) → k < links → (v ≡ k + 1 → ⊥) → eqb (at regions k) (labelAt ls i) ≡ false
@@ -120,12 +121,12 @@ module _ {limits : Limits} {own bits regions firsts seconds : List ℕ} {g : Gri
   module _ {j : ℕ} (some : v ≡ 0 → ⊥) (e : j ≡ v - 1) where
     -- link j has it
     pub turn-on : j < links
-    turn-on = omega (arith, N .within (u32At work (i * 4)) (N .most i on), number, some, e)
+    turn-on = omega (arith, N .within (word work i) (N .most i on), number, some, e)
 
-    mine : at regions j ≡ u32At work (i * 4)
+    mine : at regions j ≡ word work i
     mine =
-        let q : j ≡ numberOf work n (u32At work (i * 4)) - 1 = omega (arith, number, e) in
-        ap (λ (z : ℕ). at regions z) q ∙ N .named (u32At work (i * 4)) (N .most i on) (omega (arith, number, some))
+        let q : j ≡ numberOf work n (word work i) - 1 = omega (arith, number, e) in
+        ap (λ (z : ℕ). at regions z) q ∙ N .named (word work i) (N .most i on) (omega (arith, number, some))
 
     more-cells : firstCells ls (at regions j) i ++ (i ∷ []) ≡ firstCells ls (at regions j) (i + 1)
     more-cells =

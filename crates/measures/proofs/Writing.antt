@@ -7,11 +7,12 @@ use native.Mathlib.Omega.{arith}
 use native.Mathlib.Decide.{ℕ-discrete}
 use borrow.Author.Tests.{eq-eqb, ne-eqb}
 use lib.ListN.{length}
+use Rattle.areas.specs.Words.{word, labelsIn}
+use Rattle.areas.proofs.Words.{labels-same}
 use Rattle.lists.specs.Rows.{at}
 use Rattle.lists.proofs.Rows.{rows-same}
 use Rattle.wire.specs.Bytes.{u32At, u32Bytes, splice}
 use Rattle.wire.proofs.Words.{four-bytes}
-use Rattle.topology.specs.Held.{labelsOf}
 use Rattle.bridges.specs.Names.{Table}
 use Rattle.walk.specs.Slices.{put}
 use Rattle.walk.proofs.Puts.{put-at, put-off}
@@ -95,20 +96,19 @@ clear-end {start} {work} {n} L C =
     (λ x l. by-cases (ℕ-discrete (C .words x) 0) (λ e. e) (λ e. let o = C .left-over x (omega (arith, e)) in absurd (omega (arith, o .from, o .inside)))) (λ x l. refl)
 
 module _ {start work : List ℕ} {n : ℕ} {regions : List ℕ} {links : ℕ} (L : Labels start n) (W : Written start work n regions links) where
-  same-label : (i : ℕ) → i < n → u32At work (i * 4) ≡ u32At start (i * 4)
+  same-label : (i : ℕ) → i < n → word work i ≡ word start i
   same-label i l =
-      let a = four-bytes work (i * 4) (omega (arith, L .room, W .table .as-long)) in
-      let b = four-bytes start (i * 4) (omega (arith, L .room)) in
-      let t0 = W .table .before (i * 4) (omega arith) in
-      let t1 = W .table .before (i * 4 + 1) (omega arith) in
-      let t2 = W .table .before (i * 4 + 2) (omega arith) in
-      let t3 = W .table .before (i * 4 + 3) (omega arith) in
+      let a = four-bytes work (4 * i) (omega (arith, L .room, W .table .as-long)) in
+      let b = four-bytes start (4 * i) (omega (arith, L .room)) in
+      let t0 = W .table .before (4 * i) (omega arith) in
+      let t1 = W .table .before (4 * i + 1) (omega arith) in
+      let t2 = W .table .before (4 * i + 2) (omega arith) in
+      let t3 = W .table .before (4 * i + 3) (omega arith) in
       omega (arith, a, b, t0, t1, t2, t3)
 
   -- the labels are as they were
-  pub written-labels : labelsOf work n ≡ labelsOf start n
-  unfolding labelsOf
-  written-labels = rows-same n (λ i. u32At work (i * 4)) (λ i. u32At start (i * 4)) same-label
+  pub written-labels : labelsIn work n ≡ labelsIn start n
+  written-labels = labels-same work n start same-label
 
   word-is : (r : ℕ) → 0 < r → r ≤ n → numberOf work n r ≡ W .words (r - 1)
   word-is r p l = let h = ne-eqb r 0 (λ e. omega arith) in rw h (W .table .word (r - 1) (omega arith))

@@ -7,6 +7,7 @@ use lib.Dec.{eqb}
 use lib.ListN.{length}
 use Rattle.lists.specs.Rows.{at}
 use Rattle.wire.specs.Bytes.{u32At}
+use Rattle.areas.specs.Words.{word}
 use Rattle.bridges.specs.Names.{Table}
 
 -- the regions of the links are different labels from 1 to n
@@ -19,7 +20,7 @@ pub record Regions (regions : List ℕ) (links n : ℕ) : Type 0 where
 -- n labels, each at most n, and n words of 0
 pub record Labels (work : List ℕ) (n : ℕ) : Type 0 where
   pub room : 8 * n ≤ length work
-  pub most : (i : ℕ) → i < n → u32At work (i * 4) ≤ n
+  pub most : (i : ℕ) → i < n → word work i ≤ n
   pub clear : (x : ℕ) → x < n → u32At work (4 * n + 4 * x) ≡ 0
 
 -- the table of a start has the numbers of the first k links
@@ -50,7 +51,7 @@ numberOf work n r = cond (eqb r 0) 0 (u32At work (4 * n + 4 * (r - 1)))
 pub record Numbered (work : List ℕ) (n : ℕ) (regions : List ℕ) (links : ℕ) : Type 0 where
   pub few : links ≤ 256
   pub room : 8 * n ≤ length work
-  pub most : (i : ℕ) → i < n → u32At work (i * 4) ≤ n
+  pub most : (i : ℕ) → i < n → word work i ≤ n
   pub within : (r : ℕ) → r ≤ n → numberOf work n r ≤ links
   pub named : (r : ℕ) → r ≤ n → 0 < numberOf work n r → at regions (numberOf work n r - 1) ≡ r
   pub own : (k : ℕ) → k < links → numberOf work n (at regions k) ≡ k + 1

@@ -5,9 +5,9 @@ ghost use Prim.Native.Nat.{ℕ, _*_, _/_, _%_, _<_, _≤_};
 ghost use lib.ListN.{length};
 ghost use Rattle.grid.specs.Cells.{Grid};
 ghost use Rattle.areas.specs.Spans.{Sides};
+ghost use Rattle.areas.specs.Words.{labelsIn};
 ghost use Rattle.links.specs.HeldLimits.{limitsOf};
 ghost use Rattle.links.specs.HeldLink.{withCell};
-ghost use Rattle.topology.specs.Held.{labelsOf};
 ghost use Rattle.measures.specs.Judging.{Plain, Ranks, Judged, AllCells};
 use crate::flat_mark;
 use crate::link_at;
@@ -40,12 +40,12 @@ fn measure_one(
     limits: Limits,
 ) -> Link
     requires { ⌜ (0 < width) × (n ≤ 1048576) × (n * 4 ≤ length (now labels)) ⌝ }
-    ensures { λ r. ⌜ AllCells (limitsOf limits) width (labelsOf (now (labels .entry)) n) region n start r ⌝ }
+    ensures { λ r. ⌜ AllCells (limitsOf limits) width (labelsIn (now (labels .entry)) n) region n start r ⌝ }
 {
     let mut link = start;
     let mut i: usize = 0;
     while i < n {
-        let label = read_u32(labels, i * 4);
+        let label = read_u32(labels, 4 * i);
         link = counted(link, region == label, i, width, limits);
         i += 1;
     }
@@ -69,7 +69,7 @@ pub fn measure_few(
     flat: &mut [u8; 256],
 )
     requires { ⌜ Sides width height × (length (now cells) ≡ width * height) × Plain (now own) (now bits) × Ranks (now firsts) (now seconds) links × (links ≤ 256) × (length (now cells) * 4 ≤ length (now work)) ⌝ }
-    ensures { λ _. ⌜ Judged (limitsOf limits) (now (own .entry)) (now (bits .entry)) (now (regions .entry)) (now (firsts .entry)) (now (seconds .entry)) (record { width = width; height = height; cells = now (cells .entry) }) (labelsOf (now (work .entry)) (length (now (cells .entry)))) (length (now (cells .entry))) links (now (passing .exit)) (now (flat .exit)) ⌝ }
+    ensures { λ _. ⌜ Judged (limitsOf limits) (now (own .entry)) (now (bits .entry)) (now (regions .entry)) (now (firsts .entry)) (now (seconds .entry)) (record { width = width; height = height; cells = now (cells .entry) }) (labelsIn (now (work .entry)) (length (now (cells .entry)))) (length (now (cells .entry))) links (now (passing .exit)) (now (flat .exit)) ⌝ }
 {
     *passing = [0u8; 256];
     *flat = [0u8; 256];

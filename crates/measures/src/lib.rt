@@ -9,10 +9,10 @@ ghost use lib.ListN.{length};
 ghost use Rattle.wire.specs.Bytes.{u32At, u32Bytes, splice};
 ghost use Rattle.grid.specs.Cells.{Grid};
 ghost use Rattle.areas.specs.Spans.{Sides};
+ghost use Rattle.areas.specs.Words.{word, labelsIn};
 ghost use Rattle.links.specs.HeldLimits.{limitsOf};
 ghost use Rattle.links.specs.HeldLink.{noCell, measuredIn};
 ghost use Rattle.links.specs.Measure.{passing};
-ghost use Rattle.topology.specs.Held.{labelsOf};
 ghost use Rattle.measures.specs.Tables.{Regions, Labels, Written, Numbered, numberOf};
 ghost use Rattle.measures.specs.Judging.{Plain, Ranks, valueIn, flatIn, Judged, Measured};
 use few::measure_few;
@@ -65,10 +65,10 @@ fn clear_all(work: &mut [u8], n: usize, regions: &[u32; 256], links: u32)
 
 // What the table says of a cell's label: 0, or the number of a link and 1.
 fn number_at(work: &[u8], n: usize, i: usize) -> u32
-    requires { ⌜ (i < n) × (n ≤ 0x10_0000) × (8 * n ≤ length (now work)) × (u32At (now work) (i * 4) ≤ n) ⌝ }
-    ensures { λ r. ⌜ r ≡ numberOf (now (work .entry)) n (u32At (now (work .entry)) (i * 4)) ⌝ }
+    requires { ⌜ (i < n) × (n ≤ 0x10_0000) × (8 * n ≤ length (now work)) × (word (now work) i ≤ n) ⌝ }
+    ensures { λ r. ⌜ r ≡ numberOf (now (work .entry)) n (word (now (work .entry)) i) ⌝ }
 {
-    let label = read_u32(work, i * 4);
+    let label = read_u32(work, 4 * i);
     if label == 0 {
         return 0;
     }
@@ -137,7 +137,7 @@ fn measure_all(
     flat: &mut [u8; 256],
 )
     requires { ⌜ Sides width height × (length (now cells) ≡ width * height) × Plain (now own) (now bits) × Ranks (now firsts) (now seconds) links × Numbered (now work) (length (now cells)) (now regions) links ⌝ }
-    ensures { λ _. ⌜ Judged (limitsOf limits) (now (own .entry)) (now (bits .entry)) (now (regions .entry)) (now (firsts .entry)) (now (seconds .entry)) (record { width = width; height = height; cells = now (cells .entry) }) (labelsOf (now (work .entry)) (length (now (cells .entry)))) (length (now (cells .entry))) links (now (passing .exit)) (now (flat .exit)) ⌝ }
+    ensures { λ _. ⌜ Judged (limitsOf limits) (now (own .entry)) (now (bits .entry)) (now (regions .entry)) (now (firsts .entry)) (now (seconds .entry)) (record { width = width; height = height; cells = now (cells .entry) }) (labelsIn (now (work .entry)) (length (now (cells .entry)))) (length (now (cells .entry))) links (now (passing .exit)) (now (flat .exit)) ⌝ }
 {
     *passing = [0u8; 256];
     *flat = [0u8; 256];
@@ -196,7 +196,7 @@ pub fn measure_links(
 )
     requires { ⌜ Sides width height × (length (now cells) ≡ width * height) × Labels (now work) (length (now cells)) × Regions (now regions) links (length (now cells)) × Ranks (now firsts) (now seconds) links × Plain (now own) (now bits) ⌝ }
     ensures work { λ _. ⌜ now (work .exit) ≡ now (work .entry) ⌝ }
-    ensures marks { λ _. ⌜ Measured (limitsOf limits) (now (own .entry)) (now (bits .entry)) (now (regions .entry)) (now (firsts .entry)) (now (seconds .entry)) (record { width = width; height = height; cells = now (cells .entry) }) (labelsOf (now (work .entry)) (length (now (cells .entry)))) links (now (passing .exit)) (now (flat .exit)) ⌝ }
+    ensures marks { λ _. ⌜ Measured (limitsOf limits) (now (own .entry)) (now (bits .entry)) (now (regions .entry)) (now (firsts .entry)) (now (seconds .entry)) (record { width = width; height = height; cells = now (cells .entry) }) (labelsIn (now (work .entry)) (length (now (cells .entry)))) links (now (passing .exit)) (now (flat .exit)) ⌝ }
 {
     if links == 0 {
         return;

@@ -8,7 +8,7 @@ use lib.Seq.{ext-getD}
 use Rattle.lists.specs.Rows.{rows}
 use Rattle.lists.proofs.Rows.{length-rows, rows-at}
 use Rattle.order.proofs.Members.{getD-mem}
-use Rattle.wire.specs.Bytes.{splice, u32At, u32Bytes}
+use Rattle.wire.specs.Bytes.{splice, u32Bytes}
 use Rattle.position.specs.declared.Span.{Span}
 use Rattle.graph.specs.Records.{Record, recordIn, recordsIn}
 use Rattle.grid.specs.Cells.{Grid, size}
@@ -18,8 +18,8 @@ use Rattle.areas.specs.Spans.{spanIn, spansIn}
 use Rattle.areas.proofs.Areas.{area-labels-length, label-at-most}
 use Rattle.areas.proofs.Assessments.{pair-labels}
 use Rattle.areas.proofs.Records.{records-iff}
-use Rattle.components.proofs.LabelWords.{area-count-few, area-label-small, word-read}
-use Rattle.assessments.specs.Holding.{labelsOf}
+use Rattle.areas.specs.Words.{labelsIn}
+use Rattle.components.proofs.LabelWords.{area-count-few, area-labels-read}
 use Rattle.assessments.specs.Recording.{assessed, recordsOf, Recorded}
 use Rattle.partition.specs.Partitioned.{labelled, AreasIn, Regions, Partitioned}
 use Rattle.partition.proofs.Labelling.{flat-long}
@@ -35,17 +35,8 @@ over-nothing bs = ap (λ (t : List ℕ). bs ++ t) (drop-none (0 + length bs)) �
 
 module _ (dirs : List ℕ) (g : Grid) (few : size g ≤ 1048576) where
   -- the labels read back
-  pub labels-read : (ss : List Span) (bytes : List ℕ) → bytes ≡ flatMap u32Bytes (areaLabels dirs g ss) → labelsOf bytes (size g) ≡ areaLabels dirs g ss
-  unfolding labelsOf
-  labels-read ss bytes e =
-      ext-getD 0 (rows (size g) (λ i. u32At bytes (4 * i))) (areaLabels dirs g ss) (length-rows (size g) (λ i. u32At bytes (4 * i)) ∙ sym (area-labels-length dirs g ss))
-      (λ i l. here i (omega (arith, l, length-rows (size g) (λ (k : ℕ). u32At bytes (4 * k)))))
-    where
-      here : (i : ℕ) → i < size g → getD (rows (size g) (λ k. u32At bytes (4 * k))) i 0 ≡ labelAt (areaLabels dirs g ss) i
-      here i l =
-          rows-at (size g) (λ k. u32At bytes (4 * k)) i 0 l
-          ∙ (ap (λ (b : List ℕ). u32At b (4 * i)) (e ∙ sym (over-nothing (flatMap u32Bytes (areaLabels dirs g ss))))
-          ∙ word-read [] (areaLabels dirs g ss) i (omega (arith, area-labels-length dirs g ss)) (area-label-small dirs g ss few i l))
+  pub labels-read : (ss : List Span) (bytes : List ℕ) → bytes ≡ flatMap u32Bytes (areaLabels dirs g ss) → labelsIn bytes (size g) ≡ areaLabels dirs g ss
+  labels-read ss bytes e = ap (λ (b : List ℕ). labelsIn b (size g)) (e ∙ sym (over-nothing (flatMap u32Bytes (areaLabels dirs g ss)))) ∙ area-labels-read dirs g ss few []
 
   -- a record is of a span of the list, and between two areas
   record-in : (ss : List Span) (d : Span) (r : Record) → List·Memᴰ r (records dirs g ss) → (r .owner < length ss) × Regions (size g) (r .left) (r .right)
@@ -135,8 +126,8 @@ module _ (dirs : List ℕ) (g : Grid) (ss : List Span) {before w : List ℕ} {a 
   pub lent-long : {p : ℕ} → size g ≡ p → length (take (4 * size g - 0) (drop 0 w)) ≡ 4 * p
   lent-long h = ap length lent-is ∙ (flat-long dirs g ss ∙ ap (λ (n : ℕ). 4 * n) h)
 
-  pub lent-labels : size g ≤ 1048576 → {p : ℕ} → size g ≡ p → labelsOf (take (4 * size g - 0) (drop 0 w)) p ≡ areaLabels dirs g ss
-  lent-labels few h = ap (labelsOf (take (4 * size g - 0) (drop 0 w))) (sym h) ∙ labels-read dirs g few ss (take (4 * size g - 0) (drop 0 w)) lent-is
+  pub lent-labels : size g ≤ 1048576 → {p : ℕ} → size g ≡ p → labelsIn (take (4 * size g - 0) (drop 0 w)) p ≡ areaLabels dirs g ss
+  lent-labels few h = ap (labelsIn (take (4 * size g - 0) (drop 0 w))) (sym h) ∙ labels-read dirs g few ss (take (4 * size g - 0) (drop 0 w)) lent-is
 
   pub room-after : 10 * size g ≤ length before → 10 * size g ≤ length w
   room-after h = omega (arith, areas .long)
@@ -144,7 +135,7 @@ module _ (dirs : List ℕ) (g : Grid) (ss : List Span) {before w : List ℕ} {a 
 -- all parts of the partition
 pub all-parted : (dirs : List ℕ) (g : Grid) (ends : List ℕ) (count : ℕ) → size g ≤ 1048576 → {p : ℕ} → size g ≡ p →
     {before w w′ removed separated owners lefts rights : List ℕ} {most from to a r : ℕ} → AreasIn dirs g (spansIn ends count) before w a →
-    Recorded (labelsOf (take (4 * size g - 0) (drop 0 w)) p) dirs g most ends count removed separated owners lefts rights r →
+    Recorded (labelsIn (take (4 * size g - 0) (drop 0 w)) p) dirs g most ends count removed separated owners lefts rights r →
     w′ ≡ splice w from (replicate (to - from) 0) → from ≡ 4 * size g → to ≡ 10 * size g →
     Partitioned most dirs g ends count before w′ removed separated owners lefts rights (record { areas = a; pairs = r })
 all-parted dirs g ends count few h {before} {w} {w′} {removed} {separated} {owners} {lefts} {rights} {most} {from} {to} {a} {r} areas recorded e f t =

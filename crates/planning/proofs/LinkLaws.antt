@@ -7,7 +7,6 @@ use borrow.Author.Tests.{ltb-true, ltb-false}
 use lib.Dec.{ltb}
 use lib.ListN.{length, getD, length-map}
 use Rattle.lists.proofs.Rows.{length-rows, rows-at}
-use Rattle.wire.specs.Bytes.{u32At}
 use Rattle.order.proofs.Bools.{by-test}
 use Rattle.order.proofs.Members.{getD-mem}
 use Rattle.order.proofs.Pairs.{pairs-at}
@@ -18,7 +17,8 @@ use Rattle.grid.specs.Cells.{Grid, size}
 use Rattle.areas.specs.Assessments.{records}
 use Rattle.areas.proofs.Areas.{each-label-occurs}
 use Rattle.areas.proofs.Records.{records-iff}
-use Rattle.topology.specs.Held.{labelsOf}
+use Rattle.areas.specs.Words.{word, labelsIn}
+use Rattle.areas.proofs.Words.{label-in}
 use Rattle.topology.specs.Listing.{Item}
 use Rattle.groups.specs.Listing.{noSpan, spansOf}
 use Rattle.groups.specs.Regions.{regionLabels, regionCount}
@@ -33,11 +33,11 @@ use Rattle.plan.specs.Arrays.{Ranked}
 use Rattle.plan.proofs.FromTables.{is-link}
 
 -- a label that a cell can have is no more than the number of cells
-label-within : (dirs : List ℕ) (g : Grid) (l : List Item) (work : List ℕ) → labelsOf work (size g) ≡ regionLabels dirs g l → Labels work (size g) → (v : ℕ) → 0 < v → v ≤ regionCount dirs g l → v ≤ size g
-unfolding regionLabels regionCount labelsOf
+label-within : (dirs : List ℕ) (g : Grid) (l : List Item) (work : List ℕ) → labelsIn work (size g) ≡ regionLabels dirs g l → Labels work (size g) → (v : ℕ) → 0 < v → v ≤ regionCount dirs g l → v ≤ size g
+unfolding regionLabels regionCount
 label-within dirs g l work e L v p q =
     let w = each-label-occurs dirs g (spansOf l) v p q in
-    let x : u32At work (w .0 * 4) ≡ v = sym (rows-at (size g) (λ i. u32At work (i * 4)) (w .0) 0 (w .1)) ∙ (ap (λ (t : List ℕ). getD t (w .0) 0) e ∙ w .2) in
+    let x : word work (w .0) ≡ v = sym (label-in work (size g) (w .0) (w .1)) ∙ (ap (λ (t : List ℕ). getD t (w .0) 0) e ∙ w .2) in
     omega (arith, x, L .most (w .0) (w .1))
 
 module _ {dirs : List ℕ} {g : Grid} {anchors : List WalkPosition} {l : List Item} {regions firsts seconds : List ℕ} {r : ℕ} (L : Linked dirs g anchors l regions firsts seconds r) where
@@ -56,7 +56,7 @@ module _ {dirs : List ℕ} {g : Grid} {anchors : List WalkPosition} {l : List It
       let y : getD (links dirs g anchors l) k noLink .region ≡ getD regions k 0 = ap (λ (t : LinkAt). t .region) (row-at k m) in
       omega (arith, p, x, y)
 
-  pub regions-are : {work : List ℕ} → labelsOf work (size g) ≡ regionLabels dirs g l → Labels work (size g) → Regions regions r (size g)
+  pub regions-are : {work : List ℕ} → labelsIn work (size g) ≡ regionLabels dirs g l → Labels work (size g) → Regions regions r (size g)
   regions-are {work} e B = record {
     few = L .most;
     from = λ k h. is-link L k h .some;

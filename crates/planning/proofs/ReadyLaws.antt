@@ -11,7 +11,8 @@ use Rattle.position.specs.declared.WalkPosition.{WalkPosition}
 use Rattle.links.specs.Limits.{Limits}
 use Rattle.grid.specs.Cells.{Grid}
 use Rattle.areas.specs.Spans.{Sides}
-use Rattle.topology.specs.Held.{labelsOf}
+use Rattle.areas.specs.Words.{labelsIn}
+use Rattle.areas.proofs.Words.{labels-same}
 use Rattle.topology.specs.Listing.{Item}
 use Rattle.groups.specs.Tables.{Linked}
 use Rattle.candidates.specs.Gives.{OnMap, OwnBounded}
@@ -37,11 +38,11 @@ unfolding part
 lent-long work m h = omega (arith, length-part work 0 (4 * m - 0) (omega arith))
 
 -- they have all labels
-lent-labels : (work : List ℕ) (m : ℕ) → labelsOf (lent work m) m ≡ labelsOf work m
-unfolding labelsOf numberAt part
+lent-labels : (work : List ℕ) (m : ℕ) → labelsIn (lent work m) m ≡ labelsIn work m
+unfolding numberAt part
 lent-labels work m =
-    rows-same m (λ i. u32At (lent work m) (i * 4)) (λ i. u32At work (i * 4))
-    (λ i h. ap number (part-part work 0 (4 * m - 0) (i * 4) 4 (omega arith)) ∙ ap (λ (k : ℕ). number (part work k 4)) (let z : 0 + i * 4 ≡ i * 4 = omega arith in z))
+    labels-same (lent work m) m work
+    (λ i h. ap number (part-part work 0 (4 * m - 0) (4 * i) 4 (omega arith)) ∙ ap (λ (k : ℕ). number (part work k 4)) (let z : 0 + 4 * i ≡ 4 * i = omega arith in z))
 
 module _ {job : List ℕ} {start bases : ℕ} {cells : List ℕ} {width height n : ℕ} {own bits ramps work removed separated owners lefts rights : List ℕ} {records : ℕ}
     (R : Ready job start bases cells width height n own bits ramps work removed separated owners lefts rights records) where
@@ -67,9 +68,9 @@ module _ {job : List ℕ} {start bases : ℕ} {cells : List ℕ} {width height n
   findable = (on-map, few, own-bounded, R .stored, owned)
 
   module _ {counts lowers highers regions firsts seconds : List ℕ} {r : ℕ}
-      (A : Answer job start bases width (labelsOf (lent work (length cells)) (length cells)) n own ramps removed separated owners lefts rights records counts lowers highers regions firsts seconds r) where
+      (A : Answer job start bases width (labelsIn (lent work (length cells)) (length cells)) n own ramps removed separated owners lefts rights records counts lowers highers regions firsts seconds r) where
     -- the links of a listing that the arrays tell of
-    linked : (dirs : List ℕ) (anchors : List WalkPosition) (l : List Item) (marks : List ℕ) → Listed dirs (mapOf width height cells) l n own bits ramps (labelsOf work (length cells)) removed separated owners lefts rights records marks
+    linked : (dirs : List ℕ) (anchors : List WalkPosition) (l : List Item) (marks : List ℕ) → Listed dirs (mapOf width height cells) l n own bits ramps (labelsIn work (length cells)) removed separated owners lefts rights records marks
         → anchors ≡ anchorsIn job start bases → Linked dirs (mapOf width height cells) anchors l regions firsts seconds r
     linked dirs anchors l marks h e =
         A .linked dirs (mapOf width height cells) anchors l bits (h .count) (h .told) (h .counted) (h .paired) (lent-labels work (length cells) ∙ h .labelled) refl e
@@ -84,8 +85,8 @@ module _ {job : List ℕ} {start bases : ℕ} {cells : List ℕ} {width height n
     pub measurable : Sides width height × (length cells ≡ width * height) × Labels work (length cells) × Regions regions r (length cells) × Ranks firsts seconds r × Plain own bits
     measurable = (R .sides, R .whole, R .labels, regions-are own-links (R .listed .labelled) (R .labels), ranks-are few ranked-found, R .plain)
 
-    module _ {limits : Limits} {passing flat : List ℕ} (M : Measured limits own bits regions firsts seconds (mapOf width height cells) (labelsOf work (length cells)) r passing flat) where
-      pub links-found : LinksFrom limits job start bases (mapOf width height cells) n own bits ramps (labelsOf work (length cells)) removed separated owners lefts rights records lowers highers regions firsts seconds passing flat r
+    module _ {limits : Limits} {passing flat : List ℕ} (M : Measured limits own bits regions firsts seconds (mapOf width height cells) (labelsIn work (length cells)) r passing flat) where
+      pub links-found : LinksFrom limits job start bases (mapOf width height cells) n own bits ramps (labelsIn work (length cells)) removed separated owners lefts rights records lowers highers regions firsts seconds passing flat r
       links-found = record {
         ranked = ranked-found;
         each = λ dirs anchors l marks h e.

@@ -6,8 +6,8 @@ use lib.ListN.{length}
 use Rattle.format.specs.Sizes.{baseSize}
 use Rattle.grid.specs.Cells.{Grid}
 use Rattle.areas.specs.Spans.{Sides}
+use Rattle.areas.specs.Words.{labelsIn}
 use Rattle.topology.specs.AnchorLoop.{AnchorsIn}
-use Rattle.topology.specs.Held.{labelsOf}
 use Rattle.topology.specs.Listing.{Item}
 use Rattle.groups.specs.Regions.{regionLabels}
 use Rattle.groups.specs.Tables.{Boundaries, Counted, Paired, Bridged}
@@ -39,4 +39,4 @@ pub record Ready (job : List ℕ) (start bases : ℕ) (cells : List ℕ) (width 
   pub dirs : List ℕ
   pub items : List Item
   pub marks : List ℕ
-  pub listed : Listed dirs (mapOf width height cells) items n own bits ramps (labelsOf work (length cells)) removed separated owners lefts rights records marks
+  pub listed : Listed dirs (mapOf width height cells) items n own bits ramps (labelsIn work (length cells)) removed separated owners lefts rights records marks

@@ -2,8 +2,8 @@
 ghost use mathlib.Core.Path.{_≡_};
 ghost use Prim.Native.Nat.{_≤_};
 ghost use lib.ListN.{length};
+ghost use Rattle.areas.specs.Words.{labelsIn};
 ghost use Rattle.links.specs.HeldLimits.{limitsOf};
-ghost use Rattle.topology.specs.Held.{labelsOf};
 ghost use Rattle.planning.specs.Listed.{mapOf, Ready};
 ghost use Rattle.planning.specs.Planned.{LinksFrom, PlanFrom};
 use candidates::candidate_links;
@@ -41,7 +41,7 @@ fn measured_links(
 ) -> usize
     requires { ⌜ Ready (now job) «bases_at» bases (now cells) width height n (now own) (now bits) (now ramps) (now work) (now removed) (now separated) (now owners) (now lefts) (now rights) records ⌝ }
     ensures work { λ r. ⌜ now (work .exit) ≡ now (work .entry) ⌝ }
-    ensures links { λ r. ⌜ LinksFrom (limitsOf limits) (now (job .entry)) «bases_at» bases (mapOf width height (now (cells .entry))) n (now (own .entry)) (now (bits .entry)) (now (ramps .entry)) (labelsOf (now (work .entry)) (length (now (cells .entry)))) (now (removed .entry)) (now (separated .entry)) (now (owners .entry)) (now (lefts .entry)) (now (rights .entry)) records (now (lowers .exit)) (now (highers .exit)) (now (regions .exit)) (now (firsts .exit)) (now (seconds .exit)) (now (passing .exit)) (now (flat .exit)) r ⌝ }
+    ensures links { λ r. ⌜ LinksFrom (limitsOf limits) (now (job .entry)) «bases_at» bases (mapOf width height (now (cells .entry))) n (now (own .entry)) (now (bits .entry)) (now (ramps .entry)) (labelsIn (now (work .entry)) (length (now (cells .entry)))) (now (removed .entry)) (now (separated .entry)) (now (owners .entry)) (now (lefts .entry)) (now (rights .entry)) records (now (lowers .exit)) (now (highers .exit)) (now (regions .exit)) (now (firsts .exit)) (now (seconds .exit)) (now (passing .exit)) (now (flat .exit)) r ⌝ }
 {
     let m = cells.len();
     let mut counts = [0u32; 256];
@@ -111,7 +111,7 @@ pub fn plan_merges(
 )
     requires { ⌜ (3 ≤ limits .«least_spans») × (limits .«most_spans» ≤ 4) × Ready (now job) «bases_at» bases (now cells) width height n (now own) (now bits) (now ramps) (now work) (now removed) (now separated) (now owners) (now lefts) (now rights) records × (length (now into) ≡ 256) ⌝ }
     ensures work { λ _. ⌜ now (work .exit) ≡ now (work .entry) ⌝ }
-    ensures plan { λ _. ⌜ PlanFrom (limitsOf limits) (now (job .entry)) «bases_at» bases (mapOf width height (now (cells .entry))) n (now (own .entry)) (now (bits .entry)) (now (ramps .entry)) (labelsOf (now (work .entry)) (length (now (cells .entry)))) (now (removed .entry)) (now (separated .entry)) (now (owners .entry)) (now (lefts .entry)) (now (rights .entry)) records (now (marks .entry)) (now (into .exit)) ⌝ }
+    ensures plan { λ _. ⌜ PlanFrom (limitsOf limits) (now (job .entry)) «bases_at» bases (mapOf width height (now (cells .entry))) n (now (own .entry)) (now (bits .entry)) (now (ramps .entry)) (labelsIn (now (work .entry)) (length (now (cells .entry)))) (now (removed .entry)) (now (separated .entry)) (now (owners .entry)) (now (lefts .entry)) (now (rights .entry)) records (now (marks .entry)) (now (into .exit)) ⌝ }
 {
     let mut lowers = [0u32; 256];
     let mut highers = [0u32; 256];

@@ -7,33 +7,30 @@ use Prim.Native.Nat.{ℕ, zero, suc, _+_, _*_, _<_}
 use native.Mathlib.Numerals.{add-one}
 use lib.Dec.{eqb}
 use Rattle.lists.specs.Rows.{rows}
-use Rattle.lists.proofs.Rows.{rows-at, rows-last}
+use Rattle.lists.proofs.Rows.{rows-last}
 use Rattle.order.specs.Lists.{gather}
 use Rattle.position.specs.declared.WalkPosition.{WalkPosition}
-use Rattle.wire.specs.Bytes.{u32At}
 use Rattle.format.specs.Sizes.{baseSize}
 use Rattle.format.specs.Records.{baseAt}
 use Rattle.format.specs.Decode.{anchorOf, baseOf, baseRecords}
 use Rattle.format.specs.declared.records.BaseRecord.{BaseRecord}
 use Rattle.grid.specs.Cells.{Grid}
 use Rattle.areas.specs.Areas.{labelAt}
+use Rattle.areas.specs.Words.{word, labelsIn}
+use Rattle.areas.proofs.Words.{label-in}
 use Rattle.topology.specs.Anchors.{listed, anchorsOf, isAnchored}
-use Rattle.topology.specs.Held.{isNone, labelsOf}
+use Rattle.topology.specs.Held.{isNone}
 use Rattle.topology.specs.AnchorLoop.{Hit, anchorHit, anchoredBy}
 
 pub mul-as : {a b y w : ℕ} → a ≡ y → b ≡ w → a * b ≡ y * w
 mul-as e f = rw (e, f)
 
-pub label-is : (s : List ℕ) (n i : ℕ) → i < n → labelAt (labelsOf s n) i ≡ u32At s (i * 4)
-unfolding labelsOf
-label-is s n i h = rows-at n (λ k. u32At s (k * 4)) i 0 h
-
 pub not-hit : (ls : List ℕ) (width : ℕ) (p : WalkPosition) (r : ℕ) → isNone p ≡ true → false ≡ anchorHit ls width p r
 not-hit ls width p r h = rw h
 
-pub hit : (s : List ℕ) (n width : ℕ) (p : WalkPosition) (r : ℕ) {v i : ℕ} → isNone p ≡ false → p .y * width + p .x < n → v ≡ u32At s (i * 4) → i ≡ p .y * width + p .x
-    → eqb r v ≡ anchorHit (labelsOf s n) width p r
-hit s n width p r {v} {i} h l e f = let k : v ≡ labelAt (labelsOf s n) (p .y * width + p .x) = e ∙ (ap (λ (j : ℕ). u32At s (j * 4)) f ∙ sym (label-is s n (p .y * width + p .x) l)) in rw h (ap (eqb r) k)
+pub hit : (s : List ℕ) (n width : ℕ) (p : WalkPosition) (r : ℕ) {v i : ℕ} → isNone p ≡ false → p .y * width + p .x < n → v ≡ word s i → i ≡ p .y * width + p .x
+    → eqb r v ≡ anchorHit (labelsIn s n) width p r
+hit s n width p r {v} {i} h l e f = let k : v ≡ labelAt (labelsIn s n) (p .y * width + p .x) = e ∙ (ap (word s) f ∙ sym (label-in s n (p .y * width + p .x) l)) in rw h (ap (eqb r) k)
 
 pub base-next : (job : List ℕ) (at i width : ℕ) (ls : List ℕ) (r : ℕ) {b : BaseRecord} {h found : Bool} → b ≡ baseAt job (at + i * baseSize) → h ≡ anchorHit ls width (b .anchor) r
     → found ≡ anchoredBy job at i width ls r → (h || found) ≡ anchoredBy job at (i + 1) width ls r

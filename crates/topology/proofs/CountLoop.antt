@@ -14,10 +14,11 @@ use Rattle.order.proofs.Bools.{by-test}
 use Rattle.wire.specs.Bytes.{u32At}
 use Rattle.grid.specs.Cells.{Grid, columnOf, rowOf, cellAt}
 use Rattle.areas.specs.Areas.{labelAt}
+use Rattle.areas.specs.Words.{word, labelsIn}
+use Rattle.areas.proofs.Words.{labels-many, label-in}
 use Rattle.topology.specs.RegionStats.{regionStats}
-use Rattle.topology.specs.Held.{Room, withCell, statsAfter, statsIn, labelsOf, firstCells, NoCells}
+use Rattle.topology.specs.Held.{Room, withCell, statsAfter, statsIn, firstCells, NoCells}
 use Rattle.topology.specs.declared.stats.RegionStats.{RegionStats as StatsHeld}
-use Rattle.topology.proofs.Bases.{label-is}
 use Rattle.topology.proofs.Counting.{after-next, after-all, after-room, cells-in, cells-out, cells-most, cells-all}
 
 pub column-small : (i w : ℕ) → i < 1048576 → i % w < 1048576
@@ -37,9 +38,9 @@ unfolding firstCells keep upFrom
 count-start h g ls r = h .after g
 
 -- what some cells come to, after those of the region among the first i, and after one cell more
-pub pass-next : {A : Type 0} (after : List ℕ → A) (bytes : List ℕ) (n r : ℕ) {i : ℕ} {s : A} → s ≡ after (firstCells (labelsOf bytes n) r i)
-    → i < n → {v : ℕ} → v ≡ u32At bytes (i * 4) → {more : A} → ((cs : List ℕ) → s ≡ after cs → more ≡ after (cs ++ (i ∷ []))) → {t : A} → t ≡ cond (eqb r v) more s
-    → t ≡ after (firstCells (labelsOf bytes n) r (i + 1))
+pub pass-next : {A : Type 0} (after : List ℕ → A) (bytes : List ℕ) (n r : ℕ) {i : ℕ} {s : A} → s ≡ after (firstCells (labelsIn bytes n) r i)
+    → i < n → {v : ℕ} → v ≡ word bytes i → {more : A} → ((cs : List ℕ) → s ≡ after cs → more ≡ after (cs ++ (i ∷ []))) → {t : A} → t ≡ cond (eqb r v) more s
+    → t ≡ after (firstCells (labelsIn bytes n) r (i + 1))
 pass-next {A} after bytes n r {i} {s} now l {v} e {more} step {t} f =
     rw add-one
     (by-test (eqb r v)
@@ -47,21 +48,20 @@ pass-next {A} after bytes n r {i} {s} now l {v} e {more} step {t} f =
     (λ h. f ∙ (rw h (now ∙ ap after (sym (cells-out ls r i (same ∙ h)))))))
   where
     ls : List ℕ
-    ls = labelsOf bytes n
+    ls = labelsIn bytes n
 
     same : eqb r (labelAt ls i) ≡ eqb r v
-    same = ap (eqb r) (label-is bytes n i l ∙ sym e)
+    same = ap (eqb r) (label-in bytes n i l ∙ sym e)
 
-module _ (g : Grid) (bytes : List ℕ) (n r : ℕ) {i : ℕ} {s : StatsHeld} (now : s ≡ statsAfter g (firstCells (labelsOf bytes n) r i)) where
+module _ (g : Grid) (bytes : List ℕ) (n r : ℕ) {i : ℕ} {s : StatsHeld} (now : s ≡ statsAfter g (firstCells (labelsIn bytes n) r i)) where
   pub count-room : i < 1048576 → Room s
-  count-room h = rw now (after-room g (firstCells (labelsOf bytes n) r i) (omega (arith, cells-most (labelsOf bytes n) r i)))
+  count-room h = rw now (after-room g (firstCells (labelsIn bytes n) r i) (omega (arith, cells-most (labelsIn bytes n) r i)))
 
-  pub count-next : i < n → {v : ℕ} → v ≡ u32At bytes (i * 4) → {t : StatsHeld} → t ≡ cond (eqb r v) (withCell s (columnOf g i) (rowOf g i) (cellAt g i)) s → t ≡ statsAfter g (firstCells (labelsOf bytes n) r (i + 1))
+  pub count-next : i < n → {v : ℕ} → v ≡ word bytes i → {t : StatsHeld} → t ≡ cond (eqb r v) (withCell s (columnOf g i) (rowOf g i) (cellAt g i)) s → t ≡ statsAfter g (firstCells (labelsIn bytes n) r (i + 1))
   count-next l e f =
       pass-next (statsAfter g) bytes n r now l e (λ cs h. ap (λ (x : StatsHeld). withCell x (columnOf g i) (rowOf g i) (cellAt g i)) h ∙ after-next g cs i) f
 
-  pub count-end : i ≡ n → statsIn s ≡ regionStats g (labelsOf bytes n) r
-  unfolding labelsOf
+  pub count-end : i ≡ n → statsIn s ≡ regionStats g (labelsIn bytes n) r
   count-end e =
-      ap statsIn (now ∙ (ap (λ (k : ℕ). statsAfter g (firstCells (labelsOf bytes n) r k)) (e ∙ sym (length-rows n (λ (k : ℕ). u32At bytes (k * 4)))) ∙ ap (statsAfter g) (cells-all (labelsOf bytes n) r)))
-      ∙ after-all g (labelsOf bytes n) r
+      ap statsIn (now ∙ (ap (λ (k : ℕ). statsAfter g (firstCells (labelsIn bytes n) r k)) (e ∙ sym (labels-many bytes n)) ∙ ap (statsAfter g) (cells-all (labelsIn bytes n) r)))
+      ∙ after-all g (labelsIn bytes n) r

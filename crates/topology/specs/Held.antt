@@ -5,10 +5,8 @@ use mathlib.Core.List.{List, [], _∷_, map}
 use Prim.Native.Nat.{ℕ, _+_, _*_, _/_, _%_, _<_, min, max}
 use lib.Dec.{ltb, eqb}
 use lib.ListN.{length}
-use Rattle.lists.specs.Rows.{rows}
 use Rattle.order.specs.Lists.{keep, upFrom}
 use Rattle.position.specs.declared.WalkPosition.{WalkPosition}
-use Rattle.wire.specs.Bytes.{u32At}
 use Rattle.format.specs.Sizes.{noAnchor}
 use Rattle.grid.specs.Cells.{Grid, rampCell, elevation}
 use Rattle.areas.specs.Areas.{labelAt}
@@ -81,11 +79,6 @@ statsAfter g cs = record {
 -- After none, on any map.
 pub record NoCells (s : StatsHeld) : Type 0 where
   pub after : (g : Grid) → s ≡ statsAfter g []
-
--- n labels, each a u32.
-unfoldable pub labelsOf : List ℕ → ℕ → List ℕ
-unfolding rows
-labelsOf s n = rows n (λ i. u32At s (i * 4))
 
 -- Of the first n cells, those with the label.
 unfoldable pub firstCells : List ℕ → ℕ → ℕ → List ℕ

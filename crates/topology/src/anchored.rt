@@ -2,9 +2,9 @@
 ghost use mathlib.Core.Path.{_≡_};
 ghost use Prim.Native.Nat.{_+_, _*_, _<_, _≤_};
 ghost use lib.ListN.{length};
+ghost use Rattle.areas.specs.Words.{labelsIn};
 ghost use Rattle.format.specs.Sizes.{baseSize};
 ghost use Rattle.topology.specs.AnchorLoop.{Hit, AnchorsIn, anchorHit, anchoredBy};
-ghost use Rattle.topology.specs.Held.{labelsOf};
 use format::BASE_SIZE;
 use format::NO_ANCHOR;
 use format::read_base;
@@ -15,7 +15,7 @@ use wire::size;
 // The anchor's cell has the label.
 fn anchor_in(labels: &[u8], n: usize, width: u32, p: WalkPosition, region: u32) -> bool
     requires { ⌜ (n ≤ 1048576) × (n * 4 ≤ length (now labels)) × Hit p width n ⌝ }
-    ensures { λ r. ⌜ r ≡ anchorHit (labelsOf (now (labels .entry)) n) width p region ⌝ }
+    ensures { λ r. ⌜ r ≡ anchorHit (labelsIn (now (labels .entry)) n) width p region ⌝ }
 {
     let x = p.x;
     let y = p.y;
@@ -23,7 +23,7 @@ fn anchor_in(labels: &[u8], n: usize, width: u32, p: WalkPosition, region: u32) 
         return false;
     }
     let i = size(y) * size(width) + size(x);
-    region == read_u32(labels, i * 4)
+    region == read_u32(labels, 4 * i)
 }
 
 // Some base's anchor has a cell with the label.
@@ -37,7 +37,7 @@ pub fn is_anchored(
     region: u32,
 ) -> bool
     requires { ⌜ (at + count * baseSize ≤ length (now job)) × (n ≤ 1048576) × (n * 4 ≤ length (now labels)) × AnchorsIn (now job) at count width n ⌝ }
-    ensures { λ r. ⌜ r ≡ anchoredBy (now (job .entry)) at count width (labelsOf (now (labels .entry)) n) region ⌝ }
+    ensures { λ r. ⌜ r ≡ anchoredBy (now (job .entry)) at count width (labelsIn (now (labels .entry)) n) region ⌝ }
 {
     let mut found = false;
     let mut i: usize = 0;

@@ -3,8 +3,9 @@ ghost use mathlib.Core.Path.{_≡_};
 ghost use mathlib.Core.Bool.{cond};
 ghost use Prim.Native.Nat.{ℕ, _*_, _/_, _%_, _<_, _≤_, max};
 ghost use lib.ListN.{length};
+ghost use Rattle.areas.specs.Words.{labelsIn};
 ghost use Rattle.topology.specs.RegionStats.{elevations, regionStats};
-ghost use Rattle.topology.specs.Held.{Room, statsIn, one, lesser, withCell, NoCells, labelsOf};
+ghost use Rattle.topology.specs.Held.{Room, statsIn, one, lesser, withCell, NoCells};
 use wire::read_u32;
 
 // The box is in whole pixels, its right and lower edge past the last cell; `level_0` to `level_3` count the cells of each elevation.
@@ -121,13 +122,13 @@ fn counted(stats: RegionStats, inside: bool, i: usize, width: u32, cell: u8) -> 
 // The statistics of the cells that have the label; the labels are in words.
 pub fn region_stats(cells: &[u8], width: u32, labels: &[u8], region: u32) -> RegionStats
     requires { ⌜ (0 < width) × (length (now cells) ≤ 1048576) × (length (now cells) * 4 ≤ length (now labels)) ⌝ }
-    ensures { λ r. ⌜ ((height : ℕ) → statsIn r ≡ regionStats (record { width = width; height = height; cells = now (cells .entry) }) (labelsOf (now (labels .entry)) (length (now (cells .entry)))) region) ⌝ }
+    ensures { λ r. ⌜ ((height : ℕ) → statsIn r ≡ regionStats (record { width = width; height = height; cells = now (cells .entry) }) (labelsIn (now (labels .entry)) (length (now (cells .entry)))) region) ⌝ }
 {
     let n = cells.len();
     let mut stats = RegionStats::none();
     let mut i: usize = 0;
     while i < n {
-        let label = read_u32(labels, i * 4);
+        let label = read_u32(labels, 4 * i);
         stats = counted(stats, region == label, i, width, cells[i]);
         i += 1;
     }

@@ -3,9 +3,9 @@ use Prim.Native.Nat.{_+_, _*_, _-_, _≤_, _<_}
 use native.Mathlib.Omega.{arith}
 use lib.ListN.{length}
 use borrow.Author.Needs.{needs}
+use Rattle.areas.specs.Words.{labelsIn}
 use Rattle.lists.specs.Rows.{at}
 use Rattle.links.specs.HeldLimits.{limitsOf}
-use Rattle.topology.specs.Held.{labelsOf}
 use Rattle.measures.specs.Judging.{Filled, Running, Judged}
 use Rattle.measures.proofs.Reading.{area}
 use Rattle.measures.proofs.Turns.{place-of, row-below, next-place, fill-start, fill-next, fill-end, pass-start, pass-end, turn-out, turn-on, turn-room, turn-in}
@@ -32,13 +32,13 @@ abbrev μ-loop : tie.MeasureT-loop
 μ-loop cells width height work regions firsts seconds links own bits limits passing flat n table₀ stats k₀ table k = links - k
 
 abbrev Inv-loop2 : tie.InvT-loop2
-Inv-loop2 cells width height work regions firsts seconds links own bits limits passing flat n table₀ stats₀ k column₀ row₀ i₀ table stats column row i = (i ≤ length cells) × (row * width + column ≡ i) × (column < width) × Running (limitsOf limits) own bits regions firsts seconds (record { width = width; height = height; cells = cells }) (labelsOf work (length cells)) links i table stats
+Inv-loop2 cells width height work regions firsts seconds links own bits limits passing flat n table₀ stats₀ k column₀ row₀ i₀ table stats column row i = (i ≤ length cells) × (row * width + column ≡ i) × (column < width) × Running (limitsOf limits) own bits regions firsts seconds (record { width = width; height = height; cells = cells }) (labelsIn work (length cells)) links i table stats
 
 abbrev μ-loop2 : tie.MeasureT-loop2
 μ-loop2 cells width height work regions firsts seconds links own bits limits passing flat n table₀ stats₀ k column₀ row₀ i₀ table stats column row i = length cells - i
 
 abbrev Inv-loop3 : tie.InvT-loop3
-Inv-loop3 cells width height work regions firsts seconds links own bits limits passing₀ flat₀ n table stats k column row i m₀ passing flat m = (m ≤ links) × Running (limitsOf limits) own bits regions firsts seconds (record { width = width; height = height; cells = cells }) (labelsOf work (length cells)) links (length cells) table stats × Judged (limitsOf limits) own bits regions firsts seconds (record { width = width; height = height; cells = cells }) (labelsOf work (length cells)) (length cells) m passing flat
+Inv-loop3 cells width height work regions firsts seconds links own bits limits passing₀ flat₀ n table stats k column row i m₀ passing flat m = (m ≤ links) × Running (limitsOf limits) own bits regions firsts seconds (record { width = width; height = height; cells = cells }) (labelsIn work (length cells)) links (length cells) table stats × Judged (limitsOf limits) own bits regions firsts seconds (record { width = width; height = height; cells = cells }) (labelsIn work (length cells)) (length cells) m passing flat
 
 abbrev μ-loop3 : tie.MeasureT-loop3
 μ-loop3 cells width height work regions firsts seconds links own bits limits passing₀ flat₀ n table stats k column row i m₀ passing flat m = links - m

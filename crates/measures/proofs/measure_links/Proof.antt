@@ -4,7 +4,8 @@ use native.Mathlib.Omega.{arith}
 use lib.ListN.{length}
 use Rattle.measures.proofs.Writing.{written-labels, written-numbered}
 use Rattle.measures.proofs.Reading.{area}
-use Rattle.measures.proofs.Meaning.{labels-many, judged-measured, measured-by, none-measured}
+use Rattle.areas.proofs.Words.{labels-many}
+use Rattle.measures.proofs.Meaning.{judged-measured, measured-by, none-measured}
 use borrow.Author.Needs.{needs}
 use Rattle.measures.proofs.measure_links.Statement.{statement}
 use Rattle.measures.proofs.measure_links.Tie as tie

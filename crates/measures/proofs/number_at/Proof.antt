@@ -39,7 +39,7 @@ read-u32-requires-2 : tie.Need-read-u32-requires-2
 read-u32-requires-2 c κs = search needs
 
 returns-2 : tie.Need-returns-2
-returns-2 c = let q = c .before .before .before .read-u32 .ensures in let s : 4 * c .before .before .before .before .before .args .n + 4 * c .before .size .result ≡ 4 * c .before .before .before .before .before .args .n + 4 * (u32At (c .before .before .before .before .before .args .work .now) (c .before .before .before .before .before .args .i * 4) - 1) = omega (arith, c .before .size .ensures .0, q) in c .read-u322 .ensures ∙ (ap (u32At (c .before .before .before .before .before .args .work .now)) s ∙ number-word (c .before .before .before .before .before .args .work .now) (c .before .before .before .before .before .args .n) (λ e. omega (arith, e, q, c .before .before .if1 .left)))
+returns-2 c = let q = c .before .before .before .read-u32 .ensures in let s : 4 * c .before .before .before .before .before .args .n + 4 * c .before .size .result ≡ 4 * c .before .before .before .before .before .args .n + 4 * (u32At (c .before .before .before .before .before .args .work .now) (4 * c .before .before .before .before .before .args .i) - 1) = omega (arith, c .before .size .ensures .0, q) in c .read-u322 .ensures ∙ (ap (u32At (c .before .before .before .before .before .args .work .now)) s ∙ number-word (c .before .before .before .before .before .args .work .now) (c .before .before .before .before .before .args .n) (λ e. omega (arith, e, q, c .before .before .if1 .left)))
 
 pub number-at-spec : {M : Type 1} → statement M
 number-at-spec =

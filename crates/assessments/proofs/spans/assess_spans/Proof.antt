@@ -2,8 +2,8 @@ use mathlib.Core.Path.{sym, _∙_}
 use Prim.Native.Nat.{_*_, _-_, _≤_}
 use native.Mathlib.Omega.{arith}
 use lib.ListN.{length}
+use Rattle.areas.specs.Words.{labelsIn}
 use Rattle.grid.specs.Directions.{directionsOf}
-use Rattle.assessments.specs.Holding.{labelsOf}
 use Rattle.assessments.specs.Visits.{mapOf}
 use Rattle.assessments.proofs.Recording.{Recording, recording-start, recording-over, recording-next, recording-end, grows, span-on, span-holds}
 use Rattle.assessments.proofs.spans.assess_spans.Statement.{statement}
@@ -16,7 +16,7 @@ use Rattle.assessments.proofs.strip.assess_span.Reads as assess-span-re
 
 abbrev Inv-loop : tie.InvT-loop
 Inv-loop cells width height directions labels ends count removed₀ separated₀ owners₀ lefts₀ rights₀ most end₀ i₀ removed separated owners lefts rights end i =
-    (i ≤ count) × Recording (labelsOf labels (width * height)) (directionsOf directions) (mapOf width height cells) ends (length lefts₀) removed separated owners lefts rights i end
+    (i ≤ count) × Recording (labelsIn labels (width * height)) (directionsOf directions) (mapOf width height cells) ends (length lefts₀) removed separated owners lefts rights i end
 
 abbrev μ-loop : tie.MeasureT-loop
 μ-loop cells width height directions labels ends count removed₀ separated₀ owners₀ lefts₀ rights₀ most end₀ i₀ removed separated owners lefts rights end i =
@@ -53,7 +53,7 @@ same-length-5 c = c .before .before .before .before .before .assess-span .kept .
 
 returns : tie.Need-returns Inv-loop μ-loop
 returns c =
-    let h = span-holds (labelsOf (c .before .before .before .before .before .before .before .before .before .before .before .before .before .before .before .before .before .before .args .labels .now) (c .before .before .before .before .before .before .before .before .before .before .before .before .before .before .before .before .before .before .args .width * c .before .before .before .before .before .before .before .before .before .before .before .before .before .before .before .before .before .before .args .height)) (directionsOf (c .before .before .before .before .before .before .before .before .before .before .before .before .before .before .before .before .before .before .args .directions)) (mapOf (c .before .before .before .before .before .before .before .before .before .before .before .before .before .before .before .before .before .before .args .width) (c .before .before .before .before .before .before .before .before .before .before .before .before .before .before .before .before .before .before .args .height) (c .before .before .before .before .before .before .before .before .before .before .before .before .before .before .before .before .before .before .args .cells .now)) (c .before .before .before .before .before .before .before .before .before .before .before .before .before .before .before .before .before .before .args .ends .now) (c .before .before .before .before .before .before .before .before .before .before .loop .i) (c .before .before .before .before .before .before .before .before .span-at .result) (c .before .before .before .before .before .before .before .before .span-at .ensures) (c .before .before .before .before .before .before .before .before .before .before .loop .inv .1 .arrays .lefts-are) (c .before .before .before .before .before .assess-span .ensures) in
+    let h = span-holds (labelsIn (c .before .before .before .before .before .before .before .before .before .before .before .before .before .before .before .before .before .before .args .labels .now) (c .before .before .before .before .before .before .before .before .before .before .before .before .before .before .before .before .before .before .args .width * c .before .before .before .before .before .before .before .before .before .before .before .before .before .before .before .before .before .before .args .height)) (directionsOf (c .before .before .before .before .before .before .before .before .before .before .before .before .before .before .before .before .before .before .args .directions)) (mapOf (c .before .before .before .before .before .before .before .before .before .before .before .before .before .before .before .before .before .before .args .width) (c .before .before .before .before .before .before .before .before .before .before .before .before .before .before .before .before .before .before .args .height) (c .before .before .before .before .before .before .before .before .before .before .before .before .before .before .before .before .before .before .args .cells .now)) (c .before .before .before .before .before .before .before .before .before .before .before .before .before .before .before .before .before .before .args .ends .now) (c .before .before .before .before .before .before .before .before .before .before .loop .i) (c .before .before .before .before .before .before .before .before .span-at .result) (c .before .before .before .before .before .before .before .before .span-at .ensures) (c .before .before .before .before .before .before .before .before .before .before .loop .inv .1 .arrays .lefts-are) (c .before .before .before .before .before .assess-span .ensures) in
     recording-over _ _ _ _ (c .before .before .before .before .before .before .before .before .before .before .loop .inv .1) h _ (c .before .before .before .before .before .before .before .before .before .loop-test .taken) (c .if1 .taken)
 
 mul-removed : tie.Need-mul-removed Inv-loop μ-loop
@@ -73,7 +73,7 @@ cast-fill c = omega (arith, c .before .before .before .before .before .before .b
 
 fill-requires : tie.Need-fill-requires Inv-loop μ-loop
 fill-requires c κs =
-    let h = span-holds (labelsOf (c .before .before .before .before .before .before .before .before .before .before .before .before .before .before .before .before .before .before .before .args .labels .now) (c .before .before .before .before .before .before .before .before .before .before .before .before .before .before .before .before .before .before .before .args .width * c .before .before .before .before .before .before .before .before .before .before .before .before .before .before .before .before .before .before .before .args .height)) (directionsOf (c .before .before .before .before .before .before .before .before .before .before .before .before .before .before .before .before .before .before .before .args .directions)) (mapOf (c .before .before .before .before .before .before .before .before .before .before .before .before .before .before .before .before .before .before .before .args .width) (c .before .before .before .before .before .before .before .before .before .before .before .before .before .before .before .before .before .before .before .args .height) (c .before .before .before .before .before .before .before .before .before .before .before .before .before .before .before .before .before .before .before .args .cells .now)) (c .before .before .before .before .before .before .before .before .before .before .before .before .before .before .before .before .before .before .before .args .ends .now) (c .before .before .before .before .before .before .before .before .before .before .before .loop .i) (c .before .before .before .before .before .before .before .before .before .span-at .result) (c .before .before .before .before .before .before .before .before .before .span-at .ensures) (c .before .before .before .before .before .before .before .before .before .before .before .loop .inv .1 .arrays .lefts-are) (c .before .before .before .before .before .before .assess-span .ensures) in
+    let h = span-holds (labelsIn (c .before .before .before .before .before .before .before .before .before .before .before .before .before .before .before .before .before .before .before .args .labels .now) (c .before .before .before .before .before .before .before .before .before .before .before .before .before .before .before .before .before .before .before .args .width * c .before .before .before .before .before .before .before .before .before .before .before .before .before .before .before .before .before .before .before .args .height)) (directionsOf (c .before .before .before .before .before .before .before .before .before .before .before .before .before .before .before .before .before .before .before .args .directions)) (mapOf (c .before .before .before .before .before .before .before .before .before .before .before .before .before .before .before .before .before .before .before .args .width) (c .before .before .before .before .before .before .before .before .before .before .before .before .before .before .before .before .before .before .before .args .height) (c .before .before .before .before .before .before .before .before .before .before .before .before .before .before .before .before .before .before .before .args .cells .now)) (c .before .before .before .before .before .before .before .before .before .before .before .before .before .before .before .before .before .before .before .args .ends .now) (c .before .before .before .before .before .before .before .before .before .before .before .loop .i) (c .before .before .before .before .before .before .before .before .before .span-at .result) (c .before .before .before .before .before .before .before .before .before .span-at .ensures) (c .before .before .before .before .before .before .before .before .before .before .before .loop .inv .1 .arrays .lefts-are) (c .before .before .before .before .before .before .assess-span .ensures) in
     let r = c .before .before .before .before .before .before .before .before .before .before .before .loop .inv .1 in
     let m = c .before .if1 .left in (grows _ _ _ _ r h m, omega (arith, m, r .arrays .owners-are), omega (arith, r .arrays .owners-are, r .arrays .few))
 
@@ -85,7 +85,7 @@ loop-less c = omega (arith, c .before .before .before .before .before .before .b
 
 loop-again : tie.Need-loop-again Inv-loop μ-loop
 loop-again c =
-    let h = span-holds (labelsOf (c .before .before .before .before .before .before .before .before .before .before .before .before .before .before .before .before .before .before .before .before .before .before .args .labels .now) (c .before .before .before .before .before .before .before .before .before .before .before .before .before .before .before .before .before .before .before .before .before .before .args .width * c .before .before .before .before .before .before .before .before .before .before .before .before .before .before .before .before .before .before .before .before .before .before .args .height)) (directionsOf (c .before .before .before .before .before .before .before .before .before .before .before .before .before .before .before .before .before .before .before .before .before .before .args .directions)) (mapOf (c .before .before .before .before .before .before .before .before .before .before .before .before .before .before .before .before .before .before .before .before .before .before .args .width) (c .before .before .before .before .before .before .before .before .before .before .before .before .before .before .before .before .before .before .before .before .before .before .args .height) (c .before .before .before .before .before .before .before .before .before .before .before .before .before .before .before .before .before .before .before .before .before .before .args .cells .now)) (c .before .before .before .before .before .before .before .before .before .before .before .before .before .before .before .before .before .before .before .before .before .before .args .ends .now) (c .before .before .before .before .before .before .before .before .before .before .before .before .before .before .loop .i) (c .before .before .before .before .before .before .before .before .before .before .before .before .span-at .result) (c .before .before .before .before .before .before .before .before .before .before .before .before .span-at .ensures) (c .before .before .before .before .before .before .before .before .before .before .before .before .before .before .loop .inv .1 .arrays .lefts-are) (c .before .before .before .before .before .before .before .before .before .assess-span .ensures) in
+    let h = span-holds (labelsIn (c .before .before .before .before .before .before .before .before .before .before .before .before .before .before .before .before .before .before .before .before .before .before .args .labels .now) (c .before .before .before .before .before .before .before .before .before .before .before .before .before .before .before .before .before .before .before .before .before .before .args .width * c .before .before .before .before .before .before .before .before .before .before .before .before .before .before .before .before .before .before .before .before .before .before .args .height)) (directionsOf (c .before .before .before .before .before .before .before .before .before .before .before .before .before .before .before .before .before .before .before .before .before .before .args .directions)) (mapOf (c .before .before .before .before .before .before .before .before .before .before .before .before .before .before .before .before .before .before .before .before .before .before .args .width) (c .before .before .before .before .before .before .before .before .before .before .before .before .before .before .before .before .before .before .before .before .before .before .args .height) (c .before .before .before .before .before .before .before .before .before .before .before .before .before .before .before .before .before .before .before .before .before .before .args .cells .now)) (c .before .before .before .before .before .before .before .before .before .before .before .before .before .before .before .before .before .before .before .before .before .before .args .ends .now) (c .before .before .before .before .before .before .before .before .before .before .before .before .before .before .loop .i) (c .before .before .before .before .before .before .before .before .before .before .before .before .span-at .result) (c .before .before .before .before .before .before .before .before .before .before .before .before .span-at .ensures) (c .before .before .before .before .before .before .before .before .before .before .before .before .before .before .loop .inv .1 .arrays .lefts-are) (c .before .before .before .before .before .before .before .before .before .assess-span .ensures) in
     let r = c .before .before .before .before .before .before .before .before .before .before .before .before .before .before .loop .inv .1 in
     (omega (arith, c .before .before .before .before .before .before .before .before .before .before .before .before .before .loop-test .taken), recording-next _ _ _ _ r h (c .before .before .before .before .if1 .left) (omega (arith, c .before .before .before .before .before .before .before .before .before .before .before .before .before .before .before .before .before .before .before .before .before .before .pre .0 .few, c .before .before .before .before .before .before .before .before .before .before .before .before .before .loop-test .taken)) (c .before .before .fill .ensures) (c .before .before .fill .kept .0) (c .before .before .before .before .before .before .before .before .before .assess-span .kept .1 .1 .1 .1 .1 .1 .0) (c .before .before .before .before .before .before .before .before .before .assess-span .kept .1 .1 .1 .1 .1 .1 .1 .0))
 

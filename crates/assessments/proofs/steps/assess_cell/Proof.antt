@@ -1,8 +1,8 @@
 use mathlib.Core.Path.{refl}
 use Prim.Native.Nat.{_+_, _*_, _-_, _≤_}
 use native.Mathlib.Omega.{arith}
+use Rattle.areas.specs.Words.{labelsIn}
 use Rattle.grid.specs.Directions.{directionsOf}
-use Rattle.assessments.specs.Holding.{labelsOf}
 use Rattle.assessments.specs.Visits.{mapOf, cutIn, cutFrom}
 use Rattle.assessments.proofs.Advancing.{Going, going-start, going-room, going-next, going-end, grown-more}
 use Rattle.assessments.proofs.steps.assess_cell.Statement.{statement}
@@ -13,7 +13,7 @@ use Rattle.assessments.proofs.steps.assess_step.Reads as assess-step-re
 
 abbrev Inv-loop : tie.InvT-loop
 Inv-loop cells width height directions labels span position lefts₀ rights₀ start done₀ d₀ lefts rights done d =
-    (d ≤ 9) × Going (labelsOf labels (width * height)) (cutIn (directionsOf directions) (mapOf width height cells) span (position .y * width + position .x)) 5 start lefts₀ rights₀ done₀ lefts rights done d (d - 5)
+    (d ≤ 9) × Going (labelsIn labels (width * height)) (cutIn (directionsOf directions) (mapOf width height cells) span (position .y * width + position .x)) 5 start lefts₀ rights₀ done₀ lefts rights done d (d - 5)
 
 abbrev μ-loop : tie.MeasureT-loop
 μ-loop cells width height directions labels span position lefts₀ rights₀ start done₀ d₀ lefts rights done d =

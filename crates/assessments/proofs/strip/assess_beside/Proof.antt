@@ -4,7 +4,6 @@ use native.Mathlib.Omega.{arith}
 use borrow.Author.Needs.{needs}
 use Rattle.grid.specs.Directions.{directionsOf}
 use Rattle.areas.specs.Strip.{cellOf}
-use Rattle.assessments.specs.Holding.{labelsOf}
 use Rattle.assessments.specs.Visits.{mapOf, cutFrom}
 use Rattle.assessments.proofs.Advancing.{Going, going-start, going-room, going-next, going-end, grown-more, advance-as}
 use Rattle.assessments.proofs.Placing.{limit-small, beside-small, place-in, place-cell, last-in, lower, beside-is}
@@ -14,12 +13,13 @@ use Rattle.assessments.proofs.strip.assess_beside.Reads as reads
 use Rattle.assessments.proofs.strip.assess_beside.Lts as lts
 use Rattle.areas.proofs.candidates.is_tall.Reads as is-tall-reads
 use Rattle.areas.proofs.candidates.strip_minor.Reads as strip-minor-reads
+use Rattle.areas.specs.Words.{labelsIn}
 use Rattle.assessments.proofs.steps.assess_cell.Reads as assess-cell-reads
 use Rattle.assessments.proofs.strip.place_of.Reads as place-of-reads
 
 abbrev Inv-loop : tie.InvT-loop
 Inv-loop cells width height directions labels span c lefts₀ rights₀ start tall last done₀ cm₀ lefts rights done cm =
-    (cm ≤ max cm₀ (last + 1)) × Going (labelsOf labels (width * height)) (λ k. cutFrom (directionsOf directions) (mapOf width height cells) span (cellOf (mapOf width height cells) span c k)) cm₀ start lefts₀ rights₀ done₀ lefts rights done cm (4 * (cm - cm₀))
+    (cm ≤ max cm₀ (last + 1)) × Going (labelsIn labels (width * height)) (λ k. cutFrom (directionsOf directions) (mapOf width height cells) span (cellOf (mapOf width height cells) span c k)) cm₀ start lefts₀ rights₀ done₀ lefts rights done cm (4 * (cm - cm₀))
 
 abbrev μ-loop : tie.MeasureT-loop
 μ-loop cells width height directions labels span c lefts₀ rights₀ start tall last done₀ cm₀ lefts rights done cm =

@@ -2,7 +2,6 @@ use mathlib.Core.List.{[]}
 use Prim.Native.Nat.{_+_, _*_, _-_, _≤_, max}
 use native.Mathlib.Omega.{arith}
 use Rattle.grid.specs.Directions.{directionsOf}
-use Rattle.assessments.specs.Holding.{labelsOf}
 use Rattle.assessments.specs.Visits.{mapOf, cutBeside}
 use Rattle.assessments.proofs.Advancing.{Going, going-start, going-room, going-next, going-end}
 use Rattle.assessments.proofs.Placing.{limit-small, last-along, lower, along-is, holds-none, holds-as, room-start}
@@ -12,11 +11,12 @@ use Rattle.assessments.proofs.strip.assess_span.Tie as tie
 use Rattle.assessments.proofs.strip.assess_span.Reads as reads
 use Rattle.assessments.proofs.strip.assess_span.Lts as lts
 use Rattle.areas.proofs.candidates.strip_axis.Reads as strip-axis-reads
+use Rattle.areas.specs.Words.{labelsIn}
 use Rattle.assessments.proofs.strip.assess_beside.Reads as assess-beside-reads
 
 abbrev Inv-loop : tie.InvT-loop
 Inv-loop cells width height directions labels span lefts₀ rights₀ start last done₀ c₀ lefts rights done c =
-    (c ≤ max c₀ (last + 1)) × Going (labelsOf labels (width * height)) (cutBeside (directionsOf directions) (mapOf width height cells) span) c₀ start lefts₀ rights₀ done₀ lefts rights done c (4096 * (c - c₀))
+    (c ≤ max c₀ (last + 1)) × Going (labelsIn labels (width * height)) (cutBeside (directionsOf directions) (mapOf width height cells) span) c₀ start lefts₀ rights₀ done₀ lefts rights done c (4096 * (c - c₀))
 
 abbrev μ-loop : tie.MeasureT-loop
 μ-loop cells width height directions labels span lefts₀ rights₀ start last done₀ c₀ lefts rights done c =

@@ -1,7 +1,7 @@
 use mathlib.Core.Path.{sym, _∙_}
 use native.Mathlib.Omega.{arith}
 use Prim.Native.Nat.{_-_}
-use Rattle.topology.specs.Held.{labelsOf}
+use Rattle.areas.specs.Words.{labelsIn}
 use Rattle.candidates.specs.Found.{Given, given}
 use Rattle.candidates.proofs.CollectLaws.{two-below, gives-found, added-one, added-none}
 use borrow.Author.Needs.{needs}
@@ -19,31 +19,31 @@ gives-link-requires : tie.Need-gives-link-requires
 gives-link-requires c κs = let p = c .before .before .before .before .before .before .pre in let a = c .before .before .before .before .before .before .args in (p .0, p .1, p .2, two-below (a .owners .now) (a .lefts .now) (a .rights .now) (a .region) (p .4) (c .touching-of .ensures))
 
 mul-regions : tie.Need-mul-regions
-mul-regions c = let a = c .before .before .before .before .before .before .before .before .args in let d : Given = given (a .job .now) (a .bases-at) (a .bases) (a .width) (labelsOf (a .labels .now) (a .cells)) (a .own .now) (a .linkables .now) (a .lowers .now) (a .highers .now) (a .owners .now) (a .lefts .now) (a .rights .now) (a .records) in let t = c .before .before .touching-of .ensures in let g = gives-found d (a .region) t (c .before .gives-link .ensures) in omega (arith, c .before .before .before .before .before .before .before .before .pre .5 (sym g ∙ c .if1 .taken))
+mul-regions c = let a = c .before .before .before .before .before .before .before .before .args in let d : Given = given (a .job .now) (a .bases-at) (a .bases) (a .width) (labelsIn (a .labels .now) (a .cells)) (a .own .now) (a .linkables .now) (a .lowers .now) (a .highers .now) (a .owners .now) (a .lefts .now) (a .rights .now) (a .records) in let t = c .before .before .touching-of .ensures in let g = gives-found d (a .region) t (c .before .gives-link .ensures) in omega (arith, c .before .before .before .before .before .before .before .before .pre .5 (sym g ∙ c .if1 .taken))
 
 element-write-regions : tie.Need-element-write-regions
-element-write-regions c = let a = c .before .before .before .before .before .before .before .before .args in let d : Given = given (a .job .now) (a .bases-at) (a .bases) (a .width) (labelsOf (a .labels .now) (a .cells)) (a .own .now) (a .linkables .now) (a .lowers .now) (a .highers .now) (a .owners .now) (a .lefts .now) (a .rights .now) (a .records) in let t = c .before .before .touching-of .ensures in let g = gives-found d (a .region) t (c .before .gives-link .ensures) in omega (arith, c .before .before .before .before .before .before .before .before .pre .5 (sym g ∙ c .if1 .taken))
+element-write-regions c = let a = c .before .before .before .before .before .before .before .before .args in let d : Given = given (a .job .now) (a .bases-at) (a .bases) (a .width) (labelsIn (a .labels .now) (a .cells)) (a .own .now) (a .linkables .now) (a .lowers .now) (a .highers .now) (a .owners .now) (a .lefts .now) (a .rights .now) (a .records) in let t = c .before .before .touching-of .ensures in let g = gives-found d (a .region) t (c .before .gives-link .ensures) in omega (arith, c .before .before .before .before .before .before .before .before .pre .5 (sym g ∙ c .if1 .taken))
 
 mul-firsts : tie.Need-mul-firsts
-mul-firsts c = let a = c .before .before .before .before .before .before .before .before .args in let d : Given = given (a .job .now) (a .bases-at) (a .bases) (a .width) (labelsOf (a .labels .now) (a .cells)) (a .own .now) (a .linkables .now) (a .lowers .now) (a .highers .now) (a .owners .now) (a .lefts .now) (a .rights .now) (a .records) in let t = c .before .before .touching-of .ensures in let g = gives-found d (a .region) t (c .before .gives-link .ensures) in omega (arith, c .before .before .before .before .before .before .before .before .pre .5 (sym g ∙ c .if1 .taken))
+mul-firsts c = let a = c .before .before .before .before .before .before .before .before .args in let d : Given = given (a .job .now) (a .bases-at) (a .bases) (a .width) (labelsIn (a .labels .now) (a .cells)) (a .own .now) (a .linkables .now) (a .lowers .now) (a .highers .now) (a .owners .now) (a .lefts .now) (a .rights .now) (a .records) in let t = c .before .before .touching-of .ensures in let g = gives-found d (a .region) t (c .before .gives-link .ensures) in omega (arith, c .before .before .before .before .before .before .before .before .pre .5 (sym g ∙ c .if1 .taken))
 
 element-write-firsts : tie.Need-element-write-firsts
-element-write-firsts c = let a = c .before .before .before .before .before .before .before .before .args in let d : Given = given (a .job .now) (a .bases-at) (a .bases) (a .width) (labelsOf (a .labels .now) (a .cells)) (a .own .now) (a .linkables .now) (a .lowers .now) (a .highers .now) (a .owners .now) (a .lefts .now) (a .rights .now) (a .records) in let t = c .before .before .touching-of .ensures in let g = gives-found d (a .region) t (c .before .gives-link .ensures) in omega (arith, c .before .before .before .before .before .before .before .before .pre .5 (sym g ∙ c .if1 .taken))
+element-write-firsts c = let a = c .before .before .before .before .before .before .before .before .args in let d : Given = given (a .job .now) (a .bases-at) (a .bases) (a .width) (labelsIn (a .labels .now) (a .cells)) (a .own .now) (a .linkables .now) (a .lowers .now) (a .highers .now) (a .owners .now) (a .lefts .now) (a .rights .now) (a .records) in let t = c .before .before .touching-of .ensures in let g = gives-found d (a .region) t (c .before .gives-link .ensures) in omega (arith, c .before .before .before .before .before .before .before .before .pre .5 (sym g ∙ c .if1 .taken))
 
 mul-seconds : tie.Need-mul-seconds
-mul-seconds c = let a = c .before .before .before .before .before .before .before .before .args in let d : Given = given (a .job .now) (a .bases-at) (a .bases) (a .width) (labelsOf (a .labels .now) (a .cells)) (a .own .now) (a .linkables .now) (a .lowers .now) (a .highers .now) (a .owners .now) (a .lefts .now) (a .rights .now) (a .records) in let t = c .before .before .touching-of .ensures in let g = gives-found d (a .region) t (c .before .gives-link .ensures) in omega (arith, c .before .before .before .before .before .before .before .before .pre .5 (sym g ∙ c .if1 .taken))
+mul-seconds c = let a = c .before .before .before .before .before .before .before .before .args in let d : Given = given (a .job .now) (a .bases-at) (a .bases) (a .width) (labelsIn (a .labels .now) (a .cells)) (a .own .now) (a .linkables .now) (a .lowers .now) (a .highers .now) (a .owners .now) (a .lefts .now) (a .rights .now) (a .records) in let t = c .before .before .touching-of .ensures in let g = gives-found d (a .region) t (c .before .gives-link .ensures) in omega (arith, c .before .before .before .before .before .before .before .before .pre .5 (sym g ∙ c .if1 .taken))
 
 element-write-seconds : tie.Need-element-write-seconds
-element-write-seconds c = let a = c .before .before .before .before .before .before .before .before .args in let d : Given = given (a .job .now) (a .bases-at) (a .bases) (a .width) (labelsOf (a .labels .now) (a .cells)) (a .own .now) (a .linkables .now) (a .lowers .now) (a .highers .now) (a .owners .now) (a .lefts .now) (a .rights .now) (a .records) in let t = c .before .before .touching-of .ensures in let g = gives-found d (a .region) t (c .before .gives-link .ensures) in omega (arith, c .before .before .before .before .before .before .before .before .pre .5 (sym g ∙ c .if1 .taken))
+element-write-seconds c = let a = c .before .before .before .before .before .before .before .before .args in let d : Given = given (a .job .now) (a .bases-at) (a .bases) (a .width) (labelsIn (a .labels .now) (a .cells)) (a .own .now) (a .linkables .now) (a .lowers .now) (a .highers .now) (a .owners .now) (a .lefts .now) (a .rights .now) (a .records) in let t = c .before .before .touching-of .ensures in let g = gives-found d (a .region) t (c .before .gives-link .ensures) in omega (arith, c .before .before .before .before .before .before .before .before .pre .5 (sym g ∙ c .if1 .taken))
 
 add-result : tie.Need-add-result
-add-result c = let a = c .before .before .before .before .before .before .before .before .args in let d : Given = given (a .job .now) (a .bases-at) (a .bases) (a .width) (labelsOf (a .labels .now) (a .cells)) (a .own .now) (a .linkables .now) (a .lowers .now) (a .highers .now) (a .owners .now) (a .lefts .now) (a .rights .now) (a .records) in let t = c .before .before .touching-of .ensures in let g = gives-found d (a .region) t (c .before .gives-link .ensures) in omega (arith, c .before .before .before .before .before .before .before .before .pre .5 (sym g ∙ c .if1 .taken))
+add-result c = let a = c .before .before .before .before .before .before .before .before .args in let d : Given = given (a .job .now) (a .bases-at) (a .bases) (a .width) (labelsIn (a .labels .now) (a .cells)) (a .own .now) (a .linkables .now) (a .lowers .now) (a .highers .now) (a .owners .now) (a .lefts .now) (a .rights .now) (a .records) in let t = c .before .before .touching-of .ensures in let g = gives-found d (a .region) t (c .before .gives-link .ensures) in omega (arith, c .before .before .before .before .before .before .before .before .pre .5 (sym g ∙ c .if1 .taken))
 
 returns : tie.Need-returns
-returns c = let a = c .before .before .before .before .before .before .before .before .args in let d : Given = given (a .job .now) (a .bases-at) (a .bases) (a .width) (labelsOf (a .labels .now) (a .cells)) (a .own .now) (a .linkables .now) (a .lowers .now) (a .highers .now) (a .owners .now) (a .lefts .now) (a .rights .now) (a .records) in let t = c .before .before .touching-of .ensures in let g = gives-found d (a .region) t (c .before .gives-link .ensures) in added-one d (a .region) (a .count) (a .regions .now) (a .firsts .now) (a .seconds .now) t (sym g ∙ c .if1 .taken)
+returns c = let a = c .before .before .before .before .before .before .before .before .args in let d : Given = given (a .job .now) (a .bases-at) (a .bases) (a .width) (labelsIn (a .labels .now) (a .cells)) (a .own .now) (a .linkables .now) (a .lowers .now) (a .highers .now) (a .owners .now) (a .lefts .now) (a .rights .now) (a .records) in let t = c .before .before .touching-of .ensures in let g = gives-found d (a .region) t (c .before .gives-link .ensures) in added-one d (a .region) (a .count) (a .regions .now) (a .firsts .now) (a .seconds .now) t (sym g ∙ c .if1 .taken)
 
 returns-2 : tie.Need-returns-2
-returns-2 c = let a = c .before .before .before .before .before .before .before .before .args in let d : Given = given (a .job .now) (a .bases-at) (a .bases) (a .width) (labelsOf (a .labels .now) (a .cells)) (a .own .now) (a .linkables .now) (a .lowers .now) (a .highers .now) (a .owners .now) (a .lefts .now) (a .rights .now) (a .records) in let t = c .before .before .touching-of .ensures in let g = gives-found d (a .region) t (c .before .gives-link .ensures) in added-none d (a .region) (a .count) (a .regions .now) (a .firsts .now) (a .seconds .now) (sym g ∙ c .if1 .left)
+returns-2 c = let a = c .before .before .before .before .before .before .before .before .args in let d : Given = given (a .job .now) (a .bases-at) (a .bases) (a .width) (labelsIn (a .labels .now) (a .cells)) (a .own .now) (a .linkables .now) (a .lowers .now) (a .highers .now) (a .owners .now) (a .lefts .now) (a .rights .now) (a .records) in let t = c .before .before .touching-of .ensures in let g = gives-found d (a .region) t (c .before .gives-link .ensures) in added-none d (a .region) (a .count) (a .regions .now) (a .firsts .now) (a .seconds .now) (sym g ∙ c .if1 .left)
 
 pub consider-spec : {M : Type 1} → statement M
 consider-spec =

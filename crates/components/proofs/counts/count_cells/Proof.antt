@@ -4,21 +4,22 @@ use native.Mathlib.Omega.{arith}
 use borrow.Author.Needs.{needs}
 use mathlib.Core.Bool.{cond}
 use lib.Dec.{eqb}
-use Rattle.order.specs.Lists.{keep, upFrom}
+use Rattle.lists.specs.Rows.{rows}
+use Rattle.order.specs.Lists.{keep}
 use Rattle.areas.specs.Areas.{cellCount}
-use Rattle.components.specs.Numbered.{words}
+use Rattle.areas.specs.Words.{labelsIn}
 use Rattle.components.proofs.CountLaws.{count-next}
 use Rattle.components.proofs.counts.count_cells.Statement.{statement}
 use Rattle.components.proofs.counts.count_cells.Tie as tie
 
 abbrev Inv-loop : tie.InvT-loop
-Inv-loop work n label count₀ i₀ count i = (i ≤ n) × (count ≤ i) × (count ≡ cellCount (words i work) label)
+Inv-loop work n label count₀ i₀ count i = (i ≤ n) × (count ≤ i) × (count ≡ cellCount (labelsIn work i) label)
 
 abbrev μ-loop : tie.MeasureT-loop
 μ-loop work n label count₀ i₀ count i = n - i
 
 loop-holds : tie.Need-loop-holds Inv-loop μ-loop
-unfolding cellCount keep upFrom
+unfolding cellCount keep labelsIn rows
 loop-holds c = (omega arith, omega arith, refl)
 
 mul-read-u32 : tie.Need-mul-read-u32 Inv-loop μ-loop
@@ -43,11 +44,11 @@ loop-again : tie.Need-loop-again Inv-loop μ-loop
 loop-again c = (
   omega arith,
   omega (arith, c .tally .ensures .1),
-  ap (λ (k : ℕ). k + c .tally .result) (c .before .before .before .loop .inv .2) ∙ (ap (λ (k : ℕ). cellCount (words (c .before .before .before .loop .i) (c .before .before .before .before .before .args .work .now)) (c .before .before .before .before .before .args .label) + k) (c .tally .ensures .0 ∙ ap (λ (k : ℕ). cond (eqb (c .before .before .before .before .before .args .label) k) 1 0) (c .before .read-u32 .ensures)) ∙ sym (count-next (c .before .before .before .before .before .args .work .now) (c .before .before .before .loop .i) (c .before .before .before .before .before .args .label))),
+  ap (λ (k : ℕ). k + c .tally .result) (c .before .before .before .loop .inv .2) ∙ (ap (λ (k : ℕ). cellCount (labelsIn (c .before .before .before .before .before .args .work .now) (c .before .before .before .loop .i)) (c .before .before .before .before .before .args .label) + k) (c .tally .ensures .0 ∙ ap (λ (k : ℕ). cond (eqb (c .before .before .before .before .before .args .label) k) 1 0) (c .before .read-u32 .ensures)) ∙ sym (count-next (c .before .before .before .before .before .args .work .now) (c .before .before .before .loop .i) (c .before .before .before .before .before .args .label))),
 )
 
 returns : tie.Need-returns Inv-loop μ-loop
-returns c = c .before .loop .inv .2 ∙ ap (λ (k : ℕ). cellCount (words k (c .before .before .before .args .work .now)) (c .before .before .before .args .label)) (let z : c .before .loop .i ≡ c .before .before .before .args .n = omega arith in z)
+returns c = c .before .loop .inv .2 ∙ ap (λ (k : ℕ). cellCount (labelsIn (c .before .before .before .args .work .now) k) (c .before .before .before .args .label)) (let z : c .before .loop .i ≡ c .before .before .before .args .n = omega arith in z)
 
 pub count-cells-spec : {M : Type 1} → statement M
 count-cells-spec =

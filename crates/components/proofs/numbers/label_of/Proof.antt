@@ -2,7 +2,7 @@ use mathlib.Core.Path.{sym, _∙_, ap}
 use Prim.Native.Nat.{_-_}
 use lib.ListN.{getD}
 use borrow.Author.Needs.{needs}
-use Rattle.components.specs.Forests.{word}
+use Rattle.areas.specs.Words.{word}
 use Rattle.components.proofs.NumberLaws.{label-new, label-read, label-zero}
 use Rattle.components.proofs.numbers.label_of.Statement.{statement}
 use Rattle.components.proofs.numbers.label_of.Tie as tie

@@ -1,7 +1,8 @@
 use mathlib.Core.Path.{_≡_}
 use Prim.Native.Nat.{ℕ, _-_, _≤_, _<_}
 use native.Mathlib.Omega.{arith}
-use Rattle.components.specs.Forests.{word, Kept}
+use Rattle.areas.specs.Words.{word}
+use Rattle.components.specs.Forests.{Kept}
 use Rattle.components.proofs.WordLaws.{kept-none, started}
 use Rattle.components.proofs.parents.start.Statement.{statement}
 use Rattle.components.proofs.parents.start.Tie as tie

@@ -3,18 +3,19 @@ use Prim.Native.Nat.{_-_, _≤_}
 use native.Mathlib.Omega.{arith}
 use lib.ListN.{length}
 use borrow.Author.Needs.{needs}
+use Rattle.areas.specs.Words.{labelsIn}
 use Rattle.lists.specs.Rows.{at}
 use Rattle.links.specs.HeldLimits.{limitsOf}
-use Rattle.topology.specs.Held.{labelsOf}
 use Rattle.measures.specs.Judging.{valueIn, Judged}
 use Rattle.measures.proofs.Reading.{area}
-use Rattle.measures.proofs.Meaning.{judge-start, judge-one, judge-end, labels-many}
+use Rattle.measures.proofs.Meaning.{judge-start, judge-one, judge-end}
+use Rattle.areas.proofs.Words.{labels-many}
 use Rattle.measures.proofs.few.measure_few.Statement.{statement}
 use Rattle.measures.proofs.few.measure_few.Tie as tie
 
 abbrev Inv-loop : tie.InvT-loop
 Inv-loop cells width height work regions firsts seconds links own bits limits passing₀ flat₀ n k₀ passing flat k =
-    (k ≤ links) × Judged (limitsOf limits) own bits regions firsts seconds (record { width = width; height = height; cells = cells }) (labelsOf work (length cells)) (length cells) k passing flat
+    (k ≤ links) × Judged (limitsOf limits) own bits regions firsts seconds (record { width = width; height = height; cells = cells }) (labelsIn work (length cells)) (length cells) k passing flat
 
 abbrev μ-loop : tie.MeasureT-loop
 μ-loop cells width height work regions firsts seconds links own bits limits passing₀ flat₀ n k₀ passing flat k =

@@ -1,15 +1,15 @@
 use Prim.Native.Nat.{_-_, _≤_}
 use native.Mathlib.Omega.{arith}
 use borrow.Author.Needs.{needs}
+use Rattle.areas.specs.Words.{labelsIn}
 use Rattle.links.specs.HeldLimits.{limitsOf}
-use Rattle.topology.specs.Held.{labelsOf}
 use Rattle.measures.specs.Judging.{AllCells}
 use Rattle.measures.proofs.Singly.{one-start, one-next, one-end}
 use Rattle.measures.proofs.few.measure_one.Statement.{statement}
 use Rattle.measures.proofs.few.measure_one.Tie as tie
 
 abbrev Inv-loop : tie.InvT-loop
-Inv-loop n width labels region limits link₀ i₀ link i = (i ≤ n) × AllCells (limitsOf limits) width (labelsOf labels n) region i link₀ link
+Inv-loop n width labels region limits link₀ i₀ link i = (i ≤ n) × AllCells (limitsOf limits) width (labelsIn labels n) region i link₀ link
 
 abbrev μ-loop : tie.MeasureT-loop
 μ-loop n width labels region limits link₀ i₀ link i = n - i

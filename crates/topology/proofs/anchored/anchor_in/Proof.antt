@@ -1,4 +1,4 @@
-use Rattle.topology.specs.Held.{labelsOf}
+use Rattle.areas.specs.Words.{labelsIn}
 use Rattle.topology.proofs.Bases.{mul-as, hit, not-hit}
 use native.Mathlib.Omega.{arith}
 use borrow.Author.Needs.{needs}
@@ -10,7 +10,7 @@ use Rattle.wire.proofs.read_u32.Reads as read-u32-reads
 use Rattle.wire.proofs.size.Reads as size-reads
 
 returns : tie.Need-returns
-returns c = not-hit (labelsOf (c .before .before .args .labels .now) (c .before .before .args .n)) (c .before .before .args .width) (c .before .before .args .p) (c .before .before .args .region) (c .if1 .taken)
+returns c = not-hit (labelsIn (c .before .before .args .labels .now) (c .before .before .args .n)) (c .before .before .args .width) (c .before .before .args .p) (c .before .before .args .region) (c .if1 .taken)
 
 size-requires : tie.Need-size-requires
 size-requires c κs = search needs

@@ -2,7 +2,7 @@ use mathlib.Core.Path.{_≡_, refl}
 use Prim.Native.Nat.{_-_, _≤_}
 use native.Mathlib.Omega.{arith}
 use borrow.Author.Needs.{needs}
-use Rattle.topology.specs.Held.{labelsOf}
+use Rattle.areas.specs.Words.{labelsIn}
 use Rattle.topology.specs.AnchorLoop.{anchoredBy}
 use Rattle.topology.proofs.Bases.{base-next, hit-as, at-end}
 use Rattle.topology.proofs.anchored.is_anchored.Statement.{statement}
@@ -13,7 +13,7 @@ use Rattle.format.proofs.read_base.Reads as read-base-reads
 use Rattle.topology.proofs.anchored.anchor_in.Reads as anchor-in-reads
 
 abbrev Inv-loop : tie.InvT-loop
-Inv-loop job at count width labels n region found₀ i₀ found i = (i ≤ count) × (found ≡ anchoredBy job at i width (labelsOf labels n) region)
+Inv-loop job at count width labels n region found₀ i₀ found i = (i ≤ count) × (found ≡ anchoredBy job at i width (labelsIn labels n) region)
 
 abbrev μ-loop : tie.MeasureT-loop
 μ-loop job at count width labels n region found₀ i₀ found i = count - i

@@ -3,7 +3,8 @@ use Prim.Native.Nat.{ℕ, _-_, _≤_, _<_}
 use native.Mathlib.Omega.{arith}
 use lib.ListN.{length}
 use borrow.Author.Needs.{needs}
-use Rattle.topology.specs.Held.{statsAfter, labelsOf, firstCells}
+use Rattle.areas.specs.Words.{labelsIn}
+use Rattle.topology.specs.Held.{statsAfter, firstCells}
 use Rattle.topology.proofs.CountLoop.{count-start, count-room, count-next, count-end}
 use Rattle.topology.proofs.stats.region_stats.Statement.{statement}
 use Rattle.topology.proofs.stats.region_stats.Tie as tie
@@ -14,7 +15,7 @@ use Rattle.topology.proofs.stats.counted.Reads as counted-reads
 use Rattle.wire.proofs.read_u32.Reads as read-u32-reads
 
 abbrev Inv-loop : tie.InvT-loop
-Inv-loop cells width labels region n stats₀ i₀ stats i = (i ≤ length cells) × ((height : ℕ) → stats ≡ statsAfter (record { width = width; height = height; cells = cells }) (firstCells (labelsOf labels (length cells)) region i))
+Inv-loop cells width labels region n stats₀ i₀ stats i = (i ≤ length cells) × ((height : ℕ) → stats ≡ statsAfter (record { width = width; height = height; cells = cells }) (firstCells (labelsIn labels (length cells)) region i))
 
 abbrev μ-loop : tie.MeasureT-loop
 μ-loop cells width labels region n stats₀ i₀ stats i = length cells - i
@@ -23,7 +24,7 @@ none-requires : tie.Need-none-requires Inv-loop μ-loop
 none-requires c κs = search needs
 
 loop-holds : tie.Need-loop-holds Inv-loop μ-loop
-loop-holds c = (omega arith, λ height. count-start (c .none .ensures) (record { width = c .before .before .before .args .width; height = height; cells = c .before .before .before .args .cells .now }) (labelsOf (c .before .before .before .args .labels .now) (length (c .before .before .before .args .cells .now))) (c .before .before .before .args .region))
+loop-holds c = (omega arith, λ height. count-start (c .none .ensures) (record { width = c .before .before .before .args .width; height = height; cells = c .before .before .before .args .cells .now }) (labelsIn (c .before .before .before .args .labels .now) (length (c .before .before .before .args .cells .now))) (c .before .before .before .args .region))
 
 mul-read-u32 : tie.Need-mul-read-u32 Inv-loop μ-loop
 mul-read-u32 c = search needs
