@@ -4,6 +4,7 @@
 use crate::checks::{HEADER, REDUCE};
 use crate::draft::{Boundary, Draft, Observation};
 use crate::maps::{self, Shape};
+use crate::orders::{numbers, Order, ORDERS};
 use crate::rng::Rng;
 use crate::{job, least, timed, Lent};
 use std::hint::black_box;
@@ -21,43 +22,6 @@ pub struct Family {
     /// What the size counts.
     pub axis: &'static str,
     pub points: Vec<Point>,
-}
-
-/// The orders in which a list that is to be sorted is given.
-#[derive(Clone, Copy, PartialEq)]
-enum Order {
-    Rising,
-    Falling,
-    Random,
-    Equal,
-    Few,
-    Pairs,
-    Scales,
-}
-
-const ORDERS: [(Order, &str); 7] = [
-    (Order::Rising, "rising"),
-    (Order::Falling, "falling"),
-    (Order::Random, "in random order"),
-    (Order::Equal, "all equal"),
-    (Order::Few, "of four kinds"),
-    (Order::Pairs, "of 64 by 64 kinds"),
-    (Order::Scales, "of every size from 1 to 32 binary digits"),
-];
-
-/// Numbers in an order.
-fn numbers(count: usize, order: Order, rng: &mut Rng) -> Vec<u32> {
-    (0..count as u32)
-        .map(|i| match order {
-            Order::Rising => i,
-            Order::Falling => count as u32 - i,
-            Order::Random => rng.word(),
-            Order::Equal => 7,
-            Order::Few => rng.within(0, 3),
-            Order::Pairs => rng.within(0, 63) << 16 | rng.within(0, 63),
-            Order::Scales => rng.word() >> rng.within(0, 31),
-        })
-        .collect()
 }
 
 /// The time of one pass at memory speed: it reads the cells, writes a label of four bytes for each
@@ -128,15 +92,15 @@ fn sources(side: u32, count: usize, order: Order, holders: usize) -> Draft {
     draft
 }
 
-/// Sources of one boundary of which nearly all share every bucket but the last: the most stack that
-/// a sort takes.
+/// Sources of one boundary of which all but the highest share a bucket, time after time: the most
+/// stack that a sort takes.
 pub fn deepest() -> Draft {
-    let mut draft = sources(64, 4096, Order::Few, 1);
+    let mut draft = sources(64, 1000, Order::Few, 1);
     for (source, i) in draft.sources.iter_mut().zip(0..) {
-        let key = if i < 9 { 1_u64 << (63 - 7 * i) } else { i % 100 };
+        let key = if i < 8 { 1_u64 << (63 - 8 * i) } else { i % 100 };
         *source = [(key >> 32) as u32, key as u32];
     }
-    draft.sources.swap(0, 4095);
+    draft.sources.swap(0, 999);
     draft
 }
 

@@ -23,6 +23,8 @@ mod grow;
 #[path = "../tests/driver/maps.rs"]
 #[allow(dead_code)]
 mod maps;
+#[path = "../tests/driver/orders.rs"]
+mod orders;
 mod plot;
 #[path = "../tests/driver/rng.rs"]
 #[allow(dead_code)]
@@ -295,7 +297,7 @@ fn stacks() {
         ("1,024 × 1,024, 256 boundaries, 4,096 sources", job(1024, Shape::Open, 256, 4096)),
         ("4,096 region pairs", maps::many_pairs(4096, &mut rng)),
         ("64 × 64, 4 boundaries", job(64, Shape::Noise, 4, 8)),
-        ("4,096 sources of one boundary that are spread ten times", grow::deepest()),
+        ("1,000 sources of one boundary that are spread eight times", grow::deepest()),
     ];
     for (what, draft) in &jobs {
         for call in [REDUCE, BY_LIST, MARK] {

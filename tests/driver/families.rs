@@ -2,9 +2,10 @@
 
 use crate::compare::compare;
 use crate::damage::{self, REFUSALS};
-use crate::draft::{self, Boundary, Draft, Input};
+use crate::draft::{self, Boundary, Draft, Input, Observation};
 use crate::lent::Lent;
 use crate::maps::{self, Shape, SHAPES};
+use crate::orders::{numbers, Order, ORDERS};
 use crate::rng::Rng;
 use crate::run::Run;
 use crate::tally::Tally;
@@ -133,6 +134,39 @@ pub fn sizes(run: &mut Run) {
         let mut rng = run.next_case();
         let draft = corridors::long(columns, spans, &mut rng);
         run.draft(&draft, &mut rng, merging::compare);
+    }
+}
+
+/// Sources and observations in every order, in numbers about those at which the library sorts in
+/// another way: 12, 24, 48 and 1,024.
+pub fn sorts(run: &mut Run) {
+    let counts = [2, 11, 12, 13, 24, 25, 26, 48, 49, 50, 300, 1023, 1024, 1025, 4096];
+    for ((order, _), count) in ORDERS.into_iter().flat_map(|o| counts.map(|count| (o, count))) {
+        let mut rng = run.next_case();
+        let mut draft = draft::valid([4, 3], [1, 1, 0, 0, 1], &mut rng);
+        let key = |i: u32| if order == Order::Pairs { [i >> 16, i & 0xffff] } else { [i / 3, i] };
+        draft.boundaries[0].sources = count as u32;
+        draft.sources = numbers(count, order, &mut rng).into_iter().map(key).collect();
+        run.draft(&draft, &mut rng, merging::compare);
+    }
+    let counts = [2, 3, 12, 63, 64, 1023];
+    for ((order, _), count) in ORDERS.into_iter().flat_map(|o| counts.map(|count| (o, count))) {
+        for each in [0, 2] {
+            let mut rng = run.next_case();
+            let mut draft = draft::valid([4, 3], [1, 1, 0, 0, 1], &mut rng);
+            draft.boundaries[0].observations = count as u32;
+            let alike = rng.pick(&[1, 2, 5]);
+            draft.observations = numbers(count, order, &mut rng)
+                .into_iter()
+                .map(|i| Observation {
+                    ends: [i / alike, 8, i / alike, rng.within(0, 2)],
+                    bits: f64::from(8 + rng.within(0, 2)).to_bits(),
+                    sources: each,
+                })
+                .collect();
+            draft.sources = (0..count as u32 * each).map(|_| [0, rng.within(0, 2)]).collect();
+            run.draft(&draft, &mut rng, merging::compare);
+        }
     }
 }
 

@@ -30,6 +30,7 @@ mod lent;
 mod maps;
 mod memory;
 mod merging;
+mod orders;
 mod partition;
 mod record;
 mod records;
@@ -77,6 +78,7 @@ fn main() {
             families::small_maps(&mut run);
             families::limits(&mut run);
             families::sizes(&mut run);
+            families::sorts(&mut run);
             println!("seed {seed}: {done} random cases, nothing differs");
         }
         ["heap", cases, seed] => {
@@ -143,6 +145,7 @@ fn whole(seed: u64, limit: Limit, rounds: usize) {
     families::small_maps(&mut run);
     families::limits(&mut run);
     families::sizes(&mut run);
+    families::sorts(&mut run);
     let mut done = 0;
     while match limit {
         Limit::Cases(cases) => done < cases,
