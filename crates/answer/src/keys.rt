@@ -1,5 +1,4 @@
 // The job's sources as numbers, each first id times 2^32 and its second id.
-ghost use mathlib.Core.Path.{_≡_};
 ghost use Prim.Native.Nat.{_+_, _*_, _≤_};
 ghost use lib.ListN.{length};
 ghost use Rattle.format.specs.Sizes.{sourceSize};

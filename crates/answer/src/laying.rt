@@ -1,8 +1,6 @@
 // Where each boundary's own sources and each observation's sources stand.
-ghost use mathlib.Core.Path.{_≡_};
-ghost use Prim.Native.Nat.{_+_, _*_, _≤_};
-ghost use lib.ListN.{length, getD};
-ghost use Rattle.answer.specs.Laying.{below, ownCount, seenCount, citedCount, Apart, LayRoom, Lays, LaidOut, Countable, PlanRoom, LaidAll};
+ghost use Prim.Native.Nat.{_+_, _*_};
+ghost use Rattle.answer.specs.Laying.{ownCount, seenCount, citedCount, LayRoom, Lays, Countable, PlanRoom, LaidAll};
 use format::BOUNDARY_SIZE;
 use format::OBSERVATION_SIZE;
 use format::read_boundary;

@@ -1,7 +1,5 @@
 // Each one's sources, sorted and each once, where they stand.
-ghost use mathlib.Core.Path.{_≡_};
-ghost use Prim.Native.Nat.{_+_, _≤_};
-ghost use lib.ListN.{length};
+ghost use Prim.Native.Nat.{_+_};
 ghost use Rattle.answer.specs.Squeezed.{PartsRoom, Squeezed};
 use sorting::numbers::sort_unique;
 use wire::size;

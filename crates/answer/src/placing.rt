@@ -1,5 +1,4 @@
 // All that is worked out of a job by place: where each one's sources stand in `keys`, sorted and each once, and what observations are ordered by.
-ghost use mathlib.Core.Path.{_≡_};
 ghost use Rattle.format.specs.Decode.{sourceRecords};
 ghost use Rattle.answer.specs.Placed.{Placed, PlacedInside, JobPlaces, PlaceRoom, boundaryRows, observationRows};
 use crate::keys::read_keys;

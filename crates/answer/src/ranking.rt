@@ -1,5 +1,4 @@
 // What observations are ordered by before their sources: ends and width.
-ghost use mathlib.Core.Path.{_≡_};
 ghost use Prim.Native.Nat.{_+_, _*_, _≤_};
 ghost use lib.ListN.{length};
 ghost use Rattle.format.specs.Sizes.{boundarySize, observationSize};

@@ -1,7 +1,7 @@
 -- An assessment, held in numbers and in two arrays.
 use mathlib.Core.Path.{_≡_}
 use mathlib.Core.List.{List, _++_}
-use Prim.Native.Nat.{ℕ, _+_, _*_, _≤_, _<_}
+use Prim.Native.Nat.{ℕ, _+_, _≤_, _<_}
 use lib.ListN.{length}
 use Rattle.lists.specs.Rows.{at, rows}
 use Rattle.graph.specs.Path.{Edge}

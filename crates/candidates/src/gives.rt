@@ -2,10 +2,7 @@
 ghost use mathlib.Core.Path.{_≡_};
 ghost use mathlib.Core.Bool.{not, _&&_};
 ghost use Prim.Native.Nat.{_<_, _≤_};
-ghost use lib.Dec.{eqb};
-ghost use lib.ListN.{length, getD};
 ghost use Rattle.areas.specs.Words.{labelsIn};
-ghost use Rattle.format.specs.Sizes.{baseSize};
 ghost use Rattle.topology.specs.AnchorLoop.{anchoredBy};
 ghost use Rattle.candidates.specs.Gives.{hasRegion, OnMap, OwnBounded, TwoBelow, joinsTwo};
 use links::geometry::centres_differ;

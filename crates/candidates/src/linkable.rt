@@ -1,12 +1,7 @@
 // The ranks that can be linked.
 ghost use mathlib.Core.Path.{_≡_};
-ghost use mathlib.Core.Bool.{not, cond, _&&_};
-ghost use Prim.Native.Nat.{ℕ, _<_, _≤_};
-ghost use lib.Dec.{eqb};
-ghost use lib.ListN.{getD};
-ghost use Rattle.position.specs.Order.{posSame};
-ghost use Rattle.areas.specs.Spans.{spanIn};
-ghost use Rattle.topology.specs.Numbers.{isFull};
+ghost use mathlib.Core.Bool.{cond};
+ghost use Prim.Native.Nat.{_<_, _≤_};
 ghost use Rattle.candidates.specs.Linkable.{canLink, Marked};
 use marking::spans::span_at;
 use topology::pairs::has_full_pair;

@@ -1,6 +1,5 @@
 // Refusals 2 to 5 of the twelve header words.
 ghost use mathlib.Core.Path.{_≡_};
-ghost use mathlib.Core.Bool.{_&&_};
 ghost use Rattle.format.specs.Header.{offsetsOf};
 ghost use Rattle.checks.specs.Checks.{firstRefusal};
 ghost use Rattle.checks.specs.Faults.{sideFault, sizeFault, countFault, boundaryCountFault, sameOffsets};

@@ -20,7 +20,7 @@ use Rattle.merging.proofs.Symmetric.{relisted-symmetric}
 use Rattle.results.specs.Rules.{gridOf, rulesOn, rulesOf}
 use Rattle.results.specs.Results.{Outcome, labelsOf, answerOf, reduceWith, reduceByListWith}
 use Rattle.results.specs.Calls.{reduceResult, reduceByListResult}
-use Rattle.chokes.specs.Demand.{Call, reduce, reduceByList, jobOf, spansOf, checksOf, runOf, left, SameMap, Made, wrote, SameBytes}
+use Rattle.chokes.specs.Demand.{reduce, reduceByList, jobOf, spansOf, checksOf, runOf, left, SameMap, Made, wrote, SameBytes}
 use Rattle.results.proofs.Results.{reduced-success}
 use Rattle.results.proofs.Planned.{groups-unmatched}
 use Rattle.results.proofs.Rules.{listing-independent, rules-well}

@@ -1,6 +1,6 @@
 -- Bytes from values: jobs, span lists and answers.
 use Prim.Native.Nat.{ℕ, _+_, _*_}
-use mathlib.Core.List.{List, [], _∷_, _++_, map, flatMap}
+use mathlib.Core.List.{List, [], _∷_, _++_, flatMap}
 use mathlib.Core.Option.{Option, none, some}
 use lib.ListN.{length}
 use Rattle.position.specs.declared.WalkPosition.{WalkPosition}

@@ -1,9 +1,8 @@
 -- Each record of fixed length: as it is read at a place, and as bytes.
 use Prim.Native.Nat.{ℕ, _+_}
-use mathlib.Core.List.{List, [], _∷_, _++_}
+use mathlib.Core.List.{List, _∷_, _++_}
 use lib.ListN.{getD}
 use Rattle.position.specs.declared.PixelPosition.{PixelPosition}
-use Rattle.position.specs.declared.WalkPosition.{WalkPosition}
 use Rattle.position.specs.declared.Span.{Span}
 use Rattle.wire.specs.Bytes.{u32At, u64At, u32Bytes, u64Bytes}
 use Rattle.format.specs.declared.records.Source.{Source}

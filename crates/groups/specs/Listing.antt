@@ -1,5 +1,5 @@
 -- The boundaries of a listing by rank. All rules of this crate are over the listing.
-use mathlib.Core.List.{List, [], _∷_, map}
+use mathlib.Core.List.{List, [], map}
 use Prim.Native.Nat.{ℕ}
 use lib.ListN.{getD}
 use Rattle.position.specs.declared.PixelPosition.{PixelPosition}

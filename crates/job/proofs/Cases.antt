@@ -1,22 +1,21 @@
 -- Cases 9 and 10 hold.
-use mathlib.Core.Path.{_≡_, refl, sym, _∙_, ap}
-use mathlib.Core.Bool.{Bool, true, false}
-use mathlib.Core.List.{List, [], _∷_, _++_}
+use mathlib.Core.Path.{_≡_, refl, _∙_, ap}
+use mathlib.Core.Bool.{true, false}
+use mathlib.Core.List.{List, []}
 use mathlib.Core.Option.{Option, none, some}
-use Prim.Native.Nat.{ℕ, zero, suc, _+_, _*_, _<_}
-use native.Mathlib.Numerals.{add-one}
+use Prim.Native.Nat.{ℕ, zero, suc, _<_}
 use native.Mathlib.Omega.{arith}
 use borrow.Author.Tests.{lt-ltb, le-ltb}
 use lib.Dec.{ltb}
 use Rattle.format.specs.Bounds.{maxBoundaries, maxWidthBits}
 use Rattle.format.specs.Header.{headerAt, cellCount, basesStart, boundariesStart}
 use Rattle.format.specs.declared.header.Counts.{Counts}
-use Rattle.checks.specs.Checks.{Refusal, Check, check, firstRefusal, each}
+use Rattle.checks.specs.Checks.{Refusal, firstRefusal, each}
 use Rattle.checks.specs.Faults.{widthFault}
 use Rattle.checks.specs.Single.{headerChecks, cellCheck, baseCheck, sumsFault, rampCheck, widthCheck}
 use Rattle.job.specs.Refusals.{layoutChecks, recordChecks, jobChecks, boundaryChecks, reduceChecks, markChecks, byListChecks}
 use Rattle.job.specs.Cases.{AllRefuse, FirstWidth, PassesThree, RefusalCases, upToRamps, bitsAt}
-use Rattle.checks.proofs.Firsts.{skip, stop, clear, append-none, append-some, none-left, none-right, none-head, each-next, each-found}
+use Rattle.checks.proofs.Firsts.{skip, stop, clear, append-none, append-some, none-left, none-right, none-head, each-found}
 
 -- What refuses the job is what every call gives.
 all-refuse : (s : List ℕ) (r : Refusal) → firstRefusal (jobChecks s) ≡ some r → AllRefuse s r

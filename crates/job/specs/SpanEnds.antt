@@ -2,7 +2,7 @@
 -- boundaries as Reduce reads them, any other for the list as Reduce by list does. Past the last span, or where that
 -- call's checks 1 to 12 or 14 to 17 would refuse, the part is empty."
 use Prim.Native.Nat.{ℕ, _+_, _*_}
-use mathlib.Core.Bool.{Bool, cond, _&&_}
+use mathlib.Core.Bool.{cond, _&&_}
 use mathlib.Core.List.{List, []}
 use lib.Dec.{ltb, eqb}
 use Rattle.wire.specs.Bytes.{part}

@@ -13,7 +13,7 @@ use lib.Ieee.Digits.{size-lt, size-le, size-reaches}
 use lib.Ieee.Exact.{HasValue}
 use lib.Ieee.Fits.{round-fits}
 use Rattle.length.specs.Root.{Rooted, wholeRoot, restOf, isSquare}
-use Rattle.length.specs.Nearest.{NearestLength, Exact, Plain}
+use Rattle.length.specs.Nearest.{NearestLength, Exact}
 use Rattle.length.specs.Length.{places, halved, lengthOf, lengthAt}
 use Rattle.length.specs.declared.Length.{Length}
 use Rattle.length.proofs.Powers.{twice-power}

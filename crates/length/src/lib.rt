@@ -1,6 +1,6 @@
 // The whole square root of a number, and the length of a doubled difference: the f64 nearest to half a square root.
 ghost use mathlib.Core.Path.{_≡_};
-ghost use Prim.Native.Nat.{ℕ, _*_, _^_, _≤_, _<_};
+ghost use Prim.Native.Nat.{_*_, _^_, _≤_, _<_};
 ghost use Rattle.length.specs.Root.{Step, Doubled, rootOf};
 ghost use Rattle.length.specs.Length.{lengthAt};
 

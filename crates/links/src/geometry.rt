@@ -1,7 +1,7 @@
 // Points, directions, bounds and distances.
 ghost use mathlib.Core.Path.{_≡_};
 ghost use mathlib.Core.Bool.{not};
-ghost use Prim.Native.Nat.{ℕ, _+_, _*_, _≤_};
+ghost use Prim.Native.Nat.{_+_, _*_, _≤_};
 ghost use lib.Dec.{eqb};
 ghost use lib.Ieee.{binary64, ofBits};
 ghost use Rattle.position.specs.Order.{canonical};

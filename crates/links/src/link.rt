@@ -1,8 +1,8 @@
 // A link of two boundaries: 000's `Link`, measured by the cells of its region.
 ghost use mathlib.Core.Path.{_≡_};
 ghost use mathlib.Core.Bool.{true, false, _&&_};
-ghost use Prim.Native.Nat.{ℕ, _≤_};
-ghost use Rattle.links.specs.Link.{Side, linkOf};
+ghost use Prim.Native.Nat.{_≤_};
+ghost use Rattle.links.specs.Link.{linkOf};
 ghost use Rattle.links.specs.Flat.{insideOn, insideBoth};
 ghost use Rattle.links.specs.Measure.{enveloped, transverseEnvelope, longitudinalEnvelope, passing};
 ghost use Rattle.links.specs.Held.{SpanBounded, vector, range};

@@ -1,8 +1,6 @@
 // The parts of a line, and lines, each written at a place; each gives the place after it.
-ghost use mathlib.Core.Path.{_≡_};
-ghost use Prim.Native.Nat.{_+_, _≤_, _<_};
+ghost use Prim.Native.Nat.{_+_, _<_};
 ghost use mathlib.Core.List.{[], _∷_};
-ghost use lib.ListN.{length};
 ghost use Rattle.format.specs.Decode.{rampOf};
 ghost use Rattle.listing.specs.Lines.{fieldText, bitsText, endsText, rampText, sourceLine, observationFields, boundaryFields};
 ghost use Rattle.listing.specs.Answer.{Room, Writes};

@@ -1,10 +1,8 @@
 // What choke-list prints: an answer's listing, or a refusal.
 ghost use Prim.Native.Nat.{_+_, _*_, _≤_, _<_};
 ghost use lib.ListN.{length};
-ghost use Rattle.wire.specs.Bytes.{splice};
-ghost use Rattle.format.specs.Decode.{boundaryRecords, boundariesWith};
-ghost use Rattle.listing.specs.Lines.{keptLine, boundaryTexts, refusedLine};
-ghost use Rattle.listing.specs.Answer.{Room, Writes, Inside, observationsAt, sourcesAt, listing};
+ghost use Rattle.listing.specs.Lines.{keptLine, refusedLine};
+ghost use Rattle.listing.specs.Answer.{Room, Writes, listing};
 use crate::lines::write_byte;
 use crate::lines::write_field;
 use crate::lines::write_text;

@@ -3,19 +3,16 @@ use mathlib.Core.Path.{_≡_, sym, _∙_, ap, subst}
 use mathlib.Core.Logic.{by-cases}
 use mathlib.Core.Bool.{Bool, cond, not, _&&_}
 use mathlib.Core.List.{List}
-use Prim.Native.Nat.{ℕ, _+_, _*_, _≤_, _<_}
+use Prim.Native.Nat.{ℕ, _+_, _≤_, _<_}
 use native.Mathlib.Omega.{arith}
 use native.Mathlib.Decide.{ℕ-discrete}
 use lib.Dec.{eqb}
 use lib.ListN.{length, getD, set, length-set, replicate, length-replicate}
 use lib.Seq.{getD-set-same, getD-set-other}
 use Rattle.lists.specs.Rows.{at}
-use Rattle.lists.proofs.Rows.{length-rows}
-use Rattle.wire.specs.Bytes.{u32At}
 use Rattle.position.specs.declared.Span.{Span}
 use Rattle.grid.specs.Cells.{Grid}
 use Rattle.areas.specs.Spans.{spanIn}
-use Rattle.areas.specs.Words.{labelsIn}
 use Rattle.links.specs.Limits.{Limits}
 use Rattle.links.specs.Link.{Link, linkOf}
 use Rattle.links.specs.Measure.{Measured as Measure, measured, passing}

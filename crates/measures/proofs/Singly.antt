@@ -2,10 +2,9 @@
 use mathlib.Core.Path.{_≡_, _∙_, ap, subst}
 use mathlib.Core.Bool.{cond}
 use mathlib.Core.List.{List}
-use Prim.Native.Nat.{ℕ, _+_, _*_, _/_, _%_, _<_}
+use Prim.Native.Nat.{ℕ, _+_, _/_, _%_, _<_}
 use lib.Dec.{eqb}
 use Rattle.areas.specs.Words.{word, labelsIn}
-use Rattle.wire.specs.Bytes.{u32At}
 use Rattle.links.specs.Limits.{Limits}
 use Rattle.links.specs.HeldLink.{withCell, linkAfter}
 use Rattle.links.specs.declared.link.Link.{Link as LinkHeld}

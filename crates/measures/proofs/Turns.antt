@@ -11,7 +11,6 @@ use lib.Dec.{eqb}
 use lib.ListN.{getD, set, length-set, replicate, length-replicate, getD-replicate}
 use lib.Seq.{getD-set-same, getD-set-other}
 use Rattle.lists.specs.Rows.{at}
-use Rattle.wire.specs.Bytes.{u32At}
 use Rattle.order.specs.Lists.{keep, upFrom}
 use Rattle.grid.specs.Cells.{Grid, Whole, size, cellAt}
 use Rattle.grid.proofs.Index.{column-of, row-of, row-in}

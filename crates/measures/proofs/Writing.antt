@@ -10,8 +10,7 @@ use lib.ListN.{length}
 use Rattle.areas.specs.Words.{word, labelsIn}
 use Rattle.areas.proofs.Words.{labels-same}
 use Rattle.lists.specs.Rows.{at}
-use Rattle.lists.proofs.Rows.{rows-same}
-use Rattle.wire.specs.Bytes.{u32At, u32Bytes, splice}
+use Rattle.wire.specs.Bytes.{u32Bytes, splice}
 use Rattle.wire.proofs.Words.{four-bytes}
 use Rattle.bridges.specs.Names.{Table}
 use Rattle.walk.specs.Slices.{put}

@@ -1,9 +1,8 @@
 // Links measured each by a pass over the cells.
 ghost use mathlib.Core.Path.{_≡_};
 ghost use mathlib.Core.Bool.{cond};
-ghost use Prim.Native.Nat.{ℕ, _*_, _/_, _%_, _<_, _≤_};
+ghost use Prim.Native.Nat.{_*_, _/_, _%_, _<_, _≤_};
 ghost use lib.ListN.{length};
-ghost use Rattle.grid.specs.Cells.{Grid};
 ghost use Rattle.areas.specs.Spans.{Sides};
 ghost use Rattle.areas.specs.Words.{labelsIn};
 ghost use Rattle.links.specs.HeldLimits.{limitsOf};

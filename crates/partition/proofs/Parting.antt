@@ -4,15 +4,13 @@ use mathlib.Core.List.{List, [], _++_, flatMap, append-nil, List·Memᴰ, Memᴰ
 use Prim.Native.Nat.{ℕ, zero, suc, _+_, _*_, _-_, _≤_, _<_}
 use native.Mathlib.Omega.{arith}
 use lib.ListN.{length, getD, take, drop, replicate, length-replicate}
-use lib.Seq.{ext-getD}
-use Rattle.lists.specs.Rows.{rows}
 use Rattle.lists.proofs.Rows.{length-rows, rows-at}
 use Rattle.order.proofs.Members.{getD-mem}
 use Rattle.wire.specs.Bytes.{splice, u32Bytes}
 use Rattle.position.specs.declared.Span.{Span}
 use Rattle.graph.specs.Records.{Record, recordIn, recordsIn}
 use Rattle.grid.specs.Cells.{Grid, size}
-use Rattle.areas.specs.Areas.{areaLabels, areaCount, labelAt}
+use Rattle.areas.specs.Areas.{areaLabels, areaCount}
 use Rattle.areas.specs.Assessments.{assess, records, regionsOf}
 use Rattle.areas.specs.Spans.{spanIn, spansIn}
 use Rattle.areas.proofs.Areas.{area-labels-length, label-at-most}

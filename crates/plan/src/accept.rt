@@ -1,6 +1,6 @@
 // The rules on a group.
 ghost use mathlib.Core.Path.{_≡_};
-ghost use Prim.Native.Nat.{ℕ, _<_, _≤_};
+ghost use Prim.Native.Nat.{_≤_};
 ghost use Rattle.links.specs.HeldLimits.{limitsOf};
 ghost use Rattle.plan.specs.Four.{listed};
 ghost use Rattle.plan.specs.Told.{serialIn, flatIn};

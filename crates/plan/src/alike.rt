@@ -1,6 +1,6 @@
 // Members that are nearby and parallel.
 ghost use mathlib.Core.Path.{_≡_};
-ghost use Prim.Native.Nat.{ℕ, _<_, _≤_};
+ghost use Prim.Native.Nat.{_<_};
 ghost use Rattle.groups.specs.Tests.{every};
 ghost use Rattle.links.specs.HeldLimits.{limitsOf};
 ghost use Rattle.plan.specs.Four.{listed};

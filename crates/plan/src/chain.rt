@@ -1,6 +1,6 @@
 // The sum of a group's centre distances.
 ghost use mathlib.Core.Path.{_≡_};
-ghost use Prim.Native.Nat.{ℕ, _<_, _≤_};
+ghost use Prim.Native.Nat.{_≤_};
 ghost use Rattle.areas.specs.Spans.{spanIn};
 ghost use Rattle.links.specs.Geometry.{centreDistance};
 ghost use Rattle.plan.specs.Four.{listed};

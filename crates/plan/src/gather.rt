@@ -1,12 +1,12 @@
 // The ranks and the links of a part.
 ghost use mathlib.Core.Path.{_≡_};
 ghost use mathlib.Core.Bool.{_&&_};
-ghost use Prim.Native.Nat.{ℕ, _<_, _≤_};
+ghost use Prim.Native.Nat.{_<_, _≤_};
 ghost use lib.Dec.{eqb};
 ghost use Rattle.lists.specs.Rows.{at};
 ghost use Rattle.order.specs.Lists.{keep, upFrom};
 ghost use Rattle.plan.specs.Four.{held};
-ghost use Rattle.plan.specs.Arrays.{isOn, inPart, linkIn, Ranked};
+ghost use Rattle.plan.specs.Arrays.{inPart, linkIn, Ranked};
 use crate::four::Four;
 
 fn number(i: usize) -> u32

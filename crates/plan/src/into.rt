@@ -1,6 +1,6 @@
 // Which rank each rank goes into by the groups of the chosen links, 256 where no accepted group has it.
 ghost use mathlib.Core.Path.{_≡_};
-ghost use Prim.Native.Nat.{ℕ, _<_, _≤_};
+ghost use Prim.Native.Nat.{_<_, _≤_};
 ghost use lib.ListN.{length};
 ghost use Rattle.lists.specs.Rows.{at};
 ghost use Rattle.links.specs.HeldLimits.{limitsOf};

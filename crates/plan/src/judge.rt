@@ -1,7 +1,7 @@
 // What becomes of the group that a part makes.
 ghost use mathlib.Core.Path.{_≡_};
 ghost use mathlib.Core.Bool.{cond};
-ghost use Prim.Native.Nat.{ℕ, _<_, _≤_};
+ghost use Prim.Native.Nat.{_≤_};
 ghost use Rattle.links.specs.HeldLimits.{limitsOf};
 ghost use Rattle.plan.specs.Arrays.{ranksIn, numbersIn};
 ghost use Rattle.plan.specs.Shape.{retainedIn};

@@ -1,6 +1,6 @@
 // The merge plan: which rank each rank goes into, by the serial groups and the flat groups of what they leave.
 ghost use mathlib.Core.Path.{_≡_};
-ghost use Prim.Native.Nat.{ℕ, _<_, _≤_};
+ghost use Prim.Native.Nat.{_≤_};
 ghost use lib.ListN.{length};
 ghost use Rattle.links.specs.HeldLimits.{limitsOf};
 ghost use Rattle.plan.specs.Arrays.{Ranked};

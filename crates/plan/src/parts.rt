@@ -1,12 +1,12 @@
 // The connected parts of the ranks that the chosen links join, known by their first ranks.
 ghost use mathlib.Core.Path.{_≡_};
-ghost use mathlib.Core.Bool.{Bool, cond, _||_, _&&_};
-ghost use Prim.Native.Nat.{ℕ, _<_, _≤_, min, max};
+ghost use mathlib.Core.Bool.{cond, _||_, _&&_};
+ghost use Prim.Native.Nat.{_<_, min, max};
 ghost use lib.Dec.{eqb};
 ghost use lib.ListN.{length};
 ghost use Rattle.lists.specs.Rows.{at};
 ghost use Rattle.graph.specs.Parts.{join};
-ghost use Rattle.plan.specs.Arrays.{isOn, joinsAt, partFrom, joinedFrom, Ranked, Filled};
+ghost use Rattle.plan.specs.Arrays.{partFrom, joinedFrom, Ranked, Filled};
 use wire::size;
 
 fn smaller(a: u32, b: u32) -> u32

@@ -1,7 +1,7 @@
 // Which member of a group is kept: 000's `representative`.
 ghost use mathlib.Core.Path.{_≡_};
 ghost use mathlib.Core.Bool.{cond};
-ghost use Prim.Native.Nat.{ℕ, _<_, _≤_};
+ghost use Prim.Native.Nat.{_<_, _≤_};
 ghost use lib.ListN.{getD};
 ghost use Rattle.order.specs.Lists.{keep};
 ghost use Rattle.order.specs.Sorting.{sort};

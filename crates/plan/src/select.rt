@@ -7,7 +7,7 @@ ghost use lib.ListN.{length};
 ghost use Rattle.lists.specs.Rows.{at};
 ghost use Rattle.links.specs.HeldLimits.{limitsOf};
 ghost use Rattle.plan.specs.Arrays.{isOn, Ranked, Filled};
-ghost use Rattle.plan.specs.Shape.{alikeIn, bothOn, flatLinkIn};
+ghost use Rattle.plan.specs.Shape.{bothOn, flatLinkIn};
 ghost use Rattle.plan.specs.Fitting.{RankFits, LinkFits};
 use crate::alike::alike;
 use links::limits::Limits;

@@ -4,8 +4,7 @@ use mathlib.Core.List.{List}
 use Prim.Native.Nat.{ℕ, _+_, _*_, _-_, _≤_}
 use native.Mathlib.Omega.{arith}
 use lib.ListN.{length, take, drop}
-use Rattle.lists.proofs.Rows.{rows-same}
-use Rattle.wire.specs.Bytes.{part, number, numberAt, u32At}
+use Rattle.wire.specs.Bytes.{part, number, numberAt}
 use Rattle.wire.proofs.Parts.{length-part, part-part}
 use Rattle.position.specs.declared.WalkPosition.{WalkPosition}
 use Rattle.links.specs.Limits.{Limits}

@@ -1,6 +1,6 @@
 // The partition of a job by its boundaries' own ends, alone.
 ghost use mathlib.Core.Path.{_≡_};
-ghost use Prim.Native.Nat.{ℕ, _+_, _*_, _<_, _≤_};
+ghost use Prim.Native.Nat.{_+_, _*_, _<_, _≤_};
 ghost use lib.ListN.{length};
 ghost use Rattle.format.specs.Sizes.{boundarySize};
 ghost use Rattle.probe.specs.Parting.{OwnSpans, Taken, Told, Parted, PartitionAnswer};

@@ -1,10 +1,9 @@
 // Boundaries and spans by rank, in arrays: the code's view of a run's listing.
 ghost use mathlib.Core.Path.{_≡_};
-ghost use Prim.Native.Nat.{ℕ, _+_, _*_, _<_, _≤_};
-ghost use lib.ListN.{length, getD};
+ghost use Prim.Native.Nat.{_+_, _*_, _<_, _≤_};
+ghost use lib.ListN.{length};
 ghost use Rattle.order.specs.Keys.{pack};
 ghost use Rattle.position.specs.Order.{canonical};
-ghost use Rattle.wire.specs.Bytes.{u64At};
 ghost use Rattle.format.specs.Sizes.{boundarySize};
 ghost use Rattle.ranks.specs.Tables.{recordPlace, Records, putSpan, SpansOf, WidthsOf, RampsOf, KeysOf, Identity};
 use format::BOUNDARY_SIZE;

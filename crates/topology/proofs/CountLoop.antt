@@ -2,16 +2,14 @@
 use mathlib.Core.Path.{_≡_, sym, _∙_, ap}
 use mathlib.Core.Bool.{Bool, true, false, cond, not}
 use mathlib.Core.List.{List, [], _∷_, _++_}
-use Prim.Native.Nat.{ℕ, _+_, _*_, _/_, _%_, _<_}
+use Prim.Native.Nat.{ℕ, _+_, _/_, _%_, _<_}
 use native.Mathlib.Omega.{arith}
 use native.Mathlib.Numerals.{add-one}
 use native.Mathlib.Nat.{mod-le, div-le-self}
 use borrow.Author.Tests.{not-true, not-false}
 use lib.Dec.{eqb}
-use Rattle.lists.proofs.Rows.{length-rows}
 use Rattle.order.specs.Lists.{keep, upFrom}
 use Rattle.order.proofs.Bools.{by-test}
-use Rattle.wire.specs.Bytes.{u32At}
 use Rattle.grid.specs.Cells.{Grid, columnOf, rowOf, cellAt}
 use Rattle.areas.specs.Areas.{labelAt}
 use Rattle.areas.specs.Words.{word, labelsIn}

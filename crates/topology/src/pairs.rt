@@ -1,6 +1,5 @@
 // Full pairs, and a pair's other region.
 ghost use mathlib.Core.Path.{_≡_};
-ghost use Rattle.areas.specs.Assessments.{RegionPair, Assessment};
 ghost use Rattle.topology.specs.FullPair.{otherRegion};
 ghost use Rattle.topology.specs.Numbers.{isFull, pairOf};
 

@@ -1,6 +1,6 @@
 // Little-endian numbers at an offset of a byte slice.
 ghost use mathlib.Core.Path.{_≡_};
-ghost use Prim.Native.Nat.{ℕ, _+_, _<_, _≤_};
+ghost use Prim.Native.Nat.{_+_, _<_, _≤_};
 ghost use lib.ListN.{length};
 ghost use Rattle.wire.specs.Bytes.{u32At, u64At, u32Bytes, u64Bytes, splice};
 

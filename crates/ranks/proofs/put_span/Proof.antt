@@ -1,5 +1,4 @@
 use mathlib.Core.Path.{refl}
-use Prim.Native.Nat.{_-_}
 use Rattle.ranks.specs.Tables.{putSpan}
 use borrow.Author.Needs.{needs}
 use Rattle.ranks.proofs.put_span.Statement.{statement}

@@ -5,7 +5,7 @@ use lib.ListN.{length}
 use borrow.Author.Needs.{needs}
 use Rattle.format.specs.declared.records.BoundaryRecord.{BoundaryRecord}
 use Rattle.answer.specs.Laying.{Layout, ownCount, seenCount, citedCount}
-use Rattle.answer.proofs.Layouts.{layout-start, layout-next, layout-end, firsts-long, starts-long, counts-long, room-for, own-fits, places-fit, own-place, observations-below}
+use Rattle.answer.proofs.Layouts.{layout-start, layout-next, layout-end, firsts-long, starts-long, counts-long, room-for, own-fits, places-fit, own-place}
 use Rattle.answer.proofs.laying.lay_boundaries.Statement.{statement}
 use Rattle.answer.proofs.laying.lay_boundaries.Tie as tie
 use Rattle.answer.proofs.laying.lay_boundaries.Reads as reads

@@ -1,6 +1,6 @@
 use mathlib.Core.Path.{_≡_, refl, sym, _∙_}
 use native.Mathlib.Omega.{arith}
-use Prim.Native.Nat.{_-_, _<_}
+use Prim.Native.Nat.{_<_}
 use Rattle.areas.specs.Words.{labelsIn}
 use Rattle.candidates.specs.Next.{nextAfter}
 use Rattle.candidates.specs.Found.{Given, given, Collected}

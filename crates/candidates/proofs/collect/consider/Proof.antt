@@ -1,6 +1,5 @@
 use mathlib.Core.Path.{sym, _∙_}
 use native.Mathlib.Omega.{arith}
-use Prim.Native.Nat.{_-_}
 use Rattle.areas.specs.Words.{labelsIn}
 use Rattle.candidates.specs.Found.{Given, given}
 use Rattle.candidates.proofs.CollectLaws.{two-below, gives-found, added-one, added-none}

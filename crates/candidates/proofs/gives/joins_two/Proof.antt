@@ -1,5 +1,4 @@
 use native.Mathlib.Omega.{arith}
-use Prim.Native.Nat.{_-_}
 use Rattle.candidates.proofs.StepLaws.{joined, not-joined, own-bounded}
 use borrow.Author.Needs.{needs}
 use Rattle.candidates.proofs.gives.joins_two.Statement.{statement}

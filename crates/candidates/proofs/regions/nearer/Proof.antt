@@ -1,4 +1,3 @@
-use Prim.Native.Nat.{_-_}
 use native.Mathlib.Omega.{arith}
 use Rattle.candidates.proofs.regions.nearer.Statement.{statement}
 use Rattle.candidates.proofs.regions.nearer.Tie as tie

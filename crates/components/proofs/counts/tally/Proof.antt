@@ -1,4 +1,3 @@
-use Prim.Native.Nat.{_-_}
 use Rattle.components.proofs.CountLaws.{tally-yes, tally-no}
 use Rattle.components.proofs.counts.tally.Statement.{statement}
 use Rattle.components.proofs.counts.tally.Tie as tie

@@ -1,4 +1,4 @@
-use Prim.Native.Nat.{_+_, _-_}
+use Prim.Native.Nat.{_+_}
 use native.Mathlib.Omega.{arith}
 use Rattle.components.proofs.FindLaws.{Finding, finding-start, finding-falls, finding-room, finding-second, finding-next, finding-end}
 use Rattle.components.proofs.parents.find.Statement.{statement}

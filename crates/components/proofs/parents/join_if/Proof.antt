@@ -1,4 +1,3 @@
-use Prim.Native.Nat.{_-_}
 use borrow.Author.Needs.{needs}
 use Rattle.components.proofs.JoinLaws.{joined-none}
 use Rattle.components.proofs.StepLaws.{joined-on, joined-off}

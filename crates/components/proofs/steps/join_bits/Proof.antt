@@ -1,5 +1,4 @@
 use mathlib.Core.Path.{refl}
-use Prim.Native.Nat.{_-_}
 use native.Mathlib.Omega.{arith}
 use borrow.Author.Needs.{needs}
 use Rattle.components.proofs.StepLaws.{first-bit, to-right, to-left, to-below, to-last, asked, as-bit, joined-from}

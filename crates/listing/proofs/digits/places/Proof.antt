@@ -1,4 +1,3 @@
-use Prim.Native.Nat.{_-_}
 use native.Mathlib.Omega.{arith}
 use Rattle.listing.proofs.Spelling.{Counted, counted-start, counted-next, counted-end}
 use Rattle.listing.proofs.digits.places.Statement.{statement}

@@ -1,4 +1,3 @@
-use Prim.Native.Nat.{_-_}
 use native.Mathlib.Omega.{arith}
 use Rattle.listing.proofs.Spelling.{remainder-small, Spelt, spelt-start, spelt-long, spelt-next, spelt-end}
 use borrow.Author.Needs.{needs}

@@ -1,6 +1,5 @@
 use mathlib.Core.List.{[], _∷_, _++_}
 use mathlib.Core.Path.{sym, _∙_, ap}
-use Prim.Native.Nat.{_+_}
 use Rattle.areas.specs.Open.{isOpen, bitOf}
 use Rattle.marking.proofs.Bits.{bits, byte-is, byte-from, open-last, open-leads}
 use borrow.Author.Needs.{needs}

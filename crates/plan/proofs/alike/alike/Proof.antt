@@ -1,5 +1,4 @@
 use mathlib.Core.Path.{refl, _∙_}
-use Prim.Native.Nat.{_-_}
 use Rattle.links.specs.HeldLimits.{limitsOf}
 use Rattle.links.specs.Parallel.{nearbyParallel}
 use Rattle.plan.proofs.ValueLaws.{both, span-fits}

@@ -1,5 +1,4 @@
 use mathlib.Core.Path.{sym, _∙_, ap}
-use Prim.Native.Nat.{_-_}
 use mathlib.Core.Path.{subst}
 use Rattle.plan.specs.Fitting.{LinkFits}
 use Rattle.plan.specs.Shape.{gapIn}

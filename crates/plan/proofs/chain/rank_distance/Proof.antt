@@ -1,5 +1,4 @@
 use mathlib.Core.Path.{refl, _∙_}
-use Prim.Native.Nat.{_-_}
 use Rattle.links.specs.Geometry.{centreDistance}
 use Rattle.plan.proofs.ValueLaws.{both, span-fits}
 use borrow.Author.Needs.{needs}

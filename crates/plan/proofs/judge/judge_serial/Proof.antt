@@ -1,4 +1,3 @@
-use Prim.Native.Nat.{_-_}
 use native.Mathlib.Omega.{arith}
 use Rattle.links.specs.HeldLimits.{limitsOf}
 use Rattle.plan.specs.Arrays.{inPart, linkIn, ranksIn, numbersIn}

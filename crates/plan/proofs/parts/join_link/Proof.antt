@@ -1,4 +1,3 @@
-use Prim.Native.Nat.{_-_}
 use Rattle.plan.proofs.ArrayLaws.{link-yes, link-no}
 use borrow.Author.Needs.{needs}
 use Rattle.plan.proofs.parts.join_link.Statement.{statement}

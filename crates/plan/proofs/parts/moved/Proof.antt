@@ -1,4 +1,3 @@
-use Prim.Native.Nat.{_-_}
 use Rattle.plan.proofs.ArrayLaws.{pick-yes, pick-no}
 use Rattle.plan.proofs.parts.moved.Statement.{statement}
 use Rattle.plan.proofs.parts.moved.Tie as tie

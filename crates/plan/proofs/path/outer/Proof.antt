@@ -1,5 +1,5 @@
 use mathlib.Core.Path.{_∙_}
-use Prim.Native.Nat.{_-_, _<_}
+use Prim.Native.Nat.{_<_}
 use native.Mathlib.Omega.{arith}
 use Rattle.plan.specs.Arrays.{joinsAt}
 use Rattle.plan.specs.Four.{listed}

@@ -1,5 +1,4 @@
 use mathlib.Core.Path.{_∙_, ap}
-use Prim.Native.Nat.{_-_}
 use lib.Ieee.{Float, le}
 use Rattle.length.specs.Floats.{_⊕_}
 use Rattle.links.specs.HeldLimits.{limitsOf}

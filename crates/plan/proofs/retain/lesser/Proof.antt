@@ -1,5 +1,4 @@
 use mathlib.Core.Path.{sym, _∙_}
-use Prim.Native.Nat.{_-_}
 use Rattle.plan.proofs.ValueLaws.{choose-yes, choose-no}
 use borrow.Author.Needs.{needs}
 use Rattle.plan.proofs.retain.lesser.Statement.{statement}

@@ -1,5 +1,4 @@
 use mathlib.Core.Path.{sym, _∙_}
-use Prim.Native.Nat.{_-_}
 use Rattle.plan.specs.Four.{listed}
 use Rattle.plan.proofs.ValueLaws.{choose-yes, choose-no, nearer-as}
 use borrow.Author.Needs.{needs}

@@ -1,4 +1,3 @@
-use Prim.Native.Nat.{_-_}
 use Rattle.links.specs.HeldLimits.{limitsOf}
 use Rattle.plan.specs.Shape.{fineIn}
 use Rattle.plan.specs.Fitting.{RankFits}

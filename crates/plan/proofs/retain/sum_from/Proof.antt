@@ -1,5 +1,4 @@
 use mathlib.Core.Path.{refl, _∙_, ap}
-use Prim.Native.Nat.{_-_}
 use Rattle.areas.specs.Spans.{spanIn}
 use Rattle.plan.proofs.ValueLaws.{span-fits, sum-listed}
 use borrow.Author.Needs.{needs}

@@ -1,6 +1,5 @@
 use mathlib.Core.Path.{ap}
 use mathlib.Core.Bool.{Bool, _&&_}
-use Prim.Native.Nat.{_-_}
 use lib.Dec.{eqb}
 use Rattle.plan.proofs.ValueLaws.{both}
 use borrow.Author.Needs.{needs}

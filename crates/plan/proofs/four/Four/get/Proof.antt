@@ -1,4 +1,3 @@
-use Prim.Native.Nat.{_-_}
 use Rattle.plan.proofs.FourLaws.{slot-a, slot-b, slot-c, slot-d}
 use Rattle.plan.proofs.four.Four.get.Statement.{statement}
 use Rattle.plan.proofs.four.Four.get.Tie as tie

@@ -1,4 +1,3 @@
-use Prim.Native.Nat.{_-_}
 use Rattle.plan.proofs.FourLaws.{none-held}
 use Rattle.plan.proofs.four.Four.none.Statement.{statement}
 use Rattle.plan.proofs.four.Four.none.Tie as tie

@@ -1,4 +1,3 @@
-use Prim.Native.Nat.{_-_}
 use borrow.Author.Needs.{needs}
 use Rattle.plan.proofs.four.Four.with.Statement.{statement}
 use Rattle.plan.proofs.four.Four.with.Tie as tie
