@@ -113,9 +113,6 @@ module _ {s : List ℕ} {h : Header} (d : Headed s h) (t : List ℕ) (f : firstR
   list-right : ListChecked (countsAt s 0 .width) (countsAt s 0 .height) t
   list-right = by-list-checked s t (d .bytes) f .1
 
-  list-inside : (length t / spanSize) * spanSize ≤ length t
-  list-inside = omega arith
-
   -- as many as boundaries
   module _ {order : List ℕ} (k : ByRank (decode s .boundaries) order) (n : ℕ) (e : n ≡ h .counts .boundaries) (m : length t / spanSize ≡ h .counts .boundaries) where
     same : length t / spanSize ≡ countsAt s 0 .boundaries

@@ -198,15 +198,6 @@ list-matched c t e = c .count ∙ sym (length-decodeList t ∙ e)
 pub list-records : (t order : List ℕ) (m : ℕ) → m ≤ 256 → m ≤ length t / spanSize → ((i : ℕ) → i < m → getD order i 0 < m) → Records t 0 spanSize order m
 list-records t order m few h below = record { few = few; least = omega arith; most = omega arith; inside = omega arith; named = below }
 
--- the sides of the map that is decoded
-pub decoded-width : (s : List ℕ) → decode s .width ≡ countsAt s 0 .width
-unfolding decode jobWith
-decoded-width s = refl
-
-pub decoded-height : (s : List ℕ) → decode s .height ≡ countsAt s 0 .height
-unfolding decode jobWith
-decoded-height s = refl
-
 -- the spans of a list, in any order of ranks within it, fit the map
 pub list-ends-fit : {width height : ℕ} {t : List ℕ} → ListChecked width height t → (order : List ℕ) (m : ℕ) → ((i : ℕ) → i < m → getD order i 0 < length t / spanSize)
     → (ends : List ℕ) → SpansOf t 0 spanSize order m ends → SpansFit width height ends m
@@ -234,9 +225,6 @@ module _ (t : List ℕ) (few : length t / spanSize ≤ 256) {order : List ℕ} (
 
   pub records-listed : (dirs : List ℕ) (g : Grid) → records dirs g (decodeList t) ≡ records dirs g (spansIn ends (length t / spanSize))
   records-listed dirs g = records-same dirs g (decodeList t) (spansIn ends (length t / spanSize)) canonical-listed
-
-  pub identity-below : (i : ℕ) → i < length t / spanSize → getD order i 0 < length t / spanSize
-  identity-below i h = rw (d .each i (omega arith)) h
 
 -- the boundaries' own ends in their own order
 module _ {distinct : Bool} {s : List ℕ} (c : Checked distinct s) {order : List ℕ} (d : Identity order) (ends : List ℕ) (o : SpansOf s (boundariesAt s) boundarySize order (countsAt s 0 .boundaries) ends) where
@@ -271,13 +259,3 @@ module _ {distinct : Bool} {s : List ℕ} (c : Checked distinct s) {order : List
   own-listed-fit t = record {
     each = λ i h. rw (span-at i h) (canonical-span-fits (countsAt s 0 .width) (countsAt s 0 .height) (spanAt s (boundariesAt s + i * boundarySize)) (c .on i h) (c .apart t i h));
   }
-
--- what filling them asks
-pub identity-records : {distinct : Bool} {s : List ℕ} → Checked distinct s → {order : List ℕ} → Identity order → Records s (boundariesAt s) boundarySize order (countsAt s 0 .boundaries)
-identity-records c d = record {
-  few = c .allowed .boundaries;
-  least = omega arith;
-  most = omega arith;
-  inside = c .inside;
-  named = λ i h. rw (d .each i (let f = c .allowed .boundaries in omega arith)) h;
-}

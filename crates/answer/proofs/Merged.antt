@@ -1,7 +1,7 @@
 -- What a kept rank's merged boundary has, of the arrays that hold the canonical copies.
 use mathlib.Core.Path.{_≡_, refl, sym, _∙_, ap, subst}
 use mathlib.Core.Bool.{Bool, true, false, cond, not, _&&_}
-use mathlib.Core.List.{List, [], _∷_, _++_, map, flatMap, append-nil, map-append, List·Memᴰ, List·Memᴰ·head, List·Memᴰ·tail, List·Memᴰ·not-nil, List·Permᴰ, List·Permᴰ·nil, List·Permᴰ·trans, Permᴰ·refl, Permᴰ·symm, Permᴰ·append-left, Permᴰ·append-right}
+use mathlib.Core.List.{List, [], _∷_, _++_, map, append-nil, map-append, List·Memᴰ, List·Memᴰ·head, List·Memᴰ·tail, List·Memᴰ·not-nil, List·Permᴰ, List·Permᴰ·nil, List·Permᴰ·trans, Permᴰ·refl, Permᴰ·symm, Permᴰ·append-left, Permᴰ·append-right}
 use Prim.Native.Nat.{ℕ, zero, suc, _+_, _<_}
 use native.Mathlib.Numerals.{add-one}
 use native.Mathlib.Omega.{arith}
@@ -11,7 +11,6 @@ use lib.ListN.{length, getD, length-map}
 use Rattle.lists.specs.Rows.{rows, All, none}
 use Rattle.lists.proofs.Each.{all-append}
 use Rattle.lists.proofs.Rows.{map-rows}
-use Rattle.lists.proofs.Flat.{flatMap-append}
 use Rattle.order.specs.Sorting.{sort, sortOnce}
 use Rattle.order.specs.Lists.{keep, gather, upFrom}
 use Rattle.order.proofs.Keep.{keep-mem, mem-keep, keep-append}
@@ -24,7 +23,6 @@ use Rattle.order.proofs.Sort.{sort-perm}
 use Rattle.position.specs.Order.{canonical}
 use Rattle.format.specs.Values.{Observation, Boundary}
 use Rattle.format.specs.Decode.{rampOf}
-use Rattle.format.specs.Encode.{observationsOf}
 use Rattle.format.specs.Fits.{SourceFits}
 use Rattle.format.specs.declared.records.Source.{Source}
 use Rattle.format.specs.declared.records.BoundaryRecord.{BoundaryRecord}
@@ -106,9 +104,6 @@ module _ (bs : ℕ → BoundaryRecord) (os : ℕ → ObservationRecord) (ss : Li
       → keptBy bs os ss order plan n ≡ map (λ i. merged (copiesBy bs os ss order n) (members (λ j. getD plan j 0) n i) i) (keep (λ i. eqb (getD plan i 0) i) (upFrom 0 n))
   unfolding planned
   kept-list plan n = rw (copies-length n) refl
-
-  pub kept-length : (plan : List ℕ) (n : ℕ) → length (keptBy bs os ss order plan n) ≡ length (keep (λ i. eqb (getD plan i 0) i) (upFrom 0 n))
-  kept-length plan n = ap length (kept-list plan n) ∙ length-map (keep (λ i. eqb (getD plan i 0) i) (upFrom 0 n)) (λ i. merged (copiesBy bs os ss order n) (members (λ j. getD plan j 0) n i) i)
 
   -- The k-th kept boundary is what goes into the k-th rank that stays.
   pub kept-at : (plan : List ℕ) (n k i : ℕ) → k < length (keep (λ i. eqb (getD plan i 0) i) (upFrom 0 n)) → getD (keep (λ i. eqb (getD plan i 0) i) (upFrom 0 n)) k 0 ≡ i
@@ -300,10 +295,6 @@ pub own-last : (ks : List Boundary) (k : Boundary) → ownSources (ks ++ (k ∷ 
 unfolding ownSources
 own-last ks k = gather-last (λ (b : Boundary). b .sources) ks k
 
-pub observations-last : (ks : List Boundary) (k : Boundary) → observationsOf (ks ++ (k ∷ [])) ≡ observationsOf ks ++ k .observations
-unfolding observationsOf flatMap
-observations-last ks k = flatMap-append (λ (b : Boundary). b .observations) ks (k ∷ []) ∙ ap (λ (l : List Observation). observationsOf ks ++ l) (append-nil (k .observations))
-
 -- What is kept of the ranks below i.
 module _ (bs : ℕ → BoundaryRecord) (os : ℕ → ObservationRecord) (ss : List Source) (order plan : List ℕ) (n : ℕ) where
   abbrev one : ℕ → Boundary
@@ -332,13 +323,3 @@ module _ (bs : ℕ → BoundaryRecord) (os : ℕ → ObservationRecord) (ss : Li
       go : (t : Bool) → map one (cond t (i ∷ []) []) ≡ cond t (one i ∷ []) []
       go true = refl
       go false = refl
-
-  pub kept-stays : (i : ℕ) → getD plan i 0 ≡ i → keptTo (i + 1) ≡ keptTo i ++ (merged (copiesBy bs os ss order n) (members (λ j. getD plan j 0) n i) i ∷ [])
-  kept-stays i e = kept-next i true (eq-eqb (getD plan i 0) i e)
-
-  pub kept-goes : (i : ℕ) → (getD plan i 0 ≡ i → ⊥) → keptTo (i + 1) ≡ keptTo i
-  kept-goes i e = kept-next i false (ne-eqb (getD plan i 0) i e) ∙ append-nil (keptTo i)
-
-  pub kept-all : keptTo n ≡ keptBy bs os ss order plan n
-  unfolding keptTo
-  kept-all = sym (kept-list bs os ss order plan n)

@@ -6,7 +6,6 @@ pub mod Cuts
 pub mod Line
 pub mod Covering
 pub mod StripCells
-pub mod StripSums
 pub mod Uncut
 pub mod Areas
 pub mod Assessments

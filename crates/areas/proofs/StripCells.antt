@@ -18,12 +18,13 @@ use Rattle.grid.specs.Cells.{Grid, Whole}
 use Rattle.grid.specs.Directions.{eight}
 use Rattle.grid.specs.Steps.{neighbour, hasStep, stepOf}
 use Rattle.grid.proofs.Directions.{eight-closed}
+use Rattle.grid.proofs.Index.{column-of, row-of}
 use Rattle.grid.proofs.Steps.{has-step}
 use Rattle.areas.specs.declared.candidates.CellRange.{CellRange}
 use Rattle.areas.specs.declared.candidates.Line.{Line}
 use Rattle.areas.specs.Spans.{SpanFits, Sides}
 use Rattle.areas.specs.Cuts.{cutBy}
-use Rattle.areas.specs.Strip.{axisRange, minorRange, clamp, lineAt, gap, InStrip, tall, lineOf, stripAxis, stripMinor, majorOf, minorOf, Within}
+use Rattle.areas.specs.Strip.{axisRange, minorRange, clamp, lineAt, gap, InStrip, tall, lineOf, stripAxis, stripMinor, majorOf, minorOf, cellOf, Within}
 use Rattle.areas.proofs.Covering.{cut-covers}
 
 -- what it is to be tall, in numbers
@@ -137,3 +138,11 @@ minor-is w h s c n t q v x r en et eq ev ex er = er ∙ rw (ex, ev, eq, et, en)
 pub limit-some : {w h : ℕ} → Sides w h → (t : Bool) → (0 < cond t h w) × (0 < cond t w h)
 limit-some d true = (d .rows, d .columns)
 limit-some d false = (d .columns, d .rows)
+
+-- the major coordinate of the cell at two coordinates of the map
+pub cell-major : (g : Grid) (s : Span) (c cm : ℕ) → c < cond (tall s) (g .height) (g .width) → cm < cond (tall s) (g .width) (g .height) → majorOf g s (cellOf g s c cm) ≡ c
+unfolding cellOf majorOf
+cell-major g s c cm major minor =
+    by-test (tall s)
+    (λ e. rw e (row-of g cm c (rw e at minor)))
+    (λ e. rw e (column-of g c cm (rw e at major)))

@@ -32,8 +32,7 @@ use Rattle.areas.specs.Strip.{tall, stripAxis, stripMinor, majorOf, minorOf, ce
 use Rattle.areas.specs.Assessments.{isSeparated, labelPair, assessment}
 use Rattle.areas.proofs.Assessments.{pair-order}
 use Rattle.areas.proofs.Cuts.{cut-steps-iff}
-use Rattle.areas.proofs.StripCells.{axis-on, minor-on, in-within, cut-in}
-use Rattle.areas.proofs.StripSums.{cell-major}
+use Rattle.areas.proofs.StripCells.{axis-on, minor-on, in-within, cut-in, cell-major}
 use Rattle.assessments.specs.Visits.{within, isCutIn, cutIn, cutFrom, cutBeside, cutAlong}
 
 -- an assessment does not depend on the order of the steps
@@ -183,7 +182,7 @@ module _ (dirs : List ℕ) (g : Grid) (whole : Whole g) (sides : Sides (g .width
       let y = up-mem _ _ (w .1) in
       let p = axis-on sides s in
       let q = minor-on sides s c in
-      ap (majorOf g s) (from-left dirs g s (cellOf g s c (w .0)) (w .2)) ∙ cell-major g whole s c (w .0) (omega arith) (omega arith)
+      ap (majorOf g s) (from-left dirs g s (cellOf g s c (w .0)) (w .2)) ∙ cell-major g s c (w .0) (omega arith) (omega arith)
 
   along-distinct : Distinct (cutAlong dirs g s)
   unfolding cutAlong

@@ -1,5 +1,5 @@
 -- The steps of the search for what touches a region, of the marks and of the search for the next region.
-use mathlib.Core.Path.{_≡_, refl, _∙_, ap}
+use mathlib.Core.Path.{_≡_, _∙_, ap}
 use mathlib.Core.Logic.{by-cases}
 use mathlib.Core.Bool.{Bool, true, false, cond, not, _&&_, _||_}
 use mathlib.Core.List.{List}
@@ -10,7 +10,6 @@ use native.Mathlib.Decide.{ℕ-discrete}
 use lib.Dec.{eqb}
 use lib.ListN.{length, getD, set}
 use lib.Seq.{getD-set-same, getD-set-other}
-use Rattle.order.proofs.Bools.{clash}
 use Rattle.graph.specs.Records.{Record}
 use Rattle.candidates.specs.Owners.{inRecord}
 use Rattle.candidates.specs.Touchers.{withOwner, touched, touchingAfter}
@@ -51,10 +50,6 @@ marked-next test marks i v r h e = record {
 
 pub marked-end : {test : ℕ → Bool} {k n : ℕ} {marks : List ℕ} → k ≡ n → Marked test k marks → Marked test n marks
 marked-end e h = rw (← e) h
-
-pub false-first : (p q : Bool) → not p ≡ true → false ≡ (p && q)
-false-first true q h = clash {t = not true} h refl
-false-first false q h = refl
 
 -- a rank's mark, by what is read of it
 pub can-link : (own ramps removed separated counts : List ℕ) (i : ℕ) {s : Span} {coincides full : Bool} → s ≡ spanIn own i → coincides ≡ posSame (s .a) (s .b) → full ≡ isFull (getD removed i 0) (getD separated i 0) (getD counts i 0)

@@ -7,7 +7,7 @@ use native.Mathlib.Decide.{decLt}
 use native.Mathlib.Omega.{arith}
 use lib.ListN.{length, getD, length-append, List·getD-eq-default}
 use Rattle.wire.specs.Bytes.{part, number, bytes, numberAt, AreBytes}
-use Rattle.wire.proofs.Parts.{length-part, part-at, part-cons, part-join, part-middle}
+use Rattle.wire.proofs.Parts.{length-part, part-at, part-cons, part-join}
 use Rattle.wire.proofs.Numbers.{length-bytes, number-bytes, bytes-number, number-below}
 use Rattle.format.proofs.Sections.{part-first, part-second}
 
@@ -21,12 +21,6 @@ pub record Trip {A : Type 0} (n : ℕ) (at : List ℕ → ℕ → A) (out : A �
   pub write : (s : List ℕ) (i : ℕ) → AreBytes s → i + n ≤ length s → out (at s i) ≡ part s i n
   -- What is read fits.
   pub fits : (s : List ℕ) (i : ℕ) → AreBytes s → i + n ≤ length s → Fits (at s i)
-
--- A value is read between any other bytes.
-pub read-between : {A : Type 0} {n : ℕ} {at : List ℕ → ℕ → A} {out : A → List ℕ} {F : A → Type 0}
-    → Trip n at out F → (a : List ℕ) (r : A) (c : List ℕ) → F r → at (a ++ (out r ++ c)) (length a) ≡ r
-read-between {out} T a r c f =
-    T .read (a ++ (out r ++ c)) (length a) r f (ap (part (a ++ (out r ++ c)) (length a)) (sym (T .size r)) ∙ part-middle a (out r) c (length a) refl)
 
 part-are : (s : List ℕ) (i n : ℕ) → AreBytes s → i + n ≤ length s → AreBytes (part s i n)
 part-are s i n h l k = go (decLt k n)

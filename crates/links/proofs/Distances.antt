@@ -4,9 +4,7 @@ use native.Mathlib.Nat.{mul-le-mul}
 use native.Mathlib.Omega.{arith}
 use Rattle.length.specs.Nearest.{NearestLength}
 use Rattle.length.proofs.Lengths.{length-nearest}
-use Rattle.position.specs.declared.PixelPosition.{PixelPosition}
-use Rattle.position.specs.declared.Span.{Span}
-use Rattle.links.specs.Geometry.{Doubled, apart, squares, distance, doubledPoint, doubledCentre}
+use Rattle.links.specs.Geometry.{Doubled, apart, squares, distance}
 
 -- no coordinate of a doubled point is past the doubled edge of the largest map
 pub record OnMap (p : Doubled) : Type 0 where
@@ -22,10 +20,3 @@ squares-small p q h k = omega (arith, square-small (p .x) (q .x) (h .column) (k 
 
 pub distance-nearest : (p q : Doubled) → OnMap p → OnMap q → NearestLength (squares p q) (distance p q)
 distance-nearest p q h k = length-nearest (squares p q) (squares-small p q h k)
-
--- a position on the map, and the centre of two
-pub point-on-map : (p : PixelPosition) → p .x ≤ 8192 → p .y ≤ 8192 → OnMap (doubledPoint p)
-point-on-map p h k = record { column = omega arith; row = omega arith }
-
-pub centre-on-map : (s : Span) → s .a .x ≤ 8192 → s .a .y ≤ 8192 → s .b .x ≤ 8192 → s .b .y ≤ 8192 → OnMap (doubledCentre s)
-centre-on-map s h k l m = record { column = omega arith; row = omega arith }

@@ -94,7 +94,3 @@ listingOf bs = keptLine (length bs) ++ boundaryTexts bs
 unfoldable pub refusedLine : ℕ → ℕ → List ℕ
 unfolding fieldText
 refusedLine n d = (114 ∷ 101 ∷ 102 ∷ 117 ∷ 115 ∷ 101 ∷ 100 ∷ []) ++ (fieldText n ++ (fieldText d ++ newline))
-
--- "input over 65,536 bytes prints `too large`"
-unfoldable pub tooLarge : List ℕ
-tooLarge = 116 ∷ 111 ∷ 111 ∷ 32 ∷ 108 ∷ 97 ∷ 114 ∷ 103 ∷ 101 ∷ newline

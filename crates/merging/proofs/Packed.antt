@@ -7,20 +7,18 @@ use lib.Dec.{leb}
 use Rattle.lists.specs.Rows.{All, none, more}
 use Rattle.order.specs.Orders.{same}
 use Rattle.order.specs.Sorting.{insert, sort, include, sortOnce}
-use Rattle.order.specs.Keys.{lexLe, byKey, sortBy, sortOnceBy, pack}
+use Rattle.order.specs.Keys.{lexLe, byKey, sortOnceBy, pack}
 use Rattle.order.proofs.Members.{perm-mem}
 use Rattle.order.proofs.Lexical.{lex-behind, lex-one}
 use Rattle.order.proofs.Packed.{lex-pack}
-use Rattle.order.proofs.Sort.{sort-perm, sort-map}
+use Rattle.order.proofs.Sort.{sort-perm}
 use Rattle.position.specs.Order.{posLe, swapped, canonical}
 use Rattle.position.specs.declared.Span.{Span}
-use Rattle.format.specs.Values.{Observation, Boundary}
-use Rattle.format.specs.Fits.{SpanFits, SourceFits, ObservationFits}
+use Rattle.format.specs.Values.{Boundary}
+use Rattle.format.specs.Fits.{SpanFits, SourceFits}
 use Rattle.format.specs.declared.records.Source.{Source}
 use Rattle.topology.specs.Listing.{spanKey, endsKey}
-use Rattle.length.specs.Total.{totalKey}
-use Rattle.merging.specs.Keys.{sourceKey, sourcesKey, observationKey}
-use Rattle.merging.specs.Copies.{canonObservation}
+use Rattle.merging.specs.Keys.{sourceKey, sourcesKey}
 
 pub canonical-fits : (s : Span) → SpanFits s → SpanFits (canonical s)
 unfolding canonical
@@ -63,19 +61,6 @@ sources-packed (s ∷ ss) [] f g = refl
 sources-packed (s ∷ ss) (t ∷ ts) (more p f) (more q g) =
     lex-pack (s .from) (s .to) (t .from) (t .to) (sourcesKey ss) (sourcesKey ts) (p .to) (q .to)
     ∙ lex-behind (packSource s) (packSource t) (sourcesKey ss) (sourcesKey ts) (map packSource ss) (map packSource ts) (sources-packed ss ts f g)
-
--- an observation's key in packed numbers
-abbrev pub packedObservation : Observation → List ℕ
-packedObservation o = packFirst (o .ends) ∷ packSecond (o .ends) ∷ totalKey (o .bits) ∷ map packSource (o .sources)
-
-pub observation-packed : (o p : Observation) → SpanFits (o .ends) → SpanFits (p .ends) → All SourceFits (o .sources) → All SourceFits (p .sources)
-    → lexLe (observationKey o) (observationKey p) ≡ lexLe (packedObservation o) (packedObservation p)
-unfolding observationKey
-observation-packed o p f g h k =
-    span-packed (o .ends) (p .ends) (totalKey (o .bits) ∷ sourcesKey (o .sources)) (totalKey (p .bits) ∷ sourcesKey (p .sources)) f g
-    ∙ lex-behind (packFirst (o .ends)) (packFirst (p .ends)) (packSecond (o .ends) ∷ totalKey (o .bits) ∷ sourcesKey (o .sources)) (packSecond (p .ends) ∷ totalKey (p .bits) ∷ sourcesKey (p .sources)) (packSecond (o .ends) ∷ totalKey (o .bits) ∷ map packSource (o .sources)) (packSecond (p .ends) ∷ totalKey (p .bits) ∷ map packSource (p .sources))
-    (lex-behind (packSecond (o .ends)) (packSecond (p .ends)) (totalKey (o .bits) ∷ sourcesKey (o .sources)) (totalKey (p .bits) ∷ sourcesKey (p .sources)) (totalKey (o .bits) ∷ map packSource (o .sources)) (totalKey (p .bits) ∷ map packSource (p .sources))
-    (lex-behind (totalKey (o .bits)) (totalKey (p .bits)) (sourcesKey (o .sources)) (sourcesKey (p .sources)) (map packSource (o .sources)) (map packSource (p .sources)) (sources-packed (o .sources) (p .sources) h k)))
 
 -- sorting with each member once goes through a map that keeps the order of the members
 module _ {A B : Type 0} (f : A → B) (le : A → A → Bool) (other : B → B → Bool) (P : A → Type 0) (h : (x y : A) → P x → P y → other (f x) (f y) ≡ le x y) where
@@ -127,18 +112,5 @@ module _ {A : Type 0} (le other : A → A → Bool) where
       ap (insert le x) (sort-alike xs (λ y z m n. h y z (List·Memᴰ·tail m) (List·Memᴰ·tail n)))
       ∙ insert-alike x (sort other xs) (λ y m. h x y (List·Memᴰ·head refl) (List·Memᴰ·tail (perm-mem (Permᴰ·symm (sort-perm other xs)) m)))
 
--- observations at places, by keys at those places
-pub observation-places : (f : ℕ → Observation) (key : ℕ → List ℕ) (ps : List ℕ) → ((p : ℕ) → List·Memᴰ p ps → ObservationFits (f p)) → ((p : ℕ) → List·Memᴰ p ps → key p ≡ packedObservation (f p))
-    → sortBy observationKey (map f ps) ≡ map f (sortBy key ps)
-observation-places f key ps fit e =
-    sort-map f (byKey (λ p. observationKey (f p))) (byKey observationKey) (λ p q. refl) ps
-    ∙ ap (map f) (sort-alike (byKey (λ p. observationKey (f p))) (byKey key) ps
-    (λ p q m n. observation-packed (f p) (f q) (fit p m .ends) (fit q n .ends) (fit p m .sources) (fit q n .sources) ∙ rw (e p m, e q n) refl))
-
 pub sources-fit : (ss : List Source) → All SourceFits ss → All SourceFits (sortOnceBy sourceKey ss)
 sources-fit ss a = once-all packSource (byKey sourceKey) leb SourceFits source-packed a
-
--- a canonical copy of an observation fits
-pub copy-fits : (o : Observation) → ObservationFits o → ObservationFits (canonObservation o)
-unfolding canonObservation
-copy-fits o f = record { ends = canonical-fits (o .ends) (f .ends); bits = f .bits; sources = sources-fit (o .sources) (f .sources) }

@@ -6,13 +6,12 @@ use Prim.Native.Nat.{ℕ, suc, _-_, _≤_, _<_}
 use native.Mathlib.Omega.{arith}
 use native.Mathlib.Numerals.{add-one}
 use borrow.Author.Tests.{eq-eqb, ne-eqb}
-use lib.Dec.{eqb}
 use lib.ListN.{length, getD, length-map}
 use Rattle.order.specs.Lists.{keep, upFrom}
 use Rattle.order.proofs.Numbers.{up-length}
 use Rattle.order.proofs.Keep.{keep-length}
 use Rattle.plan.specs.declared.four.Four.{Four}
-use Rattle.plan.specs.Four.{held, pushed, slot, listed, Below}
+use Rattle.plan.specs.Four.{held, pushed, slot, listed}
 
 abbrev four : ℕ → ℕ → ℕ → ℕ → ℕ → Four
 four n a b c d = record { count = n; a = a; b = b; c = c; d = d }
@@ -42,9 +41,6 @@ one-of true q r h i j k = h
 one-of false true r h i j k = i
 one-of false false true h i j k = j
 one-of false false false h i j k = k
-
-pub slot-below : {n : ℕ} (f : Four) (j : ℕ) → Below n f → slot f j < n
-slot-below f j w = one-of (eqb j 0) (eqb j 1) (eqb j 2) (w .a-in) (w .b-in) (w .c-in) (w .d-in)
 
 -- up to four numbers are kept whole
 pub listed-held : (xs : List ℕ) → length xs ≤ 4 → listed (held xs) ≡ xs

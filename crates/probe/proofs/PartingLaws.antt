@@ -11,9 +11,7 @@ use lib.Dec.{ltb}
 use lib.ListN.{length, take, drop, length-drop}
 use lib.Seq.{length-take-le}
 use Rattle.order.proofs.Bools.{by-test}
-use Rattle.wire.specs.Bytes.{AreBytes, part, splice, u32Bytes}
-use Rattle.wire.proofs.Parts.{length-splice}
-use Rattle.wire.proofs.Numbers.{length-bytes}
+use Rattle.wire.specs.Bytes.{AreBytes, part}
 use Rattle.position.specs.declared.Span.{Span}
 use Rattle.format.specs.Sizes.{headerSize, boundarySize}
 use Rattle.format.specs.Header.{countsAt, headerAt, cellCount}
@@ -43,10 +41,6 @@ use Rattle.probe.specs.Parting.{OwnSpans, Taken, Told, many, short, writ
 -- records in their own order
 pub own-order : {s order : List ℕ} {at count : ℕ} → Identity order → count ≤ 256 → at + count * boundarySize ≤ length s → Records s at boundarySize order count
 own-order d few inside = record { few = few; least = omega arith; most = omega arith; inside = inside; named = λ i h. rw (d .each i (omega arith)) h }
-
--- a word written keeps the length
-pub put-long : (s : List ℕ) (at v : ℕ) → at + 4 ≤ length s → length (splice s at (u32Bytes v)) ≡ length s
-put-long s at v h = length-splice s at (u32Bytes v) (let e = length-bytes 4 v in omega arith)
 
 -- the code's test of the checks
 pub passed-none : (o : Option Refusal) {t : Bool} → t ≡ passes o → not t ≡ false → o ≡ none

@@ -45,12 +45,6 @@ module _ {K : ℕ} {lf rt : ℕ → ℕ} where
   bridge (back p q) h c = h (moved p q c)
 
   module _ {R r : ℕ} {Told : ℕ → Type 0} {disc st pr nx lw : ℕ → ℕ} {h time : ℕ} (W : Walk K lf rt R r Told disc st pr nx lw h time) where
-    -- frames stand at regions of their own
-    place-lt : (m l : ℕ) → m < h → l < h → disc (st m) < disc (st l) → m < l
-    place-lt m l a b d =
-        by-cases (decLt m l) (λ k. k) λ k.
-        by-cases (ℕ-discrete m l) (λ e. absurd (omega (arith, ap (λ (x : ℕ). disc (st x)) e))) λ e. absurd (omega (arith, W .rising l m (omega arith) a))
-
     pub place-le : (m l : ℕ) → m ≤ l → l < h → disc (st m) ≤ disc (st l)
     place-le m l a b =
         by-cases (ℕ-discrete m l) (λ e. omega (arith, ap (λ (x : ℕ). disc (st x)) e)) λ e. omega (arith, W .rising m l (omega arith) b)
