@@ -15,8 +15,32 @@ pub struct Frame {
 }
 
 impl Frame {
+    // The frame, at another region.
+    pub fn at_region(self, region: u32) -> Frame
+        ensures { λ r. ⌜ (r .region ≡ region) × (r .parent ≡ self .parent) × (r .next ≡ self .next) × (r .low ≡ self .low) ⌝ }
+    {
+        Frame {
+            region: region,
+            parent: self.parent,
+            next: self.next,
+            low: self.low,
+        }
+    }
+
+    // The frame, entered by another record.
+    pub fn parent_record(self, parent: u32) -> Frame
+        ensures { λ r. ⌜ (r .region ≡ self .region) × (r .parent ≡ parent) × (r .next ≡ self .next) × (r .low ≡ self .low) ⌝ }
+    {
+        Frame {
+            region: self.region,
+            parent: parent,
+            next: self.next,
+            low: self.low,
+        }
+    }
+
     // The frame, to look at record j next.
-    pub fn moved(self, j: u32) -> Frame
+    pub fn next_record(self, j: u32) -> Frame
         ensures { λ r. ⌜ (r .region ≡ self .region) × (r .parent ≡ self .parent) × (r .next ≡ j) × (r .low ≡ self .low) ⌝ }
     {
         Frame {
@@ -49,12 +73,14 @@ pub fn opened(heads: &[u32], region: u32, parent: u32, time: u32) -> Frame
     requires { ⌜ region < length (now heads) ⌝ }
     ensures { λ r. ⌜ (r .region ≡ region) × (r .parent ≡ parent) × (r .next ≡ at (now (heads .entry)) region) × (r .low ≡ time) ⌝ }
 {
-    Frame {
-        region: region,
-        parent: parent,
-        next: heads[size(region)],
+    let next = heads[size(region)];
+    let f = Frame {
+        region: 0,
+        parent: 0,
+        next: 0,
         low: time,
-    }
+    };
+    f.at_region(region).parent_record(parent).next_record(next)
 }
 
 // The region that the frame's next record joins with its own.

@@ -65,14 +65,14 @@ fn walk(
                 }
                 f = f.lowered(d);
             }
-            f = f.moved(after(lefts, left_nexts, right_nexts, f));
+            f = f.next_record(after(lefts, left_nexts, right_nexts, f));
         };
         if j < count {
             save(
                 nexts,
                 lows,
                 top,
-                f.moved(after(lefts, left_nexts, right_nexts, f)),
+                f.next_record(after(lefts, left_nexts, right_nexts, f)),
             );
             time += 1;
             enter(

@@ -1,22 +1,38 @@
-use mathlib.Core.Path.{refl}
+use mathlib.Core.Path.{_≡_, refl, _∙_}
 use borrow.Author.Needs.{needs}
 use Rattle.walk.proofs.frame.opened.Statement.{statement}
 use Rattle.walk.proofs.frame.opened.Tie as tie
 use Rattle.walk.proofs.frame.opened.Reads as reads
 use Rattle.walk.proofs.frame.opened.Lts as lts
 use Rattle.wire.proofs.size.Reads as size-reads
+use Rattle.walk.proofs.frame.Frame.at_region.Reads as at-region-reads
+use Rattle.walk.proofs.frame.Frame.parent_record.Reads as parent-record-reads
+use Rattle.walk.proofs.frame.Frame.next_record.Reads as next-record-reads
 
 size-requires : tie.Need-size-requires
 size-requires c κs = search needs
 
-mul-t6 : tie.Need-mul-t6
-mul-t6 c = search needs
+mul-next : tie.Need-mul-next
+mul-next c = search needs
 
-shared-slice-read-t8 : tie.Need-shared-slice-read-t8
-shared-slice-read-t8 c = search needs
+shared-slice-read-next : tie.Need-shared-slice-read-next
+shared-slice-read-next c = search needs
+
+at-region-requires : tie.Need-at-region-requires
+at-region-requires c κs = search needs
+
+parent-record-requires : tie.Need-parent-record-requires
+parent-record-requires c κs = search needs
+
+next-record-requires : tie.Need-next-record-requires
+next-record-requires c κs = search needs
 
 returns : tie.Need-returns
-returns c = (refl, refl, rw (c .before .size .ensures .0), refl)
+returns c =
+    let m = c .next-record .ensures in
+    let p = c .before .parent-record .ensures in
+    let r = c .before .before .at-region .ensures in
+    (m .0 ∙ p .0 ∙ r .0, m .1 ∙ p .1, m .2 ∙ rw (c .before .before .before .before .size .ensures .0), m .3 ∙ p .3 ∙ r .3)
 
 pub opened-spec : {M : Type 1} → statement M
-opened-spec = tie.close (tie.spec size-requires mul-t6 shared-slice-read-t8 returns)
+opened-spec = tie.close (tie.spec size-requires mul-next shared-slice-read-next at-region-requires parent-record-requires next-record-requires returns)

@@ -19,7 +19,7 @@ use Rattle.walk.proofs.walk.walk.Tie as tie
 use Rattle.walk.proofs.walk.walk.Reads as reads
 use Rattle.walk.proofs.walk.walk.Lts as lts
 use Rattle.walk.proofs.frame.Frame.lowered.Reads as lowered-reads
-use Rattle.walk.proofs.frame.Frame.moved.Reads as moved-reads
+use Rattle.walk.proofs.frame.Frame.next_record.Reads as next-record-reads
 use Rattle.walk.proofs.frame.after.Reads as after-reads
 use Rattle.walk.proofs.stack.enter.Reads as enter-reads
 use Rattle.walk.proofs.stack.leave.Reads as leave-reads
@@ -66,8 +66,8 @@ stopped c =
     (c .if1 .came)
 
 -- the frame moves to the next record in the chain of its region
-next-one : (c : tie.After-moved Inv-loop μ-loop Inv-walk μ-walk) →
-    First (c .before .before .before .before .before .before .before .before .before .before .before .before .before .before .before .before .before .before .before .before .before .before .before .before .before .before .before .before .before .before .before .before .before .before .before .before .before .before .before .before .before .before .args .count) (at (c .before .before .before .before .before .before .before .before .before .before .before .before .before .before .before .before .before .before .before .before .before .before .before .before .before .before .before .before .before .before .before .before .before .before .before .before .before .before .before .before .before .before .args .lefts .now)) (at (c .before .before .before .before .before .before .before .before .before .before .before .before .before .before .before .before .before .before .before .before .before .before .before .before .before .before .before .before .before .before .before .before .before .before .before .before .before .before .before .before .before .before .args .rights .now)) (c .before .before .before .before .before .before .loop .f .next + 1) (c .before .before .before .before .before .before .loop .f .region) (c .moved .result .next)
+next-one : (c : tie.After-next-record Inv-loop μ-loop Inv-walk μ-walk) →
+    First (c .before .before .before .before .before .before .before .before .before .before .before .before .before .before .before .before .before .before .before .before .before .before .before .before .before .before .before .before .before .before .before .before .before .before .before .before .before .before .before .before .before .before .args .count) (at (c .before .before .before .before .before .before .before .before .before .before .before .before .before .before .before .before .before .before .before .before .before .before .before .before .before .before .before .before .before .before .before .before .before .before .before .before .before .before .before .before .before .before .args .lefts .now)) (at (c .before .before .before .before .before .before .before .before .before .before .before .before .before .before .before .before .before .before .before .before .before .before .before .before .before .before .before .before .before .before .before .before .before .before .before .before .before .before .before .before .before .before .args .rights .now)) (c .before .before .before .before .before .before .loop .f .next + 1) (c .before .before .before .before .before .before .loop .f .region) (c .next-record .result .next)
 next-one c =
     let a = c .before .before .before .before .before .before .before .before .before .before .before .before .before .before .before .before .before .before .before .before .before .before .before .before .before .before .before .before .before .before .before .before .before .before .before .before .before .before .before .before .before .before .args in
     let f = c .before .before .before .before .before .before .loop .f in
@@ -76,7 +76,7 @@ next-one c =
     let g = c .before .before .if2 .f in
     let en : g .next ≡ f .next = ⊎-elim (λ w. ap (λ (x : Frame). x .next) (w .6) ∙ w .5 .ensures .2) (λ w. ap (λ (x : Frame). x .next) (w .1)) (c .before .before .if2 .came) in
     let er : g .region ≡ f .region = ⊎-elim (λ w. ap (λ (x : Frame). x .region) (w .6) ∙ w .5 .ensures .0) (λ w. ap (λ (x : Frame). x .region) (w .1)) (c .before .before .if2 .came) in
-    subst (First (a .count) (at (a .lefts .now)) (at (a .rights .now)) (f .next + 1) (f .region)) (sym (c .moved .ensures .2))
+    subst (First (a .count) (at (a .lefts .now)) (at (a .rights .now)) (f .next + 1) (f .region)) (sym (c .next-record .ensures .2))
     (follows-as (c .before .before .before .before .before .before .before .before .before .before .before .before .before .before .before .before .before .before .before .before .before .before .before .before .before .before .before .before .before .before .before .before .before .before .before .before .before .before .before .before .before .before .pre .1) f g (c .before .after .result) en er k (c .before .before .before .before .before .before .loop .inv .touching k) (z .0) (z .1))
 
 add-time : tie.Need-add-time Inv-loop μ-loop Inv-walk μ-walk
@@ -128,8 +128,8 @@ after-requires c κs =
     chain-in (c .before .before .before .before .before .before .before .before .before .before .before .before .before .before .before .before .before .before .before .before .before .before .before .before .before .before .before .before .before .before .before .before .before .before .before .before .before .before .before .before .pre .0 .graph) (c .before .before .before .before .before .before .before .before .before .before .before .before .before .before .before .before .before .before .before .before .before .before .before .before .before .before .before .before .before .before .before .before .before .before .before .before .before .before .before .before .pre .1) (c .if2 .f .next)
     (⊎-elim (λ w. omega (arith, k, ap (λ (x : Frame). x .next) (w .6), w .5 .ensures .2)) (λ w. omega (arith, k, ap (λ (x : Frame). x .next) (w .1))) (c .if2 .came))
 
-moved-requires : tie.Need-moved-requires Inv-loop μ-loop Inv-walk μ-walk
-moved-requires c κs = search needs
+next-record-requires : tie.Need-next-record-requires Inv-loop μ-loop Inv-walk μ-walk
+next-record-requires c κs = search needs
 
 loop-less : tie.Need-loop-less Inv-loop μ-loop Inv-walk μ-walk
 loop-less c = omega (arith, c .before .before .before .before .if1 .left, next-one c .onward)
@@ -138,24 +138,24 @@ loop-again : tie.Need-loop-again Inv-loop μ-loop Inv-walk μ-walk
 loop-again c =
     let k : c .before .before .before .before .before .before .loop .f .next < c .before .before .before .before .before .before .before .before .before .before .before .before .before .before .before .before .before .before .before .before .before .before .before .before .before .before .before .before .before .before .before .before .before .before .before .before .before .before .before .before .before .before .args .count = omega (arith, c .before .before .before .before .if1 .left) in
     let h = c .before .before .before .before .before .before .loop .inv in
-    let m = c .moved .ensures in
+    let m = c .next-record .ensures in
     ⊎-elim
     (λ w.
     let l = w .5 .ensures in
     let e = w .6 in
     let t = w .3 .ensures in
-    seen h (c .moved .result) (w .1 .result) (m .0 ∙ ap (λ (x : Frame). x .region) e ∙ l .0) (m .1 ∙ ap (λ (x : Frame). x .parent) e ∙ l .1) (next-one c)
+    seen h (c .next-record .result) (w .1 .result) (m .0 ∙ ap (λ (x : Frame). x .region) e ∙ l .0) (m .1 ∙ ap (λ (x : Frame). x .parent) e ∙ l .1) (next-one c)
     (m .3 ∙ ap (λ (x : Frame). x .low) e ∙ l .3 ∙ ap (λ (x : ℕ). min (c .before .before .before .before .before .before .loop .f .low) x) t) k (w .1 .ensures) (λ z. omega (arith, w .0 .taken, z)) (λ z. w .4 .left (t ∙ z)))
     (λ w.
     let e = w .1 in
-    skipped h (c .moved .result) (m .0 ∙ ap (λ (x : Frame). x .region) e) (m .1 ∙ ap (λ (x : Frame). x .parent) e) (next-one c) (m .3 ∙ ap (λ (x : Frame). x .low) e) k (omega (arith, w .0 .left)))
+    skipped h (c .next-record .result) (m .0 ∙ ap (λ (x : Frame). x .region) e) (m .1 ∙ ap (λ (x : Frame). x .parent) e) (next-one c) (m .3 ∙ ap (λ (x : Frame). x .low) e) k (omega (arith, w .0 .left)))
     (c .before .before .if2 .came)
 
 after-requires-2 : tie.Need-after-requires-2 Inv-loop μ-loop Inv-walk μ-walk
 after-requires-2 c κs = chain-in (c .before .before .before .before .before .before .before .before .before .before .before .before .before .before .before .before .before .before .before .before .before .before .before .before .before .before .before .before .before .before .before .before .before .before .before .before .before .before .before .before .before .pre .0 .graph) (c .before .before .before .before .before .before .before .before .before .before .before .before .before .before .before .before .before .before .before .before .before .before .before .before .before .before .before .before .before .before .before .before .before .before .before .before .before .before .before .before .before .pre .1) (c .before .before .before .before .before .loop .f .next) (omega (arith, stopped (c .before .before .before) .is (c .before .before .if4 .taken), c .before .before .if4 .taken))
 
-moved-requires-2 : tie.Need-moved-requires-2 Inv-loop μ-loop Inv-walk μ-walk
-moved-requires-2 c κs = search needs
+next-record-requires-2 : tie.Need-next-record-requires-2 Inv-loop μ-loop Inv-walk μ-walk
+next-record-requires-2 c κs = search needs
 
 save-requires : tie.Need-save-requires Inv-loop μ-loop Inv-walk μ-walk
 save-requires c κs =
@@ -192,7 +192,7 @@ walk-again : tie.Need-walk-again Inv-loop μ-loop Inv-walk μ-walk
 walk-again c =
     let m = c .before .before .before .before .before .before .before .before .before .before .before .before .before .before .before .before .before .before .before .before .before .before .before .before .before .before .before .before .before .before .before .before .before .before .before .before .walk in
     let f = c .before .before .before .before .before .before .before .before .before .before .before .before .before .before .before .before .before .before .before .before .before .before .before .before .before .before .before .before .before .loop .f in
-    let g = c .before .before .before .before .before .before .before .before .before .before .before .before .before .before .before .before .before .before .before .before .before .before .moved2 .result in
+    let g = c .before .before .before .before .before .before .before .before .before .before .before .before .before .before .before .before .before .before .before .before .before .before .next-record2 .result in
     let a = c .before .before .before .before .before .before .before .before .before .before .before .before .before .before .before .before .before .before .before .before .before .before .before .before .before .before .before .before .before .before .before .before .before .before .before .before .before .before .before .before .before .before .before .before .before .before .before .before .before .before .before .before .before .before .before .before .before .before .before .before .before .before .before .before .before .args in
     let p = c .before .before .before .before .before .before .before .before .before .before .before .before .before .before .before .before .before .before .before .before .before .before .before .before .before .before .before .before .before .before .before .before .before .before .before .before .before .before .before .before .before .before .before .before .before .before .before .before .before .before .before .before .before .before .before .before .before .before .before .before .before .before .before .before .before .pre in
     let w = c .before .before .before .before .before .before .before .before .before .before .before .before .before .before .before .before .before .before .before .before .before .before .before .before .before .before .before .if1 .w in
@@ -201,7 +201,7 @@ walk-again c =
     let o = c .before .before .before .before .before .before .before .before .before .before .before .opened2 .ensures in
     let e = c .before .before .before .before .before .before .before .before .before .before .enter2 .ensures in
     let s = c .before .before .before .before .before .before .before .before .before .before .before .before .before .before .before .before .before .before .before .before .before .save .ensures in
-    let n = c .before .before .before .before .before .before .before .before .before .before .before .before .before .before .before .before .before .before .before .before .before .before .moved2 .ensures in
+    let n = c .before .before .before .before .before .before .before .before .before .before .before .before .before .before .before .before .before .before .before .before .before .before .next-record2 .ensures in
     let k : f .next < a .count = omega (arith, v .is j, j) in
     let z = c .before .before .before .before .before .before .before .before .before .before .before .before .before .before .before .before .before .before .before .before .before .before .before .after2 .ensures in
     let q : First (a .count) (at (a .lefts .now)) (at (a .rights .now)) (f .next + 1) (f .region) (g .next)
@@ -269,11 +269,11 @@ walk-spec =
     time-of-requires
     lowered-requires
     after-requires
-    moved-requires
+    next-record-requires
     loop-less
     loop-again
     after-requires-2
-    moved-requires-2
+    next-record-requires-2
     save-requires
     add-time-2
     opened-requires-2
