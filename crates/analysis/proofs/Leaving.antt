@@ -9,9 +9,8 @@ use native.Mathlib.Decide.{decLt, ℕ-discrete}
 use native.Mathlib.Omega.{arith}
 use borrow.Author.Tests.{lt-ltb, le-ltb, eq-eqb, ne-eqb, not-true}
 use lib.Dec.{ltb}
-use lib.ListN.{length, getD, length-map}
+use lib.ListN.{length, getD}
 use Rattle.order.specs.Lists.{upFrom}
-use Rattle.order.proofs.Numbers.{up-length}
 use Rattle.position.specs.declared.Span.{Span}
 use Rattle.format.specs.Values.{Boundary, Job}
 use Rattle.format.specs.Encode.{encodeAnswer}
@@ -24,6 +23,7 @@ use Rattle.partition.specs.Partitioned.{labelled}
 use Rattle.merging.specs.Copies.{canon, copiesOf}
 use Rattle.merging.specs.Kept.{noBoundary}
 use Rattle.merging.specs.Planned.{planned}
+use Rattle.merging.proofs.Copies.{copies-length}
 use Rattle.merging.proofs.Planned.{planned-ext}
 use Rattle.answer.specs.Gathered.{Ordered}
 use Rattle.checks.specs.Checks.{Refusal, Check, check, firstRefusal}
@@ -135,15 +135,10 @@ module _ (j : Job) (order : List ℕ) (k : RankedBy j order) where
   pub ordered : Ordered order (length (j .boundaries))
   ordered = rw (← places-ranked (j .boundaries) by-rank) (places-perm (j .boundaries))
 
-  copies-count : length (copiesOf (j .boundaries)) ≡ length (j .boundaries)
-  copies-count =
-      ap length (copies-ranked (j .boundaries) by-rank)
-      ∙ (length-map (upFrom 0 (length (j .boundaries))) (λ i. canon (getD (j .boundaries) (getD order i 0) noBoundary)) ∙ up-length 0 (length (j .boundaries)))
-
   planned-bytes : (plan : List ℕ) (f : ℕ → ℕ) → ((i : ℕ) → i < length (j .boundaries) → getD plan i 0 ≡ f i) → bytesBy (j .boundaries) order plan ≡ encodeAnswer (planned (copiesOf (j .boundaries)) f)
   planned-bytes plan f h =
       ap (λ (l : List Boundary). encodeAnswer (planned l (λ i. getD plan i 0))) (sym (copies-ranked (j .boundaries) by-rank))
-      ∙ ap encodeAnswer (planned-ext (copiesOf (j .boundaries)) (λ i. getD plan i 0) f (λ i l. h i (omega (arith, copies-count))))
+      ∙ ap encodeAnswer (planned-ext (copiesOf (j .boundaries)) (λ i. getD plan i 0) f (λ i l. h i (omega (arith, copies-length (j .boundaries)))))
 
   -- they are the answer
   pub answer-bytes : (ss : List Span) (plan : List ℕ) → ((i : ℕ) → i < length (j .boundaries) → getD plan i 0 ≡ planOf limits000 eight j ss i) → bytesBy (j .boundaries) order plan ≡ answerOf limits000 eight j ss

@@ -15,12 +15,12 @@ use Rattle.grid.specs.Cells.{Grid, Whole, columnOf, rowOf, centre}
 use Rattle.grid.specs.Directions.{ClosedUnderReversal}
 use Rattle.grid.specs.Steps.{columnTo, rowTo, Step, StepBy, stepOf}
 use Rattle.grid.proofs.Index.{walkable-on, column-in, row-in}
-use Rattle.grid.proofs.Steps.{Leads, leads-means, column-to, row-to, step-back}
+use Rattle.grid.proofs.Steps.{Leads, leads-means, column-to, row-to}
 use Rattle.areas.specs.Segments.{crossPlus, crossMinus, side}
 use Rattle.areas.specs.Cuts.{cutBy}
 use Rattle.areas.specs.Strip.{gap, Near, InStrip}
 use Rattle.areas.proofs.Crossing.{Weighed, weigh}
-use Rattle.areas.proofs.Cuts.{cut-iff, cut-turned}
+use Rattle.areas.proofs.Cuts.{cut-iff}
 use Rattle.areas.proofs.Line.{covered}
 
 -- the cells are at most one column and one row apart, and the first is on the map
@@ -88,8 +88,3 @@ module _ {dirs : List ℕ} (closed : ClosedUnderReversal dirs) {g : Grid} (whole
       weighed-in g e i j (⊎-elim (λ h. omega arith) (λ h. omega arith) (le-means (e .a) (e .b) (canonical-ordered s)))
       (λ ex ey. p .0 (flat (e .a) (e .b) (centre g i) ex ey ∙ sym (flat (e .a) (e .b) (centre g j) ex ey)))
       (touch whole (closed .each (t .by) (t .among) .0) (t .taken)) (weigh (p .1))
-
--- and so is the second
-pub cut-covers-both : {dirs : List ℕ} → ClosedUnderReversal dirs → {g : Grid} → Whole g → (s : Span) {i j : ℕ} → Step dirs g i j → cutBy g s (stepOf i j) ≡ true →
-    InStrip g (canonical s) i × InStrip g (canonical s) j
-cut-covers-both closed {g} whole s {i} {j} t cut = (cut-covers closed whole s t cut, cut-covers closed whole s (step-back closed whole t) (cut-turned g s i j ∙ cut))

@@ -24,12 +24,6 @@ line-floor l lm u um v lu lv vu =
     go : (x y z m d : ℕ) → x ≡ y + m → 0 < d → Floor (x + z) m d ((y + z) / d)
     go x y z m d e h = record { below = omega (arith, div-mul-le-self (y + z) d); above = omega (arith, lt-div-mul-add {a = y + z} h) }
 
--- and only that
-pub floor-one : (p m d q q′ : ℕ) → Floor p m d q → Floor p m d q′ → q ≡ q′
-floor-one p m d q q′ f g =
-    let h : q < q′ + 1 = lt-of-mul-lt-mul-right d (omega arith) in
-    let i : q′ < q + 1 = lt-of-mul-lt-mul-right d (omega arith) in omega arith
-
 -- a mean of two numbers that differ by at most 8 is near each
 near : (p q v t w n : ℕ) → w ≡ p * v + q * t → n ≡ v + t → q ≤ p + 8 → p ≤ q + 8 → (w ≤ n * p + 8 * n) × (n * p ≤ w + 8 * n)
 near p q v t w n e f g h = omega (arith, ap (λ z. z * p) f, mul-le-mul-right t g, mul-le-mul-right t h)

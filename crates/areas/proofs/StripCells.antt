@@ -91,15 +91,6 @@ in-within g s i (InStrip.rises m o n) =
     let e : tall s ≡ true = means-tall s m in
     let k : leb (s .a .y) (s .b .y) ≡ false = lt-leb (s .a .y) (s .b .y) o in record { along = rw (e, k) (n .along); beside = rw (e, k) (n .beside) }
 
-pub within-in : (g : Grid) (s : Span) (i : ℕ) → Within g s i → InStrip g s i
-unfolding stripAxis stripMinor majorOf minorOf lineOf
-within-in g s i w =
-    by-test (tall s)
-    (λ e. by-test (leb (s .a .y) (s .b .y))
-    (λ k. InStrip.falls (tall-means s e) (leb-true _ _ k) (record { along = rw (e, k) at (w .along); beside = rw (e, k) at (w .beside) }))
-    (λ k. InStrip.rises (tall-means s e) (omega (arith, leb-false (s .a .y) (s .b .y) k)) (record { along = rw (e, k) at (w .along); beside = rw (e, k) at (w .beside) })))
-    (λ e. InStrip.wide (wide-means s e) (record { along = rw e at (w .along); beside = rw e at (w .beside) }))
-
 -- they are on the map
 pub axis-on : {w h : ℕ} → Sides w h → (s : Span) → stripAxis w h s .last < cond (tall s) h w
 unfolding stripAxis axisRange

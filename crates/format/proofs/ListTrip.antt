@@ -17,7 +17,7 @@ use Rattle.format.specs.Encode.{encodeList}
 use Rattle.format.specs.Decode.{decodeList}
 use Rattle.format.specs.Fits.{SpanFits}
 use Rattle.format.proofs.RecordTrips.{span-trip}
-use Rattle.format.proofs.RowTrips.{rows-read, rows-write, rows-fit}
+use Rattle.format.proofs.RowTrips.{rows-read, rows-write}
 
 -- A span list has sixteen bytes a span.
 pub length-encodeList : (ss : List Span) → length (encodeList ss) ≡ length ss * spanSize
@@ -52,7 +52,3 @@ encodeList-decodeList l h m =
     ∙ rows-write span-trip (length l / spanSize) l 0 h (omega arith)
     ∙ ap (part l 0) n
     ∙ part-whole l
-
--- Spans that are read fit.
-pub decodeList-fits : (l : List ℕ) → AreBytes l → All SpanFits (decodeList l)
-decodeList-fits l h = rw from-start (rows-fit span-trip (length l / spanSize) l 0 h (omega arith))

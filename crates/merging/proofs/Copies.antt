@@ -1,10 +1,12 @@
 -- Canonical copies: boundaries that are alike have one, and it is its own.
 use mathlib.Core.Path.{_≡_, refl, sym, _∙_, ap}
 use mathlib.Core.List.{List, map, map-id, List·Memᴰ, Memᴰ·of-map, Permᴰ·symm}
+use lib.ListN.{length, length-map}
 use Rattle.order.specs.Keys.{byKey}
 use Rattle.order.specs.Orders.{TotalOrder}
 use Rattle.order.proofs.Keys.{key-order}
 use Rattle.order.proofs.Members.{perm-mem, map-ext}
+use Rattle.order.proofs.Merge.{sort-length}
 use Rattle.order.proofs.Shuffled.{shuffled-map}
 use Rattle.order.proofs.Sort.{sort-perm}
 use Rattle.order.proofs.Stable.{sort-idem}
@@ -16,7 +18,7 @@ use Rattle.position.proofs.Order.{canonical-swapped, canonical-again}
 use Rattle.format.specs.Values.{Observation, Boundary}
 use Rattle.topology.specs.Listing.{Item, endsKey, spanKey}
 use Rattle.merging.specs.Keys.{sourceKey, observationKey}
-use Rattle.merging.specs.Copies.{sortedSources, sortedObservations, canonObservation, canon}
+use Rattle.merging.specs.Copies.{sortedSources, sortedObservations, canonObservation, canon, copiesOf}
 use Rattle.merging.specs.Runs.{canonItem}
 use Rattle.merging.specs.Relisted.{Turned, same, turned, LikeObservation, LikeBoundary, LikeItem}
 use Rattle.merging.proofs.Keys.{source-inj, observation-inj}
@@ -80,16 +82,10 @@ sorted-again l f =
     ap sortedObservations (map-ext canonObservation (λ o. o) (sortedObservations l) (λ o m. f o (perm-mem (Permᴰ·symm (sort-perm (byKey observationKey) l)) m)) ∙ map-id (sortedObservations l))
     ∙ sort-idem (observation-order .orders) l
 
-copy-again : (l : List Observation) → sortedObservations (map canonObservation (sortedObservations (map canonObservation l))) ≡ sortedObservations (map canonObservation l)
-copy-again l = sorted-again (map canonObservation l) (λ o m. let r = Memᴰ·of-map canonObservation l m in rw (← r .2) (observation-again (r .0)))
-
-pub canon-again : (b : Boundary) → canon (canon b) ≡ canon b
-unfolding canon
-canon-again b =
-    let e = canonical-again (b .ends) in
-    let h = once-idem source-order (b .sources) in
-    let o = copy-again (b .observations) in
-    λ i. record { ends = e i; bits = b .bits; ramp = b .ramp; sources = h i; observations = o i }
+-- As many copies as boundaries.
+pub copies-length : (bs : List Boundary) → length (copiesOf bs) ≡ length bs
+unfolding copiesOf
+copies-length bs = sort-length (byKey endsKey) (map canon bs) ∙ length-map bs canon
 
 pub key-canon : (b : Boundary) → endsKey (canon b) ≡ endsKey b
 unfolding endsKey canon

@@ -5,7 +5,7 @@ use mathlib.Core.List.{List, [], _∷_, map, zipWith, List·Permᴰ, Permᴰ·re
 use native.Mathlib.Omega.{arith}
 use native.Mathlib.Decide.{ℕ-discrete}
 use borrow.Author.Tests.{eq-eqb, ne-eqb}
-use lib.ListN.{length, length-map}
+use lib.ListN.{length}
 use Rattle.order.specs.Keys.{byKey, sortBy}
 use Rattle.order.specs.Pairs.{Pairs, Sorted}
 use Rattle.order.specs.Shuffled.{Shuffled, nil, next, swap, then}
@@ -20,7 +20,7 @@ use Rattle.format.specs.Values.{Observation, Boundary}
 use Rattle.topology.specs.Listing.{Item, endsKey, listing}
 use Rattle.merging.specs.Copies.{canon, copiesOf}
 use Rattle.merging.specs.Groups.{Groups}
-use Rattle.merging.specs.Runs.{Run, reduceRun, Matched, itemOf, itemsOf, canonItem, groupsOf}
+use Rattle.merging.specs.Runs.{Run, Matched, itemOf, itemsOf, canonItem, groupsOf}
 use Rattle.merging.specs.Relisted.{same, LikeObservation, LikeBoundary, LikeItem, Relisted, matched, unmatched}
 use Rattle.merging.proofs.Lists.{apart-told}
 use Rattle.merging.proofs.Copies.{canon-like, item-like, key-canon}
@@ -106,20 +106,3 @@ relisted-itself r =
     by-cases (ℕ-discrete (length (r .boundaries)) (length (r .spans)))
     (λ m. matched m m (shuffled-refl (λ i. record { boundary = like-boundary (i .boundary); span = same }) (itemsOf r)))
     (λ n. unmatched n (shuffled-refl like-boundary (r .boundaries)) (shuffled-refl (λ s. same) (r .spans)))
-
--- So are two listings of the boundaries in Reduce.
-pub reduce-relisted : {bs cs : List Boundary} → Shuffled LikeBoundary bs cs → Relisted (reduceRun bs) (reduceRun cs)
-unfolding itemsOf
-reduce-relisted {bs} {cs} h = matched (own-length bs) (own-length cs) (go h)
-  where
-    own : List Boundary → List Span
-    own = map (λ (b : Boundary). b .ends)
-
-    own-length : (l : List Boundary) → length l ≡ length (own l)
-    own-length l = sym (length-map l (λ (b : Boundary). b .ends))
-
-    go : {l m : List Boundary} → Shuffled LikeBoundary l m → Shuffled LikeItem (zipWith itemOf l (own l)) (zipWith itemOf m (own m))
-    go nil = nil
-    go (next x t) = next (record { boundary = x; span = x .ends }) (go t)
-    go (swap x y t) = swap (record { boundary = x; span = x .ends }) (record { boundary = y; span = y .ends }) (go t)
-    go (then t u) = then (go t) (go u)

@@ -9,15 +9,15 @@ use native.Mathlib.Decide.{decLt, ℕ-discrete}
 use borrow.Author.Tests.{eq-eqb, ne-eqb}
 use lib.Dec.{eqb}
 use lib.ListN.{length, getD}
-use Rattle.order.specs.Orders.{same, Stable, TotalPreorder}
+use Rattle.order.specs.Orders.{same, TotalPreorder}
 use Rattle.order.specs.Sorting.{sort, byPlace}
 use Rattle.order.specs.Lists.{upFrom}
-use Rattle.order.specs.Pairs.{Pairs, SameMembers}
+use Rattle.order.specs.Pairs.{Pairs}
 use Rattle.order.proofs.Bools.{and-both}
 use Rattle.order.proofs.Pairs.{pairs-at}
-use Rattle.order.proofs.Numbers.{up-strict, map-places}
+use Rattle.order.proofs.Numbers.{map-places}
 use Rattle.order.proofs.Sort.{sort-map}
-use Rattle.order.proofs.Stable.{le-refl, stable-unique}
+use Rattle.order.proofs.Stable.{le-refl}
 
 module _ {A : Type 0} (le : A → A → Bool) (l : List A) (d : A) where
   -- the sorted list is read off the sorted places
@@ -25,14 +25,6 @@ module _ {A : Type 0} (le : A → A → Bool) (l : List A) (d : A) where
   sort-places = ap (sort le) (sym (map-places l d)) ∙ sort-map (λ i. getD l i d) (byPlace le l d) le (λ i j. refl) (upFrom 0 (length l))
 
 module _ {A : Type 0} {le : A → A → Bool} (o : TotalPreorder le) (l : List A) (d : A) where
-  -- an array of the places in order, those alike by place, is the sorted one
-  pub places-unique : (m : List ℕ) → Pairs (Stable (byPlace le l d) (λ i j. i < j)) m → SameMembers m (upFrom 0 (length l)) → map (λ i. getD l i d) m ≡ sort le l
-  places-unique m p s =
-      ap (map (λ i. getD l i d)) (stable-unique places (λ i j a b. omega arith) (upFrom 0 (length l)) m (up-strict 0 (length l)) p s) ∙ sym (sort-places le l d)
-    where
-      places : TotalPreorder (byPlace le l d)
-      places = record { total = λ i j. o .total (getD l i d) (getD l j d); trans = λ i j k. o .trans (getD l i d) (getD l j d) (getD l k d) }
-
   -- where no two members are the same to `le`, it tells the places
   pub places-told : Pairs (λ x y. same le x y ≡ false) l → (i j : ℕ) → i < length l → j < length l → same le (getD l i d) (getD l j d) ≡ eqb i j
   places-told p i j a b =
