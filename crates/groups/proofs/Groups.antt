@@ -1,5 +1,5 @@
 -- Groups are the connected parts of their links: no rank is in two, and each rank that a link joins is in one.
-use mathlib.Core.Path.{_≡_, refl, sym, _∙_}
+use mathlib.Core.Path.{_≡_, refl, sym, _∙_, subst}
 use mathlib.Core.Logic.{_↔_}
 use mathlib.Core.Bool.{Bool, true, _&&_}
 use mathlib.Core.List.{List, List·Memᴰ, Memᴰ·map, Memᴰ·of-map}
@@ -42,6 +42,21 @@ module _ (n : ℕ) (ks : List LinkAt) where
   unfolding groupsOf
   group-first m = let w = Memᴰ·of-map (groupAt n ks) (keep (begins (isJoined ks) (linkEdges ks)) (upFrom 0 n)) m in (w .0, w .2)
 
+  -- that rank is in it
+  pub group-some : {a : Group} → List·Memᴰ a (groupsOf n ks) → (i : ℕ) × List·Memᴰ i (a .ranks)
+  unfolding groupsOf begins
+  group-some m =
+      let w = Memᴰ·of-map (groupAt n ks) (keep (begins (isJoined ks) (linkEdges ks)) (upFrom 0 n)) m in
+      let k = keep-mem (begins (isJoined ks) (linkEdges ks)) (upFrom 0 n) (w .1) in
+      let p = and-parts (isJoined ks (w .0)) (eqb (part (linkEdges ks) (w .0)) (w .0)) (k .1) in
+      let r = ranks-iff (w .0) (w .0) .1 (omega (arith, up-mem 0 n (k .0)), p .0, eqb-true (part (linkEdges ks) (w .0)) (w .0) (p .1)) in
+      (w .0, subst (λ (b : Group). List·Memᴰ (w .0) (b .ranks)) (w .2) r)
+
+  -- its links stand in the order that all links stand in
+  pub group-pairs : {R : LinkAt → LinkAt → Type 0} → Pairs R ks → {a : Group} → List·Memᴰ a (groupsOf n ks) → Pairs R (a .links)
+  unfolding groupAt
+  group-pairs p m = let w = group-first m in rw (← w .1) (keep-pairs (λ (k : LinkAt). eqb (part (linkEdges ks) (k .first)) (w .0)) p)
+
   pub group-below : {a : Group} → List·Memᴰ a (groupsOf n ks) → (i : ℕ) → List·Memᴰ i (a .ranks) → i < n
   group-below m i = let w = group-first m in rw (← w .1) (λ k. ranks-iff (w .0) i .0 k .0)
 
@@ -72,7 +87,7 @@ module _ (n : ℕ) (ks : List LinkAt) where
       (keep-pairs (begins (isJoined ks) (linkEdges ks)) (up-strict 0 n))
 
   -- a link joins its two ranks
-  joined : {k : LinkAt} → List·Memᴰ k ks → (isJoined ks (k .first) ≡ true) × (isJoined ks (k .second) ≡ true)
+  pub joined : {k : LinkAt} → List·Memᴰ k ks → (isJoined ks (k .first) ≡ true) × (isJoined ks (k .second) ≡ true)
   unfolding isJoined
   joined {k} m = (
     mem-any (joins (k .first)) m (let e : eqb (k .first) (k .first) ≡ true = eq-eqb (k .first) (k .first) refl in rw e),

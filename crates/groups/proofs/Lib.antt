@@ -8,3 +8,9 @@ pub mod Wider
 pub mod Representative
 pub mod Plan
 pub mod Cases
+pub mod LinkRule
+pub mod ConnectedPart
+pub mod Chain
+pub mod SerialGroup
+pub mod FlatGroup
+pub mod Retains

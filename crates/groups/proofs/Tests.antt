@@ -1,9 +1,12 @@
 -- Laws of the tests of a list's members.
 use mathlib.Core.Path.{_≡_, refl}
-use mathlib.Core.Logic.{⊎-elim}
-use mathlib.Core.Bool.{Bool, true}
+use mathlib.Core.Logic.{_↔_, _⊎_, inl, inr, ⊎-elim}
+use mathlib.Core.Bool.{Bool, true, _||_}
 use mathlib.Core.List.{List, [], _∷_, List·Memᴰ, List·Memᴰ·head, List·Memᴰ·tail}
+use Prim.Native.Nat.{ℕ}
 use native.Mathlib.Omega.{arith}
+use borrow.Author.Tests.{eqb-true, eq-eqb}
+use lib.Dec.{eqb}
 use lib.ListN.{length, getD}
 use Rattle.order.proofs.Bools.{clash, and-parts, and-both, or-cases, or-right}
 use Rattle.groups.specs.Tests.{every, any}
@@ -31,6 +34,13 @@ module _ {A : Type 0} (t : A → Bool) where
       ⊎-elim (λ (e : t y ≡ true). (y, List·Memᴰ·head refl, e))
       (λ (e : any t ys ≡ true). let w = any-mem ys e in (w .0, List·Memᴰ·tail (w .1), w .2))
       (or-cases (t y) (any t ys) h)
+
+-- a number that is one of two
+pub either-iff : (i m n : ℕ) → (eqb i m || eqb i n ≡ true) ↔ ((i ≡ m) ⊎ (i ≡ n))
+either-iff i m n = (
+  λ h. ⊎-elim (λ e. inl (eqb-true i m e)) (λ e. inr (eqb-true i n e)) (or-cases (eqb i m) (eqb i n) h),
+  ⊎-elim (λ (e : i ≡ m). let t = eq-eqb i m e in rw t refl) (λ (e : i ≡ n). or-right (eqb i m) (eq-eqb i n e)),
+)
 
 -- a list of two
 pub two-members : {A : Type 0} (l : List A) (d : A) → length l ≡ 2 → l ≡ getD l 0 d ∷ getD l 1 d ∷ []

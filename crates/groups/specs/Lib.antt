@@ -10,3 +10,9 @@ pub mod Flat
 pub mod Representative
 pub mod Plan
 pub mod Tables
+pub mod LinkRule
+pub mod ConnectedPart
+pub mod Chain
+pub mod SerialGroup
+pub mod FlatGroup
+pub mod Retains

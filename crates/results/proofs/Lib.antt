@@ -1,4 +1,5 @@
 pub mod Rules
+pub mod AcceptedGroups
 pub mod Planned
 pub mod Results
 pub mod Cases

@@ -1,4 +1,5 @@
 pub mod Rules
+pub mod AcceptedGroups
 pub mod Results
 pub mod Calls
 pub mod Cases

@@ -1,0 +1,56 @@
+-- Chains: groups that are a simple path between two different regions. Requirement: "one link fewer, two ends of degree 1 and none over 2,
+-- the outer regions differ".
+use mathlib.Core.Path.{_≡_}
+use mathlib.Core.Logic.{_↔_, _⊎_}
+use mathlib.Core.List.{List, List·Memᴰ}
+use Prim.Native.Nat.{ℕ, suc, _<_, _≤_}
+use lib.ListN.{length}
+use Rattle.grid.specs.Cells.{Grid}
+use Rattle.areas.specs.Assessments.{RegionPair, Assessment}
+use Rattle.links.specs.Limits.{Limits}
+use Rattle.topology.specs.Listing.{Item}
+use Rattle.groups.specs.Regions.{assessAt}
+use Rattle.groups.specs.Links.{LinkAt}
+use Rattle.groups.specs.Groups.{Group}
+use Rattle.groups.specs.ConnectedPart.{Joins, LinkOf}
+
+module _ (a : Group) where
+  -- of the group's links, k alone joins the rank
+  pub record JoinedByOne (i : ℕ) (k : LinkAt) : Type 0 where
+    pub mine : List·Memᴰ i (a .ranks)
+    pub just : (h : LinkAt) → (LinkOf a h × Joins h i) ↔ (h ≡ k)
+
+  -- just two of them join the rank
+  pub record JoinedByTwo (i : ℕ) : Type 0 where
+    pub lower : LinkAt
+    pub higher : LinkAt
+    pub differ : lower .region < higher .region
+    pub just : (h : LinkAt) → (LinkOf a h × Joins h i) ↔ ((h ≡ lower) ⊎ (h ≡ higher))
+
+-- r is the other region of a pair of the boundary that has the region of a link
+pub record Beyond (s : Assessment) (region r : ℕ) : Type 0 where
+  pub pair : RegionPair
+  pub own : List·Memᴰ pair (s .pairs)
+  pub other : ((region ≡ pair .lower) × (r ≡ pair .higher)) ⊎ ((region ≡ pair .higher) × (r ≡ pair .lower))
+
+-- of at least so many boundaries, and at most the limit's
+pub record Chain (limits : Limits) (dirs : List ℕ) (g : Grid) (l : List Item) (least : ℕ) (a : Group) : Type 0 where
+  pub enough : least ≤ length (a .ranks)
+  pub most : length (a .ranks) ≤ limits .mostSpans
+  pub one-fewer : suc (length (a .links)) ≡ length (a .ranks)
+  -- two ends, each with its one link
+  pub first : ℕ
+  pub last : ℕ
+  pub rising : first < last
+  pub first-link : LinkAt
+  pub last-link : LinkAt
+  pub first-end : JoinedByOne a first first-link
+  pub last-end : JoinedByOne a last last-link
+  -- two links at every other rank
+  pub inner : (i : ℕ) → List·Memᴰ i (a .ranks) → (i ≡ first → ⊥) → (i ≡ last → ⊥) → JoinedByTwo a i
+  -- the regions past the two ends differ
+  pub first-outer : ℕ
+  pub last-outer : ℕ
+  pub first-beyond : Beyond (assessAt dirs g l first) (first-link .region) first-outer
+  pub last-beyond : Beyond (assessAt dirs g l last) (last-link .region) last-outer
+  pub outer-differ : first-outer ≡ last-outer → ⊥
