@@ -17,11 +17,21 @@ pub fn compare(
 ) -> Result<(), String> {
     for call in [REDUCE, BY_LIST, MARK] {
         let expected = Expected::of(call, &input.job, &input.list);
+        if call != MARK && expected.refusal == NONE && expected.written.len() > most(&input.job) {
+            return Err(format!("an answer of {} bytes", expected.written.len()));
+        }
         for [work, out] in lengths(&expected, rng) {
             one(call, &expected, input, [work, out], lent, rng, tally)?;
         }
     }
     Ok(())
+}
+
+/// CHOKES_ANSWER_BYTES of include/chokes.h, for the counts of a job.
+fn most(job: &[u8]) -> usize {
+    let [boundaries, observations, sources] =
+        [12, 16, 20].map(|at| u32::from_le_bytes(job[at..at + 4].try_into().unwrap()) as usize);
+    24 + 40 * boundaries + 28 * (observations + boundaries) + 16 * sources
 }
 
 /// Lengths of work and of answer or marks: exact; the second one short; both longer; now and then
