@@ -13,7 +13,7 @@ use std::hint::black_box;
 pub struct Point {
     pub size: usize,
     pub rust: f64,
-    pub library: Option<f64>,
+    pub library: f64,
     pub limit: f64,
 }
 
@@ -197,11 +197,10 @@ pub fn print(families: &[Family]) {
         let mut before: Option<&Point> = None;
         for point in &family.points {
             let Point { size, rust, library, limit } = point;
-            let library = library.unwrap_or(f64::NAN);
             let grown = before.filter(|before| before.size > 0).map(|before| {
                 let sizes = [before.size, *size];
-                let was = before.library.unwrap_or(f64::NAN);
-                [doubling(sizes, [before.rust, *rust]), doubling(sizes, [was, library])]
+                [[before.rust, *rust], [before.library, *library]]
+                    .map(|times| doubling(sizes, times))
             });
             let grown = grown.map_or(["".to_string(), "".to_string()], |grown| {
                 grown.map(|factor| format!("{factor:.2}"))

@@ -34,7 +34,6 @@ mod rng;
 mod rust;
 mod stack;
 
-use calls::TABLE;
 use checks::{Refusal, BY_LIST, MARK, REDUCE};
 use draft::{Boundary, Draft, Input};
 use expect::Expected;
@@ -64,11 +63,8 @@ fn least(mut run: impl FnMut()) -> f64 {
 }
 
 /// A row of the table: what was run, the Rust's time, the library's, and their ratio.
-fn row(what: &str, rust: f64, library: Option<f64>) {
-    match library {
-        Some(time) => println!("| {what} | {rust:.3} | {time:.3} | {:.2} |", time / rust),
-        None => println!("| {what} | {rust:.3} | - | - |"),
-    }
+fn row(what: &str, rust: f64, library: f64) {
+    println!("| {what} | {rust:.3} | {library:.3} | {:.2} |", library / rust);
 }
 
 fn head(title: &str) {
@@ -88,9 +84,8 @@ impl Lent {
         Self { input: draft.input(), work, out: vec![0; ANSWER] }
     }
 
-    fn call(&mut self, call: u32) -> Option<Refusal> {
-        let function = TABLE.whole(call)?;
-        Some(function(&self.input.job, &self.input.list, &mut self.work, &mut self.out))
+    fn call(&mut self, call: u32) -> Refusal {
+        calls::whole(call)(&self.input.job, &self.input.list, &mut self.work, &mut self.out)
     }
 }
 
@@ -164,51 +159,43 @@ fn plans(what: &str, draft: &Draft) {
     let partition = ready.partition(&spans);
     let rust = least(|| drop(black_box(ready.kept(black_box(&ready.partition(&spans))))));
     let merging = least(|| drop(black_box(ready.kept(black_box(&partition)))));
-    let Some((plan, part)) = TABLE.plan.zip(TABLE.partition) else {
-        return row(what, rust, None);
-    };
     let Lent { input, work, out } = &mut lent;
     let (mut whole, mut first) = (f64::INFINITY, f64::INFINITY);
     for _ in 0..20 {
         whole = whole.min(least(|| {
-            black_box(plan(&input.job, &input.list, REDUCE, work, out));
+            black_box(calls::plan(&input.job, &input.list, REDUCE, work, out));
         }));
         first = first.min(least(|| {
-            black_box(part(&input.job, work, out));
+            black_box(calls::partition(&input.job, work, out));
         }));
     }
-    row(&format!("partition, links and groups, {what}"), rust, Some(whole));
-    row(&format!("links and groups alone, {what}"), merging, Some(whole - first));
+    row(&format!("partition, links and groups, {what}"), rust, whole);
+    row(&format!("links and groups alone, {what}"), merging, whole - first);
 }
 
-/// The partition by the Rust, and by the library where it has it by itself.
+/// The partition by itself.
 fn partition(what: &str, draft: &Draft) {
     let mut lent = Lent::new(draft);
     let ready = rust::job(&lent.input.job);
     let spans = ready.own_spans();
     let rust = least(|| drop(black_box(ready.partition(black_box(&spans)))));
-    let library = TABLE.partition.map(|function| {
-        least(|| {
-            black_box(function(&lent.input.job, &mut lent.work, &mut lent.out));
-        })
+    let library = least(|| {
+        black_box(calls::partition(&lent.input.job, &mut lent.work, &mut lent.out));
     });
     row(what, rust, library);
 }
 
 /// The times of a whole call from bytes to bytes, the two sides in turn.
-fn timed(call: u32, what: &str, lent: &mut Lent) -> (f64, Option<f64>) {
+fn timed(call: u32, what: &str, lent: &mut Lent) -> (f64, f64) {
     let expected = Expected::of(call, &lent.input.job, &lent.input.list);
     let number = expected.left(&lent.work, &lent.out).result.0;
-    let said = lent.call(call);
-    assert!(said.is_none_or(|said| said.0 == number), "the two sides agree on {what}");
-    let (mut rust, mut library) = (f64::INFINITY, said.map(|_| f64::INFINITY));
+    assert!(lent.call(call).0 == number, "the two sides agree on {what}");
+    let (mut rust, mut library) = (f64::INFINITY, f64::INFINITY);
     for _ in 0..ROUNDS {
         rust = rust.min(least(|| drop(black_box(by_rust(call, &lent.input)))));
-        library = library.map(|time| {
-            time.min(least(|| {
-                black_box(lent.call(call));
-            }))
-        });
+        library = library.min(least(|| {
+            black_box(lent.call(call));
+        }));
     }
     (rust, library)
 }
@@ -228,23 +215,21 @@ fn parts(what: &str, draft: &Draft) {
     let check = least(|| {
         black_box(calls::check(MARK, &lent.input.job, &lent.input.list));
     });
-    row(&format!("reading the job (the library: its checks), {what}"), read, Some(check));
+    row(&format!("reading the job (the library: its checks), {what}"), read, check);
     let (mut rust, mut library) = (f64::INFINITY, f64::INFINITY);
-    if let Some(function) = TABLE.partition {
-        for _ in 0..ROUNDS {
-            rust = rust.min(least(|| drop(black_box(job.partition(black_box(&spans))))));
-            library = library.min(least(|| {
-                black_box(function(&lent.input.job, &mut lent.work, &mut lent.out));
-            }));
-        }
-        row(&format!("the partition, {what}"), rust, Some(library - check));
+    for _ in 0..ROUNDS {
+        rust = rust.min(least(|| drop(black_box(job.partition(black_box(&spans))))));
+        library = library.min(least(|| {
+            black_box(calls::partition(&lent.input.job, &mut lent.work, &mut lent.out));
+        }));
     }
+    row(&format!("the partition, {what}"), rust, library - check);
     let bridges = least(|| drop(black_box(job.bridges(black_box(&partition)))));
     let (_, mark) = timed(MARK, what, &mut lent);
     row(
         &format!("the bridges (the library: Mark less its partition), {what}"),
         bridges,
-        mark.map(|mark| mark - library),
+        mark - library,
     );
     whole(MARK, what, draft);
     whole(REDUCE, what, draft);
@@ -281,10 +266,8 @@ fn bridges() {
         let bytes = calls::record_words(records);
         let (mut work, mut marks) = (vec![0; 1 << 20], vec![0; 256]);
         let rust = least(|| drop(black_box(api::bridges_of(black_box(records)))));
-        let library = TABLE.bridges.map(|function| {
-            least(|| {
-                black_box(function(&bytes, &mut work, &mut marks));
-            })
+        let library = least(|| {
+            black_box(calls::bridges(&bytes, &mut work, &mut marks));
         });
         row(name, rust, library);
     }
@@ -302,11 +285,10 @@ fn stacks() {
     for (what, draft) in &jobs {
         for call in [REDUCE, BY_LIST, MARK] {
             let mut lent = Lent::new(draft);
-            let mut said = None;
-            let used = stack::used(&mut || said = lent.call(call));
-            if said.is_some() {
-                println!("{:>10}  {}, {what}", used, CALLS[call as usize]);
-            }
+            let used = stack::used(&mut || {
+                black_box(lent.call(call));
+            });
+            println!("{:>10}  {}, {what}", used, CALLS[call as usize]);
         }
     }
 }

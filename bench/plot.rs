@@ -16,7 +16,7 @@ const LINES: [(&str, &str, &str); 3] = [
 
 /// The lines' times at a point; the pass is that over the cells, so that it stands beside these.
 fn times(family: &Family, point: &Point) -> [Option<f64>; 3] {
-    [Some(point.rust), point.library, (family.axis == "cells").then_some(point.limit)]
+    [Some(point.rust), Some(point.library), (family.axis == "cells").then_some(point.limit)]
 }
 
 /// Times to mark on the axis, from one not above the least to one not below the most: powers of ten,

@@ -3,12 +3,14 @@
  * Link with libchokes.a (./library builds it). The forms of a job, a span list and an answer are
  * those of document 01; every field is little-endian.
  *
- * A slice is passed as its start and its length in bytes. The slices that a call is lent may not
- * overlap one another. A call reads the job and the list and writes nothing but work and the answer
- * or the marks; it allocates nothing, keeps nothing after it returns, and always returns. Calls on
- * slices of their own may run at the same time.
+ * A slice is passed as its start and its length in bytes. It need not be aligned. Any slice may be
+ * empty: with length 0 its start is not looked at and may be NULL. The slices that a call is lent may
+ * not overlap one another. A call reads the job and the list and writes nothing but work and the
+ * answer or the marks, and what those held before has no part in the result; it allocates nothing,
+ * keeps nothing after it returns, and always returns. Calls that write to slices of their own may run
+ * at the same time, and may read one job or list.
  *
- * Stack: a call uses at most CHOKES_STACK_BYTES of it.
+ * Stack: lend CHOKES_STACK_BYTES of it. That is more than was measured, and not proved.
  */
 #ifndef CHOKES_H
 #define CHOKES_H
@@ -20,46 +22,49 @@
 extern "C" {
 #endif
 
-/* bench/run measures 388,540 on x86-64. */
+/* bench/run measures less than 389,000 on x86-64. */
 #define CHOKES_STACK_BYTES 409600
 
-/* What a call gives back: CHOKES_OK and a length or count, or a refusal and its detail, which is 0
+/* What a call gives back: CHOKES_OK with a length or count, or a refusal with its detail, which is 0
  * unless the refusal names one. */
 struct chokes_result {
     uint32_t number;
     uint64_t detail;
 };
 
-/* Success: the answer's length in bytes; for Mark the number of boundaries. */
+/* Success (detail: the answer's length in bytes; for Mark the number of boundaries). */
 #define CHOKES_OK 0u
 
-/* Refusals from the input. Work and the answer or marks are unchanged. An index is that of the first
- * offender. Tested in this order: 1 to 10, then 11 and 12 boundary by boundary, 14, 15, then 16 and
- * 17 span by span, 21, 13, and 22 or 23. */
+/* Refusals from the input. In brackets what the detail is, where there is one: a count, or the index
+ * of the first offender, from 0. The answer or the marks are unchanged; so is work, but for 13, after
+ * which it holds the labels. Mark and Reduce make 1 to 13, Reduce by list all but 12. Tested in this
+ * order: 1 to 10, then 11 and 12 boundary by boundary, 14, 15, then 16 and 17 span by span, 21, 13,
+ * and 22 or 23. */
 #define CHOKES_JOB_TOO_SHORT 1u      /* under 48 bytes */
 #define CHOKES_BAD_SIDES 2u          /* width or height not 1 to 1,024 */
 #define CHOKES_TOO_MANY_RECORDS 3u   /* over 256 bases, 1,024 observations or 4,096 sources */
-#define CHOKES_TOO_MANY_BOUNDARIES 4u /* over 256 boundaries (detail: count) */
+#define CHOKES_TOO_MANY_BOUNDARIES 4u /* over 256 boundaries (count) */
 #define CHOKES_BAD_LAYOUT 5u         /* an offset, the total or the slice's length isn't what the
                                         counts give */
-#define CHOKES_BAD_CELL 6u           /* cell bits 5 to 7 (index) */
-#define CHOKES_ANCHOR_OFF_MAP 7u     /* anchor off the map (base) */
+#define CHOKES_BAD_CELL 6u           /* one of cell bits 5 to 7 is set (cell) */
+#define CHOKES_ANCHOR_OFF_MAP 7u     /* anchor off the map, and not both its words 4,294,967,295,
+                                        which means none (base) */
 #define CHOKES_BAD_SUMS 8u           /* observation or source counts don't add up */
 #define CHOKES_BAD_RAMP 9u           /* ramp end over 2, the zero byte not zero, or end 0 with
                                         anything nonzero in the rest (boundary) */
 #define CHOKES_BAD_WIDTH 10u         /* width bits aren't those of +0 to 16,384 (boundary) */
 #define CHOKES_END_OFF_MAP 11u       /* boundary end past width x 8 or height x 8 (boundary) */
-#define CHOKES_ENDS_COINCIDE 12u     /* coincident ends (boundary; not in reduce by list) */
-#define CHOKES_TOO_MANY_PAIRS 13u    /* over 4,096 region pairs in all; work holds the labels */
+#define CHOKES_ENDS_COINCIDE 12u     /* coincident ends (boundary) */
+#define CHOKES_TOO_MANY_PAIRS 13u    /* over 4,096 region pairs in all */
 #define CHOKES_BAD_LIST_LENGTH 14u   /* list length not a multiple of 16 */
 #define CHOKES_TOO_MANY_SPANS 15u    /* over 256 spans (count) */
-#define CHOKES_SPAN_OFF_MAP 16u      /* span end past the map (span) */
+#define CHOKES_SPAN_OFF_MAP 16u      /* span end past width x 8 or height x 8 (span) */
 #define CHOKES_SPAN_ENDS_COINCIDE 17u /* span's ends coincide (span) */
 
-/* Refusals from the state. After 22 and 23 work holds the labels; the answer and the marks are
- * unchanged. */
+/* Refusals from the state. The answer or the marks are unchanged; so is work after 21, and after 22
+ * and 23 it holds the labels. */
 #define CHOKES_WORK_TOO_SHORT 21u    /* work under ten bytes per cell */
-#define CHOKES_ANSWER_TOO_SHORT 22u  /* answer slice too short (detail: exact length needed) */
+#define CHOKES_ANSWER_TOO_SHORT 22u  /* answer slice too short (exact length needed) */
 #define CHOKES_MARKS_TOO_SHORT 23u   /* fewer mark bytes than boundaries */
 
 /* Bytes of the records. */
@@ -72,11 +77,13 @@ struct chokes_result {
 #define CHOKES_ANSWER_HEADER_BYTES 24u
 
 /* Bytes of work to lend for a map: ten for each cell. After a success, or refusals 13, 22 and 23, it
- * holds a u32 label for each cell, then zeros; bytes past this number are unchanged. */
+ * holds a u32 label for each cell in row order, 0 for a blocked one and else its region's number
+ * from 1, then zeros; bytes past this number are unchanged. */
 #define CHOKES_WORK_BYTES(width, height) ((size_t)10 * (size_t)(width) * (size_t)(height))
 
-/* Bytes of an answer that are enough for a job with these counts. Merging gives each boundary at
- * most one more observation, and each source at most one more place. */
+/* Bytes of an answer that are enough for a job with these counts, merged or not. Merging gives each
+ * boundary at most one more observation, and each source at most one more place. The tests hold every
+ * answer to it; it is not proved. */
 #define CHOKES_ANSWER_BYTES(boundaries, observations, sources)                                 \
     ((size_t)CHOKES_ANSWER_HEADER_BYTES + (size_t)CHOKES_BOUNDARY_BYTES * (boundaries) +       \
      (size_t)CHOKES_OBSERVATION_BYTES * ((size_t)(observations) + (boundaries)) +              \
@@ -85,17 +92,19 @@ struct chokes_result {
 /* Enough for any job. */
 #define CHOKES_MOST_ANSWER_BYTES CHOKES_ANSWER_BYTES(256u, 1024u, 4096u)
 
-/* Mark: a byte for each boundary of the job, 1 if it is a bridge, else 0. */
+/* Mark: a byte for each boundary of the job, 1 if it is a bridge, else 0. The map is parted by the
+ * boundaries' own ends. Bytes of the slice past the last boundary's are unchanged. */
 struct chokes_result chokes_mark(const uint8_t *job, size_t job_length, uint8_t *work,
                                  size_t work_length, uint8_t *marks, size_t marks_length);
 
-/* Reduce: the kept boundaries of the job, parted by its boundaries' own ends. Bytes of the answer
- * slice past the answer's length are unchanged. */
+/* Reduce: the kept boundaries of the job, the map parted by the boundaries' own ends. Bytes of the
+ * answer slice past the answer's length are unchanged. */
 struct chokes_result chokes_reduce(const uint8_t *job, size_t job_length, uint8_t *work,
                                    size_t work_length, uint8_t *answer, size_t answer_length);
 
-/* Reduce by list: as Reduce, parted by the spans of a list, four u32 each. Where there are as many
- * spans as boundaries, span i belongs to boundary i; otherwise nothing is merged. */
+/* Reduce by list: as Reduce, the map parted by the spans of a list, four u32 each, and not by the
+ * boundaries' ends, which may coincide. Where there are as many spans as boundaries, span i belongs to
+ * boundary i; otherwise nothing is merged. */
 struct chokes_result chokes_reduce_by_list(const uint8_t *job, size_t job_length,
                                            const uint8_t *list, size_t list_length, uint8_t *work,
                                            size_t work_length, uint8_t *answer,

@@ -1,4 +1,5 @@
-/* Calls the static library from C: document 01's corridor, and refusals of each kind of slice. */
+/* Calls the static library from C: document 01's corridor, refusals of each kind of slice, slices that are
+ * empty and have no start, slices that are not aligned, and a job of too many region pairs. */
 #include "chokes.h"
 
 #include <stdio.h>
@@ -66,6 +67,143 @@ static void corridor_answer(uint8_t *answer)
         16, 0, 16, 8,  0,   0x40200000, 1,
         1,  2, 2,  1,  1,   2,          2, 1};
     put_words(answer, 0, words, ANSWER_BYTES / 4);
+}
+
+/* Every slice may be NULL with length 0. */
+static void without_start(void)
+{
+    static const uint32_t header[12] = {4, 1, 0, 0, 0, 0, 48, 52, 52, 52, 52, 52};
+    static const uint32_t none[6] = {0, 0, 0, 24, 24, 24};
+    static const uint8_t one_label[CELLS * 4] = {1, 0, 0, 0, 1, 0, 0, 0, 1, 0, 0, 0, 1};
+    const size_t enough = CHOKES_WORK_BYTES(CELLS, 1);
+    uint8_t job[JOB_BYTES], bare[52], work[CHOKES_WORK_BYTES(CELLS, 1)], answer[192], expected[24];
+    struct chokes_result copied;
+
+    corridor(job);
+    put_words(bare, 0, header, 12);
+    memset(bare + 48, 1, CELLS);
+    put_words(expected, 0, none, 6);
+
+    expect("Mark, nothing at all", chokes_mark(NULL, 0, NULL, 0, NULL, 0), CHOKES_JOB_TOO_SHORT, 0);
+    expect("Reduce, nothing at all", chokes_reduce(NULL, 0, NULL, 0, NULL, 0), CHOKES_JOB_TOO_SHORT, 0);
+    expect("Reduce by list, nothing at all", chokes_reduce_by_list(NULL, 0, NULL, 0, NULL, 0, NULL, 0),
+           CHOKES_JOB_TOO_SHORT, 0);
+    expect("no job", chokes_reduce(NULL, 0, work, enough, answer, sizeof answer), CHOKES_JOB_TOO_SHORT, 0);
+
+    expect("Mark, no work", chokes_mark(job, sizeof job, NULL, 0, NULL, 0), CHOKES_WORK_TOO_SHORT, 0);
+    expect("Reduce, no work", chokes_reduce(job, sizeof job, NULL, 0, NULL, 0), CHOKES_WORK_TOO_SHORT, 0);
+    expect("Reduce by list, no work", chokes_reduce_by_list(job, sizeof job, NULL, 0, NULL, 0, NULL, 0),
+           CHOKES_WORK_TOO_SHORT, 0);
+
+    expect("no answer", chokes_reduce(job, sizeof job, work, enough, NULL, 0), CHOKES_ANSWER_TOO_SHORT,
+           ANSWER_BYTES);
+    expect("no answer for no boundary", chokes_reduce(bare, sizeof bare, work, enough, NULL, 0),
+           CHOKES_ANSWER_TOO_SHORT, CHOKES_ANSWER_HEADER_BYTES);
+    expect("no marks", chokes_mark(job, sizeof job, work, enough, NULL, 0), CHOKES_MARKS_TOO_SHORT, 0);
+    memset(work, 0xA5, sizeof work);
+    expect("no marks for no boundary", chokes_mark(bare, sizeof bare, work, enough, NULL, 0), CHOKES_OK, 0);
+    expect_bytes("labels without boundaries", work, one_label, sizeof one_label);
+
+    expect("no list and no boundary",
+           chokes_reduce_by_list(bare, sizeof bare, NULL, 0, work, enough, answer, sizeof answer), CHOKES_OK,
+           CHOKES_ANSWER_HEADER_BYTES);
+    expect_bytes("the answer of no boundary", answer, expected, sizeof expected);
+    /* No span and two boundaries: the counts differ, and both are kept. */
+    memset(work, 0xA5, sizeof work);
+    copied = chokes_reduce_by_list(job, sizeof job, NULL, 0, work, enough, answer, sizeof answer);
+    expect("an empty list", copied, CHOKES_OK, 24 + 2 * CHOKES_BOUNDARY_BYTES + 2 * CHOKES_SOURCE_BYTES);
+    expect_bytes("labels without spans", work, one_label, sizeof one_label);
+    expect_bytes("both boundaries", answer + 24, job + 52, 2 * CHOKES_BOUNDARY_BYTES);
+    expect("an empty list with no answer",
+           chokes_reduce_by_list(job, sizeof job, NULL, 0, work, enough, NULL, 0), CHOKES_ANSWER_TOO_SHORT,
+           copied.detail);
+    memcpy(job + 60, job + 52, 8);
+    expect("coincident ends and a list",
+           chokes_reduce_by_list(job, sizeof job, NULL, 0, work, enough, answer, sizeof answer), CHOKES_OK,
+           copied.detail);
+}
+
+/* Slices at each place of a word. */
+static void not_aligned(void)
+{
+    static const uint8_t both[2] = {1, 1};
+    static uint8_t job[JOB_BYTES + 8], list[2 * CHOKES_SPAN_BYTES + 8], marks[2 + 8];
+    static uint8_t work[CHOKES_WORK_BYTES(CELLS, 1) + 8], answer[ANSWER_BYTES + 8], expected[ANSWER_BYTES];
+    const size_t enough = CHOKES_WORK_BYTES(CELLS, 1);
+    size_t at;
+
+    corridor_answer(expected);
+    for (at = 0; at < 8; at++) {
+        corridor(job + at);
+        memcpy(list + at, job + at + 52, CHOKES_SPAN_BYTES);
+        memcpy(list + at + CHOKES_SPAN_BYTES, job + at + 52 + CHOKES_BOUNDARY_BYTES, CHOKES_SPAN_BYTES);
+        memset(answer, 0xA5, sizeof answer);
+        expect("Reduce, not aligned",
+               chokes_reduce(job + at, JOB_BYTES, work + at, enough, answer + at, ANSWER_BYTES), CHOKES_OK,
+               ANSWER_BYTES);
+        expect_bytes("its answer", answer + at, expected, sizeof expected);
+        memset(answer, 0xA5, sizeof answer);
+        expect("Reduce by list, not aligned",
+               chokes_reduce_by_list(job + at, JOB_BYTES, list + at, 2 * CHOKES_SPAN_BYTES, work + at, enough,
+                                     answer + at, ANSWER_BYTES),
+               CHOKES_OK, ANSWER_BYTES);
+        expect_bytes("its answer", answer + at, expected, sizeof expected);
+        memset(marks, 0xA5, sizeof marks);
+        expect("Mark, not aligned", chokes_mark(job + at, JOB_BYTES, work + at, enough, marks + at, 2),
+               CHOKES_OK, 2);
+        expect_bytes("its marks", marks + at, both, sizeof both);
+    }
+}
+
+/* 17 rows of 257 cells with blocked rows between, and 256 spans from top to bottom, one after each column but
+ * the last: every walkable cell is a region, and there are 17 x 256 region pairs. */
+#define COLUMNS 257
+#define ROWS 33
+#define SPANS 256
+#define PAIRS_CELLS ((size_t)COLUMNS * ROWS)
+#define PAIRS_JOB (48 + PAIRS_CELLS + (size_t)SPANS * CHOKES_BOUNDARY_BYTES)
+
+static void too_many_pairs(void)
+{
+    static uint8_t job[PAIRS_JOB], list[SPANS * CHOKES_SPAN_BYTES], out[64], untouched[64];
+    static uint8_t work[CHOKES_WORK_BYTES(COLUMNS, ROWS) + 3], expected[sizeof work];
+    const size_t first = 48 + PAIRS_CELLS;
+    uint32_t header[12] = {COLUMNS, ROWS, 0, SPANS, 0, 0, 48};
+    uint32_t i, label = 0;
+
+    header[7] = header[8] = (uint32_t)first;
+    header[9] = header[10] = header[11] = (uint32_t)sizeof job;
+    put_words(job, 0, header, 12);
+    memset(expected, 0, sizeof expected - 3);
+    memset(expected + sizeof expected - 3, 0xA5, 3);
+    for (i = 0; i < PAIRS_CELLS; i++) {
+        job[48 + i] = (uint8_t)(i / COLUMNS % 2 == 0);
+        put(expected, 4 * (size_t)i, job[48 + i] ? ++label : 0);
+    }
+    for (i = 0; i < SPANS; i++) {
+        uint32_t ends[4];
+        ends[0] = ends[2] = 8 * (i + 1);
+        ends[1] = 0;
+        ends[3] = 8 * ROWS;
+        put_words(job, first + (size_t)i * CHOKES_BOUNDARY_BYTES, ends, 4);
+        put_words(list, (size_t)i * CHOKES_SPAN_BYTES, ends, 4);
+    }
+    memset(out, 0xA5, sizeof out);
+    memset(untouched, 0xA5, sizeof untouched);
+    for (i = 0; i < 3; i++) {
+        struct chokes_result said;
+        memset(work, 0xA5, sizeof work);
+        if (i == 0) {
+            said = chokes_mark(job, sizeof job, work, sizeof work, out, sizeof out);
+        } else if (i == 1) {
+            said = chokes_reduce(job, sizeof job, work, sizeof work, out, sizeof out);
+        } else {
+            said = chokes_reduce_by_list(job, sizeof job, list, sizeof list, work, sizeof work, out, sizeof out);
+        }
+        expect("over 4,096 region pairs", said, CHOKES_TOO_MANY_PAIRS, 0);
+        expect_bytes("labels after 13, zeros, and work past them", work, expected, sizeof expected);
+        expect_bytes("answer and marks after 13", out, untouched, sizeof out);
+    }
 }
 
 int main(void)
@@ -150,6 +288,10 @@ int main(void)
            CHOKES_ENDS_COINCIDE, 0);
     expect_bytes("refusals leave work as it is", work, before, sizeof work);
     expect_bytes("and the answer", answer, expected, sizeof expected);
+
+    without_start();
+    not_aligned();
+    too_many_pairs();
 
     if (failures == 0) {
         printf("the C calls are as document 01 has them\n");

@@ -1,65 +1,20 @@
-//! The functions of the proved static libraries, and which of them are there. The build names each
-//! function that a library has by a cfg (tests/libraries); the comparisons ask this table.
+//! The functions of the proved static libraries. All of them have to be there: tests/libraries fails where one is
+//! missing, and so does linking.
 
 use crate::checks::{Refusal, BY_LIST, MARK};
 
 /// A call on job, list, work and the slice that it writes, the answer or the marks.
 pub type Whole = fn(&[u8], &[u8], &mut [u8], &mut [u8]) -> Refusal;
-/// The partition of a job by its own ends, on job, work and the slice for what was found.
-pub type Partition = fn(&[u8], &mut [u8], &mut [u8]) -> Refusal;
-/// The bridges of a list of records, on records, work and marks.
-pub type Bridges = fn(&[u8], &mut [u8], &mut [u8]) -> Refusal;
-/// Where each boundary goes, on job, list, a choice of spans, work and the slice for it.
-pub type Plan = fn(&[u8], &[u8], u32, &mut [u8], &mut [u8]) -> Refusal;
 
-/// What the libraries have beside the checks.
-pub struct Table {
-    pub partition: Option<Partition>,
-    pub bridges: Option<Bridges>,
-    pub plan: Option<Plan>,
-    pub mark: Option<Whole>,
-    pub reduce: Option<Whole>,
-    pub reduce_by_list: Option<Whole>,
-}
-
-impl Table {
-    pub fn whole(&self, call: u32) -> Option<Whole> {
-        match call {
-            BY_LIST => self.reduce_by_list,
-            MARK => self.mark,
-            _ => self.reduce,
-        }
+pub fn whole(call: u32) -> Whole {
+    match call {
+        BY_LIST => library::reduce_by_list,
+        MARK => library::mark,
+        _ => library::reduce,
     }
 }
 
-pub const TABLE: Table = Table {
-    #[cfg(probe_partition)]
-    partition: Some(library::partition),
-    #[cfg(not(probe_partition))]
-    partition: None,
-    #[cfg(probe_bridges)]
-    bridges: Some(library::bridges),
-    #[cfg(not(probe_bridges))]
-    bridges: None,
-    #[cfg(probe_plan)]
-    plan: Some(library::plan),
-    #[cfg(not(probe_plan))]
-    plan: None,
-    #[cfg(chokes_mark)]
-    mark: Some(library::mark),
-    #[cfg(not(chokes_mark))]
-    mark: None,
-    #[cfg(chokes_reduce)]
-    reduce: Some(library::reduce),
-    #[cfg(not(chokes_reduce))]
-    reduce: None,
-    #[cfg(chokes_reduce_by_list)]
-    reduce_by_list: Some(library::reduce_by_list),
-    #[cfg(not(chokes_reduce_by_list))]
-    reduce_by_list: None,
-};
-
-pub use library::{check, span_ends};
+pub use library::{bridges, check, partition, plan, span_ends};
 
 /// The libraries' own declarations. Of a slice its start is passed, then its length; the slices
 /// are lent for the call and overlap nowhere.
@@ -95,7 +50,6 @@ mod library {
             out: Out,
             out_len: usize,
         ) -> usize;
-        #[cfg(probe_partition)]
         fn probe_partition(
             job: In,
             job_len: usize,
@@ -104,7 +58,6 @@ mod library {
             out: Out,
             out_len: usize,
         ) -> CallResult;
-        #[cfg(probe_bridges)]
         fn probe_bridges(
             records: In,
             records_len: usize,
@@ -113,7 +66,6 @@ mod library {
             marks: Out,
             marks_len: usize,
         ) -> CallResult;
-        #[cfg(probe_plan)]
         fn probe_plan(
             job: In,
             job_len: usize,
@@ -127,7 +79,6 @@ mod library {
         ) -> CallResult;
     }
 
-    #[cfg(chokes_mark)]
     #[link(name = "chokes")]
     extern "C" {
         fn chokes_mark(
@@ -138,7 +89,6 @@ mod library {
             marks: Out,
             marks_len: usize,
         ) -> CallResult;
-        #[cfg(chokes_reduce)]
         fn chokes_reduce(
             job: In,
             job_len: usize,
@@ -147,7 +97,6 @@ mod library {
             answer: Out,
             answer_len: usize,
         ) -> CallResult;
-        #[cfg(chokes_reduce_by_list)]
         fn chokes_reduce_by_list(
             job: In,
             job_len: usize,
@@ -185,32 +134,29 @@ mod library {
         call!(probe_span_ends read job read list number which number i write out)
     }
 
-    #[cfg(probe_partition)]
+    /// The partition of a job by its own ends, on job, work and the slice for what was found.
     pub fn partition(job: &[u8], work: &mut [u8], out: &mut [u8]) -> Refusal {
         call!(probe_partition read job write work write out).pair()
     }
 
-    #[cfg(probe_bridges)]
+    /// The bridges of a list of records, on records, work and marks.
     pub fn bridges(records: &[u8], work: &mut [u8], marks: &mut [u8]) -> Refusal {
         call!(probe_bridges read records write work write marks).pair()
     }
 
-    #[cfg(probe_plan)]
+    /// Where each boundary goes, on job, list, a choice of spans, work and the slice for it.
     pub fn plan(job: &[u8], list: &[u8], which: u32, work: &mut [u8], out: &mut [u8]) -> Refusal {
         call!(probe_plan read job read list number which write work write out).pair()
     }
 
-    #[cfg(chokes_mark)]
     pub fn mark(job: &[u8], _: &[u8], work: &mut [u8], marks: &mut [u8]) -> Refusal {
         call!(chokes_mark read job write work write marks).pair()
     }
 
-    #[cfg(chokes_reduce)]
     pub fn reduce(job: &[u8], _: &[u8], work: &mut [u8], answer: &mut [u8]) -> Refusal {
         call!(chokes_reduce read job write work write answer).pair()
     }
 
-    #[cfg(chokes_reduce_by_list)]
     pub fn reduce_by_list(job: &[u8], list: &[u8], work: &mut [u8], answer: &mut [u8]) -> Refusal {
         call!(chokes_reduce_by_list read job read list write work write answer).pair()
     }

@@ -7,7 +7,7 @@ use crate::lent::Lent;
 use crate::memory::Room;
 use crate::rng::Rng;
 use crate::rust;
-use crate::tally::Tally;
+use crate::tally::{Tally, CHECKS, PARTS};
 use crate::whole;
 use oracle::api::{self, AreaError, TerrainGrid};
 
@@ -22,7 +22,6 @@ pub fn compare(
     tally: &mut Tally,
 ) -> Result<(), String> {
     let (job, list, out) = lent.inputs(&input.job, &input.list);
-    tally.inputs += 1;
     let mut expected = [NONE; 3];
     for call in CALLS {
         let faults = checks::faults(call, &input.job, &input.list);
@@ -34,6 +33,7 @@ pub fn compare(
         expected[call as usize] = first;
         tally.note(call as usize, &faults);
     }
+    tally.see(CHECKS);
     parts(input, [job, list], expected, out, rng, tally)?;
     if *job != input.job[..] || *list != input.list[..] {
         return Err("job or list bytes were changed".to_string());
@@ -80,7 +80,9 @@ fn parts(
                      and {out:?} in {size} bytes"
                 ));
             }
-            tally.parts[usize::from(which != 0)] += u64::from(length > 0);
+            if length > 0 {
+                tally.see(PARTS[usize::from(which != 0)]);
+            }
         }
     }
     Ok(())

@@ -8,12 +8,13 @@
 //!     driver case SEED NUMBER
 //!     driver record FILE SEED
 //!
-//! `random` is the random cases alone, with nothing asked of what they saw; `family` those of one
-//! family: damaged, maps, records or corridors. `heap` is random cases with every slice an allocation
-//! of its own and of just its length, for valgrind.
+//! `random` is the random cases alone; `family` those of one family: damaged, maps, records or
+//! corridors. `heap` is random cases with every slice an allocation of its own and of just its
+//! length, for valgrind.
 //! `record` writes the list that crates/replay reads (record.rs).
 //! Every run prints its seed; `case` runs one random case of a seed again. Exit status 0 means
-//! that nothing differed and that everything that should occur did.
+//! that nothing differed and that everything that should occur did: in `quick` and `long` all that
+//! tally.rs and coverage.rs ask for, in the others some comparison of each kind that they have.
 
 mod calls;
 mod checks;
@@ -46,6 +47,7 @@ mod whole;
 use run::Run;
 use std::process::exit;
 use std::time::{Duration, Instant};
+use tally::{CHECKS, KINDS, PARTITIONS, PLANS, RECORDS, RELISTINGS, WHOLE};
 
 const QUICK_SEED: u64 = 1;
 const QUICK_CASES: u64 = 100_000;
@@ -79,7 +81,8 @@ fn main() {
             families::limits(&mut run);
             families::sizes(&mut run);
             families::sorts(&mut run);
-            println!("seed {seed}: {done} random cases, nothing differs");
+            let done = format!("seed {seed}: {done} random cases, nothing differs");
+            end(run.tally.none_of(&KINDS), &done)
         }
         ["heap", cases, seed] => {
             let (mut run, mut done) = (Run::on_heap(parse(seed)), 0);
@@ -87,7 +90,8 @@ fn main() {
                 done = families::round(&mut run, done);
             }
             run.tally.print_whole();
-            println!("seed {seed}: {done} random cases on the heap, nothing differs");
+            let done = format!("seed {seed}: {done} random cases on the heap, nothing differs");
+            end(run.tally.none_of(&KINDS), &done)
         }
         ["family", name, cases, seed] => {
             let (start, mut run) = (Instant::now(), Run::new(parse(seed)));
@@ -99,7 +103,9 @@ fn main() {
             }
             run.tally.print_whole();
             let time = start.elapsed().as_secs_f64();
-            println!("seed {seed}: {cases} cases of {name}, nothing differs; {time:.1} s");
+            let done =
+                format!("seed {seed}: {cases} cases of {name}, nothing differs; {time:.1} s");
+            end(run.tally.none_of(kinds(name)), &done)
         }
         ["case", seed, number] => {
             let (mut run, case) = (Run::new(parse(seed)), parse(number));
@@ -107,11 +113,33 @@ fn main() {
                 eprintln!("case {case} is of the exhaustive families, which a whole run repeats");
                 exit(2);
             }
-            println!("seed {seed} case {number}: nothing differs");
+            let of_each = if run.tally.count(RECORDS) > 0 { &[RECORDS][..] } else { &WHOLE };
+            end(run.tally.none_of(of_each), &format!("seed {seed} case {number}: nothing differs"))
         }
         ["record", file, seed] => record::record(file, parse(seed)),
         _ => usage(),
     }
+}
+
+/// The kinds of comparison that a family has.
+fn kinds(family: &str) -> &'static [&'static str] {
+    match family {
+        "damaged" => &[CHECKS, WHOLE[0], WHOLE[1], WHOLE[2]],
+        "maps" => &[PARTITIONS, WHOLE[0], WHOLE[1], WHOLE[2]],
+        "records" => &[RECORDS],
+        _ => &[PLANS, RELISTINGS, WHOLE[0], WHOLE[1], WHOLE[2]],
+    }
+}
+
+/// Ends the run with what it did, and with status 1 where it left out what it should have tested.
+fn end(missing: Vec<String>, done: &str) -> ! {
+    if missing.is_empty() {
+        println!("{done}");
+        exit(0)
+    }
+    missing.iter().for_each(|what| println!("not tested: {what}"));
+    println!("failed: {} not tested; {done}", missing.len());
+    exit(1)
 }
 
 fn usage() -> ! {
@@ -150,7 +178,7 @@ fn whole(seed: u64, limit: Limit, rounds: usize) {
     while match limit {
         Limit::Cases(cases) => done < cases,
         Limit::Time(time) => start.elapsed() < time,
-        Limit::Calls(calls) => run.tally.calls < calls,
+        Limit::Calls(calls) => run.tally.calls() < calls,
     } {
         done = families::round(&mut run, done);
     }
@@ -158,8 +186,6 @@ fn whole(seed: u64, limit: Limit, rounds: usize) {
     coverage::print();
     let mut missing = run.tally.missing();
     missing.extend(coverage::missing());
-    missing.iter().for_each(|what| eprintln!("not tested: {what}"));
-    let (calls, time) = (run.tally.calls, start.elapsed().as_secs_f64());
-    println!("{done} random cases, {calls} whole calls compared; {time:.1} s");
-    exit(i32::from(!missing.is_empty()));
+    let (calls, time) = (run.tally.calls(), start.elapsed().as_secs_f64());
+    end(missing, &format!("{done} random cases, {calls} whole calls compared; {time:.1} s"))
 }

@@ -1,14 +1,14 @@
 //! Runs that merge: the plan against the groups that the Rust merged, relistings of a run, and
 //! lists of merges carried out one at a time.
 
-use crate::calls::TABLE;
+use crate::calls;
 use crate::checks::{BY_LIST, REDUCE};
 use crate::draft::Input;
 use crate::expect::{self, Accepted, Expected, MOST_PAIRS};
 use crate::lent::Lent;
 use crate::rng::Rng;
 use crate::rust::Group;
-use crate::tally::{Tally, CALLS};
+use crate::tally::{Tally, CALLS, PLANS, RELISTINGS, WHOLE};
 use crate::values::{self, sorted_ends, Boundary, Values};
 use crate::whole;
 
@@ -42,7 +42,6 @@ fn plan(
     rng: &mut Rng,
     tally: &mut Tally,
 ) -> Result<(), String> {
-    let Some(function) = TABLE.plan else { return Ok(()) };
     let mut goes: Vec<u32> = (0..accepted.job.boundaries.len() as u32).collect();
     for group in groups {
         group.members.iter().for_each(|&member| goes[member] = group.retained as u32);
@@ -52,8 +51,8 @@ fn plan(
     let labels = accepted.partition.labels();
     let mut work = vec![rng.byte(); expect::WORK * labels.len()];
     let lent = lent.lend(&input.job, &input.list, &work, &vec![0xA5; bytes.len()]);
-    let said = function(lent.job, lent.list, which, lent.work, lent.out);
-    tally.see("plans compared");
+    let said = calls::plan(lent.job, lent.list, which, lent.work, lent.out);
+    tally.see(PLANS);
     if said.0 != 0 {
         return Err(format!("plan: expected no refusal, got {said:?}"));
     }
@@ -92,7 +91,7 @@ fn relistings(
         let listed = Values { spans, ..relisted.clone() }.draft().input();
         same(BY_LIST, &listed, &answer, lent, tally)?;
     }
-    tally.see("relistings");
+    tally.see(RELISTINGS);
     merges(&values.boundaries, &relisted.boundaries, groups, &answer, rng, tally)
 }
 
@@ -104,13 +103,12 @@ fn same(
     lent: &mut Lent,
     tally: &mut Tally,
 ) -> Result<(), String> {
-    let Some(function) = TABLE.whole(call) else { return Ok(()) };
     let cells = u32::from_le_bytes(input.job[24..28].try_into().expect("four bytes"));
     let bases = u32::from_le_bytes(input.job[28..32].try_into().expect("four bytes"));
     let work = vec![0x77; expect::WORK * (bases - cells) as usize];
     let lent = lent.lend(&input.job, &input.list, &work, &vec![0x99; answer.len()]);
-    let said = function(lent.job, lent.list, lent.work, lent.out);
-    tally.calls += 1;
+    let said = calls::whole(call)(lent.job, lent.list, lent.work, lent.out);
+    tally.see(WHOLE[call as usize]);
     if said == (0, answer.len() as u64) && *lent.out == *answer {
         return Ok(());
     }

@@ -1,14 +1,14 @@
 //! The partition of a job by its boundaries' own ends, compared with the Rust's, and on small maps
 //! with the definitions.
 
-use crate::calls::{partition_words, Assessment, TABLE};
+use crate::calls::{self, partition_words, Assessment};
 use crate::checks::REDUCE;
 use crate::definition;
 use crate::draft::Input;
 use crate::expect::{self, Accepted, MOST_PAIRS, WORK};
 use crate::lent::Lent;
 use crate::rng::Rng;
-use crate::tally::Tally;
+use crate::tally::{Tally, PARTITIONS};
 use oracle::api::SpanPartition;
 
 /// Steps times spans, up to which the definitions are computed too.
@@ -47,7 +47,6 @@ pub fn compare(
     }
     note(&partition, &spans, tally);
 
-    let Some(function) = TABLE.partition else { return Ok(()) };
     let more = rng.pick(&[0, 0, 1, 7, 40]);
     let before = rng.byte();
     let mut work = vec![before; WORK * labels.len() + more];
@@ -56,7 +55,7 @@ pub fn compare(
     let room = if pairs > MOST_PAIRS { MOST_ROOM } else { expected.len() + more };
     let mut out = vec![before; room];
     let lent = lent.lend(&input.job, &[], &work, &out);
-    let said = function(lent.job, lent.work, lent.out);
+    let said = calls::partition(lent.job, lent.work, lent.out);
     expect::fill_work(labels, &mut work);
     let result = if pairs > MOST_PAIRS {
         tally.see("partitions: 13");
@@ -65,7 +64,7 @@ pub fn compare(
         out[..expected.len()].copy_from_slice(&expected);
         (0, expected.len() as u64)
     };
-    tally.see("partitions compared");
+    tally.see(PARTITIONS);
     if said != result {
         return Err(format!("partition: expected {result:?}, got {said:?}"));
     }

@@ -1,10 +1,10 @@
 //! Bare lists of records against bridges by their definition: a record is taken away and its two
 //! regions are still joined, or not.
 
-use crate::calls::{record_words, TABLE};
+use crate::calls::{self, record_words};
 use crate::lent::Lent;
 use crate::rng::Rng;
-use crate::tally::Tally;
+use crate::tally::{Tally, RECORDS};
 use oracle::api;
 use std::collections::BTreeSet;
 
@@ -120,7 +120,6 @@ pub fn compare(records: &[Record], lent: &mut Lent, tally: &mut Tally) -> Result
     } else {
         api::bridges_of(records)
     };
-    tally.see("record lists");
     for (what, holds) in [
         ("record lists of 4,096", records.len() == 4096),
         ("record lists with bridges and others", !bridges.is_empty() && bridges.len() < OWNERS),
@@ -130,11 +129,11 @@ pub fn compare(records: &[Record], lent: &mut Lent, tally: &mut Tally) -> Result
             tally.see(what);
         }
     }
-    let Some(function) = TABLE.bridges else { return Ok(()) };
     let bytes = record_words(records);
     let mut marks = vec![0xA5; OWNERS];
     let lent = lent.lend(&bytes, &[], &vec![DIRTY; WORK], &marks);
-    let said = function(lent.job, lent.work, lent.out);
+    let said = calls::bridges(lent.job, lent.work, lent.out);
+    tally.see(RECORDS);
     for (owner, mark) in marks.iter_mut().enumerate() {
         *mark = u8::from(bridges.contains(&owner));
     }

@@ -1,17 +1,31 @@
 //! What a run has seen, so that it can't pass by testing nothing.
 
-use crate::calls::TABLE;
 use crate::checks::{Refusal, BY_LIST, MARK};
 use crate::damage::REFUSALS;
 use std::collections::BTreeMap;
 
 pub const CALLS: [&str; 3] = ["Reduce", "Reduce by list", "Mark"];
 const NUMBERS: usize = 18;
-/// The refusals of whole calls, beside success.
-const WHOLE: [u32; 4] = [13, 21, 22, 23];
+/// The refusals of whole calls, beside success and those of the checks.
+const LATE: [u32; 4] = [13, 21, 22, 23];
+
+/// What is held to the library's functions, by kind: a run that should have some of a kind and has none fails.
+pub const CHECKS: &str = "inputs whose checks are compared";
+pub const PARTS: [&str; 2] = ["parts of the job compared", "parts of the list compared"];
+pub const PARTITIONS: &str = "partitions compared";
+pub const RECORDS: &str = "record lists compared";
+pub const PLANS: &str = "plans compared";
+pub const RELISTINGS: &str = "relistings";
+/// Those on relistings among them.
+pub const WHOLE: [&str; 3] =
+    ["calls of Reduce compared", "calls of Reduce by list compared", "calls of Mark compared"];
+pub const KINDS: [&str; 10] = [
+    CHECKS, PARTS[0], PARTS[1], PARTITIONS, RECORDS, PLANS, RELISTINGS, WHOLE[0], WHOLE[1],
+    WHOLE[2],
+];
 
 /// What a whole run must have seen at least once.
-const WANTED: [&str; 26] = [
+const WANTED: [&str; 25] = [
     "partitions held to the definitions",
     "partitions with a span that cuts nothing",
     "partitions with a span that goes round",
@@ -36,7 +50,6 @@ const WANTED: [&str; 26] = [
     "groups with a member without observations",
     "runs with several groups",
     "runs with both kinds",
-    "relistings",
     "merges one at a time",
 ];
 
@@ -47,15 +60,10 @@ pub struct Tally {
     ordered: [[u64; NUMBERS]; 3],
     /// For each call and refusal, a bit for each later fault it was seen with.
     pairs: [[u32; NUMBERS]; 3],
-    /// Parts that were not empty, of the job and of the list.
-    pub parts: [u64; 2],
     /// Inputs on which the Rust's own checks were compared, and those that it refused.
     pub rust: [u64; 2],
-    pub inputs: u64,
     /// For each call, how often a whole call was to end with each number.
     whole: [[u64; 24]; 3],
-    /// Whole calls compared, those on relistings among them.
-    pub calls: u64,
     seen_besides: BTreeMap<String, u64>,
 }
 
@@ -90,6 +98,17 @@ impl Tally {
         self.seen_besides.get(what).copied().unwrap_or(0)
     }
 
+    /// Whole calls compared, those on relistings among them.
+    pub fn calls(&self) -> u64 {
+        WHOLE.iter().map(|call| self.count(call)).sum()
+    }
+
+    /// The kinds of which nothing was compared, of those that should have been.
+    pub fn none_of(&self, kinds: &[&str]) -> Vec<String> {
+        let none = kinds.iter().filter(|kind| self.count(kind) == 0);
+        none.map(|kind| format!("0 {kind}")).collect()
+    }
+
     pub fn note_whole(&mut self, call: usize, number: u32) {
         self.whole[call][number as usize] += 1;
     }
@@ -107,7 +126,7 @@ impl Tally {
     pub fn print(&self) {
         println!(
             "{} inputs, three calls each; times seen, of these with a later fault",
-            self.inputs
+            self.count(CHECKS)
         );
         println!("{:>8}{:>24}{:>24}{:>24}", "refusal", CALLS[0], CALLS[1], CALLS[2]);
         for number in std::iter::once(0).chain(REFUSALS) {
@@ -124,42 +143,26 @@ impl Tally {
         }
         let pairs: u32 = self.pairs.iter().flatten().map(|bits| bits.count_ones()).sum();
         println!("pairs of a refusal and a later fault, over the calls: {pairs}");
-        println!("parts not empty: {} of the job, {} of the list", self.parts[0], self.parts[1]);
         println!("spans given to the Rust: {}, refused by it: {}", self.rust[0], self.rust[1]);
         self.print_whole();
     }
 
     pub fn print_whole(&self) {
-        println!("whole calls compared, those on relistings among them: {}", self.calls);
+        println!("whole calls compared, those on relistings among them: {}", self.calls());
         println!("whole calls by number, without relistings");
         for (call, name) in CALLS.iter().enumerate() {
             let refused: u64 = (1..=17).filter(|&n| n != 13).map(|n| self.whole[call][n]).sum();
-            let late = WHOLE.map(|n| format!(", {n}: {}", self.whole[call][n as usize])).concat();
-            let made = if TABLE.whole(call as u32).is_some() { "" } else { " (not compared yet)" };
-            println!(
-                "{name:>16}  0: {}{late}, refused before: {refused}{made}",
-                self.whole[call][0]
-            );
+            let late = LATE.map(|n| format!(", {n}: {}", self.whole[call][n as usize])).concat();
+            println!("{name:>16}  0: {}{late}, refused before: {refused}", self.whole[call][0]);
         }
         for (what, count) in &self.seen_besides {
             println!("{count:>8} {what}");
-        }
-        let there = [
-            ("probe_partition", TABLE.partition.is_some()),
-            ("probe_bridges", TABLE.bridges.is_some()),
-            ("probe_plan", TABLE.plan.is_some()),
-            ("chokes_mark", TABLE.mark.is_some()),
-            ("chokes_reduce", TABLE.reduce.is_some()),
-            ("chokes_reduce_by_list", TABLE.reduce_by_list.is_some()),
-        ];
-        for (name, _) in there.iter().filter(|function| !function.1) {
-            println!("not there to be compared: {name}");
         }
     }
 
     /// What the comparisons beyond the checks should have seen and did not.
     fn missing_besides(&self) -> Vec<String> {
-        let mut missing = Vec::new();
+        let mut missing = self.none_of(&KINDS);
         for (call, name) in CALLS.iter().enumerate() {
             let late = if call as u32 == MARK { 23 } else { 22 };
             for number in [0, 13, 21, late] {
@@ -192,11 +195,6 @@ impl Tally {
                         missing.push(format!("{name}: {number} was never seen before {later}"));
                     }
                 }
-            }
-        }
-        for (name, count) in ["job", "list"].iter().zip(self.parts) {
-            if count == 0 {
-                missing.push(format!("no part of the {name} was seen"));
             }
         }
         if self.rust[1] == 0 || self.rust[0] == self.rust[1] {

@@ -1,13 +1,13 @@
 //! Mark, Reduce and Reduce by list in whole: number, detail, and every byte of work and of answer
 //! or marks, on slices that are exact, short and longer.
 
-use crate::calls::TABLE;
+use crate::calls;
 use crate::checks::{BY_LIST, MARK, NONE, REDUCE};
 use crate::draft::Input;
 use crate::expect::{Expected, MOST_PAIRS};
 use crate::lent::Lent;
 use crate::rng::Rng;
-use crate::tally::{Tally, CALLS};
+use crate::tally::{Tally, CALLS, WHOLE};
 
 pub fn compare(
     input: &Input,
@@ -17,11 +17,21 @@ pub fn compare(
 ) -> Result<(), String> {
     for call in [REDUCE, BY_LIST, MARK] {
         let expected = Expected::of(call, &input.job, &input.list);
+        if call != MARK && expected.refusal == NONE && expected.written.len() > most(&input.job) {
+            return Err(format!("an answer of {} bytes", expected.written.len()));
+        }
         for [work, out] in lengths(&expected, rng) {
             one(call, &expected, input, [work, out], lent, rng, tally)?;
         }
     }
     Ok(())
+}
+
+/// CHOKES_ANSWER_BYTES of include/chokes.h, for the counts of a job.
+fn most(job: &[u8]) -> usize {
+    let [boundaries, observations, sources] =
+        [12, 16, 20].map(|at| u32::from_le_bytes(job[at..at + 4].try_into().unwrap()) as usize);
+    24 + 40 * boundaries + 28 * (observations + boundaries) + 16 * sources
 }
 
 /// Lengths of work and of answer or marks: exact; the second one short; both longer; now and then
@@ -57,11 +67,10 @@ fn one(
     let (work, out) = (vec![rng.byte(); work], vec![rng.byte(); out]);
     let left = expected.left(&work, &out);
     tally.note_whole(call as usize, left.result.0);
-    let Some(function) = TABLE.whole(call) else { return Ok(()) };
     let name = CALLS[call as usize];
     let lent = lent.lend(&input.job, &input.list, &work, &out);
-    let said = function(lent.job, lent.list, lent.work, lent.out);
-    tally.calls += 1;
+    let said = calls::whole(call)(lent.job, lent.list, lent.work, lent.out);
+    tally.see(WHOLE[call as usize]);
     if said != left.result {
         return Err(format!("{name}: expected {:?}, got {said:?}", left.result));
     }
