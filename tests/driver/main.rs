@@ -9,7 +9,7 @@
 //!     driver record FILE SEED
 //!
 //! `random` is the random cases alone, with nothing asked of what they saw; `family` those of one
-//! family: damaged, maps, records or corridors. `heap` is random cases with every slice an allocation
+//! family: damaged, maps, records, corridors or slanted. `heap` is random cases with every slice an allocation
 //! of its own and of just its length, for valgrind.
 //! `record` writes the list that crates/replay reads (record.rs).
 //! Every run prints its seed; `case` runs one random case of a seed again. Exit status 0 means
@@ -28,6 +28,7 @@ mod expect;
 mod families;
 mod lent;
 mod maps;
+mod measures;
 mod memory;
 mod merging;
 mod orders;
@@ -38,6 +39,7 @@ mod rng;
 mod run;
 mod rust;
 mod shrink;
+mod slanted;
 mod smoke;
 mod tally;
 mod values;
@@ -50,6 +52,8 @@ use std::time::{Duration, Instant};
 const QUICK_SEED: u64 = 1;
 const QUICK_CASES: u64 = 100_000;
 const LONG_SEED: u64 = 2;
+/// So many slanted corridors meet each limit on each side.
+const ENOUGH_SLANTED: u64 = 2000;
 const LONG: Limit = Limit::Time(Duration::from_secs(600));
 
 enum Limit {
@@ -100,6 +104,11 @@ fn main() {
             run.tally.print_whole();
             let time = start.elapsed().as_secs_f64();
             println!("seed {seed}: {cases} cases of {name}, nothing differs; {time:.1} s");
+            if name == "slanted" && parse(cases) >= ENOUGH_SLANTED {
+                let missing = measures::missing(&run.tally);
+                missing.iter().for_each(|what| eprintln!("not tested: {what}"));
+                exit(i32::from(!missing.is_empty()));
+            }
         }
         ["case", seed, number] => {
             let (mut run, case) = (Run::new(parse(seed)), parse(number));
