@@ -58,8 +58,8 @@ const MET: [&str; 8] = [
     "flat envelope across, 32, above",
 ];
 const SIDES: [&str; 3] = ["1 or 2 ulp inside", "just met", "1 or 2 ulp beyond"];
-/// No near spans have their cosine within some hundred units of the limit, and no sum but 384 itself
-/// is within some hundred of 384: the nearest there are.
+/// The cosine of near spans comes no nearer to its limit than some thousand units in the last place,
+/// and a sum that isn't 384 no nearer to it than a hundred: the nearest there are.
 const NEAREST: [&str; 5] = [
     "slanted: cosine next to the limit, parallel",
     "slanted: cosine next to the limit, not parallel",
@@ -229,11 +229,12 @@ pub fn note(accepted: &Accepted, tally: &mut Tally) {
                 tally.see(&format!("slanted: {}, {side}", name(limit, width)));
             }
         }
-        note_cosine(accepted, link.nodes, tally);
+        let cosine = near_cosine(accepted, link.nodes).unwrap_or(0.0);
+        if (cosine - PARALLEL).abs() < NEXT_TO_COSINE {
+            tally.see(NEAREST[usize::from(cosine < PARALLEL)]);
+        }
     }
-    let mut distances: Vec<_> = links.iter().map(|link| link.distance).collect();
-    distances.sort_by(f64::total_cmp);
-    let sum: f64 = distances.iter().sum();
+    let sum = sum(&links);
     if links.len() > 1 && sum == 384.0 && links.iter().any(|link| link.slanted[0]) {
         tally.see(NEAREST[2]);
     }
@@ -242,16 +243,56 @@ pub fn note(accepted: &Accepted, tally: &mut Tally) {
     }
 }
 
-fn note_cosine(accepted: &Accepted, nodes: [usize; 2], tally: &mut Tally) {
+/// The cosine of the angle between two spans, where both pairs of their ends are near.
+fn near_cosine(accepted: &Accepted, nodes: [usize; 2]) -> Option<f64> {
     let [a, b] = nodes.map(|node| ends(accepted, node));
     let [from, to] = [minus(a[1], a[0]), minus(b[1], b[0])];
     let dot = dot(from, to);
     let cosine = dot.abs() / exact_length(from[0], from[1]) / exact_length(to[0], to[1]);
     let b = if dot < 0.0 { [b[1], b[0]] } else { b };
     let near = (0..2).all(|i| exact_length(a[i][0] - b[i][0], a[i][1] - b[i][1]) <= 128.0);
-    if near && (cosine - PARALLEL).abs() < NEXT_TO_COSINE {
-        tally.see(NEAREST[usize::from(cosine < PARALLEL)]);
+    near.then_some(cosine)
+}
+
+/// Whether a run merges, where the measures settle it: a chain of 3 or 4 spans over ramps, or two
+/// spans on flat ground, with no anchors and every region of the map in the chain.
+pub fn foretold(accepted: &Accepted) -> Option<bool> {
+    let links = links(accepted);
+    let boundaries = &accepted.job.boundaries;
+    let pairs = accepted.partition.boundaries().iter().flat_map(|span| &span.region_pairs);
+    let regions: BTreeSet<u32> = pairs.flatten().copied().collect();
+    let count = boundaries.len();
+    if links.len() + 1 != count || regions.len() != count + 1 || !accepted.job.bases.is_empty() {
+        return None;
     }
+    let width = |link: &Link| {
+        let [one, two] = link.nodes.map(|node| boundaries[node].width_pixels);
+        one.min(two)
+    };
+    let inside = |link: &Link, limits: &[Limit]| {
+        limits.iter().all(|&limit| link.room(limit, width(link)) >= 0)
+    };
+    let walkable = accepted.job.grid.cells().iter().filter(|cell| cell.walkable);
+    let ramps: BTreeSet<_> = walkable.map(|cell| (cell.ramp, cell.elevation)).collect();
+    match (count, ramps.first()) {
+        _ if ramps.len() != 1 => None,
+        (2, Some((false, _))) => {
+            let parallel = near_cosine(accepted, links[0].nodes).is_some_and(|c| c >= PARALLEL);
+            Some(parallel && inside(&links[0], &LIMITS[2..]))
+        }
+        (3 | 4, Some((true, _))) => {
+            let pass = links.iter().all(|link| inside(link, &LIMITS[..2]));
+            Some(pass && sum(&links) <= 384.0)
+        }
+        _ => None,
+    }
+}
+
+/// The sum of the distances, in ascending order.
+fn sum(links: &[Link]) -> f64 {
+    let mut distances: Vec<_> = links.iter().map(|link| link.distance).collect();
+    distances.sort_by(f64::total_cmp);
+    distances.iter().sum()
 }
 
 /// The limits that were never met, or not on one of their sides.

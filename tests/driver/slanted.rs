@@ -35,8 +35,8 @@ const WHOLE: [(Point, i32); 10] = [
     ([9, 40], 41),
 ];
 
-/// Squares of doubled centre distances of which three come nearest to 384 without being it, over all
-/// threes that there are.
+/// Squares of doubled centre distances, three of which come nearest to 384 without being it, over all
+/// that there are (tests/sums).
 const THREES: [[i32; 3]; 6] = [
     [2285, 115_380, 144_797],
     [47_330, 71_026, 80_621],
@@ -99,7 +99,7 @@ impl Plan {
     }
 }
 
-/// A number about another, or about its negative.
+/// A whole number from -`most` to `most`.
 fn about(rng: &mut Rng, most: u32) -> i32 {
     rng.within(0, 2 * most) as i32 - most as i32
 }
@@ -191,39 +191,45 @@ fn quarter(rng: &mut Rng) -> Option<Draft> {
     tune(&mut draft, &[Limit::Below(0), Limit::Above(0)], 128.0, rng).then_some(draft)
 }
 
-/// Two parallel spans of whole length, and a cell of their region that reaches just 32 pixels past
-/// their ends, along or across.
-fn thirty_two(rng: &mut Rng) -> Option<Draft> {
-    let (rows, down) = (rng.pick(&[1, 1, 2]), rng.within(0, 3) as i32);
+/// Two parallel spans across a corridor of so many rows, of a whole length, which comes with them.
+fn parallel(rows: i32, rng: &mut Rng) -> ([Span; 2], i32) {
+    let down = rng.within(0, 3) as i32;
     let ([dx, dy], length) = rng.pick(&WHOLE);
     let times = (8 * rows + down + dy - 1) / dy + rng.within(0, 1) as i32;
-    let (dx, dy, length) = (dx * times * rng.pick(&[1, -1]), dy * times, length * times);
     let low = [0, 8 * rows + down];
-    let high = [dx, low[1] - dy];
-    let aside = [rng.within(17, 60) as i32, about(rng, 3).max(-down).min(3 - down)];
+    let high = [dx * times * rng.pick(&[1, -1]), low[1] - dy * times];
+    let aside = [rng.within(17, 60) as i32, about(rng, 3).clamp(-down, 3 - down)];
     let moved = |end: Point| [end[0] + aside[0], end[1] + aside[1]];
-    let spans = vec![[high, low], [moved(high), moved(low)]];
-    let ends: Vec<Point> = spans.iter().flatten().copied().collect();
-    let on = |[x, y]: Point, [vx, vy]: Point| x * vx + y * vy;
-    let reach = 4 * (dx.abs() + dy);
-    let just = |cell: &Point| {
-        let centre = cell.map(|at| 8 * at + 4);
-        [[dx, -dy], [dy, dx]].into_iter().any(|v| {
-            let of_ends = || ends.iter().map(|&end| on(end, v));
-            let least = of_ends().min().expect("ends") - 32 * length;
-            let most = of_ends().max().expect("ends") + 32 * length;
-            on(centre, v) - reach == least || on(centre, v) + reach == most
-        })
-    };
-    let cells = (rows + 1..rows + 9).flat_map(|y| (-12..20).map(move |x| [x, y]));
-    let cells: Vec<Point> = cells.filter(just).collect();
+    ([[high, low], [moved(high), moved(low)]], length * times)
+}
+
+/// True if the cell reaches just 32 pixels past the ends of parallel spans, along or across them.
+fn at_32(cell: Point, spans: &[Span; 2], length: i32) -> bool {
+    let [[ax, ay], [bx, by]] = spans[0];
+    let [dx, dy] = [bx - ax, by - ay];
+    let centre = cell.map(|at| 8 * at + 4);
+    let reach = 4 * (dx.abs() + dy.abs());
+    [[dx, dy], [-dy, dx]].into_iter().any(|v| {
+        let on = |p: Point| p[0] * v[0] + p[1] * v[1];
+        let ends = spans.iter().flatten().map(|&end| on(end));
+        let (least, most) = (ends.clone().min().expect("ends"), ends.max().expect("ends"));
+        on(centre) - reach == least - 32 * length || on(centre) + reach == most + 32 * length
+    })
+}
+
+/// Two parallel spans, and a cell of their region that reaches just 32 pixels past their ends.
+fn thirty_two(rng: &mut Rng) -> Option<Draft> {
+    let rows = rng.pick(&[1, 1, 2]);
+    let (spans, length) = parallel(rows, rng);
+    let below = (rows + 1..rows + 9).flat_map(|y| (-12..20).map(move |x| [x, y]));
+    let cells: Vec<Point> = below.filter(|&cell| at_32(cell, &spans, length)).collect();
     if cells.is_empty() {
         return None;
     }
-    let mut plan = Plan::corridor(rows, spans.clone(), 1);
+    let mut plan = Plan::corridor(rows, spans.to_vec(), 1);
     plan.dig([between(&spans), rows], rng.pick(&cells));
     let mut draft = plan.draft(rng);
-    let bits = rng.pick(&[0.0, 8.0, 24.5, 128.0, 100.0_f64]).to_bits();
+    let bits = rng.pick(&[0.0, 8.0, 24.5, 100.0, 128.0_f64]).to_bits();
     draft.boundaries.iter_mut().for_each(|boundary| boundary.bits = bits);
     let met = |link: &Link| {
         let rooms = measures::LIMITS[2..].iter().map(|&limit| link.room(limit, 0.0));
@@ -252,17 +258,19 @@ fn angles() -> &'static [[Point; 2]] {
     })
 }
 
-/// Vectors a and b, downwards, of these products.
+/// Vectors a and b, downwards and about as long, of these products.
 fn factors(dot: i64, cross: i64) -> Vec<[Point; 2]> {
+    let both = ((dot * dot + cross * cross) as f64).sqrt() as i64;
+    let about = both * 2 / 3..both * 3 / 2;
     let mut found = Vec::new();
-    for (x, y) in (1..1000).flat_map(|y: i64| (-y..=y).map(move |x| (x, y))) {
+    for (x, y) in (1..1200).flat_map(|y: i64| (-y..=y).map(move |x| (x, y))) {
         let square = x * x + y * y;
         let [bx, by] = [dot * x - cross * y, dot * y + cross * x];
-        if bx % square == 0 && by % square == 0 && by > 0 {
+        if about.contains(&square) && bx % square == 0 && by % square == 0 {
             let [bx, by] = [bx / square, by / square];
             let apart = (bx - x) * (bx - x) + (by - y) * (by - y);
             if apart <= 250 * 250 && by >= bx.abs() {
-                found.push([[x as i32, y as i32], [bx as i32, by as i32]]);
+                found.push([[x, y], [bx, by]].map(|v| v.map(|at| at as i32)));
             }
         }
     }
@@ -364,7 +372,8 @@ pub fn random(rng: &mut Rng) -> Draft {
     draft
 }
 
-/// As all that merge, with the limits that were met counted.
+/// As all that merge, with the limits that were met counted; the Rust merges where the measures,
+/// stated anew, say so.
 pub fn compare(
     input: &Input,
     lent: &mut Lent,
@@ -374,6 +383,13 @@ pub fn compare(
     let read = || expect::accepted(REDUCE, &input.job, &[]);
     if let Ok(accepted) = oracle::count::uncounted(read) {
         measures::note(&accepted, tally);
+        if let Some(merges) = measures::foretold(&accepted) {
+            let groups = oracle::count::uncounted(|| accepted.job.groups(&accepted.partition));
+            tally.see("slanted: runs whose merging was foretold");
+            if groups.is_empty() == merges {
+                return Err(format!("measures: the Rust has {} groups", groups.len()));
+            }
+        }
     }
     merging::compare(input, lent, rng, tally)
 }
