@@ -1,4 +1,5 @@
-//! Writes random small jobs as a file of equations: what the definitions give is what the Rust gave.
+//! Writes random small jobs, and a few at limits, as a file of equations: what the definitions give is
+//! what the Rust gave.
 
 use oracle::api::{
     self, Context, PixelPosition, RampBoundary, RampSide, TopologyBase, TopologyBoundary,
@@ -134,6 +135,34 @@ struct Job {
 }
 
 impl Job {
+    /// Jobs of slanted spans, with the least widths that meet a limit and with one unit in the last
+    /// place less: of a transverse envelope, and of a flat one that reaches past the spans' ends.
+    fn at_limits() -> Vec<Self> {
+        let across: [[u32; 4]; 3] = [[8, 0, 8, 16], [12, 0, 14, 14], [24, 0, 24, 16]];
+        let ramps = [1, 5, 5, 1, 1, 1, 1, 1];
+        let deep: Vec<u8> = (0..40).map(|cell| u8::from(cell < 5 || cell % 5 == 1)).collect();
+        let beside = [[7, 0, 9, 10], [16, 0, 20, 9]];
+        let jobs = [0, 1].map(|less| {
+            [
+                Self::of([4, 2], &ramps, &across, 0x3fea_d78e_e8aa_c437 - less),
+                Self::of([5, 8], &deep, &beside, 0x406a_92e0_6205_3c06 - less),
+            ]
+        });
+        jobs.into_iter().flatten().collect()
+    }
+
+    fn of([width, height]: [u32; 2], cells: &[u8], spans: &[[u32; 4]], bits: u64) -> Self {
+        let boundary = |&span: &[u32; 4]| TopologyBoundary {
+            endpoints: api::ends(span),
+            width_pixels: f64::from_bits(bits),
+            sources: vec![],
+            observations: vec![],
+            ramp: None,
+        };
+        let boundaries = spans.iter().map(boundary).collect();
+        Self { width, height, cells: cells.to_vec(), bases: vec![], boundaries }
+    }
+
     fn random(rng: &mut Rng) -> Self {
         let (width, height) = (5 + rng.below(6) as u32, 1 + rng.below(2) as u32);
         let cell = |rng: &mut Rng| {
@@ -225,7 +254,9 @@ impl Job {
             ),
             equation(
                 "kept",
-                &format!("keptOf (rulesOf limits000 eight job{k}) (reduceRun (job{k} .boundaries))"),
+                &format!(
+                    "keptOf (rulesOf limits000 eight job{k}) (reduceRun (job{k} .boundaries))"
+                ),
                 list(&kept, boundary),
                 KEEPING,
             ),
@@ -240,6 +271,10 @@ fn main() {
     let mut rng = Rng(numbers.next().expect("a seed"));
     let mut merged = [0; 6];
     println!("{HEAD}");
+    let at_limits = Job::at_limits();
+    for (k, job) in at_limits.iter().enumerate() {
+        println!("{}", job.equations(jobs as usize + k).0);
+    }
     for k in 0..jobs as usize {
         // A merge is looked for: of a few tries the one that merges most is taken.
         let tries = 1 + rng.below(3);

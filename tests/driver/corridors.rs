@@ -247,7 +247,7 @@ fn disturb(draft: &mut Draft, rng: &mut Rng) {
 }
 
 /// Turns the map upside down, so that what lies below a corridor comes to lie above it.
-fn mirror(draft: &mut Draft) {
+pub fn mirror(draft: &mut Draft) {
     let (width, height) = (draft.width as usize, draft.height);
     draft.cells = draft.cells.chunks_exact(width).rev().flatten().copied().collect();
     for [_, _, row] in draft.bases.iter_mut().filter(|base| base[2] < height) {
@@ -259,7 +259,7 @@ fn mirror(draft: &mut Draft) {
     }
 }
 
-fn transpose(draft: &mut Draft) {
+pub fn transpose(draft: &mut Draft) {
     let (width, height) = (draft.width as usize, draft.height as usize);
     let turned = |i: usize| draft.cells[i % height * width + i / height];
     draft.cells = (0..width * height).map(turned).collect();
@@ -275,7 +275,7 @@ fn transpose(draft: &mut Draft) {
 
 /// The spans of Reduce by list: the boundaries' own, with ends of boundaries then moved, made
 /// equal or made to coincide; at times one span more or fewer.
-fn list(draft: &mut Draft, rng: &mut Rng) {
+pub fn list(draft: &mut Draft, rng: &mut Rng) {
     draft.list = draft.boundaries.iter().map(|boundary| boundary.ends).collect();
     for span in &mut draft.list {
         if rng.one_in(2) {

@@ -9,7 +9,7 @@ use crate::orders::{numbers, Order, ORDERS};
 use crate::rng::Rng;
 use crate::run::Run;
 use crate::tally::Tally;
-use crate::{corridors, merging, partition, records, whole};
+use crate::{corridors, merging, partition, records, slanted, whole};
 
 /// How many cases of a family are run in a round, and what one is.
 struct Family {
@@ -17,9 +17,9 @@ struct Family {
     case: fn(&mut Run, &mut Rng),
 }
 
-pub const NAMES: [&str; 4] = ["damaged", "maps", "records", "corridors"];
+pub const NAMES: [&str; 5] = ["damaged", "maps", "records", "corridors", "slanted"];
 
-const FAMILIES: [Family; 4] = [
+const FAMILIES: [Family; 5] = [
     // Damaged inputs.
     Family { share: 80, case: |run, rng| run.draft(&damaged(rng), rng, compare) },
     // Maps and spans of many shapes.
@@ -28,6 +28,8 @@ const FAMILIES: [Family; 4] = [
     Family { share: 5, case: |run, rng| run.records(&records::random(rng)) },
     // Corridors that merge.
     Family { share: 8, case: |run, rng| run.draft(&corridors::random(rng), rng, merging::compare) },
+    // Slanted corridors at the limits of 000.
+    Family { share: 4, case: |run, rng| run.draft(&slanted::random(rng), rng, slanted::compare) },
 ];
 
 /// Runs a case by its number, where it is of these families.

@@ -8,9 +8,9 @@
 //!     driver case SEED NUMBER
 //!     driver record FILE SEED
 //!
-//! `random` is the random cases alone; `family` those of one family: damaged, maps, records or
-//! corridors. `heap` is random cases with every slice an allocation of its own and of just its
-//! length, for valgrind.
+//! `random` is the random cases alone; `family` those of one family: damaged, maps, records,
+//! corridors or slanted. `heap` is random cases with every slice an allocation of its own and of
+//! just its length, for valgrind.
 //! `record` writes the list that crates/replay reads (record.rs).
 //! Every run prints its seed; `case` runs one random case of a seed again. Exit status 0 means
 //! that nothing differed and that everything that should occur did: in `quick` and `long` all that
@@ -29,6 +29,7 @@ mod expect;
 mod families;
 mod lent;
 mod maps;
+mod measures;
 mod memory;
 mod merging;
 mod orders;
@@ -39,6 +40,7 @@ mod rng;
 mod run;
 mod rust;
 mod shrink;
+mod slanted;
 mod smoke;
 mod tally;
 mod values;
@@ -52,6 +54,8 @@ use tally::{CHECKS, KINDS, PARTITIONS, PLANS, RECORDS, RELISTINGS, WHOLE};
 const QUICK_SEED: u64 = 1;
 const QUICK_CASES: u64 = 100_000;
 const LONG_SEED: u64 = 2;
+/// So many slanted corridors meet each limit on each side.
+const ENOUGH_SLANTED: u64 = 2000;
 const LONG: Limit = Limit::Time(Duration::from_secs(600));
 
 enum Limit {
@@ -105,7 +109,11 @@ fn main() {
             let time = start.elapsed().as_secs_f64();
             let done =
                 format!("seed {seed}: {cases} cases of {name}, nothing differs; {time:.1} s");
-            end(run.tally.none_of(kinds(name)), &done)
+            let mut missing = run.tally.none_of(kinds(name));
+            if name == "slanted" && parse(cases) >= ENOUGH_SLANTED {
+                missing.extend(measures::missing(&run.tally));
+            }
+            end(missing, &done)
         }
         ["case", seed, number] => {
             let (mut run, case) = (Run::new(parse(seed)), parse(number));

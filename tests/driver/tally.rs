@@ -2,6 +2,7 @@
 
 use crate::checks::{Refusal, BY_LIST, MARK};
 use crate::damage::REFUSALS;
+use crate::measures;
 use std::collections::BTreeMap;
 
 pub const CALLS: [&str; 3] = ["Reduce", "Reduce by list", "Mark"];
@@ -173,6 +174,7 @@ impl Tally {
         }
         let unseen = WANTED.iter().filter(|&&what| self.count(what) == 0);
         missing.extend(unseen.map(|what| format!("never: {what}")));
+        missing.extend(measures::missing(self));
         missing
     }
 

@@ -19,7 +19,7 @@ use Rattle.links.specs.Flat.{insideFlat}
 use Rattle.links.specs.Parallel.{nearbyParallel}
 use Rattle.links.specs.Sums.{addedTo, sumOf, ascendingSum, distanceSum}
 
-abbrev span : ℕ → ℕ → ℕ → ℕ → Span
+abbrev pub span : ℕ → ℕ → ℕ → ℕ → Span
 span ax ay bx by = record { a = record { x = ax; y = ay }; b = record { x = bx; y = by } }
 
 abbrev first : Span

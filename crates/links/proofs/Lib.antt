@@ -2,6 +2,7 @@ pub mod Constants
 pub mod Distances
 pub mod Cells
 mod Cases
+mod Slanted
 pub mod Numbers
 mod Squares
 mod Alike
