@@ -8,3 +8,4 @@ mod NumberLaws
 mod MapLaws
 mod CountLaws
 pub mod LabelWords
+pub mod PartitionAreas

@@ -12,7 +12,10 @@ mod parents; // the parents of cells: start, find, join
 mod steps; // joins the cells that the open bytes say are joined
 mod numbers; // labels in row order
 mod counts; // what is read from labels, and zeros
+mod area; // one area: its label, and how many cells have it
 
+pub use area::PartitionArea;
+pub use area::partition_area;
 pub use counts::count_cells;
 pub use counts::zero_fill;
 use numbers::number;

@@ -9,3 +9,4 @@ pub mod BaseTrips
 pub mod JobTrip
 pub mod AnswerTrip
 pub mod JobFormed
+pub mod RampSides

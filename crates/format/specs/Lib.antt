@@ -6,3 +6,4 @@ pub mod Values
 pub mod Encode
 pub mod Decode
 pub mod Fits
+pub mod RampSides

@@ -1,5 +1,6 @@
 // The records of jobs, lists and answers (document 01, 'The three calls'; values of source document 003), and their readers.
 mod header;
+mod ramps;
 mod records;
 
 // Bytes of the header and of each record.
@@ -45,6 +46,8 @@ pub use header::Offsets;
 pub use header::read_counts;
 pub use header::read_header;
 pub use header::read_offsets;
+pub use ramps::RampEnd;
+pub use ramps::RampSide;
 pub use records::BaseRecord;
 pub use records::BoundaryRecord;
 pub use records::ObservationRecord;

@@ -6,3 +6,4 @@ pub mod StepList
 pub mod Eight
 pub mod Walkable
 pub mod Cases
+pub mod OnMap

@@ -31,6 +31,9 @@ cellAt g i = getD (g .cells) i 0
 unfoldable pub walkable : Grid → ℕ → Bool
 walkable g i = eqb (cellAt g i % 2) 1
 
+unfoldable pub buildable : Grid → ℕ → Bool
+buildable g i = eqb (cellAt g i / 2 % 2) 1
+
 unfoldable pub rampCell : Grid → ℕ → Bool
 rampCell g i = eqb (cellAt g i / 4 % 2) 1
 

@@ -2,3 +2,4 @@ pub mod Cells
 pub mod Directions
 pub mod Steps
 pub mod Eight
+pub mod Index

@@ -2,7 +2,7 @@
 ghost use mathlib.Core.Path.{_≡_};
 ghost use Prim.Native.Nat.{ℕ, _<_, _≤_};
 ghost use lib.ListN.{length};
-ghost use Rattle.grid.specs.Cells.{Grid, cellAt, walkable, rampCell, elevation, indexOf, columnOf, rowOf};
+ghost use Rattle.grid.specs.Cells.{Grid, cellAt, walkable, buildable, rampCell, elevation, indexOf, columnOf, rowOf};
 use position::WalkPosition;
 
 // Bit 0 of a cell's byte.
@@ -18,6 +18,13 @@ pub fn walkable_at(cells: &[u8], i: u32) -> bool
     ensures { λ r. ⌜ ((g : Grid) → g .cells ≡ now (cells .entry) → r ≡ walkable g i) ⌝ }
 {
     is_walkable(cells[i as usize])
+}
+
+// Bit 1, which none of the rules reads.
+pub fn is_buildable(cell: u8) -> bool
+    ensures { λ r. ⌜ ((g : Grid) (i : ℕ) → cellAt g i ≡ cell → r ≡ buildable g i) ⌝ }
+{
+    cell / 2 % 2 == 1
 }
 
 // Bit 2.

@@ -7,3 +7,4 @@ pub mod Cases
 pub mod Counting
 pub mod Bases
 pub mod CountLoop
+pub mod ElevationBits

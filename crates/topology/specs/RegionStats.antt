@@ -1,6 +1,6 @@
 -- Statistics of a region, as `RegionStats` of 001 has them: over all cells that have its label.
 use mathlib.Core.Path.{_≡_}
-use mathlib.Core.Bool.{Bool, false}
+use mathlib.Core.Bool.{Bool, false, cond}
 use mathlib.Core.List.{List, [], _∷_, map, List·Memᴰ}
 use Prim.Native.Nat.{ℕ, _+_, _*_}
 use lib.Dec.{ltb, eqb}
@@ -54,6 +54,15 @@ noStats = record { cells = 0; minX = 0; minY = 0; maxX = 0; maxY = 0; hasRamp = 
 unfoldable pub elevations : RegionStats → ℕ
 unfolding keep
 elevations s = length (keep (ltb 0) (s .elevationCounts))
+
+-- 001's set of elevations: bit e is set if a cell has elevation e
+unfoldable pub bitsOf : List ℕ → ℕ
+bitsOf [] = 0
+bitsOf (n ∷ ns) = cond (ltb 0 n) 1 0 + 2 * bitsOf ns
+
+unfoldable pub elevationBits : RegionStats → ℕ
+unfolding bitsOf
+elevationBits s = bitsOf (s .elevationCounts)
 
 -- the meaning of 1: the region has a cell, and all its cells are of one elevation
 pub record OneElevation (g : Grid) (ls : List ℕ) (r : ℕ) : Type 0 where

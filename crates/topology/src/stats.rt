@@ -4,7 +4,7 @@ ghost use mathlib.Core.Bool.{cond};
 ghost use Prim.Native.Nat.{ℕ, _*_, _/_, _%_, _<_, _≤_, max};
 ghost use lib.ListN.{length};
 ghost use Rattle.areas.specs.Words.{labelsIn};
-ghost use Rattle.topology.specs.RegionStats.{elevations, regionStats};
+ghost use Rattle.topology.specs.RegionStats.{elevationBits, elevations, regionStats};
 ghost use Rattle.topology.specs.Held.{Room, statsIn, one, lesser, withCell, NoCells};
 use wire::read_u32;
 
@@ -90,6 +90,16 @@ impl RegionStats {
             + one(0 < self.level_1)
             + one(0 < self.level_2)
             + one(0 < self.level_3)
+    }
+
+    // The set of elevations that occur, bit e for elevation e.
+    pub fn elevation_bits(self) -> u32
+        ensures { λ r. ⌜ r ≡ elevationBits (statsIn self) ⌝ }
+    {
+        one(0 < self.level_0)
+            + 2 * one(0 < self.level_1)
+            + 4 * one(0 < self.level_2)
+            + 8 * one(0 < self.level_3)
     }
 }
 

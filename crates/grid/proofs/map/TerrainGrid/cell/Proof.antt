@@ -1,0 +1,20 @@
+use mathlib.Core.Path.{_∙_}
+use borrow.Author.Needs.{needs}
+use Rattle.grid.specs.Index.{indexIn}
+use Rattle.grid.proofs.OnMap.{byte-on}
+use Rattle.grid.proofs.map.TerrainGrid.cell.Statement.{statement}
+use Rattle.grid.proofs.map.TerrainGrid.cell.Tie as tie
+
+index-requires : tie.Need-index-requires
+index-requires c κs = search needs
+
+byte-of-requires : tie.Need-byte-of-requires
+byte-of-requires c κs = search needs
+
+returns : tie.Need-returns
+returns c = λ g w h e.
+    let start = c .before .before .before in
+    c .byte-of .ensures ∙ byte-on g (start .args .position) (start .args .cells .now) (indexIn (c .before .index .result)) e (c .before .index .ensures g w h)
+
+pub cell-spec : {M : Type 1} → statement M
+cell-spec = tie.close (tie.spec index-requires byte-of-requires returns)

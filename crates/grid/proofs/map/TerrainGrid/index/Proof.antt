@@ -1,0 +1,49 @@
+use mathlib.Core.Path.{_≡_, sym, _∙_, ap}
+use mathlib.Core.Option.{some}
+use Prim.Native.Nat.{_+_, _*_, _≤_}
+use native.Mathlib.Omega.{arith}
+use native.Mathlib.Nat.{mul-le-mul}
+use borrow.Author.Needs.{needs}
+use Rattle.grid.proofs.OnMap.{past-columns, past-rows, on-map}
+use Rattle.grid.proofs.map.TerrainGrid.index.Statement.{statement}
+use Rattle.grid.proofs.map.TerrainGrid.index.Tie as tie
+
+returns : tie.Need-returns
+returns c = λ g e f. past-columns g (c .before .args .position) (omega arith)
+
+returns-2 : tie.Need-returns-2
+returns-2 c = λ g e f. past-rows g (c .before .before .args .position) (omega arith)
+
+wide-requires : tie.Need-wide-requires
+wide-requires c κs = search needs
+
+wide-requires-2 : tie.Need-wide-requires-2
+wide-requires-2 c κs = search needs
+
+mul-t10 : tie.Need-mul-t10
+mul-t10 c =
+    let y : c .before .wide .result ≤ 4294967295 = omega (arith, c .before .wide .ensures .1) in
+    let w : c .wide2 .result ≤ 4294967295 = omega (arith, c .wide2 .ensures .1) in
+    omega (arith, mul-le-mul y w)
+
+wide-requires-3 : tie.Need-wide-requires-3
+wide-requires-3 c κs = search needs
+
+add-t12 : tie.Need-add-t12
+add-t12 c =
+    let y : c .before .before .wide .result ≤ 4294967295 = omega (arith, c .before .before .wide .ensures .1) in
+    let w : c .before .wide2 .result ≤ 4294967295 = omega (arith, c .before .wide2 .ensures .1) in
+    omega (arith, mul-le-mul y w, c .wide3 .ensures .1)
+
+returns-3 : tie.Need-returns-3
+returns-3 c = λ g e f.
+    let start = c .before .before .before .before .before in
+    let p = start .args .position in
+    let x = c .wide3 .ensures .0 in
+    let w = c .before .wide2 .ensures .0 ∙ sym e in
+    let y = c .before .before .wide .ensures .0 in
+    let z : some (c .before .before .wide .result * c .before .wide2 .result + c .wide3 .result) ≡ some (p .y * g .width + p .x) = rw (x, w, y) in
+    z ∙ on-map g p (omega arith) (omega arith)
+
+pub index-spec : {M : Type 1} → statement M
+index-spec = tie.close (tie.spec returns returns-2 wide-requires wide-requires-2 mul-t10 wide-requires-3 add-t12 returns-3)
