@@ -82,7 +82,7 @@ is-beyond : (s : Assessment) (r x : ℕ) → FullPair s → Beyond s r x → oth
 is-beyond s r x f b = is-other (fullPair s) r x (rw (pair-only s f (b .pair) .0 (b .own)) at (b .other))
 
 -- a number is one of two, or neither
-one-of-three : {X : Type 0} (i m n : ℕ) → (i ≡ m → X) → (i ≡ n → X) → ((i ≡ m → ⊥) → (i ≡ n → ⊥) → X) → X
+pub one-of-three : {X : Type 0} (i m n : ℕ) → (i ≡ m → X) → (i ≡ n → X) → ((i ≡ m → ⊥) → (i ≡ n → ⊥) → X) → X
 one-of-three i m n f h k =
     by-test (eqb i m) (λ e. f (eqb-true i m e)) (λ d. by-test (eqb i n) (λ e. h (eqb-true i n e)) (λ e. k (eqb-false i m d) (eqb-false i n e)))
 

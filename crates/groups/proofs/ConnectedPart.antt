@@ -24,6 +24,10 @@ joins-iff k i = either-iff i (k .first) (k .second)
 same-group : (a b : Group) → a .ranks ≡ b .ranks → a .links ≡ b .links → a ≡ b
 same-group a b e f = λ i. record { ranks = e i; links = f i }
 
+-- a link of a part is a link of the rule
+pub part-link : {L : LinkAt → Type 0} {a : Group} → ConnectedPart L a → (k : LinkAt) → LinkOf a k → L k
+part-link p k h = p .links (k .first) (p .ranks (k .first) .1 (k, h, inl refl)) k .0 h .0
+
 -- connected parts that have a rank in common are one
 pub part-same : {L : LinkAt → Type 0} {a b : Group} → ConnectedPart L a → ConnectedPart L b → (i : ℕ) → List·Memᴰ i (a .ranks) → List·Memᴰ i (b .ranks) → a ≡ b
 part-same {L} {a} {b} p q i m n = same-group a b ranks links
@@ -132,6 +136,6 @@ module _ {L : LinkAt → Type 0} (n : ℕ) (ks : List LinkAt) (is : (k : LinkAt)
       from p =
           let i = p .link .first in
           let mine = p .ranks i .1 (p .link, p .has, inl refl) in
-          let h = is (p .link) .1 (p .links i mine (p .link) .0 (p .has) .0) in
+          let h = is (p .link) .1 (part-link p (p .link) (p .has)) in
           let b = group-covers n ks i (inside (p .link) h .0) (joined n ks h .0) in
           subst (λ (x : Group). List·Memᴰ x (groupsOf n ks)) (part-same (group-is-part (b .1)) p i (b .2) mine) (b .1)

@@ -14,3 +14,4 @@ pub mod Chain
 pub mod SerialGroup
 pub mod FlatGroup
 pub mod Retains
+pub mod Row

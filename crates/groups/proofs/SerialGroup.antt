@@ -33,7 +33,7 @@ use Rattle.groups.proofs.Tests.{every-mem, mem-every}
 use Rattle.groups.proofs.Links.{links-rising}
 use Rattle.groups.proofs.SimplePath.{simple-path-iff}
 use Rattle.groups.proofs.LinkRule.{gives-iff}
-use Rattle.groups.proofs.ConnectedPart.{parts-iff}
+use Rattle.groups.proofs.ConnectedPart.{part-link, parts-iff}
 use Rattle.groups.proofs.Chain.{path-chain, chain-ends, chain-path}
 
 module _ (dirs : List ℕ) (g : Grid) (anchors : List WalkPosition) (l : List Item) where
@@ -55,7 +55,7 @@ module _ (dirs : List ℕ) (g : Grid) (anchors : List WalkPosition) (l : List It
   -- a connected part of links is a simple path exactly if it is a chain, with the ends that are searched for
   module _ (limits : Limits) {L : LinkAt → Type 0} (gives : (k : LinkAt) → L k → Gives dirs g anchors l k) (least : ℕ) {a : Group} (p : ConnectedPart L a) where
     part-full : (k : LinkAt) → LinkOf a k → (i : ℕ) → Joins k i → FullPair (assessAt dirs g l i) × Touches (assessAt dirs g l i) (k .region)
-    part-full k h i e = gives-full (gives k (p .links i (p .ranks i .1 (k, h, e)) k .0 h .0)) i e
+    part-full k h i e = gives-full (gives k (part-link p k h)) i e
 
     pub simple-chain : simplePath limits dirs g l least a ≡ true → Chain limits dirs g l least a
     simple-chain h = path-chain a (p .by-region) (p .ascending) limits dirs g l least part-full (simple-path-iff limits dirs g l least a .0 h)

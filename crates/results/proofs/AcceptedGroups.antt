@@ -1,18 +1,21 @@
 -- The accepted groups are just those of document 01, serial ones before flat ones.
-use mathlib.Core.Path.{_≡_, refl, sym, _∙_, subst}
+use mathlib.Core.Path.{_≡_, refl, sym, ap, _∙_, subst}
 use mathlib.Core.Logic.{_↔_, inl, inr, ⊎-elim}
 use mathlib.Core.Bool.{false}
-use mathlib.Core.List.{List, [], map, List·Memᴰ, List·Memᴰ·not-nil, List·Memᴰ·append-cases, Memᴰ·append-left, Memᴰ·append-right, Memᴰ·map, Memᴰ·of-map}
-use Prim.Native.Nat.{ℕ, _≤_}
+use mathlib.Core.List.{List, [], _∷_, map, zipWith, List·Memᴰ, List·Memᴰ·head, List·Memᴰ·tail, List·Memᴰ·not-nil, List·Memᴰ·append-cases}
+use mathlib.Core.List.{Memᴰ·append-left, Memᴰ·append-right, Memᴰ·map, Memᴰ·of-map, Permᴰ·symm}
+use Prim.Native.Nat.{ℕ, zero, suc, _≤_}
+use native.Mathlib.Omega.{arith}
 use borrow.Author.Tests.{eqb-true, eq-eqb}
 use lib.Dec.{eqb}
 use lib.ListN.{length}
 use Rattle.order.specs.Pairs.{Pairs, none}
 use Rattle.order.proofs.Bools.{by-test}
+use Rattle.order.proofs.Members.{perm-mem}
 use Rattle.order.proofs.Pairs.{pairs-all, pairs-append, pairs-imp, pairs-map, pairs-mem}
 use Rattle.position.specs.declared.Span.{Span}
 use Rattle.format.specs.Bounds.{maxWidthBits}
-use Rattle.format.specs.Values.{Job}
+use Rattle.format.specs.Values.{Boundary, Job}
 use Rattle.topology.specs.Anchors.{anchorsOf}
 use Rattle.topology.specs.Listing.{Item}
 use Rattle.links.specs.Limits.{Limits}
@@ -25,14 +28,32 @@ use Rattle.groups.specs.Representative.{retained, IsRetained}
 use Rattle.groups.specs.ConnectedPart.{ConnectedPart}
 use Rattle.groups.specs.Retains.{Retains}
 use Rattle.groups.proofs.Representative.{Tolerant, some-eligible}
+use Rattle.groups.proofs.Accepted.{groups-disjoint}
+use Rattle.groups.proofs.Listing.{listing-perm}
+use Rattle.groups.proofs.ConnectedPart.{part-link}
 use Rattle.groups.proofs.SerialGroup.{serial-iff}
 use Rattle.groups.proofs.FlatGroup.{flat-iff}
 use Rattle.groups.proofs.Retains.{retains-iff}
-use Rattle.merging.specs.Groups.{Group, every}
-use Rattle.merging.specs.Runs.{Run, groupsOf}
+use Rattle.merging.specs.Groups.{Group, every, Disjoint}
+use Rattle.merging.specs.Copies.{canon}
+use Rattle.merging.specs.Runs.{Run, itemOf, itemsOf, canonItem, groupsOf}
 use Rattle.results.specs.Rules.{gridOf, listingOf, groupOf, rulesOf}
-use Rattle.results.specs.AcceptedGroups.{SerialRanks, FlatRanks, AcceptedGroup}
+use Rattle.results.specs.AcceptedGroups.{SerialRanks, FlatRanks, AcceptedGroup, AcceptedGroups}
 use Rattle.results.proofs.Rules.{every-group}
+
+-- an item's boundary is one of the run's
+item-boundary : (bs : List Boundary) (ss : List Span) {i : Item} → List·Memᴰ i (zipWith itemOf bs ss) → List·Memᴰ (i .boundary) bs
+unfolding zipWith
+item-boundary [] ss m = absurd (List·Memᴰ·not-nil m)
+item-boundary (b ∷ bs) [] m = absurd (List·Memᴰ·not-nil m)
+item-boundary (b ∷ bs) (s ∷ ss) (List·Memᴰ·head e) = List·Memᴰ·head (ap (λ (i : Item). i .boundary) e)
+item-boundary (b ∷ bs) (s ∷ ss) (List·Memᴰ·tail m) = List·Memᴰ·tail (item-boundary bs ss m)
+
+-- past the last item the width is 0
+at-width : (is : List Item) (i : ℕ) → ((x : Item) → List·Memᴰ x is → x .boundary .bits ≤ maxWidthBits) → bitsAt is i ≤ maxWidthBits
+at-width [] i f = omega arith
+at-width (x ∷ xs) zero f = f x (List·Memᴰ·head refl)
+at-width (x ∷ xs) (suc i) f = at-width xs i (λ y m. f y (List·Memᴰ·tail m))
 
 module _ (limits : Limits) (dirs : List ℕ) (j : Job) (ss : List Span) where
   abbrev l : List Item
@@ -132,31 +153,44 @@ module _ (limits : Limits) (dirs : List ℕ) (j : Job) (ss : List Span) where
       let p = f .flat .part in
       let k = p .link in
       let mine = p .ranks (k .first) .1 (k, p .has, inl refl) in
-      p .links (k .first) mine k .0 (p .has) .0 .first-left (s .group) (s .serial)
+      part-link p k (p .has) .first-left (s .group) (s .serial)
       (subst (λ (js : List ℕ). List·Memᴰ (k .first) js) (f .own ∙ sym (s .own)) mine)
 
-  -- "Serial groups … come first": what stands before a serial one is one
-  pub serial-first : Pairs (λ (g h : Group). SerialRanks limits dirs j ss (h .ranks) → SerialRanks limits dirs j ss (g .ranks))
-      (every (groupsOf (rulesOf limits dirs j) (record { boundaries = j .boundaries; spans = ss })))
-  unfolding accepted
-  serial-first =
+  -- what holds of every two groups of the listing
+  chosen-pairs : (R : Group → Group → Type 0) → Pairs (λ (a b : Link.Group). R (groupOf limits l a) (groupOf limits l b)) all → Pairs R chosen
+  chosen-pairs R p =
       by-test (eqb (length (j .boundaries)) (length ss))
-      (λ h. rw (chosen-matched (eqb-true (length (j .boundaries)) (length ss) h)) (pairs-map (groupOf limits l) (λ a b f. f) listed))
+      (λ h. rw (chosen-matched (eqb-true (length (j .boundaries)) (length ss) h)) (pairs-map (groupOf limits l) (λ a b r. r) p))
       (λ h. rw (chosen-differ h) none)
-    where
-      before : Link.Group → Link.Group → Type 0
-      before a b = SerialRanks limits dirs j ss (b .ranks) → SerialRanks limits dirs j ss (a .ranks)
 
+  serials-first : Pairs (λ (a b : Link.Group). SerialRanks limits dirs j ss (b .ranks) → SerialRanks limits dirs j ss (a .ranks)) all
+  unfolding accepted
+  serials-first =
+      pairs-append (pairs-imp (λ a b p s. serial-ranks a (p .1)) (members serials))
+      (pairs-imp (λ a b p s. absurd (kinds-apart (b .ranks) s (flat-ranks b (p .2)))) (members flats))
+      (λ a b m n s. serial-ranks a m)
+    where
       members : (gs : List Link.Group) → Pairs (λ (a b : Link.Group). Unit {0} × List·Memᴰ a gs × List·Memᴰ b gs) gs
       members gs = pairs-mem (pairs-all (λ a b. tt) gs)
 
-      listed : Pairs before all
-      listed =
-          pairs-append (pairs-imp (λ a b p s. serial-ranks a (p .1)) (members serials))
-          (pairs-imp (λ a b p s. absurd (kinds-apart (b .ranks) s (flat-ranks b (p .2)))) (members flats))
-          (λ a b m n s. serial-ranks a m)
+  -- the groups that the rules give are the accepted ones
+  pub accepted-groups : AcceptedGroups limits dirs j ss (every (groupsOf (rulesOf limits dirs j) (record { boundaries = j .boundaries; spans = ss })))
+  accepted-groups = record {
+    each = accepted-iff;
+    apart = chosen-pairs Disjoint (groups-disjoint limits dirs (gridOf j) (anchorsOf (j .bases)) l);
+    serial-first = chosen-pairs (λ g h. SerialRanks limits dirs j ss (h .ranks) → SerialRanks limits dirs j ss (g .ranks)) serials-first;
+  }
 
-  -- with the widths of a job the kept member is the one of 000's `representative`
-  pub accepted-representative : Tolerant limits → (g : Group) → ((i : ℕ) → List·Memᴰ i (g .ranks) → bitsAt (listingOf j ss) i ≤ maxWidthBits) →
-      AcceptedGroup limits dirs j ss g → IsRetained limits (listingOf j ss) (g .ranks) (g .retained)
-  accepted-representative o g h w = let e = some-eligible o l (g .ranks) h (w .retains .mine) in w .retains .named (e .0) (e .1)
+  -- what holds of the boundaries' widths holds of those of the listing
+  listed-width : ((b : Boundary) → List·Memᴰ b (j .boundaries) → b .bits ≤ maxWidthBits) → (i : Item) → List·Memᴰ i l → i .boundary .bits ≤ maxWidthBits
+  unfolding itemsOf canonItem canon
+  listed-width h i m =
+      let w = Memᴰ·of-map canonItem (itemsOf run) (perm-mem (Permᴰ·symm (listing-perm (map canonItem (itemsOf run)))) m) in
+      subst (λ (x : Item). x .boundary .bits ≤ maxWidthBits) (w .2) (h (w .0 .boundary) (item-boundary (j .boundaries) ss (w .1)))
+
+  -- "with widths that pass" the kept member is the one of 000's `representative`
+  pub accepted-representative : Tolerant limits → ((b : Boundary) → List·Memᴰ b (j .boundaries) → b .bits ≤ maxWidthBits) →
+      (g : Group) → AcceptedGroup limits dirs j ss g → IsRetained limits (listingOf j ss) (g .ranks) (g .retained)
+  accepted-representative o h g w =
+      let e = some-eligible o l (g .ranks) (λ i m. at-width l i (listed-width h)) (w .retains .mine) in
+      w .retains .named (e .0) (e .1)
