@@ -45,7 +45,7 @@ no-groups-every = refl
 
 module _ (limits : Limits) (dirs : List ℕ) where
   module _ (m : Made limits dirs) where
-    abbrev given : List ℕ
+    abbrev pub given : List ℕ
     given = answerOf limits dirs (jobOf (m .call)) (spansOf (m .call))
 
     made : m .after ≡ record { number = 0; detail = length given; work = labelled (labelsOf dirs (jobOf (m .call)) (spansOf (m .call))) (m .work); out = splice (m .answer) 0 given }
@@ -54,7 +54,7 @@ module _ (limits : Limits) (dirs : List ℕ) where
         let a = m .accepted in
         m .promised ∙ reduced-success limits dirs (checksOf (m .call)) (jobOf (m .call)) (spansOf (m .call)) (m .work) (m .answer) (a .input) (a .room) (a .pairs) (a .fits)
 
-    wrote-answer : wrote limits dirs m ≡ given
+    pub wrote-answer : wrote limits dirs m ≡ given
     wrote-answer = ap (λ (o : Outcome). take (o .detail) (o .out)) made ∙ first-written (m .answer) given
 
     succeeded : m .after .number ≡ 0

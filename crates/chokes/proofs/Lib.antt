@@ -3,3 +3,10 @@ pub mod Markable
 pub mod Copying
 pub mod Marked
 pub mod Finishing
+pub mod WorkLeft
+pub mod DemandOne
+pub mod RecordPairs
+pub mod DemandTwo
+pub mod Answers
+pub mod Making
+pub mod Instance

@@ -1,11 +1,14 @@
 -- Small runs, by computing.
 use mathlib.Core.Path.{_≡_, refl, _∙_, ap}
-use mathlib.Core.List.{List, [], _∷_, map, flatMap}
-use Prim.Native.Nat.{ℕ}
-use lib.ListN.{length}
+use mathlib.Core.List.{List, [], _∷_, map, flatMap, List·Memᴰ, List·Memᴰ·head, List·Memᴰ·tail, List·Memᴰ·not-nil, List·Memᴰ·eq-of-singleton}
+use Prim.Native.Nat.{ℕ, _<_}
+use native.Mathlib.Omega.{arith}
+use lib.ListN.{length, getD}
 use Rattle.order.specs.Sorting.{sort, insert, sortOnce, include}
 use Rattle.order.specs.Keys.{lexLe}
 use Rattle.order.specs.Lists.{gather, upFrom, has}
+use Rattle.order.specs.Pairs.{Pairs, more}
+use Rattle.order.specs.Pairs as Pairs
 use Rattle.position.specs.Order.{posLe, canonical}
 use Rattle.position.specs.declared.Span.{Span}
 use Rattle.format.specs.Values.{Ramp, Observation, Boundary}
@@ -17,9 +20,11 @@ use Rattle.length.specs.Total.{totalKey}
 use Rattle.merging.specs.Keys.{sourceKey, sourcesKey, observationKey}
 use Rattle.merging.specs.Copies.{canonObservation, canon, copiesOf}
 use Rattle.merging.specs.Consolidation.{orItself, observed, consolidate}
-use Rattle.merging.specs.Groups.{Groups, noGroups, every}
-use Rattle.merging.specs.Kept.{membersOf, consolidated, slot, kept}
+use Rattle.merging.specs.Groups.{Group, Groups, noGroups, every, Good, WellGrouped}
+use Rattle.merging.specs.Kept.{noBoundary, copyAt, membersOf, consolidated, slot, kept}
 use Rattle.merging.specs.Runs.{reduceRun, groupsOf, keptOf, rulesAnswer}
+use Rattle.merging.specs.Follows.{Follows}
+use Rattle.merging.proofs.Following.{follows, follows-unique}
 
 abbrev span : ℕ → ℕ → ℕ → ℕ → Span
 span a b c d = record { a = record { x = a; y = b }; b = record { x = c; y = d } }
@@ -114,3 +119,38 @@ twoPairs items = record { serial = record { ranks = 0 ∷ 3 ∷ []; retained = 3
 two-groups : map (λ (b : Boundary). b .bits) (keptOf twoPairs (reduceRun (wide (span 0 0 0 8) 1 ∷ wide (span 1 0 1 8) 2 ∷ wide (span 2 0 2 8) 3 ∷ wide (span 3 0 3 8) 4 ∷ []))) ≡ 2 ∷ 4 ∷ []
 unfolding keptOf groupsOf every kept slot consolidated consolidate copiesOf canon canonObservation canonical posLe endsKey spanKey sort insert lexLe gather upFrom has
 two-groups = refl
+
+-- Three boundaries with equal ends, the first and the last merged into the last: what is kept follows the rules, and the list that has the merged one
+-- at its group's first rank does not, for it counts as its retained member.
+abbrev equals : List Boundary
+equals = wide (span 0 0 0 8) 1 ∷ wide (span 0 0 0 8) 2 ∷ wide (span 0 0 0 8) 3 ∷ []
+
+abbrev outer : Group
+outer = record { ranks = 0 ∷ 2 ∷ []; retained = 2 }
+
+outer-well : WellGrouped (length (copiesOf equals)) (outer ∷ [])
+unfolding copiesOf canon canonical posLe endsKey spanKey sort insert lexLe
+outer-well = record { good = λ g m. good g (List·Memᴰ·eq-of-singleton m); apart = more (λ h m. absurd (List·Memᴰ·not-nil m)) Pairs.none }
+  where
+    below : (i : ℕ) → List·Memᴰ i (0 ∷ 2 ∷ []) → i < 3
+    below i (List·Memᴰ·head e) = omega arith
+    below i (List·Memᴰ·tail (List·Memᴰ·head e)) = omega arith
+
+    later : (j : ℕ) → List·Memᴰ j (2 ∷ []) → 0 < j
+    later j m = let e : j ≡ 2 = List·Memᴰ·eq-of-singleton m in omega arith
+
+    ascending : Pairs (λ i j. i < j) (0 ∷ 2 ∷ [])
+    ascending = more {x = 0} later (more (λ j m. absurd (List·Memᴰ·not-nil m)) Pairs.none)
+
+    good : (g : Group) → g ≡ outer → Good 3 g
+    good g e = rw e (record { ascending = ascending; below = below; mine = List·Memᴰ·tail (List·Memᴰ·head refl) })
+
+abbrev atFirst : List Boundary
+atFirst = consolidated (copiesOf equals) outer ∷ copyAt (copiesOf equals) 1 ∷ []
+
+at-first-refused : Follows equals (outer ∷ []) atFirst → ⊥
+unfolding kept slot consolidated consolidate copiesOf canon canonObservation canonical posLe endsKey spanKey sort insert lexLe gather upFrom has
+at-first-refused f =
+    let e : atFirst ≡ kept (copiesOf equals) (outer ∷ []) = follows-unique equals (outer ∷ []) outer-well f (follows equals (outer ∷ []) outer-well) in
+    let z : _≡_ {A = ℕ} 3 2 = ap (λ (l : List Boundary). getD l 0 noBoundary .bits) e in
+    omega arith

@@ -6,6 +6,7 @@ use native.Mathlib.Decide.{ℕ-discrete}
 use borrow.Author.Tests.{eq-eqb, ne-eqb}
 use lib.ListN.{length, length-map}
 use Rattle.order.specs.Pairs.{Pairs, none}
+use Rattle.format.specs.Values.{Boundary}
 use Rattle.format.specs.Encode.{encodeAnswer}
 use Rattle.topology.specs.Listing.{Item, listing}
 use Rattle.merging.specs.Copies.{copiesOf}
@@ -15,7 +16,7 @@ use Rattle.merging.specs.Follows.{Follows}
 use Rattle.merging.specs.Relisted.{Relisted, DistinctEnds}
 use Rattle.merging.specs.Sources.{SameSources}
 use Rattle.merging.specs.Demand.{Independent}
-use Rattle.merging.proofs.Kept.{follows}
+use Rattle.merging.proofs.Following.{follows, follows-unique}
 use Rattle.merging.proofs.Ends.{Unlike, distinct-unlike}
 use Rattle.merging.proofs.Listings.{listing-copies, copies-perm, copies-sorted, copies-apart, relisted-copies, relisted-unlike, same-copies, same-groups}
 use Rattle.merging.proofs.Merges.{merged-exact, finished}
@@ -33,8 +34,13 @@ module _ (rules : List Item → Groups) (well : (items : List Item) → WellGrou
       (λ e. rw (ne-eqb (length (r .boundaries)) (length (r .spans)) e) (record { good = λ g m. absurd (List·Memᴰ·not-nil m); apart = none }))
 
   -- Of every run.
-  pub kept-follows : (r : Run) → Follows (r .boundaries) (every (groupsOf rules r))
+  pub kept-follows : (r : Run) → Follows (r .boundaries) (every (groupsOf rules r)) (keptOf rules r)
+  unfolding keptOf
   kept-follows r = follows (r .boundaries) (every (groupsOf rules r)) (groups-well r)
+
+  -- And no other list follows them.
+  pub kept-only : (r : Run) (l : List Boundary) → Follows (r .boundaries) (every (groupsOf rules r)) l → l ≡ keptOf rules r
+  kept-only r l f = follows-unique (r .boundaries) (every (groupsOf rules r)) (groups-well r) f (kept-follows r)
 
   pub run-sources : (r : Run) → SameSources (r .boundaries) (keptOf rules r)
   unfolding keptOf

@@ -1,16 +1,17 @@
--- The kept boundaries follow the rules.
+-- What is kept, rank by rank.
 use mathlib.Core.Path.{_≡_, refl, sym, _∙_, ap}
 use mathlib.Core.Bool.{Bool, true, false, cond, not, _||_}
-use mathlib.Core.List.{List, [], _∷_, _++_, map, map-map, List·Memᴰ, List·Memᴰ·head, List·Memᴰ·tail, List·Memᴰ·not-nil, List·Memᴰ·eq-of-singleton, List·Permᴰ, List·Permᴰ·cons, List·Permᴰ·trans, Permᴰ·middle, Permᴰ·append-left}
+use mathlib.Core.List.{List, [], _∷_, _++_, map, map-map, List·Memᴰ, List·Memᴰ·head, List·Memᴰ·tail, List·Memᴰ·not-nil, List·Memᴰ·eq-of-singleton, List·Permᴰ}
+use mathlib.Core.List.{List·Permᴰ·cons, List·Permᴰ·trans, Permᴰ·middle, Permᴰ·append-left}
 use Prim.Native.Nat.{ℕ, _<_}
 use native.Mathlib.Omega.{arith}
 use borrow.Author.Tests.{eqb-true, eq-eqb, ne-eqb}
 use lib.Dec.{eqb}
-use lib.ListN.{length, getD, length-map}
+use lib.ListN.{length, getD}
 use Rattle.order.specs.Keys.{byKey}
 use Rattle.order.specs.Lists.{keep, gather, upFrom, has}
 use Rattle.order.specs.Pairs.{Pairs, none, more}
-use Rattle.order.proofs.Pairs.{pairs-imp, pairs-mem, pairs-at}
+use Rattle.order.proofs.Pairs.{pairs-imp, pairs-mem}
 use Rattle.order.proofs.Keep.{keep-all, keep-keep, keep-pairs, mem-keep}
 use Rattle.order.proofs.Gather.{gather-pairs}
 use Rattle.order.proofs.Numbers.{up-mem, mem-up, up-strict, mem-has}
@@ -24,7 +25,7 @@ use Rattle.merging.specs.Copies.{canon, copiesOf}
 use Rattle.merging.specs.Consolidation.{consolidate}
 use Rattle.merging.specs.Groups.{Group, inAny, unmerged, Disjoint, WellGrouped}
 use Rattle.merging.specs.Kept.{noBoundary, copyAt, consolidated, slot, kept}
-use Rattle.merging.specs.Follows.{replaced, Earlier, placesOf, Follows}
+use Rattle.merging.specs.Follows.{replaced, Earlier, placesOf}
 use Rattle.merging.proofs.Lists.{perm-eq}
 use Rattle.merging.proofs.Copies.{key-canon}
 use Rattle.merging.proofs.Groups.{retained-below, outside, disjoint-symm}
@@ -124,22 +125,6 @@ module _ (bs : List Boundary) where
       sort-map canon (byKey endsKey) (byKey endsKey) (λ b c. rw (key-canon b, key-canon c)) bs
       ∙ (ap (map canon) (sort-places (byKey endsKey) bs noBoundary) ∙ map-map canon (λ i. getD bs i noBoundary) (placesOf bs))
 
-  places-order : Pairs (Earlier bs) (placesOf bs)
+  pub places-order : Pairs (Earlier bs) (placesOf bs)
   unfolding placesOf
   places-order = sort-stable (key-preorder (λ i. endsKey (getD bs i noBoundary))) (up-strict 0 (length bs))
-
-  pub places-length : length (copiesOf bs) ≡ length (placesOf bs)
-  places-length = ap length copies-places ∙ length-map (placesOf bs) (λ i. canon (getD bs i noBoundary))
-
-  pub follows : (gs : List Group) → WellGrouped (length (copiesOf bs)) gs → Follows bs gs
-  follows gs w = record {
-    ranks = copies-places;
-    whole = kept-whole (copiesOf bs) gs w;
-    order = kept-pairs (copiesOf bs) gs (λ i j h k b c m n. record {
-      first = getD (placesOf bs) i 0;
-      second = getD (placesOf bs) j 0;
-      this = record { rank = i; below = omega arith; there = m; named = refl };
-      that = record { rank = j; below = k; there = n; named = refl };
-      earlier = pairs-at 0 places-order i j h (rw (← places-length) k);
-    });
-  }

@@ -5,6 +5,7 @@ pub mod Copies
 pub mod Consolidation
 pub mod Groups
 pub mod Kept
+pub mod Following
 pub mod Planned
 pub mod Ends
 pub mod Listings
@@ -13,4 +14,6 @@ pub mod Merges
 pub mod Exists
 pub mod Sources
 pub mod Independence
+pub mod Most
+pub mod Fitting
 pub mod Cases

@@ -35,7 +35,7 @@ module _ (limits : Limits) (dirs : List ℕ) (j : Job) (ss : List Span) where
   run = record { boundaries = j .boundaries; spans = ss }
 
   -- what the rules accept has two ranks or more
-  two-all : (l : List Item) (a : Group) → List·Memᴰ a (every (rulesOf limits dirs j l)) → 2 ≤ length (a .ranks)
+  pub two-all : (l : List Item) (a : Group) → List·Memᴰ a (every (rulesOf limits dirs j l)) → 2 ≤ length (a .ranks)
   two-all l a m =
       let n : List·Memᴰ a (map (groupOf limits l) (accepted limits dirs (gridOf j) (anchorsOf (j .bases)) l)) = rw (← every-group limits dirs j l) m in
       let w = Memᴰ·of-map (groupOf limits l) (accepted limits dirs (gridOf j) (anchorsOf (j .bases)) l) n in

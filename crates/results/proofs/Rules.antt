@@ -14,7 +14,7 @@ use Rattle.groups.specs.Flat.{flatGroups, accepted}
 use Rattle.groups.proofs.Accepted.{groups-disjoint, accepted-rising, accepted-below}
 use Rattle.groups.proofs.Plan.{accepted-retained}
 use Rattle.merging.specs.Groups.{Group, every, Good, Disjoint, WellGrouped}
-use Rattle.merging.specs.Runs.{Run, groupsOf}
+use Rattle.merging.specs.Runs.{Run, groupsOf, keptOf}
 use Rattle.merging.specs.Follows.{Follows}
 use Rattle.merging.specs.Relisted.{Relisted, DistinctEnds}
 use Rattle.merging.specs.Demand.{Independent}
@@ -42,7 +42,7 @@ module _ (limits : Limits) (dirs : List ℕ) (j : Job) where
       apart = pairs-map (groupOf limits l) (λ a b d. d) (groups-disjoint limits dirs (gridOf j) (anchorsOf (j .bases)) l)
 
   -- "the list follows the merging rules"
-  pub list-follows : (r : Run) → Follows (r .boundaries) (every (groupsOf (rulesOf limits dirs j) r))
+  pub list-follows : (r : Run) → Follows (r .boundaries) (every (groupsOf (rulesOf limits dirs j) r)) (keptOf (rulesOf limits dirs j) r)
   list-follows = kept-follows (rulesOf limits dirs j) rules-well
 
   -- Demand 3 for these rules.
