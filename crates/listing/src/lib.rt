@@ -6,5 +6,6 @@ mod walk;
 
 pub use digits::write_decimal;
 pub use digits::write_hex;
+pub use lines::write_text;
 pub use listing::write_listing;
 pub use listing::write_refused;

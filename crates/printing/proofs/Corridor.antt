@@ -1,9 +1,11 @@
 -- "Here it prints": the corridor.
 use mathlib.Core.Path.{_≡_, refl, sym, _∙_, ap}
-use mathlib.Core.Bool.{Bool, true, cond}
+use mathlib.Core.Bool.{Bool, true, false, cond}
 use mathlib.Core.List.{List, [], flatMap}
 use Prim.Native.Nat.{ℕ, _≤_}
 use native.Mathlib.Omega.{arith}
+use borrow.Author.Tests.{le-ltb}
+use lib.Dec.{ltb}
 use lib.ListN.{length}
 use Rattle.wire.specs.Bytes.{words, part, number, bytes, numberAt}
 use Rattle.format.specs.Decode.{decodeAnswer}
@@ -13,18 +15,16 @@ use Rattle.listing.specs.Corridor.{corridorBytes, corridorText}
 use Rattle.listing.proofs.Cases.{corridor-listing}
 use Rattle.results.specs.Cases.{upright, observed, corridor, corridorAnswer}
 use Rattle.results.specs.Calls.{reduceResult}
-use Rattle.results.proofs.Cases.{twelve-cases}
+use Rattle.results.proofs.Cases.{corridor-case}
 use Rattle.chokes.proofs.Demand.{first-written}
 use Rattle.printing.specs.Printed.{printed}
+use Rattle.printing.specs.ChokeList.{lentWork, lentAnswer, mostInput, zeros, chokeList}
+use Rattle.printing.proofs.Reading.{length-zeros}
 
 -- The answer that is listed is case 12's.
 pub same-answer : corridorBytes ≡ corridorAnswer
 unfolding corridorBytes corridorAnswer words upright observed bytes flatMap
 same-answer = refl
-
-answer-length : length corridorAnswer ≡ 152
-unfolding corridorAnswer words upright observed bytes flatMap
-answer-length = refl
 
 corridor-whole : whole corridorBytes 456 ≡ true
 unfolding whole corridorBytes numberAt part number bytes flatMap
@@ -38,7 +38,14 @@ corridor-listed = ap (λ (b : Bool). cond b (listingOf (decodeAnswer corridorByt
 pub corridor-printed : (work answer : List ℕ) → 40 ≤ length work → 152 ≤ length answer → printed (reduceResult corridor work answer) ≡ corridorText
 unfolding printed
 corridor-printed work answer w a =
-    let fits : length corridorAnswer ≤ length answer = omega (arith, a, answer-length) in
-    ap printed (twelve-cases .case12 work answer w fits)
+    let fits : length corridorAnswer ≤ length answer = omega (arith, a, corridor-case .answer-long) in
+    ap printed (corridor-case .reduced work answer w fits)
     ∙ ap (λ (l : List ℕ). listingOf (decodeAnswer l)) (first-written answer corridorAnswer ∙ sym same-answer)
     ∙ corridor-listed
+
+-- So does the program, which lends more than that.
+pub corridor-list : chokeList corridor ≡ corridorText
+unfolding chokeList
+corridor-list =
+    let small : ltb mostInput (length corridor) ≡ false = le-ltb mostInput (length corridor) (omega (arith, corridor-case .job-long)) in
+    rw small (corridor-printed (zeros lentWork) (zeros lentAnswer) (omega (arith, length-zeros lentWork)) (omega (arith, length-zeros lentAnswer)))

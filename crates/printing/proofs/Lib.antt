@@ -1,4 +1,4 @@
-pub mod Refusing
-pub mod Success
 pub mod Printing
+pub mod Reading
 pub mod Corridor
+pub mod Table

@@ -17,7 +17,8 @@ use Rattle.listing.proofs.Sizing.{is-whole}
 use Rattle.results.specs.Results.{Outcome, leftBy}
 use Rattle.results.specs.Calls.{reduceResult}
 use Rattle.printing.specs.Printed.{printed}
-use Rattle.printing.proofs.Success.{Answered, first-bytes, answered}
+use Rattle.chokes.proofs.DemandOne.{demand-one}
+use Rattle.chokes.proofs.DemandTwo.{demand-two}
 
 -- The bytes of a number stand for at most that number.
 number-most : (n v : ℕ) → number (bytes n v) ≤ v
@@ -43,21 +44,37 @@ module _ (job work answer : List ℕ) {number detail : ℕ} {work′ answer′ :
       ap (λ (b : Bool). cond b (listingOf (decodeAnswer (take detail answer′))) (refusedLine number detail)) (sym (ne-eqb number 0 h))
       ∙ ap printed e
 
-  gave : number ≡ 0 → Answered (leftBy number detail work′ answer′) answer
-  gave h = subst (λ (o : Outcome). Answered o answer) (sym e) (answered job work answer (ap (λ (o : Outcome). o .number) (sym e) ∙ h))
+  -- Work and answer, as Reduce left them.
+  pub left-by : (work′ ≡ reduceResult job work answer .work) × (answer′ ≡ reduceResult job work answer .out)
+  left-by = (ap (λ (o : Outcome). o .work) e, ap (λ (o : Outcome). o .out) e)
 
-  pub detail-fits : number ≡ 0 → detail ≤ length answer
-  detail-fits h = let a = gave h in omega (arith, a .length-is, a .fits)
+  -- Where the number is 0, demands 1 and 2 say what was written: an answer, whose length is the detail, and which the slice has room for.
+  module _ (h : number ≡ 0) where
+    zero-given : reduceResult job work answer .number ≡ 0
+    zero-given = ap (λ (o : Outcome). o .number) (sym e) ∙ h
 
-  pub listed-text : number ≡ 0 → (out : List ℕ) → 3 * length answer ≤ length out → listing (take detail answer′) (length out) ≡ printed (reduceResult job work answer)
-  unfolding printed
-  listed-text h out room =
-      let a = gave h in
-      ap (λ (l : List ℕ). listing l (length out)) (first-bytes a)
-      ∙ listed (a .boundaries) out (omega (arith, a .fits, room))
-      ∙ ap (λ (l : List ℕ). listingOf (decodeAnswer l)) (sym (first-bytes a))
-      ∙ ap (λ (b : Bool). cond b (listingOf (decodeAnswer (take detail answer′))) (refusedLine number detail)) (sym (eq-eqb number 0 h))
-      ∙ ap printed e
+    kept : List Boundary
+    kept = demand-two .reduce job work answer zero-given .kept
+
+    first-bytes : take detail answer′ ≡ encodeAnswer kept
+    unfolding kept
+    first-bytes = ap (λ (o : Outcome). take (o .detail) (o .out)) e ∙ demand-two .reduce job work answer zero-given .bytes
+
+    detail-is : detail ≡ length (encodeAnswer kept)
+    unfolding kept
+    detail-is = ap (λ (o : Outcome). o .detail) e ∙ demand-two .reduce job work answer zero-given .detail
+
+    pub detail-fits : detail ≤ length answer
+    detail-fits = let d = ap (λ (o : Outcome). o .detail) e in let s = demand-one .reduce job work answer .success zero-given in omega (arith, d, s .0, s .1)
+
+    pub listed-text : (out : List ℕ) → 3 * length answer ≤ length out → listing (take detail answer′) (length out) ≡ printed (reduceResult job work answer)
+    unfolding printed
+    listed-text out room =
+        ap (λ (l : List ℕ). listing l (length out)) first-bytes
+        ∙ listed kept out (omega (arith, detail-is, detail-fits, room))
+        ∙ ap (λ (l : List ℕ). listingOf (decodeAnswer l)) (sym first-bytes)
+        ∙ ap (λ (b : Bool). cond b (listingOf (decodeAnswer (take detail answer′))) (refusedLine number detail)) (sym (eq-eqb number 0 h))
+        ∙ ap printed e
 
 -- A text that was written, under another name.
 pub same-text : {text other out : List ℕ} {at : ℕ} {after : List ℕ} {r : ℕ} → text ≡ other → Writes text out at after r → Writes other out at after r

@@ -1,1 +1,3 @@
 pub mod Printed
+pub mod ChokeList
+pub mod Table

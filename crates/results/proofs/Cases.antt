@@ -1,8 +1,10 @@
--- The twelve cases hold.
+-- Cases 9 to 12 hold.
 use mathlib.Core.Path.{_≡_, refl, _∙_, ap}
-use mathlib.Core.List.{List, [], _∷_, map}
+use mathlib.Core.Bool.{Bool, true, false}
+use mathlib.Core.List.{List, [], _∷_, map, flatMap}
 use mathlib.Core.Option.{none, some}
-use Prim.Native.Nat.{ℕ, _≤_, _<_}
+use Prim.Native.Nat.{ℕ, zero, suc, _%_, _≤_, _<_}
+use native.Mathlib.Omega.{arith}
 use borrow.Author.Tests.{lt-leb}
 use lib.Dec.{lit≤}
 use lib.Ieee.{neg, add, sub, mul, div, lt, le, ofBits, ofInt, toBits}
@@ -13,7 +15,6 @@ use Rattle.order.specs.Keys.{lexLe}
 use Rattle.wire.specs.Bytes.{words, number, numberAt, bytes, splice}
 use Rattle.length.specs.Length.{lengthOf}
 use Rattle.length.specs.Total.{totalKey}
-use Rattle.length.proofs.Cases.{length-case}
 use Rattle.format.specs.Values.{Base, Observation, Boundary, Job}
 use Rattle.format.specs.Records.{spanAt, baseAt, boundaryAt, sourceAt, spanBytes, sourceBytes, boundaryBytes, observationBytes}
 use Rattle.format.specs.Header.{countsAt, headerAt, offsetsOf}
@@ -21,16 +22,13 @@ use Rattle.format.specs.Decode.{decode, decodeList, jobWith, baseRecords, bound
 use Rattle.format.specs.Encode.{encodeAnswer, answerWords, encodeBoundaries, boundaryRecord, observationRecord, observationsOf, sourcesOf}
 use Rattle.graph.specs.Parts.{part as partOf}
 use Rattle.graph.specs.Labels.{count}
-use Rattle.graph.proofs.Cases.{bridge-cases}
 use Rattle.areas.specs.Areas.{areaLabels}
 use Rattle.areas.specs.Assessments.{records}
-use Rattle.areas.proofs.Cases.{cut-cases}
 use Rattle.grid.specs.Directions.{eight}
 use Rattle.links.specs.Limits.{limits000}
-use Rattle.checks.specs.Checks.{firstRefusal, each}
+use Rattle.checks.specs.Checks.{Check, firstRefusal, each}
 use Rattle.checks.specs.Single.{listChecks, spanCheck, headerChecks, cellCheck, baseCheck, sumsFault, rampCheck, widthCheck, endsCheck, spanChecks}
 use Rattle.job.specs.Refusals.{reduceChecks, markChecks, byListChecks, boundaryChecks, jobChecks, layoutChecks, recordChecks, endsChecks}
-use Rattle.job.proofs.Cases.{refusal-cases}
 use Rattle.position.specs.Order.{posSame, posLe, canonical}
 use Rattle.position.specs.declared.Span.{Span}
 use Rattle.format.specs.declared.records.Source.{Source}
@@ -44,9 +42,11 @@ use Rattle.merging.specs.Kept.{membersOf, consolidated, slot, kept}
 use Rattle.merging.specs.Runs.{Run, reduceRun, itemsOf, canonItem, groupsOf, keptOf, rulesAnswer}
 use Rattle.results.specs.Rules.{gridOf, rulesOn, rulesOf}
 use Rattle.partition.specs.Partitioned.{labelled}
-use Rattle.results.specs.Results.{Outcome, workSize, ownEnds, labelsOf, answerOf, marksOf, reduced, reduceWith, reduceByListWith}
+use Rattle.results.specs.Results.{Outcome, leftBy, workSize, ownEnds, labelsOf, answerOf, marksOf, reduced, reduceWith, reduceByListWith}
 use Rattle.results.specs.Calls.{reduceResult, reduceByListResult, markResult}
-use Rattle.results.specs.Cases.{oneCell, corridor, anchored, corridorAnswer, anchoredAnswer, leaves, Gives, oneSpan, OtherCalls, TwelveCases}
+use Rattle.results.specs.Cases.{oneCell, upright, observed as seenBytes, corridor, anchored, corridorAnswer, anchoredAnswer, leaves, Gives}
+use Rattle.results.specs.Cases.{oneSpan, OtherCalls, leavesOne, OneCellCase, CorridorCase}
+use Rattle.checks.proofs.Firsts.{append-none}
 use Rattle.results.proofs.Results.{reduced-success, mark-success}
 
 -- The corridor's boundaries.
@@ -68,8 +68,8 @@ second = boundary 16 (source 2 1 ∷ []) []
 abbrev job : List Base → Job
 job bases = record { width = 4; height = 1; cells = 1 ∷ 1 ∷ 1 ∷ 1 ∷ []; bases = bases; boundaries = first ∷ second ∷ [] }
 
-abbrev anchor : Base
-anchor = record { id = 7; anchor = some (record { x = 1; y = 0 }) }
+abbrev anchor : ℕ → Base
+anchor id = record { id = number (bytes 4 id); anchor = some (record { x = 1; y = 0 }) }
 
 abbrev seen : ℕ → ℕ → ℕ → Observation
 seen x m n = record { ends = column x; bits = 0x4020_0000_0000_0000; sources = source m n ∷ [] }
@@ -86,17 +86,17 @@ corridor-passes : firstRefusal (reduceChecks corridor) ≡ none
 unfolding corridor reduceChecks boundaryChecks jobChecks layoutChecks headerChecks recordChecks each cellCheck baseCheck sumsFault rampCheck widthCheck endsChecks endsCheck spanChecks firstRefusal headerAt offsetsOf boundaryAt baseAt numberAt bytes boundaryRecords observationRecords sourceCount posSame
 corridor-passes = refl
 
-anchored-passes : firstRefusal (reduceChecks anchored) ≡ none
+anchored-passes : (id : ℕ) → firstRefusal (reduceChecks (anchored id)) ≡ none
 unfolding anchored reduceChecks boundaryChecks jobChecks layoutChecks headerChecks recordChecks each cellCheck baseCheck sumsFault rampCheck widthCheck endsChecks endsCheck spanChecks firstRefusal headerAt offsetsOf boundaryAt baseAt numberAt bytes boundaryRecords observationRecords sourceCount posSame
-anchored-passes = refl
+anchored-passes id = refl
 
 corridor-job : decode corridor ≡ job []
 unfolding corridor decode jobWith decodeBoundaries numberAt bytes countsAt baseRecords baseAt boundaryRecords observationRecords sourceRecords boundaryAt sourceAt
 corridor-job = refl
 
-anchored-job : decode anchored ≡ job (anchor ∷ [])
+anchored-job : (id : ℕ) → decode (anchored id) ≡ job (anchor id ∷ [])
 unfolding anchored decode jobWith decodeBoundaries numberAt bytes countsAt baseRecords baseAt boundaryRecords observationRecords sourceRecords boundaryAt sourceAt
-anchored-job = refl
+anchored-job id = refl
 
 -- Labels and groups.
 job-labels : (bases : List Base) → labelsOf eight (job bases) (ownEnds (job bases)) ≡ 1 ∷ 2 ∷ 3 ∷ 3 ∷ []
@@ -114,9 +114,9 @@ corridor-groups : groupsOf (rulesOf limits000 eight (job [])) run ≡ pair
 unfolding groupsOf itemsOf canonItem canon canonical posLe endsKey spanKey sourceKey sort insert sortOnce include lexLe rulesOn anchorsOf partOf count upFrom lengthOf ofInt ofBits toBits neg add sub mul div lt le
 corridor-groups = refl
 
-anchored-groups : groupsOf (rulesOf limits000 eight (job (anchor ∷ []))) run ≡ noGroups
+anchored-groups : (id : ℕ) → groupsOf (rulesOf limits000 eight (job (anchor id ∷ []))) run ≡ noGroups
 unfolding groupsOf itemsOf canonItem canon canonical posLe endsKey spanKey sourceKey sort insert sortOnce include lexLe rulesOn anchorsOf partOf count upFrom lengthOf ofInt ofBits toBits neg add sub mul div lt le
-anchored-groups = refl
+anchored-groups id = refl
 
 -- What is kept.
 pair-kept : kept (copiesOf (first ∷ second ∷ [])) (every pair) ≡ merged ∷ []
@@ -147,11 +147,11 @@ corridor-answer =
     ∙ ap encodeAnswer pair-kept
     ∙ merged-bytes
 
-anchored-answer : answer anchored ≡ anchoredAnswer
+anchored-answer : (id : ℕ) → answer (anchored id) ≡ anchoredAnswer
 unfolding rulesAnswer keptOf
-anchored-answer =
-    ap (λ (j : Job). answerOf limits000 eight j (ownEnds j)) anchored-job
-    ∙ ap (λ (g : Groups). encodeAnswer (kept (copiesOf (first ∷ second ∷ [])) (every g))) anchored-groups
+anchored-answer id =
+    ap (λ (j : Job). answerOf limits000 eight j (ownEnds j)) (anchored-job id)
+    ∙ ap (λ (g : Groups). encodeAnswer (kept (copiesOf (first ∷ second ∷ [])) (every g))) (anchored-groups id)
     ∙ ap encodeAnswer none-kept
     ∙ both-bytes
 
@@ -234,9 +234,26 @@ other-calls = record { marks = marks-left; by-list = list-left }
 abbrev oneJob : ℕ → Job
 oneJob c = record { width = 1; height = 1; cells = c ∷ []; bases = []; boundaries = [] }
 
+one-laid : (c : ℕ) → firstRefusal (layoutChecks (oneCell c)) ≡ none
+unfolding oneCell layoutChecks headerChecks firstRefusal headerAt offsetsOf numberAt bytes
+one-laid c = refl
+
+one-records : (c : ℕ) → c < 32 → firstRefusal (recordChecks (oneCell c) (headerAt (oneCell c) .counts)) ≡ none
+unfolding oneCell recordChecks each cellCheck sumsFault firstRefusal headerAt numberAt bytes boundaryRecords observationRecords sourceCount
+one-records c h = rw (lt-leb 32 c h)
+
+one-ends : (distinct : Bool) (c : ℕ) → firstRefusal (endsChecks distinct (oneCell c) (headerAt (oneCell c) .counts)) ≡ none
+unfolding oneCell endsChecks each firstRefusal headerAt numberAt bytes
+one-ends distinct c = refl
+
+one-open : (distinct : Bool) (c : ℕ) → c < 32 → firstRefusal (boundaryChecks distinct (oneCell c)) ≡ none
+unfolding boundaryChecks jobChecks
+one-open distinct c h =
+    append-none (jobChecks (oneCell c)) _ (append-none (layoutChecks (oneCell c)) _ (one-laid c) ∙ one-records c h) ∙ one-ends distinct c
+
 one-passes : (c : ℕ) → c < 32 → firstRefusal (reduceChecks (oneCell c)) ≡ none
-unfolding oneCell reduceChecks boundaryChecks jobChecks layoutChecks headerChecks recordChecks each cellCheck baseCheck sumsFault rampCheck widthCheck endsChecks endsCheck spanChecks firstRefusal headerAt offsetsOf boundaryAt baseAt numberAt bytes boundaryRecords observationRecords sourceCount posSame
-one-passes c h = rw (lt-leb 32 c h)
+unfolding reduceChecks
+one-passes c h = one-open true c h
 
 one-job : (c : ℕ) → decode (oneCell c) ≡ oneJob c
 unfolding oneCell decode jobWith decodeBoundaries numberAt bytes countsAt baseRecords baseAt boundaryRecords observationRecords sourceRecords boundaryAt sourceAt
@@ -254,29 +271,67 @@ six-words : length (words (0 ∷ 0 ∷ 0 ∷ 24 ∷ 24 ∷ 24 ∷ [])) ≡ 24
 unfolding words bytes
 six-words = refl
 
-eleven : (c : ℕ) → c < 32 → (work out : List ℕ) → 10 ≤ length work → 24 ≤ length out
-    → reduceResult (oneCell c) work out
-    ≡ record { number = 0; detail = 24; work = labelled (labelsOf eight (oneJob c) []) work; out = splice out 0 (words (0 ∷ 0 ∷ 0 ∷ 24 ∷ 24 ∷ 24 ∷ [])) }
-unfolding reduceResult reduceWith
-eleven c h work out w o =
-    let d = one-job c in
+one-label : (c : ℕ) → labelsOf eight (oneJob c) [] ≡ c % 2 ∷ []
+unfolding areaLabels partOf count upFrom
+one-label c = go (c % 2) refl (omega arith)
+  where
+    go : (b : ℕ) → c % 2 ≡ b → b < 2 → labelsOf eight (oneJob c) [] ≡ b ∷ []
+    go zero e h = rw e
+    go (suc zero) e h = rw e
+    go (suc (suc b)) e h = absurd (omega arith)
+
+one-left : (c : ℕ) (checks : List Check) (work out : List ℕ) → firstRefusal checks ≡ none → 10 ≤ length work → 24 ≤ length out
+    → reduced limits000 eight checks (oneJob c) [] work out ≡ leavesOne c work out
+unfolding labelled words
+one-left c checks work out p w o =
     let few : length (records eight (gridOf (oneJob c)) []) ≤ 4096 = rw one-pairs (lit≤ tt) in
     let size : length (answerOf limits000 eight (oneJob c) []) ≡ 24 = ap (λ (l : List ℕ). length l) (one-answer c) ∙ six-words in
     let fits : length (answerOf limits000 eight (oneJob c) []) ≤ length out = rw size o in
-    rw d (reduced-success limits000 eight (reduceChecks (oneCell c)) (oneJob c) [] work out (one-passes c h) w few fits
-    ∙ ap (λ (l : List ℕ). left (length l) l) (one-answer c)
-    ∙ ap (λ (n : ℕ). left n (words (0 ∷ 0 ∷ 0 ∷ 24 ∷ 24 ∷ 24 ∷ []))) six-words)
+    reduced-success limits000 eight checks (oneJob c) [] work out p w few fits
+    ∙ ap (λ (l : List ℕ). left (length l) l (labelsOf eight (oneJob c) [])) (one-answer c)
+    ∙ ap (λ (n : ℕ). left n six (labelsOf eight (oneJob c) [])) six-words
+    ∙ ap (left 24 six) (one-label c)
   where
-    left : ℕ → List ℕ → Outcome
-    left n l = record { number = 0; detail = n; work = labelled (labelsOf eight (oneJob c) []) work; out = splice out 0 l }
+    six : List ℕ
+    six = words (0 ∷ 0 ∷ 0 ∷ 24 ∷ 24 ∷ 24 ∷ [])
 
-pub twelve-cases : TwelveCases
-twelve-cases = record {
-  lengths = length-case;
-  cuts = cut-cases;
-  bridges = bridge-cases;
-  refusals = refusal-cases;
-  case11 = λ c h work out w o. let e = eleven c h work out w o in (ap (λ (r : Outcome). r .number) e, (ap (λ (r : Outcome). r .detail) e, ap (λ (r : Outcome). r .out) e));
-  case12 = gives corridor [] corridorAnswer corridor-passes corridor-job corridor-answer;
-  case12-anchored = gives anchored (anchor ∷ []) anchoredAnswer anchored-passes anchored-job anchored-answer;
+    left : ℕ → List ℕ → List ℕ → Outcome
+    left n l labels = leftBy 0 n (labelled labels work) (splice out 0 l)
+
+eleven : (c : ℕ) → c < 32 → (work out : List ℕ) → 10 ≤ length work → 24 ≤ length out → reduceResult (oneCell c) work out ≡ leavesOne c work out
+unfolding reduceResult reduceWith
+eleven c h work out w o = let d = one-job c in rw d (one-left c (reduceChecks (oneCell c)) work out (one-passes c h) w o)
+
+no-spans : decodeList [] ≡ []
+unfolding decodeList
+no-spans = refl
+
+one-listed : (c : ℕ) → c < 32 → firstRefusal (byListChecks (oneCell c) []) ≡ none
+unfolding byListChecks listChecks each firstRefusal
+one-listed c h = append-none (boundaryChecks false (oneCell c)) _ (one-open false c h)
+
+eleven-listed : (c : ℕ) → c < 32 → (work out : List ℕ) → 10 ≤ length work → 24 ≤ length out
+    → reduceByListResult (oneCell c) [] work out ≡ leavesOne c work out
+unfolding reduceByListResult reduceByListWith
+eleven-listed c h work out w o =
+    let d = one-job c in
+    rw (d, no-spans) (one-left c (byListChecks (oneCell c) []) work out (one-listed c h) w o)
+
+pub one-cell-case : OneCellCase
+one-cell-case = record { reduced = eleven; by-list = eleven-listed }
+
+corridor-long : length corridor ≡ 148
+unfolding corridor words upright bytes flatMap
+corridor-long = refl
+
+answer-long : length corridorAnswer ≡ 152
+unfolding corridorAnswer words upright seenBytes bytes flatMap
+answer-long = refl
+
+pub corridor-case : CorridorCase
+corridor-case = record {
+  job-long = corridor-long;
+  answer-long = answer-long;
+  reduced = gives corridor [] corridorAnswer corridor-passes corridor-job corridor-answer;
+  anchored-reduced = λ id. gives (anchored id) (anchor id ∷ []) anchoredAnswer (anchored-passes id) (anchored-job id) (anchored-answer id);
 }

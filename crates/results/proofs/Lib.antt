@@ -4,3 +4,4 @@ pub mod Planned
 pub mod Results
 pub mod Cases
 pub mod Own
+pub mod Refused

@@ -1,14 +1,12 @@
--- "The table below is proved as a whole from the definitions": the twelve cases.
+-- Cases 9 to 12 of document 01's table, as what the calls leave.
 use mathlib.Core.Path.{_≡_}
 use mathlib.Core.List.{List, [], _∷_, _++_}
-use Prim.Native.Nat.{ℕ, _≤_, _<_}
+use Prim.Native.Nat.{ℕ, _+_, _*_, _%_, _≤_, _<_}
 use lib.ListN.{length, drop, replicate}
 use Rattle.wire.specs.Bytes.{words, splice, u64Bytes}
-use Rattle.length.specs.Cases.{LengthCase}
-use Rattle.areas.specs.Cases.{CutCases}
-use Rattle.graph.specs.Cases.{BridgeCases}
-use Rattle.job.specs.Cases.{RefusalCases}
-use Rattle.results.specs.Results.{Outcome}
+use Rattle.format.specs.Header.{headerAt}
+use Rattle.job.specs.Cases.{FirstWidth, PassesThree, bitsAt}
+use Rattle.results.specs.Results.{Outcome, leftBy}
 use Rattle.results.specs.Calls.{reduceResult, reduceByListResult, markResult}
 
 -- A map of 1 × 1 cells with no boundaries.
@@ -28,12 +26,12 @@ corridor =
     words (4 ∷ 1 ∷ 0 ∷ 2 ∷ 0 ∷ 2 ∷ 48 ∷ 52 ∷ 52 ∷ 132 ∷ 132 ∷ 148 ∷ [])
     ++ ((1 ∷ 1 ∷ 1 ∷ 1 ∷ []) ++ (upright 8 1 0 ++ (upright 16 1 0 ++ words (1 ∷ 2 ∷ 2 ∷ 1 ∷ []))))
 
--- The same with a base, of id 7, anchored in the second cell.
-unfoldable pub anchored : List ℕ
+-- The same with a base, of any id, anchored in the second cell.
+unfoldable pub anchored : ℕ → List ℕ
 unfolding words upright
-anchored =
+anchored id =
     words (4 ∷ 1 ∷ 1 ∷ 2 ∷ 0 ∷ 2 ∷ 48 ∷ 52 ∷ 64 ∷ 144 ∷ 144 ∷ 160 ∷ [])
-    ++ ((1 ∷ 1 ∷ 1 ∷ 1 ∷ []) ++ (words (7 ∷ 1 ∷ 0 ∷ []) ++ (upright 8 1 0 ++ (upright 16 1 0 ++ words (1 ∷ 2 ∷ 2 ∷ 1 ∷ [])))))
+    ++ ((1 ∷ 1 ∷ 1 ∷ 1 ∷ []) ++ (words (id ∷ 1 ∷ 0 ∷ []) ++ (upright 8 1 0 ++ (upright 16 1 0 ++ words (1 ∷ 2 ∷ 2 ∷ 1 ∷ [])))))
 
 -- An observation of the corridor's answer.
 unfoldable pub observed : ℕ → List ℕ
@@ -73,18 +71,70 @@ pub record OtherCalls : Type 0 where
   pub by-list : (work answer : List ℕ) → 40 ≤ length work → length anchoredAnswer ≤ length answer
       → reduceByListResult corridor oneSpan work answer ≡ leaves (length anchoredAnswer) (1 ∷ 2 ∷ 2 ∷ 2 ∷ []) anchoredAnswer work answer
 
-pub record TwelveCases : Type 0 where
-  -- 1
-  pub lengths : LengthCase
-  -- 2 to 4
-  pub cuts : CutCases
-  -- 5 to 8
-  pub bridges : BridgeCases
-  -- 9 and 10
-  pub refusals : RefusalCases
-  -- 11: "Map 1 × 1, no boundaries: words 0, 0, 0, 24, 24, 24", whether the cell is walkable or not
-  pub case11 : (c : ℕ) → c < 32 → (work answer : List ℕ) → 10 ≤ length work → 24 ≤ length answer → (reduceResult (oneCell c) work answer .number ≡ 0)
-      × ((reduceResult (oneCell c) work answer .detail ≡ 24) × (reduceResult (oneCell c) work answer .out ≡ splice answer 0 (words (0 ∷ 0 ∷ 0 ∷ 24 ∷ 24 ∷ 24 ∷ []))))
-  -- 12: "The corridor below; with an anchor in its second cell, 2 kept."
-  pub case12 : Gives corridor (1 ∷ 2 ∷ 3 ∷ 3 ∷ []) corridorAnswer
-  pub case12-anchored : Gives anchored (1 ∷ 2 ∷ 3 ∷ 3 ∷ []) anchoredAnswer
+-- Every call gives this refusal, whatever list and slices it has, and leaves the slices as they were.
+pub record AllCallsRefuse (job : List ℕ) (number detail : ℕ) : Type 0 where
+  pub reduce : (work answer : List ℕ) → reduceResult job work answer ≡ leftBy number detail work answer
+  pub by-list : (list work answer : List ℕ) → reduceByListResult job list work answer ≡ leftBy number detail work answer
+  pub mark : (work marks : List ℕ) → markResult job work marks ≡ leftBy number detail work marks
+
+-- No call gives this number, whatever list and slices it has.
+pub record NoCallGives (job : List ℕ) (number : ℕ) : Type 0 where
+  pub reduce : (work answer : List ℕ) → reduceResult job work answer .number ≡ number → ⊥
+  pub by-list : (list work answer : List ℕ) → reduceByListResult job list work answer .number ≡ number → ⊥
+  pub mark : (work marks : List ℕ) → markResult job work marks .number ≡ number → ⊥
+
+-- The bits of -0: the sign alone.
+abbrev pub negativeZero : ℕ
+negativeZero = 0x8000_0000_0000_0000
+
+-- The corridor, but the width of its second boundary is -0.
+unfoldable pub negative : List ℕ
+unfolding words upright
+negative =
+    words (4 ∷ 1 ∷ 0 ∷ 2 ∷ 0 ∷ 2 ∷ 48 ∷ 52 ∷ 52 ∷ 132 ∷ 132 ∷ 148 ∷ [])
+    ++ ((1 ∷ 1 ∷ 1 ∷ 1 ∷ [])
+    ++ (upright 8 1 0
+    ++ (words (16 ∷ 0 ∷ 16 ∷ 8 ∷ []) ++ (u64Bytes negativeZero ++ words (1 ∷ 0 ∷ 0 ∷ 0 ∷ 1 ∷ 2 ∷ 2 ∷ 1 ∷ [])))))
+
+-- 9: "Width bits of -0: 10." The detail is the boundary.
+pub record NegativeZeroCase : Type 0 where
+  pub refused : (job : List ℕ) (k : ℕ) → FirstWidth job k → bitsAt job (headerAt job .counts) k ≡ negativeZero → AllCallsRefuse job 10 k
+  -- a job that it speaks of, refused for its boundary 1
+  pub first : FirstWidth negative 1
+  pub shown : AllCallsRefuse negative 10 1
+
+-- The header of a map of 1 × 1 cells with n boundaries, and nothing after it.
+unfoldable pub counted : ℕ → List ℕ
+unfolding words
+counted n = words (1 ∷ 1 ∷ 0 ∷ n ∷ 0 ∷ 0 ∷ 48 ∷ 49 ∷ 49 ∷ (49 + 40 * n) ∷ (49 + 40 * n) ∷ (49 + 40 * n) ∷ [])
+
+-- 10: "257 boundaries: 4, detail 257; 256 pass that check."
+pub record CountCase : Type 0 where
+  pub refused : (job : List ℕ) → PassesThree job → headerAt job .counts .boundaries ≡ 257 → AllCallsRefuse job 4 257
+  pub passed : (job : List ℕ) → headerAt job .counts .boundaries ≡ 256 → NoCallGives job 4
+  -- headers that they speak of: with 257 it is 4, with 256 the next, for a job that ends with its header
+  pub three : PassesThree (counted 257)
+  pub shown : AllCallsRefuse (counted 257) 4 257
+  pub shown-passed : AllCallsRefuse (counted 256) 5 0
+
+-- What is left on one cell: "a u32 label per cell first", 1 where it is walkable, "then zeros to ten times the cells; later bytes are
+-- unchanged"; and an answer of nothing.
+abbrev pub leavesOne : ℕ → List ℕ → List ℕ → Outcome
+leavesOne c work answer =
+    leftBy 0 24 (words (c % 2 ∷ []) ++ (replicate 6 0 ++ drop 10 work)) (splice answer 0 (words (0 ∷ 0 ∷ 0 ∷ 24 ∷ 24 ∷ 24 ∷ [])))
+
+-- 11: "Map 1 × 1, no boundaries: words 0, 0, 0, 24, 24, 24", whatever the cell is; by a list of no spans as well.
+pub record OneCellCase : Type 0 where
+  pub reduced : (c : ℕ) → c < 32 → (work answer : List ℕ) → 10 ≤ length work → 24 ≤ length answer
+      → reduceResult (oneCell c) work answer ≡ leavesOne c work answer
+  pub by-list : (c : ℕ) → c < 32 → (work answer : List ℕ) → 10 ≤ length work → 24 ≤ length answer
+      → reduceByListResult (oneCell c) [] work answer ≡ leavesOne c work answer
+
+-- 12: "The corridor below; with an anchor in its second cell, 2 kept."
+pub record CorridorCase : Type 0 where
+  -- "Job 148 bytes, answer 152."
+  pub job-long : length corridor ≡ 148
+  pub answer-long : length corridorAnswer ≡ 152
+  pub reduced : Gives corridor (1 ∷ 2 ∷ 3 ∷ 3 ∷ []) corridorAnswer
+  -- whatever the base's id
+  pub anchored-reduced : (id : ℕ) → Gives (anchored id) (1 ∷ 2 ∷ 3 ∷ 3 ∷ []) anchoredAnswer

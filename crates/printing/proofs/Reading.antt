@@ -1,0 +1,35 @@
+-- The first 65,537 bytes of an input settle what is printed for it.
+use mathlib.Core.Path.{_≡_, refl, sym, _∙_, ap}
+use mathlib.Core.Bool.{Bool, true, false}
+use mathlib.Core.List.{List}
+use Prim.Native.Nat.{ℕ, _≤_, _<_}
+use native.Mathlib.Omega.{arith}
+use borrow.Author.Tests.{lt-ltb, le-ltb, ltb-true, ltb-false}
+use lib.Dec.{ltb}
+use lib.ListN.{length, take, length-replicate}
+use lib.Seq.{length-take-le, take-all}
+use Rattle.results.specs.Calls.{reduceResult}
+use Rattle.printing.specs.Printed.{printed}
+use Rattle.printing.specs.ChokeList.{lentWork, lentAnswer, zeros, mostInput, tooLarge, chokeList, Reads}
+
+pub length-zeros : (n : ℕ) → length (zeros n) ≡ n
+length-zeros n = length-replicate n 0
+
+-- Over the limit, and up to it.
+pub over-limit : (input : List ℕ) → mostInput < length input → tooLarge ≡ chokeList input
+unfolding chokeList
+over-limit input h = rw (lt-ltb mostInput (length input) h)
+
+pub within-limit : (input : List ℕ) → length input ≤ mostInput → printed (reduceResult input (zeros lentWork) (zeros lentAnswer)) ≡ chokeList input
+unfolding chokeList
+within-limit input h = rw (le-ltb mostInput (length input) h)
+
+-- A buffer of more bytes than the limit is enough.
+pub read-enough : (input buffer : List ℕ) (n : ℕ) → mostInput < length buffer → Reads input buffer n → chokeList (take n buffer) ≡ chokeList input
+read-enough input buffer n h r = ap chokeList (r .first) ∙ go (ltb (length buffer) (length input)) refl
+  where
+    go : (t : Bool) → ltb (length buffer) (length input) ≡ t → chokeList (take (length buffer) input) ≡ chokeList input
+    go true e =
+        let l = ltb-true (length buffer) (length input) e in
+        sym (over-limit (take (length buffer) input) (omega (arith, h, length-take-le (length buffer) input (omega arith)))) ∙ over-limit input (omega arith)
+    go false e = ap chokeList (take-all (length buffer) input (ltb-false (length buffer) (length input) e))
