@@ -244,7 +244,7 @@ module _ {distinct : Bool} {s : List ℕ} (c : Checked distinct s) {order : List
       ∙ (map-rows canonical count (λ k. spanAt s (boundariesAt s + k * boundarySize))
       ∙ rows-same count (λ k. canonical (spanAt s (boundariesAt s + k * boundarySize))) (spanIn ends) (λ i h. sym (span-at i h)))
 
-  canonical-own : map canonical (ownEnds (decode s)) ≡ map canonical (spansIn ends count)
+  pub canonical-own : map canonical (ownEnds (decode s)) ≡ map canonical (spansIn ends count)
   canonical-own =
       sym (map-map canonical canonical (ownEnds (decode s)) ∙ map-ext (λ x. canonical (canonical x)) canonical (ownEnds (decode s)) (λ x m. canonical-again x))
       ∙ ap (map canonical) own-listed

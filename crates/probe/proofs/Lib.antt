@@ -1,2 +1,5 @@
 mod RecordLaws
+pub mod WritingLaws
 pub mod PartingLaws
+pub mod PlanningLaws
+pub mod RegionLaws

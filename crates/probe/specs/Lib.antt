@@ -1,3 +1,6 @@
+pub mod Writing
 pub mod Probe
 pub mod Records
 pub mod Parting
+pub mod Planning
+pub mod Regions

@@ -9,6 +9,7 @@ use checks::Verdict;
 mod bare_records; // the bridges of bare lists of records
 mod own_partition; // the partition alone
 mod own_plan; // the merge plan alone
+mod own_regions; // what is known of one region
 
 #[repr(C)]
 pub struct ProbeResult {

@@ -3,7 +3,8 @@ ghost use mathlib.Core.Path.{_≡_};
 ghost use Prim.Native.Nat.{_+_, _*_, _<_, _≤_};
 ghost use lib.ListN.{length};
 ghost use Rattle.format.specs.Sizes.{boundarySize};
-ghost use Rattle.probe.specs.Parting.{OwnSpans, Taken, Told, Parted, PartitionAnswer};
+ghost use Rattle.wire.specs.Bytes.{splice};
+ghost use Rattle.probe.specs.Parting.{OwnSpans, Taken, Told, Parted, PartitionAnswer, countsFrom, recordsFrom, heldBytes};
 use crate::ProbeResult;
 use format::BOUNDARY_SIZE;
 use format::HEADER_SIZE;
@@ -26,15 +27,16 @@ fn own_spans(job: &[u8], at: usize, count: usize, ends: &mut [u32; 1024])
     fill_spans(job, at, BOUNDARY_SIZE, &order, count, ends);
 }
 
-// The counts of each span, from the third word on. What stands in out is not stated, here and below: the driver compares it.
+// The counts of each span, from the third word on.
 fn write_counts(removed: &[u32; 256], separated: &[u32; 256], count: usize, out: &mut [u8])
     requires { ⌜ (count ≤ 256) × (8 + 8 * count ≤ length (now out)) ⌝ }
-    ensures { λ _. ⌜ length (now (out .exit)) ≡ length (now (out .entry)) ⌝ }
+    ensures { λ _. ⌜ now (out .exit) ≡ splice (now (out .entry)) 8 (countsFrom (now (removed .entry)) (now (separated .entry)) count) ⌝ }
 {
     let mut i: usize = 0;
     while i < count {
-        write_u32(out, 8 + 8 * i, removed[i]);
-        write_u32(out, 12 + 8 * i, separated[i]);
+        let place = 8 + 8 * i;
+        write_u32(out, place, removed[i]);
+        write_u32(out, place + 4, separated[i]);
         i += 1;
     }
 }
@@ -49,7 +51,7 @@ fn write_records(
     out: &mut [u8],
 )
     requires { ⌜ (pairs ≤ 4096) × (at ≤ 4096) × (at + 12 * pairs ≤ length (now out)) ⌝ }
-    ensures { λ _. ⌜ length (now (out .exit)) ≡ length (now (out .entry)) ⌝ }
+    ensures { λ _. ⌜ now (out .exit) ≡ splice (now (out .entry)) at (recordsFrom (now (owners .entry)) (now (lefts .entry)) (now (rights .entry)) pairs) ⌝ }
 {
     let mut k: usize = 0;
     while k < pairs {
@@ -74,7 +76,8 @@ fn write_partition(
     out: &mut [u8],
 ) -> ProbeResult
     requires { ⌜ count ≤ 256 ⌝ }
-    ensures { λ r. ⌜ Told count pairs (now (out .entry)) (now (out .exit)) (r .number) (r .detail) ⌝ }
+    ensures { λ r. ⌜ Told count pairs (heldBytes areas pairs count (now (removed .entry)) (now (separated .entry)) (now (owners .entry)) (now (lefts .entry)) (now (rights .entry)))
+        (now (out .entry)) (now (out .exit)) (r .number) (r .detail) ⌝ }
 {
     if 4096 < pairs {
         return ProbeResult {

@@ -1,7 +1,10 @@
 // The merge plan alone, by the boundaries' own order.
 ghost use mathlib.Core.Path.{_≡_};
-ghost use Prim.Native.Nat.{_≤_, _<_};
-ghost use lib.ListN.{length};
+ghost use Prim.Native.Nat.{_*_, _≤_, _<_};
+ghost use lib.ListN.{length, getD};
+ghost use Rattle.format.specs.Decode.{decode};
+ghost use Rattle.analysis.specs.Plans.{PlanLeft};
+ghost use Rattle.probe.specs.Planning.{checksOf, spansOf, CountOf, Ranked, Inside, Words, PlanAnswer};
 use crate::ProbeResult;
 use analysis::ChokesResult;
 use analysis::plan_reduce;
@@ -18,46 +21,33 @@ fn plan_of(
     work: &mut [u8],
     order: &mut [u32; 256],
     plan: &mut [u32; 256],
-) -> ChokesResult {
+) -> ChokesResult
+    ensures { λ r. ⌜ PlanLeft (checksOf which (now (job .entry)) (now (list .entry))) (decode (now (job .entry))) (spansOf which (now (job .entry)) (now (list .entry)))
+        (now (work .entry)) (now (work .exit)) (now (order .exit)) (now (plan .exit)) (r .number) (r .detail) ⌝ }
+{
     if which == 0 {
         return plan_reduce(job, work, order, plan);
     }
     plan_reduce_by_list(job, list, work, order, plan)
 }
 
-// What stands at a place, 0 past the last.
-fn entry(a: &[u32; 256], i: usize) -> u32 {
-    if i < 256 {
-        return a[i];
-    }
-    0
-}
-
-// A word at place i, where there is room. What stands in out is not stated, here and below: the driver compares it.
-fn put(out: &mut [u8], i: usize, word: u32)
-    requires { ⌜ i ≤ 0x1_0000_0000 ⌝ }
-    ensures { λ _. ⌜ length (now (out .exit)) ≡ length (now (out .entry)) ⌝ }
-{
-    if 4 * i + 4 <= out.len() {
-        write_u32(out, 4 * i, word);
-    }
-}
-
 // For each boundary, the one that it goes into.
 fn write_plan(order: &[u32; 256], plan: &[u32; 256], n: usize, out: &mut [u8])
-    requires { ⌜ n ≤ 256 ⌝ }
-    ensures { λ _. ⌜ length (now (out .exit)) ≡ length (now (out .entry)) ⌝ }
+    requires { ⌜ (n ≤ 256) × Ranked (now order) n × Inside (now plan) n × (4 * n ≤ length (now out)) ⌝ }
+    ensures { λ _. ⌜ Words (now (order .entry)) (λ i. getD (now (order .entry)) (getD (now (plan .entry)) i 0) 0) n n (now (out .entry)) (now (out .exit)) ⌝ }
 {
     let mut i: usize = 0;
     while i < n {
-        put(out, size(order[i]), entry(order, size(plan[i])));
+        let place = 4 * size(order[i]);
+        let to = size(plan[i]);
+        write_u32(out, place, order[to]);
         i += 1;
     }
 }
 
 // How many boundaries a job has, of the first 256.
 fn count_of(job: &[u8]) -> usize
-    ensures { λ r. ⌜ r ≤ 256 ⌝ }
+    ensures { λ r. ⌜ CountOf (now (job .entry)) r ⌝ }
 {
     if job.len() < 48 {
         return 0;
@@ -80,7 +70,8 @@ pub extern "C" fn probe_plan(
     work: &mut [u8],
     out: &mut [u8],
 ) -> ProbeResult
-    ensures { λ _. ⌜ length (now (out .exit)) ≡ length (now (out .entry)) ⌝ }
+    ensures { λ r. ⌜ PlanAnswer (checksOf which (now (job .entry)) (now (list .entry))) (decode (now (job .entry))) (spansOf which (now (job .entry)) (now (list .entry)))
+        (now (work .entry)) (now (out .entry)) (now (work .exit)) (now (out .exit)) (r .number) (r .detail) ⌝ }
 {
     let mut order = [0u32; 256];
     let mut plan = [0u32; 256];

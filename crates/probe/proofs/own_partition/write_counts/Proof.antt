@@ -1,7 +1,9 @@
-use mathlib.Core.Path.{_≡_, refl, _∙_}
+use mathlib.Core.Path.{_≡_, refl}
 use Prim.Native.Nat.{_+_, _*_, _-_, _≤_}
 use native.Mathlib.Omega.{arith}
-use lib.ListN.{length}
+use lib.ListN.{length, getD}
+use Rattle.probe.specs.Parting.{countBytes}
+use Rattle.probe.proofs.WritingLaws.{length-two, after-two, Filled, filled-start, filled-next}
 use borrow.Author.Needs.{needs}
 use Rattle.probe.proofs.own_partition.write_counts.Statement.{statement}
 use Rattle.probe.proofs.own_partition.write_counts.Tie as tie
@@ -10,22 +12,24 @@ use Rattle.probe.proofs.own_partition.write_counts.Lts as lts
 use Rattle.wire.proofs.write_u32.Reads as write-u32-reads
 
 abbrev Inv-loop : tie.InvT-loop
-Inv-loop removed separated count out₀ i₀ out i = (i ≤ count) × (count ≤ 256) × (8 + 8 * count ≤ length out) × (length out ≡ length out₀)
+Inv-loop removed separated count out₀ i₀ out i =
+    (i ≤ count) × (count ≤ 256) × (8 + 8 * count ≤ length out₀)
+    × Filled 8 (λ j. countBytes (getD removed j 0) (getD separated j 0)) (λ j. length-two (getD removed j 0) (getD separated j 0)) out₀ 8 i out
 
 abbrev μ-loop : tie.MeasureT-loop
 μ-loop removed separated count out₀ i₀ out i = count - i
 
 loop-holds : tie.Need-loop-holds Inv-loop μ-loop
-loop-holds c = (omega arith, c .before .pre .0, c .before .pre .1, refl)
+loop-holds c = (omega arith, c .before .pre .0, c .before .pre .1, filled-start 8 _ _ _ 8)
+
+mul-place : tie.Need-mul-place Inv-loop μ-loop
+mul-place c = search needs
+
+add-place : tie.Need-add-place Inv-loop μ-loop
+add-place c = search needs
 
 mul-write-u32 : tie.Need-mul-write-u32 Inv-loop μ-loop
 mul-write-u32 c = search needs
-
-add-write-u32 : tie.Need-add-write-u32 Inv-loop μ-loop
-add-write-u32 c = search needs
-
-mul-write-u32-2 : tie.Need-mul-write-u32-2 Inv-loop μ-loop
-mul-write-u32-2 c = search needs
 
 element-copy-out-write-u32 : tie.Need-element-copy-out-write-u32 Inv-loop μ-loop
 element-copy-out-write-u32 c = search needs
@@ -33,20 +37,17 @@ element-copy-out-write-u32 c = search needs
 write-u32-requires : tie.Need-write-u32-requires Inv-loop μ-loop
 write-u32-requires c κs = search needs
 
-mul-write-u32-3 : tie.Need-mul-write-u32-3 Inv-loop μ-loop
-mul-write-u32-3 c = search needs
+add-write-u32 : tie.Need-add-write-u32 Inv-loop μ-loop
+add-write-u32 c = search needs
 
-add-write-u32-2 : tie.Need-add-write-u32-2 Inv-loop μ-loop
-add-write-u32-2 c = search needs
-
-mul-write-u32-4 : tie.Need-mul-write-u32-4 Inv-loop μ-loop
-mul-write-u32-4 c = search needs
+mul-write-u32-2 : tie.Need-mul-write-u32-2 Inv-loop μ-loop
+mul-write-u32-2 c = search needs
 
 element-copy-out-write-u32-2 : tie.Need-element-copy-out-write-u32-2 Inv-loop μ-loop
 element-copy-out-write-u32-2 c = search needs
 
 write-u32-requires-2 : tie.Need-write-u32-requires-2 Inv-loop μ-loop
-write-u32-requires-2 c κs = omega (arith, c .before .before .before .before .write-u32 .kept .0)
+write-u32-requires-2 c κs = omega (arith, c .before .before .before .before .write-u32 .kept .0, c .before .before .before .before .before .before .before .before .loop .inv .3 .long)
 
 add-i : tie.Need-add-i Inv-loop μ-loop
 add-i c = search needs
@@ -55,13 +56,21 @@ loop-less : tie.Need-loop-less Inv-loop μ-loop
 loop-less c = search needs
 
 loop-again : tie.Need-loop-again Inv-loop μ-loop
-loop-again c = (omega arith, c .before .before .before .before .before .before .before .before .before .before .before .loop .inv .1, omega (arith, c .before .before .write-u322 .kept .0, c .before .before .before .before .before .before .before .write-u32 .kept .0), c .before .before .write-u322 .kept .0 ∙ (c .before .before .before .before .before .before .before .write-u32 .kept .0 ∙ c .before .before .before .before .before .before .before .before .before .before .before .loop .inv .3))
+loop-again c =
+    let turn = c .before .before .before .before .before .before .before .before .before .before .before .loop in
+    let room : 8 + 8 * turn .i + 8 ≤ length (turn .out) = omega (arith, turn .inv .3 .long) in (
+      omega arith,
+      turn .inv .1,
+      turn .inv .2,
+      filled-next 8 _ _ (8 + 8 * turn .i) (turn .inv .3) (omega arith) refl
+          (after-two (turn .out) (8 + 8 * turn .i) _ _ room (c .before .before .before .before .before .before .before .write-u32 .ensures) (c .before .before .write-u322 .ensures)),
+    )
 
 same-length : tie.Need-same-length Inv-loop μ-loop
-same-length c = c .before .loop .inv .3
+same-length c = c .before .loop .inv .3 .long
 
 returns : tie.Need-returns Inv-loop μ-loop
-returns c = c .before .loop .inv .3
+returns c = let e : c .before .loop .i ≡ c .before .before .before .args .count = omega arith in rw (← e) (c .before .loop .inv .3 .is)
 
 pub write-counts-spec : {M : Type 1} → statement M
 write-counts-spec =
@@ -70,14 +79,13 @@ write-counts-spec =
     Inv-loop
     μ-loop
     loop-holds
+    mul-place
+    add-place
     mul-write-u32
-    add-write-u32
-    mul-write-u32-2
     element-copy-out-write-u32
     write-u32-requires
-    mul-write-u32-3
-    add-write-u32-2
-    mul-write-u32-4
+    add-write-u32
+    mul-write-u32-2
     element-copy-out-write-u32-2
     write-u32-requires-2
     add-i

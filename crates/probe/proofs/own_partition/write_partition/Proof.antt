@@ -1,5 +1,8 @@
-use mathlib.Core.Path.{refl, _∙_}
+use mathlib.Core.Path.{refl}
 use native.Mathlib.Omega.{arith}
+use lib.ListN.{getD}
+use Rattle.probe.specs.Parting.{countBytes}
+use Rattle.probe.proofs.WritingLaws.{length-two, length-blocks, after-head}
 use Rattle.probe.specs.Parting.{many, short, written}
 use borrow.Author.Needs.{needs}
 use Rattle.probe.proofs.own_partition.write_partition.Statement.{statement}
@@ -47,7 +50,13 @@ same-length : tie.Need-same-length
 same-length c = search needs
 
 returns-3 : tie.Need-returns-3
-returns-3 c = written (omega (arith, c .before .before .before .before .before .before .before .before .before .before .before .before .before .before .before .before .before .if1 .left)) (omega (arith, c .before .before .before .before .before .before .before .before .before .before .before .before .before .before .before .before .if2 .left)) refl refl (c .before .before .write-records .ensures ∙ (c .before .before .before .before .before .before .write-counts .ensures ∙ (c .before .before .before .before .before .before .before .before .before .before .write-u322 .kept .0 ∙ c .before .before .before .before .before .before .before .before .before .before .before .before .before .before .write-u32 .kept .0)))
+returns-3 c =
+    let given = c .before .before .before .before .before .before .before .before .before .before .before .before .before .before .before .before .before .before .before .args in
+    let long = length-blocks 8 (λ i. countBytes (getD (given .removed .now) i 0) (getD (given .separated .now) i 0)) (λ i. length-two _ _) (given .count) in
+    let few = c .before .before .before .before .before .before .before .before .before .before .before .before .before .before .before .before .before .if1 .left in
+    let room = c .before .before .before .before .before .before .before .before .before .before .before .before .before .before .before .before .if2 .left in
+    written (omega (arith, few)) (omega (arith, room)) refl refl
+    (after-head (given .out .now) (given .areas) (given .pairs) _ _ long (omega (arith, room)) (c .before .before .before .before .before .before .before .before .before .before .before .before .before .before .write-u32 .ensures) (c .before .before .before .before .before .before .before .before .before .before .write-u322 .ensures) (c .before .before .before .before .before .before .write-counts .ensures) (c .before .before .write-records .ensures))
 
 pub write-partition-spec : {M : Type 1} → statement M
 write-partition-spec =

@@ -1,7 +1,10 @@
-use mathlib.Core.Path.{_≡_, refl, _∙_}
+use mathlib.Core.Path.{_≡_, refl}
 use Prim.Native.Nat.{_+_, _*_, _-_, _≤_}
 use native.Mathlib.Omega.{arith}
-use lib.ListN.{length}
+use lib.ListN.{length, getD}
+use Rattle.graph.specs.Records.{recordIn}
+use Rattle.probe.specs.Parting.{recordBytes}
+use Rattle.probe.proofs.WritingLaws.{length-three, after-three, Filled, filled-start, filled-next}
 use borrow.Author.Needs.{needs}
 use Rattle.probe.proofs.own_partition.write_records.Statement.{statement}
 use Rattle.probe.proofs.own_partition.write_records.Tie as tie
@@ -10,13 +13,15 @@ use Rattle.probe.proofs.own_partition.write_records.Lts as lts
 use Rattle.wire.proofs.write_u32.Reads as write-u32-reads
 
 abbrev Inv-loop : tie.InvT-loop
-Inv-loop owners lefts rights pairs at out₀ k₀ out k = (k ≤ pairs) × (pairs ≤ 4096) × (at ≤ 4096) × (at + 12 * pairs ≤ length out) × (length out ≡ length out₀)
+Inv-loop owners lefts rights pairs at out₀ k₀ out k =
+    (k ≤ pairs) × (pairs ≤ 4096) × (at ≤ 4096) × (at + 12 * pairs ≤ length out₀)
+    × Filled 12 (λ j. recordBytes (recordIn owners lefts rights j)) (λ j. length-three (getD owners j 0) (getD lefts j 0) (getD rights j 0)) out₀ at k out
 
 abbrev μ-loop : tie.MeasureT-loop
 μ-loop owners lefts rights pairs at out₀ k₀ out k = pairs - k
 
 loop-holds : tie.Need-loop-holds Inv-loop μ-loop
-loop-holds c = (omega arith, c .before .pre .0, c .before .pre .1, c .before .pre .2, refl)
+loop-holds c = (omega arith, c .before .pre .0, c .before .pre .1, c .before .pre .2, filled-start 12 _ _ _ _)
 
 mul-place : tie.Need-mul-place Inv-loop μ-loop
 mul-place c = search needs
@@ -43,7 +48,7 @@ element-copy-out-write-u32-2 : tie.Need-element-copy-out-write-u32-2 Inv-loop μ
 element-copy-out-write-u32-2 c = search needs
 
 write-u32-requires-2 : tie.Need-write-u32-requires-2 Inv-loop μ-loop
-write-u32-requires-2 c κs = omega (arith, c .before .before .before .before .write-u32 .kept .0)
+write-u32-requires-2 c κs = omega (arith, c .before .before .before .before .write-u32 .kept .0, c .before .before .before .before .before .before .before .before .loop .inv .4 .long)
 
 add-write-u32-2 : tie.Need-add-write-u32-2 Inv-loop μ-loop
 add-write-u32-2 c = search needs
@@ -55,7 +60,7 @@ element-copy-out-write-u32-3 : tie.Need-element-copy-out-write-u32-3 Inv-loop μ
 element-copy-out-write-u32-3 c = search needs
 
 write-u32-requires-3 : tie.Need-write-u32-requires-3 Inv-loop μ-loop
-write-u32-requires-3 c κs = omega (arith, c .before .before .before .before .write-u322 .kept .0, c .before .before .before .before .before .before .before .before .before .write-u32 .kept .0)
+write-u32-requires-3 c κs = omega (arith, c .before .before .before .before .write-u322 .kept .0, c .before .before .before .before .before .before .before .before .before .write-u32 .kept .0, c .before .before .before .before .before .before .before .before .before .before .before .before .before .loop .inv .4 .long)
 
 add-k : tie.Need-add-k Inv-loop μ-loop
 add-k c = search needs
@@ -64,13 +69,23 @@ loop-less : tie.Need-loop-less Inv-loop μ-loop
 loop-less c = search needs
 
 loop-again : tie.Need-loop-again Inv-loop μ-loop
-loop-again c = (omega arith, c .before .before .before .before .before .before .before .before .before .before .before .before .before .before .before .before .loop .inv .1, c .before .before .before .before .before .before .before .before .before .before .before .before .before .before .before .before .loop .inv .2, omega (arith, c .before .before .write-u323 .kept .0, c .before .before .before .before .before .before .before .write-u322 .kept .0, c .before .before .before .before .before .before .before .before .before .before .before .before .write-u32 .kept .0), c .before .before .write-u323 .kept .0 ∙ (c .before .before .before .before .before .before .before .write-u322 .kept .0 ∙ (c .before .before .before .before .before .before .before .before .before .before .before .before .write-u32 .kept .0 ∙ c .before .before .before .before .before .before .before .before .before .before .before .before .before .before .before .before .loop .inv .4)))
+loop-again c =
+    let turn = c .before .before .before .before .before .before .before .before .before .before .before .before .before .before .before .before .loop in
+    let place = c .before .before .before .before .before .before .before .before .before .before .before .before .before .before .before .before .before .before .args .at + 12 * turn .k in
+    let room : place + 12 ≤ length (turn .out) = omega (arith, turn .inv .4 .long) in (
+      omega arith,
+      turn .inv .1,
+      turn .inv .2,
+      turn .inv .3,
+      filled-next 12 _ _ place (turn .inv .4) (omega arith) refl
+          (after-three (turn .out) place _ _ _ room (c .before .before .before .before .before .before .before .before .before .before .before .before .write-u32 .ensures) (c .before .before .before .before .before .before .before .write-u322 .ensures) (c .before .before .write-u323 .ensures)),
+    )
 
 same-length : tie.Need-same-length Inv-loop μ-loop
-same-length c = c .before .loop .inv .4
+same-length c = c .before .loop .inv .4 .long
 
 returns : tie.Need-returns Inv-loop μ-loop
-returns c = c .before .loop .inv .4
+returns c = let e : c .before .loop .k ≡ c .before .before .before .args .pairs = omega arith in rw (← e) (c .before .loop .inv .4 .is)
 
 pub write-records-spec : {M : Type 1} → statement M
 write-records-spec =

@@ -1,24 +1,27 @@
-use mathlib.Core.Path.{_≡_, refl, _∙_}
-use Prim.Native.Nat.{_-_, _≤_}
-use native.Mathlib.Omega.{arith}
-use lib.ListN.{length}
 use borrow.Author.Needs.{needs}
+use mathlib.Core.Path.{ap}
+use Prim.Native.Nat.{ℕ, _*_, _-_, _≤_}
+use native.Mathlib.Omega.{arith}
+use lib.ListN.{length, getD}
+use Rattle.probe.specs.Planning.{Ranked, Inside, Words}
+use Rattle.probe.proofs.PlanningLaws.{words-start, words-next, words-end}
 use Rattle.probe.proofs.own_plan.write_plan.Statement.{statement}
 use Rattle.probe.proofs.own_plan.write_plan.Tie as tie
 use Rattle.probe.proofs.own_plan.write_plan.Reads as reads
 use Rattle.probe.proofs.own_plan.write_plan.Lts as lts
-use Rattle.probe.proofs.own_plan.entry.Reads as entry-reads
-use Rattle.probe.proofs.own_plan.put.Reads as put-reads
 use Rattle.wire.proofs.size.Reads as size-reads
+use Rattle.wire.proofs.write_u32.Reads as write-u32-reads
 
 abbrev Inv-loop : tie.InvT-loop
-Inv-loop order plan n out₀ i₀ out i = (i ≤ n) × (n ≤ 256) × (length out ≡ length out₀)
+Inv-loop order plan n out₀ i₀ out i =
+    (i ≤ n) × (n ≤ 256) × Ranked order n × Inside plan n × (4 * n ≤ length out₀)
+    × Words order (λ k. getD order (getD plan k 0) 0) n i out₀ out
 
 abbrev μ-loop : tie.MeasureT-loop
 μ-loop order plan n out₀ i₀ out i = n - i
 
 loop-holds : tie.Need-loop-holds Inv-loop μ-loop
-loop-holds c = (omega arith, c .before .pre, refl)
+loop-holds c = (omega arith, c .before .pre .0, c .before .pre .1, c .before .pre .2, c .before .pre .3, words-start _)
 
 mul-size : tie.Need-mul-size Inv-loop μ-loop
 mul-size c = search needs
@@ -29,6 +32,9 @@ element-copy-out-size c = search needs
 size-requires : tie.Need-size-requires Inv-loop μ-loop
 size-requires c κs = search needs
 
+mul-place : tie.Need-mul-place Inv-loop μ-loop
+mul-place c = search needs
+
 mul-size-2 : tie.Need-mul-size-2 Inv-loop μ-loop
 mul-size-2 c = search needs
 
@@ -38,11 +44,14 @@ element-copy-out-size-2 c = search needs
 size-requires-2 : tie.Need-size-requires-2 Inv-loop μ-loop
 size-requires-2 c κs = search needs
 
-entry-requires : tie.Need-entry-requires Inv-loop μ-loop
-entry-requires c κs = search needs
+mul-write-u32 : tie.Need-mul-write-u32 Inv-loop μ-loop
+mul-write-u32 c = search needs
 
-put-requires : tie.Need-put-requires Inv-loop μ-loop
-put-requires c κs = search needs
+element-copy-out-write-u32 : tie.Need-element-copy-out-write-u32 Inv-loop μ-loop
+element-copy-out-write-u32 c = let turn = c .before .before .before .before .before .before .loop in omega (arith, c .before .size2 .ensures .0, turn .inv .3 .below (turn .i) (omega arith))
+
+write-u32-requires : tie.Need-write-u32-requires Inv-loop μ-loop
+write-u32-requires c κs = let turn = c .before .before .before .before .before .before .before .loop in omega (arith, c .before .before .before .before .size .ensures .0, turn .inv .2 .below (turn .i) (omega arith), turn .inv .5 .long)
 
 add-i : tie.Need-add-i Inv-loop μ-loop
 add-i c = search needs
@@ -51,13 +60,22 @@ loop-less : tie.Need-loop-less Inv-loop μ-loop
 loop-less c = search needs
 
 loop-again : tie.Need-loop-again Inv-loop μ-loop
-loop-again c = (omega arith, c .before .before .before .before .before .before .before .before .before .before .loop .inv .1, c .before .before .put .kept .0 ∙ c .before .before .before .before .before .before .before .before .before .before .loop .inv .2)
+loop-again c =
+    let turn = c .before .before .before .before .before .before .before .before .before .before .loop in
+    let to = c .before .before .before .before .before .size2 .ensures .0 in (
+      omega arith,
+      turn .inv .1,
+      turn .inv .2,
+      turn .inv .3,
+      turn .inv .4,
+      words-next _ _ (turn .inv .2) (turn .inv .5) (c .before .before .before .before .before .before .before .before .before .loop-test .taken) (turn .inv .4) (c .before .before .before .before .before .before .before .size .ensures .0) (ap (λ (x : ℕ). getD (c .before .before .before .before .before .before .before .before .before .before .before .before .args .order .now) x 0) to) (c .before .before .write-u32 .ensures),
+    )
 
 same-length : tie.Need-same-length Inv-loop μ-loop
-same-length c = c .before .loop .inv .2
+same-length c = c .before .loop .inv .5 .long
 
 returns : tie.Need-returns Inv-loop μ-loop
-returns c = c .before .loop .inv .2
+returns c = words-end (omega arith) (c .before .loop .inv .5)
 
 pub write-plan-spec : {M : Type 1} → statement M
 write-plan-spec =
@@ -69,11 +87,13 @@ write-plan-spec =
     mul-size
     element-copy-out-size
     size-requires
+    mul-place
     mul-size-2
     element-copy-out-size-2
     size-requires-2
-    entry-requires
-    put-requires
+    mul-write-u32
+    element-copy-out-write-u32
+    write-u32-requires
     add-i
     loop-less
     loop-again

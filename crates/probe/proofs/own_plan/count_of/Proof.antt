@@ -1,0 +1,33 @@
+use mathlib.Core.Path.{_∙_, ap}
+use native.Mathlib.Omega.{arith}
+use Rattle.format.specs.Header.{headerAt}
+use Rattle.format.specs.declared.header.Header.{Header}
+use borrow.Author.Needs.{needs}
+use Rattle.probe.proofs.own_plan.count_of.Statement.{statement}
+use Rattle.probe.proofs.own_plan.count_of.Tie as tie
+use Rattle.probe.proofs.own_plan.count_of.Reads as reads
+use Rattle.probe.proofs.own_plan.count_of.Lts as lts
+use Rattle.format.proofs.read_header.Reads as read-header-reads
+use Rattle.wire.proofs.size.Reads as size-reads
+
+returns : tie.Need-returns
+returns c = search needs
+
+read-header-requires : tie.Need-read-header-requires
+read-header-requires c κs = search needs
+
+size-requires : tie.Need-size-requires
+size-requires c κs = search needs
+
+returns-2 : tie.Need-returns-2
+unfolding headerAt
+returns-2 c =
+    record { few = omega arith; is = λ l f. absurd (omega (arith, c .if2 .taken, c .before .size .ensures .0, ap (λ (x : Header). x .counts .boundaries) (c .before .before .before .read-header .ensures))) }
+
+returns-3 : tie.Need-returns-3
+unfolding headerAt
+returns-3 c =
+    record { few = omega arith; is = λ l f. c .before .size .ensures .0 ∙ ap (λ (x : Header). x .counts .boundaries) (c .before .before .before .read-header .ensures) }
+
+pub count-of-spec : {M : Type 1} → statement M
+count-of-spec = tie.close (tie.spec returns read-header-requires size-requires returns-2 returns-3)

@@ -1,0 +1,37 @@
+use Rattle.probe.proofs.PlanningLaws.{plan-own, plan-listed}
+use borrow.Author.Needs.{needs}
+use Rattle.probe.proofs.own_plan.plan_of.Statement.{statement}
+use Rattle.probe.proofs.own_plan.plan_of.Tie as tie
+use Rattle.probe.proofs.own_plan.plan_of.Reads as reads
+use Rattle.probe.proofs.own_plan.plan_of.Lts as lts
+use Rattle.analysis.proofs.plan_reduce.Reads as plan-reduce-reads
+use Rattle.analysis.proofs.plan_reduce_by_list.Reads as plan-reduce-by-list-reads
+
+plan-reduce-requires : tie.Need-plan-reduce-requires
+plan-reduce-requires c κs = search needs
+
+same-length : tie.Need-same-length
+same-length c = search needs
+
+returns : tie.Need-returns
+returns c = plan-own _ _ _ (c .before .before .before .before .before .before .if1 .taken) (c .before .before .plan-reduce .ensures)
+
+plan-reduce-by-list-requires : tie.Need-plan-reduce-by-list-requires
+plan-reduce-by-list-requires c κs = search needs
+
+same-length-2 : tie.Need-same-length-2
+same-length-2 c = search needs
+
+returns-2 : tie.Need-returns-2
+returns-2 c = plan-listed _ _ _ (c .before .before .before .before .before .before .if1 .left) (c .before .before .plan-reduce-by-list .ensures)
+
+pub plan-of-spec : {M : Type 1} → statement M
+plan-of-spec =
+    tie.close
+    (tie.spec
+    plan-reduce-requires
+    same-length
+    returns
+    plan-reduce-by-list-requires
+    same-length-2
+    returns-2)

@@ -1,0 +1,74 @@
+use mathlib.Core.Path.{_≡_, refl, ap}
+use Prim.Native.Nat.{ℕ, _*_}
+use native.Mathlib.Omega.{arith}
+use Rattle.probe.specs.Planning.{refused, short, planned}
+use Rattle.probe.proofs.PlanningLaws.{plan-count, made-parting, made-ranked, made-inside, made-placed}
+use borrow.Author.Needs.{needs}
+use Rattle.probe.proofs.own_plan.probe_plan.Statement.{statement}
+use Rattle.probe.proofs.own_plan.probe_plan.Tie as tie
+use Rattle.probe.proofs.own_plan.probe_plan.Reads as reads
+use Rattle.probe.proofs.own_plan.probe_plan.Lts as lts
+use Rattle.probe.proofs.own_plan.count_of.Reads as count-of-reads
+use Rattle.probe.proofs.own_plan.plan_of.Reads as plan-of-reads
+use Rattle.probe.proofs.own_plan.write_plan.Reads as write-plan-reads
+
+plan-of-requires : tie.Need-plan-of-requires
+plan-of-requires c κs = search needs
+
+same-length : tie.Need-same-length
+same-length c = search needs
+
+returns : tie.Need-returns
+returns c = refused (c .if1 .taken) (c .before .before .before .before .plan-of .ensures .refused (c .if1 .taken)) refl
+
+count-of-requires : tie.Need-count-of-requires
+count-of-requires c κs = search needs
+
+mul-total : tie.Need-mul-total
+mul-total c = search needs
+
+same-length-2 : tie.Need-same-length-2
+same-length-2 c = search needs
+
+returns-2 : tie.Need-returns-2
+returns-2 c =
+    let given = c .before .before .before .before .before .before .before .before .before .before .before .before .before .before .args in
+    let made = c .before .before .before .before .before .before .plan-of .ensures .made (omega (arith, c .before .before .if1 .left)) in
+    let k = plan-count (given .which) (given .job .now) (given .list .now) (λ i. c .before .before .before .before .before .before .before .before .before .before .before .before .before .shared-slice-known .given i .fits) (made .passed) (c .before .count-of .ensures) in
+    short (made-parting made) (omega (arith, c .if2 .taken, k)) refl (ap (λ (x : ℕ). 4 * x) k) refl
+
+write-plan-requires : tie.Need-write-plan-requires
+write-plan-requires c κs =
+    let given = c .before .before .before .before .before .before .before .before .before .before .before .before .before .before .before .before .before .args in
+    let made = c .before .before .before .before .before .before .before .before .before .plan-of .ensures .made (omega (arith, c .before .before .before .before .before .if1 .left)) in
+    let k = plan-count (given .which) (given .job .now) (given .list .now) (λ i. c .before .before .before .before .before .before .before .before .before .before .before .before .before .before .before .before .shared-slice-known .given i .fits) (made .passed) (c .before .before .before .before .count-of .ensures) in
+    (c .before .before .before .before .count-of .ensures .few, made-ranked made k, made-inside made k, c .before .before .before .if2 .left)
+
+same-length-3 : tie.Need-same-length-3
+same-length-3 c = search needs
+
+same-length-4 : tie.Need-same-length-4
+same-length-4 c = search needs
+
+returns-3 : tie.Need-returns-3
+returns-3 c =
+    let given = c .before .before .before .before .before .before .before .before .before .before .before .before .before .before .before .before .before .before .before .before .args in
+    let made = c .before .before .before .before .before .before .before .before .before .before .before .before .plan-of .ensures .made (omega (arith, c .before .before .before .before .before .before .before .before .if1 .left)) in
+    let k = plan-count (given .which) (given .job .now) (given .list .now) (λ i. c .before .before .before .before .before .before .before .before .before .before .before .before .before .before .before .before .before .before .before .shared-slice-known .given i .fits) (made .passed) (c .before .before .before .before .before .before .before .count-of .ensures) in
+    planned (made-parting made) (omega (arith, c .before .before .before .before .before .before .if2 .left, k)) refl (ap (λ (x : ℕ). 4 * x) k) (made-placed made k (c .before .before .write-plan .ensures))
+
+pub probe-plan-spec : {M : Type 1} → statement M
+probe-plan-spec =
+    tie.close
+    (tie.spec
+    plan-of-requires
+    same-length
+    returns
+    count-of-requires
+    mul-total
+    same-length-2
+    returns-2
+    write-plan-requires
+    same-length-3
+    same-length-4
+    returns-3)

@@ -1,0 +1,48 @@
+use mathlib.Core.Path.{refl}
+use native.Mathlib.Omega.{arith}
+use Rattle.analysis.proofs.Calling.{header-there, reduce-job, reduce-headed}
+use Rattle.probe.specs.Regions.{declined, short, told}
+use Rattle.probe.proofs.RegionLaws.{ready-now, ready-passed, ready-room}
+use borrow.Author.Needs.{needs}
+use Rattle.probe.proofs.own_regions.probe_region.Statement.{statement}
+use Rattle.probe.proofs.own_regions.probe_region.Tie as tie
+use Rattle.probe.proofs.own_regions.probe_region.Reads as reads
+use Rattle.probe.proofs.own_regions.probe_region.Lts as lts
+use Rattle.format.proofs.read_header.Reads as read-header-reads
+use Rattle.probe.proofs.own_regions.tell_region.Reads as tell-region-reads
+use Rattle.probe.proofs.own_regions.unready.Reads as unready-reads
+
+unready-requires : tie.Need-unready-requires
+unready-requires c κs = search needs
+
+returns : tie.Need-returns
+returns c = declined (c .if1 .taken) (c .before .before .unready .ensures) refl
+
+returns-2 : tie.Need-returns-2
+returns-2 c = short (ready-now (c .before .before .before .unready .ensures) (omega (arith, c .before .if1 .left))) (c .if2 .taken) refl refl refl
+
+read-header-requires : tie.Need-read-header-requires
+read-header-requires c κs = header-there _ (reduce-job _ (ready-passed (c .before .before .before .unready .ensures) (omega (arith, c .before .if1 .left))))
+
+tell-region-requires : tie.Need-tell-region-requires
+tell-region-requires c κs =
+    let passed = ready-passed (c .before .before .before .before .before .unready .ensures) (omega (arith, c .before .before .before .if1 .left)) in
+    (reduce-headed (λ i. c .before .before .before .before .before .before .before .before .shared-slice-known .given i .fits) passed (c .before .read-header .ensures), ready-room (c .before .before .before .before .before .unready .ensures) (omega (arith, c .before .before .before .if1 .left)), omega (arith, c .before .before .if2 .left))
+
+same-length : tie.Need-same-length
+same-length c = search needs
+
+returns-3 : tie.Need-returns-3
+returns-3 c = told (ready-now (c .before .before .before .before .before .before .before .before .unready .ensures) (omega (arith, c .before .before .before .before .before .before .if1 .left))) (omega (arith, c .before .before .before .before .before .if2 .left)) refl refl (c .before .before .tell-region .ensures)
+
+pub probe-region-spec : {M : Type 1} → statement M
+probe-region-spec =
+    tie.close
+    (tie.spec
+    unready-requires
+    returns
+    returns-2
+    read-header-requires
+    tell-region-requires
+    same-length
+    returns-3)

@@ -1,0 +1,108 @@
+use mathlib.Core.Path.{_∙_, ap}
+use mathlib.Core.List.{List}
+use native.Mathlib.Omega.{arith}
+use Rattle.wire.specs.Bytes.{words, splice}
+use Rattle.analysis.proofs.Headed.{headed-laid, headed-cells}
+use Rattle.analysis.proofs.Mapped.{map-inside, map-long}
+use Rattle.analysis.proofs.Calling.{headed-work}
+use Rattle.probe.proofs.RegionLaws.{bases-there, anchors-there, region-told}
+use borrow.Author.Needs.{needs}
+use Rattle.probe.proofs.own_regions.tell_region.Statement.{statement}
+use Rattle.probe.proofs.own_regions.tell_region.Tie as tie
+use Rattle.probe.proofs.own_regions.tell_region.Reads as reads
+use Rattle.probe.proofs.own_regions.tell_region.Lts as lts
+use Rattle.components.proofs.count_cells.Reads as count-cells-reads
+use Rattle.probe.proofs.own_regions.flag.Reads as flag-reads
+use Rattle.probe.proofs.own_regions.write_words.Reads as write-words-reads
+use Rattle.topology.proofs.anchored.is_anchored.Reads as is-anchored-reads
+use Rattle.topology.proofs.stats.region_stats.Reads as region-stats-reads
+use Rattle.wire.proofs.size.Reads as size-reads
+
+mul-size : tie.Need-mul-size
+mul-size c = omega (arith, headed-cells (c .before .before .before .before .before .before .pre .0))
+
+size-requires : tie.Need-size-requires
+size-requires c κs = search needs
+
+count-cells-requires : tie.Need-count-cells-requires
+count-cells-requires c κs =
+    let d = c .before .before .before .before .before .before .before .pre .0 in
+    let n = c .size .ensures .0 in
+    (omega (arith, n, headed-cells d), omega (arith, n, headed-work d, c .before .before .before .before .before .before .before .pre .1))
+
+add-region-stats : tie.Need-add-region-stats
+add-region-stats c = search needs
+
+sub-region-stats : tie.Need-sub-region-stats
+sub-region-stats c = search needs
+
+part-region-stats-start : tie.Need-part-region-stats-start
+part-region-stats-start c = search needs
+
+part-region-stats-end : tie.Need-part-region-stats-end
+part-region-stats-end c = let d = c .before .before .before .before .before .before .before .before .pre .0 in omega (arith, map-inside (d .header) (headed-laid d) _ (c .before .size .ensures .0))
+
+region-stats-requires : tie.Need-region-stats-requires
+region-stats-requires c κs =
+    let d = c .before .before .before .before .before .before .before .before .before .pre .0 in
+    let long = map-long (d .header) (headed-laid d) _ (c .before .before .size .ensures .0) in
+    (omega (arith, headed-laid d .within .width-some), omega (arith, long, headed-cells d), omega (arith, long, headed-work d, c .before .before .before .before .before .before .before .before .before .pre .1))
+
+size-requires-2 : tie.Need-size-requires-2
+size-requires-2 c κs = search needs
+
+size-requires-3 : tie.Need-size-requires-3
+size-requires-3 c κs = search needs
+
+is-anchored-requires : tie.Need-is-anchored-requires
+is-anchored-requires c κs =
+    let d = c .before .before .before .before .before .before .before .before .before .before .before .before .pre .0 in
+    let n = c .before .before .before .before .before .size .ensures .0 in
+    let at = c .before .size2 .ensures .0 in
+    let count = c .size3 .ensures .0 in
+    (bases-there d at count n, omega (arith, n, headed-cells d), omega (arith, n, headed-work d, c .before .before .before .before .before .before .before .before .before .before .before .before .pre .1), anchors-there d at count n)
+
+flag-requires : tie.Need-flag-requires
+flag-requires c κs = search needs
+
+flag-requires-2 : tie.Need-flag-requires-2
+flag-requires-2 c κs = search needs
+
+slice-aggregate-write-words : tie.Need-slice-aggregate-write-words
+slice-aggregate-write-words c = search needs
+
+write-words-requires : tie.Need-write-words-requires
+write-words-requires c κs = search needs
+
+same-length : tie.Need-same-length
+same-length c = search needs
+
+returns : tie.Need-returns
+returns c =
+    let given = c .before .before .before .before .before .before .before .before .before .before .before .before .before .before .before .before .before .before .before .before .args in
+    c .before .before .write-words .ensures
+    ∙ ap (λ (l : List _). splice (given .out .now) 0 (words l))
+    (region-told (c .before .before .before .before .before .before .before .before .before .before .before .before .before .before .before .before .before .before .before .before .pre .0) (c .before .before .before .before .before .before .before .before .before .size2 .ensures .0) (c .before .before .before .before .before .before .before .before .size3 .ensures .0) (c .before .before .before .before .before .before .before .before .before .before .before .before .before .size .ensures .0) (given .labels .now) (given .region)
+    (c .before .before .before .before .before .before .before .before .before .before .before .before .count-cells .ensures) (c .before .before .before .before .before .before .before .before .before .before .region-stats .ensures) (c .before .before .before .before .before .before .before .is-anchored .ensures) (c .before .before .before .before .before .before .flag .ensures) (c .before .before .before .before .before .flag2 .ensures))
+
+pub tell-region-spec : {M : Type 1} → statement M
+tell-region-spec =
+    tie.close
+    (tie.spec
+    mul-size
+    size-requires
+    count-cells-requires
+    add-region-stats
+    sub-region-stats
+    part-region-stats-start
+    part-region-stats-end
+    region-stats-requires
+    size-requires-2
+    size-requires-3
+    is-anchored-requires
+    flag-requires
+    flag-requires-2
+    slice-aggregate-write-words
+    write-words-requires
+    same-length
+    returns)

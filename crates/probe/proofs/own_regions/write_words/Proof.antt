@@ -1,0 +1,69 @@
+use borrow.Author.Needs.{needs}
+use Prim.Native.Nat.{_*_, _-_, _≤_}
+use native.Mathlib.Omega.{arith}
+use lib.ListN.{length, getD}
+use Rattle.wire.specs.Bytes.{u32Bytes}
+use Rattle.wire.proofs.Numbers.{length-bytes}
+use Rattle.probe.proofs.WritingLaws.{Filled, filled-start, filled-next, filled-words}
+use Rattle.probe.proofs.own_regions.write_words.Statement.{statement}
+use Rattle.probe.proofs.own_regions.write_words.Tie as tie
+use Rattle.probe.proofs.own_regions.write_words.Reads as reads
+use Rattle.probe.proofs.own_regions.write_words.Lts as lts
+use Rattle.wire.proofs.write_u32.Reads as write-u32-reads
+
+abbrev Inv-loop : tie.InvT-loop
+Inv-loop ws out₀ n i₀ out i =
+    (i ≤ length ws) × (length ws ≤ 64) × (4 * length ws ≤ length out₀)
+    × Filled 4 (λ j. u32Bytes (getD ws j 0)) (λ j. length-bytes 4 (getD ws j 0)) out₀ 0 i out
+
+abbrev μ-loop : tie.MeasureT-loop
+μ-loop ws out₀ n i₀ out i = length ws - i
+
+loop-holds : tie.Need-loop-holds Inv-loop μ-loop
+loop-holds c = (omega arith, c .before .before .pre .0, c .before .before .pre .1, filled-start 4 _ _ _ 0)
+
+mul-write-u32 : tie.Need-mul-write-u32 Inv-loop μ-loop
+mul-write-u32 c = search needs
+
+mul-write-u32-2 : tie.Need-mul-write-u32-2 Inv-loop μ-loop
+mul-write-u32-2 c = search needs
+
+shared-slice-read-write-u32 : tie.Need-shared-slice-read-write-u32 Inv-loop μ-loop
+shared-slice-read-write-u32 c = search needs
+
+write-u32-requires : tie.Need-write-u32-requires Inv-loop μ-loop
+write-u32-requires c κs = omega (arith, c .before .before .before .loop .inv .3 .long)
+
+add-i : tie.Need-add-i Inv-loop μ-loop
+add-i c = search needs
+
+loop-less : tie.Need-loop-less Inv-loop μ-loop
+loop-less c = search needs
+
+loop-again : tie.Need-loop-again Inv-loop μ-loop
+loop-again c =
+    let turn = c .before .before .before .before .before .before .loop in
+    (omega arith, turn .inv .1, turn .inv .2, filled-next 4 _ _ (4 * turn .i) (turn .inv .3) (omega arith) (omega arith) (c .before .before .write-u32 .ensures))
+
+same-length : tie.Need-same-length Inv-loop μ-loop
+same-length c = c .before .loop .inv .3 .long
+
+returns : tie.Need-returns Inv-loop μ-loop
+returns c = filled-words (c .before .before .before .before .args .ws .now) (c .before .loop .inv .3) (omega arith)
+
+pub write-words-spec : {M : Type 1} → statement M
+write-words-spec =
+    tie.close
+    (tie.spec
+    Inv-loop
+    μ-loop
+    loop-holds
+    mul-write-u32
+    mul-write-u32-2
+    shared-slice-read-write-u32
+    write-u32-requires
+    add-i
+    loop-less
+    loop-again
+    same-length
+    returns)

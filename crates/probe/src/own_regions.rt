@@ -1,0 +1,121 @@
+// What is known of one region, by the labels of the cells.
+ghost use mathlib.Core.Path.{_≡_};
+ghost use Prim.Native.Nat.{_*_, _≤_};
+ghost use lib.ListN.{length};
+ghost use Rattle.wire.specs.Bytes.{words, splice};
+ghost use Rattle.format.specs.Decode.{decode};
+ghost use Rattle.topology.specs.Held.{one};
+ghost use Rattle.analysis.specs.Plans.{Headed};
+ghost use Rattle.probe.specs.Regions.{Ready, regionWords, cellLabels, Shown};
+use crate::ProbeResult;
+use components::count_cells;
+use format::HEADER_SIZE;
+use format::Header;
+use format::read_header;
+use job::check_reduce;
+use topology::anchored::is_anchored;
+use topology::stats::region_stats;
+use wire::size;
+use wire::write_u32;
+
+// The refusal of a job, or of labels under four bytes a cell.
+pub fn unready(job: &[u8], labels: &[u8]) -> ProbeResult
+    ensures { λ r. ⌜ Ready (now (job .entry)) (now (labels .entry)) (r .number) (r .detail) ⌝ }
+{
+    let v = check_reduce(job);
+    if !v.passed() {
+        return ProbeResult {
+            number: v.number(),
+            detail: v.detail(),
+        };
+    }
+    let h = read_header(job);
+    let c = h.counts;
+    if labels.len() < 4 * size(c.width * c.height) {
+        return ProbeResult {
+            number: 21,
+            detail: 0,
+        };
+    }
+    ProbeResult {
+        number: 0,
+        detail: 0,
+    }
+}
+
+pub fn flag(t: bool) -> u32
+    ensures { λ r. ⌜ r ≡ one t ⌝ }
+{
+    if t { 1 } else { 0 }
+}
+
+// Little-endian words at the start of out.
+pub fn write_words(ws: &[u32], out: &mut [u8])
+    requires { ⌜ (length (now ws) ≤ 64) × (4 * length (now ws) ≤ length (now out)) ⌝ }
+    ensures { λ _. ⌜ now (out .exit) ≡ splice (now (out .entry)) 0 (words (now (ws .entry))) ⌝ }
+{
+    let n = ws.len();
+    let mut i: usize = 0;
+    while i < n {
+        write_u32(out, 4 * i, ws[i]);
+        i += 1;
+    }
+}
+
+// Twelve words: the cells that have the label, the region's statistics, and whether an anchor lies in it.
+fn tell_region(job: &[u8], h: Header, labels: &[u8], region: u32, out: &mut [u8])
+    requires { ⌜ Headed (now job) h × (4 * length (decode (now job) .cells) ≤ length (now labels)) × (48 ≤ length (now out)) ⌝ }
+    ensures { λ _. ⌜ now (out .exit) ≡ splice (now (out .entry)) 0
+        (words (regionWords (decode (now (job .entry))) (cellLabels (now (job .entry)) (now (labels .entry))) region)) ⌝ }
+{
+    let c = h.counts;
+    let o = h.offsets;
+    let width = c.width;
+    let n = size(width * c.height);
+    let counted = count_cells(labels, n, region);
+    let s = region_stats(&job[HEADER_SIZE..HEADER_SIZE + n], width, labels, region);
+    let anchored = is_anchored(job, size(o.bases), size(c.bases), width, labels, n, region);
+    let ws = [
+        counted,
+        s.cells,
+        s.min_x,
+        s.min_y,
+        s.max_x,
+        s.max_y,
+        flag(s.has_ramp),
+        s.level_0,
+        s.level_1,
+        s.level_2,
+        s.level_3,
+        flag(anchored),
+    ];
+    write_words(&ws, out);
+}
+
+// What is known of the region that has the label; labels are as the partition leaves them.
+#[no_mangle]
+pub extern "C" fn probe_region(
+    job: &[u8],
+    labels: &[u8],
+    region: u32,
+    out: &mut [u8],
+) -> ProbeResult
+    ensures { λ r. ⌜ Shown (now (job .entry)) (now (labels .entry)) (words (regionWords (decode (now (job .entry))) (cellLabels (now (job .entry)) (now (labels .entry))) region)) 48
+        (now (out .entry)) (now (out .exit)) (r .number) (r .detail) ⌝ }
+{
+    let r = unready(job, labels);
+    if 0 < r.number {
+        return r;
+    }
+    if out.len() < 48 {
+        return ProbeResult {
+            number: 22,
+            detail: 48,
+        };
+    }
+    tell_region(job, read_header(job), labels, region, out);
+    ProbeResult {
+        number: 0,
+        detail: 48,
+    }
+}
