@@ -7,7 +7,7 @@ ghost use Rattle.assessments.specs.Visits.{mapOf};
 ghost use Rattle.partition.specs.Partitioned.{Partitionable, Partitioned};
 ghost use Rattle.results.specs.Results.{maxPairs};
 ghost use Rattle.analysis.specs.Bridging.{fewPairs, Bridged, MarkedWithin};
-use bridges::bridge_boundaries;
+use bridges::bridge_boundary_indices;
 use grid::neighbors::EIGHT;
 use partition::Partition;
 use partition::partition_by_spans;
@@ -66,7 +66,7 @@ pub fn analyse(
     if most < pairs {
         return p;
     }
-    bridge_boundaries(owners, lefts, rights, pairs, n, work, 4 * n, marks);
+    bridge_boundary_indices(owners, lefts, rights, pairs, n, work, 4 * n, marks);
     p
 }
 

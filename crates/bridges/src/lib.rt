@@ -11,7 +11,7 @@ ghost use Rattle.bridges.specs.Names.{Labelled};
 ghost use Rattle.walk.specs.Slices.{Owners, Lent};
 use numbering::forget_all;
 use numbering::number_all;
-use walk::link;
+use walk::full_graph;
 use walk::walk_all;
 
 // The most records of a walk on short arrays, which cost little to clear.
@@ -64,7 +64,7 @@ fn mark_bridges(
         small_lefts,
         small_rights,
     );
-    link(
+    full_graph(
         small_lefts,
         small_rights,
         count,
@@ -185,7 +185,7 @@ fn mark_many(
 }
 
 // Marks each boundary that is a bridge of the first count records with 1, and every other with 0. The table of words from base on in work is left as it was.
-pub fn bridge_boundaries(
+pub fn bridge_boundary_indices(
     owners: &[u32],
     lefts: &[u32],
     rights: &[u32],

@@ -19,7 +19,7 @@ use Rattle.links.specs.Limits.{Limits}
 use Rattle.links.specs.Geometry.{Vector, cellCentre, dot}
 use Rattle.links.specs.Link.{Link, Bounds}
 use Rattle.links.specs.Flat.{alongTolerance, acrossTolerance, radius, insideOn, insideBoth, insideFlat}
-use Rattle.topology.specs.RegionStats.{elevations}
+use Rattle.topology.specs.RegionStats.{elevationKinds}
 use Rattle.topology.specs.Listing.{Item}
 use Rattle.topology.proofs.RegionStats.{region-cells-iff, ramp-iff}
 use Rattle.topology.proofs.Elevations.{one-elevation-iff}
@@ -95,9 +95,9 @@ module _ (dirs : List ℕ) (g : Grid) (l : List Item) where
     where
       to : isFlat dirs g l r ≡ true → FlatRegion dirs g l r
       to h =
-          let p = and-parts (not (statsOf dirs g l r .hasRamp)) (eqb (elevations (statsOf dirs g l r)) 1) h in
+          let p = and-parts (not (statsOf dirs g l r .hasRamp)) (eqb (elevationKinds (statsOf dirs g l r)) 1) h in
           let n = not-true (statsOf dirs g l r .hasRamp) (p .0) in
-          let o = one-elevation-iff g (regionLabels dirs g l) r .0 (eqb-true (elevations (statsOf dirs g l r)) 1 (p .1)) in
+          let o = one-elevation-iff g (regionLabels dirs g l) r .0 (eqb-true (elevationKinds (statsOf dirs g l r)) 1 (p .1)) in
           record {
             no-ramp = λ c w. is-false (rampCell g c) (λ e. clash (ramp-iff g (regionLabels dirs g l) r .1 (c, cells-iff r c .1 w, e)) n);
             cell = o .cell;
@@ -120,7 +120,7 @@ module _ (dirs : List ℕ) (g : Grid) (l : List Item) where
             is = refl;
             all = λ c m. w .level c (cells-iff r c .0 m);
           }) in
-          and-both plain (eq-eqb (elevations (statsOf dirs g l r)) 1 o)
+          and-both plain (eq-eqb (elevationKinds (statsOf dirs g l r)) 1 o)
 
 module _ (limits : Limits) (dirs : List ℕ) (g : Grid) (anchors : List WalkPosition) (l : List Item) where
   left-iff : (i : ℕ) → (isLeft limits dirs g anchors l i ≡ true) ↔ LeftBySerial limits dirs g anchors l i

@@ -8,7 +8,7 @@ use lib.ListN.{length}
 use Rattle.order.specs.Lists.{keep}
 use Rattle.position.specs.declared.WalkPosition.{WalkPosition}
 use Rattle.grid.specs.Cells.{Grid}
-use Rattle.topology.specs.RegionStats.{elevations}
+use Rattle.topology.specs.RegionStats.{elevationKinds}
 use Rattle.links.specs.Limits.{Limits}
 use Rattle.links.specs.Parallel.{nearbyParallel}
 use Rattle.groups.specs.Tests.{every}
@@ -31,8 +31,8 @@ alike limits l i j = nearbyParallel limits (endsAt l i) (endsAt l j)
 
 -- the region has no ramp cell and just one elevation
 unfoldable pub isFlat : List ℕ → Grid → List Item → ℕ → Bool
-unfolding statsOf elevations
-isFlat dirs g l r = not (statsOf dirs g l r .hasRamp) && eqb (elevations (statsOf dirs g l r)) 1
+unfolding statsOf elevationKinds
+isFlat dirs g l r = not (statsOf dirs g l r .hasRamp) && eqb (elevationKinds (statsOf dirs g l r)) 1
 
 -- every ordered pair of members is nearby and parallel
 unfoldable pub acceptsFlat : Limits → List ℕ → Grid → List Item → Group → Bool

@@ -20,7 +20,7 @@ use Rattle.links.specs.Flat.{insideFlat}
 use Rattle.links.specs.HeldLink.{side, linkAfter, measuredIn}
 use Rattle.links.specs.declared.link.Link.{Link as LinkHeld}
 use Rattle.links.proofs.Cells.{after-measured}
-use Rattle.topology.specs.RegionStats.{RegionStats, regionCells, regionStats, elevations}
+use Rattle.topology.specs.RegionStats.{RegionStats, regionCells, regionStats, elevationKinds}
 use Rattle.topology.specs.Held.{statsIn, statsAfter, firstCells}
 use Rattle.topology.specs.declared.stats.RegionStats.{RegionStats as StatsHeld}
 use Rattle.topology.specs.Listing.{Item}
@@ -83,7 +83,7 @@ module _ {limits : Limits} {own bits regions firsts seconds : List ℕ} {g : Gri
   judge-one {n} {k} {r = r} many l J e q u v =
       judge-next l J (u ∙ ap (λ (t : LinkHeld). cond (passing (measuredIn limits t)) 1 0) e)
       (v
-      ∙ (ap (λ (t : RegionStats). cond (r .inside && (not (t .hasRamp) && eqb (elevations t) 1)) 1 0)
+      ∙ (ap (λ (t : RegionStats). cond (r .inside && (not (t .hasRamp) && eqb (elevationKinds t) 1)) 1 0)
       (q ∙ sym (ap (λ (cs : List ℕ). statsIn (statsAfter g cs)) (ap (λ (z : ℕ). firstCells ls (at regions k) z) (sym many) ∙ cells-all ls (at regions k)) ∙ after-all g ls (at regions k)))
       ∙ ap (λ (t : LinkHeld). cond (flatIn t (statsNow limits own bits regions firsts seconds g ls k n)) 1 0) e))
 
@@ -125,9 +125,9 @@ module _ {limits : Limits} {own bits regions firsts seconds : List ℕ} {g : Gri
         ap (λ (t : Link). insideFlat limits t (g .width) (firstCells ls (at regions k) n)) value
         ∙ ap (λ (cs : List ℕ). insideFlat limits (valueOf l (linkRow regions firsts seconds k)) (g .width) cs) cells
 
-    flat : (not (statsNow limits own bits regions firsts seconds g ls k n .«has_ramp») && eqb (elevations (statsIn (statsNow limits own bits regions firsts seconds g ls k n))) 1) ≡ isFlat dirs g l (at regions k)
+    flat : (not (statsNow limits own bits regions firsts seconds g ls k n .«has_ramp») && eqb (elevationKinds (statsIn (statsNow limits own bits regions firsts seconds g ls k n))) 1) ≡ isFlat dirs g l (at regions k)
     unfolding isFlat
-    flat = ap (λ (t : RegionStats). not (t .hasRamp) && eqb (elevations t) 1) stats
+    flat = ap (λ (t : RegionStats). not (t .hasRamp) && eqb (elevationKinds t) 1) stats
 
     passing-right : at ps k ≡ cond (passes limits dirs g l (linkRow regions firsts seconds k)) 1 0
     unfolding passes
@@ -136,7 +136,7 @@ module _ {limits : Limits} {own bits regions firsts seconds : List ℕ} {g : Gri
     flat-right : at fs k ≡ cond (staysInside limits dirs g l (linkRow regions firsts seconds k) && isFlat dirs g l (at regions k)) 1 0
     flat-right =
         J .flat-is k b
-        ∙ (ap (λ (t : Bool). cond (t && (not (statsNow limits own bits regions firsts seconds g ls k n .«has_ramp») && eqb (elevations (statsIn (statsNow limits own bits regions firsts seconds g ls k n))) 1)) 1 0) inside
+        ∙ (ap (λ (t : Bool). cond (t && (not (statsNow limits own bits regions firsts seconds g ls k n .«has_ramp») && eqb (elevationKinds (statsIn (statsNow limits own bits regions firsts seconds g ls k n))) 1)) 1 0) inside
         ∙ ap (λ (t : Bool). cond (staysInside limits dirs g l (linkRow regions firsts seconds k) && t) 1 0) flat)
 
   pub judged-measured : {n links : ℕ} {ps fs : List ℕ} → length ls ≡ n → Judged limits own bits regions firsts seconds g ls n links ps fs → Measured limits own bits regions firsts seconds g ls links ps fs

@@ -13,7 +13,7 @@ use Rattle.links.specs.Link.{Link, linkOf}
 use Rattle.links.specs.Measure.{passing}
 use Rattle.links.specs.HeldLink.{side, noCell, linkAfter, measuredIn}
 use Rattle.links.specs.declared.link.Link.{Link as LinkHeld}
-use Rattle.topology.specs.RegionStats.{elevations}
+use Rattle.topology.specs.RegionStats.{elevationKinds}
 use Rattle.topology.specs.Held.{statsIn, statsAfter, firstCells}
 use Rattle.topology.specs.declared.stats.RegionStats.{RegionStats as StatsHeld}
 use Rattle.topology.specs.Listing.{Item}
@@ -47,7 +47,7 @@ AllCells limits width ls region n start r = (k : Link) → start ≡ noCell k �
 
 -- the cells of a region stay inside the flat envelope, none is a ramp, and they have one elevation
 abbrev pub flatIn : LinkHeld → StatsHeld → Bool
-flatIn link stats = link .inside && (not (stats .«has_ramp») && eqb (elevations (statsIn stats)) 1)
+flatIn link stats = link .inside && (not (stats .«has_ramp») && eqb (elevationKinds (statsIn stats)) 1)
 
 module _ (limits : Limits) (own bits regions firsts seconds : List ℕ) (g : Grid) (ls : List ℕ) where
   -- link k and its statistics, after the first i cells of the map

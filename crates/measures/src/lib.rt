@@ -116,7 +116,7 @@ fn passing_mark(link: Link, limits: Limits) -> u8
 fn flat_mark(link: Link, stats: RegionStats) -> u8
     ensures { λ r. ⌜ r ≡ cond (flatIn link stats) 1 0 ⌝ }
 {
-    flag(link.inside & (!stats.has_ramp & (stats.elevations() == 1)))
+    flag(link.inside & (!stats.has_ramp & (stats.elevation_kinds() == 1)))
 }
 
 // Measures the links by the cells of their regions, whose numbers are in the table.

@@ -10,8 +10,8 @@ use crate::chain::chain_sum;
 use crate::chain::rank_distance;
 use crate::four::Four;
 use crate::path::all_on;
-use crate::path::ends;
-use crate::path::simple_path;
+use crate::path::group_end_nodes;
+use crate::path::group_is_simple_path;
 use links::limits::Chain;
 use links::limits::Limits;
 
@@ -33,7 +33,7 @@ pub fn accepts_serial(
 {
     let pass = all_on(passing, links);
     let least = limits.least_spans;
-    let path = simple_path(
+    let path = group_is_simple_path(
         limits,
         least,
         lowers,
@@ -47,7 +47,7 @@ pub fn accepts_serial(
     if !(pass & path) {
         return false;
     }
-    let two = ends(firsts, seconds, ranks, links);
+    let two = group_end_nodes(firsts, seconds, ranks, links);
     let sum = chain_sum(own, firsts, seconds, links);
     let far = rank_distance(own, two.index(0), two.index(1));
     let chain = Chain { sum, ends: far };
@@ -69,7 +69,7 @@ pub fn accepts_flat(
     requires { ⌜ (ranks .count ≤ 256) × (links .count ≤ 256) × Ranks (now own) ranks × Links (now own) (now firsts) (now seconds) links ⌝ }
     ensures { λ r. ⌜ r ≡ flatIn (limitsOf limits) (now (own .entry)) (now (lowers .entry)) (now (highers .entry)) (now (regions .entry)) (now (firsts .entry)) (now (seconds .entry)) (listed ranks) (listed links) ⌝ }
 {
-    let path = simple_path(
+    let path = group_is_simple_path(
         limits,
         2,
         lowers,

@@ -11,7 +11,7 @@ use crate::accept::accepts_flat;
 use crate::accept::accepts_serial;
 use crate::gather::links_of;
 use crate::gather::ranks_of;
-use crate::retain::retained;
+use crate::retain::representative;
 use links::limits::Limits;
 
 // The retained rank of the serial group of part c, 256 if the rules refuse it.
@@ -51,7 +51,7 @@ pub fn judge_serial(
     ) {
         return 256;
     }
-    retained(limits, own, bits, ranks)
+    representative(limits, own, bits, ranks)
 }
 
 // The same of the flat group.
@@ -89,5 +89,5 @@ pub fn judge_flat(
     ) {
         return 256;
     }
-    retained(limits, own, bits, ranks)
+    representative(limits, own, bits, ranks)
 }

@@ -9,7 +9,7 @@ ghost use Rattle.plan.specs.Planning.{Parted, SerialPlan, FlatPlan, Plan
 use crate::into::combine;
 use crate::into::into_flat;
 use crate::into::into_serial;
-use crate::parts::find_parts;
+use crate::parts::connected_link_groups;
 use crate::parts::mark_joined;
 use crate::parts::start;
 use crate::select::select_flat;
@@ -28,7 +28,7 @@ fn join_chosen(
     requires { ⌜ Ranked 256 (now firsts) (now seconds) links × (length (now parts) ≡ 256) × (length (now joined) ≡ 256) ⌝ }
     ensures { λ r. ⌜ Parted (now (chosen .entry)) (now (firsts .entry)) (now (seconds .entry)) links (now (parts .exit)) (now (joined .exit)) ⌝ }
 {
-    find_parts(chosen, firsts, seconds, links, parts);
+    connected_link_groups(chosen, firsts, seconds, links, parts);
     mark_joined(chosen, firsts, seconds, links, joined);
 }
 

@@ -67,7 +67,7 @@ fn join_link(parts: &mut [u32; 256], on: u8, first: u32, second: u32)
 }
 
 // The part of each rank, from the last chosen link to the first.
-pub fn find_parts(
+pub fn connected_link_groups(
     chosen: &[u8; 256],
     firsts: &[u32; 256],
     seconds: &[u32; 256],

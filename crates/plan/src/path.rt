@@ -38,7 +38,7 @@ fn links_at(firsts: &[u32; 256], seconds: &[u32; 256], links: Four, i: u32) -> F
 }
 
 // The ranks that one link joins.
-pub fn ends(firsts: &[u32; 256], seconds: &[u32; 256], ranks: Four, links: Four) -> Four
+pub fn group_end_nodes(firsts: &[u32; 256], seconds: &[u32; 256], ranks: Four, links: Four) -> Four
     requires { ⌜ (ranks .count ≤ 256) × (links .count ≤ 256) × Slots 256 links ⌝ }
     ensures { λ r. ⌜ r ≡ held (endsIn (now (firsts .entry)) (now (seconds .entry)) (listed ranks) (listed links)) ⌝ }
 {
@@ -101,7 +101,7 @@ fn outer(
 }
 
 // A path of at least so many ranks and at most the limit's, whose outer regions differ.
-pub fn simple_path(
+pub fn group_is_simple_path(
     limits: Limits,
     least: u32,
     lowers: &[u32; 256],
@@ -116,7 +116,7 @@ pub fn simple_path(
     ensures { λ r. ⌜ r ≡ pathIn (now (lowers .entry)) (now (highers .entry)) (now (regions .entry)) (now (firsts .entry)) (now (seconds .entry)) least (limitsOf limits .mostSpans) (listed ranks) (listed links) ⌝ }
 {
     let size = GroupSize { spans: ranks.count };
-    let two = ends(firsts, seconds, ranks, links);
+    let two = group_end_nodes(firsts, seconds, ranks, links);
     let one = outer(lowers, highers, regions, firsts, seconds, links, two.get(0));
     let other = outer(lowers, highers, regions, firsts, seconds, links, two.get(1));
     let whole = regular(firsts, seconds, ranks, links);

@@ -106,7 +106,7 @@ fn nearest(own: &[u32; 1024], ranks: Four, among: Four) -> usize
 }
 
 // The retained rank of a group.
-pub fn retained(limits: Limits, own: &[u32; 1024], bits: &[u64; 256], ranks: Four) -> usize
+pub fn representative(limits: Limits, own: &[u32; 1024], bits: &[u64; 256], ranks: Four) -> usize
     requires { ⌜ (1 ≤ ranks .count) × (ranks .count ≤ 4) × Ranks (now own) ranks × Widths (now bits) ranks × RankFits (now own) 0 ⌝ }
     ensures { λ r. ⌜ (r ≡ retainedIn (limitsOf limits) (now (own .entry)) (now (bits .entry)) (listed ranks)) × (r < 256) ⌝ }
 {

@@ -9,7 +9,7 @@ ghost use Rattle.walk.specs.Marks.{bridgeMarks};
 ghost use Rattle.probe.specs.Records.{fitting, fitsAt, recordsAt, Loaded, Answer};
 use crate::ProbeResult;
 use crate::copy;
-use bridges::bridge_boundaries;
+use bridges::bridge_boundary_indices;
 use components::zero_fill;
 use wire::read_u32;
 use wire::size;
@@ -76,7 +76,7 @@ fn mark_records(records: &[u8], count: usize, regions: usize, work: &mut [u8], m
     load(records, count, &mut owners, &mut lefts, &mut rights);
     zero_fill(work, 0, 4 * regions);
     let mut found = [0u8; 256];
-    bridge_boundaries(
+    bridge_boundary_indices(
         &owners,
         &lefts,
         &rights,

@@ -4,7 +4,7 @@ use mathlib.Core.Bool.{true, false}
 use mathlib.Core.List.{List, [], _∷_}
 use Prim.Native.Nat.{ℕ}
 use Rattle.grid.specs.Cells.{Grid}
-use Rattle.topology.specs.RegionStats.{regionCells, regionStats, noStats, elevations}
+use Rattle.topology.specs.RegionStats.{regionCells, regionStats, noStats, elevationKinds}
 
 -- region 1 is an L of elevation 0 with a ramp at elevation 1, region 2 the right column
 abbrev block : Grid
@@ -30,6 +30,6 @@ unfolding regionStats
 third = refl
 
 -- a region of two elevations, and a flat one
-levels : (elevations (regionStats block regions 1) ≡ 2) × (elevations (regionStats block regions 2) ≡ 1)
-unfolding regionStats elevations
+levels : (elevationKinds (regionStats block regions 1) ≡ 2) × (elevationKinds (regionStats block regions 2) ≡ 1)
+unfolding regionStats elevationKinds
 levels = (refl, refl)

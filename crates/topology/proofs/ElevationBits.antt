@@ -10,7 +10,7 @@ use borrow.Author.Tests.{ltb-true, lt-ltb}
 use lib.Dec.{ltb}
 use lib.ListN.{getD}
 use Rattle.grid.specs.Cells.{Grid, elevation}
-use Rattle.topology.specs.RegionStats.{regionCells, regionStats, bitsOf, elevationBits}
+use Rattle.topology.specs.RegionStats.{regionCells, regionStats, bitsOf, elevations}
 use Rattle.topology.specs.Held.{one}
 use Rattle.topology.proofs.RegionStats.{elevation-iff}
 
@@ -40,9 +40,9 @@ module _ (g : Grid) (ls : List ℕ) (r e : ℕ) (small : e < 4) where
   count : ℕ
   count = getD (regionStats g ls r .elevationCounts) e 0
 
-  pub elevation-bits-iff : (elevationBits (regionStats g ls r) / 2 ^ e % 2 ≡ 1) ↔ ((i : ℕ) × List·Memᴰ i (regionCells ls r) × (elevation g i ≡ e))
-  unfolding elevationBits count
-  elevation-bits-iff = (
+  pub elevations-iff : (elevations (regionStats g ls r) / 2 ^ e % 2 ≡ 1) ↔ ((i : ℕ) × List·Memᴰ i (regionCells ls r) × (elevation g i ≡ e))
+  unfolding elevations count
+  elevations-iff = (
     λ h. elevation-iff g ls r e small .0 (ltb-true 0 count (one-true (ltb 0 count) (sym (bit-of (regionStats g ls r .elevationCounts) e) ∙ h))),
     λ w. bit-of (regionStats g ls r .elevationCounts) e ∙ ap (λ (t : Bool). cond t 1 0) (lt-ltb 0 count (elevation-iff g ls r e small .1 w)),
   )

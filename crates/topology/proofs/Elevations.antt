@@ -14,7 +14,7 @@ use Rattle.order.proofs.Bools.{clash}
 use Rattle.order.proofs.Members.{getD-mem, mem-getD}
 use Rattle.grid.specs.Cells.{Grid, elevation}
 use Rattle.order.proofs.Keep.{some-kept}
-use Rattle.topology.specs.RegionStats.{regionCells, regionStats, elevations, OneElevation}
+use Rattle.topology.specs.RegionStats.{regionCells, regionStats, elevationKinds, OneElevation}
 use Rattle.topology.proofs.RegionStats.{elevation-small, elevation-iff, elevations-length}
 
 module _ {A : Type 0} (t : A → Bool) (d : A) where
@@ -62,8 +62,8 @@ module _ (g : Grid) (ls : List ℕ) (r : ℕ) where
   counts : List ℕ
   counts = regionStats g ls r .elevationCounts
 
-  pub one-elevation-iff : (elevations (regionStats g ls r) ≡ 1) ↔ OneElevation g ls r
-  unfolding elevations counts
+  pub one-elevation-iff : (elevationKinds (regionStats g ls r) ≡ 1) ↔ OneElevation g ls r
+  unfolding elevationKinds counts
   one-elevation-iff = (to, from)
     where
       counted : {e : ℕ} → e < 4 → (i : ℕ) → List·Memᴰ i (regionCells ls r) → elevation g i ≡ e → ltb 0 (getD counts e 0) ≡ true

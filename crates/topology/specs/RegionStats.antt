@@ -51,18 +51,18 @@ abbrev pub noStats : RegionStats
 noStats = record { cells = 0; minX = 0; minY = 0; maxX = 0; maxY = 0; hasRamp = false; elevationCounts = 0 ∷ 0 ∷ 0 ∷ 0 ∷ [] }
 
 -- how many of the four elevations occur
-unfoldable pub elevations : RegionStats → ℕ
+unfoldable pub elevationKinds : RegionStats → ℕ
 unfolding keep
-elevations s = length (keep (ltb 0) (s .elevationCounts))
+elevationKinds s = length (keep (ltb 0) (s .elevationCounts))
 
 -- 001's set of elevations: bit e is set if a cell has elevation e
 unfoldable pub bitsOf : List ℕ → ℕ
 bitsOf [] = 0
 bitsOf (n ∷ ns) = cond (ltb 0 n) 1 0 + 2 * bitsOf ns
 
-unfoldable pub elevationBits : RegionStats → ℕ
+unfoldable pub elevations : RegionStats → ℕ
 unfolding bitsOf
-elevationBits s = bitsOf (s .elevationCounts)
+elevations s = bitsOf (s .elevationCounts)
 
 -- the meaning of 1: the region has a cell, and all its cells are of one elevation
 pub record OneElevation (g : Grid) (ls : List ℕ) (r : ℕ) : Type 0 where

@@ -4,7 +4,7 @@ ghost use mathlib.Core.Bool.{cond};
 ghost use Prim.Native.Nat.{ℕ, _*_, _/_, _%_, _<_, _≤_, max};
 ghost use lib.ListN.{length};
 ghost use Rattle.areas.specs.Words.{labelsIn};
-ghost use Rattle.topology.specs.RegionStats.{elevationBits, elevations, regionStats};
+ghost use Rattle.topology.specs.RegionStats.{elevations, elevationKinds, regionStats};
 ghost use Rattle.topology.specs.Held.{Room, statsIn, one, lesser, withCell, NoCells};
 use wire::read_u32;
 
@@ -83,8 +83,8 @@ impl RegionStats {
     }
 
     // How many of the four elevations occur.
-    pub fn elevations(self) -> u32
-        ensures { λ r. ⌜ r ≡ elevations (statsIn self) ⌝ }
+    pub fn elevation_kinds(self) -> u32
+        ensures { λ r. ⌜ r ≡ elevationKinds (statsIn self) ⌝ }
     {
         one(0 < self.level_0)
             + one(0 < self.level_1)
@@ -93,8 +93,8 @@ impl RegionStats {
     }
 
     // The set of elevations that occur, bit e for elevation e.
-    pub fn elevation_bits(self) -> u32
-        ensures { λ r. ⌜ r ≡ elevationBits (statsIn self) ⌝ }
+    pub fn elevations(self) -> u32
+        ensures { λ r. ⌜ r ≡ elevations (statsIn self) ⌝ }
     {
         one(0 < self.level_0)
             + 2 * one(0 < self.level_1)

@@ -30,7 +30,7 @@ fn link_record(
 }
 
 // Chains the records that touch each region, in their order, where no chain has a record yet.
-pub fn link(
+pub fn full_graph(
     lefts: &[u32],
     rights: &[u32],
     count: u32,

@@ -4,5 +4,5 @@ mod frame; // a frame of the walk, and what it reads
 mod stack; // the walk's frames, in arrays
 mod walk; // the walk, from every record
 
-pub use chaining::link;
+pub use chaining::full_graph;
 pub use walk::walk_all;

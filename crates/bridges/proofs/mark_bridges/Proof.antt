@@ -3,7 +3,7 @@ use Rattle.bridges.proofs.mark_bridges.Statement.{statement}
 use Rattle.bridges.proofs.mark_bridges.Tie as tie
 use Rattle.bridges.proofs.mark_bridges.Reads as reads
 use Rattle.bridges.proofs.mark_bridges.Lts as lts
-use Rattle.walk.proofs.link.Reads as link-reads
+use Rattle.walk.proofs.full_graph.Reads as full-graph-reads
 use Rattle.bridges.proofs.numbering.forget_all.Reads as forget-all-reads
 use Rattle.bridges.proofs.numbering.number_all.Reads as number-all-reads
 use Rattle.walk.proofs.walk_all.Reads as walk-all-reads
@@ -17,8 +17,8 @@ use Rattle.bridges.proofs.Small.{small-graph, small-marks}
 number-all-requires : tie.Need-number-all-requires
 number-all-requires c κs = search needs
 
-link-requires : tie.Need-link-requires
-link-requires c κs =
+full-graph-requires : tie.Need-full-graph-requires
+full-graph-requires c κs =
     let l = c .before .before .before .before .before .before .before .before .before .before .before .before .before .before .before .before .before .before .before .before .before .before .before .before .before .before .before .before .before .pre .5 in
     (small-graph (c .before .before .before .before .before .before .before .before .before .before .before .before .before .before .before .before .before .before .before .before .before .before .before .before .before .before .before .before .before .pre .2) (c .before .before .before .before .before .before .before .before .before .before .before .number-all .ensures) _ (l .enough) (l .near), unlinked (l .heads-are) (l .left-nexts-are) (l .right-nexts-are) (l .unchained))
 
@@ -26,7 +26,7 @@ walk-all-requires : tie.Need-walk-all-requires
 walk-all-requires c κs =
     let p = c .before .before .before .before .before .before .before .before .before .before .before .before .before .before .before .before .before .before .before .before .before .before .before .before .before .before .before .before .before .before .before .before .before .before .before .before .before .before .before .before .before .before .before .before .before .before .before .pre in
     let l = p .5 in
-    let N = c .before .before .before .before .before .before .before .before .before .before .before .before .before .before .before .before .before .link .ensures in
+    let N = c .before .before .before .before .before .before .before .before .before .before .before .before .before .before .before .before .before .full-graph .ensures in
     let e = N .heads-are in
     (small-graph (p .2) (c .before .before .before .before .before .before .before .before .before .before .before .before .before .before .before .before .before .before .before .before .before .before .before .before .before .before .before .before .before .number-all .ensures) _ (omega (arith, l .enough, e)) (omega (arith, l .near, e)), p .0, p .1, linked-here N, sized-as e (l .sized), l .unfound)
 
@@ -43,13 +43,13 @@ same-length-3 : tie.Need-same-length-3
 same-length-3 c = omega (arith, c .before .before .before .before .before .before .before .before .before .before .before .before .before .before .before .before .before .before .before .before .before .before .before .before .before .before .before .before .before .before .before .before .before .before .before .before .before .before .before .before .before .before .before .before .number-all .kept)
 
 same-length-4 : tie.Need-same-length-4
-same-length-4 c = c .before .before .before .before .before .before .before .before .before .before .before .before .before .before .before .before .before .before .before .before .before .before .before .before .before .before .before .before .before .before .before .before .link .kept .1 .1 .1 .0
+same-length-4 c = c .before .before .before .before .before .before .before .before .before .before .before .before .before .before .before .before .before .before .before .before .before .before .before .before .before .before .before .before .before .before .before .before .full-graph .kept .1 .1 .1 .0
 
 same-length-5 : tie.Need-same-length-5
-same-length-5 c = c .before .before .before .before .before .before .before .before .before .before .before .before .before .before .before .before .before .before .before .before .before .before .before .before .before .before .before .before .before .before .before .before .link .kept .1 .1 .1 .1 .0
+same-length-5 c = c .before .before .before .before .before .before .before .before .before .before .before .before .before .before .before .before .before .before .before .before .before .before .before .before .before .before .before .before .before .before .before .before .full-graph .kept .1 .1 .1 .1 .0
 
 same-length-6 : tie.Need-same-length-6
-same-length-6 c = c .before .before .before .before .before .before .before .before .before .before .before .before .before .before .before .before .before .before .before .before .before .before .before .before .before .before .before .before .before .before .before .before .link .kept .1 .1 .1 .1 .1 .0
+same-length-6 c = c .before .before .before .before .before .before .before .before .before .before .before .before .before .before .before .before .before .before .before .before .before .before .before .before .before .before .before .before .before .before .before .before .full-graph .kept .1 .1 .1 .1 .1 .0
 
 same-length-7 : tie.Need-same-length-7
 same-length-7 c = c .before .before .before .before .before .before .before .before .before .before .before .before .before .before .walk-all .kept .1 .1 .1 .1 .1 .1 .1 .0
@@ -77,7 +77,7 @@ mark-bridges-spec =
     tie.close
     (tie.spec
     number-all-requires
-    link-requires
+    full-graph-requires
     walk-all-requires
     forget-all-requires
     same-length

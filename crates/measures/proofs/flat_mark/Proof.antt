@@ -4,16 +4,16 @@ use Rattle.measures.proofs.flat_mark.Tie as tie
 use Rattle.measures.proofs.flat_mark.Reads as reads
 use Rattle.measures.proofs.flat_mark.Lts as lts
 use Rattle.measures.proofs.flag.Reads as flag-reads
-use Rattle.topology.proofs.stats.RegionStats.elevations.Reads as elevations-reads
+use Rattle.topology.proofs.stats.RegionStats.elevation_kinds.Reads as elevation-kinds-reads
 
-elevations-requires : tie.Need-elevations-requires
-elevations-requires c κs = search needs
+elevation-kinds-requires : tie.Need-elevation-kinds-requires
+elevation-kinds-requires c κs = search needs
 
 flag-requires : tie.Need-flag-requires
 flag-requires c κs = search needs
 
 returns : tie.Need-returns
-returns c = simp (c .flag .ensures, c .before .before .elevations .ensures)
+returns c = simp (c .flag .ensures, c .before .before .elevation-kinds .ensures)
 
 pub flat-mark-spec : {M : Type 1} → statement M
-flat-mark-spec = tie.close (tie.spec elevations-requires flag-requires returns)
+flat-mark-spec = tie.close (tie.spec elevation-kinds-requires flag-requires returns)

@@ -7,7 +7,7 @@ use Rattle.analysis.proofs.bridged.analyse.Statement.{statement}
 use Rattle.analysis.proofs.bridged.analyse.Tie as tie
 use Rattle.analysis.proofs.bridged.analyse.Reads as reads
 use Rattle.analysis.proofs.bridged.analyse.Lts as lts
-use Rattle.bridges.proofs.bridge_boundaries.Reads as bridge-boundaries-reads
+use Rattle.bridges.proofs.bridge_boundary_indices.Reads as bridge-boundary-indices-reads
 use Rattle.partition.proofs.partition_by_spans.Reads as partition-by-spans-reads
 
 partition-by-spans-requires : tie.Need-partition-by-spans-requires
@@ -28,11 +28,11 @@ same-length-4 c = search needs
 returns : tie.Need-returns
 returns c = let r = c .before .before .before .before .before .before .before .before .before .partition-by-spans .ensures in (r, unbridged r (c .if1 .taken))
 
-mul-bridge-boundaries : tie.Need-mul-bridge-boundaries
-mul-bridge-boundaries c = let p = c .before .before .before .before .before .before .before .before .before .before .before .before .before .before .before .before .before .before .before .before .before .before .before .before .before .pre .0 in omega (arith, p .whole, mul-le-mul (p .sides .wide) (p .sides .high))
+mul-bridge-boundary-indices : tie.Need-mul-bridge-boundary-indices
+mul-bridge-boundary-indices c = let p = c .before .before .before .before .before .before .before .before .before .before .before .before .before .before .before .before .before .before .before .before .before .before .before .before .before .pre .0 in omega (arith, p .whole, mul-le-mul (p .sides .wide) (p .sides .high))
 
-bridge-boundaries-requires : tie.Need-bridge-boundaries-requires
-bridge-boundaries-requires c κs =
+bridge-boundary-indices-requires : tie.Need-bridge-boundary-indices-requires
+bridge-boundary-indices-requires c κs =
     let p = c .before .before .before .before .before .before .before .before .before .before .before .before .before .before .before .before .before .before .before .before .before .before .before .before .before .before .pre in
     let r = c .before .before .before .before .before .before .before .before .before .before .before .before .before .before .partition-by-spans .ensures in
     let k = c .before .before .before .before .before .before .before .before .before .before .before .before .before .before .partition-by-spans .kept in
@@ -52,7 +52,7 @@ same-length-8 : tie.Need-same-length-8
 same-length-8 c = search needs
 
 returns-2 : tie.Need-returns-2
-returns-2 c = let r = c .before .before .before .before .before .before .before .before .before .before .before .before .before .before .before .before .before .partition-by-spans .ensures in let e = c .before .before .bridge-boundaries .ensures in (rw (e .1) r, bridged r (e .0))
+returns-2 c = let r = c .before .before .before .before .before .before .before .before .before .before .before .before .before .before .before .before .before .partition-by-spans .ensures in let e = c .before .before .bridge-boundary-indices .ensures in (rw (e .1) r, bridged r (e .0))
 
 pub analyse-spec : {M : Type 1} → statement M
 analyse-spec =
@@ -64,8 +64,8 @@ analyse-spec =
     same-length-3
     same-length-4
     returns
-    mul-bridge-boundaries
-    bridge-boundaries-requires
+    mul-bridge-boundary-indices
+    bridge-boundary-indices-requires
     same-length-5
     same-length-6
     same-length-7

@@ -11,7 +11,7 @@ use Rattle.plan.proofs.judge.judge_flat.Lts as lts
 use Rattle.plan.proofs.accept.accepts_flat.Reads as accepts-flat-reads
 use Rattle.plan.proofs.gather.links_of.Reads as links-of-reads
 use Rattle.plan.proofs.gather.ranks_of.Reads as ranks-of-reads
-use Rattle.plan.proofs.retain.retained.Reads as retained-reads
+use Rattle.plan.proofs.retain.representative.Reads as representative-reads
 
 ranks-of-requires : tie.Need-ranks-of-requires
 ranks-of-requires c κs = c .pre .1 .fit .few
@@ -25,11 +25,11 @@ accepts-flat-requires c κs = (few-kept (inPart (c .before .before .args .joined
 returns : tie.Need-returns
 returns c = (judged-no (flatIn (limitsOf (c .before .before .before .before .args .limits)) (c .before .before .before .before .args .own .now) (c .before .before .before .before .args .lowers .now) (c .before .before .before .before .args .highers .now) (c .before .before .before .before .args .regions .now) (c .before .before .before .before .args .firsts .now) (c .before .before .before .before .args .seconds .now)) (flat-small (limitsOf (c .before .before .before .before .args .limits)) (c .before .before .before .before .args .own .now) (c .before .before .before .before .args .lowers .now) (c .before .before .before .before .args .highers .now) (c .before .before .before .before .args .regions .now) (c .before .before .before .before .args .firsts .now) (c .before .before .before .before .args .seconds .now) (c .before .before .before .before .pre .0)) (ranksIn (c .before .before .before .before .args .n) (c .before .before .before .before .args .joined .now) (c .before .before .before .before .args .parts .now) (c .before .before .before .before .args .c)) (numbersIn (c .before .before .before .before .args .links) (c .before .before .before .before .args .chosen .now) (c .before .before .before .before .args .firsts .now) (c .before .before .before .before .args .parts .now) (c .before .before .before .before .args .c)) (c .before .before .before .ranks-of .ensures) (c .before .before .links-of .ensures) ((retainedIn (limitsOf (c .before .before .before .before .args .limits)) (c .before .before .before .before .args .own .now) (c .before .before .before .before .args .bits .now)) (ranksIn (c .before .before .before .before .args .n) (c .before .before .before .before .args .joined .now) (c .before .before .before .before .args .parts .now) (c .before .before .before .before .args .c))) (c .before .accepts-flat .ensures) (c .if1 .taken), omega arith)
 
-retained-requires : tie.Need-retained-requires
-retained-requires c κs = let s = judged-sizes (flatIn (limitsOf (c .before .before .before .before .args .limits)) (c .before .before .before .before .args .own .now) (c .before .before .before .before .args .lowers .now) (c .before .before .before .before .args .highers .now) (c .before .before .before .before .args .regions .now) (c .before .before .before .before .args .firsts .now) (c .before .before .before .before .args .seconds .now)) (flat-small (limitsOf (c .before .before .before .before .args .limits)) (c .before .before .before .before .args .own .now) (c .before .before .before .before .args .lowers .now) (c .before .before .before .before .args .highers .now) (c .before .before .before .before .args .regions .now) (c .before .before .before .before .args .firsts .now) (c .before .before .before .before .args .seconds .now) (c .before .before .before .before .pre .0)) (ranksIn (c .before .before .before .before .args .n) (c .before .before .before .before .args .joined .now) (c .before .before .before .before .args .parts .now) (c .before .before .before .before .args .c)) (numbersIn (c .before .before .before .before .args .links) (c .before .before .before .before .args .chosen .now) (c .before .before .before .before .args .firsts .now) (c .before .before .before .before .args .parts .now) (c .before .before .before .before .args .c)) (c .before .before .before .ranks-of .ensures) (c .before .before .links-of .ensures) (c .before .accepts-flat .ensures) (c .if1 .left) in (s .0, s .1, ranks-fit (c .before .before .before .before .pre .1) (inPart (c .before .before .before .before .args .joined .now) (c .before .before .before .before .args .parts .now) (c .before .before .before .before .args .c)) (c .before .before .before .ranks-of .ensures), widths-fit (c .before .before .before .before .pre .1) (inPart (c .before .before .before .before .args .joined .now) (c .before .before .before .before .args .parts .now) (c .before .before .before .before .args .c)) (c .before .before .before .ranks-of .ensures), zero-fits (c .before .before .before .before .pre .1))
+representative-requires : tie.Need-representative-requires
+representative-requires c κs = let s = judged-sizes (flatIn (limitsOf (c .before .before .before .before .args .limits)) (c .before .before .before .before .args .own .now) (c .before .before .before .before .args .lowers .now) (c .before .before .before .before .args .highers .now) (c .before .before .before .before .args .regions .now) (c .before .before .before .before .args .firsts .now) (c .before .before .before .before .args .seconds .now)) (flat-small (limitsOf (c .before .before .before .before .args .limits)) (c .before .before .before .before .args .own .now) (c .before .before .before .before .args .lowers .now) (c .before .before .before .before .args .highers .now) (c .before .before .before .before .args .regions .now) (c .before .before .before .before .args .firsts .now) (c .before .before .before .before .args .seconds .now) (c .before .before .before .before .pre .0)) (ranksIn (c .before .before .before .before .args .n) (c .before .before .before .before .args .joined .now) (c .before .before .before .before .args .parts .now) (c .before .before .before .before .args .c)) (numbersIn (c .before .before .before .before .args .links) (c .before .before .before .before .args .chosen .now) (c .before .before .before .before .args .firsts .now) (c .before .before .before .before .args .parts .now) (c .before .before .before .before .args .c)) (c .before .before .before .ranks-of .ensures) (c .before .before .links-of .ensures) (c .before .accepts-flat .ensures) (c .if1 .left) in (s .0, s .1, ranks-fit (c .before .before .before .before .pre .1) (inPart (c .before .before .before .before .args .joined .now) (c .before .before .before .before .args .parts .now) (c .before .before .before .before .args .c)) (c .before .before .before .ranks-of .ensures), widths-fit (c .before .before .before .before .pre .1) (inPart (c .before .before .before .before .args .joined .now) (c .before .before .before .before .args .parts .now) (c .before .before .before .before .args .c)) (c .before .before .before .ranks-of .ensures), zero-fits (c .before .before .before .before .pre .1))
 
 returns-2 : tie.Need-returns-2
-returns-2 c = (judged-yes (flatIn (limitsOf (c .before .before .before .before .before .args .limits)) (c .before .before .before .before .before .args .own .now) (c .before .before .before .before .before .args .lowers .now) (c .before .before .before .before .before .args .highers .now) (c .before .before .before .before .before .args .regions .now) (c .before .before .before .before .before .args .firsts .now) (c .before .before .before .before .before .args .seconds .now)) (flat-small (limitsOf (c .before .before .before .before .before .args .limits)) (c .before .before .before .before .before .args .own .now) (c .before .before .before .before .before .args .lowers .now) (c .before .before .before .before .before .args .highers .now) (c .before .before .before .before .before .args .regions .now) (c .before .before .before .before .before .args .firsts .now) (c .before .before .before .before .before .args .seconds .now) (c .before .before .before .before .before .pre .0)) (ranksIn (c .before .before .before .before .before .args .n) (c .before .before .before .before .before .args .joined .now) (c .before .before .before .before .before .args .parts .now) (c .before .before .before .before .before .args .c)) (numbersIn (c .before .before .before .before .before .args .links) (c .before .before .before .before .before .args .chosen .now) (c .before .before .before .before .before .args .firsts .now) (c .before .before .before .before .before .args .parts .now) (c .before .before .before .before .before .args .c)) (c .before .before .before .before .ranks-of .ensures) (c .before .before .before .links-of .ensures) (retainedIn (limitsOf (c .before .before .before .before .before .args .limits)) (c .before .before .before .before .before .args .own .now) (c .before .before .before .before .before .args .bits .now)) (c .before .before .accepts-flat .ensures) (c .before .if1 .left) (c .retained .ensures .0), omega (arith, c .retained .ensures .1))
+returns-2 c = (judged-yes (flatIn (limitsOf (c .before .before .before .before .before .args .limits)) (c .before .before .before .before .before .args .own .now) (c .before .before .before .before .before .args .lowers .now) (c .before .before .before .before .before .args .highers .now) (c .before .before .before .before .before .args .regions .now) (c .before .before .before .before .before .args .firsts .now) (c .before .before .before .before .before .args .seconds .now)) (flat-small (limitsOf (c .before .before .before .before .before .args .limits)) (c .before .before .before .before .before .args .own .now) (c .before .before .before .before .before .args .lowers .now) (c .before .before .before .before .before .args .highers .now) (c .before .before .before .before .before .args .regions .now) (c .before .before .before .before .before .args .firsts .now) (c .before .before .before .before .before .args .seconds .now) (c .before .before .before .before .before .pre .0)) (ranksIn (c .before .before .before .before .before .args .n) (c .before .before .before .before .before .args .joined .now) (c .before .before .before .before .before .args .parts .now) (c .before .before .before .before .before .args .c)) (numbersIn (c .before .before .before .before .before .args .links) (c .before .before .before .before .before .args .chosen .now) (c .before .before .before .before .before .args .firsts .now) (c .before .before .before .before .before .args .parts .now) (c .before .before .before .before .before .args .c)) (c .before .before .before .before .ranks-of .ensures) (c .before .before .before .links-of .ensures) (retainedIn (limitsOf (c .before .before .before .before .before .args .limits)) (c .before .before .before .before .before .args .own .now) (c .before .before .before .before .before .args .bits .now)) (c .before .before .accepts-flat .ensures) (c .before .if1 .left) (c .representative .ensures .0), omega (arith, c .representative .ensures .1))
 
 pub judge-flat-spec : {M : Type 1} → statement M
 judge-flat-spec =
@@ -39,5 +39,5 @@ judge-flat-spec =
     links-of-requires
     accepts-flat-requires
     returns
-    retained-requires
+    representative-requires
     returns-2)

@@ -5,7 +5,7 @@ use Rattle.probe.proofs.bare_records.mark_records.Statement.{statement}
 use Rattle.probe.proofs.bare_records.mark_records.Tie as tie
 use Rattle.probe.proofs.bare_records.mark_records.Reads as reads
 use Rattle.probe.proofs.bare_records.mark_records.Lts as lts
-use Rattle.bridges.proofs.bridge_boundaries.Reads as bridge-boundaries-reads
+use Rattle.bridges.proofs.bridge_boundary_indices.Reads as bridge-boundary-indices-reads
 use Rattle.components.proofs.zero_fill.Reads as zero-fill-reads
 use Rattle.probe.proofs.bare_records.load.Reads as load-reads
 use Rattle.probe.proofs.copy.Reads as copy-reads
@@ -28,17 +28,17 @@ mul-zero-fill c = search needs
 zero-fill-requires : tie.Need-zero-fill-requires
 zero-fill-requires c κs = search needs
 
-slice-aggregate-bridge-boundaries : tie.Need-slice-aggregate-bridge-boundaries
-slice-aggregate-bridge-boundaries c = search needs
+slice-aggregate-bridge-boundary-indices : tie.Need-slice-aggregate-bridge-boundary-indices
+slice-aggregate-bridge-boundary-indices c = search needs
 
-slice-aggregate-bridge-boundaries-2 : tie.Need-slice-aggregate-bridge-boundaries-2
-slice-aggregate-bridge-boundaries-2 c = search needs
+slice-aggregate-bridge-boundary-indices-2 : tie.Need-slice-aggregate-bridge-boundary-indices-2
+slice-aggregate-bridge-boundary-indices-2 c = search needs
 
-slice-aggregate-bridge-boundaries-3 : tie.Need-slice-aggregate-bridge-boundaries-3
-slice-aggregate-bridge-boundaries-3 c = search needs
+slice-aggregate-bridge-boundary-indices-3 : tie.Need-slice-aggregate-bridge-boundary-indices-3
+slice-aggregate-bridge-boundary-indices-3 c = search needs
 
-bridge-boundaries-requires : tie.Need-bridge-boundaries-requires
-bridge-boundaries-requires c κs =
+bridge-boundary-indices-requires : tie.Need-bridge-boundary-indices-requires
+bridge-boundary-indices-requires c κs =
     let w = c .before .before .before .before .before .before .before .before .before .before .before .before .before .before .before .before .before .before .before .args .work .now in
     let regions = c .before .before .before .before .before .before .before .before .before .before .before .before .before .before .before .before .before .before .before .args .regions in
     let p = c .before .before .before .before .before .before .before .before .before .before .before .before .before .before .before .before .before .before .before .pre in
@@ -47,7 +47,7 @@ bridge-boundaries-requires c κs =
     (loaded-owners regions l (p .2), omega (arith, l .owners-are, p .0), loaded-labels l (p .0) (p .2), zero-room w regions z (p .3), zero-table w regions z (p .3))
 
 slice-aggregate-copy : tie.Need-slice-aggregate-copy
-slice-aggregate-copy c = found-length _ (c .before .before .before .before .bridge-boundaries .ensures .0)
+slice-aggregate-copy c = found-length _ (c .before .before .before .before .bridge-boundary-indices .ensures .0)
 
 copy-requires : tie.Need-copy-requires
 copy-requires c κs = search needs
@@ -61,7 +61,7 @@ same-length-2 c = search needs
 returns : tie.Need-returns
 returns c =
     let a = c .before .before .before .before .before .before .before .before .before .before .before .before .before .before .before .before .before .before .before .before .before .before .before .before .before .before .before .args in
-    let b = c .before .before .before .before .before .before .before .bridge-boundaries .ensures in
+    let b = c .before .before .before .before .before .before .before .bridge-boundary-indices .ensures in
     (zero-end (a .work .now) (a .regions) (b .1) (c .before .before .before .before .before .before .before .before .before .before .before .before .before .before .before .zero-fill .ensures), marks-end (a .marks .now) (c .before .before .before .before .before .before .before .before .before .before .before .before .before .before .before .before .before .before .before .before .load .ensures) (b .0) (c .before .before .before .before .before .before .before .before .before .before .before .before .before .before .before .before .before .before .before .before .before .before .before .before .before .before .before .pre .4) (c .before .before .copy .ensures .1))
 
 pub mark-records-spec : {M : Type 1} → statement M
@@ -74,10 +74,10 @@ mark-records-spec =
     load-requires
     mul-zero-fill
     zero-fill-requires
-    slice-aggregate-bridge-boundaries
-    slice-aggregate-bridge-boundaries-2
-    slice-aggregate-bridge-boundaries-3
-    bridge-boundaries-requires
+    slice-aggregate-bridge-boundary-indices
+    slice-aggregate-bridge-boundary-indices-2
+    slice-aggregate-bridge-boundary-indices-3
+    bridge-boundary-indices-requires
     slice-aggregate-copy
     copy-requires
     same-length

@@ -1,11 +1,8 @@
-use Rattle.topology.proofs.Counting.{four-levels}
-use Rattle.topology.specs.RegionStats.{elevations}
 use borrow.Author.Needs.{needs}
+use Rattle.topology.specs.RegionStats.{elevations}
+use Rattle.topology.proofs.ElevationBits.{bits-are}
 use Rattle.topology.proofs.stats.RegionStats.elevations.Statement.{statement}
 use Rattle.topology.proofs.stats.RegionStats.elevations.Tie as tie
-use Rattle.topology.proofs.stats.RegionStats.elevations.Reads as reads
-use Rattle.topology.proofs.stats.RegionStats.elevations.Lts as lts
-use Rattle.topology.proofs.stats.one.Reads as one-reads
 
 one-requires : tie.Need-one-requires
 one-requires c κs = search needs
@@ -13,11 +10,17 @@ one-requires c κs = search needs
 one-requires-2 : tie.Need-one-requires-2
 one-requires-2 c κs = search needs
 
+mul-result : tie.Need-mul-result
+mul-result c = search needs
+
 add-result : tie.Need-add-result
 add-result c = search needs
 
 one-requires-3 : tie.Need-one-requires-3
 one-requires-3 c κs = search needs
+
+mul-result-2 : tie.Need-mul-result-2
+mul-result-2 c = search needs
 
 add-result-2 : tie.Need-add-result-2
 add-result-2 c = search needs
@@ -25,12 +28,21 @@ add-result-2 c = search needs
 one-requires-4 : tie.Need-one-requires-4
 one-requires-4 c κs = search needs
 
+mul-result-3 : tie.Need-mul-result-3
+mul-result-3 c = search needs
+
 add-result-3 : tie.Need-add-result-3
 add-result-3 c = search needs
 
 returns : tie.Need-returns
 unfolding elevations
-returns c = simp (c .one4 .ensures .0, c .before .before .one3 .ensures .0, c .before .before .before .before .one2 .ensures .0, c .before .before .before .before .before .before .one .ensures .0) (four-levels (c .before .before .before .before .before .before .before .before .args .self .«level_0») (c .before .before .before .before .before .before .before .before .args .self .«level_1») (c .before .before .before .before .before .before .before .before .args .self .«level_2») (c .before .before .before .before .before .before .before .before .args .self .«level_3»))
+returns c =
+    let third = c .before .before in
+    let second = third .before .before in
+    let first = second .before .before in
+    let own = first .before .before .args .self in
+    simp (c .one4 .ensures .0, third .one3 .ensures .0, second .one2 .ensures .0, first .one .ensures .0)
+    (bits-are (own .«level_0») (own .«level_1») (own .«level_2») (own .«level_3»))
 
 pub elevations-spec : {M : Type 1} → statement M
 elevations-spec =
@@ -38,9 +50,12 @@ elevations-spec =
     (tie.spec
     one-requires
     one-requires-2
+    mul-result
     add-result
     one-requires-3
+    mul-result-2
     add-result-2
     one-requires-4
+    mul-result-3
     add-result-3
     returns)

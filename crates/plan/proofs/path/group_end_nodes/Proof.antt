@@ -8,10 +8,10 @@ use Rattle.plan.specs.Four.{slot, listed}
 use Rattle.plan.proofs.FourLaws.{Picked, picked-start, picked-room, picked-next}
 use Rattle.plan.proofs.ShapeLaws.{held-count}
 use Rattle.plan.proofs.ValueLaws.{ends-whole}
-use Rattle.plan.proofs.path.ends.Statement.{statement}
-use Rattle.plan.proofs.path.ends.Tie as tie
-use Rattle.plan.proofs.path.ends.Reads as reads
-use Rattle.plan.proofs.path.ends.Lts as lts
+use Rattle.plan.proofs.path.group_end_nodes.Statement.{statement}
+use Rattle.plan.proofs.path.group_end_nodes.Tie as tie
+use Rattle.plan.proofs.path.group_end_nodes.Reads as reads
+use Rattle.plan.proofs.path.group_end_nodes.Lts as lts
 use Rattle.plan.proofs.four.Four.get.Reads as get-reads
 use Rattle.plan.proofs.four.Four.none.Reads as none-reads
 use Rattle.plan.proofs.four.Four.with.Reads as with-reads
@@ -50,8 +50,8 @@ loop-again c = (omega (arith, c .before .before .before .before .before .loop .i
 returns : tie.Need-returns Inv-loop μ-loop
 returns c = ends-whole (c .before .before .before .args .firsts .now) (c .before .before .before .args .seconds .now) (listed (c .before .before .before .args .links)) (c .before .before .before .args .ranks) (c .before .loop .inv .1) (omega (arith, c .loop-test .left))
 
-pub ends-spec : {M : Type 1} → statement M
-ends-spec =
+pub group-end-nodes-spec : {M : Type 1} → statement M
+group-end-nodes-spec =
     tie.close
     (tie.spec
     Inv-loop

@@ -4,10 +4,10 @@ use Prim.Native.Nat.{_+_, _-_, _≤_, _<_}
 use borrow.Author.Needs.{needs}
 use Rattle.walk.specs.Slices.{Linked}
 use Rattle.walk.proofs.Chains.{linked-one, linked-as}
-use Rattle.walk.proofs.chaining.link.Statement.{statement}
-use Rattle.walk.proofs.chaining.link.Tie as tie
-use Rattle.walk.proofs.chaining.link.Reads as reads
-use Rattle.walk.proofs.chaining.link.Lts as lts
+use Rattle.walk.proofs.chaining.full_graph.Statement.{statement}
+use Rattle.walk.proofs.chaining.full_graph.Tie as tie
+use Rattle.walk.proofs.chaining.full_graph.Reads as reads
+use Rattle.walk.proofs.chaining.full_graph.Lts as lts
 use Rattle.walk.proofs.chaining.link_record.Reads as link-record-reads
 use lib.ListN.{length}
 
@@ -59,8 +59,8 @@ returns c =
     subst (Linked (c .before .before .before .before .before .before .before .args .count) (length (c .before .before .before .before .before .before .before .args .heads .now)) (c .before .before .before .before .before .before .before .args .lefts .now) (c .before .before .before .before .before .before .before .args .rights .now) (c .before .loop .heads) (c .before .loop .left-nexts) (c .before .loop .right-nexts))
     (let z : c .before .loop .k ≡ 0 = omega (arith, c .loop-test .left) in z) (c .before .loop .inv .3)
 
-pub link-spec : {M : Type 1} → statement M
-link-spec =
+pub full-graph-spec : {M : Type 1} → statement M
+full-graph-spec =
     tie.close
     (tie.spec
     Inv-loop

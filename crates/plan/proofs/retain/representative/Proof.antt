@@ -5,10 +5,10 @@ use Rattle.plan.specs.Four.{listed}
 use Rattle.plan.proofs.ShapeLaws.{kept-slots}
 use Rattle.plan.proofs.ValueLaws.{eligible-as, retained-none, retained-some, positive}
 use borrow.Author.Needs.{needs}
-use Rattle.plan.proofs.retain.retained.Statement.{statement}
-use Rattle.plan.proofs.retain.retained.Tie as tie
-use Rattle.plan.proofs.retain.retained.Reads as reads
-use Rattle.plan.proofs.retain.retained.Lts as lts
+use Rattle.plan.proofs.retain.representative.Statement.{statement}
+use Rattle.plan.proofs.retain.representative.Tie as tie
+use Rattle.plan.proofs.retain.representative.Reads as reads
+use Rattle.plan.proofs.retain.representative.Lts as lts
 use Rattle.links.proofs.geometry.width_of.Reads as width-of-reads
 use Rattle.plan.proofs.four.Four.index.Reads as index-reads
 use Rattle.plan.proofs.retain.eligible.Reads as eligible-reads
@@ -36,8 +36,8 @@ nearest-requires c κs = (c .before .before .before .before .before .pre .0, c .
 returns-2 : tie.Need-returns-2
 returns-2 c = (retained-some (limitsOf (c .before .before .before .before .before .before .args .limits)) (c .before .before .before .before .before .before .args .own .now) (c .before .before .before .before .before .before .args .bits .now) (c .before .before .before .before .before .before .args .ranks) (eligible-as (limitsOf (c .before .before .before .before .before .before .args .limits)) (c .before .before .before .before .before .before .args .bits .now) (listed (c .before .before .before .before .before .before .args .ranks)) (c .before .before .before .before .width-of .ensures) (c .before .before .before .before .before .least-bits .ensures .0) (c .before .before .before .eligible .ensures)) (c .before .before .before .before .before .before .pre .1) (c .before .if1 .left) (c .nearest .ensures .0), c .nearest .ensures .1)
 
-pub retained-spec : {M : Type 1} → statement M
-retained-spec =
+pub representative-spec : {M : Type 1} → statement M
+representative-spec =
     tie.close
     (tie.spec
     least-bits-requires

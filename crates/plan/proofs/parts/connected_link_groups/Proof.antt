@@ -3,10 +3,10 @@ use native.Mathlib.Omega.{arith}
 use borrow.Author.Needs.{needs}
 use Rattle.plan.specs.Arrays.{partFrom, Filled}
 use Rattle.plan.proofs.ArrayLaws.{parts-start, parts-next, parts-end}
-use Rattle.plan.proofs.parts.find_parts.Statement.{statement}
-use Rattle.plan.proofs.parts.find_parts.Tie as tie
-use Rattle.plan.proofs.parts.find_parts.Reads as reads
-use Rattle.plan.proofs.parts.find_parts.Lts as lts
+use Rattle.plan.proofs.parts.connected_link_groups.Statement.{statement}
+use Rattle.plan.proofs.parts.connected_link_groups.Tie as tie
+use Rattle.plan.proofs.parts.connected_link_groups.Reads as reads
+use Rattle.plan.proofs.parts.connected_link_groups.Lts as lts
 use Rattle.plan.proofs.parts.join_link.Reads as join-link-reads
 use Rattle.plan.proofs.parts.start.Reads as start-reads
 
@@ -52,8 +52,8 @@ loop-again c = let l : c .before .before .before .before .before .before .loop .
 returns : tie.Need-returns Inv-loop μ-loop
 returns c = parts-end (c .before .before .before .before .args .chosen .now) (c .before .before .before .before .args .firsts .now) (c .before .before .before .before .args .seconds .now) (c .before .before .before .before .args .links) (c .before .loop .inv .1) (omega (arith, c .loop-test .left))
 
-pub find-parts-spec : {M : Type 1} → statement M
-find-parts-spec =
+pub connected-link-groups-spec : {M : Type 1} → statement M
+connected-link-groups-spec =
     tie.close
     (tie.spec
     Inv-loop

@@ -1,8 +1,8 @@
 use borrow.Author.Needs.{needs}
-use Rattle.bridges.proofs.bridge_boundaries.Statement.{statement}
-use Rattle.bridges.proofs.bridge_boundaries.Tie as tie
-use Rattle.bridges.proofs.bridge_boundaries.Reads as reads
-use Rattle.bridges.proofs.bridge_boundaries.Lts as lts
+use Rattle.bridges.proofs.bridge_boundary_indices.Statement.{statement}
+use Rattle.bridges.proofs.bridge_boundary_indices.Tie as tie
+use Rattle.bridges.proofs.bridge_boundary_indices.Reads as reads
+use Rattle.bridges.proofs.bridge_boundary_indices.Lts as lts
 use Rattle.bridges.proofs.mark_few.Reads as mark-few-reads
 use Rattle.bridges.proofs.mark_many.Reads as mark-many-reads
 use mathlib.Core.Path.{refl}
@@ -32,8 +32,8 @@ same-length-2 c = search needs
 returns-3 : tie.Need-returns-3
 returns-3 c = search needs
 
-pub bridge-boundaries-spec : {M : Type 1} → statement M
-bridge-boundaries-spec =
+pub bridge-boundary-indices-spec : {M : Type 1} → statement M
+bridge-boundary-indices-spec =
     tie.close
     (tie.spec
     returns
