@@ -1,5 +1,5 @@
--- Chains: groups that are a simple path between two different regions. Requirement: "one link fewer, two ends of degree 1 and none over 2,
--- the outer regions differ".
+-- Chains: groups that are a simple path between two different regions, 000's `group_is_simple_path`: one link fewer than boundaries, two ends that one link
+-- joins, two links at any other, and outer regions that differ.
 use mathlib.Core.Path.{_≡_}
 use mathlib.Core.Logic.{_↔_, _⊎_}
 use mathlib.Core.List.{List, List·Memᴰ}
