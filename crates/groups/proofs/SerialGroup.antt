@@ -102,7 +102,7 @@ from-ends l most {j = j} {x = x} e f h =
     subst (λ (v : ℕ). le (rankDistance l x v) most ≡ true) f (subst (λ (v : ℕ). le (rankDistance l v j) most ≡ true) e h)
 
 module _ (limits : Limits) (dirs : List ℕ) (g : Grid) (anchors : List WalkPosition) (l : List Item) where
-  passes-iff : (k : LinkAt) → (passes limits dirs g l k ≡ true) ↔ Passes limits dirs g anchors l k
+  passes-iff : (k : LinkAt) → (passes limits dirs g l k ≡ true) ↔ Passes limits dirs g l k
   unfolding passes measuredAt
   passes-iff k = (
     λ h. let w = passing-within (measuredAt limits dirs g l k) h in record { transverse = w .0; longitudinal = w .1; is = w .2 },

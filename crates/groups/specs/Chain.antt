@@ -1,5 +1,5 @@
--- Chains: groups that are a simple path between two different regions, 000's `group_is_simple_path`: one link fewer than boundaries, two ends that one link
--- joins, two links at any other, and outer regions that differ.
+-- Chains: groups that are a simple path between two different regions, by 000's `group_is_simple_path`: one link fewer than ranks,
+-- two ends with one link, two links at every other rank, and different regions past the ends.
 use mathlib.Core.Path.{_≡_}
 use mathlib.Core.Logic.{_↔_, _⊎_}
 use mathlib.Core.List.{List, List·Memᴰ}
@@ -27,7 +27,7 @@ module _ (a : Group) where
     pub differ : lower .region < higher .region
     pub just : (h : LinkAt) → (LinkOf a h × Joins h i) ↔ ((h ≡ lower) ⊎ (h ≡ higher))
 
--- r is the other region of a pair of the boundary that has the region of a link
+-- a pair of the boundary has the region, and r is the pair's other one
 pub record Beyond (s : Assessment) (region r : ℕ) : Type 0 where
   pub pair : RegionPair
   pub own : List·Memᴰ pair (s .pairs)

@@ -39,11 +39,11 @@ pub record FlatRegion (dirs : List ℕ) (g : Grid) (l : List Item) (r : ℕ) : T
   pub lies : LiesIn dirs g l r cell
   pub level : (c : ℕ) → LiesIn dirs g l r c → elevation g c ≡ elevation g cell
 
-module _ (limits : Limits) (dirs : List ℕ) (g : Grid) (anchors : List WalkPosition) (l : List Item) where
-  -- the spans of two ranks are nearby and parallel, the first with the second
-  abbrev pub Alike : ℕ → ℕ → Type 0
-  Alike i j = nearbyParallel limits (endsAt l i) (endsAt l j) ≡ true
+-- the spans of two ranks are nearby and parallel, the first with the second
+abbrev pub Alike : Limits → List Item → ℕ → ℕ → Type 0
+Alike limits l i j = nearbyParallel limits (endsAt l i) (endsAt l j) ≡ true
 
+module _ (limits : Limits) (dirs : List ℕ) (g : Grid) (anchors : List WalkPosition) (l : List Item) where
   -- the rank is in no accepted serial group
   abbrev pub LeftBySerial : ℕ → Type 0
   LeftBySerial i = (a : Group) → SerialGroup limits dirs g anchors l a → List·Memᴰ i (a .ranks) → ⊥
@@ -54,11 +54,11 @@ module _ (limits : Limits) (dirs : List ℕ) (g : Grid) (anchors : List WalkPosi
     pub flat : FlatRegion dirs g l (k .region)
     pub first-left : LeftBySerial (k .first)
     pub second-left : LeftBySerial (k .second)
-    pub alike : Alike (k .first) (k .second)
+    pub alike : Alike limits l (k .first) (k .second)
 
   pub record FlatGroup (a : Group) : Type 0 where
     pub part : ConnectedPart FlatLink a
     -- "(2 to 4)"
     pub chain : Chain limits dirs g l 2 a
     -- each member with each, in both orders
-    pub alike : (i j : ℕ) → List·Memᴰ i (a .ranks) → List·Memᴰ j (a .ranks) → Alike i j
+    pub alike : (i j : ℕ) → List·Memᴰ i (a .ranks) → List·Memᴰ j (a .ranks) → Alike limits l i j

@@ -30,17 +30,17 @@ module _ (dirs : List ℕ) (g : Grid) (anchors : List WalkPosition) (l : List It
     pub first-bridge : Bridge (records dirs g (spansOf l)) (k .first)
     pub second-bridge : Bridge (records dirs g (spansOf l)) (k .second)
 
-module _ (limits : Limits) (dirs : List ℕ) (g : Grid) (anchors : List WalkPosition) (l : List Item) where
-  -- "The measured link is empty, or within, or beyond": it is within, with these envelopes
-  pub record Passes (k : LinkAt) : Type 0 where
-    pub transverse : Float
-    pub longitudinal : Float
-    pub is : measured limits (valueOf l k) (g .width) (cellsOf dirs g l (k .region)) ≡ within transverse longitudinal
+-- "The measured link is empty, or within, or beyond": it is within, with these envelopes
+pub record Passes (limits : Limits) (dirs : List ℕ) (g : Grid) (l : List Item) (k : LinkAt) : Type 0 where
+  pub transverse : Float
+  pub longitudinal : Float
+  pub is : measured limits (valueOf l k) (g .width) (cellsOf dirs g l (k .region)) ≡ within transverse longitudinal
 
+module _ (limits : Limits) (dirs : List ℕ) (g : Grid) (anchors : List WalkPosition) (l : List Item) where
   pub record SerialGroup (a : Group) : Type 0 where
     pub part : ConnectedPart (SerialLink dirs g anchors l) a
     -- "every link passing": one that fails rejects the whole part
-    pub passing : (k : LinkAt) → LinkOf a k → Passes k
+    pub passing : (k : LinkAt) → LinkOf a k → Passes limits dirs g l k
     -- "3 or 4 spans"
     pub chain : Chain limits dirs g l (limits .leastSpans) a
     -- the sum of its centre distances, in ascending order

@@ -188,7 +188,7 @@ module _ (limits : Limits) (dirs : List ℕ) (j : Job) (ss : List Span) where
       let w = Memᴰ·of-map canonItem (itemsOf run) (perm-mem (Permᴰ·symm (listing-perm (map canonItem (itemsOf run)))) m) in
       subst (λ (x : Item). x .boundary .bits ≤ maxWidthBits) (w .2) (h (w .0 .boundary) (item-boundary (j .boundaries) ss (w .1)))
 
-  -- "with widths that pass" the kept member is the one of 000's `representative`
+  -- where the widths are those of an accepted job the kept member is the one of 000's `representative`
   pub accepted-representative : Tolerant limits → ((b : Boundary) → List·Memᴰ b (j .boundaries) → b .bits ≤ maxWidthBits) →
       (g : Group) → AcceptedGroup limits dirs j ss g → IsRetained limits (listingOf j ss) (g .ranks) (g .retained)
   accepted-representative o h g w =
