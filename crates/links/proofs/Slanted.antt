@@ -30,7 +30,8 @@ unfolding measured judged extremes linkOf canonical widenedBy lengthOf squares o
 narrow-within = refl
 
 narrow-limits :
-    transverseLimit limits000 narrow ∷ longitudinalLimit limits000 narrow ∷ [] ≡ ofBits binary64 0x4031_421A_B2E8_0133 ∷ ofBits binary64 0x4035_84B7_9367_370E ∷ []
+    transverseLimit limits000 narrow ∷ longitudinalLimit limits000 narrow ∷ []
+    ≡ ofBits binary64 0x4031_421A_B2E8_0133 ∷ ofBits binary64 0x4035_84B7_9367_370E ∷ []
 unfolding linkOf lengthOf squares ofInt ofBits add sub mul div lt
 narrow-limits = refl
 
