@@ -30,7 +30,8 @@ unfolding measured judged extremes linkOf canonical widenedBy lengthOf squares o
 narrow-within = refl
 
 narrow-limits :
-    transverseLimit limits000 narrow ∷ longitudinalLimit limits000 narrow ∷ [] ≡ ofBits binary64 0x4031_421A_B2E8_0133 ∷ ofBits binary64 0x4035_84B7_9367_370E ∷ []
+    transverseLimit limits000 narrow ∷ longitudinalLimit limits000 narrow ∷ []
+    ≡ ofBits binary64 0x4031_421A_B2E8_0133 ∷ ofBits binary64 0x4035_84B7_9367_370E ∷ []
 unfolding linkOf lengthOf squares ofInt ofBits add sub mul div lt
 narrow-limits = refl
 
@@ -57,8 +58,8 @@ long-beyond :
 unfolding measured judged extremes linkOf canonical widenedBy lengthOf squares ofInt ofBits neg add sub mul div lt le
 long-beyond = refl
 
--- Two rows of one cell's width that reach down from a row, in maps of 5 columns: their last cells are past the spans' ends by just a quarter of the width.
--- One unit less of width, and they are outside.
+-- Columns of cells that reach down from a row, in maps 5 cells wide: the last cell is past the spans' ends by just a quarter of the width.
+-- One unit less of width, and it is outside.
 abbrev deep : ℕ → Link
 deep bits = between bits (span 7 0 9 10) (span 16 0 20 9)
 
