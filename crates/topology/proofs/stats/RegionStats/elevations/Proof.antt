@@ -1,3 +1,4 @@
+use native.Mathlib.Omega.{arith}
 use borrow.Author.Needs.{needs}
 use Rattle.topology.specs.RegionStats.{elevations}
 use Rattle.topology.proofs.ElevationBits.{bits-are}
@@ -41,8 +42,14 @@ returns c =
     let second = third .before .before in
     let first = second .before .before in
     let own = first .before .before .args .self in
-    simp (c .one4 .ensures .0, third .one3 .ensures .0, second .one2 .ensures .0, first .one .ensures .0)
-    (bits-are (own .«level_0») (own .«level_1») (own .«level_2») (own .«level_3»))
+    omega (
+      arith,
+      bits-are (own .«level_0») (own .«level_1») (own .«level_2») (own .«level_3»),
+      c .one4 .ensures .0,
+      third .one3 .ensures .0,
+      second .one2 .ensures .0,
+      first .one .ensures .0,
+    )
 
 pub elevations-spec : {M : Type 1} → statement M
 elevations-spec =
