@@ -3,6 +3,7 @@
 use crate::calls::TABLE;
 use crate::checks::{Refusal, BY_LIST, MARK};
 use crate::damage::REFUSALS;
+use crate::regions::{ENVELOPES, LINKS, REGIONS};
 use std::collections::BTreeMap;
 
 pub const CALLS: [&str; 3] = ["Reduce", "Reduce by list", "Mark"];
@@ -11,7 +12,7 @@ const NUMBERS: usize = 18;
 const WHOLE: [u32; 4] = [13, 21, 22, 23];
 
 /// What a whole run must have seen at least once.
-const WANTED: [&str; 26] = [
+const WANTED: [&str; 34] = [
     "partitions held to the definitions",
     "partitions with a span that cuts nothing",
     "partitions with a span that goes round",
@@ -38,6 +39,14 @@ const WANTED: [&str; 26] = [
     "runs with both kinds",
     "relistings",
     "merges one at a time",
+    REGIONS,
+    "regions with an anchor",
+    "regions of several elevations",
+    LINKS,
+    ENVELOPES,
+    "links within",
+    "links beyond",
+    "links outside the flat envelope",
 ];
 
 #[derive(Default)]
