@@ -9,7 +9,7 @@ use crate::orders::{numbers, Order, ORDERS};
 use crate::rng::Rng;
 use crate::run::Run;
 use crate::tally::Tally;
-use crate::{corridors, merging, partition, records, slanted, whole};
+use crate::{corridors, merging, partition, records, regions, slanted, whole};
 
 /// How many cases of a family are run in a round, and what one is.
 struct Family {
@@ -53,10 +53,11 @@ pub fn round(run: &mut Run, done: u64) -> u64 {
     done + all
 }
 
-/// The partition, and all calls in whole.
+/// The partition, all calls in whole, and the regions and links.
 fn on_maps(input: &Input, lent: &mut Lent, rng: &mut Rng, tally: &mut Tally) -> Result<(), String> {
     partition::compare(input, lent, rng, tally)?;
-    whole::compare(input, lent, rng, tally)
+    whole::compare(input, lent, rng, tally)?;
+    regions::compare(input, lent, rng, tally)
 }
 
 /// Every map of 2 x 2 cells with every span between points about centres, edges and corners.

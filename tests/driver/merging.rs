@@ -6,6 +6,7 @@ use crate::checks::{BY_LIST, REDUCE};
 use crate::draft::Input;
 use crate::expect::{self, Accepted, Expected, MOST_PAIRS};
 use crate::lent::Lent;
+use crate::regions;
 use crate::rng::Rng;
 use crate::rust::Group;
 use crate::tally::{Tally, CALLS, PLANS, RELISTINGS, WHOLE};
@@ -29,7 +30,8 @@ pub fn compare(
         plan(call, input, &accepted, &groups, lent, rng, tally)?;
         relistings(call, input, &groups, lent, rng, tally)?;
     }
-    whole::compare(input, lent, rng, tally)
+    whole::compare(input, lent, rng, tally)?;
+    regions::compare(input, lent, rng, tally)
 }
 
 /// Where each boundary goes, by input index.

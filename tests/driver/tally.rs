@@ -3,6 +3,7 @@
 use crate::checks::{Refusal, BY_LIST, MARK};
 use crate::damage::REFUSALS;
 use crate::measures;
+use crate::regions::{ENVELOPES, LINKS, REGIONS};
 use std::collections::BTreeMap;
 
 pub const CALLS: [&str; 3] = ["Reduce", "Reduce by list", "Mark"];
@@ -26,7 +27,7 @@ pub const KINDS: [&str; 10] = [
 ];
 
 /// What a whole run must have seen at least once.
-const WANTED: [&str; 25] = [
+const WANTED: [&str; 33] = [
     "partitions held to the definitions",
     "partitions with a span that cuts nothing",
     "partitions with a span that goes round",
@@ -52,6 +53,14 @@ const WANTED: [&str; 25] = [
     "runs with several groups",
     "runs with both kinds",
     "merges one at a time",
+    REGIONS,
+    "regions with an anchor",
+    "regions of several elevations",
+    LINKS,
+    ENVELOPES,
+    "links within",
+    "links beyond",
+    "links outside the flat envelope",
 ];
 
 #[derive(Default)]

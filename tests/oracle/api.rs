@@ -2,9 +2,11 @@
 //! private items are within reach and no visibility is edited.
 
 use super::{
-    bridge_boundary_indices, collapse_serial_boundaries, full_graph, EdgeRecord, FullGraph,
+    bridge_boundary_indices, candidate_links, collapse_serial_boundaries, full_graph,
+    measure_links, EdgeRecord, FullGraph,
 };
 use crate::topology::context::PartitionContext;
+use std::cell::RefCell;
 use std::collections::{BTreeMap, BTreeSet};
 
 pub use crate::topology::{
@@ -63,6 +65,27 @@ pub struct Region {
     pub elevation_counts: [usize; 4],
 }
 
+/// A link that the Rust looks at, measured.
+pub struct Measured {
+    pub region: u32,
+    /// By input index, the first by canonical ends first.
+    pub boundaries: [usize; 2],
+    /// Transverse and longitudinal; none of a region without cells.
+    pub envelopes: Option<[f64; 2]>,
+    pub passing: bool,
+    pub inside_flat: bool,
+}
+
+thread_local! {
+    /// Both envelopes of each link, by its index, as the Rust has them when it tests them.
+    static ENVELOPES: RefCell<BTreeMap<usize, [f64; 2]>> = const { RefCell::new(BTreeMap::new()) };
+}
+
+/// The Rust's measuring says what it found (extract.rs).
+pub(super) fn saw(link: usize, transverse: f64, longitudinal: f64) {
+    ENVELOPES.with_borrow_mut(|all| all.insert(link, [transverse, longitudinal]));
+}
+
 /// A partition in context, as the Rust's merging takes it.
 pub struct Context<'a>(PartitionContext<'a>);
 
@@ -93,6 +116,22 @@ impl<'a> Context<'a> {
             elevations: stats.elevations,
             elevation_counts: stats.elevation_counts,
         })
+    }
+
+    /// The links between boundaries, measured.
+    pub fn links(&self, boundaries: &[TopologyBoundary]) -> Vec<Measured> {
+        let mut links = candidate_links(boundaries, &self.0, &full_graph(&self.0));
+        ENVELOPES.with_borrow_mut(BTreeMap::clear);
+        let passing = measure_links(&mut links, &self.0);
+        let envelopes = ENVELOPES.take();
+        let measured = links.iter().enumerate().map(|(i, link)| Measured {
+            region: link.region,
+            boundaries: link.nodes,
+            envelopes: envelopes.get(&i).copied(),
+            passing: passing.contains(&i),
+            inside_flat: link.inside_flat_envelope,
+        });
+        measured.collect()
     }
 
     /// The boundaries that are bridges.

@@ -3,8 +3,9 @@
 //!     extract SOURCES OUT
 //!
 //! SOURCES holds broodmap-analysis/src; OUT receives the crate, with lib.rs at its root.
-//! Whole files are taken as they are, single items by their first line. The one edit is that
-//! `.hypot(` becomes `.exact_length(`, the project's own length (exact_length.rs). Whatever is
+//! Whole files are taken as they are, single items by their first line. There are two edits:
+//! `.hypot(` becomes `.exact_length(`, the project's own length (exact_length.rs), and the driver
+//! is told a link's envelopes (api.rs). Whatever is
 //! not as expected (a missing or doubled text, another number of edits, another fingerprint)
 //! ends the program with a message and a nonzero status.
 
@@ -186,6 +187,18 @@ fn whole(sources: &Path, path: &'static str, edits: usize, fingerprint: u64) -> 
     source.checked(source.whole(), edits, fingerprint)
 }
 
+/// The merging, with the driver's module in it, which is handed both envelopes of every link.
+fn serial(sources: &Path) -> String {
+    let path = "topology/serial.rs";
+    let text = whole(sources, path, 4, 0x5367_c996_6883_a973);
+    let test = "            (transverse_envelope <= ";
+    if text.matches(test).count() != 1 {
+        fail(path, "expected once", test);
+    }
+    let told = "            api::saw(index, transverse_envelope, longitudinal_envelope);\n";
+    text.replace(test, &format!("{told}{test}")) + "pub mod api;\n"
+}
+
 /// What the project puts around the extracted items: module heads and re-exports.
 const ROOT: &str = "\
 pub mod areas;
@@ -216,10 +229,7 @@ fn main() {
         ("areas.rs", whole(sources, "areas.rs", 0, 0x2a78_c1c8_ae3c_de6a)),
         ("topology/mod.rs", TOPOLOGY_HEAD.to_string() + &topology(sources)),
         ("topology/context.rs", whole(sources, "topology/context.rs", 1, 0x1887_1eae_522b_2549)),
-        (
-            "topology/serial.rs",
-            whole(sources, "topology/serial.rs", 4, 0x5367_c996_6883_a973) + "pub mod api;\n",
-        ),
+        ("topology/serial.rs", serial(sources)),
         ("topology/serial/api.rs", include_str!("api.rs").to_string()),
         ("exact_length.rs", include_str!("exact_length.rs").to_string()),
     ];

@@ -7,12 +7,15 @@ mod checks;
 #[path = "../driver/expect.rs"]
 #[allow(dead_code)]
 mod expect;
+#[path = "../driver/known.rs"]
+mod known;
 #[path = "../driver/rust.rs"]
 #[allow(dead_code)]
 mod rust;
 
 use checks::{Refusal, BY_LIST, HEADER, MARK, NONE, REDUCE, SPAN};
 use expect::{Accepted, Expected, MOST_PAIRS, WORK};
+use oracle::api::{Context, SpanPartition};
 use oracle::fault;
 use std::collections::BTreeMap;
 use std::slice;
@@ -213,6 +216,64 @@ pub extern "C" fn probe_plan(
     let bytes: Vec<u8> = goes.iter().flat_map(|word| word.to_le_bytes()).collect();
     out[..bytes.len()].copy_from_slice(&bytes);
     result((0, bytes.len() as u64))
+}
+
+/// What the partition in context says of a region or a link, where the labels are those that it has.
+fn known(
+    job: &[u8],
+    labels: &[u8],
+    out: &mut [u8],
+    say: impl Fn(&rust::Job, &SpanPartition, &Context) -> Vec<u8>,
+) -> CallResult {
+    let Accepted { job, partition } = match expect::accepted(REDUCE, job, &[]) {
+        Ok(accepted) => accepted,
+        Err(refusal) => return result(refusal),
+    };
+    if labels.len() < 4 * partition.labels().len() {
+        return result((21, 0));
+    }
+    let bytes = say(&job, &partition, &Context::new(&job.grid, &partition, &job.bases));
+    if out.len() < bytes.len() {
+        return result((22, bytes.len() as u64));
+    }
+    out[..bytes.len()].copy_from_slice(&bytes);
+    result((0, bytes.len() as u64))
+}
+
+#[no_mangle]
+pub extern "C" fn probe_region(
+    job: In,
+    jl: usize,
+    labels: In,
+    ll: usize,
+    region: u32,
+    out: Out,
+    ol: usize,
+) -> CallResult {
+    known(read(job, jl), read(labels, ll), write(out, ol), |_, partition, context| {
+        let words = known::region_words(partition, context, region);
+        words.iter().flat_map(|word| word.to_le_bytes()).collect()
+    })
+}
+
+#[no_mangle]
+pub extern "C" fn probe_link(
+    job: In,
+    jl: usize,
+    labels: In,
+    ll: usize,
+    region: u32,
+    first: u32,
+    second: u32,
+    out: Out,
+    ol: usize,
+) -> CallResult {
+    known(read(job, jl), read(labels, ll), write(out, ol), |job, _, context| {
+        let both = [first as usize, second as usize];
+        let links = context.links(&job.boundaries);
+        let link = links.iter().find(|link| link.region == region && link.boundaries == both);
+        link.map_or(vec![0xFF; 24], known::link_bytes)
+    })
 }
 
 /// A whole call, with faults of its order and of what it leaves.

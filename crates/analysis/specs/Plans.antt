@@ -104,7 +104,8 @@ pub record Made (checks : List Check) (j : Job) (ss : List Span) (before work or
   pub ranks : RankedBy j order
   pub plan-is : (i : ℕ) → i < length (j .boundaries) → getD plan i 0 ≡ planOf limits000 eight j ss i
 
--- number 0 with the plan, or the number and detail of the refusal that the call leaves whatever its answer slice is
+-- number 0 with the plan, or the number and detail of the refusal that the call leaves whatever its answer slice is; the work is settled in either case.
+-- Nothing is said of order and plan past the last boundary, nor after a refusal
 pub record PlanLeft (checks : List Check) (j : Job) (ss : List Span) (before work order plan : List ℕ) (number detail : ℕ) : Type 0 where
   pub refused : 0 < number → (answer : List ℕ) → leftBy number detail work answer ≡ reduced limits000 eight checks j ss before answer
   pub made : number ≡ 0 → Made checks j ss before work order plan detail

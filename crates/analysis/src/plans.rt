@@ -13,7 +13,8 @@ use job::check_reduce;
 use job::check_reduce_by_list;
 use wire::size;
 
-// The merges of a job by its boundaries' own ends: number 0 and the plan by rank, or a refusal.
+// The merges of a job by its boundaries' own ends: number 0 and the plan by rank, or a refusal. Left free: what `order` and `plan` hold
+// past the last boundary, and all that they hold after a refusal.
 pub fn plan_reduce(
     job: &[u8],
     work: &mut [u8],
@@ -53,7 +54,7 @@ pub fn plan_reduce(
     }
 }
 
-// The merges of a job by the spans of a list.
+// The merges of a job by the spans of a list. Left free is what `plan_reduce` leaves free.
 pub fn plan_reduce_by_list(
     job: &[u8],
     list: &[u8],

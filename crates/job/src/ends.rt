@@ -6,7 +6,8 @@ ghost use Rattle.format.specs.Header.{headerAt};
 ghost use Rattle.checks.specs.Checks.{firstRefusal};
 ghost use Rattle.checks.specs.Single.{spanCount};
 ghost use Rattle.job.specs.Refusals.{reduceChecks, byListChecks};
-ghost use Rattle.job.specs.SpanEnds.{spanEnds};
+ghost use denote.Ref.{ptr};
+ghost use Rattle.job.specs.SpanEnds.{SpanPart};
 ghost use Rattle.checks.specs.Verdict.{passes};
 use crate::calls::check_reduce;
 use crate::calls::check_reduce_by_list;
@@ -38,7 +39,7 @@ fn list_has(job: &[u8], list: &[u8], i: usize) -> bool
 }
 
 pub fn span_ends<'a>(job: &'a [u8], list: &'a [u8], which: u32, i: u32) -> &'a [u8]
-    ensures { λ r. ⌜ now r ≡ spanEnds (now (job .entry)) (now (list .entry)) which i ⌝ }
+    ensures { λ r. ⌜ SpanPart (now (job .entry)) (now (list .entry)) which i (ptr (job .entry)) (ptr (list .entry)) (ptr r) (now r) ⌝ }
 {
     let k = size(i);
     if which == 0 {

@@ -30,7 +30,7 @@ fn counted(link: Link, inside: bool, i: usize, width: u32, limits: Limits) -> Li
 }
 
 // With all the cells of its region.
-fn measure_one(
+pub fn measure_one(
     start: Link,
     n: usize,
     width: u32,

@@ -1,5 +1,5 @@
 // The links of the map, measured by its cells: 000's `measure_links`.
-mod few; // each link by a pass of its own
+pub mod few; // each link by a pass of its own
 
 ghost use mathlib.Core.Path.{_≡_};
 ghost use mathlib.Core.Bool.{cond};

@@ -3,3 +3,4 @@ pub mod WritingLaws
 pub mod PartingLaws
 pub mod PlanningLaws
 pub mod RegionLaws
+pub mod LinkLaws

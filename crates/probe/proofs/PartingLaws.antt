@@ -79,14 +79,16 @@ pub told-right : {count m pairs found right : ℕ} {held bytes out outEnd : List
     → (4096 < found → pairs ≡ 4097) → (found ≤ 4096 → pairs ≡ found) → (found ≤ 4096 → held ≡ bytes)
     → Told count pairs held out outEnd number detail → Told m right bytes out outEnd number detail
 told-right {count} {m} {pairs} {found} {right} {held} {bytes} {out} {outEnd} {number} {detail} e f over are same x =
-    subst (λ (c : ℕ). Told c right bytes out outEnd number detail) e (subst (λ (p : ℕ). Told count p bytes out outEnd number detail) f (told-found over are same x))
+    subst (λ (c : ℕ). Told c right bytes out outEnd number detail) e
+    (subst (λ (p : ℕ). Told count p bytes out outEnd number detail) f (told-found over are same x))
 
 -- the bytes of spans are those of their canonical copies
 module _ (dirs : List ℕ) (g : Grid) where
   abbrev countsOf : List Span → Span → List ℕ
   countsOf ss s = countBytes (assess dirs g ss s .removed) (assess dirs g ss s .separated)
 
-  counts-canonical : (ss ts : List Span) → SameMembers (map canonical ss) (map canonical ts) → (l : List Span) → flatMap (countsOf ss) l ≡ flatMap (countsOf ts) (map canonical l)
+  counts-canonical : (ss ts : List Span) → SameMembers (map canonical ss) (map canonical ts) → (l : List Span)
+      → flatMap (countsOf ss) l ≡ flatMap (countsOf ts) (map canonical l)
   unfolding flatMap
   counts-canonical ss ts same [] = refl
   counts-canonical ss ts same (x ∷ xs) =
@@ -112,10 +114,12 @@ module _ {dirs : List ℕ} {g : Grid} {ends before work removed separated owners
       = sym (flat-blocks recordBytes (recordIn owners lefts rights) (p .pairs)) ∙ ap (flatMap recordBytes) (q .records-are few) in
       let c : countsFrom removed separated count ≡ flatMap (countsOf dirs g ss) ss
       = blocks-same count (λ i. countBytes (getD removed i 0) (getD separated i 0)) (λ i. countsOf dirs g ss (spanIn ends i))
-      (λ i h. ap (λ (x : ℕ). countBytes x (getD separated i 0)) (q .removed-are few i h) ∙ ap (countBytes (assess dirs g ss (spanIn ends i) .removed)) (q .separated-are few i h))
+      (λ i h. ap (λ (x : ℕ). countBytes x (getD separated i 0)) (q .removed-are few i h)
+      ∙ ap (countBytes (assess dirs g ss (spanIn ends i) .removed)) (q .separated-are few i h))
       ∙ sym (flat-blocks (countsOf dirs g ss) (spanIn ends) count) in
       ap (λ (x : ℕ). heldBytes x (p .pairs) count removed separated owners lefts rights) (q .areas-are)
-      ∙ ap (λ (x : ℕ). words (areaCount dirs g ss ∷ x ∷ []) ++ (countsFrom removed separated count ++ recordsFrom owners lefts rights (p .pairs))) (q .pairs-are few)
+      ∙ ap (λ (x : ℕ). words (areaCount dirs g ss ∷ x ∷ []) ++ (countsFrom removed separated count ++ recordsFrom owners lefts rights (p .pairs)))
+      (q .pairs-are few)
       ∙ ap (λ (x : List ℕ). words (areaCount dirs g ss ∷ length (records dirs g ss) ∷ []) ++ (x ++ recordsFrom owners lefts rights (p .pairs))) c
       ∙ ap (λ (x : List ℕ). words (areaCount dirs g ss ∷ length (records dirs g ss) ∷ []) ++ (flatMap (countsOf dirs g ss) ss ++ x)) r
 
@@ -151,7 +155,8 @@ module _ (s : List ℕ) (p : firstRefusal (reduceChecks s) ≡ none) where
     pub header-few : h .counts .width * h .counts .height ≤ 1048576
     header-few = rw header-cells cells-few
 
-    pub taken : {at count : ℕ} (work : List ℕ) → at ≡ h .offsets .boundaries → count ≡ h .counts .boundaries → 10 * (h .counts .width * h .counts .height) ≤ length work → Taken s (h .counts .width) (h .counts .height) at count work
+    pub taken : {at count : ℕ} (work : List ℕ) → at ≡ h .offsets .boundaries → count ≡ h .counts .boundaries
+        → 10 * (h .counts .width * h .counts .height) ≤ length work → Taken s (h .counts .width) (h .counts .height) at count work
     taken work f g room = record {
       passed = p;
       width-is = header-width;
@@ -187,7 +192,8 @@ module _ {s : List ℕ} {width height at count : ℕ} {work : List ℕ} (t : Tak
       cs = take k (drop headerSize s)
 
       spans-own : SpansOf s (boundariesAt s) boundarySize (o .order) (countsAt s 0 .boundaries) ends
-      spans-own = subst (λ (m : ℕ). SpansOf s (boundariesAt s) boundarySize (o .order) m ends) (t .count-is) (subst (λ (m : ℕ). SpansOf s m boundarySize (o .order) count ends) (t .at-is) (o .spans))
+      spans-own = subst (λ (m : ℕ). SpansOf s (boundariesAt s) boundarySize (o .order) m ends) (t .count-is)
+          (subst (λ (m : ℕ). SpansOf s m boundarySize (o .order) count ends) (t .at-is) (o .spans))
 
       cells-long : length cs ≡ k
       cells-long = let m = taken-map in length-take-le k (drop headerSize s) (simp length-drop (omega arith))
@@ -219,7 +225,8 @@ module _ {s : List ℕ} {width height at count : ℕ} {work : List ℕ} (t : Tak
           ∙ ap (λ (ss : List Span). areaLabels eight (gridOf (decode s)) ss) spans-counted
           ∙ sym (own-labels-listed past (o .identity) ends spans-own eight (gridOf (decode s)))
 
-      records-own : length (records (directionsOf 495) (mapOf width height cs) (spansIn ends count)) ≡ length (records eight (gridOf (decode s)) (ownEnds (decode s)))
+      records-own : length (records (directionsOf 495) (mapOf width height cs) (spansIn ends count)) ≡ length
+          (records eight (gridOf (decode s)) (ownEnds (decode s)))
       records-own =
           ap (λ (ds : List ℕ). length (records ds (mapOf width height cs) (spansIn ends count))) directions-eight
           ∙ ap (λ (g : Grid). length (records eight g (spansIn ends count))) same-map
@@ -231,7 +238,8 @@ module _ {s : List ℕ} {width height at count : ℕ} {work : List ℕ} (t : Tak
           ap (λ (ds : List ℕ). partitionBytes ds (mapOf width height cs) (spansIn ends count)) directions-eight
           ∙ ap (λ (g : Grid). partitionBytes eight g (spansIn ends count)) same-map
           ∙ ap (λ (ss : List Span). partitionBytes eight (gridOf (decode s)) ss) spans-counted
-          ∙ sym (bytes-canonical eight (gridOf (decode s)) (ownEnds (decode s)) (spansIn ends (countsAt s 0 .boundaries)) (own-listed past (o .identity) ends spans-own) (canonical-own past (o .identity) ends spans-own))
+          ∙ sym (bytes-canonical eight (gridOf (decode s)) (ownEnds (decode s)) (spansIn ends (countsAt s 0 .boundaries))
+          (own-listed past (o .identity) ends spans-own) (canonical-own past (o .identity) ends spans-own))
 
       pub all-parted : {out workEnd outEnd removed separated owners lefts rights : List ℕ} {p : Partition} {number detail : ℕ}
           → Partitioned 4096 (directionsOf 495) (mapOf width height cs) ends count work workEnd removed separated owners lefts rights p

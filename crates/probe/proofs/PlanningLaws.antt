@@ -59,7 +59,8 @@ module _ (j : Job) {order : List ℕ} (r : RankedBy j order) where
     where
       differ : (i k : ℕ) → i < k → k < length (j .boundaries) → getD order i 0 ≡ getD order k 0 → ⊥
       differ i k h l e =
-          pairs-at 0 (distinct-perm (places-perm (j .boundaries)) (up-distinct 0 (length (j .boundaries)))) i k h (let c = places-count (j .boundaries) in omega arith)
+          pairs-at 0 (distinct-perm (places-perm (j .boundaries)) (up-distinct 0 (length (j .boundaries)))) i k h
+          (let c = places-count (j .boundaries) in omega arith)
           (sym (r i (omega arith)) ∙ (e ∙ r k l))
 
 -- every place is that of a rank
@@ -73,7 +74,8 @@ module _ {order : List ℕ} {goes : ℕ → ℕ} {n : ℕ} where
   pub words-start : (out : List ℕ) → Words order goes n 0 out out
   words-start out = record { each = λ i h. absurd (omega arith); rest = refl; long = refl }
 
-  pub words-next : {k : ℕ} {out e f : List ℕ} (x v : ℕ) → Ranked order n → Words order goes n k out e → k < n → 4 * n ≤ length out → x ≡ getD order k 0 → v ≡ goes k
+  pub words-next : {k : ℕ} {out e f : List ℕ} (x v : ℕ) → Ranked order n → Words order goes n k out e → k < n → 4 * n ≤ length out → x ≡ getD order k 0
+      → v ≡ goes k
       → f ≡ splice e (4 * x) (u32Bytes v) → Words order goes n (k + 1) out f
   words-next {k} {out} {e} {f} x v o w h room a q b = record {
     each = λ i m. by-cases (ℕ-discrete i k) (λ z. this i z) (λ z. other i (omega arith));
@@ -108,7 +110,8 @@ module _ {order : List ℕ} {goes : ℕ → ℕ} {n : ℕ} where
           ap (λ (t : List ℕ). part t (4 * getD order i 0) 4) p
           ∙ (by-cases (decLt (getD order i 0) (getD order k 0))
           (λ l. splice-before e place (u32Bytes v) fits (4 * getD order i 0) 4 (omega arith))
-          (λ l. splice-after e place (u32Bytes v) fits (4 * getD order i 0) 4 (let d = o .apart i k m h in omega (arith, four, by-cases (ℕ-discrete (getD order i 0) (getD order k 0)) (λ x. absurd (d x)) (λ x. x))))
+          (λ l. splice-after e place (u32Bytes v) fits (4 * getD order i 0) 4
+          (let d = o .apart i k m h in omega (arith, four, by-cases (ℕ-discrete (getD order i 0) (getD order k 0)) (λ x. absurd (d x)) (λ x. x))))
           ∙ w .each i m)
 
   pub words-end : {k : ℕ} {out e : List ℕ} → n ≤ k → Words order goes n k out e → Words order goes n n out e
@@ -128,12 +131,14 @@ chosen-inside false m i n f h = h
 pub plan-inside : (j : Job) (ss : List Span) (i : ℕ) → i < length (j .boundaries) → planOf limits000 eight j ss i < length (j .boundaries)
 unfolding planOf
 plan-inside j ss i h =
-    chosen-inside (eqb (length (j .boundaries)) (length ss)) (mergePlan limits000 eight (gridOf j) (anchorsOf (j .bases)) (listingOf j ss) i) i (length (j .boundaries))
+    chosen-inside (eqb (length (j .boundaries)) (length ss)) (mergePlan limits000 eight (gridOf j) (anchorsOf (j .bases)) (listingOf j ss) i) i
+    (length (j .boundaries))
     (λ e. merged-inside j ss (eqb-true _ _ e) i h)
     h
 
 -- the words of the arrays are those of the plan
-module _ {checks : List Check} {j : Job} {ss : List Span} {work workEnd order plan : List ℕ} {detail n : ℕ} (m : Made checks j ss work workEnd order plan detail) (e : n ≡ length (j .boundaries)) where
+module _ {checks : List Check} {j : Job} {ss : List Span} {work workEnd order plan : List ℕ} {detail n : ℕ}
+    (m : Made checks j ss work workEnd order plan detail) (e : n ≡ length (j .boundaries)) where
   pub made-ranked : Ranked order n
   made-ranked = rw e (order-ranked j (m .ranks))
 
@@ -182,5 +187,6 @@ module _ (which : ℕ) (s l : List ℕ) where
           c .is (boundaries-passed (d .distinct) s (d .passed) .0) (k .allowed .boundaries) ∙ sym (k .count)
 
 -- what is known of the work
-pub made-parting : {checks : List Check} {j : Job} {ss : List Span} {work workEnd order plan : List ℕ} {detail : ℕ} → Made checks j ss work workEnd order plan detail → Parting checks j ss work workEnd
+pub made-parting : {checks : List Check} {j : Job} {ss : List Span} {work workEnd order plan : List ℕ} {detail : ℕ}
+    → Made checks j ss work workEnd order plan detail → Parting checks j ss work workEnd
 made-parting m = record { passed = m .passed; room = m .room; few = m .few; work-is = m .work-is }

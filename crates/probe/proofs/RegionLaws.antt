@@ -47,7 +47,8 @@ module _ {s labels : List ℕ} {number detail : ℕ} where
   ready-room (cramped _ _ p _) h = absurd (omega arith)
   ready-room (ready e r _ _) h = r
 
-module _ {s : List ℕ} {h : Header} (d : Headed s h) {at count n : ℕ} (a : at ≡ h .offsets .bases) (b : count ≡ h .counts .bases) (e : n ≡ h .counts .width * h .counts .height) where
+module _ {s : List ℕ} {h : Header} (d : Headed s h) {at count n : ℕ} (a : at ≡ h .offsets .bases) (b : count ≡ h .counts .bases)
+    (e : n ≡ h .counts .width * h .counts .height) where
   -- the bases, by the header
   pub bases-there : at + count * baseSize ≤ length s
   bases-there =
@@ -66,7 +67,8 @@ module _ {s : List ℕ} {h : Header} (d : Headed s h) {at count n : ℕ} (a : at
     cells-are : n ≡ length (decode s .cells)
     cells-are = e ∙ (sym (map-long (d .header) (headed-laid d) n e) ∙ ap (λ (l : List ℕ). length l) (map-cells (d .header) (headed-laid d) n e))
 
-    anchored-told : anchoredBy s at count (h .counts .width) (labelsIn labels n) region ≡ isAnchored (gridOf (decode s)) (cellLabels s labels) (anchorsOf (decode s .bases)) region
+    anchored-told : anchoredBy s at count (h .counts .width) (labelsIn labels n) region ≡ isAnchored (gridOf (decode s)) (cellLabels s labels)
+        (anchorsOf (decode s .bases)) region
     unfolding decode jobWith
     anchored-told =
         let k = counts-are d in
@@ -79,24 +81,32 @@ module _ {s : List ℕ} {h : Header} (d : Headed s h) {at count n : ℕ} (a : at
         ∙ by-bases (gridOf (decode s)) (cellLabels s labels) region s (basesStart (countsAt s 0)) (countsAt s 0 .bases))))
 
     stats-told : {held : StatsHeld}
-        → ((height : ℕ) → statsIn held ≡ regionStats (record { width = h .counts .width; height = height; cells = take (48 + n - 48) (drop 48 s) }) (labelsIn labels (length (take (48 + n - 48) (drop 48 s)))) region)
+        → ((height : ℕ) → statsIn held ≡ regionStats (record { width = h .counts .width; height = height; cells = take (48 + n - 48) (drop 48 s) })
+        (labelsIn labels (length (take (48 + n - 48) (drop 48 s)))) region)
         → statsIn held ≡ regionStats (gridOf (decode s)) (cellLabels s labels) region
     unfolding decode jobWith
     stats-told f =
         let w : h .counts .width ≡ countsAt s 0 .width = ap (λ (x : Counts). x .width) (counts-are d) in
         f (countsAt s 0 .height)
-        ∙ (ap (λ (l : List ℕ). regionStats (record { width = h .counts .width; height = countsAt s 0 .height; cells = l }) (labelsIn labels (length l)) region) (map-cells (d .header) (headed-laid d) n e)
+        ∙ (ap (λ (l : List ℕ). regionStats (record { width = h .counts .width; height = countsAt s 0 .height; cells = l })
+        (labelsIn labels (length l)) region) (map-cells (d .header) (headed-laid d) n e)
         ∙ ap (λ (x : ℕ). regionStats (record { width = x; height = countsAt s 0 .height; cells = decode s .cells }) (cellLabels s labels) region) w)
 
     pub region-told : {held : StatsHeld} {counted ramp anchor : ℕ} {anchored : Bool} → counted ≡ cellCount (labelsIn labels n) region
-        → ((height : ℕ) → statsIn held ≡ regionStats (record { width = h .counts .width; height = height; cells = take (48 + n - 48) (drop 48 s) }) (labelsIn labels (length (take (48 + n - 48) (drop 48 s)))) region)
+        → ((height : ℕ) → statsIn held ≡ regionStats (record { width = h .counts .width; height = height; cells = take (48 + n - 48) (drop 48 s) })
+        (labelsIn labels (length (take (48 + n - 48) (drop 48 s)))) region)
         → anchored ≡ anchoredBy s at count (h .counts .width) (labelsIn labels n) region → ramp ≡ one (held .«has_ramp») → anchor ≡ one anchored
-        → counted ∷ held .cells ∷ held .«min_x» ∷ held .«min_y» ∷ held .«max_x» ∷ held .«max_y» ∷ ramp ∷ held .«level_0» ∷ held .«level_1» ∷ held .«level_2» ∷ held .«level_3» ∷ anchor ∷ []
+        → counted ∷ held .cells ∷ held .«min_x» ∷ held .«min_y» ∷ held .«max_x» ∷ held .«max_y» ∷ ramp ∷ held .«level_0» ∷ held .«level_1» ∷ held .«level_2»
+        ∷ held .«level_3» ∷ anchor ∷ []
         ≡ regionWords (decode s) (cellLabels s labels) region
     unfolding regionWords
     region-told {held} {counted} {ramp} {anchor} {anchored} p f q r t =
         let st : RegionStats = statsIn held in
-        ap (λ (x : ℕ). counted ∷ st .cells ∷ st .minX ∷ st .minY ∷ st .maxX ∷ st .maxY ∷ x ∷ held .«level_0» ∷ held .«level_1» ∷ held .«level_2» ∷ held .«level_3» ∷ anchor ∷ []) r
-        ∙ (ap (λ (x : ℕ). counted ∷ st .cells ∷ st .minX ∷ st .minY ∷ st .maxX ∷ st .maxY ∷ one (st .hasRamp) ∷ held .«level_0» ∷ held .«level_1» ∷ held .«level_2» ∷ held .«level_3» ∷ x ∷ []) (t ∙ ap one (q ∙ anchored-told))
-        ∙ (ap (λ (x : ℕ). statsWords x st (isAnchored (gridOf (decode s)) (cellLabels s labels) (anchorsOf (decode s .bases)) region)) (p ∙ ap (λ (x : ℕ). cellCount (labelsIn labels x) region) cells-are)
-        ∙ ap (λ (x : RegionStats). statsWords (cellCount (cellLabels s labels) region) x (isAnchored (gridOf (decode s)) (cellLabels s labels) (anchorsOf (decode s .bases)) region)) (stats-told f)))
+        ap (λ (x : ℕ). counted ∷ st .cells ∷ st .minX ∷ st .minY ∷ st .maxX ∷ st .maxY ∷ x ∷ held .«level_0» ∷ held .«level_1» ∷ held .«level_2»
+        ∷ held .«level_3» ∷ anchor ∷ []) r
+        ∙ (ap (λ (x : ℕ). counted ∷ st .cells ∷ st .minX ∷ st .minY ∷ st .maxX ∷ st .maxY ∷ one (st .hasRamp) ∷ held .«level_0» ∷ held .«level_1»
+        ∷ held .«level_2» ∷ held .«level_3» ∷ x ∷ []) (t ∙ ap one (q ∙ anchored-told))
+        ∙ (ap (λ (x : ℕ). statsWords x st (isAnchored (gridOf (decode s)) (cellLabels s labels) (anchorsOf (decode s .bases)) region))
+        (p ∙ ap (λ (x : ℕ). cellCount (labelsIn labels x) region) cells-are)
+        ∙ ap (λ (x : RegionStats). statsWords (cellCount (cellLabels s labels) region) x
+        (isAnchored (gridOf (decode s)) (cellLabels s labels) (anchorsOf (decode s .bases)) region)) (stats-told f)))

@@ -28,7 +28,8 @@ unfolding words flatMap
 words-three x y z = ap (λ (t : List ℕ). u32Bytes x ++ (u32Bytes y ++ t)) (sym (append-nil (u32Bytes z)))
 
 pub length-two : (x y : ℕ) → length (words (x ∷ y ∷ [])) ≡ 8
-length-two x y = ap (λ (t : List ℕ). length t) (sym (words-two x y)) ∙ length-append (u32Bytes x) (u32Bytes y) ∙ omega (arith, length-bytes 4 x, length-bytes 4 y)
+length-two x y = ap (λ (t : List ℕ). length t) (sym (words-two x y)) ∙ length-append (u32Bytes x) (u32Bytes y)
+    ∙ omega (arith, length-bytes 4 x, length-bytes 4 y)
 
 pub length-three : (x y z : ℕ) → length (words (x ∷ y ∷ z ∷ [])) ≡ 12
 length-three x y z =
@@ -51,10 +52,12 @@ put-three s i x y z h =
     joined x y z = ap (λ (t : List ℕ). t ++ u32Bytes z) (sym (words-two x y)) ∙ (append-assoc (u32Bytes x) (u32Bytes y) (u32Bytes z) ∙ words-three x y z)
 
 -- the same, write by write
-pub after-two : (s : List ℕ) (i x y : ℕ) {e f : List ℕ} → i + 8 ≤ length s → e ≡ splice s i (u32Bytes x) → f ≡ splice e (i + 4) (u32Bytes y) → f ≡ splice s i (words (x ∷ y ∷ []))
+pub after-two : (s : List ℕ) (i x y : ℕ) {e f : List ℕ} → i + 8 ≤ length s → e ≡ splice s i (u32Bytes x) → f ≡ splice e (i + 4) (u32Bytes y)
+    → f ≡ splice s i (words (x ∷ y ∷ []))
 after-two s i x y h p q = q ∙ (ap (λ (t : List ℕ). splice t (i + 4) (u32Bytes y)) p ∙ put-two s i x y h)
 
-pub after-three : (s : List ℕ) (i x y z : ℕ) {e f g : List ℕ} → i + 12 ≤ length s → e ≡ splice s i (u32Bytes x) → f ≡ splice e (i + 4) (u32Bytes y) → g ≡ splice f (i + 8) (u32Bytes z)
+pub after-three : (s : List ℕ) (i x y z : ℕ) {e f g : List ℕ} → i + 12 ≤ length s → e ≡ splice s i (u32Bytes x) → f ≡ splice e (i + 4) (u32Bytes y)
+    → g ≡ splice f (i + 8) (u32Bytes z)
     → g ≡ splice s i (words (x ∷ y ∷ z ∷ []))
 after-three s i x y z h p q r =
     r ∙ (ap (λ (t : List ℕ). splice t (i + 8) (u32Bytes z)) (q ∙ ap (λ (t : List ℕ). splice t (i + 4) (u32Bytes y)) p) ∙ put-three s i x y z h)
@@ -73,10 +76,12 @@ put-head s x y n bs cs e h =
     ∙ beside s 0 (8 + n) (w ++ bs) cs l (omega arith)
     ∙ ap (splice s 0) (append-assoc w bs cs)
 
-pub after-head : (s : List ℕ) (x y : ℕ) (bs cs : List ℕ) {n : ℕ} {e f a b : List ℕ} → length bs ≡ n → 8 + n ≤ length s → e ≡ splice s 0 (u32Bytes x) → f ≡ splice e 4 (u32Bytes y) → a ≡ splice f 8 bs → b ≡ splice a (8 + n) cs
+pub after-head : (s : List ℕ) (x y : ℕ) (bs cs : List ℕ) {n : ℕ} {e f a b : List ℕ} → length bs ≡ n → 8 + n ≤ length s → e ≡ splice s 0 (u32Bytes x)
+    → f ≡ splice e 4 (u32Bytes y) → a ≡ splice f 8 bs → b ≡ splice a (8 + n) cs
     → b ≡ splice s 0 (words (x ∷ y ∷ []) ++ (bs ++ cs))
 after-head s x y bs cs {n} l h p q r w =
-    w ∙ (ap (λ (t : List ℕ). splice t (8 + n) cs) (r ∙ ap (λ (t : List ℕ). splice t 8 bs) (q ∙ ap (λ (t : List ℕ). splice t 4 (u32Bytes y)) p)) ∙ put-head s x y n bs cs l h)
+    w ∙ (ap (λ (t : List ℕ). splice t (8 + n) cs) (r ∙ ap (λ (t : List ℕ). splice t 8 bs) (q ∙ ap (λ (t : List ℕ). splice t 4 (u32Bytes y)) p))
+    ∙ put-head s x y n bs cs l h)
 
 -- blocks of m bytes each
 module _ (m : ℕ) (f : ℕ → List ℕ) (even : (i : ℕ) → length (f i) ≡ m) where
@@ -94,11 +99,13 @@ module _ (m : ℕ) (f : ℕ → List ℕ) (even : (i : ℕ) → length (f i) ≡
   unfolding blocks
   filled-start s at = record { is = sym (splice-none s at); long = refl }
 
-  pub filled-next : {s : List ℕ} {at k : ℕ} {e e' : List ℕ} (place : ℕ) → Filled s at k e → at + m * (k + 1) ≤ length s → place ≡ at + m * k → e' ≡ splice e place (f k) → Filled s at (k + 1) e'
+  pub filled-next : {s : List ℕ} {at k : ℕ} {e e' : List ℕ} (place : ℕ) → Filled s at k e → at + m * (k + 1) ≤ length s → place ≡ at + m * k
+      → e' ≡ splice e place (f k) → Filled s at (k + 1) e'
   unfolding blocks
   filled-next {s} {at} {k} {e} {e'} place a h p q =
       let room : at + (m * k + m) ≤ length s = omega arith in
-      let r : e' ≡ splice s at (blocks (suc k) f) = q ∙ (ap (λ (t : List ℕ). splice t place (f k)) (a .is) ∙ (ap (λ (i : ℕ). splice (splice s at (blocks k f)) i (f k)) p ∙ beside s at (m * k) (blocks k f) (f k) (length-blocks k) (omega arith))) in
+      let r : e' ≡ splice s at (blocks (suc k) f) = q ∙ (ap (λ (t : List ℕ). splice t place (f k)) (a .is)
+      ∙ (ap (λ (i : ℕ). splice (splice s at (blocks k f)) i (f k)) p ∙ beside s at (m * k) (blocks k f) (f k) (length-blocks k) (omega arith))) in
       let l : length (blocks (suc k) f) ≡ m * k + m = length-append (blocks k f) (f k) ∙ omega (arith, length-blocks k, even k) in
       record { is = rw add-one r; long = ap (λ (t : List ℕ). length t) r ∙ length-splice s at (blocks (suc k) f) (omega arith) }
 
@@ -125,5 +132,6 @@ unfolding words
 blocks-words ws =
     sym (flat-blocks u32Bytes (λ j. getD ws j 0) (length ws)) ∙ ap (flatMap u32Bytes) (sym (by-rows ws (length ws) (λ j. getD ws j 0) 0 refl (λ i h. refl)))
 
-pub filled-words : (ws : List ℕ) {s e : List ℕ} {k : ℕ} → Filled 4 (λ j. u32Bytes (getD ws j 0)) (λ j. length-bytes 4 (getD ws j 0)) s 0 k e → k ≡ length ws → e ≡ splice s 0 (words ws)
+pub filled-words : (ws : List ℕ) {s e : List ℕ} {k : ℕ} → Filled 4 (λ j. u32Bytes (getD ws j 0)) (λ j. length-bytes 4 (getD ws j 0)) s 0 k e → k ≡ length ws
+    → e ≡ splice s 0 (words ws)
 filled-words ws {s} a e = a .is ∙ (ap (λ (n : ℕ). splice s 0 (blocks n (λ j. u32Bytes (getD ws j 0)))) e ∙ ap (splice s 0) (blocks-words ws))

@@ -4,3 +4,4 @@ pub mod Records
 pub mod Parting
 pub mod Planning
 pub mod Regions
+pub mod Links

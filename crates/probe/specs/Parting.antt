@@ -71,7 +71,8 @@ bytesOf count pairs = 8 + 8 * count + 12 * pairs
 -- over 4,096 pairs; an out that is too short, with the bytes that it should have; or the bytes, written at its start
 pub data Told (count pairs : ℕ) (bytes out outEnd : List ℕ) (number detail : ℕ) : Type 0 where
   many : 4096 < pairs → number ≡ 13 → detail ≡ 0 → outEnd ≡ out → Told count pairs bytes out outEnd number detail
-  short : pairs ≤ 4096 → length out < bytesOf count pairs → number ≡ 22 → detail ≡ bytesOf count pairs → outEnd ≡ out → Told count pairs bytes out outEnd number detail
+  short : pairs ≤ 4096 → length out < bytesOf count pairs → number ≡ 22 → detail ≡ bytesOf count pairs → outEnd ≡ out
+      → Told count pairs bytes out outEnd number detail
   written : pairs ≤ 4096 → bytesOf count pairs ≤ length out → number ≡ 0 → detail ≡ bytesOf count pairs → outEnd ≡ splice out 0 bytes
       → Told count pairs bytes out outEnd number detail
 
@@ -83,6 +84,9 @@ pub record Parted (s work out workEnd outEnd : List ℕ) (number detail : ℕ) :
 
 -- a refusal of the checks, with nothing written; work under ten bytes a cell; or the partition
 pub data PartitionAnswer (s work out workEnd outEnd : List ℕ) (number detail : ℕ) : Type 0 where
-  refused : passes (firstRefusal (reduceChecks s)) ≡ false → number ≡ numberOf (firstRefusal (reduceChecks s)) → detail ≡ detailOf (firstRefusal (reduceChecks s)) → workEnd ≡ work → outEnd ≡ out → PartitionAnswer s work out workEnd outEnd number detail
-  cramped : firstRefusal (reduceChecks s) ≡ none → length work < 10 * cellCount (countsAt s 0) → number ≡ 21 → detail ≡ 0 → workEnd ≡ work → outEnd ≡ out → PartitionAnswer s work out workEnd outEnd number detail
-  parted : firstRefusal (reduceChecks s) ≡ none → 10 * cellCount (countsAt s 0) ≤ length work → Parted s work out workEnd outEnd number detail → PartitionAnswer s work out workEnd outEnd number detail
+  refused : passes (firstRefusal (reduceChecks s)) ≡ false → number ≡ numberOf (firstRefusal (reduceChecks s))
+      → detail ≡ detailOf (firstRefusal (reduceChecks s)) → workEnd ≡ work → outEnd ≡ out → PartitionAnswer s work out workEnd outEnd number detail
+  cramped : firstRefusal (reduceChecks s) ≡ none → length work < 10 * cellCount (countsAt s 0) → number ≡ 21 → detail ≡ 0 → workEnd ≡ work → outEnd ≡ out
+      → PartitionAnswer s work out workEnd outEnd number detail
+  parted : firstRefusal (reduceChecks s) ≡ none → 10 * cellCount (countsAt s 0) ≤ length work → Parted s work out workEnd outEnd number detail
+      → PartitionAnswer s work out workEnd outEnd number detail

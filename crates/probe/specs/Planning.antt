@@ -77,5 +77,6 @@ pub data PlanAnswer (checks : List Check) (j : Job) (ss : List Span) (work out w
       → PlanAnswer checks j ss work out workEnd outEnd number detail
   short : Parting checks j ss work workEnd → length out < 4 * length (j .boundaries) → number ≡ 22 → detail ≡ 4 * length (j .boundaries) → outEnd ≡ out
       → PlanAnswer checks j ss work out workEnd outEnd number detail
-  planned : Parting checks j ss work workEnd → 4 * length (j .boundaries) ≤ length out → number ≡ 0 → detail ≡ 4 * length (j .boundaries) → Placed j ss out outEnd
+  planned : Parting checks j ss work workEnd → 4 * length (j .boundaries) ≤ length out → number ≡ 0 → detail ≡ 4 * length (j .boundaries)
+      → Placed j ss out outEnd
       → PlanAnswer checks j ss work out workEnd outEnd number detail

@@ -20,7 +20,8 @@ use Rattle.results.specs.Rules.{gridOf}
 
 -- a refusal of the checks; labels under four bytes a cell; or neither
 pub data Ready (s labels : List ℕ) (number detail : ℕ) : Type 0 where
-  refused : passes (firstRefusal (reduceChecks s)) ≡ false → 0 < number → number ≡ numberOf (firstRefusal (reduceChecks s)) → detail ≡ detailOf (firstRefusal (reduceChecks s))
+  refused : passes (firstRefusal (reduceChecks s)) ≡ false → 0 < number → number ≡ numberOf (firstRefusal (reduceChecks s))
+      → detail ≡ detailOf (firstRefusal (reduceChecks s))
       → Ready s labels number detail
   cramped : firstRefusal (reduceChecks s) ≡ none → length labels < 4 * length (decode s .cells) → number ≡ 21 → detail ≡ 0 → Ready s labels number detail
   ready : firstRefusal (reduceChecks s) ≡ none → 4 * length (decode s .cells) ≤ length labels → number ≡ 0 → detail ≡ 0 → Ready s labels number detail

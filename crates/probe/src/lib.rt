@@ -10,6 +10,7 @@ mod bare_records; // the bridges of bare lists of records
 mod own_partition; // the partition alone
 mod own_plan; // the merge plan alone
 mod own_regions; // what is known of one region
+mod own_links; // what a link measures in a region
 
 #[repr(C)]
 pub struct ProbeResult {

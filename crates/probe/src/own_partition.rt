@@ -76,7 +76,8 @@ fn write_partition(
     out: &mut [u8],
 ) -> ProbeResult
     requires { ⌜ count ≤ 256 ⌝ }
-    ensures { λ r. ⌜ Told count pairs (heldBytes areas pairs count (now (removed .entry)) (now (separated .entry)) (now (owners .entry)) (now (lefts .entry)) (now (rights .entry)))
+    ensures { λ r. ⌜ Told count pairs
+        (heldBytes areas pairs count (now (removed .entry)) (now (separated .entry)) (now (owners .entry)) (now (lefts .entry)) (now (rights .entry)))
         (now (out .entry)) (now (out .exit)) (r .number) (r .detail) ⌝ }
 {
     if 4096 < pairs {

@@ -22,7 +22,8 @@ fn plan_of(
     order: &mut [u32; 256],
     plan: &mut [u32; 256],
 ) -> ChokesResult
-    ensures { λ r. ⌜ PlanLeft (checksOf which (now (job .entry)) (now (list .entry))) (decode (now (job .entry))) (spansOf which (now (job .entry)) (now (list .entry)))
+    ensures { λ r. ⌜ PlanLeft (checksOf which (now (job .entry)) (now (list .entry))) (decode (now (job .entry)))
+        (spansOf which (now (job .entry)) (now (list .entry)))
         (now (work .entry)) (now (work .exit)) (now (order .exit)) (now (plan .exit)) (r .number) (r .detail) ⌝ }
 {
     if which == 0 {
@@ -70,7 +71,8 @@ pub extern "C" fn probe_plan(
     work: &mut [u8],
     out: &mut [u8],
 ) -> ProbeResult
-    ensures { λ r. ⌜ PlanAnswer (checksOf which (now (job .entry)) (now (list .entry))) (decode (now (job .entry))) (spansOf which (now (job .entry)) (now (list .entry)))
+    ensures { λ r. ⌜ PlanAnswer (checksOf which (now (job .entry)) (now (list .entry))) (decode (now (job .entry)))
+        (spansOf which (now (job .entry)) (now (list .entry)))
         (now (work .entry)) (now (out .entry)) (now (work .exit)) (now (out .exit)) (r .number) (r .detail) ⌝ }
 {
     let mut order = [0u32; 256];

@@ -100,7 +100,8 @@ pub extern "C" fn probe_region(
     region: u32,
     out: &mut [u8],
 ) -> ProbeResult
-    ensures { λ r. ⌜ Shown (now (job .entry)) (now (labels .entry)) (words (regionWords (decode (now (job .entry))) (cellLabels (now (job .entry)) (now (labels .entry))) region)) 48
+    ensures { λ r. ⌜ Shown (now (job .entry)) (now (labels .entry))
+        (words (regionWords (decode (now (job .entry))) (cellLabels (now (job .entry)) (now (labels .entry))) region)) 48
         (now (out .entry)) (now (out .exit)) (r .number) (r .detail) ⌝ }
 {
     let r = unready(job, labels);

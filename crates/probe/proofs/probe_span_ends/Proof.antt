@@ -17,7 +17,7 @@ same-length : tie.Need-same-length
 same-length c = search needs
 
 returns : tie.Need-returns
-returns c = (c .before .before .copy .ensures .0 ∙ ap (λ (l : List ℕ). length l) (c .before .before .before .span-ends .ensures), c .before .before .copy .ensures .1 ∙ ap (copied (c .before .before .before .before .before .before .before .before .args .out .now)) (c .before .before .before .span-ends .ensures))
+returns c = (c .before .before .copy .ensures .0 ∙ ap (λ (l : List ℕ). length l) (c .before .before .before .span-ends .ensures .bytes-are), c .before .before .copy .ensures .1 ∙ ap (copied (c .before .before .before .before .before .before .before .before .args .out .now)) (c .before .before .before .span-ends .ensures .bytes-are))
 
 pub probe-span-ends-spec : {M : Type 1} → statement M
 probe-span-ends-spec = tie.close (tie.spec span-ends-requires copy-requires same-length returns)

@@ -1,4 +1,4 @@
-use mathlib.Core.Path.{_≡_, sym, _∙_, ap}
+use mathlib.Core.Path.{_≡_, refl, sym, _∙_, ap}
 use mathlib.Core.Bool.{true, false, _&&_}
 use mathlib.Core.List.{List, []}
 use Prim.Native.Nat.{ℕ, _+_, _*_, _-_}
@@ -12,7 +12,7 @@ use Rattle.format.specs.declared.header.Header.{Header}
 use Rattle.checks.specs.Checks.{firstRefusal}
 use Rattle.checks.specs.Single.{spanCount}
 use Rattle.job.specs.Refusals.{reduceChecks, byListChecks}
-use Rattle.job.specs.SpanEnds.{jobEnds, listEnds, spanEnds}
+use Rattle.job.specs.SpanEnds.{jobEnds, listEnds, spanEnds, jobPlace, listPlace}
 use Rattle.checks.specs.Verdict.{passes}
 use Rattle.job.proofs.SpanParts.{job-part, list-part}
 use borrow.Author.Needs.{needs}
@@ -44,6 +44,28 @@ module _ (s l : List ℕ) {which i k : ℕ} where
   not-list : (which ≡ 0 → ⊥) → k ≡ i → passes (firstRefusal (byListChecks s l)) && ltb k (spanCount l) ≡ false → [] ≡ spanEnds s l which i
   unfolding spanEnds listEnds
   not-list w e t = rw (sym e, ne-eqb _ _ w, t)
+
+-- Where it begins, from place o of the block on.
+module _ (s l : List ℕ) {i k : ℕ} where
+  at-job : (o : ℕ) {at : ℕ} → k ≡ i → at ≡ headerAt s .offsets .boundaries
+      → passes (firstRefusal (reduceChecks s)) && ltb k (headerAt s .counts .boundaries) ≡ true
+      → at + k * 40 + o ≡ o + jobPlace s i
+  unfolding jobPlace
+  at-job o {at} e f t =
+      let b : at ≡ boundariesStart (headerAt s .counts) = f ∙ job-part s k t .start in
+      rw (sym e, t) (omega arith)
+
+  at-no-job : (o : ℕ) → k ≡ i → passes (firstRefusal (reduceChecks s)) && ltb k (headerAt s .counts .boundaries) ≡ false → 0 + o ≡ o + jobPlace s i
+  unfolding jobPlace
+  at-no-job o e t = rw (sym e, t) (omega arith)
+
+  at-list : (o : ℕ) → k ≡ i → passes (firstRefusal (byListChecks s l)) && ltb k (spanCount l) ≡ true → k * 16 + o ≡ o + listPlace s l i
+  unfolding listPlace
+  at-list o e t = rw (sym e, t) (omega arith)
+
+  at-no-list : (o : ℕ) → k ≡ i → passes (firstRefusal (byListChecks s l)) && ltb k (spanCount l) ≡ false → 0 + o ≡ o + listPlace s l i
+  unfolding listPlace
+  at-no-list o e t = rw (sym e, t) (omega arith)
 
 size-requires : tie.Need-size-requires
 size-requires c κs = search needs
@@ -79,7 +101,23 @@ part-result-end c =
     omega (arith, j .inside, e)
 
 returns : tie.Need-returns
-returns c = of-job _ _ (c .before .before .before .before .before .before .if1 .taken) (c .before .before .before .before .before .before .before .size .ensures .0) (c .before .size2 .ensures .0 ∙ ap (λ (h : Header). h .offsets .boundaries) (c .before .before .before .read-header .ensures)) (sym (c .before .before .before .before .before .job-has .ensures) ∙ c .before .before .before .before .if2 .taken)
+returns c =
+    let at-read-header = c .before .before .before in
+    let at-if2 = at-read-header .before in
+    let at-job-has = at-if2 .before in
+    let at-size = at-job-has .before .before in
+    let start = at-size .before .before .before in
+    let w = c .before .before .before .before .before .before .if1 .taken in
+    record {
+      bytes-are = of-job _ _ w (at-size .size .ensures .0) (c .before .size2 .ensures .0
+          ∙ ap (λ (h : Header). h .offsets .boundaries) (at-read-header .read-header .ensures)) (sym (at-job-has .job-has .ensures) ∙ at-if2 .if2 .taken);
+      job-block = λ _. refl;
+      job-place = λ _. at-job _ [] (start .args .job .ptr .1) (at-size .size .ensures .0)
+          (c .before .size2 .ensures .0 ∙ ap (λ (h : Header). h .offsets .boundaries) (at-read-header .read-header .ensures))
+          (sym (at-job-has .job-has .ensures) ∙ at-if2 .if2 .taken);
+      list-block = λ no. absurd (no w);
+      list-place = λ no. absurd (no w);
+    }
 
 sub-result-2 : tie.Need-sub-result-2
 sub-result-2 c = search needs
@@ -91,7 +129,17 @@ part-result-end-2 : tie.Need-part-result-end-2
 part-result-end-2 c = search needs
 
 returns-2 : tie.Need-returns-2
-returns-2 c = not-job _ _ (c .before .before .before .if1 .taken) (c .before .before .before .before .size .ensures .0) (sym (c .before .before .job-has .ensures) ∙ c .before .if2 .left)
+returns-2 c =
+    let at-size = c .before .before .before .before in
+    let w = c .before .before .before .if1 .taken in
+    record {
+      bytes-are = not-job _ _ w (at-size .size .ensures .0) (sym (c .before .before .job-has .ensures) ∙ c .before .if2 .left);
+      job-block = λ _. refl;
+      job-place = λ _. at-no-job _ [] (c .before .before .before .before .before .before .before .args .job .ptr .1) (at-size .size .ensures .0)
+          (sym (c .before .before .job-has .ensures) ∙ c .before .if2 .left);
+      list-block = λ no. absurd (no w);
+      list-place = λ no. absurd (no w);
+    }
 
 list-has-requires : tie.Need-list-has-requires
 list-has-requires c κs = search needs
@@ -112,7 +160,17 @@ part-result-end-3 : tie.Need-part-result-end-3
 part-result-end-3 c = omega (arith, list-part _ _ _ (sym (c .before .list-has .ensures) ∙ c .if3 .taken))
 
 returns-3 : tie.Need-returns-3
-returns-3 c = of-list _ _ (c .before .before .before .if1 .left) (c .before .before .before .before .size .ensures .0) (sym (c .before .before .list-has .ensures) ∙ c .before .if3 .taken)
+returns-3 c =
+    let at-size = c .before .before .before .before in
+    let w = c .before .before .before .if1 .left in
+    record {
+      bytes-are = of-list _ _ w (at-size .size .ensures .0) (sym (c .before .before .list-has .ensures) ∙ c .before .if3 .taken);
+      job-block = λ is. absurd (w is);
+      job-place = λ is. absurd (w is);
+      list-block = λ _. refl;
+      list-place = λ _. at-list _ _ (c .before .before .before .before .before .before .before .args .list .ptr .1) (at-size .size .ensures .0)
+          (sym (c .before .before .list-has .ensures) ∙ c .before .if3 .taken);
+    }
 
 sub-result-4 : tie.Need-sub-result-4
 sub-result-4 c = search needs
@@ -124,7 +182,17 @@ part-result-end-4 : tie.Need-part-result-end-4
 part-result-end-4 c = search needs
 
 returns-4 : tie.Need-returns-4
-returns-4 c = not-list _ _ (c .before .before .before .if1 .left) (c .before .before .before .before .size .ensures .0) (sym (c .before .before .list-has .ensures) ∙ c .before .if3 .left)
+returns-4 c =
+    let at-size = c .before .before .before .before in
+    let w = c .before .before .before .if1 .left in
+    record {
+      bytes-are = not-list _ _ w (at-size .size .ensures .0) (sym (c .before .before .list-has .ensures) ∙ c .before .if3 .left);
+      job-block = λ is. absurd (w is);
+      job-place = λ is. absurd (w is);
+      list-block = λ _. refl;
+      list-place = λ _. at-no-list _ _ (c .before .before .before .before .before .before .before .args .list .ptr .1) (at-size .size .ensures .0)
+          (sym (c .before .before .list-has .ensures) ∙ c .before .if3 .left);
+    }
 
 pub span-ends-spec : {M : Type 1} → statement M
 span-ends-spec =

@@ -47,7 +47,9 @@ element-copy-out-write-u32-2 : tie.Need-element-copy-out-write-u32-2 Inv-loop μ
 element-copy-out-write-u32-2 c = search needs
 
 write-u32-requires-2 : tie.Need-write-u32-requires-2 Inv-loop μ-loop
-write-u32-requires-2 c κs = omega (arith, c .before .before .before .before .write-u32 .kept .0, c .before .before .before .before .before .before .before .before .loop .inv .3 .long)
+write-u32-requires-2 c κs =
+    let at-loop = c .before .before .before .before .before .before .before .before in
+    omega (arith, c .before .before .before .before .write-u32 .kept .0, at-loop .loop .inv .3 .long)
 
 add-i : tie.Need-add-i Inv-loop μ-loop
 add-i c = search needs
@@ -57,13 +59,15 @@ loop-less c = search needs
 
 loop-again : tie.Need-loop-again Inv-loop μ-loop
 loop-again c =
-    let turn = c .before .before .before .before .before .before .before .before .before .before .before .loop in
+    let at-loop = c .before .before .before .before .before .before .before .before .before .before .before in
+    let turn = at-loop .loop in
     let room : 8 + 8 * turn .i + 8 ≤ length (turn .out) = omega (arith, turn .inv .3 .long) in (
       omega arith,
       turn .inv .1,
       turn .inv .2,
       filled-next 8 _ _ (8 + 8 * turn .i) (turn .inv .3) (omega arith) refl
-          (after-two (turn .out) (8 + 8 * turn .i) _ _ room (c .before .before .before .before .before .before .before .write-u32 .ensures) (c .before .before .write-u322 .ensures)),
+          (after-two (turn .out) (8 + 8 * turn .i) _ _ room (c .before .before .before .before .before .before .before .write-u32 .ensures)
+          (c .before .before .write-u322 .ensures)),
     )
 
 same-length : tie.Need-same-length Inv-loop μ-loop

@@ -51,12 +51,19 @@ same-length c = search needs
 
 returns-3 : tie.Need-returns-3
 returns-3 c =
-    let given = c .before .before .before .before .before .before .before .before .before .before .before .before .before .before .before .before .before .before .before .args in
+    let at-write-u322 = c .before .before .before .before .before .before .before .before .before .before in
+    let at-write-u32 = at-write-u322 .before .before .before .before in
+    let at-if2 = at-write-u32 .before .before in
+    let at-if1 = at-if2 .before in
+    let start = at-if1 .before .before in
+    let given = start .args in
     let long = length-blocks 8 (λ i. countBytes (getD (given .removed .now) i 0) (getD (given .separated .now) i 0)) (λ i. length-two _ _) (given .count) in
-    let few = c .before .before .before .before .before .before .before .before .before .before .before .before .before .before .before .before .before .if1 .left in
-    let room = c .before .before .before .before .before .before .before .before .before .before .before .before .before .before .before .before .if2 .left in
+    let few = at-if1 .if1 .left in
+    let room = at-if2 .if2 .left in
     written (omega (arith, few)) (omega (arith, room)) refl refl
-    (after-head (given .out .now) (given .areas) (given .pairs) _ _ long (omega (arith, room)) (c .before .before .before .before .before .before .before .before .before .before .before .before .before .before .write-u32 .ensures) (c .before .before .before .before .before .before .before .before .before .before .write-u322 .ensures) (c .before .before .before .before .before .before .write-counts .ensures) (c .before .before .write-records .ensures))
+    (after-head (given .out .now) (given .areas) (given .pairs) _ _ long (omega (arith, room)) (at-write-u32 .write-u32 .ensures)
+    (at-write-u322 .write-u322 .ensures) (c .before .before .before .before .before .before .write-counts .ensures)
+    (c .before .before .write-records .ensures))
 
 pub write-partition-spec : {M : Type 1} → statement M
 write-partition-spec =

@@ -48,7 +48,9 @@ element-copy-out-write-u32-2 : tie.Need-element-copy-out-write-u32-2 Inv-loop μ
 element-copy-out-write-u32-2 c = search needs
 
 write-u32-requires-2 : tie.Need-write-u32-requires-2 Inv-loop μ-loop
-write-u32-requires-2 c κs = omega (arith, c .before .before .before .before .write-u32 .kept .0, c .before .before .before .before .before .before .before .before .loop .inv .4 .long)
+write-u32-requires-2 c κs =
+    let at-loop = c .before .before .before .before .before .before .before .before in
+    omega (arith, c .before .before .before .before .write-u32 .kept .0, at-loop .loop .inv .4 .long)
 
 add-write-u32-2 : tie.Need-add-write-u32-2 Inv-loop μ-loop
 add-write-u32-2 c = search needs
@@ -60,7 +62,10 @@ element-copy-out-write-u32-3 : tie.Need-element-copy-out-write-u32-3 Inv-loop μ
 element-copy-out-write-u32-3 c = search needs
 
 write-u32-requires-3 : tie.Need-write-u32-requires-3 Inv-loop μ-loop
-write-u32-requires-3 c κs = omega (arith, c .before .before .before .before .write-u322 .kept .0, c .before .before .before .before .before .before .before .before .before .write-u32 .kept .0, c .before .before .before .before .before .before .before .before .before .before .before .before .before .loop .inv .4 .long)
+write-u32-requires-3 c κs =
+    let at-write-u32 = c .before .before .before .before .before .before .before .before .before in
+    let at-loop = at-write-u32 .before .before .before .before in
+    omega (arith, c .before .before .before .before .write-u322 .kept .0, at-write-u32 .write-u32 .kept .0, at-loop .loop .inv .4 .long)
 
 add-k : tie.Need-add-k Inv-loop μ-loop
 add-k c = search needs
@@ -70,15 +75,19 @@ loop-less c = search needs
 
 loop-again : tie.Need-loop-again Inv-loop μ-loop
 loop-again c =
-    let turn = c .before .before .before .before .before .before .before .before .before .before .before .before .before .before .before .before .loop in
-    let place = c .before .before .before .before .before .before .before .before .before .before .before .before .before .before .before .before .before .before .args .at + 12 * turn .k in
+    let at-write-u32 = c .before .before .before .before .before .before .before .before .before .before .before .before in
+    let at-loop = at-write-u32 .before .before .before .before in
+    let start = at-loop .before .before in
+    let turn = at-loop .loop in
+    let place = start .args .at + 12 * turn .k in
     let room : place + 12 ≤ length (turn .out) = omega (arith, turn .inv .4 .long) in (
       omega arith,
       turn .inv .1,
       turn .inv .2,
       turn .inv .3,
       filled-next 12 _ _ place (turn .inv .4) (omega arith) refl
-          (after-three (turn .out) place _ _ _ room (c .before .before .before .before .before .before .before .before .before .before .before .before .write-u32 .ensures) (c .before .before .before .before .before .before .before .write-u322 .ensures) (c .before .before .write-u323 .ensures)),
+          (after-three (turn .out) place _ _ _ room (at-write-u32 .write-u32 .ensures)
+          (c .before .before .before .before .before .before .before .write-u322 .ensures) (c .before .before .write-u323 .ensures)),
     )
 
 same-length : tie.Need-same-length Inv-loop μ-loop

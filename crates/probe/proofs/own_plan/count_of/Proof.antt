@@ -22,12 +22,25 @@ size-requires c κs = search needs
 returns-2 : tie.Need-returns-2
 unfolding headerAt
 returns-2 c =
-    record { few = omega arith; is = λ l f. absurd (omega (arith, c .if2 .taken, c .before .size .ensures .0, ap (λ (x : Header). x .counts .boundaries) (c .before .before .before .read-header .ensures))) }
+    record {
+      few = omega arith;
+      is = λ l f. absurd (omega (
+        arith,
+        c .if2 .taken,
+        c .before .size .ensures .0,
+        ap (λ (x : Header). x .counts .boundaries)
+            (c .before .before .before .read-header .ensures),
+      ));
+    }
 
 returns-3 : tie.Need-returns-3
 unfolding headerAt
 returns-3 c =
-    record { few = omega arith; is = λ l f. c .before .size .ensures .0 ∙ ap (λ (x : Header). x .counts .boundaries) (c .before .before .before .read-header .ensures) }
+    record {
+      few = omega arith;
+      is = λ l f. c .before .size .ensures .0
+          ∙ ap (λ (x : Header). x .counts .boundaries) (c .before .before .before .read-header .ensures);
+    }
 
 pub count-of-spec : {M : Type 1} → statement M
 count-of-spec = tie.close (tie.spec returns read-header-requires size-requires returns-2 returns-3)

@@ -32,17 +32,25 @@ same-length-2 c = search needs
 
 returns-2 : tie.Need-returns-2
 returns-2 c =
-    let given = c .before .before .before .before .before .before .before .before .before .before .before .before .before .before .args in
+    let at-shared-slice-known = c .before .before .before .before .before .before .before .before .before .before .before .before .before in
+    let start = at-shared-slice-known .before in
+    let given = start .args in
     let made = c .before .before .before .before .before .before .plan-of .ensures .made (omega (arith, c .before .before .if1 .left)) in
-    let k = plan-count (given .which) (given .job .now) (given .list .now) (λ i. c .before .before .before .before .before .before .before .before .before .before .before .before .before .shared-slice-known .given i .fits) (made .passed) (c .before .count-of .ensures) in
+    let k = plan-count (given .which) (given .job .now) (given .list .now) (λ i. at-shared-slice-known .shared-slice-known .given i .fits) (made .passed)
+    (c .before .count-of .ensures) in
     short (made-parting made) (omega (arith, c .if2 .taken, k)) refl (ap (λ (x : ℕ). 4 * x) k) refl
 
 write-plan-requires : tie.Need-write-plan-requires
 write-plan-requires c κs =
-    let given = c .before .before .before .before .before .before .before .before .before .before .before .before .before .before .before .before .before .args in
-    let made = c .before .before .before .before .before .before .before .before .before .plan-of .ensures .made (omega (arith, c .before .before .before .before .before .if1 .left)) in
-    let k = plan-count (given .which) (given .job .now) (given .list .now) (λ i. c .before .before .before .before .before .before .before .before .before .before .before .before .before .before .before .before .shared-slice-known .given i .fits) (made .passed) (c .before .before .before .before .count-of .ensures) in
-    (c .before .before .before .before .count-of .ensures .few, made-ranked made k, made-inside made k, c .before .before .before .if2 .left)
+    let at-count-of = c .before .before .before .before in
+    let at-plan-of = at-count-of .before .before .before .before .before in
+    let at-shared-slice-known = at-plan-of .before .before .before .before .before .before .before in
+    let start = at-shared-slice-known .before in
+    let given = start .args in
+    let made = at-plan-of .plan-of .ensures .made (omega (arith, c .before .before .before .before .before .if1 .left)) in
+    let k = plan-count (given .which) (given .job .now) (given .list .now) (λ i. at-shared-slice-known .shared-slice-known .given i .fits) (made .passed)
+    (at-count-of .count-of .ensures) in
+    (at-count-of .count-of .ensures .few, made-ranked made k, made-inside made k, c .before .before .before .if2 .left)
 
 same-length-3 : tie.Need-same-length-3
 same-length-3 c = search needs
@@ -52,10 +60,16 @@ same-length-4 c = search needs
 
 returns-3 : tie.Need-returns-3
 returns-3 c =
-    let given = c .before .before .before .before .before .before .before .before .before .before .before .before .before .before .before .before .before .before .before .before .args in
-    let made = c .before .before .before .before .before .before .before .before .before .before .before .before .plan-of .ensures .made (omega (arith, c .before .before .before .before .before .before .before .before .if1 .left)) in
-    let k = plan-count (given .which) (given .job .now) (given .list .now) (λ i. c .before .before .before .before .before .before .before .before .before .before .before .before .before .before .before .before .before .before .before .shared-slice-known .given i .fits) (made .passed) (c .before .before .before .before .before .before .before .count-of .ensures) in
-    planned (made-parting made) (omega (arith, c .before .before .before .before .before .before .if2 .left, k)) refl (ap (λ (x : ℕ). 4 * x) k) (made-placed made k (c .before .before .write-plan .ensures))
+    let at-if1 = c .before .before .before .before .before .before .before .before in
+    let at-plan-of = at-if1 .before .before .before .before in
+    let at-shared-slice-known = at-plan-of .before .before .before .before .before .before .before in
+    let start = at-shared-slice-known .before in
+    let given = start .args in
+    let made = at-plan-of .plan-of .ensures .made (omega (arith, at-if1 .if1 .left)) in
+    let k = plan-count (given .which) (given .job .now) (given .list .now) (λ i. at-shared-slice-known .shared-slice-known .given i .fits) (made .passed)
+    (c .before .before .before .before .before .before .before .count-of .ensures) in
+    planned (made-parting made) (omega (arith, c .before .before .before .before .before .before .if2 .left, k)) refl (ap (λ (x : ℕ). 4 * x) k)
+    (made-placed made k (c .before .before .write-plan .ensures))
 
 pub probe-plan-spec : {M : Type 1} → statement M
 probe-plan-spec =

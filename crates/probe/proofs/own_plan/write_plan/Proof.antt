@@ -48,10 +48,12 @@ mul-write-u32 : tie.Need-mul-write-u32 Inv-loop μ-loop
 mul-write-u32 c = search needs
 
 element-copy-out-write-u32 : tie.Need-element-copy-out-write-u32 Inv-loop μ-loop
-element-copy-out-write-u32 c = let turn = c .before .before .before .before .before .before .loop in omega (arith, c .before .size2 .ensures .0, turn .inv .3 .below (turn .i) (omega arith))
+element-copy-out-write-u32 c = let turn = c .before .before .before .before .before .before .loop in omega
+    (arith, c .before .size2 .ensures .0, turn .inv .3 .below (turn .i) (omega arith))
 
 write-u32-requires : tie.Need-write-u32-requires Inv-loop μ-loop
-write-u32-requires c κs = let turn = c .before .before .before .before .before .before .before .loop in omega (arith, c .before .before .before .before .size .ensures .0, turn .inv .2 .below (turn .i) (omega arith), turn .inv .5 .long)
+write-u32-requires c κs = let turn = c .before .before .before .before .before .before .before .loop in omega
+    (arith, c .before .before .before .before .size .ensures .0, turn .inv .2 .below (turn .i) (omega arith), turn .inv .5 .long)
 
 add-i : tie.Need-add-i Inv-loop μ-loop
 add-i c = search needs
@@ -61,14 +63,19 @@ loop-less c = search needs
 
 loop-again : tie.Need-loop-again Inv-loop μ-loop
 loop-again c =
-    let turn = c .before .before .before .before .before .before .before .before .before .before .loop in
+    let at-loop-test = c .before .before .before .before .before .before .before .before .before in
+    let at-loop = at-loop-test .before in
+    let start = at-loop .before .before in
+    let turn = at-loop .loop in
     let to = c .before .before .before .before .before .size2 .ensures .0 in (
       omega arith,
       turn .inv .1,
       turn .inv .2,
       turn .inv .3,
       turn .inv .4,
-      words-next _ _ (turn .inv .2) (turn .inv .5) (c .before .before .before .before .before .before .before .before .before .loop-test .taken) (turn .inv .4) (c .before .before .before .before .before .before .before .size .ensures .0) (ap (λ (x : ℕ). getD (c .before .before .before .before .before .before .before .before .before .before .before .before .args .order .now) x 0) to) (c .before .before .write-u32 .ensures),
+      words-next _ _ (turn .inv .2) (turn .inv .5) (at-loop-test .loop-test .taken) (turn .inv .4)
+          (c .before .before .before .before .before .before .before .size .ensures .0) (ap (λ (x : ℕ). getD (start .args .order .now) x 0) to)
+          (c .before .before .write-u32 .ensures),
     )
 
 same-length : tie.Need-same-length Inv-loop μ-loop

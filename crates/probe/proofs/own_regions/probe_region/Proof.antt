@@ -26,14 +26,24 @@ read-header-requires c κs = header-there _ (reduce-job _ (ready-passed (c .befo
 
 tell-region-requires : tie.Need-tell-region-requires
 tell-region-requires c κs =
-    let passed = ready-passed (c .before .before .before .before .before .unready .ensures) (omega (arith, c .before .before .before .if1 .left)) in
-    (reduce-headed (λ i. c .before .before .before .before .before .before .before .before .shared-slice-known .given i .fits) passed (c .before .read-header .ensures), ready-room (c .before .before .before .before .before .unready .ensures) (omega (arith, c .before .before .before .if1 .left)), omega (arith, c .before .before .if2 .left))
+    let at-if1 = c .before .before .before in
+    let at-unready = at-if1 .before .before in
+    let at-shared-slice-known = at-unready .before .before .before in
+    let passed = ready-passed (at-unready .unready .ensures) (omega (arith, at-if1 .if1 .left)) in (
+      reduce-headed (λ i. at-shared-slice-known .shared-slice-known .given i .fits) passed (c .before .read-header .ensures),
+      ready-room
+          (at-unready .unready .ensures) (omega (arith, at-if1 .if1 .left)),
+      omega (arith, c .before .before .if2 .left),
+    )
 
 same-length : tie.Need-same-length
 same-length c = search needs
 
 returns-3 : tie.Need-returns-3
-returns-3 c = told (ready-now (c .before .before .before .before .before .before .before .before .unready .ensures) (omega (arith, c .before .before .before .before .before .before .if1 .left))) (omega (arith, c .before .before .before .before .before .if2 .left)) refl refl (c .before .before .tell-region .ensures)
+returns-3 c =
+    let at-unready = c .before .before .before .before .before .before .before .before in
+    told (ready-now (at-unready .unready .ensures) (omega (arith, c .before .before .before .before .before .before .if1 .left)))
+    (omega (arith, c .before .before .before .before .before .if2 .left)) refl refl (c .before .before .tell-region .ensures)
 
 pub probe-region-spec : {M : Type 1} → statement M
 probe-region-spec =

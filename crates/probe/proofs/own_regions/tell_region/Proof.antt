@@ -26,9 +26,10 @@ size-requires c κs = search needs
 
 count-cells-requires : tie.Need-count-cells-requires
 count-cells-requires c κs =
-    let d = c .before .before .before .before .before .before .before .pre .0 in
+    let start = c .before .before .before .before .before .before .before in
+    let d = start .pre .0 in
     let n = c .size .ensures .0 in
-    (omega (arith, n, headed-cells d), omega (arith, n, headed-work d, c .before .before .before .before .before .before .before .pre .1))
+    (omega (arith, n, headed-cells d), omega (arith, n, headed-work d, start .pre .1))
 
 add-region-stats : tie.Need-add-region-stats
 add-region-stats c = search needs
@@ -40,13 +41,16 @@ part-region-stats-start : tie.Need-part-region-stats-start
 part-region-stats-start c = search needs
 
 part-region-stats-end : tie.Need-part-region-stats-end
-part-region-stats-end c = let d = c .before .before .before .before .before .before .before .before .pre .0 in omega (arith, map-inside (d .header) (headed-laid d) _ (c .before .size .ensures .0))
+part-region-stats-end c =
+    let start = c .before .before .before .before .before .before .before .before in
+    let d = start .pre .0 in omega (arith, map-inside (d .header) (headed-laid d) _ (c .before .size .ensures .0))
 
 region-stats-requires : tie.Need-region-stats-requires
 region-stats-requires c κs =
-    let d = c .before .before .before .before .before .before .before .before .before .pre .0 in
+    let start = c .before .before .before .before .before .before .before .before .before in
+    let d = start .pre .0 in
     let long = map-long (d .header) (headed-laid d) _ (c .before .before .size .ensures .0) in
-    (omega (arith, headed-laid d .within .width-some), omega (arith, long, headed-cells d), omega (arith, long, headed-work d, c .before .before .before .before .before .before .before .before .before .pre .1))
+    (omega (arith, headed-laid d .within .width-some), omega (arith, long, headed-cells d), omega (arith, long, headed-work d, start .pre .1))
 
 size-requires-2 : tie.Need-size-requires-2
 size-requires-2 c κs = search needs
@@ -56,11 +60,12 @@ size-requires-3 c κs = search needs
 
 is-anchored-requires : tie.Need-is-anchored-requires
 is-anchored-requires c κs =
-    let d = c .before .before .before .before .before .before .before .before .before .before .before .before .pre .0 in
+    let start = c .before .before .before .before .before .before .before .before .before .before .before .before in
+    let d = start .pre .0 in
     let n = c .before .before .before .before .before .size .ensures .0 in
     let at = c .before .size2 .ensures .0 in
     let count = c .size3 .ensures .0 in
-    (bases-there d at count n, omega (arith, n, headed-cells d), omega (arith, n, headed-work d, c .before .before .before .before .before .before .before .before .before .before .before .before .pre .1), anchors-there d at count n)
+    (bases-there d at count n, omega (arith, n, headed-cells d), omega (arith, n, headed-work d, start .pre .1), anchors-there d at count n)
 
 flag-requires : tie.Need-flag-requires
 flag-requires c κs = search needs
@@ -79,11 +84,19 @@ same-length c = search needs
 
 returns : tie.Need-returns
 returns c =
-    let given = c .before .before .before .before .before .before .before .before .before .before .before .before .before .before .before .before .before .before .before .before .args in
+    let at-size3 = c .before .before .before .before .before .before .before .before in
+    let at-size2 = at-size3 .before in
+    let at-region-stats = at-size2 .before in
+    let at-count-cells = at-region-stats .before .before in
+    let at-size = at-count-cells .before in
+    let start = at-size .before .before .before .before .before .before .before in
+    let given = start .args in
     c .before .before .write-words .ensures
     ∙ ap (λ (l : List _). splice (given .out .now) 0 (words l))
-    (region-told (c .before .before .before .before .before .before .before .before .before .before .before .before .before .before .before .before .before .before .before .before .pre .0) (c .before .before .before .before .before .before .before .before .before .size2 .ensures .0) (c .before .before .before .before .before .before .before .before .size3 .ensures .0) (c .before .before .before .before .before .before .before .before .before .before .before .before .before .size .ensures .0) (given .labels .now) (given .region)
-    (c .before .before .before .before .before .before .before .before .before .before .before .before .count-cells .ensures) (c .before .before .before .before .before .before .before .before .before .before .region-stats .ensures) (c .before .before .before .before .before .before .before .is-anchored .ensures) (c .before .before .before .before .before .before .flag .ensures) (c .before .before .before .before .before .flag2 .ensures))
+    (region-told (start .pre .0) (at-size2 .size2 .ensures .0) (at-size3 .size3 .ensures .0) (at-size .size .ensures .0) (given .labels .now) (given .region)
+    (at-count-cells .count-cells .ensures) (at-region-stats .region-stats .ensures)
+    (c .before .before .before .before .before .before .before .is-anchored .ensures) (c .before .before .before .before .before .before .flag .ensures)
+    (c .before .before .before .before .before .flag2 .ensures))
 
 pub tell-region-spec : {M : Type 1} → statement M
 tell-region-spec =

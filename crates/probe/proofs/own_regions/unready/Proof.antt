@@ -32,9 +32,11 @@ detail-requires c κs = search needs
 
 returns : tie.Need-returns
 returns c =
+    let at-passed = c .before .before .before in
     let v = c .before .before .before .before .check-reduce in
-    let no = declined {o = meaning (v .result)} refl (c .before .before .before .passed .ensures) (c .before .before .if1 .taken) in
-    refused (declined (v .ensures) (c .before .before .before .passed .ensures) (c .before .before .if1 .taken)) (omega (arith, numbered (v .result) no, c .before .number .ensures))
+    let no = declined {o = meaning (v .result)} refl (at-passed .passed .ensures) (c .before .before .if1 .taken) in
+    refused (declined (v .ensures) (at-passed .passed .ensures) (c .before .before .if1 .taken))
+    (omega (arith, numbered (v .result) no, c .before .number .ensures))
     (c .before .number .ensures ∙ ap numberOf (v .ensures)) (c .detail .ensures ∙ ap detailOf (v .ensures))
 
 read-header-requires : tie.Need-read-header-requires
@@ -42,8 +44,13 @@ read-header-requires c κs = header-there _ (reduce-job _ (went-on _ (c .before 
 
 mul-size : tie.Need-mul-size
 mul-size c =
-    let e = went-on _ (c .before .before .before .before .before .check-reduce .ensures) (c .before .before .before .before .passed .ensures) (c .before .before .before .if1 .left) in
-    omega (arith, headed-cells (reduce-headed (λ i. c .before .before .before .before .before .before .before .shared-slice-known .given i .fits) e (c .before .before .read-header .ensures)))
+    let e = went-on _ (c .before .before .before .before .before .check-reduce .ensures) (c .before .before .before .before .passed .ensures)
+    (c .before .before .before .if1 .left) in
+    omega (
+      arith,
+      headed-cells (reduce-headed (λ i. c .before .before .before .before .before .before .before .shared-slice-known .given i .fits) e
+          (c .before .before .read-header .ensures)),
+    )
 
 size-requires : tie.Need-size-requires
 size-requires c κs = search needs
@@ -53,14 +60,18 @@ mul-if2 c = search needs
 
 returns-2 : tie.Need-returns-2
 returns-2 c =
-    let e = went-on _ (c .before .before .before .before .before .before .before .check-reduce .ensures) (c .before .before .before .before .before .before .passed .ensures) (c .before .before .before .before .before .if1 .left) in
-    let d = reduce-headed (λ i. c .before .before .before .before .before .before .before .before .before .shared-slice-known .given i .fits) e (c .before .before .before .before .read-header .ensures) in
+    let at-shared-slice-known = c .before .before .before .before .before .before .before .before .before in
+    let e = went-on _ (c .before .before .before .before .before .before .before .check-reduce .ensures)
+    (c .before .before .before .before .before .before .passed .ensures) (c .before .before .before .before .before .if1 .left) in
+    let d = reduce-headed (λ i. at-shared-slice-known .shared-slice-known .given i .fits) e (c .before .before .before .before .read-header .ensures) in
     cramped e (omega (arith, c .if2 .taken, c .before .size .ensures .0, headed-work d)) refl refl
 
 returns-3 : tie.Need-returns-3
 returns-3 c =
-    let e = went-on _ (c .before .before .before .before .before .before .before .check-reduce .ensures) (c .before .before .before .before .before .before .passed .ensures) (c .before .before .before .before .before .if1 .left) in
-    let d = reduce-headed (λ i. c .before .before .before .before .before .before .before .before .before .shared-slice-known .given i .fits) e (c .before .before .before .before .read-header .ensures) in
+    let at-shared-slice-known = c .before .before .before .before .before .before .before .before .before in
+    let e = went-on _ (c .before .before .before .before .before .before .before .check-reduce .ensures)
+    (c .before .before .before .before .before .before .passed .ensures) (c .before .before .before .before .before .if1 .left) in
+    let d = reduce-headed (λ i. at-shared-slice-known .shared-slice-known .given i .fits) e (c .before .before .before .before .read-header .ensures) in
     ready e (omega (arith, c .if2 .left, c .before .size .ensures .0, headed-work d)) refl refl
 
 pub unready-spec : {M : Type 1} → statement M

@@ -42,8 +42,13 @@ loop-less c = search needs
 
 loop-again : tie.Need-loop-again Inv-loop μ-loop
 loop-again c =
-    let turn = c .before .before .before .before .before .before .loop in
-    (omega arith, turn .inv .1, turn .inv .2, filled-next 4 _ _ (4 * turn .i) (turn .inv .3) (omega arith) (omega arith) (c .before .before .write-u32 .ensures))
+    let turn = c .before .before .before .before .before .before .loop in (
+      omega arith,
+      turn .inv .1,
+      turn .inv .2,
+      filled-next 4 _ _ (4 * turn .i) (turn .inv .3) (omega arith) (omega arith)
+          (c .before .before .write-u32 .ensures),
+    )
 
 same-length : tie.Need-same-length Inv-loop μ-loop
 same-length c = c .before .loop .inv .3 .long

@@ -1,0 +1,97 @@
+use mathlib.Core.Path.{_∙_, ap}
+use native.Mathlib.Omega.{arith}
+use Rattle.wire.specs.Bytes.{splice}
+use Rattle.analysis.proofs.Headed.{headed-laid, headed-cells}
+use Rattle.analysis.proofs.Calling.{headed-work}
+use Rattle.probe.specs.Links.{bitsOf}
+use Rattle.probe.proofs.LinkLaws.{link-told}
+use borrow.Author.Needs.{needs}
+use Rattle.probe.proofs.own_links.tell_link.Statement.{statement}
+use Rattle.probe.proofs.own_links.tell_link.Tie as tie
+
+mul-size : tie.Need-mul-size
+mul-size c = omega (arith, headed-cells (c .before .before .before .before .before .pre .0))
+
+size-requires : tie.Need-size-requires
+size-requires c κs = search needs
+
+of-000-requires : tie.Need-of-000-requires
+of-000-requires c κs = search needs
+
+link-between-requires : tie.Need-link-between-requires
+link-between-requires c κs = search needs
+
+measure-one-requires : tie.Need-measure-one-requires
+measure-one-requires c κs =
+    let start = c .before .before .before .before .before .before .before .before in
+    let pre = start .pre in
+    let n = c .before .before .size .ensures .0 in
+    (omega (arith, headed-laid (pre .0) .within .width-some), omega (arith, n, headed-cells (pre .0)), omega (arith, n, headed-work (pre .0), pre .3))
+
+measured-requires : tie.Need-measured-requires
+measured-requires c κs = search needs
+
+kind-of-requires : tie.Need-kind-of-requires
+kind-of-requires c κs = search needs
+
+transverse-of-requires : tie.Need-transverse-of-requires
+transverse-of-requires c κs = search needs
+
+bits-of-requires : tie.Need-bits-of-requires
+bits-of-requires c κs = search needs
+
+longitudinal-of-requires : tie.Need-longitudinal-of-requires
+longitudinal-of-requires c κs = search needs
+
+bits-of-requires-2 : tie.Need-bits-of-requires-2
+bits-of-requires-2 c κs = search needs
+
+flag-requires : tie.Need-flag-requires
+flag-requires c κs = search needs
+
+write-link-requires : tie.Need-write-link-requires
+write-link-requires c κs =
+    let start = c .before .before .before .before .before .before .before .before .before .before .before .before .before .before .before .before .before in
+    omega (arith, start .pre .4)
+
+same-length : tie.Need-same-length
+same-length c = search needs
+
+returns : tie.Need-returns
+returns c =
+    let at-transverse-of = c .before .before .before .before .before .before .before .before in
+    let at-kind-of = at-transverse-of .before in
+    let p10 = at-kind-of .before in
+    let measured = p10 in
+    let start = measured .before .before .before .before .before .before .before .before .before .before in
+    let given = start .args in
+    let m = measured .measured .ensures in
+    c .before .before .write-link .ensures
+    ∙ ap (splice (given .out .now) 0)
+    (link-told (start .pre .0) (measured .before .before .before .before .size .ensures .0) (given .labels .now) (given .region) (given .first)
+    (given .second) _
+    (measured .before .before .before .of-000 .ensures) (measured .before .before .link-between .ensures) (measured .before .measure-one .ensures) m
+    (at-kind-of .kind-of .ensures)
+    (c .before .before .before .before .before .before .before .bits-of .ensures ∙ ap bitsOf (at-transverse-of .transverse-of .ensures))
+    (c .before .before .before .before .before .bits-of2 .ensures
+    ∙ ap bitsOf (c .before .before .before .before .before .before .longitudinal-of .ensures)) (c .before .before .before .before .flag .ensures))
+
+pub tell-link-spec : {M : Type 1} → statement M
+tell-link-spec =
+    tie.close
+    (tie.spec
+    mul-size
+    size-requires
+    of-000-requires
+    link-between-requires
+    measure-one-requires
+    measured-requires
+    kind-of-requires
+    transverse-of-requires
+    bits-of-requires
+    longitudinal-of-requires
+    bits-of-requires-2
+    flag-requires
+    write-link-requires
+    same-length
+    returns)
