@@ -48,6 +48,7 @@ mod tally;
 mod values;
 mod whole;
 
+use regions::{ENVELOPES, LINKS, REGIONS};
 use run::Run;
 use std::process::exit;
 use std::time::{Duration, Instant};
@@ -135,9 +136,9 @@ fn main() {
 fn kinds(family: &str) -> &'static [&'static str] {
     match family {
         "damaged" => &[CHECKS, WHOLE[0], WHOLE[1], WHOLE[2]],
-        "maps" => &[PARTITIONS, WHOLE[0], WHOLE[1], WHOLE[2]],
+        "maps" => &[PARTITIONS, REGIONS, WHOLE[0], WHOLE[1], WHOLE[2]],
         "records" => &[RECORDS],
-        _ => &[PLANS, RELISTINGS, WHOLE[0], WHOLE[1], WHOLE[2]],
+        _ => &[PLANS, RELISTINGS, REGIONS, LINKS, ENVELOPES, WHOLE[0], WHOLE[1], WHOLE[2]],
     }
 }
 

@@ -21,13 +21,13 @@ pub const RELISTINGS: &str = "relistings";
 /// Those on relistings among them.
 pub const WHOLE: [&str; 3] =
     ["calls of Reduce compared", "calls of Reduce by list compared", "calls of Mark compared"];
-pub const KINDS: [&str; 10] = [
-    CHECKS, PARTS[0], PARTS[1], PARTITIONS, RECORDS, PLANS, RELISTINGS, WHOLE[0], WHOLE[1],
-    WHOLE[2],
+pub const KINDS: [&str; 13] = [
+    CHECKS, PARTS[0], PARTS[1], PARTITIONS, RECORDS, PLANS, RELISTINGS, REGIONS, LINKS, ENVELOPES,
+    WHOLE[0], WHOLE[1], WHOLE[2],
 ];
 
 /// What a whole run must have seen at least once.
-const WANTED: [&str; 33] = [
+const WANTED: [&str; 30] = [
     "partitions held to the definitions",
     "partitions with a span that cuts nothing",
     "partitions with a span that goes round",
@@ -53,11 +53,8 @@ const WANTED: [&str; 33] = [
     "runs with several groups",
     "runs with both kinds",
     "merges one at a time",
-    REGIONS,
     "regions with an anchor",
     "regions of several elevations",
-    LINKS,
-    ENVELOPES,
     "links within",
     "links beyond",
     "links outside the flat envelope",

@@ -42,7 +42,7 @@ use Rattle.merging.specs.Kept.{membersOf, consolidated, slot, kept}
 use Rattle.merging.specs.Runs.{Run, reduceRun, itemsOf, canonItem, groupsOf, keptOf, rulesAnswer}
 use Rattle.results.specs.Rules.{gridOf, rulesOn, rulesOf}
 use Rattle.partition.specs.Partitioned.{labelled}
-use Rattle.results.specs.Results.{Outcome, leftBy, workSize, ownEnds, labelsOf, answerOf, marksOf, reduced, reduceWith, reduceByListWith}
+use Rattle.results.specs.Results.{afterWork, Outcome, leftBy, workSize, ownEnds, labelsOf, answerOf, marksOf, reduced, reduceWith, reduceByListWith}
 use Rattle.results.specs.Calls.{reduceResult, reduceByListResult, markResult}
 use Rattle.results.specs.Cases.{oneCell, upright, observed as seenBytes, corridor, anchored, corridorAnswer, anchoredAnswer, leaves, Gives}
 use Rattle.results.specs.Cases.{oneSpan, OtherCalls, leavesOne, OneCellCase, CorridorCase}
@@ -229,6 +229,11 @@ list-left work out w o =
 
 pub other-calls : OtherCalls
 other-calls = record { marks = marks-left; by-list = list-left }
+
+-- What is written goes to the first bytes, and the later ones are as they were.
+tail-left : afterWork [] [] (9 ∷ 8 ∷ 7 ∷ []) (1 ∷ []) 1 none .out ≡ 1 ∷ 8 ∷ 7 ∷ []
+unfolding afterWork splice
+tail-left = refl
 
 -- One cell, of any kind.
 abbrev oneJob : ℕ → Job
