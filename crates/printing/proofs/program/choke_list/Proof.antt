@@ -19,7 +19,7 @@ returns : tie.Need-returns
 returns c =
     let start = c .before .before .before .before .before in
     let w = c .write-text in
-    (same-text (over-limit (start .args .input .now) (c .before .before .before .if1 .taken)) (w .ensures), omega (arith, w .ensures .end))
+    (same-text (over-limit (start .args .input .now) (omega (arith, c .before .before .before .if1 .taken))) (w .ensures), omega (arith, w .ensures .end))
 
 slice-aggregate-print-list : tie.Need-slice-aggregate-print-list
 slice-aggregate-print-list c = search needs
@@ -36,7 +36,7 @@ returns-2 c =
     let within = at-list .before .before .before .before in
     let start = within .before .before in
     let p = at-list .print-list in
-    (same-text (within-limit (start .args .input .now) (within .if1 .left)) (p .ensures .0), p .ensures .1 .0)
+    (same-text (within-limit (start .args .input .now) (omega (arith, within .if1 .left))) (p .ensures .0), p .ensures .1 .0)
 
 pub choke-list-spec : {M : Type 1} → statement M
 choke-list-spec =

@@ -19,7 +19,7 @@ slice-aggregate-print-read : tie.Need-slice-aggregate-print-read
 slice-aggregate-print-read c = search needs
 
 print-read-requires : tie.Need-print-read-requires
-print-read-requires c κs = search needs
+print-read-requires c κs = (search needs, search needs)
 
 array-share-prefix-out : tie.Need-array-share-prefix-out
 array-share-prefix-out c = search needs
