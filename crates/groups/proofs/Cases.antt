@@ -17,7 +17,7 @@ use Rattle.order.specs.Sorting.{sort}
 use Rattle.order.specs.Keys.{lexLe}
 use Rattle.topology.specs.Listing.{Item, endsKey, listing}
 use Rattle.groups.specs.Links.{LinkAt, links}
-use Rattle.groups.specs.Serial.{chainSum}
+use Rattle.groups.specs.Serial.{chainSum, serialGroups}
 use Rattle.groups.specs.Flat.{accepted}
 use Rattle.groups.specs.Representative.{eligible, retained}
 use Rattle.groups.specs.Plan.{mergePlan}
@@ -95,6 +95,18 @@ three = uprightAt 8 ∷ uprightAt 16 ∷ uprightAt 24 ∷ []
 serial-three : accepted limits000 eight long [] three ≡ record { ranks = 0 ∷ 1 ∷ 2 ∷ []; links = linkOver 2 0 1 ∷ linkOver 3 1 2 ∷ [] } ∷ []
 unfolding accepted part count upFrom lengthOf ofInt ofBits toBits neg add sub mul div lt le
 serial-three = refl
+
+-- a column below one region makes its link fail: none of the chain's four spans is in a serial group
+abbrev bulged : Grid
+bulged = record {
+  width = 5;
+  height = 4;
+  cells = 1 ∷ 1 ∷ 1 ∷ 1 ∷ 1 ∷ 0 ∷ 0 ∷ 0 ∷ 1 ∷ 0 ∷ 0 ∷ 0 ∷ 0 ∷ 1 ∷ 0 ∷ 0 ∷ 0 ∷ 0 ∷ 1 ∷ 0 ∷ [];
+}
+
+failing-rejects : serialGroups limits000 eight bulged [] (map uprightAt (8 ∷ 16 ∷ 24 ∷ 32 ∷ [])) ≡ []
+unfolding serialGroups part count upFrom lengthOf ofInt ofBits toBits neg add sub mul div lt le
+failing-rejects = refl
 
 -- the middle one has the least sum
 retained-middle : retained limits000 three (0 ∷ 1 ∷ 2 ∷ []) ≡ 1
