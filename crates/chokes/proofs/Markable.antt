@@ -6,7 +6,6 @@ use native.Mathlib.Omega.{arith}
 use lib.ListN.{length, take, drop}
 use Rattle.lists.specs.Rows.{rows}
 use Rattle.lists.proofs.Rows.{map-rows, rows-same}
-use Rattle.wire.specs.Bytes.{part}
 use Rattle.position.specs.Order.{canonical}
 use Rattle.position.proofs.Order.{canonical-again}
 use Rattle.format.specs.Sizes.{boundarySize}

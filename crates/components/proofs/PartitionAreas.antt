@@ -1,6 +1,6 @@
 -- The areas of a partition: as many as there are labels, area k with the label k + 1, each with a cell.
-use mathlib.Core.Path.{_≡_, refl, _∙_, ap}
-use mathlib.Core.List.{List, map}
+use mathlib.Core.Path.{_≡_, _∙_}
+use mathlib.Core.List.{List}
 use Prim.Native.Nat.{ℕ, _+_, _<_, _≤_}
 use native.Mathlib.Omega.{arith}
 use lib.ListN.{length, getD, length-map}
@@ -8,7 +8,7 @@ use Rattle.order.specs.Lists.{upFrom}
 use Rattle.order.proofs.Numbers.{map-up-at, up-length}
 use Rattle.position.specs.declared.Span.{Span}
 use Rattle.grid.specs.Cells.{Grid}
-use Rattle.areas.specs.Areas.{areaLabels, areaCount, cellCount}
+use Rattle.areas.specs.Areas.{areaLabels, areaCount}
 use Rattle.areas.proofs.Counts.{cell-count-some}
 use Rattle.components.specs.PartitionAreas.{areaOf, partitionAreas}
 use Rattle.components.specs.declared.area.PartitionArea.{PartitionArea}

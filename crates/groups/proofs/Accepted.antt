@@ -116,9 +116,6 @@ module _ (limits : Limits) (dirs : List ℕ) (g : Grid) (anchors : List WalkPosi
       by-kind (λ a. 2 ≤ length (a .ranks)) (λ a m. path-two limits dirs g l (limits .leastSpans) a (serial-path m))
       (λ a m. path-two limits dirs g l leastFlatSpans a (flat-path m))
 
-  pub accepted-most : {a : Group} → List·Memᴰ a (accepted limits dirs g anchors l) → length (a .ranks) ≤ limits .mostSpans
-  accepted-most = by-kind (λ a. length (a .ranks) ≤ limits .mostSpans) (λ a m. serial-path m .most) (λ a m. flat-path m .most)
-
   -- the links of an accepted group are links of the map, between its ranks
   abbrev Between : Group → Type 0
   Between a = (k : LinkAt) → List·Memᴰ k (a .links) → List·Memᴰ k (links dirs g anchors l) × List·Memᴰ (k .first) (a .ranks) × List·Memᴰ (k .second) (a .ranks)

@@ -1,14 +1,10 @@
--- The listing has the items, by canonical ends, equal ones as they stood; and the map's regions are those of the items.
+-- The listing has the items, and the map's regions are those of the items.
 use mathlib.Core.Path.{_≡_}
 use mathlib.Core.List.{List, map, List·Permᴰ, Permᴰ·symm, Permᴰ·map}
 use Prim.Native.Nat.{ℕ}
 use Rattle.order.specs.Keys.{byKey}
-use Rattle.order.specs.Orders.{Stable}
-use Rattle.order.specs.Pairs.{Pairs}
 use Rattle.order.proofs.Members.{perm-members}
 use Rattle.order.proofs.Sort.{sort-perm}
-use Rattle.order.proofs.Stable.{sort-stable, sort-idem}
-use Rattle.order.proofs.Keys.{key-preorder}
 use Rattle.position.specs.Order.{canonical}
 use Rattle.grid.specs.Cells.{Grid}
 use Rattle.areas.specs.Areas.{areaLabels, areaCount}
@@ -19,13 +15,6 @@ use Rattle.groups.specs.Regions.{regionLabels, regionCount}
 
 pub listing-perm : (items : List Item) → List·Permᴰ items (listing items)
 listing-perm items = sort-perm (byKey itemKey) items
-
--- R: any relation of each item to the later ones, such as the order of input
-pub listing-stable : {R : Item → Item → Type 0} {items : List Item} → Pairs R items → Pairs (Stable (byKey itemKey) R) (listing items)
-listing-stable p = sort-stable (key-preorder itemKey) p
-
-pub listing-idem : (items : List Item) → listing (listing items) ≡ listing items
-listing-idem items = sort-idem (key-preorder itemKey) items
 
 module _ (dirs : List ℕ) (g : Grid) (items : List Item) where
   spans-perm : List·Permᴰ (map canonical (spansOf (listing items))) (map canonical (spansOf items))

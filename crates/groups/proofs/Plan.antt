@@ -1,5 +1,5 @@
 -- A rank of an accepted group goes into the one that the group retains, and every other rank stays.
-use mathlib.Core.Path.{_≡_, refl, sym, _∙_, ap}
+use mathlib.Core.Path.{_≡_, refl, _∙_}
 use mathlib.Core.Bool.{Bool, true, false, cond, _||_}
 use mathlib.Core.List.{List, [], _∷_, List·Memᴰ, List·Memᴰ·head, List·Memᴰ·tail}
 use Prim.Native.Nat.{ℕ, _<_, _≤_}
@@ -11,19 +11,17 @@ use Rattle.order.proofs.Bools.{clash, is-false, by-test}
 use Rattle.order.proofs.Members.{getD-mem}
 use Rattle.order.proofs.Numbers.{has-mem, mem-has}
 use Rattle.position.specs.declared.WalkPosition.{WalkPosition}
-use Rattle.format.specs.Bounds.{maxWidthBits}
 use Rattle.grid.specs.Cells.{Grid}
 use Rattle.links.specs.Limits.{Limits}
 use Rattle.groups.specs.Tests.{any}
 use Rattle.topology.specs.Listing.{Item}
-use Rattle.groups.specs.Listing.{bitsAt}
 use Rattle.groups.specs.Groups.{Group, inAny, Disjoint}
 use Rattle.groups.specs.Flat.{accepted}
-use Rattle.groups.specs.Representative.{retained, IsRetained}
+use Rattle.groups.specs.Representative.{retained}
 use Rattle.groups.specs.Plan.{goesInto, mergePlan}
 use Rattle.groups.proofs.Tests.{any-mem, mem-any}
-use Rattle.groups.proofs.Accepted.{groups-disjoint, accepted-rising, accepted-below, accepted-two}
-use Rattle.groups.proofs.Representative.{retained-mem, retained-is, Tolerant, some-eligible}
+use Rattle.groups.proofs.Accepted.{groups-disjoint, accepted-below, accepted-two}
+use Rattle.groups.proofs.Representative.{retained-mem}
 
 -- the rank is in one of the groups
 pub in-any : (gs : List Group) (i : ℕ) → inAny gs i ≡ true → (a : Group) × List·Memᴰ a gs × List·Memᴰ i (a .ranks)
@@ -58,12 +56,6 @@ module _ (limits : Limits) (dirs : List ℕ) (g : Grid) (anchors : List WalkPosi
   pub accepted-retained : {a : Group} → List·Memᴰ a (accepted limits dirs g anchors l) → List·Memᴰ (retained limits l (a .ranks)) (a .ranks)
   accepted-retained {a} m = retained-mem limits l (a .ranks) (some-rank m)
 
-  -- with the widths of a job it is the one that the rule names
-  pub accepted-is-retained : Tolerant limits → ((i : ℕ) → i < length l → bitsAt l i ≤ maxWidthBits) → {a : Group} → List·Memᴰ a (accepted limits dirs g anchors l) → IsRetained limits l (a .ranks) (retained limits l (a .ranks))
-  accepted-is-retained o h {a} m =
-      retained-is limits l (a .ranks) (accepted-rising limits dirs g anchors l m)
-      (some-eligible o l (a .ranks) (λ j k. h j (accepted-below limits dirs g anchors l m j k)) (some-rank m) .1)
-
   pub plan-member : {a : Group} → List·Memᴰ a (accepted limits dirs g anchors l) → (i : ℕ) → List·Memᴰ i (a .ranks) → mergePlan limits dirs g anchors l i ≡ retained limits l (a .ranks)
   unfolding mergePlan
   plan-member m i k = goes-member limits l (groups-disjoint limits dirs g anchors l) m i k
@@ -71,16 +63,6 @@ module _ (limits : Limits) (dirs : List ℕ) (g : Grid) (anchors : List WalkPosi
   pub plan-other : (i : ℕ) → inAny (accepted limits dirs g anchors l) i ≡ false → mergePlan limits dirs g anchors l i ≡ i
   unfolding mergePlan
   plan-other i h = goes-other limits l (accepted limits dirs g anchors l) i h
-
-  -- what a rank goes into stays
-  pub plan-idem : (i : ℕ) → mergePlan limits dirs g anchors l (mergePlan limits dirs g anchors l i) ≡ mergePlan limits dirs g anchors l i
-  plan-idem i =
-      by-test (inAny (accepted limits dirs g anchors l) i)
-      (λ h.
-      let w = in-any (accepted limits dirs g anchors l) i h in
-      let e = plan-member (w .1) i (w .2) in
-      ap (mergePlan limits dirs g anchors l) e ∙ (plan-member (w .1) (retained limits l (w .0 .ranks)) (accepted-retained (w .1)) ∙ sym e))
-      (λ h. ap (mergePlan limits dirs g anchors l) (plan-other i h))
 
   pub plan-below : (i : ℕ) → i < length l → mergePlan limits dirs g anchors l i < length l
   plan-below i b =

@@ -2,7 +2,7 @@
 -- taken in another order gives another f64 or another outcome for one of them.
 use mathlib.Core.Path.{_≡_, refl}
 use mathlib.Core.Bool.{true, false}
-use mathlib.Core.List.{List, [], _∷_}
+use mathlib.Core.List.{[], _∷_}
 use Prim.Native.Nat.{ℕ}
 use lib.Ieee.{binary64, neg, add, sub, mul, div, lt, le, ofBits, ofInt}
 use Rattle.length.specs.Length.{lengthOf}

@@ -1,6 +1,6 @@
 -- What the link function asks of a job that passed its checks, and what it tells.
-use mathlib.Core.Path.{_≡_, refl, sym, _∙_, ap, subst}
-use mathlib.Core.Bool.{Bool, true, false, not, cond}
+use mathlib.Core.Path.{_≡_, refl, sym, _∙_, ap}
+use mathlib.Core.Bool.{true, not}
 use mathlib.Core.List.{List, _++_, append-assoc}
 use Prim.Native.Nat.{ℕ, _+_, _*_, _≤_, _<_}
 use native.Mathlib.Omega.{arith}
@@ -8,7 +8,6 @@ use lib.Dec.{T}
 use lib.Ieee.{Float, nan, inf, fin, eq, isNan}
 use lib.ListN.{length, length-append}
 use Rattle.lists.proofs.Rows.{length-rows}
-use Rattle.order.specs.Lists.{upFrom}
 use Rattle.wire.specs.Bytes.{u32Bytes, u64Bytes, splice}
 use Rattle.wire.proofs.Numbers.{length-bytes}
 use Rattle.position.specs.Order.{canonical}
@@ -37,7 +36,7 @@ use Rattle.analysis.proofs.Checked.{boundariesAt, canonical-on-map, on-map-boun
 use Rattle.analysis.proofs.Headed.{headed-checked, headed-laid, counts-are, start-is, count-is}
 use Rattle.analysis.proofs.Mapped.{map-cells, map-long}
 use Rattle.probe.specs.Regions.{cellLabels}
-use Rattle.probe.specs.Links.{bitsOf, kindOf, transverse, longitudinal, fourBytes, measuredBytes, sideOf, linkBytes}
+use Rattle.probe.specs.Links.{bitsOf, kindOf, transverse, longitudinal, fourBytes, sideOf, linkBytes}
 use Rattle.probe.proofs.WritingLaws.{beside}
 
 -- what is like itself is no NaN

@@ -1,8 +1,8 @@
 -- Words written by place, and what a plan says of the boundaries' places.
-use mathlib.Core.Path.{_≡_, refl, sym, _∙_, ap, subst}
+use mathlib.Core.Path.{_≡_, refl, sym, _∙_, ap}
 use mathlib.Core.Logic.{by-cases}
 use mathlib.Core.Bool.{Bool, true, false, cond}
-use mathlib.Core.List.{List, List·Memᴰ}
+use mathlib.Core.List.{List}
 use mathlib.Core.Option.{none}
 use Prim.Native.Nat.{ℕ, _+_, _*_, _≤_, _<_}
 use native.Mathlib.Decide.{ℕ-discrete, decLt}
@@ -20,9 +20,8 @@ use Rattle.wire.specs.Bytes.{AreBytes, part, u32Bytes, splice}
 use Rattle.wire.proofs.Numbers.{length-bytes}
 use Rattle.wire.proofs.Parts.{length-splice, drop-splice, splice-same, splice-before, splice-after}
 use Rattle.position.specs.declared.Span.{Span}
-use Rattle.format.specs.Values.{Boundary, Job}
-use Rattle.format.specs.Sizes.{headerSize}
-use Rattle.format.specs.Header.{headerAt, countsAt}
+use Rattle.format.specs.Values.{Job}
+use Rattle.format.specs.Header.{headerAt}
 use Rattle.format.specs.Decode.{decode, decodeList}
 use Rattle.grid.specs.Directions.{eight}
 use Rattle.links.specs.Limits.{limits000}
@@ -39,7 +38,7 @@ use Rattle.analysis.specs.Plans.{planOf, RankedBy, Headed, Made, PlanLeft}
 use Rattle.analysis.proofs.Ranked.{places-count, places-perm, place-below, listed-length}
 use Rattle.analysis.proofs.Headed.{headed-checked}
 use Rattle.analysis.proofs.Calling.{reduce-headed, by-list-headed}
-use Rattle.probe.specs.Planning.{checksOf, spansOf, CountOf, Ranked, Inside, Words, placeAt, RankOf, Placed, Parting, PlanAnswer, refused, short, planned}
+use Rattle.probe.specs.Planning.{checksOf, spansOf, CountOf, Ranked, Inside, Words, placeAt, RankOf, Placed, Parting}
 
 -- numbers that rise are distinct
 up-distinct : (a n : ℕ) → Distinct (upFrom a n)

@@ -1,19 +1,16 @@
 -- What the region function asks of a job that passed its checks, and what it tells.
-use mathlib.Core.Path.{_≡_, refl, sym, _∙_, ap, subst}
+use mathlib.Core.Path.{_≡_, refl, sym, _∙_, ap}
 use mathlib.Core.Bool.{Bool}
-use mathlib.Core.List.{List, [], _∷_, map}
+use mathlib.Core.List.{List, [], _∷_}
 use mathlib.Core.Option.{none}
 use Prim.Native.Nat.{ℕ, _+_, _*_, _-_, _≤_, _<_}
 use native.Mathlib.Omega.{arith}
 use lib.ListN.{length, take, drop}
-use Rattle.position.specs.declared.WalkPosition.{WalkPosition}
 use Rattle.format.specs.Sizes.{baseSize}
 use Rattle.format.specs.Header.{countsAt, basesStart}
-use Rattle.format.specs.Values.{Base}
 use Rattle.format.specs.Decode.{decode, jobWith}
 use Rattle.format.specs.declared.header.Header.{Header}
 use Rattle.format.specs.declared.header.Counts.{Counts}
-use Rattle.grid.specs.Cells.{Grid}
 use Rattle.areas.specs.Areas.{cellCount}
 use Rattle.areas.specs.Words.{labelsIn}
 use Rattle.topology.specs.RegionStats.{RegionStats, regionStats}

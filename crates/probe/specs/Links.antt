@@ -4,7 +4,6 @@ use mathlib.Core.Bool.{Bool, cond}
 use mathlib.Core.List.{List, _++_}
 use Prim.Native.Nat.{ℕ, _+_, _*_, _≤_, _<_}
 use lib.Ieee.{Float, binary64, ofBits, toBits, eq}
-use lib.ListN.{length}
 use Rattle.wire.specs.Bytes.{u32Bytes, u64Bytes}
 use Rattle.position.specs.Order.{canonical}
 use Rattle.format.specs.Sizes.{boundarySize}

@@ -5,7 +5,7 @@ use mathlib.Core.List.{List, [], _∷_, _++_}
 use mathlib.Core.Option.{none}
 use Prim.Native.Nat.{ℕ, _*_, _≤_, _<_}
 use lib.ListN.{length}
-use Rattle.wire.specs.Bytes.{words, splice}
+use Rattle.wire.specs.Bytes.{splice}
 use Rattle.format.specs.Values.{Job}
 use Rattle.format.specs.Decode.{decode}
 use Rattle.areas.specs.Areas.{cellCount}

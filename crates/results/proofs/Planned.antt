@@ -4,7 +4,6 @@ use mathlib.Core.List.{List, [], _∷_, map, List·Memᴰ, List·Memᴰ·not-nil
 use Prim.Native.Nat.{ℕ, _≤_}
 use borrow.Author.Tests.{eq-eqb, ne-eqb}
 use lib.ListN.{length}
-use Rattle.order.specs.Lists.{has}
 use Rattle.position.specs.declared.Span.{Span}
 use Rattle.format.specs.Values.{Job}
 use Rattle.format.specs.Encode.{encodeAnswer}
