@@ -4,9 +4,10 @@ use mathlib.Core.Path.{_≡_, refl, sym, _∙_, ap}
 use mathlib.Core.Logic.{by-cases}
 use Prim.Native.Nat.{ℕ, _+_, _*_, _-_, _/_, _≤_, _<_}
 use native.Mathlib.Omega.{arith}
-use native.Mathlib.Nat.{le-dest, mul-add, div-mul-le-self, mul-le-mul-left, mul-le-mul-right, le-of-mul-le-mul-left, div-le-of-le-mul, lt-div-mul-add, lt-of-mul-lt-mul-right}
+use native.Mathlib.Nat.{le-dest, mul-add, add-mul, div-mul-le-self, mul-le-mul-left, mul-le-mul-right, le-of-mul-le-mul-left}
+use native.Mathlib.Nat.{div-le-of-le-mul, lt-div-mul-add, lt-of-mul-lt-mul-right}
 use native.Mathlib.Decide.{decLt, decLe}
-use Rattle.areas.specs.Strip.{clamp, lineAt, axisRange, minorRange, Near}
+use Rattle.areas.specs.Strip.{InRange, clamp, lineAt, statedAxis, statedMinor, axisRange, minorRange, Near}
 
 -- n / d rounded down, where n = plus - minus may be negative: q * d ≤ n < (q + 1) * d
 pub record Floor (plus minus d q : ℕ) : Type 0 where
@@ -23,6 +24,14 @@ line-floor l lm u um v lu lv vu =
   where
     go : (x y z m d : ℕ) → x ≡ y + m → 0 < d → Floor (x + z) m d ((y + z) / d)
     go x y z m d e h = record { below = omega (arith, div-mul-le-self (y + z) d); above = omega (arith, lt-div-mul-add {a = y + z} h) }
+
+-- the line is nowhere past both of its ends
+pub line-most : (l lm u um v m : ℕ) → l < u → l ≤ v → v ≤ u → lm ≤ m → um ≤ m → lineAt l lm u um v ≤ m
+unfolding lineAt
+line-most l lm u um v m lu lv vu low high =
+    let whole : u - l ≡ (u - v) + (v - l) = omega arith in
+    let top : (u - l) * m ≡ (u - v) * m + (v - l) * m = ap (λ z. z * m) whole ∙ add-mul (u - v) (v - l) m in
+    div-le-of-le-mul (u - l) (omega (arith, top, mul-le-mul-right (u - v) low, mul-le-mul-right (v - l) high))
 
 -- a mean of two numbers that differ by at most 8 is near each
 near : (p q v t w n : ℕ) → w ≡ p * v + q * t → n ≡ v + t → q ≤ p + 8 → p ≤ q + 8 → (w ≤ n * p + 8 * n) × (n * p ≤ w + 8 * n)
@@ -102,6 +111,15 @@ in-ranges : (l lm u um size sizem c cm : ℕ) → c < size → cm < sizem → (l
     (lineAt l lm u um (clamp (8 * c + 4) l u) ≤ 8 * cm + 4 + 16) × (8 * cm + 4 ≤ lineAt l lm u um (clamp (8 * c + 4) l u) + 16) → Near l lm u um size sizem c cm
 unfolding axisRange minorRange
 in-ranges l lm u um size sizem c cm cs cms e f = record { along = omega arith; beside = omega arith }
+
+-- the ranges are within 002's
+pub axis-stated : (l u limit k : ℕ) → InRange (axisRange l u limit) k → InRange (statedAxis l u limit) k
+unfolding axisRange statedAxis
+axis-stated l u limit k h = omega arith
+
+pub minor-stated : (reference limit k : ℕ) → InRange (minorRange reference limit) k → InRange (statedMinor reference limit) k
+unfolding minorRange statedMinor
+minor-stated reference limit k h = omega arith
 
 -- the cell c, cm is one end of a step, and q, qm the centre of the other; the common point is r parts the lower end of the span and s the
 -- upper, and v parts the one centre and t the other

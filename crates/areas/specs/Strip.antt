@@ -1,5 +1,6 @@
--- The strip of cells around a span in which 002 looks for the steps that it cuts: along the axis on which the span is longer, to a
--- margin of 16 pixels past its ends; on the other axis, 3 cells to either side of the line.
+-- The strip of cells around a span in which the steps that it cuts are looked for: along the axis on which the span is longer, the cells
+-- whose centres are at most 8 pixels past its ends; on the other axis, those whose centres are at most 16 pixels from the line. 002 looks
+-- to a margin of 16 pixels past the ends, and 3 cells to either side of the line: the strip lies within that (`axis-stated`, `minor-stated`).
 use mathlib.Core.Bool.{Bool, cond}
 use Prim.Native.Nat.{ℕ, _+_, _*_, _-_, _/_, _≤_, _<_, min, max}
 use lib.Dec.{leb, ltb}
@@ -15,13 +16,31 @@ margin = 16
 abbrev pub radius : ℕ
 radius = 3
 
--- the columns or rows along the span, from its least to its greatest pixel, of which the map has `limit`
+-- 002's columns or rows along the span, from its least to its greatest pixel, of which the map has `limit`; and its rows or columns about a pixel
+unfoldable pub statedAxis : ℕ → ℕ → ℕ → CellRange
+statedAxis minimum maximum limit = record { first = (minimum - margin) / 8; last = min ((maximum + margin) / 8) (limit - 1) }
+
+unfoldable pub statedMinor : ℕ → ℕ → CellRange
+statedMinor reference limit = record { first = reference / 8 - radius; last = min (reference / 8 + radius) (limit - 1) }
+
+-- how many pixels the centre of a cell with a cut step can be past an end of the span, and from the line
+abbrev pub reach : ℕ
+reach = 8
+
+abbrev pub spread : ℕ
+spread = 16
+
+-- of `limit` columns or rows, those whose centre, pixel 8 k + 4, is from low to high
+abbrev pub centred : ℕ → ℕ → ℕ → CellRange
+centred low high limit = record { first = (low + 3) / 8; last = min ((high - 4) / 8) (limit - 1) }
+
+-- the columns or rows along the span
 unfoldable pub axisRange : ℕ → ℕ → ℕ → CellRange
-axisRange minimum maximum limit = record { first = (minimum - margin) / 8; last = min ((maximum + margin) / 8) (limit - 1) }
+axisRange minimum maximum limit = centred (minimum - reach) (maximum + reach) limit
 
 -- the rows or columns about a pixel
 unfoldable pub minorRange : ℕ → ℕ → CellRange
-minorRange reference limit = record { first = reference / 8 - radius; last = min (reference / 8 + radius) (limit - 1) }
+minorRange reference limit = centred (reference - spread) (reference + spread) limit
 
 abbrev pub InRange : CellRange → ℕ → Type 0
 InRange r k = (r .first ≤ k) × (k ≤ r .last)

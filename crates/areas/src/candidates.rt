@@ -1,9 +1,9 @@
 // The strip of cells around a span in which the steps that it cuts are looked for.
 ghost use mathlib.Core.Path.{_≡_};
 ghost use mathlib.Core.Bool.{cond};
-ghost use Prim.Native.Nat.{_<_, _≤_};
+ghost use Prim.Native.Nat.{_+_, _<_, _≤_};
 ghost use Rattle.areas.specs.Spans.{SpanFits, Sides};
-ghost use Rattle.areas.specs.Strip.{axisRange, minorRange, clamp, lineAt, gap, tall, lineOf, stripAxis, stripMinor};
+ghost use Rattle.areas.specs.Strip.{centred, axisRange, minorRange, clamp, lineAt, gap, tall, lineOf, stripAxis, stripMinor};
 use super::geometry::max;
 use super::geometry::min;
 use super::geometry::product;
@@ -11,9 +11,10 @@ use position::Span;
 
 const PIXELS_PER_WALK_CELL: u32 = 8;
 
-const CANDIDATE_MARGIN_PIXELS: u32 = 16;
+// How many pixels the centre of a cell with a cut step can be past an end of the span, and from its line.
+const REACH: u32 = 8;
 
-const CANDIDATE_MINOR_RADIUS_CELLS: u32 = 3;
+const SPREAD: u32 = 16;
 
 // Columns or rows, the last one included.
 pub struct CellRange {
@@ -29,29 +30,31 @@ pub struct Line {
     pub um: u32,
 }
 
+// Of `limit` columns or rows, those whose centres are from pixel `low` to pixel `high`.
+fn centred(low: u32, high: u32, limit: u32) -> CellRange
+    requires { ⌜ (low + 3 < 4294967296) × (4 ≤ high) × (0 < limit) ⌝ }
+    ensures { λ r. ⌜ r ≡ centred low high limit ⌝ }
+{
+    CellRange {
+        first: (low + 3) / PIXELS_PER_WALK_CELL,
+        last: min((high - 4) / PIXELS_PER_WALK_CELL, limit - 1),
+    }
+}
+
 // The columns or rows along a span, from its least to its greatest pixel, of a map that has `limit` of them.
 pub fn candidate_axis_range(minimum: u32, maximum: u32, limit: u32) -> CellRange
     requires { ⌜ (maximum ≤ 8192) × (0 < limit) ⌝ }
     ensures { λ r. ⌜ r ≡ axisRange minimum maximum limit ⌝ }
 {
-    let low = max(minimum, CANDIDATE_MARGIN_PIXELS) - CANDIDATE_MARGIN_PIXELS;
-    let high = maximum + CANDIDATE_MARGIN_PIXELS;
-    CellRange {
-        first: low / PIXELS_PER_WALK_CELL,
-        last: min(high / PIXELS_PER_WALK_CELL, limit - 1),
-    }
+    centred(max(minimum, REACH) - REACH, maximum + REACH, limit)
 }
 
 // The rows or columns about a pixel.
 pub fn candidate_minor_range(reference: u32, limit: u32) -> CellRange
-    requires { ⌜ 0 < limit ⌝ }
+    requires { ⌜ (reference ≤ 8192) × (0 < limit) ⌝ }
     ensures { λ r. ⌜ r ≡ minorRange reference limit ⌝ }
 {
-    let center = reference / PIXELS_PER_WALK_CELL;
-    CellRange {
-        first: max(center, CANDIDATE_MINOR_RADIUS_CELLS) - CANDIDATE_MINOR_RADIUS_CELLS,
-        last: min(center + CANDIDATE_MINOR_RADIUS_CELLS, limit - 1),
-    }
+    centred(max(reference, SPREAD) - SPREAD, reference + SPREAD, limit)
 }
 
 // The pixel of the range that is nearest to v.

@@ -1,7 +1,7 @@
 use mathlib.Core.Path.{_≡_}
-use Prim.Native.Nat.{_+_, _-_, _/_, min}
+use Prim.Native.Nat.{_-_}
 use native.Mathlib.Omega.{arith}
-use Rattle.areas.specs.Strip.{radius, minorRange}
+use Rattle.areas.specs.Strip.{spread, minorRange}
 use borrow.Author.Needs.{needs}
 use Rattle.areas.proofs.candidates.candidate_minor_range.Statement.{statement}
 use Rattle.areas.proofs.candidates.candidate_minor_range.Tie as tie
@@ -9,25 +9,22 @@ use Rattle.areas.proofs.candidates.candidate_minor_range.Tie as tie
 max-requires : tie.Need-max-requires
 max-requires c κs = search needs
 
-sub-t5 : tie.Need-sub-t5
-sub-t5 c = search needs
+sub-centred : tie.Need-sub-centred
+sub-centred c = search needs
 
-add-min : tie.Need-add-min
-add-min c = search needs
+add-centred : tie.Need-add-centred
+add-centred c = search needs
 
-sub-min : tie.Need-sub-min
-sub-min c = search needs
-
-min-requires : tie.Need-min-requires
-min-requires c κs = search needs
+centred-requires : tie.Need-centred-requires
+centred-requires c κs = search needs
 
 returns : tie.Need-returns
 unfolding minorRange
 returns c =
-    let first : c .before .max .result - 3 ≡ c .before .before .args .reference / 8 - radius = omega arith in
-    let last : c .min .result ≡ min (c .before .before .args .reference / 8 + radius) (c .before .before .args .limit - 1) = omega arith in
-    λ k. record { first = first k; last = last k }
+    let start = c .before .before in
+    let low : c .before .max .result - spread ≡ start .args .reference - spread = omega arith in
+    simp (c .centred .ensures, low)
 
 pub candidate-minor-range-spec : {M : Type 1} → statement M
 candidate-minor-range-spec =
-    tie.close (tie.spec max-requires sub-t5 add-min sub-min min-requires returns)
+    tie.close (tie.spec max-requires sub-centred add-centred centred-requires returns)

@@ -1,4 +1,6 @@
+use Prim.Native.Nat.{_≤_, _<_}
 use native.Mathlib.Omega.{arith}
+use Rattle.areas.proofs.Line.{line-most}
 use Rattle.areas.proofs.StripCells.{LineFits, line-fits, limit-some, minor-is}
 use borrow.Author.Needs.{needs}
 use Rattle.areas.proofs.candidates.strip_minor.Statement.{statement}
@@ -34,8 +36,14 @@ line-at-requires c κs =
 candidate-minor-range-requires : tie.Need-candidate-minor-range-requires
 candidate-minor-range-requires c κs =
     let start = c .before .before .before .before .before in
+    let line-of = c .before .before .before .before .line-of in
+    let clamp = c .before .clamp in
+    let f : LineFits (line-of .result) = rw (line-of .ensures) (line-fits (start .pre .0) (start .pre .1)) in
+    let most : c .line-at .result ≤ 8192 =
+    rw (c .line-at .ensures) (line-most _ _ _ _ _ 8192 (f .rises) (clamp .ensures .1) (clamp .ensures .2) (f .low) (f .high)) in
     let p = limit-some (start .pre .0) (c .before .before .before .is-tall .result) in
-    rw (c .before .before .pick .ensures) (p .1)
+    let some : 0 < c .before .before .pick .result = rw (c .before .before .pick .ensures) (p .1) in
+    (most, some)
 
 returns : tie.Need-returns
 returns c =
