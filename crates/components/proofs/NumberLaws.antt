@@ -1,7 +1,7 @@
 -- Labels in row order from parents.
 use mathlib.Core.Path.{_≡_, refl, sym, _∙_, ap, subst}
 use mathlib.Core.Logic.{by-cases}
-use mathlib.Core.Bool.{Bool, true, false}
+use mathlib.Core.Bool.{Bool, true, false, cond}
 use mathlib.Core.List.{List, flatMap}
 use Prim.Native.Nat.{ℕ, suc, _+_, _*_, _%_, _≤_, _<_, max}
 use native.Mathlib.Omega.{arith}
@@ -23,8 +23,8 @@ use Rattle.graph.proofs.Parts.{part-iff, part-le}
 use Rattle.graph.proofs.Labels.{label-max}
 use Rattle.graph.proofs.Count.{count-yes}
 use Rattle.components.specs.Forests.{Forest, Kept}
-use Rattle.components.specs.Numbered.{nextLabel, Numbered}
-use Rattle.components.proofs.WordLaws.{kept-none, kept-trans, kept-more, put-kept, put-upd, put-other}
+use Rattle.components.specs.Numbered.{nextLabel, NextNumbered, Numbered}
+use Rattle.components.proofs.WordLaws.{kept-none, kept-trans, kept-more, put-kept, put-upd, put-other, put-again}
 use Rattle.components.proofs.LabelWords.{bytes-last}
 
 count-skip : (t : ℕ → Bool) (n : ℕ) → t n ≡ false → count t (n + 1) ≡ count t n
@@ -84,9 +84,9 @@ module _ (on : ℕ → Bool) (es : List Edge) (among : Among on es) {n : ℕ} {p
       (λ d. omega (arith, count-skip (begins on es) i (other-begins (less d)), label-other h, label-max on es among i (p i) (less d))))
       (λ h. omega (arith, count-skip (begins on es) i (blocked-begins h), label-blocked h))
 
--- the next label is at most one more than what is there
-next-small : (b : Bool) (q : ℕ → ℕ) (i c : ℕ) → c ≤ i → q i ≤ i → ((j : ℕ) → j < i → q j ≤ i) → nextLabel b q i c ≤ i + 1
-next-small b q i c h k m =
+-- the next label is at most one more than there are
+next-small : (b : Bool) (q : ℕ → ℕ) (i c : ℕ) → q i ≤ i → ((j : ℕ) → j < i → q j ≤ c) → nextLabel b q i c ≤ c + 1
+next-small b q i c k m =
     by-test b (λ e. rw e (by-cases (ℕ-discrete (q i) i) (λ d. rw (eq-eqb (q i) i d) (omega arith)) (λ d. rw (ne-eqb (q i) i d) (omega (arith, m (q i) (omega arith))))))
     (λ e. rw e (omega arith))
 
@@ -99,7 +99,7 @@ kept-word h = ap (λ (x : List ℕ). number (take 4 x)) (h .rest)
 pub record Numbering (n i c : ℕ) (on : ℕ → Bool) (s w : List ℕ) : Type 0 where
   pub below : i ≤ n
   pub few : c ≤ i
-  pub small : (j : ℕ) → j < i → word w j ≤ i
+  pub small : (j : ℕ) → j < i → word w j ≤ c
   pub kept : Kept i s w
   pub done : (es : List Edge) → Forest es n (word s) → Among on es → Numbered i on es s w c
   pub at : (es : List Edge) → Forest es n (word s) → Among on es → (j : ℕ) → j < i → word w j ≡ label on es j
@@ -123,8 +123,8 @@ module _ {n i c : ℕ} {on : ℕ → Bool} {s w : List ℕ} (h : Numbering n i c
   numbering-falls = omega (arith, kept-word (h .kept), falls i l)
 
   module _ (r : ℕ) (er : r ≡ nextLabel (on i) (word w) i c) where
-    r-small : r ≤ i + 1
-    r-small = omega (arith, er, next-small (on i) (word w) i c (h .few) numbering-falls (h .small))
+    r-small : r ≤ c + 1
+    r-small = omega (arith, er, next-small (on i) (word w) i c numbering-falls (h .small))
 
     right-label : (es : List Edge) → Forest es n (word s) → Among on es → r ≡ label on es i
     right-label es f a = er ∙ next-label on es a f i l (word w) c (kept-word (h .kept)) (h .at es f a) (h .done es f a .total)
@@ -134,8 +134,8 @@ module _ {n i c : ℕ} {on : ℕ → Bool} {s w : List ℕ} (h : Numbering n i c
       below = omega arith;
       few = omega (arith, h .few, r-small);
       small = λ j k.
-          by-cases (ℕ-discrete j i) (λ e. omega (arith, ap (word (splice w (4 * i) (u32Bytes r))) e, here, r-small))
-          (λ d. omega (arith, put-other w i r numbering-room j d, h .small j (let z : j < i = omega arith in z)));
+          by-cases (ℕ-discrete j i) (λ e. omega (arith, em, ap (word (splice w (4 * i) (u32Bytes r))) e, here))
+          (λ d. omega (arith, em, put-other w i r numbering-room j d, h .small j (let z : j < i = omega arith in z)));
       kept = kept-trans (i + 1) (kept-more i (i + 1) (omega arith) (h .kept)) (put-kept w i r numbering-room (i + 1) (omega arith));
       done = λ es f a. record {
         same = ap (λ (x : List ℕ). splice x (4 * i) (u32Bytes r)) (h .done es f a .same)
@@ -148,21 +148,51 @@ module _ {n i c : ℕ} {on : ℕ → Bool} {s w : List ℕ} (h : Numbering n i c
     }
       where
         here : word (splice w (4 * i) (u32Bytes r)) i ≡ r
-        here = put-upd w i r numbering-room (omega (arith, r-small)) .at
+        here = put-upd w i r numbering-room (omega (arith, h .few, r-small)) .at
 
-    pub numbering-next : (v : List ℕ) → v ≡ splice w (4 * i) (u32Bytes r) → (m : ℕ) → m ≡ max c r → Numbering n (i + 1) m on s v
-    numbering-next v ev m em = subst (λ (x : List ℕ). Numbering n (i + 1) m on s x) (sym ev) (numbering-put m em)
+  pub numbering-next : (v : List ℕ) (m : ℕ) → NextNumbered (on i) i c w v m → Numbering n (i + 1) m on s v
+  numbering-next v m k = subst (λ (x : List ℕ). Numbering n (i + 1) m on s x) (sym (k .same)) (numbering-put (nextLabel (on i) (word w) i c) refl m (k .most))
 
 pub numbering-end : {n i c : ℕ} {on : ℕ → Bool} {s w : List ℕ} → Numbering n i c on s w → (i < n → ⊥) → (es : List Edge) → Forest es n (word s) → Among on es → Numbered n on es s w c
 numbering-end {n} {i} {c} {on} {s} {w} h q es f a = subst (λ (x : ℕ). Numbered x on es s w c) (let z : i ≡ n = omega (arith, h .below) in z) (h .done es f a)
 
--- the three ways to a label
-module _ (x : ℕ) (q : ℕ → ℕ) (i c : ℕ) where
-  pub label-new : x % 2 ≡ 1 → q i ≡ i → c + 1 ≡ nextLabel (eqb (x % 2) 1) q i c
-  label-new h e = rw (eq-eqb (x % 2) 1 h, eq-eqb (q i) i e)
+-- a number times 0 or 1
+pub only-is : (b x : ℕ) → b ≤ 1 → x * b ≡ cond (eqb b 1) x 0
+only-is b x small =
+    by-cases (ℕ-discrete b 1) (λ h. rw (eq-eqb b 1 h, h) (omega arith)) (λ h. let z : b ≡ 0 = omega arith in rw (ne-eqb b 1 h, z) (omega arith))
 
-  pub label-read : {r : ℕ} → x % 2 ≡ 1 → (q i ≡ i → ⊥) → r ≡ q (q i) → r ≡ nextLabel (eqb (x % 2) 1) q i c
-  label-read h d e = rw (eq-eqb (x % 2) 1 h, ne-eqb (q i) i d) e
+-- the label of cell i, of byte x, is read at its parent p while the next label stands at i
+module _ (s : List ℕ) (i c p b x r l : ℕ) (t v : List ℕ) (room : 4 * i + 4 ≤ length s) (few : c < 4294967295) (own : p ≡ word s i)
+    (bit : b ≡ x % 2) (et : t ≡ splice s (4 * i) (u32Bytes (c + 1))) (er : r ≡ word t p) (el : l ≡ cond (eqb b 1) r 0)
+    (ev : v ≡ splice t (4 * i) (u32Bytes l)) where
+  parent-read : word (splice s (4 * i) (u32Bytes (c + 1))) p ≡ cond (eqb (word s i) i) (c + 1) (word s (word s i))
+  parent-read =
+      by-cases (ℕ-discrete p i)
+      (λ e. rw (eq-eqb (word s i) i (sym own ∙ e), e) (put-upd s i (c + 1) room (omega arith) .at))
+      (λ d. rw (ne-eqb (word s i) i (λ e. d (own ∙ e))) (put-other s i (c + 1) room p d ∙ ap (word s) own))
 
-  pub label-zero : (x % 2 ≡ 1 → ⊥) → 0 ≡ nextLabel (eqb (x % 2) 1) q i c
-  label-zero d = rw (ne-eqb (x % 2) 1 d)
+  label-read : l ≡ nextLabel (eqb (x % 2) 1) (word s) i c
+  label-read = el ∙ (ap (λ (z : ℕ). cond (eqb z 1) r 0) bit ∙ ap (λ (z : ℕ). cond (eqb (x % 2) 1) z 0) (er ∙ (ap (λ (z : List ℕ). word z p) et ∙ parent-read)))
+
+  written : v ≡ splice s (4 * i) (u32Bytes (nextLabel (eqb (x % 2) 1) (word s) i c))
+  written =
+      let again = put-again s i l room (c + 1) in
+      ev ∙ (ap (λ (z : List ℕ). splice z (4 * i) (u32Bytes l)) et ∙ (again ∙ ap (λ (z : ℕ). splice s (4 * i) (u32Bytes z)) label-read))
+
+  pub first-numbered : p ≡ i → NextNumbered (eqb (x % 2) 1) i c s v (c + b)
+  first-numbered e = record {
+    same = written;
+    most =
+        let first = eq-eqb (word s i) i (sym own ∙ e) in
+        by-cases (ℕ-discrete (x % 2) 1) (λ h. rw (eq-eqb (x % 2) 1 h, first) (omega arith)) (λ h. rw (ne-eqb (x % 2) 1 h) (omega arith));
+  }
+
+  pub other-numbered : word s i ≤ i → ((j : ℕ) → j < i → word s j ≤ c) → (p ≡ i → ⊥) → NextNumbered (eqb (x % 2) 1) i c s v c
+  other-numbered falls small d = record {
+    same = written;
+    most =
+        let other = ne-eqb (word s i) i (λ e. d (own ∙ e)) in
+        by-cases (ℕ-discrete (x % 2) 1)
+        (λ h. rw (eq-eqb (x % 2) 1 h, other) (omega (arith, small (word s i) (omega arith))))
+        (λ h. rw (ne-eqb (x % 2) 1 h) (omega arith));
+  }

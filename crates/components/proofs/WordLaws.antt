@@ -1,16 +1,16 @@
 -- A word written: it is read back, and the other words and what follows are as they were.
-use mathlib.Core.Path.{_≡_, refl, sym, _∙_, ap, subst}
+use mathlib.Core.Path.{_≡_, refl, sym, _∙_, ap, ap₂, subst}
 use mathlib.Core.Logic.{by-cases}
-use mathlib.Core.List.{List}
+use mathlib.Core.List.{List, _++_}
 use Prim.Native.Nat.{ℕ, _+_, _-_, _*_, _≤_, _<_}
 use native.Mathlib.Omega.{arith}
 use native.Mathlib.Decide.{ℕ-discrete, decLt}
-use lib.ListN.{length, drop}
+use lib.ListN.{length, take, drop}
 use lib.Seq.{drop-drop}
 use Rattle.areas.specs.Words.{word}
-use Rattle.wire.specs.Bytes.{splice, u32Bytes}
+use Rattle.wire.specs.Bytes.{part, splice, u32Bytes}
 use Rattle.wire.proofs.Numbers.{length-bytes}
-use Rattle.wire.proofs.Parts.{length-splice, drop-splice}
+use Rattle.wire.proofs.Parts.{length-splice, drop-splice, splice-before}
 use Rattle.wire.proofs.Words.{read-same, read-before, read-after}
 use Rattle.components.specs.Forests.{Usable, Kept}
 
@@ -36,6 +36,16 @@ module _ (s : List ℕ) (i v : ℕ) (room : 4 * i + 4 ≤ length s) where
 
   pub put-upd : v < 4294967296 → Upd (word s) (word (splice s (4 * i) (u32Bytes v))) i v
   put-upd small = record { at = read-same 4 s (4 * i) v room small; off = put-other }
+
+  -- written over
+  pub put-again : (u : ℕ) → splice (splice s (4 * i) (u32Bytes u)) (4 * i) (u32Bytes v) ≡ splice s (4 * i) (u32Bytes v)
+  unfolding splice part
+  put-again u =
+      let inside : 4 * i + length (u32Bytes u) ≤ length s = omega (arith, length-bytes 4 u) in
+      let low : take (4 * i) (splice s (4 * i) (u32Bytes u)) ≡ take (4 * i) s = splice-before s (4 * i) (u32Bytes u) inside 0 (4 * i) (omega arith) in
+      let past : 4 * i + length (u32Bytes u) ≤ 4 * i + length (u32Bytes v) = omega (arith, length-bytes 4 u, length-bytes 4 v) in
+      let high = drop-splice s (4 * i) (u32Bytes u) inside (4 * i + length (u32Bytes v)) past in
+      ap₂ (λ (x y : List ℕ). x ++ (u32Bytes v ++ y)) low high
 
   -- a parent that is no later
   pub put-usable : v < 4294967296 → v ≤ i → (m : ℕ) → Usable m s → Usable m (splice s (4 * i) (u32Bytes v))

@@ -1,7 +1,6 @@
 use Prim.Native.Nat.{_-_}
 use native.Mathlib.Omega.{arith}
 use lib.ListN.{length}
-use borrow.Author.Needs.{needs}
 use Rattle.components.specs.Numbered.{walks}
 use Rattle.components.proofs.NumberLaws.{Numbering, numbering-start, numbering-room, numbering-falls, numbering-next, numbering-end}
 use Rattle.components.proofs.numbers.number.Statement.{statement}
@@ -14,28 +13,30 @@ abbrev μ-loop : tie.MeasureT-loop
 μ-loop cells work₀ count₀ i₀ work count i = length cells - i
 
 loop-holds : tie.Need-loop-holds Inv-loop μ-loop
-loop-holds c = numbering-start (length (c .before .before .args .cells .now)) (walks (c .before .before .args .cells .now)) (c .before .before .args .work .now)
+loop-holds c =
+    let args = c .before .before .args in
+    numbering-start (length (args .cells .now)) (walks (args .cells .now)) (args .work .now)
 
-label-of-requires : tie.Need-label-of-requires Inv-loop μ-loop
-label-of-requires c κs = (omega arith, numbering-room (c .before .before .loop .inv) (c .before .before .before .before .before .pre .0) (c .before .before .before .before .before .pre .1) (c .before .before .before .before .before .pre .2) (omega arith), numbering-falls (c .before .before .loop .inv) (c .before .before .before .before .before .pre .0) (c .before .before .before .before .before .pre .1) (c .before .before .before .before .before .pre .2) (omega arith), omega (arith, c .before .before .before .before .before .pre .0, c .before .before .loop .inv .few))
-
-mul-write-u32 : tie.Need-mul-write-u32 Inv-loop μ-loop
-mul-write-u32 c = omega (arith, c .before .before .before .before .before .before .before .pre .0)
-
-write-u32-requires : tie.Need-write-u32-requires Inv-loop μ-loop
-write-u32-requires c κs = numbering-room (c .before .before .before .before .loop .inv) (c .before .before .before .before .before .before .before .pre .0) (c .before .before .before .before .before .before .before .pre .1) (c .before .before .before .before .before .before .before .pre .2) (omega arith)
-
-larger-requires : tie.Need-larger-requires Inv-loop μ-loop
-larger-requires c κs = search needs
+number-cell-requires : tie.Need-number-cell-requires Inv-loop μ-loop
+number-cell-requires c κs =
+    let numbering = c .before .before .loop .inv in
+    let pre = c .before .before .before .before .before .pre in
+    let room = numbering-room numbering (pre .0) (pre .1) (pre .2) (omega arith) in
+    let falls = numbering-falls numbering (pre .0) (pre .1) (pre .2) (omega arith) in
+    ((omega arith, omega (arith, pre .0), room, falls), (numbering .few, numbering .small))
 
 add-i : tie.Need-add-i Inv-loop μ-loop
-add-i c = omega (arith, c .before .before .before .before .before .before .before .before .before .before .before .pre .0)
+add-i c = omega (arith, c .before .before .before .before .before .before .before .before .pre .0)
 
 loop-less : tie.Need-loop-less Inv-loop μ-loop
 loop-less c = omega arith
 
 loop-again : tie.Need-loop-again Inv-loop μ-loop
-loop-again c = numbering-next (c .before .before .before .before .before .before .before .before .loop .inv) (c .before .before .before .before .before .before .before .before .before .before .before .pre .0) (c .before .before .before .before .before .before .before .before .before .before .before .pre .1) (c .before .before .before .before .before .before .before .before .before .before .before .pre .2) (omega arith) (c .before .before .before .before .before .label-of .result) (c .before .before .before .before .before .label-of .ensures) (c .before .before .before .write-u32 .last .0) (c .before .before .before .write-u32 .ensures) (c .larger .result) (c .larger .ensures)
+loop-again c =
+    let call = c .before .before .number-cell in
+    let numbering = c .before .before .before .before .before .loop .inv in
+    let pre = c .before .before .before .before .before .before .before .before .pre in
+    numbering-next numbering (pre .0) (pre .1) (pre .2) (omega arith) (call .last .1 .0) (call .result) (call .ensures)
 
 same-length : tie.Need-same-length Inv-loop μ-loop
 same-length c = c .before .loop .inv .kept .size
@@ -50,10 +51,7 @@ number-spec =
     Inv-loop
     μ-loop
     loop-holds
-    label-of-requires
-    mul-write-u32
-    write-u32-requires
-    larger-requires
+    number-cell-requires
     add-i
     loop-less
     loop-again
