@@ -36,6 +36,19 @@ module _ {i at p : ℕ} {s w : List ℕ} (u : Usable i s) (f : Finding i at p s 
     pub finding-second : q ≤ p
     finding-second = omega (arith, eq, f .below, finding-falls, f .usable i u .falls p (omega (arith, f .below, finding-falls)))
 
+    -- the parent is its own
+    pub finding-root : q ≡ p → Found i p s w
+    finding-root e = record {
+      below = omega (arith, f .below, finding-falls);
+      usable = f .usable;
+      kept = f .kept;
+      forest = f .forest;
+      first = λ n es l k.
+          let inside : at < n = omega (arith, f .below) in
+          let top = f .forest n es l k .top p (omega (arith, finding-falls)) (sym eq ∙ e) in
+          sym top ∙ (ap (part es) (f .parent) ∙ (f .forest n es l k .along at inside ∙ f .same n es l k));
+    }
+
     pub finding-next : (v : List ℕ) → v ≡ splice w (4 * at) (u32Bytes q) → (r : ℕ) → r ≡ word v q → Finding i q r s v
     finding-next v ev r er = subst (λ (x : List ℕ). r ≡ word x q → Finding i q r s x) (sym ev) (λ h. record {
       below = omega (arith, f .below, finding-falls, finding-second);

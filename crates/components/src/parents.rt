@@ -46,6 +46,9 @@ pub fn find(work: &mut [u8], i: usize) -> usize
     let mut p = parent(work, at);
     while p < at {
         let q = parent(work, p);
+        if q == p {
+            return p;
+        }
         set_parent(work, at, q);
         at = q;
         p = parent(work, at);

@@ -1,6 +1,6 @@
 use Prim.Native.Nat.{_+_}
 use native.Mathlib.Omega.{arith}
-use Rattle.components.proofs.FindLaws.{Finding, finding-start, finding-falls, finding-room, finding-second, finding-next, finding-end}
+use Rattle.components.proofs.FindLaws.{Finding, finding-start, finding-falls, finding-room, finding-second, finding-root, finding-next, finding-end}
 use Rattle.components.proofs.parents.find.Statement.{statement}
 use Rattle.components.proofs.parents.find.Tie as tie
 
@@ -14,28 +14,67 @@ parent-requires : tie.Need-parent-requires Inv-loop μ-loop
 parent-requires c κs = c .before .before .pre .room
 
 loop-holds : tie.Need-loop-holds Inv-loop μ-loop
-loop-holds c = finding-start (c .before .before .before .args .i) (c .parent .result) (c .before .before .before .args .work .now) (c .parent .ensures .0)
+loop-holds c =
+    let args = c .before .before .before .args in
+    finding-start (args .i) (c .parent .result) (args .work .now) (c .parent .ensures .0)
 
 parent-requires-2 : tie.Need-parent-requires-2 Inv-loop μ-loop
-parent-requires-2 c κs = finding-room (c .before .before .before .before .before .before .pre) (c .before .before .loop .inv) (c .before .before .loop .p) (omega (arith, finding-falls (c .before .before .before .before .before .before .pre) (c .before .before .loop .inv), c .before .before .loop .inv .below))
-
-set-parent-requires : tie.Need-set-parent-requires Inv-loop μ-loop
-set-parent-requires c κs = (finding-room (c .before .before .before .before .before .before .before .before .pre) (c .before .before .before .before .loop .inv) (c .before .before .before .before .loop .at) (c .before .before .before .before .loop .inv .below), c .before .parent2 .ensures .1)
-
-parent-requires-3 : tie.Need-parent-requires-3 Inv-loop μ-loop
-parent-requires-3 c κs = omega (arith, c .before .before .before .set-parent .kept .0, finding-room (c .before .before .before .before .before .before .before .before .before .before .before .before .pre) (c .before .before .before .before .before .before .before .before .loop .inv) (c .before .before .before .before .before .parent2 .result) (omega (arith, c .before .before .before .before .before .before .before .before .loop .inv .below, finding-falls (c .before .before .before .before .before .before .before .before .before .before .before .before .pre) (c .before .before .before .before .before .before .before .before .loop .inv), finding-second (c .before .before .before .before .before .before .before .before .before .before .before .before .pre) (c .before .before .before .before .before .before .before .before .loop .inv) (c .before .before .before .before .before .parent2 .result) (c .before .before .before .before .before .parent2 .ensures .0) (c .before .before .before .before .before .parent2 .ensures .1))))
-
-loop-less : tie.Need-loop-less Inv-loop μ-loop
-loop-less c = omega (arith, c .before .before .before .before .before .before .before .before .loop-test .taken, finding-second (c .before .before .before .before .before .before .before .before .before .before .before .before .before .pre) (c .before .before .before .before .before .before .before .before .before .loop .inv) (c .before .before .before .before .before .before .parent2 .result) (c .before .before .before .before .before .before .parent2 .ensures .0) (c .before .before .before .before .before .before .parent2 .ensures .1))
-
-loop-again : tie.Need-loop-again Inv-loop μ-loop
-loop-again c = finding-next (c .before .before .before .before .before .before .before .before .before .before .before .before .before .pre) (c .before .before .before .before .before .before .before .before .before .loop .inv) (c .before .before .before .before .before .before .parent2 .result) (c .before .before .before .before .before .before .parent2 .ensures .0) (c .before .before .before .before .before .before .parent2 .ensures .1) (c .before .before .before .before .set-parent .last .0) (c .before .before .before .before .set-parent .ensures) (c .parent3 .result) (c .parent3 .ensures .0)
+parent-requires-2 c κs =
+    let loop = c .before .before .loop in
+    let pre = c .before .before .before .before .before .before .pre in
+    finding-room pre (loop .inv) (loop .p) (omega (arith, finding-falls pre (loop .inv), loop .inv .below))
 
 same-length : tie.Need-same-length Inv-loop μ-loop
-same-length c = c .before .loop .inv .kept (c .before .before .before .before .before .args .i + 1) (omega arith) .size
+same-length c =
+    let loop = c .before .before .before .before .loop in
+    let start = c .before .before .before .before .before .before .before .before in
+    loop .inv .kept (start .args .i + 1) (omega arith) .size
 
 returns : tie.Need-returns Inv-loop μ-loop
-returns c = finding-end (c .before .before .before .before .before .pre) (c .before .loop .inv) (λ l. omega arith)
+returns c =
+    let second = c .before .parent2 in
+    let loop = c .before .before .before .before .loop in
+    let pre = c .before .before .before .before .before .before .before .before .pre in
+    finding-root pre (loop .inv) (second .result) (second .ensures .0) (second .ensures .1) (c .if1 .taken)
+
+set-parent-requires : tie.Need-set-parent-requires Inv-loop μ-loop
+set-parent-requires c κs =
+    let loop = c .before .before .before .before .before .loop in
+    let pre = c .before .before .before .before .before .before .before .before .before .pre in
+    (finding-room pre (loop .inv) (loop .at) (loop .inv .below), c .before .before .parent2 .ensures .1)
+
+parent-requires-3 : tie.Need-parent-requires-3 Inv-loop μ-loop
+parent-requires-3 c κs =
+    let set = c .before .before .before in
+    let second = set .before .before .before .parent2 in
+    let at-loop = set .before .before .before .before .before .before in
+    let finding = at-loop .loop .inv in
+    let pre = at-loop .before .before .before .before .pre in
+    let below = finding-second pre finding (second .result) (second .ensures .0) (second .ensures .1) in
+    let room = finding-room pre finding (second .result) (omega (arith, finding .below, finding-falls pre finding, below)) in
+    omega (arith, set .set-parent .kept .0, room)
+
+loop-less : tie.Need-loop-less Inv-loop μ-loop
+loop-less c =
+    let second = c .before .before .before .before .before .before .before .parent2 in
+    let at-loop = c .before .before .before .before .before .before .before .before .before .before in
+    let pre = at-loop .before .before .before .before .pre in
+    omega (arith, finding-second pre (at-loop .loop .inv) (second .result) (second .ensures .0) (second .ensures .1))
+
+loop-again : tie.Need-loop-again Inv-loop μ-loop
+loop-again c =
+    let set = c .before .before .before .before in
+    let second = set .before .before .before .parent2 in
+    let at-loop = set .before .before .before .before .before .before in
+    let pre = at-loop .before .before .before .before .pre in
+    finding-next pre (at-loop .loop .inv) (second .result) (second .ensures .0) (second .ensures .1)
+    (set .set-parent .last .0) (set .set-parent .ensures) (c .parent3 .result) (c .parent3 .ensures .0)
+
+same-length-2 : tie.Need-same-length-2 Inv-loop μ-loop
+same-length-2 c = c .before .loop .inv .kept (c .before .before .before .before .before .args .i + 1) (omega arith) .size
+
+returns-2 : tie.Need-returns-2 Inv-loop μ-loop
+returns-2 c = finding-end (c .before .before .before .before .before .pre) (c .before .loop .inv) (λ l. omega arith)
 
 pub find-spec : {M : Type 1} → statement M
 find-spec =
@@ -46,9 +85,11 @@ find-spec =
     parent-requires
     loop-holds
     parent-requires-2
+    same-length
+    returns
     set-parent-requires
     parent-requires-3
     loop-less
     loop-again
-    same-length
-    returns)
+    same-length-2
+    returns-2)
