@@ -4,6 +4,8 @@ mod FindLaws
 mod JoinLaws
 mod StepLaws
 mod EdgeLaws
+mod DueLaws
+mod RunLaws
 mod NumberLaws
 mod MapLaws
 mod CountLaws

@@ -1,3 +1,4 @@
+pub mod Dues
 pub mod Forests
 pub mod Joining
 pub mod Numbered

@@ -1,0 +1,84 @@
+-- The first cells of runs, as parents.
+use mathlib.Core.Path.{_≡_, refl, sym, _∙_, ap, subst}
+use mathlib.Core.Logic.{by-cases}
+use mathlib.Core.Bool.{Bool, true, false, cond}
+use mathlib.Core.List.{List, List·Memᴰ}
+use Prim.Native.Nat.{ℕ, zero, suc, _+_, _*_, _%_, _<_, _≤_}
+use native.Mathlib.Omega.{arith}
+use native.Mathlib.Numerals.{add-one}
+use native.Mathlib.Decide.{ℕ-discrete}
+use borrow.Author.Tests.{eqb-true}
+use lib.Dec.{eqb}
+use lib.ListN.{length, getD}
+use Rattle.order.proofs.Bools.{clash, by-test}
+use Rattle.wire.specs.Bytes.{part, splice, u32Bytes}
+use Rattle.wire.proofs.Parts.{part-at, length-part}
+use Rattle.graph.specs.Path.{Edge, Path, here}
+use Rattle.graph.specs.Parts as parts
+use Rattle.graph.proofs.Paths.{path-trans, path-kept, path-between, path-edge}
+use Rattle.graph.proofs.Parts.{part-same, part-le, part-path}
+use Rattle.grid.specs.Steps.{stepOf}
+use Rattle.areas.specs.Open.{later, bitAt, named}
+use Rattle.areas.specs.Words.{word}
+use Rattle.areas.proofs.Named.{Names, named-names, names-named}
+use Rattle.components.specs.Dues.{byteIn, runs, runStart}
+use Rattle.components.specs.Forests.{Forest, Kept}
+use Rattle.components.proofs.WordLaws.{kept-none, kept-trans, put-kept, put-upd, put-other}
+use Rattle.components.proofs.StepLaws.{first-bit, to-right, kept-at}
+use Rattle.components.proofs.DueLaws.{half-bit, half-zero, run-at, runs-long}
+
+module _ (width : ℕ) (bytes : List ℕ) where
+  start-below : (i : ℕ) → runStart bytes i ≤ i
+  unfolding runStart
+  start-below zero = omega arith
+  start-below (suc i) = by-test (bitAt (byteIn bytes i) 0) (λ e. rw e (omega (arith, start-below i))) (λ e. rw e (omega arith))
+
+  start-joined : (j : ℕ) → bitAt (byteIn bytes j) 0 ≡ true → runStart bytes (suc j) ≡ runStart bytes j
+  unfolding runStart
+  start-joined j t = rw t
+
+  -- an edge of the runs joins a cell and the next, where the bit is set
+  run-edge : (e : Edge) → List·Memᴰ e (named width (runs bytes)) → (i : ℕ) × (bitAt (byteIn bytes i) 0 ≡ true) × (e .left ≡ i) × (e .right ≡ suc i)
+  run-edge e m =
+      let w = named-names width (runs bytes) e m in
+      let l : w .cell < length bytes = omega (arith, runs-long width bytes, w .below) in
+      let h : bitAt (byteIn bytes (w .cell) % 2) (w .bit) ≡ true = ap (λ (x : ℕ). bitAt x (w .bit)) (sym (run-at width bytes (w .cell) l)) ∙ w .isSet in
+      let z : w .bit ≡ 0 = half-zero (byteIn bytes (w .cell)) (w .bit) (w .small) h in
+      let first = sym (half-bit (byteIn bytes (w .cell))) ∙ (ap (bitAt (byteIn bytes (w .cell) % 2)) (sym z) ∙ h) in
+      let next : w .cell + later width (w .bit) ≡ suc (w .cell) = ap (λ (k : ℕ). w .cell + later width k) z ∙ (sym (to-right width (w .cell)) ∙ add-one (w .cell)) in
+      (w .cell, first, sym (ap (λ (x : Edge). x .left) (w .edge)), sym (ap (λ (x : Edge). x .right) (w .edge)) ∙ next)
+
+  start-path : (i : ℕ) → i < length bytes → Path (named width (runs bytes)) (runStart bytes i) i
+  unfolding runStart
+  start-path zero l = here
+  start-path (suc i) l =
+      by-test (bitAt (byteIn bytes i) 0)
+      (λ e. rw e (path-trans (start-path i (omega arith)) (step e)))
+      (λ e. rw e here)
+    where
+      step : bitAt (byteIn bytes i) 0 ≡ true → Path (named width (runs bytes)) i (suc i)
+      step h =
+          let m : i < length bytes = omega arith in
+          let isSet = ap (λ (x : ℕ). bitAt x 0) (run-at width bytes i m) ∙ (half-bit (byteIn bytes i) ∙ h) in
+          let w = names-named width (runs bytes) (stepOf i (i + later width 0)) (record { cell = i; bit = 0; below = omega (arith, runs-long width bytes); small = omega arith; isSet = isSet; edge = refl }) in
+          path-between refl (path-edge (stepOf i (i + later width 0)) w) (sym (to-right width i) ∙ add-one i)
+
+  -- no step leads to the first cell of a run from before it
+  start-first : (i : ℕ) → runStart bytes i ≡ i → {a b : ℕ} → Path (named width (runs bytes)) a b → i ≤ a → i ≤ b
+  start-first i e p h = path-kept (λ x. i ≤ x) (λ d m. let q = run-edge d m in (λ k. omega (arith, q .2, q .3), λ k. back d q k)) p h
+    where
+      back : (d : Edge) → (j : ℕ) × (bitAt (byteIn bytes j) 0 ≡ true) × (d .left ≡ j) × (d .right ≡ suc j) → i ≤ d .right → i ≤ d .left
+      back d q k =
+          by-cases (ℕ-discrete i (suc (q .0)))
+          (λ z. absurd (omega (arith, z, subst (λ (x : ℕ). runStart bytes x ≡ x) z e, start-joined (q .0) (q .1), start-below (q .0))))
+          (λ z. omega (arith, q .2, q .3))
+
+  pub runs-forest : (n : ℕ) (p : ℕ → ℕ) → length bytes ≡ n → ((i : ℕ) → i < n → p i ≡ runStart bytes i) → Forest (named width (runs bytes)) n p
+  runs-forest n p e h = record {
+    falls = λ i l. omega (arith, h i l, start-below i);
+    along = λ i l. ap (parts.part (named width (runs bytes))) (h i l) ∙ part-same (named width (runs bytes)) (start-path i (omega arith));
+    top = λ i l t.
+        let es = named width (runs bytes) in
+        let low = start-first i (sym (h i l) ∙ t) (part-path es i) (omega arith) in
+        omega (arith, low, part-le es i);
+  }
