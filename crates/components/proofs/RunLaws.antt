@@ -82,3 +82,48 @@ module _ (width : ℕ) (bytes : List ℕ) where
         let low = start-first i (sym (h i l) ∙ t) (part-path es i) (omega arith) in
         omega (arith, low, part-le es i);
   }
+
+-- the first i cells have their parents; `first` is the parent of the last of them, and `joined` says whether it is also that of the next
+pub record Running (n base i first : ℕ) (joined : Bool) (s w : List ℕ) : Type 0 where
+  pub below : i ≤ n
+  pub kept : Kept n s w
+  pub words : (j : ℕ) → j < i → word w j ≡ runStart (part s base n) j
+  pub next : cond joined first i ≡ runStart (part s base n) i
+
+pub running-start : (n base : ℕ) (s : List ℕ) → Running n base 0 0 false s s
+unfolding runStart
+running-start n base s = record { below = omega arith; kept = kept-none n s; words = λ j l. absurd (omega arith); next = refl }
+
+module _ {n base i first : ℕ} {joined : Bool} {s w : List ℕ} (apart : 4 * n ≤ base) (room : base + n ≤ length s) (few : n ≤ 1048576)
+    (h : Running n base i first joined s w) (l : i < n) (f : ℕ) (ef : f ≡ cond joined first i) where
+  pub running-small : f ≤ i
+  running-small = omega (arith, ef, h .next, start-below 0 (part s base n) i)
+
+  pub running-room : 4 * i + 4 ≤ length w
+  running-room = omega (arith, h .kept .size)
+
+  put-next : (b : Bool) → b ≡ eqb (getD (splice w (4 * i) (u32Bytes f)) (base + i) 0 % 2) 1 → Running n base (i + 1) f b s (splice w (4 * i) (u32Bytes f))
+  unfolding runStart
+  put-next b eb = record {
+    below = omega arith;
+    kept = keeps;
+    words = λ j k.
+        by-cases (ℕ-discrete j i)
+        (λ e. ap (word (splice w (4 * i) (u32Bytes f))) e ∙ (put-upd w i f running-room (omega (arith, running-small)) .at ∙ (ef ∙ (h .next ∙ ap (runStart (part s base n)) (sym e)))))
+        (λ d. put-other w i f running-room j d ∙ h .words j (omega arith));
+    next = rw (add-one, bit) (ap (λ (x : ℕ). cond (bitAt (byteIn (part s base n) i) 0) x (suc i)) (ef ∙ h .next));
+  }
+    where
+      keeps : Kept n s (splice w (4 * i) (u32Bytes f))
+      keeps = kept-trans n (h .kept) (put-kept w i f running-room n l)
+
+      bit : b ≡ bitAt (byteIn (part s base n) i) 0
+      bit = eb ∙ (ap (λ (x : ℕ). eqb (x % 2) 1) (kept-at keeps (base + i) (omega arith) ∙ sym (part-at s base n i l)) ∙ first-bit (byteIn (part s base n) i))
+
+  pub running-next : (v : List ℕ) → v ≡ splice w (4 * i) (u32Bytes f) → (b : Bool) → b ≡ eqb (getD v (base + i) 0 % 2) 1 → Running n base (i + 1) f b s v
+  running-next v ev b eb =
+      subst (λ (x : List ℕ). Running n base (i + 1) f b s x) (sym ev) (put-next b (eb ∙ ap (λ (x : List ℕ). eqb (getD x (base + i) 0 % 2) 1) ev))
+
+pub running-end : {n base i first : ℕ} {joined : Bool} {s w : List ℕ} → Running n base i first joined s w → (i < n → ⊥) →
+    Kept n s w × ((j : ℕ) → j < n → word w j ≡ runStart (part s base n) j)
+running-end h q = (h .kept, λ j l. h .words j (omega (arith, h .below)))

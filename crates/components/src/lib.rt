@@ -9,6 +9,7 @@ ghost use Rattle.components.specs.Joining.{Sound};
 ghost use Rattle.components.specs.Numbered.{Numbered};
 
 mod parents; // the parents of cells: start, find, join
+mod runs; // the parents of cells in a run
 mod steps; // joins the cells that the open bytes say are joined
 mod numbers; // labels in row order
 mod counts; // what is read from labels, and zeros

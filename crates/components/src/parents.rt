@@ -18,7 +18,7 @@ fn parent(work: &[u8], i: usize) -> usize
     read_u32(work, 4 * i) as usize
 }
 
-fn set_parent(work: &mut [u8], i: usize, p: usize)
+pub fn set_parent(work: &mut [u8], i: usize, p: usize)
     requires { ⌜ (4 * i + 4 ≤ length (now work)) × (p < 4294967296) ⌝ }
     ensures { λ r. ⌜ now (work .exit) ≡ splice (now (work .entry)) (4 * i) (u32Bytes p) ⌝ }
 {
