@@ -190,15 +190,18 @@ module _ (width : ℕ) (bytes : List ℕ) where
         subst (λ (x : Edge). Path enough (x .left) (x .right)) (w .edge) (step-path (w .cell) (w .bit) (w .small) (w .isSet))
 
     -- nothing else
-    due-named : (e : Edge) → List·Memᴰ e (named width (dues width bytes)) → List·Memᴰ e (named width bytes)
+    pub due-leads : (i k : ℕ) → k < 4 → i < length bytes → bitAt (getD (dues width bytes) i 0) k ≡ true → bitAt (byteIn bytes i) k ≡ true
     unfolding dueByte
+    due-leads i k m l h =
+        let below = i + width in
+        let due = ap (λ (x : ℕ). bitAt x k) (sym (due-at i l)) ∙ h in
+        due-open (byteIn bytes i) (beforeIn bytes i) (beforeIn bytes below) (byteIn bytes below) k m due
+
+    due-named : (e : Edge) → List·Memᴰ e (named width (dues width bytes)) → List·Memᴰ e (named width bytes)
     due-named e m =
         let w = named-names width (dues width bytes) e m in
         let l : w .cell < length bytes = omega (arith, dues-long, w .below) in
-        let v = byteIn bytes (w .cell) in
-        let l′ = beforeIn bytes (w .cell) in
-        let below = w .cell + width in
-        let isSet = due-open v l′ (beforeIn bytes below) (byteIn bytes below) (w .bit) (w .small) (ap (λ (x : ℕ). bitAt x (w .bit)) (sym (due-at (w .cell) l)) ∙ w .isSet) in
+        let isSet = due-leads (w .cell) (w .bit) (w .small) l (w .isSet) in
         names-named width bytes e (record { cell = w .cell; bit = w .bit; below = l; small = w .small; isSet = isSet; edge = w .edge })
 
     run-named : (e : Edge) → List·Memᴰ e (named width (runs bytes)) → List·Memᴰ e (named width bytes)

@@ -2,7 +2,7 @@
 use mathlib.Core.Path.{_≡_, refl, sym, _∙_, ap, subst}
 use mathlib.Core.Logic.{_⊎_, inl, inr, ⊎-elim, by-cases}
 use mathlib.Core.Bool.{Bool, true, false}
-use mathlib.Core.List.{List, List·Memᴰ, List·Memᴰ·head, List·Memᴰ·tail, List·Memᴰ·not-nil, Memᴰ·cast}
+use mathlib.Core.List.{List, _++_, List·Memᴰ, List·Memᴰ·head, List·Memᴰ·tail, List·Memᴰ·append-cases, Memᴰ·append-left, Memᴰ·append-right, Memᴰ·cast}
 use Prim.Native.Nat.{ℕ, zero, suc, _<_}
 use native.Mathlib.Omega.{arith}
 use native.Mathlib.Decide.{ℕ-discrete}
@@ -61,31 +61,38 @@ module _ (width b i : ℕ) where
   from-new es (suc (suc (suc zero))) l h = added-new (bitAt b 3) (edgeAt width i 3) _ h
   from-new es (suc (suc (suc (suc k)))) l h = absurd (omega arith)
 
-module _ (width : ℕ) (bytes : List ℕ) where
+module _ (width : ℕ) (bytes : List ℕ) (es : List Edge) where
   one-more : {m : ℕ} {e : Edge} → Names width bytes m e → Names width bytes (suc m) e
   one-more w = record { cell = w .cell; bit = w .bit; below = omega (arith, w .below); small = w .small; isSet = w .isSet; edge = w .edge }
 
-  joined-names : (m : ℕ) {e : Edge} → List·Memᴰ e (joinedTo width bytes m) → Names width bytes m e
+  joined-cases : (m : ℕ) {e : Edge} → List·Memᴰ e (joinedTo width bytes es m) → Names width bytes m e ⊎ List·Memᴰ e es
   unfolding joinedTo
-  joined-names zero h = absurd (List·Memᴰ·not-nil h)
-  joined-names (suc m) {e} h =
-      ⊎-elim (λ (t : Bit width (getD bytes m 0) m e). record { cell = m; bit = t .place; below = omega arith; small = t .small; isSet = t .isSet; edge = t .edge })
-      (λ t. one-more (joined-names m t)) (from-cases width (getD bytes m 0) m h)
+  joined-cases zero h = inr h
+  joined-cases (suc m) {e} h =
+      ⊎-elim (λ (t : Bit width (getD bytes m 0) m e). inl (record { cell = m; bit = t .place; below = omega arith; small = t .small; isSet = t .isSet; edge = t .edge }))
+      (λ t. ⊎-elim (λ n. inl (one-more n)) (λ o. inr o) (joined-cases m t)) (from-cases width (getD bytes m 0) m h)
 
-  names-joined : (m : ℕ) {e : Edge} → Names width bytes m e → List·Memᴰ e (joinedTo width bytes m)
+  joined-old : (m : ℕ) {e : Edge} → List·Memᴰ e es → List·Memᴰ e (joinedTo width bytes es m)
+  unfolding joinedTo
+  joined-old zero h = h
+  joined-old (suc m) h = from-old width (getD bytes m 0) m (joined-old m h)
+
+  names-joined : (m : ℕ) {e : Edge} → Names width bytes m e → List·Memᴰ e (joinedTo width bytes es m)
   unfolding joinedTo
   names-joined zero w = absurd (omega (arith, w .below))
   names-joined (suc m) {e} w =
       by-cases (ℕ-discrete (w .cell) m)
       (λ q. Memᴰ·cast (sym (w .edge) ∙ ap (λ (x : ℕ). edgeAt width x (w .bit)) q)
-      (from-new width (getD bytes m 0) m (joinedTo width bytes m) (w .bit) (w .small) (ap (λ (x : ℕ). bitAt (getD bytes x 0) (w .bit)) (sym q) ∙ w .isSet)))
+      (from-new width (getD bytes m 0) m (joinedTo width bytes es m) (w .bit) (w .small) (ap (λ (x : ℕ). bitAt (getD bytes x 0) (w .bit)) (sym q) ∙ w .isSet)))
       (λ q. from-old width (getD bytes m 0) m (names-joined m (record { cell = w .cell; bit = w .bit; below = below q; small = w .small; isSet = w .isSet; edge = w .edge })))
     where
       below : (w .cell ≡ m → ⊥) → w .cell < m
       below q = omega (arith, w .below)
 
-  pub joined-members : (n : ℕ) → length bytes ≡ n → SameMembers (joinedTo width bytes n) (named width bytes)
+  pub joined-members : (n : ℕ) → length bytes ≡ n → SameMembers (joinedTo width bytes es n) (named width bytes ++ es)
   joined-members n e x = (
-    λ h. names-named width bytes x (subst (λ (k : ℕ). Names width bytes k x) (sym e) (joined-names n h)),
-    λ h. names-joined n (subst (λ (k : ℕ). Names width bytes k x) e (named-names width bytes x h)),
+    λ h. ⊎-elim (λ w. Memᴰ·append-left es (names-named width bytes x (subst (λ (k : ℕ). Names width bytes k x) (sym e) w)))
+        (λ m. Memᴰ·append-right (named width bytes) m) (joined-cases n h),
+    λ h. ⊎-elim (λ m. names-joined n (subst (λ (k : ℕ). Names width bytes k x) e (named-names width bytes x m)))
+        (λ m. joined-old n m) (List·Memᴰ·append-cases (named width bytes) h),
   )

@@ -10,17 +10,22 @@ use Rattle.wire.proofs.Parts.{part-at, length-part}
 use Rattle.graph.specs.Path.{Edge}
 use Rattle.graph.specs.Labelling.{Among}
 use Rattle.graph.specs.Labels.{labels}
+use Rattle.graph.proofs.Parts.{part-ext}
 use Rattle.grid.specs.Cells.{Grid, walkable}
 use Rattle.grid.specs.Steps.{stepOf}
 use Rattle.grid.proofs.Index.{walkable-on}
 use Rattle.areas.specs.Open.{later, bitAt, named}
 use Rattle.areas.proofs.Named.{names-named}
 use Rattle.areas.specs.Words.{word}
+use Rattle.components.specs.Dues.{dues, runs, runStart}
 use Rattle.components.specs.Forests.{Forest, Kept}
-use Rattle.components.specs.Joining.{Sound, Within, JoinedAll}
+use Rattle.components.specs.Joining.{Sound, Within, Joinable, JoinedAll}
 use Rattle.components.specs.Numbered.{walks, Numbered}
-use Rattle.components.proofs.WordLaws.{kept-trans, drop-more}
+use Rattle.components.proofs.WordLaws.{kept-none, kept-trans, drop-more}
+use Rattle.components.proofs.ForestLaws.{forest-ext}
 use Rattle.components.proofs.StepLaws.{kept-at}
+use Rattle.components.proofs.DueLaws.{enough, due-leads, due-enough}
+use Rattle.components.proofs.RunLaws.{start-below, runs-forest}
 use Rattle.components.proofs.LabelWords.{labels-bytes}
 
 -- a walkable cell is one of the cells
@@ -45,14 +50,52 @@ kept-splice : {n : ℕ} {s w : List ℕ} (bs : List ℕ) → length bs ≡ 4 * n
 unfolding splice
 kept-splice {n} {s} {w} bs e k = ap (λ (x : List ℕ). bs ++ x) (drop-more (4 * n) (0 + length bs) s w (omega arith) (k .rest))
 
-module _ {n width base : ℕ} {cells : List ℕ} (s t : List ℕ) {u v : List ℕ} {r : ℕ} (apart : 4 * n ≤ base) (sound : Sound cells width (part s base n)) (k : Kept n s t)
-    (j : JoinedAll n width (part t base n) t u)
-    (d : (es : List Edge) → Forest es n (word u) → Among (walks cells) es → Numbered n (walks cells) es u v r) where
-  pub whole : (g : Grid) → g .cells ≡ cells → Numbered n (walkable g) (named width (part s base n)) s v r
-  unfolding walkable
-  whole g e =
-      let es = named width (part s base n) in
-      let f : Forest es n (word u) = subst (λ (x : List ℕ). Forest (named width x) n (word u)) (kept-part n apart k) (j .forest) in
-      let m = d es f (sound .ends) in
-      subst (λ (cs : List ℕ). Numbered n (walks cs) es s v r) (sym e)
-      (record { same = m .same ∙ kept-splice (flatMap u32Bytes (labels n (walks cells) es)) (labels-bytes n (walks cells) es) (kept-trans n k (j .kept)); total = m .total })
+-- the open bytes are sound, the due bytes stand after them, and t has the parents of the runs
+module _ {n width base : ℕ} {cells : List ℕ} (s : List ℕ) {t : List ℕ} (e : length cells ≡ n) (some : 0 < width) (apart : 4 * n ≤ base)
+    (room : base + 2 * n ≤ length s) (sound : Sound cells width (part s base n)) (due : part s (base + n) n ≡ dues width (part s base n)) (k : Kept n s t)
+    (first : (i : ℕ) → i < n → word t i ≡ runStart (part s base n) i) where
+  long : length (part s base n) ≡ n
+  long = length-part s base n (omega arith)
+
+  due-here : part t (base + n) n ≡ dues width (part s base n)
+  due-here = kept-part n (omega arith) k ∙ due
+
+  due-within : (i : ℕ) → i < n → Within n width (getD t (base + n + i) 0) i
+  due-within i l = record { here = l; there = λ b small h. lead b small (ap (λ (x : ℕ). bitAt x b) (sym byte) ∙ h) }
+    where
+      byte : getD t (base + n + i) 0 ≡ getD (dues width (part s base n)) i 0
+      byte = sym (part-at t (base + n) n i l) ∙ ap (λ (x : List ℕ). getD x i 0) due-here
+
+      lead : (b : ℕ) → b < 4 → bitAt (getD (dues width (part s base n)) i 0) b ≡ true → i + later width b < n
+      lead b small h =
+          let isOpen = due-leads width (part s base n) some i b small (omega (arith, long)) h in
+          sound-within s e apart (omega arith) sound (kept-none n s) i l .there b small (ap (λ (x : ℕ). bitAt x b) (sym (part-at s base n i l)) ∙ isOpen)
+
+  pub due-joinable : width < 4294967296 → n ≤ 1048576 → Joinable n width (base + n) t
+  due-joinable narrow few = record {
+    some = some;
+    narrow = narrow;
+    few = few;
+    apart = omega arith;
+    room = omega (arith, k .size);
+    usable = λ m l. record { small = omega arith; room = omega (arith, k .size); falls = λ j q. omega (arith, first j (omega arith), start-below width (part s base n) j) };
+    within = due-within;
+  }
+
+  module _ {u : List ℕ} (j : JoinedAll n width (part t (base + n) n) t u) where
+    pub joined : Forest (named width (part s base n)) n (word u)
+    joined =
+        let bytes = part s base n in
+        let f = j .forest (named width (runs bytes)) (runs-forest width bytes n (word t) long first) in
+        let f′ : Forest (enough width bytes) n (word u) = subst (λ (x : List ℕ). Forest (named width x ++ named width (runs bytes)) n (word u)) due-here f in
+        forest-ext (part-ext (enough width bytes) (named width bytes) (λ a b. let p = due-enough width bytes some a b in (p .1, p .0))) f′
+
+    pub whole : {v : List ℕ} {r : ℕ} → ((es : List Edge) → Forest es n (word u) → Among (walks cells) es → Numbered n (walks cells) es u v r) →
+        (g : Grid) → g .cells ≡ cells → Numbered n (walkable g) (named width (part s base n)) s v r
+    unfolding walkable
+    whole {v} {r} d g same =
+        let es = named width (part s base n) in
+        let m = d es joined (sound .ends) in
+        let flat = flatMap u32Bytes (labels n (walks cells) es) in
+        subst (λ (cs : List ℕ). Numbered n (walks cs) es s v r) (sym same)
+        (record { same = m .same ∙ kept-splice flat (labels-bytes n (walks cells) es) (kept-trans n k (j .kept)); total = m .total })

@@ -28,7 +28,7 @@ use Rattle.components.proofs.StepLaws.{first-bit, to-right, kept-at}
 use Rattle.components.proofs.DueLaws.{half-bit, half-zero, run-at, runs-long}
 
 module _ (width : ℕ) (bytes : List ℕ) where
-  start-below : (i : ℕ) → runStart bytes i ≤ i
+  pub start-below : (i : ℕ) → runStart bytes i ≤ i
   unfolding runStart
   start-below zero = omega arith
   start-below (suc i) = by-test (bitAt (byteIn bytes i) 0) (λ e. rw e (omega (arith, start-below i))) (λ e. rw e (omega arith))

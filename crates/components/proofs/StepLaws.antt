@@ -1,10 +1,12 @@
 -- Joining the edges of one byte, and of the bytes one after another.
 use mathlib.Core.Path.{_≡_, refl, sym, _∙_, ap, subst}
+use mathlib.Core.Logic.{by-cases}
 use mathlib.Core.Bool.{Bool, true, false}
 use mathlib.Core.List.{List}
-use Prim.Native.Nat.{ℕ, _+_, _*_, _-_, _/_, _%_, _≤_, _<_}
+use Prim.Native.Nat.{ℕ, zero, suc, _+_, _*_, _-_, _/_, _%_, _≤_, _<_}
 use native.Mathlib.Omega.{arith}
 use native.Mathlib.Numerals.{add-one}
+use native.Mathlib.Decide.{ℕ-discrete}
 use lib.Dec.{eqb}
 use lib.ListN.{length, getD}
 use lib.Seq.{getD-drop}
@@ -13,9 +15,9 @@ use Rattle.wire.proofs.Parts.{part-at, length-part}
 use Rattle.areas.specs.Open.{later, bitAt}
 use Rattle.areas.specs.Words.{word}
 use Rattle.components.specs.Forests.{Usable, Forest, Kept}
-use Rattle.components.specs.Joining.{addedFrom, joinedTo, Joined, Within, Ready, JoinedFrom, JoinedAll}
+use Rattle.components.specs.Joining.{addedFrom, joinedTo, Joined, Within, Ready, JoinedFrom, Joining, Joinable, JoinedAll}
 use Rattle.components.proofs.WordLaws.{kept-none, kept-trans}
-use Rattle.components.proofs.ForestLaws.{forest-start, forest-same}
+use Rattle.components.proofs.ForestLaws.{forest-same}
 use Rattle.components.proofs.EdgeLaws.{joined-members}
 
 pub joined-on : {on : Bool} {i j : ℕ} {s w : List ℕ} → on ≡ true → Joined true i j s w → Joined on i j s w
@@ -79,45 +81,90 @@ kept-at {n} {s} {w} h k l =
     ap (λ (x : ℕ). getD w x 0) (sym e) ∙ (sym (getD-drop (4 * n) w (k - 4 * n) 0) ∙ (ap (λ (x : List ℕ). getD x (k - 4 * n) 0) (h .rest)
     ∙ (getD-drop (4 * n) s (k - 4 * n) 0 ∙ ap (λ (x : ℕ). getD s x 0) e)))
 
--- the bytes of the first i cells are joined
-pub record Joining (n width base i : ℕ) (s w : List ℕ) : Type 0 where
-  pub below : i ≤ n
-  pub kept : Kept n s w
-  pub forest : Forest (joinedTo width (part s base n) i) n (word w)
+-- nothing is joined yet
+pub joining-start : {n width base : ℕ} {s : List ℕ} → Joinable n width base s → Joining n width base 0 s s
+unfolding joinedTo
+joining-start {n} {s = s} g = record { below = omega arith; kept = kept-none n s; usable = g .usable; forest = λ es f. f }
 
-module _ {n width base : ℕ} {s : List ℕ} (few : n ≤ 1048576) (apart : 4 * n ≤ base) (room : base + n ≤ length s) where
-  pub joining-start : ((i : ℕ) → i < n → word s i ≡ i) → Joining n width base 0 s s
+-- what can be joined can be after some joins
+pub joinable-kept : {n width base : ℕ} {s w : List ℕ} → Joinable n width base s → Kept n s w → ((m : ℕ) → m < n → Usable m w) → Joinable n width base w
+joinable-kept {n} {width} {base} {s} {w} g k u = record {
+  some = g .some;
+  narrow = g .narrow;
+  few = g .few;
+  apart = g .apart;
+  room = omega (arith, g .room, k .size);
+  usable = u;
+  within = λ i l. subst (λ (x : ℕ). Within n width x i) (sym (kept-at k (base + i) (omega (arith, g .apart)))) (g .within i l);
+}
+
+module _ {n width base i : ℕ} {w : List ℕ} (g : Joinable n width base w) (l : i < n) where
+  pub joinable-ready : Ready width (getD w (base + i) 0) i w
+  joinable-ready = record { here = g .usable i l; there = λ k m e. g .usable (i + later width k) (g .within i l .there k m e) }
+
+  -- one more byte
+  pub joining-next : {s v : List ℕ} → JoinedFrom width (getD w (base + i) 0) i w v → Joining n width base i s w → Joining n width base (i + 1) s v
   unfolding joinedTo
-  joining-start own = record { below = omega arith; kept = kept-none n s; forest = forest-start n (word s) own }
+  joining-next {s} {v} j h = record {
+    below = omega arith;
+    kept = kept-trans n (h .kept) (j .kept n (g .within i l));
+    usable = λ m k. j .usable m (g .usable m k);
+    forest = λ es f.
+        rw add-one (subst (λ (x : ℕ). Forest (addedFrom width x i (joinedTo width (part s base n) es i)) n (word v)) byte
+        (j .forest n (joinedTo width (part s base n) es i) (g .within i l) (h .forest es f)));
+  }
+    where
+      byte : getD w (base + i) 0 ≡ getD (part s base n) i 0
+      byte = kept-at (h .kept) (base + i) (omega (arith, g .apart)) ∙ sym (part-at s base n i l)
 
-  module _ {i : ℕ} {w : List ℕ} (h : Joining n width base i s w) where
-    pub joining-byte : getD w (base + i) 0 ≡ getD s (base + i) 0
-    joining-byte = kept-at (h .kept) (base + i) (omega arith)
+-- bytes without bits
+pub joining-skip : {n width base i : ℕ} {s w : List ℕ} (m : ℕ) → Joinable n width base w → i + m ≤ n → ((k : ℕ) → k < m → getD w (base + i + k) 0 ≡ 0) →
+    Joining n width base i s w → Joining n width base (i + m) s w
+joining-skip {n} {width} {base} {i} {s} {w} zero g l z h = subst (λ (x : ℕ). Joining n width base x s w) (let e : i ≡ i + 0 = omega arith in e) h
+joining-skip {n} {width} {base} {i} {s} {w} (suc m) g l z h =
+    let before = joining-skip m g (omega arith) (λ k q. z k (omega arith)) h in
+    let here : i + m < n = omega arith in
+    let none : getD w (base + (i + m)) 0 ≡ 0 = ap (λ (x : ℕ). getD w x 0) (let e : base + (i + m) ≡ base + i + m = omega arith in e) ∙ z m (omega arith) in
+    subst (λ (x : ℕ). Joining n width base x s w) (let e : i + m + 1 ≡ i + suc m = omega arith in e)
+    (joining-next g here (joined-zero width (getD w (base + (i + m)) 0) (i + m) w none) before)
 
-    pub joining-usable : (m : ℕ) → m < n → Usable m w
-    joining-usable m l = record { small = omega arith; room = omega (arith, h .kept .size); falls = λ j k. h .forest .falls j (omega arith) }
+pub joining-end : {n width base i : ℕ} {s w : List ℕ} → base + n ≤ length s → Joining n width base i s w → (i < n → ⊥) → JoinedAll n width (part s base n) s w
+joining-end {n} {width} {base} {i} {s} {w} room h q = record {
+  kept = h .kept;
+  forest = λ es f.
+      let e : i ≡ n = omega (arith, h .below) in
+      forest-same (joined-members width (part s base n) es n (length-part s base n room))
+      (subst (λ (x : ℕ). Forest (joinedTo width (part s base n) es x) n (word w)) e (h .forest es f));
+}
 
-    module _ (within : Within n width (getD s (base + i) 0) i) where
-      here-within : Within n width (getD w (base + i) 0) i
-      here-within = subst (λ (x : ℕ). Within n width x i) (sym joining-byte) within
+-- the bytes from `from` up to i are joined, of those up to `to`
+pub record Partly (n width base from to i : ℕ) (s w : List ℕ) : Type 0 where
+  pub below : i ≤ to
+  pub kept : Kept n s w
+  pub able : Joinable n width base w
+  pub more : (r : List ℕ) → Joining n width base from r s → Joining n width base i r w
 
-      pub joining-ready : Ready width (getD w (base + i) 0) i w
-      joining-ready = record { here = joining-usable i (within .here); there = λ k l e. joining-usable (i + later width k) (here-within .there k l e) }
+pub partly-start : {n width base from to : ℕ} {s : List ℕ} → Joinable n width base s → from ≤ to → Partly n width base from to from s s
+partly-start {n} {s = s} g l = record { below = l; kept = kept-none n s; able = g; more = λ r h. h }
 
-      pub joining-next : {v : List ℕ} → JoinedFrom width (getD w (base + i) 0) i w v → Joining n width base (i + 1) s v
-      unfolding joinedTo
-      joining-next {v} j = record {
-        below = omega (arith, within .here);
-        kept = kept-trans n (h .kept) (j .kept n here-within);
-        forest = rw add-one (subst (λ (x : ℕ). Forest (addedFrom width x i (joinedTo width (part s base n) i)) n (word v)) byte (j .forest n _ here-within (h .forest)));
-      }
-        where
-          byte : getD w (base + i) 0 ≡ getD (part s base n) i 0
-          byte = joining-byte ∙ sym (part-at s base n i (within .here))
-
-    pub joining-end : (i < n → ⊥) → JoinedAll n width (part s base n) s w
-    joining-end q = record {
-      kept = h .kept;
-      forest = forest-same (joined-members width (part s base n) n (length-part s base n room))
-          (subst (λ (x : ℕ). Forest (joinedTo width (part s base n) x) n (word w)) (let z : i ≡ n = omega (arith, h .below) in z) (h .forest));
+pub partly-next : {n width base from to i : ℕ} {s w v : List ℕ} → Partly n width base from to i s w → i < to → to ≤ n →
+    JoinedFrom width (getD w (base + i) 0) i w v → Partly n width base from to (i + 1) s v
+partly-next {n} {i = i} h l m j =
+    let g = h .able in
+    let on : i < n = omega arith in
+    let keeps = j .kept n (g .within i on) in
+    record {
+      below = omega arith;
+      kept = kept-trans n (h .kept) keeps;
+      able = joinable-kept g keeps (λ k q. j .usable k (g .usable k q));
+      more = λ r k. joining-next g on j (h .more r k);
     }
+
+pub partly-end : {n width base from to i : ℕ} {s w : List ℕ} → Partly n width base from to i s w → (i < to → ⊥) → (r : List ℕ) →
+    Joining n width base from r s → Joining n width base to r w
+partly-end {n} {width} {base} {to = to} {i = i} {w = w} h q r k =
+    let e : i ≡ to = omega (arith, h .below) in subst (λ (x : ℕ). Joining n width base x r w) e (h .more r k)
+
+-- the greatest of bytes is 0
+pub most-next : (f : ℕ → ℕ) (k most r : ℕ) → ((j : ℕ) → j < k → f j ≤ most) → most ≤ r → f k ≤ r → (j : ℕ) → j < k + 1 → f j ≤ r
+most-next f k most r h a b j l = by-cases (ℕ-discrete j k) (λ e. omega (arith, ap f e)) (λ d. omega (arith, h j (omega arith)))

@@ -5,6 +5,7 @@ ghost use lib.ListN.{length};
 ghost use Rattle.wire.specs.Bytes.{part};
 ghost use Rattle.grid.specs.Cells.{Grid, walkable};
 ghost use Rattle.areas.specs.Open.{named};
+ghost use Rattle.components.specs.Dues.{dues};
 ghost use Rattle.components.specs.Joining.{Sound};
 ghost use Rattle.components.specs.Numbered.{Numbered};
 
@@ -20,17 +21,19 @@ pub use area::partition_area;
 pub use counts::count_cells;
 pub use counts::zero_fill;
 use numbers::number;
-use parents::start;
+use runs::run_parents;
 use steps::join_all;
 
-// Labels the cells of a map by the components that the open bytes at `base` make: u32 words at the start of `work`. Gives the number of labels.
+// Labels the cells of a map by the components that the open bytes at `base` make, which the due bytes stand after: u32 words at the start of
+// `work`. Gives the number of labels.
 pub fn components(cells: &[u8], width: u32, work: &mut [u8], base: usize) -> u32
-    requires { ⌜ (length (now cells) ≤ 1048576) × (0 < width) × (4 * length (now cells) ≤ base) × (base + length (now cells) ≤ length (now work)) ⌝ }
+    requires { ⌜ (length (now cells) ≤ 1048576) × (0 < width) × (4 * length (now cells) ≤ base) × (base + 2 * length (now cells) ≤ length (now work)) ⌝ }
     requires { ⌜ Sound (now cells) width (part (now work) base (length (now cells))) ⌝ }
+    requires { ⌜ part (now work) (base + length (now cells)) (length (now cells)) ≡ dues width (part (now work) base (length (now cells))) ⌝ }
     ensures { λ r. ⌜ ((g : Grid) → g .cells ≡ now (cells .entry) → Numbered (length (now (cells .entry))) (walkable g) (named width (part (now (work .entry)) base (length (now (cells .entry))))) (now (work .entry)) (now (work .exit)) r) ⌝ }
 {
     let n = cells.len();
-    start(work, n);
-    join_all(work, base, n, width as usize);
+    run_parents(work, base, n);
+    join_all(work, base + n, n, width as usize);
     number(cells, work)
 }

@@ -25,18 +25,6 @@ pub fn set_parent(work: &mut [u8], i: usize, p: usize)
     write_u32(work, 4 * i, p as u32);
 }
 
-// Every cell is its own parent.
-pub fn start(work: &mut [u8], n: usize)
-    requires { ⌜ (4 * n ≤ length (now work)) × (n ≤ 1048576) ⌝ }
-    ensures { λ r. ⌜ Kept n (now (work .entry)) (now (work .exit)) × ((i : ℕ) → i < n → word (now (work .exit)) i ≡ i) ⌝ }
-{
-    let mut i: usize = 0;
-    while i < n {
-        set_parent(work, i, i);
-        i += 1;
-    }
-}
-
 // The first cell of the component of a cell. The parents on the way become those of their parents.
 pub fn find(work: &mut [u8], i: usize) -> usize
     requires { ⌜ Usable i (now work) ⌝ }

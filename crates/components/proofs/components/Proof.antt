@@ -1,28 +1,54 @@
 use mathlib.Core.Path.{refl}
 use native.Mathlib.Omega.{arith}
+use Rattle.components.proofs.MapLaws.{due-joinable, joined, whole}
 use borrow.Author.Needs.{needs}
-use Rattle.components.proofs.MapLaws.{sound-within, whole}
 use Rattle.components.proofs.components.Statement.{statement}
 use Rattle.components.proofs.components.Tie as tie
 
-start-requires : tie.Need-start-requires
-start-requires c κs = search needs
+run-parents-requires : tie.Need-run-parents-requires
+run-parents-requires c κs = search needs
+
+add-join-all : tie.Need-add-join-all
+add-join-all c = search needs
 
 join-all-requires : tie.Need-join-all-requires
-join-all-requires c κs = (
-  (c .before .before .before .before .before .before .before .pre .0 .1, omega arith, c .before .before .before .before .before .before .before .pre .0 .0, c .before .before .before .before .before .before .before .pre .0 .2, omega (arith, c .before .before .before .start .ensures .0 .size, c .before .before .before .before .before .before .before .pre .0 .3)),
-  (c .before .before .before .start .ensures .1, sound-within (c .before .before .before .before .before .before .before .args .work .now) refl (c .before .before .before .before .before .before .before .pre .0 .2) (c .before .before .before .before .before .before .before .pre .0 .3) (c .before .before .before .before .before .before .before .pre .1) (c .before .before .before .start .ensures .0)),
-)
+join-all-requires c κs =
+    let runs = c .before .before .before .run-parents in
+    let start = c .before .before .before .before .before .before .before in
+    let pre = start .pre in
+    due-joinable (start .args .work .now) refl (pre .0 .1) (pre .0 .2) (pre .0 .3) (pre .1 .0) (pre .1 .1) (runs .ensures .0) (runs .ensures .1)
+    (omega arith) (pre .0 .0)
 
 number-requires : tie.Need-number-requires
-number-requires c κs = search needs
+number-requires c κs =
+    let join = c .before .before .before .join-all in
+    let runs = c .before .before .before .before .before .before .before .run-parents in
+    let start = c .before .before .before .before .before .before .before .before .before .before .before in
+    let pre = start .pre in
+    let forest = joined (start .args .work .now) refl (pre .0 .1) (pre .0 .2) (pre .0 .3) (pre .1 .0) (pre .1 .1) (runs .ensures .0) (runs .ensures .1)
+    (join .ensures) in
+    (pre .0 .0, omega (arith, pre .0, runs .ensures .0 .size, join .ensures .kept .size), forest .falls)
 
 same-length : tie.Need-same-length
 same-length c = search needs
 
 returns : tie.Need-returns
-returns c = whole (c .before .before .before .before .before .before .before .before .before .before .before .before .before .before .args .work .now) (c .before .before .before .before .before .before .before .before .before .before .start .last .0) (c .before .before .before .before .before .before .before .before .before .before .before .before .before .before .pre .0 .2) (c .before .before .before .before .before .before .before .before .before .before .before .before .before .before .pre .1) (c .before .before .before .before .before .before .before .before .before .before .start .ensures .0) (c .before .before .before .before .before .before .join-all .ensures) (c .before .before .number .ensures)
+returns c =
+    let number = c .before .before .number in
+    let join = c .before .before .before .before .before .before .join-all in
+    let runs = c .before .before .before .before .before .before .before .before .before .before .run-parents in
+    let start = c .before .before .before .before .before .before .before .before .before .before .before .before .before .before in
+    let pre = start .pre in
+    whole (start .args .work .now) refl (pre .0 .1) (pre .0 .2) (pre .0 .3) (pre .1 .0) (pre .1 .1) (runs .ensures .0) (runs .ensures .1)
+    (join .ensures) (number .ensures)
 
 pub components-spec : {M : Type 1} → statement M
 components-spec =
-    tie.close (tie.spec start-requires join-all-requires number-requires same-length returns)
+    tie.close
+    (tie.spec
+    run-parents-requires
+    add-join-all
+    join-all-requires
+    number-requires
+    same-length
+    returns)

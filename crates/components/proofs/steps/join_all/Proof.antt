@@ -1,6 +1,7 @@
 use Prim.Native.Nat.{_-_}
 use native.Mathlib.Omega.{arith}
-use Rattle.components.proofs.StepLaws.{Joining, joining-start, joining-ready, joining-next, joining-end}
+use Rattle.components.specs.Joining.{Joining}
+use Rattle.components.proofs.StepLaws.{joining-start, joinable-kept, joining-end}
 use Rattle.components.proofs.steps.join_all.Statement.{statement}
 use Rattle.components.proofs.steps.join_all.Tie as tie
 
@@ -11,31 +12,44 @@ abbrev μ-loop : tie.MeasureT-loop
 μ-loop work₀ base n width i₀ work i = n - i
 
 loop-holds : tie.Need-loop-holds Inv-loop μ-loop
-loop-holds c = joining-start (c .before .pre .0 .2) (c .before .pre .0 .3) (c .before .pre .0 .4) (c .before .pre .1 .0)
+loop-holds c = joining-start (c .before .pre)
 
-add-byte : tie.Need-add-byte Inv-loop μ-loop
-add-byte c = omega (arith, c .before .before .before .pre .0)
+add-loop : tie.Need-add-loop Inv-loop μ-loop
+add-loop c = omega (arith, c .loop .inv .below, c .before .before .pre .few)
 
-slice-read-byte : tie.Need-slice-read-byte Inv-loop μ-loop
-slice-read-byte c = omega (arith, c .before .before .before .before .pre .0, c .before .before .loop .inv .kept .size)
-
-join-cell-requires : tie.Need-join-cell-requires Inv-loop μ-loop
-join-cell-requires c κs = (c .before .before .before .before .before .pre .0 .0, c .before .before .before .before .before .pre .0 .1, omega (arith, c .before .before .before .before .before .pre .0 .2), joining-ready (c .before .before .before .before .before .pre .0 .2) (c .before .before .before .before .before .pre .0 .3) (c .before .before .before .before .before .pre .0 .4) (c .before .before .before .loop .inv) (c .before .before .before .before .before .pre .1 .1 (c .before .before .before .loop .i) (omega arith)))
+join-block-requires : tie.Need-join-block-requires Inv-loop μ-loop
+join-block-requires c κs =
+    let joining = c .before .before .loop .inv in
+    (joinable-kept (c .before .before .before .before .pre) (joining .kept) (joining .usable), omega arith)
 
 add-i : tie.Need-add-i Inv-loop μ-loop
-add-i c = omega (arith, c .before .before .before .before .before .before .before .before .pre .0)
+add-i c = omega (arith, c .before .before .before .before .before .before .before .pre .few)
 
 loop-less : tie.Need-loop-less Inv-loop μ-loop
 loop-less c = omega arith
 
 loop-again : tie.Need-loop-again Inv-loop μ-loop
-loop-again c = joining-next (c .before .before .before .before .before .before .before .before .pre .0 .2) (c .before .before .before .before .before .before .before .before .pre .0 .3) (c .before .before .before .before .before .before .before .before .pre .0 .4) (c .before .before .before .before .before .before .loop .inv) (c .before .before .before .before .before .before .before .before .pre .1 .1 (c .before .before .before .before .before .before .loop .i) (omega arith)) (c .before .before .join-cell .ensures)
+loop-again c =
+    let loop = c .before .before .before .before .before .loop in
+    let start = c .before .before .before .before .before .before .before in
+    c .before .before .join-block .ensures (start .args .work .now) (loop .inv)
+
+join-some-requires : tie.Need-join-some-requires Inv-loop μ-loop
+join-some-requires c κs =
+    let joining = c .before .before .loop .inv in
+    (joinable-kept (c .before .before .before .before .pre) (joining .kept) (joining .usable), joining .below, omega arith)
 
 same-length : tie.Need-same-length Inv-loop μ-loop
-same-length c = c .before .loop .inv .kept .size
+same-length c =
+    let loop = c .before .before .before .before .before .loop in
+    let start = c .before .before .before .before .before .before .before in
+    c .before .before .join-some .ensures (start .args .work .now) (loop .inv) .kept .size
 
 returns : tie.Need-returns Inv-loop μ-loop
-returns c = joining-end (c .before .before .before .pre .0 .2) (c .before .before .before .pre .0 .3) (c .before .before .before .pre .0 .4) (c .before .loop .inv) (λ l. omega arith)
+returns c =
+    let loop = c .before .before .before .before .before .loop in
+    let start = c .before .before .before .before .before .before .before in
+    joining-end (start .pre .room) (c .before .before .join-some .ensures (start .args .work .now) (loop .inv)) (λ l. omega arith)
 
 pub join-all-spec : {M : Type 1} → statement M
 join-all-spec =
@@ -44,11 +58,11 @@ join-all-spec =
     Inv-loop
     μ-loop
     loop-holds
-    add-byte
-    slice-read-byte
-    join-cell-requires
+    add-loop
+    join-block-requires
     add-i
     loop-less
     loop-again
+    join-some-requires
     same-length
     returns)

@@ -1,0 +1,58 @@
+use Prim.Native.Nat.{ℕ, _+_, _-_, _≤_, _<_}
+use native.Mathlib.Omega.{arith}
+use borrow.Author.Needs.{needs}
+use borrow.Author.Tests.{eqb-true}
+use lib.ListN.{getD}
+use Rattle.components.proofs.StepLaws.{most-next}
+use Rattle.components.proofs.steps.clear.Statement.{statement}
+use Rattle.components.proofs.steps.clear.Tie as tie
+
+abbrev Inv-loop : tie.InvT-loop
+Inv-loop work at most₀ k₀ most k = (k ≤ 64) × ((j : ℕ) → j < k → getD work (at + j) 0 ≤ most)
+
+abbrev μ-loop : tie.MeasureT-loop
+μ-loop work at most₀ k₀ most k = 64 - k
+
+loop-holds : tie.Need-loop-holds Inv-loop μ-loop
+loop-holds c = (omega arith, λ j l. absurd (omega arith))
+
+add-larger : tie.Need-add-larger Inv-loop μ-loop
+add-larger c = omega arith
+
+shared-slice-read-larger : tie.Need-shared-slice-read-larger Inv-loop μ-loop
+shared-slice-read-larger c = omega arith
+
+larger-requires : tie.Need-larger-requires Inv-loop μ-loop
+larger-requires c κs = search needs
+
+add-k : tie.Need-add-k Inv-loop μ-loop
+add-k c = omega arith
+
+loop-less : tie.Need-loop-less Inv-loop μ-loop
+loop-less c = omega arith
+
+loop-again : tie.Need-loop-again Inv-loop μ-loop
+loop-again c =
+    let args = c .before .before .before .before .before .args in
+    let loop = c .before .before .before .loop in
+    let larger = c .larger in
+    (omega arith, most-next (λ j. getD (args .work .now) (args .at + j) 0) (loop .k) (loop .most) (larger .result) (loop .inv .1) (larger .ensures .0) (larger .ensures .1))
+
+returns : tie.Need-returns Inv-loop μ-loop
+returns c =
+    λ none k l. omega (arith, eqb-true (c .before .loop .most) 0 none, c .before .loop .inv .1 k (omega arith))
+
+pub clear-spec : {M : Type 1} → statement M
+clear-spec =
+    tie.close
+    (tie.spec
+    Inv-loop
+    μ-loop
+    loop-holds
+    add-larger
+    shared-slice-read-larger
+    larger-requires
+    add-k
+    loop-less
+    loop-again
+    returns)
