@@ -4,7 +4,8 @@ mod FindLaws
 mod JoinLaws
 mod StepLaws
 mod EdgeLaws
-mod DueLaws
+pub mod DueLaws
+mod DueBytes
 mod RunLaws
 mod NumberLaws
 mod MapLaws

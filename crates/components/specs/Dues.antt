@@ -1,9 +1,11 @@
 -- What of the open bytes is left to join once the runs are: a run is cells one after another, each joined to the next by a step to the right.
+use mathlib.Core.Path.{_≡_}
 use mathlib.Core.Bool.{Bool, cond, not, _&&_}
 use mathlib.Core.List.{List, _∷_}
-use Prim.Native.Nat.{ℕ, zero, suc, _+_, _*_, _%_}
+use Prim.Native.Nat.{ℕ, zero, suc, _+_, _*_, _%_, _≤_}
 use lib.ListN.{length, getD}
 use Rattle.lists.specs.Rows.{rows}
+use Rattle.wire.specs.Bytes.{part, splice}
 use Rattle.areas.specs.Open.{bitAt, bitOf}
 
 -- the due bits of a cell of open byte v, where l is the byte of the cell before, e that of the cell below the cell before, and d that of the
@@ -46,3 +48,9 @@ runs bytes = rows (length bytes) (λ i. byteIn bytes i % 2)
 unfoldable pub runStart : List ℕ → ℕ → ℕ
 runStart bytes zero = 0
 runStart bytes (suc i) = cond (bitAt (byteIn bytes i) 0) (runStart bytes i) (suc i)
+
+-- w is s with the due bytes of the first i cells after the n open bytes, which stand from base on
+pub record DueTo (n width base i : ℕ) (s w : List ℕ) : Type 0 where
+  pub below : i ≤ n
+  pub long : length w ≡ length s
+  pub same : w ≡ splice s (base + n) (rows i (dueByte width (part s base n)))

@@ -10,6 +10,7 @@ ghost use Rattle.components.specs.Joining.{Sound};
 ghost use Rattle.components.specs.Numbered.{Numbered};
 
 mod parents; // the parents of cells: start, find, join
+mod dues; // the due bytes
 mod runs; // the parents of cells in a run
 mod steps; // joins the cells that the open bytes say are joined
 mod numbers; // labels in row order
@@ -20,6 +21,7 @@ pub use area::PartitionArea;
 pub use area::partition_area;
 pub use counts::count_cells;
 pub use counts::zero_fill;
+pub use dues::write_dues;
 use numbers::number;
 use runs::run_parents;
 use steps::join_all;

@@ -1,0 +1,24 @@
+use mathlib.Core.Path.{_∙_}
+use native.Mathlib.Omega.{arith}
+use Rattle.components.proofs.DueBytes.{before-next}
+use borrow.Author.Needs.{needs}
+use Rattle.components.proofs.dues.byte_before.Statement.{statement}
+use Rattle.components.proofs.dues.byte_before.Tie as tie
+
+returns : tie.Need-returns
+returns c = search needs
+
+sub-byte-at : tie.Need-sub-byte-at
+sub-byte-at c = search needs
+
+byte-at-requires : tie.Need-byte-at-requires
+byte-at-requires c κs = search needs
+
+returns-2 : tie.Need-returns-2
+returns-2 c =
+    let start = c .before .before .before in
+    let args = start .args in
+    c .byte-at .ensures ∙ before-next (args .work .now) (args .base) (args .n) (start .pre) (args .k) (omega arith)
+
+pub byte-before-spec : {M : Type 1} → statement M
+byte-before-spec = tie.close (tie.spec returns sub-byte-at byte-at-requires returns-2)

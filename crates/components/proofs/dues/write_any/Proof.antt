@@ -1,0 +1,64 @@
+use Prim.Native.Nat.{_-_}
+use native.Mathlib.Omega.{arith}
+use Rattle.components.proofs.DueBytes.{Writing, writing-start, writing-next, writing-end}
+use Rattle.components.proofs.dues.write_any.Statement.{statement}
+use Rattle.components.proofs.dues.write_any.Tie as tie
+
+abbrev Inv-loop : tie.InvT-loop
+Inv-loop work₀ base n width from to i₀ work i = Writing n width base from to i work₀ work
+
+abbrev μ-loop : tie.MeasureT-loop
+μ-loop work₀ base n width from to i₀ work i = to - i
+
+loop-holds : tie.Need-loop-holds Inv-loop μ-loop
+loop-holds c = writing-start (c .before .args .work .now) (c .before .pre .1)
+
+due-any-requires : tie.Need-due-any-requires Inv-loop μ-loop
+due-any-requires c κs =
+    let writing = c .before .before .loop .inv in
+    let pre = c .before .before .before .before .pre in
+    (omega (arith, writing .long, pre .0), omega (arith, pre .2, pre .3))
+
+add-work : tie.Need-add-work Inv-loop μ-loop
+add-work c = omega (arith, c .before .before .before .loop .inv .long, c .before .before .before .before .before .pre .0)
+
+add-work-2 : tie.Need-add-work-2 Inv-loop μ-loop
+add-work-2 c = omega (arith, c .before .before .before .loop .inv .long, c .before .before .before .before .before .pre .0, c .before .before .before .before .before .pre .2)
+
+slice-write-work : tie.Need-slice-write-work Inv-loop μ-loop
+slice-write-work c = omega (arith, c .before .before .before .loop .inv .long, c .before .before .before .before .before .pre .0, c .before .before .before .before .before .pre .2)
+
+add-i : tie.Need-add-i Inv-loop μ-loop
+add-i c = omega (arith, c .before .before .before .loop .inv .long, c .before .before .before .before .before .pre .0, c .before .before .before .before .before .pre .2)
+
+loop-less : tie.Need-loop-less Inv-loop μ-loop
+loop-less c = omega arith
+
+loop-again : tie.Need-loop-again Inv-loop μ-loop
+loop-again c =
+    let pre = c .before .before .before .before .before .pre in
+    let writing = c .before .before .before .loop .inv in
+    writing-next (pre .0) (pre .2) writing (omega arith) (c .due-any .result) (c .due-any .ensures)
+
+same-length : tie.Need-same-length Inv-loop μ-loop
+same-length c = c .before .loop .inv .long
+
+returns : tie.Need-returns Inv-loop μ-loop
+returns c = writing-end (c .before .loop .inv) (λ l. omega arith)
+
+pub write-any-spec : {M : Type 1} → statement M
+write-any-spec =
+    tie.close
+    (tie.spec
+    Inv-loop
+    μ-loop
+    loop-holds
+    due-any-requires
+    add-work
+    add-work-2
+    slice-write-work
+    add-i
+    loop-less
+    loop-again
+    same-length
+    returns)
