@@ -79,7 +79,12 @@ fn due_inner(work: &[u8], base: usize, n: usize, width: usize, i: usize) -> u8
     ensures { λ r. ⌜ r ≡ dueByte width (part (now (work .entry)) base n) i ⌝ }
 {
     let at = base + i;
-    due_of(work[at], work[at - 1], work[at + width - 1], work[at + width])
+    due_of(
+        work[at],
+        work[at - 1],
+        work[at + width - 1],
+        work[at + width],
+    )
 }
 
 // Writes the due bytes of the cells from `from` up to `to`, any or inner ones.

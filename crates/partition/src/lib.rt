@@ -8,6 +8,7 @@ ghost use Rattle.assessments.specs.Visits.{mapOf};
 ghost use Rattle.partition.specs.Partitioned.{Partitionable, AreasIn, Partitioned};
 use assessments::spans::assess_spans;
 use components::components;
+use components::write_dues;
 use components::zero_fill;
 use marking::spans::mark_spans;
 
@@ -17,7 +18,7 @@ pub struct Partition {
     pub pairs: usize,
 }
 
-// Writes the labels of the areas to the start of work, four bytes a cell; the open bytes stand after them. Gives the number of areas.
+// Writes the labels of the areas to the start of work, four bytes a cell; the open bytes stand after them, and then the due bytes. Gives the number of areas.
 fn label_areas(
     cells: &[u8],
     width: u32,
@@ -30,8 +31,10 @@ fn label_areas(
     requires { ⌜ Partitionable width height (now cells) directions (now ends) count (now work) ⌝ }
     ensures { λ r. ⌜ AreasIn (directionsOf directions) (mapOf width height (now (cells .entry))) (spansIn (now (ends .entry)) count) (now (work .entry)) (now (work .exit)) r ⌝ }
 {
-    let base = 4 * cells.len();
+    let n = cells.len();
+    let base = 4 * n;
     mark_spans(cells, width, height, directions, ends, count, work, base);
+    write_dues(work, base, n, width as usize);
     components(cells, width, work, base)
 }
 

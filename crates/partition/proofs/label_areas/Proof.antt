@@ -1,15 +1,13 @@
+use Prim.Native.Nat.{_*_, _≤_}
 use native.Mathlib.Omega.{arith}
-use borrow.Author.Needs.{needs}
+use lib.ListN.{length}
 use Rattle.grid.specs.Directions.{directionsOf}
 use Rattle.areas.specs.Spans.{spansIn}
 use Rattle.assessments.specs.Visits.{mapOf}
-use Rattle.partition.proofs.Labelling.{few-cells, room-left, sound-after, areas-after}
+use Rattle.partition.proofs.Labelling.{few-cells, marked-open, marked-due, due-there, marked-sound, areas-in}
+use borrow.Author.Needs.{needs}
 use Rattle.partition.proofs.label_areas.Statement.{statement}
 use Rattle.partition.proofs.label_areas.Tie as tie
-use Rattle.partition.proofs.label_areas.Reads as reads
-use Rattle.partition.proofs.label_areas.Lts as lts
-use Rattle.components.proofs.components.Reads as components-reads
-use Rattle.marking.proofs.spans.mark_spans.Reads as mark-spans-reads
 
 mul-base : tie.Need-mul-base
 mul-base c = search needs
@@ -17,22 +15,59 @@ mul-base c = search needs
 mark-spans-requires : tie.Need-mark-spans-requires
 mark-spans-requires c κs = search needs
 
+write-dues-requires : tie.Need-write-dues-requires
+write-dues-requires c κs =
+    let start = c .before .before .before .before .before .before .before in
+    let args = start .args in
+    let p = start .pre in
+    let dirs = directionsOf (args .directions) in
+    let g = mapOf (args .width) (args .height) (args .cells .now) in
+    let ss = spansIn (args .ends .now) (args .count) in
+    let base = 4 * length (args .cells .now) in
+    let opened = marked-open dirs g ss base (args .work .now) (p .room) (omega arith) (c .before .before .before .mark-spans .ensures) in
+    (omega (arith, opened .long, p .room), omega (arith, p .whole, few-cells (p .sides), p .sides .wide))
+
 components-requires : tie.Need-components-requires
 components-requires c κs =
-    let p = c .before .before .before .before .before .before .before .pre in
-    let e = c .before .before .before .mark-spans .ensures in (
-      (omega (arith, p .whole, few-cells (p .sides)), p .sides .columns, omega arith, room-left (directionsOf (c .before .before .before .before .before .before .before .args .directions)) (mapOf (c .before .before .before .before .before .before .before .args .width) (c .before .before .before .before .before .before .before .args .height) (c .before .before .before .before .before .before .before .args .cells .now)) (spansIn (c .before .before .before .before .before .before .before .args .ends .now) (c .before .before .before .before .before .before .before .args .count)) (p .each) (c .before .before .before .before .before .before .before .args .work .now) e (omega arith) (omega arith) (p .room)),
-      sound-after (directionsOf (c .before .before .before .before .before .before .before .args .directions)) (mapOf (c .before .before .before .before .before .before .before .args .width) (c .before .before .before .before .before .before .before .args .height) (c .before .before .before .before .before .before .before .args .cells .now)) (spansIn (c .before .before .before .before .before .before .before .args .ends .now) (c .before .before .before .before .before .before .before .args .count)) (p .each) (c .before .before .before .before .before .before .before .args .work .now) e (omega arith) (omega arith) (p .room),
-    )
+    let start = c .before .before .before .before .before .before .before .before .before .before .before in
+    let args = start .args in
+    let p = start .pre in
+    let dirs = directionsOf (args .directions) in
+    let g = mapOf (args .width) (args .height) (args .cells .now) in
+    let ss = spansIn (args .ends .now) (args .count) in
+    let base = 4 * length (args .cells .now) in
+    let opened = marked-open dirs g ss base (args .work .now) (p .room) (omega arith) (c .before .before .before .before .before .before .before .mark-spans .ensures) in
+    let due = c .before .before .before .write-dues .ensures in
+    let marked = marked-due dirs g ss base (args .work .now) (p .room) (omega arith) opened due in
+    let sound = marked-sound dirs g ss base (args .work .now) (p .room) (p .each) marked in
+    let there = due-there dirs g ss base (args .work .now) (p .room) (omega arith) opened due in
+    let few : length (args .cells .now) ≤ 1048576 = omega (arith, p .whole, few-cells (p .sides)) in
+    ((few, p .sides .columns, omega arith, omega (arith, marked .long, p .room)), (sound, there))
 
 same-length : tie.Need-same-length
 same-length c = search needs
 
 returns : tie.Need-returns
 returns c =
-    let p = c .before .before .before .before .before .before .before .before .before .before .pre in
-    areas-after (directionsOf (c .before .before .before .before .before .before .before .before .before .before .args .directions)) (mapOf (c .before .before .before .before .before .before .before .before .before .before .args .width) (c .before .before .before .before .before .before .before .before .before .before .args .height) (c .before .before .before .before .before .before .before .before .before .before .args .cells .now)) (spansIn (c .before .before .before .before .before .before .before .before .before .before .args .ends .now) (c .before .before .before .before .before .before .before .before .before .before .args .count)) (p .each) (c .before .before .before .before .before .before .before .before .before .before .args .work .now) (c .before .before .before .before .before .before .mark-spans .ensures) (omega arith) (omega arith) (p .room) (c .before .before .components .ensures)
+    let start = c .before .before .before .before .before .before .before .before .before .before .before .before .before .before in
+    let args = start .args in
+    let p = start .pre in
+    let dirs = directionsOf (args .directions) in
+    let g = mapOf (args .width) (args .height) (args .cells .now) in
+    let ss = spansIn (args .ends .now) (args .count) in
+    let base = 4 * length (args .cells .now) in
+    let opened = marked-open dirs g ss base (args .work .now) (p .room) (omega arith) (c .before .before .before .before .before .before .before .before .before .before .mark-spans .ensures) in
+    let due = c .before .before .before .before .before .before .write-dues .ensures in
+    let marked = marked-due dirs g ss base (args .work .now) (p .room) (omega arith) opened due in
+    areas-in dirs g ss base (args .work .now) (p .room) (p .each) marked (c .before .before .components .ensures)
 
 pub label-areas-spec : {M : Type 1} → statement M
 label-areas-spec =
-    tie.close (tie.spec mul-base mark-spans-requires components-requires same-length returns)
+    tie.close
+    (tie.spec
+    mul-base
+    mark-spans-requires
+    write-dues-requires
+    components-requires
+    same-length
+    returns)
