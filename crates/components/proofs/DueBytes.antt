@@ -37,7 +37,8 @@ but-is a b false false p q = rw (p, q)
 pub first-is : (x b : ℕ) → b ≡ bitOf (eqb (x % 2) 1) → b ≡ bitOf (bitAt x 0)
 first-is x b e = e ∙ ap bitOf (first-bit x)
 
-pub due-is : (v l e d x y z : ℕ) → x ≡ bitOf (leftDue v l e d) → y ≡ bitOf (belowDue v l e d) → z ≡ bitOf (rightDue v l e d) → 2 * x + 4 * y + 8 * z ≡ dueOf v l e d
+pub due-is : (v l e d x y z : ℕ) → x ≡ bitOf (leftDue v l e d) → y ≡ bitOf (belowDue v l e d) → z ≡ bitOf (rightDue v l e d) →
+    2 * x + 4 * y + 8 * z ≡ dueOf v l e d
 unfolding dueOf
 due-is v l e d x y z p q r = rw (p, q, r)
 
@@ -57,7 +58,8 @@ module _ (w : List ℕ) (base n : ℕ) (room : base + n ≤ length w) where
   pub before-on : (k : ℕ) → 0 < k → k ≤ n → getD w (base + k - 1) 0 ≡ beforeIn (part w base n) k
   before-on k l m = ap (λ (x : ℕ). getD w x 0) (let z : base + k - 1 ≡ base + (k - 1) = omega arith in z) ∙ (at-on (k - 1) (omega arith) ∙ before-next k l)
 
-pub due-from : (bytes : List ℕ) (width i v l e d r : ℕ) → r ≡ dueOf v l e d → v ≡ byteIn bytes i → l ≡ beforeIn bytes i → e ≡ beforeIn bytes (i + width) → d ≡ byteIn bytes (i + width)
+pub due-from : (bytes : List ℕ) (width i v l e d r : ℕ) → r ≡ dueOf v l e d →
+    v ≡ byteIn bytes i → l ≡ beforeIn bytes i → e ≡ beforeIn bytes (i + width) → d ≡ byteIn bytes (i + width)
     → r ≡ dueByte width bytes i
 unfolding dueByte
 due-from bytes width i v l e d r er ev el ee ed = er ∙ rw (ev, el, ee, ed)
@@ -92,7 +94,9 @@ module _ {n width base i : ℕ} {s w : List ℕ} (room : base + 2 * n ≤ length
       fits = omega (arith, many, h .long)
 
       same-byte : b ≡ f i
-      same-byte = eb ∙ ap (λ (x : List ℕ). dueByte width x i) (ap (λ (x : List ℕ). part x base n) (h .same) ∙ splice-before s (base + n) bs fits base n (omega arith))
+      same-byte =
+          let kept = splice-before s (base + n) bs fits base n (omega arith) in
+          eb ∙ ap (λ (x : List ℕ). dueByte width x i) (ap (λ (x : List ℕ). part x base n) (h .same) ∙ kept)
 
       last : bs ++ (b ∷ []) ≡ rows (i + 1) f
       last = ap (λ (x : ℕ). bs ++ (x ∷ [])) same-byte ∙ (sym (rows-last i f) ∙ ap (λ (k : ℕ). rows k f) (sym (add-one i)))

@@ -1,7 +1,7 @@
 -- What keeps a forest, and what joins two of its trees.
 use mathlib.Core.Path.{_≡_, refl, sym, _∙_, ap}
 use mathlib.Core.Logic.{by-cases}
-use mathlib.Core.List.{List, [], _∷_}
+use mathlib.Core.List.{List, _∷_}
 use Prim.Native.Nat.{ℕ, _≤_, _<_, min, max}
 use native.Mathlib.Omega.{arith}
 use native.Mathlib.Decide.{ℕ-discrete}
@@ -9,17 +9,9 @@ use borrow.Author.Tests.{eq-eqb, ne-eqb}
 use Rattle.order.specs.Pairs.{SameMembers}
 use Rattle.graph.specs.Path.{Edge}
 use Rattle.graph.specs.Parts.{join, part}
-use Rattle.graph.proofs.Parts.{part-none, part-add, part-idem, part-edges}
+use Rattle.graph.proofs.Parts.{part-add, part-idem, part-edges}
 use Rattle.components.specs.Forests.{Forest}
 use Rattle.components.proofs.WordLaws.{Upd}
-
--- each vertex alone
-pub forest-start : (n : ℕ) (p : ℕ → ℕ) → ((i : ℕ) → i < n → p i ≡ i) → Forest [] n p
-forest-start n p h = record {
-  falls = λ i l. omega (arith, h i l);
-  along = λ i l. ap (part []) (h i l);
-  top = λ i l e. part-none i;
-}
 
 -- a forest of some parts is one of the same parts
 pub forest-ext : {es fs : List Edge} {n : ℕ} {p : ℕ → ℕ} → ((c : ℕ) → part es c ≡ part fs c) → Forest es n p → Forest fs n p

@@ -78,7 +78,11 @@ module _ {n width base : ℕ} {cells : List ℕ} (s : List ℕ) {t : List ℕ} (
     few = few;
     apart = omega arith;
     room = omega (arith, k .size);
-    usable = λ m l. record { small = omega arith; room = omega (arith, k .size); falls = λ j q. omega (arith, first j (omega arith), start-below width (part s base n) j) };
+    usable = λ m l. record {
+      small = omega arith;
+      room = omega (arith, k .size);
+      falls = λ j q. omega (arith, first j (omega arith), start-below width (part s base n) j);
+    };
     within = due-within;
   }
 

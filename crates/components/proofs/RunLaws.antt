@@ -45,7 +45,8 @@ module _ (width : ℕ) (bytes : List ℕ) where
       let h : bitAt (byteIn bytes (w .cell) % 2) (w .bit) ≡ true = ap (λ (x : ℕ). bitAt x (w .bit)) (sym (run-at width bytes (w .cell) l)) ∙ w .isSet in
       let z : w .bit ≡ 0 = half-zero (byteIn bytes (w .cell)) (w .bit) (w .small) h in
       let first = sym (half-bit (byteIn bytes (w .cell))) ∙ (ap (bitAt (byteIn bytes (w .cell) % 2)) (sym z) ∙ h) in
-      let next : w .cell + later width (w .bit) ≡ suc (w .cell) = ap (λ (k : ℕ). w .cell + later width k) z ∙ (sym (to-right width (w .cell)) ∙ add-one (w .cell)) in
+      let next : w .cell + later width (w .bit) ≡ suc (w .cell) =
+      ap (λ (k : ℕ). w .cell + later width k) z ∙ (sym (to-right width (w .cell)) ∙ add-one (w .cell)) in
       (w .cell, first, sym (ap (λ (x : Edge). x .left) (w .edge)), sym (ap (λ (x : Edge). x .right) (w .edge)) ∙ next)
 
   start-path : (i : ℕ) → i < length bytes → Path (named width (runs bytes)) (runStart bytes i) i
@@ -60,7 +61,8 @@ module _ (width : ℕ) (bytes : List ℕ) where
       step h =
           let m : i < length bytes = omega arith in
           let isSet = ap (λ (x : ℕ). bitAt x 0) (run-at width bytes i m) ∙ (half-bit (byteIn bytes i) ∙ h) in
-          let w = names-named width (runs bytes) (stepOf i (i + later width 0)) (record { cell = i; bit = 0; below = omega (arith, runs-long width bytes); small = omega arith; isSet = isSet; edge = refl }) in
+          let w = names-named width (runs bytes) (stepOf i (i + later width 0))
+          (record { cell = i; bit = 0; below = omega (arith, runs-long width bytes); small = omega arith; isSet = isSet; edge = refl }) in
           path-between refl (path-edge (stepOf i (i + later width 0)) w) (sym (to-right width i) ∙ add-one i)
 
   -- no step leads to the first cell of a run from before it
@@ -109,7 +111,8 @@ module _ {n base i first : ℕ} {joined : Bool} {s w : List ℕ} (apart : 4 * n 
     kept = keeps;
     words = λ j k.
         by-cases (ℕ-discrete j i)
-        (λ e. ap (word (splice w (4 * i) (u32Bytes f))) e ∙ (put-upd w i f running-room (omega (arith, running-small)) .at ∙ (ef ∙ (h .next ∙ ap (runStart (part s base n)) (sym e)))))
+        (λ e. ap (word (splice w (4 * i) (u32Bytes f))) e
+        ∙ (put-upd w i f running-room (omega (arith, running-small)) .at ∙ (ef ∙ (h .next ∙ ap (runStart (part s base n)) (sym e)))))
         (λ d. put-other w i f running-room j d ∙ h .words j (omega arith));
     next = rw (add-one, bit) (ap (λ (x : ℕ). cond (bitAt (byteIn (part s base n) i) 0) x (suc i)) (ef ∙ h .next));
   }

@@ -71,16 +71,3 @@ drop-more m n s w l e =
 
 pub kept-more : (m n : ℕ) {s w : List ℕ} → m ≤ n → Kept m s w → Kept n s w
 kept-more m n {s} {w} l h = record { size = h .size; rest = drop-more (4 * m) (4 * n) s w (omega arith) (h .rest) }
-
--- one more vertex is its own parent
-pub started : (n i : ℕ) (s w : List ℕ) → 4 * n ≤ length s → n ≤ 1048576 → i < n → Kept n s w → ((k : ℕ) → k < i → word w k ≡ k)
-    → (v : List ℕ) → v ≡ splice w (4 * i) (u32Bytes i) → (i + 1 ≤ n) × Kept n s v × ((k : ℕ) → k < i + 1 → word v k ≡ k)
-started n i s w room small l h own v ev =
-    subst (λ (x : List ℕ). (i + 1 ≤ n) × Kept n s x × ((k : ℕ) → k < i + 1 → word x k ≡ k)) (sym ev) (
-      omega arith,
-      kept-trans n h (put-kept w i i here n l),
-      λ k m. by-cases (ℕ-discrete k i) (λ e. ap (word (splice w (4 * i) (u32Bytes i))) e ∙ (put-upd w i i here (omega arith) .at ∙ sym e)) (λ q. put-other w i i here k q ∙ own k (omega arith)),
-    )
-  where
-    here : 4 * i + 4 ≤ length w
-    here = omega (arith, h .size)

@@ -24,7 +24,8 @@ write-dues-requires c κs =
     let g = mapOf (args .width) (args .height) (args .cells .now) in
     let ss = spansIn (args .ends .now) (args .count) in
     let base = 4 * length (args .cells .now) in
-    let opened = marked-open dirs g ss base (args .work .now) (p .room) (omega arith) (c .before .before .before .mark-spans .ensures) in
+    let mark = c .before .before .before .mark-spans in
+    let opened = marked-open dirs g ss base (args .work .now) (p .room) (omega arith) (mark .ensures) in
     (omega (arith, opened .long, p .room), omega (arith, p .whole, few-cells (p .sides), p .sides .wide))
 
 components-requires : tie.Need-components-requires
@@ -36,7 +37,8 @@ components-requires c κs =
     let g = mapOf (args .width) (args .height) (args .cells .now) in
     let ss = spansIn (args .ends .now) (args .count) in
     let base = 4 * length (args .cells .now) in
-    let opened = marked-open dirs g ss base (args .work .now) (p .room) (omega arith) (c .before .before .before .before .before .before .before .mark-spans .ensures) in
+    let mark = c .before .before .before .before .before .before .before .mark-spans in
+    let opened = marked-open dirs g ss base (args .work .now) (p .room) (omega arith) (mark .ensures) in
     let due = c .before .before .before .write-dues .ensures in
     let marked = marked-due dirs g ss base (args .work .now) (p .room) (omega arith) opened due in
     let sound = marked-sound dirs g ss base (args .work .now) (p .room) (p .each) marked in
@@ -56,7 +58,8 @@ returns c =
     let g = mapOf (args .width) (args .height) (args .cells .now) in
     let ss = spansIn (args .ends .now) (args .count) in
     let base = 4 * length (args .cells .now) in
-    let opened = marked-open dirs g ss base (args .work .now) (p .room) (omega arith) (c .before .before .before .before .before .before .before .before .before .before .mark-spans .ensures) in
+    let mark = c .before .before .before .before .before .before .before .before .before .before .mark-spans in
+    let opened = marked-open dirs g ss base (args .work .now) (p .room) (omega arith) (mark .ensures) in
     let due = c .before .before .before .before .before .before .write-dues .ensures in
     let marked = marked-due dirs g ss base (args .work .now) (p .room) (omega arith) opened due in
     areas-in dirs g ss base (args .work .now) (p .room) (p .each) marked (c .before .before .components .ensures)

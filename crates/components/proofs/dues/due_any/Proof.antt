@@ -32,7 +32,8 @@ returns c =
     let left = c .before .before .before .byte-before in
     let own = c .before .before .before .before .byte-at in
     let args = c .before .before .before .before .before .before .args in
-    due-from (part (args .work .now) (args .base) (args .n)) (args .width) (args .i) (own .result) (left .result) (under .result) (below .result) (c .due-of .result)
+    due-from (part (args .work .now) (args .base) (args .n)) (args .width) (args .i)
+    (own .result) (left .result) (under .result) (below .result) (c .due-of .result)
     (c .due-of .ensures) (own .ensures) (left .ensures) (under .ensures) (below .ensures)
 
 pub due-any-spec : {M : Type 1} → statement M

@@ -49,7 +49,8 @@ returns c =
     let further : at + args .width ≡ args .base + (args .i + args .width) = omega arith in
     let under = ap (λ (x : ℕ). getD w (x - 1) 0) further ∙ before (args .i + args .width) (omega arith) (omega arith) in
     let below = ap (λ (x : ℕ). getD w x 0) further ∙ on (args .i + args .width) (start .pre .2) in
-    due-from (part w (args .base) (args .n)) (args .width) (args .i) (getD w at 0) (getD w (at - 1) 0) (getD w (at + args .width - 1) 0) (getD w (at + args .width) 0)
+    due-from (part w (args .base) (args .n)) (args .width) (args .i)
+    (getD w at 0) (getD w (at - 1) 0) (getD w (at + args .width - 1) 0) (getD w (at + args .width) 0)
     (c .due-of .result) (c .due-of .ensures) (on (args .i) (omega arith)) (before (args .i) (start .pre .1) (omega arith)) under below
 
 pub due-inner-spec : {M : Type 1} → statement M

@@ -36,7 +36,8 @@ loop-again c =
     let args = c .before .before .before .before .before .args in
     let loop = c .before .before .before .loop in
     let larger = c .larger in
-    (omega arith, most-next (λ j. getD (args .work .now) (args .at + j) 0) (loop .k) (loop .most) (larger .result) (loop .inv .1) (larger .ensures .0) (larger .ensures .1))
+    let byte : ℕ → ℕ = λ j. getD (args .work .now) (args .at + j) 0 in
+    (omega arith, most-next byte (loop .k) (loop .most) (larger .result) (loop .inv .1) (larger .ensures .0) (larger .ensures .1))
 
 returns : tie.Need-returns Inv-loop μ-loop
 returns c =

@@ -30,13 +30,17 @@ join-cell-requires c κs =
     (g .some, g .narrow, omega (arith, g .few, pre .2), joinable-ready g (omega (arith, pre .2)))
 
 add-i : tie.Need-add-i Inv-loop μ-loop
-add-i c = omega (arith, c .before .before .before .before .before .before .loop .inv .able .few, c .before .before .before .before .before .before .before .before .pre .2)
+add-i c =
+    let loop = c .before .before .before .before .before .before in
+    omega (arith, loop .loop .inv .able .few, loop .before .before .pre .2)
 
 loop-less : tie.Need-loop-less Inv-loop μ-loop
 loop-less c = omega arith
 
 loop-again : tie.Need-loop-again Inv-loop μ-loop
-loop-again c = partly-next (c .before .before .before .before .before .before .loop .inv) (omega arith) (c .before .before .before .before .before .before .before .before .pre .2) (c .before .before .join-cell .ensures)
+loop-again c =
+    let loop = c .before .before .before .before .before .before in
+    partly-next (loop .loop .inv) (omega arith) (loop .before .before .pre .2) (c .before .before .join-cell .ensures)
 
 same-length : tie.Need-same-length Inv-loop μ-loop
 same-length c = c .before .loop .inv .kept .size
