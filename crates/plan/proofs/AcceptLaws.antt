@@ -14,8 +14,8 @@ use Rattle.links.specs.Limits.{Limits}
 use Rattle.links.specs.Geometry.{centreDistance}
 use Rattle.groups.specs.Tests.{every}
 use Rattle.groups.specs.Flat.{leastFlatSpans}
-use Rattle.plan.specs.declared.four.Four.{Four}
-use Rattle.plan.specs.Four.{held, slot, listed}
+use Rattle.plan.specs.declared.few.Few.{Few}
+use Rattle.plan.specs.Few.{held, slot, listed}
 use Rattle.plan.specs.Arrays.{isOn}
 use Rattle.plan.specs.Shape.{degreeIn, endsIn, regularIn, outerIn, pathIn, chainIn, allAlikeIn}
 use Rattle.plan.specs.Told.{serialIn, flatIn}
@@ -23,7 +23,7 @@ use Rattle.plan.proofs.ShapeLaws.{listed-length, held-count, held-first
 use Rattle.plan.proofs.ValueLaws.{both}
 
 -- what holds of the ranks holds of the ends
-pub ends-slots : (P : ℕ → Type 0) (firsts seconds js : List ℕ) (f : Four) {e : Four} → e ≡ held (endsIn firsts seconds (listed f) js) → ((j : ℕ) → P (slot f j)) → P 0 → (j : ℕ) → P (slot e j)
+pub ends-slots : (P : ℕ → Type 0) (firsts seconds js : List ℕ) (f : Few) {e : Few} → e ≡ held (endsIn firsts seconds (listed f) js) → ((j : ℕ) → P (slot f j)) → P 0 → (j : ℕ) → P (slot e j)
 unfolding endsIn
 ends-slots P firsts seconds js f e h z = kept-slots P (λ i. eqb (degreeIn firsts seconds js i) 1) f e h z
 
@@ -31,7 +31,7 @@ module _ (lowers highers regions firsts seconds : List ℕ) (least most : ℕ) w
   abbrev tests : Bool → ℕ → ℕ → ℕ → Bool → ℕ → ℕ → Bool
   tests a m n k r o u = (a && ((eqb m n && eqb k 2) && r)) && not (eqb o u)
 
-  pub path-as : (f g : Four) {a r : Bool} {e : Four} {o u x y : ℕ} → a ≡ leb least (f .count) && leb (f .count) most → e ≡ held (endsIn firsts seconds (listed f) (listed g)) → r ≡ regularIn firsts seconds (listed f) (listed g) →
+  pub path-as : (f g : Few) {a r : Bool} {e : Few} {o u x y : ℕ} → a ≡ leb least (f .count) && leb (f .count) most → e ≡ held (endsIn firsts seconds (listed f) (listed g)) → r ≡ regularIn firsts seconds (listed f) (listed g) →
       x ≡ slot e 0 → y ≡ slot e 1 → o ≡ outerIn lowers highers regions firsts seconds (listed g) x → u ≡ outerIn lowers highers regions firsts seconds (listed g) y →
       tests a (g .count + 1) (f .count) (e .count) r o u ≡ pathIn lowers highers regions firsts seconds least most (listed f) (listed g)
   unfolding pathIn

@@ -1,4 +1,4 @@
--- A group that is kept by its first four ranks is judged as a whole.
+-- A group that is kept by its first sixteen ranks is judged as a whole.
 use mathlib.Core.Path.{_≡_, sym, _∙_, ap}
 use mathlib.Core.Bool.{Bool, true, false, cond, not, _&&_}
 use mathlib.Core.List.{List}
@@ -17,13 +17,13 @@ use Rattle.links.specs.Limits.{Limits}
 use Rattle.links.specs.Geometry.{centreDistance}
 use Rattle.groups.specs.Tests.{every}
 use Rattle.groups.specs.Flat.{leastFlatSpans}
-use Rattle.plan.specs.declared.four.Four.{Four}
-use Rattle.plan.specs.Four.{held, listed}
+use Rattle.plan.specs.declared.few.Few.{Few}
+use Rattle.plan.specs.Few.{held, listed}
 use Rattle.plan.specs.Arrays.{isOn, Ranked}
 use Rattle.plan.specs.Shape.{endsIn, chainIn, pathIn, allAlikeIn}
 use Rattle.plan.specs.Told.{serialIn, flatIn}
 use Rattle.plan.specs.Fitting.{RankFits, LinkFits, WidthFits, Ranks, Links, Widths, Safe}
-use Rattle.plan.proofs.FourLaws.{listed-held}
+use Rattle.plan.proofs.FewLaws.{listed-held}
 use Rattle.plan.proofs.ShapeLaws.{listed-length, held-count, held-slots}
 use Rattle.plan.proofs.AcceptLaws.{path-sizes}
 
@@ -31,7 +31,7 @@ abbrev pub Sized : List ℕ → List ℕ → Type 0
 Sized rs js = (1 ≤ length rs) × (length rs ≤ 4) × (length js ≤ 4)
 
 -- a test that passes only small groups
-module _ (F : List ℕ → List ℕ → Bool) (small : (rs js : List ℕ) → F rs js ≡ true → Sized rs js) {f g : Four} (rs js : List ℕ) (ef : f ≡ held rs) (eg : g ≡ held js) where
+module _ (F : List ℕ → List ℕ → Bool) (small : (rs js : List ℕ) → F rs js ≡ true → Sized rs js) {f g : Few} (rs js : List ℕ) (ef : f ≡ held rs) (eg : g ≡ held js) where
   ranks-long : length (listed f) ≡ length rs
   ranks-long = listed-length f ∙ held-count rs ef
 
@@ -48,8 +48,8 @@ module _ (F : List ℕ → List ℕ → Bool) (small : (rs js : List ℕ) → F 
       (λ h. h ∙ sym (by-test (F rs js)
       (λ k.
       let s = small rs js k in
-      let a : listed f ≡ rs = ap listed ef ∙ listed-held rs (s .1) in
-      let b : listed g ≡ js = ap listed eg ∙ listed-held js (s .2) in
+      let a : listed f ≡ rs = ap listed ef ∙ listed-held rs (omega (arith, s .1)) in
+      let b : listed g ≡ js = ap listed eg ∙ listed-held js (omega (arith, s .2)) in
       clash (ap (λ (x : List ℕ). F x (listed g)) a ∙ (ap (F rs) b ∙ k)) h)
       (λ k. k)))
 
@@ -100,16 +100,16 @@ module _ {n : ℕ} {own bits firsts seconds : List ℕ} {links : ℕ} (safe : Sa
     second = rank-fits (at seconds k) (safe .fit .ranked .second-in k l);
   }
 
-  pub ranks-fit : (t : ℕ → Bool) {f : Four} → f ≡ held (keep t (upFrom 0 n)) → Ranks own f
+  pub ranks-fit : (t : ℕ → Bool) {f : Few} → f ≡ held (keep t (upFrom 0 n)) → Ranks own f
   ranks-fit t e = held-slots (RankFits own) (keep t (upFrom 0 n)) e (λ x m. rank-fits x (omega (arith, up-mem 0 n (keep-mem t (upFrom 0 n) m .0)))) zero-fits
 
-  pub widths-fit : (t : ℕ → Bool) {f : Four} → f ≡ held (keep t (upFrom 0 n)) → Widths bits f
+  pub widths-fit : (t : ℕ → Bool) {f : Few} → f ≡ held (keep t (upFrom 0 n)) → Widths bits f
   widths-fit t e =
       held-slots (WidthFits bits) (keep t (upFrom 0 n)) e
       (λ x m. let l : x < n = omega (arith, up-mem 0 n (keep-mem t (upFrom 0 n) m .0)) in record { below = omega (arith, safe .fit .few); fits = safe .fit .widths x l })
       (record { below = omega arith; fits = safe .fit .widths 0 (safe .some) })
 
-  pub links-fit : (t : ℕ → Bool) {f : Four} → f ≡ held (keep t (upFrom 0 links)) → Links own firsts seconds f
+  pub links-fit : (t : ℕ → Bool) {f : Few} → f ≡ held (keep t (upFrom 0 links)) → Links own firsts seconds f
   links-fit t e = held-slots (LinkFits own firsts seconds) (keep t (upFrom 0 links)) e (λ x m. link-fits x (omega (arith, up-mem 0 links (keep-mem t (upFrom 0 links) m .0)))) (link-fits 0 (safe .linked))
 
   pub wider-ranked : Ranked 256 firsts seconds links
@@ -119,5 +119,5 @@ module _ {n : ℕ} {own bits firsts seconds : List ℕ} {links : ℕ} (safe : Sa
     second-in = λ k l. omega (arith, safe .fit .ranked .second-in k l, safe .fit .few);
   }
 
-pub few-kept : (t : ℕ → Bool) (n : ℕ) {f : Four} → f ≡ held (keep t (upFrom 0 n)) → n ≤ 256 → f .count ≤ 256
+pub few-kept : (t : ℕ → Bool) (n : ℕ) {f : Few} → f ≡ held (keep t (upFrom 0 n)) → n ≤ 256 → f .count ≤ 256
 few-kept t n e l = omega (arith, held-count (keep t (upFrom 0 n)) e, keep-length t (upFrom 0 n), up-length 0 n)

@@ -1,4 +1,4 @@
-pub mod FourLaws
+pub mod FewLaws
 pub mod ArrayLaws
 pub mod ShapeLaws
 pub mod GroupLaws

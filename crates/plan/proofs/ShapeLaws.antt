@@ -4,60 +4,66 @@ use mathlib.Core.Bool.{Bool, true, false, cond, _&&_}
 use mathlib.Core.List.{List, [], _∷_, map, List·Memᴰ, List·Memᴰ·head, List·Memᴰ·tail, Memᴰ·of-map}
 use Prim.Native.Nat.{ℕ, zero, suc, _-_, _≤_, _<_}
 use native.Mathlib.Omega.{arith}
-use lib.Dec.{eqb}
+use lib.Dec.{ltb}
 use lib.ListN.{length, getD, length-map}
 use Rattle.order.specs.Lists.{keep, upFrom}
 use Rattle.order.specs.Sorting.{insert, sort}
 use Rattle.order.proofs.Keep.{keep-mem}
 use Rattle.order.proofs.Numbers.{up-length}
 use Rattle.groups.specs.Tests.{every}
-use Rattle.plan.specs.declared.four.Four.{Four}
-use Rattle.plan.specs.Four.{held, slot, listed}
-use Rattle.plan.proofs.FourLaws.{up-down, up-none, Picked, picked-end}
+use Rattle.plan.specs.declared.few.Few.{Few}
+use Rattle.plan.specs.declared.path.Near.{Near}
+use Rattle.plan.specs.Few.{firstOf, held, slot, listed, near}
+use Rattle.plan.proofs.FewLaws.{up-down, up-none, slot-held, Picked, picked-end, Noted, noted-end}
 
-pub picked-listed : (t : ℕ → Bool) (f : Four) {k : ℕ} {g : Four} → Picked t (slot f) (f .count) k g → k ≡ 0 → g ≡ held (keep t (listed f))
+pub picked-listed : (t : ℕ → Bool) (f : Few) {k : ℕ} {g : Few} → Picked t (slot f) (f .count) k g → k ≡ 0 → g ≡ held (keep t (listed f))
 unfolding listed
 picked-listed t f p e = picked-end t (slot f) (f .count) p e
 
-pub listed-length : (f : Four) → length (listed f) ≡ f .count
+pub noted-listed : (t : ℕ → Bool) (f : Few) {k : ℕ} {g : Near} → Noted t (slot f) (f .count) k g → k ≡ 0 → g ≡ near (keep t (listed f))
+unfolding listed
+noted-listed t f p e = noted-end t (slot f) (f .count) p e
+
+pub listed-length : (f : Few) → length (listed f) ≡ f .count
 unfolding listed
 listed-length f = length-map (upFrom 0 (f .count)) (slot f) ∙ up-length 0 (f .count)
 
-pub held-count : {f : Four} (xs : List ℕ) → f ≡ held xs → f .count ≡ length xs
+pub held-count : {f : Few} (xs : List ℕ) → f ≡ held xs → f .count ≡ length xs
 unfolding held
-held-count xs e = ap (λ (g : Four). g .count) e
+held-count xs e = ap (λ (g : Few). g .count) e
 
-pub held-first : {f : Four} (xs : List ℕ) → f ≡ held xs → slot f 0 ≡ getD xs 0 0
-unfolding held
-held-first xs e = ap (λ (g : Four). slot g 0) e
+pub held-first : {f : Few} (xs : List ℕ) → f ≡ held xs → slot f 0 ≡ getD xs 0 0
+unfolding held firstOf
+held-first xs e = ap (λ (g : Few). slot g 0) e
 
-pub held-second : {f : Four} (xs : List ℕ) → f ≡ held xs → slot f 1 ≡ getD xs 1 0
-unfolding held
-held-second xs e = ap (λ (g : Four). slot g 1) e
+pub held-second : {f : Few} (xs : List ℕ) → f ≡ held xs → slot f 1 ≡ getD xs 1 0
+unfolding held firstOf
+held-second xs e = ap (λ (g : Few). slot g 1) e
 
 -- what holds of each number that is kept
 module _ (P : ℕ → Type 0) where
-  one-of : (p q r : Bool) {a b c d : ℕ} → P a → P b → P c → P d → P (cond p a (cond q b (cond r c d)))
-  one-of true q r h i j k = h
-  one-of false true r h i j k = i
-  one-of false false true h i j k = j
-  one-of false false false h i j k = k
+  one-of : (t : Bool) {a b : ℕ} → P a → P b → P (cond t a b)
+  one-of true h i = h
+  one-of false h i = i
 
   pub at-each : (xs : List ℕ) (j : ℕ) → ((x : ℕ) → List·Memᴰ x xs → P x) → P 0 → P (getD xs j 0)
   at-each [] j f z = z
   at-each (x ∷ xs) zero f z = f x (List·Memᴰ·head refl)
   at-each (x ∷ xs) (suc j) f z = at-each xs j (λ y m. f y (List·Memᴰ·tail m)) z
 
-  pub held-slots : (xs : List ℕ) {f : Four} → f ≡ held xs → ((x : ℕ) → List·Memᴰ x xs → P x) → P 0 → (j : ℕ) → P (slot f j)
-  unfolding held
-  held-slots xs e f z j = rw e (one-of (eqb j 0) (eqb j 1) (eqb j 2) (at-each xs 0 f z) (at-each xs 1 f z) (at-each xs 2 f z) (at-each xs 3 f z))
+  pub held-slots : (xs : List ℕ) {f : Few} → f ≡ held xs → ((x : ℕ) → List·Memᴰ x xs → P x) → P 0 → (j : ℕ) → P (slot f j)
+  held-slots xs e f z j = rw (e, slot-held xs j) (one-of (ltb j 16) (at-each xs j f z) z)
 
-  pub listed-each : (f : Four) → ((j : ℕ) → P (slot f j)) → (x : ℕ) → List·Memᴰ x (listed f) → P x
+  pub listed-each : (f : Few) → ((j : ℕ) → P (slot f j)) → (x : ℕ) → List·Memᴰ x (listed f) → P x
   unfolding listed
   listed-each f h x m = let w = Memᴰ·of-map (slot f) (upFrom 0 (f .count)) m in subst P (w .2) (h (w .0))
 
-  pub kept-slots : (t : ℕ → Bool) (f : Four) {g : Four} → g ≡ held (keep t (listed f)) → ((j : ℕ) → P (slot f j)) → P 0 → (j : ℕ) → P (slot g j)
+  pub kept-slots : (t : ℕ → Bool) (f : Few) {g : Few} → g ≡ held (keep t (listed f)) → ((j : ℕ) → P (slot f j)) → P 0 → (j : ℕ) → P (slot g j)
   kept-slots t f e h z = held-slots (keep t (listed f)) e (λ x m. listed-each f h x (keep-mem t (listed f) m .0)) z
+
+  pub kept-first : (t : ℕ → Bool) (f : Few) {g : Near} → g ≡ near (keep t (listed f)) → ((j : ℕ) → P (slot f j)) → P 0 → P (g .first)
+  kept-first t f {g} e h z =
+      subst P (sym (ap (λ (r : Near). r .first) e)) (at-each (keep t (listed f)) 0 (λ x m. listed-each f h x (keep-mem t (listed f) m .0)) z)
 
 module _ (t : ℕ → Bool) (v : ℕ → ℕ) (n : ℕ) where
   -- the values of k, …, n - 1 all pass, or not
@@ -82,7 +88,7 @@ module _ (t : ℕ → Bool) (v : ℕ → ℕ) (n : ℕ) where
       let a : upFrom k (n - k) ≡ upFrom 0 n = ap (λ (m : ℕ). upFrom m (n - m)) e ∙ (let z : n - 0 ≡ n = omega arith in ap (upFrom 0) z) in
       p .is ∙ ap (λ (l : List ℕ). every t (map v l)) a
 
-pub each-listed : (t : ℕ → Bool) (f : Four) {k : ℕ} {b : Bool} → Each t (slot f) (f .count) k b → k ≡ 0 → b ≡ every t (listed f)
+pub each-listed : (t : ℕ → Bool) (f : Few) {k : ℕ} {b : Bool} → Each t (slot f) (f .count) k b → k ≡ 0 → b ≡ every t (listed f)
 unfolding listed
 each-listed t f p e = each-end t (slot f) (f .count) p e
 

@@ -21,12 +21,12 @@ use Rattle.links.specs.Limits.{Limits}
 use Rattle.links.specs.Sums.{noLater, ascendingSum, distanceSum}
 use Rattle.links.specs.Held.{SpanBounded, Number}
 use Rattle.links.proofs.Numbers.{distance-number, distance-sum-number}
-use Rattle.plan.specs.declared.four.Four.{Four}
-use Rattle.plan.specs.Four.{held, slot, listed}
+use Rattle.plan.specs.declared.few.Few.{Few}
+use Rattle.plan.specs.Few.{held, slot, listed}
 use Rattle.plan.specs.Arrays.{joinsAt}
 use Rattle.plan.specs.Shape.{degreeIn, endsIn, regularIn, outerIn, alikeIn, allAlikeIn, gapIn, chainIn, leastIn, sumIn, nearerIn, fineIn, eligibleIn, retainedIn}
 use Rattle.plan.specs.Fitting.{RankFits}
-use Rattle.plan.proofs.FourLaws.{Picked, listed-held}
+use Rattle.plan.proofs.FewLaws.{Picked, listed-held}
 use Rattle.plan.proofs.ShapeLaws.{First, first-end, listed-length, picked-listed, Each, each-listed, held-count, sort-some}
 
 pub both : {A B C : Type 0} (f : A → B → C) {s u : A} {t v : B} → s ≡ u → t ≡ v → f s t ≡ f u v
@@ -62,7 +62,7 @@ all-four G s (suc (suc (suc zero))) h = refl
 all-four G s (suc (suc (suc (suc zero)))) h = refl
 all-four G s (suc (suc (suc (suc (suc n))))) h = absurd (omega arith)
 
-pub chain-listed : (firsts seconds own : List ℕ) (f : Four) → f .count ≤ 3 → {x y z r : Float} →
+pub chain-listed : (firsts seconds own : List ℕ) (f : Few) → f .count ≤ 3 → {x y z r : Float} →
     x ≡ gapIn firsts seconds own (slot f 0) → y ≡ gapIn firsts seconds own (slot f 1) → z ≡ gapIn firsts seconds own (slot f 2) →
     r ≡ ascendingSum (take (f .count) (x ∷ y ∷ z ∷ [])) → r ≡ chainIn firsts seconds own (listed f)
 unfolding chainIn listed
@@ -76,7 +76,7 @@ sum-number : (s : Span) (ms : List Span) → 0 < length ms → Number (distanceS
 sum-number s [] h = absurd (omega arith)
 sum-number s (m ∷ ms) h = distance-sum-number s m ms
 
-pub sum-listed : (own : List ℕ) (f : Four) (i : ℕ) → 1 ≤ f .count → f .count ≤ 4 → {s a b c d : Span} {r : Float} →
+pub sum-listed : (own : List ℕ) (f : Few) (i : ℕ) → 1 ≤ f .count → f .count ≤ 4 → {s a b c d : Span} {r : Float} →
     s ≡ spanIn own i → a ≡ spanIn own (slot f 0) → b ≡ spanIn own (slot f 1) → c ≡ spanIn own (slot f 2) → d ≡ spanIn own (slot f 3) →
     r ≡ distanceSum s (take (f .count) (a ∷ b ∷ c ∷ d ∷ [])) → (r ≡ sumIn own (listed f) i) × Number r
 unfolding sumIn listed
@@ -94,11 +94,11 @@ sum-listed own f i l h {s} {a} {b} {c} {d} {r} es ea eb ec ed e = (whole, subst 
         ∙ (ap (λ (t : Span). distanceSum (spanIn own i) (take (f .count) (span 0 ∷ span 1 ∷ span 2 ∷ t ∷ []))) ed
         ∙ ap (λ (l : List Span). distanceSum (spanIn own i) l) (all-four (spanIn own) (slot f) (f .count) h))))))
 
-pub least-listed : (bits : List ℕ) (f : Four) {k x : ℕ} → First totalLe (λ i. at bits (slot f i)) (f .count) k x → k ≡ 0 → x ≡ leastIn bits (listed f)
+pub least-listed : (bits : List ℕ) (f : Few) {k x : ℕ} → First totalLe (λ i. at bits (slot f i)) (f .count) k x → k ≡ 0 → x ≡ leastIn bits (listed f)
 unfolding leastIn listed
 least-listed bits f p e = first-end totalLe (λ i. at bits (slot f i)) (f .count) p e ∙ ap (λ (l : List ℕ). getD (sort totalLe l) 0 0) (sym (map-map (at bits) (slot f) (upFrom 0 (f .count))))
 
-pub first-listed : (le : ℕ → ℕ → Bool) (f : Four) {k x : ℕ} → First le (slot f) (f .count) k x → k ≡ 0 → x ≡ getD (sort le (listed f)) 0 0
+pub first-listed : (le : ℕ → ℕ → Bool) (f : Few) {k x : ℕ} → First le (slot f) (f .count) k x → k ≡ 0 → x ≡ getD (sort le (listed f)) 0 0
 unfolding listed
 first-listed le f p e = first-end le (slot f) (f .count) p e
 
@@ -106,15 +106,15 @@ pub nearer-as : (own rs : List ℕ) (i j : ℕ) {x y : Float} {b : Bool} → x �
 unfolding nearerIn
 nearer-as own rs i j {x} {y} ex ey e = e ∙ both noLater ex ey
 
-pub all-alike-whole : (limits : Limits) (own : List ℕ) (f : Four) {k : ℕ} {b : Bool} → Each (λ i. every (alikeIn limits own i) (listed f)) (slot f) (f .count) k b → k ≡ 0 → b ≡ allAlikeIn limits own (listed f)
+pub all-alike-whole : (limits : Limits) (own : List ℕ) (f : Few) {k : ℕ} {b : Bool} → Each (λ i. every (alikeIn limits own i) (listed f)) (slot f) (f .count) k b → k ≡ 0 → b ≡ allAlikeIn limits own (listed f)
 unfolding allAlikeIn
 all-alike-whole limits own f p e = each-listed (λ i. every (alikeIn limits own i) (listed f)) f p e
 
-pub ends-whole : (firsts seconds js : List ℕ) (f : Four) {k : ℕ} {h : Four} → Picked (λ i. eqb (degreeIn firsts seconds js i) 1) (slot f) (f .count) k h → k ≡ 0 → h ≡ held (endsIn firsts seconds (listed f) js)
+pub ends-whole : (firsts seconds js : List ℕ) (f : Few) {k : ℕ} {h : Few} → Picked (λ i. eqb (degreeIn firsts seconds js i) 1) (slot f) (f .count) k h → k ≡ 0 → h ≡ held (endsIn firsts seconds (listed f) js)
 unfolding endsIn
 ends-whole firsts seconds js f p e = picked-listed (λ i. eqb (degreeIn firsts seconds js i) 1) f p e
 
-pub regular-whole : (firsts seconds js : List ℕ) (f : Four) {k : ℕ} {b : Bool} → Each (λ i. leb 1 (degreeIn firsts seconds js i) && leb (degreeIn firsts seconds js i) 2) (slot f) (f .count) k b → k ≡ 0 → b ≡ regularIn firsts seconds (listed f) js
+pub regular-whole : (firsts seconds js : List ℕ) (f : Few) {k : ℕ} {b : Bool} → Each (λ i. leb 1 (degreeIn firsts seconds js i) && leb (degreeIn firsts seconds js i) 2) (slot f) (f .count) k b → k ≡ 0 → b ≡ regularIn firsts seconds (listed f) js
 unfolding regularIn
 regular-whole firsts seconds js f p e = each-listed (λ i. leb 1 (degreeIn firsts seconds js i) && leb (degreeIn firsts seconds js i) 2) f p e
 
@@ -127,7 +127,7 @@ pub positive : (n : ℕ) → (n ≡ 0 → ⊥) → 1 ≤ n
 positive zero h = absurd (h refl)
 positive (suc n) h = omega arith
 
-pub listed-first : (f : Four) → 1 ≤ f .count → slot f 0 ≡ getD (listed f) 0 0
+pub listed-first : (f : Few) → 1 ≤ f .count → slot f 0 ≡ getD (listed f) 0 0
 unfolding listed upFrom
 listed-first f h = go (f .count) h
   where
@@ -135,7 +135,7 @@ listed-first f h = go (f .count) h
     go zero h = absurd (omega arith)
     go (suc n) h = refl
 
-pub eligible-as : (limits : Limits) (bits rs : List ℕ) {w : ℕ} {x : Float} {f : Four} → x ≡ ofBits binary64 w → w ≡ leastIn bits rs → f ≡ held (keep (fineIn limits bits x) rs) → f ≡ held (eligibleIn limits bits rs)
+pub eligible-as : (limits : Limits) (bits rs : List ℕ) {w : ℕ} {x : Float} {f : Few} → x ≡ ofBits binary64 w → w ≡ leastIn bits rs → f ≡ held (keep (fineIn limits bits x) rs) → f ≡ held (eligibleIn limits bits rs)
 unfolding eligibleIn
 eligible-as limits bits rs e q p = p ∙ ap (λ (y : Float). held (keep (fineIn limits bits y) rs)) (e ∙ ap (ofBits binary64) q)
 
@@ -147,18 +147,18 @@ any-first : (l : List ℕ) (d e : ℕ) → 0 < length l → getD l 0 d ≡ getD 
 any-first [] d e h = absurd (omega arith)
 any-first (x ∷ xs) d e h = refl
 
-pub retained-none : (limits : Limits) (own bits : List ℕ) (g : Four) {f : Four} {x : ℕ} → f ≡ held (eligibleIn limits bits (listed g)) → f .count ≡ 0 → 1 ≤ g .count → x ≡ slot g 0 → x ≡ retainedIn limits own bits (listed g)
+pub retained-none : (limits : Limits) (own bits : List ℕ) (g : Few) {f : Few} {x : ℕ} → f ≡ held (eligibleIn limits bits (listed g)) → f .count ≡ 0 → 1 ≤ g .count → x ≡ slot g 0 → x ≡ retainedIn limits own bits (listed g)
 unfolding retainedIn sort
 retained-none limits own bits g {f} e z h q =
     let k : eligibleIn limits bits (listed g) ≡ [] = none-left (eligibleIn limits bits (listed g)) (sym (held-count (eligibleIn limits bits (listed g)) e) ∙ z) in
     q ∙ (listed-first g h ∙ ap (λ (l : List ℕ). getD (sort (nearerIn own (listed g)) l) 0 (getD (listed g) 0 0)) (sym k))
 
-pub retained-some : (limits : Limits) (own bits : List ℕ) (g : Four) {f : Four} {r : ℕ} → f ≡ held (eligibleIn limits bits (listed g)) → g .count ≤ 4 → (f .count ≡ 0 → ⊥) →
+pub retained-some : (limits : Limits) (own bits : List ℕ) (g : Few) {f : Few} {r : ℕ} → f ≡ held (eligibleIn limits bits (listed g)) → g .count ≤ 4 → (f .count ≡ 0 → ⊥) →
     r ≡ getD (sort (nearerIn own (listed g)) (listed f)) 0 0 → r ≡ retainedIn limits own bits (listed g)
 unfolding retainedIn eligibleIn
 retained-some limits own bits g {f} {r} e h n q =
     let few : length (eligibleIn limits bits (listed g)) ≤ 4 = omega (arith, keep-length (fineIn limits bits (ofBits binary64 (leastIn bits (listed g)))) (listed g), listed-length g) in
-    let same : listed f ≡ eligibleIn limits bits (listed g) = ap listed e ∙ listed-held (eligibleIn limits bits (listed g)) few in
+    let same : listed f ≡ eligibleIn limits bits (listed g) = ap listed e ∙ listed-held (eligibleIn limits bits (listed g)) (omega (arith, few)) in
     let some : 0 < length (eligibleIn limits bits (listed g)) = omega (arith, positive (f .count) n, held-count (eligibleIn limits bits (listed g)) e) in
     q ∙ (ap (λ (l : List ℕ). getD (sort (nearerIn own (listed g)) l) 0 0) same
     ∙ any-first (sort (nearerIn own (listed g)) (eligibleIn limits bits (listed g))) 0 (getD (listed g) 0 0) (sort-some (nearerIn own (listed g)) (eligibleIn limits bits (listed g)) some))

@@ -4,8 +4,8 @@ use mathlib.Core.List.{List}
 use Rattle.lists.specs.Rows.{at}
 use Rattle.areas.specs.Spans.{spanIn}
 use Rattle.links.specs.Held.{SpanBounded}
-use Rattle.plan.specs.declared.four.Four.{Four}
-use Rattle.plan.specs.Four.{slot}
+use Rattle.plan.specs.declared.few.Few.{Few}
+use Rattle.plan.specs.Few.{slot}
 use Rattle.plan.specs.Arrays.{Ranked}
 
 pub record RankFits (own : List ℕ) (i : ℕ) : Type 0 where
@@ -21,17 +21,17 @@ pub record WidthFits (bits : List ℕ) (i : ℕ) : Type 0 where
   pub below : i < 256
   pub fits : at bits i ≤ 0x40D0_0000_0000_0000
 
--- so is each of the four
-abbrev pub Ranks : List ℕ → Four → Type 0
+-- so is each number that is kept
+abbrev pub Ranks : List ℕ → Few → Type 0
 Ranks own f = (j : ℕ) → RankFits own (slot f j)
 
-abbrev pub Links : List ℕ → List ℕ → List ℕ → Four → Type 0
+abbrev pub Links : List ℕ → List ℕ → List ℕ → Few → Type 0
 Links own firsts seconds f = (j : ℕ) → LinkFits own firsts seconds (slot f j)
 
-abbrev pub Widths : List ℕ → Four → Type 0
+abbrev pub Widths : List ℕ → Few → Type 0
 Widths bits f = (j : ℕ) → WidthFits bits (slot f j)
 
-abbrev pub Slots : ℕ → Four → Type 0
+abbrev pub Slots : ℕ → Few → Type 0
 Slots n f = (j : ℕ) → slot f j < n
 
 -- n ranks and their links

@@ -1,4 +1,4 @@
-pub mod Four
+pub mod Few
 pub mod Arrays
 pub mod Shape
 pub mod Fitting

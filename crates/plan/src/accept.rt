@@ -2,13 +2,13 @@
 ghost use mathlib.Core.Path.{_≡_};
 ghost use Prim.Native.Nat.{_≤_};
 ghost use Rattle.links.specs.HeldLimits.{limitsOf};
-ghost use Rattle.plan.specs.Four.{listed};
+ghost use Rattle.plan.specs.Few.{listed};
 ghost use Rattle.plan.specs.Told.{serialIn, flatIn};
 ghost use Rattle.plan.specs.Fitting.{RankFits, Ranks, Links};
 use crate::alike::all_alike;
 use crate::chain::chain_sum;
 use crate::chain::rank_distance;
-use crate::four::Four;
+use crate::few::Few;
 use crate::path::all_on;
 use crate::path::group_end_nodes;
 use crate::path::group_is_simple_path;
@@ -25,8 +25,8 @@ pub fn accepts_serial(
     firsts: &[u32; 256],
     seconds: &[u32; 256],
     passing: &[u8; 256],
-    ranks: Four,
-    links: Four,
+    ranks: Few,
+    links: Few,
 ) -> bool
     requires { ⌜ (3 ≤ limits .«least_spans») × (limits .«most_spans» ≤ 4) × (ranks .count ≤ 256) × (links .count ≤ 256) × Ranks (now own) ranks × Links (now own) (now firsts) (now seconds) links × RankFits (now own) 0 ⌝ }
     ensures { λ r. ⌜ r ≡ serialIn (limitsOf limits) (now (own .entry)) (now (lowers .entry)) (now (highers .entry)) (now (regions .entry)) (now (firsts .entry)) (now (seconds .entry)) (now (passing .entry)) (listed ranks) (listed links) ⌝ }
@@ -63,8 +63,8 @@ pub fn accepts_flat(
     regions: &[u32; 256],
     firsts: &[u32; 256],
     seconds: &[u32; 256],
-    ranks: Four,
-    links: Four,
+    ranks: Few,
+    links: Few,
 ) -> bool
     requires { ⌜ (ranks .count ≤ 256) × (links .count ≤ 256) × Ranks (now own) ranks × Links (now own) (now firsts) (now seconds) links ⌝ }
     ensures { λ r. ⌜ r ≡ flatIn (limitsOf limits) (now (own .entry)) (now (lowers .entry)) (now (highers .entry)) (now (regions .entry)) (now (firsts .entry)) (now (seconds .entry)) (listed ranks) (listed links) ⌝ }

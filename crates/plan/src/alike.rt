@@ -3,10 +3,10 @@ ghost use mathlib.Core.Path.{_≡_};
 ghost use Prim.Native.Nat.{_<_};
 ghost use Rattle.groups.specs.Tests.{every};
 ghost use Rattle.links.specs.HeldLimits.{limitsOf};
-ghost use Rattle.plan.specs.Four.{listed};
+ghost use Rattle.plan.specs.Few.{listed};
 ghost use Rattle.plan.specs.Shape.{alikeIn, allAlikeIn};
 ghost use Rattle.plan.specs.Fitting.{RankFits, Ranks};
-use crate::four::Four;
+use crate::few::Few;
 use links::limits::Limits;
 use links::parallel::SpanPair;
 use marking::spans::span_at;
@@ -23,7 +23,7 @@ pub fn alike(limits: Limits, own: &[u32; 1024], i: usize, j: usize) -> bool
 }
 
 // The span of rank i with those of all the ranks.
-fn alike_to_all(limits: Limits, own: &[u32; 1024], i: usize, ranks: Four) -> bool
+fn alike_to_all(limits: Limits, own: &[u32; 1024], i: usize, ranks: Few) -> bool
     requires { ⌜ RankFits (now own) i × Ranks (now own) ranks ⌝ }
     ensures { λ r. ⌜ r ≡ every (alikeIn (limitsOf limits) (now (own .entry)) i) (listed ranks) ⌝ }
 {
@@ -37,7 +37,7 @@ fn alike_to_all(limits: Limits, own: &[u32; 1024], i: usize, ranks: Four) -> boo
 }
 
 // Every ordered pair of ranks.
-pub fn all_alike(limits: Limits, own: &[u32; 1024], ranks: Four) -> bool
+pub fn all_alike(limits: Limits, own: &[u32; 1024], ranks: Few) -> bool
     requires { ⌜ Ranks (now own) ranks ⌝ }
     ensures { λ r. ⌜ r ≡ allAlikeIn (limitsOf limits) (now (own .entry)) (listed ranks) ⌝ }
 {

@@ -3,10 +3,10 @@ ghost use mathlib.Core.Path.{_≡_};
 ghost use Prim.Native.Nat.{_≤_};
 ghost use Rattle.areas.specs.Spans.{spanIn};
 ghost use Rattle.links.specs.Geometry.{centreDistance};
-ghost use Rattle.plan.specs.Four.{listed};
+ghost use Rattle.plan.specs.Few.{listed};
 ghost use Rattle.plan.specs.Shape.{gapIn, chainIn};
 ghost use Rattle.plan.specs.Fitting.{RankFits, LinkFits, Links};
-use crate::four::Four;
+use crate::few::Few;
 use links::geometry::centre_distance;
 use links::sums::ascending_sum;
 use marking::spans::span_at;
@@ -28,7 +28,7 @@ fn gap(own: &[u32; 1024], firsts: &[u32; 256], seconds: &[u32; 256], k: usize) -
 }
 
 // Of two links or three, in ascending order.
-pub fn chain_sum(own: &[u32; 1024], firsts: &[u32; 256], seconds: &[u32; 256], links: Four) -> f64
+pub fn chain_sum(own: &[u32; 1024], firsts: &[u32; 256], seconds: &[u32; 256], links: Few) -> f64
     requires { ⌜ (2 ≤ links .count) × (links .count ≤ 3) × Links (now own) (now firsts) (now seconds) links ⌝ }
     ensures { λ r. ⌜ r ≡ chainIn (now (firsts .entry)) (now (seconds .entry)) (now (own .entry)) (listed links) ⌝ }
 {

@@ -5,9 +5,9 @@ ghost use Prim.Native.Nat.{_<_, _≤_};
 ghost use lib.Dec.{eqb};
 ghost use Rattle.lists.specs.Rows.{at};
 ghost use Rattle.order.specs.Lists.{keep, upFrom};
-ghost use Rattle.plan.specs.Four.{held};
+ghost use Rattle.plan.specs.Few.{held};
 ghost use Rattle.plan.specs.Arrays.{inPart, linkIn, Ranked};
-use crate::four::Four;
+use crate::few::Few;
 
 fn number(i: usize) -> u32
     requires { ⌜ i < 256 ⌝ }
@@ -23,11 +23,11 @@ fn in_part(joined: u8, part: u32, c: u32) -> bool
 }
 
 // The joined ranks of part c.
-pub fn ranks_of(n: usize, joined: &[u8; 256], parts: &[u32; 256], c: u32) -> Four
+pub fn ranks_of(n: usize, joined: &[u8; 256], parts: &[u32; 256], c: u32) -> Few
     requires { ⌜ n ≤ 256 ⌝ }
     ensures { λ r. ⌜ r ≡ held (keep (inPart (now (joined .entry)) (now (parts .entry)) c) (upFrom 0 n)) ⌝ }
 {
-    let mut found = Four::none();
+    let mut found = Few::none();
     let mut i = n;
     while 0 < i {
         i -= 1;
@@ -51,11 +51,11 @@ pub fn links_of(
     seconds: &[u32; 256],
     parts: &[u32; 256],
     c: u32,
-) -> Four
+) -> Few
     requires { ⌜ Ranked 256 (now firsts) (now seconds) links ⌝ }
     ensures { λ r. ⌜ r ≡ held (keep (linkIn (now (chosen .entry)) (now (firsts .entry)) (now (parts .entry)) c) (upFrom 0 links)) ⌝ }
 {
-    let mut found = Four::none();
+    let mut found = Few::none();
     let mut k = links;
     while 0 < k {
         k -= 1;

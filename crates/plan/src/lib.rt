@@ -1,5 +1,5 @@
 // Which groups of linked boundaries the rules accept, and which rank each rank goes into: 000's `collapse_serial_boundaries` up to the merges.
-pub mod four; // the first four numbers of a list
+pub mod few; // the first sixteen numbers of a list
 pub mod parts; // the connected parts of the chosen links
 pub mod gather; // the ranks and the links of a part
 pub mod path; // simple paths

@@ -1,20 +1,21 @@
 // Simple paths between two different regions: 000's `group_is_simple_path`.
 ghost use mathlib.Core.Path.{_≡_};
-ghost use mathlib.Core.Bool.{_||_};
+ghost use mathlib.Core.Bool.{cond, _||_};
 ghost use Prim.Native.Nat.{_<_, _≤_};
 ghost use lib.Dec.{eqb};
 ghost use Rattle.lists.specs.Rows.{at};
 ghost use Rattle.order.specs.Lists.{keep};
 ghost use Rattle.groups.specs.Tests.{every};
 ghost use Rattle.links.specs.HeldLimits.{limitsOf};
-ghost use Rattle.plan.specs.Four.{held, listed};
+ghost use Rattle.plan.specs.Few.{held, listed, near, nearer};
 ghost use Rattle.plan.specs.Arrays.{isOn, joinsAt};
 ghost use Rattle.plan.specs.Shape.{endsIn, regularIn, outerIn, pathIn};
 ghost use Rattle.plan.specs.Fitting.{Slots};
-use crate::four::Four;
+use crate::few::Few;
 use links::limits::GroupSize;
 use links::limits::Limits;
 use topology::pairs::other_region;
+use wire::size;
 
 fn joins(first: u32, second: u32, i: u32) -> bool
     ensures { λ r. ⌜ r ≡ eqb i first || eqb i second ⌝ }
@@ -22,12 +23,34 @@ fn joins(first: u32, second: u32, i: u32) -> bool
     (i == first) | (i == second)
 }
 
+// How many links join a rank, and the first of them.
+pub struct Near {
+    pub count: u32,
+    pub first: u32,
+}
+
+impl Near {
+    // With x before the others, if asked.
+    fn with(self, x: u32, on: bool) -> Near
+        requires { ⌜ self .count < 4294967295 ⌝ }
+        ensures { λ r. ⌜ r ≡ cond on (nearer self x) self ⌝ }
+    {
+        if on {
+            return Near {
+                count: self.count + 1,
+                first: x,
+            };
+        }
+        self
+    }
+}
+
 // The links that join rank i.
-fn links_at(firsts: &[u32; 256], seconds: &[u32; 256], links: Four, i: u32) -> Four
+fn links_at(firsts: &[u32; 256], seconds: &[u32; 256], links: Few, i: u32) -> Near
     requires { ⌜ (links .count ≤ 256) × Slots 256 links ⌝ }
-    ensures { λ r. ⌜ r ≡ held (keep (joinsAt (now (firsts .entry)) (now (seconds .entry)) i) (listed links)) ⌝ }
+    ensures { λ r. ⌜ r ≡ near (keep (joinsAt (now (firsts .entry)) (now (seconds .entry)) i) (listed links)) ⌝ }
 {
-    let mut found = Four::none();
+    let mut found = Near { count: 0, first: 0 };
     let mut j = links.count;
     while 0 < j {
         j -= 1;
@@ -38,11 +61,11 @@ fn links_at(firsts: &[u32; 256], seconds: &[u32; 256], links: Four, i: u32) -> F
 }
 
 // The ranks that one link joins.
-pub fn group_end_nodes(firsts: &[u32; 256], seconds: &[u32; 256], ranks: Four, links: Four) -> Four
+pub fn group_end_nodes(firsts: &[u32; 256], seconds: &[u32; 256], ranks: Few, links: Few) -> Few
     requires { ⌜ (ranks .count ≤ 256) × (links .count ≤ 256) × Slots 256 links ⌝ }
     ensures { λ r. ⌜ r ≡ held (endsIn (now (firsts .entry)) (now (seconds .entry)) (listed ranks) (listed links)) ⌝ }
 {
-    let mut found = Four::none();
+    let mut found = Few::none();
     let mut j = ranks.count;
     while 0 < j {
         j -= 1;
@@ -54,7 +77,7 @@ pub fn group_end_nodes(firsts: &[u32; 256], seconds: &[u32; 256], ranks: Four, l
 }
 
 // One link or two join each rank.
-fn regular(firsts: &[u32; 256], seconds: &[u32; 256], ranks: Four, links: Four) -> bool
+fn regular(firsts: &[u32; 256], seconds: &[u32; 256], ranks: Few, links: Few) -> bool
     requires { ⌜ (links .count ≤ 256) × Slots 256 links ⌝ }
     ensures { λ r. ⌜ r ≡ regularIn (now (firsts .entry)) (now (seconds .entry)) (listed ranks) (listed links) ⌝ }
 {
@@ -69,7 +92,7 @@ fn regular(firsts: &[u32; 256], seconds: &[u32; 256], ranks: Four, links: Four) 
 }
 
 // Each of the links is marked.
-pub fn all_on(marks: &[u8; 256], links: Four) -> bool
+pub fn all_on(marks: &[u8; 256], links: Few) -> bool
     requires { ⌜ Slots 256 links ⌝ }
     ensures { λ r. ⌜ r ≡ every (isOn (now (marks .entry))) (listed links) ⌝ }
 {
@@ -89,7 +112,7 @@ fn outer(
     regions: &[u32; 256],
     firsts: &[u32; 256],
     seconds: &[u32; 256],
-    links: Four,
+    links: Few,
     i: u32,
 ) -> u32
     requires { ⌜ (links .count ≤ 256) × Slots 256 links × (i < 256) ⌝ }
@@ -97,7 +120,7 @@ fn outer(
 {
     let near = links_at(firsts, seconds, links, i);
     let at = i as usize;
-    other_region(lowers[at], highers[at], regions[near.index(0)])
+    other_region(lowers[at], highers[at], regions[size(near.first)])
 }
 
 // A path of at least so many ranks and at most the limit's, whose outer regions differ.
@@ -109,8 +132,8 @@ pub fn group_is_simple_path(
     regions: &[u32; 256],
     firsts: &[u32; 256],
     seconds: &[u32; 256],
-    ranks: Four,
-    links: Four,
+    ranks: Few,
+    links: Few,
 ) -> bool
     requires { ⌜ (ranks .count ≤ 256) × (links .count ≤ 256) × Slots 256 ranks × Slots 256 links ⌝ }
     ensures { λ r. ⌜ r ≡ pathIn (now (lowers .entry)) (now (highers .entry)) (now (regions .entry)) (now (firsts .entry)) (now (seconds .entry)) least (limitsOf limits .mostSpans) (listed ranks) (listed links) ⌝ }

@@ -8,10 +8,10 @@ ghost use Rattle.order.specs.Sorting.{sort};
 ghost use Rattle.length.specs.Total.{totalLe};
 ghost use Rattle.links.specs.Held.{Number};
 ghost use Rattle.links.specs.HeldLimits.{limitsOf};
-ghost use Rattle.plan.specs.Four.{held, listed};
+ghost use Rattle.plan.specs.Few.{held, listed};
 ghost use Rattle.plan.specs.Shape.{leastIn, sumIn, nearerIn, fineIn, retainedIn};
 ghost use Rattle.plan.specs.Fitting.{RankFits, WidthFits, Ranks, Widths};
-use crate::four::Four;
+use crate::few::Few;
 use length::floats::total_le;
 use links::geometry::width_of;
 use links::limits::Limits;
@@ -29,7 +29,7 @@ fn lesser(a: u64, b: u64) -> u64
 }
 
 // The bits of the least width.
-fn least_bits(bits: &[u64; 256], ranks: Four) -> u64
+fn least_bits(bits: &[u64; 256], ranks: Few) -> u64
     requires { ⌜ (1 ≤ ranks .count) × Widths (now bits) ranks ⌝ }
     ensures { λ r. ⌜ (r ≡ leastIn (now (bits .entry)) (listed ranks)) × (r ≤ 0x40D0_0000_0000_0000) ⌝ }
 {
@@ -53,11 +53,11 @@ fn is_eligible(limits: Limits, bits: &[u64; 256], least: f64, i: usize) -> bool
 }
 
 // The ranks that are no wider than the least width and the tolerance.
-fn eligible(limits: Limits, bits: &[u64; 256], least: f64, ranks: Four) -> Four
+fn eligible(limits: Limits, bits: &[u64; 256], least: f64, ranks: Few) -> Few
     requires { ⌜ (ranks .count ≤ 256) × Widths (now bits) ranks ⌝ }
     ensures { λ r. ⌜ r ≡ held (keep (fineIn (limitsOf limits) (now (bits .entry)) least) (listed ranks)) ⌝ }
 {
-    let mut found = Four::none();
+    let mut found = Few::none();
     let mut j = ranks.count;
     while 0 < j {
         j -= 1;
@@ -70,7 +70,7 @@ fn eligible(limits: Limits, bits: &[u64; 256], least: f64, ranks: Four) -> Four
 }
 
 // The sum of the distances from rank i to all the ranks.
-fn sum_from(own: &[u32; 1024], ranks: Four, i: usize) -> f64
+fn sum_from(own: &[u32; 1024], ranks: Few, i: usize) -> f64
     requires { ⌜ (1 ≤ ranks .count) × (ranks .count ≤ 4) × Ranks (now own) ranks × RankFits (now own) i ⌝ }
     ensures { λ r. ⌜ (r ≡ sumIn (now (own .entry)) (listed ranks) i) × Number r ⌝ }
 {
@@ -82,7 +82,7 @@ fn sum_from(own: &[u32; 1024], ranks: Four, i: usize) -> f64
 }
 
 // The one of the lesser sum, the first if they are the same.
-fn nearer(own: &[u32; 1024], ranks: Four, i: usize, j: usize) -> usize
+fn nearer(own: &[u32; 1024], ranks: Few, i: usize, j: usize) -> usize
     requires { ⌜ (1 ≤ ranks .count) × (ranks .count ≤ 4) × Ranks (now own) ranks × RankFits (now own) i × RankFits (now own) j ⌝ }
     ensures { λ r. ⌜ (r ≡ cond (nearerIn (now (own .entry)) (listed ranks) i j) i j) × RankFits (now (own .entry)) r ⌝ }
 {
@@ -92,7 +92,7 @@ fn nearer(own: &[u32; 1024], ranks: Four, i: usize, j: usize) -> usize
 }
 
 // Of some ranks the one with the least sum of distances to all the ranks, the earliest of such.
-fn nearest(own: &[u32; 1024], ranks: Four, among: Four) -> usize
+fn nearest(own: &[u32; 1024], ranks: Few, among: Few) -> usize
     requires { ⌜ (1 ≤ ranks .count) × (ranks .count ≤ 4) × (1 ≤ among .count) × Ranks (now own) ranks × Ranks (now own) among ⌝ }
     ensures { λ r. ⌜ (r ≡ getD (sort (nearerIn (now (own .entry)) (listed ranks)) (listed among)) 0 0) × (r < 256) ⌝ }
 {
@@ -106,7 +106,7 @@ fn nearest(own: &[u32; 1024], ranks: Four, among: Four) -> usize
 }
 
 // The retained rank of a group.
-pub fn representative(limits: Limits, own: &[u32; 1024], bits: &[u64; 256], ranks: Four) -> usize
+pub fn representative(limits: Limits, own: &[u32; 1024], bits: &[u64; 256], ranks: Few) -> usize
     requires { ⌜ (1 ≤ ranks .count) × (ranks .count ≤ 4) × Ranks (now own) ranks × Widths (now bits) ranks × RankFits (now own) 0 ⌝ }
     ensures { λ r. ⌜ (r ≡ retainedIn (limitsOf limits) (now (own .entry)) (now (bits .entry)) (listed ranks)) × (r < 256) ⌝ }
 {

@@ -1,5 +1,5 @@
 use Rattle.links.specs.HeldLimits.{limitsOf}
-use Rattle.plan.specs.Four.{listed}
+use Rattle.plan.specs.Few.{listed}
 use Rattle.plan.proofs.AcceptLaws.{flat-no, flat-yes}
 use borrow.Author.Needs.{needs}
 use Rattle.plan.proofs.accept.accepts_flat.Statement.{statement}

@@ -6,7 +6,7 @@ use Rattle.areas.specs.Spans.{spanIn}
 use Rattle.links.specs.Geometry.{centreDistance}
 use Rattle.links.specs.HeldLimits.{limitsOf}
 use Rattle.plan.specs.Fitting.{RankFits}
-use Rattle.plan.specs.Four.{listed}
+use Rattle.plan.specs.Few.{listed}
 use Rattle.plan.proofs.ShapeLaws.{listed-length, held-first, held-second}
 use Rattle.plan.proofs.ValueLaws.{both}
 use Rattle.plan.proofs.AcceptLaws.{ends-slots, path-sizes, serial-no, serial-path, serial-yes}
@@ -18,7 +18,7 @@ use Rattle.plan.proofs.accept.accepts_serial.Lts as lts
 use Rattle.links.proofs.limits.Chain.short.Reads as short-reads
 use Rattle.plan.proofs.chain.chain_sum.Reads as chain-sum-reads
 use Rattle.plan.proofs.chain.rank_distance.Reads as rank-distance-reads
-use Rattle.plan.proofs.four.Four.index.Reads as index-reads
+use Rattle.plan.proofs.few.Few.index.Reads as index-reads
 use Rattle.plan.proofs.path.all_on.Reads as all-on-reads
 use Rattle.plan.proofs.path.group_end_nodes.Reads as group-end-nodes-reads
 use Rattle.plan.proofs.path.group_is_simple_path.Reads as group-is-simple-path-reads

@@ -6,14 +6,14 @@ use mathlib.Core.Path.{subst}
 use Rattle.links.specs.HeldLimits.{limitsOf}
 use Rattle.plan.specs.Shape.{alikeIn}
 use Rattle.plan.specs.Fitting.{RankFits}
-use Rattle.plan.specs.Four.{slot}
+use Rattle.plan.specs.Few.{slot}
 use Rattle.plan.proofs.ShapeLaws.{Each, each-start, each-next, each-listed}
 use Rattle.plan.proofs.alike.alike_to_all.Statement.{statement}
 use Rattle.plan.proofs.alike.alike_to_all.Tie as tie
 use Rattle.plan.proofs.alike.alike_to_all.Reads as reads
 use Rattle.plan.proofs.alike.alike_to_all.Lts as lts
 use Rattle.plan.proofs.alike.alike.Reads as alike-reads
-use Rattle.plan.proofs.four.Four.index.Reads as index-reads
+use Rattle.plan.proofs.few.Few.index.Reads as index-reads
 
 abbrev Inv-loop : tie.InvT-loop
 Inv-loop limits own i ranks all₀ j₀ all j = (j ≤ ranks .count) × Each (alikeIn (limitsOf limits) own i) (slot ranks) (ranks .count) j all

@@ -7,7 +7,7 @@ use Rattle.links.specs.HeldLimits.{limitsOf}
 use Rattle.groups.specs.Tests.{every}
 use Rattle.plan.specs.Shape.{alikeIn}
 use Rattle.plan.specs.Fitting.{RankFits}
-use Rattle.plan.specs.Four.{slot, listed}
+use Rattle.plan.specs.Few.{slot, listed}
 use Rattle.plan.proofs.ShapeLaws.{Each, each-start, each-next}
 use Rattle.plan.proofs.ValueLaws.{all-alike-whole}
 use Rattle.plan.proofs.alike.all_alike.Statement.{statement}
@@ -15,7 +15,7 @@ use Rattle.plan.proofs.alike.all_alike.Tie as tie
 use Rattle.plan.proofs.alike.all_alike.Reads as reads
 use Rattle.plan.proofs.alike.all_alike.Lts as lts
 use Rattle.plan.proofs.alike.alike_to_all.Reads as alike-to-all-reads
-use Rattle.plan.proofs.four.Four.index.Reads as index-reads
+use Rattle.plan.proofs.few.Few.index.Reads as index-reads
 
 abbrev Inv-loop : tie.InvT-loop
 Inv-loop limits own ranks all₀ j₀ all j = (j ≤ ranks .count) × Each (λ i. every (alikeIn (limitsOf limits) own i) (listed ranks)) (slot ranks) (ranks .count) j all

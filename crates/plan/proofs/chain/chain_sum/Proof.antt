@@ -9,7 +9,7 @@ use Rattle.plan.proofs.chain.chain_sum.Reads as reads
 use Rattle.plan.proofs.chain.chain_sum.Lts as lts
 use Rattle.links.proofs.sums.ascending_sum.Reads as ascending-sum-reads
 use Rattle.plan.proofs.chain.gap.Reads as gap-reads
-use Rattle.plan.proofs.four.Four.index.Reads as index-reads
+use Rattle.plan.proofs.few.Few.index.Reads as index-reads
 
 index-requires : tie.Need-index-requires
 index-requires c κs = c .pre .2 0 .below

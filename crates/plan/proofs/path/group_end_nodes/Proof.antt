@@ -4,17 +4,17 @@ use native.Mathlib.Omega.{arith}
 use lib.Dec.{eqb}
 use borrow.Author.Needs.{needs}
 use Rattle.plan.specs.Shape.{degreeIn}
-use Rattle.plan.specs.Four.{slot, listed}
-use Rattle.plan.proofs.FourLaws.{Picked, picked-start, picked-room, picked-next}
-use Rattle.plan.proofs.ShapeLaws.{held-count}
+use Rattle.plan.specs.declared.path.Near.{Near}
+use Rattle.plan.specs.Few.{slot, listed}
+use Rattle.plan.proofs.FewLaws.{Picked, picked-start, picked-room, picked-next}
 use Rattle.plan.proofs.ValueLaws.{ends-whole}
 use Rattle.plan.proofs.path.group_end_nodes.Statement.{statement}
 use Rattle.plan.proofs.path.group_end_nodes.Tie as tie
 use Rattle.plan.proofs.path.group_end_nodes.Reads as reads
 use Rattle.plan.proofs.path.group_end_nodes.Lts as lts
-use Rattle.plan.proofs.four.Four.get.Reads as get-reads
-use Rattle.plan.proofs.four.Four.none.Reads as none-reads
-use Rattle.plan.proofs.four.Four.with.Reads as with-reads
+use Rattle.plan.proofs.few.Few.get.Reads as get-reads
+use Rattle.plan.proofs.few.Few.none.Reads as none-reads
+use Rattle.plan.proofs.few.Few.with.Reads as with-reads
 use Rattle.plan.proofs.path.links_at.Reads as links-at-reads
 
 abbrev Inv-loop : tie.InvT-loop
@@ -45,7 +45,7 @@ loop-less : tie.Need-loop-less Inv-loop μ-loop
 loop-less c = search needs
 
 loop-again : tie.Need-loop-again Inv-loop μ-loop
-loop-again c = (omega (arith, c .before .before .before .before .before .loop .inv .0), picked-next (λ (i : ℕ). eqb (degreeIn (c .before .before .before .before .before .before .before .args .firsts .now) (c .before .before .before .before .before .before .before .args .seconds .now) (listed (c .before .before .before .before .before .before .before .args .links)) i) 1) (slot (c .before .before .before .before .before .before .before .args .ranks)) (c .before .before .before .before .before .before .before .args .ranks .count) (eqb (c .before .before .links-at .result .count) 1) (c .before .before .before .get .result) (c .before .before .before .before .before .loop .inv .1) (c .before .before .before .before .loop-test .taken) (c .before .before .before .before .before .loop .inv .0) (c .with .ensures) (ap (λ (d : ℕ). eqb d 1) (held-count _ (c .before .before .links-at .ensures)) ∙ ap (λ (i : ℕ). eqb (degreeIn (c .before .before .before .before .before .before .before .args .firsts .now) (c .before .before .before .before .before .before .before .args .seconds .now) (listed (c .before .before .before .before .before .before .before .args .links)) i) 1) (c .before .before .before .get .ensures)) (c .before .before .before .get .ensures))
+loop-again c = (omega (arith, c .before .before .before .before .before .loop .inv .0), picked-next (λ (i : ℕ). eqb (degreeIn (c .before .before .before .before .before .before .before .args .firsts .now) (c .before .before .before .before .before .before .before .args .seconds .now) (listed (c .before .before .before .before .before .before .before .args .links)) i) 1) (slot (c .before .before .before .before .before .before .before .args .ranks)) (c .before .before .before .before .before .before .before .args .ranks .count) (eqb (c .before .before .links-at .result .count) 1) (c .before .before .before .get .result) (c .before .before .before .before .before .loop .inv .1) (c .before .before .before .before .loop-test .taken) (c .before .before .before .before .before .loop .inv .0) (c .with .ensures) (ap (λ (d : ℕ). eqb d 1) (ap (λ (n : Near). n .count) (c .before .before .links-at .ensures)) ∙ ap (λ (i : ℕ). eqb (degreeIn (c .before .before .before .before .before .before .before .args .firsts .now) (c .before .before .before .before .before .before .before .args .seconds .now) (listed (c .before .before .before .before .before .before .before .args .links)) i) 1) (c .before .before .before .get .ensures)) (c .before .before .before .get .ensures))
 
 returns : tie.Need-returns Inv-loop μ-loop
 returns c = ends-whole (c .before .before .before .args .firsts .now) (c .before .before .before .args .seconds .now) (listed (c .before .before .before .args .links)) (c .before .before .before .args .ranks) (c .before .loop .inv .1) (omega (arith, c .loop-test .left))

@@ -1,18 +1,14 @@
-use mathlib.Core.Path.{_∙_}
+use mathlib.Core.Path.{_∙_, ap}
 use Prim.Native.Nat.{_<_}
 use native.Mathlib.Omega.{arith}
+use Rattle.plan.specs.declared.path.Near.{Near}
 use Rattle.plan.specs.Arrays.{joinsAt}
-use Rattle.plan.specs.Four.{listed}
-use Rattle.plan.proofs.ShapeLaws.{kept-slots, held-first}
+use Rattle.plan.specs.Few.{listed}
+use Rattle.plan.proofs.ShapeLaws.{kept-first}
 use Rattle.plan.proofs.ValueLaws.{outer-as}
 use borrow.Author.Needs.{needs}
 use Rattle.plan.proofs.path.outer.Statement.{statement}
 use Rattle.plan.proofs.path.outer.Tie as tie
-use Rattle.plan.proofs.path.outer.Reads as reads
-use Rattle.plan.proofs.path.outer.Lts as lts
-use Rattle.plan.proofs.four.Four.index.Reads as index-reads
-use Rattle.plan.proofs.path.links_at.Reads as links-at-reads
-use Rattle.topology.proofs.pairs.other_region.Reads as other-region-reads
 
 links-at-requires : tie.Need-links-at-requires
 links-at-requires c κs = search needs
@@ -29,20 +25,28 @@ mul-other-region-2 c = search needs
 element-copy-out-other-region-2 : tie.Need-element-copy-out-other-region-2
 element-copy-out-other-region-2 c = search needs
 
-index-requires : tie.Need-index-requires
-index-requires c κs = kept-slots (λ x. x < 256) (joinsAt (c .before .before .before .args .firsts .now) (c .before .before .before .args .seconds .now) (c .before .before .before .args .i)) (c .before .before .before .args .links) (c .before .before .links-at .ensures) (c .before .before .before .pre .1) (omega arith) 0
+size-requires : tie.Need-size-requires
+size-requires c κs = search needs
 
 mul-other-region-3 : tie.Need-mul-other-region-3
 mul-other-region-3 c = search needs
 
 element-copy-out-other-region-3 : tie.Need-element-copy-out-other-region-3
-element-copy-out-other-region-3 c = search needs
+element-copy-out-other-region-3 c =
+    let noted = c .before .before .before in
+    let start = noted .before in
+    let joining = joinsAt (start .args .firsts .now) (start .args .seconds .now) (start .args .i) in
+    omega (arith, c .size .ensures .0, kept-first (λ x. x < 256) joining (start .args .links) (noted .links-at .ensures) (start .pre .1) (omega arith))
 
 other-region-requires : tie.Need-other-region-requires
 other-region-requires c κs = search needs
 
 returns : tie.Need-returns
-returns c = outer-as (c .before .before .before .before .before .before .args .lowers .now) (c .before .before .before .before .before .before .args .highers .now) (c .before .before .before .before .before .before .args .regions .now) (c .before .before .before .before .before .before .args .firsts .now) (c .before .before .before .before .before .before .args .seconds .now) (listed (c .before .before .before .before .before .before .args .links)) (c .before .before .before .before .before .before .args .i) (c .before .before .index .ensures .0 ∙ held-first _ (c .before .before .before .before .before .links-at .ensures)) (c .other-region .ensures)
+returns c =
+    let noted = c .before .before .before .before .before in
+    let start = noted .before .args in
+    outer-as (start .lowers .now) (start .highers .now) (start .regions .now) (start .firsts .now) (start .seconds .now) (listed (start .links)) (start .i)
+    (c .before .before .size .ensures .0 ∙ ap (λ (n : Near). n .first) (noted .links-at .ensures)) (c .other-region .ensures)
 
 pub outer-spec : {M : Type 1} → statement M
 outer-spec =
@@ -53,7 +57,7 @@ outer-spec =
     element-copy-out-other-region
     mul-other-region-2
     element-copy-out-other-region-2
-    index-requires
+    size-requires
     mul-other-region-3
     element-copy-out-other-region-3
     other-region-requires

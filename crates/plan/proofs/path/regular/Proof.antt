@@ -5,14 +5,15 @@ use native.Mathlib.Omega.{arith}
 use borrow.Author.Needs.{needs}
 use lib.Dec.{leb}
 use Rattle.plan.specs.Shape.{degreeIn}
-use Rattle.plan.specs.Four.{slot, listed}
-use Rattle.plan.proofs.ShapeLaws.{Each, each-start, each-next, held-count}
+use Rattle.plan.specs.declared.path.Near.{Near}
+use Rattle.plan.specs.Few.{slot, listed}
+use Rattle.plan.proofs.ShapeLaws.{Each, each-start, each-next}
 use Rattle.plan.proofs.ValueLaws.{regular-whole}
 use Rattle.plan.proofs.path.regular.Statement.{statement}
 use Rattle.plan.proofs.path.regular.Tie as tie
 use Rattle.plan.proofs.path.regular.Reads as reads
 use Rattle.plan.proofs.path.regular.Lts as lts
-use Rattle.plan.proofs.four.Four.get.Reads as get-reads
+use Rattle.plan.proofs.few.Few.get.Reads as get-reads
 use Rattle.plan.proofs.path.links_at.Reads as links-at-reads
 
 abbrev Inv-loop : tie.InvT-loop
@@ -37,7 +38,7 @@ loop-less : tie.Need-loop-less Inv-loop μ-loop
 loop-less c = search needs
 
 loop-again : tie.Need-loop-again Inv-loop μ-loop
-loop-again c = (omega (arith, c .before .before .before .before .before .loop .inv .0), each-next (λ (i : ℕ). leb 1 (degreeIn (c .before .before .before .before .before .before .args .firsts .now) (c .before .before .before .before .before .before .args .seconds .now) (listed (c .before .before .before .before .before .before .args .links)) i) && leb (degreeIn (c .before .before .before .before .before .before .args .firsts .now) (c .before .before .before .before .before .before .args .seconds .now) (listed (c .before .before .before .before .before .before .args .links)) i) 2) (slot (c .before .before .before .before .before .before .args .ranks)) (c .before .before .before .before .before .before .args .ranks .count) (leb 1 (c .before .before .links-at .result .count) && leb (c .before .before .links-at .result .count) 2) (c .before .before .before .before .before .loop .inv .1) (c .before .before .before .before .loop-test .taken) (c .before .before .before .before .before .loop .inv .0) (ap (λ (d : ℕ). leb 1 d && leb d 2) (held-count _ (c .before .before .links-at .ensures)) ∙ ap (λ (i : ℕ). leb 1 (degreeIn (c .before .before .before .before .before .before .args .firsts .now) (c .before .before .before .before .before .before .args .seconds .now) (listed (c .before .before .before .before .before .before .args .links)) i) && leb (degreeIn (c .before .before .before .before .before .before .args .firsts .now) (c .before .before .before .before .before .before .args .seconds .now) (listed (c .before .before .before .before .before .before .args .links)) i) 2) (c .before .before .before .get .ensures)) refl)
+loop-again c = (omega (arith, c .before .before .before .before .before .loop .inv .0), each-next (λ (i : ℕ). leb 1 (degreeIn (c .before .before .before .before .before .before .args .firsts .now) (c .before .before .before .before .before .before .args .seconds .now) (listed (c .before .before .before .before .before .before .args .links)) i) && leb (degreeIn (c .before .before .before .before .before .before .args .firsts .now) (c .before .before .before .before .before .before .args .seconds .now) (listed (c .before .before .before .before .before .before .args .links)) i) 2) (slot (c .before .before .before .before .before .before .args .ranks)) (c .before .before .before .before .before .before .args .ranks .count) (leb 1 (c .before .before .links-at .result .count) && leb (c .before .before .links-at .result .count) 2) (c .before .before .before .before .before .loop .inv .1) (c .before .before .before .before .loop-test .taken) (c .before .before .before .before .before .loop .inv .0) (ap (λ (d : ℕ). leb 1 d && leb d 2) (ap (λ (n : Near). n .count) (c .before .before .links-at .ensures)) ∙ ap (λ (i : ℕ). leb 1 (degreeIn (c .before .before .before .before .before .before .args .firsts .now) (c .before .before .before .before .before .before .args .seconds .now) (listed (c .before .before .before .before .before .before .args .links)) i) && leb (degreeIn (c .before .before .before .before .before .before .args .firsts .now) (c .before .before .before .before .before .before .args .seconds .now) (listed (c .before .before .before .before .before .before .args .links)) i) 2) (c .before .before .before .get .ensures)) refl)
 
 returns : tie.Need-returns Inv-loop μ-loop
 returns c = regular-whole (c .before .before .args .firsts .now) (c .before .before .args .seconds .now) (listed (c .before .before .args .links)) (c .before .before .args .ranks) (c .before .loop .inv .1) (omega (arith, c .loop-test .left))

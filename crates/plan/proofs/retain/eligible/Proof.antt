@@ -6,17 +6,17 @@ use mathlib.Core.Path.{subst}
 use Rattle.links.specs.HeldLimits.{limitsOf}
 use Rattle.plan.specs.Shape.{fineIn}
 use Rattle.plan.specs.Fitting.{WidthFits}
-use Rattle.plan.specs.Four.{slot}
-use Rattle.plan.proofs.FourLaws.{Picked, picked-start, picked-room, picked-next}
+use Rattle.plan.specs.Few.{slot}
+use Rattle.plan.proofs.FewLaws.{Picked, picked-start, picked-room, picked-next}
 use Rattle.plan.proofs.ShapeLaws.{picked-listed}
 use Rattle.plan.proofs.retain.eligible.Statement.{statement}
 use Rattle.plan.proofs.retain.eligible.Tie as tie
 use Rattle.plan.proofs.retain.eligible.Reads as reads
 use Rattle.plan.proofs.retain.eligible.Lts as lts
-use Rattle.plan.proofs.four.Four.get.Reads as get-reads
-use Rattle.plan.proofs.four.Four.index.Reads as index-reads
-use Rattle.plan.proofs.four.Four.none.Reads as none-reads
-use Rattle.plan.proofs.four.Four.with.Reads as with-reads
+use Rattle.plan.proofs.few.Few.get.Reads as get-reads
+use Rattle.plan.proofs.few.Few.index.Reads as index-reads
+use Rattle.plan.proofs.few.Few.none.Reads as none-reads
+use Rattle.plan.proofs.few.Few.with.Reads as with-reads
 use Rattle.plan.proofs.retain.is_eligible.Reads as is-eligible-reads
 
 abbrev Inv-loop : tie.InvT-loop

@@ -5,14 +5,14 @@ use borrow.Author.Needs.{needs}
 use mathlib.Core.Path.{subst}
 use Rattle.lists.specs.Rows.{at}
 use Rattle.length.specs.Total.{totalLe}
-use Rattle.plan.specs.Four.{slot}
+use Rattle.plan.specs.Few.{slot}
 use Rattle.plan.proofs.ShapeLaws.{First, first-start, first-next}
 use Rattle.plan.proofs.ValueLaws.{least-listed}
 use Rattle.plan.proofs.retain.least_bits.Statement.{statement}
 use Rattle.plan.proofs.retain.least_bits.Tie as tie
 use Rattle.plan.proofs.retain.least_bits.Reads as reads
 use Rattle.plan.proofs.retain.least_bits.Lts as lts
-use Rattle.plan.proofs.four.Four.index.Reads as index-reads
+use Rattle.plan.proofs.few.Few.index.Reads as index-reads
 use Rattle.plan.proofs.retain.lesser.Reads as lesser-reads
 
 abbrev Inv-loop : tie.InvT-loop

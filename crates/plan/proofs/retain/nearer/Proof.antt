@@ -1,5 +1,5 @@
 use mathlib.Core.Path.{sym, _∙_}
-use Rattle.plan.specs.Four.{listed}
+use Rattle.plan.specs.Few.{listed}
 use Rattle.plan.proofs.ValueLaws.{choose-yes, choose-no, nearer-as}
 use borrow.Author.Needs.{needs}
 use Rattle.plan.proofs.retain.nearer.Statement.{statement}

@@ -5,14 +5,14 @@ use borrow.Author.Needs.{needs}
 use mathlib.Core.Path.{subst}
 use Rattle.plan.specs.Shape.{nearerIn}
 use Rattle.plan.specs.Fitting.{RankFits}
-use Rattle.plan.specs.Four.{slot, listed}
+use Rattle.plan.specs.Few.{slot, listed}
 use Rattle.plan.proofs.ShapeLaws.{First, first-start, first-next}
 use Rattle.plan.proofs.ValueLaws.{first-listed}
 use Rattle.plan.proofs.retain.nearest.Statement.{statement}
 use Rattle.plan.proofs.retain.nearest.Tie as tie
 use Rattle.plan.proofs.retain.nearest.Reads as reads
 use Rattle.plan.proofs.retain.nearest.Lts as lts
-use Rattle.plan.proofs.four.Four.index.Reads as index-reads
+use Rattle.plan.proofs.few.Few.index.Reads as index-reads
 use Rattle.plan.proofs.retain.nearer.Reads as nearer-reads
 
 abbrev Inv-loop : tie.InvT-loop

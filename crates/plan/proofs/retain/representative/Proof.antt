@@ -1,7 +1,7 @@
 use Rattle.links.specs.HeldLimits.{limitsOf}
 use Rattle.plan.specs.Shape.{fineIn}
 use Rattle.plan.specs.Fitting.{RankFits}
-use Rattle.plan.specs.Four.{listed}
+use Rattle.plan.specs.Few.{listed}
 use Rattle.plan.proofs.ShapeLaws.{kept-slots}
 use Rattle.plan.proofs.ValueLaws.{eligible-as, retained-none, retained-some, positive}
 use borrow.Author.Needs.{needs}
@@ -10,7 +10,7 @@ use Rattle.plan.proofs.retain.representative.Tie as tie
 use Rattle.plan.proofs.retain.representative.Reads as reads
 use Rattle.plan.proofs.retain.representative.Lts as lts
 use Rattle.links.proofs.geometry.width_of.Reads as width-of-reads
-use Rattle.plan.proofs.four.Four.index.Reads as index-reads
+use Rattle.plan.proofs.few.Few.index.Reads as index-reads
 use Rattle.plan.proofs.retain.eligible.Reads as eligible-reads
 use Rattle.plan.proofs.retain.least_bits.Reads as least-bits-reads
 use Rattle.plan.proofs.retain.nearest.Reads as nearest-reads

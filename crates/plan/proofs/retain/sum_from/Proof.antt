@@ -8,7 +8,7 @@ use Rattle.plan.proofs.retain.sum_from.Reads as reads
 use Rattle.plan.proofs.retain.sum_from.Lts as lts
 use Rattle.links.proofs.sums.distance_sum.Reads as distance-sum-reads
 use Rattle.marking.proofs.spans.span_at.Reads as span-at-reads
-use Rattle.plan.proofs.four.Four.index.Reads as index-reads
+use Rattle.plan.proofs.few.Few.index.Reads as index-reads
 
 index-requires : tie.Need-index-requires
 index-requires c κs = c .pre .2 0 .below

@@ -1,8 +1,6 @@
 use borrow.Author.Needs.{needs}
-use Rattle.plan.proofs.four.Four.with.Statement.{statement}
-use Rattle.plan.proofs.four.Four.with.Tie as tie
-use Rattle.plan.proofs.four.Four.with.Reads as reads
-use Rattle.plan.proofs.four.Four.with.Lts as lts
+use Rattle.plan.proofs.path.Near.with.Statement.{statement}
+use Rattle.plan.proofs.path.Near.with.Tie as tie
 
 add-t5 : tie.Need-add-t5
 add-t5 c = search needs
