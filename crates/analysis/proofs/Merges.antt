@@ -37,11 +37,8 @@ use Rattle.analysis.proofs.Headed.{headed-checked, headed-laid, counts-
 use Rattle.analysis.proofs.Mapped.{map-cells, map-long, map-is}
 
 -- the numbers of both limits on a group's size
-pub least-three : {l : LimitsHeld} → limitsOf l ≡ limits000 → 3 ≤ l .«least_spans»
-least-three e = let z = ap (λ (x : Limits). x .leastSpans) e in omega (arith, z)
-
-pub most-four : {l : LimitsHeld} → limitsOf l ≡ limits000 → l .«most_spans» ≤ 4
-most-four e = let z = ap (λ (x : Limits). x .mostSpans) e in omega (arith, z)
+pub most-few : {l : LimitsHeld} → limitsOf l ≡ limits000 → l .«most_spans» ≤ 16
+most-few e = let z = ap (λ (x : Limits). x .mostSpans) e in omega (arith, z)
 
 -- a job's ranks as the laws take them
 module _ {s : List ℕ} {h : Header} {order : List ℕ} (p : RankedJob s h order) where

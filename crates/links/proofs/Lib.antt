@@ -6,7 +6,7 @@ mod Slanted
 pub mod Numbers
 mod Squares
 mod Alike
-mod SumSteps
+pub mod SumSteps
 mod Measures
 mod Flags
 mod Widths

@@ -1,9 +1,12 @@
 -- Distances and their sums are no NaNs.
 use mathlib.Core.Bool.{Bool, true, false, cond, not}
 use mathlib.Core.List.{List, [], _∷_, map}
-use Prim.Native.Nat.{ℕ, zero, suc, _+_, _-_, _*_, _/_, _%_, _^_, compare}
+use Prim.Native.Nat.{ℕ, zero, suc, _+_, _-_, _*_, _/_, _%_, _^_, _<_, compare}
+use native.Mathlib.Omega.{arith}
 use lib.Dec.{T, ltb}
-use lib.Ieee.{Float, nan, inf, fin, binary64, prec, emax, low, up, down, size, nearest, add, sum, round, isNan, units, odd}
+use lib.Ieee.{Float, nan, inf, fin, binary64, prec, emax, low, up, down, size, nearest, add, sum, round, neg, isNan, units, odd, fits, toBits}
+use lib.Ieee.Bits.{toBits-lt}
+use lib.Ieee.Fits.{round-fits, neg-fits}
 use Rattle.length.specs.Root.{wholeRoot}
 use Rattle.length.specs.Length.{places, halved, lengthOf}
 use Rattle.length.specs.Floats.{_⊕_}
@@ -72,9 +75,32 @@ added-upward s x [] h = h
 added-upward s x (m ∷ ms) h = added-upward s (x ⊕ centreDistance s m) ms (sum-upward x (centreDistance s m) h (length-upward (squares (doubledCentre s) (doubledCentre m))))
 
 -- what `no_later` asks of distances and of their sums
+pub distance-upward : (s t : Span) → T (upward (centreDistance s t))
+distance-upward s t = length-upward (squares (doubledCentre s) (doubledCentre t))
+
 pub distance-number : (s t : Span) → Number (centreDistance s t)
-distance-number s t = upward-number (centreDistance s t) (length-upward (squares (doubledCentre s) (doubledCentre t)))
+distance-number s t = upward-number (centreDistance s t) (distance-upward s t)
 
 pub distance-sum-number : (s m : Span) (ms : List Span) → Number (distanceSum s (m ∷ ms))
 unfolding distanceSum sumOf
-distance-sum-number s m ms = upward-number (addedTo (centreDistance s m) (map (centreDistance s) ms)) (added-upward s (centreDistance s m) ms (length-upward (squares (doubledCentre s) (doubledCentre m))))
+distance-sum-number s m ms = upward-number (addedTo (centreDistance s m) (map (centreDistance s) ms)) (added-upward s (centreDistance s m) ms (distance-upward s m))
+
+-- a distance is an f64
+pub distance-fits : (s t : Span) → T (fits binary64 (centreDistance s t))
+unfolding lengthOf
+distance-fits s t = let d = squares (doubledCentre s) (doubledCentre t) in round-fits binary64 false (halved (wholeRoot (d * 2 ^ (2 * places d)))) (2 ^ places d)
+
+-- a number that is not negative has bits below the sign's
+sign-apart : (a b t : ℕ) → t + a + b < 2 * t → 0 + a + b < t
+sign-apart a b t h = omega arith
+
+pub upward-bits : (x : Float) → T (upward x) → T (fits binary64 x) → toBits binary64 x < 0x8000_0000_0000_0000
+unfolding toBits neg
+upward-bits nan h f = absurd h
+upward-bits (inf true) h f = absurd h
+upward-bits (inf false) h f = omega arith
+upward-bits (fin true m e) h f = absurd h
+upward-bits (fin false m e) h f =
+    let n = m * up e * 2 ^ low binary64 / down e in
+    let k = size n - prec binary64 in
+    sign-apart (k * 2 ^ 52) (n / 2 ^ k) (2 ^ 63) (toBits-lt binary64 (fin true m e) (neg-fits binary64 (fin false m e) f))

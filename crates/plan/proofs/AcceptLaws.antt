@@ -4,11 +4,13 @@ use mathlib.Core.Bool.{Bool, true, false, not, _&&_}
 use mathlib.Core.List.{List}
 use Prim.Native.Nat.{ℕ, suc, _+_, _≤_}
 use native.Mathlib.Numerals.{add-one}
+use native.Mathlib.Omega.{arith}
 use borrow.Author.Tests.{eqb-true, leb-true, not-true, not-false}
 use lib.Dec.{eqb, leb}
 use lib.Ieee.{Float, le}
 use lib.ListN.{length, getD}
 use Rattle.order.proofs.Bools.{and-parts}
+use Rattle.order.proofs.Keep.{keep-length}
 use Rattle.areas.specs.Spans.{spanIn}
 use Rattle.links.specs.Limits.{Limits}
 use Rattle.links.specs.Geometry.{centreDistance}
@@ -56,16 +58,17 @@ module _ (lowers highers regions firsts seconds : List ℕ) (least most : ℕ) w
       out : ℕ → ℕ
       out = outerIn lowers highers regions firsts seconds (listed g)
 
-  -- how many ranks and links a path has
-  pub path-sizes : (rs js : List ℕ) → pathIn lowers highers regions firsts seconds least most rs js ≡ true → (least ≤ length rs) × (length rs ≤ most) × (suc (length js) ≡ length rs)
-  unfolding pathIn
+  -- how many ranks and links a path has: two ranks at least, for it has two ends
+  pub path-sizes : (rs js : List ℕ) → pathIn lowers highers regions firsts seconds least most rs js ≡ true → (2 ≤ length rs) × (length rs ≤ most) × (suc (length js) ≡ length rs)
+  unfolding pathIn endsIn
   path-sizes rs js h =
       let p = and-parts _ _ h in
       let q = and-parts _ _ (p .0) in
       let s = and-parts (leb least (length rs)) (leb (length rs) most) (q .0) in
       let u = and-parts _ _ (q .1) in
       let v = and-parts (eqb (suc (length js)) (length rs)) (eqb (length (endsIn firsts seconds rs js)) 2) (u .0) in
-      (leb-true least (length rs) (s .0), leb-true (length rs) most (s .1), eqb-true (suc (length js)) (length rs) (v .0))
+      let two = eqb-true (length (endsIn firsts seconds rs js)) 2 (v .1) in
+      (omega (arith, two, keep-length (λ i. eqb (degreeIn firsts seconds js i) 1) rs), leb-true (length rs) most (s .1), eqb-true (suc (length js)) (length rs) (v .0))
 
 module _ (limits : Limits) (own lowers highers regions firsts seconds : List ℕ) where
   pub flat-no : (rs js : List ℕ) {b : Bool} → b ≡ pathIn lowers highers regions firsts seconds leastFlatSpans (limits .mostSpans) rs js → not b ≡ true → false ≡ flatIn limits own lowers highers regions firsts seconds rs js

@@ -165,7 +165,7 @@ insert-ext p q x (y ∷ ys) f =
     let b : insert p x ys ≡ insert q x ys = insert-ext p q x ys (λ z m. f z (List·Memᴰ·tail m)) in
     rw (a, b)
 
-sort-ext : {A : Type 0} (p q : A → A → Bool) (l : List A) → ((x y : A) → List·Memᴰ x l → List·Memᴰ y l → p x y ≡ q x y) → sort p l ≡ sort q l
+pub sort-ext : {A : Type 0} (p q : A → A → Bool) (l : List A) → ((x y : A) → List·Memᴰ x l → List·Memᴰ y l → p x y ≡ q x y) → sort p l ≡ sort q l
 unfolding sort
 sort-ext p q [] f = refl
 sort-ext p q (x ∷ xs) f =

@@ -28,7 +28,7 @@ use Rattle.plan.proofs.ShapeLaws.{listed-length, held-count, held-slots
 use Rattle.plan.proofs.AcceptLaws.{path-sizes}
 
 abbrev pub Sized : List ℕ → List ℕ → Type 0
-Sized rs js = (1 ≤ length rs) × (length rs ≤ 4) × (length js ≤ 4)
+Sized rs js = (1 ≤ length rs) × (length rs ≤ 16) × (length js ≤ 16)
 
 -- a test that passes only small groups
 module _ (F : List ℕ → List ℕ → Bool) (small : (rs js : List ℕ) → F rs js ≡ true → Sized rs js) {f g : Few} (rs js : List ℕ) (ef : f ≡ held rs) (eg : g ≡ held js) where
@@ -48,12 +48,12 @@ module _ (F : List ℕ → List ℕ → Bool) (small : (rs js : List ℕ) → F 
       (λ h. h ∙ sym (by-test (F rs js)
       (λ k.
       let s = small rs js k in
-      let a : listed f ≡ rs = ap listed ef ∙ listed-held rs (omega (arith, s .1)) in
-      let b : listed g ≡ js = ap listed eg ∙ listed-held js (omega (arith, s .2)) in
+      let a : listed f ≡ rs = ap listed ef ∙ listed-held rs (s .1) in
+      let b : listed g ≡ js = ap listed eg ∙ listed-held js (s .2) in
       clash (ap (λ (x : List ℕ). F x (listed g)) a ∙ (ap (F rs) b ∙ k)) h)
       (λ k. k)))
 
-  pub judged-sizes : {b : Bool} → b ≡ F (listed f) (listed g) → not b ≡ false → (1 ≤ f .count) × (f .count ≤ 4)
+  pub judged-sizes : {b : Bool} → b ≡ F (listed f) (listed g) → not b ≡ false → (1 ≤ f .count) × (f .count ≤ 16)
   judged-sizes {b} e n =
       let s = small (listed f) (listed g) (sym e ∙ not-false b n) in
       (omega (arith, s .0, listed-length f), omega (arith, s .1, listed-length f))
@@ -71,15 +71,15 @@ passed-path : (a b c : Bool) → (a && b) && c ≡ true → b ≡ true
 passed-path a b c h = and-parts a b (and-parts (a && b) c h .0) .1
 
 module _ (limits : Limits) (own lowers highers regions firsts seconds : List ℕ) where
-  pub serial-small : (passing : List ℕ) → 3 ≤ limits .leastSpans → limits .mostSpans ≤ 4 → (rs js : List ℕ) → serialIn limits own lowers highers regions firsts seconds passing rs js ≡ true → Sized rs js
+  pub serial-small : (passing : List ℕ) → limits .mostSpans ≤ 16 → (rs js : List ℕ) → serialIn limits own lowers highers regions firsts seconds passing rs js ≡ true → Sized rs js
   unfolding serialIn
-  serial-small passing l m rs js h =
+  serial-small passing m rs js h =
       let q = passed-path (every (isOn passing) js) (pathIn lowers highers regions firsts seconds (limits .leastSpans) (limits .mostSpans) rs js)
       (le (chainIn firsts seconds own js) (limits .chain) && le (centreDistance (spanIn own (getD (endsIn firsts seconds rs js) 0 0)) (spanIn own (getD (endsIn firsts seconds rs js) 1 0))) (limits .chain)) h in
       let s = path-sizes lowers highers regions firsts seconds (limits .leastSpans) (limits .mostSpans) rs js q in
       (omega (arith, s .0), omega (arith, s .1), omega (arith, s .1, s .2))
 
-  pub flat-small : limits .mostSpans ≤ 4 → (rs js : List ℕ) → flatIn limits own lowers highers regions firsts seconds rs js ≡ true → Sized rs js
+  pub flat-small : limits .mostSpans ≤ 16 → (rs js : List ℕ) → flatIn limits own lowers highers regions firsts seconds rs js ≡ true → Sized rs js
   unfolding flatIn
   flat-small m rs js h =
       let p = and-parts (pathIn lowers highers regions firsts seconds leastFlatSpans (limits .mostSpans) rs js) (allAlikeIn limits own rs) h in

@@ -3,6 +3,7 @@ pub mod ArrayLaws
 pub mod ShapeLaws
 pub mod GroupLaws
 pub mod ValueLaws
+pub mod SumLaws
 pub mod AcceptLaws
 pub mod JudgeLaws
 pub mod WholeLaws

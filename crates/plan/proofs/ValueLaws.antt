@@ -45,55 +45,6 @@ span-fits {own} w e q = subst SpanBounded (sym (q ∙ ap (spanIn own) e)) (w .bo
 pub gap-number : (firsts seconds own : List ℕ) (k : ℕ) {x : Float} → x ≡ gapIn firsts seconds own k → Number x
 gap-number firsts seconds own k e = subst Number (sym e) (distance-number (spanIn own (at firsts k)) (spanIn own (at seconds k)))
 
-three : {A : Type 0} (G : ℕ → A) (s : ℕ → ℕ) (n : ℕ) → n ≤ 3 → take n (G (s 0) ∷ G (s 1) ∷ G (s 2) ∷ []) ≡ map G (map s (upFrom 0 n))
-unfolding upFrom
-three G s zero h = refl
-three G s (suc zero) h = refl
-three G s (suc (suc zero)) h = refl
-three G s (suc (suc (suc zero))) h = refl
-three G s (suc (suc (suc (suc n)))) h = absurd (omega arith)
-
-all-four : {A : Type 0} (G : ℕ → A) (s : ℕ → ℕ) (n : ℕ) → n ≤ 4 → take n (G (s 0) ∷ G (s 1) ∷ G (s 2) ∷ G (s 3) ∷ []) ≡ map G (map s (upFrom 0 n))
-unfolding upFrom
-all-four G s zero h = refl
-all-four G s (suc zero) h = refl
-all-four G s (suc (suc zero)) h = refl
-all-four G s (suc (suc (suc zero))) h = refl
-all-four G s (suc (suc (suc (suc zero)))) h = refl
-all-four G s (suc (suc (suc (suc (suc n))))) h = absurd (omega arith)
-
-pub chain-listed : (firsts seconds own : List ℕ) (f : Few) → f .count ≤ 3 → {x y z r : Float} →
-    x ≡ gapIn firsts seconds own (slot f 0) → y ≡ gapIn firsts seconds own (slot f 1) → z ≡ gapIn firsts seconds own (slot f 2) →
-    r ≡ ascendingSum (take (f .count) (x ∷ y ∷ z ∷ [])) → r ≡ chainIn firsts seconds own (listed f)
-unfolding chainIn listed
-chain-listed firsts seconds own f h {x} {y} {z} ex ey ez e =
-    e ∙ (ap (λ (t : Float). ascendingSum (take (f .count) (t ∷ y ∷ z ∷ []))) ex
-    ∙ (ap (λ (t : Float). ascendingSum (take (f .count) (gapIn firsts seconds own (slot f 0) ∷ t ∷ z ∷ []))) ey
-    ∙ (ap (λ (t : Float). ascendingSum (take (f .count) (gapIn firsts seconds own (slot f 0) ∷ gapIn firsts seconds own (slot f 1) ∷ t ∷ []))) ez
-    ∙ ap (λ (l : List Float). ascendingSum l) (three (gapIn firsts seconds own) (slot f) (f .count) h))))
-
-sum-number : (s : Span) (ms : List Span) → 0 < length ms → Number (distanceSum s ms)
-sum-number s [] h = absurd (omega arith)
-sum-number s (m ∷ ms) h = distance-sum-number s m ms
-
-pub sum-listed : (own : List ℕ) (f : Few) (i : ℕ) → 1 ≤ f .count → f .count ≤ 4 → {s a b c d : Span} {r : Float} →
-    s ≡ spanIn own i → a ≡ spanIn own (slot f 0) → b ≡ spanIn own (slot f 1) → c ≡ spanIn own (slot f 2) → d ≡ spanIn own (slot f 3) →
-    r ≡ distanceSum s (take (f .count) (a ∷ b ∷ c ∷ d ∷ [])) → (r ≡ sumIn own (listed f) i) × Number r
-unfolding sumIn listed
-sum-listed own f i l h {s} {a} {b} {c} {d} {r} es ea eb ec ed e = (whole, subst Number (sym whole) (sum-number (spanIn own i) (map (spanIn own) (listed f)) (omega (arith, length-map (listed f) (spanIn own), listed-length f))))
-  where
-    span : ℕ → Span
-    span j = spanIn own (slot f j)
-
-    whole : r ≡ distanceSum (spanIn own i) (map (spanIn own) (listed f))
-    whole =
-        e ∙ (ap (λ (t : Span). distanceSum t (take (f .count) (a ∷ b ∷ c ∷ d ∷ []))) es
-        ∙ (ap (λ (t : Span). distanceSum (spanIn own i) (take (f .count) (t ∷ b ∷ c ∷ d ∷ []))) ea
-        ∙ (ap (λ (t : Span). distanceSum (spanIn own i) (take (f .count) (span 0 ∷ t ∷ c ∷ d ∷ []))) eb
-        ∙ (ap (λ (t : Span). distanceSum (spanIn own i) (take (f .count) (span 0 ∷ span 1 ∷ t ∷ d ∷ []))) ec
-        ∙ (ap (λ (t : Span). distanceSum (spanIn own i) (take (f .count) (span 0 ∷ span 1 ∷ span 2 ∷ t ∷ []))) ed
-        ∙ ap (λ (l : List Span). distanceSum (spanIn own i) l) (all-four (spanIn own) (slot f) (f .count) h))))))
-
 pub least-listed : (bits : List ℕ) (f : Few) {k x : ℕ} → First totalLe (λ i. at bits (slot f i)) (f .count) k x → k ≡ 0 → x ≡ leastIn bits (listed f)
 unfolding leastIn listed
 least-listed bits f p e = first-end totalLe (λ i. at bits (slot f i)) (f .count) p e ∙ ap (λ (l : List ℕ). getD (sort totalLe l) 0 0) (sym (map-map (at bits) (slot f) (upFrom 0 (f .count))))
@@ -153,12 +104,12 @@ retained-none limits own bits g {f} e z h q =
     let k : eligibleIn limits bits (listed g) ≡ [] = none-left (eligibleIn limits bits (listed g)) (sym (held-count (eligibleIn limits bits (listed g)) e) ∙ z) in
     q ∙ (listed-first g h ∙ ap (λ (l : List ℕ). getD (sort (nearerIn own (listed g)) l) 0 (getD (listed g) 0 0)) (sym k))
 
-pub retained-some : (limits : Limits) (own bits : List ℕ) (g : Few) {f : Few} {r : ℕ} → f ≡ held (eligibleIn limits bits (listed g)) → g .count ≤ 4 → (f .count ≡ 0 → ⊥) →
+pub retained-some : (limits : Limits) (own bits : List ℕ) (g : Few) {f : Few} {r : ℕ} → f ≡ held (eligibleIn limits bits (listed g)) → g .count ≤ 16 → (f .count ≡ 0 → ⊥) →
     r ≡ getD (sort (nearerIn own (listed g)) (listed f)) 0 0 → r ≡ retainedIn limits own bits (listed g)
 unfolding retainedIn eligibleIn
 retained-some limits own bits g {f} {r} e h n q =
-    let few : length (eligibleIn limits bits (listed g)) ≤ 4 = omega (arith, keep-length (fineIn limits bits (ofBits binary64 (leastIn bits (listed g)))) (listed g), listed-length g) in
-    let same : listed f ≡ eligibleIn limits bits (listed g) = ap listed e ∙ listed-held (eligibleIn limits bits (listed g)) (omega (arith, few)) in
+    let few : length (eligibleIn limits bits (listed g)) ≤ 16 = omega (arith, keep-length (fineIn limits bits (ofBits binary64 (leastIn bits (listed g)))) (listed g), listed-length g) in
+    let same : listed f ≡ eligibleIn limits bits (listed g) = ap listed e ∙ listed-held (eligibleIn limits bits (listed g)) few in
     let some : 0 < length (eligibleIn limits bits (listed g)) = omega (arith, positive (f .count) n, held-count (eligibleIn limits bits (listed g)) e) in
     q ∙ (ap (λ (l : List ℕ). getD (sort (nearerIn own (listed g)) l) 0 0) same
     ∙ any-first (sort (nearerIn own (listed g)) (eligibleIn limits bits (listed g))) 0 (getD (listed g) 0 0) (sort-some (nearerIn own (listed g)) (eligibleIn limits bits (listed g)) some))

@@ -1,10 +1,11 @@
 -- Groups by arrays: rs are the ranks of a group, js the numbers of its links.
+use mathlib.Core.Path.{_≡_}
 use mathlib.Core.Bool.{Bool, not, _&&_}
 use mathlib.Core.List.{List, map}
 use Prim.Native.Nat.{ℕ, suc}
 use lib.Dec.{leb, eqb}
-use lib.Ieee.{Float, binary64, le, ofBits}
-use lib.ListN.{length, getD}
+use lib.Ieee.{Float, binary64, le, ofBits, toBits}
+use lib.ListN.{length, getD, take}
 use Rattle.lists.specs.Rows.{at}
 use Rattle.order.specs.Lists.{keep}
 use Rattle.order.specs.Sorting.{sort}
@@ -42,6 +43,11 @@ module _ (firsts seconds : List ℕ) where
   unfoldable pub chainIn : List ℕ → List ℕ → Float
   unfolding ascendingSum sumOf addedTo sort totalLe squares spanIn
   chainIn own js = ascendingSum (map (gapIn own) js)
+
+-- an array of sixteen, of which the first are the bits of the numbers of xs
+pub record BitsOf (f : ℕ → Float) (xs : List ℕ) (bits : List ℕ) : Type 0 where
+  pub size : length bits ≡ 16
+  pub first : take (length xs) bits ≡ map (λ k. toBits binary64 (f k)) xs
 
 module _ (lowers highers regions firsts seconds : List ℕ) where
   -- the region on the other side of an end

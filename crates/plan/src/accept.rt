@@ -28,7 +28,7 @@ pub fn accepts_serial(
     ranks: Few,
     links: Few,
 ) -> bool
-    requires { ⌜ (3 ≤ limits .«least_spans») × (limits .«most_spans» ≤ 4) × (ranks .count ≤ 256) × (links .count ≤ 256) × Ranks (now own) ranks × Links (now own) (now firsts) (now seconds) links × RankFits (now own) 0 ⌝ }
+    requires { ⌜ (limits .«most_spans» ≤ 16) × (ranks .count ≤ 256) × (links .count ≤ 256) × Ranks (now own) ranks × Links (now own) (now firsts) (now seconds) links × RankFits (now own) 0 ⌝ }
     ensures { λ r. ⌜ r ≡ serialIn (limitsOf limits) (now (own .entry)) (now (lowers .entry)) (now (highers .entry)) (now (regions .entry)) (now (firsts .entry)) (now (seconds .entry)) (now (passing .entry)) (listed ranks) (listed links) ⌝ }
 {
     let pass = all_on(passing, links);

@@ -1,15 +1,17 @@
 // The sum of a group's centre distances.
 ghost use mathlib.Core.Path.{_≡_};
 ghost use Prim.Native.Nat.{_≤_};
+ghost use lib.ListN.{length};
 ghost use Rattle.areas.specs.Spans.{spanIn};
 ghost use Rattle.links.specs.Geometry.{centreDistance};
 ghost use Rattle.plan.specs.Few.{listed};
-ghost use Rattle.plan.specs.Shape.{gapIn, chainIn};
+ghost use Rattle.plan.specs.Shape.{gapIn, chainIn, BitsOf};
 ghost use Rattle.plan.specs.Fitting.{RankFits, LinkFits, Links};
 use crate::few::Few;
 use links::geometry::centre_distance;
-use links::sums::ascending_sum;
+use links::sums::sum_of_bits;
 use marking::spans::span_at;
+use sorting::numbers::sort_keys;
 use wire::size;
 
 // How far apart the centres of two ranks are.
@@ -27,13 +29,35 @@ fn gap(own: &[u32; 1024], firsts: &[u32; 256], seconds: &[u32; 256], k: usize) -
     rank_distance(own, size(firsts[k]), size(seconds[k]))
 }
 
-// Of two links or three, in ascending order.
+// The bits of the links' distances, in their order.
+fn fill_gaps(
+    own: &[u32; 1024],
+    firsts: &[u32; 256],
+    seconds: &[u32; 256],
+    links: Few,
+    gaps: &mut [u64; 16],
+)
+    requires { ⌜ (links .count ≤ 16) × Links (now own) (now firsts) (now seconds) links × (length (now gaps) ≡ 16) ⌝ }
+    ensures { λ _. ⌜ BitsOf (gapIn (now (firsts .entry)) (now (seconds .entry)) (now (own .entry))) (listed links) (now (gaps .exit)) ⌝ }
+{
+    let mut j: u32 = 0;
+    while j < links.count {
+        let at = size(j);
+        let k = links.index(j);
+        gaps[at] = f64::to_bits(gap(own, firsts, seconds, k));
+        j += 1;
+    }
+}
+
+// The links' distances, added up from the least; their bits are in the order of the numbers, for none is negative.
 pub fn chain_sum(own: &[u32; 1024], firsts: &[u32; 256], seconds: &[u32; 256], links: Few) -> f64
-    requires { ⌜ (2 ≤ links .count) × (links .count ≤ 3) × Links (now own) (now firsts) (now seconds) links ⌝ }
+    requires { ⌜ (1 ≤ links .count) × (links .count ≤ 16) × Links (now own) (now firsts) (now seconds) links ⌝ }
     ensures { λ r. ⌜ r ≡ chainIn (now (firsts .entry)) (now (seconds .entry)) (now (own .entry)) (listed links) ⌝ }
 {
-    let x = gap(own, firsts, seconds, links.index(0));
-    let y = gap(own, firsts, seconds, links.index(1));
-    let z = gap(own, firsts, seconds, links.index(2));
-    ascending_sum(links.count, x, y, z)
+    let mut gaps = [0u64; 16];
+    fill_gaps(own, firsts, seconds, links, &mut gaps);
+    let count = size(links.count);
+    let mut spare = [0u64; 16];
+    sort_keys(&mut gaps, &mut spare, 0, count);
+    sum_of_bits(&gaps, count)
 }

@@ -54,7 +54,7 @@ fn one_serial(
     into: &[u32; 256],
     i: usize,
 ) -> u32
-    requires { ⌜ (3 ≤ limits .«least_spans») × (limits .«most_spans» ≤ 4) × Safe n (now own) (now bits) (now firsts) (now seconds) links × (i < 256) × Filled (serialInto (limitsOf limits) n (now own) (now bits) (now lowers) (now highers) (now regions) (now firsts) (now seconds) links (now passing) (now chosen) (now joined) (now parts)) i (now into) ⌝ }
+    requires { ⌜ (limits .«most_spans» ≤ 16) × Safe n (now own) (now bits) (now firsts) (now seconds) links × (i < 256) × Filled (serialInto (limitsOf limits) n (now own) (now bits) (now lowers) (now highers) (now regions) (now firsts) (now seconds) links (now passing) (now chosen) (now joined) (now parts)) i (now into) ⌝ }
     ensures { λ r. ⌜ r ≡ serialInto (limitsOf limits) n (now (own .entry)) (now (bits .entry)) (now (lowers .entry)) (now (highers .entry)) (now (regions .entry)) (now (firsts .entry)) (now (seconds .entry)) links (now (passing .entry)) (now (chosen .entry)) (now (joined .entry)) (now (parts .entry)) i ⌝ }
 {
     if joined[i] != 1 {
@@ -102,7 +102,7 @@ pub fn into_serial(
     parts: &[u32; 256],
     into: &mut [u32; 256],
 )
-    requires { ⌜ (3 ≤ limits .«least_spans») × (limits .«most_spans» ≤ 4) × Safe n (now own) (now bits) (now firsts) (now seconds) links × (length (now into) ≡ 256) ⌝ }
+    requires { ⌜ (limits .«most_spans» ≤ 16) × Safe n (now own) (now bits) (now firsts) (now seconds) links × (length (now into) ≡ 256) ⌝ }
     ensures { λ r. ⌜ Filled (serialInto (limitsOf limits) n (now (own .entry)) (now (bits .entry)) (now (lowers .entry)) (now (highers .entry)) (now (regions .entry)) (now (firsts .entry)) (now (seconds .entry)) links (now (passing .entry)) (now (chosen .entry)) (now (joined .entry)) (now (parts .entry))) n (now (into .exit)) ⌝ }
 {
     let mut i: usize = 0;
@@ -147,7 +147,7 @@ fn one_flat(
     into: &[u32; 256],
     i: usize,
 ) -> u32
-    requires { ⌜ (limits .«most_spans» ≤ 4) × Safe n (now own) (now bits) (now firsts) (now seconds) links × (i < 256) × Filled (flatInto (limitsOf limits) n (now own) (now bits) (now lowers) (now highers) (now regions) (now firsts) (now seconds) links (now chosen) (now joined) (now parts)) i (now into) ⌝ }
+    requires { ⌜ (limits .«most_spans» ≤ 16) × Safe n (now own) (now bits) (now firsts) (now seconds) links × (i < 256) × Filled (flatInto (limitsOf limits) n (now own) (now bits) (now lowers) (now highers) (now regions) (now firsts) (now seconds) links (now chosen) (now joined) (now parts)) i (now into) ⌝ }
     ensures { λ r. ⌜ r ≡ flatInto (limitsOf limits) n (now (own .entry)) (now (bits .entry)) (now (lowers .entry)) (now (highers .entry)) (now (regions .entry)) (now (firsts .entry)) (now (seconds .entry)) links (now (chosen .entry)) (now (joined .entry)) (now (parts .entry)) i ⌝ }
 {
     if joined[i] != 1 {
@@ -193,7 +193,7 @@ pub fn into_flat(
     parts: &[u32; 256],
     into: &mut [u32; 256],
 )
-    requires { ⌜ (limits .«most_spans» ≤ 4) × Safe n (now own) (now bits) (now firsts) (now seconds) links × (length (now into) ≡ 256) ⌝ }
+    requires { ⌜ (limits .«most_spans» ≤ 16) × Safe n (now own) (now bits) (now firsts) (now seconds) links × (length (now into) ≡ 256) ⌝ }
     ensures { λ r. ⌜ Filled (flatInto (limitsOf limits) n (now (own .entry)) (now (bits .entry)) (now (lowers .entry)) (now (highers .entry)) (now (regions .entry)) (now (firsts .entry)) (now (seconds .entry)) links (now (chosen .entry)) (now (joined .entry)) (now (parts .entry))) n (now (into .exit)) ⌝ }
 {
     let mut i: usize = 0;

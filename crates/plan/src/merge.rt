@@ -48,7 +48,7 @@ fn serial_plan(
     passing: &[u8; 256],
     into: &mut [u32; 256],
 )
-    requires { ⌜ (3 ≤ limits .«least_spans») × (limits .«most_spans» ≤ 4) × Safe n (now own) (now bits) (now firsts) (now seconds) links × (length (now into) ≡ 256) ⌝ }
+    requires { ⌜ (limits .«most_spans» ≤ 16) × Safe n (now own) (now bits) (now firsts) (now seconds) links × (length (now into) ≡ 256) ⌝ }
     ensures { λ r. ⌜ SerialPlan (limitsOf limits) n (now (own .entry)) (now (bits .entry)) (now (lowers .entry)) (now (highers .entry)) (now (regions .entry)) (now (firsts .entry)) (now (seconds .entry)) links (now (marks .entry)) (now (passing .entry)) (now (into .exit)) ⌝ }
 {
     let mut chosen = [0u8; 256];
@@ -91,7 +91,7 @@ fn flat_plan(
     serial: &[u32; 256],
     into: &mut [u32; 256],
 )
-    requires { ⌜ (limits .«most_spans» ≤ 4) × Safe n (now own) (now bits) (now firsts) (now seconds) links × (length (now into) ≡ 256) ⌝ }
+    requires { ⌜ (limits .«most_spans» ≤ 16) × Safe n (now own) (now bits) (now firsts) (now seconds) links × (length (now into) ≡ 256) ⌝ }
     ensures { λ r. ⌜ FlatPlan (limitsOf limits) n (now (own .entry)) (now (bits .entry)) (now (lowers .entry)) (now (highers .entry)) (now (regions .entry)) (now (firsts .entry)) (now (seconds .entry)) links (now (flat .entry)) (now (serial .entry)) (now (into .exit)) ⌝ }
 {
     let mut chosen = [0u8; 256];
@@ -143,7 +143,7 @@ fn linked_plan(
     flat: &[u8; 256],
     into: &mut [u32; 256],
 )
-    requires { ⌜ (3 ≤ limits .«least_spans») × (limits .«most_spans» ≤ 4) × Safe n (now own) (now bits) (now firsts) (now seconds) links × (length (now into) ≡ 256) ⌝ }
+    requires { ⌜ (limits .«most_spans» ≤ 16) × Safe n (now own) (now bits) (now firsts) (now seconds) links × (length (now into) ≡ 256) ⌝ }
     ensures { λ r. ⌜ PlanOf (limitsOf limits) n (now (own .entry)) (now (bits .entry)) (now (lowers .entry)) (now (highers .entry)) (now (regions .entry)) (now (firsts .entry)) (now (seconds .entry)) links (now (marks .entry)) (now (passing .entry)) (now (flat .entry)) (now (into .exit)) ⌝ }
 {
     let mut serial = [0u32; 256];
@@ -198,7 +198,7 @@ pub fn merge_plan(
     flat: &[u8; 256],
     into: &mut [u32; 256],
 )
-    requires { ⌜ (3 ≤ limits .«least_spans») × (limits .«most_spans» ≤ 4) × Plannable n (now own) (now bits) (now firsts) (now seconds) links × (length (now into) ≡ 256) ⌝ }
+    requires { ⌜ (limits .«most_spans» ≤ 16) × Plannable n (now own) (now bits) (now firsts) (now seconds) links × (length (now into) ≡ 256) ⌝ }
     ensures { λ r. ⌜ PlanOf (limitsOf limits) n (now (own .entry)) (now (bits .entry)) (now (lowers .entry)) (now (highers .entry)) (now (regions .entry)) (now (firsts .entry)) (now (seconds .entry)) links (now (marks .entry)) (now (passing .entry)) (now (flat .entry)) (now (into .exit)) ⌝ }
 {
     if n == 0 {

@@ -11,14 +11,13 @@ ghost use Rattle.links.specs.HeldLimits.{limitsOf};
 ghost use Rattle.plan.specs.Few.{held, listed};
 ghost use Rattle.plan.specs.Shape.{leastIn, sumIn, nearerIn, fineIn, retainedIn};
 ghost use Rattle.plan.specs.Fitting.{RankFits, WidthFits, Ranks, Widths};
+use crate::chain::rank_distance;
 use crate::few::Few;
 use length::floats::total_le;
 use links::geometry::width_of;
 use links::limits::Limits;
 use links::limits::Member;
-use links::sums::distance_sum;
 use links::sums::no_later;
-use marking::spans::span_at;
 
 // The pattern that comes no later by totalOrder, of two widths.
 fn lesser(a: u64, b: u64) -> u64
@@ -71,19 +70,21 @@ fn eligible(limits: Limits, bits: &[u64; 256], least: f64, ranks: Few) -> Few
 
 // The sum of the distances from rank i to all the ranks.
 fn sum_from(own: &[u32; 1024], ranks: Few, i: usize) -> f64
-    requires { ⌜ (1 ≤ ranks .count) × (ranks .count ≤ 4) × Ranks (now own) ranks × RankFits (now own) i ⌝ }
+    requires { ⌜ (1 ≤ ranks .count) × Ranks (now own) ranks × RankFits (now own) i ⌝ }
     ensures { λ r. ⌜ (r ≡ sumIn (now (own .entry)) (listed ranks) i) × Number r ⌝ }
 {
-    let a = span_at(own, ranks.index(0));
-    let b = span_at(own, ranks.index(1));
-    let c = span_at(own, ranks.index(2));
-    let d = span_at(own, ranks.index(3));
-    distance_sum(span_at(own, i), ranks.count, a, b, c, d)
+    let mut total = rank_distance(own, i, ranks.index(0));
+    let mut j: u32 = 1;
+    while j < ranks.count {
+        total = total + rank_distance(own, i, ranks.index(j));
+        j += 1;
+    }
+    total
 }
 
 // The one of the lesser sum, the first if they are the same.
 fn nearer(own: &[u32; 1024], ranks: Few, i: usize, j: usize) -> usize
-    requires { ⌜ (1 ≤ ranks .count) × (ranks .count ≤ 4) × Ranks (now own) ranks × RankFits (now own) i × RankFits (now own) j ⌝ }
+    requires { ⌜ (1 ≤ ranks .count) × Ranks (now own) ranks × RankFits (now own) i × RankFits (now own) j ⌝ }
     ensures { λ r. ⌜ (r ≡ cond (nearerIn (now (own .entry)) (listed ranks) i j) i j) × RankFits (now (own .entry)) r ⌝ }
 {
     let x = sum_from(own, ranks, i);
@@ -93,7 +94,7 @@ fn nearer(own: &[u32; 1024], ranks: Few, i: usize, j: usize) -> usize
 
 // Of some ranks the one with the least sum of distances to all the ranks, the earliest of such.
 fn nearest(own: &[u32; 1024], ranks: Few, among: Few) -> usize
-    requires { ⌜ (1 ≤ ranks .count) × (ranks .count ≤ 4) × (1 ≤ among .count) × Ranks (now own) ranks × Ranks (now own) among ⌝ }
+    requires { ⌜ (1 ≤ ranks .count) × (1 ≤ among .count) × Ranks (now own) ranks × Ranks (now own) among ⌝ }
     ensures { λ r. ⌜ (r ≡ getD (sort (nearerIn (now (own .entry)) (listed ranks)) (listed among)) 0 0) × (r < 256) ⌝ }
 {
     let mut j = among.count - 1;
@@ -107,7 +108,7 @@ fn nearest(own: &[u32; 1024], ranks: Few, among: Few) -> usize
 
 // The retained rank of a group.
 pub fn representative(limits: Limits, own: &[u32; 1024], bits: &[u64; 256], ranks: Few) -> usize
-    requires { ⌜ (1 ≤ ranks .count) × (ranks .count ≤ 4) × Ranks (now own) ranks × Widths (now bits) ranks × RankFits (now own) 0 ⌝ }
+    requires { ⌜ (1 ≤ ranks .count) × (ranks .count ≤ 16) × Ranks (now own) ranks × Widths (now bits) ranks × RankFits (now own) 0 ⌝ }
     ensures { λ r. ⌜ (r ≡ retainedIn (limitsOf limits) (now (own .entry)) (now (bits .entry)) (listed ranks)) × (r < 256) ⌝ }
 {
     let least = width_of(least_bits(bits, ranks));

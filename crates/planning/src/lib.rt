@@ -109,7 +109,7 @@ pub fn plan_merges(
     marks: &[u8; 256],
     into: &mut [u32; 256],
 )
-    requires { ⌜ (3 ≤ limits .«least_spans») × (limits .«most_spans» ≤ 4) × Ready (now job) «bases_at» bases (now cells) width height n (now own) (now bits) (now ramps) (now work) (now removed) (now separated) (now owners) (now lefts) (now rights) records × (length (now into) ≡ 256) ⌝ }
+    requires { ⌜ (limits .«most_spans» ≤ 16) × Ready (now job) «bases_at» bases (now cells) width height n (now own) (now bits) (now ramps) (now work) (now removed) (now separated) (now owners) (now lefts) (now rights) records × (length (now into) ≡ 256) ⌝ }
     ensures work { λ _. ⌜ now (work .exit) ≡ now (work .entry) ⌝ }
     ensures plan { λ _. ⌜ PlanFrom (limitsOf limits) (now (job .entry)) «bases_at» bases (mapOf width height (now (cells .entry))) n (now (own .entry)) (now (bits .entry)) (now (ramps .entry)) (labelsIn (now (work .entry)) (length (now (cells .entry)))) (now (removed .entry)) (now (separated .entry)) (now (owners .entry)) (now (lefts .entry)) (now (rights .entry)) records (now (marks .entry)) (now (into .exit)) ⌝ }
 {

@@ -11,7 +11,7 @@ measured-links-requires : tie.Need-measured-links-requires
 measured-links-requires c κs = search needs
 
 merge-plan-requires : tie.Need-merge-plan-requires
-merge-plan-requires c κs = let p = c .before .before .before .before .before .before .before .before .before .before .before .before .before .before .before .before .before .before .before .before .before .before .before .before .before .pre in (p .0, p .1, fit (p .2) (c .before .before .before .before .before .before .before .before .before .before .measured-links .ensures .1 .ranked), p .3)
+merge-plan-requires c κs = let p = c .before .before .before .before .before .before .before .before .before .before .before .before .before .before .before .before .before .before .before .before .before .before .before .before .before .pre in (p .0, fit (p .1) (c .before .before .before .before .before .before .before .before .before .before .measured-links .ensures .1 .ranked), p .2)
 
 same-length : tie.Need-same-length
 same-length c = search needs

@@ -2,7 +2,7 @@ use native.Mathlib.Omega.{arith}
 use mathlib.Core.Path.{refl}
 use Rattle.analysis.proofs.Headed.{headed-laid, headed-cells}
 use Rattle.analysis.proofs.Mapped.{map-inside}
-use Rattle.analysis.proofs.Merges.{plan-records, least-three, most-four, ready, planned-as, own-array, widths-array, ramps-array}
+use Rattle.analysis.proofs.Merges.{plan-records, most-few, ready, planned-as, own-array, widths-array, ramps-array}
 use borrow.Author.Needs.{needs}
 use Rattle.analysis.proofs.drawing.plan_listing.Statement.{statement}
 use Rattle.analysis.proofs.drawing.plan_listing.Tie as tie
@@ -58,7 +58,7 @@ part-plan-merges-end : tie.Need-part-plan-merges-end
 part-plan-merges-end c = omega (arith, map-inside (c .before .before .before .before .before .before .before .before .before .before .before .before .before .before .before .before .before .before .before .before .pre .0 .headed .header) (headed-laid (c .before .before .before .before .before .before .before .before .before .before .before .before .before .before .before .before .before .before .before .before .pre .0 .headed)) _ (c .before .before .before .before .before .before .before .before .before .before .before .size .ensures .0))
 
 plan-merges-requires : tie.Need-plan-merges-requires
-plan-merges-requires c κs = let p = c .before .before .before .before .before .before .before .before .before .before .before .before .before .before .before .before .before .before .before .before .before .before .before .before .before .before .pre .0 in let a = c .before .before .before .before .before .before .before .before .before .before .before .before .before .before .before .size3 .ensures .0 in let n = c .before .before .before .before .before .before .before .before .before .before .before .before .before .before .before .before .size2 .ensures .0 in (least-three (c .before .before .before .before .before .before .before .before .of-000 .ensures), most-four (c .before .before .before .before .before .before .before .before .of-000 .ensures), ready p (own-array p a n (c .before .before .before .before .before .before .before .before .before .before .before .before .before .fill-spans .ensures)) (widths-array p a n (c .before .before .before .before .before .before .before .before .before .before .before .fill-widths .ensures)) (ramps-array p a n (c .before .before .before .before .before .before .before .before .before .fill-ramps .ensures)) (c .before .before .before .before .before .before .before .before .before .before .before .before .before .before .before .before .before .before .before .before .before .before .before .before .before .before .pre .1 .are) _ _ _ (c .before .before .before .before .before .before .before .size4 .ensures .0) (c .before .before .before .before .before .before .size5 .ensures .0) n _ (c .before .before .before .before .before .before .before .before .before .before .before .before .before .before .before .before .before .size .ensures .0) (c .before .before .before .before .before .before .before .before .before .before .before .before .before .before .before .before .before .before .before .before .before .before .before .before .before .before .pre .2), c .before .before .before .before .before .before .before .before .before .before .before .before .before .before .before .before .before .before .before .before .before .before .before .before .before .before .pre .3)
+plan-merges-requires c κs = let p = c .before .before .before .before .before .before .before .before .before .before .before .before .before .before .before .before .before .before .before .before .before .before .before .before .before .before .pre .0 in let a = c .before .before .before .before .before .before .before .before .before .before .before .before .before .before .before .size3 .ensures .0 in let n = c .before .before .before .before .before .before .before .before .before .before .before .before .before .before .before .before .size2 .ensures .0 in (most-few (c .before .before .before .before .before .before .before .before .of-000 .ensures), ready p (own-array p a n (c .before .before .before .before .before .before .before .before .before .before .before .before .before .fill-spans .ensures)) (widths-array p a n (c .before .before .before .before .before .before .before .before .before .before .before .fill-widths .ensures)) (ramps-array p a n (c .before .before .before .before .before .before .before .before .before .fill-ramps .ensures)) (c .before .before .before .before .before .before .before .before .before .before .before .before .before .before .before .before .before .before .before .before .before .before .before .before .before .before .pre .1 .are) _ _ _ (c .before .before .before .before .before .before .before .size4 .ensures .0) (c .before .before .before .before .before .before .size5 .ensures .0) n _ (c .before .before .before .before .before .before .before .before .before .before .before .before .before .before .before .before .before .size .ensures .0) (c .before .before .before .before .before .before .before .before .before .before .before .before .before .before .before .before .before .before .before .before .before .before .before .before .before .before .pre .2), c .before .before .before .before .before .before .before .before .before .before .before .before .before .before .before .before .before .before .before .before .before .before .before .before .before .before .pre .3)
 
 same-length : tie.Need-same-length
 same-length c = search needs

@@ -24,28 +24,28 @@ use Rattle.plan.proofs.path.group_end_nodes.Reads as group-end-nodes-re
 use Rattle.plan.proofs.path.group_is_simple_path.Reads as group-is-simple-path-reads
 
 all-on-requires : tie.Need-all-on-requires
-all-on-requires c κs = λ j. c .pre .5 j .below
+all-on-requires c κs = λ j. c .pre .4 j .below
 
 group-is-simple-path-requires : tie.Need-group-is-simple-path-requires
-group-is-simple-path-requires c κs = (c .before .pre .2, c .before .pre .3, λ j. c .before .pre .4 j .below, λ j. c .before .pre .5 j .below)
+group-is-simple-path-requires c κs = (c .before .pre .1, c .before .pre .2, λ j. c .before .pre .3 j .below, λ j. c .before .pre .4 j .below)
 
 returns : tie.Need-returns
 returns c = serial-no (limitsOf (c .before .before .before .args .limits)) (c .before .before .before .args .own .now) (c .before .before .before .args .lowers .now) (c .before .before .before .args .highers .now) (c .before .before .before .args .regions .now) (c .before .before .before .args .firsts .now) (c .before .before .before .args .seconds .now) (c .before .before .before .args .passing .now) (listed (c .before .before .before .args .ranks)) (listed (c .before .before .before .args .links)) (c .before .before .all-on .ensures) (c .before .group-is-simple-path .ensures) (c .if1 .taken)
 
 group-end-nodes-requires : tie.Need-group-end-nodes-requires
-group-end-nodes-requires c κs = (c .before .before .before .pre .2, c .before .before .before .pre .3, λ j. c .before .before .before .pre .5 j .below)
+group-end-nodes-requires c κs = (c .before .before .before .pre .1, c .before .before .before .pre .2, λ j. c .before .before .before .pre .4 j .below)
 
 chain-sum-requires : tie.Need-chain-sum-requires
-chain-sum-requires c κs = let s = path-sizes (c .before .before .before .before .args .lowers .now) (c .before .before .before .before .args .highers .now) (c .before .before .before .before .args .regions .now) (c .before .before .before .before .args .firsts .now) (c .before .before .before .before .args .seconds .now) (limitsOf (c .before .before .before .before .args .limits) .leastSpans) (limitsOf (c .before .before .before .before .args .limits) .mostSpans) (listed (c .before .before .before .before .args .ranks)) (listed (c .before .before .before .before .args .links)) (serial-path (limitsOf (c .before .before .before .before .args .limits)) (c .before .before .before .before .args .own .now) (c .before .before .before .before .args .lowers .now) (c .before .before .before .before .args .highers .now) (c .before .before .before .before .args .regions .now) (c .before .before .before .before .args .firsts .now) (c .before .before .before .before .args .seconds .now) (c .before .before .before .all-on .result) (listed (c .before .before .before .before .args .ranks)) (listed (c .before .before .before .before .args .links)) (c .before .before .group-is-simple-path .ensures) (c .before .if1 .left)) in (omega (arith, s .0, s .2, c .before .before .before .before .pre .0, listed-length (c .before .before .before .before .args .links)), omega (arith, s .1, s .2, c .before .before .before .before .pre .1, listed-length (c .before .before .before .before .args .links)), c .before .before .before .before .pre .5)
+chain-sum-requires c κs = let s = path-sizes (c .before .before .before .before .args .lowers .now) (c .before .before .before .before .args .highers .now) (c .before .before .before .before .args .regions .now) (c .before .before .before .before .args .firsts .now) (c .before .before .before .before .args .seconds .now) (limitsOf (c .before .before .before .before .args .limits) .leastSpans) (limitsOf (c .before .before .before .before .args .limits) .mostSpans) (listed (c .before .before .before .before .args .ranks)) (listed (c .before .before .before .before .args .links)) (serial-path (limitsOf (c .before .before .before .before .args .limits)) (c .before .before .before .before .args .own .now) (c .before .before .before .before .args .lowers .now) (c .before .before .before .before .args .highers .now) (c .before .before .before .before .args .regions .now) (c .before .before .before .before .args .firsts .now) (c .before .before .before .before .args .seconds .now) (c .before .before .before .all-on .result) (listed (c .before .before .before .before .args .ranks)) (listed (c .before .before .before .before .args .links)) (c .before .before .group-is-simple-path .ensures) (c .before .if1 .left)) in (omega (arith, s .0, s .2, listed-length (c .before .before .before .before .args .links)), omega (arith, s .1, s .2, c .before .before .before .before .pre .0, listed-length (c .before .before .before .before .args .links)), c .before .before .before .before .pre .4)
 
 index-requires : tie.Need-index-requires
-index-requires c κs = (ends-slots (RankFits (c .before .before .before .before .before .args .own .now)) (c .before .before .before .before .before .args .firsts .now) (c .before .before .before .before .before .args .seconds .now) (listed (c .before .before .before .before .before .args .links)) (c .before .before .before .before .before .args .ranks) (c .before .group-end-nodes .ensures) (c .before .before .before .before .before .pre .4) (c .before .before .before .before .before .pre .6) 0) .below
+index-requires c κs = (ends-slots (RankFits (c .before .before .before .before .before .args .own .now)) (c .before .before .before .before .before .args .firsts .now) (c .before .before .before .before .before .args .seconds .now) (listed (c .before .before .before .before .before .args .links)) (c .before .before .before .before .before .args .ranks) (c .before .group-end-nodes .ensures) (c .before .before .before .before .before .pre .3) (c .before .before .before .before .before .pre .5) 0) .below
 
 index-requires-2 : tie.Need-index-requires-2
-index-requires-2 c κs = (ends-slots (RankFits (c .before .before .before .before .before .before .args .own .now)) (c .before .before .before .before .before .before .args .firsts .now) (c .before .before .before .before .before .before .args .seconds .now) (listed (c .before .before .before .before .before .before .args .links)) (c .before .before .before .before .before .before .args .ranks) (c .before .before .group-end-nodes .ensures) (c .before .before .before .before .before .before .pre .4) (c .before .before .before .before .before .before .pre .6) 1) .below
+index-requires-2 c κs = (ends-slots (RankFits (c .before .before .before .before .before .before .args .own .now)) (c .before .before .before .before .before .before .args .firsts .now) (c .before .before .before .before .before .before .args .seconds .now) (listed (c .before .before .before .before .before .before .args .links)) (c .before .before .before .before .before .before .args .ranks) (c .before .before .group-end-nodes .ensures) (c .before .before .before .before .before .before .pre .3) (c .before .before .before .before .before .before .pre .5) 1) .below
 
 rank-distance-requires : tie.Need-rank-distance-requires
-rank-distance-requires c κs = (subst (RankFits (c .before .before .before .before .before .before .before .args .own .now)) (sym (c .before .index .ensures .0)) (ends-slots (RankFits (c .before .before .before .before .before .before .before .args .own .now)) (c .before .before .before .before .before .before .before .args .firsts .now) (c .before .before .before .before .before .before .before .args .seconds .now) (listed (c .before .before .before .before .before .before .before .args .links)) (c .before .before .before .before .before .before .before .args .ranks) (c .before .before .before .group-end-nodes .ensures) (c .before .before .before .before .before .before .before .pre .4) (c .before .before .before .before .before .before .before .pre .6) 0), subst (RankFits (c .before .before .before .before .before .before .before .args .own .now)) (sym (c .index2 .ensures .0)) (ends-slots (RankFits (c .before .before .before .before .before .before .before .args .own .now)) (c .before .before .before .before .before .before .before .args .firsts .now) (c .before .before .before .before .before .before .before .args .seconds .now) (listed (c .before .before .before .before .before .before .before .args .links)) (c .before .before .before .before .before .before .before .args .ranks) (c .before .before .before .group-end-nodes .ensures) (c .before .before .before .before .before .before .before .pre .4) (c .before .before .before .before .before .before .before .pre .6) 1))
+rank-distance-requires c κs = (subst (RankFits (c .before .before .before .before .before .before .before .args .own .now)) (sym (c .before .index .ensures .0)) (ends-slots (RankFits (c .before .before .before .before .before .before .before .args .own .now)) (c .before .before .before .before .before .before .before .args .firsts .now) (c .before .before .before .before .before .before .before .args .seconds .now) (listed (c .before .before .before .before .before .before .before .args .links)) (c .before .before .before .before .before .before .before .args .ranks) (c .before .before .before .group-end-nodes .ensures) (c .before .before .before .before .before .before .before .pre .3) (c .before .before .before .before .before .before .before .pre .5) 0), subst (RankFits (c .before .before .before .before .before .before .before .args .own .now)) (sym (c .index2 .ensures .0)) (ends-slots (RankFits (c .before .before .before .before .before .before .before .args .own .now)) (c .before .before .before .before .before .before .before .args .firsts .now) (c .before .before .before .before .before .before .before .args .seconds .now) (listed (c .before .before .before .before .before .before .before .args .links)) (c .before .before .before .before .before .before .before .args .ranks) (c .before .before .before .group-end-nodes .ensures) (c .before .before .before .before .before .before .before .pre .3) (c .before .before .before .before .before .before .before .pre .5) 1))
 
 short-requires : tie.Need-short-requires
 short-requires c κs = search needs

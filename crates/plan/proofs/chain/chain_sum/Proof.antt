@@ -1,49 +1,62 @@
-use mathlib.Core.Path.{sym, _∙_, ap}
-use mathlib.Core.Path.{subst}
-use Rattle.plan.specs.Fitting.{LinkFits}
-use Rattle.plan.specs.Shape.{gapIn}
-use Rattle.plan.proofs.ValueLaws.{gap-number, chain-listed}
+use native.Mathlib.Omega.{arith}
+use borrow.Author.Needs.{needs}
+use Rattle.plan.proofs.SumLaws.{chain-size, chain-patterns, chain-added}
 use Rattle.plan.proofs.chain.chain_sum.Statement.{statement}
 use Rattle.plan.proofs.chain.chain_sum.Tie as tie
-use Rattle.plan.proofs.chain.chain_sum.Reads as reads
-use Rattle.plan.proofs.chain.chain_sum.Lts as lts
-use Rattle.links.proofs.sums.ascending_sum.Reads as ascending-sum-reads
-use Rattle.plan.proofs.chain.gap.Reads as gap-reads
-use Rattle.plan.proofs.few.Few.index.Reads as index-reads
 
-index-requires : tie.Need-index-requires
-index-requires c κs = c .pre .2 0 .below
+fill-gaps-requires : tie.Need-fill-gaps-requires
+fill-gaps-requires c κs = search needs
 
-gap-requires : tie.Need-gap-requires
-gap-requires c κs = subst (LinkFits (c .before .args .own .now) (c .before .args .firsts .now) (c .before .args .seconds .now)) (sym (c .index .ensures .0)) (c .before .pre .2 0)
+size-requires : tie.Need-size-requires
+size-requires c κs = search needs
 
-index-requires-2 : tie.Need-index-requires-2
-index-requires-2 c κs = c .before .before .pre .2 1 .below
+slice-aggregate-sort-keys : tie.Need-slice-aggregate-sort-keys
+slice-aggregate-sort-keys c = search needs
 
-gap-requires-2 : tie.Need-gap-requires-2
-gap-requires-2 c κs = subst (LinkFits (c .before .before .before .args .own .now) (c .before .before .before .args .firsts .now) (c .before .before .before .args .seconds .now)) (sym (c .index2 .ensures .0)) (c .before .before .before .pre .2 1)
+slice-aggregate-sort-keys-2 : tie.Need-slice-aggregate-sort-keys-2
+slice-aggregate-sort-keys-2 c = search needs
 
-index-requires-3 : tie.Need-index-requires-3
-index-requires-3 c κs = c .before .before .before .before .pre .2 2 .below
+sort-keys-requires : tie.Need-sort-keys-requires
+sort-keys-requires c κs = search needs
 
-gap-requires-3 : tie.Need-gap-requires-3
-gap-requires-3 c κs = subst (LinkFits (c .before .before .before .before .before .args .own .now) (c .before .before .before .before .before .args .firsts .now) (c .before .before .before .before .before .args .seconds .now)) (sym (c .index3 .ensures .0)) (c .before .before .before .before .before .pre .2 2)
+slice-aggregate-sum-of-bits : tie.Need-slice-aggregate-sum-of-bits
+slice-aggregate-sum-of-bits c = search needs
 
-ascending-sum-requires : tie.Need-ascending-sum-requires
-ascending-sum-requires c κs = (c .before .before .before .before .before .before .pre .0, c .before .before .before .before .before .before .pre .1, gap-number (c .before .before .before .before .before .before .args .firsts .now) (c .before .before .before .before .before .before .args .seconds .now) (c .before .before .before .before .before .before .args .own .now) (c .before .before .before .before .before .index .result) (c .before .before .before .before .gap .ensures), gap-number (c .before .before .before .before .before .before .args .firsts .now) (c .before .before .before .before .before .before .args .seconds .now) (c .before .before .before .before .before .before .args .own .now) (c .before .before .before .index2 .result) (c .before .before .gap2 .ensures), gap-number (c .before .before .before .before .before .before .args .firsts .now) (c .before .before .before .before .before .before .args .seconds .now) (c .before .before .before .before .before .before .args .own .now) (c .before .index3 .result) (c .gap3 .ensures))
+sum-of-bits-requires : tie.Need-sum-of-bits-requires
+sum-of-bits-requires c κs =
+    let at-sort = c .before .before .before in
+    let at-size = at-sort .before .before .before in
+    let filled = at-size .before in
+    let start = filled .before .before in
+    let few = start .pre .1 in
+    let count = at-size .size .ensures .0 in
+    let sorts = at-sort .sort-keys .ensures in
+    let own = start .args .own .now in
+    let firsts = start .args .firsts .now in
+    let seconds = start .args .seconds .now in (
+      omega (arith, start .pre .0, count),
+      omega (arith, few, count, chain-size firsts seconds own (start .args .links) (filled .fill-gaps .ensures) few count sorts),
+      chain-patterns firsts seconds own (start .args .links) (filled .fill-gaps .ensures) few count sorts,
+    )
 
 returns : tie.Need-returns
-returns c = chain-listed (c .before .before .before .before .before .before .before .args .firsts .now) (c .before .before .before .before .before .before .before .args .seconds .now) (c .before .before .before .before .before .before .before .args .own .now) (c .before .before .before .before .before .before .before .args .links) (c .before .before .before .before .before .before .before .pre .1) (c .before .before .before .before .before .gap .ensures ∙ ap (gapIn (c .before .before .before .before .before .before .before .args .firsts .now) (c .before .before .before .before .before .before .before .args .seconds .now) (c .before .before .before .before .before .before .before .args .own .now)) (c .before .before .before .before .before .before .index .ensures .0)) (c .before .before .before .gap2 .ensures ∙ ap (gapIn (c .before .before .before .before .before .before .before .args .firsts .now) (c .before .before .before .before .before .before .before .args .seconds .now) (c .before .before .before .before .before .before .before .args .own .now)) (c .before .before .before .before .index2 .ensures .0)) (c .before .gap3 .ensures ∙ ap (gapIn (c .before .before .before .before .before .before .before .args .firsts .now) (c .before .before .before .before .before .before .before .args .seconds .now) (c .before .before .before .before .before .before .before .args .own .now)) (c .before .before .index3 .ensures .0)) (c .ascending-sum .ensures)
+returns c =
+    let at-sort = c .before .before .before .before in
+    let at-size = at-sort .before .before .before in
+    let filled = at-size .before in
+    let start = filled .before .before in
+    chain-added (start .args .firsts .now) (start .args .seconds .now) (start .args .own .now) (start .args .links) (filled .fill-gaps .ensures) (start .pre .1)
+    (at-size .size .ensures .0) (at-sort .sort-keys .ensures) (c .sum-of-bits .ensures)
 
 pub chain-sum-spec : {M : Type 1} → statement M
 chain-sum-spec =
     tie.close
     (tie.spec
-    index-requires
-    gap-requires
-    index-requires-2
-    gap-requires-2
-    index-requires-3
-    gap-requires-3
-    ascending-sum-requires
+    fill-gaps-requires
+    size-requires
+    slice-aggregate-sort-keys
+    slice-aggregate-sort-keys-2
+    sort-keys-requires
+    slice-aggregate-sum-of-bits
+    sum-of-bits-requires
     returns)

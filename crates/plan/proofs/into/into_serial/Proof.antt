@@ -18,16 +18,16 @@ abbrev μ-loop : tie.MeasureT-loop
 μ-loop limits n own bits lowers highers regions firsts seconds links passing chosen joined parts into₀ i₀ into i = n - i
 
 loop-holds : tie.Need-loop-holds Inv-loop μ-loop
-loop-holds c = (omega arith, filled-none (c .pre .3))
+loop-holds c = (omega arith, filled-none (c .pre .2))
 
 one-serial-requires : tie.Need-one-serial-requires Inv-loop μ-loop
-one-serial-requires c κs = (c .before .before .before .pre .0, c .before .before .before .pre .1, c .before .before .before .pre .2, omega (arith, c .before .loop-test .taken, c .before .before .before .pre .2 .fit .few), c .before .before .loop .inv .1)
+one-serial-requires c κs = (c .before .before .before .pre .0, c .before .before .before .pre .1, omega (arith, c .before .loop-test .taken, c .before .before .before .pre .1 .fit .few), c .before .before .loop .inv .1)
 
 mul-into : tie.Need-mul-into Inv-loop μ-loop
 mul-into c = search needs
 
 element-write-into : tie.Need-element-write-into Inv-loop μ-loop
-element-write-into c = omega (arith, c .before .before .loop-test .taken, c .before .before .before .before .pre .2 .fit .few, c .before .before .before .loop .inv .1 .size)
+element-write-into c = omega (arith, c .before .before .loop-test .taken, c .before .before .before .before .pre .1 .fit .few, c .before .before .before .loop .inv .1 .size)
 
 add-i : tie.Need-add-i Inv-loop μ-loop
 add-i c = search needs
@@ -36,7 +36,7 @@ loop-less : tie.Need-loop-less Inv-loop μ-loop
 loop-less c = search needs
 
 loop-again : tie.Need-loop-again Inv-loop μ-loop
-loop-again c = (omega (arith, c .before .before .loop-test .taken), filled-next (c .one-serial .result) (c .before .before .before .loop .inv .1) (omega (arith, c .before .before .loop-test .taken, c .before .before .before .before .pre .2 .fit .few)) (c .one-serial .ensures))
+loop-again c = (omega (arith, c .before .before .loop-test .taken), filled-next (c .one-serial .result) (c .before .before .before .loop .inv .1) (omega (arith, c .before .before .loop-test .taken, c .before .before .before .before .pre .1 .fit .few)) (c .one-serial .ensures))
 
 returns : tie.Need-returns Inv-loop μ-loop
 returns c = filled-upto (c .before .loop .inv .1) (c .loop-test .left)

@@ -26,7 +26,7 @@ returns-2 : tie.Need-returns-2
 returns-2 c =
     let entry = c .before .before .before .before .before in
     let e = c .before .before .judged-before in
-    entry .pre .4 .each (e .result) (omega (arith, c .before .if2 .taken)) ∙ together-serial _ _ _ _ _ _ _ _ _ _ _ _ _ _ _ (e .ensures .1) (e .ensures .2) _
+    entry .pre .3 .each (e .result) (omega (arith, c .before .if2 .taken)) ∙ together-serial _ _ _ _ _ _ _ _ _ _ _ _ _ _ _ (e .ensures .1) (e .ensures .2) _
 
 mul-c : tie.Need-mul-c
 mul-c c = search needs

@@ -18,7 +18,7 @@ combine-requires : tie.Need-combine-requires
 combine-requires c κs = search needs
 
 returns : tie.Need-returns
-returns c = plan-of (c .before .before .before .before .before .before .before .before .before .pre .2 .fit .few) (c .before .before .before .before .before .before .before .before .before .pre .2 .some) (c .before .before .before .before .before .before .before .before .before .pre .2 .fit .ranked) (c .before .before .before .before .before .before .before .serial-plan .ensures) (c .before .before .before .before .flat-plan .ensures) (c .combine .ensures)
+returns c = plan-of (c .before .before .before .before .before .before .before .before .before .pre .1 .fit .few) (c .before .before .before .before .before .before .before .before .before .pre .1 .some) (c .before .before .before .before .before .before .before .before .before .pre .1 .fit .ranked) (c .before .before .before .before .before .before .before .serial-plan .ensures) (c .before .before .before .before .flat-plan .ensures) (c .combine .ensures)
 
 pub linked-plan-spec : {M : Type 1} → statement M
 linked-plan-spec =

@@ -18,10 +18,10 @@ start-requires-2 : tie.Need-start-requires-2
 start-requires-2 c κs = search needs
 
 returns-2 : tie.Need-returns-2
-returns-2 c = plan-unlinked (c .start2 .ensures) (c .before .before .before .before .pre .2 .few) (c .before .before .if2 .taken)
+returns-2 c = plan-unlinked (c .start2 .ensures) (c .before .before .before .before .pre .1 .few) (c .before .before .if2 .taken)
 
 linked-plan-requires : tie.Need-linked-plan-requires
-linked-plan-requires c κs = let p = c .before .before .before .pre in (p .0, p .1, record { some = omega (arith, c .before .before .if1 .left); linked = omega (arith, c .before .if2 .left); fit = p .2 }, p .3)
+linked-plan-requires c κs = let p = c .before .before .before .pre in (p .0, record { some = omega (arith, c .before .before .if1 .left); linked = omega (arith, c .before .if2 .left); fit = p .1 }, p .2)
 
 returns-3 : tie.Need-returns-3
 returns-3 c = search needs

@@ -10,10 +10,10 @@ use Rattle.plan.proofs.merge.join_chosen.Reads as join-chosen-reads
 use Rattle.plan.proofs.select.select_serial.Reads as select-serial-reads
 
 select-serial-requires : tie.Need-select-serial-requires
-select-serial-requires c κs = (refl, wider-ranked (c .before .pre .2))
+select-serial-requires c κs = (refl, wider-ranked (c .before .pre .1))
 
 join-chosen-requires : tie.Need-join-chosen-requires
-join-chosen-requires c κs = (wider-ranked (c .before .before .before .before .before .pre .2), refl, refl)
+join-chosen-requires c κs = (wider-ranked (c .before .before .before .before .before .pre .1), refl, refl)
 
 into-serial-requires : tie.Need-into-serial-requires
 into-serial-requires c κs = search needs

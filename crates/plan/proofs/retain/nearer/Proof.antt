@@ -19,10 +19,10 @@ no-later-requires : tie.Need-no-later-requires
 no-later-requires c κs = search needs
 
 returns : tie.Need-returns
-returns c = (choose-yes (c .before .before .before .before .args .i) (c .before .before .before .before .args .j) (sym (nearer-as (c .before .before .before .before .args .own .now) (listed (c .before .before .before .before .args .ranks)) (c .before .before .before .before .args .i) (c .before .before .before .before .args .j) (c .before .before .before .sum-from .ensures .0) (c .before .before .sum-from2 .ensures .0) (c .before .no-later .ensures)) ∙ c .if1 .taken), c .before .before .before .before .pre .3)
+returns c = (choose-yes (c .before .before .before .before .args .i) (c .before .before .before .before .args .j) (sym (nearer-as (c .before .before .before .before .args .own .now) (listed (c .before .before .before .before .args .ranks)) (c .before .before .before .before .args .i) (c .before .before .before .before .args .j) (c .before .before .before .sum-from .ensures .0) (c .before .before .sum-from2 .ensures .0) (c .before .no-later .ensures)) ∙ c .if1 .taken), c .before .before .before .before .pre .2)
 
 returns-2 : tie.Need-returns-2
-returns-2 c = (choose-no (c .before .before .before .before .args .i) (c .before .before .before .before .args .j) (sym (nearer-as (c .before .before .before .before .args .own .now) (listed (c .before .before .before .before .args .ranks)) (c .before .before .before .before .args .i) (c .before .before .before .before .args .j) (c .before .before .before .sum-from .ensures .0) (c .before .before .sum-from2 .ensures .0) (c .before .no-later .ensures)) ∙ c .if1 .left), c .before .before .before .before .pre .4)
+returns-2 c = (choose-no (c .before .before .before .before .args .i) (c .before .before .before .before .args .j) (sym (nearer-as (c .before .before .before .before .args .own .now) (listed (c .before .before .before .before .args .ranks)) (c .before .before .before .before .args .i) (c .before .before .before .before .args .j) (c .before .before .before .sum-from .ensures .0) (c .before .before .sum-from2 .ensures .0) (c .before .no-later .ensures)) ∙ c .if1 .left), c .before .before .before .before .pre .3)
 
 pub nearer-spec : {M : Type 1} → statement M
 nearer-spec =

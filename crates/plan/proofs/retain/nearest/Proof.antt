@@ -25,19 +25,19 @@ sub-j : tie.Need-sub-j Inv-loop μ-loop
 sub-j c = search needs
 
 index-requires : tie.Need-index-requires Inv-loop μ-loop
-index-requires c κs = c .before .pre .4 (c .before .args .among .count - 1) .below
+index-requires c κs = c .before .pre .3 (c .before .args .among .count - 1) .below
 
 loop-holds : tie.Need-loop-holds Inv-loop μ-loop
-loop-holds c = (first-start (nearerIn (c .before .before .args .own .now) (listed (c .before .before .args .ranks))) (slot (c .before .before .args .among)) (c .before .before .args .among .count) (c .before .before .args .among .count - 1) (omega (arith, c .before .before .pre .2)) (c .index .ensures .0), subst (RankFits (c .before .before .args .own .now)) (sym (c .index .ensures .0)) (c .before .before .pre .4 (c .before .before .args .among .count - 1)))
+loop-holds c = (first-start (nearerIn (c .before .before .args .own .now) (listed (c .before .before .args .ranks))) (slot (c .before .before .args .among)) (c .before .before .args .among .count) (c .before .before .args .among .count - 1) (omega (arith, c .before .before .pre .1)) (c .index .ensures .0), subst (RankFits (c .before .before .args .own .now)) (sym (c .index .ensures .0)) (c .before .before .pre .3 (c .before .before .args .among .count - 1)))
 
 sub-j-2 : tie.Need-sub-j-2 Inv-loop μ-loop
 sub-j-2 c = search needs
 
 index-requires-2 : tie.Need-index-requires-2 Inv-loop μ-loop
-index-requires-2 c κs = c .before .before .before .before .pre .4 (c .before .loop .j - 1) .below
+index-requires-2 c κs = c .before .before .before .before .pre .3 (c .before .loop .j - 1) .below
 
 nearer-requires : tie.Need-nearer-requires Inv-loop μ-loop
-nearer-requires c κs = (c .before .before .before .before .before .pre .0, c .before .before .before .before .before .pre .1, c .before .before .before .before .before .pre .3, subst (RankFits (c .before .before .before .before .before .args .own .now)) (sym (c .index2 .ensures .0)) (c .before .before .before .before .before .pre .4 (c .before .before .loop .j - 1)), c .before .before .loop .inv .1)
+nearer-requires c κs = (c .before .before .before .before .before .pre .0, c .before .before .before .before .before .pre .2, subst (RankFits (c .before .before .before .before .before .args .own .now)) (sym (c .index2 .ensures .0)) (c .before .before .before .before .before .pre .3 (c .before .before .loop .j - 1)), c .before .before .loop .inv .1)
 
 loop-less : tie.Need-loop-less Inv-loop μ-loop
 loop-less c = search needs

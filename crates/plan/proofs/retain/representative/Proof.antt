@@ -31,7 +31,7 @@ returns : tie.Need-returns
 returns c = (retained-none (limitsOf (c .before .before .before .before .before .before .args .limits)) (c .before .before .before .before .before .before .args .own .now) (c .before .before .before .before .before .before .args .bits .now) (c .before .before .before .before .before .before .args .ranks) (eligible-as (limitsOf (c .before .before .before .before .before .before .args .limits)) (c .before .before .before .before .before .before .args .bits .now) (listed (c .before .before .before .before .before .before .args .ranks)) (c .before .before .before .before .width-of .ensures) (c .before .before .before .before .before .least-bits .ensures .0) (c .before .before .before .eligible .ensures)) (c .before .if1 .taken) (c .before .before .before .before .before .before .pre .0) (c .index .ensures .0), c .index .ensures .1)
 
 nearest-requires : tie.Need-nearest-requires
-nearest-requires c κs = (c .before .before .before .before .before .pre .0, c .before .before .before .before .before .pre .1, positive (c .before .before .eligible .result .count) (c .if1 .left), c .before .before .before .before .before .pre .2, kept-slots (RankFits (c .before .before .before .before .before .args .own .now)) (fineIn (limitsOf (c .before .before .before .before .before .args .limits)) (c .before .before .before .before .before .args .bits .now) (c .before .before .before .width-of .result)) (c .before .before .before .before .before .args .ranks) (c .before .before .eligible .ensures) (c .before .before .before .before .before .pre .2) (c .before .before .before .before .before .pre .4))
+nearest-requires c κs = (c .before .before .before .before .before .pre .0, positive (c .before .before .eligible .result .count) (c .if1 .left), c .before .before .before .before .before .pre .2, kept-slots (RankFits (c .before .before .before .before .before .args .own .now)) (fineIn (limitsOf (c .before .before .before .before .before .args .limits)) (c .before .before .before .before .before .args .bits .now) (c .before .before .before .width-of .result)) (c .before .before .before .before .before .args .ranks) (c .before .before .eligible .ensures) (c .before .before .before .before .before .pre .2) (c .before .before .before .before .before .pre .4))
 
 returns-2 : tie.Need-returns-2
 returns-2 c = (retained-some (limitsOf (c .before .before .before .before .before .before .args .limits)) (c .before .before .before .before .before .before .args .own .now) (c .before .before .before .before .before .before .args .bits .now) (c .before .before .before .before .before .before .args .ranks) (eligible-as (limitsOf (c .before .before .before .before .before .before .args .limits)) (c .before .before .before .before .before .before .args .bits .now) (listed (c .before .before .before .before .before .before .args .ranks)) (c .before .before .before .before .width-of .ensures) (c .before .before .before .before .before .least-bits .ensures .0) (c .before .before .before .eligible .ensures)) (c .before .before .before .before .before .before .pre .1) (c .before .if1 .left) (c .nearest .ensures .0), c .nearest .ensures .1)

@@ -1,60 +1,75 @@
-use mathlib.Core.Path.{refl, _∙_, ap}
-use Rattle.areas.specs.Spans.{spanIn}
-use Rattle.plan.proofs.ValueLaws.{span-fits, sum-listed}
+use mathlib.Core.Path.{sym, _∙_, ap, subst}
+use Prim.Native.Nat.{ℕ, _-_, _≤_}
+use native.Mathlib.Omega.{arith}
 use borrow.Author.Needs.{needs}
+use Rattle.areas.specs.Spans.{spanIn}
+use Rattle.links.specs.Geometry.{centreDistance}
+use Rattle.links.proofs.SumSteps.{Summed, summed-start, summed-next}
+use Rattle.plan.specs.Fitting.{RankFits}
+use Rattle.plan.proofs.SumLaws.{distanceAt, sum-listed}
 use Rattle.plan.proofs.retain.sum_from.Statement.{statement}
 use Rattle.plan.proofs.retain.sum_from.Tie as tie
-use Rattle.plan.proofs.retain.sum_from.Reads as reads
-use Rattle.plan.proofs.retain.sum_from.Lts as lts
-use Rattle.links.proofs.sums.distance_sum.Reads as distance-sum-reads
-use Rattle.marking.proofs.spans.span_at.Reads as span-at-reads
-use Rattle.plan.proofs.few.Few.index.Reads as index-reads
 
-index-requires : tie.Need-index-requires
-index-requires c κs = c .pre .2 0 .below
+abbrev Inv-loop : tie.InvT-loop
+Inv-loop own ranks i total₀ j₀ total j = Summed (distanceAt own i ranks) (ranks .count) j total
 
-span-at-requires : tie.Need-span-at-requires
-span-at-requires c κs = search needs
+abbrev μ-loop : tie.MeasureT-loop
+μ-loop own ranks i total₀ j₀ total j = ranks .count - j
 
-index-requires-2 : tie.Need-index-requires-2
-index-requires-2 c κs = c .before .before .pre .2 1 .below
+index-requires : tie.Need-index-requires Inv-loop μ-loop
+index-requires c κs = c .pre .1 0 .below
 
-span-at-requires-2 : tie.Need-span-at-requires-2
-span-at-requires-2 c κs = search needs
+rank-distance-requires : tie.Need-rank-distance-requires Inv-loop μ-loop
+rank-distance-requires c κs = (c .before .pre .2, subst (RankFits (c .before .args .own .now)) (sym (c .index .ensures .0)) (c .before .pre .1 0))
 
-index-requires-3 : tie.Need-index-requires-3
-index-requires-3 c κs = c .before .before .before .before .pre .2 2 .below
+loop-holds : tie.Need-loop-holds Inv-loop μ-loop
+loop-holds c =
+    let start = c .before .before in
+    let own = start .args .own .now in
+    summed-start (distanceAt own (start .args .i) (start .args .ranks)) (start .args .ranks .count) (start .pre .0)
+    (c .rank-distance .ensures ∙ ap (λ (k : ℕ). centreDistance (spanIn own (start .args .i)) (spanIn own k)) (c .before .index .ensures .0))
 
-span-at-requires-3 : tie.Need-span-at-requires-3
-span-at-requires-3 c κs = search needs
+index-requires-2 : tie.Need-index-requires-2 Inv-loop μ-loop
+index-requires-2 c κs = let at-loop = c .before .before in at-loop .before .before .before .pre .1 (at-loop .loop .j) .below
 
-index-requires-4 : tie.Need-index-requires-4
-index-requires-4 c κs = c .before .before .before .before .before .before .pre .2 3 .below
+rank-distance-requires-2 : tie.Need-rank-distance-requires-2 Inv-loop μ-loop
+rank-distance-requires-2 c κs =
+    let at-loop = c .before .before .before in
+    let start = at-loop .before .before .before in
+    (start .pre .2, subst (RankFits (start .args .own .now)) (sym (c .index2 .ensures .0)) (start .pre .1 (at-loop .loop .j)))
 
-span-at-requires-4 : tie.Need-span-at-requires-4
-span-at-requires-4 c κs = search needs
+add-j : tie.Need-add-j Inv-loop μ-loop
+add-j c = search needs
 
-span-at-requires-5 : tie.Need-span-at-requires-5
-span-at-requires-5 c κs = search needs
+loop-less : tie.Need-loop-less Inv-loop μ-loop
+loop-less c = search needs
 
-distance-sum-requires : tie.Need-distance-sum-requires
-distance-sum-requires c κs = (c .before .before .before .before .before .before .before .before .before .pre .0, c .before .before .before .before .before .before .before .before .before .pre .1, span-fits (c .before .before .before .before .before .before .before .before .before .pre .3) refl (c .span-at5 .ensures), span-fits (c .before .before .before .before .before .before .before .before .before .pre .2 0) (c .before .before .before .before .before .before .before .before .index .ensures .0) (c .before .before .before .before .before .before .before .span-at .ensures), span-fits (c .before .before .before .before .before .before .before .before .before .pre .2 1) (c .before .before .before .before .before .before .index2 .ensures .0) (c .before .before .before .before .before .span-at2 .ensures), span-fits (c .before .before .before .before .before .before .before .before .before .pre .2 2) (c .before .before .before .before .index3 .ensures .0) (c .before .before .before .span-at3 .ensures), span-fits (c .before .before .before .before .before .before .before .before .before .pre .2 3) (c .before .before .index4 .ensures .0) (c .before .span-at4 .ensures))
+loop-again : tie.Need-loop-again Inv-loop μ-loop
+loop-again c =
+    let at-loop = c .before .before .before .before in
+    let start = at-loop .before .before .before .args in
+    let own = start .own .now in
+    summed-next (distanceAt own (start .i) (start .ranks)) (start .ranks .count) (c .rank-distance2 .result) (at-loop .loop .inv) (c .before .before .if1 .taken)
+    (c .rank-distance2 .ensures ∙ ap (λ (k : ℕ). centreDistance (spanIn own (start .i)) (spanIn own k)) (c .before .index2 .ensures .0))
 
-returns : tie.Need-returns
-returns c = sum-listed (c .before .before .before .before .before .before .before .before .before .before .args .own .now) (c .before .before .before .before .before .before .before .before .before .before .args .ranks) (c .before .before .before .before .before .before .before .before .before .before .args .i) (c .before .before .before .before .before .before .before .before .before .before .pre .0) (c .before .before .before .before .before .before .before .before .before .before .pre .1) (c .before .span-at5 .ensures) (c .before .before .before .before .before .before .before .before .span-at .ensures ∙ ap (spanIn (c .before .before .before .before .before .before .before .before .before .before .args .own .now)) (c .before .before .before .before .before .before .before .before .before .index .ensures .0)) (c .before .before .before .before .before .before .span-at2 .ensures ∙ ap (spanIn (c .before .before .before .before .before .before .before .before .before .before .args .own .now)) (c .before .before .before .before .before .before .before .index2 .ensures .0)) (c .before .before .before .before .span-at3 .ensures ∙ ap (spanIn (c .before .before .before .before .before .before .before .before .before .before .args .own .now)) (c .before .before .before .before .before .index3 .ensures .0)) (c .before .before .span-at4 .ensures ∙ ap (spanIn (c .before .before .before .before .before .before .before .before .before .before .args .own .now)) (c .before .before .before .index4 .ensures .0)) (c .distance-sum .ensures)
+returns : tie.Need-returns Inv-loop μ-loop
+returns c =
+    let at-loop = c .before .before in
+    let start = at-loop .before .before .before in
+    sum-listed (start .args .own .now) (start .args .ranks) (start .args .i) (start .pre .0) (at-loop .loop .inv) (c .if1 .left)
 
 pub sum-from-spec : {M : Type 1} → statement M
 sum-from-spec =
     tie.close
     (tie.spec
+    Inv-loop
+    μ-loop
     index-requires
-    span-at-requires
+    rank-distance-requires
+    loop-holds
     index-requires-2
-    span-at-requires-2
-    index-requires-3
-    span-at-requires-3
-    index-requires-4
-    span-at-requires-4
-    span-at-requires-5
-    distance-sum-requires
+    rank-distance-requires-2
+    add-j
+    loop-less
+    loop-again
     returns)
