@@ -6,7 +6,6 @@ use Prim.Native.Nat.{ℕ, _<_, _≤_}
 use native.Mathlib.Omega.{arith}
 use lib.Dec.{T}
 use lib.Ieee.{binary64, fits, le, ofBits, toBits}
-use lib.Ieee.Positive.{positive}
 use lib.ListN.{getD}
 use Rattle.order.specs.Orders.{Stable, TotalPreorder}
 use Rattle.order.specs.Sorting.{sort}
@@ -23,7 +22,7 @@ use Rattle.links.specs.Limits.{Limits, limits000}
 use Rattle.topology.specs.Listing.{Item}
 use Rattle.groups.specs.Listing.{bitsAt}
 use Rattle.groups.specs.Representative.{widthAt, leastWidth, eligible, distanceTo, nearer, retained, IsRetained}
-use Rattle.groups.proofs.Wider.{wider}
+use Rattle.groups.proofs.Wider.{finiteUp, wider}
 
 -- the first of a list that has a member
 first-of : {A : Type 0} (l : List A) (d : A) {x : A} → List·Memᴰ x l → List·Memᴰ (getD l 0 d) l
@@ -79,19 +78,20 @@ module _ (limits : Limits) (l : List Item) where
       stable : Pairs (Stable (nearer l is) (λ i j. i < j)) order
       stable = sort-stable (nearer-preorder l is) (eligible-rising p)
 
--- the tolerance is an f64 above zero
+-- the tolerance is an f64, finite and not negative
 pub record Tolerant (limits : Limits) : Type 0 where
-  pub above-zero : T (positive (limits .width))
+  pub finite : T (finiteUp (limits .width))
   pub held : T (fits binary64 (limits .width))
 
 pub tolerant000 : Tolerant limits000
 unfolding ofBits fits
-tolerant000 = record { above-zero = tt; held = tt }
+tolerant000 = record { finite = tt; held = tt }
 
 -- the least width is that of a rank
 least-at : (l : List Item) (is : List ℕ) {i : ℕ} → List·Memᴰ i is → (j : ℕ) × List·Memᴰ j is × (widthAt l j ≡ leastWidth l is)
 unfolding leastWidth
-least-at l is {i} m = let w = Memᴰ·of-map (bitsAt l) is (perm-mem (Permᴰ·symm sorted) (first-of order 0 (perm-mem sorted (Memᴰ·map (bitsAt l) m)))) in (w .0, w .1, ap (ofBits binary64) (w .2))
+least-at l is {i} m = let w = Memᴰ·of-map (bitsAt l) is
+    (perm-mem (Permᴰ·symm sorted) (first-of order 0 (perm-mem sorted (Memᴰ·map (bitsAt l) m)))) in (w .0, w .1, ap (ofBits binary64) (w .2))
   where
     order : List ℕ
     order = sort totalLe (map (bitsAt l) is)
@@ -100,8 +100,12 @@ least-at l is {i} m = let w = Memᴰ·of-map (bitsAt l) is (perm-mem (Permᴰ·s
     sorted = sort-perm totalLe (map (bitsAt l) is)
 
 -- a rank of the least width is eligible, where the widths are those of a job
-pub some-eligible : {limits : Limits} → Tolerant limits → (l : List Item) (is : List ℕ) → ((j : ℕ) → List·Memᴰ j is → bitsAt l j ≤ maxWidthBits) → {i : ℕ} → List·Memᴰ i is → (j : ℕ) × List·Memᴰ j (eligible limits l is)
+pub some-eligible : {limits : Limits} → Tolerant limits → (l : List Item) (is : List ℕ) → ((j : ℕ) → List·Memᴰ j is → bitsAt l j ≤ maxWidthBits) → {i : ℕ}
+    → List·Memᴰ i is → (j : ℕ) × List·Memᴰ j (eligible limits l is)
 unfolding eligible
 some-eligible {limits} o l is h m =
-    let w = least-at l is m in
-    (w .0, mem-keep (λ i. le (widthAt l i) (leastWidth l is ⊕ limits .width)) (w .1) (rw (← w .2) (wider (bitsAt l (w .0)) (h (w .0) (w .1)) (limits .width) (o .above-zero) (o .held))))
+    let w = least-at l is m in (
+      w .0,
+      mem-keep (λ i. le (widthAt l i) (leastWidth l is ⊕ limits .width)) (w .1)
+          (rw (← w .2) (wider (bitsAt l (w .0)) (h (w .0) (w .1)) (limits .width) (o .finite) (o .held))),
+    )
