@@ -72,7 +72,8 @@ length-upward d = round-upward (halved (wholeRoot (d * 2 ^ (2 * places d)))) (2 
 pub added-upward : (s : Span) (x : Float) (ms : List Span) → T (upward x) → T (upward (addedTo x (map (centreDistance s) ms)))
 unfolding addedTo
 added-upward s x [] h = h
-added-upward s x (m ∷ ms) h = added-upward s (x ⊕ centreDistance s m) ms (sum-upward x (centreDistance s m) h (length-upward (squares (doubledCentre s) (doubledCentre m))))
+added-upward s x (m ∷ ms) h = added-upward s (x ⊕ centreDistance s m) ms
+    (sum-upward x (centreDistance s m) h (length-upward (squares (doubledCentre s) (doubledCentre m))))
 
 -- what `no_later` asks of distances and of their sums
 pub distance-upward : (s t : Span) → T (upward (centreDistance s t))
@@ -83,12 +84,14 @@ distance-number s t = upward-number (centreDistance s t) (distance-upward s t)
 
 pub distance-sum-number : (s m : Span) (ms : List Span) → Number (distanceSum s (m ∷ ms))
 unfolding distanceSum sumOf
-distance-sum-number s m ms = upward-number (addedTo (centreDistance s m) (map (centreDistance s) ms)) (added-upward s (centreDistance s m) ms (distance-upward s m))
+distance-sum-number s m ms = upward-number (addedTo (centreDistance s m) (map (centreDistance s) ms))
+    (added-upward s (centreDistance s m) ms (distance-upward s m))
 
 -- a distance is an f64
 pub distance-fits : (s t : Span) → T (fits binary64 (centreDistance s t))
 unfolding lengthOf
-distance-fits s t = let d = squares (doubledCentre s) (doubledCentre t) in round-fits binary64 false (halved (wholeRoot (d * 2 ^ (2 * places d)))) (2 ^ places d)
+distance-fits s t = let d = squares (doubledCentre s) (doubledCentre t) in round-fits binary64 false (halved (wholeRoot (d * 2 ^ (2 * places d))))
+    (2 ^ places d)
 
 -- a number that is not negative has bits below the sign's
 sign-apart : (a b t : ℕ) → t + a + b < 2 * t → 0 + a + b < t

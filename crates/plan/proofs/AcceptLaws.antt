@@ -25,7 +25,8 @@ use Rattle.plan.proofs.ShapeLaws.{listed-length, held-count, held-first
 use Rattle.plan.proofs.ValueLaws.{both}
 
 -- what holds of the ranks holds of the ends
-pub ends-slots : (P : ℕ → Type 0) (firsts seconds js : List ℕ) (f : Few) {e : Few} → e ≡ held (endsIn firsts seconds (listed f) js) → ((j : ℕ) → P (slot f j)) → P 0 → (j : ℕ) → P (slot e j)
+pub ends-slots : (P : ℕ → Type 0) (firsts seconds js : List ℕ) (f : Few) {e : Few} → e ≡ held (endsIn firsts seconds (listed f) js) → ((j : ℕ) → P (slot f j))
+    → P 0 → (j : ℕ) → P (slot e j)
 unfolding endsIn
 ends-slots P firsts seconds js f e h z = kept-slots P (λ i. eqb (degreeIn firsts seconds js i) 1) f e h z
 
@@ -33,8 +34,10 @@ module _ (lowers highers regions firsts seconds : List ℕ) (least most : ℕ) w
   abbrev tests : Bool → ℕ → ℕ → ℕ → Bool → ℕ → ℕ → Bool
   tests a m n k r o u = (a && ((eqb m n && eqb k 2) && r)) && not (eqb o u)
 
-  pub path-as : (f g : Few) {a r : Bool} {e : Few} {o u x y : ℕ} → a ≡ leb least (f .count) && leb (f .count) most → e ≡ held (endsIn firsts seconds (listed f) (listed g)) → r ≡ regularIn firsts seconds (listed f) (listed g) →
-      x ≡ slot e 0 → y ≡ slot e 1 → o ≡ outerIn lowers highers regions firsts seconds (listed g) x → u ≡ outerIn lowers highers regions firsts seconds (listed g) y →
+  pub path-as : (f g : Few) {a r : Bool} {e : Few} {o u x y : ℕ} → a ≡ leb least (f .count) && leb (f .count) most
+      → e ≡ held (endsIn firsts seconds (listed f) (listed g)) → r ≡ regularIn firsts seconds (listed f) (listed g) →
+      x ≡ slot e 0 → y ≡ slot e 1 → o ≡ outerIn lowers highers regions firsts seconds (listed g) x
+      → u ≡ outerIn lowers highers regions firsts seconds (listed g) y →
       tests a (g .count + 1) (f .count) (e .count) r o u ≡ pathIn lowers highers regions firsts seconds least most (listed f) (listed g)
   unfolding pathIn
   path-as f g {a} {r} {e} {o} {u} {x} {y} ea ee er ex ey eo eu =
@@ -44,7 +47,8 @@ module _ (lowers highers regions firsts seconds : List ℕ) (least most : ℕ) w
       ∙ (ap (λ (k : ℕ). tests (leb least n && leb n most) (suc (length (listed g))) n k r o u) (held-count es ee)
       ∙ (ap (λ (t : Bool). tests (leb least n && leb n most) (suc (length (listed g))) n (length es) t o u) er
       ∙ (ap (λ (t : ℕ). tests (leb least n && leb n most) (suc (length (listed g))) n (length es) whole t u) (eo ∙ ap out (ex ∙ held-first es ee))
-      ∙ ap (λ (t : ℕ). tests (leb least n && leb n most) (suc (length (listed g))) n (length es) whole (out (getD es 0 0)) t) (eu ∙ ap out (ey ∙ held-second es ee)))))))
+      ∙ ap (λ (t : ℕ). tests (leb least n && leb n most) (suc (length (listed g))) n (length es) whole (out (getD es 0 0)) t)
+      (eu ∙ ap out (ey ∙ held-second es ee)))))))
     where
       n : ℕ
       n = length (listed f)
@@ -59,7 +63,8 @@ module _ (lowers highers regions firsts seconds : List ℕ) (least most : ℕ) w
       out = outerIn lowers highers regions firsts seconds (listed g)
 
   -- how many ranks and links a path has: two ranks at least, for it has two ends
-  pub path-sizes : (rs js : List ℕ) → pathIn lowers highers regions firsts seconds least most rs js ≡ true → (2 ≤ length rs) × (length rs ≤ most) × (suc (length js) ≡ length rs)
+  pub path-sizes : (rs js : List ℕ) → pathIn lowers highers regions firsts seconds least most rs js ≡ true
+      → (2 ≤ length rs) × (length rs ≤ most) × (suc (length js) ≡ length rs)
   unfolding pathIn endsIn
   path-sizes rs js h =
       let p = and-parts _ _ h in
@@ -67,35 +72,45 @@ module _ (lowers highers regions firsts seconds : List ℕ) (least most : ℕ) w
       let s = and-parts (leb least (length rs)) (leb (length rs) most) (q .0) in
       let u = and-parts _ _ (q .1) in
       let v = and-parts (eqb (suc (length js)) (length rs)) (eqb (length (endsIn firsts seconds rs js)) 2) (u .0) in
-      let two = eqb-true (length (endsIn firsts seconds rs js)) 2 (v .1) in
-      (omega (arith, two, keep-length (λ i. eqb (degreeIn firsts seconds js i) 1) rs), leb-true (length rs) most (s .1), eqb-true (suc (length js)) (length rs) (v .0))
+      let two = eqb-true (length (endsIn firsts seconds rs js)) 2 (v .1) in (
+        omega (arith, two, keep-length (λ i. eqb (degreeIn firsts seconds js i) 1) rs),
+        leb-true (length rs) most (s .1),
+        eqb-true (suc (length js))
+            (length rs) (v .0),
+      )
 
 module _ (limits : Limits) (own lowers highers regions firsts seconds : List ℕ) where
-  pub flat-no : (rs js : List ℕ) {b : Bool} → b ≡ pathIn lowers highers regions firsts seconds leastFlatSpans (limits .mostSpans) rs js → not b ≡ true → false ≡ flatIn limits own lowers highers regions firsts seconds rs js
+  pub flat-no : (rs js : List ℕ) {b : Bool} → b ≡ pathIn lowers highers regions firsts seconds leastFlatSpans (limits .mostSpans) rs js → not b ≡ true
+      → false ≡ flatIn limits own lowers highers regions firsts seconds rs js
   unfolding flatIn
   flat-no rs js {b} e n = ap (λ (t : Bool). t && allAlikeIn limits own rs) (sym (not-true b n) ∙ e)
 
-  pub flat-yes : (rs js : List ℕ) {b r : Bool} → b ≡ pathIn lowers highers regions firsts seconds leastFlatSpans (limits .mostSpans) rs js → not b ≡ false → r ≡ allAlikeIn limits own rs → r ≡ flatIn limits own lowers highers regions firsts seconds rs js
+  pub flat-yes : (rs js : List ℕ) {b r : Bool} → b ≡ pathIn lowers highers regions firsts seconds leastFlatSpans (limits .mostSpans) rs js → not b ≡ false
+      → r ≡ allAlikeIn limits own rs → r ≡ flatIn limits own lowers highers regions firsts seconds rs js
   unfolding flatIn
   flat-yes rs js {b} e n q = q ∙ ap (λ (t : Bool). t && allAlikeIn limits own rs) (sym (not-false b n) ∙ e)
 
   abbrev path : List ℕ → List ℕ → Bool
   path rs js = pathIn lowers highers regions firsts seconds (limits .leastSpans) (limits .mostSpans) rs js
 
-  pub serial-no : (passing rs js : List ℕ) {a b : Bool} → a ≡ every (isOn passing) js → b ≡ path rs js → not (a && b) ≡ true → false ≡ serialIn limits own lowers highers regions firsts seconds passing rs js
+  pub serial-no : (passing rs js : List ℕ) {a b : Bool} → a ≡ every (isOn passing) js → b ≡ path rs js → not (a && b) ≡ true
+      → false ≡ serialIn limits own lowers highers regions firsts seconds passing rs js
   unfolding serialIn
   serial-no passing rs js {a} {b} ea eb n =
-      ap (λ (t : Bool). t && (le (chainIn firsts seconds own js) (limits .chain) && le (centreDistance (spanIn own (getD (endsIn firsts seconds rs js) 0 0)) (spanIn own (getD (endsIn firsts seconds rs js) 1 0))) (limits .chain)))
+      ap (λ (t : Bool). t && (le (chainIn firsts seconds own js) (limits .chain) && le
+      (centreDistance (spanIn own (getD (endsIn firsts seconds rs js) 0 0)) (spanIn own (getD (endsIn firsts seconds rs js) 1 0))) (limits .chain)))
       (sym (not-true (a && b) n) ∙ both _&&_ ea eb)
 
   pub serial-path : (a : Bool) {b : Bool} (rs js : List ℕ) → b ≡ path rs js → not (a && b) ≡ false → path rs js ≡ true
   serial-path a {b} rs js e n = sym e ∙ and-parts a b (not-false (a && b) n) .1
 
   pub serial-yes : (passing rs js : List ℕ) {a b r : Bool} {x y : Float} → a ≡ every (isOn passing) js → b ≡ path rs js → not (a && b) ≡ false →
-      r ≡ le x (limits .chain) && le y (limits .chain) → x ≡ chainIn firsts seconds own js → y ≡ centreDistance (spanIn own (getD (endsIn firsts seconds rs js) 0 0)) (spanIn own (getD (endsIn firsts seconds rs js) 1 0)) →
+      r ≡ le x (limits .chain) && le y (limits .chain) → x ≡ chainIn firsts seconds own js
+      → y ≡ centreDistance (spanIn own (getD (endsIn firsts seconds rs js) 0 0)) (spanIn own (getD (endsIn firsts seconds rs js) 1 0)) →
       r ≡ serialIn limits own lowers highers regions firsts seconds passing rs js
   unfolding serialIn
   serial-yes passing rs js {a} {b} {r} {x} {y} ea eb n er ex ey =
       er ∙ (both (λ (s t : Float). le s (limits .chain) && le t (limits .chain)) ex ey
-      ∙ ap (λ (t : Bool). t && (le (chainIn firsts seconds own js) (limits .chain) && le (centreDistance (spanIn own (getD (endsIn firsts seconds rs js) 0 0)) (spanIn own (getD (endsIn firsts seconds rs js) 1 0))) (limits .chain)))
+      ∙ ap (λ (t : Bool). t && (le (chainIn firsts seconds own js) (limits .chain) && le
+      (centreDistance (spanIn own (getD (endsIn firsts seconds rs js) 0 0)) (spanIn own (getD (endsIn firsts seconds rs js) 1 0))) (limits .chain)))
       (sym (not-false (a && b) n) ∙ both _&&_ ea eb))

@@ -42,7 +42,8 @@ slot-past f j h = let e = le-ltb j 16 h in rw e
 
 pub slot-held : (xs : List ℕ) (j : ℕ) → slot (held xs) j ≡ cond (ltb j 16) (getD xs j 0) 0
 unfolding held firstOf
-slot-held xs j = by-test (ltb j 16) (λ e. let h = ltb-true j 16 e in let k = map-up-at (λ i. getD xs i 0) 0 16 j 0 h in rw (e, k) (let z : 0 + j ≡ j = omega arith in ap (λ (i : ℕ). getD xs i 0) z)) (λ e. rw e)
+slot-held xs j = by-test (ltb j 16) (λ e. let h = ltb-true j 16 e in let k =
+    map-up-at (λ i. getD xs i 0) 0 16 j 0 h in rw (e, k) (let z : 0 + j ≡ j = omega arith in ap (λ (i : ℕ). getD xs i 0) z)) (λ e. rw e)
 
 count-held : (xs : List ℕ) → held xs .count ≡ length xs
 unfolding held

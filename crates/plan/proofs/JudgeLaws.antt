@@ -31,7 +31,8 @@ abbrev pub Sized : List ℕ → List ℕ → Type 0
 Sized rs js = (1 ≤ length rs) × (length rs ≤ 16) × (length js ≤ 16)
 
 -- a test that passes only small groups
-module _ (F : List ℕ → List ℕ → Bool) (small : (rs js : List ℕ) → F rs js ≡ true → Sized rs js) {f g : Few} (rs js : List ℕ) (ef : f ≡ held rs) (eg : g ≡ held js) where
+module _ (F : List ℕ → List ℕ → Bool) (small : (rs js : List ℕ) → F rs js ≡ true → Sized rs js) {f g : Few} (rs js : List ℕ) (ef : f ≡ held rs)
+    (eg : g ≡ held js) where
   ranks-long : length (listed f) ≡ length rs
   ranks-long = listed-length f ∙ held-count rs ef
 
@@ -71,11 +72,13 @@ passed-path : (a b c : Bool) → (a && b) && c ≡ true → b ≡ true
 passed-path a b c h = and-parts a b (and-parts (a && b) c h .0) .1
 
 module _ (limits : Limits) (own lowers highers regions firsts seconds : List ℕ) where
-  pub serial-small : (passing : List ℕ) → limits .mostSpans ≤ 16 → (rs js : List ℕ) → serialIn limits own lowers highers regions firsts seconds passing rs js ≡ true → Sized rs js
+  pub serial-small : (passing : List ℕ) → limits .mostSpans ≤ 16 → (rs js : List ℕ)
+      → serialIn limits own lowers highers regions firsts seconds passing rs js ≡ true → Sized rs js
   unfolding serialIn
   serial-small passing m rs js h =
       let q = passed-path (every (isOn passing) js) (pathIn lowers highers regions firsts seconds (limits .leastSpans) (limits .mostSpans) rs js)
-      (le (chainIn firsts seconds own js) (limits .chain) && le (centreDistance (spanIn own (getD (endsIn firsts seconds rs js) 0 0)) (spanIn own (getD (endsIn firsts seconds rs js) 1 0))) (limits .chain)) h in
+      (le (chainIn firsts seconds own js) (limits .chain) && le
+      (centreDistance (spanIn own (getD (endsIn firsts seconds rs js) 0 0)) (spanIn own (getD (endsIn firsts seconds rs js) 1 0))) (limits .chain)) h in
       let s = path-sizes lowers highers regions firsts seconds (limits .leastSpans) (limits .mostSpans) rs js q in
       (omega (arith, s .0), omega (arith, s .1), omega (arith, s .1, s .2))
 
@@ -106,11 +109,13 @@ module _ {n : ℕ} {own bits firsts seconds : List ℕ} {links : ℕ} (safe : Sa
   pub widths-fit : (t : ℕ → Bool) {f : Few} → f ≡ held (keep t (upFrom 0 n)) → Widths bits f
   widths-fit t e =
       held-slots (WidthFits bits) (keep t (upFrom 0 n)) e
-      (λ x m. let l : x < n = omega (arith, up-mem 0 n (keep-mem t (upFrom 0 n) m .0)) in record { below = omega (arith, safe .fit .few); fits = safe .fit .widths x l })
+      (λ x m. let l : x < n = omega (arith, up-mem 0 n (keep-mem t (upFrom 0 n) m .0))
+      in record { below = omega (arith, safe .fit .few); fits = safe .fit .widths x l })
       (record { below = omega arith; fits = safe .fit .widths 0 (safe .some) })
 
   pub links-fit : (t : ℕ → Bool) {f : Few} → f ≡ held (keep t (upFrom 0 links)) → Links own firsts seconds f
-  links-fit t e = held-slots (LinkFits own firsts seconds) (keep t (upFrom 0 links)) e (λ x m. link-fits x (omega (arith, up-mem 0 links (keep-mem t (upFrom 0 links) m .0)))) (link-fits 0 (safe .linked))
+  links-fit t e = held-slots (LinkFits own firsts seconds) (keep t (upFrom 0 links)) e
+      (λ x m. link-fits x (omega (arith, up-mem 0 links (keep-mem t (upFrom 0 links) m .0)))) (link-fits 0 (safe .linked))
 
   pub wider-ranked : Ranked 256 firsts seconds links
   wider-ranked = record {

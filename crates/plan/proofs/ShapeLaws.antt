@@ -124,17 +124,23 @@ module _ (le : ℕ → ℕ → Bool) where
 
     pub first-start : (k : ℕ) {x : ℕ} → suc k ≡ n → x ≡ v k → First k x
     unfolding sort insert upFrom
-    first-start k e q = record { inside = omega arith; is = q ∙ (let z : suc zero ≡ n - k = omega arith in ap (λ (m : ℕ). getD (sort le (map v (upFrom k m))) 0 0) z) }
+    first-start k e q = record {
+      inside = omega arith;
+      is = q
+          ∙ (let z : suc zero ≡ n - k = omega arith in ap (λ (m : ℕ). getD (sort le (map v (upFrom k m))) 0 0) z);
+    }
 
     behind : (j : ℕ) → j < n → 0 < length (sort le (map v (upFrom j (n - j))))
     unfolding sort
-    behind j l = subst (λ (xs : List ℕ). 0 < length (sort le (map v xs))) (sym (up-down j n l)) (insert-some (v j) (sort le (map v (upFrom (suc j) (n - suc j)))))
+    behind j l = subst (λ (xs : List ℕ). 0 < length (sort le (map v xs))) (sym (up-down j n l))
+        (insert-some (v j) (sort le (map v (upFrom (suc j) (n - suc j)))))
 
     first-turn : (j : ℕ) {x y : ℕ} → First (suc j) x → y ≡ cond (le (v j) x) (v j) x → First j y
     unfolding sort
     first-turn j {x} {y} p e = record {
       inside = omega (arith, p .inside);
-      is = e ∙ (ap (λ (z : ℕ). cond (le (v j) z) (v j) z) (p .is) ∙ (sym (first-insert (v j) (sort le (map v (upFrom (suc j) (n - suc j)))) (behind (suc j) (p .inside)))
+      is = e ∙ (ap (λ (z : ℕ). cond (le (v j) z) (v j) z) (p .is)
+          ∙ (sym (first-insert (v j) (sort le (map v (upFrom (suc j) (n - suc j)))) (behind (suc j) (p .inside)))
           ∙ ap (λ (xs : List ℕ). getD (sort le (map v xs)) 0 0) (sym (up-down j n (omega (arith, p .inside))))));
     }
 

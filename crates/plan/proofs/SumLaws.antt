@@ -1,15 +1,15 @@
 -- The sums of a group's distances, from their bits in order.
 use mathlib.Core.Path.{_≡_, refl, sym, _∙_, ap, subst}
-use mathlib.Core.Bool.{Bool, true, false, not}
+use mathlib.Core.Bool.{Bool, not}
 use mathlib.Core.List.{List, [], _∷_, _++_, map, map-map, map-id, map-append, List·Memᴰ, Memᴰ·of-map, Permᴰ·symm}
-use Prim.Native.Nat.{ℕ, zero, suc, _+_, _-_, _≤_, _<_}
+use Prim.Native.Nat.{ℕ, _+_, _-_, _≤_, _<_}
 use native.Mathlib.Numerals.{add-one}
 use native.Mathlib.Omega.{arith}
 use borrow.Author.Tests.{lt-ltb, le-leb, lt-leb, leb-true, leb-false}
 use lib.Dec.{T, leb}
 use lib.Ieee.{Float, binary64, ofBits, toBits, nanBits, fits, isNan}
 use lib.Ieee.Bits.{ofBits-toBits, nanBits-is}
-use lib.ListN.{length, getD, set, take, drop, length-set, length-map}
+use lib.ListN.{length, getD, set, take, length-set, length-map}
 use lib.Seq.{take-suc-set, getD-take, length-take-le}
 use Rattle.lists.specs.Rows.{at}
 use Rattle.wire.specs.Bytes.{part, splice}
@@ -156,7 +156,8 @@ module _ (firsts seconds own : List ℕ) (f : Few) where
       let t = spanIn own (at seconds (w .0)) in
       subst Plain (w .2) (record { up = distance-upward s t; held = distance-fits s t })
 
-  module _ {bits after : List ℕ} {n : ℕ} (b : BitsOf gap (listed f) bits) (few : f .count ≤ 16) (e : n ≡ f .count) (s : after ≡ splice bits 0 (sort leb (between bits 0 n))) where
+  module _ {bits after : List ℕ} {n : ℕ} (b : BitsOf gap (listed f) bits) (few : f .count ≤ 16) (e : n ≡ f .count)
+      (s : after ≡ splice bits 0 (sort leb (between bits 0 n))) where
     fits-in : n ≤ length bits
     fits-in = omega (arith, b .size)
 
@@ -194,8 +195,11 @@ distanceAt own i f j = centreDistance (spanIn own i) (spanIn own (slot f j))
 pub sum-listed : (own : List ℕ) (f : Few) (i : ℕ) {j : ℕ} {r : Float} → 1 ≤ f .count → Summed (distanceAt own i f) (f .count) j r → f .count ≤ j
     → (r ≡ sumIn own (listed f) i) × Number r
 unfolding sumIn listed distanceSum
-sum-listed own f i {j} {r} l p h =
-    (whole, subst Number (sym whole) (sum-number (spanIn own i) (map (spanIn own) (listed f)) (omega (arith, length-map (listed f) (spanIn own), listed-length f))))
+sum-listed own f i {j} {r} l p h = (
+  whole,
+  subst Number (sym whole) (sum-number (spanIn own i) (map (spanIn own) (listed f))
+      (omega (arith, length-map (listed f) (spanIn own), listed-length f))),
+)
   where
     whole : r ≡ distanceSum (spanIn own i) (map (spanIn own) (listed f))
     whole =

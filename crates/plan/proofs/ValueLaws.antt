@@ -6,7 +6,7 @@ use Prim.Native.Nat.{ℕ, zero, suc, _≤_, _<_}
 use native.Mathlib.Omega.{arith}
 use lib.Dec.{eqb, leb}
 use lib.Ieee.{Float, binary64, ofBits}
-use lib.ListN.{length, getD, take, length-map}
+use lib.ListN.{length, getD}
 use Rattle.lists.specs.Rows.{at}
 use Rattle.order.specs.Lists.{keep, upFrom}
 use Rattle.order.specs.Sorting.{sort}
@@ -18,13 +18,13 @@ use Rattle.topology.specs.Numbers.{pairOf}
 use Rattle.groups.specs.Tests.{every}
 use Rattle.order.proofs.Keep.{keep-length}
 use Rattle.links.specs.Limits.{Limits}
-use Rattle.links.specs.Sums.{noLater, ascendingSum, distanceSum}
+use Rattle.links.specs.Sums.{noLater}
 use Rattle.links.specs.Held.{SpanBounded, Number}
-use Rattle.links.proofs.Numbers.{distance-number, distance-sum-number}
+use Rattle.links.proofs.Numbers.{distance-number}
 use Rattle.plan.specs.declared.few.Few.{Few}
 use Rattle.plan.specs.Few.{held, slot, listed}
 use Rattle.plan.specs.Arrays.{joinsAt}
-use Rattle.plan.specs.Shape.{degreeIn, endsIn, regularIn, outerIn, alikeIn, allAlikeIn, gapIn, chainIn, leastIn, sumIn, nearerIn, fineIn, eligibleIn, retainedIn}
+use Rattle.plan.specs.Shape.{degreeIn, endsIn, regularIn, outerIn, alikeIn, allAlikeIn, gapIn, leastIn, sumIn, nearerIn, fineIn, eligibleIn, retainedIn}
 use Rattle.plan.specs.Fitting.{RankFits}
 use Rattle.plan.proofs.FewLaws.{Picked, listed-held}
 use Rattle.plan.proofs.ShapeLaws.{First, first-end, listed-length, picked-listed, Each, each-listed, held-count, sort-some}
@@ -47,7 +47,8 @@ gap-number firsts seconds own k e = subst Number (sym e) (distance-number (spanI
 
 pub least-listed : (bits : List ℕ) (f : Few) {k x : ℕ} → First totalLe (λ i. at bits (slot f i)) (f .count) k x → k ≡ 0 → x ≡ leastIn bits (listed f)
 unfolding leastIn listed
-least-listed bits f p e = first-end totalLe (λ i. at bits (slot f i)) (f .count) p e ∙ ap (λ (l : List ℕ). getD (sort totalLe l) 0 0) (sym (map-map (at bits) (slot f) (upFrom 0 (f .count))))
+least-listed bits f p e = first-end totalLe (λ i. at bits (slot f i)) (f .count) p e
+    ∙ ap (λ (l : List ℕ). getD (sort totalLe l) 0 0) (sym (map-map (at bits) (slot f) (upFrom 0 (f .count))))
 
 pub first-listed : (le : ℕ → ℕ → Bool) (f : Few) {k x : ℕ} → First le (slot f) (f .count) k x → k ≡ 0 → x ≡ getD (sort le (listed f)) 0 0
 unfolding listed
@@ -57,15 +58,19 @@ pub nearer-as : (own rs : List ℕ) (i j : ℕ) {x y : Float} {b : Bool} → x �
 unfolding nearerIn
 nearer-as own rs i j {x} {y} ex ey e = e ∙ both noLater ex ey
 
-pub all-alike-whole : (limits : Limits) (own : List ℕ) (f : Few) {k : ℕ} {b : Bool} → Each (λ i. every (alikeIn limits own i) (listed f)) (slot f) (f .count) k b → k ≡ 0 → b ≡ allAlikeIn limits own (listed f)
+pub all-alike-whole : (limits : Limits) (own : List ℕ) (f : Few) {k : ℕ} {b : Bool}
+    → Each (λ i. every (alikeIn limits own i) (listed f)) (slot f) (f .count) k b → k ≡ 0 → b ≡ allAlikeIn limits own (listed f)
 unfolding allAlikeIn
 all-alike-whole limits own f p e = each-listed (λ i. every (alikeIn limits own i) (listed f)) f p e
 
-pub ends-whole : (firsts seconds js : List ℕ) (f : Few) {k : ℕ} {h : Few} → Picked (λ i. eqb (degreeIn firsts seconds js i) 1) (slot f) (f .count) k h → k ≡ 0 → h ≡ held (endsIn firsts seconds (listed f) js)
+pub ends-whole : (firsts seconds js : List ℕ) (f : Few) {k : ℕ} {h : Few} → Picked (λ i. eqb (degreeIn firsts seconds js i) 1) (slot f) (f .count) k h → k ≡ 0
+    → h ≡ held (endsIn firsts seconds (listed f) js)
 unfolding endsIn
 ends-whole firsts seconds js f p e = picked-listed (λ i. eqb (degreeIn firsts seconds js i) 1) f p e
 
-pub regular-whole : (firsts seconds js : List ℕ) (f : Few) {k : ℕ} {b : Bool} → Each (λ i. leb 1 (degreeIn firsts seconds js i) && leb (degreeIn firsts seconds js i) 2) (slot f) (f .count) k b → k ≡ 0 → b ≡ regularIn firsts seconds (listed f) js
+pub regular-whole : (firsts seconds js : List ℕ) (f : Few) {k : ℕ} {b : Bool}
+    → Each (λ i. leb 1 (degreeIn firsts seconds js i) && leb (degreeIn firsts seconds js i) 2) (slot f) (f .count) k b → k ≡ 0
+    → b ≡ regularIn firsts seconds (listed f) js
 unfolding regularIn
 regular-whole firsts seconds js f p e = each-listed (λ i. leb 1 (degreeIn firsts seconds js i) && leb (degreeIn firsts seconds js i) 2) f p e
 
@@ -86,7 +91,8 @@ listed-first f h = go (f .count) h
     go zero h = absurd (omega arith)
     go (suc n) h = refl
 
-pub eligible-as : (limits : Limits) (bits rs : List ℕ) {w : ℕ} {x : Float} {f : Few} → x ≡ ofBits binary64 w → w ≡ leastIn bits rs → f ≡ held (keep (fineIn limits bits x) rs) → f ≡ held (eligibleIn limits bits rs)
+pub eligible-as : (limits : Limits) (bits rs : List ℕ) {w : ℕ} {x : Float} {f : Few} → x ≡ ofBits binary64 w → w ≡ leastIn bits rs
+    → f ≡ held (keep (fineIn limits bits x) rs) → f ≡ held (eligibleIn limits bits rs)
 unfolding eligibleIn
 eligible-as limits bits rs e q p = p ∙ ap (λ (y : Float). held (keep (fineIn limits bits y) rs)) (e ∙ ap (ofBits binary64) q)
 
@@ -98,18 +104,23 @@ any-first : (l : List ℕ) (d e : ℕ) → 0 < length l → getD l 0 d ≡ getD 
 any-first [] d e h = absurd (omega arith)
 any-first (x ∷ xs) d e h = refl
 
-pub retained-none : (limits : Limits) (own bits : List ℕ) (g : Few) {f : Few} {x : ℕ} → f ≡ held (eligibleIn limits bits (listed g)) → f .count ≡ 0 → 1 ≤ g .count → x ≡ slot g 0 → x ≡ retainedIn limits own bits (listed g)
+pub retained-none : (limits : Limits) (own bits : List ℕ) (g : Few) {f : Few} {x : ℕ} → f ≡ held (eligibleIn limits bits (listed g)) → f .count ≡ 0
+    → 1 ≤ g .count → x ≡ slot g 0 → x ≡ retainedIn limits own bits (listed g)
 unfolding retainedIn sort
 retained-none limits own bits g {f} e z h q =
-    let k : eligibleIn limits bits (listed g) ≡ [] = none-left (eligibleIn limits bits (listed g)) (sym (held-count (eligibleIn limits bits (listed g)) e) ∙ z) in
+    let k : eligibleIn limits bits (listed g) ≡ [] =
+    none-left (eligibleIn limits bits (listed g)) (sym (held-count (eligibleIn limits bits (listed g)) e) ∙ z) in
     q ∙ (listed-first g h ∙ ap (λ (l : List ℕ). getD (sort (nearerIn own (listed g)) l) 0 (getD (listed g) 0 0)) (sym k))
 
-pub retained-some : (limits : Limits) (own bits : List ℕ) (g : Few) {f : Few} {r : ℕ} → f ≡ held (eligibleIn limits bits (listed g)) → g .count ≤ 16 → (f .count ≡ 0 → ⊥) →
+pub retained-some : (limits : Limits) (own bits : List ℕ) (g : Few) {f : Few} {r : ℕ} → f ≡ held (eligibleIn limits bits (listed g)) → g .count ≤ 16
+    → (f .count ≡ 0 → ⊥) →
     r ≡ getD (sort (nearerIn own (listed g)) (listed f)) 0 0 → r ≡ retainedIn limits own bits (listed g)
 unfolding retainedIn eligibleIn
 retained-some limits own bits g {f} {r} e h n q =
-    let few : length (eligibleIn limits bits (listed g)) ≤ 16 = omega (arith, keep-length (fineIn limits bits (ofBits binary64 (leastIn bits (listed g)))) (listed g), listed-length g) in
+    let few : length (eligibleIn limits bits (listed g)) ≤ 16 =
+    omega (arith, keep-length (fineIn limits bits (ofBits binary64 (leastIn bits (listed g)))) (listed g), listed-length g) in
     let same : listed f ≡ eligibleIn limits bits (listed g) = ap listed e ∙ listed-held (eligibleIn limits bits (listed g)) few in
     let some : 0 < length (eligibleIn limits bits (listed g)) = omega (arith, positive (f .count) n, held-count (eligibleIn limits bits (listed g)) e) in
     q ∙ (ap (λ (l : List ℕ). getD (sort (nearerIn own (listed g)) l) 0 0) same
-    ∙ any-first (sort (nearerIn own (listed g)) (eligibleIn limits bits (listed g))) 0 (getD (listed g) 0 0) (sort-some (nearerIn own (listed g)) (eligibleIn limits bits (listed g)) some))
+    ∙ any-first (sort (nearerIn own (listed g)) (eligibleIn limits bits (listed g))) 0 (getD (listed g) 0 0)
+    (sort-some (nearerIn own (listed g)) (eligibleIn limits bits (listed g)) some))

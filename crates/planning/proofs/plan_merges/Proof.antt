@@ -11,13 +11,19 @@ measured-links-requires : tie.Need-measured-links-requires
 measured-links-requires c κs = search needs
 
 merge-plan-requires : tie.Need-merge-plan-requires
-merge-plan-requires c κs = let p = c .before .before .before .before .before .before .before .before .before .before .before .before .before .before .before .before .before .before .before .before .before .before .before .before .before .pre in (p .0, fit (p .1) (c .before .before .before .before .before .before .before .before .before .before .measured-links .ensures .1 .ranked), p .2)
+merge-plan-requires c κs =
+    let at-measured-links = c .before .before .before .before .before .before .before .before .before .before in
+    let start = at-measured-links .before .before .before .before .before .before .before .before .before .before .before .before .before .before .before in
+    let p = start .pre in
+    (p .0, fit (p .1) (at-measured-links .measured-links .ensures .1 .ranked), p .2)
 
 same-length : tie.Need-same-length
 same-length c = search needs
 
 returns : tie.Need-returns
-returns c = (c .before .before .before .before .before .before .before .before .before .before .before .measured-links .ensures .0, planned (c .before .before .before .before .before .before .before .before .before .before .before .measured-links .ensures .1) (c .merge-plan .ensures))
+returns c =
+    let at-measured-links = c .before .before .before .before .before .before .before .before .before .before .before in
+    (at-measured-links .measured-links .ensures .0, planned (at-measured-links .measured-links .ensures .1) (c .merge-plan .ensures))
 
 pub plan-merges-spec : {M : Type 1} → statement M
 plan-merges-spec =

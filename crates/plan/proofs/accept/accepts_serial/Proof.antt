@@ -30,28 +30,84 @@ group-is-simple-path-requires : tie.Need-group-is-simple-path-requires
 group-is-simple-path-requires c κs = (c .before .pre .1, c .before .pre .2, λ j. c .before .pre .3 j .below, λ j. c .before .pre .4 j .below)
 
 returns : tie.Need-returns
-returns c = serial-no (limitsOf (c .before .before .before .args .limits)) (c .before .before .before .args .own .now) (c .before .before .before .args .lowers .now) (c .before .before .before .args .highers .now) (c .before .before .before .args .regions .now) (c .before .before .before .args .firsts .now) (c .before .before .before .args .seconds .now) (c .before .before .before .args .passing .now) (listed (c .before .before .before .args .ranks)) (listed (c .before .before .before .args .links)) (c .before .before .all-on .ensures) (c .before .group-is-simple-path .ensures) (c .if1 .taken)
+returns c =
+    let at-all-on = c .before .before in
+    let start = at-all-on .before in
+    serial-no (limitsOf (start .args .limits)) (start .args .own .now) (start .args .lowers .now) (start .args .highers .now) (start .args .regions .now)
+    (start .args .firsts .now) (start .args .seconds .now) (start .args .passing .now) (listed (start .args .ranks)) (listed (start .args .links))
+    (at-all-on .all-on .ensures) (c .before .group-is-simple-path .ensures) (c .if1 .taken)
 
 group-end-nodes-requires : tie.Need-group-end-nodes-requires
 group-end-nodes-requires c κs = (c .before .before .before .pre .1, c .before .before .before .pre .2, λ j. c .before .before .before .pre .4 j .below)
 
 chain-sum-requires : tie.Need-chain-sum-requires
-chain-sum-requires c κs = let s = path-sizes (c .before .before .before .before .args .lowers .now) (c .before .before .before .before .args .highers .now) (c .before .before .before .before .args .regions .now) (c .before .before .before .before .args .firsts .now) (c .before .before .before .before .args .seconds .now) (limitsOf (c .before .before .before .before .args .limits) .leastSpans) (limitsOf (c .before .before .before .before .args .limits) .mostSpans) (listed (c .before .before .before .before .args .ranks)) (listed (c .before .before .before .before .args .links)) (serial-path (limitsOf (c .before .before .before .before .args .limits)) (c .before .before .before .before .args .own .now) (c .before .before .before .before .args .lowers .now) (c .before .before .before .before .args .highers .now) (c .before .before .before .before .args .regions .now) (c .before .before .before .before .args .firsts .now) (c .before .before .before .before .args .seconds .now) (c .before .before .before .all-on .result) (listed (c .before .before .before .before .args .ranks)) (listed (c .before .before .before .before .args .links)) (c .before .before .group-is-simple-path .ensures) (c .before .if1 .left)) in (omega (arith, s .0, s .2, listed-length (c .before .before .before .before .args .links)), omega (arith, s .1, s .2, c .before .before .before .before .pre .0, listed-length (c .before .before .before .before .args .links)), c .before .before .before .before .pre .4)
+chain-sum-requires c κs =
+    let at-simple-path = c .before .before in
+    let at-all-on = at-simple-path .before in
+    let start = at-all-on .before in
+    let seconds = start .args .seconds .now in
+    let regions = start .args .regions .now in
+    let highers = start .args .highers .now in
+    let firsts = start .args .firsts .now in
+    let lowers = start .args .lowers .now in
+    let links = start .args .links in
+    let ranks = start .args .ranks in
+    let s =
+    path-sizes lowers highers regions firsts seconds (limitsOf (start .args .limits) .leastSpans) (limitsOf (start .args .limits) .mostSpans)
+    (listed ranks) (listed links)
+    (serial-path (limitsOf (start .args .limits)) (start .args .own .now) lowers highers regions firsts seconds (at-all-on .all-on .result)
+    (listed ranks) (listed links) (at-simple-path .group-is-simple-path .ensures) (c .before .if1 .left))
+    in
+    (omega (arith, s .0, s .2, listed-length links), omega (arith, s .1, s .2, start .pre .0, listed-length links), start .pre .4)
 
 index-requires : tie.Need-index-requires
-index-requires c κs = (ends-slots (RankFits (c .before .before .before .before .before .args .own .now)) (c .before .before .before .before .before .args .firsts .now) (c .before .before .before .before .before .args .seconds .now) (listed (c .before .before .before .before .before .args .links)) (c .before .before .before .before .before .args .ranks) (c .before .group-end-nodes .ensures) (c .before .before .before .before .before .pre .3) (c .before .before .before .before .before .pre .5) 0) .below
+index-requires c κs =
+    let start = c .before .before .before .before .before in
+    (ends-slots (RankFits (start .args .own .now)) (start .args .firsts .now) (start .args .seconds .now) (listed (start .args .links)) (start .args .ranks)
+    (c .before .group-end-nodes .ensures) (start .pre .3) (start .pre .5) 0) .below
 
 index-requires-2 : tie.Need-index-requires-2
-index-requires-2 c κs = (ends-slots (RankFits (c .before .before .before .before .before .before .args .own .now)) (c .before .before .before .before .before .before .args .firsts .now) (c .before .before .before .before .before .before .args .seconds .now) (listed (c .before .before .before .before .before .before .args .links)) (c .before .before .before .before .before .before .args .ranks) (c .before .before .group-end-nodes .ensures) (c .before .before .before .before .before .before .pre .3) (c .before .before .before .before .before .before .pre .5) 1) .below
+index-requires-2 c κs =
+    let at-ends = c .before .before in
+    let start = at-ends .before .before .before .before in
+    (ends-slots (RankFits (start .args .own .now)) (start .args .firsts .now) (start .args .seconds .now) (listed (start .args .links)) (start .args .ranks)
+    (at-ends .group-end-nodes .ensures) (start .pre .3) (start .pre .5) 1) .below
 
 rank-distance-requires : tie.Need-rank-distance-requires
-rank-distance-requires c κs = (subst (RankFits (c .before .before .before .before .before .before .before .args .own .now)) (sym (c .before .index .ensures .0)) (ends-slots (RankFits (c .before .before .before .before .before .before .before .args .own .now)) (c .before .before .before .before .before .before .before .args .firsts .now) (c .before .before .before .before .before .before .before .args .seconds .now) (listed (c .before .before .before .before .before .before .before .args .links)) (c .before .before .before .before .before .before .before .args .ranks) (c .before .before .before .group-end-nodes .ensures) (c .before .before .before .before .before .before .before .pre .3) (c .before .before .before .before .before .before .before .pre .5) 0), subst (RankFits (c .before .before .before .before .before .before .before .args .own .now)) (sym (c .index2 .ensures .0)) (ends-slots (RankFits (c .before .before .before .before .before .before .before .args .own .now)) (c .before .before .before .before .before .before .before .args .firsts .now) (c .before .before .before .before .before .before .before .args .seconds .now) (listed (c .before .before .before .before .before .before .before .args .links)) (c .before .before .before .before .before .before .before .args .ranks) (c .before .before .before .group-end-nodes .ensures) (c .before .before .before .before .before .before .before .pre .3) (c .before .before .before .before .before .before .before .pre .5) 1))
+rank-distance-requires c κs =
+    let at-ends = c .before .before .before in
+    let start = at-ends .before .before .before .before in
+    let seconds = start .args .seconds .now in
+    let firsts = start .args .firsts .now in
+    let own = start .args .own .now in
+    let links = start .args .links in
+    let ranks = start .args .ranks in (
+      subst (RankFits own) (sym (c .before .index .ensures .0))
+          (ends-slots (RankFits own) firsts seconds (listed links) ranks (at-ends .group-end-nodes .ensures) (start .pre .3) (start .pre .5) 0),
+      subst (RankFits own) (sym (c .index2 .ensures .0))
+          (ends-slots (RankFits own) firsts seconds (listed links) ranks (at-ends .group-end-nodes .ensures) (start .pre .3) (start .pre .5) 1),
+    )
 
 short-requires : tie.Need-short-requires
 short-requires c κs = search needs
 
 returns-2 : tie.Need-returns-2
-returns-2 c = serial-yes (limitsOf (c .before .before .before .before .before .before .before .before .before .args .limits)) (c .before .before .before .before .before .before .before .before .before .args .own .now) (c .before .before .before .before .before .before .before .before .before .args .lowers .now) (c .before .before .before .before .before .before .before .before .before .args .highers .now) (c .before .before .before .before .before .before .before .before .before .args .regions .now) (c .before .before .before .before .before .before .before .before .before .args .firsts .now) (c .before .before .before .before .before .before .before .before .before .args .seconds .now) (c .before .before .before .before .before .before .before .before .before .args .passing .now) (listed (c .before .before .before .before .before .before .before .before .before .args .ranks)) (listed (c .before .before .before .before .before .before .before .before .before .args .links)) (c .before .before .before .before .before .before .before .before .all-on .ensures) (c .before .before .before .before .before .before .before .group-is-simple-path .ensures) (c .before .before .before .before .before .before .if1 .left) (c .short .ensures) (c .before .before .before .before .chain-sum .ensures) (c .before .rank-distance .ensures ∙ both (λ (i j : ℕ). centreDistance (spanIn (c .before .before .before .before .before .before .before .before .before .args .own .now) i) (spanIn (c .before .before .before .before .before .before .before .before .before .args .own .now) j)) (c .before .before .before .index .ensures .0 ∙ held-first _ (c .before .before .before .before .before .group-end-nodes .ensures)) (c .before .before .index2 .ensures .0 ∙ held-second _ (c .before .before .before .before .before .group-end-nodes .ensures)))
+returns-2 c =
+    let at-index2 = c .before .before in
+    let at-index = at-index2 .before in
+    let at-chain-sum = at-index .before in
+    let at-ends = at-chain-sum .before in
+    let tested = at-ends .before in
+    let at-simple-path = tested .before in
+    let at-all-on = at-simple-path .before in
+    let start = at-all-on .before in
+    let own = start .args .own .now in
+    serial-yes (limitsOf (start .args .limits)) own (start .args .lowers .now) (start .args .highers .now) (start .args .regions .now)
+    (start .args .firsts .now) (start .args .seconds .now) (start .args .passing .now) (listed (start .args .ranks)) (listed (start .args .links))
+    (at-all-on .all-on .ensures) (at-simple-path .group-is-simple-path .ensures) (tested .if1 .left) (c .short .ensures) (at-chain-sum .chain-sum .ensures)
+    (c .before .rank-distance .ensures
+    ∙ both (λ (i j : ℕ). centreDistance (spanIn own i) (spanIn own j)) (at-index .index .ensures .0 ∙ held-first _ (at-ends .group-end-nodes .ensures))
+    (at-index2 .index2 .ensures .0 ∙ held-second _ (at-ends .group-end-nodes .ensures)))
 
 pub accepts-serial-spec : {M : Type 1} → statement M
 accepts-serial-spec =

@@ -31,16 +31,33 @@ index-requires : tie.Need-index-requires Inv-loop μ-loop
 index-requires c κs = c .before .before .pre .1 (c .before .loop .j - 1) .below
 
 alike-requires : tie.Need-alike-requires Inv-loop μ-loop
-alike-requires c κs = (c .before .before .before .pre .0, subst (RankFits (c .before .before .before .args .own .now)) (sym (c .index .ensures .0)) (c .before .before .before .pre .1 (c .before .before .loop .j - 1)))
+alike-requires c κs =
+    let at-loop = c .before .before in
+    let start = at-loop .before in
+    (start .pre .0, subst (RankFits (start .args .own .now)) (sym (c .index .ensures .0)) (start .pre .1 (at-loop .loop .j - 1)))
 
 loop-less : tie.Need-loop-less Inv-loop μ-loop
 loop-less c = search needs
 
 loop-again : tie.Need-loop-again Inv-loop μ-loop
-loop-again c = (omega (arith, c .before .before .before .loop .inv .0), each-next (alikeIn (limitsOf (c .before .before .before .before .args .limits)) (c .before .before .before .before .args .own .now) (c .before .before .before .before .args .i)) (slot (c .before .before .before .before .args .ranks)) (c .before .before .before .before .args .ranks .count) (c .alike .result) (c .before .before .before .loop .inv .1) (c .before .before .loop-test .taken) (c .before .before .before .loop .inv .0) (c .alike .ensures ∙ ap (alikeIn (limitsOf (c .before .before .before .before .args .limits)) (c .before .before .before .before .args .own .now) (c .before .before .before .before .args .i)) (c .before .index .ensures .0)) refl)
+loop-again c =
+    let turning = c .before .before in
+    let at-loop = turning .before in
+    let start = at-loop .before in
+    let own = start .args .own .now in
+    let limits = start .args .limits in
+    let ranks = start .args .ranks in
+    let i = start .args .i in (
+      omega (arith, at-loop .loop .inv .0),
+      each-next (alikeIn (limitsOf limits) own i) (slot ranks) (ranks .count) (c .alike .result) (at-loop .loop .inv .1) (turning .loop-test .taken)
+          (at-loop .loop .inv .0) (c .alike .ensures ∙ ap (alikeIn (limitsOf limits) own i) (c .before .index .ensures .0)) refl,
+    )
 
 returns : tie.Need-returns Inv-loop μ-loop
-returns c = each-listed (alikeIn (limitsOf (c .before .before .args .limits)) (c .before .before .args .own .now) (c .before .before .args .i)) (c .before .before .args .ranks) (c .before .loop .inv .1) (omega (arith, c .loop-test .left))
+returns c =
+    let start = c .before .before in
+    each-listed (alikeIn (limitsOf (start .args .limits)) (start .args .own .now) (start .args .i)) (start .args .ranks) (c .before .loop .inv .1)
+    (omega (arith, c .loop-test .left))
 
 pub alike-to-all-spec : {M : Type 1} → statement M
 alike-to-all-spec =

@@ -18,13 +18,16 @@ use Rattle.plan.proofs.alike.alike_to_all.Reads as alike-to-all-reads
 use Rattle.plan.proofs.few.Few.index.Reads as index-reads
 
 abbrev Inv-loop : tie.InvT-loop
-Inv-loop limits own ranks all₀ j₀ all j = (j ≤ ranks .count) × Each (λ i. every (alikeIn (limitsOf limits) own i) (listed ranks)) (slot ranks) (ranks .count) j all
+Inv-loop limits own ranks all₀ j₀ all j =
+    (j ≤ ranks .count) × Each (λ i. every (alikeIn (limitsOf limits) own i) (listed ranks)) (slot ranks) (ranks .count) j all
 
 abbrev μ-loop : tie.MeasureT-loop
 μ-loop limits own ranks all₀ j₀ all j = j
 
 loop-holds : tie.Need-loop-holds Inv-loop μ-loop
-loop-holds c = (omega arith, each-start (λ i. every (alikeIn (limitsOf (c .args .limits)) (c .args .own .now) i) (listed (c .args .ranks))) (slot (c .args .ranks)) (c .args .ranks .count))
+loop-holds c =
+    let ranks = c .args .ranks in
+    (omega arith, each-start (λ i. every (alikeIn (limitsOf (c .args .limits)) (c .args .own .now) i) (listed ranks)) (slot ranks) (ranks .count))
 
 sub-j : tie.Need-sub-j Inv-loop μ-loop
 sub-j c = search needs
@@ -33,16 +36,33 @@ index-requires : tie.Need-index-requires Inv-loop μ-loop
 index-requires c κs = c .before .before .pre (c .before .loop .j - 1) .below
 
 alike-to-all-requires : tie.Need-alike-to-all-requires Inv-loop μ-loop
-alike-to-all-requires c κs = (subst (RankFits (c .before .before .before .args .own .now)) (sym (c .index .ensures .0)) (c .before .before .before .pre (c .before .before .loop .j - 1)), c .before .before .before .pre)
+alike-to-all-requires c κs =
+    let at-loop = c .before .before in
+    let start = at-loop .before in
+    (subst (RankFits (start .args .own .now)) (sym (c .index .ensures .0)) (start .pre (at-loop .loop .j - 1)), start .pre)
 
 loop-less : tie.Need-loop-less Inv-loop μ-loop
 loop-less c = search needs
 
 loop-again : tie.Need-loop-again Inv-loop μ-loop
-loop-again c = (omega (arith, c .before .before .before .loop .inv .0), each-next (λ i. every (alikeIn (limitsOf (c .before .before .before .before .args .limits)) (c .before .before .before .before .args .own .now) i) (listed (c .before .before .before .before .args .ranks))) (slot (c .before .before .before .before .args .ranks)) (c .before .before .before .before .args .ranks .count) (c .alike-to-all .result) (c .before .before .before .loop .inv .1) (c .before .before .loop-test .taken) (c .before .before .before .loop .inv .0) (c .alike-to-all .ensures ∙ ap (λ i. every (alikeIn (limitsOf (c .before .before .before .before .args .limits)) (c .before .before .before .before .args .own .now) i) (listed (c .before .before .before .before .args .ranks))) (c .before .index .ensures .0)) refl)
+loop-again c =
+    let turning = c .before .before in
+    let at-loop = turning .before in
+    let start = at-loop .before in
+    let own = start .args .own .now in
+    let limits = start .args .limits in
+    let ranks = start .args .ranks in (
+      omega (arith, at-loop .loop .inv .0),
+      each-next (λ i. every (alikeIn (limitsOf limits) own i) (listed ranks)) (slot ranks) (ranks .count) (c .alike-to-all .result) (at-loop .loop .inv .1)
+          (turning .loop-test .taken) (at-loop .loop .inv .0)
+          (c .alike-to-all .ensures ∙ ap (λ i. every (alikeIn (limitsOf limits) own i) (listed ranks)) (c .before .index .ensures .0)) refl,
+    )
 
 returns : tie.Need-returns Inv-loop μ-loop
-returns c = all-alike-whole (limitsOf (c .before .before .args .limits)) (c .before .before .args .own .now) (c .before .before .args .ranks) (c .before .loop .inv .1) (omega (arith, c .loop-test .left))
+returns c =
+    let start = c .before .before in
+    all-alike-whole (limitsOf (start .args .limits)) (start .args .own .now) (start .args .ranks) (c .before .loop .inv .1)
+    (omega (arith, c .loop-test .left))
 
 pub all-alike-spec : {M : Type 1} → statement M
 all-alike-spec =

@@ -1,8 +1,8 @@
 use mathlib.Core.Path.{sym, _∙_, ap, subst}
-use Prim.Native.Nat.{ℕ, _-_, _≤_}
+use Prim.Native.Nat.{_-_, _≤_}
 use native.Mathlib.Omega.{arith}
 use borrow.Author.Needs.{needs}
-use lib.Ieee.{Float, binary64, toBits}
+use lib.Ieee.{binary64, toBits}
 use Rattle.plan.specs.Few.{slot}
 use Rattle.plan.specs.Fitting.{LinkFits}
 use Rattle.plan.specs.Shape.{gapIn}
@@ -32,7 +32,8 @@ gap-requires : tie.Need-gap-requires Inv-loop μ-loop
 gap-requires c κs =
     let at-loop = c .before .before .before .before in
     let start = at-loop .before in
-    subst (LinkFits (start .args .own .now) (start .args .firsts .now) (start .args .seconds .now)) (sym (c .index .ensures .0)) (start .pre .1 (at-loop .loop .j))
+    subst (LinkFits (start .args .own .now) (start .args .firsts .now) (start .args .seconds .now)) (sym (c .index .ensures .0))
+    (start .pre .1 (at-loop .loop .j))
 
 float-to-bits-gaps : tie.Need-float-to-bits-gaps Inv-loop μ-loop
 float-to-bits-gaps c =
@@ -61,7 +62,8 @@ loop-again c =
     let start = at-loop .before in
     let gap = gapIn (start .args .firsts .now) (start .args .seconds .now) (start .args .own .now) in (
       omega (arith, at-size .before .if1 .taken),
-      written-next gap (slot (start .args .links)) (at-loop .loop .inv .1) (omega (arith, at-size .before .if1 .taken, start .pre .0)) (at-size .size .ensures .0)
+      written-next gap (slot (start .args .links)) (at-loop .loop .inv .1) (omega (arith, at-size .before .if1 .taken, start .pre .0))
+          (at-size .size .ensures .0)
           (ap (toBits binary64) (c .gap .ensures ∙ ap gap (c .before .index .ensures .0))),
     )
 
@@ -69,7 +71,8 @@ returns : tie.Need-returns Inv-loop μ-loop
 returns c =
     let at-loop = c .before .before in
     let start = at-loop .before .args in
-    written-end (gapIn (start .firsts .now) (start .seconds .now) (start .own .now)) (start .links) (at-loop .loop .inv .1) (at-loop .loop .inv .0) (c .if1 .left)
+    written-end (gapIn (start .firsts .now) (start .seconds .now) (start .own .now)) (start .links) (at-loop .loop .inv .1) (at-loop .loop .inv .0)
+    (c .if1 .left)
 
 pub fill-gaps-spec : {M : Type 1} → statement M
 fill-gaps-spec =

@@ -27,7 +27,12 @@ none-requires : tie.Need-none-requires Inv-loop μ-loop
 none-requires c κs = search needs
 
 loop-holds : tie.Need-loop-holds Inv-loop μ-loop
-loop-holds c = (omega arith, picked-start (linkIn (c .before .args .chosen .now) (c .before .args .firsts .now) (c .before .args .parts .now) (c .before .args .c)) (λ j. j) (c .before .args .links) (c .none .result) (c .none .ensures))
+loop-holds c =
+    let start = c .before in (
+      omega arith,
+      picked-start (linkIn (start .args .chosen .now) (start .args .firsts .now) (start .args .parts .now) (start .args .c)) (λ j. j) (start .args .links)
+          (c .none .result) (c .none .ensures),
+    )
 
 sub-k : tie.Need-sub-k Inv-loop μ-loop
 sub-k c = search needs
@@ -45,22 +50,46 @@ element-copy-out-part-at : tie.Need-element-copy-out-part-at Inv-loop μ-loop
 element-copy-out-part-at c = search needs
 
 part-at-requires : tie.Need-part-at-requires Inv-loop μ-loop
-part-at-requires c κs = c .before .before .before .before .before .before .pre .first-in (c .before .before .before .before .loop .k - 1) (omega (arith, c .before .before .before .before .loop .inv .0, c .before .before .before .loop-test .taken))
+part-at-requires c κs =
+    let turning = c .before .before .before in
+    let at-loop = turning .before in
+    let start = at-loop .before .before in
+    start .pre .first-in (at-loop .loop .k - 1) (omega (arith, at-loop .loop .inv .0, turning .loop-test .taken))
 
 in-part-requires : tie.Need-in-part-requires Inv-loop μ-loop
 in-part-requires c κs = search needs
 
 with-requires : tie.Need-with-requires Inv-loop μ-loop
-with-requires c κs = picked-room (linkIn (c .before .before .before .before .before .before .before .before .args .chosen .now) (c .before .before .before .before .before .before .before .before .args .firsts .now) (c .before .before .before .before .before .before .before .before .args .parts .now) (c .before .before .before .before .before .before .before .before .args .c)) (λ j. j) (c .before .before .before .before .before .before .before .before .args .links) (c .before .before .before .before .before .before .loop .inv .1) (c .before .before .before .before .before .before .before .before .pre .few)
+with-requires c κs =
+    let at-loop = c .before .before .before .before .before .before in
+    let start = at-loop .before .before in
+    picked-room (linkIn (start .args .chosen .now) (start .args .firsts .now) (start .args .parts .now) (start .args .c)) (λ j. j) (start .args .links)
+    (at-loop .loop .inv .1) (start .pre .few)
 
 loop-less : tie.Need-loop-less Inv-loop μ-loop
 loop-less c = search needs
 
 loop-again : tie.Need-loop-again Inv-loop μ-loop
-loop-again c = (omega (arith, c .before .before .before .before .before .before .before .loop .inv .0), picked-next (linkIn (c .before .before .before .before .before .before .before .before .before .args .chosen .now) (c .before .before .before .before .before .before .before .before .before .args .firsts .now) (c .before .before .before .before .before .before .before .before .before .args .parts .now) (c .before .before .before .before .before .before .before .before .before .args .c)) (λ j. j) (c .before .before .before .before .before .before .before .before .before .args .links) (c .before .in-part .result) (c .before .before .before .before .before .number .result) (c .before .before .before .before .before .before .before .loop .inv .1) (c .before .before .before .before .before .before .loop-test .taken) (c .before .before .before .before .before .before .before .loop .inv .0) (c .with .ensures) (c .before .in-part .ensures ∙ ap (λ (x : ℕ). eqb (getD (c .before .before .before .before .before .before .before .before .before .args .chosen .now) (c .before .before .before .before .before .before .before .loop .k - 1) 0) 1 && eqb x (c .before .before .before .before .before .before .before .before .before .args .c)) (c .before .before .part-at .ensures)) (c .before .before .before .before .before .number .ensures))
+loop-again c =
+    let at-part-at = c .before .before in
+    let at-number = at-part-at .before .before .before in
+    let turning = at-number .before in
+    let at-loop = turning .before in
+    let start = at-loop .before .before in
+    let chosen = start .args .chosen .now in
+    let whole-part = start .args .c in (
+      omega (arith, at-loop .loop .inv .0),
+      picked-next (linkIn chosen (start .args .firsts .now) (start .args .parts .now) whole-part) (λ j. j) (start .args .links) (c .before .in-part .result)
+          (at-number .number .result) (at-loop .loop .inv .1) (turning .loop-test .taken) (at-loop .loop .inv .0) (c .with .ensures)
+          (c .before .in-part .ensures ∙ ap (λ (x : ℕ). eqb (getD chosen (at-loop .loop .k - 1) 0) 1 && eqb x whole-part) (at-part-at .part-at .ensures))
+          (at-number .number .ensures),
+    )
 
 returns : tie.Need-returns Inv-loop μ-loop
-returns c = picked-whole (linkIn (c .before .before .before .args .chosen .now) (c .before .before .before .args .firsts .now) (c .before .before .before .args .parts .now) (c .before .before .before .args .c)) (c .before .before .before .args .links) (c .before .loop .inv .1) (omega (arith, c .loop-test .left))
+returns c =
+    let start = c .before .before .before in
+    picked-whole (linkIn (start .args .chosen .now) (start .args .firsts .now) (start .args .parts .now) (start .args .c)) (start .args .links)
+    (c .before .loop .inv .1) (omega (arith, c .loop-test .left))
 
 pub links-of-spec : {M : Type 1} → statement M
 links-of-spec =

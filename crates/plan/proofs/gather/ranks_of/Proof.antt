@@ -22,7 +22,12 @@ none-requires : tie.Need-none-requires Inv-loop μ-loop
 none-requires c κs = search needs
 
 loop-holds : tie.Need-loop-holds Inv-loop μ-loop
-loop-holds c = (omega arith, picked-start (inPart (c .before .args .joined .now) (c .before .args .parts .now) (c .before .args .c)) (λ j. j) (c .before .args .n) (c .none .result) (c .none .ensures))
+loop-holds c =
+    let start = c .before in (
+      omega arith,
+      picked-start (inPart (start .args .joined .now) (start .args .parts .now) (start .args .c)) (λ j. j) (start .args .n) (c .none .result)
+          (c .none .ensures),
+    )
 
 sub-i : tie.Need-sub-i Inv-loop μ-loop
 sub-i c = search needs
@@ -43,16 +48,32 @@ in-part-requires : tie.Need-in-part-requires Inv-loop μ-loop
 in-part-requires c κs = search needs
 
 with-requires : tie.Need-with-requires Inv-loop μ-loop
-with-requires c κs = picked-room (inPart (c .before .before .before .before .before .before .before .args .joined .now) (c .before .before .before .before .before .before .before .args .parts .now) (c .before .before .before .before .before .before .before .args .c)) (λ j. j) (c .before .before .before .before .before .before .before .args .n) (c .before .before .before .before .before .loop .inv .1) (c .before .before .before .before .before .before .before .pre)
+with-requires c κs =
+    let at-loop = c .before .before .before .before .before in
+    let start = at-loop .before .before in
+    picked-room (inPart (start .args .joined .now) (start .args .parts .now) (start .args .c)) (λ j. j) (start .args .n) (at-loop .loop .inv .1)
+    (start .pre)
 
 loop-less : tie.Need-loop-less Inv-loop μ-loop
 loop-less c = search needs
 
 loop-again : tie.Need-loop-again Inv-loop μ-loop
-loop-again c = (omega (arith, c .before .before .before .before .before .before .loop .inv .0), picked-next (inPart (c .before .before .before .before .before .before .before .before .args .joined .now) (c .before .before .before .before .before .before .before .before .args .parts .now) (c .before .before .before .before .before .before .before .before .args .c)) (λ j. j) (c .before .before .before .before .before .before .before .before .args .n) (c .before .in-part .result) (c .before .before .before .before .number .result) (c .before .before .before .before .before .before .loop .inv .1) (c .before .before .before .before .before .loop-test .taken) (c .before .before .before .before .before .before .loop .inv .0) (c .with .ensures) (c .before .in-part .ensures) (c .before .before .before .before .number .ensures))
+loop-again c =
+    let at-number = c .before .before .before .before in
+    let turning = at-number .before in
+    let at-loop = turning .before in
+    let start = at-loop .before .before in (
+      omega (arith, at-loop .loop .inv .0),
+      picked-next (inPart (start .args .joined .now) (start .args .parts .now) (start .args .c)) (λ j. j) (start .args .n) (c .before .in-part .result)
+          (at-number .number .result) (at-loop .loop .inv .1) (turning .loop-test .taken) (at-loop .loop .inv .0) (c .with .ensures) (c .before .in-part .ensures)
+          (at-number .number .ensures),
+    )
 
 returns : tie.Need-returns Inv-loop μ-loop
-returns c = picked-whole (inPart (c .before .before .before .args .joined .now) (c .before .before .before .args .parts .now) (c .before .before .before .args .c)) (c .before .before .before .args .n) (c .before .loop .inv .1) (omega (arith, c .loop-test .left))
+returns c =
+    let start = c .before .before .before in
+    picked-whole (inPart (start .args .joined .now) (start .args .parts .now) (start .args .c)) (start .args .n) (c .before .loop .inv .1)
+    (omega (arith, c .loop-test .left))
 
 pub ranks-of-spec : {M : Type 1} → statement M
 ranks-of-spec =

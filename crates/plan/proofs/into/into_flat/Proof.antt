@@ -12,7 +12,8 @@ use Rattle.plan.proofs.into.into_flat.Lts as lts
 use Rattle.plan.proofs.into.one_flat.Reads as one-flat-reads
 
 abbrev Inv-loop : tie.InvT-loop
-Inv-loop limits n own bits lowers highers regions firsts seconds links chosen joined parts into₀ i₀ into i = (i ≤ n) × Filled (flatInto (limitsOf limits) n own bits lowers highers regions firsts seconds links chosen joined parts) i into
+Inv-loop limits n own bits lowers highers regions firsts seconds links chosen joined parts into₀ i₀ into i =
+    (i ≤ n) × Filled (flatInto (limitsOf limits) n own bits lowers highers regions firsts seconds links chosen joined parts) i into
 
 abbrev μ-loop : tie.MeasureT-loop
 μ-loop limits n own bits lowers highers regions firsts seconds links chosen joined parts into₀ i₀ into i = n - i
@@ -21,13 +22,20 @@ loop-holds : tie.Need-loop-holds Inv-loop μ-loop
 loop-holds c = (omega arith, filled-none (c .pre .2))
 
 one-flat-requires : tie.Need-one-flat-requires Inv-loop μ-loop
-one-flat-requires c κs = (c .before .before .before .pre .0, c .before .before .before .pre .1, omega (arith, c .before .loop-test .taken, c .before .before .before .pre .1 .fit .few), c .before .before .loop .inv .1)
+one-flat-requires c κs =
+    let at-loop = c .before .before in
+    let start = at-loop .before in
+    (start .pre .0, start .pre .1, omega (arith, c .before .loop-test .taken, start .pre .1 .fit .few), at-loop .loop .inv .1)
 
 mul-into : tie.Need-mul-into Inv-loop μ-loop
 mul-into c = search needs
 
 element-write-into : tie.Need-element-write-into Inv-loop μ-loop
-element-write-into c = omega (arith, c .before .before .loop-test .taken, c .before .before .before .before .pre .1 .fit .few, c .before .before .before .loop .inv .1 .size)
+element-write-into c =
+    let turning = c .before .before in
+    let at-loop = turning .before in
+    let start = at-loop .before in
+    omega (arith, turning .loop-test .taken, start .pre .1 .fit .few, at-loop .loop .inv .1 .size)
 
 add-i : tie.Need-add-i Inv-loop μ-loop
 add-i c = search needs
@@ -36,7 +44,13 @@ loop-less : tie.Need-loop-less Inv-loop μ-loop
 loop-less c = search needs
 
 loop-again : tie.Need-loop-again Inv-loop μ-loop
-loop-again c = (omega (arith, c .before .before .loop-test .taken), filled-next (c .one-flat .result) (c .before .before .before .loop .inv .1) (omega (arith, c .before .before .loop-test .taken, c .before .before .before .before .pre .1 .fit .few)) (c .one-flat .ensures))
+loop-again c =
+    let turning = c .before .before in
+    let at-loop = turning .before in
+    let start = at-loop .before in (
+      omega (arith, turning .loop-test .taken),
+      filled-next (c .one-flat .result) (at-loop .loop .inv .1) (omega (arith, turning .loop-test .taken, start .pre .1 .fit .few)) (c .one-flat .ensures),
+    )
 
 returns : tie.Need-returns Inv-loop μ-loop
 returns c = filled-upto (c .before .loop .inv .1) (c .loop-test .left)

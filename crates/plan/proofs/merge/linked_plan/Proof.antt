@@ -18,7 +18,12 @@ combine-requires : tie.Need-combine-requires
 combine-requires c κs = search needs
 
 returns : tie.Need-returns
-returns c = plan-of (c .before .before .before .before .before .before .before .before .before .pre .1 .fit .few) (c .before .before .before .before .before .before .before .before .before .pre .1 .some) (c .before .before .before .before .before .before .before .before .before .pre .1 .fit .ranked) (c .before .before .before .before .before .before .before .serial-plan .ensures) (c .before .before .before .before .flat-plan .ensures) (c .combine .ensures)
+returns c =
+    let at-flat-plan = c .before .before .before .before in
+    let at-serial-plan = at-flat-plan .before .before .before in
+    let start = at-serial-plan .before .before in
+    plan-of (start .pre .1 .fit .few) (start .pre .1 .some) (start .pre .1 .fit .ranked) (at-serial-plan .serial-plan .ensures)
+    (at-flat-plan .flat-plan .ensures) (c .combine .ensures)
 
 pub linked-plan-spec : {M : Type 1} → statement M
 linked-plan-spec =

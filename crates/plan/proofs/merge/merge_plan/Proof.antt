@@ -21,7 +21,11 @@ returns-2 : tie.Need-returns-2
 returns-2 c = plan-unlinked (c .start2 .ensures) (c .before .before .before .before .pre .1 .few) (c .before .before .if2 .taken)
 
 linked-plan-requires : tie.Need-linked-plan-requires
-linked-plan-requires c κs = let p = c .before .before .before .pre in (p .0, record { some = omega (arith, c .before .before .if1 .left); linked = omega (arith, c .before .if2 .left); fit = p .1 }, p .2)
+linked-plan-requires c κs =
+    let tested = c .before .before in
+    let start-3 = tested .before in
+    let p = start-3 .pre in
+    (p .0, record { some = omega (arith, tested .if1 .left); linked = omega (arith, c .before .if2 .left); fit = p .1 }, p .2)
 
 returns-3 : tie.Need-returns-3
 returns-3 c = search needs

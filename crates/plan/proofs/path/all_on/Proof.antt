@@ -33,10 +33,21 @@ loop-less : tie.Need-loop-less Inv-loop μ-loop
 loop-less c = search needs
 
 loop-again : tie.Need-loop-again Inv-loop μ-loop
-loop-again c = (omega (arith, c .before .before .before .loop .inv .0), each-next (isOn (c .before .before .before .before .args .marks .now)) (slot (c .before .before .before .before .args .links)) (c .before .before .before .before .args .links .count) (isOn (c .before .before .before .before .args .marks .now) (c .before .index .result)) (c .before .before .before .loop .inv .1) (c .before .before .loop-test .taken) (c .before .before .before .loop .inv .0) (ap (isOn (c .before .before .before .before .args .marks .now)) (c .before .index .ensures .0)) refl)
+loop-again c =
+    let turning = c .before .before in
+    let at-loop = turning .before in
+    let start = at-loop .before in
+    let marks = start .args .marks .now in
+    let links = start .args .links in (
+      omega (arith, at-loop .loop .inv .0),
+      each-next (isOn marks) (slot links) (links .count) (isOn marks (c .before .index .result)) (at-loop .loop .inv .1) (turning .loop-test .taken)
+          (at-loop .loop .inv .0) (ap (isOn marks) (c .before .index .ensures .0)) refl,
+    )
 
 returns : tie.Need-returns Inv-loop μ-loop
-returns c = each-listed (isOn (c .before .before .args .marks .now)) (c .before .before .args .links) (c .before .loop .inv .1) (omega (arith, c .loop-test .left))
+returns c =
+    let start = c .before .before in
+    each-listed (isOn (start .args .marks .now)) (start .args .links) (c .before .loop .inv .1) (omega (arith, c .loop-test .left))
 
 pub all-on-spec : {M : Type 1} → statement M
 all-on-spec =

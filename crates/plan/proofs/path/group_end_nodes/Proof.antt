@@ -18,7 +18,8 @@ use Rattle.plan.proofs.few.Few.with.Reads as with-reads
 use Rattle.plan.proofs.path.links_at.Reads as links-at-reads
 
 abbrev Inv-loop : tie.InvT-loop
-Inv-loop firsts seconds ranks links found₀ j₀ found j = (j ≤ ranks .count) × Picked (λ (i : ℕ). eqb (degreeIn firsts seconds (listed links) i) 1) (slot ranks) (ranks .count) j found
+Inv-loop firsts seconds ranks links found₀ j₀ found j =
+    (j ≤ ranks .count) × Picked (λ (i : ℕ). eqb (degreeIn firsts seconds (listed links) i) 1) (slot ranks) (ranks .count) j found
 
 abbrev μ-loop : tie.MeasureT-loop
 μ-loop firsts seconds ranks links found₀ j₀ found j = j
@@ -27,7 +28,13 @@ none-requires : tie.Need-none-requires Inv-loop μ-loop
 none-requires c κs = search needs
 
 loop-holds : tie.Need-loop-holds Inv-loop μ-loop
-loop-holds c = (omega arith, picked-start (λ (i : ℕ). eqb (degreeIn (c .before .args .firsts .now) (c .before .args .seconds .now) (listed (c .before .args .links)) i) 1) (slot (c .before .args .ranks)) (c .before .args .ranks .count) (c .none .result) (c .none .ensures))
+loop-holds c =
+    let start = c .before in
+    let ranks = start .args .ranks in (
+      omega arith,
+      picked-start (λ (i : ℕ). eqb (degreeIn (start .args .firsts .now) (start .args .seconds .now) (listed (start .args .links)) i) 1) (slot ranks)
+          (ranks .count) (c .none .result) (c .none .ensures),
+    )
 
 sub-j : tie.Need-sub-j Inv-loop μ-loop
 sub-j c = search needs
@@ -39,16 +46,39 @@ links-at-requires : tie.Need-links-at-requires Inv-loop μ-loop
 links-at-requires c κs = (c .before .before .before .before .pre .1, c .before .before .before .before .pre .2)
 
 with-requires : tie.Need-with-requires Inv-loop μ-loop
-with-requires c κs = picked-room (λ (i : ℕ). eqb (degreeIn (c .before .before .before .before .before .before .args .firsts .now) (c .before .before .before .before .before .before .args .seconds .now) (listed (c .before .before .before .before .before .before .args .links)) i) 1) (slot (c .before .before .before .before .before .before .args .ranks)) (c .before .before .before .before .before .before .args .ranks .count) (c .before .before .before .before .loop .inv .1) (c .before .before .before .before .before .before .pre .0)
+with-requires c κs =
+    let at-loop = c .before .before .before .before in
+    let start = at-loop .before .before in
+    let ranks = start .args .ranks in
+    picked-room (λ (i : ℕ). eqb (degreeIn (start .args .firsts .now) (start .args .seconds .now) (listed (start .args .links)) i) 1) (slot ranks)
+    (ranks .count) (at-loop .loop .inv .1) (start .pre .0)
 
 loop-less : tie.Need-loop-less Inv-loop μ-loop
 loop-less c = search needs
 
 loop-again : tie.Need-loop-again Inv-loop μ-loop
-loop-again c = (omega (arith, c .before .before .before .before .before .loop .inv .0), picked-next (λ (i : ℕ). eqb (degreeIn (c .before .before .before .before .before .before .before .args .firsts .now) (c .before .before .before .before .before .before .before .args .seconds .now) (listed (c .before .before .before .before .before .before .before .args .links)) i) 1) (slot (c .before .before .before .before .before .before .before .args .ranks)) (c .before .before .before .before .before .before .before .args .ranks .count) (eqb (c .before .before .links-at .result .count) 1) (c .before .before .before .get .result) (c .before .before .before .before .before .loop .inv .1) (c .before .before .before .before .loop-test .taken) (c .before .before .before .before .before .loop .inv .0) (c .with .ensures) (ap (λ (d : ℕ). eqb d 1) (ap (λ (n : Near). n .count) (c .before .before .links-at .ensures)) ∙ ap (λ (i : ℕ). eqb (degreeIn (c .before .before .before .before .before .before .before .args .firsts .now) (c .before .before .before .before .before .before .before .args .seconds .now) (listed (c .before .before .before .before .before .before .before .args .links)) i) 1) (c .before .before .before .get .ensures)) (c .before .before .before .get .ensures))
+loop-again c =
+    let at-links-at = c .before .before in
+    let at-get = at-links-at .before in
+    let turning = at-get .before in
+    let at-loop = turning .before in
+    let start = at-loop .before .before in
+    let seconds = start .args .seconds .now in
+    let firsts = start .args .firsts .now in
+    let ranks = start .args .ranks in
+    let links = start .args .links in (
+      omega (arith, at-loop .loop .inv .0),
+      picked-next (λ (i : ℕ). eqb (degreeIn firsts seconds (listed links) i) 1) (slot ranks) (ranks .count) (eqb (at-links-at .links-at .result .count) 1)
+          (at-get .get .result) (at-loop .loop .inv .1) (turning .loop-test .taken) (at-loop .loop .inv .0) (c .with .ensures)
+          (ap (λ (d : ℕ). eqb d 1) (ap (λ (n : Near). n .count) (at-links-at .links-at .ensures))
+          ∙ ap (λ (i : ℕ). eqb (degreeIn firsts seconds (listed links) i) 1) (at-get .get .ensures)) (at-get .get .ensures),
+    )
 
 returns : tie.Need-returns Inv-loop μ-loop
-returns c = ends-whole (c .before .before .before .args .firsts .now) (c .before .before .before .args .seconds .now) (listed (c .before .before .before .args .links)) (c .before .before .before .args .ranks) (c .before .loop .inv .1) (omega (arith, c .loop-test .left))
+returns c =
+    let start = c .before .before .before in
+    ends-whole (start .args .firsts .now) (start .args .seconds .now) (listed (start .args .links)) (start .args .ranks) (c .before .loop .inv .1)
+    (omega (arith, c .loop-test .left))
 
 pub group-end-nodes-spec : {M : Type 1} → statement M
 group-end-nodes-spec =

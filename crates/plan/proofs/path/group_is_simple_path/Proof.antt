@@ -23,13 +23,28 @@ get-requires : tie.Need-get-requires
 get-requires c κs = search needs
 
 outer-requires : tie.Need-outer-requires
-outer-requires c κs = (c .before .before .pre .1, c .before .before .pre .3, subst (λ (i : ℕ). i < 256) (sym (c .get .ensures)) (ends-slots (λ x. x < 256) (c .before .before .args .firsts .now) (c .before .before .args .seconds .now) (listed (c .before .before .args .links)) (c .before .before .args .ranks) (c .before .group-end-nodes .ensures) (c .before .before .pre .2) (omega arith) 0))
+outer-requires c κs =
+    let start = c .before .before in (
+      start .pre .1,
+      start .pre .3,
+      subst (λ (i : ℕ). i < 256) (sym (c .get .ensures))
+          (ends-slots (λ x. x < 256) (start .args .firsts .now) (start .args .seconds .now) (listed (start .args .links)) (start .args .ranks)
+          (c .before .group-end-nodes .ensures) (start .pre .2) (omega arith) 0),
+    )
 
 get-requires-2 : tie.Need-get-requires-2
 get-requires-2 c κs = search needs
 
 outer-requires-2 : tie.Need-outer-requires-2
-outer-requires-2 c κs = (c .before .before .before .before .pre .1, c .before .before .before .before .pre .3, subst (λ (i : ℕ). i < 256) (sym (c .get2 .ensures)) (ends-slots (λ x. x < 256) (c .before .before .before .before .args .firsts .now) (c .before .before .before .before .args .seconds .now) (listed (c .before .before .before .before .args .links)) (c .before .before .before .before .args .ranks) (c .before .before .before .group-end-nodes .ensures) (c .before .before .before .before .pre .2) (omega arith) 1))
+outer-requires-2 c κs =
+    let at-ends = c .before .before .before in
+    let start = at-ends .before in (
+      start .pre .1,
+      start .pre .3,
+      subst (λ (i : ℕ). i < 256) (sym (c .get2 .ensures))
+          (ends-slots (λ x. x < 256) (start .args .firsts .now) (start .args .seconds .now) (listed (start .args .links)) (start .args .ranks)
+          (at-ends .group-end-nodes .ensures) (start .pre .2) (omega arith) 1),
+    )
 
 regular-requires : tie.Need-regular-requires
 regular-requires c κs = search needs
@@ -41,7 +56,18 @@ allowed-requires : tie.Need-allowed-requires
 allowed-requires c κs = search needs
 
 returns : tie.Need-returns
-returns c = path-as (c .before .before .before .before .before .before .before .before .before .before .args .lowers .now) (c .before .before .before .before .before .before .before .before .before .before .args .highers .now) (c .before .before .before .before .before .before .before .before .before .before .args .regions .now) (c .before .before .before .before .before .before .before .before .before .before .args .firsts .now) (c .before .before .before .before .before .before .before .before .before .before .args .seconds .now) (c .before .before .before .before .before .before .before .before .before .before .args .least) (limitsOf (c .before .before .before .before .before .before .before .before .before .before .args .limits) .mostSpans) (c .before .before .before .before .before .before .before .before .before .before .args .ranks) (c .before .before .before .before .before .before .before .before .before .before .args .links) (c .allowed .ensures) (c .before .before .before .before .before .before .before .before .before .group-end-nodes .ensures) (c .before .before .before .before .regular .ensures) (c .before .before .before .before .before .before .before .before .get .ensures) (c .before .before .before .before .before .before .get2 .ensures) (c .before .before .before .before .before .before .before .outer .ensures) (c .before .before .before .before .before .outer2 .ensures)
+returns c =
+    let at-regular = c .before .before .before .before in
+    let at-outer2 = at-regular .before in
+    let at-get2 = at-outer2 .before in
+    let at-outer = at-get2 .before in
+    let at-get = at-outer .before in
+    let at-ends = at-get .before in
+    let start = at-ends .before in
+    path-as (start .args .lowers .now) (start .args .highers .now) (start .args .regions .now) (start .args .firsts .now) (start .args .seconds .now)
+    (start .args .least) (limitsOf (start .args .limits) .mostSpans) (start .args .ranks) (start .args .links) (c .allowed .ensures)
+    (at-ends .group-end-nodes .ensures) (at-regular .regular .ensures) (at-get .get .ensures) (at-get2 .get2 .ensures) (at-outer .outer .ensures)
+    (at-outer2 .outer2 .ensures)
 
 pub group-is-simple-path-spec : {M : Type 1} → statement M
 group-is-simple-path-spec =

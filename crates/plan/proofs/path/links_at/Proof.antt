@@ -49,7 +49,8 @@ with-requires c κs =
     let at-loop = c .before .before .before .before .before .before in
     let start = at-loop .before in
     let links = start .args .links in
-    noted-room (joinsAt (start .args .firsts .now) (start .args .seconds .now) (start .args .i)) (slot links) (links .count) (at-loop .loop .inv .1) (start .pre .0)
+    noted-room (joinsAt (start .args .firsts .now) (start .args .seconds .now) (start .args .i)) (slot links) (links .count) (at-loop .loop .inv .1)
+    (start .pre .0)
 
 loop-less : tie.Need-loop-less Inv-loop μ-loop
 loop-less c = search needs
@@ -62,7 +63,8 @@ loop-again c =
     let joining = joinsAt (start .firsts .now) (start .seconds .now) (start .i) in (
       omega (arith, at-loop .loop .inv .0),
       noted-next joining (slot (start .links)) (start .links .count) (c .before .joins .result) (got .get .result) (at-loop .loop .inv .1)
-          (got .before .before .loop-test .taken) (at-loop .loop .inv .0) (c .with .ensures) (c .before .joins .ensures ∙ ap joining (got .before .index .ensures .0)) (got .get .ensures),
+          (got .before .before .loop-test .taken) (at-loop .loop .inv .0) (c .with .ensures)
+          (c .before .joins .ensures ∙ ap joining (got .before .index .ensures .0)) (got .get .ensures),
     )
 
 returns : tie.Need-returns Inv-loop μ-loop

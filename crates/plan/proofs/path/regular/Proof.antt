@@ -17,13 +17,23 @@ use Rattle.plan.proofs.few.Few.get.Reads as get-reads
 use Rattle.plan.proofs.path.links_at.Reads as links-at-reads
 
 abbrev Inv-loop : tie.InvT-loop
-Inv-loop firsts seconds ranks links all₀ j₀ all j = (j ≤ ranks .count) × Each (λ (i : ℕ). leb 1 (degreeIn firsts seconds (listed links) i) && leb (degreeIn firsts seconds (listed links) i) 2) (slot ranks) (ranks .count) j all
+Inv-loop firsts seconds ranks links all₀ j₀ all j =
+    (j ≤ ranks .count) × Each (λ (i : ℕ). leb 1 (degreeIn firsts seconds (listed links) i) && leb (degreeIn firsts seconds (listed links) i) 2) (slot ranks)
+    (ranks .count) j all
 
 abbrev μ-loop : tie.MeasureT-loop
 μ-loop firsts seconds ranks links all₀ j₀ all j = j
 
 loop-holds : tie.Need-loop-holds Inv-loop μ-loop
-loop-holds c = (omega arith, each-start (λ (i : ℕ). leb 1 (degreeIn (c .args .firsts .now) (c .args .seconds .now) (listed (c .args .links)) i) && leb (degreeIn (c .args .firsts .now) (c .args .seconds .now) (listed (c .args .links)) i) 2) (slot (c .args .ranks)) (c .args .ranks .count))
+loop-holds c =
+    let seconds = c .args .seconds .now in
+    let firsts = c .args .firsts .now in
+    let ranks = c .args .ranks in
+    let links = c .args .links in (
+      omega arith,
+      each-start (λ (i : ℕ). leb 1 (degreeIn firsts seconds (listed links) i) && leb (degreeIn firsts seconds (listed links) i) 2) (slot ranks)
+          (ranks .count),
+    )
 
 sub-j : tie.Need-sub-j Inv-loop μ-loop
 sub-j c = search needs
@@ -38,10 +48,29 @@ loop-less : tie.Need-loop-less Inv-loop μ-loop
 loop-less c = search needs
 
 loop-again : tie.Need-loop-again Inv-loop μ-loop
-loop-again c = (omega (arith, c .before .before .before .before .before .loop .inv .0), each-next (λ (i : ℕ). leb 1 (degreeIn (c .before .before .before .before .before .before .args .firsts .now) (c .before .before .before .before .before .before .args .seconds .now) (listed (c .before .before .before .before .before .before .args .links)) i) && leb (degreeIn (c .before .before .before .before .before .before .args .firsts .now) (c .before .before .before .before .before .before .args .seconds .now) (listed (c .before .before .before .before .before .before .args .links)) i) 2) (slot (c .before .before .before .before .before .before .args .ranks)) (c .before .before .before .before .before .before .args .ranks .count) (leb 1 (c .before .before .links-at .result .count) && leb (c .before .before .links-at .result .count) 2) (c .before .before .before .before .before .loop .inv .1) (c .before .before .before .before .loop-test .taken) (c .before .before .before .before .before .loop .inv .0) (ap (λ (d : ℕ). leb 1 d && leb d 2) (ap (λ (n : Near). n .count) (c .before .before .links-at .ensures)) ∙ ap (λ (i : ℕ). leb 1 (degreeIn (c .before .before .before .before .before .before .args .firsts .now) (c .before .before .before .before .before .before .args .seconds .now) (listed (c .before .before .before .before .before .before .args .links)) i) && leb (degreeIn (c .before .before .before .before .before .before .args .firsts .now) (c .before .before .before .before .before .before .args .seconds .now) (listed (c .before .before .before .before .before .before .args .links)) i) 2) (c .before .before .before .get .ensures)) refl)
+loop-again c =
+    let at-links-at = c .before .before in
+    let at-get = at-links-at .before in
+    let turning = at-get .before in
+    let at-loop = turning .before in
+    let start = at-loop .before in
+    let seconds = start .args .seconds .now in
+    let firsts = start .args .firsts .now in
+    let ranks = start .args .ranks in
+    let links = start .args .links in (
+      omega (arith, at-loop .loop .inv .0),
+      each-next (λ (i : ℕ). leb 1 (degreeIn firsts seconds (listed links) i) && leb (degreeIn firsts seconds (listed links) i) 2) (slot ranks) (ranks .count)
+          (leb 1 (at-links-at .links-at .result .count) && leb (at-links-at .links-at .result .count) 2) (at-loop .loop .inv .1) (turning .loop-test .taken)
+          (at-loop .loop .inv .0)
+          (ap (λ (d : ℕ). leb 1 d && leb d 2) (ap (λ (n : Near). n .count) (at-links-at .links-at .ensures))
+          ∙ ap (λ (i : ℕ). leb 1 (degreeIn firsts seconds (listed links) i) && leb (degreeIn firsts seconds (listed links) i) 2) (at-get .get .ensures)) refl,
+    )
 
 returns : tie.Need-returns Inv-loop μ-loop
-returns c = regular-whole (c .before .before .args .firsts .now) (c .before .before .args .seconds .now) (listed (c .before .before .args .links)) (c .before .before .args .ranks) (c .before .loop .inv .1) (omega (arith, c .loop-test .left))
+returns c =
+    let start = c .before .before in
+    regular-whole (start .args .firsts .now) (start .args .seconds .now) (listed (start .args .links)) (start .args .ranks) (c .before .loop .inv .1)
+    (omega (arith, c .loop-test .left))
 
 pub regular-spec : {M : Type 1} → statement M
 regular-spec =

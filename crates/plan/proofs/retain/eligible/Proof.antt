@@ -29,7 +29,13 @@ none-requires : tie.Need-none-requires Inv-loop μ-loop
 none-requires c κs = search needs
 
 loop-holds : tie.Need-loop-holds Inv-loop μ-loop
-loop-holds c = (omega arith, picked-start (fineIn (limitsOf (c .before .args .limits)) (c .before .args .bits .now) (c .before .args .least)) (slot (c .before .args .ranks)) (c .before .args .ranks .count) (c .none .result) (c .none .ensures))
+loop-holds c =
+    let start = c .before in
+    let ranks = start .args .ranks in (
+      omega arith,
+      picked-start (fineIn (limitsOf (start .args .limits)) (start .args .bits .now) (start .args .least)) (slot ranks) (ranks .count) (c .none .result)
+          (c .none .ensures),
+    )
 
 sub-j : tie.Need-sub-j Inv-loop μ-loop
 sub-j c = search needs
@@ -41,19 +47,44 @@ index-requires : tie.Need-index-requires Inv-loop μ-loop
 index-requires c κs = c .before .before .before .before .pre .1 (c .before .before .loop .j - 1) .below
 
 is-eligible-requires : tie.Need-is-eligible-requires Inv-loop μ-loop
-is-eligible-requires c κs = subst (WidthFits (c .before .before .before .before .before .args .bits .now)) (sym (c .index .ensures .0)) (c .before .before .before .before .before .pre .1 (c .before .before .before .loop .j - 1))
+is-eligible-requires c κs =
+    let at-loop = c .before .before .before in
+    let start = at-loop .before .before in
+    subst (WidthFits (start .args .bits .now)) (sym (c .index .ensures .0)) (start .pre .1 (at-loop .loop .j - 1))
 
 with-requires : tie.Need-with-requires Inv-loop μ-loop
-with-requires c κs = picked-room (fineIn (limitsOf (c .before .before .before .before .before .before .args .limits)) (c .before .before .before .before .before .before .args .bits .now) (c .before .before .before .before .before .before .args .least)) (slot (c .before .before .before .before .before .before .args .ranks)) (c .before .before .before .before .before .before .args .ranks .count) (c .before .before .before .before .loop .inv .1) (c .before .before .before .before .before .before .pre .0)
+with-requires c κs =
+    let at-loop = c .before .before .before .before in
+    let start = at-loop .before .before in
+    let ranks = start .args .ranks in
+    picked-room (fineIn (limitsOf (start .args .limits)) (start .args .bits .now) (start .args .least)) (slot ranks) (ranks .count) (at-loop .loop .inv .1)
+    (start .pre .0)
 
 loop-less : tie.Need-loop-less Inv-loop μ-loop
 loop-less c = search needs
 
 loop-again : tie.Need-loop-again Inv-loop μ-loop
-loop-again c = (omega (arith, c .before .before .before .before .before .loop .inv .0), picked-next (fineIn (limitsOf (c .before .before .before .before .before .before .before .args .limits)) (c .before .before .before .before .before .before .before .args .bits .now) (c .before .before .before .before .before .before .before .args .least)) (slot (c .before .before .before .before .before .before .before .args .ranks)) (c .before .before .before .before .before .before .before .args .ranks .count) (c .before .is-eligible .result) (c .before .before .before .get .result) (c .before .before .before .before .before .loop .inv .1) (c .before .before .before .before .loop-test .taken) (c .before .before .before .before .before .loop .inv .0) (c .with .ensures) (c .before .is-eligible .ensures ∙ ap (fineIn (limitsOf (c .before .before .before .before .before .before .before .args .limits)) (c .before .before .before .before .before .before .before .args .bits .now) (c .before .before .before .before .before .before .before .args .least)) (c .before .before .index .ensures .0)) (c .before .before .before .get .ensures))
+loop-again c =
+    let at-index = c .before .before in
+    let at-get = at-index .before in
+    let turning = at-get .before in
+    let at-loop = turning .before in
+    let start = at-loop .before .before in
+    let bits = start .args .bits .now in
+    let limits = start .args .limits in
+    let ranks = start .args .ranks in
+    let least = start .args .least in (
+      omega (arith, at-loop .loop .inv .0),
+      picked-next (fineIn (limitsOf limits) bits least) (slot ranks) (ranks .count) (c .before .is-eligible .result) (at-get .get .result)
+          (at-loop .loop .inv .1) (turning .loop-test .taken) (at-loop .loop .inv .0) (c .with .ensures)
+          (c .before .is-eligible .ensures ∙ ap (fineIn (limitsOf limits) bits least) (at-index .index .ensures .0)) (at-get .get .ensures),
+    )
 
 returns : tie.Need-returns Inv-loop μ-loop
-returns c = picked-listed (fineIn (limitsOf (c .before .before .before .args .limits)) (c .before .before .before .args .bits .now) (c .before .before .before .args .least)) (c .before .before .before .args .ranks) (c .before .loop .inv .1) (omega (arith, c .loop-test .left))
+returns c =
+    let start = c .before .before .before in
+    picked-listed (fineIn (limitsOf (start .args .limits)) (start .args .bits .now) (start .args .least)) (start .args .ranks) (c .before .loop .inv .1)
+    (omega (arith, c .loop-test .left))
 
 pub eligible-spec : {M : Type 1} → statement M
 eligible-spec =

@@ -34,7 +34,14 @@ element-copy-out-least : tie.Need-element-copy-out-least Inv-loop μ-loop
 element-copy-out-least c = search needs
 
 loop-holds : tie.Need-loop-holds Inv-loop μ-loop
-loop-holds c = (first-start totalLe (λ i. at (c .before .before .before .args .bits .now) (slot (c .before .before .before .args .ranks) i)) (c .before .before .before .args .ranks .count) (c .before .before .before .args .ranks .count - 1) (omega (arith, c .before .before .before .pre .0)) (ap (at (c .before .before .before .args .bits .now)) (c .before .index .ensures .0)), subst (λ (i : ℕ). at (c .before .before .before .args .bits .now) i ≤ 0x40D0_0000_0000_0000) (sym (c .before .index .ensures .0)) (c .before .before .before .pre .1 (c .before .before .before .args .ranks .count - 1) .fits))
+loop-holds c =
+    let start = c .before .before .before in
+    let bits = start .args .bits .now in
+    let ranks = start .args .ranks in (
+      first-start totalLe (λ i. at bits (slot ranks i)) (ranks .count) (ranks .count - 1) (omega (arith, start .pre .0))
+          (ap (at bits) (c .before .index .ensures .0)),
+      subst (λ (i : ℕ). at bits i ≤ 0x40D0_0000_0000_0000) (sym (c .before .index .ensures .0)) (start .pre .1 (ranks .count - 1) .fits),
+    )
 
 sub-j-2 : tie.Need-sub-j-2 Inv-loop μ-loop
 sub-j-2 c = search needs
@@ -49,16 +56,34 @@ element-copy-out-lesser : tie.Need-element-copy-out-lesser Inv-loop μ-loop
 element-copy-out-lesser c = search needs
 
 lesser-requires : tie.Need-lesser-requires Inv-loop μ-loop
-lesser-requires c κs = (subst (λ (i : ℕ). at (c .before .before .before .before .before .before .before .args .bits .now) i ≤ 0x40D0_0000_0000_0000) (sym (c .before .index2 .ensures .0)) (c .before .before .before .before .before .before .before .pre .1 (c .before .before .before .loop .j - 1) .fits), c .before .before .before .loop .inv .1)
+lesser-requires c κs =
+    let at-loop = c .before .before .before in
+    let start = at-loop .before .before .before .before in (
+      subst (λ (i : ℕ). at (start .args .bits .now) i ≤ 0x40D0_0000_0000_0000) (sym (c .before .index2 .ensures .0))
+          (start .pre .1 (at-loop .loop .j - 1) .fits),
+      at-loop .loop .inv .1,
+    )
 
 loop-less : tie.Need-loop-less Inv-loop μ-loop
 loop-less c = search needs
 
 loop-again : tie.Need-loop-again Inv-loop μ-loop
-loop-again c = (first-next totalLe (λ i. at (c .before .before .before .before .before .before .before .before .args .bits .now) (slot (c .before .before .before .before .before .before .before .before .args .ranks) i)) (c .before .before .before .before .before .before .before .before .args .ranks .count) (at (c .before .before .before .before .before .before .before .before .args .bits .now) (c .before .before .index2 .result)) (c .before .before .before .before .loop .inv .0) (c .before .before .before .loop-test .taken) (ap (at (c .before .before .before .before .before .before .before .before .args .bits .now)) (c .before .before .index2 .ensures .0)) (c .lesser .ensures .0), c .lesser .ensures .1)
+loop-again c =
+    let at-index2 = c .before .before in
+    let turning = at-index2 .before in
+    let at-loop = turning .before in
+    let start = at-loop .before .before .before .before in
+    let bits = start .args .bits .now in
+    let ranks = start .args .ranks in (
+      first-next totalLe (λ i. at bits (slot ranks i)) (ranks .count) (at bits (at-index2 .index2 .result)) (at-loop .loop .inv .0)
+          (turning .loop-test .taken) (ap (at bits) (at-index2 .index2 .ensures .0)) (c .lesser .ensures .0),
+      c .lesser .ensures .1,
+    )
 
 returns : tie.Need-returns Inv-loop μ-loop
-returns c = (least-listed (c .before .before .before .before .before .args .bits .now) (c .before .before .before .before .before .args .ranks) (c .before .loop .inv .0) (omega (arith, c .loop-test .left)), c .before .loop .inv .1)
+returns c =
+    let start = c .before .before .before .before .before in
+    (least-listed (start .args .bits .now) (start .args .ranks) (c .before .loop .inv .0) (omega (arith, c .loop-test .left)), c .before .loop .inv .1)
 
 pub least-bits-spec : {M : Type 1} → statement M
 least-bits-spec =

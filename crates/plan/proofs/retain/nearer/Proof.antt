@@ -19,10 +19,34 @@ no-later-requires : tie.Need-no-later-requires
 no-later-requires c κs = search needs
 
 returns : tie.Need-returns
-returns c = (choose-yes (c .before .before .before .before .args .i) (c .before .before .before .before .args .j) (sym (nearer-as (c .before .before .before .before .args .own .now) (listed (c .before .before .before .before .args .ranks)) (c .before .before .before .before .args .i) (c .before .before .before .before .args .j) (c .before .before .before .sum-from .ensures .0) (c .before .before .sum-from2 .ensures .0) (c .before .no-later .ensures)) ∙ c .if1 .taken), c .before .before .before .before .pre .2)
+returns c =
+    let at-sum-from2 = c .before .before in
+    let at-sum-from = at-sum-from2 .before in
+    let start = at-sum-from .before in
+    let j = start .args .j in
+    let i = start .args .i in (
+      choose-yes i j
+          (sym
+          (nearer-as (start .args .own .now) (listed (start .args .ranks)) i j (at-sum-from .sum-from .ensures .0) (at-sum-from2 .sum-from2 .ensures .0)
+          (c .before .no-later .ensures))
+          ∙ c .if1 .taken),
+      start .pre .2,
+    )
 
 returns-2 : tie.Need-returns-2
-returns-2 c = (choose-no (c .before .before .before .before .args .i) (c .before .before .before .before .args .j) (sym (nearer-as (c .before .before .before .before .args .own .now) (listed (c .before .before .before .before .args .ranks)) (c .before .before .before .before .args .i) (c .before .before .before .before .args .j) (c .before .before .before .sum-from .ensures .0) (c .before .before .sum-from2 .ensures .0) (c .before .no-later .ensures)) ∙ c .if1 .left), c .before .before .before .before .pre .3)
+returns-2 c =
+    let at-sum-from2 = c .before .before in
+    let at-sum-from = at-sum-from2 .before in
+    let start = at-sum-from .before in
+    let j = start .args .j in
+    let i = start .args .i in (
+      choose-no i j
+          (sym
+          (nearer-as (start .args .own .now) (listed (start .args .ranks)) i j (at-sum-from .sum-from .ensures .0) (at-sum-from2 .sum-from2 .ensures .0)
+          (c .before .no-later .ensures))
+          ∙ c .if1 .left),
+      start .pre .3,
+    )
 
 pub nearer-spec : {M : Type 1} → statement M
 nearer-spec =

@@ -28,7 +28,14 @@ index-requires : tie.Need-index-requires Inv-loop μ-loop
 index-requires c κs = c .before .pre .3 (c .before .args .among .count - 1) .below
 
 loop-holds : tie.Need-loop-holds Inv-loop μ-loop
-loop-holds c = (first-start (nearerIn (c .before .before .args .own .now) (listed (c .before .before .args .ranks))) (slot (c .before .before .args .among)) (c .before .before .args .among .count) (c .before .before .args .among .count - 1) (omega (arith, c .before .before .pre .1)) (c .index .ensures .0), subst (RankFits (c .before .before .args .own .now)) (sym (c .index .ensures .0)) (c .before .before .pre .3 (c .before .before .args .among .count - 1)))
+loop-holds c =
+    let start = c .before .before in
+    let own = start .args .own .now in
+    let among = start .args .among in (
+      first-start (nearerIn own (listed (start .args .ranks))) (slot among) (among .count) (among .count - 1) (omega (arith, start .pre .1))
+          (c .index .ensures .0),
+      subst (RankFits own) (sym (c .index .ensures .0)) (start .pre .3 (among .count - 1)),
+    )
 
 sub-j-2 : tie.Need-sub-j-2 Inv-loop μ-loop
 sub-j-2 c = search needs
@@ -37,16 +44,36 @@ index-requires-2 : tie.Need-index-requires-2 Inv-loop μ-loop
 index-requires-2 c κs = c .before .before .before .before .pre .3 (c .before .loop .j - 1) .below
 
 nearer-requires : tie.Need-nearer-requires Inv-loop μ-loop
-nearer-requires c κs = (c .before .before .before .before .before .pre .0, c .before .before .before .before .before .pre .2, subst (RankFits (c .before .before .before .before .before .args .own .now)) (sym (c .index2 .ensures .0)) (c .before .before .before .before .before .pre .3 (c .before .before .loop .j - 1)), c .before .before .loop .inv .1)
+nearer-requires c κs =
+    let at-loop = c .before .before in
+    let start = at-loop .before .before .before in (
+      start .pre .0,
+      start .pre .2,
+      subst (RankFits (start .args .own .now)) (sym (c .index2 .ensures .0)) (start .pre .3 (at-loop .loop .j - 1)),
+      at-loop .loop .inv .1,
+    )
 
 loop-less : tie.Need-loop-less Inv-loop μ-loop
 loop-less c = search needs
 
 loop-again : tie.Need-loop-again Inv-loop μ-loop
-loop-again c = (first-next (nearerIn (c .before .before .before .before .before .before .args .own .now) (listed (c .before .before .before .before .before .before .args .ranks))) (slot (c .before .before .before .before .before .before .args .among)) (c .before .before .before .before .before .before .args .among .count) (c .before .index2 .result) (c .before .before .before .loop .inv .0) (c .before .before .loop-test .taken) (c .before .index2 .ensures .0) (c .nearer .ensures .0), c .nearer .ensures .1)
+loop-again c =
+    let turning = c .before .before in
+    let at-loop = turning .before in
+    let start = at-loop .before .before .before in
+    let among = start .args .among in (
+      first-next (nearerIn (start .args .own .now) (listed (start .args .ranks))) (slot among) (among .count) (c .before .index2 .result)
+          (at-loop .loop .inv .0) (turning .loop-test .taken) (c .before .index2 .ensures .0) (c .nearer .ensures .0),
+      c .nearer .ensures .1,
+    )
 
 returns : tie.Need-returns Inv-loop μ-loop
-returns c = (first-listed (nearerIn (c .before .before .before .before .args .own .now) (listed (c .before .before .before .before .args .ranks))) (c .before .before .before .before .args .among) (c .before .loop .inv .0) (omega (arith, c .loop-test .left)), c .before .loop .inv .1 .below)
+returns c =
+    let start = c .before .before .before .before in (
+      first-listed (nearerIn (start .args .own .now) (listed (start .args .ranks))) (start .args .among) (c .before .loop .inv .0)
+          (omega (arith, c .loop-test .left)),
+      c .before .loop .inv .1 .below,
+    )
 
 pub nearest-spec : {M : Type 1} → statement M
 nearest-spec =

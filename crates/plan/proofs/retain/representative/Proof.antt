@@ -28,13 +28,46 @@ index-requires : tie.Need-index-requires
 index-requires c κs = c .before .before .before .before .before .pre .2 0 .below
 
 returns : tie.Need-returns
-returns c = (retained-none (limitsOf (c .before .before .before .before .before .before .args .limits)) (c .before .before .before .before .before .before .args .own .now) (c .before .before .before .before .before .before .args .bits .now) (c .before .before .before .before .before .before .args .ranks) (eligible-as (limitsOf (c .before .before .before .before .before .before .args .limits)) (c .before .before .before .before .before .before .args .bits .now) (listed (c .before .before .before .before .before .before .args .ranks)) (c .before .before .before .before .width-of .ensures) (c .before .before .before .before .before .least-bits .ensures .0) (c .before .before .before .eligible .ensures)) (c .before .if1 .taken) (c .before .before .before .before .before .before .pre .0) (c .index .ensures .0), c .index .ensures .1)
+returns c =
+    let at-eligible = c .before .before .before in
+    let at-width-of = at-eligible .before in
+    let at-least-bits = at-width-of .before in
+    let start = at-least-bits .before in
+    let bits = start .args .bits .now in
+    let limits = start .args .limits in
+    let ranks = start .args .ranks in (
+      retained-none (limitsOf limits) (start .args .own .now) bits ranks
+          (eligible-as (limitsOf limits) bits (listed ranks) (at-width-of .width-of .ensures) (at-least-bits .least-bits .ensures .0)
+          (at-eligible .eligible .ensures)) (c .before .if1 .taken) (start .pre .0) (c .index .ensures .0),
+      c .index .ensures .1,
+    )
 
 nearest-requires : tie.Need-nearest-requires
-nearest-requires c κs = (c .before .before .before .before .before .pre .0, positive (c .before .before .eligible .result .count) (c .if1 .left), c .before .before .before .before .before .pre .2, kept-slots (RankFits (c .before .before .before .before .before .args .own .now)) (fineIn (limitsOf (c .before .before .before .before .before .args .limits)) (c .before .before .before .before .before .args .bits .now) (c .before .before .before .width-of .result)) (c .before .before .before .before .before .args .ranks) (c .before .before .eligible .ensures) (c .before .before .before .before .before .pre .2) (c .before .before .before .before .before .pre .4))
+nearest-requires c κs =
+    let at-eligible = c .before .before in
+    let at-width-of = at-eligible .before in
+    let start = at-width-of .before .before in (
+      start .pre .0,
+      positive (at-eligible .eligible .result .count) (c .if1 .left),
+      start .pre .2,
+      kept-slots (RankFits (start .args .own .now)) (fineIn (limitsOf (start .args .limits)) (start .args .bits .now) (at-width-of .width-of .result))
+          (start .args .ranks) (at-eligible .eligible .ensures) (start .pre .2) (start .pre .4),
+    )
 
 returns-2 : tie.Need-returns-2
-returns-2 c = (retained-some (limitsOf (c .before .before .before .before .before .before .args .limits)) (c .before .before .before .before .before .before .args .own .now) (c .before .before .before .before .before .before .args .bits .now) (c .before .before .before .before .before .before .args .ranks) (eligible-as (limitsOf (c .before .before .before .before .before .before .args .limits)) (c .before .before .before .before .before .before .args .bits .now) (listed (c .before .before .before .before .before .before .args .ranks)) (c .before .before .before .before .width-of .ensures) (c .before .before .before .before .before .least-bits .ensures .0) (c .before .before .before .eligible .ensures)) (c .before .before .before .before .before .before .pre .1) (c .before .if1 .left) (c .nearest .ensures .0), c .nearest .ensures .1)
+returns-2 c =
+    let at-eligible = c .before .before .before in
+    let at-width-of = at-eligible .before in
+    let at-least-bits = at-width-of .before in
+    let start = at-least-bits .before in
+    let bits = start .args .bits .now in
+    let limits = start .args .limits in
+    let ranks = start .args .ranks in (
+      retained-some (limitsOf limits) (start .args .own .now) bits ranks
+          (eligible-as (limitsOf limits) bits (listed ranks) (at-width-of .width-of .ensures) (at-least-bits .least-bits .ensures .0)
+          (at-eligible .eligible .ensures)) (start .pre .1) (c .before .if1 .left) (c .nearest .ensures .0),
+      c .nearest .ensures .1,
+    )
 
 pub representative-spec : {M : Type 1} → statement M
 representative-spec =

@@ -1,6 +1,5 @@
 use mathlib.Core.Path.{sym, _∙_, ap, subst}
-use Prim.Native.Nat.{ℕ, _-_, _≤_}
-use native.Mathlib.Omega.{arith}
+use Prim.Native.Nat.{ℕ, _-_}
 use borrow.Author.Needs.{needs}
 use Rattle.areas.specs.Spans.{spanIn}
 use Rattle.links.specs.Geometry.{centreDistance}
@@ -49,7 +48,8 @@ loop-again c =
     let at-loop = c .before .before .before .before in
     let start = at-loop .before .before .before .args in
     let own = start .own .now in
-    summed-next (distanceAt own (start .i) (start .ranks)) (start .ranks .count) (c .rank-distance2 .result) (at-loop .loop .inv) (c .before .before .if1 .taken)
+    summed-next (distanceAt own (start .i) (start .ranks)) (start .ranks .count) (c .rank-distance2 .result) (at-loop .loop .inv)
+    (c .before .before .if1 .taken)
     (c .rank-distance2 .ensures ∙ ap (λ (k : ℕ). centreDistance (spanIn own (start .i)) (spanIn own k)) (c .before .index2 .ensures .0))
 
 returns : tie.Need-returns Inv-loop μ-loop
