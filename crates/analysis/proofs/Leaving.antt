@@ -14,9 +14,8 @@ use Rattle.order.specs.Lists.{upFrom}
 use Rattle.position.specs.declared.Span.{Span}
 use Rattle.format.specs.Values.{Boundary, Job}
 use Rattle.format.specs.Encode.{encodeAnswer}
-use Rattle.grid.specs.Directions.{eight}
 use Rattle.areas.specs.Assessments.{records}
-use Rattle.links.specs.Limits.{limits000}
+use Rattle.links.specs.Limits.{Limits}
 use Rattle.topology.specs.Anchors.{anchorsOf}
 use Rattle.groups.specs.Plan.{mergePlan}
 use Rattle.partition.specs.Partitioned.{labelled}
@@ -59,21 +58,21 @@ numbered (TooManySpans n) e = omega arith
 numbered (SpanOffMap i) e = omega arith
 numbered (SpanCoincides i) e = omega arith
 
-module _ (checks : List Check) (j : Job) (ss : List Span) (before : List ℕ) where
+module _ (limits : Limits) (dirs : List ℕ) (checks : List Check) (j : Job) (ss : List Span) (before : List ℕ) where
   -- a refusal of the input
   refused-input : {o : Option Refusal} {t : Bool} {n d : ℕ} → o ≡ firstRefusal checks → t ≡ passes o → not t ≡ true → n ≡ numberOf o → d ≡ detailOf o
-      → (answer : List ℕ) → leftBy n d before answer ≡ reduced limits000 eight checks j ss before answer
+      → (answer : List ℕ) → leftBy n d before answer ≡ reduced limits dirs checks j ss before answer
   unfolding reduced outcome
   refused-input {o} {t} {n} {d} e f g p q answer = go o e f p q
     where
-      go : (o : Option Refusal) → o ≡ firstRefusal checks → t ≡ passes o → n ≡ numberOf o → d ≡ detailOf o → leftBy n d before answer ≡ reduced limits000 eight checks j ss before answer
+      go : (o : Option Refusal) → o ≡ firstRefusal checks → t ≡ passes o → n ≡ numberOf o → d ≡ detailOf o → leftBy n d before answer ≡ reduced limits dirs checks j ss before answer
       go none e f p q = let z : _≡_ {A = Bool} true false = sym g ∙ ap not f in let i : _≡_ {A = ℕ} 0 1 = cc in absurd (omega arith)
       go (some r) e f p q =
           let a : firstRefusal (checks ++ (workCheck j before ∷ [])) ≡ some r = append-some checks _ r (sym e) in
           rw (a, p, q) refl
 
   pub left-refused : (v : Verdict) {t : Bool} {n d : ℕ} {order plan : List ℕ} → meaning v ≡ firstRefusal checks → t ≡ passes (meaning v) → not t ≡ true → n ≡ numberOf (meaning v) → d ≡ detailOf (meaning v)
-      → PlanLeft checks j ss before before order plan n d
+      → PlanLeft limits dirs checks j ss before before order plan n d
   left-refused v {t} {n} {d} e f g p q = record {
     refused = λ s answer. refused-input e f g p q answer;
     made = λ z. absurd (let s = numbered v (sym f ∙ not-true t g) in omega (arith, p));
@@ -81,7 +80,7 @@ module _ (checks : List Check) (j : Job) (ss : List Span) (before : List ℕ) wh
 
   module _ (e : firstRefusal checks ≡ none) where
     -- 21
-    pub left-short : {order plan : List ℕ} → length before < workSize j → PlanLeft checks j ss before before order plan 21 0
+    pub left-short : {order plan : List ℕ} → length before < workSize j → PlanLeft limits dirs checks j ss before before order plan 21 0
     unfolding reduced outcome
     left-short l = record {
       refused = λ s answer.
@@ -91,35 +90,35 @@ module _ (checks : List Check) (j : Job) (ss : List Span) (before : List ℕ) wh
       made = λ z. absurd (omega (arith, z));
     }
 
-    module _ (w : workSize j ≤ length before) {after plan : List ℕ} {pairs : ℕ} (y : Drawn j ss before after plan pairs) where
+    module _ (w : workSize j ≤ length before) {after plan : List ℕ} {pairs : ℕ} (y : Drawn limits dirs j ss before after plan pairs) where
       -- 13
-      pub left-many : {order : List ℕ} → 4096 < pairs → PlanLeft checks j ss before after order plan 13 0
+      pub left-many : {order : List ℕ} → 4096 < pairs → PlanLeft limits dirs checks j ss before after order plan 13 0
       unfolding reduced outcome afterWork
       left-many h = record {
         refused = λ s answer.
-            let n = length (answerOf limits000 eight j ss) in
+            let n = length (answerOf limits dirs j ss) in
             let a : firstRefusal (checks ++ (workCheck j before ∷ [])) ≡ none = append-none checks _ e ∙ clear 21 0 (le-ltb _ _ w) in
-            let b : firstRefusal (pairCheck eight j ss ∷ check (ltb (length answer) n) 22 n ∷ []) ≡ some (record { number = 13; detail = 0 })
+            let b : firstRefusal (pairCheck dirs j ss ∷ check (ltb (length answer) n) 22 n ∷ []) ≡ some (record { number = 13; detail = 0 })
             = stop 13 0 (check (ltb (length answer) n) 22 n ∷ []) (lt-ltb _ _ (parted-many y h)) in
             rw (a, b, y .work-is) refl;
         made = λ z. absurd (omega (arith, z));
       }
 
       -- the plan
-      pub left-made : {order : List ℕ} → pairs ≤ 4096 → RankedBy j order → PlanLeft checks j ss before after order plan 0 0
+      pub left-made : {order : List ℕ} → pairs ≤ 4096 → RankedBy j order → PlanLeft limits dirs checks j ss before after order plan 0 0
       left-made h k = record {
         refused = λ s. absurd (omega (arith, s));
         made = λ z. record { passed = e; room = w; few = parted-few y h; nothing = refl; work-is = y .work-is; ranks = k; plan-is = y .told (parted-few y h) };
       }
 
 -- 22
-reduced-short : (checks : List Check) (j : Job) (ss : List Span) (work answer : List ℕ) → firstRefusal checks ≡ none → workSize j ≤ length work → length (records eight (gridOf j) ss) ≤ maxPairs
-    → length answer < length (answerOf limits000 eight j ss) → reduced limits000 eight checks j ss work answer ≡ leftBy 22 (length (answerOf limits000 eight j ss)) (labelled (labelsOf eight j ss) work) answer
+reduced-short : (limits : Limits) (dirs : List ℕ) (checks : List Check) (j : Job) (ss : List Span) (work answer : List ℕ) → firstRefusal checks ≡ none → workSize j ≤ length work → length (records dirs (gridOf j) ss) ≤ maxPairs
+    → length answer < length (answerOf limits dirs j ss) → reduced limits dirs checks j ss work answer ≡ leftBy 22 (length (answerOf limits dirs j ss)) (labelled (labelsOf dirs j ss) work) answer
 unfolding reduced outcome afterWork
-reduced-short checks j ss work answer e w p a =
-    let n = length (answerOf limits000 eight j ss) in
+reduced-short limits dirs checks j ss work answer e w p a =
+    let n = length (answerOf limits dirs j ss) in
     let before : firstRefusal (checks ++ (workCheck j work ∷ [])) ≡ none = append-none checks _ e ∙ clear 21 0 (le-ltb _ _ w) in
-    let later : firstRefusal (pairCheck eight j ss ∷ check (ltb (length answer) n) 22 n ∷ []) ≡ some (record { number = 22; detail = n })
+    let later : firstRefusal (pairCheck dirs j ss ∷ check (ltb (length answer) n) 22 n ∷ []) ≡ some (record { number = 22; detail = n })
     = skip 13 0 (check (ltb (length answer) n) 22 n ∷ []) (le-ltb _ _ p) ∙ stop 22 n [] (lt-ltb _ _ a) in
     rw (before, later) refl
 
@@ -141,26 +140,26 @@ module _ (j : Job) (order : List ℕ) (k : RankedBy j order) where
       ∙ ap encodeAnswer (planned-ext (copiesOf (j .boundaries)) (λ i. getD plan i 0) f (λ i l. h i (omega (arith, copies-length (j .boundaries)))))
 
   -- they are the answer
-  pub answer-bytes : (ss : List Span) (plan : List ℕ) → ((i : ℕ) → i < length (j .boundaries) → getD plan i 0 ≡ planOf limits000 eight j ss i) → bytesBy (j .boundaries) order plan ≡ answerOf limits000 eight j ss
+  pub answer-bytes : (limits : Limits) (dirs : List ℕ) (ss : List Span) (plan : List ℕ) → ((i : ℕ) → i < length (j .boundaries) → getD plan i 0 ≡ planOf limits dirs j ss i) → bytesBy (j .boundaries) order plan ≡ answerOf limits dirs j ss
   unfolding planOf
-  answer-bytes ss plan h = by-cases (ℕ-discrete (length (j .boundaries)) (length ss))
-      (λ e. planned-bytes plan (mergePlan limits000 eight (gridOf j) (anchorsOf (j .bases)) (listingOf j ss)) (λ i l. h i l ∙ ap (λ (t : Bool). cond t (mergePlan limits000 eight (gridOf j) (anchorsOf (j .bases)) (listingOf j ss) i) i) (eq-eqb _ _ e))
-      ∙ sym (matched-answer limits000 eight j ss e))
-      (λ e. planned-bytes plan (λ i. i) (λ i l. h i l ∙ ap (λ (t : Bool). cond t (mergePlan limits000 eight (gridOf j) (anchorsOf (j .bases)) (listingOf j ss) i) i) (ne-eqb _ _ e)) ∙ sym (unmatched-answer limits000 eight j ss e))
+  answer-bytes limits dirs ss plan h = by-cases (ℕ-discrete (length (j .boundaries)) (length ss))
+      (λ e. planned-bytes plan (mergePlan limits dirs (gridOf j) (anchorsOf (j .bases)) (listingOf j ss)) (λ i l. h i l ∙ ap (λ (t : Bool). cond t (mergePlan limits dirs (gridOf j) (anchorsOf (j .bases)) (listingOf j ss) i) i) (eq-eqb _ _ e))
+      ∙ sym (matched-answer limits dirs j ss e))
+      (λ e. planned-bytes plan (λ i. i) (λ i l. h i l ∙ ap (λ (t : Bool). cond t (mergePlan limits dirs (gridOf j) (anchorsOf (j .bases)) (listingOf j ss) i) i) (ne-eqb _ _ e)) ∙ sym (unmatched-answer limits dirs j ss e))
 
-module _ {checks : List Check} {j : Job} {ss : List Span} {before after order plan : List ℕ} {zero : ℕ} (y : Made checks j ss before after order plan zero) where
+module _ {limits : Limits} {dirs : List ℕ} {checks : List Check} {j : Job} {ss : List Span} {before after order plan : List ℕ} {zero : ℕ} (y : Made limits dirs checks j ss before after order plan zero) where
   abbrev written : List ℕ
-  written = answerOf limits000 eight j ss
+  written = answerOf limits dirs j ss
 
   -- 22, or success
   pub left-finished : {answer out : List ℕ} {number detail : ℕ} → Finished (bytesBy (j .boundaries) order plan) answer out number detail
-      → leftBy number detail after out ≡ reduced limits000 eight checks j ss before answer
+      → leftBy number detail after out ≡ reduced limits dirs checks j ss before answer
   left-finished {answer} {out} {number} {detail} f =
-      let z : Finished written answer out number detail = subst (λ (bs : List ℕ). Finished bs answer out number detail) (answer-bytes j order (y .ranks) ss plan (y .plan-is)) f in
+      let z : Finished written answer out number detail = subst (λ (bs : List ℕ). Finished bs answer out number detail) (answer-bytes j order (y .ranks) limits dirs ss plan (y .plan-is)) f in
       by-cases (decLt (length answer) (length written)) (short z) (λ h. fits z (omega arith))
     where
-      short : Finished written answer out number detail → length answer < length written → leftBy number detail after out ≡ reduced limits000 eight checks j ss before answer
-      short z h = rw (z .unwritten h .0, z .unwritten h .1, z .long, y .work-is) (sym (reduced-short checks j ss before answer (y .passed) (y .room) (y .few) h))
+      short : Finished written answer out number detail → length answer < length written → leftBy number detail after out ≡ reduced limits dirs checks j ss before answer
+      short z h = rw (z .unwritten h .0, z .unwritten h .1, z .long, y .work-is) (sym (reduced-short limits dirs checks j ss before answer (y .passed) (y .room) (y .few) h))
 
-      fits : Finished written answer out number detail → length written ≤ length answer → leftBy number detail after out ≡ reduced limits000 eight checks j ss before answer
-      fits z h = rw (z .written h .0, z .written h .1, z .long, y .work-is) (sym (reduced-success limits000 eight checks j ss before answer (y .passed) (y .room) (y .few) h))
+      fits : Finished written answer out number detail → length written ≤ length answer → leftBy number detail after out ≡ reduced limits dirs checks j ss before answer
+      fits z h = rw (z .written h .0, z .written h .1, z .long, y .work-is) (sym (reduced-success limits dirs checks j ss before answer (y .passed) (y .room) (y .few) h))

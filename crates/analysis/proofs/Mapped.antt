@@ -11,12 +11,12 @@ use Rattle.format.specs.Decode.{decode, jobWith}
 use Rattle.format.specs.declared.header.Header.{Header}
 use Rattle.areas.specs.Spans.{SpansFit}
 use Rattle.assessments.specs.Visits.{mapOf}
-use Rattle.grid.proofs.Directions.{directions-eight, eight-closed}
 use Rattle.checks.specs.Passed.{Laid}
 use Rattle.checks.proofs.Limits.{sections}
 use Rattle.partition.specs.Partitioned.{Partitionable}
 use Rattle.results.specs.Rules.{gridOf}
 use Rattle.results.specs.Results.{workSize}
+use Rattle.analysis.specs.Plans.{Leads}
 
 module _ {s : List ℕ} {h : Header} (k : h ≡ headerAt s) (l : Laid s h) where
   pub header-counts : h .counts ≡ countsAt s 0
@@ -45,12 +45,12 @@ module _ {s : List ℕ} {h : Header} (k : h ≡ headerAt s) (l : Laid s h) where
     map-is = rw (header-counts, map-cells) refl
 
     -- spans that fit it can partition it
-    pub map-partitionable : {ends work : List ℕ} {count : ℕ} → SpansFit (h .counts .width) (h .counts .height) ends count → count ≤ 256 → workSize (decode s) ≤ length work
-        → Partitionable (h .counts .width) (h .counts .height) cells 495 ends count work
-    map-partitionable f few room = record {
+    pub map-partitionable : {directions : ℕ} → Leads directions → {ends work : List ℕ} {count : ℕ} → SpansFit (h .counts .width) (h .counts .height) ends count → count ≤ 256 → workSize (decode s) ≤ length work
+        → Partitionable (h .counts .width) (h .counts .height) cells directions ends count work
+    map-partitionable leads f few room = record {
       sides = record { columns = omega (arith, l .within .width-some); rows = omega (arith, l .within .height-some); wide = l .within .width; high = l .within .height };
       whole = map-long;
-      each = rw directions-eight (eight-closed .each);
+      each = leads;
       spans = f;
       few = few;
       room = rw map-cells room;

@@ -15,14 +15,12 @@ use Rattle.format.specs.declared.header.Counts.{Counts}
 use Rattle.format.specs.declared.header.Header.{Header}
 use Rattle.format.proofs.ListTrip.{length-decodeList}
 use Rattle.grid.specs.Cells.{Grid, size}
-use Rattle.grid.specs.Directions.{eight, directionsOf}
-use Rattle.grid.proofs.Directions.{directions-eight}
 use Rattle.areas.specs.Spans.{spansIn, SpansFit}
 use Rattle.areas.specs.Assessments.{records}
 use Rattle.assessments.specs.Visits.{mapOf}
 use Rattle.topology.specs.Anchors.{anchorsOf}
 use Rattle.groups.specs.Plan.{mergePlan}
-use Rattle.links.specs.Limits.{limits000}
+use Rattle.links.specs.Limits.{Limits}
 use Rattle.ranks.specs.Tables.{Records, SpansOf, Identity}
 use Rattle.checks.specs.Checks.{firstRefusal}
 use Rattle.job.specs.Refusals.{reduceChecks, byListChecks}
@@ -31,7 +29,7 @@ use Rattle.partition.specs.declared.Partition.{Partition}
 use Rattle.results.specs.Rules.{gridOf, listingOf}
 use Rattle.results.specs.Results.{workSize, maxPairs, ownEnds}
 use Rattle.analysis.specs.Bridging.{Bridged, MarkedWithin}
-use Rattle.analysis.specs.Plans.{planOf, Headed, RankedJob, Plannable, EndsBy, SomeEnds, Told, SomeTold, DrawnWithin, Drawn}
+use Rattle.analysis.specs.Plans.{planOf, Leads, Headed, RankedJob, Plannable, EndsBy, SomeEnds, Told, SomeTold, DrawnWithin, Drawn}
 use Rattle.analysis.proofs.Ranked.{ByRank}
 use Rattle.analysis.proofs.Checked.{boundariesAt, Checked, ListChecked, checked, by-list-checked}
 use Rattle.analysis.proofs.RankedTables.{order-in, own-ends-ranked, list-ends-ranked, own-ends-fit, list-ends-fit, own-matched, list-matched, list-records, labels-listed, records-listed}
@@ -40,16 +38,13 @@ use Rattle.analysis.proofs.Mapped.{map-cells, map-long, map-is, map-par
 use Rattle.analysis.proofs.Merges.{plan-ranks}
 use Rattle.analysis.proofs.Telling.{told-work, told-over, told-pairs, told-few, told}
 
--- the map and the directions of a partition are the job's
+-- the map of a partition is the job's
 module _ {s : List ℕ} {h : Header} (d : Headed s h) (n : ℕ) (e : n ≡ h .counts .width * h .counts .height) where
   abbrev cells : List ℕ
   cells = take (48 + n - 48) (drop 48 s)
 
-  pub on-job : (P : List ℕ → Grid → ℕ → Type 0) {count m : ℕ} → count ≡ m → P (directionsOf 495) (mapOf (h .counts .width) (h .counts .height) cells) count → P eight (gridOf (decode s)) m
-  on-job P {count} f r =
-      subst (P eight (gridOf (decode s))) f
-      (subst (λ (g : Grid). P eight g count) (map-is (d .header) (headed-laid d) n e)
-      (subst (λ (ds : List ℕ). P ds (mapOf (h .counts .width) (h .counts .height) cells) count) directions-eight r))
+  pub on-job : (P : Grid → ℕ → Type 0) {count m : ℕ} → count ≡ m → P (mapOf (h .counts .width) (h .counts .height) cells) count → P (gridOf (decode s)) m
+  on-job P {count} f r = subst (P (gridOf (decode s))) f (subst (λ (g : Grid). P g count) (map-is (d .header) (headed-laid d) n e) r)
 
   cells-few : size (gridOf (decode s)) ≤ 1048576
   cells-few = omega (arith, ap length (map-cells (d .header) (headed-laid d) n e), map-long (d .header) (headed-laid d) n e, headed-cells d)
@@ -62,34 +57,34 @@ module _ {s : List ℕ} {h : Header} {order before : List ℕ} (p : Plannable s 
   c : Checked (p .job .headed .distinct) s
   c = headed-checked (p .job .headed)
 
-  pub matched-partitionable : {ends : List ℕ} → SpansFit (h .counts .width) (h .counts .height) ends (h .counts .boundaries) → Partitionable (h .counts .width) (h .counts .height) (take (48 + n - 48) (drop 48 s)) 495 ends count before
-  matched-partitionable {ends} t = map-partitionable (d .header) (headed-laid d) n e (rw f t) (omega (arith, f, headed-laid d .within .boundaries)) (p .room)
+  pub matched-partitionable : {directions : ℕ} → Leads directions → {ends : List ℕ} → SpansFit (h .counts .width) (h .counts .height) ends (h .counts .boundaries) → Partitionable (h .counts .width) (h .counts .height) (take (48 + n - 48) (drop 48 s)) directions ends count before
+  matched-partitionable k {ends} t = map-partitionable (d .header) (headed-laid d) n e k (rw f t) (omega (arith, f, headed-laid d .within .boundaries)) (p .room)
 
-  module _ {most : ℕ} {ends after removed separated owners lefts rights : List ℕ} {q : Partition}
-      (r : Partitioned most (directionsOf 495) (mapOf (h .counts .width) (h .counts .height) (take (48 + n - 48) (drop 48 s))) ends count before after removed separated owners lefts rights q) where
-    standard : Partitioned most eight (gridOf (decode s)) ends (countsAt s 0 .boundaries) before after removed separated owners lefts rights q
-    standard = on-job d n e (λ ds g k. Partitioned most ds g ends k before after removed separated owners lefts rights q) (f ∙ count-is d) r
+  module _ {dirs : List ℕ} {most : ℕ} {ends after removed separated owners lefts rights : List ℕ} {q : Partition}
+      (r : Partitioned most dirs (mapOf (h .counts .width) (h .counts .height) (take (48 + n - 48) (drop 48 s))) ends count before after removed separated owners lefts rights q) where
+    standard : Partitioned most dirs (gridOf (decode s)) ends (countsAt s 0 .boundaries) before after removed separated owners lefts rights q
+    standard = on-job d n e (λ g k. Partitioned most dirs g ends k before after removed separated owners lefts rights q) (f ∙ count-is d) r
 
     -- over `most`
-    pub matched-many : (plan : List ℕ) → most < q .pairs → (ss : List Span) → EndsBy s order ends ss → DrawnWithin most (decode s) ss before after plan (q .pairs)
-    matched-many plan l ss m = record {
+    pub matched-many : (limits : Limits) (plan : List ℕ) → most < q .pairs → (ss : List Span) → EndsBy s order ends ss → DrawnWithin limits dirs most (decode s) ss before after plan (q .pairs)
+    matched-many limits plan l ss m = record {
       work-is = told-work c (plan-ranks (p .job)) m standard;
       over = told-over c (plan-ranks (p .job)) m standard;
       pairs-are = told-pairs c (plan-ranks (p .job)) m standard;
       told = λ few. absurd (omega (arith, told-few c (plan-ranks (p .job)) m standard few));
     }
 
-    module _ (small : most ≤ 4096) {marks : List ℕ} (b : Bridged most (directionsOf 495) (mapOf (h .counts .width) (h .counts .height) (take (48 + n - 48) (drop 48 s))) (spansIn ends count) marks) (l : q .pairs ≤ most) where
-      matched-told : (ss : List Span) → EndsBy s order ends ss → Told s after removed separated owners lefts rights (q .pairs) marks ss
-      matched-told ss m = told c (plan-ranks (p .job)) m standard (cells-few d n e) small l (on-job d n e (λ ds g k. Bridged most ds g (spansIn ends k) marks) (f ∙ count-is d) b)
+    module _ (small : most ≤ 4096) {marks : List ℕ} (b : Bridged most dirs (mapOf (h .counts .width) (h .counts .height) (take (48 + n - 48) (drop 48 s))) (spansIn ends count) marks) (l : q .pairs ≤ most) where
+      matched-told : (ss : List Span) → EndsBy s order ends ss → Told dirs s after removed separated owners lefts rights (q .pairs) marks ss
+      matched-told ss m = told c (plan-ranks (p .job)) m standard (cells-few d n e) small l (on-job d n e (λ g k. Bridged most dirs g (spansIn ends k) marks) (f ∙ count-is d) b)
 
       pub some-told : SomeEnds s order ends → SomeTold s after removed separated owners lefts rights (q .pairs) marks
-      some-told m = record { spans = m .spans; are = matched-told (m .spans) (m .are) }
+      some-told m = record { dirs = dirs; spans = m .spans; are = matched-told (m .spans) (m .are) }
 
-      pub matched-drawn : {work : List ℕ} (plan : List ℕ) → work ≡ after
-          → ((ss : List Span) → Told s after removed separated owners lefts rights (q .pairs) marks ss → (i : ℕ) → i < length (decode s .boundaries) → getD plan i 0 ≡ planOf limits000 eight (decode s) ss i)
-          → (ss : List Span) → EndsBy s order ends ss → DrawnWithin most (decode s) ss before work plan (q .pairs)
-      matched-drawn plan w t ss m = record {
+      pub matched-drawn : (limits : Limits) {work : List ℕ} (plan : List ℕ) → work ≡ after
+          → ((ss : List Span) → Told dirs s after removed separated owners lefts rights (q .pairs) marks ss → (i : ℕ) → i < length (decode s .boundaries) → getD plan i 0 ≡ planOf limits dirs (decode s) ss i)
+          → (ss : List Span) → EndsBy s order ends ss → DrawnWithin limits dirs most (decode s) ss before work plan (q .pairs)
+      matched-drawn limits plan w t ss m = record {
         work-is = w ∙ told-work c (plan-ranks (p .job)) m standard;
         over = told-over c (plan-ranks (p .job)) m standard;
         pairs-are = told-pairs c (plan-ranks (p .job)) m standard;
@@ -151,24 +146,24 @@ module _ {s : List ℕ} {h : Header} (d : Headed s h) (t : List ℕ) (f : firstR
       all-fit = subst (λ (x : Counts). SpansFit (x .width) (x .height) ends n) (sym (counts-are d))
           (list-ends-fit list-right order n (λ i l. let w = k .each i (omega (arith, few)) in omega (arith, w, e)) ends o)
 
-      pub unmatched-partitionable : {work : List ℕ} → workSize (decode s) ≤ length work → Partitionable (h .counts .width) (h .counts .height) (take (48 + cells - 48) (drop 48 s)) 495 ends n work
-      unmatched-partitionable room = map-partitionable (d .header) (headed-laid d) cells f₂ all-fit few room
+      pub unmatched-partitionable : {directions : ℕ} → Leads directions → {work : List ℕ} → workSize (decode s) ≤ length work → Partitionable (h .counts .width) (h .counts .height) (take (48 + cells - 48) (drop 48 s)) directions ends n work
+      unmatched-partitionable k room = map-partitionable (d .header) (headed-laid d) cells f₂ k all-fit few room
 
-      pub unmatched-drawn : (n ≡ h .counts .boundaries → ⊥) → {before after marks : List ℕ} {pairs : ℕ}
-          → MarkedWithin maxPairs (directionsOf 495) (mapOf (h .counts .width) (h .counts .height) (take (48 + cells - 48) (drop 48 s))) (spansIn ends n) marks before after pairs
-          → Drawn (decode s) (decodeList t) before after order pairs
+      pub unmatched-drawn : (limits : Limits) (dirs : List ℕ) → (n ≡ h .counts .boundaries → ⊥) → {before after marks : List ℕ} {pairs : ℕ}
+          → MarkedWithin maxPairs dirs (mapOf (h .counts .width) (h .counts .height) (take (48 + cells - 48) (drop 48 s))) (spansIn ends n) marks before after pairs
+          → Drawn limits dirs (decode s) (decodeList t) before after order pairs
       unfolding planOf
-      unmatched-drawn ne {before} {after} {marks} {pairs} r =
+      unmatched-drawn limits dirs ne {before} {after} {marks} {pairs} r =
           let g : Grid = gridOf (decode s) in
-          let y = on-job d cells f₂ (λ ds g k. MarkedWithin maxPairs ds g (spansIn ends k) marks before after pairs) e r in
-          let x : records eight g (decodeList t) ≡ records eight g (spansIn ends (length t / spanSize)) = records-listed t (list-right .few) k ends all-here eight g in
+          let y = on-job d cells f₂ (λ g k. MarkedWithin maxPairs dirs g (spansIn ends k) marks before after pairs) e r in
+          let x : records dirs g (decodeList t) ≡ records dirs g (spansIn ends (length t / spanSize)) = records-listed t (list-right .few) k ends all-here dirs g in
           let differ : length (decode s .boundaries) ≡ length (decodeList t) → ⊥ = λ z. ne (let u = headed-checked d .count in let v = length-decodeList t in let w = count-is d in omega (arith, z)) in
           record {
-            work-is = y .work-is ∙ ap (λ (ls : List ℕ). labelled ls before) (sym (labels-listed t (list-right .few) k ends all-here eight g));
+            work-is = y .work-is ∙ ap (λ (ls : List ℕ). labelled ls before) (sym (labels-listed t (list-right .few) k ends all-here dirs g));
             over = rw x (y .over);
             pairs-are = rw x (y .pairs-are);
             told = λ z i l.
                 let u = headed-checked d .count in
                 let v = headed-checked d .allowed .boundaries in
-                k .each i (omega arith) ∙ ap (λ (b : Bool). cond b (mergePlan limits000 eight g (anchorsOf (decode s .bases)) (listingOf (decode s) (decodeList t)) i) i) (sym (ne-eqb _ _ differ));
+                k .each i (omega arith) ∙ ap (λ (b : Bool). cond b (mergePlan limits dirs g (anchorsOf (decode s .bases)) (listingOf (decode s) (decodeList t)) i) i) (sym (ne-eqb _ _ differ));
           }

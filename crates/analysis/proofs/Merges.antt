@@ -14,10 +14,8 @@ use Rattle.format.specs.Decode.{decode, jobWith}
 use Rattle.format.specs.declared.header.Header.{Header}
 use Rattle.format.specs.declared.header.Counts.{Counts}
 use Rattle.grid.specs.Cells.{Grid}
-use Rattle.grid.specs.Directions.{eight}
 use Rattle.topology.specs.Anchors.{anchorsOf}
 use Rattle.topology.specs.Listing.{Item}
-use Rattle.links.specs.Limits.{Limits, limits000}
 use Rattle.links.specs.HeldLimits.{limitsOf}
 use Rattle.links.specs.declared.limits.Limits.{Limits as LimitsHeld}
 use Rattle.groups.specs.Plan.{mergePlan}
@@ -35,10 +33,6 @@ use Rattle.analysis.proofs.Checked.{boundariesAt, Checked, checked-side
 use Rattle.analysis.proofs.RankedTables.{job-records, listed-count, boundaries-ranked}
 use Rattle.analysis.proofs.Headed.{headed-checked, headed-laid, counts-are, count-is, start-is, bases-start, bases-inside, anchors-in}
 use Rattle.analysis.proofs.Mapped.{map-cells, map-long, map-is}
-
--- the numbers of both limits on a group's size
-pub most-few : {l : LimitsHeld} → limitsOf l ≡ limits000 → l .«most_spans» ≤ 16
-most-few e = let z = ap (λ (x : Limits). x .mostSpans) e in omega (arith, z)
 
 -- a job's ranks as the laws take them
 module _ {s : List ℕ} {h : Header} {order : List ℕ} (p : RankedJob s h order) where
@@ -73,8 +67,8 @@ module _ {s : List ℕ} {h : Header} {order : List ℕ} (p : RankedJob s h order
     ramps-array {ramps} o = subst (λ (k : ℕ). RampsOf s (boundariesAt s) order k ramps) n-is (subst (λ (k : ℕ). RampsOf s k order n ramps) at-is o)
 
   module _ {own bits ramps : List ℕ} (o : SpansOf s (boundariesAt s) boundarySize order count own) (w : WidthsOf s (boundariesAt s) order count bits) (v : RampsOf s (boundariesAt s) order count ramps) where
-    module _ {after removed separated owners lefts rights : List ℕ} {pairs : ℕ} {marks : List ℕ} {ss : List Span}
-        (t : Told s after removed separated owners lefts rights pairs marks ss) where
+    module _ {dirs : List ℕ} {after removed separated owners lefts rights : List ℕ} {pairs : ℕ} {marks : List ℕ} {ss : List Span}
+        (t : Told dirs s after removed separated owners lefts rights pairs marks ss) where
       abbrev l : List Item
       l = listingOf (decode s) ss
 
@@ -87,7 +81,7 @@ module _ {s : List ℕ} {h : Header} {order : List ℕ} (p : RankedJob s h order
       plain : Plain own bits
       plain = plain-arrays told (λ k b. o .rest k (omega (arith, many))) (λ k b. w .rest k (omega (arith, many)))
 
-      listed : Listed eight (gridOf (decode s)) l count own bits ramps (labelsIn after (length (decode s .cells))) removed separated owners lefts rights pairs marks
+      listed : Listed dirs (gridOf (decode s)) l count own bits ramps (labelsIn after (length (decode s .cells))) removed separated owners lefts rights pairs marks
       listed = record {
         count = many;
         told = told;
@@ -110,7 +104,7 @@ module _ {s : List ℕ} {h : Header} {order : List ℕ} (p : RankedJob s h order
         anchors = rw cells-whole (anchors-in (p .headed));
         plain = plain;
         stored = st;
-        dirs = eight;
+        dirs = dirs;
         items = l;
         marks = marks;
         listed = listed;
@@ -133,18 +127,17 @@ module _ {s : List ℕ} {h : Header} {order : List ℕ} (p : RankedJob s h order
         ready st = rw (start-at, bases-at, count-at, map-cells (p .headed .header) (headed-laid (p .headed)) size e₄, counts-are (p .headed)) (ready-here st)
 
         -- what the plan then is
-        pub planned-as : {limits : LimitsHeld} {into : List ℕ} → limitsOf limits ≡ limits000
+        pub planned-as : {limits : LimitsHeld} {into : List ℕ}
             → PlanFrom (limitsOf limits) s start bases (mapOf (h .counts .width) (h .counts .height) cells) n own bits ramps (labelsIn after (length cells)) removed separated owners lefts rights pairs marks into
-            → (i : ℕ) → i < length (decode s .boundaries) → getD into i 0 ≡ planOf limits000 eight (decode s) ss i
+            → (i : ℕ) → i < length (decode s .boundaries) → getD into i 0 ≡ planOf (limitsOf limits) dirs (decode s) ss i
         unfolding planOf decode jobWith
-        planned-as {limits} {into} q f i b =
+        planned-as {limits} {into} f i b =
             let grid : mapOf (h .counts .width) (h .counts .height) cells ≡ gridOf (decode s) = map-is (p .headed .header) (headed-laid (p .headed)) size e₄ in
             let anchors : anchorsOf (decode s .bases) ≡ anchorsIn s start bases = rw (start-at, bases-at) refl in
             let ls : labelsIn after (length cells) ≡ labelsIn after (length (decode s .cells)) = ap (λ (x : List ℕ). labelsIn after (length x)) (map-cells (p .headed .header) (headed-laid (p .headed)) size e₄) in
-            let here : Listed eight (mapOf (h .counts .width) (h .counts .height) cells) l n own bits ramps (labelsIn after (length cells)) removed separated owners lefts rights pairs marks
+            let here : Listed dirs (mapOf (h .counts .width) (h .counts .height) cells) l n own bits ramps (labelsIn after (length cells)) removed separated owners lefts rights pairs marks
             = rw (grid, ls, count-at) listed in
             let known = c .count in
-            f .each eight (anchorsOf (decode s .bases)) l here anchors i (omega (arith, count-at))
-            ∙ (ap (λ (x : Limits). mergePlan x eight (mapOf (h .counts .width) (h .counts .height) cells) (anchorsOf (decode s .bases)) l i) q
-            ∙ (ap (λ (x : Grid). mergePlan limits000 eight x (anchorsOf (decode s .bases)) l i) grid
-            ∙ ap (λ (t : Bool). cond t (mergePlan limits000 eight (gridOf (decode s)) (anchorsOf (decode s .bases)) l i) i) (sym (eq-eqb _ _ (t .matched)))))
+            f .each dirs (anchorsOf (decode s .bases)) l here anchors i (omega (arith, count-at))
+            ∙ (ap (λ (x : Grid). mergePlan (limitsOf limits) dirs x (anchorsOf (decode s .bases)) l i) grid
+            ∙ ap (λ (t : Bool). cond t (mergePlan (limitsOf limits) dirs (gridOf (decode s)) (anchorsOf (decode s .bases)) l i) i) (sym (eq-eqb _ _ (t .matched))))

@@ -13,7 +13,6 @@ use Rattle.format.specs.Header.{countsAt}
 use Rattle.format.specs.Decode.{decode}
 use Rattle.graph.specs.Bridges.{isBridge}
 use Rattle.grid.specs.Cells.{Grid, size}
-use Rattle.grid.specs.Directions.{eight}
 use Rattle.areas.specs.Areas.{areaLabels, labelAt}
 use Rattle.areas.specs.Assessments.{records, assess}
 use Rattle.areas.specs.Spans.{spanIn, spansIn}
@@ -53,8 +52,8 @@ module _ (ls before : List ℕ) (small : (i : ℕ) → i < length ls → getD ls
   all-read = ap (λ (w : List ℕ). labelsIn w (length ls)) first-written ∙ labels-read (labelled ls before) ls (length ls) refl small
 
 module _ {distinct : Bool} {s : List ℕ} (c : Checked distinct s) {order : List ℕ} (k : ByRank (decode s .boundaries) order) {ends : List ℕ} {ss : List Span} (m : EndsBy s order ends ss)
-    {most : ℕ} {before work removed separated owners lefts rights : List ℕ} {p : Partition}
-    (r : Partitioned most eight (gridOf (decode s)) ends (countsAt s 0 .boundaries) before work removed separated owners lefts rights p) where
+    {dirs : List ℕ} {most : ℕ} {before work removed separated owners lefts rights : List ℕ} {p : Partition}
+    (r : Partitioned most dirs (gridOf (decode s)) ends (countsAt s 0 .boundaries) before work removed separated owners lefts rights p) where
   abbrev n : ℕ
   n = countsAt s 0 .boundaries
 
@@ -76,47 +75,47 @@ module _ {distinct : Bool} {s : List ℕ} (c : Checked distinct s) {order : List
   inside : {i : ℕ} → i < length l → i < n
   inside {i} h = omega (arith, count)
 
-  pub told-work : work ≡ labelled (labelsOf eight (decode s) ss) before
-  told-work = r .work-is ∙ ap (λ (ls : List ℕ). labelled ls before) (sym (labels-in c k ss (m .matched) eight g ends (m .each)))
+  pub told-work : work ≡ labelled (labelsOf dirs (decode s) ss) before
+  told-work = r .work-is ∙ ap (λ (ls : List ℕ). labelled ls before) (sym (labels-in c k ss (m .matched) dirs g ends (m .each)))
 
-  pairs-alike : length (records eight g ss) ≡ length (records eight g ts)
-  pairs-alike = records-in c k ss (m .matched) eight g ends (m .each)
+  pairs-alike : length (records dirs g ss) ≡ length (records dirs g ts)
+  pairs-alike = records-in c k ss (m .matched) dirs g ends (m .each)
 
-  pub told-over : most < length (records eight g ss) → p .pairs ≡ most + 1
+  pub told-over : most < length (records dirs g ss) → p .pairs ≡ most + 1
   told-over h = r .over (omega (arith, pairs-alike))
 
-  pub told-pairs : length (records eight g ss) ≤ most → p .pairs ≡ length (records eight g ss)
+  pub told-pairs : length (records dirs g ss) ≤ most → p .pairs ≡ length (records dirs g ss)
   told-pairs h = r .pairs-are (omega (arith, pairs-alike)) ∙ sym pairs-alike
 
-  pub told-few : length (records eight g ss) ≤ most → p .pairs ≤ most
+  pub told-few : length (records dirs g ss) ≤ most → p .pairs ≤ most
   told-few h = omega (arith, told-pairs h)
 
   module _ (few : size g ≤ 1048576) where
-    labels-long : length (areaLabels eight g ts) ≡ size g
-    labels-long = area-labels-length eight g ts
+    labels-long : length (areaLabels dirs g ts) ≡ size g
+    labels-long = area-labels-length dirs g ts
 
-    small : (i : ℕ) → i < length (areaLabels eight g ts) → getD (areaLabels eight g ts) i 0 < 4294967296
+    small : (i : ℕ) → i < length (areaLabels dirs g ts) → getD (areaLabels dirs g ts) i 0 < 4294967296
     small i h = omega (arith, r .labels-few i (omega (arith, labels-long)))
 
-    labels-are : labelsIn work (size g) ≡ regionLabels eight g l
+    labels-are : labelsIn work (size g) ≡ regionLabels dirs g l
     unfolding regionLabels
     labels-are =
         ap (λ (w : List ℕ). labelsIn w (size g)) (r .work-is)
-        ∙ (ap (λ (i : ℕ). labelsIn (labelled (areaLabels eight g ts) before) i) (sym labels-long)
-        ∙ (all-read (areaLabels eight g ts) before small ∙ ap (areaLabels eight g) (sym spans-are)))
+        ∙ (ap (λ (i : ℕ). labelsIn (labelled (areaLabels dirs g ts) before) i) (sym labels-long)
+        ∙ (all-read (areaLabels dirs g ts) before small ∙ ap (areaLabels dirs g) (sym spans-are)))
 
     labels-there : Labels work (size g)
     labels-there = record {
       room = omega (arith, room-in r (size g) refl);
       most = λ i h.
-          let b : i < length (areaLabels eight g ts) = omega (arith, labels-long) in
-          let e : word work i ≡ labelAt (areaLabels eight g ts) i = ap (λ (w : List ℕ). word w i) (r .work-is) ∙ label-read (areaLabels eight g ts) before small i b in
+          let b : i < length (areaLabels dirs g ts) = omega (arith, labels-long) in
+          let e : word work i ≡ labelAt (areaLabels dirs g ts) i = ap (λ (w : List ℕ). word w i) (r .work-is) ∙ label-read (areaLabels dirs g ts) before small i b in
           omega (arith, e, r .labels-few i h);
       clear = zero-in r (size g) refl;
     }
 
-    module _ (room : most ≤ 4096) (h : p .pairs ≤ most) {marks : List ℕ} (b : Bridged most eight g ts marks) where
-      few-records : length (records eight g ts) ≤ most
+    module _ (room : most ≤ 4096) (h : p .pairs ≤ most) {marks : List ℕ} (b : Bridged most dirs g ts marks) where
+      few-records : length (records dirs g ts) ≤ most
       few-records = few-pairs r h
 
       span-is : (i : ℕ) → i < n → getD l i Rank.noItem .span ≡ spanIn ends i
@@ -124,27 +123,27 @@ module _ {distinct : Bool} {s : List ℕ} (c : Checked distinct s) {order : List
       span-is i o =
           sym (List·getD-map (λ (x : Item). x .span) l i Rank.noItem) ∙ (ap (λ (xs : List Span). getD xs i Rank.noSpan) spans-are ∙ rows-at n (spanIn ends) i Rank.noSpan o)
 
-      assess-is : (i : ℕ) → i < n → assessAt eight g l i ≡ assess eight g ts (spanIn ends i)
+      assess-is : (i : ℕ) → i < n → assessAt dirs g l i ≡ assess dirs g ts (spanIn ends i)
       unfolding assessAt
-      assess-is i o = ap (λ (xs : List Span). assess eight g xs (getD l i Rank.noItem .span)) spans-are ∙ ap (assess eight g ts) (span-is i o)
+      assess-is i o = ap (λ (xs : List Span). assess dirs g xs (getD l i Rank.noItem .span)) spans-are ∙ ap (assess dirs g ts) (span-is i o)
 
-      counted : Counted eight g l removed separated
+      counted : Counted dirs g l removed separated
       counted = record {
         removed-is = λ i o. r .removed-are few-records i (inside o) ∙ sym (ap (λ a. a .removed) (assess-is i (inside o)));
         separated-is = λ i o. r .separated-are few-records i (inside o) ∙ sym (ap (λ a. a .separated) (assess-is i (inside o)));
       }
 
-      paired : Paired eight g l owners lefts rights (p .pairs)
-      paired = record { most = omega arith; all = r .records-are few-records ∙ ap (records eight g) (sym spans-are) }
+      paired : Paired dirs g l owners lefts rights (p .pairs)
+      paired = record { most = omega arith; all = r .records-are few-records ∙ ap (records dirs g) (sym spans-are) }
 
-      bridged : BridgesOf eight g l marks
+      bridged : BridgesOf dirs g l marks
       unfolding bridgeAt bridgeMarks
       bridged = record {
         marks-are = λ i o.
             let few-ranks = c .allowed .boundaries in
             ap (λ (x : List ℕ). getD x i 0) (b few-records)
-            ∙ (rows-at 256 (λ j. cond (isBridge (records eight g ts) j) 1 0) i 0 (omega (arith, inside o)) ∙ ap (λ (xs : List Span). cond (isBridge (records eight g xs) i) 1 0) (sym spans-are));
+            ∙ (rows-at 256 (λ j. cond (isBridge (records dirs g ts) j) 1 0) i 0 (omega (arith, inside o)) ∙ ap (λ (xs : List Span). cond (isBridge (records dirs g xs) i) 1 0) (sym spans-are));
       }
 
-      pub told : Told s work removed separated owners lefts rights (p .pairs) marks ss
+      pub told : Told dirs s work removed separated owners lefts rights (p .pairs) marks ss
       told = record { matched = m .matched; labels-are = labels-are; counted = counted; paired = paired; bridged = bridged; labels = labels-there }

@@ -1,7 +1,7 @@
 -- What Reduce and Reduce by list plan: a job's boundaries by rank, and the rank that each rank goes into.
 use mathlib.Core.Path.{_≡_}
 use mathlib.Core.Bool.{Bool, cond}
-use mathlib.Core.List.{List, map}
+use mathlib.Core.List.{List, map, List·Memᴰ}
 use mathlib.Core.Option.{none}
 use Prim.Native.Nat.{ℕ, _≤_, _<_}
 use lib.Dec.{eqb}
@@ -15,12 +15,12 @@ use Rattle.format.specs.Header.{headerAt, countsAt}
 use Rattle.format.specs.Decode.{decode}
 use Rattle.format.specs.Encode.{encodeAnswer}
 use Rattle.format.specs.declared.header.Header.{Header}
-use Rattle.grid.specs.Directions.{eight}
+use Rattle.grid.specs.Directions.{IsDirection, directionsOf}
 use Rattle.areas.specs.Assessments.{records}
 use Rattle.areas.specs.Spans.{spanIn}
 use Rattle.areas.specs.Words.{labelsIn}
 use Rattle.topology.specs.Anchors.{anchorsOf}
-use Rattle.links.specs.Limits.{Limits, limits000}
+use Rattle.links.specs.Limits.{Limits}
 use Rattle.groups.specs.Listing.{noSpan}
 use Rattle.groups.specs.Regions.{regionLabels}
 use Rattle.groups.specs.Plan.{mergePlan}
@@ -41,6 +41,10 @@ use Rattle.results.specs.Results.{workSize, maxPairs, labelsOf, reduced, leftBy
 unfoldable pub planOf : Limits → List ℕ → Job → List Span → ℕ → ℕ
 unfolding mergePlan
 planOf limits dirs j ss i = cond (eqb (length (j .boundaries)) (length ss)) (mergePlan limits dirs (gridOf j) (anchorsOf (j .bases)) (listingOf j ss) i) i
+
+-- each of the set's members is a direction
+abbrev pub Leads : ℕ → Type 0
+Leads directions = (d : ℕ) → List·Memᴰ d (directionsOf directions) → IsDirection d
 
 -- the places of a job's boundaries by rank
 abbrev pub RankedBy : Job → List ℕ → Type 0
@@ -73,42 +77,43 @@ pub record SomeEnds (s order ends : List ℕ) : Type 0 where
   pub are : EndsBy s order ends spans
 
 -- what a partition by the spans and its bridges say of the listing
-pub record Told (s work removed separated owners lefts rights : List ℕ) (pairs : ℕ) (marks : List ℕ) (ss : List Span) : Type 0 where
+pub record Told (dirs : List ℕ) (s work removed separated owners lefts rights : List ℕ) (pairs : ℕ) (marks : List ℕ) (ss : List Span) : Type 0 where
   pub matched : length (decode s .boundaries) ≡ length ss
-  pub labels-are : labelsIn work (length (decode s .cells)) ≡ regionLabels eight (gridOf (decode s)) (listingOf (decode s) ss)
-  pub counted : Counted eight (gridOf (decode s)) (listingOf (decode s) ss) removed separated
-  pub paired : Paired eight (gridOf (decode s)) (listingOf (decode s) ss) owners lefts rights pairs
-  pub bridged : Bridged eight (gridOf (decode s)) (listingOf (decode s) ss) marks
+  pub labels-are : labelsIn work (length (decode s .cells)) ≡ regionLabels dirs (gridOf (decode s)) (listingOf (decode s) ss)
+  pub counted : Counted dirs (gridOf (decode s)) (listingOf (decode s) ss) removed separated
+  pub paired : Paired dirs (gridOf (decode s)) (listingOf (decode s) ss) owners lefts rights pairs
+  pub bridged : Bridged dirs (gridOf (decode s)) (listingOf (decode s) ss) marks
   pub labels : Labels work (length (decode s .cells))
 
 pub record SomeTold (s work removed separated owners lefts rights : List ℕ) (pairs : ℕ) (marks : List ℕ) : Type 0 where
+  pub dirs : List ℕ
   pub spans : List Span
-  pub are : Told s work removed separated owners lefts rights pairs marks spans
+  pub are : Told dirs s work removed separated owners lefts rights pairs marks spans
 
 -- a job partitioned by the spans with room for `most` region pairs: the work, their number (one more than `most` where they are over it), and the plan
-abbrev pub DrawnWithin : ℕ → Job → List Span → List ℕ → List ℕ → List ℕ → ℕ → Type 0
-DrawnWithin most j ss before work plan pairs =
-    PartedWithin most (labelsOf eight j ss) (records eight (gridOf j) ss) ((i : ℕ) → i < length (j .boundaries) → getD plan i 0 ≡ planOf limits000 eight j ss i) before work pairs
+abbrev pub DrawnWithin : Limits → List ℕ → ℕ → Job → List Span → List ℕ → List ℕ → List ℕ → ℕ → Type 0
+DrawnWithin limits dirs most j ss before work plan pairs =
+    PartedWithin most (labelsOf dirs j ss) (records dirs (gridOf j) ss) ((i : ℕ) → i < length (j .boundaries) → getD plan i 0 ≡ planOf limits dirs j ss i) before work pairs
 
 -- with room for as many as a call takes: 4,097 stands for over 4,096
-abbrev pub Drawn : Job → List Span → List ℕ → List ℕ → List ℕ → ℕ → Type 0
-Drawn j ss before work plan pairs = DrawnWithin maxPairs j ss before work plan pairs
+abbrev pub Drawn : Limits → List ℕ → Job → List Span → List ℕ → List ℕ → List ℕ → ℕ → Type 0
+Drawn limits dirs j ss before work plan pairs = DrawnWithin limits dirs maxPairs j ss before work plan pairs
 
 -- a call's plan, once it is past 13
-pub record Made (checks : List Check) (j : Job) (ss : List Span) (before work order plan : List ℕ) (detail : ℕ) : Type 0 where
+pub record Made (limits : Limits) (dirs : List ℕ) (checks : List Check) (j : Job) (ss : List Span) (before work order plan : List ℕ) (detail : ℕ) : Type 0 where
   pub passed : firstRefusal checks ≡ none
   pub room : workSize j ≤ length before
-  pub few : length (records eight (gridOf j) ss) ≤ maxPairs
+  pub few : length (records dirs (gridOf j) ss) ≤ maxPairs
   pub nothing : detail ≡ 0
-  pub work-is : work ≡ labelled (labelsOf eight j ss) before
+  pub work-is : work ≡ labelled (labelsOf dirs j ss) before
   pub ranks : RankedBy j order
-  pub plan-is : (i : ℕ) → i < length (j .boundaries) → getD plan i 0 ≡ planOf limits000 eight j ss i
+  pub plan-is : (i : ℕ) → i < length (j .boundaries) → getD plan i 0 ≡ planOf limits dirs j ss i
 
 -- number 0 with the plan, or the number and detail of the refusal that the call leaves whatever its answer slice is; the work is settled in either case.
 -- Nothing is said of order and plan past the last boundary, nor after a refusal
-pub record PlanLeft (checks : List Check) (j : Job) (ss : List Span) (before work order plan : List ℕ) (number detail : ℕ) : Type 0 where
-  pub refused : 0 < number → (answer : List ℕ) → leftBy number detail work answer ≡ reduced limits000 eight checks j ss before answer
-  pub made : number ≡ 0 → Made checks j ss before work order plan detail
+pub record PlanLeft (limits : Limits) (dirs : List ℕ) (checks : List Check) (j : Job) (ss : List Span) (before work order plan : List ℕ) (number detail : ℕ) : Type 0 where
+  pub refused : 0 < number → (answer : List ℕ) → leftBy number detail work answer ≡ reduced limits dirs checks j ss before answer
+  pub made : number ≡ 0 → Made limits dirs checks j ss before work order plan detail
 
 -- the answer of a job by its boundaries' order and a plan
 abbrev pub answerBytes : List ℕ → List ℕ → List ℕ → List ℕ

@@ -8,7 +8,6 @@ ghost use Rattle.partition.specs.Partitioned.{Partitionable, Partitioned};
 ghost use Rattle.results.specs.Results.{maxPairs};
 ghost use Rattle.analysis.specs.Bridging.{fewPairs, Bridged, MarkedWithin};
 use bridges::bridge_boundary_indices;
-use grid::neighbors::EIGHT;
 use partition::Partition;
 use partition::partition_by_spans;
 
@@ -32,6 +31,7 @@ pub fn analyse(
     cells: &[u8],
     width: u32,
     height: u32,
+    directions: u32,
     ends: &[u32; 1024],
     count: usize,
     work: &mut [u8],
@@ -42,9 +42,9 @@ pub fn analyse(
     rights: &mut [u32],
     marks: &mut [u8; 256],
 ) -> Partition
-    requires { ⌜ Partitionable width height (now cells) 495 (now ends) count (now work) × Arrays (length (now lefts)) (now removed) (now separated) (now owners) (now lefts) (now rights) ⌝ }
-    ensures { λ r. ⌜ Partitioned (length (now (lefts .entry))) (directionsOf 495) (mapOf width height (now (cells .entry))) (now (ends .entry)) count (now (work .entry)) (now (work .exit)) (now (removed .exit)) (now (separated .exit)) (now (owners .exit)) (now (lefts .exit)) (now (rights .exit)) r ⌝ }
-    ensures marks { λ _. ⌜ Bridged (length (now (lefts .entry))) (directionsOf 495) (mapOf width height (now (cells .entry))) (spansIn (now (ends .entry)) count) (now (marks .exit)) ⌝ }
+    requires { ⌜ Partitionable width height (now cells) directions (now ends) count (now work) × Arrays (length (now lefts)) (now removed) (now separated) (now owners) (now lefts) (now rights) ⌝ }
+    ensures { λ r. ⌜ Partitioned (length (now (lefts .entry))) (directionsOf directions) (mapOf width height (now (cells .entry))) (now (ends .entry)) count (now (work .entry)) (now (work .exit)) (now (removed .exit)) (now (separated .exit)) (now (owners .exit)) (now (lefts .exit)) (now (rights .exit)) r ⌝ }
+    ensures marks { λ _. ⌜ Bridged (length (now (lefts .entry))) (directionsOf directions) (mapOf width height (now (cells .entry))) (spansIn (now (ends .entry)) count) (now (marks .exit)) ⌝ }
 {
     let n = cells.len();
     let most = lefts.len();
@@ -52,7 +52,7 @@ pub fn analyse(
         cells,
         width,
         height,
-        EIGHT,
+        directions,
         ends,
         count,
         work,
@@ -75,13 +75,14 @@ fn analyse_few(
     cells: &[u8],
     width: u32,
     height: u32,
+    directions: u32,
     ends: &[u32; 1024],
     count: usize,
     work: &mut [u8],
     marks: &mut [u8; 256],
 ) -> usize
-    requires { ⌜ Partitionable width height (now cells) 495 (now ends) count (now work) ⌝ }
-    ensures { λ r. ⌜ MarkedWithin fewPairs (directionsOf 495) (mapOf width height (now (cells .entry))) (spansIn (now (ends .entry)) count) (now (marks .exit)) (now (work .entry)) (now (work .exit)) r ⌝ }
+    requires { ⌜ Partitionable width height (now cells) directions (now ends) count (now work) ⌝ }
+    ensures { λ r. ⌜ MarkedWithin fewPairs (directionsOf directions) (mapOf width height (now (cells .entry))) (spansIn (now (ends .entry)) count) (now (marks .exit)) (now (work .entry)) (now (work .exit)) r ⌝ }
 {
     let mut removed = [0u32; 256];
     let mut separated = [0u32; 256];
@@ -92,6 +93,7 @@ fn analyse_few(
         cells,
         width,
         height,
+        directions,
         ends,
         count,
         work,
@@ -110,13 +112,14 @@ fn analyse_many(
     cells: &[u8],
     width: u32,
     height: u32,
+    directions: u32,
     ends: &[u32; 1024],
     count: usize,
     work: &mut [u8],
     marks: &mut [u8; 256],
 ) -> usize
-    requires { ⌜ Partitionable width height (now cells) 495 (now ends) count (now work) ⌝ }
-    ensures { λ r. ⌜ MarkedWithin maxPairs (directionsOf 495) (mapOf width height (now (cells .entry))) (spansIn (now (ends .entry)) count) (now (marks .exit)) (now (work .entry)) (now (work .exit)) r ⌝ }
+    requires { ⌜ Partitionable width height (now cells) directions (now ends) count (now work) ⌝ }
+    ensures { λ r. ⌜ MarkedWithin maxPairs (directionsOf directions) (mapOf width height (now (cells .entry))) (spansIn (now (ends .entry)) count) (now (marks .exit)) (now (work .entry)) (now (work .exit)) r ⌝ }
 {
     let mut removed = [0u32; 256];
     let mut separated = [0u32; 256];
@@ -127,6 +130,7 @@ fn analyse_many(
         cells,
         width,
         height,
+        directions,
         ends,
         count,
         work,
@@ -145,20 +149,21 @@ pub fn find_bridges(
     cells: &[u8],
     width: u32,
     height: u32,
+    directions: u32,
     ends: &[u32; 1024],
     count: usize,
     work: &mut [u8],
     marks: &mut [u8; 256],
 ) -> usize
-    requires { ⌜ Partitionable width height (now cells) 495 (now ends) count (now work) ⌝ }
-    ensures { λ r. ⌜ MarkedWithin maxPairs (directionsOf 495) (mapOf width height (now (cells .entry))) (spansIn (now (ends .entry)) count) (now (marks .exit)) (now (work .entry)) (now (work .exit)) r ⌝ }
+    requires { ⌜ Partitionable width height (now cells) directions (now ends) count (now work) ⌝ }
+    ensures { λ r. ⌜ MarkedWithin maxPairs (directionsOf directions) (mapOf width height (now (cells .entry))) (spansIn (now (ends .entry)) count) (now (marks .exit)) (now (work .entry)) (now (work .exit)) r ⌝ }
 {
     if !is_small(cells.len(), count) {
-        return analyse_many(cells, width, height, ends, count, work, marks);
+        return analyse_many(cells, width, height, directions, ends, count, work, marks);
     }
-    let pairs = analyse_few(cells, width, height, ends, count, work, marks);
+    let pairs = analyse_few(cells, width, height, directions, ends, count, work, marks);
     if pairs <= FEW_PAIRS {
         return pairs;
     }
-    analyse_many(cells, width, height, ends, count, work, marks)
+    analyse_many(cells, width, height, directions, ends, count, work, marks)
 }

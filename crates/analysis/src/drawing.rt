@@ -7,15 +7,16 @@ ghost use lib.ListN.{length, getD};
 ghost use Rattle.position.specs.declared.Span.{Span};
 ghost use Rattle.format.specs.Sizes.{spanSize};
 ghost use Rattle.format.specs.Decode.{decode, decodeList};
-ghost use Rattle.grid.specs.Directions.{eight};
+ghost use Rattle.grid.specs.Directions.{directionsOf};
 ghost use Rattle.areas.specs.Spans.{SpansFit};
-ghost use Rattle.links.specs.Limits.{limits000};
+ghost use Rattle.links.specs.Limits as rules;
+ghost use Rattle.links.specs.HeldLimits.{limitsOf};
 ghost use Rattle.candidates.specs.Owners.{Stored};
 ghost use Rattle.checks.specs.Checks.{firstRefusal};
 ghost use Rattle.job.specs.Refusals.{reduceChecks, byListChecks};
 ghost use Rattle.results.specs.Results.{workSize, ownEnds};
 ghost use Rattle.analysis.specs.Bridging.{fewPairs, Alike};
-ghost use Rattle.analysis.specs.Plans.{planOf, RankedBy, Headed, RankedJob, Plannable, EndsBy, SomeEnds, Told, SomeTold, DrawnWithin, Drawn};
+ghost use Rattle.analysis.specs.Plans.{planOf, Leads, RankedBy, Headed, RankedJob, Plannable, EndsBy, SomeEnds, Told, SomeTold, DrawnWithin, Drawn};
 use crate::bridged::FEW_PAIRS;
 use crate::bridged::MAX_PAIRS;
 use crate::bridged::analyse;
@@ -52,6 +53,7 @@ pub fn order_boundaries(job: &[u8], h: Header, order: &mut [u32; 256])
 
 // The plan where the map is partitioned.
 fn plan_listing(
+    limits: Limits,
     job: &[u8],
     h: Header,
     order: &[u32; 256],
@@ -65,9 +67,9 @@ fn plan_listing(
     marks: &[u8; 256],
     plan: &mut [u32; 256],
 )
-    requires { ⌜ RankedJob (now job) h (now order) × SomeTold (now job) (now work) (now removed) (now separated) (now owners) (now lefts) (now rights) pairs (now marks) × Stored (now owners) (now lefts) (now rights) pairs × (length (now plan) ≡ 256) ⌝ }
+    requires { ⌜ RankedJob (now job) h (now order) × SomeTold (now job) (now work) (now removed) (now separated) (now owners) (now lefts) (now rights) pairs (now marks) × Stored (now owners) (now lefts) (now rights) pairs × (length (now plan) ≡ 256) × (limits .«most_spans» ≤ 16) ⌝ }
     ensures work { λ _. ⌜ now (work .exit) ≡ now (work .entry) ⌝ }
-    ensures plan { λ _. ⌜ ((ss : List Span) → Told (now (job .entry)) (now (work .entry)) (now (removed .entry)) (now (separated .entry)) (now (owners .entry)) (now (lefts .entry)) (now (rights .entry)) pairs (now (marks .entry)) ss → (i : ℕ) → i < length (decode (now (job .entry)) .boundaries) → getD (now (plan .exit)) i 0 ≡ planOf limits000 eight (decode (now (job .entry))) ss i) ⌝ }
+    ensures plan { λ _. ⌜ ((dirs : List ℕ) (ss : List Span) → Told dirs (now (job .entry)) (now (work .entry)) (now (removed .entry)) (now (separated .entry)) (now (owners .entry)) (now (lefts .entry)) (now (rights .entry)) pairs (now (marks .entry)) ss → (i : ℕ) → i < length (decode (now (job .entry)) .boundaries) → getD (now (plan .exit)) i 0 ≡ planOf (limitsOf limits) dirs (decode (now (job .entry))) ss i) ⌝ }
     ensures whole { λ _. ⌜ length (now (plan .exit)) ≡ 256 ⌝ }
 {
     let c = h.counts;
@@ -82,7 +84,7 @@ fn plan_listing(
     let mut ramps = [0u8; 256];
     fill_ramps(job, at, order, count, &mut ramps);
     plan_merges(
-        Limits::of_000(),
+        limits,
         job,
         size(o.bases),
         size(c.bases),
@@ -107,6 +109,8 @@ fn plan_listing(
 
 // Partitions a job by as many spans as it has boundaries, by rank, and plans its merges where the arrays have room for the region pairs; gives their number.
 fn plan_with(
+    limits: Limits,
+    directions: u32,
     job: &[u8],
     h: Header,
     ends: &[u32; 1024],
@@ -117,8 +121,8 @@ fn plan_with(
     rights: &mut [u32],
     plan: &mut [u32; 256],
 ) -> usize
-    requires { ⌜ Plannable (now job) h (now order) (now work) × SpansFit (h .counts .width) (h .counts .height) (now ends) (h .counts .boundaries) × SomeEnds (now job) (now order) (now ends) × Alike (now owners) (now lefts) (now rights) × (length (now plan) ≡ 256) ⌝ }
-    ensures { λ r. ⌜ ((ss : List Span) → EndsBy (now (job .entry)) (now (order .entry)) (now (ends .entry)) ss → DrawnWithin (length (now (lefts .entry))) (decode (now (job .entry))) ss (now (work .entry)) (now (work .exit)) (now (plan .exit)) r) ⌝ }
+    requires { ⌜ Plannable (now job) h (now order) (now work) × SpansFit (h .counts .width) (h .counts .height) (now ends) (h .counts .boundaries) × SomeEnds (now job) (now order) (now ends) × Alike (now owners) (now lefts) (now rights) × (length (now plan) ≡ 256) × (limits .«most_spans» ≤ 16) × Leads directions ⌝ }
+    ensures { λ r. ⌜ ((ss : List Span) → EndsBy (now (job .entry)) (now (order .entry)) (now (ends .entry)) ss → DrawnWithin (limitsOf limits) (directionsOf directions) (length (now (lefts .entry))) (decode (now (job .entry))) ss (now (work .entry)) (now (work .exit)) (now (plan .exit)) r) ⌝ }
     ensures whole { λ _. ⌜ length (now (plan .exit)) ≡ 256 ⌝ }
 {
     let c = h.counts;
@@ -132,6 +136,7 @@ fn plan_with(
         &job[HEADER_SIZE..HEADER_SIZE + n],
         c.width,
         c.height,
+        directions,
         ends,
         count,
         work,
@@ -147,6 +152,7 @@ fn plan_with(
         return pairs;
     }
     plan_listing(
+        limits,
         job,
         h,
         order,
@@ -165,6 +171,8 @@ fn plan_with(
 
 // The same, with room for few region pairs.
 fn plan_few(
+    limits: Limits,
+    directions: u32,
     job: &[u8],
     h: Header,
     ends: &[u32; 1024],
@@ -172,14 +180,16 @@ fn plan_few(
     work: &mut [u8],
     plan: &mut [u32; 256],
 ) -> usize
-    requires { ⌜ Plannable (now job) h (now order) (now work) × SpansFit (h .counts .width) (h .counts .height) (now ends) (h .counts .boundaries) × SomeEnds (now job) (now order) (now ends) × (length (now plan) ≡ 256) ⌝ }
-    ensures { λ r. ⌜ ((ss : List Span) → EndsBy (now (job .entry)) (now (order .entry)) (now (ends .entry)) ss → DrawnWithin fewPairs (decode (now (job .entry))) ss (now (work .entry)) (now (work .exit)) (now (plan .exit)) r) ⌝ }
+    requires { ⌜ Plannable (now job) h (now order) (now work) × SpansFit (h .counts .width) (h .counts .height) (now ends) (h .counts .boundaries) × SomeEnds (now job) (now order) (now ends) × (length (now plan) ≡ 256) × (limits .«most_spans» ≤ 16) × Leads directions ⌝ }
+    ensures { λ r. ⌜ ((ss : List Span) → EndsBy (now (job .entry)) (now (order .entry)) (now (ends .entry)) ss → DrawnWithin (limitsOf limits) (directionsOf directions) fewPairs (decode (now (job .entry))) ss (now (work .entry)) (now (work .exit)) (now (plan .exit)) r) ⌝ }
     ensures whole { λ _. ⌜ length (now (plan .exit)) ≡ 256 ⌝ }
 {
     let mut owners = [0u32; FEW_PAIRS];
     let mut lefts = [0u32; FEW_PAIRS];
     let mut rights = [0u32; FEW_PAIRS];
     plan_with(
+        limits,
+        directions,
         job,
         h,
         ends,
@@ -194,6 +204,8 @@ fn plan_few(
 
 // The same, with room for as many as a call takes.
 fn plan_many(
+    limits: Limits,
+    directions: u32,
     job: &[u8],
     h: Header,
     ends: &[u32; 1024],
@@ -201,13 +213,15 @@ fn plan_many(
     work: &mut [u8],
     plan: &mut [u32; 256],
 ) -> usize
-    requires { ⌜ Plannable (now job) h (now order) (now work) × SpansFit (h .counts .width) (h .counts .height) (now ends) (h .counts .boundaries) × SomeEnds (now job) (now order) (now ends) × (length (now plan) ≡ 256) ⌝ }
-    ensures { λ r. ⌜ ((ss : List Span) → EndsBy (now (job .entry)) (now (order .entry)) (now (ends .entry)) ss → Drawn (decode (now (job .entry))) ss (now (work .entry)) (now (work .exit)) (now (plan .exit)) r) ⌝ }
+    requires { ⌜ Plannable (now job) h (now order) (now work) × SpansFit (h .counts .width) (h .counts .height) (now ends) (h .counts .boundaries) × SomeEnds (now job) (now order) (now ends) × (length (now plan) ≡ 256) × (limits .«most_spans» ≤ 16) × Leads directions ⌝ }
+    ensures { λ r. ⌜ ((ss : List Span) → EndsBy (now (job .entry)) (now (order .entry)) (now (ends .entry)) ss → Drawn (limitsOf limits) (directionsOf directions) (decode (now (job .entry))) ss (now (work .entry)) (now (work .exit)) (now (plan .exit)) r) ⌝ }
 {
     let mut owners = [0u32; MAX_PAIRS];
     let mut lefts = [0u32; MAX_PAIRS];
     let mut rights = [0u32; MAX_PAIRS];
     plan_with(
+        limits,
+        directions,
         job,
         h,
         ends,
@@ -222,6 +236,8 @@ fn plan_many(
 
 // The same, with as much room as the region pairs take.
 fn plan_matched(
+    limits: Limits,
+    directions: u32,
     job: &[u8],
     h: Header,
     ends: &[u32; 1024],
@@ -229,30 +245,32 @@ fn plan_matched(
     work: &mut [u8],
     plan: &mut [u32; 256],
 ) -> usize
-    requires { ⌜ Plannable (now job) h (now order) (now work) × SpansFit (h .counts .width) (h .counts .height) (now ends) (h .counts .boundaries) × SomeEnds (now job) (now order) (now ends) × (length (now plan) ≡ 256) ⌝ }
-    ensures { λ r. ⌜ ((ss : List Span) → EndsBy (now (job .entry)) (now (order .entry)) (now (ends .entry)) ss → Drawn (decode (now (job .entry))) ss (now (work .entry)) (now (work .exit)) (now (plan .exit)) r) ⌝ }
+    requires { ⌜ Plannable (now job) h (now order) (now work) × SpansFit (h .counts .width) (h .counts .height) (now ends) (h .counts .boundaries) × SomeEnds (now job) (now order) (now ends) × (length (now plan) ≡ 256) × (limits .«most_spans» ≤ 16) × Leads directions ⌝ }
+    ensures { λ r. ⌜ ((ss : List Span) → EndsBy (now (job .entry)) (now (order .entry)) (now (ends .entry)) ss → Drawn (limitsOf limits) (directionsOf directions) (decode (now (job .entry))) ss (now (work .entry)) (now (work .exit)) (now (plan .exit)) r) ⌝ }
 {
     let c = h.counts;
     if !is_small(size(c.width * c.height), size(c.boundaries)) {
-        return plan_many(job, h, ends, order, work, plan);
+        return plan_many(limits, directions, job, h, ends, order, work, plan);
     }
-    let pairs = plan_few(job, h, ends, order, work, plan);
+    let pairs = plan_few(limits, directions, job, h, ends, order, work, plan);
     if pairs <= FEW_PAIRS {
         return pairs;
     }
-    plan_many(job, h, ends, order, work, plan)
+    plan_many(limits, directions, job, h, ends, order, work, plan)
 }
 
 // By the boundaries' own ends.
 pub fn plan_own(
+    limits: Limits,
+    directions: u32,
     job: &[u8],
     h: Header,
     order: &[u32; 256],
     work: &mut [u8],
     plan: &mut [u32; 256],
 ) -> usize
-    requires { ⌜ Plannable (now job) h (now order) (now work) × (firstRefusal (reduceChecks (now job)) ≡ none) × (length (now plan) ≡ 256) ⌝ }
-    ensures { λ r. ⌜ Drawn (decode (now (job .entry))) (ownEnds (decode (now (job .entry)))) (now (work .entry)) (now (work .exit)) (now (plan .exit)) r ⌝ }
+    requires { ⌜ Plannable (now job) h (now order) (now work) × (firstRefusal (reduceChecks (now job)) ≡ none) × (length (now plan) ≡ 256) × (limits .«most_spans» ≤ 16) × Leads directions ⌝ }
+    ensures { λ r. ⌜ Drawn (limitsOf limits) (directionsOf directions) (decode (now (job .entry))) (ownEnds (decode (now (job .entry)))) (now (work .entry)) (now (work .exit)) (now (plan .exit)) r ⌝ }
 {
     let c = h.counts;
     let o = h.offsets;
@@ -260,11 +278,13 @@ pub fn plan_own(
     let at = size(o.boundaries);
     let mut ends = [0u32; 1024];
     fill_spans(job, at, BOUNDARY_SIZE, order, count, &mut ends);
-    plan_matched(job, h, &ends, order, work, plan)
+    plan_matched(limits, directions, job, h, &ends, order, work, plan)
 }
 
 // By the spans of a list, as many as boundaries.
 fn plan_listed(
+    limits: Limits,
+    directions: u32,
     job: &[u8],
     h: Header,
     list: &[u8],
@@ -272,18 +292,19 @@ fn plan_listed(
     work: &mut [u8],
     plan: &mut [u32; 256],
 ) -> usize
-    requires { ⌜ Plannable (now job) h (now order) (now work) × (firstRefusal (byListChecks (now job) (now list)) ≡ none) × (length (now list) / spanSize ≡ h .counts .boundaries) × (length (now plan) ≡ 256) ⌝ }
-    ensures { λ r. ⌜ Drawn (decode (now (job .entry))) (decodeList (now (list .entry))) (now (work .entry)) (now (work .exit)) (now (plan .exit)) r ⌝ }
+    requires { ⌜ Plannable (now job) h (now order) (now work) × (firstRefusal (byListChecks (now job) (now list)) ≡ none) × (length (now list) / spanSize ≡ h .counts .boundaries) × (length (now plan) ≡ 256) × (limits .«most_spans» ≤ 16) × Leads directions ⌝ }
+    ensures { λ r. ⌜ Drawn (limitsOf limits) (directionsOf directions) (decode (now (job .entry))) (decodeList (now (list .entry))) (now (work .entry)) (now (work .exit)) (now (plan .exit)) r ⌝ }
 {
     let c = h.counts;
     let count = size(c.boundaries);
     let mut ends = [0u32; 1024];
     fill_spans(list, 0, SPAN_SIZE, order, count, &mut ends);
-    plan_matched(job, h, &ends, order, work, plan)
+    plan_matched(limits, directions, job, h, &ends, order, work, plan)
 }
 
 // By the spans of a list, more or fewer than boundaries: each rank goes into itself.
 fn plan_unmatched(
+    directions: u32,
     job: &[u8],
     h: Header,
     list: &[u8],
@@ -291,8 +312,8 @@ fn plan_unmatched(
     work: &mut [u8],
     plan: &mut [u32; 256],
 ) -> usize
-    requires { ⌜ Headed (now job) h × (workSize (decode (now job)) ≤ length (now work)) × (firstRefusal (byListChecks (now job) (now list)) ≡ none) × (n ≡ length (now list) / spanSize) × (n ≡ h .counts .boundaries → ⊥) × (length (now plan) ≡ 256) ⌝ }
-    ensures { λ r. ⌜ Drawn (decode (now (job .entry))) (decodeList (now (list .entry))) (now (work .entry)) (now (work .exit)) (now (plan .exit)) r ⌝ }
+    requires { ⌜ Headed (now job) h × (workSize (decode (now job)) ≤ length (now work)) × (firstRefusal (byListChecks (now job) (now list)) ≡ none) × (n ≡ length (now list) / spanSize) × (n ≡ h .counts .boundaries → ⊥) × (length (now plan) ≡ 256) × Leads directions ⌝ }
+    ensures { λ r. ⌜ ((l : rules.Limits) → Drawn l (directionsOf directions) (decode (now (job .entry))) (decodeList (now (list .entry))) (now (work .entry)) (now (work .exit)) (now (plan .exit)) r) ⌝ }
 {
     let c = h.counts;
     let cells = size(c.width * c.height);
@@ -304,6 +325,7 @@ fn plan_unmatched(
         &job[HEADER_SIZE..HEADER_SIZE + cells],
         c.width,
         c.height,
+        directions,
         &ends,
         n,
         work,
@@ -313,6 +335,8 @@ fn plan_unmatched(
 
 // By the spans of a list.
 pub fn plan_by_list(
+    limits: Limits,
+    directions: u32,
     job: &[u8],
     h: Header,
     list: &[u8],
@@ -320,13 +344,13 @@ pub fn plan_by_list(
     work: &mut [u8],
     plan: &mut [u32; 256],
 ) -> usize
-    requires { ⌜ Plannable (now job) h (now order) (now work) × (firstRefusal (byListChecks (now job) (now list)) ≡ none) × (length (now plan) ≡ 256) ⌝ }
-    ensures { λ r. ⌜ Drawn (decode (now (job .entry))) (decodeList (now (list .entry))) (now (work .entry)) (now (work .exit)) (now (plan .exit)) r ⌝ }
+    requires { ⌜ Plannable (now job) h (now order) (now work) × (firstRefusal (byListChecks (now job) (now list)) ≡ none) × (length (now plan) ≡ 256) × (limits .«most_spans» ≤ 16) × Leads directions ⌝ }
+    ensures { λ r. ⌜ Drawn (limitsOf limits) (directionsOf directions) (decode (now (job .entry))) (decodeList (now (list .entry))) (now (work .entry)) (now (work .exit)) (now (plan .exit)) r ⌝ }
 {
     let c = h.counts;
     let n = list.len() / SPAN_SIZE;
     if n == size(c.boundaries) {
-        return plan_listed(job, h, list, order, work, plan);
+        return plan_listed(limits, directions, job, h, list, order, work, plan);
     }
-    plan_unmatched(job, h, list, n, work, plan)
+    plan_unmatched(directions, job, h, list, n, work, plan)
 }

@@ -1,8 +1,11 @@
 // Checks, partition and plan of Reduce and Reduce by list: all but the answer.
+ghost use Prim.Native.Nat.{_≤_};
 ghost use Rattle.format.specs.Decode.{decode, decodeList};
+ghost use Rattle.grid.specs.Directions.{directionsOf};
+ghost use Rattle.links.specs.HeldLimits.{limitsOf};
 ghost use Rattle.job.specs.Refusals.{reduceChecks, byListChecks};
 ghost use Rattle.results.specs.Results.{ownEnds};
-ghost use Rattle.analysis.specs.Plans.{PlanLeft};
+ghost use Rattle.analysis.specs.Plans.{Leads, PlanLeft};
 use crate::bridged::MAX_PAIRS;
 use crate::drawing::order_boundaries;
 use crate::drawing::plan_by_list;
@@ -11,17 +14,21 @@ use crate::result::ChokesResult;
 use format::read_header;
 use job::check_reduce;
 use job::check_reduce_by_list;
+use links::limits::Limits;
 use wire::size;
 
 // The merges of a job by its boundaries' own ends: number 0 and the plan by rank, or a refusal. Left free: what `order` and `plan` hold
 // past the last boundary, and all that they hold after a refusal.
 pub fn plan_reduce(
+    limits: Limits,
+    directions: u32,
     job: &[u8],
     work: &mut [u8],
     order: &mut [u32; 256],
     plan: &mut [u32; 256],
 ) -> ChokesResult
-    ensures { λ r. ⌜ PlanLeft (reduceChecks (now (job .entry))) (decode (now (job .entry))) (ownEnds (decode (now (job .entry)))) (now (work .entry)) (now (work .exit)) (now (order .exit)) (now (plan .exit)) (r .number) (r .detail) ⌝ }
+    requires { ⌜ (limits .«most_spans» ≤ 16) × Leads directions ⌝ }
+    ensures { λ r. ⌜ PlanLeft (limitsOf limits) (directionsOf directions) (reduceChecks (now (job .entry))) (decode (now (job .entry))) (ownEnds (decode (now (job .entry)))) (now (work .entry)) (now (work .exit)) (now (order .exit)) (now (plan .exit)) (r .number) (r .detail) ⌝ }
 {
     let v = check_reduce(job);
     if !v.passed() {
@@ -41,7 +48,7 @@ pub fn plan_reduce(
     *order = [0u32; 256];
     *plan = [0u32; 256];
     order_boundaries(job, h, order);
-    let pairs = plan_own(job, h, order, work, plan);
+    let pairs = plan_own(limits, directions, job, h, order, work, plan);
     if MAX_PAIRS < pairs {
         return ChokesResult {
             number: 13,
@@ -56,13 +63,16 @@ pub fn plan_reduce(
 
 // The merges of a job by the spans of a list. Left free is what `plan_reduce` leaves free.
 pub fn plan_reduce_by_list(
+    limits: Limits,
+    directions: u32,
     job: &[u8],
     list: &[u8],
     work: &mut [u8],
     order: &mut [u32; 256],
     plan: &mut [u32; 256],
 ) -> ChokesResult
-    ensures { λ r. ⌜ PlanLeft (byListChecks (now (job .entry)) (now (list .entry))) (decode (now (job .entry))) (decodeList (now (list .entry))) (now (work .entry)) (now (work .exit)) (now (order .exit)) (now (plan .exit)) (r .number) (r .detail) ⌝ }
+    requires { ⌜ (limits .«most_spans» ≤ 16) × Leads directions ⌝ }
+    ensures { λ r. ⌜ PlanLeft (limitsOf limits) (directionsOf directions) (byListChecks (now (job .entry)) (now (list .entry))) (decode (now (job .entry))) (decodeList (now (list .entry))) (now (work .entry)) (now (work .exit)) (now (order .exit)) (now (plan .exit)) (r .number) (r .detail) ⌝ }
 {
     let v = check_reduce_by_list(job, list);
     if !v.passed() {
@@ -82,7 +92,7 @@ pub fn plan_reduce_by_list(
     *order = [0u32; 256];
     *plan = [0u32; 256];
     order_boundaries(job, h, order);
-    let pairs = plan_by_list(job, h, list, order, work, plan);
+    let pairs = plan_by_list(limits, directions, job, h, list, order, work, plan);
     if MAX_PAIRS < pairs {
         return ChokesResult {
             number: 13,

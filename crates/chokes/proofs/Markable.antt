@@ -14,8 +14,6 @@ use Rattle.format.specs.Header.{countsAt, boundariesStart}
 use Rattle.format.specs.Decode.{decode}
 use Rattle.format.specs.declared.header.Header.{Header}
 use Rattle.grid.specs.Cells.{Grid}
-use Rattle.grid.specs.Directions.{eight, directionsOf}
-use Rattle.grid.proofs.Directions.{directions-eight}
 use Rattle.areas.specs.Areas.{areaLabels}
 use Rattle.areas.specs.Assessments.{records}
 use Rattle.areas.specs.Spans.{SpanFits, spanIn, spansIn}
@@ -29,6 +27,7 @@ use Rattle.checks.proofs.Limits.{cells-limit, sections}
 use Rattle.results.specs.Rules.{gridOf}
 use Rattle.results.specs.Results.{maxPairs, ownEnds}
 use Rattle.analysis.specs.Bridging.{MarkedWithin}
+use Rattle.analysis.specs.Plans.{Leads}
 use Rattle.chokes.specs.Marking.{Markable, Analysed}
 use Rattle.analysis.proofs.Mapped.{header-counts, map-inside, map-is, map-partitionable}
 use Rattle.results.proofs.Own.{boundaryPlace, own-ends, mark-laid, ends-fit}
@@ -85,8 +84,8 @@ module _ {s : List ℕ} {h : Header} {work : List ℕ} (m : Markable s h work) w
             let w = ends-fit s (m .passed) i (omega (arith, count-is)) in
             rw (span-is i l, counts-are) w
 
-        pub own-partitionable : Partitionable (h .counts .width) (h .counts .height) cells 495 ends count work
-        own-partitionable = map-partitionable (m .header) laid n e (record { each = fits }) count-few (m .room)
+        pub own-partitionable : {directions : ℕ} → Leads directions → Partitionable (h .counts .width) (h .counts .height) cells directions ends count work
+        own-partitionable leads = map-partitionable (m .header) laid n e leads (record { each = fits }) count-few (m .room)
 
         same-ends : map canonical (spansIn ends count) ≡ map canonical (ownEnds (decode s))
         unfolding spansIn
@@ -97,17 +96,16 @@ module _ {s : List ℕ} {h : Header} {work : List ℕ} (m : Markable s h work) w
             ∙ (ap (λ k. rows k (λ i. canonical (spanAt s (boundaryPlace s i)))) count-is
             ∙ (sym (map-rows canonical (countsAt s 0 .boundaries) (λ i. spanAt s (boundaryPlace s i))) ∙ ap (map canonical) (sym (own-ends s)))))
 
-        records-are : records (directionsOf 495) (mapOf (h .counts .width) (h .counts .height) cells) (spansIn ends count) ≡ records eight (gridOf (decode s)) (ownEnds (decode s))
-        records-are =
-            ap (λ ds. records ds (mapOf (h .counts .width) (h .counts .height) cells) (spansIn ends count)) directions-eight
-            ∙ (ap (λ (g : Grid). records eight g (spansIn ends count)) grid-is ∙ records-same eight (gridOf (decode s)) (spansIn ends count) (ownEnds (decode s)) same-ends)
+        records-are : (dirs : List ℕ) → records dirs (mapOf (h .counts .width) (h .counts .height) cells) (spansIn ends count) ≡ records dirs (gridOf (decode s)) (ownEnds (decode s))
+        records-are dirs =
+            ap (λ (g : Grid). records dirs g (spansIn ends count)) grid-is ∙ records-same dirs (gridOf (decode s)) (spansIn ends count) (ownEnds (decode s)) same-ends
 
-        labels-are : areaLabels (directionsOf 495) (mapOf (h .counts .width) (h .counts .height) cells) (spansIn ends count) ≡ areaLabels eight (gridOf (decode s)) (ownEnds (decode s))
-        labels-are =
-            ap (λ ds. areaLabels ds (mapOf (h .counts .width) (h .counts .height) cells) (spansIn ends count)) directions-eight
-            ∙ (ap (λ (g : Grid). areaLabels eight g (spansIn ends count)) grid-is ∙ labels-depend-on-the-set eight (gridOf (decode s)) (spansIn ends count) (ownEnds (decode s)) (eq-same same-ends))
+        labels-are : (dirs : List ℕ) → areaLabels dirs (mapOf (h .counts .width) (h .counts .height) cells) (spansIn ends count) ≡ areaLabels dirs (gridOf (decode s)) (ownEnds (decode s))
+        labels-are dirs =
+            ap (λ (g : Grid). areaLabels dirs g (spansIn ends count)) grid-is
+            ∙ labels-depend-on-the-set dirs (gridOf (decode s)) (spansIn ends count) (ownEnds (decode s)) (eq-same same-ends)
 
-        pub own-analysed : {after marks : List ℕ} {pairs : ℕ}
-            → MarkedWithin maxPairs (directionsOf 495) (mapOf (h .counts .width) (h .counts .height) cells) (spansIn ends count) marks work after pairs
-            → Analysed (decode s) (ownEnds (decode s)) work after marks pairs
-        own-analysed r = rw (← records-are, ← labels-are) r
+        pub own-analysed : (dirs : List ℕ) {after marks : List ℕ} {pairs : ℕ}
+            → MarkedWithin maxPairs dirs (mapOf (h .counts .width) (h .counts .height) cells) (spansIn ends count) marks work after pairs
+            → Analysed dirs (decode s) (ownEnds (decode s)) work after marks pairs
+        own-analysed dirs r = rw (← records-are dirs, ← labels-are dirs) r

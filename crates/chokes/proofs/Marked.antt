@@ -1,5 +1,5 @@
 -- What Mark leaves at each of its returns.
-use mathlib.Core.Path.{_≡_, refl, sym, _∙_, ap}
+use mathlib.Core.Path.{_≡_, refl, sym, _∙_, ap, subst}
 use mathlib.Core.Bool.{Bool, true, false, not, cond}
 use mathlib.Core.List.{List, [], _∷_, _++_}
 use mathlib.Core.Option.{Option, none, some}
@@ -15,7 +15,8 @@ use Rattle.wire.proofs.Parts.{length-part}
 use Rattle.format.specs.Header.{headerAt, countsAt, cellCount}
 use Rattle.format.specs.Decode.{decode, jobWith}
 use Rattle.format.specs.declared.header.Header.{Header}
-use Rattle.grid.specs.Directions.{eight}
+use Rattle.grid.specs.Directions.{eight, directionsOf}
+use Rattle.grid.proofs.Directions.{directions-eight}
 use Rattle.graph.specs.Records.{Record}
 use Rattle.graph.specs.Bridges.{isBridge, markOf}
 use Rattle.areas.specs.Assessments.{records}
@@ -73,7 +74,10 @@ module _ (s work marks : List ℕ) where
         = append-none (markChecks s) _ e ∙ stop 21 0 [] (lt-ltb _ _ l) in
         rw a refl
 
-    module _ (w : workSize (decode s) ≤ length work) {after bridges : List ℕ} {pairs : ℕ} (y : Analysed (decode s) (ownEnds (decode s)) work after bridges pairs) where
+    module _ (w : workSize (decode s) ≤ length work) {after bridges : List ℕ} {pairs : ℕ} (drawn : Analysed (directionsOf 495) (decode s) (ownEnds (decode s)) work after bridges pairs) where
+      y : Analysed eight (decode s) (ownEnds (decode s)) work after bridges pairs
+      y = subst (λ (dirs : List ℕ). Analysed dirs (decode s) (ownEnds (decode s)) work after bridges pairs) directions-eight drawn
+
       abbrev rs : List Record
       rs = records eight (gridOf (decode s)) (ownEnds (decode s))
 

@@ -11,7 +11,6 @@ use Rattle.format.specs.Values.{Job}
 use Rattle.format.specs.Header.{headerAt}
 use Rattle.format.specs.Decode.{decode}
 use Rattle.format.specs.declared.header.Header.{Header}
-use Rattle.grid.specs.Directions.{eight}
 use Rattle.checks.specs.Checks.{firstRefusal}
 use Rattle.job.specs.Refusals.{markChecks}
 use Rattle.results.specs.Rules.{gridOf}
@@ -25,8 +24,8 @@ pub record Markable (s : List ℕ) (h : Header) (work : List ℕ) : Type 0 where
   pub room : workSize (decode s) ≤ length work
 
 -- a job partitioned by the spans: the work, the number of region pairs (4,097 where they are over 4,096), and the bridge marks
-abbrev pub Analysed : Job → List Span → List ℕ → List ℕ → List ℕ → ℕ → Type 0
-Analysed j ss before work marks pairs = MarkedWithin maxPairs eight (gridOf j) ss marks before work pairs
+abbrev pub Analysed : List ℕ → Job → List Span → List ℕ → List ℕ → List ℕ → ℕ → Type 0
+Analysed dirs j ss before work marks pairs = MarkedWithin maxPairs dirs (gridOf j) ss marks before work pairs
 
 -- the first n bytes are those of another list
 abbrev pub copied : List ℕ → ℕ → List ℕ → List ℕ

@@ -3,6 +3,8 @@ ghost use mathlib.Core.Path.{_≡_};
 ghost use Prim.Native.Nat.{_≤_, _<_};
 ghost use lib.ListN.{length};
 ghost use Rattle.format.specs.Decode.{decode};
+ghost use Rattle.grid.specs.Directions.{directionsOf};
+ghost use Rattle.analysis.specs.Plans.{Leads};
 ghost use Rattle.results.specs.Calls.{markResult};
 ghost use Rattle.chokes.specs.Marking.{Markable, Analysed, copied};
 ghost use Rattle.results.specs.Results.{ownEnds, leftBy};
@@ -13,15 +15,22 @@ use format::BOUNDARY_SIZE;
 use format::HEADER_SIZE;
 use format::Header;
 use format::read_header;
+use grid::neighbors::EIGHT;
 use job::check_mark;
 use ranks::fill_identity;
 use ranks::fill_spans;
 use wire::size;
 
 // Partitions a job by its boundaries' own ends; gives the number of region pairs.
-fn analyse_boundaries(job: &[u8], h: Header, work: &mut [u8], marks: &mut [u8; 256]) -> usize
-    requires { ⌜ Markable (now job) h (now work) ⌝ }
-    ensures { λ r. ⌜ Analysed (decode (now (job .entry))) (ownEnds (decode (now (job .entry)))) (now (work .entry)) (now (work .exit)) (now (marks .exit)) r ⌝ }
+fn analyse_boundaries(
+    directions: u32,
+    job: &[u8],
+    h: Header,
+    work: &mut [u8],
+    marks: &mut [u8; 256],
+) -> usize
+    requires { ⌜ Markable (now job) h (now work) × Leads directions ⌝ }
+    ensures { λ r. ⌜ Analysed (directionsOf directions) (decode (now (job .entry))) (ownEnds (decode (now (job .entry)))) (now (work .entry)) (now (work .exit)) (now (marks .exit)) r ⌝ }
 {
     let c = h.counts;
     let o = h.offsets;
@@ -42,6 +51,7 @@ fn analyse_boundaries(job: &[u8], h: Header, work: &mut [u8], marks: &mut [u8; 2
         &job[HEADER_SIZE..HEADER_SIZE + n],
         c.width,
         c.height,
+        directions,
         &ends,
         count,
         work,
@@ -81,7 +91,7 @@ pub extern "C" fn chokes_mark(job: &[u8], work: &mut [u8], marks: &mut [u8]) -> 
         };
     }
     let mut bridges = [0u8; 256];
-    let pairs = analyse_boundaries(job, h, work, &mut bridges);
+    let pairs = analyse_boundaries(EIGHT, job, h, work, &mut bridges);
     if MAX_PAIRS < pairs {
         return ChokesResult {
             number: 13,

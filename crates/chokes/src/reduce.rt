@@ -10,6 +10,8 @@ use analysis::plan_reduce;
 use analysis::plan_reduce_by_list;
 use encoding::from_job::write_answer;
 use format::read_header;
+use grid::neighbors::EIGHT;
+use links::limits::Limits;
 
 // Writes the answer of a plan where the slice has room for it.
 fn finish(job: &[u8], order: &[u32; 256], plan: &[u32; 256], answer: &mut [u8]) -> ChokesResult
@@ -37,7 +39,7 @@ pub extern "C" fn chokes_reduce(job: &[u8], work: &mut [u8], answer: &mut [u8]) 
 {
     let mut order = [0u32; 256];
     let mut plan = [0u32; 256];
-    let r = plan_reduce(job, work, &mut order, &mut plan);
+    let r = plan_reduce(Limits::of_000(), EIGHT, job, work, &mut order, &mut plan);
     if 0 < r.number {
         return r;
     }
@@ -55,7 +57,15 @@ pub extern "C" fn chokes_reduce_by_list(
 {
     let mut order = [0u32; 256];
     let mut plan = [0u32; 256];
-    let r = plan_reduce_by_list(job, list, work, &mut order, &mut plan);
+    let r = plan_reduce_by_list(
+        Limits::of_000(),
+        EIGHT,
+        job,
+        list,
+        work,
+        &mut order,
+        &mut plan,
+    );
     if 0 < r.number {
         return r;
     }

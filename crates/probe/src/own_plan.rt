@@ -10,6 +10,8 @@ use analysis::ChokesResult;
 use analysis::plan_reduce;
 use analysis::plan_reduce_by_list;
 use format::read_header;
+use grid::neighbors::EIGHT;
+use links::limits::Limits;
 use wire::size;
 use wire::write_u32;
 
@@ -27,9 +29,9 @@ fn plan_of(
         (now (work .entry)) (now (work .exit)) (now (order .exit)) (now (plan .exit)) (r .number) (r .detail) ⌝ }
 {
     if which == 0 {
-        return plan_reduce(job, work, order, plan);
+        return plan_reduce(Limits::of_000(), EIGHT, job, work, order, plan);
     }
-    plan_reduce_by_list(job, list, work, order, plan)
+    plan_reduce_by_list(Limits::of_000(), EIGHT, job, list, work, order, plan)
 }
 
 // For each boundary, the one that it goes into.

@@ -17,7 +17,7 @@ fill-spans-requires : tie.Need-fill-spans-requires
 fill-spans-requires c κs = let p = c .before .before .before .before .before .before .pre .0 .job in (list-matched-records (p .headed) _ (c .before .before .before .before .before .before .pre .1) (plan-ranks p) _ (c .before .size .ensures .0) (c .before .before .before .before .before .before .pre .2), refl)
 
 plan-matched-requires : tie.Need-plan-matched-requires
-plan-matched-requires c κs = let p = c .before .before .before .before .before .before .before .before .before .before .pre .0 .job in let o = c .before .before .before .fill-spans .ensures in (c .before .before .before .before .before .before .before .before .before .before .pre .0, list-fit (p .headed) _ (c .before .before .before .before .before .before .before .before .before .before .pre .1) (plan-ranks p) _ (c .before .before .before .before .before .size .ensures .0) (c .before .before .before .before .before .before .before .before .before .before .pre .2) o, record { spans = _; are = list-by (p .headed) _ (c .before .before .before .before .before .before .before .before .before .before .pre .1) (plan-ranks p) _ (c .before .before .before .before .before .size .ensures .0) (c .before .before .before .before .before .before .before .before .before .before .pre .2) o }, c .before .before .before .before .before .before .before .before .before .before .pre .3)
+plan-matched-requires c κs = let p = c .before .before .before .before .before .before .before .before .before .before .pre .0 .job in let o = c .before .before .before .fill-spans .ensures in (c .before .before .before .before .before .before .before .before .before .before .pre .0, list-fit (p .headed) _ (c .before .before .before .before .before .before .before .before .before .before .pre .1) (plan-ranks p) _ (c .before .before .before .before .before .size .ensures .0) (c .before .before .before .before .before .before .before .before .before .before .pre .2) o, record { spans = _; are = list-by (p .headed) _ (c .before .before .before .before .before .before .before .before .before .before .pre .1) (plan-ranks p) _ (c .before .before .before .before .before .size .ensures .0) (c .before .before .before .before .before .before .before .before .before .before .pre .2) o }, c .before .before .before .before .before .before .before .before .before .before .pre .3, c .before .before .before .before .before .before .before .before .before .before .pre .4, c .before .before .before .before .before .before .before .before .before .before .pre .5)
 
 same-length : tie.Need-same-length
 same-length c = search needs

@@ -2,13 +2,12 @@ use native.Mathlib.Omega.{arith}
 use mathlib.Core.Path.{refl}
 use Rattle.analysis.proofs.Headed.{headed-laid, headed-cells}
 use Rattle.analysis.proofs.Mapped.{map-inside}
-use Rattle.analysis.proofs.Merges.{plan-records, most-few, ready, planned-as, own-array, widths-array, ramps-array}
+use Rattle.analysis.proofs.Merges.{plan-records, ready, planned-as, own-array, widths-array, ramps-array}
 use borrow.Author.Needs.{needs}
 use Rattle.analysis.proofs.drawing.plan_listing.Statement.{statement}
 use Rattle.analysis.proofs.drawing.plan_listing.Tie as tie
 use Rattle.analysis.proofs.drawing.plan_listing.Reads as reads
 use Rattle.analysis.proofs.drawing.plan_listing.Lts as lts
-use Rattle.links.proofs.limits.Limits.of_000.Reads as of-000-reads
 use Rattle.planning.proofs.plan_merges.Reads as plan-merges-reads
 use Rattle.ranks.proofs.fill_ramps.Reads as fill-ramps-reads
 use Rattle.ranks.proofs.fill_spans.Reads as fill-spans-reads
@@ -36,9 +35,6 @@ fill-widths-requires c κs = (plan-records (c .before .before .before .before .b
 fill-ramps-requires : tie.Need-fill-ramps-requires
 fill-ramps-requires c κs = (plan-records (c .before .before .before .before .before .before .before .before .before .before .before .before .before .before .before .before .pre .0) _ _ (c .before .before .before .before .before .size3 .ensures .0) (c .before .before .before .before .before .before .size2 .ensures .0), refl)
 
-of-000-requires : tie.Need-of-000-requires
-of-000-requires c κs = search needs
-
 size-requires-4 : tie.Need-size-requires-4
 size-requires-4 c κs = search needs
 
@@ -55,16 +51,16 @@ part-plan-merges-start : tie.Need-part-plan-merges-start
 part-plan-merges-start c = search needs
 
 part-plan-merges-end : tie.Need-part-plan-merges-end
-part-plan-merges-end c = omega (arith, map-inside (c .before .before .before .before .before .before .before .before .before .before .before .before .before .before .before .before .before .before .before .before .pre .0 .headed .header) (headed-laid (c .before .before .before .before .before .before .before .before .before .before .before .before .before .before .before .before .before .before .before .before .pre .0 .headed)) _ (c .before .before .before .before .before .before .before .before .before .before .before .size .ensures .0))
+part-plan-merges-end c = omega (arith, map-inside (c .before .before .before .before .before .before .before .before .before .before .before .before .before .before .before .before .before .before .before .pre .0 .headed .header) (headed-laid (c .before .before .before .before .before .before .before .before .before .before .before .before .before .before .before .before .before .before .before .pre .0 .headed)) _ (c .before .before .before .before .before .before .before .before .before .before .size .ensures .0))
 
 plan-merges-requires : tie.Need-plan-merges-requires
-plan-merges-requires c κs = let p = c .before .before .before .before .before .before .before .before .before .before .before .before .before .before .before .before .before .before .before .before .before .before .before .before .before .before .pre .0 in let a = c .before .before .before .before .before .before .before .before .before .before .before .before .before .before .before .size3 .ensures .0 in let n = c .before .before .before .before .before .before .before .before .before .before .before .before .before .before .before .before .size2 .ensures .0 in (most-few (c .before .before .before .before .before .before .before .before .of-000 .ensures), ready p (own-array p a n (c .before .before .before .before .before .before .before .before .before .before .before .before .before .fill-spans .ensures)) (widths-array p a n (c .before .before .before .before .before .before .before .before .before .before .before .fill-widths .ensures)) (ramps-array p a n (c .before .before .before .before .before .before .before .before .before .fill-ramps .ensures)) (c .before .before .before .before .before .before .before .before .before .before .before .before .before .before .before .before .before .before .before .before .before .before .before .before .before .before .pre .1 .are) _ _ _ (c .before .before .before .before .before .before .before .size4 .ensures .0) (c .before .before .before .before .before .before .size5 .ensures .0) n _ (c .before .before .before .before .before .before .before .before .before .before .before .before .before .before .before .before .before .size .ensures .0) (c .before .before .before .before .before .before .before .before .before .before .before .before .before .before .before .before .before .before .before .before .before .before .before .before .before .before .pre .2), c .before .before .before .before .before .before .before .before .before .before .before .before .before .before .before .before .before .before .before .before .before .before .before .before .before .before .pre .3)
+plan-merges-requires c κs = let p = c .before .before .before .before .before .before .before .before .before .before .before .before .before .before .before .before .before .before .before .before .before .before .before .before .before .pre .0 in let a = c .before .before .before .before .before .before .before .before .before .before .before .before .before .before .size3 .ensures .0 in let n = c .before .before .before .before .before .before .before .before .before .before .before .before .before .before .before .size2 .ensures .0 in (c .before .before .before .before .before .before .before .before .before .before .before .before .before .before .before .before .before .before .before .before .before .before .before .before .before .pre .4, ready p (own-array p a n (c .before .before .before .before .before .before .before .before .before .before .before .before .fill-spans .ensures)) (widths-array p a n (c .before .before .before .before .before .before .before .before .before .before .fill-widths .ensures)) (ramps-array p a n (c .before .before .before .before .before .before .before .before .fill-ramps .ensures)) (c .before .before .before .before .before .before .before .before .before .before .before .before .before .before .before .before .before .before .before .before .before .before .before .before .before .pre .1 .are) _ _ _ (c .before .before .before .before .before .before .before .size4 .ensures .0) (c .before .before .before .before .before .before .size5 .ensures .0) n _ (c .before .before .before .before .before .before .before .before .before .before .before .before .before .before .before .before .size .ensures .0) (c .before .before .before .before .before .before .before .before .before .before .before .before .before .before .before .before .before .before .before .before .before .before .before .before .before .pre .2), c .before .before .before .before .before .before .before .before .before .before .before .before .before .before .before .before .before .before .before .before .before .before .before .before .before .pre .3)
 
 same-length : tie.Need-same-length
 same-length c = search needs
 
 returns : tie.Need-returns
-returns c = let p = c .before .before .before .before .before .before .before .before .before .before .before .before .before .before .before .before .before .before .before .before .before .before .before .before .before .before .before .before .before .pre .0 in let a = c .before .before .before .before .before .before .before .before .before .before .before .before .before .before .before .before .before .before .size3 .ensures .0 in let n = c .before .before .before .before .before .before .before .before .before .before .before .before .before .before .before .before .before .before .before .size2 .ensures .0 in (c .before .before .plan-merges .ensures .0, (λ ss t. planned-as p (own-array p a n (c .before .before .before .before .before .before .before .before .before .before .before .before .before .before .before .before .fill-spans .ensures)) (widths-array p a n (c .before .before .before .before .before .before .before .before .before .before .before .before .before .before .fill-widths .ensures)) (ramps-array p a n (c .before .before .before .before .before .before .before .before .before .before .before .before .fill-ramps .ensures)) t _ _ _ (c .before .before .before .before .before .before .before .before .before .before .size4 .ensures .0) (c .before .before .before .before .before .before .before .before .before .size5 .ensures .0) n _ (c .before .before .before .before .before .before .before .before .before .before .before .before .before .before .before .before .before .before .before .before .size .ensures .0) (c .before .before .before .before .before .before .before .before .before .before .before .of-000 .ensures) (c .before .before .plan-merges .ensures .1), c .before .before .plan-merges .ensures .1 .whole))
+returns c = let p = c .before .before .before .before .before .before .before .before .before .before .before .before .before .before .before .before .before .before .before .before .before .before .before .before .before .before .before .before .pre .0 in let a = c .before .before .before .before .before .before .before .before .before .before .before .before .before .before .before .before .before .size3 .ensures .0 in let n = c .before .before .before .before .before .before .before .before .before .before .before .before .before .before .before .before .before .before .size2 .ensures .0 in (c .before .before .plan-merges .ensures .0, (λ dirs ss t. planned-as p (own-array p a n (c .before .before .before .before .before .before .before .before .before .before .before .before .before .before .before .fill-spans .ensures)) (widths-array p a n (c .before .before .before .before .before .before .before .before .before .before .before .before .before .fill-widths .ensures)) (ramps-array p a n (c .before .before .before .before .before .before .before .before .before .before .before .fill-ramps .ensures)) t _ _ _ (c .before .before .before .before .before .before .before .before .before .before .size4 .ensures .0) (c .before .before .before .before .before .before .before .before .before .size5 .ensures .0) n _ (c .before .before .before .before .before .before .before .before .before .before .before .before .before .before .before .before .before .before .before .size .ensures .0) (c .before .before .plan-merges .ensures .1), c .before .before .plan-merges .ensures .1 .whole))
 
 pub plan-listing-spec : {M : Type 1} → statement M
 plan-listing-spec =
@@ -77,7 +73,6 @@ plan-listing-spec =
     fill-spans-requires
     fill-widths-requires
     fill-ramps-requires
-    of-000-requires
     size-requires-4
     size-requires-5
     add-plan-merges

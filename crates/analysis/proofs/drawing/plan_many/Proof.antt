@@ -19,7 +19,7 @@ slice-aggregate-plan-with-3 : tie.Need-slice-aggregate-plan-with-3
 slice-aggregate-plan-with-3 c = search needs
 
 plan-with-requires : tie.Need-plan-with-requires
-plan-with-requires c κs = let p = c .before .before .before .before .before .before .before .pre in (p .0, p .1, p .2, record { owners-are = refl; rights-are = refl; few = omega (arith, length-replicate {A = ℕ} 4096 0) }, p .3)
+plan-with-requires c κs = let p = c .before .before .before .before .before .before .before .pre in (p .0, p .1, p .2, record { owners-are = refl; rights-are = refl; few = omega (arith, length-replicate {A = ℕ} 4096 0) }, p .3, p .4, p .5)
 
 same-length : tie.Need-same-length
 same-length c = search needs

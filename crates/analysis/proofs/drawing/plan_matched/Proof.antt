@@ -42,7 +42,7 @@ returns-2 : tie.Need-returns-2
 returns-2 c = λ ss e. parted-wider (c .before .before .before .plan-few .ensures .0 ss e) (omega arith) (omega arith)
 
 plan-many-requires-2 : tie.Need-plan-many-requires-2
-plan-many-requires-2 c κs = let p = c .before .before .before .before .before .before .before .before .before .before .before .before .before .before .before .before .pre in (record { job = p .0 .job; room = omega (arith, p .0 .room, c .before .before .before .before .before .plan-few .kept .1 .1 .1 .1 .0) }, p .1, p .2, c .before .before .before .before .before .plan-few .ensures .1)
+plan-many-requires-2 c κs = let p = c .before .before .before .before .before .before .before .before .before .before .before .before .before .before .before .before .pre in (record { job = p .0 .job; room = omega (arith, p .0 .room, c .before .before .before .before .before .plan-few .kept .1 .1 .1 .1 .1 .1 .0) }, p .1, p .2, c .before .before .before .before .before .plan-few .ensures .1, p .4, p .5)
 
 same-length-3 : tie.Need-same-length-3
 same-length-3 c = search needs

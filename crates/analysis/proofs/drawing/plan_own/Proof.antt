@@ -20,7 +20,7 @@ fill-spans-requires : tie.Need-fill-spans-requires
 fill-spans-requires c κs = (plan-records (c .before .before .before .before .before .before .before .pre .0 .job) _ _ (c .before .size2 .ensures .0) (c .before .before .size .ensures .0), refl)
 
 plan-matched-requires : tie.Need-plan-matched-requires
-plan-matched-requires c κs = let p = c .before .before .before .before .before .before .before .before .before .before .before .pre .0 in let o = c .before .before .before .fill-spans .ensures in (p, own-fit (p .job) _ _ (c .before .before .before .before .before .size2 .ensures .0) (c .before .before .before .before .before .before .size .ensures .0) o (c .before .before .before .before .before .before .before .before .before .before .before .pre .1), record { spans = _; are = own-by (p .job) _ _ (c .before .before .before .before .before .size2 .ensures .0) (c .before .before .before .before .before .before .size .ensures .0) o }, c .before .before .before .before .before .before .before .before .before .before .before .pre .2)
+plan-matched-requires c κs = let p = c .before .before .before .before .before .before .before .before .before .before .before .pre .0 in let o = c .before .before .before .fill-spans .ensures in (p, own-fit (p .job) _ _ (c .before .before .before .before .before .size2 .ensures .0) (c .before .before .before .before .before .before .size .ensures .0) o (c .before .before .before .before .before .before .before .before .before .before .before .pre .1), record { spans = _; are = own-by (p .job) _ _ (c .before .before .before .before .before .size2 .ensures .0) (c .before .before .before .before .before .before .size .ensures .0) o }, c .before .before .before .before .before .before .before .before .before .before .before .pre .2, c .before .before .before .before .before .before .before .before .before .before .before .pre .3, c .before .before .before .before .before .before .before .before .before .before .before .pre .4)
 
 same-length : tie.Need-same-length
 same-length c = search needs

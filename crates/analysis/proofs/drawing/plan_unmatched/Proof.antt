@@ -4,6 +4,7 @@ use Rattle.analysis.proofs.Headed.{headed-laid, headed-cells}
 use Rattle.analysis.proofs.Mapped.{map-inside}
 use Rattle.analysis.proofs.Matching.{list-unmatched-records, unmatched-partitionable, unmatched-drawn}
 use borrow.Author.Needs.{needs}
+use Rattle.grid.specs.Directions.{directionsOf}
 use Rattle.analysis.proofs.drawing.plan_unmatched.Statement.{statement}
 use Rattle.analysis.proofs.drawing.plan_unmatched.Tie as tie
 use Rattle.analysis.proofs.drawing.plan_unmatched.Reads as reads
@@ -38,13 +39,13 @@ part-find-bridges-end : tie.Need-part-find-bridges-end
 part-find-bridges-end c = omega (arith, map-inside (c .before .before .before .before .before .before .before .before .before .before .before .pre .0 .header) (headed-laid (c .before .before .before .before .before .before .before .before .before .before .before .pre .0)) _ (c .before .before .before .before .before .size .ensures .0))
 
 find-bridges-requires : tie.Need-find-bridges-requires
-find-bridges-requires c κs = unmatched-partitionable (c .before .before .before .before .before .before .before .before .before .before .before .before .before .before .before .pre .0) _ (c .before .before .before .before .before .before .before .before .before .before .before .before .before .before .before .pre .2) _ (c .before .before .before .before .before .before .before .before .before .before .before .before .before .before .before .pre .3) (c .before .before .before .before .before .before .before .fill-identity .ensures) (c .before .before .before .before .fill-spans .ensures) _ (c .before .before .before .before .before .before .before .before .before .size .ensures .0) (c .before .before .before .before .before .before .before .before .before .before .before .before .before .before .before .pre .1)
+find-bridges-requires c κs = unmatched-partitionable (c .before .before .before .before .before .before .before .before .before .before .before .before .before .before .before .pre .0) _ (c .before .before .before .before .before .before .before .before .before .before .before .before .before .before .before .pre .2) _ (c .before .before .before .before .before .before .before .before .before .before .before .before .before .before .before .pre .3) (c .before .before .before .before .before .before .before .fill-identity .ensures) (c .before .before .before .before .fill-spans .ensures) _ (c .before .before .before .before .before .before .before .before .before .size .ensures .0) (c .before .before .before .before .before .before .before .before .before .before .before .before .before .before .before .pre .6) (c .before .before .before .before .before .before .before .before .before .before .before .before .before .before .before .pre .1)
 
 same-length : tie.Need-same-length
 same-length c = search needs
 
 returns : tie.Need-returns
-returns c = unmatched-drawn (c .before .before .before .before .before .before .before .before .before .before .before .before .before .before .before .before .before .before .pre .0) _ (c .before .before .before .before .before .before .before .before .before .before .before .before .before .before .before .before .before .before .pre .2) _ (c .before .before .before .before .before .before .before .before .before .before .before .before .before .before .before .before .before .before .pre .3) (c .before .before .before .before .before .before .before .before .before .before .fill-identity .ensures) (c .before .before .before .before .before .before .before .fill-spans .ensures) _ (c .before .before .before .before .before .before .before .before .before .before .before .before .size .ensures .0) (c .before .before .before .before .before .before .before .before .before .before .before .before .before .before .before .before .before .before .pre .4) (c .before .before .find-bridges .ensures)
+returns c = λ l. unmatched-drawn (c .before .before .before .before .before .before .before .before .before .before .before .before .before .before .before .before .before .before .pre .0) _ (c .before .before .before .before .before .before .before .before .before .before .before .before .before .before .before .before .before .before .pre .2) _ (c .before .before .before .before .before .before .before .before .before .before .before .before .before .before .before .before .before .before .pre .3) (c .before .before .before .before .before .before .before .before .before .before .fill-identity .ensures) (c .before .before .before .before .before .before .before .fill-spans .ensures) _ (c .before .before .before .before .before .before .before .before .before .before .before .before .size .ensures .0) l (directionsOf (c .before .before .before .before .before .before .before .before .before .before .before .before .before .before .before .before .before .before .args .directions)) (c .before .before .before .before .before .before .before .before .before .before .before .before .before .before .before .before .before .before .pre .4) (c .before .before .find-bridges .ensures)
 
 pub plan-unmatched-spec : {M : Type 1} → statement M
 plan-unmatched-spec =

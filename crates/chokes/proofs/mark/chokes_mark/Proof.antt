@@ -7,6 +7,7 @@ use Rattle.results.specs.Results.{workSize}
 use Rattle.results.proofs.Own.{mark-laid}
 use Rattle.chokes.proofs.Marked.{work-size, mark-cells, mark-count, mark-boundaries, mark-refused, mark-short, mark-many, mark-no-room, mark-done}
 use borrow.Author.Needs.{needs}
+use Rattle.chokes.proofs.Finishing.{leads-eight}
 use Rattle.chokes.proofs.mark.chokes_mark.Statement.{statement}
 use Rattle.chokes.proofs.mark.chokes_mark.Tie as tie
 use Rattle.chokes.proofs.mark.chokes_mark.Reads as reads
@@ -51,7 +52,7 @@ returns-2 : tie.Need-returns-2
 returns-2 c = let e = went-on _ (c .before .before .before .before .before .before .before .check-mark .ensures) (c .before .before .before .before .before .before .passed .ensures) (c .before .before .before .before .before .if1 .left) in mark-short (c .before .before .before .before .before .before .before .before .before .before .before .args .job .now) (c .before .before .before .before .before .before .before .before .before .before .before .args .work .now) (c .before .before .before .before .before .before .before .before .before .before .before .args .marks .now) e (omega (arith, c .if2 .taken, c .before .size .ensures .0, work-size _ e _ (c .before .before .before .before .read-header .ensures)))
 
 analyse-boundaries-requires : tie.Need-analyse-boundaries-requires
-analyse-boundaries-requires c κs = let e = went-on _ (c .before .before .before .before .before .before .before .before .before .check-mark .ensures) (c .before .before .before .before .before .before .before .before .passed .ensures) (c .before .before .before .before .before .before .before .if1 .left) in let room : workSize (decode (c .before .before .before .before .before .before .before .before .before .before .before .before .before .args .job .now)) ≤ length (c .before .before .before .before .before .before .before .before .before .before .before .before .before .args .work .now) = omega (arith, c .before .before .if2 .left, c .before .before .before .size .ensures .0, work-size _ e _ (c .before .before .before .before .before .before .read-header .ensures)) in record { passed = e; header = c .before .before .before .before .before .before .read-header .ensures; room = room }
+analyse-boundaries-requires c κs = let e = went-on _ (c .before .before .before .before .before .before .before .before .before .check-mark .ensures) (c .before .before .before .before .before .before .before .before .passed .ensures) (c .before .before .before .before .before .before .before .if1 .left) in let room : workSize (decode (c .before .before .before .before .before .before .before .before .before .before .before .before .before .args .job .now)) ≤ length (c .before .before .before .before .before .before .before .before .before .before .before .before .before .args .work .now) = omega (arith, c .before .before .if2 .left, c .before .before .before .size .ensures .0, work-size _ e _ (c .before .before .before .before .before .before .read-header .ensures)) in (record { passed = e; header = c .before .before .before .before .before .before .read-header .ensures; room = room }, leads-eight)
 
 same-length : tie.Need-same-length
 same-length c = search needs
