@@ -23,8 +23,7 @@ use Rattle.position.specs.declared.Span.{Span}
 use Rattle.format.specs.Values.{Job}
 use Rattle.format.specs.Header.{headerAt}
 use Rattle.format.specs.Decode.{decode, decodeList}
-use Rattle.grid.specs.Directions.{eight}
-use Rattle.links.specs.Limits.{limits000}
+use Rattle.links.specs.Limits.{Limits}
 use Rattle.topology.specs.Anchors.{anchorsOf}
 use Rattle.groups.specs.Plan.{mergePlan}
 use Rattle.groups.proofs.Plan.{plan-below}
@@ -117,61 +116,64 @@ module _ {order : List ℕ} {goes : ℕ → ℕ} {n : ℕ} where
   words-end h w = record { each = λ i l. w .each i (omega arith); rest = w .rest; long = w .long }
 
 -- a boundary goes into one of the job's
-merged-inside : (j : Job) (ss : List Span) → length (j .boundaries) ≡ length ss → (i : ℕ) → i < length (j .boundaries)
-    → mergePlan limits000 eight (gridOf j) (anchorsOf (j .bases)) (listingOf j ss) i < length (j .boundaries)
-merged-inside j ss e i h =
+merged-inside : (limits : Limits) (dirs : List ℕ) (j : Job) (ss : List Span) → length (j .boundaries) ≡ length ss → (i : ℕ) → i < length (j .boundaries)
+    → mergePlan limits dirs (gridOf j) (anchorsOf (j .bases)) (listingOf j ss) i < length (j .boundaries)
+merged-inside limits dirs j ss e i h =
     let l : length (listingOf j ss) ≡ length (j .boundaries) = listed-length j ss e in
-    omega (arith, plan-below limits000 eight (gridOf j) (anchorsOf (j .bases)) (listingOf j ss) i (omega arith))
+    omega (arith, plan-below limits dirs (gridOf j) (anchorsOf (j .bases)) (listingOf j ss) i (omega arith))
 
 chosen-inside : (t : Bool) (m i n : ℕ) → (t ≡ true → m < n) → i < n → cond t m i < n
 chosen-inside true m i n f h = f refl
 chosen-inside false m i n f h = h
 
-pub plan-inside : (j : Job) (ss : List Span) (i : ℕ) → i < length (j .boundaries) → planOf limits000 eight j ss i < length (j .boundaries)
+pub plan-inside : (limits : Limits) (dirs : List ℕ) (j : Job) (ss : List Span) (i : ℕ) → i < length (j .boundaries)
+    → planOf limits dirs j ss i < length (j .boundaries)
 unfolding planOf
-plan-inside j ss i h =
-    chosen-inside (eqb (length (j .boundaries)) (length ss)) (mergePlan limits000 eight (gridOf j) (anchorsOf (j .bases)) (listingOf j ss) i) i
+plan-inside limits dirs j ss i h =
+    chosen-inside (eqb (length (j .boundaries)) (length ss)) (mergePlan limits dirs (gridOf j) (anchorsOf (j .bases)) (listingOf j ss) i) i
     (length (j .boundaries))
-    (λ e. merged-inside j ss (eqb-true _ _ e) i h)
+    (λ e. merged-inside limits dirs j ss (eqb-true _ _ e) i h)
     h
 
 -- the words of the arrays are those of the plan
-module _ {checks : List Check} {j : Job} {ss : List Span} {work workEnd order plan : List ℕ} {detail n : ℕ}
-    (m : Made checks j ss work workEnd order plan detail) (e : n ≡ length (j .boundaries)) where
+module _ {limits : Limits} {dirs : List ℕ} {checks : List Check} {j : Job} {ss : List Span} {work workEnd order plan : List ℕ} {detail n : ℕ}
+    (m : Made limits dirs checks j ss work workEnd order plan detail) (e : n ≡ length (j .boundaries)) where
   pub made-ranked : Ranked order n
   made-ranked = rw e (order-ranked j (m .ranks))
 
   pub made-inside : Inside plan n
-  made-inside = rw e (record { below = λ i h. rw (m .plan-is i h) (plan-inside j ss i h) })
+  made-inside = rw e (record { below = λ i h. rw (m .plan-is i h) (plan-inside limits dirs j ss i h) })
 
-  pub made-placed : {out outEnd : List ℕ} → Words order (λ i. getD order (getD plan i 0) 0) n n out outEnd → Placed j ss out outEnd
+  pub made-placed : {out outEnd : List ℕ} → Words order (λ i. getD order (getD plan i 0) 0) n n out outEnd → Placed limits dirs j ss out outEnd
   made-placed {out} {outEnd} w = record { words = rw (← e) placed; all = place-ranked j }
     where
-      placed : Words (placesOf (j .boundaries)) (λ i. placeAt j (planOf limits000 eight j ss i)) n n out outEnd
+      placed : Words (placesOf (j .boundaries)) (λ i. placeAt j (planOf limits dirs j ss i)) n n out outEnd
       placed = record {
         each = λ i l.
             let h : i < length (j .boundaries) = omega arith in
             ap (λ (x : ℕ). part outEnd (4 * x) 4) (sym (m .ranks i h))
-            ∙ (w .each i l ∙ ap u32Bytes (ap (λ (x : ℕ). getD order x 0) (m .plan-is i h) ∙ m .ranks (planOf limits000 eight j ss i) (plan-inside j ss i h)));
+            ∙ (w .each i l
+            ∙ ap u32Bytes (ap (λ (x : ℕ). getD order x 0) (m .plan-is i h) ∙ m .ranks (planOf limits dirs j ss i) (plan-inside limits dirs j ss i h)));
         rest = w .rest;
         long = w .long;
       }
 
 -- the plan of Reduce, and that of Reduce by list
-module _ (which : ℕ) (s l : List ℕ) where
+module _ (limits : Limits) (dirs : List ℕ) (which : ℕ) (s l : List ℕ) where
   pub plan-own : {work workEnd order plan : List ℕ} {number detail : ℕ} → which ≡ 0
-      → PlanLeft (reduceChecks s) (decode s) (ownEnds (decode s)) work workEnd order plan number detail
-      → PlanLeft (checksOf which s l) (decode s) (spansOf which s l) work workEnd order plan number detail
+      → PlanLeft limits dirs (reduceChecks s) (decode s) (ownEnds (decode s)) work workEnd order plan number detail
+      → PlanLeft limits dirs (checksOf which s l) (decode s) (spansOf which s l) work workEnd order plan number detail
   unfolding checksOf spansOf
   plan-own e x = rw (eq-eqb which 0 e) x
 
   pub plan-listed : {work workEnd order plan : List ℕ} {number detail : ℕ} → (which ≡ 0 → ⊥)
-      → PlanLeft (byListChecks s l) (decode s) (decodeList l) work workEnd order plan number detail
-      → PlanLeft (checksOf which s l) (decode s) (spansOf which s l) work workEnd order plan number detail
+      → PlanLeft limits dirs (byListChecks s l) (decode s) (decodeList l) work workEnd order plan number detail
+      → PlanLeft limits dirs (checksOf which s l) (decode s) (spansOf which s l) work workEnd order plan number detail
   unfolding checksOf spansOf
   plan-listed e x = rw (ne-eqb which 0 e) x
 
-  -- the boundaries are as many as the header says
+-- the boundaries are as many as the header says
+module _ (which : ℕ) (s l : List ℕ) where
   pub plan-count : AreBytes s → firstRefusal (checksOf which s l) ≡ none → {n : ℕ} → CountOf s n → n ≡ length (decode s .boundaries)
   unfolding checksOf
   plan-count bytes e {n} c = counted (chosen (eqb which 0) e)
@@ -186,6 +188,6 @@ module _ (which : ℕ) (s l : List ℕ) where
           c .is (boundaries-passed (d .distinct) s (d .passed) .0) (k .allowed .boundaries) ∙ sym (k .count)
 
 -- what is known of the work
-pub made-parting : {checks : List Check} {j : Job} {ss : List Span} {work workEnd order plan : List ℕ} {detail : ℕ}
-    → Made checks j ss work workEnd order plan detail → Parting checks j ss work workEnd
+pub made-parting : {limits : Limits} {dirs : List ℕ} {checks : List Check} {j : Job} {ss : List Span} {work workEnd order plan : List ℕ} {detail : ℕ}
+    → Made limits dirs checks j ss work workEnd order plan detail → Parting dirs checks j ss work workEnd
 made-parting m = record { passed = m .passed; room = m .room; few = m .few; work-is = m .work-is }

@@ -12,9 +12,8 @@ use Rattle.format.specs.Values.{Job}
 use Rattle.format.specs.Sizes.{headerSize}
 use Rattle.format.specs.Header.{countsAt}
 use Rattle.format.specs.Decode.{decode, decodeList}
-use Rattle.grid.specs.Directions.{eight}
 use Rattle.areas.specs.Assessments.{records}
-use Rattle.links.specs.Limits.{limits000}
+use Rattle.links.specs.Limits.{Limits}
 use Rattle.partition.specs.Partitioned.{labelled}
 use Rattle.merging.specs.Follows.{placesOf}
 use Rattle.checks.specs.Checks.{Check, firstRefusal}
@@ -60,23 +59,24 @@ pub record RankOf (j : Job) (place : ℕ) : Type 0 where
   pub is : placeAt j rank ≡ place
 
 -- little-endian words, one a boundary in the input's order: the place of the boundary that it goes into. Each place is that of a rank, so every word is settled
-pub record Placed (j : Job) (ss : List Span) (out outEnd : List ℕ) : Type 0 where
-  pub words : Words (placesOf (j .boundaries)) (λ i. placeAt j (planOf limits000 eight j ss i)) (length (j .boundaries)) (length (j .boundaries)) out outEnd
+pub record Placed (limits : Limits) (dirs : List ℕ) (j : Job) (ss : List Span) (out outEnd : List ℕ) : Type 0 where
+  pub words : Words (placesOf (j .boundaries)) (λ i. placeAt j (planOf limits dirs j ss i)) (length (j .boundaries)) (length (j .boundaries)) out outEnd
   pub all : (place : ℕ) → place < length (j .boundaries) → RankOf j place
 
 -- a job past the checks, 21 and 13, and its labels
-pub record Parting (checks : List Check) (j : Job) (ss : List Span) (work workEnd : List ℕ) : Type 0 where
+pub record Parting (dirs : List ℕ) (checks : List Check) (j : Job) (ss : List Span) (work workEnd : List ℕ) : Type 0 where
   pub passed : firstRefusal checks ≡ none
   pub room : workSize j ≤ length work
-  pub few : length (records eight (gridOf j) ss) ≤ maxPairs
-  pub work-is : workEnd ≡ labelled (labelsOf eight j ss) work
+  pub few : length (records dirs (gridOf j) ss) ≤ maxPairs
+  pub work-is : workEnd ≡ labelled (labelsOf dirs j ss) work
 
 -- the refusal that the call leaves whatever its answer slice is; an out that is too short, with the bytes that it should have; or the plan
-pub data PlanAnswer (checks : List Check) (j : Job) (ss : List Span) (work out workEnd outEnd : List ℕ) (number detail : ℕ) : Type 0 where
-  refused : 0 < number → ((answer : List ℕ) → leftBy number detail workEnd answer ≡ reduced limits000 eight checks j ss work answer) → outEnd ≡ out
-      → PlanAnswer checks j ss work out workEnd outEnd number detail
-  short : Parting checks j ss work workEnd → length out < 4 * length (j .boundaries) → number ≡ 22 → detail ≡ 4 * length (j .boundaries) → outEnd ≡ out
-      → PlanAnswer checks j ss work out workEnd outEnd number detail
-  planned : Parting checks j ss work workEnd → 4 * length (j .boundaries) ≤ length out → number ≡ 0 → detail ≡ 4 * length (j .boundaries)
-      → Placed j ss out outEnd
-      → PlanAnswer checks j ss work out workEnd outEnd number detail
+pub data PlanAnswer (limits : Limits) (dirs : List ℕ) (checks : List Check) (j : Job) (ss : List Span) (work out workEnd outEnd : List ℕ) (number detail : ℕ)
+    : Type 0 where
+  refused : 0 < number → ((answer : List ℕ) → leftBy number detail workEnd answer ≡ reduced limits dirs checks j ss work answer) → outEnd ≡ out
+      → PlanAnswer limits dirs checks j ss work out workEnd outEnd number detail
+  short : Parting dirs checks j ss work workEnd → length out < 4 * length (j .boundaries) → number ≡ 22 → detail ≡ 4 * length (j .boundaries) → outEnd ≡ out
+      → PlanAnswer limits dirs checks j ss work out workEnd outEnd number detail
+  planned : Parting dirs checks j ss work workEnd → 4 * length (j .boundaries) ≤ length out → number ≡ 0 → detail ≡ 4 * length (j .boundaries)
+      → Placed limits dirs j ss out outEnd
+      → PlanAnswer limits dirs checks j ss work out workEnd outEnd number detail

@@ -3,7 +3,10 @@ ghost use mathlib.Core.Path.{_≡_};
 ghost use Prim.Native.Nat.{_*_, _≤_, _<_};
 ghost use lib.ListN.{length, getD};
 ghost use Rattle.format.specs.Decode.{decode};
-ghost use Rattle.analysis.specs.Plans.{PlanLeft};
+ghost use Rattle.grid.specs.Directions.{eight, directionsOf};
+ghost use Rattle.links.specs.Limits.{limits000};
+ghost use Rattle.links.specs.HeldLimits.{limitsOf};
+ghost use Rattle.analysis.specs.Plans.{Leads, PlanLeft};
 ghost use Rattle.probe.specs.Planning.{checksOf, spansOf, CountOf, Ranked, Inside, Words, PlanAnswer};
 use crate::ProbeResult;
 use analysis::ChokesResult;
@@ -17,6 +20,8 @@ use wire::write_u32;
 
 // The plan of Reduce, or of Reduce by list where `which` isn't 0.
 fn plan_of(
+    limits: Limits,
+    directions: u32,
     job: &[u8],
     list: &[u8],
     which: u32,
@@ -24,14 +29,15 @@ fn plan_of(
     order: &mut [u32; 256],
     plan: &mut [u32; 256],
 ) -> ChokesResult
-    ensures { λ r. ⌜ PlanLeft (checksOf which (now (job .entry)) (now (list .entry))) (decode (now (job .entry)))
+    requires { ⌜ (limits .«most_spans» ≤ 16) × Leads directions ⌝ }
+    ensures { λ r. ⌜ PlanLeft (limitsOf limits) (directionsOf directions) (checksOf which (now (job .entry)) (now (list .entry))) (decode (now (job .entry)))
         (spansOf which (now (job .entry)) (now (list .entry)))
         (now (work .entry)) (now (work .exit)) (now (order .exit)) (now (plan .exit)) (r .number) (r .detail) ⌝ }
 {
     if which == 0 {
-        return plan_reduce(Limits::of_000(), EIGHT, job, work, order, plan);
+        return plan_reduce(limits, directions, job, work, order, plan);
     }
-    plan_reduce_by_list(Limits::of_000(), EIGHT, job, list, work, order, plan)
+    plan_reduce_by_list(limits, directions, job, list, work, order, plan)
 }
 
 // For each boundary, the one that it goes into.
@@ -73,13 +79,22 @@ pub extern "C" fn probe_plan(
     work: &mut [u8],
     out: &mut [u8],
 ) -> ProbeResult
-    ensures { λ r. ⌜ PlanAnswer (checksOf which (now (job .entry)) (now (list .entry))) (decode (now (job .entry)))
+    ensures { λ r. ⌜ PlanAnswer limits000 eight (checksOf which (now (job .entry)) (now (list .entry))) (decode (now (job .entry)))
         (spansOf which (now (job .entry)) (now (list .entry)))
         (now (work .entry)) (now (out .entry)) (now (work .exit)) (now (out .exit)) (r .number) (r .detail) ⌝ }
 {
     let mut order = [0u32; 256];
     let mut plan = [0u32; 256];
-    let r = plan_of(job, list, which, work, &mut order, &mut plan);
+    let r = plan_of(
+        Limits::of_000(),
+        EIGHT,
+        job,
+        list,
+        which,
+        work,
+        &mut order,
+        &mut plan,
+    );
     if 0 < r.number {
         return ProbeResult {
             number: r.number,

@@ -1,6 +1,7 @@
 use mathlib.Core.Path.{_≡_, refl, ap}
 use Prim.Native.Nat.{ℕ, _*_}
 use native.Mathlib.Omega.{arith}
+use Rattle.chokes.proofs.Finishing.{few-000, leads-eight, left-000}
 use Rattle.probe.specs.Planning.{refused, short, planned}
 use Rattle.probe.proofs.PlanningLaws.{plan-count, made-parting, made-ranked, made-inside, made-placed}
 use borrow.Author.Needs.{needs}
@@ -12,14 +13,20 @@ use Rattle.probe.proofs.own_plan.count_of.Reads as count-of-reads
 use Rattle.probe.proofs.own_plan.plan_of.Reads as plan-of-reads
 use Rattle.probe.proofs.own_plan.write_plan.Reads as write-plan-reads
 
+of-000-requires : tie.Need-of-000-requires
+of-000-requires c κs = search needs
+
 plan-of-requires : tie.Need-plan-of-requires
-plan-of-requires c κs = search needs
+plan-of-requires c κs = (few-000 (c .before .before .before .of-000 .ensures), leads-eight)
 
 same-length : tie.Need-same-length
 same-length c = search needs
 
 returns : tie.Need-returns
-returns c = refused (c .if1 .taken) (c .before .before .before .before .plan-of .ensures .refused (c .if1 .taken)) refl
+returns c =
+    let after-plan-of = c .before .before .before .before in
+    let left = left-000 (after-plan-of .before .before .before .before .of-000 .ensures) (after-plan-of .plan-of .ensures) in
+    refused (c .if1 .taken) (left .refused (c .if1 .taken)) refl
 
 count-of-requires : tie.Need-count-of-requires
 count-of-requires c κs = search needs
@@ -32,10 +39,13 @@ same-length-2 c = search needs
 
 returns-2 : tie.Need-returns-2
 returns-2 c =
-    let at-shared-slice-known = c .before .before .before .before .before .before .before .before .before .before .before .before .before in
+    let after-plan-of = c .before .before .before .before .before .before in
+    let after-of-000 = after-plan-of .before .before .before .before in
+    let at-shared-slice-known = after-of-000 .before .before .before .before in
     let start = at-shared-slice-known .before in
     let given = start .args in
-    let made = c .before .before .before .before .before .before .plan-of .ensures .made (omega (arith, c .before .before .if1 .left)) in
+    let left = left-000 (after-of-000 .of-000 .ensures) (after-plan-of .plan-of .ensures) in
+    let made = left .made (omega (arith, c .before .before .if1 .left)) in
     let k = plan-count (given .which) (given .job .now) (given .list .now) (λ i. at-shared-slice-known .shared-slice-known .given i .fits) (made .passed)
     (c .before .count-of .ensures) in
     short (made-parting made) (omega (arith, c .if2 .taken, k)) refl (ap (λ (x : ℕ). 4 * x) k) refl
@@ -43,11 +53,13 @@ returns-2 c =
 write-plan-requires : tie.Need-write-plan-requires
 write-plan-requires c κs =
     let at-count-of = c .before .before .before .before in
-    let at-plan-of = at-count-of .before .before .before .before .before in
-    let at-shared-slice-known = at-plan-of .before .before .before .before .before .before .before in
+    let after-plan-of = at-count-of .before .before .before .before .before in
+    let after-of-000 = after-plan-of .before .before .before .before in
+    let at-shared-slice-known = after-of-000 .before .before .before .before in
     let start = at-shared-slice-known .before in
     let given = start .args in
-    let made = at-plan-of .plan-of .ensures .made (omega (arith, c .before .before .before .before .before .if1 .left)) in
+    let left = left-000 (after-of-000 .of-000 .ensures) (after-plan-of .plan-of .ensures) in
+    let made = left .made (omega (arith, c .before .before .before .before .before .if1 .left)) in
     let k = plan-count (given .which) (given .job .now) (given .list .now) (λ i. at-shared-slice-known .shared-slice-known .given i .fits) (made .passed)
     (at-count-of .count-of .ensures) in
     (at-count-of .count-of .ensures .few, made-ranked made k, made-inside made k, c .before .before .before .if2 .left)
@@ -61,11 +73,13 @@ same-length-4 c = search needs
 returns-3 : tie.Need-returns-3
 returns-3 c =
     let at-if1 = c .before .before .before .before .before .before .before .before in
-    let at-plan-of = at-if1 .before .before .before .before in
-    let at-shared-slice-known = at-plan-of .before .before .before .before .before .before .before in
+    let after-plan-of = at-if1 .before .before .before .before in
+    let after-of-000 = after-plan-of .before .before .before .before in
+    let at-shared-slice-known = after-of-000 .before .before .before .before in
     let start = at-shared-slice-known .before in
     let given = start .args in
-    let made = at-plan-of .plan-of .ensures .made (omega (arith, at-if1 .if1 .left)) in
+    let left = left-000 (after-of-000 .of-000 .ensures) (after-plan-of .plan-of .ensures) in
+    let made = left .made (omega (arith, at-if1 .if1 .left)) in
     let k = plan-count (given .which) (given .job .now) (given .list .now) (λ i. at-shared-slice-known .shared-slice-known .given i .fits) (made .passed)
     (c .before .before .before .before .before .before .before .count-of .ensures) in
     planned (made-parting made) (omega (arith, c .before .before .before .before .before .before .if2 .left, k)) refl (ap (λ (x : ℕ). 4 * x) k)
@@ -75,6 +89,7 @@ pub probe-plan-spec : {M : Type 1} → statement M
 probe-plan-spec =
     tie.close
     (tie.spec
+    of-000-requires
     plan-of-requires
     same-length
     returns
