@@ -101,7 +101,8 @@ pub record Checked (distinct : Bool) (s : List ℕ) : Type 0 where
   pub fits : All BoundaryFits (decode s .boundaries)
   pub widths : (k : ℕ) → k < countsAt s 0 .boundaries → u64At s (boundariesAt s + k * boundarySize + 16) ≤ maxWidthBits
   pub on : (k : ℕ) → k < countsAt s 0 .boundaries → OnMap (countsAt s 0 .width) (countsAt s 0 .height) (spanAt s (boundariesAt s + k * boundarySize))
-  pub apart : distinct ≡ true → (k : ℕ) → k < countsAt s 0 .boundaries → posSame (spanAt s (boundariesAt s + k * boundarySize) .a) (spanAt s (boundariesAt s + k * boundarySize) .b) ≡ false
+  pub apart : distinct ≡ true → (k : ℕ) → k < countsAt s 0 .boundaries
+      → posSame (spanAt s (boundariesAt s + k * boundarySize) .a) (spanAt s (boundariesAt s + k * boundarySize) .b) ≡ false
 
 -- of a list past 14 to 17, on a map of this size
 pub record ListChecked (width height : ℕ) (t : List ℕ) : Type 0 where
@@ -125,11 +126,13 @@ module _ (s : List ℕ) (c : Counts) (e : firstRefusal (recordChecks s c) ≡ no
       ltb-false maxWidthBits (u64At s (boundariesStart c + k * boundarySize + 16)) w
 
 -- the two checks of a span
-span-on : (past same : ℕ) (distinct : Bool) (width height : ℕ) (e : Span) (i : ℕ) → firstRefusal (spanChecks past same distinct width height e i) ≡ none → OnMap width height e
+span-on : (past same : ℕ) (distinct : Bool) (width height : ℕ) (e : Span) (i : ℕ) → firstRefusal (spanChecks past same distinct width height e i) ≡ none
+    → OnMap width height e
 unfolding spanChecks
 span-on past same distinct width height e i f = on-map width height e (none-head (endsFault width height e) past i _ f .0)
 
-span-apart : (past same : ℕ) (width height : ℕ) (e : Span) (i : ℕ) → firstRefusal (spanChecks past same true width height e i) ≡ none → posSame (e .a) (e .b) ≡ false
+span-apart : (past same : ℕ) (width height : ℕ) (e : Span) (i : ℕ) → firstRefusal (spanChecks past same true width height e i) ≡ none
+    → posSame (e .a) (e .b) ≡ false
 unfolding spanChecks
 span-apart past same width height e i f = none-head (posSame (e .a) (e .b)) same i _ (none-head (endsFault width height e) past i _ f .1) .0
 
@@ -156,7 +159,8 @@ checked distinct s a e =
       fits = decode-fits s a formed (p .1 .within) .boundaries;
       widths = widths-right s c recs;
       on = λ k h. span-on 11 12 distinct (c .width) (c .height) (spanAt s (boundariesStart c + k * boundarySize)) k (ends-passed distinct s c ends k h);
-      apart = λ d k h. span-apart 11 12 (c .width) (c .height) (spanAt s (boundariesStart c + k * boundarySize)) k (rw (← d) (ends-passed distinct s c ends k h));
+      apart = λ d k h. span-apart 11 12 (c .width) (c .height) (spanAt s (boundariesStart c + k * boundarySize)) k
+          (rw (← d) (ends-passed distinct s c ends k h));
     }
 
 pub list-checked : (t : List ℕ) (width height : ℕ) → firstRefusal (listChecks t width height) ≡ none → ListChecked width height t
@@ -173,7 +177,8 @@ list-checked t width height e =
     }
 
 -- what Reduce by list takes
-pub by-list-checked : (s t : List ℕ) → AreBytes s → firstRefusal (byListChecks s t) ≡ none → Checked false s × ListChecked (countsAt s 0 .width) (countsAt s 0 .height) t
+pub by-list-checked : (s t : List ℕ) → AreBytes s → firstRefusal (byListChecks s t) ≡ none → Checked false s
+    × ListChecked (countsAt s 0 .width) (countsAt s 0 .height) t
 unfolding byListChecks headerAt
 by-list-checked s t a e = (
   checked false s a (none-left (boundaryChecks false s) _ e),
@@ -181,4 +186,5 @@ by-list-checked s t a e = (
 )
 
 pub checked-sides : {distinct : Bool} {s : List ℕ} → Checked distinct s → Sides (countsAt s 0 .width) (countsAt s 0 .height)
-checked-sides c = let a = c .allowed in record { columns = omega (arith, a .width-some); rows = omega (arith, a .height-some); wide = a .width; high = a .height }
+checked-sides c = let a = c .allowed in
+    record { columns = omega (arith, a .width-some); rows = omega (arith, a .height-some); wide = a .width; high = a .height }

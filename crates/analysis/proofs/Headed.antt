@@ -100,5 +100,6 @@ module _ {s : List ℕ} {h : Header} (d : Headed s h) where
         let x : at ≡ boundariesAt s = a ∙ start-is in
         let y : n ≡ countsAt s 0 .boundaries = e ∙ count-is in
         let k = subst (λ (i : ℕ). KeysOf s (boundariesAt s) boundarySize i first second) y (subst (λ (i : ℕ). KeysOf s i boundarySize n first second) x keys) in
-        let z : order ≡ splice old 0 (sort (byTwo first second) (upFrom 0 (countsAt s 0 .boundaries))) = o ∙ ap (λ (i : ℕ). splice old 0 (sort (byTwo first second) (upFrom 0 i))) y in
+        let z : order ≡ splice old 0 (sort (byTwo first second) (upFrom 0 (countsAt s 0 .boundaries))) = o
+        ∙ ap (λ (i : ℕ). splice old 0 (sort (byTwo first second) (upFrom 0 i))) y in
         rw z (ranks-of headed-checked first second k old (omega (arith, y)) .each)

@@ -28,7 +28,9 @@ use Rattle.answer.specs.Gathered.{Ordered}
 use Rattle.checks.specs.Checks.{Refusal, Check, check, firstRefusal}
 use Rattle.checks.specs.Verdict.{meaning, passes, numberOf, detailOf}
 use Rattle.checks.specs.declared.verdict.Verdict.{Verdict}
-use Rattle.checks.specs.declared.verdict.Verdict.the-variants.{Passed, ShortHeader, MapSize, TooMany, TooManyBoundaries, Layout, CellBits, AnchorOffMap, CountsDiffer, RampForm, WidthRange, EndOffMap, EndsCoincide, ListLength, TooManySpans, SpanOffMap, SpanCoincides}
+use Rattle.checks.specs.declared.verdict.Verdict.the-variants.{Passed, ShortHeader, MapSize, TooMany, TooManyBoundaries, Layout, CellBits, AnchorOffMap}
+use Rattle.checks.specs.declared.verdict.Verdict.the-variants.{CountsDiffer, RampForm, WidthRange, EndOffMap, EndsCoincide, ListLength, TooManySpans}
+use Rattle.checks.specs.declared.verdict.Verdict.the-variants.{SpanOffMap, SpanCoincides}
 use Rattle.checks.proofs.Firsts.{skip, stop, clear, append-none, append-some}
 use Rattle.results.specs.Rules.{gridOf, listingOf}
 use Rattle.results.specs.Results.{workSize, maxPairs, afterWork, outcome, workCheck, pairCheck, labelsOf, answerOf, reduced, leftBy}
@@ -65,13 +67,15 @@ module _ (limits : Limits) (dirs : List ℕ) (checks : List Check) (j : Job) (ss
   unfolding reduced outcome
   refused-input {o} {t} {n} {d} e f g p q answer = go o e f p q
     where
-      go : (o : Option Refusal) → o ≡ firstRefusal checks → t ≡ passes o → n ≡ numberOf o → d ≡ detailOf o → leftBy n d before answer ≡ reduced limits dirs checks j ss before answer
+      go : (o : Option Refusal) → o ≡ firstRefusal checks → t ≡ passes o → n ≡ numberOf o → d ≡ detailOf o
+          → leftBy n d before answer ≡ reduced limits dirs checks j ss before answer
       go none e f p q = let z : _≡_ {A = Bool} true false = sym g ∙ ap not f in let i : _≡_ {A = ℕ} 0 1 = cc in absurd (omega arith)
       go (some r) e f p q =
           let a : firstRefusal (checks ++ (workCheck j before ∷ [])) ≡ some r = append-some checks _ r (sym e) in
           rw (a, p, q) refl
 
-  pub left-refused : (v : Verdict) {t : Bool} {n d : ℕ} {order plan : List ℕ} → meaning v ≡ firstRefusal checks → t ≡ passes (meaning v) → not t ≡ true → n ≡ numberOf (meaning v) → d ≡ detailOf (meaning v)
+  pub left-refused : (v : Verdict) {t : Bool} {n d : ℕ} {order plan : List ℕ} → meaning v ≡ firstRefusal checks → t ≡ passes (meaning v) → not t ≡ true
+      → n ≡ numberOf (meaning v) → d ≡ detailOf (meaning v)
       → PlanLeft limits dirs checks j ss before before order plan n d
   left-refused v {t} {n} {d} e f g p q = record {
     refused = λ s answer. refused-input e f g p q answer;
@@ -112,8 +116,10 @@ module _ (limits : Limits) (dirs : List ℕ) (checks : List Check) (j : Job) (ss
       }
 
 -- 22
-reduced-short : (limits : Limits) (dirs : List ℕ) (checks : List Check) (j : Job) (ss : List Span) (work answer : List ℕ) → firstRefusal checks ≡ none → workSize j ≤ length work → length (records dirs (gridOf j) ss) ≤ maxPairs
-    → length answer < length (answerOf limits dirs j ss) → reduced limits dirs checks j ss work answer ≡ leftBy 22 (length (answerOf limits dirs j ss)) (labelled (labelsOf dirs j ss) work) answer
+reduced-short : (limits : Limits) (dirs : List ℕ) (checks : List Check) (j : Job) (ss : List Span) (work answer : List ℕ) → firstRefusal checks ≡ none
+    → workSize j ≤ length work → length (records dirs (gridOf j) ss) ≤ maxPairs
+    → length answer < length (answerOf limits dirs j ss)
+    → reduced limits dirs checks j ss work answer ≡ leftBy 22 (length (answerOf limits dirs j ss)) (labelled (labelsOf dirs j ss) work) answer
 unfolding reduced outcome afterWork
 reduced-short limits dirs checks j ss work answer e w p a =
     let n = length (answerOf limits dirs j ss) in
@@ -134,20 +140,26 @@ module _ (j : Job) (order : List ℕ) (k : RankedBy j order) where
   pub ordered : Ordered order (length (j .boundaries))
   ordered = rw (← places-ranked (j .boundaries) by-rank) (places-perm (j .boundaries))
 
-  planned-bytes : (plan : List ℕ) (f : ℕ → ℕ) → ((i : ℕ) → i < length (j .boundaries) → getD plan i 0 ≡ f i) → bytesBy (j .boundaries) order plan ≡ encodeAnswer (planned (copiesOf (j .boundaries)) f)
+  planned-bytes : (plan : List ℕ) (f : ℕ → ℕ) → ((i : ℕ) → i < length (j .boundaries) → getD plan i 0 ≡ f i)
+      → bytesBy (j .boundaries) order plan ≡ encodeAnswer (planned (copiesOf (j .boundaries)) f)
   planned-bytes plan f h =
       ap (λ (l : List Boundary). encodeAnswer (planned l (λ i. getD plan i 0))) (sym (copies-ranked (j .boundaries) by-rank))
       ∙ ap encodeAnswer (planned-ext (copiesOf (j .boundaries)) (λ i. getD plan i 0) f (λ i l. h i (omega (arith, copies-length (j .boundaries)))))
 
   -- they are the answer
-  pub answer-bytes : (limits : Limits) (dirs : List ℕ) (ss : List Span) (plan : List ℕ) → ((i : ℕ) → i < length (j .boundaries) → getD plan i 0 ≡ planOf limits dirs j ss i) → bytesBy (j .boundaries) order plan ≡ answerOf limits dirs j ss
+  pub answer-bytes : (limits : Limits) (dirs : List ℕ) (ss : List Span) (plan : List ℕ)
+      → ((i : ℕ) → i < length (j .boundaries) → getD plan i 0 ≡ planOf limits dirs j ss i) → bytesBy (j .boundaries) order plan ≡ answerOf limits dirs j ss
   unfolding planOf
   answer-bytes limits dirs ss plan h = by-cases (ℕ-discrete (length (j .boundaries)) (length ss))
-      (λ e. planned-bytes plan (mergePlan limits dirs (gridOf j) (anchorsOf (j .bases)) (listingOf j ss)) (λ i l. h i l ∙ ap (λ (t : Bool). cond t (mergePlan limits dirs (gridOf j) (anchorsOf (j .bases)) (listingOf j ss) i) i) (eq-eqb _ _ e))
+      (λ e. planned-bytes plan (mergePlan limits dirs (gridOf j) (anchorsOf (j .bases)) (listingOf j ss))
+      (λ i l. h i l ∙ ap (λ (t : Bool). cond t (mergePlan limits dirs (gridOf j) (anchorsOf (j .bases)) (listingOf j ss) i) i) (eq-eqb _ _ e))
       ∙ sym (matched-answer limits dirs j ss e))
-      (λ e. planned-bytes plan (λ i. i) (λ i l. h i l ∙ ap (λ (t : Bool). cond t (mergePlan limits dirs (gridOf j) (anchorsOf (j .bases)) (listingOf j ss) i) i) (ne-eqb _ _ e)) ∙ sym (unmatched-answer limits dirs j ss e))
+      (λ e. planned-bytes plan (λ i. i)
+      (λ i l. h i l ∙ ap (λ (t : Bool). cond t (mergePlan limits dirs (gridOf j) (anchorsOf (j .bases)) (listingOf j ss) i) i) (ne-eqb _ _ e))
+      ∙ sym (unmatched-answer limits dirs j ss e))
 
-module _ {limits : Limits} {dirs : List ℕ} {checks : List Check} {j : Job} {ss : List Span} {before after order plan : List ℕ} {zero : ℕ} (y : Made limits dirs checks j ss before after order plan zero) where
+module _ {limits : Limits} {dirs : List ℕ} {checks : List Check} {j : Job} {ss : List Span} {before after order plan : List ℕ} {zero : ℕ}
+    (y : Made limits dirs checks j ss before after order plan zero) where
   abbrev written : List ℕ
   written = answerOf limits dirs j ss
 
@@ -155,11 +167,16 @@ module _ {limits : Limits} {dirs : List ℕ} {checks : List Check} {j : Job} {ss
   pub left-finished : {answer out : List ℕ} {number detail : ℕ} → Finished (bytesBy (j .boundaries) order plan) answer out number detail
       → leftBy number detail after out ≡ reduced limits dirs checks j ss before answer
   left-finished {answer} {out} {number} {detail} f =
-      let z : Finished written answer out number detail = subst (λ (bs : List ℕ). Finished bs answer out number detail) (answer-bytes j order (y .ranks) limits dirs ss plan (y .plan-is)) f in
+      let z : Finished written answer out number detail =
+      subst (λ (bs : List ℕ). Finished bs answer out number detail) (answer-bytes j order (y .ranks) limits dirs ss plan (y .plan-is)) f in
       by-cases (decLt (length answer) (length written)) (short z) (λ h. fits z (omega arith))
     where
-      short : Finished written answer out number detail → length answer < length written → leftBy number detail after out ≡ reduced limits dirs checks j ss before answer
-      short z h = rw (z .unwritten h .0, z .unwritten h .1, z .long, y .work-is) (sym (reduced-short limits dirs checks j ss before answer (y .passed) (y .room) (y .few) h))
+      short : Finished written answer out number detail → length answer < length written
+          → leftBy number detail after out ≡ reduced limits dirs checks j ss before answer
+      short z h = rw (z .unwritten h .0, z .unwritten h .1, z .long, y .work-is)
+          (sym (reduced-short limits dirs checks j ss before answer (y .passed) (y .room) (y .few) h))
 
-      fits : Finished written answer out number detail → length written ≤ length answer → leftBy number detail after out ≡ reduced limits dirs checks j ss before answer
-      fits z h = rw (z .written h .0, z .written h .1, z .long, y .work-is) (sym (reduced-success limits dirs checks j ss before answer (y .passed) (y .room) (y .few) h))
+      fits : Finished written answer out number detail → length written ≤ length answer
+          → leftBy number detail after out ≡ reduced limits dirs checks j ss before answer
+      fits z h = rw (z .written h .0, z .written h .1, z .long, y .work-is)
+          (sym (reduced-success limits dirs checks j ss before answer (y .passed) (y .room) (y .few) h))

@@ -45,10 +45,16 @@ module _ {s : List ℕ} {h : Header} (k : h ≡ headerAt s) (l : Laid s h) where
     map-is = rw (header-counts, map-cells) refl
 
     -- spans that fit it can partition it
-    pub map-partitionable : {directions : ℕ} → Leads directions → {ends work : List ℕ} {count : ℕ} → SpansFit (h .counts .width) (h .counts .height) ends count → count ≤ 256 → workSize (decode s) ≤ length work
+    pub map-partitionable : {directions : ℕ} → Leads directions → {ends work : List ℕ} {count : ℕ} → SpansFit (h .counts .width) (h .counts .height) ends count
+        → count ≤ 256 → workSize (decode s) ≤ length work
         → Partitionable (h .counts .width) (h .counts .height) cells directions ends count work
     map-partitionable leads f few room = record {
-      sides = record { columns = omega (arith, l .within .width-some); rows = omega (arith, l .within .height-some); wide = l .within .width; high = l .within .height };
+      sides = record {
+        columns = omega (arith, l .within .width-some);
+        rows = omega (arith, l .within .height-some);
+        wide = l .within .width;
+        high = l .within .height;
+      };
       whole = map-long;
       each = leads;
       spans = f;

@@ -32,7 +32,8 @@ use Rattle.analysis.specs.Bridging.{Bridged, MarkedWithin}
 use Rattle.analysis.specs.Plans.{planOf, Leads, Headed, RankedJob, Plannable, EndsBy, SomeEnds, Told, SomeTold, DrawnWithin, Drawn}
 use Rattle.analysis.proofs.Ranked.{ByRank}
 use Rattle.analysis.proofs.Checked.{boundariesAt, Checked, ListChecked, checked, by-list-checked}
-use Rattle.analysis.proofs.RankedTables.{order-in, own-ends-ranked, list-ends-ranked, own-ends-fit, list-ends-fit, own-matched, list-matched, list-records, labels-listed, records-listed}
+use Rattle.analysis.proofs.RankedTables.{order-in, own-ends-ranked, list-ends-ranked, own-ends-fit, list-ends-fit, own-matched, list-matched}
+use Rattle.analysis.proofs.RankedTables.{list-records, labels-listed, records-listed}
 use Rattle.analysis.proofs.Headed.{headed-checked, headed-laid, headed-cells, counts-are, count-is, start-is}
 use Rattle.analysis.proofs.Mapped.{map-cells, map-long, map-is, map-partitionable}
 use Rattle.analysis.proofs.Merges.{plan-ranks}
@@ -50,23 +51,29 @@ module _ {s : List ℕ} {h : Header} (d : Headed s h) (n : ℕ) (e : n ≡ h .co
   cells-few = omega (arith, ap length (map-cells (d .header) (headed-laid d) n e), map-long (d .header) (headed-laid d) n e, headed-cells d)
 
 -- as many spans as boundaries
-module _ {s : List ℕ} {h : Header} {order before : List ℕ} (p : Plannable s h order before) (n : ℕ) (e : n ≡ h .counts .width * h .counts .height) (count : ℕ) (f : count ≡ h .counts .boundaries) where
+module _ {s : List ℕ} {h : Header} {order before : List ℕ} (p : Plannable s h order before) (n : ℕ) (e : n ≡ h .counts .width * h .counts .height) (count : ℕ)
+    (f : count ≡ h .counts .boundaries) where
   abbrev d : Headed s h
   d = p .job .headed
 
   c : Checked (p .job .headed .distinct) s
   c = headed-checked (p .job .headed)
 
-  pub matched-partitionable : {directions : ℕ} → Leads directions → {ends : List ℕ} → SpansFit (h .counts .width) (h .counts .height) ends (h .counts .boundaries) → Partitionable (h .counts .width) (h .counts .height) (take (48 + n - 48) (drop 48 s)) directions ends count before
-  matched-partitionable k {ends} t = map-partitionable (d .header) (headed-laid d) n e k (rw f t) (omega (arith, f, headed-laid d .within .boundaries)) (p .room)
+  pub matched-partitionable : {directions : ℕ} → Leads directions → {ends : List ℕ}
+      → SpansFit (h .counts .width) (h .counts .height) ends (h .counts .boundaries)
+      → Partitionable (h .counts .width) (h .counts .height) (take (48 + n - 48) (drop 48 s)) directions ends count before
+  matched-partitionable k {ends} t =
+      map-partitionable (d .header) (headed-laid d) n e k (rw f t) (omega (arith, f, headed-laid d .within .boundaries)) (p .room)
 
   module _ {dirs : List ℕ} {most : ℕ} {ends after removed separated owners lefts rights : List ℕ} {q : Partition}
-      (r : Partitioned most dirs (mapOf (h .counts .width) (h .counts .height) (take (48 + n - 48) (drop 48 s))) ends count before after removed separated owners lefts rights q) where
+      (r : Partitioned most dirs (mapOf (h .counts .width) (h .counts .height) (take (48 + n - 48) (drop 48 s))) ends count before after removed separated
+      owners lefts rights q) where
     standard : Partitioned most dirs (gridOf (decode s)) ends (countsAt s 0 .boundaries) before after removed separated owners lefts rights q
     standard = on-job d n e (λ g k. Partitioned most dirs g ends k before after removed separated owners lefts rights q) (f ∙ count-is d) r
 
     -- over `most`
-    pub matched-many : (limits : Limits) (plan : List ℕ) → most < q .pairs → (ss : List Span) → EndsBy s order ends ss → DrawnWithin limits dirs most (decode s) ss before after plan (q .pairs)
+    pub matched-many : (limits : Limits) (plan : List ℕ) → most < q .pairs → (ss : List Span) → EndsBy s order ends ss
+        → DrawnWithin limits dirs most (decode s) ss before after plan (q .pairs)
     matched-many limits plan l ss m = record {
       work-is = told-work c (plan-ranks (p .job)) m standard;
       over = told-over c (plan-ranks (p .job)) m standard;
@@ -74,15 +81,19 @@ module _ {s : List ℕ} {h : Header} {order before : List ℕ} (p : Plannable s 
       told = λ few. absurd (omega (arith, told-few c (plan-ranks (p .job)) m standard few));
     }
 
-    module _ (small : most ≤ 4096) {marks : List ℕ} (b : Bridged most dirs (mapOf (h .counts .width) (h .counts .height) (take (48 + n - 48) (drop 48 s))) (spansIn ends count) marks) (l : q .pairs ≤ most) where
+    module _ (small : most ≤ 4096) {marks : List ℕ}
+        (b : Bridged most dirs (mapOf (h .counts .width) (h .counts .height) (take (48 + n - 48) (drop 48 s))) (spansIn ends count) marks)
+        (l : q .pairs ≤ most) where
       matched-told : (ss : List Span) → EndsBy s order ends ss → Told dirs s after removed separated owners lefts rights (q .pairs) marks ss
-      matched-told ss m = told c (plan-ranks (p .job)) m standard (cells-few d n e) small l (on-job d n e (λ g k. Bridged most dirs g (spansIn ends k) marks) (f ∙ count-is d) b)
+      matched-told ss m = told c (plan-ranks (p .job)) m standard (cells-few d n e) small l
+          (on-job d n e (λ g k. Bridged most dirs g (spansIn ends k) marks) (f ∙ count-is d) b)
 
       pub some-told : SomeEnds s order ends → SomeTold s after removed separated owners lefts rights (q .pairs) marks
       some-told m = record { dirs = dirs; spans = m .spans; are = matched-told (m .spans) (m .are) }
 
       pub matched-drawn : (limits : Limits) {work : List ℕ} (plan : List ℕ) → work ≡ after
-          → ((ss : List Span) → Told dirs s after removed separated owners lefts rights (q .pairs) marks ss → (i : ℕ) → i < length (decode s .boundaries) → getD plan i 0 ≡ planOf limits dirs (decode s) ss i)
+          → ((ss : List Span) → Told dirs s after removed separated owners lefts rights (q .pairs) marks ss → (i : ℕ) → i < length (decode s .boundaries)
+          → getD plan i 0 ≡ planOf limits dirs (decode s) ss i)
           → (ss : List Span) → EndsBy s order ends ss → DrawnWithin limits dirs most (decode s) ss before work plan (q .pairs)
       matched-drawn limits plan w t ss m = record {
         work-is = w ∙ told-work c (plan-ranks (p .job)) m standard;
@@ -92,16 +103,19 @@ module _ {s : List ℕ} {h : Header} {order before : List ℕ} (p : Plannable s 
       }
 
 -- the boundaries' own ends
-module _ {s : List ℕ} {h : Header} {order : List ℕ} (p : RankedJob s h order) (at n : ℕ) (a : at ≡ h .offsets .boundaries) (e : n ≡ h .counts .boundaries) {ends : List ℕ} (o : SpansOf s at boundarySize order n ends) where
+module _ {s : List ℕ} {h : Header} {order : List ℕ} (p : RankedJob s h order) (at n : ℕ) (a : at ≡ h .offsets .boundaries) (e : n ≡ h .counts .boundaries)
+    {ends : List ℕ} (o : SpansOf s at boundarySize order n ends) where
   here : SpansOf s (boundariesAt s) boundarySize order (countsAt s 0 .boundaries) ends
-  here = subst (λ (k : ℕ). SpansOf s (boundariesAt s) boundarySize order k ends) (e ∙ count-is (p .headed)) (subst (λ (k : ℕ). SpansOf s k boundarySize order n ends) (a ∙ start-is (p .headed)) o)
+  here = subst (λ (k : ℕ). SpansOf s (boundariesAt s) boundarySize order k ends) (e ∙ count-is (p .headed))
+      (subst (λ (k : ℕ). SpansOf s k boundarySize order n ends) (a ∙ start-is (p .headed)) o)
 
   pub own-by : EndsBy s order ends (ownEnds (decode s))
   own-by = record { matched = own-matched s; each = own-ends-ranked (headed-checked (p .headed)) (plan-ranks p) ends here }
 
   pub own-fit : firstRefusal (reduceChecks s) ≡ none → SpansFit (h .counts .width) (h .counts .height) ends (h .counts .boundaries)
   unfolding reduceChecks
-  own-fit f = subst (λ (k : Counts). SpansFit (k .width) (k .height) ends (k .boundaries)) (sym (counts-are (p .headed))) (own-ends-fit (checked true s (p .headed .bytes) f) (plan-ranks p) refl ends here)
+  own-fit f = subst (λ (k : Counts). SpansFit (k .width) (k .height) ends (k .boundaries)) (sym (counts-are (p .headed)))
+      (own-ends-fit (checked true s (p .headed .bytes) f) (plan-ranks p) refl ends here)
 
 -- the spans of a list
 module _ {s : List ℕ} {h : Header} (d : Headed s h) (t : List ℕ) (f : firstRefusal (byListChecks s t) ≡ none) where
@@ -109,7 +123,8 @@ module _ {s : List ℕ} {h : Header} (d : Headed s h) (t : List ℕ) (f : firstR
   list-right = by-list-checked s t (d .bytes) f .1
 
   -- as many as boundaries
-  module _ {order : List ℕ} (k : ByRank (decode s .boundaries) order) (n : ℕ) (e : n ≡ h .counts .boundaries) (m : length t / spanSize ≡ h .counts .boundaries) where
+  module _ {order : List ℕ} (k : ByRank (decode s .boundaries) order) (n : ℕ) (e : n ≡ h .counts .boundaries)
+      (m : length t / spanSize ≡ h .counts .boundaries) where
     same : length t / spanSize ≡ countsAt s 0 .boundaries
     same = m ∙ count-is d
 
@@ -117,7 +132,8 @@ module _ {s : List ℕ} {h : Header} (d : Headed s h) (t : List ℕ) (f : firstR
     count-here = e ∙ count-is d
 
     pub list-matched-records : Records t 0 spanSize order n
-    list-matched-records = rw count-here (list-records t order (countsAt s 0 .boundaries) (headed-checked d .allowed .boundaries) (omega (arith, same)) (order-in (headed-checked d) k))
+    list-matched-records = rw count-here
+        (list-records t order (countsAt s 0 .boundaries) (headed-checked d .allowed .boundaries) (omega (arith, same)) (order-in (headed-checked d) k))
 
     module _ {ends : List ℕ} (o : SpansOf t 0 spanSize order n ends) where
       list-here : SpansOf t 0 spanSize order (countsAt s 0 .boundaries) ends
@@ -146,18 +162,22 @@ module _ {s : List ℕ} {h : Header} (d : Headed s h) (t : List ℕ) (f : firstR
       all-fit = subst (λ (x : Counts). SpansFit (x .width) (x .height) ends n) (sym (counts-are d))
           (list-ends-fit list-right order n (λ i l. let w = k .each i (omega (arith, few)) in omega (arith, w, e)) ends o)
 
-      pub unmatched-partitionable : {directions : ℕ} → Leads directions → {work : List ℕ} → workSize (decode s) ≤ length work → Partitionable (h .counts .width) (h .counts .height) (take (48 + cells - 48) (drop 48 s)) directions ends n work
+      pub unmatched-partitionable : {directions : ℕ} → Leads directions → {work : List ℕ} → workSize (decode s) ≤ length work
+          → Partitionable (h .counts .width) (h .counts .height) (take (48 + cells - 48) (drop 48 s)) directions ends n work
       unmatched-partitionable k room = map-partitionable (d .header) (headed-laid d) cells f₂ k all-fit few room
 
       pub unmatched-drawn : (limits : Limits) (dirs : List ℕ) → (n ≡ h .counts .boundaries → ⊥) → {before after marks : List ℕ} {pairs : ℕ}
-          → MarkedWithin maxPairs dirs (mapOf (h .counts .width) (h .counts .height) (take (48 + cells - 48) (drop 48 s))) (spansIn ends n) marks before after pairs
+          → MarkedWithin maxPairs dirs (mapOf (h .counts .width) (h .counts .height) (take (48 + cells - 48) (drop 48 s))) (spansIn ends n) marks before after
+          pairs
           → Drawn limits dirs (decode s) (decodeList t) before after order pairs
       unfolding planOf
       unmatched-drawn limits dirs ne {before} {after} {marks} {pairs} r =
           let g : Grid = gridOf (decode s) in
           let y = on-job d cells f₂ (λ g k. MarkedWithin maxPairs dirs g (spansIn ends k) marks before after pairs) e r in
-          let x : records dirs g (decodeList t) ≡ records dirs g (spansIn ends (length t / spanSize)) = records-listed t (list-right .few) k ends all-here dirs g in
-          let differ : length (decode s .boundaries) ≡ length (decodeList t) → ⊥ = λ z. ne (let u = headed-checked d .count in let v = length-decodeList t in let w = count-is d in omega (arith, z)) in
+          let x : records dirs g (decodeList t) ≡ records dirs g (spansIn ends (length t / spanSize)) =
+          records-listed t (list-right .few) k ends all-here dirs g in
+          let differ : length (decode s .boundaries) ≡ length (decodeList t)
+          → ⊥ = λ z. ne (let u = headed-checked d .count in let v = length-decodeList t in let w = count-is d in omega (arith, z)) in
           record {
             work-is = y .work-is ∙ ap (λ (ls : List ℕ). labelled ls before) (sym (labels-listed t (list-right .few) k ends all-here dirs g));
             over = rw x (y .over);
@@ -165,5 +185,7 @@ module _ {s : List ℕ} {h : Header} (d : Headed s h) (t : List ℕ) (f : firstR
             told = λ z i l.
                 let u = headed-checked d .count in
                 let v = headed-checked d .allowed .boundaries in
-                k .each i (omega arith) ∙ ap (λ (b : Bool). cond b (mergePlan limits dirs g (anchorsOf (decode s .bases)) (listingOf (decode s) (decodeList t)) i) i) (sym (ne-eqb _ _ differ));
+                k .each i (omega arith) ∙ ap
+                (λ (b : Bool). cond b (mergePlan limits dirs g (anchorsOf (decode s .bases)) (listingOf (decode s) (decodeList t)) i) i)
+                (sym (ne-eqb _ _ differ));
           }

@@ -58,7 +58,8 @@ module _ {s : List ℕ} {h : Header} {order : List ℕ} (p : RankedJob s h order
     n-is = e ∙ count-is (p .headed)
 
     pub own-array : {own : List ℕ} → SpansOf s at boundarySize order n own → SpansOf s (boundariesAt s) boundarySize order count own
-    own-array {own} o = subst (λ (k : ℕ). SpansOf s (boundariesAt s) boundarySize order k own) n-is (subst (λ (k : ℕ). SpansOf s k boundarySize order n own) at-is o)
+    own-array {own} o = subst (λ (k : ℕ). SpansOf s (boundariesAt s) boundarySize order k own) n-is
+        (subst (λ (k : ℕ). SpansOf s k boundarySize order n own) at-is o)
 
     pub widths-array : {bits : List ℕ} → WidthsOf s at order n bits → WidthsOf s (boundariesAt s) order count bits
     widths-array {bits} o = subst (λ (k : ℕ). WidthsOf s (boundariesAt s) order k bits) n-is (subst (λ (k : ℕ). WidthsOf s k order n bits) at-is o)
@@ -66,7 +67,8 @@ module _ {s : List ℕ} {h : Header} {order : List ℕ} (p : RankedJob s h order
     pub ramps-array : {ramps : List ℕ} → RampsOf s at order n ramps → RampsOf s (boundariesAt s) order count ramps
     ramps-array {ramps} o = subst (λ (k : ℕ). RampsOf s (boundariesAt s) order k ramps) n-is (subst (λ (k : ℕ). RampsOf s k order n ramps) at-is o)
 
-  module _ {own bits ramps : List ℕ} (o : SpansOf s (boundariesAt s) boundarySize order count own) (w : WidthsOf s (boundariesAt s) order count bits) (v : RampsOf s (boundariesAt s) order count ramps) where
+  module _ {own bits ramps : List ℕ} (o : SpansOf s (boundariesAt s) boundarySize order count own) (w : WidthsOf s (boundariesAt s) order count bits)
+      (v : RampsOf s (boundariesAt s) order count ramps) where
     module _ {dirs : List ℕ} {after removed separated owners lefts rights : List ℕ} {pairs : ℕ} {marks : List ℕ} {ss : List Span}
         (t : Told dirs s after removed separated owners lefts rights pairs marks ss) where
       abbrev l : List Item
@@ -81,7 +83,8 @@ module _ {s : List ℕ} {h : Header} {order : List ℕ} (p : RankedJob s h order
       plain : Plain own bits
       plain = plain-arrays told (λ k b. o .rest k (omega (arith, many))) (λ k b. w .rest k (omega (arith, many)))
 
-      listed : Listed dirs (gridOf (decode s)) l count own bits ramps (labelsIn after (length (decode s .cells))) removed separated owners lefts rights pairs marks
+      listed : Listed dirs (gridOf (decode s)) l count own bits ramps (labelsIn after (length (decode s .cells))) removed separated owners lefts rights pairs
+          marks
       listed = record {
         count = many;
         told = told;
@@ -92,9 +95,12 @@ module _ {s : List ℕ} {h : Header} {order : List ℕ} (p : RankedJob s h order
       }
 
       cells-whole : length (decode s .cells) ≡ countsAt s 0 .width * countsAt s 0 .height
-      cells-whole = ap length (sym (map-cells (p .headed .header) (headed-laid (p .headed)) _ refl)) ∙ (map-long (p .headed .header) (headed-laid (p .headed)) _ refl ∙ ap (λ (a : Counts). a .width * a .height) (counts-are (p .headed)))
+      cells-whole = ap length (sym (map-cells (p .headed .header) (headed-laid (p .headed)) _ refl))
+          ∙ (map-long (p .headed .header) (headed-laid (p .headed)) _ refl ∙ ap (λ (a : Counts). a .width * a .height) (counts-are (p .headed)))
 
-      ready-here : Stored owners lefts rights pairs → Ready s (basesStart (countsAt s 0)) (countsAt s 0 .bases) (decode s .cells) (countsAt s 0 .width) (countsAt s 0 .height) count own bits ramps after removed separated owners lefts rights pairs
+      ready-here : Stored owners lefts rights pairs
+          → Ready s (basesStart (countsAt s 0)) (countsAt s 0 .bases) (decode s .cells) (countsAt s 0 .width) (countsAt s 0 .height) count own bits ramps after
+          removed separated owners lefts rights pairs
       unfolding decode jobWith
       ready-here st = record {
         sides = checked-sides c;
@@ -110,7 +116,8 @@ module _ {s : List ℕ} {h : Header} {order : List ℕ} (p : RankedJob s h order
         listed = listed;
       }
 
-      module _ (start bases n : ℕ) (e₁ : start ≡ h .offsets .bases) (e₂ : bases ≡ h .counts .bases) (e₃ : n ≡ h .counts .boundaries) (size : ℕ) (e₄ : size ≡ h .counts .width * h .counts .height) where
+      module _ (start bases n : ℕ) (e₁ : start ≡ h .offsets .bases) (e₂ : bases ≡ h .counts .bases) (e₃ : n ≡ h .counts .boundaries) (size : ℕ)
+          (e₄ : size ≡ h .counts .width * h .counts .height) where
         abbrev cells : List ℕ
         cells = take (48 + size - 48) (drop 48 s)
 
@@ -123,21 +130,26 @@ module _ {s : List ℕ} {h : Header} {order : List ℕ} (p : RankedJob s h order
         count-at : n ≡ count
         count-at = e₃ ∙ count-is (p .headed)
 
-        pub ready : Stored owners lefts rights pairs → Ready s start bases cells (h .counts .width) (h .counts .height) n own bits ramps after removed separated owners lefts rights pairs
+        pub ready : Stored owners lefts rights pairs
+            → Ready s start bases cells (h .counts .width) (h .counts .height) n own bits ramps after removed separated owners lefts rights pairs
         ready st = rw (start-at, bases-at, count-at, map-cells (p .headed .header) (headed-laid (p .headed)) size e₄, counts-are (p .headed)) (ready-here st)
 
         -- what the plan then is
         pub planned-as : {limits : LimitsHeld} {into : List ℕ}
-            → PlanFrom (limitsOf limits) s start bases (mapOf (h .counts .width) (h .counts .height) cells) n own bits ramps (labelsIn after (length cells)) removed separated owners lefts rights pairs marks into
+            → PlanFrom (limitsOf limits) s start bases (mapOf (h .counts .width) (h .counts .height) cells) n own bits ramps (labelsIn after (length cells))
+            removed separated owners lefts rights pairs marks into
             → (i : ℕ) → i < length (decode s .boundaries) → getD into i 0 ≡ planOf (limitsOf limits) dirs (decode s) ss i
         unfolding planOf decode jobWith
         planned-as {limits} {into} f i b =
             let grid : mapOf (h .counts .width) (h .counts .height) cells ≡ gridOf (decode s) = map-is (p .headed .header) (headed-laid (p .headed)) size e₄ in
             let anchors : anchorsOf (decode s .bases) ≡ anchorsIn s start bases = rw (start-at, bases-at) refl in
-            let ls : labelsIn after (length cells) ≡ labelsIn after (length (decode s .cells)) = ap (λ (x : List ℕ). labelsIn after (length x)) (map-cells (p .headed .header) (headed-laid (p .headed)) size e₄) in
-            let here : Listed dirs (mapOf (h .counts .width) (h .counts .height) cells) l n own bits ramps (labelsIn after (length cells)) removed separated owners lefts rights pairs marks
+            let ls : labelsIn after (length cells) ≡ labelsIn after (length (decode s .cells)) =
+            ap (λ (x : List ℕ). labelsIn after (length x)) (map-cells (p .headed .header) (headed-laid (p .headed)) size e₄) in
+            let here : Listed dirs (mapOf (h .counts .width) (h .counts .height) cells) l n own bits ramps (labelsIn after (length cells)) removed separated
+            owners lefts rights pairs marks
             = rw (grid, ls, count-at) listed in
             let known = c .count in
             f .each dirs (anchorsOf (decode s .bases)) l here anchors i (omega (arith, count-at))
             ∙ (ap (λ (x : Grid). mergePlan (limitsOf limits) dirs x (anchorsOf (decode s .bases)) l i) grid
-            ∙ ap (λ (t : Bool). cond t (mergePlan (limitsOf limits) dirs (gridOf (decode s)) (anchorsOf (decode s .bases)) l i) i) (sym (eq-eqb _ _ (t .matched))))
+            ∙ ap (λ (t : Bool). cond t (mergePlan (limitsOf limits) dirs (gridOf (decode s)) (anchorsOf (decode s .bases)) l i) i)
+            (sym (eq-eqb _ _ (t .matched))))

@@ -92,7 +92,8 @@ module _ (bs : List Boundary) where
   places-ranked {order} r =
       sym (map-places (placesOf bs) 0)
       ∙ (ap (λ (n : ℕ). map (λ i. getD (placesOf bs) i 0) (upFrom 0 n)) places-count
-      ∙ map-ext (λ i. getD (placesOf bs) i 0) (λ i. getD order i 0) (upFrom 0 (length bs)) (λ i m. let u = up-mem 0 (length bs) m in sym (r .each i (omega (arith, u .1)))))
+      ∙ map-ext (λ i. getD (placesOf bs) i 0) (λ i. getD order i 0) (upFrom 0 (length bs))
+      (λ i m. let u = up-mem 0 (length bs) m in sym (r .each i (omega (arith, u .1)))))
 
   -- the canonical copies, by rank
   pub copies-ranked : {order : List ℕ} → ByRank order → copiesOf bs ≡ map (λ i. canon (getD bs (getD order i 0) noBoundary)) (upFrom 0 (length bs))
@@ -125,7 +126,8 @@ module _ (s : List ℕ) (at : ℕ) (bs : List Boundary) (first second : List ℕ
   order-ranked old h = rw order-places (by-rank bs old h)
 
 -- boundaries with their spans, by place
-pub zip-at : (bs : List Boundary) (ss : List Span) → length bs ≡ length ss → (i : ℕ) → getD (zipWith itemOf bs ss) i noItem ≡ itemOf (getD bs i noBoundary) (getD ss i noSpan)
+pub zip-at : (bs : List Boundary) (ss : List Span) → length bs ≡ length ss → (i : ℕ)
+    → getD (zipWith itemOf bs ss) i noItem ≡ itemOf (getD bs i noBoundary) (getD ss i noSpan)
 unfolding zipWith
 zip-at [] [] e i = refl
 zip-at [] (s ∷ ss) e i = absurd (omega arith)
@@ -165,7 +167,8 @@ module _ (j : Job) (ss : List Span) (e : length (j .boundaries) ≡ length ss) w
       sort-map canonItem (byKey itemKey) (byKey itemKey) (λ a b. rw (key-item a, key-item b) refl) items
       ∙ (ap (map canonItem) (sort-places (byKey itemKey) items noItem ∙ ap (map (λ k. getD items k noItem)) items-places)
       ∙ (map-map canonItem (λ k. getD items k noItem) (placesOf (j .boundaries))
-      ∙ map-ext (λ k. canonItem (getD items k noItem)) (λ k. canonItem (itemAt k)) (placesOf (j .boundaries)) (λ k m. ap canonItem (zip-at (j .boundaries) ss e k))))
+      ∙ map-ext (λ k. canonItem (getD items k noItem)) (λ k. canonItem (itemAt k)) (placesOf (j .boundaries))
+      (λ k m. ap canonItem (zip-at (j .boundaries) ss e k))))
 
   pub listed-length : length (listingOf j ss) ≡ length (j .boundaries)
   listed-length = ap length listed-places ∙ (length-map (placesOf (j .boundaries)) (λ k. canonItem (itemAt k)) ∙ places-count (j .boundaries))
@@ -183,10 +186,12 @@ module _ (j : Job) (ss : List Span) (e : length (j .boundaries) ≡ length ss) w
   spans-perm : List·Permᴰ (map canonical ss) (map canonical (spansOf (listingOf j ss)))
   spans-perm =
       let a : map canonical ss ≡ map (λ k. canonical (getD ss k noSpan)) (upFrom 0 (length (j .boundaries)))
-      = ap (map canonical) (sym (map-places ss noSpan)) ∙ (map-map canonical (λ k. getD ss k noSpan) (upFrom 0 (length ss)) ∙ ap (λ (n : ℕ). map (λ k. canonical (getD ss k noSpan)) (upFrom 0 n)) (sym e)) in
+      = ap (map canonical) (sym (map-places ss noSpan))
+      ∙ (map-map canonical (λ k. getD ss k noSpan) (upFrom 0 (length ss)) ∙ ap (λ (n : ℕ). map (λ k. canonical (getD ss k noSpan)) (upFrom 0 n)) (sym e)) in
       let b : map canonical (spansOf (listingOf j ss)) ≡ map (λ k. canonical (getD ss k noSpan)) (placesOf (j .boundaries))
       = ap (map canonical) spans-places ∙ (map-map canonical (λ k. canonical (getD ss k noSpan)) (placesOf (j .boundaries))
-      ∙ map-ext (λ k. canonical (canonical (getD ss k noSpan))) (λ k. canonical (getD ss k noSpan)) (placesOf (j .boundaries)) (λ k m. canonical-again (getD ss k noSpan))) in
+      ∙ map-ext (λ k. canonical (canonical (getD ss k noSpan))) (λ k. canonical (getD ss k noSpan)) (placesOf (j .boundaries))
+      (λ k m. canonical-again (getD ss k noSpan))) in
       rw (a, b) (Permᴰ·map (λ k. canonical (getD ss k noSpan)) (places-perm (j .boundaries)))
 
   -- labels and the number of region pairs are those of the listing's spans

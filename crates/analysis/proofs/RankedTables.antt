@@ -48,13 +48,16 @@ use Rattle.analysis.proofs.Checked.{canonical-on-map, on-map-bounded, c
 
 -- what a boundary has from its record alone
 module _ (s : List ℕ) where
-  field-of : {A : Type 0} (f : Boundary → A) (g : BoundaryRecord → A) → ((r : BoundaryRecord) (os : List ObservationRecord) (ss : List Source) → f (boundaryWith r os ss) ≡ g r)
+  field-of : {A : Type 0} (f : Boundary → A) (g : BoundaryRecord → A)
+      → ((r : BoundaryRecord) (os : List ObservationRecord) (ss : List Source) → f (boundaryWith r os ss) ≡ g r)
       → (k : ℕ) → k < countsAt s 0 .boundaries → f (getD (decode s .boundaries) k noBoundary) ≡ g (boundaryAt s (boundariesAt s + k * boundarySize))
   unfolding decode jobWith decodeBoundaries boundaryRecords
   field-of {A} f g e k h =
       let c = countsAt s 0 in
       sym (List·getD-map f (decode s .boundaries) k noBoundary)
-      ∙ (ap (λ (l : List A). getD l k (f noBoundary)) (map-boundariesWith f g e (boundaryRecords s (boundariesAt s) (c .boundaries)) _ _ ∙ map-rows g (c .boundaries) (λ i. boundaryAt s (boundariesAt s + i * boundarySize)))
+      ∙ (ap (λ (l : List A). getD l k (f noBoundary))
+      (map-boundariesWith f g e (boundaryRecords s (boundariesAt s) (c .boundaries)) _ _
+      ∙ map-rows g (c .boundaries) (λ i. boundaryAt s (boundariesAt s + i * boundarySize)))
       ∙ rows-at (c .boundaries) (λ i. g (boundaryAt s (boundariesAt s + i * boundarySize))) k (f noBoundary) h)
 
   pub ends-of : (k : ℕ) → k < countsAt s 0 .boundaries → getD (decode s .boundaries) k noBoundary .ends ≡ spanAt s (boundariesAt s + k * boundarySize)
@@ -76,11 +79,14 @@ list-at t k h = rows-at (length t / spanSize) (λ i. spanAt t (i * spanSize)) k 
 
 -- the ranks that sorting by the packed ends gives
 module _ {distinct : Bool} {s : List ℕ} (c : Checked distinct s) where
-  pub ranks-of : (first second : List ℕ) → KeysOf s (boundariesAt s) boundarySize (countsAt s 0 .boundaries) first second → (old : List ℕ) → countsAt s 0 .boundaries ≤ length old
+  pub ranks-of : (first second : List ℕ) → KeysOf s (boundariesAt s) boundarySize (countsAt s 0 .boundaries) first second → (old : List ℕ)
+      → countsAt s 0 .boundaries ≤ length old
       → ByRank (decode s .boundaries) (splice old 0 (sort (byTwo first second) (upFrom 0 (countsAt s 0 .boundaries))))
   ranks-of first second =
-      subst (λ (n : ℕ). KeysOf s (boundariesAt s) boundarySize n first second → (old : List ℕ) → n ≤ length old → ByRank (decode s .boundaries) (splice old 0 (sort (byTwo first second) (upFrom 0 n))))
-      (c .count) (λ keys. order-ranked s (boundariesAt s) (decode s .boundaries) first second keys (c .fits) (λ k h. ends-of s k (let e = c .count in omega arith)))
+      subst (λ (n : ℕ). KeysOf s (boundariesAt s) boundarySize n first second → (old : List ℕ) → n ≤ length old
+      → ByRank (decode s .boundaries) (splice old 0 (sort (byTwo first second) (upFrom 0 n))))
+      (c .count) (λ keys. order-ranked s (boundariesAt s) (decode s .boundaries) first second keys (c .fits)
+      (λ k h. ends-of s k (let e = c .count in omega arith)))
 
 -- ranks of a job's boundaries
 module _ {distinct : Bool} {s : List ℕ} (c : Checked distinct s) {order : List ℕ} (r : ByRank (decode s .boundaries) order) where
@@ -107,22 +113,27 @@ module _ {distinct : Bool} {s : List ℕ} (c : Checked distinct s) {order : List
   same-place i h = sym (r .each i (inside h))
 
   -- the boundaries' own ends, as Reduce takes them for spans
-  pub own-ends-ranked : (ends : List ℕ) → SpansOf s (boundariesAt s) boundarySize order n ends → (i : ℕ) → i < n → spanIn ends i ≡ canonical (getD (ownEnds (decode s)) (getD order i 0) Rank.noSpan)
+  pub own-ends-ranked : (ends : List ℕ) → SpansOf s (boundariesAt s) boundarySize order n ends → (i : ℕ) → i < n
+      → spanIn ends i ≡ canonical (getD (ownEnds (decode s)) (getD order i 0) Rank.noSpan)
   own-ends-ranked ends t i h =
-      t .each i h ∙ ap canonical (sym (List·getD-map (λ (b : Boundary). b .ends) (decode s .boundaries) (getD order i 0) noBoundary ∙ ends-of s (getD order i 0) (order-in i h)))
+      t .each i h ∙ ap canonical
+      (sym (List·getD-map (λ (b : Boundary). b .ends) (decode s .boundaries) (getD order i 0) noBoundary ∙ ends-of s (getD order i 0) (order-in i h)))
 
   -- the spans of a list, as Reduce by list takes them
-  pub list-ends-ranked : (t : List ℕ) → length t / spanSize ≡ n → (ends : List ℕ) → SpansOf t 0 spanSize order n ends → (i : ℕ) → i < n → spanIn ends i ≡ canonical (getD (decodeList t) (getD order i 0) Rank.noSpan)
+  pub list-ends-ranked : (t : List ℕ) → length t / spanSize ≡ n → (ends : List ℕ) → SpansOf t 0 spanSize order n ends → (i : ℕ) → i < n
+      → spanIn ends i ≡ canonical (getD (decodeList t) (getD order i 0) Rank.noSpan)
   list-ends-ranked t e ends o i h =
       let w = order-in i h in
       o .each i h ∙ (ap (λ (k : ℕ). canonical (spanAt t k)) (zero-add (getD order i 0 * spanSize))
       ∙ ap canonical (sym (list-at t (getD order i 0) (omega arith))))
 
   -- they fit the map
-  pub own-ends-fit : distinct ≡ true → (ends : List ℕ) → SpansOf s (boundariesAt s) boundarySize order n ends → SpansFit (countsAt s 0 .width) (countsAt s 0 .height) ends n
+  pub own-ends-fit : distinct ≡ true → (ends : List ℕ) → SpansOf s (boundariesAt s) boundarySize order n ends
+      → SpansFit (countsAt s 0 .width) (countsAt s 0 .height) ends n
   own-ends-fit d ends t = record {
     each = λ i h. rw (t .each i h)
-        (canonical-span-fits (countsAt s 0 .width) (countsAt s 0 .height) (spanAt s (boundariesAt s + getD order i 0 * boundarySize)) (c .on (getD order i 0) (order-in i h)) (c .apart d (getD order i 0) (order-in i h)));
+        (canonical-span-fits (countsAt s 0 .width) (countsAt s 0 .height) (spanAt s (boundariesAt s + getD order i 0 * boundarySize))
+        (c .on (getD order i 0) (order-in i h)) (c .apart d (getD order i 0) (order-in i h)));
   }
 
   module _ (ss : List Span) (e : length (decode s .boundaries) ≡ length ss) where
@@ -158,10 +169,12 @@ module _ {distinct : Bool} {s : List ℕ} (c : Checked distinct s) {order : List
         let w = countsAt s 0 .width in
         let v = countsAt s 0 .height in
         let b = spanAt s (boundariesAt s + getD order i 0 * boundarySize) in
-        rw (own-at i h) (on-map-bounded w v (canonical b) (canonical-on-map w v b (c .on (getD order i 0) (order-in i h))) (c .allowed .width) (c .allowed .height))
+        rw (own-at i h) (on-map-bounded w v (canonical b) (canonical-on-map w v b (c .on (getD order i 0) (order-in i h))) (c .allowed .width)
+        (c .allowed .height))
 
     -- own ends, width bits and ramp ends of the listing
-    pub boundaries-ranked : {own bits ramps : List ℕ} → SpansOf s (boundariesAt s) boundarySize order n own → WidthsOf s (boundariesAt s) order n bits → RampsOf s (boundariesAt s) order n ramps → Boundaries l own bits ramps
+    pub boundaries-ranked : {own bits ramps : List ℕ} → SpansOf s (boundariesAt s) boundarySize order n own → WidthsOf s (boundariesAt s) order n bits
+        → RampsOf s (boundariesAt s) order n ramps → Boundaries l own bits ramps
     boundaries-ranked o w t = record {
       few = let f = listed-count in let m = c .allowed .boundaries in omega arith;
       ends = λ i h. own-at i (listed-in h) ∙ sym (o .each i (listed-in h));
@@ -181,17 +194,20 @@ module _ {distinct : Bool} {s : List ℕ} (c : Checked distinct s) {order : List
         ∙ (ap (λ (k : ℕ). canonical (getD ss k Rank.noSpan)) (same-place i h) ∙ sym (t i h))))
 
     -- so labels and the number of region pairs are those of the array's spans
-    pub labels-in : (dirs : List ℕ) (g : Grid) (ends : List ℕ) → ((i : ℕ) → i < n → spanIn ends i ≡ canonical (getD ss (getD order i 0) Rank.noSpan)) → areaLabels dirs g ss ≡ areaLabels dirs g (spansIn ends n)
+    pub labels-in : (dirs : List ℕ) (g : Grid) (ends : List ℕ) → ((i : ℕ) → i < n → spanIn ends i ≡ canonical (getD ss (getD order i 0) Rank.noSpan))
+        → areaLabels dirs g ss ≡ areaLabels dirs g (spansIn ends n)
     labels-in dirs g ends t = labels-ranked (decode s) ss e dirs g ∙ ap (areaLabels dirs g) (spans-ranked ends t)
 
-    pub records-in : (dirs : List ℕ) (g : Grid) (ends : List ℕ) → ((i : ℕ) → i < n → spanIn ends i ≡ canonical (getD ss (getD order i 0) Rank.noSpan)) → length (records dirs g ss) ≡ length (records dirs g (spansIn ends n))
+    pub records-in : (dirs : List ℕ) (g : Grid) (ends : List ℕ) → ((i : ℕ) → i < n → spanIn ends i ≡ canonical (getD ss (getD order i 0) Rank.noSpan))
+        → length (records dirs g ss) ≡ length (records dirs g (spansIn ends n))
     records-in dirs g ends t = records-ranked (decode s) ss e dirs g ∙ ap (λ (ts : List Span). length (records dirs g ts)) (spans-ranked ends t)
 
 -- as many spans as boundaries
 pub own-matched : (s : List ℕ) → length (decode s .boundaries) ≡ length (ownEnds (decode s))
 own-matched s = sym (length-map (decode s .boundaries) (λ (b : Boundary). b .ends))
 
-pub list-matched : {distinct : Bool} {s : List ℕ} → Checked distinct s → (t : List ℕ) → length t / spanSize ≡ countsAt s 0 .boundaries → length (decode s .boundaries) ≡ length (decodeList t)
+pub list-matched : {distinct : Bool} {s : List ℕ} → Checked distinct s → (t : List ℕ) → length t / spanSize ≡ countsAt s 0 .boundaries
+    → length (decode s .boundaries) ≡ length (decodeList t)
 list-matched c t e = c .count ∙ sym (length-decodeList t ∙ e)
 
 -- what filling the arrays from a list asks
@@ -199,7 +215,8 @@ pub list-records : (t order : List ℕ) (m : ℕ) → m ≤ 256 → m ≤ length
 list-records t order m few h below = record { few = few; least = omega arith; most = omega arith; inside = omega arith; named = below }
 
 -- the spans of a list, in any order of ranks within it, fit the map
-pub list-ends-fit : {width height : ℕ} {t : List ℕ} → ListChecked width height t → (order : List ℕ) (m : ℕ) → ((i : ℕ) → i < m → getD order i 0 < length t / spanSize)
+pub list-ends-fit : {width height : ℕ} {t : List ℕ} → ListChecked width height t → (order : List ℕ) (m : ℕ)
+    → ((i : ℕ) → i < m → getD order i 0 < length t / spanSize)
     → (ends : List ℕ) → SpansOf t 0 spanSize order m ends → SpansFit width height ends m
 list-ends-fit {width} {height} {t} c order m below ends o = record {
   each = λ i h. rw (o .each i h, zero-add (getD order i 0 * spanSize))
@@ -207,13 +224,16 @@ list-ends-fit {width} {height} {t} c order m below ends o = record {
 }
 
 -- the spans of a list in their own order
-module _ (t : List ℕ) (few : length t / spanSize ≤ 256) {order : List ℕ} (d : Identity order) (ends : List ℕ) (o : SpansOf t 0 spanSize order (length t / spanSize) ends) where
+module _ (t : List ℕ) (few : length t / spanSize ≤ 256) {order : List ℕ} (d : Identity order) (ends : List ℕ)
+    (o : SpansOf t 0 spanSize order (length t / spanSize) ends) where
   pub spans-listed : map canonical (decodeList t) ≡ spansIn ends (length t / spanSize)
   unfolding decodeList spansIn
   spans-listed =
       map-rows canonical (length t / spanSize) (λ i. spanAt t (i * spanSize))
       ∙ rows-same (length t / spanSize) (λ i. canonical (spanAt t (i * spanSize))) (spanIn ends)
-      (λ i h. sym (o .each i h ∙ (ap (λ (k : ℕ). canonical (spanAt t (0 + k * spanSize))) (d .each i (omega arith)) ∙ ap (λ (k : ℕ). canonical (spanAt t k)) (zero-add (i * spanSize)))))
+      (λ i h. sym (o .each i h
+      ∙ (ap (λ (k : ℕ). canonical (spanAt t (0 + k * spanSize))) (d .each i (omega arith))
+      ∙ ap (λ (k : ℕ). canonical (spanAt t k)) (zero-add (i * spanSize)))))
 
   canonical-listed : map canonical (decodeList t) ≡ map canonical (spansIn ends (length t / spanSize))
   canonical-listed =
@@ -227,7 +247,8 @@ module _ (t : List ℕ) (few : length t / spanSize ≤ 256) {order : List ℕ} (
   records-listed dirs g = records-same dirs g (decodeList t) (spansIn ends (length t / spanSize)) canonical-listed
 
 -- the boundaries' own ends in their own order
-module _ {distinct : Bool} {s : List ℕ} (c : Checked distinct s) {order : List ℕ} (d : Identity order) (ends : List ℕ) (o : SpansOf s (boundariesAt s) boundarySize order (countsAt s 0 .boundaries) ends) where
+module _ {distinct : Bool} {s : List ℕ} (c : Checked distinct s) {order : List ℕ} (d : Identity order) (ends : List ℕ)
+    (o : SpansOf s (boundariesAt s) boundarySize order (countsAt s 0 .boundaries) ends) where
   abbrev count : ℕ
   count = countsAt s 0 .boundaries
 
@@ -257,5 +278,6 @@ module _ {distinct : Bool} {s : List ℕ} (c : Checked distinct s) {order : List
 
   pub own-listed-fit : distinct ≡ true → SpansFit (countsAt s 0 .width) (countsAt s 0 .height) ends count
   own-listed-fit t = record {
-    each = λ i h. rw (span-at i h) (canonical-span-fits (countsAt s 0 .width) (countsAt s 0 .height) (spanAt s (boundariesAt s + i * boundarySize)) (c .on i h) (c .apart t i h));
+    each = λ i h. rw (span-at i h)
+        (canonical-span-fits (countsAt s 0 .width) (countsAt s 0 .height) (spanAt s (boundariesAt s + i * boundarySize)) (c .on i h) (c .apart t i h));
   }

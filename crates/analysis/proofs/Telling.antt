@@ -51,7 +51,8 @@ module _ (ls before : List ℕ) (small : (i : ℕ) → i < length ls → getD ls
   pub all-read : labelsIn (labelled ls before) (length ls) ≡ ls
   all-read = ap (λ (w : List ℕ). labelsIn w (length ls)) first-written ∙ labels-read (labelled ls before) ls (length ls) refl small
 
-module _ {distinct : Bool} {s : List ℕ} (c : Checked distinct s) {order : List ℕ} (k : ByRank (decode s .boundaries) order) {ends : List ℕ} {ss : List Span} (m : EndsBy s order ends ss)
+module _ {distinct : Bool} {s : List ℕ} (c : Checked distinct s) {order : List ℕ} (k : ByRank (decode s .boundaries) order) {ends : List ℕ} {ss : List Span}
+    (m : EndsBy s order ends ss)
     {dirs : List ℕ} {most : ℕ} {before work removed separated owners lefts rights : List ℕ} {p : Partition}
     (r : Partitioned most dirs (gridOf (decode s)) ends (countsAt s 0 .boundaries) before work removed separated owners lefts rights p) where
   abbrev n : ℕ
@@ -109,7 +110,8 @@ module _ {distinct : Bool} {s : List ℕ} (c : Checked distinct s) {order : List
       room = omega (arith, room-in r (size g) refl);
       most = λ i h.
           let b : i < length (areaLabels dirs g ts) = omega (arith, labels-long) in
-          let e : word work i ≡ labelAt (areaLabels dirs g ts) i = ap (λ (w : List ℕ). word w i) (r .work-is) ∙ label-read (areaLabels dirs g ts) before small i b in
+          let e : word work i ≡ labelAt (areaLabels dirs g ts) i = ap (λ (w : List ℕ). word w i) (r .work-is)
+          ∙ label-read (areaLabels dirs g ts) before small i b in
           omega (arith, e, r .labels-few i h);
       clear = zero-in r (size g) refl;
     }
@@ -121,7 +123,8 @@ module _ {distinct : Bool} {s : List ℕ} (c : Checked distinct s) {order : List
       span-is : (i : ℕ) → i < n → getD l i Rank.noItem .span ≡ spanIn ends i
       unfolding spansIn
       span-is i o =
-          sym (List·getD-map (λ (x : Item). x .span) l i Rank.noItem) ∙ (ap (λ (xs : List Span). getD xs i Rank.noSpan) spans-are ∙ rows-at n (spanIn ends) i Rank.noSpan o)
+          sym (List·getD-map (λ (x : Item). x .span) l i Rank.noItem)
+          ∙ (ap (λ (xs : List Span). getD xs i Rank.noSpan) spans-are ∙ rows-at n (spanIn ends) i Rank.noSpan o)
 
       assess-is : (i : ℕ) → i < n → assessAt dirs g l i ≡ assess dirs g ts (spanIn ends i)
       unfolding assessAt
@@ -142,7 +145,8 @@ module _ {distinct : Bool} {s : List ℕ} (c : Checked distinct s) {order : List
         marks-are = λ i o.
             let few-ranks = c .allowed .boundaries in
             ap (λ (x : List ℕ). getD x i 0) (b few-records)
-            ∙ (rows-at 256 (λ j. cond (isBridge (records dirs g ts) j) 1 0) i 0 (omega (arith, inside o)) ∙ ap (λ (xs : List Span). cond (isBridge (records dirs g xs) i) 1 0) (sym spans-are));
+            ∙ (rows-at 256 (λ j. cond (isBridge (records dirs g ts) j) 1 0) i 0 (omega (arith, inside o))
+            ∙ ap (λ (xs : List Span). cond (isBridge (records dirs g xs) i) 1 0) (sym spans-are));
       }
 
       pub told : Told dirs s work removed separated owners lefts rights (p .pairs) marks ss

@@ -11,7 +11,8 @@ use Rattle.partition.specs.Partitioned.{labelled}
 use Rattle.analysis.specs.Bridging.{PartedWithin}
 use Rattle.analysis.proofs.Bridging.{labelled-again}
 
-module _ {most : ℕ} {ls : List ℕ} {rs : List Record} {Told : Type 0} {before work : List ℕ} {pairs : ℕ} (y : PartedWithin most ls rs Told before work pairs) where
+module _ {most : ℕ} {ls : List ℕ} {rs : List Record} {Told : Type 0} {before work : List ℕ} {pairs : ℕ}
+    (y : PartedWithin most ls rs Told before work pairs) where
   pub parted-many : most < pairs → most < length rs
   parted-many h = by-cases (decLt most (length rs)) (λ l. l) (λ l. let z = y .pairs-are (omega arith) in absurd (omega arith))
 
@@ -28,7 +29,8 @@ module _ {most : ℕ} {ls : List ℕ} {rs : List Record} {Told : Type 0} {before
   }
 
   -- a partition by the same spans that begins on what the first one left
-  pub parted-again : {more : ℕ} {Then : Type 0} {after : List ℕ} {found : ℕ} → PartedWithin more ls rs Then work after found → PartedWithin more ls rs Then before after found
+  pub parted-again : {more : ℕ} {Then : Type 0} {after : List ℕ} {found : ℕ} → PartedWithin more ls rs Then work after found
+      → PartedWithin more ls rs Then before after found
   parted-again z = record {
     work-is = z .work-is ∙ (ap (labelled ls) (y .work-is) ∙ labelled-again ls before);
     over = z .over;

@@ -93,7 +93,8 @@ pub record SomeTold (s work removed separated owners lefts rights : List ℕ) (p
 -- a job partitioned by the spans with room for `most` region pairs: the work, their number (one more than `most` where they are over it), and the plan
 abbrev pub DrawnWithin : Limits → List ℕ → ℕ → Job → List Span → List ℕ → List ℕ → List ℕ → ℕ → Type 0
 DrawnWithin limits dirs most j ss before work plan pairs =
-    PartedWithin most (labelsOf dirs j ss) (records dirs (gridOf j) ss) ((i : ℕ) → i < length (j .boundaries) → getD plan i 0 ≡ planOf limits dirs j ss i) before work pairs
+    PartedWithin most (labelsOf dirs j ss) (records dirs (gridOf j) ss) ((i : ℕ) → i < length (j .boundaries) → getD plan i 0 ≡ planOf limits dirs j ss i)
+    before work pairs
 
 -- with room for as many as a call takes: 4,097 stands for over 4,096
 abbrev pub Drawn : Limits → List ℕ → Job → List Span → List ℕ → List ℕ → List ℕ → ℕ → Type 0
@@ -111,14 +112,16 @@ pub record Made (limits : Limits) (dirs : List ℕ) (checks : List Check) (j : J
 
 -- number 0 with the plan, or the number and detail of the refusal that the call leaves whatever its answer slice is; the work is settled in either case.
 -- Nothing is said of order and plan past the last boundary, nor after a refusal
-pub record PlanLeft (limits : Limits) (dirs : List ℕ) (checks : List Check) (j : Job) (ss : List Span) (before work order plan : List ℕ) (number detail : ℕ) : Type 0 where
+pub record PlanLeft (limits : Limits) (dirs : List ℕ) (checks : List Check) (j : Job) (ss : List Span) (before work order plan : List ℕ)
+    (number detail : ℕ) : Type 0 where
   pub refused : 0 < number → (answer : List ℕ) → leftBy number detail work answer ≡ reduced limits dirs checks j ss before answer
   pub made : number ≡ 0 → Made limits dirs checks j ss before work order plan detail
 
 -- the answer of a job by its boundaries' order and a plan
 abbrev pub answerBytes : List ℕ → List ℕ → List ℕ → List ℕ
 answerBytes s order plan =
-    encodeAnswer (planned (map (λ i. canon (getD (decode s .boundaries) (getD order i 0) noBoundary)) (upFrom 0 (countsAt s 0 .boundaries))) (λ i. getD plan i 0))
+    encodeAnswer (planned (map (λ i. canon (getD (decode s .boundaries) (getD order i 0) noBoundary)) (upFrom 0 (countsAt s 0 .boundaries)))
+    (λ i. getD plan i 0))
 
 -- an answer's bytes in a slice that may be too short, as number and detail say
 pub record Finished (bytes before after : List ℕ) (number detail : ℕ) : Type 0 where

@@ -42,9 +42,13 @@ pub fn analyse(
     rights: &mut [u32],
     marks: &mut [u8; 256],
 ) -> Partition
-    requires { ⌜ Partitionable width height (now cells) directions (now ends) count (now work) × Arrays (length (now lefts)) (now removed) (now separated) (now owners) (now lefts) (now rights) ⌝ }
-    ensures { λ r. ⌜ Partitioned (length (now (lefts .entry))) (directionsOf directions) (mapOf width height (now (cells .entry))) (now (ends .entry)) count (now (work .entry)) (now (work .exit)) (now (removed .exit)) (now (separated .exit)) (now (owners .exit)) (now (lefts .exit)) (now (rights .exit)) r ⌝ }
-    ensures marks { λ _. ⌜ Bridged (length (now (lefts .entry))) (directionsOf directions) (mapOf width height (now (cells .entry))) (spansIn (now (ends .entry)) count) (now (marks .exit)) ⌝ }
+    requires { ⌜ Partitionable width height (now cells) directions (now ends) count (now work)
+        × Arrays (length (now lefts)) (now removed) (now separated) (now owners) (now lefts) (now rights) ⌝ }
+    ensures { λ r. ⌜ Partitioned (length (now (lefts .entry))) (directionsOf directions) (mapOf width height (now (cells .entry))) (now (ends .entry)) count
+        (now (work .entry)) (now (work .exit)) (now (removed .exit)) (now (separated .exit)) (now (owners .exit)) (now (lefts .exit)) (now (rights .exit))
+        r ⌝ }
+    ensures marks { λ _. ⌜ Bridged (length (now (lefts .entry))) (directionsOf directions) (mapOf width height (now (cells .entry)))
+        (spansIn (now (ends .entry)) count) (now (marks .exit)) ⌝ }
 {
     let n = cells.len();
     let most = lefts.len();
@@ -82,7 +86,8 @@ fn analyse_few(
     marks: &mut [u8; 256],
 ) -> usize
     requires { ⌜ Partitionable width height (now cells) directions (now ends) count (now work) ⌝ }
-    ensures { λ r. ⌜ MarkedWithin fewPairs (directionsOf directions) (mapOf width height (now (cells .entry))) (spansIn (now (ends .entry)) count) (now (marks .exit)) (now (work .entry)) (now (work .exit)) r ⌝ }
+    ensures { λ r. ⌜ MarkedWithin fewPairs (directionsOf directions) (mapOf width height (now (cells .entry))) (spansIn (now (ends .entry)) count)
+        (now (marks .exit)) (now (work .entry)) (now (work .exit)) r ⌝ }
 {
     let mut removed = [0u32; 256];
     let mut separated = [0u32; 256];
@@ -119,7 +124,8 @@ fn analyse_many(
     marks: &mut [u8; 256],
 ) -> usize
     requires { ⌜ Partitionable width height (now cells) directions (now ends) count (now work) ⌝ }
-    ensures { λ r. ⌜ MarkedWithin maxPairs (directionsOf directions) (mapOf width height (now (cells .entry))) (spansIn (now (ends .entry)) count) (now (marks .exit)) (now (work .entry)) (now (work .exit)) r ⌝ }
+    ensures { λ r. ⌜ MarkedWithin maxPairs (directionsOf directions) (mapOf width height (now (cells .entry))) (spansIn (now (ends .entry)) count)
+        (now (marks .exit)) (now (work .entry)) (now (work .exit)) r ⌝ }
 {
     let mut removed = [0u32; 256];
     let mut separated = [0u32; 256];
@@ -156,7 +162,8 @@ pub fn find_bridges(
     marks: &mut [u8; 256],
 ) -> usize
     requires { ⌜ Partitionable width height (now cells) directions (now ends) count (now work) ⌝ }
-    ensures { λ r. ⌜ MarkedWithin maxPairs (directionsOf directions) (mapOf width height (now (cells .entry))) (spansIn (now (ends .entry)) count) (now (marks .exit)) (now (work .entry)) (now (work .exit)) r ⌝ }
+    ensures { λ r. ⌜ MarkedWithin maxPairs (directionsOf directions) (mapOf width height (now (cells .entry))) (spansIn (now (ends .entry)) count)
+        (now (marks .exit)) (now (work .entry)) (now (work .exit)) r ⌝ }
 {
     if !is_small(cells.len(), count) {
         return analyse_many(cells, width, height, directions, ends, count, work, marks);

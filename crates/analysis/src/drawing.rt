@@ -67,9 +67,14 @@ fn plan_listing(
     marks: &[u8; 256],
     plan: &mut [u32; 256],
 )
-    requires { ⌜ RankedJob (now job) h (now order) × SomeTold (now job) (now work) (now removed) (now separated) (now owners) (now lefts) (now rights) pairs (now marks) × Stored (now owners) (now lefts) (now rights) pairs × (length (now plan) ≡ 256) × (limits .«most_spans» ≤ 16) ⌝ }
+    requires { ⌜ RankedJob (now job) h (now order)
+        × SomeTold (now job) (now work) (now removed) (now separated) (now owners) (now lefts) (now rights) pairs (now marks)
+        × Stored (now owners) (now lefts) (now rights) pairs × (length (now plan) ≡ 256) × (limits .«most_spans» ≤ 16) ⌝ }
     ensures work { λ _. ⌜ now (work .exit) ≡ now (work .entry) ⌝ }
-    ensures plan { λ _. ⌜ ((dirs : List ℕ) (ss : List Span) → Told dirs (now (job .entry)) (now (work .entry)) (now (removed .entry)) (now (separated .entry)) (now (owners .entry)) (now (lefts .entry)) (now (rights .entry)) pairs (now (marks .entry)) ss → (i : ℕ) → i < length (decode (now (job .entry)) .boundaries) → getD (now (plan .exit)) i 0 ≡ planOf (limitsOf limits) dirs (decode (now (job .entry))) ss i) ⌝ }
+    ensures plan { λ _. ⌜ ((dirs : List ℕ) (ss : List Span)
+        → Told dirs (now (job .entry)) (now (work .entry)) (now (removed .entry)) (now (separated .entry)) (now (owners .entry)) (now (lefts .entry))
+        (now (rights .entry)) pairs (now (marks .entry)) ss → (i : ℕ) → i < length (decode (now (job .entry)) .boundaries)
+        → getD (now (plan .exit)) i 0 ≡ planOf (limitsOf limits) dirs (decode (now (job .entry))) ss i) ⌝ }
     ensures whole { λ _. ⌜ length (now (plan .exit)) ≡ 256 ⌝ }
 {
     let c = h.counts;
@@ -121,8 +126,12 @@ fn plan_with(
     rights: &mut [u32],
     plan: &mut [u32; 256],
 ) -> usize
-    requires { ⌜ Plannable (now job) h (now order) (now work) × SpansFit (h .counts .width) (h .counts .height) (now ends) (h .counts .boundaries) × SomeEnds (now job) (now order) (now ends) × Alike (now owners) (now lefts) (now rights) × (length (now plan) ≡ 256) × (limits .«most_spans» ≤ 16) × Leads directions ⌝ }
-    ensures { λ r. ⌜ ((ss : List Span) → EndsBy (now (job .entry)) (now (order .entry)) (now (ends .entry)) ss → DrawnWithin (limitsOf limits) (directionsOf directions) (length (now (lefts .entry))) (decode (now (job .entry))) ss (now (work .entry)) (now (work .exit)) (now (plan .exit)) r) ⌝ }
+    requires { ⌜ Plannable (now job) h (now order) (now work) × SpansFit (h .counts .width) (h .counts .height) (now ends) (h .counts .boundaries)
+        × SomeEnds (now job) (now order) (now ends) × Alike (now owners) (now lefts) (now rights) × (length (now plan) ≡ 256) × (limits .«most_spans» ≤ 16)
+        × Leads directions ⌝ }
+    ensures { λ r. ⌜ ((ss : List Span) → EndsBy (now (job .entry)) (now (order .entry)) (now (ends .entry)) ss
+        → DrawnWithin (limitsOf limits) (directionsOf directions) (length (now (lefts .entry))) (decode (now (job .entry))) ss (now (work .entry))
+        (now (work .exit)) (now (plan .exit)) r) ⌝ }
     ensures whole { λ _. ⌜ length (now (plan .exit)) ≡ 256 ⌝ }
 {
     let c = h.counts;
@@ -180,8 +189,11 @@ fn plan_few(
     work: &mut [u8],
     plan: &mut [u32; 256],
 ) -> usize
-    requires { ⌜ Plannable (now job) h (now order) (now work) × SpansFit (h .counts .width) (h .counts .height) (now ends) (h .counts .boundaries) × SomeEnds (now job) (now order) (now ends) × (length (now plan) ≡ 256) × (limits .«most_spans» ≤ 16) × Leads directions ⌝ }
-    ensures { λ r. ⌜ ((ss : List Span) → EndsBy (now (job .entry)) (now (order .entry)) (now (ends .entry)) ss → DrawnWithin (limitsOf limits) (directionsOf directions) fewPairs (decode (now (job .entry))) ss (now (work .entry)) (now (work .exit)) (now (plan .exit)) r) ⌝ }
+    requires { ⌜ Plannable (now job) h (now order) (now work) × SpansFit (h .counts .width) (h .counts .height) (now ends) (h .counts .boundaries)
+        × SomeEnds (now job) (now order) (now ends) × (length (now plan) ≡ 256) × (limits .«most_spans» ≤ 16) × Leads directions ⌝ }
+    ensures { λ r. ⌜ ((ss : List Span) → EndsBy (now (job .entry)) (now (order .entry)) (now (ends .entry)) ss
+        → DrawnWithin (limitsOf limits) (directionsOf directions) fewPairs (decode (now (job .entry))) ss (now (work .entry)) (now (work .exit))
+        (now (plan .exit)) r) ⌝ }
     ensures whole { λ _. ⌜ length (now (plan .exit)) ≡ 256 ⌝ }
 {
     let mut owners = [0u32; FEW_PAIRS];
@@ -213,8 +225,11 @@ fn plan_many(
     work: &mut [u8],
     plan: &mut [u32; 256],
 ) -> usize
-    requires { ⌜ Plannable (now job) h (now order) (now work) × SpansFit (h .counts .width) (h .counts .height) (now ends) (h .counts .boundaries) × SomeEnds (now job) (now order) (now ends) × (length (now plan) ≡ 256) × (limits .«most_spans» ≤ 16) × Leads directions ⌝ }
-    ensures { λ r. ⌜ ((ss : List Span) → EndsBy (now (job .entry)) (now (order .entry)) (now (ends .entry)) ss → Drawn (limitsOf limits) (directionsOf directions) (decode (now (job .entry))) ss (now (work .entry)) (now (work .exit)) (now (plan .exit)) r) ⌝ }
+    requires { ⌜ Plannable (now job) h (now order) (now work) × SpansFit (h .counts .width) (h .counts .height) (now ends) (h .counts .boundaries)
+        × SomeEnds (now job) (now order) (now ends) × (length (now plan) ≡ 256) × (limits .«most_spans» ≤ 16) × Leads directions ⌝ }
+    ensures { λ r. ⌜ ((ss : List Span) → EndsBy (now (job .entry)) (now (order .entry)) (now (ends .entry)) ss
+        → Drawn (limitsOf limits) (directionsOf directions) (decode (now (job .entry))) ss (now (work .entry)) (now (work .exit)) (now (plan .exit))
+        r) ⌝ }
 {
     let mut owners = [0u32; MAX_PAIRS];
     let mut lefts = [0u32; MAX_PAIRS];
@@ -245,8 +260,11 @@ fn plan_matched(
     work: &mut [u8],
     plan: &mut [u32; 256],
 ) -> usize
-    requires { ⌜ Plannable (now job) h (now order) (now work) × SpansFit (h .counts .width) (h .counts .height) (now ends) (h .counts .boundaries) × SomeEnds (now job) (now order) (now ends) × (length (now plan) ≡ 256) × (limits .«most_spans» ≤ 16) × Leads directions ⌝ }
-    ensures { λ r. ⌜ ((ss : List Span) → EndsBy (now (job .entry)) (now (order .entry)) (now (ends .entry)) ss → Drawn (limitsOf limits) (directionsOf directions) (decode (now (job .entry))) ss (now (work .entry)) (now (work .exit)) (now (plan .exit)) r) ⌝ }
+    requires { ⌜ Plannable (now job) h (now order) (now work) × SpansFit (h .counts .width) (h .counts .height) (now ends) (h .counts .boundaries)
+        × SomeEnds (now job) (now order) (now ends) × (length (now plan) ≡ 256) × (limits .«most_spans» ≤ 16) × Leads directions ⌝ }
+    ensures { λ r. ⌜ ((ss : List Span) → EndsBy (now (job .entry)) (now (order .entry)) (now (ends .entry)) ss
+        → Drawn (limitsOf limits) (directionsOf directions) (decode (now (job .entry))) ss (now (work .entry)) (now (work .exit)) (now (plan .exit))
+        r) ⌝ }
 {
     let c = h.counts;
     if !is_small(size(c.width * c.height), size(c.boundaries)) {
@@ -269,8 +287,10 @@ pub fn plan_own(
     work: &mut [u8],
     plan: &mut [u32; 256],
 ) -> usize
-    requires { ⌜ Plannable (now job) h (now order) (now work) × (firstRefusal (reduceChecks (now job)) ≡ none) × (length (now plan) ≡ 256) × (limits .«most_spans» ≤ 16) × Leads directions ⌝ }
-    ensures { λ r. ⌜ Drawn (limitsOf limits) (directionsOf directions) (decode (now (job .entry))) (ownEnds (decode (now (job .entry)))) (now (work .entry)) (now (work .exit)) (now (plan .exit)) r ⌝ }
+    requires { ⌜ Plannable (now job) h (now order) (now work) × (firstRefusal (reduceChecks (now job)) ≡ none) × (length (now plan) ≡ 256)
+        × (limits .«most_spans» ≤ 16) × Leads directions ⌝ }
+    ensures { λ r. ⌜ Drawn (limitsOf limits) (directionsOf directions) (decode (now (job .entry))) (ownEnds (decode (now (job .entry)))) (now (work .entry))
+        (now (work .exit)) (now (plan .exit)) r ⌝ }
 {
     let c = h.counts;
     let o = h.offsets;
@@ -292,8 +312,10 @@ fn plan_listed(
     work: &mut [u8],
     plan: &mut [u32; 256],
 ) -> usize
-    requires { ⌜ Plannable (now job) h (now order) (now work) × (firstRefusal (byListChecks (now job) (now list)) ≡ none) × (length (now list) / spanSize ≡ h .counts .boundaries) × (length (now plan) ≡ 256) × (limits .«most_spans» ≤ 16) × Leads directions ⌝ }
-    ensures { λ r. ⌜ Drawn (limitsOf limits) (directionsOf directions) (decode (now (job .entry))) (decodeList (now (list .entry))) (now (work .entry)) (now (work .exit)) (now (plan .exit)) r ⌝ }
+    requires { ⌜ Plannable (now job) h (now order) (now work) × (firstRefusal (byListChecks (now job) (now list)) ≡ none)
+        × (length (now list) / spanSize ≡ h .counts .boundaries) × (length (now plan) ≡ 256) × (limits .«most_spans» ≤ 16) × Leads directions ⌝ }
+    ensures { λ r. ⌜ Drawn (limitsOf limits) (directionsOf directions) (decode (now (job .entry))) (decodeList (now (list .entry))) (now (work .entry))
+        (now (work .exit)) (now (plan .exit)) r ⌝ }
 {
     let c = h.counts;
     let count = size(c.boundaries);
@@ -312,8 +334,11 @@ fn plan_unmatched(
     work: &mut [u8],
     plan: &mut [u32; 256],
 ) -> usize
-    requires { ⌜ Headed (now job) h × (workSize (decode (now job)) ≤ length (now work)) × (firstRefusal (byListChecks (now job) (now list)) ≡ none) × (n ≡ length (now list) / spanSize) × (n ≡ h .counts .boundaries → ⊥) × (length (now plan) ≡ 256) × Leads directions ⌝ }
-    ensures { λ r. ⌜ ((l : rules.Limits) → Drawn l (directionsOf directions) (decode (now (job .entry))) (decodeList (now (list .entry))) (now (work .entry)) (now (work .exit)) (now (plan .exit)) r) ⌝ }
+    requires { ⌜ Headed (now job) h × (workSize (decode (now job)) ≤ length (now work)) × (firstRefusal (byListChecks (now job) (now list)) ≡ none)
+        × (n ≡ length (now list) / spanSize) × (n ≡ h .counts .boundaries → ⊥) × (length (now plan) ≡ 256) × Leads directions ⌝ }
+    ensures { λ r. ⌜ ((l : rules.Limits)
+        → Drawn l (directionsOf directions) (decode (now (job .entry))) (decodeList (now (list .entry))) (now (work .entry)) (now (work .exit))
+        (now (plan .exit)) r) ⌝ }
 {
     let c = h.counts;
     let cells = size(c.width * c.height);
@@ -344,8 +369,10 @@ pub fn plan_by_list(
     work: &mut [u8],
     plan: &mut [u32; 256],
 ) -> usize
-    requires { ⌜ Plannable (now job) h (now order) (now work) × (firstRefusal (byListChecks (now job) (now list)) ≡ none) × (length (now plan) ≡ 256) × (limits .«most_spans» ≤ 16) × Leads directions ⌝ }
-    ensures { λ r. ⌜ Drawn (limitsOf limits) (directionsOf directions) (decode (now (job .entry))) (decodeList (now (list .entry))) (now (work .entry)) (now (work .exit)) (now (plan .exit)) r ⌝ }
+    requires { ⌜ Plannable (now job) h (now order) (now work) × (firstRefusal (byListChecks (now job) (now list)) ≡ none) × (length (now plan) ≡ 256)
+        × (limits .«most_spans» ≤ 16) × Leads directions ⌝ }
+    ensures { λ r. ⌜ Drawn (limitsOf limits) (directionsOf directions) (decode (now (job .entry))) (decodeList (now (list .entry))) (now (work .entry))
+        (now (work .exit)) (now (plan .exit)) r ⌝ }
 {
     let c = h.counts;
     let n = list.len() / SPAN_SIZE;

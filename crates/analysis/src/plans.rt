@@ -28,7 +28,8 @@ pub fn plan_reduce(
     plan: &mut [u32; 256],
 ) -> ChokesResult
     requires { ⌜ (limits .«most_spans» ≤ 16) × Leads directions ⌝ }
-    ensures { λ r. ⌜ PlanLeft (limitsOf limits) (directionsOf directions) (reduceChecks (now (job .entry))) (decode (now (job .entry))) (ownEnds (decode (now (job .entry)))) (now (work .entry)) (now (work .exit)) (now (order .exit)) (now (plan .exit)) (r .number) (r .detail) ⌝ }
+    ensures { λ r. ⌜ PlanLeft (limitsOf limits) (directionsOf directions) (reduceChecks (now (job .entry))) (decode (now (job .entry)))
+        (ownEnds (decode (now (job .entry)))) (now (work .entry)) (now (work .exit)) (now (order .exit)) (now (plan .exit)) (r .number) (r .detail) ⌝ }
 {
     let v = check_reduce(job);
     if !v.passed() {
@@ -72,7 +73,8 @@ pub fn plan_reduce_by_list(
     plan: &mut [u32; 256],
 ) -> ChokesResult
     requires { ⌜ (limits .«most_spans» ≤ 16) × Leads directions ⌝ }
-    ensures { λ r. ⌜ PlanLeft (limitsOf limits) (directionsOf directions) (byListChecks (now (job .entry)) (now (list .entry))) (decode (now (job .entry))) (decodeList (now (list .entry))) (now (work .entry)) (now (work .exit)) (now (order .exit)) (now (plan .exit)) (r .number) (r .detail) ⌝ }
+    ensures { λ r. ⌜ PlanLeft (limitsOf limits) (directionsOf directions) (byListChecks (now (job .entry)) (now (list .entry))) (decode (now (job .entry)))
+        (decodeList (now (list .entry))) (now (work .entry)) (now (work .exit)) (now (order .exit)) (now (plan .exit)) (r .number) (r .detail) ⌝ }
 {
     let v = check_reduce_by_list(job, list);
     if !v.passed() {

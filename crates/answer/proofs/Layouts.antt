@@ -71,7 +71,8 @@ module _ {s : List ℕ} {at n ats base : ℕ} (g : Countable s at n ats base) {f
   own-place = omega (arith, g .boundary-limit, g .observation-limit)
 
   -- the room for its observations, once its own sources are laid
-  pub room-for : {v w r : ℕ} → v ≡ ownCount s at b → w ≡ seenCount s at b → r ≡ run + v → LayRoom s ats p w r (set starts (base + b) run) (set counts (base + b) v)
+  pub room-for : {v w r : ℕ} → v ≡ ownCount s at b → w ≡ seenCount s at b → r ≡ run + v
+      → LayRoom s ats p w r (set starts (base + b) run) (set counts (base + b) v)
   room-for {v} {w} {r} x y z = record {
     inside = rw y observations-inside;
     starts-room = simp length-set (omega (arith, l .starts-room, observations-below));

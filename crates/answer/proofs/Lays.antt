@@ -35,7 +35,8 @@ apart-next {s} {c} {run} {p} v a h l =
           (λ m. rw (getD-set-other s p q run 0 n, getD-set-other c p q v 0 n, getD-set-other s p w run 0 m, getD-set-other c p w v 0 m) (a .apart q w d)));
     }
 
-pub lays-start : {s : List ℕ} {at p n run : ℕ} {starts counts : List ℕ} → LayRoom s at p n run starts counts → Lays (citedCount s at) p 0 run starts counts starts counts run
+pub lays-start : {s : List ℕ} {at p n run : ℕ} {starts counts : List ℕ} → LayRoom s at p n run starts counts
+    → Lays (citedCount s at) p 0 run starts counts starts counts run
 lays-start {s} {at} {p} {n} {run} g =
     let e : p + 0 ≡ p = omega arith in
     record {
@@ -52,7 +53,8 @@ lays-start {s} {at} {p} {n} {run} g =
     }
 
 module _ {cited : ℕ → ℕ} {p i run : ℕ} {s₀ c₀ s c : List ℕ} {r : ℕ} where
-  pub lays-next : (v : ℕ) → Lays cited p i run s₀ c₀ s c r → p + i < length s → p + i < length c → v ≡ cited (p + i) → Lays cited p (i + 1) run s₀ c₀ (set s (p + i) r) (set c (p + i) v) (r + v)
+  pub lays-next : (v : ℕ) → Lays cited p i run s₀ c₀ s c r → p + i < length s → p + i < length c → v ≡ cited (p + i)
+      → Lays cited p (i + 1) run s₀ c₀ (set s (p + i) r) (set c (p + i) v) (r + v)
   lays-next v a h l z =
       let x : getD (set s (p + i) r) (p + i) 0 ≡ r = getD-set-same s (p + i) r 0 h in
       let y : getD (set c (p + i) v) (p + i) 0 ≡ v = getD-set-same c (p + i) v 0 l in
@@ -80,7 +82,8 @@ module _ {cited : ℕ → ℕ} {p i run : ℕ} {s₀ c₀ s c : List ℕ} {r : �
       }
 
 -- The next part ends within the limit.
-pub lays-small : {s : List ℕ} {at p n run i r : ℕ} {starts counts s₀ c₀ s′ c′ : List ℕ} → LayRoom s at p n run starts counts → Lays (citedCount s at) p i run s₀ c₀ s′ c′ r → i < n
+pub lays-small : {s : List ℕ} {at p n run i r : ℕ} {starts counts s₀ c₀ s′ c′ : List ℕ} → LayRoom s at p n run starts counts
+    → Lays (citedCount s at) p i run s₀ c₀ s′ c′ r → i < n
     → r + citedCount s at (p + i) ≤ 4096
 lays-small {s} {at} {p} {n} {run} {i} {r} g a h =
     let u = below-next (citedCount s at) (p + i) in

@@ -33,7 +33,8 @@ module _ {A B : Type 0} {R : A → B → Type 0} where
   matched-by d e (x ∷ l) [] h f = absurd (omega arith)
   matched-by d e (x ∷ l) (y ∷ m) h f = next (f 0 (omega arith)) (matched-by d e l m (omega arith) (λ i k. f (suc i) (omega arith)))
 
-  pub matched-gather : {C : Type 0} (f : C → List A) (g : C → List B) (l : List C) → ((x : C) → List·Memᴰ x l → Matched R (f x) (g x)) → Matched R (gather f l) (gather g l)
+  pub matched-gather : {C : Type 0} (f : C → List A) (g : C → List B) (l : List C) → ((x : C) → List·Memᴰ x l → Matched R (f x) (g x))
+      → Matched R (gather f l) (gather g l)
   unfolding gather
   matched-gather f g [] h = nil
   matched-gather f g (x ∷ xs) h = matched-append (h x (List·Memᴰ·head refl)) (matched-gather f g xs (λ y m. h y (List·Memᴰ·tail m)))
@@ -45,7 +46,8 @@ module _ {A B : Type 0} {R : A → B → Type 0} where
     matched-insert r nil = next r nil
     matched-insert {x} {a} r (next {x = y} {y = b} {xs = l} {ys = m} q s) = rw (agree x y a b r q) (go (other a b) (matched-insert r s))
       where
-        go : (t : Bool) → Matched R (insert le x l) (insert other a m) → Matched R (cond t (x ∷ y ∷ l) (y ∷ insert le x l)) (cond t (a ∷ b ∷ m) (b ∷ insert other a m))
+        go : (t : Bool) → Matched R (insert le x l) (insert other a m)
+            → Matched R (cond t (x ∷ y ∷ l) (y ∷ insert le x l)) (cond t (a ∷ b ∷ m) (b ∷ insert other a m))
         go true i = next r (next q s)
         go false i = next q i
 
@@ -61,4 +63,5 @@ matched-rows a zero f h = nil
 matched-rows {B} {R} a (suc n) f h =
     let z : a + 0 ≡ a = omega arith in
     next (subst (λ (k : ℕ). R k (f 0)) z (h 0 (omega arith)))
-    (matched-rows (suc a) n (λ k. f (suc k)) (λ k l. let e : a + suc k ≡ suc a + k = omega arith in subst (λ (w : ℕ). R w (f (suc k))) e (h (suc k) (omega arith))))
+    (matched-rows (suc a) n (λ k. f (suc k))
+    (λ k l. let e : a + suc k ≡ suc a + k = omega arith in subst (λ (w : ℕ). R w (f (suc k))) e (h (suc k) (omega arith))))

@@ -1,7 +1,8 @@
 -- What a kept rank's merged boundary has, of the arrays that hold the canonical copies.
 use mathlib.Core.Path.{_≡_, refl, sym, _∙_, ap, subst}
 use mathlib.Core.Bool.{Bool, true, false, cond, not, _&&_}
-use mathlib.Core.List.{List, [], _∷_, _++_, map, append-nil, map-append, List·Memᴰ, List·Memᴰ·head, List·Memᴰ·tail, List·Memᴰ·not-nil, List·Permᴰ, List·Permᴰ·nil, List·Permᴰ·trans, Permᴰ·refl, Permᴰ·symm, Permᴰ·append-left, Permᴰ·append-right}
+use mathlib.Core.List.{List, [], _∷_, _++_, map, append-nil, map-append, List·Memᴰ, List·Memᴰ·head, List·Memᴰ·tail, List·Memᴰ·not-nil, List·Permᴰ}
+use mathlib.Core.List.{List·Permᴰ·nil, List·Permᴰ·trans, Permᴰ·refl, Permᴰ·symm, Permᴰ·append-left, Permᴰ·append-right}
 use Prim.Native.Nat.{ℕ, zero, suc, _+_, _<_}
 use native.Mathlib.Numerals.{add-one}
 use native.Mathlib.Omega.{arith}
@@ -62,7 +63,8 @@ unfolding packed
 packed-append [] ts = refl
 packed-append (s ∷ ss) ts = ap (λ (t : List ℕ). sourcePack s ∷ t) (packed-append ss ts)
 
-gather-packed : {A : Type 0} (f : A → List Source) (g : A → List ℕ) (l : List A) → ((x : A) → List·Memᴰ x l → packed (f x) ≡ g x) → packed (gather f l) ≡ gather g l
+gather-packed : {A : Type 0} (f : A → List Source) (g : A → List ℕ) (l : List A) → ((x : A) → List·Memᴰ x l → packed (f x) ≡ g x)
+    → packed (gather f l) ≡ gather g l
 unfolding gather packed
 gather-packed f g [] h = refl
 gather-packed f g (x ∷ xs) h = packed-append (f x) (gather f xs) ∙ rw (h x (List·Memᴰ·head refl), gather-packed f g xs (λ y m. h y (List·Memᴰ·tail m))) refl
@@ -101,12 +103,14 @@ module _ (bs : ℕ → BoundaryRecord) (os : ℕ → ObservationRecord) (ss : Li
   copy-at n j h = map-up-at copyOf 0 n j noBoundary h ∙ ap copyOf (let e : 0 + j ≡ j = omega arith in e)
 
   pub kept-list : (plan : List ℕ) (n : ℕ)
-      → keptBy bs os ss order plan n ≡ map (λ i. merged (copiesBy bs os ss order n) (members (λ j. getD plan j 0) n i) i) (keep (λ i. eqb (getD plan i 0) i) (upFrom 0 n))
+      → keptBy bs os ss order plan n ≡ map (λ i. merged (copiesBy bs os ss order n) (members (λ j. getD plan j 0) n i) i)
+      (keep (λ i. eqb (getD plan i 0) i) (upFrom 0 n))
   unfolding planned
   kept-list plan n = rw (copies-length n) refl
 
   -- The k-th kept boundary is what goes into the k-th rank that stays.
-  pub kept-at : (plan : List ℕ) (n k i : ℕ) → k < length (keep (λ i. eqb (getD plan i 0) i) (upFrom 0 n)) → getD (keep (λ i. eqb (getD plan i 0) i) (upFrom 0 n)) k 0 ≡ i
+  pub kept-at : (plan : List ℕ) (n k i : ℕ) → k < length (keep (λ i. eqb (getD plan i 0) i) (upFrom 0 n))
+      → getD (keep (λ i. eqb (getD plan i 0) i) (upFrom 0 n)) k 0 ≡ i
       → getD (keptBy bs os ss order plan n) k noBoundary ≡ merged (copiesBy bs os ss order n) (members (λ j. getD plan j 0) n i) i
   kept-at plan n k i h e =
       ap (λ (l : List Boundary). getD l k noBoundary) (kept-list plan n)
@@ -121,7 +125,9 @@ module _ (bs : ℕ → BoundaryRecord) (os : ℕ → ObservationRecord) (ss : Li
     unfolding merged consolidate canon boundaryOf
     merged-ends = go (eqb (length (members plan n i)) 1)
       where
-        go : (t : Bool) → cond t (copyAt (copiesBy bs os ss order n) i) (consolidate (copyAt (copiesBy bs os ss order n) i) (map (copyAt (copiesBy bs os ss order n)) (members plan n i))) .ends ≡ canonical (bs (getD order i 0) .ends)
+        go : (t : Bool) → cond t (copyAt (copiesBy bs os ss order n) i)
+            (consolidate (copyAt (copiesBy bs os ss order n) i) (map (copyAt (copiesBy bs os ss order n)) (members plan n i))) .ends ≡ canonical
+            (bs (getD order i 0) .ends)
         go true = ap (λ (b : Boundary). b .ends) (copy-at n i h)
         go false = ap (λ (b : Boundary). b .ends) (copy-at n i h)
 
@@ -129,7 +135,8 @@ module _ (bs : ℕ → BoundaryRecord) (os : ℕ → ObservationRecord) (ss : Li
     unfolding merged consolidate canon boundaryOf
     merged-bits = go (eqb (length (members plan n i)) 1)
       where
-        go : (t : Bool) → cond t (copyAt (copiesBy bs os ss order n) i) (consolidate (copyAt (copiesBy bs os ss order n) i) (map (copyAt (copiesBy bs os ss order n)) (members plan n i))) .bits ≡ bs (getD order i 0) .bits
+        go : (t : Bool) → cond t (copyAt (copiesBy bs os ss order n) i)
+            (consolidate (copyAt (copiesBy bs os ss order n) i) (map (copyAt (copiesBy bs os ss order n)) (members plan n i))) .bits ≡ bs (getD order i 0) .bits
         go true = ap (λ (b : Boundary). b .bits) (copy-at n i h)
         go false = ap (λ (b : Boundary). b .bits) (copy-at n i h)
 
@@ -137,7 +144,9 @@ module _ (bs : ℕ → BoundaryRecord) (os : ℕ → ObservationRecord) (ss : Li
     unfolding merged consolidate canon boundaryOf
     merged-ramp = go (eqb (length (members plan n i)) 1)
       where
-        go : (t : Bool) → cond t (copyAt (copiesBy bs os ss order n) i) (consolidate (copyAt (copiesBy bs os ss order n) i) (map (copyAt (copiesBy bs os ss order n)) (members plan n i))) .ramp ≡ rampOf (bs (getD order i 0) .ramp)
+        go : (t : Bool) → cond t (copyAt (copiesBy bs os ss order n) i)
+            (consolidate (copyAt (copiesBy bs os ss order n) i) (map (copyAt (copiesBy bs os ss order n)) (members plan n i))) .ramp ≡ rampOf
+            (bs (getD order i 0) .ramp)
         go true = ap (λ (b : Boundary). b .ramp) (copy-at n i h)
         go false = ap (λ (b : Boundary). b .ramp) (copy-at n i h)
 
@@ -152,12 +161,16 @@ module _ (bs : ℕ → BoundaryRecord) (os : ℕ → ObservationRecord) (ss : Li
     merged-sources = go (eqb (length (members plan n i)) 1) refl ∙ ap sortedSources (gather-map own copyOf (members plan n i))
       where
         go : (t : Bool) → eqb (length (members plan n i)) 1 ≡ t
-            → cond t (copyAt (copiesBy bs os ss order n) i) (consolidate (copyAt (copiesBy bs os ss order n) i) (map (copyAt (copiesBy bs os ss order n)) (members plan n i))) .sources ≡ sortedSources (gather own (map copyOf (members plan n i)))
-        go true e = ap own (copy-at n i h) ∙ one-sorted ∙ ap (λ (l : List ℕ). sortedSources (gather own (map copyOf l))) (sym (member-only plan n i h stays (eqb-true (length (members plan n i)) 1 e)))
+            → cond t (copyAt (copiesBy bs os ss order n) i)
+            (consolidate (copyAt (copiesBy bs os ss order n) i) (map (copyAt (copiesBy bs os ss order n)) (members plan n i))) .sources ≡ sortedSources
+            (gather own (map copyOf (members plan n i)))
+        go true e = ap own (copy-at n i h) ∙ one-sorted
+            ∙ ap (λ (l : List ℕ). sortedSources (gather own (map copyOf l))) (sym (member-only plan n i h stays (eqb-true (length (members plan n i)) 1 e)))
         go false e = ap (λ (l : List Boundary). sortedSources (gather own l)) copies-are
 
 -- What the arrays hold of it.
-module _ {bs : ℕ → BoundaryRecord} {os : ℕ → ObservationRecord} {ss : List Source} {base n : ℕ} {firsts first second third starts counts keys : List ℕ} (placed : Placed bs os ss base n firsts first second third starts counts keys)
+module _ {bs : ℕ → BoundaryRecord} {os : ℕ → ObservationRecord} {ss : List Source} {base n : ℕ} {firsts first second third starts counts keys : List ℕ}
+    (placed : Placed bs os ss base n firsts first second third starts counts keys)
     (order : List ℕ) (inside : (j : ℕ) → j < n → getD order j 0 < n) (plan : ℕ → ℕ) (i : ℕ) (h : i < n) (stays : plan i ≡ i) where
   own-fit : (j : ℕ) → List·Memᴰ j (members plan n i) → All SourceFits (copyOf bs os ss order j .sources)
   unfolding itself
@@ -174,24 +187,29 @@ module _ {bs : ℕ → BoundaryRecord} {os : ℕ → ObservationRecord} {ss : Li
   merged-fits = rw (merged-sources bs os ss order plan n i h stays) (sources-fit (gather (λ j. copyOf bs os ss order j .sources) (members plan n i)) all-fit)
 
   -- The members' own sources, sorted as numbers and each once.
-  pub merged-own : packed (merged (copiesBy bs os ss order n) (members plan n i) i .sources) ≡ sortOnce leb (gather (λ j. partOf keys starts counts (base + getD order j 0)) (members plan n i))
+  pub merged-own : packed (merged (copiesBy bs os ss order n) (members plan n i) i .sources) ≡ sortOnce leb
+      (gather (λ j. partOf keys starts counts (base + getD order j 0)) (members plan n i))
   merged-own =
       ap packed (merged-sources bs os ss order plan n i h stays)
       ∙ sym (sorted-packed (gather (λ j. copyOf bs os ss order j .sources) (members plan n i)) all-fit)
-      ∙ ap (sortOnce leb) (gather-packed (λ j. copyOf bs os ss order j .sources) (λ j. partOf keys starts counts (base + getD order j 0)) (members plan n i) own-run)
+      ∙ ap (sortOnce leb) (gather-packed (λ j. copyOf bs os ss order j .sources) (λ j. partOf keys starts counts (base + getD order j 0)) (members plan n i)
+      own-run)
 
 module _ {first second third starts counts keys : List ℕ} where
-  stands-matched : {l : List ℕ} {m : List Observation} → Stands first second third starts counts keys l m → Matched (Holds first second third starts counts keys) l m
+  stands-matched : {l : List ℕ} {m : List Observation} → Stands first second third starts counts keys l m
+      → Matched (Holds first second third starts counts keys) l m
   stands-matched {l} {m} s = matched-by 0 noObservation l m (s .many) (s .each)
 
-  matched-stands : {l : List ℕ} {m : List Observation} → Matched (Holds first second third starts counts keys) l m → Stands first second third starts counts keys l m
+  matched-stands : {l : List ℕ} {m : List Observation} → Matched (Holds first second third starts counts keys) l m
+      → Stands first second third starts counts keys l m
   matched-stands s = record { many = matched-length s; each = λ q h. matched-at s 0 noObservation q h }
 
   pub stands-none : Stands first second third starts counts keys [] []
   stands-none = matched-stands nil
 
   -- Joined lists stand for joined lists.
-  pub stands-append : {k l : List ℕ} {m n : List Observation} → Stands first second third starts counts keys k m → Stands first second third starts counts keys l n → Stands first second third starts counts keys (k ++ l) (m ++ n)
+  pub stands-append : {k l : List ℕ} {m n : List Observation} → Stands first second third starts counts keys k m
+      → Stands first second third starts counts keys l n → Stands first second third starts counts keys (k ++ l) (m ++ n)
   stands-append s t = matched-stands (matched-append (stands-matched s) (stands-matched t))
 
 -- Lists that are alike but for their order, gathered.
@@ -228,7 +246,8 @@ module _ (bs : ℕ → BoundaryRecord) (os : ℕ → ObservationRecord) (ss : Li
   unfolding observed
   given-alike =
       subst (λ (l : List Observation). List·Permᴰ given (orItself (canon (boundaryOf bs os ss b)) l)) (sym seen-sorted)
-      (itself-alike (canon (boundaryOf bs os ss b)) (rows (seenOf bs os ss b) seenAt) (sortedObservations (rows (seenOf bs os ss b) seenAt)) (sort-perm (byKey observationKey) (rows (seenOf bs os ss b) seenAt)))
+      (itself-alike (canon (boundaryOf bs os ss b)) (rows (seenOf bs os ss b) seenAt) (sortedObservations (rows (seenOf bs os ss b) seenAt))
+      (sort-perm (byKey observationKey) (rows (seenOf bs os ss b) seenAt)))
 
 -- The places of what a boundary gives.
 module _ {R : ℕ → Observation → Type 0} (c : Boundary) (a w : ℕ) (f : ℕ → Observation) (r : R w (itself c)) where
@@ -241,18 +260,22 @@ seen-alone : (t : Bool) (l m : List ℕ) → cond (t && false) l m ≡ m
 seen-alone true l m = refl
 seen-alone false l m = refl
 
-module _ {bs : ℕ → BoundaryRecord} {os : ℕ → ObservationRecord} {ss : List Source} {base n : ℕ} {firsts first second third starts counts keys : List ℕ} (placed : Placed bs os ss base n firsts first second third starts counts keys) where
+module _ {bs : ℕ → BoundaryRecord} {os : ℕ → ObservationRecord} {ss : List Source} {base n : ℕ} {firsts first second third starts counts keys : List ℕ}
+    (placed : Placed bs os ss base n firsts first second third starts counts keys) where
   seen-holds : (b : ℕ) → b < n → (k : ℕ) → k < seenOf bs os ss b → Holds first second third starts counts keys (getD firsts b 0 + k) (seenAt bs os ss b k)
   seen-holds b h k l = rw (placed .first-there b h) (placed .seen-there b k h l)
 
   -- of a boundary that others go into, or that goes into another
   places-given : (b : ℕ) → b < n → Matched (Holds first second third starts counts keys) (placesFrom base firsts (seenOf bs os ss) false b) (given bs os ss b)
   unfolding placesFrom
-  places-given b h = given-matched (canon (boundaryOf bs os ss b)) (getD firsts b 0) (base + b) (seenAt bs os ss b) (placed .itself-there b h) (seenOf bs os ss b) (seen-holds b h)
+  places-given b h = given-matched (canon (boundaryOf bs os ss b)) (getD firsts b 0) (base + b) (seenAt bs os ss b) (placed .itself-there b h)
+      (seenOf bs os ss b) (seen-holds b h)
 
-  places-alone : (b : ℕ) → b < n → Matched (Holds first second third starts counts keys) (placesFrom base firsts (seenOf bs os ss) true b) (rows (seenOf bs os ss b) (seenAt bs os ss b))
+  places-alone : (b : ℕ) → b < n
+      → Matched (Holds first second third starts counts keys) (placesFrom base firsts (seenOf bs os ss) true b) (rows (seenOf bs os ss b) (seenAt bs os ss b))
   unfolding placesFrom
-  places-alone b h = rw (seen-alone (eqb (seenOf bs os ss b) 0) ((base + b) ∷ []) (upFrom (getD firsts b 0) (seenOf bs os ss b))) (matched-rows (getD firsts b 0) (seenOf bs os ss b) (seenAt bs os ss b) (seen-holds b h))
+  places-alone b h = rw (seen-alone (eqb (seenOf bs os ss b) 0) ((base + b) ∷ []) (upFrom (getD firsts b 0) (seenOf bs os ss b)))
+      (matched-rows (getD firsts b 0) (seenOf bs os ss b) (seenAt bs os ss b) (seen-holds b h))
 
   sorted-matched : {l : List ℕ} {m : List Observation} → Matched (Holds first second third starts counts keys) l m
       → Matched (Holds first second third starts counts keys) (sort (byRun first second third starts counts keys) l) (sortedObservations m)
@@ -262,33 +285,43 @@ module _ {bs : ℕ → BoundaryRecord} {os : ℕ → ObservationRecord} {ss : Li
     abbrev placesOf : Bool → List ℕ → List ℕ
     placesOf t js = gather (λ j. placesFrom base firsts (seenOf bs os ss) t (getD order j 0)) js
 
-    alone-matched : Matched (Holds first second third starts counts keys) (sort (byRun first second third starts counts keys) (placesOf true (i ∷ []))) (copyAt (copiesBy bs os ss order n) i .observations)
+    alone-matched : Matched (Holds first second third starts counts keys) (sort (byRun first second third starts counts keys) (placesOf true (i ∷ [])))
+        (copyAt (copiesBy bs os ss order n) i .observations)
     unfolding gather
     alone-matched =
         rw (append-nil (placesFrom base firsts (seenOf bs os ss) true (getD order i 0)), copy-at bs os ss order n i h, seen-sorted bs os ss (getD order i 0))
         (sorted-matched (places-alone (getD order i 0) (inside i h)))
 
-    all-given : Matched (Holds first second third starts counts keys) (placesOf false (members plan n i)) (gather (λ j. given bs os ss (getD order j 0)) (members plan n i))
-    all-given = matched-gather (λ j. placesFrom base firsts (seenOf bs os ss) false (getD order j 0)) (λ j. given bs os ss (getD order j 0)) (members plan n i) (λ j m. places-given (getD order j 0) (inside j (member-below plan n i j m)))
+    all-given : Matched (Holds first second third starts counts keys) (placesOf false (members plan n i))
+        (gather (λ j. given bs os ss (getD order j 0)) (members plan n i))
+    all-given = matched-gather (λ j. placesFrom base firsts (seenOf bs os ss) false (getD order j 0)) (λ j. given bs os ss (getD order j 0)) (members plan n i)
+        (λ j m. places-given (getD order j 0) (inside j (member-below plan n i j m)))
 
-    given-observed : sortedObservations (gather (λ j. given bs os ss (getD order j 0)) (members plan n i)) ≡ sortedObservations (gather observed (map (copyAt (copiesBy bs os ss order n)) (members plan n i)))
+    given-observed : sortedObservations (gather (λ j. given bs os ss (getD order j 0)) (members plan n i)) ≡ sortedObservations
+        (gather observed (map (copyAt (copiesBy bs os ss order n)) (members plan n i)))
     given-observed =
-        sort-forgets observation-order (gather-alike (λ j. given bs os ss (getD order j 0)) (λ j. observed (copyOf bs os ss order j)) (members plan n i) (λ j. given-alike bs os ss (getD order j 0)))
+        sort-forgets observation-order
+        (gather-alike (λ j. given bs os ss (getD order j 0)) (λ j. observed (copyOf bs os ss order j)) (members plan n i)
+        (λ j. given-alike bs os ss (getD order j 0)))
         ∙ ap sortedObservations (sym (gather-map observed (copyOf bs os ss order) (members plan n i)))
         ∙ ap (λ (l : List Boundary). sortedObservations (gather observed l)) (sym (copies-are bs os ss order plan n i h stays))
 
     -- The members' places in order stand for the merged boundary's observations.
     pub merged-seen : Stands first second third starts counts keys
-        (sort (byRun first second third starts counts keys) (gather (λ j. placesFrom base firsts (seenOf bs os ss) (eqb (length (members plan n i)) 1) (getD order j 0)) (members plan n i)))
+        (sort (byRun first second third starts counts keys)
+        (gather (λ j. placesFrom base firsts (seenOf bs os ss) (eqb (length (members plan n i)) 1) (getD order j 0)) (members plan n i)))
         (merged (copiesBy bs os ss order n) (members plan n i) i .observations)
     unfolding merged consolidate
     merged-seen = matched-stands (go (eqb (length (members plan n i)) 1) refl)
       where
         go : (t : Bool) → eqb (length (members plan n i)) 1 ≡ t
             → Matched (Holds first second third starts counts keys) (sort (byRun first second third starts counts keys) (placesOf t (members plan n i)))
-            (cond t (copyAt (copiesBy bs os ss order n) i) (consolidate (copyAt (copiesBy bs os ss order n) i) (map (copyAt (copiesBy bs os ss order n)) (members plan n i))) .observations)
+            (cond t (copyAt (copiesBy bs os ss order n) i)
+            (consolidate (copyAt (copiesBy bs os ss order n) i) (map (copyAt (copiesBy bs os ss order n)) (members plan n i))) .observations)
         go true e = rw (member-only plan n i h stays (eqb-true (length (members plan n i)) 1 e)) alone-matched
-        go false e = subst (λ (l : List Observation). Matched (Holds first second third starts counts keys) (sort (byRun first second third starts counts keys) (placesOf false (members plan n i))) l) given-observed (sorted-matched all-given)
+        go false e = subst (λ (l : List Observation).
+            Matched (Holds first second third starts counts keys) (sort (byRun first second third starts counts keys) (placesOf false (members plan n i))) l)
+            given-observed (sorted-matched all-given)
 
 -- One boundary more.
 pub own-last : (ks : List Boundary) (k : Boundary) → ownSources (ks ++ (k ∷ [])) ≡ ownSources ks ++ k .sources
@@ -311,7 +344,8 @@ module _ (bs : ℕ → BoundaryRecord) (os : ℕ → ObservationRecord) (ss : Li
   unfolding keptTo keep upFrom
   kept-none = refl
 
-  kept-next : (i : ℕ) (t : Bool) → eqb (getD plan i 0) i ≡ t → keptTo (i + 1) ≡ keptTo i ++ cond t (merged (copiesBy bs os ss order n) (members (λ j. getD plan j 0) n i) i ∷ []) []
+  kept-next : (i : ℕ) (t : Bool) → eqb (getD plan i 0) i ≡ t
+      → keptTo (i + 1) ≡ keptTo i ++ cond t (merged (copiesBy bs os ss order n) (members (λ j. getD plan j 0) n i) i ∷ []) []
   unfolding keptTo keep
   kept-next i t e =
       ap keptTo (add-one i)

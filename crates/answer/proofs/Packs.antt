@@ -24,7 +24,8 @@ unfolding packed sourcePack
 sorted-packed ss a = sym (sources-once ss a)
 
 -- a pair packed, before lists that order alike
-lex-two : (x y u v : ℕ) (xs ys xs′ ys′ : List ℕ) → y < 0x1_0000_0000 → v < 0x1_0000_0000 → lexLe xs ys ≡ lexLe xs′ ys′ → lexLe (pack x y ∷ xs) (pack u v ∷ ys) ≡ lexLe (x ∷ y ∷ xs′) (u ∷ v ∷ ys′)
+lex-two : (x y u v : ℕ) (xs ys xs′ ys′ : List ℕ) → y < 0x1_0000_0000 → v < 0x1_0000_0000 → lexLe xs ys ≡ lexLe xs′ ys′
+    → lexLe (pack x y ∷ xs) (pack u v ∷ ys) ≡ lexLe (x ∷ y ∷ xs′) (u ∷ v ∷ ys′)
 lex-two x y u v xs ys xs′ ys′ h l e = sym (lex-pack x y u v xs ys h l) ∙ lex-behind x u (y ∷ xs) (v ∷ ys) (y ∷ xs′) (v ∷ ys′) (lex-behind y v xs ys xs′ ys′ e)
 
 sources-le : (ss ts : List Source) → All SourceFits ss → All SourceFits ts → lexLe (packed ss) (packed ts) ≡ lexLe (sourcesKey ss) (sourcesKey ts)
@@ -32,9 +33,11 @@ unfolding packed sourcePack
 sources-le ss ts a b = sym (sources-packed ss ts a b)
 
 -- Two observations' keys, ends and sources packed.
-pub observation-le : (o p : Observation) → o .ends .a .y < 0x1_0000_0000 → o .ends .b .y < 0x1_0000_0000 → p .ends .a .y < 0x1_0000_0000 → p .ends .b .y < 0x1_0000_0000
+pub observation-le : (o p : Observation) → o .ends .a .y < 0x1_0000_0000 → o .ends .b .y < 0x1_0000_0000 → p .ends .a .y < 0x1_0000_0000
+    → p .ends .b .y < 0x1_0000_0000
     → All SourceFits (o .sources) → All SourceFits (p .sources)
-    → lexLe (pack (o .ends .a .x) (o .ends .a .y) ∷ pack (o .ends .b .x) (o .ends .b .y) ∷ totalKey (o .bits) ∷ packed (o .sources)) (pack (p .ends .a .x) (p .ends .a .y) ∷ pack (p .ends .b .x) (p .ends .b .y) ∷ totalKey (p .bits) ∷ packed (p .sources))
+    → lexLe (pack (o .ends .a .x) (o .ends .a .y) ∷ pack (o .ends .b .x) (o .ends .b .y) ∷ totalKey (o .bits) ∷ packed (o .sources))
+    (pack (p .ends .a .x) (p .ends .a .y) ∷ pack (p .ends .b .x) (p .ends .b .y) ∷ totalKey (p .bits) ∷ packed (p .sources))
     ≡ byKey observationKey o p
 unfolding observationKey spanKey
 observation-le o p a b c d e f =
@@ -50,4 +53,5 @@ observation-le o p a b c d e f =
     (totalKey (o .bits) ∷ sourcesKey (o .sources))
     (totalKey (p .bits) ∷ sourcesKey (p .sources))
     b d
-    (lex-behind (totalKey (o .bits)) (totalKey (p .bits)) (packed (o .sources)) (packed (p .sources)) (sourcesKey (o .sources)) (sourcesKey (p .sources)) (sources-le (o .sources) (p .sources) e f)))
+    (lex-behind (totalKey (o .bits)) (totalKey (p .bits)) (packed (o .sources)) (packed (p .sources)) (sourcesKey (o .sources)) (sourcesKey (p .sources))
+    (sources-le (o .sources) (p .sources) e f)))

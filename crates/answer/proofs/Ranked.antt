@@ -50,7 +50,13 @@ module _ {ends : ℕ → Span} {bits : ℕ → ℕ} {from i : ℕ} {f₀ g₀ h�
             (λ n.
             let o = old (from + k) (λ d. n (omega arith)) in
             let s = r .there k (omega arith) in
-            record { first-is = o .0 ∙ s .first-is; second-is = o .1 ∙ s .second-is; third-is = o .2 ∙ s .third-is; first-fits = s .first-fits; second-fits = s .second-fits });
+            record {
+              first-is = o .0 ∙ s .first-is;
+              second-is = o .1 ∙ s .second-is;
+              third-is = o .2 ∙ s .third-is;
+              first-fits = s .first-fits;
+              second-fits = s .second-fits;
+            });
         first-before = λ q l. old q (λ d. omega arith) .0 ∙ r .first-before q l;
         second-before = λ q l. old q (λ d. omega arith) .1 ∙ r .second-before q l;
         third-before = λ q l. old q (λ d. omega arith) .2 ∙ r .third-before q l;

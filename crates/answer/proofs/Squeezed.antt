@@ -101,5 +101,7 @@ module _ {starts keys₀ counts₀ keys counts : List ℕ} {q limit : ℕ} (clea
       todo = λ w l. off w (getD counts₀ w 0) (λ i. omega arith) (omega arith) ∙ s .todo w (omega arith);
     }
 
-pub squeezed-end : {starts keys₀ counts₀ keys counts : List ℕ} {q n : ℕ} → Squeezed starts keys₀ counts₀ keys counts q → q ≤ n → n ≤ q → Squeezed starts keys₀ counts₀ keys counts n
-squeezed-end {starts} {keys₀} {counts₀} {keys} {counts} {q} {n} a h l = let e : q ≡ n = omega arith in subst (λ (z : ℕ). Squeezed starts keys₀ counts₀ keys counts z) e a
+pub squeezed-end : {starts keys₀ counts₀ keys counts : List ℕ} {q n : ℕ} → Squeezed starts keys₀ counts₀ keys counts q → q ≤ n → n ≤ q
+    → Squeezed starts keys₀ counts₀ keys counts n
+squeezed-end {starts} {keys₀} {counts₀} {keys} {counts} {q} {n} a h l = let e : q ≡ n = omega arith in
+    subst (λ (z : ℕ). Squeezed starts keys₀ counts₀ keys counts z) e a

@@ -61,7 +61,8 @@ part-packed ss keys n a m e h =
 pub ranks-room : {f g h : List ℕ} {n k : ℕ} → RankRoom f g h n → k ≤ n → RankRoom f g h k
 ranks-room r l = record { first-room = omega (arith, r .first-room); second-room = omega (arith, r .second-room); third-room = omega (arith, r .third-room) }
 
-pub ranks-after : {ends : ℕ → Span} {bits : ℕ → ℕ} {from i n : ℕ} {f₀ g₀ h₀ f g h : List ℕ} → RankRoom f₀ g₀ h₀ n → Ranked ends bits from i f₀ g₀ h₀ f g h → RankRoom f g h n
+pub ranks-after : {ends : ℕ → Span} {bits : ℕ → ℕ} {from i n : ℕ} {f₀ g₀ h₀ f g h : List ℕ} → RankRoom f₀ g₀ h₀ n → Ranked ends bits from i f₀ g₀ h₀ f g h
+    → RankRoom f g h n
 ranks-after r t = record {
   first-room = omega (arith, r .first-room, t .first-long);
   second-room = omega (arith, r .second-room, t .second-long);
@@ -79,8 +80,10 @@ module _ {s : List ℕ} {at n ats m from count : ℕ} (j : JobPlaces s at n ats 
   observations-inside = omega (arith, j .observations-add, j .countable .observations-in)
 
   -- Room to sort the parts, once they are laid.
-  pub parts-room : {keys₀ keys spare firsts₀ firsts starts₀ starts counts₀ counts f g h : List ℕ} → PlaceRoom n m count keys₀ spare firsts₀ starts₀ counts₀ f g h → KeysRead s from count keys₀ keys
-      → LaidAll (ownCount s at) (seenCount s at) (citedCount s ats) m n firsts starts counts → length starts ≡ length starts₀ → length counts ≡ length counts₀ → PartsRoom keys spare starts counts (m + n)
+  pub parts-room : {keys₀ keys spare firsts₀ firsts starts₀ starts counts₀ counts f g h : List ℕ}
+      → PlaceRoom n m count keys₀ spare firsts₀ starts₀ counts₀ f g h → KeysRead s from count keys₀ keys
+      → LaidAll (ownCount s at) (seenCount s at) (citedCount s ats) m n firsts starts counts → length starts ≡ length starts₀ → length counts ≡ length counts₀
+      → PartsRoom keys spare starts counts (m + n)
   parts-room r k l x y = record {
     starts-room = omega (arith, r .plan .starts-room);
     counts-room = omega (arith, r .plan .counts-room);
@@ -123,7 +126,8 @@ module _ {s : List ℕ} {at n ats m from count : ℕ} (j : JobPlaces s at n ats 
         → partOf keys₂ starts counts₂ w ≡ packed (sortedSources (take c (drop a (sourceRecords s from count))))
     run-of w a c h x y z =
         q .done w h
-        ∙ ap (sortOnce leb) (ap (λ (i : ℕ). part keys₁ i (getD counts₁ w 0)) x ∙ ap (part keys₁ a) y ∙ part-packed (sourceRecords s from count) keys₁ count a c (k .there) z)
+        ∙ ap (sortOnce leb) (ap (λ (i : ℕ). part keys₁ i (getD counts₁ w 0)) x ∙ ap (part keys₁ a) y
+        ∙ part-packed (sourceRecords s from count) keys₁ count a c (k .there) z)
         ∙ sorted-packed (take c (drop a (sourceRecords s from count))) (part-fit a c)
 
     key-kept : (p : ℕ) (e : Span) (bits : ℕ) → p < m → KeyAt f₁ g₁ h₁ (0 + p) e bits → KeyAt f₂ g₂ h₂ p e bits
@@ -138,24 +142,31 @@ module _ {s : List ℕ} {at n ats m from count : ℕ} (j : JobPlaces s at n ats 
           second-fits = i .second-fits;
         }
 
-    itself-holds : (b : ℕ) → b < n → Holds f₂ g₂ h₂ starts counts₂ keys₂ (m + b) (itself (canon (boundaryOf (boundaryRows s at) (observationRows s ats) (sourceRecords s from count) b)))
+    itself-holds : (b : ℕ) → b < n
+        → Holds f₂ g₂ h₂ starts counts₂ keys₂ (m + b) (itself (canon (boundaryOf (boundaryRows s at) (observationRows s ats) (sourceRecords s from count) b)))
     unfolding itself canon boundaryOf
     itself-holds b h = record {
       key = t .there b h;
-      run = run-of (m + b) (ownStart (ownCount s at) (seenCount s at) (citedCount s ats) b) (ownCount s at b) (omega arith) (l .laid .own-start b h) (l .laid .own-count b h) (own-end b h);
-      fits = sources-fit (take (ownCount s at b) (drop (ownStart (ownCount s at) (seenCount s at) (citedCount s ats) b) (sourceRecords s from count))) (part-fit (ownStart (ownCount s at) (seenCount s at) (citedCount s ats) b) (ownCount s at b));
+      run = run-of (m + b) (ownStart (ownCount s at) (seenCount s at) (citedCount s ats) b) (ownCount s at b) (omega arith) (l .laid .own-start b h)
+          (l .laid .own-count b h) (own-end b h);
+      fits = sources-fit (take (ownCount s at b) (drop (ownStart (ownCount s at) (seenCount s at) (citedCount s ats) b) (sourceRecords s from count)))
+          (part-fit (ownStart (ownCount s at) (seenCount s at) (citedCount s ats) b) (ownCount s at b));
     }
 
     seen-holds : (b i : ℕ) → b < n → i < seenCount s at b
-        → Holds f₂ g₂ h₂ starts counts₂ keys₂ (below (seenCount s at) b + i) (canonObservation (observationFrom (boundaryRows s at) (observationRows s ats) (sourceRecords s from count) (below (ownCount s at) (suc b)) (below (seenCount s at) b + i)))
+        → Holds f₂ g₂ h₂ starts counts₂ keys₂ (below (seenCount s at) b + i)
+        (canonObservation (observationFrom (boundaryRows s at) (observationRows s ats) (sourceRecords s from count) (below (ownCount s at) (suc b))
+        (below (seenCount s at) b + i)))
     unfolding canonObservation observationFrom
     seen-holds b i h o =
         let p = below (seenCount s at) b + i in
         let u = place-below b i h o in
         record {
           key = key-kept p _ _ u (r .there p u);
-          run = run-of p (below (ownCount s at) (suc b) + below (citedCount s ats) p) (citedCount s ats p) (omega arith) (l .laid .cited-start b i h o) (l .laid .cited-count b i h o) (cited-end b p h u);
-          fits = sources-fit (take (citedCount s ats p) (drop (below (ownCount s at) (suc b) + below (citedCount s ats) p) (sourceRecords s from count))) (part-fit (below (ownCount s at) (suc b) + below (citedCount s ats) p) (citedCount s ats p));
+          run = run-of p (below (ownCount s at) (suc b) + below (citedCount s ats) p) (citedCount s ats p) (omega arith) (l .laid .cited-start b i h o)
+              (l .laid .cited-count b i h o) (cited-end b p h u);
+          fits = sources-fit (take (citedCount s ats p) (drop (below (ownCount s at) (suc b) + below (citedCount s ats) p) (sourceRecords s from count)))
+              (part-fit (below (ownCount s at) (suc b) + below (citedCount s ats) p) (citedCount s ats p));
         }
 
     pub placed : Placed (boundaryRows s at) (observationRows s ats) (sourceRecords s from count) m n firsts f₂ g₂ h₂ starts counts₂ keys₂
@@ -163,7 +174,8 @@ module _ {s : List ℕ} {at n ats m from count : ℕ} (j : JobPlaces s at n ats 
 
   -- where they are
   module _ {keys₁ keys₂ firsts starts counts₁ counts₂ : List ℕ}
-      (l : LaidAll (ownCount s at) (seenCount s at) (citedCount s ats) m n firsts starts counts₁) (q : Squeezed starts keys₁ counts₁ keys₂ counts₂ (m + n)) where
+      (l : LaidAll (ownCount s at) (seenCount s at) (citedCount s ats) m n firsts starts counts₁)
+      (q : Squeezed starts keys₁ counts₁ keys₂ counts₂ (m + n)) where
     own-less : (b : ℕ) → b < n → getD counts₂ (m + b) 0 ≤ ownCount s at b
     own-less b h = omega (arith, q .less (m + b), l .laid .own-count b h)
 
@@ -181,7 +193,8 @@ module _ {s : List ℕ} {at n ats m from count : ℕ} (j : JobPlaces s at n ats 
 -- Places that stand for observations are ordered as these are.
 module _ {first second third starts counts keys : List ℕ} where
   key-of : {p : ℕ} (o : Observation) → Holds first second third starts counts keys p o
-      → placeKey first second third starts counts keys p ≡ pack (o .ends .a .x) (o .ends .a .y) ∷ pack (o .ends .b .x) (o .ends .b .y) ∷ totalKey (o .bits) ∷ packed (o .sources)
+      → placeKey first second third starts counts keys p ≡ pack (o .ends .a .x) (o .ends .a .y) ∷ pack (o .ends .b .x) (o .ends .b .y) ∷ totalKey
+      (o .bits) ∷ packed (o .sources)
   unfolding placeKey restKey
   key-of o h = rw (h .key .first-is, h .key .second-is, h .key .third-is, h .run)
 

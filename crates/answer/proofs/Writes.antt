@@ -21,11 +21,13 @@ apart-none n k = record {
   apart = λ q w d. inl (omega (arith, zero-at n q, zero-at k q));
 }
 
-pub then-write : (s : List ℕ) (i : ℕ) (bs cs : List ℕ) {t u : List ℕ} {j : ℕ} → i + length bs ≤ length s → j ≡ i + length bs → t ≡ splice s i bs → u ≡ splice t j cs → u ≡ splice s i (bs ++ cs)
+pub then-write : (s : List ℕ) (i : ℕ) (bs cs : List ℕ) {t u : List ℕ} {j : ℕ} → i + length bs ≤ length s → j ≡ i + length bs → t ≡ splice s i bs
+    → u ≡ splice t j cs → u ≡ splice s i (bs ++ cs)
 then-write s i bs cs {t} {u} {j} h e f g = g ∙ ap (λ (l : List ℕ). splice l j cs) f ∙ ap (λ (k : ℕ). splice (splice s i bs) k cs) e ∙ splice-splice s i bs h cs
 
 pub span-written : (s : List ℕ) (i : ℕ) (e : Span) {t u v w : List ℕ} → i + 16 ≤ length s
-    → t ≡ splice s i (u32Bytes (e .a .x)) → u ≡ splice t (i + 4) (u32Bytes (e .a .y)) → v ≡ splice u (i + 8) (u32Bytes (e .b .x)) → w ≡ splice v (i + 12) (u32Bytes (e .b .y))
+    → t ≡ splice s i (u32Bytes (e .a .x)) → u ≡ splice t (i + 4) (u32Bytes (e .a .y)) → v ≡ splice u (i + 8) (u32Bytes (e .b .x))
+    → w ≡ splice v (i + 12) (u32Bytes (e .b .y))
     → w ≡ splice s i (spanBytes e)
 unfolding spanBytes positionBytes
 span-written s i e h a b c d =

@@ -50,7 +50,8 @@ pub record Stands (first second third starts counts keys places : List ℕ) (l :
 
 -- The kept boundaries: the place of each one's record, how many own sources and observations each has, all own sources
 -- and the places of all observations, both in the boundaries' order.
-pub record Gathered (bs : ℕ → BoundaryRecord) (n : ℕ) (ks : List Boundary) (kept owns seens owned seen first second third starts counts keys : List ℕ) : Type 0 where
+pub record Gathered (bs : ℕ → BoundaryRecord) (n : ℕ) (ks : List Boundary) (kept owns seens owned seen first second third starts counts keys : List ℕ) : Type
+    0 where
   pub few : length ks ≤ n
   pub place-in : (k : ℕ) → k < length ks → getD kept k 0 < n
   pub ends-are : (k : ℕ) → k < length ks → getD ks k noBoundary .ends ≡ canonical (bs (getD kept k 0) .ends)

@@ -57,14 +57,17 @@ pub record Holds (first second third starts counts keys : List ℕ) (p : ℕ) (o
   pub fits : All SourceFits (o .sources)
 
 -- The canonical copies of n boundaries: each one's observations at their places, and each as an observation at `base` and its place.
-pub record Placed (bs : ℕ → BoundaryRecord) (os : ℕ → ObservationRecord) (ss : List Source) (base n : ℕ) (firsts first second third starts counts keys : List ℕ) : Type 0 where
+pub record Placed (bs : ℕ → BoundaryRecord) (os : ℕ → ObservationRecord) (ss : List Source) (base n : ℕ)
+    (firsts first second third starts counts keys : List ℕ) : Type 0 where
   pub first-there : (b : ℕ) → b < n → getD firsts b 0 ≡ firstSeen (seenOf bs os ss) b
   pub itself-there : (b : ℕ) → b < n → Holds first second third starts counts keys (base + b) (itself (canon (boundaryOf bs os ss b)))
   pub seen-there : (b k : ℕ) → b < n → k < seenOf bs os ss b
-      → Holds first second third starts counts keys (firstSeen (seenOf bs os ss) b + k) (canonObservation (observationOf bs os ss b (firstSeen (seenOf bs os ss) b + k)))
+      → Holds first second third starts counts keys (firstSeen (seenOf bs os ss) b + k)
+      (canonObservation (observationOf bs os ss b (firstSeen (seenOf bs os ss) b + k)))
 
 -- All parts are in the first `count` numbers, sorting made no own part longer, and the places of observations are below `base`.
-pub record PlacedInside (bs : ℕ → BoundaryRecord) (os : ℕ → ObservationRecord) (ss : List Source) (base n count : ℕ) (firsts starts counts : List ℕ) : Type 0 where
+pub record PlacedInside (bs : ℕ → BoundaryRecord) (os : ℕ → ObservationRecord) (ss : List Source) (base n count : ℕ) (firsts starts counts : List ℕ) : Type
+    0 where
   pub part-in : (q : ℕ) → getD starts q 0 + getD counts q 0 ≤ count
   pub own-most : (b : ℕ) → b < n → getD counts (base + b) 0 ≤ ownOf bs os ss b
   pub own-room : below (λ b. getD counts (base + b) 0) n ≤ count

@@ -46,7 +46,8 @@ pub fn lay_boundaries(
     counts: &mut [u32],
 )
     requires { ⌜ Countable (now job) at n ats base × PlanRoom base n (now firsts) (now starts) (now counts) ⌝ }
-    ensures { λ _. ⌜ LaidAll (ownCount (now (job .entry)) at) (seenCount (now (job .entry)) at) (citedCount (now (job .entry)) ats) base n (now (firsts .exit)) (now (starts .exit)) (now (counts .exit)) ⌝ }
+    ensures { λ _. ⌜ LaidAll (ownCount (now (job .entry)) at) (seenCount (now (job .entry)) at) (citedCount (now (job .entry)) ats) base n (now (firsts .exit))
+        (now (starts .exit)) (now (counts .exit)) ⌝ }
 {
     let mut run: u32 = 0;
     let mut p: usize = 0;

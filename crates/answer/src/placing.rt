@@ -24,9 +24,12 @@ pub fn place_all(
     second: &mut [u64],
     third: &mut [u64],
 )
-    requires { ⌜ JobPlaces (now job) at n ats m from count × PlaceRoom n m count (now keys) (now spare) (now firsts) (now starts) (now counts) (now first) (now second) (now third) ⌝ }
-    ensures { λ _. ⌜ Placed (boundaryRows (now (job .entry)) at) (observationRows (now (job .entry)) ats) (sourceRecords (now (job .entry)) from count) m n (now (firsts .exit)) (now (first .exit)) (now (second .exit)) (now (third .exit)) (now (starts .exit)) (now (counts .exit)) (now (keys .exit)) ⌝ }
-    ensures inside { λ _. ⌜ PlacedInside (boundaryRows (now (job .entry)) at) (observationRows (now (job .entry)) ats) (sourceRecords (now (job .entry)) from count) m n count (now (firsts .exit)) (now (starts .exit)) (now (counts .exit)) ⌝ }
+    requires { ⌜ JobPlaces (now job) at n ats m from count
+        × PlaceRoom n m count (now keys) (now spare) (now firsts) (now starts) (now counts) (now first) (now second) (now third) ⌝ }
+    ensures { λ _. ⌜ Placed (boundaryRows (now (job .entry)) at) (observationRows (now (job .entry)) ats) (sourceRecords (now (job .entry)) from count) m n
+        (now (firsts .exit)) (now (first .exit)) (now (second .exit)) (now (third .exit)) (now (starts .exit)) (now (counts .exit)) (now (keys .exit)) ⌝ }
+    ensures inside { λ _. ⌜ PlacedInside (boundaryRows (now (job .entry)) at) (observationRows (now (job .entry)) ats)
+        (sourceRecords (now (job .entry)) from count) m n count (now (firsts .exit)) (now (starts .exit)) (now (counts .exit)) ⌝ }
 {
     read_keys(job, from, count, keys);
     lay_boundaries(job, at, n, ats, m, firsts, starts, counts);

@@ -21,7 +21,9 @@ pub fn rank_observations(
     third: &mut [u64],
 )
     requires { ⌜ (at + n * observationSize ≤ length (now job)) × RankRoom (now first) (now second) (now third) n ⌝ }
-    ensures { λ _. ⌜ Ranked (λ k. observationAt (now (job .entry)) (at + k * observationSize) .ends) (λ k. observationAt (now (job .entry)) (at + k * observationSize) .bits) 0 n (now (first .entry)) (now (second .entry)) (now (third .entry)) (now (first .exit)) (now (second .exit)) (now (third .exit)) ⌝ }
+    ensures { λ _. ⌜ Ranked (λ k. observationAt (now (job .entry)) (at + k * observationSize) .ends)
+        (λ k. observationAt (now (job .entry)) (at + k * observationSize) .bits) 0 n (now (first .entry)) (now (second .entry)) (now (third .entry))
+        (now (first .exit)) (now (second .exit)) (now (third .exit)) ⌝ }
 {
     let mut p: usize = 0;
     while p < n {
@@ -48,7 +50,9 @@ pub fn rank_boundaries(
     third: &mut [u64],
 )
     requires { ⌜ (at + n * boundarySize ≤ length (now job)) × RankRoom (now first) (now second) (now third) (base + n) ⌝ }
-    ensures { λ _. ⌜ Ranked (λ k. boundaryAt (now (job .entry)) (at + k * boundarySize) .ends) (λ k. boundaryAt (now (job .entry)) (at + k * boundarySize) .bits) base n (now (first .entry)) (now (second .entry)) (now (third .entry)) (now (first .exit)) (now (second .exit)) (now (third .exit)) ⌝ }
+    ensures { λ _. ⌜ Ranked (λ k. boundaryAt (now (job .entry)) (at + k * boundarySize) .ends)
+        (λ k. boundaryAt (now (job .entry)) (at + k * boundarySize) .bits) base n (now (first .entry)) (now (second .entry)) (now (third .entry))
+        (now (first .exit)) (now (second .exit)) (now (third .exit)) ⌝ }
 {
     let mut p: usize = 0;
     while p < n {

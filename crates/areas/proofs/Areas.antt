@@ -66,6 +66,7 @@ module _ (dirs : List ℕ) (g : Grid) where
   count-depends-on-the-set ss ts same = ap (labelCount (size g) (walkable g)) (uncut-same dirs g ss ts same)
 
   -- a span that cuts no step changes no label
-  pub idle-span : (s : Span) (ss : List Span) → ((e : Edge) → List·Memᴰ e (steps dirs g) → cutBy g s e ≡ false) → areaLabels dirs g (s ∷ ss) ≡ areaLabels dirs g ss
+  pub idle-span : (s : Span) (ss : List Span) → ((e : Edge) → List·Memᴰ e (steps dirs g) → cutBy g s e ≡ false)
+      → areaLabels dirs g (s ∷ ss) ≡ areaLabels dirs g ss
   unfolding areaLabels
   idle-span s ss idle = ap (labels (size g) (walkable g)) (uncut-idle dirs g s ss idle)

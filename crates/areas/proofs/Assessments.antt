@@ -84,6 +84,7 @@ module _ (dirs : List ℕ) (g : Grid) where
       (ap (λ (q : RegionPair). q .lower) (w .labels)) (ap (λ (q : RegionPair). q .higher) (w .labels))
 
   -- what an assessment depends on: the set of spans, and the span's ends however listed
-  pub assess-same : (ss ts : List Span) → SameMembers (map canonical ss) (map canonical ts) → (s t : Span) → canonical s ≡ canonical t → assess dirs g ss s ≡ assess dirs g ts t
+  pub assess-same : (ss ts : List Span) → SameMembers (map canonical ss) (map canonical ts) → (s t : Span) → canonical s ≡ canonical t
+      → assess dirs g ss s ≡ assess dirs g ts t
   unfolding assess
   assess-same ss ts same s t h = rw (labels-depend-on-the-set dirs g ss ts same, cut-steps-same dirs g s t h)

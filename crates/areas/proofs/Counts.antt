@@ -67,7 +67,8 @@ module _ (dirs : List ℕ) (g : Grid) (ss : List Span) where
   pub cell-counts-sum : sum (rows (areaCount dirs g ss) (λ r. cellCount (areaLabels dirs g ss) (suc r))) ≡ length (keep (walkable g) (upFrom 0 (size g)))
   cell-counts-sum =
       counted ls (areaCount dirs g ss)
-      ∙ (ap (λ (l : List ℕ). length (keep (upTo (areaCount dirs g ss)) l)) by-cell ∙ (ap length kept ∙ length-map (keep (walkable g) (upFrom 0 (size g))) (labelAt ls)))
+      ∙ (ap (λ (l : List ℕ). length (keep (upTo (areaCount dirs g ss)) l)) by-cell
+      ∙ (ap length kept ∙ length-map (keep (walkable g) (upFrom 0 (size g))) (labelAt ls)))
     where
       ls : List ℕ
       ls = areaLabels dirs g ss

@@ -52,26 +52,31 @@ weighed-in g s i j le ne k v =
     by-cases (decLe (gap (s .a .y) (s .b .y)) (gap (s .a .x) (s .b .x)))
     (λ m. InStrip.wide m (wide v m))
     (λ m. let l : gap (s .a .x) (s .b .x) < gap (s .a .y) (s .b .y) = omega arith in
-    by-cases (decLe (s .a .y) (s .b .y)) (λ o. InStrip.falls l o (falls v l o)) (λ o. let n : s .b .y < s .a .y = omega arith in InStrip.rises l n (rises v l n)))
+    by-cases (decLe (s .a .y) (s .b .y)) (λ o. InStrip.falls l o (falls v l o))
+    (λ o. let n : s .b .y < s .a .y = omega arith in InStrip.rises l n (rises v l n)))
   where
     wide : Weighed (s .a) (s .b) (centre g i) (centre g j) → gap (s .a .y) (s .b .y) ≤ gap (s .a .x) (s .b .x) →
         Near (s .a .x) (s .a .y) (s .b .x) (s .b .y) (g .width) (g .height) (columnOf g i) (rowOf g i)
     wide v m =
         let lt : s .a .x < s .b .x = by-cases (decLt (s .a .x) (s .b .x)) (λ l. l) (λ l. absurd (ne (omega arith) (omega arith))) in
-        covered (s .a .x) (s .a .y) (s .b .x) (s .b .y) (g .width) (g .height) (columnOf g i) (rowOf g i) (8 * columnOf g j + 4) (8 * rowOf g j + 4) (v .r) (v .s) (v .u) (v .t) lt
+        covered (s .a .x) (s .a .y) (s .b .x) (s .b .y) (g .width) (g .height) (columnOf g i) (rowOf g i) (8 * columnOf g j + 4) (8 * rowOf g j + 4) (v .r)
+        (v .s) (v .u) (v .t) lt
         (omega arith) (omega arith) (k .column) (k .row) (omega arith) (omega arith) (omega arith) (omega arith) (v .some) (v .all) (v .same-x) (v .same-y)
 
     falls : Weighed (s .a) (s .b) (centre g i) (centre g j) → gap (s .a .x) (s .b .x) < gap (s .a .y) (s .b .y) → s .a .y ≤ s .b .y →
         Near (s .a .y) (s .a .x) (s .b .y) (s .b .x) (g .height) (g .width) (rowOf g i) (columnOf g i)
     falls v m o =
-        covered (s .a .y) (s .a .x) (s .b .y) (s .b .x) (g .height) (g .width) (rowOf g i) (columnOf g i) (8 * rowOf g j + 4) (8 * columnOf g j + 4) (v .r) (v .s) (v .u) (v .t) (omega arith)
+        covered (s .a .y) (s .a .x) (s .b .y) (s .b .x) (g .height) (g .width) (rowOf g i) (columnOf g i) (8 * rowOf g j + 4) (8 * columnOf g j + 4) (v .r)
+        (v .s) (v .u) (v .t) (omega arith)
         (omega arith) (omega arith) (k .row) (k .column) (omega arith) (omega arith) (omega arith) (omega arith) (v .some) (v .all) (v .same-y) (v .same-x)
 
     rises : Weighed (s .a) (s .b) (centre g i) (centre g j) → gap (s .a .x) (s .b .x) < gap (s .a .y) (s .b .y) → s .b .y < s .a .y →
         Near (s .b .y) (s .b .x) (s .a .y) (s .a .x) (g .height) (g .width) (rowOf g i) (columnOf g i)
     rises v m o =
-        covered (s .b .y) (s .b .x) (s .a .y) (s .a .x) (g .height) (g .width) (rowOf g i) (columnOf g i) (8 * rowOf g j + 4) (8 * columnOf g j + 4) (v .s) (v .r) (v .u) (v .t) (omega arith)
-        (omega arith) (omega arith) (k .row) (k .column) (omega arith) (omega arith) (omega arith) (omega arith) (omega arith) (omega arith) (omega (arith, v .same-y)) (omega (arith, v .same-x))
+        covered (s .b .y) (s .b .x) (s .a .y) (s .a .x) (g .height) (g .width) (rowOf g i) (columnOf g i) (8 * rowOf g j + 4) (8 * columnOf g j + 4) (v .s)
+        (v .r) (v .u) (v .t) (omega arith)
+        (omega arith) (omega arith) (k .row) (k .column) (omega arith) (omega arith) (omega arith) (omega arith) (omega arith) (omega arith)
+        (omega (arith, v .same-y)) (omega (arith, v .same-x))
 
 -- a span whose ends coincide has every point on one side
 flat : (a b p : PixelPosition) → a .x ≡ b .x → a .y ≡ b .y → side a b p ≡ true
@@ -79,7 +84,8 @@ unfolding side
 flat a b p ex ey =
     le-leb (crossMinus a b p) (crossPlus a b p) (omega (arith, ap (λ z. z * p .y) ex, ap (λ z. z * p .x) ey, ap (λ z. z * a .y) ex, ap (λ z. z * a .x) ey))
 
-module _ {dirs : List ℕ} (closed : ClosedUnderReversal dirs) {g : Grid} (whole : Whole g) (s : Span) {i j : ℕ} (t : Step dirs g i j) (cut : cutBy g s (stepOf i j) ≡ true) where
+module _ {dirs : List ℕ} (closed : ClosedUnderReversal dirs) {g : Grid} (whole : Whole g) (s : Span) {i j : ℕ} (t : Step dirs g i j)
+    (cut : cutBy g s (stepOf i j) ≡ true) where
   -- the first cell of a cut step is in the strip
   pub cut-covers : InStrip g (canonical s) i
   cut-covers =

@@ -113,5 +113,6 @@ proper a b c d hc hd ha hb =
       same-x = crossing (a .x) (a .y) (b .x) (b .y) (c .x) (c .y) (d .x) (d .y) (r .0) (s .0) (u .0) (t .0) (t .1) (u .1) (s .1) (r .1);
       same-y =
           add-comm (a .y * r .0) (b .y * s .0)
-          ∙ crossing (b .y) (b .x) (a .y) (a .x) (c .y) (c .x) (d .y) (d .x) (s .0) (r .0) (u .0) (t .0) (omega arith) (omega arith) (omega arith) (omega arith);
+          ∙ crossing (b .y) (b .x) (a .y) (a .x) (c .y) (c .x) (d .y) (d .x) (s .0) (r .0) (u .0) (t .0) (omega arith) (omega arith) (omega arith)
+          (omega arith);
     }

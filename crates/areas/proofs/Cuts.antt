@@ -53,7 +53,8 @@ cuts-turned s c d = ap₂ _&&_ (xor-comm (side (s .a) (s .b) d) (side (s .a) (s 
 cuts-iff : (s : Span) (c d : PixelPosition) → (cuts s c d ≡ true) ↔ ((side (s .a) (s .b) c ≡ side (s .a) (s .b) d → ⊥) × Meets (s .a) (s .b) c d)
 unfolding cuts
 cuts-iff s c d = (
-  λ h. let p = and-parts (xor (side (s .a) (s .b) c) (side (s .a) (s .b) d)) (meets (s .a) (s .b) c d) h in (differ .0 (p .0), meets-iff (s .a) (s .b) c d .0 (p .1)),
+  λ h. let p = and-parts (xor (side (s .a) (s .b) c) (side (s .a) (s .b) d)) (meets (s .a) (s .b) c d) h in
+      (differ .0 (p .0), meets-iff (s .a) (s .b) c d .0 (p .1)),
   λ p. and-both (differ .1 (p .0)) (meets-iff (s .a) (s .b) c d .1 (p .1)),
 )
   where
@@ -64,7 +65,8 @@ module _ (g : Grid) where
   -- the step's ends lie on different sides of the canonical span, and the closed segments meet
   pub cut-iff : (s : Span) (e : Edge) → let t = canonical s in
       (cutBy g s e ≡ true)
-      ↔ ((side (t .a) (t .b) (centre g (e .left)) ≡ side (t .a) (t .b) (centre g (e .right)) → ⊥) × Meets (t .a) (t .b) (centre g (e .left)) (centre g (e .right)))
+      ↔ ((side (t .a) (t .b) (centre g (e .left)) ≡ side (t .a) (t .b) (centre g (e .right)) → ⊥)
+      × Meets (t .a) (t .b) (centre g (e .left)) (centre g (e .right)))
   unfolding cutBy
   cut-iff s e = cuts-iff (canonical s) (centre g (e .left)) (centre g (e .right))
 
@@ -104,10 +106,12 @@ module _ (g : Grid) where
 
 module _ (dirs : List ℕ) (g : Grid) where
   -- the uncut steps are the steps that no span cuts
-  pub uncut-iff : (ss : List Span) (e : Edge) → List·Memᴰ e (uncutSteps dirs g ss) ↔ (List·Memᴰ e (steps dirs g) × ((s : Span) → List·Memᴰ s ss → cutBy g s e ≡ false))
+  pub uncut-iff : (ss : List Span) (e : Edge)
+      → List·Memᴰ e (uncutSteps dirs g ss) ↔ (List·Memᴰ e (steps dirs g) × ((s : Span) → List·Memᴰ s ss → cutBy g s e ≡ false))
   unfolding uncutSteps
   uncut-iff ss e = (
-    λ m. let k = keep-mem (λ x. not (isCut g ss x)) (steps dirs g) m in (k .0, λ s n. is-false (cutBy g s e) (λ h. clash (cut-is g ss e n h) (not-true (isCut g ss e) (k .1)))),
+    λ m. let k = keep-mem (λ x. not (isCut g ss x)) (steps dirs g) m in
+        (k .0, λ s n. is-false (cutBy g s e) (λ h. clash (cut-is g ss e n h) (not-true (isCut g ss e) (k .1)))),
     λ p. mem-keep (λ x. not (isCut g ss x)) (p .0) (spared p),
   )
     where
@@ -122,7 +126,8 @@ module _ (dirs : List ℕ) (g : Grid) where
   uncut-same ss ts same = keep-ext (λ e. not (isCut g ss e)) (λ e. not (isCut g ts e)) (steps dirs g) (λ e m. ap not (is-cut-same g ss ts same e))
 
   -- a span that cuts no step leaves the uncut steps as they are
-  pub uncut-idle : (s : Span) (ss : List Span) → ((e : Edge) → List·Memᴰ e (steps dirs g) → cutBy g s e ≡ false) → uncutSteps dirs g (s ∷ ss) ≡ uncutSteps dirs g ss
+  pub uncut-idle : (s : Span) (ss : List Span) → ((e : Edge) → List·Memᴰ e (steps dirs g) → cutBy g s e ≡ false)
+      → uncutSteps dirs g (s ∷ ss) ≡ uncutSteps dirs g ss
   unfolding uncutSteps
   uncut-idle s ss idle = keep-ext (λ e. not (isCut g (s ∷ ss) e)) (λ e. not (isCut g ss e)) (steps dirs g) (λ e m. rw (idle e m))
 

@@ -102,7 +102,8 @@ near-line l lm u um x pm r s lu lx xu h i some a b c d =
     ex : x ≡ l + (x - l)
     ex = omega arith
 
-    both : ((r + s) * (lm * (u - x) + um * (x - l)) ≤ (u - l) * (lm * r + um * s) + 8 * ((r + s) * (u - l))) × ((u - l) * (lm * r + um * s) ≤ (r + s) * (lm * (u - x) + um * (x - l)) + 8 * ((r + s) * (u - l))) →
+    both : ((r + s) * (lm * (u - x) + um * (x - l)) ≤ (u - l) * (lm * r + um * s) + 8 * ((r + s) * (u - l)))
+        × ((u - l) * (lm * r + um * s) ≤ (r + s) * (lm * (u - x) + um * (x - l)) + 8 * ((r + s) * (u - l))) →
         (lineAt l lm u um x ≤ pm + 16) × (pm ≤ lineAt l lm u um x + 16)
     both z = line-at (u - l) (lm * (u - x) + um * (x - l)) pm (r + s) (lm * r + um * s) some (omega arith) (z .0) (z .1) c d
 

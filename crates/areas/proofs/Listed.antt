@@ -24,10 +24,12 @@ eq-same e = λ y. (λ k. rw (← e) k, λ k. rw e k)
 owned-length : (i : ℕ) (pss : List (List RegionPair)) → length (owned i pss) ≡ sum (map (λ (ps : List RegionPair). length ps) pss)
 unfolding owned sum
 owned-length i [] = refl
-owned-length i (ps ∷ rest) = length-append (map (recordOf i) ps) (owned (suc i) rest) ∙ (let a = length-map ps (recordOf i) in let b = owned-length (suc i) rest in omega arith)
+owned-length i (ps ∷ rest) = length-append (map (recordOf i) ps) (owned (suc i) rest)
+    ∙ (let a = length-map ps (recordOf i) in let b = owned-length (suc i) rest in omega arith)
 
 module _ (dirs : List ℕ) (g : Grid) where
-  pairs-same : (ss ts us vs : List Span) → SameMembers (map canonical ss) (map canonical ts) → map canonical us ≡ map canonical vs → map (λ s. assess dirs g ss s .pairs) us ≡ map (λ s. assess dirs g ts s .pairs) vs
+  pairs-same : (ss ts us vs : List Span) → SameMembers (map canonical ss) (map canonical ts) → map canonical us ≡ map canonical vs
+      → map (λ s. assess dirs g ss s .pairs) us ≡ map (λ s. assess dirs g ts s .pairs) vs
   pairs-same ss ts [] [] m h = refl
   pairs-same ss ts [] (v ∷ vs) m h = let k : _≡_ {A = ℕ} 0 (suc (length (map canonical vs))) = ap length h in absurd (omega arith)
   pairs-same ss ts (u ∷ us) [] m h = let k : _≡_ {A = ℕ} (suc (length (map canonical us))) 0 = ap length h in absurd (omega arith)

@@ -20,13 +20,16 @@ Apart a b c d = (crossMinus a b c < crossPlus a b c) × (crossPlus a b d < cross
 opposite-apart : (a b c d : PixelPosition) → opposite a b c d ≡ true → Apart a b c d ⊎ Apart a b d c
 unfolding opposite
 opposite-apart a b c d h =
-    ⊎-elim (λ z. let v = and-parts (below a b c) (above a b d) z in inr (ltb-true (crossMinus a b d) (crossPlus a b d) (v .1), ltb-true (crossPlus a b c) (crossMinus a b c) (v .0)))
-    (λ z. let v = and-parts (above a b c) (below a b d) z in inl (ltb-true (crossMinus a b c) (crossPlus a b c) (v .0), ltb-true (crossPlus a b d) (crossMinus a b d) (v .1)))
+    ⊎-elim (λ z. let v = and-parts (below a b c) (above a b d) z in
+    inr (ltb-true (crossMinus a b d) (crossPlus a b d) (v .1), ltb-true (crossPlus a b c) (crossMinus a b c) (v .0)))
+    (λ z. let v = and-parts (above a b c) (below a b d) z in
+    inl (ltb-true (crossMinus a b c) (crossPlus a b c) (v .0), ltb-true (crossPlus a b d) (crossMinus a b d) (v .1)))
     (or-cases (below a b c && above a b d) (above a b c && below a b d) h)
 
 apart-opposite : (a b c d : PixelPosition) → Apart a b c d ⊎ Apart a b d c → opposite a b c d ≡ true
 unfolding opposite
-apart-opposite a b c d (inl h) = or-right (below a b c && above a b d) (and-both (lt-ltb (crossMinus a b c) (crossPlus a b c) (h .0)) (lt-ltb (crossPlus a b d) (crossMinus a b d) (h .1)))
+apart-opposite a b c d (inl h) =
+    or-right (below a b c && above a b d) (and-both (lt-ltb (crossMinus a b c) (crossPlus a b c) (h .0)) (lt-ltb (crossPlus a b d) (crossMinus a b d) (h .1)))
 apart-opposite a b c d (inr h) = rw (lt-ltb (crossPlus a b c) (crossMinus a b c) (h .1), lt-ltb (crossMinus a b d) (crossPlus a b d) (h .0))
 
 crossed : (a b c d : PixelPosition) → Apart a b c d ⊎ Apart a b d c → Apart c d a b ⊎ Apart c d b a → Weighed a b c d
@@ -60,7 +63,8 @@ found-meets a b c d (at-c o) = or-right (opposite a b c d && opposite c d a b) (
 found-meets a b c d (at-d o) =
     let e : onSegment a b c || onSegment a b d ≡ true = or-right (onSegment a b c) (on-iff a b d .1 o) in or-right (opposite a b c d && opposite c d a b) (rw e)
 found-meets a b c d (at-a o) = or-right (opposite a b c d && opposite c d a b) (or-right (onSegment a b c || onSegment a b d) (rw (on-iff c d a .1 o)))
-found-meets a b c d (at-b o) = or-right (opposite a b c d && opposite c d a b) (or-right (onSegment a b c || onSegment a b d) (or-right (onSegment c d a) (on-iff c d b .1 o)))
+found-meets a b c d (at-b o) =
+    or-right (opposite a b c d && opposite c d a b) (or-right (onSegment a b c || onSegment a b d) (or-right (onSegment c d a) (on-iff c d b .1 o)))
 
 found-weighed : {a b c d : PixelPosition} → Found a b c d → Weighed a b c d
 found-weighed {a} {b} {c} {d} (across e f) = crossed a b c d e f
@@ -88,7 +92,8 @@ balance a b c d w =
 -- two differences that balance have opposite signs, or are both zero
 signs : (u t p m q n : ℕ) → 0 < u → 0 < t → u * p + t * q ≡ u * m + t * n → ((m < p) × (q < n)) ⊎ (((n < q) × (p < m)) ⊎ ((p ≡ m) × (q ≡ n)))
 signs u t p m q n hu ht e =
-    by-cases (decLt m p) (λ h. inl (h, by-cases (decLt q n) (λ k. k) (λ k. absurd (omega (arith, mul-le-mul-left u h, mul-le-mul-left {m = n} {n = q} t (omega arith)))))) λ h.
+    by-cases (decLt m p) (λ h. inl
+    (h, by-cases (decLt q n) (λ k. k) (λ k. absurd (omega (arith, mul-le-mul-left u h, mul-le-mul-left {m = n} {n = q} t (omega arith)))))) λ h.
     by-cases (decLt p m)
     (λ g. inr (inl (by-cases (decLt n q) (λ k. k) (λ k. absurd (omega (arith, mul-le-mul-left u g, mul-le-mul-left {m = q} {n = n} t (omega arith)))), g))) λ g.
     let z : p ≡ m = omega arith in
@@ -110,21 +115,25 @@ interval a b c d r s u t h n e =
     by-cases (decLt d (min a b)) (λ l. inr (inr (omega arith))) λ l. inr (inl (omega arith))) λ k. inl (omega arith)
   where
     under : (m a b c d r s u t : ℕ) → 0 < r + s → r + s ≡ u + t → a * r + b * s ≡ c * u + d * t → c < m → d < m → m ≤ a → m ≤ b → ⊥
-    under m a b c d r s u t h n e i j k l = omega (arith, mul-le-mul-right u i, mul-le-mul-right t j, mul-le-mul-right r k, mul-le-mul-right s l, ap (λ q. m * q) n)
+    under m a b c d r s u t h n e i j k l =
+        omega (arith, mul-le-mul-right u i, mul-le-mul-right t j, mul-le-mul-right r k, mul-le-mul-right s l, ap (λ q. m * q) n)
 
     over : (m a b c d r s u t : ℕ) → 0 < r + s → r + s ≡ u + t → a * r + b * s ≡ c * u + d * t → m < c → m < d → a ≤ m → b ≤ m → ⊥
-    over m a b c d r s u t h n e i j k l = omega (arith, mul-le-mul-right u i, mul-le-mul-right t j, mul-le-mul-right r k, mul-le-mul-right s l, ap (λ q. m * q) n)
+    over m a b c d r s u t h n e i j k l =
+        omega (arith, mul-le-mul-right u i, mul-le-mul-right t j, mul-le-mul-right r k, mul-le-mul-right s l, ap (λ q. m * q) n)
 
 on-x : (a b p : PixelPosition) → crossPlus a b p ≡ crossMinus a b p → a .x ≢ b .x → In (a .x) (b .x) (p .x) → On a b p
 on-x a b p e h i =
     between-on a b p
-    (by-cases (decLt (a .x) (b .x)) (λ l. rise a b p e (omega arith) (omega arith) l) λ l. turn (rise b a p (omega arith) (omega arith) (omega arith) (omega arith)))
+    (by-cases (decLt (a .x) (b .x)) (λ l. rise a b p e (omega arith) (omega arith) l) λ l.
+    turn (rise b a p (omega arith) (omega arith) (omega arith) (omega arith)))
 
 abbrev Hit : PixelPosition → PixelPosition → PixelPosition → PixelPosition → Type 0
 Hit a b c d = On a b c ⊎ (On a b d ⊎ On c d a)
 
 -- on one line, not upright
-along : (a b c d : PixelPosition) (w : Weighed a b c d) → crossPlus a b c ≡ crossMinus a b c → crossPlus a b d ≡ crossMinus a b d → crossPlus c d a ≡ crossMinus c d a → a .x ≢ b .x → Hit a b c d
+along : (a b c d : PixelPosition) (w : Weighed a b c d) → crossPlus a b c ≡ crossMinus a b c → crossPlus a b d ≡ crossMinus a b d
+    → crossPlus c d a ≡ crossMinus c d a → a .x ≢ b .x → Hit a b c d
 along a b c d w fc fd fa h = go (interval (a .x) (b .x) (c .x) (d .x) (w .r) (w .s) (w .u) (w .t) (w .some) (w .all) (w .same-x))
   where
     go : In (a .x) (b .x) (c .x) ⊎ (In (a .x) (b .x) (d .x) ⊎ ((c .x ≢ d .x) × In (c .x) (d .x) (a .x))) → Hit a b c d
@@ -138,7 +147,8 @@ tipped w = record { r = w .r; s = w .s; u = w .u; t = w .t; some = w .some; all 
 untipped : (a b p : PixelPosition) → On (tip a) (tip b) (tip p) → On a b p
 untipped a b p o = omega arith
 
-collinear : (a b c d : PixelPosition) (w : Weighed a b c d) → crossPlus a b c ≡ crossMinus a b c → crossPlus a b d ≡ crossMinus a b d → crossPlus c d a ≡ crossMinus c d a → Hit a b c d
+collinear : (a b c d : PixelPosition) (w : Weighed a b c d) → crossPlus a b c ≡ crossMinus a b c → crossPlus a b d ≡ crossMinus a b d
+    → crossPlus c d a ≡ crossMinus c d a → Hit a b c d
 collinear a b c d w fc fd fa =
     by-cases (ℕ-discrete (a .x) (b .x))
     (λ ex.

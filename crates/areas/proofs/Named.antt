@@ -29,10 +29,19 @@ module _ (width : ℕ) (bytes : List ℕ) where
       let u = gather-mem (λ i. namedFrom width (getD bytes i 0) i) (upFrom 0 (length bytes)) m in
       let v = Memᴰ·of-map (λ k. stepOf (u .0) (u .0 + later width k)) (keep (bitAt (getD bytes (u .0) 0)) (upFrom 0 4)) (u .2) in
       let w = keep-mem (bitAt (getD bytes (u .0) 0)) (upFrom 0 4) (v .1) in
-      record { cell = u .0; bit = v .0; below = omega (arith, up-mem 0 (length bytes) (u .1)); small = omega (arith, up-mem 0 4 (w .0)); isSet = w .1; edge = v .2 }
+      record {
+        cell = u .0;
+        bit = v .0;
+        below = omega (arith, up-mem 0 (length bytes) (u .1));
+        small = omega (arith, up-mem 0 4 (w .0));
+        isSet = w .1;
+        edge = v .2;
+      }
 
   pub names-named : (e : Edge) → Names width bytes (length bytes) e → List·Memᴰ e (named width bytes)
   unfolding named namedFrom
   names-named e w =
       mem-gather (λ i. namedFrom width (getD bytes i 0) i) (mem-up 0 (length bytes) (w .cell) (omega arith) (omega (arith, w .below)))
-      (Memᴰ·cast (sym (w .edge)) (Memᴰ·map (λ k. stepOf (w .cell) (w .cell + later width k)) (mem-keep (bitAt (getD bytes (w .cell) 0)) (mem-up 0 4 (w .bit) (omega arith) (omega (arith, w .small))) (w .isSet))))
+      (Memᴰ·cast (sym (w .edge))
+      (Memᴰ·map (λ k. stepOf (w .cell) (w .cell + later width k))
+      (mem-keep (bitAt (getD bytes (w .cell) 0)) (mem-up 0 4 (w .bit) (omega arith) (omega (arith, w .small))) (w .isSet))))

@@ -76,12 +76,14 @@ between-on a b p w = record {
     low : (a b p r s : ℕ) → 0 < r + s → a * r + b * s ≡ p * (r + s) → min a b ≤ p
     low a b p r s h e =
         by-cases (decLt p (min a b))
-        (λ l. absurd (omega (arith, mul-le-mul-right {m = p + 1} {n = a} r (omega arith), mul-le-mul-right {m = p + 1} {n = b} s (omega arith)))) (λ l. omega arith)
+        (λ l. absurd (omega (arith, mul-le-mul-right {m = p + 1} {n = a} r (omega arith), mul-le-mul-right {m = p + 1} {n = b} s (omega arith))))
+        (λ l. omega arith)
 
     high : (a b p r s : ℕ) → 0 < r + s → a * r + b * s ≡ p * (r + s) → p ≤ max a b
     high a b p r s h e =
         by-cases (decLt (max a b) p)
-        (λ l. absurd (omega (arith, mul-le-mul-right {m = a + 1} {n = p} r (omega arith), mul-le-mul-right {m = b + 1} {n = p} s (omega arith)))) (λ l. omega arith)
+        (λ l. absurd (omega (arith, mul-le-mul-right {m = a + 1} {n = p} r (omega arith), mul-le-mul-right {m = b + 1} {n = p} s (omega arith))))
+        (λ l. omega arith)
 
 -- the computed test
 pub on-iff : (a b p : PixelPosition) → (onSegment a b p ≡ true) ↔ On a b p

@@ -59,11 +59,14 @@ module _ (dirs : List ℕ) (g : Grid) (ss : List Span) (i : ℕ) where
       go zero l =
           ap (λ (x : ℕ). eqb x 1) (let z : (p 0 + 2 * p 1 + 4 * p 2 + 8 * p 3) / 1 % 2 ≡ p 0 = omega (arith, one 0) in z) ∙ bit-test (isOpen dirs g ss i 0)
       go (suc zero) l =
-          ap (λ (x : ℕ). eqb x 1) (let z : (p 0 + 2 * p 1 + 4 * p 2 + 8 * p 3) / 2 % 2 ≡ p 1 = omega (arith, one 0, one 1) in z) ∙ bit-test (isOpen dirs g ss i 1)
+          ap (λ (x : ℕ). eqb x 1) (let z : (p 0 + 2 * p 1 + 4 * p 2 + 8 * p 3) / 2 % 2 ≡ p 1 = omega (arith, one 0, one 1) in z)
+          ∙ bit-test (isOpen dirs g ss i 1)
       go (suc (suc zero)) l =
-          ap (λ (x : ℕ). eqb x 1) (let z : (p 0 + 2 * p 1 + 4 * p 2 + 8 * p 3) / 4 % 2 ≡ p 2 = omega (arith, one 0, one 1, one 2) in z) ∙ bit-test (isOpen dirs g ss i 2)
+          ap (λ (x : ℕ). eqb x 1) (let z : (p 0 + 2 * p 1 + 4 * p 2 + 8 * p 3) / 4 % 2 ≡ p 2 = omega (arith, one 0, one 1, one 2) in z)
+          ∙ bit-test (isOpen dirs g ss i 2)
       go (suc (suc (suc zero))) l =
-          ap (λ (x : ℕ). eqb x 1) (let z : (p 0 + 2 * p 1 + 4 * p 2 + 8 * p 3) / 8 % 2 ≡ p 3 = omega (arith, one 0, one 1, one 2, one 3) in z) ∙ bit-test (isOpen dirs g ss i 3)
+          ap (λ (x : ℕ). eqb x 1) (let z : (p 0 + 2 * p 1 + 4 * p 2 + 8 * p 3) / 8 % 2 ≡ p 3 = omega (arith, one 0, one 1, one 2, one 3) in z)
+          ∙ bit-test (isOpen dirs g ss i 3)
       go (suc (suc (suc (suc k)))) l = absurd (omega arith)
 
 -- a row on
@@ -90,16 +93,20 @@ module _ (g : Grid) (i : ℕ) where
   later-far : (k : ℕ) → k < 4 → leadsOn g i (5 + k) ≡ true → 0 < later (g .width) k
   unfolding later
   later-far zero l h = omega arith
-  later-far (suc zero) l h = let m = leads-means g i 6 h in omega (arith, m .left-edge, m .right-edge, mod-lt i (let z : 0 < g .width = omega (arith, m .left-edge, m .right-edge) in z))
+  later-far (suc zero) l h = let m = leads-means g i 6 h in
+      omega (arith, m .left-edge, m .right-edge, mod-lt i (let z : 0 < g .width = omega (arith, m .left-edge, m .right-edge) in z))
   later-far (suc (suc zero)) l h = let m = leads-means g i 7 h in omega (arith, m .right-edge)
   later-far (suc (suc (suc zero))) l h = omega arith
   later-far (suc (suc (suc (suc k)))) l h = absurd (omega arith)
 
   -- directions 0 to 3 lead to earlier cells
   neighbour-earlier : (d : ℕ) → d < 4 → leadsOn g i d ≡ true → neighbour g i d < i
-  neighbour-earlier zero l h = let m = leads-means g i 0 h in omega (arith, m .left-edge, m .right-edge, m .top-edge, last-row (rowOf g i) (g .width) (m .top-edge), index-split g i)
-  neighbour-earlier (suc zero) l h = let m = leads-means g i 1 h in omega (arith, m .left-edge, m .right-edge, m .top-edge, last-row (rowOf g i) (g .width) (m .top-edge), index-split g i)
-  neighbour-earlier (suc (suc zero)) l h = let m = leads-means g i 2 h in omega (arith, m .left-edge, m .right-edge, m .top-edge, last-row (rowOf g i) (g .width) (m .top-edge), index-split g i)
+  neighbour-earlier zero l h = let m = leads-means g i 0 h in
+      omega (arith, m .left-edge, m .right-edge, m .top-edge, last-row (rowOf g i) (g .width) (m .top-edge), index-split g i)
+  neighbour-earlier (suc zero) l h = let m = leads-means g i 1 h in
+      omega (arith, m .left-edge, m .right-edge, m .top-edge, last-row (rowOf g i) (g .width) (m .top-edge), index-split g i)
+  neighbour-earlier (suc (suc zero)) l h = let m = leads-means g i 2 h in
+      omega (arith, m .left-edge, m .right-edge, m .top-edge, last-row (rowOf g i) (g .width) (m .top-edge), index-split g i)
   neighbour-earlier (suc (suc (suc zero))) l h = let m = leads-means g i 3 h in omega (arith, m .left-edge, same-row (rowOf g i) (g .width), index-split g i)
   neighbour-earlier (suc (suc (suc (suc d)))) l h = absurd (omega arith)
 
@@ -123,7 +130,8 @@ module _ (dirs : List ℕ) (g : Grid) (ss : List Span) (each : (d : ℕ) → Lis
       let e : neighbour g i (5 + k) ≡ i + later (g .width) k = neighbour-later g i k l (s .leads) in
       let far : i < neighbour g i (5 + k) = omega (arith, e, later-far g i k l (s .leads)) in
       Memᴰ·cast (ap (stepOf i) (sym e))
-      (mem-keep (λ x. not (isCut g ss x)) (steps-iff dirs g i (neighbour g i (5 + k)) .1 (record { by = 5 + k; among = has-mem (5 + k) dirs (p .0); taken = s }, far)) (q .1))
+      (mem-keep (λ x. not (isCut g ss x))
+      (steps-iff dirs g i (neighbour g i (5 + k)) .1 (record { by = 5 + k; among = has-mem (5 + k) dirs (p .0); taken = s }, far)) (q .1))
 
   -- a step to a later cell goes in direction 5 to 8
   forward : (d i j : ℕ) → IsDirection d → StepBy g d i j → i < j → 5 ≤ d
@@ -138,7 +146,8 @@ module _ (dirs : List ℕ) (g : Grid) (ss : List Span) (each : (d : ℕ) → Lis
     below = walkable-on g (e .left) (s .taken .from);
     small = omega (arith, each (s .by) (s .among) .0);
     isSet = byte-open (e .left) (s .by - 5) (walkable-on g (e .left) (s .taken .from)) (omega (arith, each (s .by) (s .among) .0)) ∙ opened;
-    edge = ap (stepOf (e .left)) (sym (neighbour-later g (e .left) (s .by - 5) (omega (arith, each (s .by) (s .among) .0)) (ap (leadsOn g (e .left)) back ∙ s .taken .leads))
+    edge = ap (stepOf (e .left))
+        (sym (neighbour-later g (e .left) (s .by - 5) (omega (arith, each (s .by) (s .among) .0)) (ap (leadsOn g (e .left)) back ∙ s .taken .leads))
         ∙ (ap (neighbour g (e .left)) back ∙ s .taken .there));
   }
     where
@@ -157,7 +166,8 @@ module _ (dirs : List ℕ) (g : Grid) (ss : List Span) (each : (d : ℕ) → Lis
       opened : isOpen dirs g ss (e .left) (s .by - 5) ≡ true
       opened =
           ap (λ (d : ℕ). has d dirs && (hasStep g (e .left) d && not (isCut g ss (stepOf (e .left) (neighbour g (e .left) d))))) back
-          ∙ and-both (mem-has (s .by) dirs (s .among)) (and-both (step-has g (e .left) (s .by) (s .taken)) (ap (λ (x : ℕ). not (isCut g ss (stepOf (e .left) x))) (s .taken .there) ∙ k .1))
+          ∙ and-both (mem-has (s .by) dirs (s .among))
+          (and-both (step-has g (e .left) (s .by) (s .taken)) (ap (λ (x : ℕ). not (isCut g ss (stepOf (e .left) x))) (s .taken .there) ∙ k .1))
 
   -- the steps that the bytes name are the uncut steps
   pub open-members : SameMembers (named (g .width) openBytes) (uncutSteps dirs g ss)

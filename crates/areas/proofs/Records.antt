@@ -26,7 +26,8 @@ module _ (d : List RegionPair) where
       (λ (k : List·Memᴰ r (map (recordOf i) ps)).
       let w = Memᴰ·of-map (recordOf i) ps k in
       subst (λ (x : Record). Own i (ps ∷ rest) x) (w .2) (record { place = 0; inside = omega arith; owner = omega arith; pair = w .1 }))
-      (λ (k : List·Memᴰ r (owned (suc i) rest)). let w = owned-own (suc i) rest k in record { place = suc (w .place); inside = omega arith; owner = omega arith; pair = w .pair })
+      (λ (k : List·Memᴰ r (owned (suc i) rest)). let w = owned-own (suc i) rest k in
+      record { place = suc (w .place); inside = omega arith; owner = omega arith; pair = w .pair })
       (List·Memᴰ·append-cases (map (recordOf i) ps) m)
 
   own-owned : (i : ℕ) (pss : List (List RegionPair)) (k : ℕ) (r : Record) → k < length pss → r .owner ≡ i + k → List·Memᴰ (regionsOf r) (getD pss k d) →
@@ -42,7 +43,8 @@ module _ (dirs : List ℕ) (g : Grid) (ss : List Span) (d : Span) where
   pairsOf : Span → List RegionPair
   pairsOf s = assess dirs g ss s .pairs
 
-  pub records-iff : (r : Record) → List·Memᴰ r (records dirs g ss) ↔ ((r .owner < length ss) × List·Memᴰ (regionsOf r) (assess dirs g ss (getD ss (r .owner) d) .pairs))
+  pub records-iff : (r : Record)
+      → List·Memᴰ r (records dirs g ss) ↔ ((r .owner < length ss) × List·Memᴰ (regionsOf r) (assess dirs g ss (getD ss (r .owner) d) .pairs))
   unfolding records pairsOf
   records-iff r = (to, from)
     where

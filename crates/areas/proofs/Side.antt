@@ -10,7 +10,8 @@ product : (a b c d x m y n : ℕ) → b + m ≡ a + x → d + n ≡ c + y → b 
 product a b c d x m y n h k = omega (arith, ap (λ v. v * d) h, ap (λ v. v * c) h, ap (λ v. v * x) k, ap (λ v. v * m) k)
 
 -- where b.x − a.x = dx − mx, b.y − a.y = dy − my, p.x − a.x = ex − nx and p.y − a.y = ey − ny
-pub cross-is : (a b p : PixelPosition) (dx mx dy my ex nx ey ny : ℕ) → b .x + mx ≡ a .x + dx → b .y + my ≡ a .y + dy → p .x + nx ≡ a .x + ex → p .y + ny ≡ a .y + ey →
+pub cross-is : (a b p : PixelPosition) (dx mx dy my ex nx ey ny : ℕ) → b .x + mx ≡ a .x + dx → b .y + my ≡ a .y + dy → p .x + nx ≡ a .x + ex
+    → p .y + ny ≡ a .y + ey →
     crossPlus a b p + ((dx * ny + mx * ey) + (dy * ex + my * nx)) ≡ crossMinus a b p + ((dx * ey + mx * ny) + (dy * nx + my * ex))
 cross-is a b p dx mx dy my ex nx ey ny hx hy kx ky =
     omega (arith, product (a .x) (b .x) (a .y) (p .y) dx mx ey ny hx ky, product (a .y) (b .y) (a .x) (p .x) dy my ex nx hy kx)

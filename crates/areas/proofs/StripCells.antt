@@ -60,7 +60,8 @@ module _ {w h : ℕ} {s : Span} (d : Sides w h) (f : SpanFits w h s) where
   columns-rise = ⊎-elim (λ k. omega arith) (λ k. omega arith) (le-means (s .a) (s .b) (f .ordered))
 
   line-cases : (t o : Bool) → tall s ≡ t → leb (s .a .y) (s .b .y) ≡ o →
-      LineFits (cond t (cond o (record { l = s .a .y; lm = s .a .x; u = s .b .y; um = s .b .x }) (record { l = s .b .y; lm = s .b .x; u = s .a .y; um = s .a .x }))
+      LineFits (cond t (cond o (record { l = s .a .y; lm = s .a .x; u = s .b .y; um = s .b .x })
+      (record { l = s .b .y; lm = s .b .x; u = s .a .y; um = s .a .x }))
       (record { l = s .a .x; lm = s .a .y; u = s .b .x; um = s .b .y }))
   line-cases false o e k =
       let m = wide-means s e in
@@ -116,11 +117,13 @@ cut-in {g} whole s o i k l h cut =
     rw (ordered s o) at (cut-covers eight-closed whole s (record { by = 5 + k; among = later-eight k l; taken = has-step g i (5 + k) h }) cut)
 
 -- the ranges by steps, as the code computes them
-pub axis-is : (w h : ℕ) (s : Span) (n : Line) (t : Bool) (q : ℕ) (r : CellRange) → n ≡ lineOf s → t ≡ tall s → q ≡ cond t h w → r ≡ axisRange (n .l) (n .u) q → r ≡ stripAxis w h s
+pub axis-is : (w h : ℕ) (s : Span) (n : Line) (t : Bool) (q : ℕ) (r : CellRange) → n ≡ lineOf s → t ≡ tall s → q ≡ cond t h w → r ≡ axisRange (n .l) (n .u) q
+    → r ≡ stripAxis w h s
 unfolding stripAxis
 axis-is w h s n t q r en et eq er = er ∙ rw (eq, et, en)
 
-pub minor-is : (w h : ℕ) (s : Span) (c : ℕ) (n : Line) (t : Bool) (q v x : ℕ) (r : CellRange) → n ≡ lineOf s → t ≡ tall s → q ≡ cond t w h → v ≡ clamp (8 * c + 4) (n .l) (n .u) →
+pub minor-is : (w h : ℕ) (s : Span) (c : ℕ) (n : Line) (t : Bool) (q v x : ℕ) (r : CellRange) → n ≡ lineOf s → t ≡ tall s → q ≡ cond t w h
+    → v ≡ clamp (8 * c + 4) (n .l) (n .u) →
     x ≡ lineAt (n .l) (n .lm) (n .u) (n .um) v → r ≡ minorRange x q → r ≡ stripMinor w h s c
 unfolding stripMinor
 minor-is w h s c n t q v x r en et eq ev ex er = er ∙ rw (ex, ev, eq, et, en)
@@ -131,7 +134,8 @@ limit-some d true = (d .rows, d .columns)
 limit-some d false = (d .columns, d .rows)
 
 -- the major coordinate of the cell at two coordinates of the map
-pub cell-major : (g : Grid) (s : Span) (c cm : ℕ) → c < cond (tall s) (g .height) (g .width) → cm < cond (tall s) (g .width) (g .height) → majorOf g s (cellOf g s c cm) ≡ c
+pub cell-major : (g : Grid) (s : Span) (c cm : ℕ) → c < cond (tall s) (g .height) (g .width) → cm < cond (tall s) (g .width) (g .height)
+    → majorOf g s (cellOf g s c cm) ≡ c
 unfolding cellOf majorOf
 cell-major g s c cm major minor =
     by-test (tall s)

@@ -27,7 +27,8 @@ module _ (a b p : PixelPosition) where
   -- p is on the closed segment from a to b
   unfoldable pub onSegment : Bool
   onSegment =
-      eqb crossPlus crossMinus && ((leb (min (a .x) (b .x)) (p .x) && leb (p .x) (max (a .x) (b .x))) && (leb (min (a .y) (b .y)) (p .y) && leb (p .y) (max (a .y) (b .y))))
+      eqb crossPlus crossMinus
+      && ((leb (min (a .x) (b .x)) (p .x) && leb (p .x) (max (a .x) (b .x))) && (leb (min (a .y) (b .y)) (p .y) && leb (p .y) (max (a .y) (b .y))))
 
 -- c and d lie strictly on opposite sides of the line through a and b
 unfoldable pub opposite : PixelPosition → PixelPosition → PixelPosition → PixelPosition → Bool

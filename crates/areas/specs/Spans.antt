@@ -26,7 +26,10 @@ pub record Sides (width height : ℕ) : Type 0 where
 
 -- span i of the array, and the first n
 unfoldable pub spanIn : List ℕ → ℕ → Span
-spanIn ends i = record { a = record { x = getD ends (4 * i) 0; y = getD ends (4 * i + 1) 0 }; b = record { x = getD ends (4 * i + 2) 0; y = getD ends (4 * i + 3) 0 } }
+spanIn ends i = record {
+  a = record { x = getD ends (4 * i) 0; y = getD ends (4 * i + 1) 0 };
+  b = record { x = getD ends (4 * i + 2) 0; y = getD ends (4 * i + 3) 0 };
+}
 
 unfoldable pub spansIn : List ℕ → ℕ → List Span
 unfolding spanIn rows

@@ -63,9 +63,12 @@ gap m n = (m - n) + (n - m)
 
 -- the cell is in the strip of a span whose earlier end is listed first
 pub data InStrip (g : Grid) (s : Span) (i : ℕ) : Type 0 where
-  wide : gap (s .a .y) (s .b .y) ≤ gap (s .a .x) (s .b .x) → Near (s .a .x) (s .a .y) (s .b .x) (s .b .y) (g .width) (g .height) (columnOf g i) (rowOf g i) → InStrip g s i
-  falls : gap (s .a .x) (s .b .x) < gap (s .a .y) (s .b .y) → s .a .y ≤ s .b .y → Near (s .a .y) (s .a .x) (s .b .y) (s .b .x) (g .height) (g .width) (rowOf g i) (columnOf g i) → InStrip g s i
-  rises : gap (s .a .x) (s .b .x) < gap (s .a .y) (s .b .y) → s .b .y < s .a .y → Near (s .b .y) (s .b .x) (s .a .y) (s .a .x) (g .height) (g .width) (rowOf g i) (columnOf g i) → InStrip g s i
+  wide : gap (s .a .y) (s .b .y) ≤ gap (s .a .x) (s .b .x) → Near (s .a .x) (s .a .y) (s .b .x) (s .b .y) (g .width) (g .height) (columnOf g i) (rowOf g i)
+      → InStrip g s i
+  falls : gap (s .a .x) (s .b .x) < gap (s .a .y) (s .b .y) → s .a .y ≤ s .b .y
+      → Near (s .a .y) (s .a .x) (s .b .y) (s .b .x) (g .height) (g .width) (rowOf g i) (columnOf g i) → InStrip g s i
+  rises : gap (s .a .x) (s .b .x) < gap (s .a .y) (s .b .y) → s .b .y < s .a .y
+      → Near (s .b .y) (s .b .x) (s .a .y) (s .a .x) (g .height) (g .width) (rowOf g i) (columnOf g i) → InStrip g s i
 
 -- the span is longer along the rows than along the columns
 unfoldable pub tall : Span → Bool
@@ -76,7 +79,8 @@ unfoldable pub lineOf : Span → Line
 unfolding tall
 lineOf s =
     cond (tall s)
-    (cond (leb (s .a .y) (s .b .y)) (record { l = s .a .y; lm = s .a .x; u = s .b .y; um = s .b .x }) (record { l = s .b .y; lm = s .b .x; u = s .a .y; um = s .a .x }))
+    (cond (leb (s .a .y) (s .b .y)) (record { l = s .a .y; lm = s .a .x; u = s .b .y; um = s .b .x })
+    (record { l = s .b .y; lm = s .b .x; u = s .a .y; um = s .a .x }))
     (record { l = s .a .x; lm = s .a .y; u = s .b .x; um = s .b .y })
 
 -- the strip of the span on a map of width by height cells: the columns or rows along it, and those about the line at one of these
@@ -87,7 +91,8 @@ module _ (width height : ℕ) (s : Span) where
 
   unfoldable pub stripMinor : ℕ → CellRange
   unfolding minorRange lineAt tall lineOf
-  stripMinor c = minorRange (lineAt (lineOf s .l) (lineOf s .lm) (lineOf s .u) (lineOf s .um) (clamp (8 * c + 4) (lineOf s .l) (lineOf s .u))) (cond (tall s) width height)
+  stripMinor c = minorRange (lineAt (lineOf s .l) (lineOf s .lm) (lineOf s .u) (lineOf s .um) (clamp (8 * c + 4) (lineOf s .l) (lineOf s .u)))
+      (cond (tall s) width height)
 
 -- the coordinate of a cell along the span and the other one, and the cell at two such
 module _ (g : Grid) (s : Span) where

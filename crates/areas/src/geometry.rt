@@ -134,8 +134,10 @@ pub fn cell_center(position: WalkPosition) -> PixelPosition
 
 // The span, whose earlier end is listed first, cuts the step between the cells at two places of a map.
 pub fn cut_by(span: Span, from: WalkPosition, to: WalkPosition) -> bool
-    requires { ⌜ Bounded (span .a) × Bounded (span .b) × (posLe (span .a) (span .b) ≡ true) × (from .x < 1024) × (from .y < 1024) × (to .x < 1024) × (to .y < 1024) ⌝ }
-    ensures { λ r. ⌜ ((g : Grid) (i j : ℕ) → columnOf g i ≡ from .x → rowOf g i ≡ from .y → columnOf g j ≡ to .x → rowOf g j ≡ to .y → r ≡ cutBy g span (stepOf i j)) ⌝ }
+    requires { ⌜ Bounded (span .a) × Bounded (span .b) × (posLe (span .a) (span .b) ≡ true) × (from .x < 1024) × (from .y < 1024) × (to .x < 1024)
+        × (to .y < 1024) ⌝ }
+    ensures { λ r. ⌜ ((g : Grid) (i j : ℕ) → columnOf g i ≡ from .x → rowOf g i ≡ from .y → columnOf g j ≡ to .x → rowOf g j ≡ to .y
+        → r ≡ cutBy g span (stepOf i j)) ⌝ }
 {
     cuts(span, cell_center(from), cell_center(to))
 }

@@ -41,26 +41,31 @@ module _ (ls : List ℕ) (ds : List Edge) (e : Edge) where
   one-more : length (ds ++ (e ∷ [])) ≡ length ds + 1
   one-more = length-append ds (e ∷ [])
 
-  pairs-more : (labelAt ls (e .left) ≡ labelAt ls (e .right) → ⊥) → assessment ls (ds ++ (e ∷ [])) .pairs ≡ include (byKey pairKey) (labelPair ls e) (assessment ls ds .pairs)
+  pairs-more : (labelAt ls (e .left) ≡ labelAt ls (e .right) → ⊥)
+      → assessment ls (ds ++ (e ∷ [])) .pairs ≡ include (byKey pairKey) (labelPair ls e) (assessment ls ds .pairs)
   unfolding assessment
   pairs-more h =
       ap (λ (z : List Edge). sortOnceBy pairKey (map (labelPair ls) z)) (kept-more h)
-      ∙ (ap (sortOnceBy pairKey) (map-append (labelPair ls) (keep (isSeparated ls) ds) (e ∷ [])) ∙ once-last pair-order (labelPair ls e) (map (labelPair ls) (keep (isSeparated ls) ds)))
+      ∙ (ap (sortOnceBy pairKey) (map-append (labelPair ls) (keep (isSeparated ls) ds) (e ∷ []))
+      ∙ once-last pair-order (labelPair ls e) (map (labelPair ls) (keep (isSeparated ls) ds)))
 
 -- no step
-pub advance-none : (ls : List ℕ) {es : List Edge} {most start : ℕ} {lefts rights : List ℕ} {s : Assessed} → es ≡ [] → Advances most ls es start lefts rights s lefts rights s
+pub advance-none : (ls : List ℕ) {es : List Edge} {most start : ℕ} {lefts rights : List ℕ} {s : Assessed} → es ≡ []
+    → Advances most ls es start lefts rights s lefts rights s
 advance-none ls {es} {most} {start} {lefts} {rights} {s} h lefts₀ rights₀ ds was =
     subst (λ (z : List Edge). Holds most (assessment ls z) lefts₀ rights₀ start lefts rights s) (sym (ap (λ (z : List Edge). ds ++ z) h ∙ append-nil ds)) was
 
 module _ (ls : List ℕ) (e : Edge) {most start : ℕ} {lefts rights : List ℕ} {s : Assessed} where
   -- a step whose labels are equal
-  pub advance-same : {s′ : Assessed} → labelAt ls (e .left) ≡ labelAt ls (e .right) → s′ .removed ≡ s .removed + 1 → s′ .separated ≡ s .separated → s′ .end ≡ s .end →
+  pub advance-same : {s′ : Assessed} → labelAt ls (e .left) ≡ labelAt ls (e .right) → s′ .removed ≡ s .removed + 1 → s′ .separated ≡ s .separated
+      → s′ .end ≡ s .end →
       Advances most ls (e ∷ []) start lefts rights s lefts rights s′
   unfolding assessment
   advance-same {s′} h er es ee lefts₀ rights₀ ds was = record {
     removed = omega (arith, er, was .removed, one-more ls ds e);
     separated = es ∙ (was .separated ∙ ap length (sym (kept-same ls ds e h)));
-    pairs = subst (λ (ps : List RegionPair). Listed most ps lefts₀ rights₀ start lefts rights (s′ .end)) (ap (λ (z : List Edge). sortOnceBy pairKey (map (labelPair ls) z)) (sym (kept-same ls ds e h)))
+    pairs = subst (λ (ps : List RegionPair). Listed most ps lefts₀ rights₀ start lefts rights (s′ .end))
+        (ap (λ (z : List Edge). sortOnceBy pairKey (map (labelPair ls) z)) (sym (kept-same ls ds e h)))
         (subst (λ (k : ℕ). Listed most (assessment ls ds .pairs) lefts₀ rights₀ start lefts rights k) (sym ee) (was .pairs));
   }
 
@@ -79,7 +84,8 @@ module _ (ls : List ℕ) (e : Edge) {most start : ℕ} {lefts rights : List ℕ}
   }
 
 -- A loop over k from first on, each turn of which assesses the steps f k: at k the steps before it are assessed, at most m.
-pub record Going (ls : List ℕ) (f : ℕ → List Edge) (first start : ℕ) (lefts₀ rights₀ : List ℕ) (s₀ : Assessed) (lefts rights : List ℕ) (s : Assessed) (k m : ℕ) : Type 0 where
+pub record Going (ls : List ℕ) (f : ℕ → List Edge) (first start : ℕ) (lefts₀ rights₀ : List ℕ) (s₀ : Assessed) (lefts rights : List ℕ) (s : Assessed)
+    (k m : ℕ) : Type 0 where
   pub reached : first ≤ k
   pub lefts-are : length lefts ≡ length lefts₀
   pub rights-are : length rights ≡ length rights₀
@@ -111,17 +117,24 @@ module _ (ls : List ℕ) (f : ℕ → List Edge) {first start : ℕ} {lefts₀ r
       few = omega (arith, g .lefts-are, r .few);
     }
 
-    pub going-next : {lefts′ rights′ : List ℕ} {s′ : Assessed} (m′ q : ℕ) → m + q ≤ m′ → length lefts′ ≡ length lefts → length rights′ ≡ length rights → Grown (length lefts) start q s s′ →
+    pub going-next : {lefts′ rights′ : List ℕ} {s′ : Assessed} (m′ q : ℕ) → m + q ≤ m′ → length lefts′ ≡ length lefts → length rights′ ≡ length rights
+        → Grown (length lefts) start q s s′ →
         Advances (length lefts) ls (f k) start lefts rights s lefts′ rights′ s′ → Going ls f first start lefts₀ rights₀ s₀ lefts′ rights′ s′ (k + 1) m′
     going-next {lefts′} {rights′} {s′} m′ q h el er grew adv = record {
       reached = omega (arith, g .reached);
       lefts-are = el ∙ g .lefts-are;
       rights-are = er ∙ g .rights-are;
-      grown = record { from = grew .from; to = omega (arith, grew .to, g .lefts-are); removed = omega (arith, grew .removed, g .grown .removed); separated = omega (arith, grew .separated, g .grown .separated) };
+      grown = record {
+        from = grew .from;
+        to = omega (arith, grew .to, g .lefts-are);
+        removed = omega (arith, grew .removed, g .grown .removed);
+        separated = omega (arith, grew .separated, g .grown .separated);
+      };
       did = λ l r ds was.
           subst (λ (z : List Edge). Holds (length lefts₀) (assessment ls z) l r start lefts′ rights′ s′)
           (append-assoc ds (gather f (upFrom first (k - first))) (f k) ∙ ap (λ (z : List Edge). ds ++ z) joined)
-          (subst (λ (z : ℕ). Advances z ls (f k) start lefts rights s lefts′ rights′ s′) (g .lefts-are) adv l r (ds ++ gather f (upFrom first (k - first))) (g .did l r ds was));
+          (subst (λ (z : ℕ). Advances z ls (f k) start lefts rights s lefts′ rights′ s′) (g .lefts-are) adv l r (ds ++ gather f (upFrom first (k - first)))
+          (g .did l r ds was));
     }
       where
         joined : gather f (upFrom first (k - first)) ++ f k ≡ gather f (upFrom first (k + 1 - first))
@@ -129,12 +142,15 @@ module _ (ls : List ℕ) (f : ℕ → List Edge) {first start : ℕ} {lefts₀ r
             let e : k + 1 - first ≡ suc (k - first) = omega (arith, g .reached) in
             let d : first + (k - first) ≡ k = omega (arith, g .reached) in
             ap (λ (z : ℕ). gather f (upFrom first (k - first)) ++ f z) (sym d)
-            ∙ (sym (gather-last f (upFrom first (k - first)) (first + (k - first))) ∙ (ap (gather f) (sym (up-last first (k - first))) ∙ ap (λ (z : ℕ). gather f (upFrom first z)) (sym e)))
+            ∙ (sym (gather-last f (upFrom first (k - first)) (first + (k - first)))
+            ∙ (ap (gather f) (sym (up-last first (k - first))) ∙ ap (λ (z : ℕ). gather f (upFrom first z)) (sym e)))
 
     -- all of them
-    pub going-end : (n : ℕ) {es : List Edge} → k - first ≡ n → es ≡ gather f (upFrom first n) → Advances (length lefts₀) ls es start lefts₀ rights₀ s₀ lefts rights s
+    pub going-end : (n : ℕ) {es : List Edge} → k - first ≡ n → es ≡ gather f (upFrom first n)
+        → Advances (length lefts₀) ls es start lefts₀ rights₀ s₀ lefts rights s
     going-end n {es} e h =
-        subst (λ (z : List Edge). Advances (length lefts₀) ls z start lefts₀ rights₀ s₀ lefts rights s) (ap (λ (z : ℕ). gather f (upFrom first z)) e ∙ sym h) (g .did)
+        subst (λ (z : List Edge). Advances (length lefts₀) ls z start lefts₀ rights₀ s₀ lefts rights s) (ap (λ (z : ℕ). gather f (upFrom first z)) e ∙ sym h)
+        (g .did)
 
 -- more may have been allowed
 pub grown-more : {most start m : ℕ} {s t : Assessed} (n : ℕ) → Grown most start m s t → m ≤ n → Grown most start n s t
@@ -163,4 +179,5 @@ module _ (bytes : List ℕ) {n i j x y : ℕ} (a : i < n) (b : j < n) (ex : x �
 -- the same steps, told otherwise
 pub advance-as : (ls : List ℕ) {ds es : List Edge} {most start : ℕ} {lefts rights lefts′ rights′ : List ℕ} {s s′ : Assessed} → ds ≡ es →
     Advances most ls ds start lefts rights s lefts′ rights′ s′ → Advances most ls es start lefts rights s lefts′ rights′ s′
-advance-as ls {ds} {es} {most} {start} {lefts} {rights} {lefts′} {rights′} {s} {s′} e a = subst (λ (z : List Edge). Advances most ls z start lefts rights s lefts′ rights′ s′) e a
+advance-as ls {ds} {es} {most} {start} {lefts} {rights} {lefts′} {rights′} {s} {s′} e a =
+    subst (λ (z : List Edge). Advances most ls z start lefts rights s lefts′ rights′ s′) e a

@@ -48,7 +48,8 @@ module _ (w h : ℕ) (cs : List ℕ) (s : Span) (c cm : ℕ) {x y : ℕ} where
   unfolding cellOf
   place-cell et e f = cell-go (tall s) (e ∙ ap (λ (z : Bool). cond z cm c) et) (f ∙ ap (λ (z : Bool). cond z c cm) et)
 
-pub holds-none : (ls lefts rights : List ℕ) {most start : ℕ} → start ≤ most → Holds most (assessment ls []) lefts rights start lefts rights (record { removed = 0; separated = 0; end = start })
+pub holds-none : (ls lefts rights : List ℕ) {most start : ℕ} → start ≤ most
+    → Holds most (assessment ls []) lefts rights start lefts rights (record { removed = 0; separated = 0; end = start })
 unfolding assessment keep sortOnce pairsIn rows
 holds-none ls lefts rights h = record {
   removed = refl;
@@ -81,5 +82,7 @@ pub along-is : (dirs : List ℕ) (g : Grid) (s : Span) (r : CellRange) → r ≡
 unfolding cutAlong
 along-is dirs g s r e = ap (λ (z : CellRange). gather (cutBeside dirs g s) (within z)) (sym e)
 
-pub holds-as : {most : ℕ} {a b : Assessment} {lefts₀ rights₀ lefts rights : List ℕ} {start : ℕ} {s : Assessed} → a ≡ b → Holds most a lefts₀ rights₀ start lefts rights s → Holds most b lefts₀ rights₀ start lefts rights s
-holds-as {most = most} {lefts₀ = lefts₀} {rights₀ = rights₀} {lefts = lefts} {rights = rights} {start = start} {s = s} e h = subst (λ (z : Assessment). Holds most z lefts₀ rights₀ start lefts rights s) e h
+pub holds-as : {most : ℕ} {a b : Assessment} {lefts₀ rights₀ lefts rights : List ℕ} {start : ℕ} {s : Assessed} → a ≡ b
+    → Holds most a lefts₀ rights₀ start lefts rights s → Holds most b lefts₀ rights₀ start lefts rights s
+holds-as {most = most} {lefts₀ = lefts₀} {rights₀ = rights₀} {lefts = lefts} {rights = rights} {start = start} {s = s} e h =
+    subst (λ (z : Assessment). Holds most z lefts₀ rights₀ start lefts rights s) e h

@@ -50,11 +50,13 @@ module _ (ls dirs : List ℕ) (g : Grid) (ends : List ℕ) where
       ap (λ (z : List Span). owned 0 (map pairsBy z)) (rows-last n (spanIn ends))
       ∙ (ap (owned 0) (map-append pairsBy (rows n (spanIn ends)) (spanIn ends n ∷ []))
       ∙ (owned-last 0 (map pairsBy (rows n (spanIn ends))) (pairsBy (spanIn ends n))
-      ∙ ap (λ (z : ℕ). owned 0 (map pairsBy (rows n (spanIn ends))) ++ map (recordOf z) (pairsBy (spanIn ends n))) (let e : 0 + length (map pairsBy (rows n (spanIn ends))) ≡ n = omega arith in e)))
+      ∙ ap (λ (z : ℕ). owned 0 (map pairsBy (rows n (spanIn ends))) ++ map (recordOf z) (pairsBy (spanIn ends n)))
+      (let e : 0 + length (map pairsBy (rows n (spanIn ends))) ≡ n = omega arith in e)))
 
   up-length : (n : ℕ) → length (upTo (suc n)) ≡ length (upTo n) + length (pairsBy (spanIn ends n))
   up-length n =
-      ap length (up-next n) ∙ (length-append (upTo n) (map (recordOf n) (pairsBy (spanIn ends n))) ∙ ap (λ (z : ℕ). length (upTo n) + z) (length-map (pairsBy (spanIn ends n)) (recordOf n)))
+      ap length (up-next n) ∙ (length-append (upTo n) (map (recordOf n) (pairsBy (spanIn ends n)))
+      ∙ ap (λ (z : ℕ). length (upTo n) + z) (length-map (pairsBy (spanIn ends n)) (recordOf n)))
 
   up-more : (n m : ℕ) → length (upTo n) ≤ length (upTo (n + m))
   up-more n zero = let e : n + 0 ≡ n = omega arith in rw e (omega arith)
@@ -68,14 +70,16 @@ module _ (ls dirs : List ℕ) (g : Grid) (ends : List ℕ) where
     pub told : recordsIn owners lefts rights end ≡ upTo i
     pub counted : Counted ls dirs g ends i removed separated
 
-  pub recording-start : {most : ℕ} {removed separated owners lefts rights : List ℕ} → Arrays most removed separated owners lefts rights → Recording most removed separated owners lefts rights 0 0
+  pub recording-start : {most : ℕ} {removed separated owners lefts rights : List ℕ} → Arrays most removed separated owners lefts rights
+      → Recording most removed separated owners lefts rights 0 0
   unfolding recordsIn rows recordsOf spansIn owned
   recording-start a = record { arrays = a; ended = refl; few = omega arith; told = refl; counted = λ i l. absurd (omega arith) }
 
   module _ {most : ℕ} {removed separated owners lefts rights : List ℕ} {i end : ℕ} (r : Recording most removed separated owners lefts rights i end)
       {lefts′ rights′ : List ℕ} {s : Assessed} (h : Holds most (assessed ls dirs g (spanIn ends i)) lefts rights end lefts′ rights′ s) where
     -- over most
-    pub recording-over : (n : ℕ) → i < n → most < s .end → {removed′ separated′ owners′ : List ℕ} → Recorded ls dirs g most ends n removed′ separated′ owners′ lefts′ rights′ (most + 1)
+    pub recording-over : (n : ℕ) → i < n → most < s .end → {removed′ separated′ owners′ : List ℕ}
+        → Recorded ls dirs g most ends n removed′ separated′ owners′ lefts′ rights′ (most + 1)
     recording-over n l o =
         let many : most < end + length (pairsBy (spanIn ends i)) = by-many in
         let e : suc i + (n - suc i) ≡ n = omega arith in
@@ -104,18 +108,22 @@ module _ (ls dirs : List ℕ) (g : Grid) (ends : List ℕ) where
           let ps = pairsBy (spanIn ends i) in
           ap (recordsIn owners′ lefts′ rights′) new-end
           ∙ (rows-split end (length ps) (recordIn owners′ lefts′ rights′)
-          ∙ (ap₂ _++_ (old ∙ r .told) (new ∙ (sym (map-rows (recordOf i) (length ps) (λ k. pairAt lefts′ rights′ (end + k))) ∙ ap (map (recordOf i)) (h .pairs .fits fitting .1)))
+          ∙ (ap₂ _++_ (old ∙ r .told)
+          (new ∙ (sym (map-rows (recordOf i) (length ps) (λ k. pairAt lefts′ rights′ (end + k))) ∙ ap (map (recordOf i)) (h .pairs .fits fitting .1)))
           ∙ sym (up-next i)))
         where
           old : recordsIn owners′ lefts′ rights′ end ≡ recordsIn owners lefts rights end
           old = rows-same end (recordIn owners′ lefts′ rights′) (recordIn owners lefts rights)
               (λ k l. rw (f .below k l, h .pairs .left-kept k l, h .pairs .right-kept k l))
 
-          new : rows (length (pairsBy (spanIn ends i))) (λ k. recordIn owners′ lefts′ rights′ (end + k)) ≡ rows (length (pairsBy (spanIn ends i))) (λ k. recordOf i (pairAt lefts′ rights′ (end + k)))
-          new = rows-same (length (pairsBy (spanIn ends i))) (λ k. recordIn owners′ lefts′ rights′ (end + k)) (λ k. recordOf i (pairAt lefts′ rights′ (end + k)))
+          new : rows (length (pairsBy (spanIn ends i))) (λ k. recordIn owners′ lefts′ rights′ (end + k)) ≡ rows (length (pairsBy (spanIn ends i)))
+              (λ k. recordOf i (pairAt lefts′ rights′ (end + k)))
+          new = rows-same (length (pairsBy (spanIn ends i))) (λ k. recordIn owners′ lefts′ rights′ (end + k))
+              (λ k. recordOf i (pairAt lefts′ rights′ (end + k)))
               (λ k l. rw (f .here (end + k) (omega arith) (omega (arith, new-end))))
 
-      pub recording-next : {owners′ : List ℕ} → i < 256 → Filled owners owners′ end (s .end) i → length owners′ ≡ length owners → length lefts′ ≡ length lefts → length rights′ ≡ length rights →
+      pub recording-next : {owners′ : List ℕ} → i < 256 → Filled owners owners′ end (s .end) i → length owners′ ≡ length owners → length lefts′ ≡ length lefts
+          → length rights′ ≡ length rights →
           Recording most (set removed i (s .removed)) (set separated i (s .separated)) owners′ lefts′ rights′ (i + 1) (s .end)
       recording-next {owners′} l f eo el er = record {
         arrays = record {
@@ -136,12 +144,18 @@ module _ (ls dirs : List ℕ) (g : Grid) (ends : List ℕ) where
           counts k m =
               by-cases (ℕ-discrete k i)
               (λ e. (
-                ap (at (set removed i (s .removed))) e ∙ (getD-set-same removed i (s .removed) 0 (omega (arith, r .arrays .removed-are)) ∙ (h .removed ∙ ap (λ (z : ℕ). assessed ls dirs g (spanIn ends z) .removed) (sym e))),
-                ap (at (set separated i (s .separated))) e ∙ (getD-set-same separated i (s .separated) 0 (omega (arith, r .arrays .separated-are)) ∙ (h .separated ∙ ap (λ (z : ℕ). assessed ls dirs g (spanIn ends z) .separated) (sym e))),
+                ap (at (set removed i (s .removed))) e
+                    ∙ (getD-set-same removed i (s .removed) 0 (omega (arith, r .arrays .removed-are))
+                    ∙ (h .removed ∙ ap (λ (z : ℕ). assessed ls dirs g (spanIn ends z) .removed) (sym e))),
+                ap (at (set separated i (s .separated))) e
+                    ∙ (getD-set-same separated i (s .separated) 0 (omega (arith, r .arrays .separated-are))
+                    ∙ (h .separated ∙ ap (λ (z : ℕ). assessed ls dirs g (spanIn ends z) .separated) (sym e))),
               ))
-              (λ e. let q = r .counted k (omega arith) in (getD-set-other removed i k (s .removed) 0 e ∙ q .0, getD-set-other separated i k (s .separated) 0 e ∙ q .1))
+              (λ e. let q = r .counted k (omega arith) in
+              (getD-set-other removed i k (s .removed) 0 e ∙ q .0, getD-set-other separated i k (s .separated) 0 e ∙ q .1))
 
-  pub recording-end : {most : ℕ} {removed separated owners lefts rights : List ℕ} {i end n : ℕ} → Recording most removed separated owners lefts rights i end → i ≡ n → Recorded ls dirs g most ends n removed separated owners lefts rights end
+  pub recording-end : {most : ℕ} {removed separated owners lefts rights : List ℕ} {i end n : ℕ} → Recording most removed separated owners lefts rights i end
+      → i ≡ n → Recorded ls dirs g most ends n removed separated owners lefts rights end
   recording-end {most} {removed} {separated} {owners} {lefts} {rights} {i} {end} r e =
       subst (λ (z : ℕ). Recorded ls dirs g most ends z removed separated owners lefts rights end) e
       (record { fits = λ h. (r .ended, r .told, r .counted); over = λ h. absurd (omega (arith, r .ended, r .few)) })
@@ -155,11 +169,14 @@ zero-arrays most h =
 
 -- one span of several on a map
 pub span-on : {w h : ℕ} {cs labels ends : List ℕ} {n i : ℕ} {s : Span} → SpansOnMap w h cs labels ends n → i < n → s ≡ spanIn ends i → OnMap w h cs labels s
-span-on {w} {h} {cs} {labels} m l e = subst (λ (z : Span). OnMap w h cs labels z) (sym e) (record { sides = m .sides; whole = m .whole; labelled = m .labelled; span = m .spans .each _ l })
+span-on {w} {h} {cs} {labels} m l e =
+    subst (λ (z : Span). OnMap w h cs labels z) (sym e) (record { sides = m .sides; whole = m .whole; labelled = m .labelled; span = m .spans .each _ l })
 
 -- what the assessment of the span in hand holds
-pub span-holds : (ls dirs : List ℕ) (g : Grid) (ends : List ℕ) (i : ℕ) (s : Span) {lefts₀ rights₀ lefts rights : List ℕ} {start most m : ℕ} {a : Assessed} → s ≡ spanIn ends i → m ≡ most →
-    Holds m (assessment ls (cutSteps dirs g s)) lefts₀ rights₀ start lefts rights a → Holds most (assessed ls dirs g (spanIn ends i)) lefts₀ rights₀ start lefts rights a
+pub span-holds : (ls dirs : List ℕ) (g : Grid) (ends : List ℕ) (i : ℕ) (s : Span) {lefts₀ rights₀ lefts rights : List ℕ} {start most m : ℕ} {a : Assessed}
+    → s ≡ spanIn ends i → m ≡ most →
+    Holds m (assessment ls (cutSteps dirs g s)) lefts₀ rights₀ start lefts rights a
+    → Holds most (assessed ls dirs g (spanIn ends i)) lefts₀ rights₀ start lefts rights a
 unfolding assessed
 span-holds ls dirs g ends i s {lefts₀} {rights₀} {lefts} {rights} {start} {most} {m} {a} e f h =
     subst (λ (z : Span). Holds most (assessment ls (cutSteps dirs g z)) lefts₀ rights₀ start lefts rights a) e

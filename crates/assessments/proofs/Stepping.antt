@@ -73,10 +73,16 @@ module _ {w h : ℕ} {cs labels : List ℕ} {s : Span} (p : WalkPosition) (m : O
         go l =
             let ex = place-column placed in
             let ey = place-row placed in
-            record { left = omega (arith, l .left-edge); top = omega (arith, l .top-edge); right = omega (arith, l .right-edge); bottom = omega (arith, l .bottom-edge) }
+            record {
+              left = omega (arith, l .left-edge);
+              top = omega (arith, l .top-edge);
+              right = omega (arith, l .right-edge);
+              bottom = omega (arith, l .bottom-edge);
+            }
 
     -- the place q that it leads to
-    module _ (small : d < 9) (q : WalkPosition) (to : (g : Grid) (i : ℕ) → columnOf g i ≡ p .x → rowOf g i ≡ p .y → (q .x ≡ columnTo g i d) × (q .y ≡ rowTo g i d)) where
+    module _ (small : d < 9) (q : WalkPosition)
+        (to : (g : Grid) (i : ℕ) → columnOf g i ≡ p .x → rowOf g i ≡ p .y → (q .x ≡ columnTo g i d) × (q .y ≡ rowTo g i d)) where
       there : (q .x ≡ columnTo (mapOf w h cs) (p .y * w + p .x) d) × (q .y ≡ rowTo (mapOf w h cs) (p .y * w + p .x) d)
       there = to (mapOf w h cs) (p .y * w + p .x) (place-column placed) (place-row placed)
 
@@ -91,7 +97,8 @@ module _ {w h : ℕ} {cs labels : List ℕ} {s : Span} (p : WalkPosition) (m : O
       pub index-there : {k : ℕ} → ((g : Grid) → g .width ≡ w → k ≡ indexOf g (q .x) (q .y)) → k ≡ neighbour (mapOf w h cs) (p .y * w + p .x) d
       index-there e = e (mapOf w h cs) refl ∙ ap₂ (indexOf (mapOf w h cs)) (there .0) (there .1)
 
-      pub step-cut : {r : Bool} → ((g : Grid) (i j : ℕ) → columnOf g i ≡ p .x → rowOf g i ≡ p .y → columnOf g j ≡ q .x → rowOf g j ≡ q .y → r ≡ cutBy g s (stepOf i j)) →
+      pub step-cut : {r : Bool}
+          → ((g : Grid) (i j : ℕ) → columnOf g i ≡ p .x → rowOf g i ≡ p .y → columnOf g j ≡ q .x → rowOf g j ≡ q .y → r ≡ cutBy g s (stepOf i j)) →
           r ≡ cutBy (mapOf w h cs) s (stepOf (p .y * w + p .x) (neighbour (mapOf w h cs) (p .y * w + p .x) d))
       step-cut e =
           e (mapOf w h cs) (p .y * w + p .x) (neighbour (mapOf w h cs) (p .y * w + p .x) d) (place-column placed) (place-row placed)

@@ -2,7 +2,8 @@
 use mathlib.Core.Path.{_≡_, refl, sym, _∙_, ap, subst}
 use mathlib.Core.Logic.{by-cases}
 use mathlib.Core.Bool.{Bool, true, false, cond, _&&_}
-use mathlib.Core.List.{List, [], _∷_, List·Memᴰ, List·Memᴰ·head, List·Memᴰ·tail, List·Memᴰ·not-nil, Memᴰ·cast, List·Permᴰ, List·Permᴰ·nil, List·Permᴰ·cons, List·Permᴰ·swap, List·Permᴰ·trans, Permᴰ·map}
+use mathlib.Core.List.{List, [], _∷_, List·Memᴰ, List·Memᴰ·head, List·Memᴰ·tail, List·Memᴰ·not-nil, Memᴰ·cast, List·Permᴰ, List·Permᴰ·nil, List·Permᴰ·cons}
+use mathlib.Core.List.{List·Permᴰ·swap, List·Permᴰ·trans, Permᴰ·map}
 use Prim.Native.Nat.{ℕ, _+_, _*_, _-_, _≤_, _<_}
 use native.Mathlib.Omega.{arith}
 use native.Mathlib.Nat.{mul-le-mul-right}
@@ -85,7 +86,8 @@ module _ (dirs : List ℕ) (g : Grid) (s : Span) where
   unfolding cutIn
   in-mem i d {e} m = go (isCutIn dirs g s i d) refl m
     where
-      go : (b : Bool) → isCutIn dirs g s i d ≡ b → List·Memᴰ e (cond b (stepOf i (neighbour g i d) ∷ []) []) → (e ≡ stepOf i (neighbour g i d)) × (isCutIn dirs g s i d ≡ true)
+      go : (b : Bool) → isCutIn dirs g s i d ≡ b → List·Memᴰ e (cond b (stepOf i (neighbour g i d) ∷ []) []) → (e ≡ stepOf i (neighbour g i d))
+          × (isCutIn dirs g s i d ≡ true)
       go true h (List·Memᴰ·head q) = (q, h)
       go true h (List·Memᴰ·tail q) = absurd (List·Memᴰ·not-nil q)
       go false h q = absurd (List·Memᴰ·not-nil q)
@@ -132,19 +134,23 @@ module _ (dirs : List ℕ) (g : Grid) (s : Span) where
       across d k l b c m n e =
           let p = in-mem i d m in
           let q = in-mem i k n in
-          let f = neighbour-one g i d k (has-step g i d (parts i d (p .1) .1) .leads) (has-step g i k (parts i k (q .1) .1) .leads) (ap (λ (x : Edge). x .right) (sym (p .0) ∙ (e ∙ q .0))) in
+          let f = neighbour-one g i d k (has-step g i d (parts i d (p .1) .1) .leads) (has-step g i k (parts i k (q .1) .1) .leads)
+          (ap (λ (x : Edge). x .right) (sym (p .0) ∙ (e ∙ q .0))) in
           omega arith
 
   -- from the cells of the strip at c
-  beside-mem : (c : ℕ) {e : Edge} → List·Memᴰ e (cutBeside dirs g s c) → (cm : ℕ) × List·Memᴰ cm (within (stripMinor (g .width) (g .height) s c)) × List·Memᴰ e (cutFrom dirs g s (cellOf g s c cm))
+  beside-mem : (c : ℕ) {e : Edge} → List·Memᴰ e (cutBeside dirs g s c) → (cm : ℕ) × List·Memᴰ cm (within (stripMinor (g .width) (g .height) s c))
+      × List·Memᴰ e (cutFrom dirs g s (cellOf g s c cm))
   unfolding cutBeside
   beside-mem c m = gather-mem (λ cm. cutFrom dirs g s (cellOf g s c cm)) (within (stripMinor (g .width) (g .height) s c)) m
 
-  along-mem : {e : Edge} → List·Memᴰ e (cutAlong dirs g s) → (c : ℕ) × List·Memᴰ c (within (stripAxis (g .width) (g .height) s)) × List·Memᴰ e (cutBeside dirs g s c)
+  along-mem : {e : Edge} → List·Memᴰ e (cutAlong dirs g s) → (c : ℕ) × List·Memᴰ c (within (stripAxis (g .width) (g .height) s))
+      × List·Memᴰ e (cutBeside dirs g s c)
   unfolding cutAlong
   along-mem m = gather-mem (cutBeside dirs g s) (within (stripAxis (g .width) (g .height) s)) m
 
-  mem-along : (c cm : ℕ) {e : Edge} → List·Memᴰ c (within (stripAxis (g .width) (g .height) s)) → List·Memᴰ cm (within (stripMinor (g .width) (g .height) s c)) →
+  mem-along : (c cm : ℕ) {e : Edge} → List·Memᴰ c (within (stripAxis (g .width) (g .height) s))
+      → List·Memᴰ cm (within (stripMinor (g .width) (g .height) s c)) →
       List·Memᴰ e (cutFrom dirs g s (cellOf g s c cm)) → List·Memᴰ e (cutAlong dirs g s)
   unfolding cutAlong cutBeside
   mem-along c cm a b m = mem-gather (cutBeside dirs g s) a (mem-gather (λ cm. cutFrom dirs g s (cellOf g s c cm)) b m)
@@ -168,11 +174,13 @@ module _ (dirs : List ℕ) (g : Grid) (whole : Whole g) (sides : Sides (g .width
   unfolding cutBeside
   beside-distinct c =
       gather-pairs (λ cm. cutFrom dirs g s (cellOf g s c cm)) (λ cm. from-distinct dirs g s (cellOf g s c cm))
-      (pairs-imp across (up-strict (stripMinor (g .width) (g .height) s c .first) (stripMinor (g .width) (g .height) s c .last + 1 - stripMinor (g .width) (g .height) s c .first)))
+      (pairs-imp across (up-strict (stripMinor (g .width) (g .height) s c .first)
+      (stripMinor (g .width) (g .height) s c .last + 1 - stripMinor (g .width) (g .height) s c .first)))
     where
       across : (m n : ℕ) → m < n → (b d : Edge) → List·Memᴰ b (cutFrom dirs g s (cellOf g s c m)) → List·Memᴰ d (cutFrom dirs g s (cellOf g s c n)) → b ≡ d → ⊥
       across m n l b d p q e =
-          cell-apart g s (sides .columns) c m n l (sym (from-left dirs g s (cellOf g s c m) p) ∙ (ap (λ (x : Edge). x .left) e ∙ from-left dirs g s (cellOf g s c n) q))
+          cell-apart g s (sides .columns) c m n l
+          (sym (from-left dirs g s (cellOf g s c m) p) ∙ (ap (λ (x : Edge). x .left) e ∙ from-left dirs g s (cellOf g s c n) q))
 
   -- where a step of the strip at c starts
   beside-major : (c : ℕ) {e : Edge} → List·Memᴰ c (within (stripAxis (g .width) (g .height) s)) → List·Memᴰ e (cutBeside dirs g s c) → majorOf g s (e .left) ≡ c
@@ -188,7 +196,9 @@ module _ (dirs : List ℕ) (g : Grid) (whole : Whole g) (sides : Sides (g .width
   unfolding cutAlong
   along-distinct =
       gather-pairs (cutBeside dirs g s) beside-distinct
-      (pairs-imp across (pairs-mem (up-strict (stripAxis (g .width) (g .height) s .first) (stripAxis (g .width) (g .height) s .last + 1 - stripAxis (g .width) (g .height) s .first))))
+      (pairs-imp across (pairs-mem
+      (up-strict (stripAxis (g .width) (g .height) s .first)
+      (stripAxis (g .width) (g .height) s .last + 1 - stripAxis (g .width) (g .height) s .first))))
     where
       across : (m n : ℕ) → (m < n) × List·Memᴰ m (within (stripAxis (g .width) (g .height) s)) × List·Memᴰ n (within (stripAxis (g .width) (g .height) s)) →
           (b d : Edge) → List·Memᴰ b (cutBeside dirs g s m) → List·Memᴰ d (cutBeside dirs g s n) → b ≡ d → ⊥
@@ -210,7 +220,8 @@ module _ (dirs : List ℕ) (g : Grid) (whole : Whole g) (sides : Sides (g .width
         let x = in-mem dirs g s i d (w .2) in
         let p = parts dirs g s i d (x .1) in
         let t : Step dirs g i (neighbour g i d) = record { by = d; among = has-mem d dirs (p .0); taken = has-step g i d (p .1) } in
-        Memᴰ·cast (x .0) (cut-steps-iff dirs g s (stepOf i (neighbour g i d)) .1 (steps-iff dirs g i (neighbour g i d) .1 (t, goes-later g whole i d (p .1) (omega arith) (r .0)), p .2))
+        Memᴰ·cast (x .0) (cut-steps-iff dirs g s (stepOf i (neighbour g i d)) .1
+        (steps-iff dirs g i (neighbour g i d) .1 (t, goes-later g whole i d (p .1) (omega arith) (r .0)), p .2))
 
     from-step : (i d j : ℕ) → List·Memᴰ d dirs → StepBy g d i j → i < j → cutBy g s (stepOf i j) ≡ true → List·Memᴰ (stepOf i j) (cutAlong dirs g s)
     from-step i d j m t l cut =
@@ -220,7 +231,8 @@ module _ (dirs : List ℕ) (g : Grid) (whole : Whole g) (sides : Sides (g .width
         let c : cutBy g s (stepOf i (neighbour g i d)) ≡ true = ap (λ (z : ℕ). cutBy g s (stepOf i z)) n ∙ cut in
         let five = only-later g whole i d h nine (omega arith) in
         let k : 5 + (d - 5) ≡ d = omega arith in
-        let w = in-within g s i (cut-in whole s ordered i (d - 5) (omega arith) (ap (hasStep g i) k ∙ h) (ap (λ (z : ℕ). cutBy g s (stepOf i (neighbour g i z))) k ∙ c)) in
+        let w = in-within g s i (cut-in whole s ordered i (d - 5) (omega arith) (ap (hasStep g i) k ∙ h)
+        (ap (λ (z : ℕ). cutBy g s (stepOf i (neighbour g i z))) k ∙ c)) in
         mem-along dirs g s (majorOf g s i) (minorOf g s i) (in-within-range (w .along .0) (w .along .1)) (in-within-range (w .beside .0) (w .beside .1))
         (subst (λ (z : ℕ). List·Memᴰ (stepOf i j) (cutFrom dirs g s z)) (sym (cell-back g s i))
         (Memᴰ·cast (ap (stepOf i) (sym n)) (mem-from dirs g s i d five nine (together dirs g s i d (mem-has d dirs m) h c))))
@@ -233,7 +245,8 @@ module _ (dirs : List ℕ) (g : Grid) (whole : Whole g) (sides : Sides (g .width
 
     pub strip-perm : Distinct dirs → List·Permᴰ (cutAlong dirs g s) (cutSteps dirs g s)
     unfolding cutSteps
-    strip-perm once = distinct-same (cutAlong dirs g s) (cutSteps dirs g s) along-distinct (keep-pairs (cutBy g s) (steps-distinct dirs g once)) (λ y. (λ m. to-cut m, λ m. from-cut m))
+    strip-perm once = distinct-same (cutAlong dirs g s) (cutSteps dirs g s) along-distinct (keep-pairs (cutBy g s) (steps-distinct dirs g once))
+        (λ y. (λ m. to-cut m, λ m. from-cut m))
 
 directions-small : (n d : ℕ) → List·Memᴰ d (directionsOf n) → d < 9
 unfolding directionsOf

@@ -20,7 +20,8 @@ fn fill(numbers: &mut [u32], start: usize, end: usize, v: u32)
     }
 }
 
-// The counts of the first spans, and their pairs as records in the order of the spans. Gives the number of records, and one more than the arrays hold where they are over that.
+// The counts of the first spans, and their pairs as records in the order of the spans. Gives the number of records, and one more than the arrays hold
+// where they are over that.
 pub fn assess_spans(
     cells: &[u8],
     width: u32,
@@ -35,8 +36,11 @@ pub fn assess_spans(
     lefts: &mut [u32],
     rights: &mut [u32],
 ) -> usize
-    requires { ⌜ SpansOnMap width height (now cells) (now labels) (now ends) count × Arrays (length (now lefts)) (now removed) (now separated) (now owners) (now lefts) (now rights) ⌝ }
-    ensures { λ r. ⌜ Recorded (labelsIn (now (labels .entry)) (width * height)) (directionsOf directions) (mapOf width height (now (cells .entry))) (length (now (lefts .entry))) (now (ends .entry)) count (now (removed .exit)) (now (separated .exit)) (now (owners .exit)) (now (lefts .exit)) (now (rights .exit)) r ⌝ }
+    requires { ⌜ SpansOnMap width height (now cells) (now labels) (now ends) count
+        × Arrays (length (now lefts)) (now removed) (now separated) (now owners) (now lefts) (now rights) ⌝ }
+    ensures { λ r. ⌜ Recorded (labelsIn (now (labels .entry)) (width * height)) (directionsOf directions) (mapOf width height (now (cells .entry)))
+        (length (now (lefts .entry))) (now (ends .entry)) count (now (removed .exit)) (now (separated .exit)) (now (owners .exit)) (now (lefts .exit))
+        (now (rights .exit)) r ⌝ }
 {
     let most = lefts.len();
     let mut end: usize = 0;

@@ -38,7 +38,9 @@ fn count_step(
 ) -> Assessed
     requires { ⌜ (4 * i + 4 ≤ length (now labels)) × (4 * j + 4 ≤ length (now labels)) × Room start 1 (now lefts) (now rights) state ⌝ }
     ensures { λ r. ⌜ Grown (length (now (lefts .entry))) start 1 state r ⌝ }
-    ensures { λ r. ⌜ ((n : ℕ) → i < n → j < n → Advances (length (now (lefts .entry))) (labelsIn (now (labels .entry)) n) (stepOf i j ∷ []) start (now (lefts .entry)) (now (rights .entry)) state (now (lefts .exit)) (now (rights .exit)) r) ⌝ }
+    ensures { λ r. ⌜ ((n : ℕ) → i < n → j < n
+        → Advances (length (now (lefts .entry))) (labelsIn (now (labels .entry)) n) (stepOf i j ∷ []) start (now (lefts .entry)) (now (rights .entry))
+        state (now (lefts .exit)) (now (rights .exit)) r) ⌝ }
 {
     let removed = state.removed + 1;
     let separated = state.separated;
@@ -75,9 +77,12 @@ fn assess_step(
     start: usize,
     state: Assessed,
 ) -> Assessed
-    requires { ⌜ OnMap width height (now cells) (now labels) span × (position .x < width) × (position .y < height) × (d < 9) × Room start 1 (now lefts) (now rights) state ⌝ }
+    requires { ⌜ OnMap width height (now cells) (now labels) span × (position .x < width) × (position .y < height) × (d < 9)
+        × Room start 1 (now lefts) (now rights) state ⌝ }
     ensures { λ r. ⌜ Grown (length (now (lefts .entry))) start 1 state r ⌝ }
-    ensures { λ r. ⌜ Advances (length (now (lefts .entry))) (labelsIn (now (labels .entry)) (width * height)) (cutIn (directionsOf directions) (mapOf width height (now (cells .entry))) span (position .y * width + position .x) d) start (now (lefts .entry)) (now (rights .entry)) state (now (lefts .exit)) (now (rights .exit)) r ⌝ }
+    ensures { λ r. ⌜ Advances (length (now (lefts .entry))) (labelsIn (now (labels .entry)) (width * height))
+        (cutIn (directionsOf directions) (mapOf width height (now (cells .entry))) span (position .y * width + position .x) d) start (now (lefts .entry))
+        (now (rights .entry)) state (now (lefts .exit)) (now (rights .exit)) r ⌝ }
 {
     if !has_direction(directions, d) {
         return state;
@@ -114,9 +119,12 @@ pub fn assess_cell(
     start: usize,
     state: Assessed,
 ) -> Assessed
-    requires { ⌜ OnMap width height (now cells) (now labels) span × (position .x < width) × (position .y < height) × Room start 4 (now lefts) (now rights) state ⌝ }
+    requires { ⌜ OnMap width height (now cells) (now labels) span × (position .x < width) × (position .y < height)
+        × Room start 4 (now lefts) (now rights) state ⌝ }
     ensures { λ r. ⌜ Grown (length (now (lefts .entry))) start 4 state r ⌝ }
-    ensures { λ r. ⌜ Advances (length (now (lefts .entry))) (labelsIn (now (labels .entry)) (width * height)) (cutFrom (directionsOf directions) (mapOf width height (now (cells .entry))) span (position .y * width + position .x)) start (now (lefts .entry)) (now (rights .entry)) state (now (lefts .exit)) (now (rights .exit)) r ⌝ }
+    ensures { λ r. ⌜ Advances (length (now (lefts .entry))) (labelsIn (now (labels .entry)) (width * height))
+        (cutFrom (directionsOf directions) (mapOf width height (now (cells .entry))) span (position .y * width + position .x)) start (now (lefts .entry))
+        (now (rights .entry)) state (now (lefts .exit)) (now (rights .exit)) r ⌝ }
 {
     let mut done = state;
     let mut d: u32 = 5;

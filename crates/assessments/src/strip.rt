@@ -45,7 +45,9 @@ fn assess_beside(
 ) -> Assessed
     requires { ⌜ OnMap width height (now cells) (now labels) span × (c < cond (tall span) height width) × Room start 4096 (now lefts) (now rights) state ⌝ }
     ensures { λ r. ⌜ Grown (length (now (lefts .entry))) start 4096 state r ⌝ }
-    ensures { λ r. ⌜ Advances (length (now (lefts .entry))) (labelsIn (now (labels .entry)) (width * height)) (cutBeside (directionsOf directions) (mapOf width height (now (cells .entry))) span c) start (now (lefts .entry)) (now (rights .entry)) state (now (lefts .exit)) (now (rights .exit)) r ⌝ }
+    ensures { λ r. ⌜ Advances (length (now (lefts .entry))) (labelsIn (now (labels .entry)) (width * height))
+        (cutBeside (directionsOf directions) (mapOf width height (now (cells .entry))) span c) start (now (lefts .entry)) (now (rights .entry)) state
+        (now (lefts .exit)) (now (rights .exit)) r ⌝ }
 {
     let tall = is_tall(span);
     let range = strip_minor(span, width, height, c);
@@ -71,7 +73,8 @@ fn assess_beside(
     done
 }
 
-// Counts the steps that the span removes, and of those the ones whose labels differ; puts the label pairs of these into the arrays from start on, in order and each once.
+// Counts the steps that the span removes, and of those the ones whose labels differ; puts the label pairs of these into the arrays from start on, in
+// order and each once.
 pub fn assess_span(
     cells: &[u8],
     width: u32,
@@ -83,8 +86,11 @@ pub fn assess_span(
     rights: &mut [u32],
     start: usize,
 ) -> Assessed
-    requires { ⌜ OnMap width height (now cells) (now labels) span × (start ≤ length (now lefts)) × (length (now rights) ≡ length (now lefts)) × (length (now lefts) ≤ 4096) ⌝ }
-    ensures { λ r. ⌜ Holds (length (now (lefts .entry))) (assessment (labelsIn (now (labels .entry)) (width * height)) (cutSteps (directionsOf directions) (mapOf width height (now (cells .entry))) span)) (now (lefts .entry)) (now (rights .entry)) start (now (lefts .exit)) (now (rights .exit)) r ⌝ }
+    requires { ⌜ OnMap width height (now cells) (now labels) span × (start ≤ length (now lefts)) × (length (now rights) ≡ length (now lefts))
+        × (length (now lefts) ≤ 4096) ⌝ }
+    ensures { λ r. ⌜ Holds (length (now (lefts .entry)))
+        (assessment (labelsIn (now (labels .entry)) (width * height)) (cutSteps (directionsOf directions) (mapOf width height (now (cells .entry))) span))
+        (now (lefts .entry)) (now (rights .entry)) start (now (lefts .exit)) (now (rights .exit)) r ⌝ }
 {
     let range = strip_axis(span, width, height);
     let last = range.last;

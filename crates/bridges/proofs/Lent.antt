@@ -15,7 +15,8 @@ module _ (K n m v : ℕ) (records : K ≤ n) (regions : 2 * K ≤ m) (near : m �
   room : K ≤ length (replicate {A = ℕ} n 0)
   room = omega (arith, length-replicate {A = ℕ} n 0)
 
-  pub cleared : Lent K (length (replicate m v)) (replicate n 0) (replicate n 0) (replicate m v) (replicate n 0) (replicate n 0) (replicate m 0) (replicate m 0) (replicate m 0) (replicate m 0) (replicate m 0)
+  pub cleared : Lent K (length (replicate m v)) (replicate n 0) (replicate n 0) (replicate m v) (replicate n 0) (replicate n 0) (replicate m 0) (replicate m 0)
+      (replicate m 0) (replicate m 0) (replicate m 0)
   cleared = record {
     enough = omega (arith, length-replicate {A = ℕ} m v);
     near = omega (arith, length-replicate {A = ℕ} m v);

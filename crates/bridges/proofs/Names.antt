@@ -43,7 +43,8 @@ module _ {K : ℕ} {lefts rights : List ℕ} {regions base : ℕ} {start work : 
 -- both ends of record k have their numbers
 pub numbered-one : {K : ℕ} {lefts rights : List ℕ} {regions base : ℕ} {start work smallLefts smallRights : List ℕ} {k : ℕ}
     (N : Numbered K lefts rights regions base start work smallLefts smallRights k) → k < K → {work₁ work₂ : List ℕ} {v w : ℕ}
-    (A : Next K lefts rights regions base start work₁ (N .words) (at lefts k - 1) v) → (C : Next K lefts rights regions base start work₂ (A .words) (at rights k - 1) w) →
+    (A : Next K lefts rights regions base start work₁ (N .words) (at lefts k - 1) v)
+    → (C : Next K lefts rights regions base start work₂ (A .words) (at rights k - 1) w) →
     Numbered K lefts rights regions base start work₂ (set smallLefts k v) (set smallRights k w) (k + 1)
 numbered-one {lefts = lefts} {rights} {smallLefts = smallLefts} {smallRights} {k} N b {v = v} {w} A C = record {
   words = C .words;
@@ -73,7 +74,9 @@ numbered-one {lefts = lefts} {rights} {smallLefts = smallLefts} {smallRights} {k
 
 -- two labels have one number only if they are one
 pub named-apart : {K : ℕ} {lefts rights : List ℕ} {x y v : ℕ} → Named K lefts rights x v → Named K lefts rights y v → x ≡ y
-named-apart {K} {lefts} {rights} {x} {y} {v} A C = ⊎-elim (λ a. ⊎-elim (λ c. both-left a c) (λ c. absurd (omega (arith, a .1, c .1))) (C .is)) (λ a. ⊎-elim (λ c. absurd (omega (arith, a .1, c .1))) (λ c. both-right a c) (C .is)) (A .is)
+named-apart {K} {lefts} {rights} {x} {y} {v} A C =
+    ⊎-elim (λ a. ⊎-elim (λ c. both-left a c) (λ c. absurd (omega (arith, a .1, c .1))) (C .is))
+    (λ a. ⊎-elim (λ c. absurd (omega (arith, a .1, c .1))) (λ c. both-right a c) (C .is)) (A .is)
   where
     both-left : (at lefts (A .place) ≡ x + 1) × (v ≡ 2 * A .place + 1) → (at lefts (C .place) ≡ y + 1) × (v ≡ 2 * C .place + 1) → x ≡ y
     both-left a c = omega (arith, a .0, c .0, ap (at lefts) (let z : A .place ≡ C .place = omega (arith, a .1, c .1) in z))
@@ -83,11 +86,13 @@ named-apart {K} {lefts} {rights} {x} {y} {v} A C = ⊎-elim (λ a. ⊎-elim (λ 
 
 -- the words of record k's ends are 0 again
 pub forgotten-one : {K : ℕ} {lefts rights : List ℕ} {regions base : ℕ} {start work : List ℕ} {k : ℕ} → Forgotten K lefts rights regions base start work k →
-    Labelled K lefts rights regions → base + 4 * regions ≤ length work → k < K → {work₁ work₂ : List ℕ} → work₁ ≡ splice work (base + 4 * (at lefts k - 1)) (u32Bytes 0) →
+    Labelled K lefts rights regions → base + 4 * regions ≤ length work → k < K → {work₁ work₂ : List ℕ}
+    → work₁ ≡ splice work (base + 4 * (at lefts k - 1)) (u32Bytes 0) →
     work₂ ≡ splice work₁ (base + 4 * (at rights k - 1)) (u32Bytes 0) → Forgotten K lefts rights regions base start work₂ (k + 1)
 forgotten-one {K} {lefts} {rights} {regions} {base} {start} {work} {k} F L fits b {work₁} {work₂} e₁ e₂ = record {
   words = put (put f a 0) c 0;
-  table = subst (Table start regions base (put (put f a 0) c 0)) (sym e₂) (table-set T₁ room c 0 (omega (arith, L .right-from k b, L .right-to k b)) (omega arith));
+  table = subst (Table start regions base (put (put f a 0) c 0)) (sym e₂)
+      (table-set T₁ room c 0 (omega (arith, L .right-from k b, L .right-to k b)) (omega arith));
   left-over = left-over;
 }
   where
@@ -125,7 +130,8 @@ forgotten-one {K} {lefts} {rights} {regions} {base} {start} {work} {k} F L fits 
             }
 
 -- no label has a number
-pub unnumbered : {K : ℕ} {lefts rights : List ℕ} {regions base : ℕ} (start : List ℕ) {smallLefts smallRights : List ℕ} → ((x : ℕ) → x < regions → u32At start (base + 4 * x) ≡ 0) →
+pub unnumbered : {K : ℕ} {lefts rights : List ℕ} {regions base : ℕ} (start : List ℕ) {smallLefts smallRights : List ℕ}
+    → ((x : ℕ) → x < regions → u32At start (base + 4 * x) ≡ 0) →
     K ≤ length smallLefts → K ≤ length smallRights → Numbered K lefts rights regions base start start smallLefts smallRights 0
 unnumbered {regions = regions} {base} start z a b = record {
   words = λ x. 0;
@@ -149,7 +155,8 @@ remembered N = record {
 }
 
 -- once all is forgotten, all is as it was
-pub restored : {K : ℕ} {lefts rights : List ℕ} {regions base : ℕ} {start work : List ℕ} → Forgotten K lefts rights regions base start work K → base + 4 * regions ≤ length start →
+pub restored : {K : ℕ} {lefts rights : List ℕ} {regions base : ℕ} {start work : List ℕ} → Forgotten K lefts rights regions base start work K
+    → base + 4 * regions ≤ length start →
     ((x : ℕ) → x < regions → u32At start (base + 4 * x) ≡ 0) → work ≡ start
 restored {K} {lefts} {rights} {regions} {base} {start} {work} F fits z =
     table-clear start regions base (F .words) (λ x. u32At start (base + 4 * x)) work fits (F .table) (table-own start regions base) none z
@@ -160,7 +167,8 @@ restored {K} {lefts} {rights} {regions} {base} {start} {work} F fits z =
 
 -- a label's word after number_of: that it had, or that of place p
 pub next-step : {K : ℕ} {lefts rights : List ℕ} {regions base : ℕ} {start work work′ : List ℕ} {f : ℕ → ℕ} → Table start regions base f work →
-    ((y : ℕ) → 0 < f y → Named K lefts rights y (f y)) → base + 4 * regions ≤ length start → (x : ℕ) → x < regions → (v p : ℕ) → p < 8192 → Named K lefts rights x (p + 1) →
+    ((y : ℕ) → 0 < f y → Named K lefts rights y (f y)) → base + 4 * regions ≤ length start → (x : ℕ) → x < regions → (v p : ℕ) → p < 8192
+    → Named K lefts rights x (p + 1) →
     ((u32At work (base + 4 * x) ≡ 0 → ⊥) → (u32At work (base + 4 * x) ≡ v + 1) × (work′ ≡ work)) →
     (u32At work (base + 4 * x) ≡ 0 → (v ≡ p) × (work′ ≡ splice work (base + 4 * x) (u32Bytes (p + 1)))) → Next K lefts rights regions base start work′ f x v
 next-step {K} {lefts} {rights} {regions} {base} {start} {work} {work′} {f} T N fits x l v p b n old new =
@@ -195,11 +203,13 @@ numbered-at {K} {lefts} {rights} {regions} {base} {start} {work} {work₁} {work
 
     C : Next K lefts rights regions base start work₂ (A .words) (at rights j - 1) w
     C =
-        next-step (A .table) (A .named) room (at rights j - 1) (omega (arith, L .right-from j in-range, L .right-to j in-range)) w (2 * k + 1) (omega (arith, L .few))
+        next-step (A .table) (A .named) room (at rights j - 1) (omega (arith, L .right-from j in-range, L .right-to j in-range)) w (2 * k + 1)
+        (omega (arith, L .few))
         (record { place = j; inside = in-range; is = inr (omega (arith, L .right-from j in-range), omega arith) }) old₂ new₂
 
 -- the words of record k's ends are 0 again; j is k as an index
-pub forgotten-at : {K : ℕ} {lefts rights : List ℕ} {regions base : ℕ} {start work work₁ work₂ : List ℕ} {k j : ℕ} → j ≡ k → k < K → Labelled K lefts rights regions →
+pub forgotten-at : {K : ℕ} {lefts rights : List ℕ} {regions base : ℕ} {start work work₁ work₂ : List ℕ} {k j : ℕ} → j ≡ k → k < K
+    → Labelled K lefts rights regions →
     base + 4 * regions ≤ length work → Forgotten K lefts rights regions base start work k → work₁ ≡ splice work (base + 4 * (at lefts j - 1)) (u32Bytes 0) →
     work₂ ≡ splice work₁ (base + 4 * (at rights j - 1)) (u32Bytes 0) → Forgotten K lefts rights regions base start work₂ (k + 1)
 forgotten-at {K} {lefts} {rights} {regions} {base} {start} {work} {work₁} {work₂} {k} {j} e b L fits F e₁ e₂ =

@@ -29,8 +29,16 @@ module _ {K : ℕ} {lefts rights : List ℕ} {regions base : ℕ} {start work sm
     near = near;
     lefts-are = N .lefts-are;
     rights-are = N .rights-are;
-    left-in = λ k l. omega (arith, below (at lefts k - 1) (at smallLefts k) (subst (Named K lefts rights (at lefts k - 1)) (N .left k l) (N .named (at lefts k - 1) (omega (arith, N .left k l)))));
-    right-in = λ k l. omega (arith, below (at rights k - 1) (at smallRights k) (subst (Named K lefts rights (at rights k - 1)) (N .right k l) (N .named (at rights k - 1) (omega (arith, N .right k l)))));
+    left-in = λ k l. omega (
+      arith,
+      below (at lefts k - 1) (at smallLefts k)
+          (subst (Named K lefts rights (at lefts k - 1)) (N .left k l) (N .named (at lefts k - 1) (omega (arith, N .left k l)))),
+    );
+    right-in = λ k l. omega (
+      arith,
+      below (at rights k - 1) (at smallRights k)
+          (subst (Named K lefts rights (at rights k - 1)) (N .right k l) (N .named (at rights k - 1) (omega (arith, N .right k l)))),
+    );
   }
 
   module _ (owners : List ℕ) where
@@ -58,7 +66,8 @@ module _ {K : ℕ} {lefts rights : List ℕ} {regions base : ℕ} {start work sm
       as-many = records-length owners smallLefts smallRights K ∙ sym (records-length owners lefts rights K);
       owner = λ k l.
           let b : k < K = omega (arith, l, records-length owners lefts rights K) in
-          ap (λ (r : records.Record). r .owner) (records-at owners smallLefts smallRights K k b) ∙ sym (ap (λ (r : records.Record). r .owner) (records-at owners lefts rights K k b));
+          ap (λ (r : records.Record). r .owner) (records-at owners smallLefts smallRights K k b)
+          ∙ sym (ap (λ (r : records.Record). r .owner) (records-at owners lefts rights K k b));
       left = λ k l.
           let b : k < K = omega (arith, l, records-length owners lefts rights K) in
           let m : at smallLefts k ≡ N .words (at lefts k - 1) - 1 = omega (arith, N .left k b) in

@@ -30,7 +30,8 @@ module _ {start : List ℕ} {regions base : ℕ} {f : ℕ → ℕ} {work : List 
   byte-behind i h =
       let z : i + 0 ≡ i = omega arith in
       ap (λ (k : ℕ). getD (splice work (base + 4 * x) (u32Bytes v)) k 0) (sym z) ∙ sym (part-at (splice work (base + 4 * x) (u32Bytes v)) i 1 0 (omega arith))
-      ∙ ap (λ (t : List ℕ). getD t 0 0) (splice-after work (base + 4 * x) (u32Bytes v) room i 1 (omega (arith, length-bytes 4 v))) ∙ part-at work i 1 0 (omega arith)
+      ∙ ap (λ (t : List ℕ). getD t 0 0) (splice-after work (base + 4 * x) (u32Bytes v) room i 1 (omega (arith, length-bytes 4 v)))
+      ∙ part-at work i 1 0 (omega arith)
       ∙ ap (λ (k : ℕ). getD work k 0) z
 
   -- word x is written
@@ -89,7 +90,8 @@ table-clear start regions base f g work fits T S z y = same-list work start (T .
             let k : (i - base) / 4 < regions = omega arith in
             let rl : i - base - 4 * ((i - base) / 4) < 4 = omega arith in
             ap (λ (j : ℕ). getD work j 0) (sym s)
-            ∙ zero-byte work ((i - base) / 4) (i - base - 4 * ((i - base) / 4)) (omega (arith, T .as-long)) k (T .word ((i - base) / 4) k ∙ z ((i - base) / 4) k) rl
+            ∙ zero-byte work ((i - base) / 4) (i - base - 4 * ((i - base) / 4)) (omega (arith, T .as-long)) k
+            (T .word ((i - base) / 4) k ∙ z ((i - base) / 4) k) rl
             ∙ sym (zero-byte start ((i - base) / 4) (i - base - 4 * ((i - base) / 4)) fits k (S .word ((i - base) / 4) k ∙ y ((i - base) / 4) k) rl)
             ∙ ap (λ (j : ℕ). getD start j 0) s
 

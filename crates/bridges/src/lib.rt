@@ -50,7 +50,10 @@ fn mark_bridges(
     lows: &mut [u32],
     marks: &mut [u8; 256],
 )
-    requires { ⌜ Owners count (now owners) × (count ≤ length (now owners)) × Labelled count (now lefts) (now rights) regions × (base + 4 * regions ≤ length (now work)) × ((x : ℕ) → x < regions → u32At (now work) (base + 4 * x) ≡ 0) × Lent count (length (now heads)) (now «small_lefts») (now «small_rights») (now heads) (now «left_nexts») (now «right_nexts») (now disc) (now stack) (now parents) (now nexts) (now lows) ⌝ }
+    requires { ⌜ Owners count (now owners) × (count ≤ length (now owners)) × Labelled count (now lefts) (now rights) regions
+        × (base + 4 * regions ≤ length (now work)) × ((x : ℕ) → x < regions → u32At (now work) (base + 4 * x) ≡ 0)
+        × Lent count (length (now heads)) (now «small_lefts») (now «small_rights») (now heads) (now «left_nexts») (now «right_nexts») (now disc) (now stack)
+        (now parents) (now nexts) (now lows) ⌝ }
     ensures marks { λ _. ⌜ now (marks .exit) ≡ bridgeMarks (recordsIn (now (owners .entry)) (now (lefts .entry)) (now (rights .entry)) count) 256 ⌝ }
     ensures work { λ _. ⌜ now (work .exit) ≡ now (work .entry) ⌝ }
 {
@@ -101,7 +104,8 @@ fn mark_few(
     base: usize,
     marks: &mut [u8; 256],
 )
-    requires { ⌜ Owners count (now owners) × (count ≤ length (now owners)) × Labelled count (now lefts) (now rights) regions × (base + 4 * regions ≤ length (now work)) × ((x : ℕ) → x < regions → u32At (now work) (base + 4 * x) ≡ 0) × (count ≤ 64) ⌝ }
+    requires { ⌜ Owners count (now owners) × (count ≤ length (now owners)) × Labelled count (now lefts) (now rights) regions
+        × (base + 4 * regions ≤ length (now work)) × ((x : ℕ) → x < regions → u32At (now work) (base + 4 * x) ≡ 0) × (count ≤ 64) ⌝ }
     ensures marks { λ _. ⌜ now (marks .exit) ≡ bridgeMarks (recordsIn (now (owners .entry)) (now (lefts .entry)) (now (rights .entry)) count) 256 ⌝ }
     ensures work { λ _. ⌜ now (work .exit) ≡ now (work .entry) ⌝ }
 {
@@ -148,7 +152,8 @@ fn mark_many(
     base: usize,
     marks: &mut [u8; 256],
 )
-    requires { ⌜ Owners count (now owners) × (count ≤ length (now owners)) × Labelled count (now lefts) (now rights) regions × (base + 4 * regions ≤ length (now work)) × ((x : ℕ) → x < regions → u32At (now work) (base + 4 * x) ≡ 0) ⌝ }
+    requires { ⌜ Owners count (now owners) × (count ≤ length (now owners)) × Labelled count (now lefts) (now rights) regions
+        × (base + 4 * regions ≤ length (now work)) × ((x : ℕ) → x < regions → u32At (now work) (base + 4 * x) ≡ 0) ⌝ }
     ensures marks { λ _. ⌜ now (marks .exit) ≡ bridgeMarks (recordsIn (now (owners .entry)) (now (lefts .entry)) (now (rights .entry)) count) 256 ⌝ }
     ensures work { λ _. ⌜ now (work .exit) ≡ now (work .entry) ⌝ }
 {
@@ -195,7 +200,8 @@ pub fn bridge_boundary_indices(
     base: usize,
     marks: &mut [u8; 256],
 )
-    requires { ⌜ Owners count (now owners) × (count ≤ length (now owners)) × Labelled count (now lefts) (now rights) regions × (base + 4 * regions ≤ length (now work)) × ((x : ℕ) → x < regions → u32At (now work) (base + 4 * x) ≡ 0) ⌝ }
+    requires { ⌜ Owners count (now owners) × (count ≤ length (now owners)) × Labelled count (now lefts) (now rights) regions
+        × (base + 4 * regions ≤ length (now work)) × ((x : ℕ) → x < regions → u32At (now work) (base + 4 * x) ≡ 0) ⌝ }
     ensures marks { λ _. ⌜ now (marks .exit) ≡ bridgeMarks (recordsIn (now (owners .entry)) (now (lefts .entry)) (now (rights .entry)) count) 256 ⌝ }
     ensures work { λ _. ⌜ now (work .exit) ≡ now (work .entry) ⌝ }
 {

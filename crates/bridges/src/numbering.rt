@@ -12,8 +12,10 @@ use wire::write_u32;
 // The number of a label that stands at a place: the one that it has, or that of the place.
 fn number_of(work: &mut [u8], base: usize, label: u32, place: u32) -> u32
     requires { ⌜ (0 < label) × (base + 4 * label ≤ length (now work)) × (place < 8192) ⌝ }
-    ensures old { λ r. ⌜ ((u32At (now (work .entry)) (base + 4 * (label - 1)) ≡ 0 → ⊥) → (u32At (now (work .entry)) (base + 4 * (label - 1)) ≡ r + 1) × (now (work .exit) ≡ now (work .entry))) ⌝ }
-    ensures new { λ r. ⌜ (u32At (now (work .entry)) (base + 4 * (label - 1)) ≡ 0 → (r ≡ place) × (now (work .exit) ≡ splice (now (work .entry)) (base + 4 * (label - 1)) (u32Bytes (place + 1)))) ⌝ }
+    ensures old { λ r. ⌜ ((u32At (now (work .entry)) (base + 4 * (label - 1)) ≡ 0 → ⊥) → (u32At (now (work .entry)) (base + 4 * (label - 1)) ≡ r + 1)
+        × (now (work .exit) ≡ now (work .entry))) ⌝ }
+    ensures new { λ r. ⌜ (u32At (now (work .entry)) (base + 4 * (label - 1)) ≡ 0 → (r ≡ place)
+        × (now (work .exit) ≡ splice (now (work .entry)) (base + 4 * (label - 1)) (u32Bytes (place + 1)))) ⌝ }
 {
     let at = base + size(label - 1) * 4;
     let found = read_u32(work, at);
@@ -36,8 +38,13 @@ fn number_record(
     small_lefts: &mut [u32],
     small_rights: &mut [u32],
 )
-    requires { ⌜ (k < count) × Labelled count (now lefts) (now rights) regions × (base + 4 * regions ≤ length (now work)) × (count ≤ length (now «small_lefts»)) × (count ≤ length (now «small_rights»)) ⌝ }
-    ensures { λ _. ⌜ ((start : List ℕ) → Numbered count (now (lefts .entry)) (now (rights .entry)) regions base start (now (work .entry)) (now («small_lefts» .entry)) (now («small_rights» .entry)) k → Numbered count (now (lefts .entry)) (now (rights .entry)) regions base start (now (work .exit)) (now («small_lefts» .exit)) (now («small_rights» .exit)) (k + 1)) ⌝ }
+    requires { ⌜ (k < count) × Labelled count (now lefts) (now rights) regions × (base + 4 * regions ≤ length (now work)) × (count ≤ length (now «small_lefts»))
+        × (count ≤ length (now «small_rights»)) ⌝ }
+    ensures { λ _. ⌜ ((start : List ℕ)
+        → Numbered count (now (lefts .entry)) (now (rights .entry)) regions base start (now (work .entry)) (now («small_lefts» .entry))
+        (now («small_rights» .entry)) k
+        → Numbered count (now (lefts .entry)) (now (rights .entry)) regions base start (now (work .exit)) (now («small_lefts» .exit))
+        (now («small_rights» .exit)) (k + 1)) ⌝ }
 {
     let at = size(k);
     small_lefts[at] = number_of(work, base, lefts[at], 2 * k);
@@ -55,8 +62,10 @@ pub fn number_all(
     small_lefts: &mut [u32],
     small_rights: &mut [u32],
 )
-    requires { ⌜ Labelled count (now lefts) (now rights) regions × (base + 4 * regions ≤ length (now work)) × ((x : ℕ) → x < regions → u32At (now work) (base + 4 * x) ≡ 0) × (count ≤ length (now «small_lefts»)) × (count ≤ length (now «small_rights»)) ⌝ }
-    ensures { λ _. ⌜ Numbered count (now (lefts .entry)) (now (rights .entry)) regions base (now (work .entry)) (now (work .exit)) (now («small_lefts» .exit)) (now («small_rights» .exit)) count ⌝ }
+    requires { ⌜ Labelled count (now lefts) (now rights) regions × (base + 4 * regions ≤ length (now work))
+        × ((x : ℕ) → x < regions → u32At (now work) (base + 4 * x) ≡ 0) × (count ≤ length (now «small_lefts»)) × (count ≤ length (now «small_rights»)) ⌝ }
+    ensures { λ _. ⌜ Numbered count (now (lefts .entry)) (now (rights .entry)) regions base (now (work .entry)) (now (work .exit)) (now («small_lefts» .exit))
+        (now («small_rights» .exit)) count ⌝ }
 {
     let mut k = 0;
     while k < count {
@@ -94,7 +103,8 @@ fn forget_record(
     base: usize,
 )
     requires { ⌜ (k < count) × Labelled count (now lefts) (now rights) regions × (base + 4 * regions ≤ length (now work)) ⌝ }
-    ensures { λ _. ⌜ ((start : List ℕ) → Forgotten count (now (lefts .entry)) (now (rights .entry)) regions base start (now (work .entry)) k → Forgotten count (now (lefts .entry)) (now (rights .entry)) regions base start (now (work .exit)) (k + 1)) ⌝ }
+    ensures { λ _. ⌜ ((start : List ℕ) → Forgotten count (now (lefts .entry)) (now (rights .entry)) regions base start (now (work .entry)) k
+        → Forgotten count (now (lefts .entry)) (now (rights .entry)) regions base start (now (work .exit)) (k + 1)) ⌝ }
 {
     let at = size(k);
     forget(work, base, lefts[at]);
@@ -111,7 +121,8 @@ pub fn forget_all(
     base: usize,
 )
     requires { ⌜ Labelled count (now lefts) (now rights) regions × (base + 4 * regions ≤ length (now work)) ⌝ }
-    ensures { λ _. ⌜ ((start : List ℕ) → Forgotten count (now (lefts .entry)) (now (rights .entry)) regions base start (now (work .entry)) 0 → Forgotten count (now (lefts .entry)) (now (rights .entry)) regions base start (now (work .exit)) count) ⌝ }
+    ensures { λ _. ⌜ ((start : List ℕ) → Forgotten count (now (lefts .entry)) (now (rights .entry)) regions base start (now (work .entry)) 0
+        → Forgotten count (now (lefts .entry)) (now (rights .entry)) regions base start (now (work .exit)) count) ⌝ }
 {
     let mut k = 0;
     while k < count {

@@ -50,10 +50,13 @@ module _ (lowers highers : List ℕ) (a x : ℕ) (h : a < x) where
   abbrev hits : ℕ → Bool
   hits i = eqb x (getD lowers i 0) || eqb x (getD highers i 0)
 
-  term-hit : (i : ℕ) → hits i ≡ true → cond (leb (getD lowers i 0) a) 1 0 + cond (leb (getD highers i 0) a) 1 0 + 1 ≤ cond (leb (getD lowers i 0) x) 1 0 + cond (leb (getD highers i 0) x) 1 0
+  term-hit : (i : ℕ) → hits i ≡ true
+      → cond (leb (getD lowers i 0) a) 1 0 + cond (leb (getD highers i 0) a) 1 0 + 1 ≤ cond (leb (getD lowers i 0) x) 1 0 + cond (leb (getD highers i 0) x) 1 0
   term-hit i t =
-      ⊎-elim (λ (e : eqb x (getD lowers i 0) ≡ true). omega (arith, unit-hit (getD lowers i 0) a x (eqb-true x (getD lowers i 0) e) h, unit-mono (getD highers i 0) a x (omega arith)))
-      (λ (e : eqb x (getD highers i 0) ≡ true). omega (arith, unit-hit (getD highers i 0) a x (eqb-true x (getD highers i 0) e) h, unit-mono (getD lowers i 0) a x (omega arith)))
+      ⊎-elim (λ (e : eqb x (getD lowers i 0) ≡ true).
+      omega (arith, unit-hit (getD lowers i 0) a x (eqb-true x (getD lowers i 0) e) h, unit-mono (getD highers i 0) a x (omega arith)))
+      (λ (e : eqb x (getD highers i 0) ≡ true).
+      omega (arith, unit-hit (getD highers i 0) a x (eqb-true x (getD highers i 0) e) h, unit-mono (getD lowers i 0) a x (omega arith)))
       (or-cases (eqb x (getD lowers i 0)) (eqb x (getD highers i 0)) t)
 
   up-mono : (n : ℕ) → upTo lowers highers a n ≤ upTo lowers highers x n
@@ -74,7 +77,12 @@ module _ (lowers highers : List ℕ) (a x : ℕ) (h : a < x) where
   up-two (suc n) i j l m d t u =
       by-cases (ℕ-discrete i n) (λ e. omega (arith, up-one n j (omega arith) u, term-hit n (subst (λ (k : ℕ). hits k ≡ true) e t)))
       (λ e. by-cases (ℕ-discrete j n) (λ f. omega (arith, up-one n i (omega arith) t, term-hit n (subst (λ (k : ℕ). hits k ≡ true) f u)))
-      (λ f. omega (arith, up-two n i j (omega arith) (omega arith) d t u, unit-mono (getD lowers n 0) a x (omega arith), unit-mono (getD highers n 0) a x (omega arith))))
+      (λ f. omega (
+        arith,
+        up-two n i j (omega arith) (omega arith) d t u,
+        unit-mono (getD lowers n 0) a x (omega arith),
+        unit-mono (getD highers n 0) a x (omega arith),
+      )))
 
 up-most : (lowers highers : List ℕ) (x n : ℕ) → upTo lowers highers x n ≤ 2 * n
 unfolding upTo
@@ -88,19 +96,24 @@ up-most lowers highers x (suc n) = omega (arith, up-most lowers highers x n, sma
 module _ (t : ℕ → Bool) where
   keep-last : (m : ℕ) → keep t (upFrom 1 (suc m)) ≡ keep t (upFrom 1 m) ++ cond (t (suc m)) (suc m ∷ []) []
   unfolding keep
-  keep-last m = let e : 1 + m ≡ suc m = omega arith in ap (keep t) (up-last 1 m ∙ ap (λ (k : ℕ). upFrom 1 m ++ (k ∷ [])) e) ∙ keep-append t (upFrom 1 m) (suc m ∷ [])
+  keep-last m = let e : 1 + m ≡ suc m = omega arith in
+      ap (keep t) (up-last 1 m ∙ ap (λ (k : ℕ). upFrom 1 m ++ (k ∷ [])) e) ∙ keep-append t (upFrom 1 m) (suc m ∷ [])
 
   keep-gap : (a e : ℕ) → ((y : ℕ) → a < y → t y ≡ false) → keep t (upFrom 1 (a + e)) ≡ keep t (upFrom 1 a)
   keep-gap a zero h = let z : a + 0 ≡ a = omega arith in ap (λ (k : ℕ). keep t (upFrom 1 k)) z
   keep-gap a (suc e) h =
       let z : a + suc e ≡ suc (a + e) = omega arith in
-      ap (λ (k : ℕ). keep t (upFrom 1 k)) z ∙ (keep-last (a + e) ∙ (ap (λ (b : Bool). keep t (upFrom 1 (a + e)) ++ cond b (suc (a + e) ∷ []) []) (h (suc (a + e)) (omega arith)) ∙ (append-nil (keep t (upFrom 1 (a + e))) ∙ keep-gap a e h)))
+      ap (λ (k : ℕ). keep t (upFrom 1 k)) z
+      ∙ (keep-last (a + e) ∙ (ap (λ (b : Bool). keep t (upFrom 1 (a + e)) ++ cond b (suc (a + e) ∷ []) []) (h (suc (a + e)) (omega arith))
+      ∙ (append-nil (keep t (upFrom 1 (a + e))) ∙ keep-gap a e h)))
 
   keep-within : (a e : ℕ) → ((y : ℕ) → a < y → y ≤ a + e → t y ≡ false) → keep t (upFrom 1 (a + e)) ≡ keep t (upFrom 1 a)
   keep-within a zero h = let z : a + 0 ≡ a = omega arith in ap (λ (k : ℕ). keep t (upFrom 1 k)) z
   keep-within a (suc e) h =
       let z : a + suc e ≡ suc (a + e) = omega arith in
-      ap (λ (k : ℕ). keep t (upFrom 1 k)) z ∙ (keep-last (a + e) ∙ (ap (λ (b : Bool). keep t (upFrom 1 (a + e)) ++ cond b (suc (a + e) ∷ []) []) (h (suc (a + e)) (omega arith) (omega arith)) ∙ (append-nil (keep t (upFrom 1 (a + e))) ∙ keep-within a e (λ y l m. h y l (omega arith)))))
+      ap (λ (k : ℕ). keep t (upFrom 1 k)) z
+      ∙ (keep-last (a + e) ∙ (ap (λ (b : Bool). keep t (upFrom 1 (a + e)) ++ cond b (suc (a + e) ∷ []) []) (h (suc (a + e)) (omega arith) (omega arith))
+      ∙ (append-nil (keep t (upFrom 1 (a + e))) ∙ keep-within a e (λ y l m. h y l (omega arith)))))
 
   -- what passes is no more than either number
   keep-same : (a b : ℕ) → ((y : ℕ) → a < y → t y ≡ false) → ((y : ℕ) → b < y → t y ≡ false) → keep t (upFrom 1 a) ≡ keep t (upFrom 1 b)
@@ -119,8 +132,10 @@ unfolding found joinsTwo
 shown d r h =
     let p = and-parts (not (anchoredBy (d .job) (d .start) (d .bases) (d .width) (d .labels) r)) _ h .1 in
     let q = and-parts (eqb (seen d r .count) 2) _ p in
-    let u = and-parts (hasRegion (d .marks) (d .lowers) (d .highers) r (seen d r .first) && hasRegion (d .marks) (d .lowers) (d .highers) r (seen d r .second)) _ (q .1) .0 in
-    let v = and-parts (hasRegion (d .marks) (d .lowers) (d .highers) r (seen d r .first)) (hasRegion (d .marks) (d .lowers) (d .highers) r (seen d r .second)) u in
+    let u = and-parts (hasRegion (d .marks) (d .lowers) (d .highers) r (seen d r .first) && hasRegion (d .marks) (d .lowers) (d .highers) r (seen d r .second))
+    _ (q .1) .0 in
+    let v = and-parts (hasRegion (d .marks) (d .lowers) (d .highers) r (seen d r .first)) (hasRegion (d .marks) (d .lowers) (d .highers) r (seen d r .second))
+    u in
     record { two = eqb-true (seen d r .count) 2 (q .0); first = v .0; second = v .1 }
 
 module _ (d : Given) (n : ℕ) (below : OwnersBelow (d .owners) (d .count) n) where
@@ -144,7 +159,11 @@ module _ (d : Given) (n : ℕ) (below : OwnersBelow (d .owners) (d .count) n) wh
   room-next after r h l =
       let s = shown d r h in
       let t = two-ranks (d .owners) (d .lefts) (d .rights) r below (s .two) in
-      up-two (d .lowers) (d .highers) after r l n (seen d r .first) (seen d r .second) (t .0) (t .1) (t .2) (and-parts (eqb (getD (d .marks) (seen d r .first) 0) 1) (eqb r (getD (d .lowers) (seen d r .first) 0) || eqb r (getD (d .highers) (seen d r .first) 0)) (s .first) .1) (and-parts (eqb (getD (d .marks) (seen d r .second) 0) 1) (eqb r (getD (d .lowers) (seen d r .second) 0) || eqb r (getD (d .highers) (seen d r .second) 0)) (s .second) .1)
+      up-two (d .lowers) (d .highers) after r l n (seen d r .first) (seen d r .second) (t .0) (t .1) (t .2)
+      (and-parts (eqb (getD (d .marks) (seen d r .first) 0) 1)
+      (eqb r (getD (d .lowers) (seen d r .first) 0) || eqb r (getD (d .highers) (seen d r .first) 0)) (s .first) .1)
+      (and-parts (eqb (getD (d .marks) (seen d r .second) 0) 1)
+      (eqb r (getD (d .lowers) (seen d r .second) 0) || eqb r (getD (d .highers) (seen d r .second) 0)) (s .second) .1)
 
   pub collected-start : (k : ℕ) → k ≡ 256 → Collected d n 0 0 (replicate k 0) (replicate k 0) (replicate k 0)
   unfolding linksIn rows keep upFrom
@@ -165,13 +184,15 @@ module _ (d : Given) (n : ℕ) (below : OwnersBelow (d .owners) (d .count) n) wh
       let l : after < r = rw e (next-above (d .marks) (d .lowers) (d .highers) after n (rw (← e) h)) in
       let s : r ≡ suc (after + (r - after - 1)) = omega arith in
       let m = after + (r - after - 1) in
-      let last : keep (found d) (upFrom 1 r) ≡ keep (found d) (upFrom 1 m) ++ cond (found d r) (r ∷ []) [] = subst (λ (k : ℕ). keep (found d) (upFrom 1 k) ≡ keep (found d) (upFrom 1 m) ++ cond (found d k) (k ∷ []) []) (sym s) (keep-last (found d) m) in
+      let last : keep (found d) (upFrom 1 r) ≡ keep (found d) (upFrom 1 m) ++ cond (found d r) (r ∷ []) [] =
+      subst (λ (k : ℕ). keep (found d) (upFrom 1 k) ≡ keep (found d) (upFrom 1 m) ++ cond (found d k) (k ∷ []) []) (sym s) (keep-last (found d) m) in
       last ∙ ap (λ (k : List ℕ). k ++ cond (found d r) (r ∷ []) []) (gap after (r - after - 1) (λ y a b. between after y a (λ z. omega arith)))
     where
       gap : (a e : ℕ) → ((y : ℕ) → a < y → y ≤ a + e → found d y ≡ false) → keep (found d) (upFrom 1 (a + e)) ≡ keep (found d) (upFrom 1 a)
       gap a e h = keep-within (found d) a e h
 
-links-more : (rs fs ss : List ℕ) (c r a b : ℕ) → c < length rs → c < length fs → c < length ss → linksIn (set rs c r) (set fs c a) (set ss c b) (c + 1) ≡ linksIn rs fs ss c ++ (record { region = r; first = a; second = b } ∷ [])
+links-more : (rs fs ss : List ℕ) (c r a b : ℕ) → c < length rs → c < length fs → c < length ss
+    → linksIn (set rs c r) (set fs c a) (set ss c b) (c + 1) ≡ linksIn rs fs ss c ++ (record { region = r; first = a; second = b } ∷ [])
 unfolding linksIn
 links-more rs fs ss c r a b h k m =
     let e : c + 1 ≡ suc c = omega arith in
@@ -179,15 +200,19 @@ links-more rs fs ss c r a b h k m =
     let G : ℕ → LinkAt = λ i. record { region = getD rs i 0; first = getD fs i 0; second = getD ss i 0 } in
     ap (λ (i : ℕ). rows i F) e
     ∙ (rows-last c F
-    ∙ (ap (λ (l : List LinkAt). l ++ (F c ∷ [])) (rows-same c F G (λ i l. same-at (getD-set-other rs c i r 0 (λ z. omega arith)) (getD-set-other fs c i a 0 (λ z. omega arith)) (getD-set-other ss c i b 0 (λ z. omega arith))))
+    ∙ (ap (λ (l : List LinkAt). l ++ (F c ∷ []))
+    (rows-same c F G (λ i l. same-at (getD-set-other rs c i r 0 (λ z. omega arith)) (getD-set-other fs c i a 0 (λ z. omega arith))
+    (getD-set-other ss c i b 0 (λ z. omega arith))))
     ∙ ap (λ (x : LinkAt). rows c G ++ (x ∷ [])) (same-at (getD-set-same rs c r 0 h) (getD-set-same fs c a 0 k) (getD-set-same ss c b 0 m))))
   where
-    same-at : {x y z u v w : ℕ} → x ≡ u → y ≡ v → z ≡ w → _≡_ {A = LinkAt} (record { region = x; first = y; second = z }) (record { region = u; first = v; second = w })
+    same-at : {x y z u v w : ℕ} → x ≡ u → y ≡ v → z ≡ w
+        → _≡_ {A = LinkAt} (record { region = x; first = y; second = z }) (record { region = u; first = v; second = w })
     same-at e f g = rw (e, f, g)
 
 module _ (d : Given) (n : ℕ) (below : OwnersBelow (d .owners) (d .count) n) where
   -- one region more
-  pub collected-next : {after count r count′ : ℕ} {rs fs ss rs′ fs′ ss′ : List ℕ} → n ≤ 256 → Collected d n after count rs fs ss → r ≡ nextAfter (d .marks) (d .lowers) (d .highers) after n → 0 < r
+  pub collected-next : {after count r count′ : ℕ} {rs fs ss rs′ fs′ ss′ : List ℕ} → n ≤ 256 → Collected d n after count rs fs ss
+      → r ≡ nextAfter (d .marks) (d .lowers) (d .highers) after n → 0 < r
       → Added d r count rs fs ss count′ rs′ fs′ ss′ → Collected d n r count′ rs′ fs′ ss′
   unfolding linkOf
   collected-next {after} {count} {r} {count′} {rs} {fs} {ss} {rs′} {fs′} {ss′} few c e h a = go (found d r) refl
@@ -211,8 +236,11 @@ module _ (d : Given) (n : ℕ) (below : OwnersBelow (d .owners) (d .count) n) wh
             firsts-length = ap (λ (x : List ℕ). length x) e2 ∙ (length-set fs count (seen d r .first) ∙ c .firsts-length);
             seconds-length = ap (λ (x : List ℕ). length x) e3 ∙ (length-set ss count (seen d r .second) ∙ c .seconds-length);
             room = omega (arith, e0, c .room, room-next d n below after r q l);
-            all = rw (e0, e1, e2, e3) (links-more rs fs ss count r (seen d r .first) (seen d r .second) (omega (arith, c .regions-length)) (omega (arith, c .firsts-length)) (omega (arith, c .seconds-length))
-                ∙ (ap (λ (x : List LinkAt). x ++ (linkOf d r ∷ [])) (c .all) ∙ (sym (map-append (linkOf d) (keep (found d) (upFrom 1 after)) (r ∷ [])) ∙ ap (map (linkOf d)) (sym (kept true q)))));
+            all = rw (e0, e1, e2, e3)
+                (links-more rs fs ss count r (seen d r .first) (seen d r .second) (omega (arith, c .regions-length)) (omega (arith, c .firsts-length))
+                (omega (arith, c .seconds-length))
+                ∙ (ap (λ (x : List LinkAt). x ++ (linkOf d r ∷ [])) (c .all)
+                ∙ (sym (map-append (linkOf d) (keep (found d) (upFrom 1 after)) (r ∷ [])) ∙ ap (map (linkOf d)) (sym (kept true q)))));
           }
       go false q =
           let w = a .same q in
@@ -229,21 +257,32 @@ module _ (d : Given) (n : ℕ) (below : OwnersBelow (d .owners) (d .count) n) wh
           }
 
   -- no region is left
-  pub collected-all : {after count : ℕ} {rs fs ss : List ℕ} → n ≤ 256 → Collected d n after count rs fs ss → nextAfter (d .marks) (d .lowers) (d .highers) after n ≡ 0 → AllFound d rs fs ss count
+  pub collected-all : {after count : ℕ} {rs fs ss : List ℕ} → n ≤ 256 → Collected d n after count rs fs ss
+      → nextAfter (d .marks) (d .lowers) (d .highers) after n ≡ 0 → AllFound d rs fs ss count
   collected-all {after} few c e = record {
     most = omega (arith, c .room, up-most (d .lowers) (d .highers) after n);
     all = λ top h. c .all ∙ ap (map (linkOf d)) (keep-same (found d) after top (λ y l. between d n below after y l (λ z. absurd (omega arith))) h);
   }
 
-pub two-below : (owners lefts rights : List ℕ) {n k : ℕ} (r : ℕ) {t : Touching} → OwnersBelow owners k n → t ≡ touchingAfter (recordIn owners lefts rights) r k → TwoBelow (t .count) (t .first) (t .second) n
+pub two-below : (owners lefts rights : List ℕ) {n k : ℕ} (r : ℕ) {t : Touching} → OwnersBelow owners k n → t ≡ touchingAfter (recordIn owners lefts rights) r k
+    → TwoBelow (t .count) (t .first) (t .second) n
 two-below owners lefts rights r h e = record { both = rw e (λ q. let w = two-ranks owners lefts rights r h q in (w .0, w .1)) }
 
-pub gives-found : (d : Given) (r : ℕ) {t : Touching} {b : Bool} → t ≡ seen d r → b ≡ (not (anchoredBy (d .job) (d .start) (d .bases) (d .width) (d .labels) r) && joinsTwo (d .own) (d .marks) (d .lowers) (d .highers) r (t .count) (t .first) (t .second)) → b ≡ found d r
+pub gives-found : (d : Given) (r : ℕ) {t : Touching} {b : Bool} → t ≡ seen d r
+    → b ≡ (not (anchoredBy (d .job) (d .start) (d .bases) (d .width) (d .labels) r) && joinsTwo (d .own) (d .marks) (d .lowers) (d .highers) r (t .count)
+    (t .first) (t .second)) → b ≡ found d r
 unfolding found
-gives-found d r e g = g ∙ ap (λ (t : Touching). not (anchoredBy (d .job) (d .start) (d .bases) (d .width) (d .labels) r) && joinsTwo (d .own) (d .marks) (d .lowers) (d .highers) r (t .count) (t .first) (t .second)) e
+gives-found d r e g = g ∙ ap
+    (λ (t : Touching). not (anchoredBy (d .job) (d .start) (d .bases) (d .width) (d .labels) r) && joinsTwo (d .own) (d .marks) (d .lowers) (d .highers) r
+    (t .count) (t .first) (t .second)) e
 
-pub added-one : (d : Given) (r count : ℕ) (rs fs ss : List ℕ) {t : Touching} → t ≡ seen d r → found d r ≡ true → Added d r count rs fs ss (count + 1) (set rs count r) (set fs count (t .first)) (set ss count (t .second))
-added-one d r count rs fs ss e h = record { more = λ q. (refl, refl, ap (λ (t : Touching). set fs count (t .first)) e, ap (λ (t : Touching). set ss count (t .second)) e); same = λ q. clash h q }
+pub added-one : (d : Given) (r count : ℕ) (rs fs ss : List ℕ) {t : Touching} → t ≡ seen d r → found d r ≡ true
+    → Added d r count rs fs ss (count + 1) (set rs count r) (set fs count (t .first)) (set ss count (t .second))
+added-one d r count rs fs ss e h =
+    record {
+      more = λ q. (refl, refl, ap (λ (t : Touching). set fs count (t .first)) e, ap (λ (t : Touching). set ss count (t .second)) e);
+      same = λ q. clash h q;
+    }
 
 pub added-none : (d : Given) (r count : ℕ) (rs fs ss : List ℕ) → found d r ≡ false → Added d r count rs fs ss count rs fs ss
 added-none d r count rs fs ss h = record { more = λ q. clash q h; same = λ q. (refl, refl, refl, refl) }

@@ -25,18 +25,22 @@ one-kept false l x = append-nil l
 own-last : (f : ℕ → Record) (k i : ℕ) → ofOwner f (k + 1) i ≡ cond (eqb (f k .owner) i) (ofOwner f k i ++ (f k ∷ [])) (ofOwner f k i)
 unfolding ofOwner keep
 own-last f k i =
-    rw add-one (ap (keep (λ (r : Record). eqb (r .owner) i)) (rows-last k f) ∙ (keep-append (λ (r : Record). eqb (r .owner) i) (rows k f) (f k ∷ []) ∙ one-kept (eqb (f k .owner) i) (keep (λ (r : Record). eqb (r .owner) i) (rows k f)) (f k)))
+    rw add-one (ap (keep (λ (r : Record). eqb (r .owner) i)) (rows-last k f)
+    ∙ (keep-append (λ (r : Record). eqb (r .owner) i) (rows k f) (f k ∷ [])
+    ∙ one-kept (eqb (f k .owner) i) (keep (λ (r : Record). eqb (r .owner) i) (rows k f)) (f k)))
 
 first-of : (l : List Record) (x : Record) {n : ℕ} → n ≡ length l → getD (l ++ (x ∷ [])) 0 noRecord ≡ cond (eqb n 0) x (getD l 0 noRecord)
 first-of [] x {n} e = rw (eq-eqb n 0 e)
 first-of (y ∷ ys) x {n} e = rw (ne-eqb n 0 (λ z. omega arith))
 
 -- a first region is set with the first record
-field-next : (field : Record → ℕ) (xs : List ℕ) (i : ℕ) (l : List Record) (x : Record) {n : ℕ} → i < length xs → n ≡ length l → getD xs i 0 ≡ field (getD l 0 noRecord)
+field-next : (field : Record → ℕ) (xs : List ℕ) (i : ℕ) (l : List Record) (x : Record) {n : ℕ} → i < length xs → n ≡ length l
+    → getD xs i 0 ≡ field (getD l 0 noRecord)
     → getD (cond (eqb n 0) (set xs i (field x)) xs) i 0 ≡ field (getD (l ++ (x ∷ [])) 0 noRecord)
 field-next field xs i l x {n} h e g = go (eqb n 0) (first-of l x e)
   where
-    go : (b : Bool) → getD (l ++ (x ∷ [])) 0 noRecord ≡ cond b x (getD l 0 noRecord) → getD (cond b (set xs i (field x)) xs) i 0 ≡ field (getD (l ++ (x ∷ [])) 0 noRecord)
+    go : (b : Bool) → getD (l ++ (x ∷ [])) 0 noRecord ≡ cond b x (getD l 0 noRecord)
+        → getD (cond b (set xs i (field x)) xs) i 0 ≡ field (getD (l ++ (x ∷ [])) 0 noRecord)
     go true q = getD-set-same xs i (field x) 0 h ∙ sym (ap field q)
     go false q = g ∙ sym (ap field q)
 
@@ -75,10 +79,12 @@ module _ (owners lefts rights : List ℕ) (k : ℕ) {counts lowers highers : Lis
   count-next : (i : ℕ) → i < 256 → getD (set counts o (getD counts o 0 + 1)) i 0 ≡ length (ofOwner f (k + 1) i)
   count-next i l =
       by-cases (ℕ-discrete i o)
-      (λ e. rw (mine i e, length-append (ofOwner f k i) (f k ∷ []), ← e) (getD-set-same counts i (getD counts i 0 + 1) 0 (omega (arith, h .counts-length)) ∙ ap (λ (n : ℕ). n + 1) (h .counts-are i l)))
+      (λ e. rw (mine i e, length-append (ofOwner f k i) (f k ∷ []), ← e)
+      (getD-set-same counts i (getD counts i 0 + 1) 0 (omega (arith, h .counts-length)) ∙ ap (λ (n : ℕ). n + 1) (h .counts-are i l)))
       (λ e. rw (others i e) (getD-set-other counts o i (getD counts o 0 + 1) 0 e ∙ h .counts-are i l))
 
-  field-is : (field : Record → ℕ) (xs : List ℕ) → length xs ≡ 256 → ((i : ℕ) → i < 256 → getD xs i 0 ≡ field (getD (ofOwner f k i) 0 noRecord)) → (i : ℕ) → i < 256
+  field-is : (field : Record → ℕ) (xs : List ℕ) → length xs ≡ 256 → ((i : ℕ) → i < 256 → getD xs i 0 ≡ field (getD (ofOwner f k i) 0 noRecord)) → (i : ℕ)
+      → i < 256
       → getD (cond (eqb (getD counts o 0) 0) (set xs o (field (f k))) xs) i 0 ≡ field (getD (ofOwner f (k + 1) i) 0 noRecord)
   field-is field xs s g i l =
       by-cases (ℕ-discrete i o)
@@ -87,7 +93,8 @@ module _ (owners lefts rights : List ℕ) (k : ℕ) {counts lowers highers : Lis
       ∙ sym (ap (λ (m : List Record). field (getD m 0 noRecord)) (mine i e)))
       (λ e. rw (others i e) (field-other xs o i (field (f k)) (eqb (getD counts o 0) 0) e ∙ g i l))
 
-  pub firsts-next : Firsts owners lefts rights (k + 1) (set counts o (getD counts o 0 + 1)) (cond (eqb (getD counts o 0) 0) (set lowers o (getD lefts k 0)) lowers) (cond (eqb (getD counts o 0) 0) (set highers o (getD rights k 0)) highers)
+  pub firsts-next : Firsts owners lefts rights (k + 1) (set counts o (getD counts o 0 + 1))
+      (cond (eqb (getD counts o 0) 0) (set lowers o (getD lefts k 0)) lowers) (cond (eqb (getD counts o 0) 0) (set highers o (getD rights k 0)) highers)
   firsts-next = record {
     counts-length = length-set counts o (getD counts o 0 + 1) ∙ h .counts-length;
     lowers-length = length-cond lowers o (getD lefts k 0) (eqb (getD counts o 0) 0) (h .lowers-length);
@@ -102,13 +109,15 @@ own-few : (f : ℕ → Record) (k i : ℕ) → length (ofOwner f k i) ≤ k
 unfolding ofOwner
 own-few f k i = omega (arith, keep-length (λ (r : Record). eqb (r .owner) i) (rows k f), length-rows k f)
 
-pub count-few : {owners lefts rights : List ℕ} {k : ℕ} {counts lowers highers : List ℕ} → Firsts owners lefts rights k counts lowers highers → k ≤ 4096 → (i : ℕ) → i < 256 → getD counts i 0 ≤ 4096
+pub count-few : {owners lefts rights : List ℕ} {k : ℕ} {counts lowers highers : List ℕ} → Firsts owners lefts rights k counts lowers highers → k ≤ 4096
+    → (i : ℕ) → i < 256 → getD counts i 0 ≤ 4096
 count-few {owners} {lefts} {rights} {k} h l i m = omega (arith, h .counts-are i m, own-few (recordIn owners lefts rights) k i)
 
 pub firsts-end : {owners lefts rights : List ℕ} {k n : ℕ} {c l h : List ℕ} → k ≡ n → Firsts owners lefts rights k c l h → Firsts owners lefts rights n c l h
 firsts-end e w = rw (← e) w
 
 -- one record more, by its owner's rank
-pub firsts-at : {owners lefts rights : List ℕ} {k rank : ℕ} {c c′ l l′ h h′ : List ℕ} → rank ≡ getD owners k 0 → c′ ≡ set c rank (getD c rank 0 + 1) → l′ ≡ cond (eqb (getD c rank 0) 0) (set l rank (getD lefts k 0)) l
+pub firsts-at : {owners lefts rights : List ℕ} {k rank : ℕ} {c c′ l l′ h h′ : List ℕ} → rank ≡ getD owners k 0 → c′ ≡ set c rank (getD c rank 0 + 1)
+    → l′ ≡ cond (eqb (getD c rank 0) 0) (set l rank (getD lefts k 0)) l
     → h′ ≡ cond (eqb (getD c rank 0) 0) (set h rank (getD rights k 0)) h → Firsts owners lefts rights k c l h → Firsts owners lefts rights (k + 1) c′ l′ h′
 firsts-at {owners} {lefts} {rights} {k} e p q s w = rw (p, q, s, e) (firsts-next owners lefts rights k w)

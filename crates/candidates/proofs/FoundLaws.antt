@@ -39,7 +39,8 @@ use Rattle.candidates.proofs.ToucherLaws.{touching-held}
 pub record Tells (dirs : List ℕ) (g : Grid) (anchors : List WalkPosition) (l : List Item) (d : Given) : Type 0 where
   pub ends : (i : ℕ) → i < length l → endsAt l i ≡ spanIn (d .own) i
   pub marks-are : (i : ℕ) → i < length l → getD (d .marks) i 0 ≡ cond (linkable dirs g l i) 1 0
-  pub firsts : (i : ℕ) → i < length l → (getD (d .lowers) i 0 ≡ getD (assessAt dirs g l i .pairs) 0 noPair .lower) × (getD (d .highers) i 0 ≡ getD (assessAt dirs g l i .pairs) 0 noPair .higher)
+  pub firsts : (i : ℕ) → i < length l → (getD (d .lowers) i 0 ≡ getD (assessAt dirs g l i .pairs) 0 noPair .lower)
+      × (getD (d .highers) i 0 ≡ getD (assessAt dirs g l i .pairs) 0 noPair .higher)
   pub paired : Paired dirs g l (d .owners) (d .lefts) (d .rights) (d .count)
   pub labelled : d .labels ≡ regionLabels dirs g l
   pub wide : d .width ≡ g .width
@@ -71,13 +72,18 @@ module _ (dirs : List ℕ) (g : Grid) (anchors : List WalkPosition) (l : List It
 
       go : (b : Bool) → linkable dirs g l i ≡ b → getD (d .marks) i 0 ≡ cond b 1 0 → hasRegion (d .marks) (d .lowers) (d .highers) r i ≡ b
       go true e k =
-          let full = full-pair-iff (assessAt dirs g l i) .0 (and-parts (not (posSame (endsAt l i .a) (endsAt l i .b)) && eqb (boundaryAt l i .ramp .end) 0) (hasFullPair (assessAt dirs g l i)) e .1) in
+          let full = full-pair-iff (assessAt dirs g l i) .0
+          (and-parts (not (posSame (endsAt l i .a) (endsAt l i .b)) && eqb (boundaryAt l i .ramp .end) 0) (hasFullPair (assessAt dirs g l i)) e .1) in
           let p = only-pair r (assessAt dirs g l i .pairs) (full .2) (t .1) in
           rw (k, w .firsts i (t .0) .0, w .firsts i (t .0) .1) p
       go false e k = rw k
 
-  both : (r : ℕ) (x : Bool) → (not x && joinsTwo (d .own) (d .marks) (d .lowers) (d .highers) r (length (touching dirs g l r)) (getD (touching dirs g l r) 0 0) (getD (touching dirs g l r) 1 0))
-      ≡ ((not x && eqb (length (touching dirs g l r)) 2) && ((linkable dirs g l (getD (touching dirs g l r) 0 0) && linkable dirs g l (getD (touching dirs g l r) 1 0)) && centresDiffer l (getD (touching dirs g l r) 0 0) (getD (touching dirs g l r) 1 0)))
+  both : (r : ℕ) (x : Bool)
+      → (not x && joinsTwo (d .own) (d .marks) (d .lowers) (d .highers) r (length (touching dirs g l r)) (getD (touching dirs g l r) 0 0)
+      (getD (touching dirs g l r) 1 0))
+      ≡ ((not x && eqb (length (touching dirs g l r)) 2)
+      && ((linkable dirs g l (getD (touching dirs g l r) 0 0) && linkable dirs g l (getD (touching dirs g l r) 1 0)) && centresDiffer l
+      (getD (touching dirs g l r) 0 0) (getD (touching dirs g l r) 1 0)))
   unfolding joinsTwo centresDiffer
   both r true = refl
   both r false = go (eqb (length (touching dirs g l r)) 2) refl
@@ -88,11 +94,15 @@ module _ (dirs : List ℕ) (g : Grid) (anchors : List WalkPosition) (l : List It
       b : ℕ
       b = getD (touching dirs g l r) 1 0
 
-      centres : a < length l → b < length l → not (eqb (squares (doubledCentre (spanIn (d .own) a)) (doubledCentre (spanIn (d .own) b))) 0) ≡ not (eqb (squares (doubledCentre (endsAt l a)) (doubledCentre (endsAt l b))) 0)
-      centres h k = sym (ap (λ s. not (eqb (squares (doubledCentre s) (doubledCentre (endsAt l b))) 0)) (w .ends a h) ∙ ap (λ s. not (eqb (squares (doubledCentre (spanIn (d .own) a)) (doubledCentre s)) 0)) (w .ends b k))
+      centres : a < length l → b < length l
+          → not (eqb (squares (doubledCentre (spanIn (d .own) a)) (doubledCentre (spanIn (d .own) b))) 0) ≡ not
+          (eqb (squares (doubledCentre (endsAt l a)) (doubledCentre (endsAt l b))) 0)
+      centres h k = sym (ap (λ s. not (eqb (squares (doubledCentre s) (doubledCentre (endsAt l b))) 0)) (w .ends a h)
+          ∙ ap (λ s. not (eqb (squares (doubledCentre (spanIn (d .own) a)) (doubledCentre s)) 0)) (w .ends b k))
 
       go : (t : Bool) → eqb (length (touching dirs g l r)) 2 ≡ t
-          → (t && ((hasRegion (d .marks) (d .lowers) (d .highers) r a && hasRegion (d .marks) (d .lowers) (d .highers) r b) && not (eqb (squares (doubledCentre (spanIn (d .own) a)) (doubledCentre (spanIn (d .own) b))) 0)))
+          → (t && ((hasRegion (d .marks) (d .lowers) (d .highers) r a && hasRegion (d .marks) (d .lowers) (d .highers) r b) && not
+          (eqb (squares (doubledCentre (spanIn (d .own) a)) (doubledCentre (spanIn (d .own) b))) 0)))
           ≡ (t && ((linkable dirs g l a && linkable dirs g l b) && not (eqb (squares (doubledCentre (endsAt l a)) (doubledCentre (endsAt l b))) 0)))
       go true e =
           let two = eqb-true (length (touching dirs g l r)) 2 e in
@@ -101,22 +111,28 @@ module _ (dirs : List ℕ) (g : Grid) (anchors : List WalkPosition) (l : List It
           let p = has-linkable r a ma in
           let q = has-linkable r b mb in
           let c = centres (touching-mem r ma .0) (touching-mem r mb .0) in
-          ap (λ (x : Bool). (x && hasRegion (d .marks) (d .lowers) (d .highers) r b) && not (eqb (squares (doubledCentre (spanIn (d .own) a)) (doubledCentre (spanIn (d .own) b))) 0)) p
-          ∙ (ap (λ (x : Bool). (linkable dirs g l a && x) && not (eqb (squares (doubledCentre (spanIn (d .own) a)) (doubledCentre (spanIn (d .own) b))) 0)) q ∙ ap (λ (x : Bool). (linkable dirs g l a && linkable dirs g l b) && x) c)
+          ap (λ (x : Bool). (x && hasRegion (d .marks) (d .lowers) (d .highers) r b) && not
+          (eqb (squares (doubledCentre (spanIn (d .own) a)) (doubledCentre (spanIn (d .own) b))) 0)) p
+          ∙ (ap (λ (x : Bool). (linkable dirs g l a && x) && not (eqb (squares (doubledCentre (spanIn (d .own) a)) (doubledCentre (spanIn (d .own) b))) 0)) q
+          ∙ ap (λ (x : Bool). (linkable dirs g l a && linkable dirs g l b) && x) c)
       go false e = refl
 
   anchored-is : (r : ℕ) → anchoredBy (d .job) (d .start) (d .bases) (d .width) (d .labels) r ≡ isAnchored g (regionLabels dirs g l) anchors r
   anchored-is r =
       ap (λ (x : ℕ). anchoredBy (d .job) (d .start) (d .bases) x (d .labels) r) (w .wide)
       ∙ (ap (λ (x : List ℕ). anchoredBy (d .job) (d .start) (d .bases) (g .width) x r) (w .labelled)
-      ∙ (by-bases g (regionLabels dirs g l) r (d .job) (d .start) (d .bases) ∙ ap (λ (x : List WalkPosition). isAnchored g (regionLabels dirs g l) x r) (sym (w .based))))
+      ∙ (by-bases g (regionLabels dirs g l) r (d .job) (d .start) (d .bases)
+      ∙ ap (λ (x : List WalkPosition). isAnchored g (regionLabels dirs g l) x r) (sym (w .based))))
 
   pub found-is : (r : ℕ) → found d r ≡ givesLink dirs g anchors l r
   unfolding found givesLink linkAt
   found-is r =
-      ap (λ (t : Touching). not (anchoredBy (d .job) (d .start) (d .bases) (d .width) (d .labels) r) && joinsTwo (d .own) (d .marks) (d .lowers) (d .highers) r (t .count) (t .first) (t .second)) (touching-held dirs g l (w .paired) r)
+      ap (λ (t : Touching). not (anchoredBy (d .job) (d .start) (d .bases) (d .width) (d .labels) r) && joinsTwo (d .own) (d .marks) (d .lowers) (d .highers) r
+      (t .count) (t .first) (t .second)) (touching-held dirs g l (w .paired) r)
       ∙ (both r (anchoredBy (d .job) (d .start) (d .bases) (d .width) (d .labels) r)
-      ∙ ap (λ (x : Bool). (not x && eqb (length (touching dirs g l r)) 2) && ((linkable dirs g l (getD (touching dirs g l r) 0 0) && linkable dirs g l (getD (touching dirs g l r) 1 0)) && centresDiffer l (getD (touching dirs g l r) 0 0) (getD (touching dirs g l r) 1 0))) (anchored-is r))
+      ∙ ap (λ (x : Bool). (not x && eqb (length (touching dirs g l r)) 2)
+      && ((linkable dirs g l (getD (touching dirs g l r) 0 0) && linkable dirs g l (getD (touching dirs g l r) 1 0)) && centresDiffer l
+      (getD (touching dirs g l r) 0 0) (getD (touching dirs g l r) 1 0))) (anchored-is r))
 
   link-is : (r : ℕ) → linkOf d r ≡ linkAt dirs g l r
   unfolding linkOf linkAt
@@ -126,8 +142,11 @@ module _ (dirs : List ℕ) (g : Grid) (anchors : List WalkPosition) (l : List It
   touched-most : (r : ℕ) → found d r ≡ true → r ≤ regionCount dirs g l
   unfolding givesLink linkAt regionCount assessAt
   touched-most r h =
-      let p = and-parts (not (isAnchored g (regionLabels dirs g l) anchors r) && eqb (length (touching dirs g l r)) 2) ((linkable dirs g l (getD (touching dirs g l r) 0 0) && linkable dirs g l (getD (touching dirs g l r) 1 0)) && centresDiffer l (getD (touching dirs g l r) 0 0) (getD (touching dirs g l r) 1 0)) (sym (found-is r) ∙ h) in
-      let two = eqb-true (length (touching dirs g l r)) 2 (and-parts (not (isAnchored g (regionLabels dirs g l) anchors r)) (eqb (length (touching dirs g l r)) 2) (p .0) .1) in
+      let p = and-parts (not (isAnchored g (regionLabels dirs g l) anchors r) && eqb (length (touching dirs g l r)) 2)
+      ((linkable dirs g l (getD (touching dirs g l r) 0 0) && linkable dirs g l (getD (touching dirs g l r) 1 0)) && centresDiffer l
+      (getD (touching dirs g l r) 0 0) (getD (touching dirs g l r) 1 0)) (sym (found-is r) ∙ h) in
+      let two = eqb-true (length (touching dirs g l r)) 2
+      (and-parts (not (isAnchored g (regionLabels dirs g l) anchors r)) (eqb (length (touching dirs g l r)) 2) (p .0) .1) in
       let t = touching-mem r (getD-mem (touching dirs g l r) 0 0 (omega (arith, two))) in
       let q = touches-iff (assessAt dirs g l (getD (touching dirs g l r) 0 0)) r .0 (t .1) in
       let b = pair-labels dirs g (spansOf l) (getD l (getD (touching dirs g l r) 0 0) noItem .span) (q .0) (q .1) in

@@ -34,29 +34,36 @@ owned-from : (s : ℕ) (pss : List (List RegionPair)) {r : Record} → List·Mem
 unfolding owned
 owned-from s [] m = absurd (List·Memᴰ·not-nil m)
 owned-from s (ps ∷ rest) {r} m =
-    ⊎-elim (λ (k : List·Memᴰ r (map (recordOf s) ps)). omega (arith, of-rank s ps k)) (λ (k : List·Memᴰ r (owned (suc s) rest)). omega (arith, owned-from (suc s) rest k)) (List·Memᴰ·append-cases (map (recordOf s) ps) m)
+    ⊎-elim (λ (k : List·Memᴰ r (map (recordOf s) ps)). omega (arith, of-rank s ps k))
+    (λ (k : List·Memᴰ r (owned (suc s) rest)). omega (arith, owned-from (suc s) rest k)) (List·Memᴰ·append-cases (map (recordOf s) ps) m)
 
 -- the records are by rising ranks
 pub owned-rising : (s : ℕ) (pss : List (List RegionPair)) → Pairs (λ (a b : Record). a .owner ≤ b .owner) (owned s pss)
 unfolding owned
 owned-rising s [] = none
-owned-rising s (ps ∷ rest) = pairs-append (level ps) (owned-rising (suc s) rest) (λ x y (m : List·Memᴰ x (map (recordOf s) ps)) (k : List·Memᴰ y (owned (suc s) rest)). omega (arith, of-rank s ps m, owned-from (suc s) rest k))
+owned-rising s (ps ∷ rest) = pairs-append (level ps) (owned-rising (suc s) rest)
+    (λ x y (m : List·Memᴰ x (map (recordOf s) ps)) (k : List·Memᴰ y (owned (suc s) rest)). omega (arith, of-rank s ps m, owned-from (suc s) rest k))
   where
     level : (ps : List RegionPair) → Pairs (λ (a b : Record). a .owner ≤ b .owner) (map (recordOf s) ps)
     level [] = none
     level (p ∷ qs) = more {x = recordOf s p} (λ y m. omega (arith, of-rank s qs m)) (level qs)
 
-own-of : (d : List RegionPair) (j i s : ℕ) (pss : List (List RegionPair)) → j ≡ s + i → i < length pss → keep (λ (r : Record). eqb (r .owner) j) (owned s pss) ≡ map (recordOf j) (getD pss i d)
+own-of : (d : List RegionPair) (j i s : ℕ) (pss : List (List RegionPair)) → j ≡ s + i → i < length pss
+    → keep (λ (r : Record). eqb (r .owner) j) (owned s pss) ≡ map (recordOf j) (getD pss i d)
 unfolding owned
 own-of d j i s [] e h = absurd (omega arith)
 own-of d j zero s (ps ∷ rest) e h =
     keep-append (λ (r : Record). eqb (r .owner) j) (map (recordOf s) ps) (owned (suc s) rest)
-    ∙ (ap (λ (l : List Record). keep (λ (r : Record). eqb (r .owner) j) (map (recordOf s) ps) ++ l) (keep-none (λ (r : Record). eqb (r .owner) j) (owned (suc s) rest) (λ r m. let k = owned-from (suc s) rest m in ne-eqb (r .owner) j (λ z. omega arith)))
+    ∙ (ap (λ (l : List Record). keep (λ (r : Record). eqb (r .owner) j) (map (recordOf s) ps) ++ l)
+    (keep-none (λ (r : Record). eqb (r .owner) j) (owned (suc s) rest)
+    (λ r m. let k = owned-from (suc s) rest m in ne-eqb (r .owner) j (λ z. omega arith)))
     ∙ (append-nil (keep (λ (r : Record). eqb (r .owner) j) (map (recordOf s) ps))
-    ∙ (keep-all (λ (r : Record). eqb (r .owner) j) (map (recordOf s) ps) (λ r m. let k = of-rank s ps m in eq-eqb (r .owner) j (omega arith)) ∙ ap (λ (n : ℕ). map (recordOf n) ps) (let z : s ≡ j = omega arith in z))))
+    ∙ (keep-all (λ (r : Record). eqb (r .owner) j) (map (recordOf s) ps) (λ r m. let k = of-rank s ps m in eq-eqb (r .owner) j (omega arith))
+    ∙ ap (λ (n : ℕ). map (recordOf n) ps) (let z : s ≡ j = omega arith in z))))
 own-of d j (suc i) s (ps ∷ rest) e h =
     keep-append (λ (r : Record). eqb (r .owner) j) (map (recordOf s) ps) (owned (suc s) rest)
-    ∙ (ap (λ (l : List Record). l ++ keep (λ (r : Record). eqb (r .owner) j) (owned (suc s) rest)) (keep-none (λ (r : Record). eqb (r .owner) j) (map (recordOf s) ps) (λ r m. let k = of-rank s ps m in ne-eqb (r .owner) j (λ z. omega arith)))
+    ∙ (ap (λ (l : List Record). l ++ keep (λ (r : Record). eqb (r .owner) j) (owned (suc s) rest))
+    (keep-none (λ (r : Record). eqb (r .owner) j) (map (recordOf s) ps) (λ r m. let k = of-rank s ps m in ne-eqb (r .owner) j (λ z. omega arith)))
     ∙ own-of d j i (suc s) rest (omega arith) (omega arith))
 
 first-lower : (i : ℕ) (ps : List RegionPair) → getD (map (recordOf i) ps) 0 noRecord .left ≡ getD ps 0 noPair .lower
@@ -67,7 +74,8 @@ first-higher : (i : ℕ) (ps : List RegionPair) → getD (map (recordOf i) ps) 0
 first-higher i [] = refl
 first-higher i (p ∷ ps) = refl
 
-same-link : {s t : Span} {a b x y p q u v : ℕ} → s ≡ t → a ≡ b → x ≡ y → p ≡ q → u ≡ v → ((not (posSame (s .a) (s .b)) && eqb a 0) && isFull x p u) ≡ ((not (posSame (t .a) (t .b)) && eqb b 0) && isFull y q v)
+same-link : {s t : Span} {a b x y p q u v : ℕ} → s ≡ t → a ≡ b → x ≡ y → p ≡ q → u ≡ v
+    → ((not (posSame (s .a) (s .b)) && eqb a 0) && isFull x p u) ≡ ((not (posSame (t .a) (t .b)) && eqb b 0) && isFull y q v)
 same-link e f g h k = rw (e, f, g, h, k)
 
 module _ (dirs : List ℕ) (g : Grid) (l : List Item) where
@@ -78,23 +86,30 @@ module _ (dirs : List ℕ) (g : Grid) (l : List Item) where
   pub span-of : (i : ℕ) → getD (spansOf l) i noSpan ≡ getD l i noItem .span
   span-of i = List·getD-map (λ (x : Item). x .span) l i noItem
 
-  pub owner-pairs : {owners lefts rights : List ℕ} {n : ℕ} → Paired dirs g l owners lefts rights n → (i : ℕ) → i < length l → ofOwner (recordIn owners lefts rights) n i ≡ map (recordOf i) (assessAt dirs g l i .pairs)
+  pub owner-pairs : {owners lefts rights : List ℕ} {n : ℕ} → Paired dirs g l owners lefts rights n → (i : ℕ) → i < length l
+      → ofOwner (recordIn owners lefts rights) n i ≡ map (recordOf i) (assessAt dirs g l i .pairs)
   unfolding ofOwner recordsIn records assessAt pairsAt
   owner-pairs w i h =
       ap (keep (λ (r : Record). eqb (r .owner) i)) (w .all)
-      ∙ (own-of (pairsAt noSpan) i i 0 (map pairsAt (spansOf l)) (omega arith) (omega (arith, length-map (spansOf l) pairsAt, length-map l (λ (x : Item). x .span)))
+      ∙ (own-of (pairsAt noSpan) i i 0 (map pairsAt (spansOf l)) (omega arith)
+      (omega (arith, length-map (spansOf l) pairsAt, length-map l (λ (x : Item). x .span)))
       ∙ ap (map (recordOf i)) (List·getD-map pairsAt (spansOf l) i noSpan ∙ ap pairsAt (span-of i)))
 
   -- what the arrays say of first pairs is so
-  pub first-pairs-are : {owners lefts rights counts lowers highers : List ℕ} {n : ℕ} → length l ≤ 256 → Paired dirs g l owners lefts rights n → Firsts owners lefts rights n counts lowers highers → FirstPairs dirs g l counts lowers highers
+  pub first-pairs-are : {owners lefts rights counts lowers highers : List ℕ} {n : ℕ} → length l ≤ 256 → Paired dirs g l owners lefts rights n
+      → Firsts owners lefts rights n counts lowers highers → FirstPairs dirs g l counts lowers highers
   first-pairs-are few w f = record {
-    counts-are = λ i h. f .counts-are i (omega arith) ∙ (ap (λ (m : List Record). length m) (owner-pairs w i h) ∙ length-map (assessAt dirs g l i .pairs) (recordOf i));
-    lower-is = λ i h. f .lower-is i (omega arith) ∙ (ap (λ (m : List Record). getD m 0 noRecord .left) (owner-pairs w i h) ∙ first-lower i (assessAt dirs g l i .pairs));
-    higher-is = λ i h. f .higher-is i (omega arith) ∙ (ap (λ (m : List Record). getD m 0 noRecord .right) (owner-pairs w i h) ∙ first-higher i (assessAt dirs g l i .pairs));
+    counts-are = λ i h. f .counts-are i (omega arith)
+        ∙ (ap (λ (m : List Record). length m) (owner-pairs w i h) ∙ length-map (assessAt dirs g l i .pairs) (recordOf i));
+    lower-is = λ i h. f .lower-is i (omega arith)
+        ∙ (ap (λ (m : List Record). getD m 0 noRecord .left) (owner-pairs w i h) ∙ first-lower i (assessAt dirs g l i .pairs));
+    higher-is = λ i h. f .higher-is i (omega arith)
+        ∙ (ap (λ (m : List Record). getD m 0 noRecord .right) (owner-pairs w i h) ∙ first-higher i (assessAt dirs g l i .pairs));
   }
 
   -- what they say of the ranks that can be linked is so
-  pub linkable-is : {own bits ramps removed separated counts lowers highers : List ℕ} → Boundaries l own bits ramps → Counted dirs g l removed separated → FirstPairs dirs g l counts lowers highers → (i : ℕ) → i < length l
+  pub linkable-is : {own bits ramps removed separated counts lowers highers : List ℕ} → Boundaries l own bits ramps → Counted dirs g l removed separated
+      → FirstPairs dirs g l counts lowers highers → (i : ℕ) → i < length l
       → canLink own ramps removed separated counts i ≡ linkable dirs g l i
   unfolding canLink linkable hasFullPair
   linkable-is b c f i h = same-link (sym (b .ends i h)) (sym (b .ramp-ends i h)) (c .removed-is i h) (c .separated-is i h) (f .counts-are i h)

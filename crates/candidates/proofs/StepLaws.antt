@@ -29,41 +29,55 @@ more-count : (t : Touching) (o k : ℕ) (b : Bool) → t .count ≤ k → cond b
 more-count t o k true h = omega arith
 more-count t o k false h = omega arith
 
-pub touch-next : (f : ℕ → Record) (r k : ℕ) {t u : Touching} → t ≡ touchingAfter f r k → t .count ≤ k → u ≡ touched t (f k .owner) (inRecord r (f k)) → (u ≡ touchingAfter f r (k + 1)) × (u .count ≤ k + 1)
+pub touch-next : (f : ℕ → Record) (r k : ℕ) {t u : Touching} → t ≡ touchingAfter f r k → t .count ≤ k → u ≡ touched t (f k .owner) (inRecord r (f k))
+    → (u ≡ touchingAfter f r (k + 1)) × (u .count ≤ k + 1)
 unfolding touchingAfter
-touch-next f r k {t} {u} e h g = (let s : suc k ≡ k + 1 = omega arith in g ∙ (ap (λ (s : Touching). touched s (f k .owner) (inRecord r (f k))) e ∙ ap (touchingAfter f r) s), rw g (more-count t (f k .owner) k (inRecord r (f k) && (eqb (t .count) 0 || not (eqb (t .last) (f k .owner)))) h))
+touch-next f r k {t} {u} e h g = (
+  let s : suc k ≡ k + 1 = omega arith in
+      g ∙ (ap (λ (s : Touching). touched s (f k .owner) (inRecord r (f k))) e ∙ ap (touchingAfter f r) s),
+  rw g (more-count t (f k .owner) k (inRecord r (f k) && (eqb (t .count) 0 || not (eqb (t .last) (f k .owner)))) h),
+)
 
 pub touch-end : (f : ℕ → Record) (r : ℕ) {k n : ℕ} {t : Touching} → k ≡ n → t ≡ touchingAfter f r k → t ≡ touchingAfter f r n
 touch-end f r e h = rw (← e) h
 
-pub region-next : (marks lowers highers : List ℕ) (after k : ℕ) {b c : ℕ} → b ≡ nextAfter marks lowers highers after k → c ≡ considered after b (getD marks k 0) (getD lowers k 0) (getD highers k 0) → c ≡ nextAfter marks lowers highers after (k + 1)
+pub region-next : (marks lowers highers : List ℕ) (after k : ℕ) {b c : ℕ} → b ≡ nextAfter marks lowers highers after k
+    → c ≡ considered after b (getD marks k 0) (getD lowers k 0) (getD highers k 0) → c ≡ nextAfter marks lowers highers after (k + 1)
 unfolding nextAfter
-region-next marks lowers highers after k {b} {c} e g = g ∙ rw add-one (ap (λ (z : ℕ). considered after z (getD marks k 0) (getD lowers k 0) (getD highers k 0)) e)
+region-next marks lowers highers after k {b} {c} e g = g
+    ∙ rw add-one (ap (λ (z : ℕ). considered after z (getD marks k 0) (getD lowers k 0) (getD highers k 0)) e)
 
-pub region-end : (marks lowers highers : List ℕ) (after : ℕ) {k n b : ℕ} → k ≡ n → b ≡ nextAfter marks lowers highers after k → b ≡ nextAfter marks lowers highers after n
+pub region-end : (marks lowers highers : List ℕ) (after : ℕ) {k n b : ℕ} → k ≡ n → b ≡ nextAfter marks lowers highers after k
+    → b ≡ nextAfter marks lowers highers after n
 region-end marks lowers highers after e h = rw (← e) h
 
-pub marked-next : (test : ℕ → Bool) (marks : List ℕ) (i v : ℕ) → i < length marks → Marked test i marks → v ≡ cond (test i) 1 0 → Marked test (i + 1) (set marks i v)
+pub marked-next : (test : ℕ → Bool) (marks : List ℕ) (i v : ℕ) → i < length marks → Marked test i marks → v ≡ cond (test i) 1 0
+    → Marked test (i + 1) (set marks i v)
 marked-next test marks i v r h e = record {
-  marks-are = λ j l. by-cases (ℕ-discrete j i) (λ q. rw q (getD-set-same marks i v 0 r ∙ e)) (λ q. getD-set-other marks i j v 0 q ∙ h .marks-are j (omega arith));
+  marks-are = λ j l. by-cases (ℕ-discrete j i) (λ q. rw q (getD-set-same marks i v 0 r ∙ e))
+      (λ q. getD-set-other marks i j v 0 q ∙ h .marks-are j (omega arith));
 }
 
 pub marked-end : {test : ℕ → Bool} {k n : ℕ} {marks : List ℕ} → k ≡ n → Marked test k marks → Marked test n marks
 marked-end e h = rw (← e) h
 
 -- a rank's mark, by what is read of it
-pub can-link : (own ramps removed separated counts : List ℕ) (i : ℕ) {s : Span} {coincides full : Bool} → s ≡ spanIn own i → coincides ≡ posSame (s .a) (s .b) → full ≡ isFull (getD removed i 0) (getD separated i 0) (getD counts i 0)
+pub can-link : (own ramps removed separated counts : List ℕ) (i : ℕ) {s : Span} {coincides full : Bool} → s ≡ spanIn own i → coincides ≡ posSame (s .a) (s .b)
+    → full ≡ isFull (getD removed i 0) (getD separated i 0) (getD counts i 0)
     → ((not coincides && eqb (getD ramps i 0) 0) && full) ≡ canLink own ramps removed separated counts i
 unfolding canLink
 can-link own ramps removed separated counts i {s} e f g =
     rw (f, g) (ap (λ (s : Span). (not (posSame (s .a) (s .b)) && eqb (getD ramps i 0) 0) && isFull (getD removed i 0) (getD separated i 0) (getD counts i 0)) e)
 
-pub joined : (own marks lowers highers : List ℕ) (r : ℕ) {count first second i j : ℕ} {p q d : Bool} {s u : Span} → count ≡ 2 → i ≡ first → j ≡ second → p ≡ hasRegion marks lowers highers r i → q ≡ hasRegion marks lowers highers r j
-    → s ≡ spanIn own i → u ≡ spanIn own j → d ≡ not (eqb (squares (doubledCentre s) (doubledCentre u)) 0) → ((p && q) && d) ≡ joinsTwo own marks lowers highers r count first second
+pub joined : (own marks lowers highers : List ℕ) (r : ℕ) {count first second i j : ℕ} {p q d : Bool} {s u : Span} → count ≡ 2 → i ≡ first → j ≡ second
+    → p ≡ hasRegion marks lowers highers r i → q ≡ hasRegion marks lowers highers r j
+    → s ≡ spanIn own i → u ≡ spanIn own j → d ≡ not (eqb (squares (doubledCentre s) (doubledCentre u)) 0)
+    → ((p && q) && d) ≡ joinsTwo own marks lowers highers r count first second
 unfolding joinsTwo
 joined own marks lowers highers r {count} z ei ej ep eq es eu ed = rw (ep, eq, ed, es, eu, ei, ej, z)
 
-pub not-joined : (own marks lowers highers : List ℕ) (r first second : ℕ) {count : ℕ} → (count ≡ 2 → ⊥) → false ≡ joinsTwo own marks lowers highers r count first second
+pub not-joined : (own marks lowers highers : List ℕ) (r first second : ℕ) {count : ℕ} → (count ≡ 2 → ⊥)
+    → false ≡ joinsTwo own marks lowers highers r count first second
 unfolding joinsTwo
 not-joined own marks lowers highers r first second {count} z = rw (ne-eqb count 2 z)
 

@@ -14,8 +14,10 @@ use Rattle.candidates.proofs.FoundLaws.{linked}
 pub below-all : {owners : List ℕ} {k n : ℕ} → n ≤ 256 → OwnersBelow owners k n → OwnersBelow owners k 256
 below-all l h = record { each = λ i m. omega (arith, h .each i m) }
 
-pub answered : (job : List ℕ) (start bases width : ℕ) (labels : List ℕ) {n : ℕ} (own : List ℕ) {ramps removed separated : List ℕ} (owners lefts rights : List ℕ) (records : ℕ) {counts lowers highers marks regions firsts seconds : List ℕ} {r : ℕ}
-    → Firsts owners lefts rights records counts lowers highers → Marked (canLink own ramps removed separated counts) n marks → AllFound (given job start bases width labels own marks lowers highers owners lefts rights records) regions firsts seconds r
+pub answered : (job : List ℕ) (start bases width : ℕ) (labels : List ℕ) {n : ℕ} (own : List ℕ) {ramps removed separated : List ℕ} (owners lefts rights : List ℕ)
+    (records : ℕ) {counts lowers highers marks regions firsts seconds : List ℕ} {r : ℕ}
+    → Firsts owners lefts rights records counts lowers highers → Marked (canLink own ramps removed separated counts) n marks
+    → AllFound (given job start bases width labels own marks lowers highers owners lefts rights records) regions firsts seconds r
     → Answer job start bases width labels n own ramps removed separated owners lefts rights records counts lowers highers regions firsts seconds r
 answered job start bases width labels own owners lefts rights records {counts} {lowers} {highers} {marks} f m a = record {
   first-pairs = λ dirs g l bits e b p. first-pairs-are dirs g l (b .few) p f;

@@ -2,7 +2,8 @@
 use mathlib.Core.Path.{_≡_, refl, sym, _∙_, ap, subst}
 use mathlib.Core.Logic.{⊎-elim, by-cases}
 use mathlib.Core.Bool.{Bool, true, false, cond, not, _&&_, _||_}
-use mathlib.Core.List.{List, [], _∷_, _++_, map, List·Memᴰ, List·Memᴰ·head, List·Memᴰ·tail, List·Memᴰ·not-nil, List·Memᴰ·append-cases, Memᴰ·append-left, Memᴰ·append-right}
+use mathlib.Core.List.{List, [], _∷_, _++_, map, List·Memᴰ, List·Memᴰ·head, List·Memᴰ·tail, List·Memᴰ·not-nil, List·Memᴰ·append-cases, Memᴰ·append-left}
+use mathlib.Core.List.{Memᴰ·append-right}
 use Prim.Native.Nat.{ℕ, zero, suc, _-_, _<_, _≤_}
 use native.Mathlib.Omega.{arith}
 use native.Mathlib.Decide.{ℕ-discrete}
@@ -38,7 +39,8 @@ use Rattle.candidates.proofs.OwnerLaws.{owned-rising, span-of}
 abbrev pub heldOf : List ℕ → Touching
 heldOf l = record { count = length l; first = getD l 0 0; second = getD l 1 0; last = getD l (length l - 1) 0 }
 
-same-held : {a b c d x y z w : ℕ} → a ≡ x → b ≡ y → c ≡ z → d ≡ w → _≡_ {A = Touching} (record { count = a; first = b; second = c; last = d }) (record { count = x; first = y; second = z; last = w })
+same-held : {a b c d x y z w : ℕ} → a ≡ x → b ≡ y → c ≡ z → d ≡ w
+    → _≡_ {A = Touching} (record { count = a; first = b; second = c; last = d }) (record { count = x; first = y; second = z; last = w })
 same-held e f g h = rw (e, f, g, h)
 
 first-more : (l : List ℕ) (o : ℕ) → cond (eqb (length l) 0) o (getD l 0 0) ≡ getD (l ++ (o ∷ [])) 0 0
@@ -51,7 +53,8 @@ second-more (x ∷ []) o = refl
 second-more (x ∷ y ∷ ys) o = rw (ne-eqb (length (x ∷ y ∷ ys)) 1 (λ z. omega arith))
 
 last-more : (l : List ℕ) (o : ℕ) → o ≡ getD (l ++ (o ∷ [])) (length (l ++ (o ∷ [])) - 1) 0
-last-more l o = let e : length l ≡ length (l ++ (o ∷ [])) - 1 = omega (arith, length-append l (o ∷ [])) in sym (getD-append-seam l o [] 0) ∙ ap (λ (n : ℕ). getD (l ++ (o ∷ [])) n 0) e
+last-more l o = let e : length l ≡ length (l ++ (o ∷ [])) - 1 = omega (arith, length-append l (o ∷ [])) in
+    sym (getD-append-seam l o [] 0) ∙ ap (λ (n : ℕ). getD (l ++ (o ∷ [])) n 0) e
 
 held-more : (l : List ℕ) (o : ℕ) → withOwner (heldOf l) o ≡ heldOf (l ++ (o ∷ []))
 held-more l o = same-held (sym (length-append l (o ∷ []))) (first-more l o) (second-more l o) (last-more l o)
@@ -89,7 +92,8 @@ module _ (f : ℕ → Record) (r : ℕ) where
       one h (List·Memᴰ·head e) = record { place = k; below = omega arith; owner = sym e; hit = h }
       one h (List·Memᴰ·tail n) = absurd (List·Memᴰ·not-nil n)
 
-      go : (b : Bool) → adds (touchers f r k) k ≡ b → List·Memᴰ i (cond b (touchers f r k ++ (f k .owner ∷ [])) (touchers f r k)) → (List·Memᴰ i (touchers f r k) → Touches k i) → Touches (suc k) i
+      go : (b : Bool) → adds (touchers f r k) k ≡ b → List·Memᴰ i (cond b (touchers f r k ++ (f k .owner ∷ [])) (touchers f r k))
+          → (List·Memᴰ i (touchers f r k) → Touches k i) → Touches (suc k) i
       go true e n ih =
           ⊎-elim (λ (a : List·Memᴰ i (touchers f r k)). later (ih a)) (λ (a : List·Memᴰ i (f k .owner ∷ [])). one (and-parts (inRecord r (f k)) _ e .0) a)
           (List·Memᴰ·append-cases (touchers f r k) n)
@@ -102,17 +106,22 @@ module _ (f : ℕ → Record) (r : ℕ) where
       go : (a : Bool) → eqb (length l) 0 ≡ a → (b : Bool) → eqb (getD l (length l - 1) 0) o ≡ b → (a || not b) ≡ false → List·Memᴰ o l
       go true x b y z = clash {t = true} refl z
       go false x false y z = clash {t = true} refl z
-      go false x true y z = let n = eqb-false (length l) 0 x in subst (λ (v : ℕ). List·Memᴰ v l) (eqb-true (getD l (length l - 1) 0) o y) (getD-mem l 0 (length l - 1) (omega arith))
+      go false x true y z = let n = eqb-false (length l) 0 x in
+          subst (λ (v : ℕ). List·Memᴰ v l) (eqb-true (getD l (length l - 1) 0) o y) (getD-mem l 0 (length l - 1) (omega arith))
 
   touches-toucher : (k j : ℕ) → j < k → inRecord r (f j) ≡ true → List·Memᴰ (f j .owner) (touchers f r k)
   unfolding touchers
   touches-toucher zero j h e = absurd (omega arith)
-  touches-toucher (suc k) j h e = by-cases (ℕ-discrete j k) (λ q. subst (λ (m : ℕ). List·Memᴰ (f m .owner) (touchers f r (suc k))) (sym q) (here (subst (λ (m : ℕ). inRecord r (f m) ≡ true) q e))) (λ q. earlier (touches-toucher k j (omega arith) e))
+  touches-toucher (suc k) j h e =
+      by-cases (ℕ-discrete j k)
+      (λ q. subst (λ (m : ℕ). List·Memᴰ (f m .owner) (touchers f r (suc k))) (sym q) (here (subst (λ (m : ℕ). inRecord r (f m) ≡ true) q e)))
+      (λ q. earlier (touches-toucher k j (omega arith) e))
     where
       here : inRecord r (f k) ≡ true → List·Memᴰ (f k .owner) (touchers f r (suc k))
       here t = go (eqb (length (touchers f r k)) 0 || not (eqb (getD (touchers f r k) (length (touchers f r k) - 1) 0) (f k .owner))) refl
         where
-          go : (b : Bool) → (eqb (length (touchers f r k)) 0 || not (eqb (getD (touchers f r k) (length (touchers f r k) - 1) 0) (f k .owner))) ≡ b → List·Memᴰ (f k .owner) (cond (adds (touchers f r k) k) (touchers f r k ++ (f k .owner ∷ [])) (touchers f r k))
+          go : (b : Bool) → (eqb (length (touchers f r k)) 0 || not (eqb (getD (touchers f r k) (length (touchers f r k) - 1) 0) (f k .owner))) ≡ b
+              → List·Memᴰ (f k .owner) (cond (adds (touchers f r k) k) (touchers f r k ++ (f k .owner ∷ [])) (touchers f r k))
           go true x = rw (t, x) (Memᴰ·append-right (touchers f r k) (List·Memᴰ·head refl))
           go false x = rw (t, x) (is-last (touchers f r k) (f k .owner) x)
 
@@ -126,7 +135,8 @@ module _ (f : ℕ → Record) (r : ℕ) where
   last-most : {l : List ℕ} → Pairs (λ i j. i < j) l → {x : ℕ} → List·Memᴰ x l → x ≤ getD l (length l - 1) 0
   last-most {l} p {x} m =
       let w = mem-getD 0 m in
-      by-cases (ℕ-discrete (w .0) (length l - 1)) (λ e. let q : getD l (w .0) 0 ≡ getD l (length l - 1) 0 = ap (λ (n : ℕ). getD l n 0) e in omega (arith, w .2)) (λ e. let q = pairs-at 0 p (w .0) (length l - 1) (omega (arith, w .1)) (omega (arith, w .1)) in omega (arith, w .2))
+      by-cases (ℕ-discrete (w .0) (length l - 1)) (λ e. let q : getD l (w .0) 0 ≡ getD l (length l - 1) 0 = ap (λ (n : ℕ). getD l n 0) e in omega (arith, w .2))
+      (λ e. let q = pairs-at 0 p (w .0) (length l - 1) (omega (arith, w .1)) (omega (arith, w .1)) in omega (arith, w .2))
 
   touchers-rise : (m : ℕ) → ((i j : ℕ) → i < j → j < m → f i .owner ≤ f j .owner) → (k : ℕ) → k ≤ m → Pairs (λ i j. i < j) (touchers f r k)
   unfolding touchers
@@ -139,8 +149,12 @@ module _ (f : ℕ → Record) (r : ℕ) where
           let u = last-most before a in
           let v = h (t .place) k (t .below) (omega arith) in
           ⊎-elim (λ (z : eqb (length (touchers f r k)) 0 ≡ true). let y = eqb-true (length (touchers f r k)) 0 z in let s = some a in absurd (omega arith))
-          (λ (z : not (eqb (getD (touchers f r k) (length (touchers f r k) - 1) 0) (f k .owner)) ≡ true). let n = eqb-false (getD (touchers f r k) (length (touchers f r k) - 1) 0) (f k .owner) (not-true (eqb (getD (touchers f r k) (length (touchers f r k) - 1) 0) (f k .owner)) z) in apart n u v (t .owner))
-          (or-cases (eqb (length (touchers f r k)) 0) (not (eqb (getD (touchers f r k) (length (touchers f r k) - 1) 0) (f k .owner))) (and-parts (inRecord r (f k)) (eqb (length (touchers f r k)) 0 || not (eqb (getD (touchers f r k) (length (touchers f r k) - 1) 0) (f k .owner))) e .1))
+          (λ (z : not (eqb (getD (touchers f r k) (length (touchers f r k) - 1) 0) (f k .owner)) ≡ true). let n =
+          eqb-false (getD (touchers f r k) (length (touchers f r k) - 1) 0) (f k .owner)
+          (not-true (eqb (getD (touchers f r k) (length (touchers f r k) - 1) 0) (f k .owner)) z) in apart n u v (t .owner))
+          (or-cases (eqb (length (touchers f r k)) 0) (not (eqb (getD (touchers f r k) (length (touchers f r k) - 1) 0) (f k .owner)))
+          (and-parts (inRecord r (f k))
+          (eqb (length (touchers f r k)) 0 || not (eqb (getD (touchers f r k) (length (touchers f r k) - 1) 0) (f k .owner))) e .1))
         where
           some : {y : ℕ} {l : List ℕ} → List·Memᴰ y l → length l - 1 < length l
           some (List·Memᴰ·head e) = omega arith
@@ -149,7 +163,8 @@ module _ (f : ℕ → Record) (r : ℕ) where
           apart : {x p q s : ℕ} → (p ≡ q → ⊥) → x ≤ p → s ≤ q → s ≡ p → x < q
           apart n u v o = omega arith
 
-      go : (b : Bool) → adds (touchers f r k) k ≡ b → Pairs (λ i j. i < j) (touchers f r k) → Pairs (λ i j. i < j) (cond b (touchers f r k ++ (f k .owner ∷ [])) (touchers f r k))
+      go : (b : Bool) → adds (touchers f r k) k ≡ b → Pairs (λ i j. i < j) (touchers f r k)
+          → Pairs (λ i j. i < j) (cond b (touchers f r k ++ (f k .owner ∷ [])) (touchers f r k))
       go true e before = pairs-append before (more (λ y n. absurd (List·Memᴰ·not-nil n)) none) (λ x y a n. last x y (above before e x a) n)
         where
           last : (x y : ℕ) → x < f k .owner → List·Memᴰ y (f k .owner ∷ []) → x < y
@@ -163,7 +178,8 @@ module _ (dirs : List ℕ) (g : Grid) (l : List Item) {owners lefts rights : Lis
 
   record-at : (j : ℕ) → j < n → List·Memᴰ (f j) (records dirs g (spansOf l))
   unfolding recordsIn
-  record-at j h = subst (λ (m : List Record). List·Memᴰ (f j) m) (w .all) (subst (λ (x : Record). List·Memᴰ x (rows n f)) (rows-at n f j (f 0) h) (getD-mem (rows n f) (f 0) j (omega (arith, length-rows n f))))
+  record-at j h = subst (λ (m : List Record). List·Memᴰ (f j) m) (w .all)
+      (subst (λ (x : Record). List·Memᴰ x (rows n f)) (rows-at n f j (f 0) h) (getD-mem (rows n f) (f 0) j (omega (arith, length-rows n f))))
 
   at-record : {x : Record} → List·Memᴰ x (records dirs g (spansOf l)) → (j : ℕ) × (j < n) × (f j ≡ x)
   unfolding recordsIn
@@ -175,7 +191,9 @@ module _ (dirs : List ℕ) (g : Grid) (l : List Item) {owners lefts rights : Lis
   rise : (i j : ℕ) → i < j → j < n → f i .owner ≤ f j .owner
   unfolding recordsIn records
   rise i j h k =
-      let o : Pairs (λ (a b : Record). a .owner ≤ b .owner) (rows n f) = subst (λ (m : List Record). Pairs (λ (a b : Record). a .owner ≤ b .owner) m) (sym (w .all)) (owned-rising 0 (map (λ s. assess dirs g (spansOf l) s .pairs) (spansOf l))) in
+      let o : Pairs (λ (a b : Record). a .owner ≤ b .owner) (rows n f) =
+      subst (λ (m : List Record). Pairs (λ (a b : Record). a .owner ≤ b .owner) m) (sym (w .all))
+      (owned-rising 0 (map (λ s. assess dirs g (spansOf l) s .pairs) (spansOf l))) in
       let q = pairs-at (f 0) o i j h (omega (arith, length-rows n f)) in
       let a = ap (λ (x : Record). x .owner) (rows-at n f i (f 0) (omega arith)) in
       let b = ap (λ (x : Record). x .owner) (rows-at n f j (f 0) k) in
@@ -193,7 +211,8 @@ module _ (dirs : List ℕ) (g : Grid) (l : List Item) {owners lefts rights : Lis
       let e = t .owner in
       let q = subst (λ (k : ℕ). List·Memᴰ (regionsOf (f (t .place))) (assess dirs g (spansOf l) (getD (spansOf l) k noSpan) .pairs)) e (p .1) in
       let v = subst (λ (x : Assessment). List·Memᴰ (regionsOf (f (t .place))) (x .pairs)) (assess-is i) q in
-      mem-keep (λ j. touches (assessAt dirs g l j) r) (mem-up 0 (length l) i (omega arith) (omega (arith, p .0, e, length-map l (λ (x : Item). x .span)))) (touches-iff (assessAt dirs g l i) r .1 (regionsOf (f (t .place)), v, t .hit))
+      mem-keep (λ j. touches (assessAt dirs g l j) r) (mem-up 0 (length l) i (omega arith) (omega (arith, p .0, e, length-map l (λ (x : Item). x .span))))
+      (touches-iff (assessAt dirs g l i) r .1 (regionsOf (f (t .place)), v, t .hit))
 
   from : (i : ℕ) → List·Memᴰ i (touching dirs g l r) → List·Memᴰ i (touchers f r n)
   unfolding touching
@@ -201,9 +220,11 @@ module _ (dirs : List ℕ) (g : Grid) (l : List Item) {owners lefts rights : Lis
       let k = keep-mem (λ j. touches (assessAt dirs g l j) r) (upFrom 0 (length l)) m in
       let u = up-mem 0 (length l) (k .0) in
       let t = touches-iff (assessAt dirs g l i) r .0 (k .1) in
-      let v : List·Memᴰ (t .0) (assess dirs g (spansOf l) (getD (spansOf l) i noSpan) .pairs) = subst (λ (x : Assessment). List·Memᴰ (t .0) (x .pairs)) (sym (assess-is i)) (t .1) in
+      let v : List·Memᴰ (t .0) (assess dirs g (spansOf l) (getD (spansOf l) i noSpan) .pairs) =
+      subst (λ (x : Assessment). List·Memᴰ (t .0) (x .pairs)) (sym (assess-is i)) (t .1) in
       let x = at-record (records-iff dirs g (spansOf l) noSpan (recordOf i (t .0)) .1 (omega (arith, length-map l (λ (y : Item). y .span)), v)) in
-      subst (λ (z : Record). List·Memᴰ (z .owner) (touchers f r n)) (x .2) (touches-toucher f r n (x .0) (x .1) (subst (λ (z : Record). inRecord r z ≡ true) (sym (x .2)) (t .2)))
+      subst (λ (z : Record). List·Memᴰ (z .owner) (touchers f r n)) (x .2)
+      (touches-toucher f r n (x .0) (x .1) (subst (λ (z : Record). inRecord r z ≡ true) (sym (x .2)) (t .2)))
 
   touching-rises : Pairs (λ i j. i < j) (touching dirs g l r)
   unfolding touching
@@ -211,7 +232,8 @@ module _ (dirs : List ℕ) (g : Grid) (l : List Item) {owners lefts rights : Lis
 
   -- the ranks that touch the region, in order
   pub touchers-are : touchers f r n ≡ touching dirs g l r
-  touchers-are = pairs-ext (λ x y p q. omega arith) (touchers f r n) (touching dirs g l r) (touchers-rise f r n rise n (omega arith)) touching-rises (λ i. (to i, from i))
+  touchers-are = pairs-ext (λ x y p q. omega arith) (touchers f r n) (touching dirs g l r) (touchers-rise f r n rise n (omega arith)) touching-rises
+      (λ i. (to i, from i))
 
   -- what is held says so
   pub touching-held : touchingAfter f r n ≡ heldOf (touching dirs g l r)

@@ -32,7 +32,21 @@ pub record Given : Type 0 where
 
 abbrev pub given : List ℕ → ℕ → ℕ → ℕ → List ℕ → List ℕ → List ℕ → List ℕ → List ℕ → List ℕ → List ℕ → List ℕ → ℕ → Given
 given job start bases width labels own marks lowers highers owners lefts rights count =
-    record { job = job; start = start; bases = bases; width = width; labels = labels; own = own; marks = marks; lowers = lowers; highers = highers; owners = owners; lefts = lefts; rights = rights; count = count }
+    record {
+      job = job;
+      start = start;
+      bases = bases;
+      width = width;
+      labels = labels;
+      own = own;
+      marks = marks;
+      lowers = lowers;
+      highers = highers;
+      owners = owners;
+      lefts = lefts;
+      rights = rights;
+      count = count;
+    }
 
 abbrev pub seen : Given → ℕ → Touching
 seen d r = touchingAfter (recordIn (d .owners) (d .lefts) (d .rights)) r (d .count)
@@ -40,7 +54,8 @@ seen d r = touchingAfter (recordIn (d .owners) (d .lefts) (d .rights)) r (d .cou
 -- the region gives a link
 unfoldable pub found : Given → ℕ → Bool
 unfolding anchoredBy joinsTwo touchingAfter
-found d r = not (anchoredBy (d .job) (d .start) (d .bases) (d .width) (d .labels) r) && joinsTwo (d .own) (d .marks) (d .lowers) (d .highers) r (seen d r .count) (seen d r .first) (seen d r .second)
+found d r = not (anchoredBy (d .job) (d .start) (d .bases) (d .width) (d .labels) r) && joinsTwo (d .own) (d .marks) (d .lowers) (d .highers) r
+    (seen d r .count) (seen d r .first) (seen d r .second)
 
 -- the link
 unfoldable pub linkOf : Given → ℕ → LinkAt
@@ -62,7 +77,8 @@ pub record Collected (d : Given) (n after count : ℕ) (regions firsts seconds :
 
 -- the link of a region is added if it gives one
 pub record Added (d : Given) (r count : ℕ) (regions firsts seconds : List ℕ) (count′ : ℕ) (regions′ firsts′ seconds′ : List ℕ) : Type 0 where
-  pub more : found d r ≡ true → (count′ ≡ count + 1) × (regions′ ≡ set regions count r) × (firsts′ ≡ set firsts count (seen d r .first)) × (seconds′ ≡ set seconds count (seen d r .second))
+  pub more : found d r ≡ true → (count′ ≡ count + 1) × (regions′ ≡ set regions count r) × (firsts′ ≡ set firsts count (seen d r .first))
+      × (seconds′ ≡ set seconds count (seen d r .second))
   pub same : found d r ≡ false → (count′ ≡ count) × (regions′ ≡ regions) × (firsts′ ≡ firsts) × (seconds′ ≡ seconds)
 
 -- the links of all regions that give one: of those up to any that none above gives one

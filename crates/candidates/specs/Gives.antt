@@ -28,7 +28,8 @@ unfoldable pub joinsTwo : List ℕ → List ℕ → List ℕ → List ℕ → �
 unfolding squares spanIn
 joinsTwo own marks lowers highers r count first second =
     eqb count 2
-    && ((hasRegion marks lowers highers r first && hasRegion marks lowers highers r second) && not (eqb (squares (doubledCentre (spanIn own first)) (doubledCentre (spanIn own second))) 0))
+    && ((hasRegion marks lowers highers r first && hasRegion marks lowers highers r second) && not
+    (eqb (squares (doubledCentre (spanIn own first)) (doubledCentre (spanIn own second))) 0))
 
 -- the bases and labels are there, and each anchor is one of the cells
 pub record OnMap (job : List ℕ) (start bases width : ℕ) (labels : List ℕ) (cells : ℕ) : Type 0 where

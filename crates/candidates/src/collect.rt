@@ -33,8 +33,13 @@ fn consider(
     firsts: &mut [u32; 256],
     seconds: &mut [u32; 256],
 ) -> usize
-    requires { ⌜ OnMap (now job) «bases_at» bases width (now labels) cells × (n ≤ 256) × OwnBounded (now own) n × Stored (now owners) (now lefts) (now rights) records × OwnersBelow (now owners) records n × (found (given (now job) «bases_at» bases width (labelsIn (now labels) cells) (now own) (now linkables) (now lowers) (now highers) (now owners) (now lefts) (now rights) records) region ≡ true → count < 256) ⌝ }
-    ensures { λ r. ⌜ Added (given (now (job .entry)) «bases_at» bases width (labelsIn (now (labels .entry)) cells) (now (own .entry)) (now (linkables .entry)) (now (lowers .entry)) (now (highers .entry)) (now (owners .entry)) (now (lefts .entry)) (now (rights .entry)) records) region count (now (regions .entry)) (now (firsts .entry)) (now (seconds .entry)) r (now (regions .exit)) (now (firsts .exit)) (now (seconds .exit)) ⌝ }
+    requires { ⌜ OnMap (now job) «bases_at» bases width (now labels) cells × (n ≤ 256) × OwnBounded (now own) n
+        × Stored (now owners) (now lefts) (now rights) records × OwnersBelow (now owners) records n
+        × (found (given (now job) «bases_at» bases width (labelsIn (now labels) cells) (now own) (now linkables) (now lowers) (now highers) (now owners)
+        (now lefts) (now rights) records) region ≡ true → count < 256) ⌝ }
+    ensures { λ r. ⌜ Added (given (now (job .entry)) «bases_at» bases width (labelsIn (now (labels .entry)) cells) (now (own .entry)) (now (linkables .entry))
+        (now (lowers .entry)) (now (highers .entry)) (now (owners .entry)) (now (lefts .entry)) (now (rights .entry)) records) region count
+        (now (regions .entry)) (now (firsts .entry)) (now (seconds .entry)) r (now (regions .exit)) (now (firsts .exit)) (now (seconds .exit)) ⌝ }
 {
     let t = touching_of(owners, lefts, rights, records, region);
     let first = t.first;
@@ -85,8 +90,12 @@ pub fn collect(
     firsts: &mut [u32; 256],
     seconds: &mut [u32; 256],
 ) -> usize
-    requires { ⌜ OnMap (now job) «bases_at» bases width (now labels) cells × (n ≤ 256) × OwnBounded (now own) n × Stored (now owners) (now lefts) (now rights) records × OwnersBelow (now owners) records n ⌝ }
-    ensures { λ r. ⌜ AllFound (given (now (job .entry)) «bases_at» bases width (labelsIn (now (labels .entry)) cells) (now (own .entry)) (now (linkables .entry)) (now (lowers .entry)) (now (highers .entry)) (now (owners .entry)) (now (lefts .entry)) (now (rights .entry)) records) (now (regions .exit)) (now (firsts .exit)) (now (seconds .exit)) r ⌝ }
+    requires { ⌜ OnMap (now job) «bases_at» bases width (now labels) cells × (n ≤ 256) × OwnBounded (now own) n
+        × Stored (now owners) (now lefts) (now rights) records × OwnersBelow (now owners) records n ⌝ }
+    ensures { λ r. ⌜ AllFound
+        (given (now (job .entry)) «bases_at» bases width (labelsIn (now (labels .entry)) cells) (now (own .entry)) (now (linkables .entry))
+        (now (lowers .entry)) (now (highers .entry)) (now (owners .entry)) (now (lefts .entry)) (now (rights .entry)) records) (now (regions .exit))
+        (now (firsts .exit)) (now (seconds .exit)) r ⌝ }
 {
     *regions = [0u32; 256];
     *firsts = [0u32; 256];

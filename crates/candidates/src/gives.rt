@@ -68,7 +68,8 @@ pub fn gives_link(
     region: u32,
 ) -> bool
     requires { ⌜ OnMap (now job) «bases_at» bases width (now labels) cells × (n ≤ 256) × OwnBounded (now own) n × TwoBelow count first second n ⌝ }
-    ensures { λ r. ⌜ r ≡ not (anchoredBy (now (job .entry)) «bases_at» bases width (labelsIn (now (labels .entry)) cells) region) && joinsTwo (now (own .entry)) (now (linkables .entry)) (now (lowers .entry)) (now (highers .entry)) region count first second ⌝ }
+    ensures { λ r. ⌜ r ≡ not (anchoredBy (now (job .entry)) «bases_at» bases width (labelsIn (now (labels .entry)) cells) region) && joinsTwo (now (own .entry))
+        (now (linkables .entry)) (now (lowers .entry)) (now (highers .entry)) region count first second ⌝ }
 {
     let anchored = is_anchored(job, bases_at, bases, width, labels, cells, region);
     let joins = joins_two(

@@ -40,8 +40,11 @@ pub fn candidate_links(
     firsts: &mut [u32; 256],
     seconds: &mut [u32; 256],
 ) -> usize
-    requires { ⌜ OnMap (now job) «bases_at» bases width (now labels) cells × (n ≤ 256) × OwnBounded (now own) n × Stored (now owners) (now lefts) (now rights) records × OwnersBelow (now owners) records n ⌝ }
-    ensures { λ r. ⌜ Answer (now (job .entry)) «bases_at» bases width (labelsIn (now (labels .entry)) cells) n (now (own .entry)) (now (ramps .entry)) (now (removed .entry)) (now (separated .entry)) (now (owners .entry)) (now (lefts .entry)) (now (rights .entry)) records (now (counts .exit)) (now (lowers .exit)) (now (highers .exit)) (now (regions .exit)) (now (firsts .exit)) (now (seconds .exit)) r ⌝ }
+    requires { ⌜ OnMap (now job) «bases_at» bases width (now labels) cells × (n ≤ 256) × OwnBounded (now own) n
+        × Stored (now owners) (now lefts) (now rights) records × OwnersBelow (now owners) records n ⌝ }
+    ensures { λ r. ⌜ Answer (now (job .entry)) «bases_at» bases width (labelsIn (now (labels .entry)) cells) n (now (own .entry)) (now (ramps .entry))
+        (now (removed .entry)) (now (separated .entry)) (now (owners .entry)) (now (lefts .entry)) (now (rights .entry)) records (now (counts .exit))
+        (now (lowers .exit)) (now (highers .exit)) (now (regions .exit)) (now (firsts .exit)) (now (seconds .exit)) r ⌝ }
 {
     let mut linkables = [0u8; 256];
     first_pairs(owners, lefts, rights, records, counts, lowers, highers);

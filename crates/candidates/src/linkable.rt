@@ -16,7 +16,8 @@ fn mark(
     counts: &[u32; 256],
 ) -> u8
     requires { ⌜ rank < 256 ⌝ }
-    ensures { λ r. ⌜ r ≡ cond (canLink (now (own .entry)) (now (ramps .entry)) (now (removed .entry)) (now (separated .entry)) (now (counts .entry)) rank) 1 0 ⌝ }
+    ensures { λ r. ⌜ r ≡ cond (canLink (now (own .entry)) (now (ramps .entry)) (now (removed .entry)) (now (separated .entry)) (now (counts .entry)) rank) 1
+        0 ⌝ }
 {
     let s = span_at(own, rank);
     let distinct = !s.coincides();
@@ -36,7 +37,8 @@ pub fn find_linkables(
     linkables: &mut [u8; 256],
 )
     requires { ⌜ n ≤ 256 ⌝ }
-    ensures { λ r. ⌜ Marked (canLink (now (own .entry)) (now (ramps .entry)) (now (removed .entry)) (now (separated .entry)) (now (counts .entry))) n (now (linkables .exit)) ⌝ }
+    ensures { λ r. ⌜ Marked (canLink (now (own .entry)) (now (ramps .entry)) (now (removed .entry)) (now (separated .entry)) (now (counts .entry))) n
+        (now (linkables .exit)) ⌝ }
 {
     *linkables = [0u8; 256];
     let mut i: usize = 0;

@@ -19,7 +19,8 @@ fn add_pair(
     requires { ⌜ (rank < 256) × (getD (now counts) rank 0 ≤ 4096) ⌝ }
     ensures counted { λ r. ⌜ now (counts .exit) ≡ set (now (counts .entry)) rank (getD (now (counts .entry)) rank 0 + 1) ⌝ }
     ensures lower { λ r. ⌜ now (lowers .exit) ≡ cond (eqb (getD (now (counts .entry)) rank 0) 0) (set (now (lowers .entry)) rank left) (now (lowers .entry)) ⌝ }
-    ensures higher { λ r. ⌜ now (highers .exit) ≡ cond (eqb (getD (now (counts .entry)) rank 0) 0) (set (now (highers .entry)) rank right) (now (highers .entry)) ⌝ }
+    ensures higher { λ r. ⌜ now (highers .exit) ≡ cond (eqb (getD (now (counts .entry)) rank 0) 0) (set (now (highers .entry)) rank right)
+        (now (highers .entry)) ⌝ }
 {
     let count = counts[rank];
     counts[rank] = count + 1;
@@ -40,7 +41,8 @@ pub fn first_pairs(
     highers: &mut [u32; 256],
 )
     requires { ⌜ Stored (now owners) (now lefts) (now rights) records × OwnersBelow (now owners) records 256 ⌝ }
-    ensures { λ r. ⌜ Firsts (now (owners .entry)) (now (lefts .entry)) (now (rights .entry)) records (now (counts .exit)) (now (lowers .exit)) (now (highers .exit)) ⌝ }
+    ensures { λ r. ⌜ Firsts (now (owners .entry)) (now (lefts .entry)) (now (rights .entry)) records (now (counts .exit)) (now (lowers .exit))
+        (now (highers .exit)) ⌝ }
 {
     *counts = [0u32; 256];
     *lowers = [0u32; 256];

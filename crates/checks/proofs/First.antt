@@ -36,7 +36,15 @@ found (c ∷ cs) r e = go (c .holds) refl (found cs r) e
     go true f ih g = record { before = []; found = c; after = cs; place = refl; holds = f; gives = same-refusal g; silent = Rows.none }
     go false f ih g =
         let w = ih g in
-        record { before = c ∷ w .before; found = w .found; after = w .after; place = ap (λ (l : List Check). c ∷ l) (w .place); holds = w .holds; gives = w .gives; silent = more f (w .silent) }
+        record {
+          before = c ∷ w .before;
+          found = w .found;
+          after = w .after;
+          place = ap (λ (l : List Check). c ∷ l) (w .place);
+          holds = w .holds;
+          gives = w .gives;
+          silent = more f (w .silent);
+        }
 
 decides : (a b : List Check) (c : Check) → All Silent a → c .holds ≡ true → firstRefusal (a ++ (c ∷ b)) ≡ some (c .refusal)
 unfolding firstRefusal

@@ -38,7 +38,8 @@ unfolding firstRefusal
 append-none [] b e = refl
 append-none (c ∷ a) b e = go (c .holds) (append-none a b) e
   where
-    go : (t : Bool) → (firstRefusal a ≡ none → firstRefusal (a ++ b) ≡ firstRefusal b) → cond t (some (c .refusal)) (firstRefusal a) ≡ none → cond t (some (c .refusal)) (firstRefusal (a ++ b)) ≡ firstRefusal b
+    go : (t : Bool) → (firstRefusal a ≡ none → firstRefusal (a ++ b) ≡ firstRefusal b) → cond t (some (c .refusal)) (firstRefusal a) ≡ none
+        → cond t (some (c .refusal)) (firstRefusal (a ++ b)) ≡ firstRefusal b
     go true ih f = never (sym f)
     go false ih f = ih f
 
@@ -47,7 +48,8 @@ unfolding firstRefusal
 append-some [] b r e = never e
 append-some (c ∷ a) b r e = go (c .holds) (append-some a b r) e
   where
-    go : (t : Bool) → (firstRefusal a ≡ some r → firstRefusal (a ++ b) ≡ some r) → cond t (some (c .refusal)) (firstRefusal a) ≡ some r → cond t (some (c .refusal)) (firstRefusal (a ++ b)) ≡ some r
+    go : (t : Bool) → (firstRefusal a ≡ some r → firstRefusal (a ++ b) ≡ some r) → cond t (some (c .refusal)) (firstRefusal a) ≡ some r
+        → cond t (some (c .refusal)) (firstRefusal (a ++ b)) ≡ some r
     go true ih f = f
     go false ih f = ih f
 
@@ -73,7 +75,8 @@ unfolding each
 each-next f i e g = rw add-one (append-none (each i f) (f i) e ∙ g)
 
 -- The first number whose checks hold decides, however many follow.
-pub each-found : (f : ℕ → List Check) (i n : ℕ) (r : Refusal) → i < n → firstRefusal (each i f) ≡ none → firstRefusal (f i) ≡ some r → firstRefusal (each n f) ≡ some r
+pub each-found : (f : ℕ → List Check) (i n : ℕ) (r : Refusal) → i < n → firstRefusal (each i f) ≡ none → firstRefusal (f i) ≡ some r
+    → firstRefusal (each n f) ≡ some r
 unfolding each
 each-found f i zero r h e g = absurd (omega arith)
 each-found f i (suc n) r h e g = go (ℕ-discrete i n) (λ l. each-found f i n r l e g)

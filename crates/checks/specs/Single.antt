@@ -37,7 +37,8 @@ baseCheck s width height at i = check (anchorFault width height (baseAt s (at + 
 unfoldable pub sumsFault : List ℕ → Counts → Bool
 sumsFault s c =
     not (eqb (observationTotal (boundaryRecords s (boundariesStart c) (c .boundaries))) (c .observations)
-    && eqb (ownTotal (boundaryRecords s (boundariesStart c) (c .boundaries)) + sourceCount (observationRecords s (observationsStart c) (c .observations))) (c .sources))
+    && eqb (ownTotal (boundaryRecords s (boundariesStart c) (c .boundaries)) + sourceCount (observationRecords s (observationsStart c) (c .observations)))
+    (c .sources))
 
 -- 9: the ramp (boundary); the boundaries' records start at `at`.
 unfoldable pub rampCheck : List ℕ → ℕ → ℕ → List Check

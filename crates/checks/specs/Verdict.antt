@@ -4,7 +4,9 @@ use mathlib.Core.Bool.{Bool, true, false}
 use mathlib.Core.Option.{Option, none, some}
 use Rattle.checks.specs.Checks.{Refusal}
 use Rattle.checks.specs.declared.verdict.Verdict.{Verdict}
-use Rattle.checks.specs.declared.verdict.Verdict.the-variants.{Passed, ShortHeader, MapSize, TooMany, TooManyBoundaries, Layout, CellBits, AnchorOffMap, CountsDiffer, RampForm, WidthRange, EndOffMap, EndsCoincide, ListLength, TooManySpans, SpanOffMap, SpanCoincides}
+use Rattle.checks.specs.declared.verdict.Verdict.the-variants.{Passed, ShortHeader, MapSize, TooMany, TooManyBoundaries, Layout, CellBits, AnchorOffMap}
+use Rattle.checks.specs.declared.verdict.Verdict.the-variants.{CountsDiffer, RampForm, WidthRange, EndOffMap, EndsCoincide, ListLength, TooManySpans}
+use Rattle.checks.specs.declared.verdict.Verdict.the-variants.{SpanOffMap, SpanCoincides}
 
 abbrev refused : ℕ → ℕ → Option Refusal
 refused n d = some (record { number = n; detail = d })

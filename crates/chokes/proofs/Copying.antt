@@ -24,7 +24,8 @@ copied-long {from} {n} {start} {to} {i} c =
     ap (λ (l : List ℕ). length l) (c .is)
     ∙ length-splice start 0 (rows i (λ k. getD from k 0)) (omega (arith, c .below, c .room, length-rows i (λ k. getD from k 0)))
 
-pub copied-next : {from : List ℕ} {n : ℕ} {start to : List ℕ} {i : ℕ} → Copied from n start to i → i < n → Copied from n start (set to i (getD from i 0)) (i + 1)
+pub copied-next : {from : List ℕ} {n : ℕ} {start to : List ℕ} {i : ℕ} → Copied from n start to i → i < n
+    → Copied from n start (set to i (getD from i 0)) (i + 1)
 copied-next {from} {n} {start} {to} {i} c h = record {
   is =
       let f : ℕ → ℕ = λ k. getD from k 0 in

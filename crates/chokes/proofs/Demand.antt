@@ -48,11 +48,17 @@ module _ (limits : Limits) (dirs : List ℕ) where
     abbrev pub given : List ℕ
     given = answerOf limits dirs (jobOf (m .call)) (spansOf (m .call))
 
-    made : m .after ≡ record { number = 0; detail = length given; work = labelled (labelsOf dirs (jobOf (m .call)) (spansOf (m .call))) (m .work); out = splice (m .answer) 0 given }
+    made : m .after ≡ record {
+      number = 0;
+      detail = length given;
+      work = labelled (labelsOf dirs (jobOf (m .call)) (spansOf (m .call))) (m .work);
+      out = splice (m .answer) 0 given;
+    }
     unfolding left
     made =
         let a = m .accepted in
-        m .promised ∙ reduced-success limits dirs (checksOf (m .call)) (jobOf (m .call)) (spansOf (m .call)) (m .work) (m .answer) (a .input) (a .room) (a .pairs) (a .fits)
+        m .promised ∙ reduced-success limits dirs (checksOf (m .call)) (jobOf (m .call)) (spansOf (m .call)) (m .work) (m .answer) (a .input) (a .room)
+        (a .pairs) (a .fits)
 
     pub wrote-answer : wrote limits dirs m ≡ given
     wrote-answer = ap (λ (o : Outcome). take (o .detail) (o .out)) made ∙ first-written (m .answer) given
@@ -66,9 +72,11 @@ module _ (limits : Limits) (dirs : List ℕ) where
       ∙ ap (λ (bs : List Base). rulesOn limits dirs (gridOf b) (anchorsOf bs)) (s .bases)
 
   -- Demand 3. For every run A and run B, each a Reduce or a Reduce by list that is accepted (`Made`), on one map with the same bases (`SameMap`), no two
-  -- boundaries of A with the same ends in either order (`DistinctEnds`), and B's listing another one of A's boundaries and spans (`Relisted`: any order, "its ends
+  -- boundaries of A with the same ends in either order (`DistinctEnds`), and B's listing another one of A's boundaries and spans (`Relisted`: any
+  -- order, "its ends
   -- either way round", "an observation takes its sources along", sources and observations shuffled).
-  pub same-bytes : (a b : Made limits dirs) → SameMap (jobOf (a .call)) (jobOf (b .call)) → DistinctEnds (jobOf (a .call) .boundaries) → Relisted (runOf (a .call)) (runOf (b .call)) → SameBytes limits dirs a b
+  pub same-bytes : (a b : Made limits dirs) → SameMap (jobOf (a .call)) (jobOf (b .call)) → DistinctEnds (jobOf (a .call) .boundaries)
+      → Relisted (runOf (a .call)) (runOf (b .call)) → SameBytes limits dirs a b
   unfolding runOf
   same-bytes a b s d r =
       let rules = rulesOf limits dirs (jobOf (b .call)) in

@@ -51,11 +51,14 @@ module _ (s order plan : List ℕ) {answer out : List ℕ} {number detail : ℕ}
   same-bytes : Finished (bytesBy (decode s .boundaries) order plan) answer out number detail
   same-bytes = subst (λ (bs : List ℕ). Finished bs answer out number detail) (bytes-here s order plan) f
 
-  pub reduce-finished : {work after : List ℕ} {zero : ℕ} → Made limits000 eight (reduceChecks s) (decode s) (ownEnds (decode s)) work after order plan zero → leftBy number detail after out ≡ reduceResult s work answer
+  pub reduce-finished : {work after : List ℕ} {zero : ℕ} → Made limits000 eight (reduceChecks s) (decode s) (ownEnds (decode s)) work after order plan zero
+      → leftBy number detail after out ≡ reduceResult s work answer
   unfolding reduceResult reduceWith
   reduce-finished y = left-finished y same-bytes
 
-  pub by-list-finished : (t : List ℕ) {work after : List ℕ} {zero : ℕ} → Made limits000 eight (byListChecks s t) (decode s) (decodeList t) work after order plan zero → leftBy number detail after out ≡ reduceByListResult s t work answer
+  pub by-list-finished : (t : List ℕ) {work after : List ℕ} {zero : ℕ}
+      → Made limits000 eight (byListChecks s t) (decode s) (decodeList t) work after order plan zero
+      → leftBy number detail after out ≡ reduceByListResult s t work answer
   unfolding reduceByListResult reduceByListWith
   by-list-finished t y = left-finished y same-bytes
 
@@ -64,7 +67,8 @@ pub reduce-as : (s work answer : List ℕ) → reduced limits000 eight (reduceCh
 unfolding reduceResult reduceWith
 reduce-as s work answer = refl
 
-pub by-list-as : (s t work answer : List ℕ) → reduced limits000 eight (byListChecks s t) (decode s) (decodeList t) work answer ≡ reduceByListResult s t work answer
+pub by-list-as : (s t work answer : List ℕ)
+    → reduced limits000 eight (byListChecks s t) (decode s) (decodeList t) work answer ≡ reduceByListResult s t work answer
 unfolding reduceByListResult reduceByListWith
 by-list-as s t work answer = refl
 

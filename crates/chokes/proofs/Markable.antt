@@ -96,11 +96,14 @@ module _ {s : List ℕ} {h : Header} {work : List ℕ} (m : Markable s h work) w
             ∙ (ap (λ k. rows k (λ i. canonical (spanAt s (boundaryPlace s i)))) count-is
             ∙ (sym (map-rows canonical (countsAt s 0 .boundaries) (λ i. spanAt s (boundaryPlace s i))) ∙ ap (map canonical) (sym (own-ends s)))))
 
-        records-are : (dirs : List ℕ) → records dirs (mapOf (h .counts .width) (h .counts .height) cells) (spansIn ends count) ≡ records dirs (gridOf (decode s)) (ownEnds (decode s))
+        records-are : (dirs : List ℕ) → records dirs (mapOf (h .counts .width) (h .counts .height) cells) (spansIn ends count) ≡ records dirs
+            (gridOf (decode s)) (ownEnds (decode s))
         records-are dirs =
-            ap (λ (g : Grid). records dirs g (spansIn ends count)) grid-is ∙ records-same dirs (gridOf (decode s)) (spansIn ends count) (ownEnds (decode s)) same-ends
+            ap (λ (g : Grid). records dirs g (spansIn ends count)) grid-is
+            ∙ records-same dirs (gridOf (decode s)) (spansIn ends count) (ownEnds (decode s)) same-ends
 
-        labels-are : (dirs : List ℕ) → areaLabels dirs (mapOf (h .counts .width) (h .counts .height) cells) (spansIn ends count) ≡ areaLabels dirs (gridOf (decode s)) (ownEnds (decode s))
+        labels-are : (dirs : List ℕ) → areaLabels dirs (mapOf (h .counts .width) (h .counts .height) cells) (spansIn ends count) ≡ areaLabels dirs
+            (gridOf (decode s)) (ownEnds (decode s))
         labels-are dirs =
             ap (λ (g : Grid). areaLabels dirs g (spansIn ends count)) grid-is
             ∙ labels-depend-on-the-set dirs (gridOf (decode s)) (spansIn ends count) (ownEnds (decode s)) (eq-same same-ends)

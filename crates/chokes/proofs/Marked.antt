@@ -59,7 +59,8 @@ module _ (s work marks : List ℕ) where
   unfolding markResult markWith outcome
   mark-refused {o} {t} {n} {d} e f g p q = go o e f p q
     where
-      go : (o : Option Refusal) → o ≡ firstRefusal (markChecks s) → t ≡ passes o → n ≡ numberOf o → d ≡ detailOf o → leftBy n d work marks ≡ markResult s work marks
+      go : (o : Option Refusal) → o ≡ firstRefusal (markChecks s) → t ≡ passes o → n ≡ numberOf o → d ≡ detailOf o
+          → leftBy n d work marks ≡ markResult s work marks
       go none e f p q = let z : _≡_ {A = Bool} true false = sym g ∙ ap not f in let i : _≡_ {A = ℕ} 0 1 = cc in absurd (omega arith)
       go (some r) e f p q =
           let a : firstRefusal (markChecks s ++ (workCheck (decode s) work ∷ [])) ≡ some r = append-some (markChecks s) _ r (sym e) in
@@ -74,7 +75,8 @@ module _ (s work marks : List ℕ) where
         = append-none (markChecks s) _ e ∙ stop 21 0 [] (lt-ltb _ _ l) in
         rw a refl
 
-    module _ (w : workSize (decode s) ≤ length work) {after bridges : List ℕ} {pairs : ℕ} (drawn : Analysed (directionsOf 495) (decode s) (ownEnds (decode s)) work after bridges pairs) where
+    module _ (w : workSize (decode s) ≤ length work) {after bridges : List ℕ} {pairs : ℕ}
+        (drawn : Analysed (directionsOf 495) (decode s) (ownEnds (decode s)) work after bridges pairs) where
       y : Analysed eight (decode s) (ownEnds (decode s)) work after bridges pairs
       y = subst (λ (dirs : List ℕ). Analysed dirs (decode s) (ownEnds (decode s)) work after bridges pairs) directions-eight drawn
 

@@ -85,9 +85,11 @@ module _ (limits : Limits) (dirs : List ℕ) where
     pub ruled : wrote a ≡ answerOf limits dirs (jobOf (a .call)) (spansOf (a .call))
     -- "Reduce and Reduce by list write just these bytes, whichever of the two listings they are given"
     pub bytes : wrote a ≡ wrote b
-    -- "and whichever list of merges is taken: this equality is one claim about the whole list of merges"; "It begins with the job's boundaries in run B's listing."
+    -- "and whichever list of merges is taken: this equality is one claim about the whole list of merges"; "It begins with the job's boundaries in run
+    -- B's listing."
     pub finished : (ms : List Group) (after : List Boundary) → MergeList (groupsIn b) ms → MergesOn (runOf (b .call)) ms after → finish after ≡ wrote a
-    -- "the sources are counted after each merge besides": these are the fields `came`, `during` and `answered`; `one` and `some` say that a list of merges exists
+    -- "the sources are counted after each merge besides": these are the fields `came`, `during` and `answered`; `one` and `some` say that a list of
+    -- merges exists
     pub merges : Independent (rulesOf limits dirs (jobOf (b .call))) (runOf (a .call)) (runOf (b .call))
     -- "no boundary is in two accepted groups"
     pub disjoint : Pairs Disjoint (every (groupsIn b))

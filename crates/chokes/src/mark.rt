@@ -30,7 +30,8 @@ fn analyse_boundaries(
     marks: &mut [u8; 256],
 ) -> usize
     requires { ⌜ Markable (now job) h (now work) × Leads directions ⌝ }
-    ensures { λ r. ⌜ Analysed (directionsOf directions) (decode (now (job .entry))) (ownEnds (decode (now (job .entry)))) (now (work .entry)) (now (work .exit)) (now (marks .exit)) r ⌝ }
+    ensures { λ r. ⌜ Analysed (directionsOf directions) (decode (now (job .entry))) (ownEnds (decode (now (job .entry)))) (now (work .entry)) (now (work .exit))
+        (now (marks .exit)) r ⌝ }
 {
     let c = h.counts;
     let o = h.offsets;
@@ -73,7 +74,8 @@ fn copy_first(from: &[u8; 256], n: usize, to: &mut [u8])
 
 #[no_mangle]
 pub extern "C" fn chokes_mark(job: &[u8], work: &mut [u8], marks: &mut [u8]) -> ChokesResult
-    ensures { λ r. ⌜ leftBy (r .number) (r .detail) (now (work .exit)) (now (marks .exit)) ≡ markResult (now (job .entry)) (now (work .entry)) (now (marks .entry)) ⌝ }
+    ensures { λ r. ⌜ leftBy (r .number) (r .detail) (now (work .exit)) (now (marks .exit)) ≡ markResult (now (job .entry)) (now (work .entry))
+        (now (marks .entry)) ⌝ }
 {
     let v = check_mark(job);
     if !v.passed() {

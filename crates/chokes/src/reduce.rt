@@ -16,7 +16,8 @@ use links::limits::Limits;
 // Writes the answer of a plan where the slice has room for it.
 fn finish(job: &[u8], order: &[u32; 256], plan: &[u32; 256], answer: &mut [u8]) -> ChokesResult
     requires { ⌜ Answerable (now job) (headerAt (now job)) (now order) ⌝ }
-    ensures { λ r. ⌜ Finished (answerBytes (now (job .entry)) (now (order .entry)) (now (plan .entry))) (now (answer .entry)) (now (answer .exit)) (r .number) (r .detail) ⌝ }
+    ensures { λ r. ⌜ Finished (answerBytes (now (job .entry)) (now (order .entry)) (now (plan .entry))) (now (answer .entry)) (now (answer .exit)) (r .number)
+        (r .detail) ⌝ }
 {
     let room = answer.len();
     let h = read_header(job);
@@ -35,7 +36,8 @@ fn finish(job: &[u8], order: &[u32; 256], plan: &[u32; 256], answer: &mut [u8]) 
 
 #[no_mangle]
 pub extern "C" fn chokes_reduce(job: &[u8], work: &mut [u8], answer: &mut [u8]) -> ChokesResult
-    ensures { λ r. ⌜ leftBy (r .number) (r .detail) (now (work .exit)) (now (answer .exit)) ≡ reduceResult (now (job .entry)) (now (work .entry)) (now (answer .entry)) ⌝ }
+    ensures { λ r. ⌜ leftBy (r .number) (r .detail) (now (work .exit)) (now (answer .exit)) ≡ reduceResult (now (job .entry)) (now (work .entry))
+        (now (answer .entry)) ⌝ }
 {
     let mut order = [0u32; 256];
     let mut plan = [0u32; 256];
@@ -53,7 +55,8 @@ pub extern "C" fn chokes_reduce_by_list(
     work: &mut [u8],
     answer: &mut [u8],
 ) -> ChokesResult
-    ensures { λ r. ⌜ leftBy (r .number) (r .detail) (now (work .exit)) (now (answer .exit)) ≡ reduceByListResult (now (job .entry)) (now (list .entry)) (now (work .entry)) (now (answer .entry)) ⌝ }
+    ensures { λ r. ⌜ leftBy (r .number) (r .detail) (now (work .exit)) (now (answer .exit)) ≡ reduceByListResult (now (job .entry)) (now (list .entry))
+        (now (work .entry)) (now (answer .entry)) ⌝ }
 {
     let mut order = [0u32; 256];
     let mut plan = [0u32; 256];

@@ -24,7 +24,8 @@ unfolding cellCount keep
 count-next w n r =
     ap (λ (l : List ℕ). length (keep (eqb r) l)) (words-last w n)
     ∙ (ap length (keep-append (eqb r) (labelsIn w n) (word w n ∷ []))
-    ∙ (length-append (keep (eqb r) (labelsIn w n)) (keep (eqb r) (word w n ∷ [])) ∙ ap (λ (k : ℕ). length (keep (eqb r) (labelsIn w n)) + k) (one-kept (eqb r (word w n)) (word w n))))
+    ∙ (length-append (keep (eqb r) (labelsIn w n)) (keep (eqb r) (word w n ∷ []))
+    ∙ ap (λ (k : ℕ). length (keep (eqb r) (labelsIn w n)) + k) (one-kept (eqb r (word w n)) (word w n))))
 
 zeros-last : (k : ℕ) → _≡_ {A = List ℕ} (replicate k 0 ++ (0 ∷ [])) (replicate (suc k) 0)
 zeros-last zero = refl
@@ -34,14 +35,17 @@ pub fill-start : (s : List ℕ) (from : ℕ) → s ≡ splice s from (replicate 
 unfolding splice
 fill-start s from =
     let e : from - from ≡ 0 = omega arith in
-    sym (ap (λ (k : ℕ). take from s ++ (replicate k 0 ++ drop (from + length {A = ℕ} (replicate k 0)) s)) e ∙ (ap (λ (k : ℕ). take from s ++ drop k s) (let z : from + 0 ≡ from = omega arith in z) ∙ take-append-drop from s))
+    sym (ap (λ (k : ℕ). take from s ++ (replicate k 0 ++ drop (from + length {A = ℕ} (replicate k 0)) s)) e
+    ∙ (ap (λ (k : ℕ). take from s ++ drop k s) (let z : from + 0 ≡ from = omega arith in z) ∙ take-append-drop from s))
 
-pub fill-next : (s w : List ℕ) (from i : ℕ) → from ≤ i → i < length s → w ≡ splice s from (replicate (i - from) 0) → set w i 0 ≡ splice s from (replicate (i + 1 - from) 0)
+pub fill-next : (s w : List ℕ) (from i : ℕ) → from ≤ i → i < length s → w ≡ splice s from (replicate (i - from) 0)
+    → set w i 0 ≡ splice s from (replicate (i + 1 - from) 0)
 fill-next s w from i l h e =
     ap (λ (x : List ℕ). set x i 0) e
     ∙ (set-splice (splice s from zs) i 0 (omega (arith, length-splice s from zs fits))
     ∙ (ap (λ (x : ℕ). splice (splice s from zs) x (0 ∷ [])) (let z : i ≡ from + length zs = omega (arith, length-replicate {A = ℕ} (i - from) 0) in z)
-    ∙ (splice-splice s from zs fits (0 ∷ []) ∙ ap (splice s from) (zeros-last (i - from) ∙ ap (λ (k : ℕ). replicate k 0) (let z : suc (i - from) ≡ i + 1 - from = omega arith in z)))))
+    ∙ (splice-splice s from zs fits (0 ∷ [])
+    ∙ ap (splice s from) (zeros-last (i - from) ∙ ap (λ (k : ℕ). replicate k 0) (let z : suc (i - from) ≡ i + 1 - from = omega arith in z)))))
   where
     zs : List ℕ
     zs = replicate (i - from) 0

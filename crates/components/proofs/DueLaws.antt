@@ -116,7 +116,8 @@ module _ (width : ℕ) (bytes : List ℕ) where
   run-path i h =
       let m = bit-on bytes i 0 (omega arith) h in
       let isSet = ap (λ (x : ℕ). bitAt x 0) (run-at i m) ∙ (half-bit (byteIn bytes i) ∙ h) in
-      path-edge (stepOf i (i + later width 0)) (Memᴰ·append-right (named width (dues width bytes)) (names-named width (runs bytes) (stepOf i (i + later width 0))
+      path-edge (stepOf i (i + later width 0))
+      (Memᴰ·append-right (named width (dues width bytes)) (names-named width (runs bytes) (stepOf i (i + later width 0))
       (record { cell = i; bit = 0; below = omega (arith, runs-long); small = omega arith; isSet = isSet; edge = refl })))
 
   next-path : (i : ℕ) → bitAt (byteIn bytes i) 0 ≡ true → Path enough i (i + 1)
@@ -131,7 +132,8 @@ module _ (width : ℕ) (bytes : List ℕ) where
       (λ f. due-path (suc j) 2 (omega arith) (bit-on bytes (suc j) 2 (omega arith) h) (due-byte (suc j) .1 ∙ and-both h (ap not f)))
     where
       around : (bitAt (byteIn bytes j) 2 ≡ true → Path enough j (j + later width 2)) →
-          (bitAt (byteIn bytes j) 0 && bitAt (byteIn bytes j) 2) && bitAt (beforeIn bytes (suc j + width)) 0 ≡ true → Path enough (suc j) (suc j + later width 2)
+          (bitAt (byteIn bytes j) 0 && bitAt (byteIn bytes j) 2) && bitAt (beforeIn bytes (suc j + width)) 0 ≡ true
+          → Path enough (suc j) (suc j + later width 2)
       around down t =
           let q = and-parts (bitAt (byteIn bytes j) 0 && bitAt (byteIn bytes j) 2) _ t in
           let p = and-parts (bitAt (byteIn bytes j) 0) _ (q .0) in

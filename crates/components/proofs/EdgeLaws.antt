@@ -51,12 +51,15 @@ module _ (width b i : ℕ) where
   from-old : {e : Edge} {es : List Edge} → List·Memᴰ e es → List·Memᴰ e (addedFrom width b i es)
   unfolding addedFrom
   from-old m =
-      added-old (bitAt b 3) (edgeAt width i 3) (added-old (bitAt b 2) (edgeAt width i 2) (added-old (bitAt b 1) (edgeAt width i 1) (added-old (bitAt b 0) (edgeAt width i 0) m)))
+      added-old (bitAt b 3) (edgeAt width i 3)
+      (added-old (bitAt b 2) (edgeAt width i 2) (added-old (bitAt b 1) (edgeAt width i 1) (added-old (bitAt b 0) (edgeAt width i 0) m)))
 
   from-new : (es : List Edge) (k : ℕ) → k < 4 → bitAt b k ≡ true → List·Memᴰ (edgeAt width i k) (addedFrom width b i es)
   unfolding addedFrom
-  from-new es zero l h = added-old (bitAt b 3) (edgeAt width i 3) (added-old (bitAt b 2) (edgeAt width i 2) (added-old (bitAt b 1) (edgeAt width i 1) (added-new (bitAt b 0) (edgeAt width i 0) es h)))
-  from-new es (suc zero) l h = added-old (bitAt b 3) (edgeAt width i 3) (added-old (bitAt b 2) (edgeAt width i 2) (added-new (bitAt b 1) (edgeAt width i 1) _ h))
+  from-new es zero l h = added-old (bitAt b 3) (edgeAt width i 3)
+      (added-old (bitAt b 2) (edgeAt width i 2) (added-old (bitAt b 1) (edgeAt width i 1) (added-new (bitAt b 0) (edgeAt width i 0) es h)))
+  from-new es (suc zero) l h = added-old (bitAt b 3) (edgeAt width i 3)
+      (added-old (bitAt b 2) (edgeAt width i 2) (added-new (bitAt b 1) (edgeAt width i 1) _ h))
   from-new es (suc (suc zero)) l h = added-old (bitAt b 3) (edgeAt width i 3) (added-new (bitAt b 2) (edgeAt width i 2) _ h)
   from-new es (suc (suc (suc zero))) l h = added-new (bitAt b 3) (edgeAt width i 3) _ h
   from-new es (suc (suc (suc (suc k)))) l h = absurd (omega arith)
@@ -69,7 +72,8 @@ module _ (width : ℕ) (bytes : List ℕ) (es : List Edge) where
   unfolding joinedTo
   joined-cases zero h = inr h
   joined-cases (suc m) {e} h =
-      ⊎-elim (λ (t : Bit width (getD bytes m 0) m e). inl (record { cell = m; bit = t .place; below = omega arith; small = t .small; isSet = t .isSet; edge = t .edge }))
+      ⊎-elim (λ (t : Bit width (getD bytes m 0) m e).
+      inl (record { cell = m; bit = t .place; below = omega arith; small = t .small; isSet = t .isSet; edge = t .edge }))
       (λ t. ⊎-elim (λ n. inl (one-more n)) (λ o. inr o) (joined-cases m t)) (from-cases width (getD bytes m 0) m h)
 
   joined-old : (m : ℕ) {e : Edge} → List·Memᴰ e es → List·Memᴰ e (joinedTo width bytes es m)
@@ -84,7 +88,8 @@ module _ (width : ℕ) (bytes : List ℕ) (es : List Edge) where
       by-cases (ℕ-discrete (w .cell) m)
       (λ q. Memᴰ·cast (sym (w .edge) ∙ ap (λ (x : ℕ). edgeAt width x (w .bit)) q)
       (from-new width (getD bytes m 0) m (joinedTo width bytes es m) (w .bit) (w .small) (ap (λ (x : ℕ). bitAt (getD bytes x 0) (w .bit)) (sym q) ∙ w .isSet)))
-      (λ q. from-old width (getD bytes m 0) m (names-joined m (record { cell = w .cell; bit = w .bit; below = below q; small = w .small; isSet = w .isSet; edge = w .edge })))
+      (λ q. from-old width (getD bytes m 0) m
+      (names-joined m (record { cell = w .cell; bit = w .bit; below = below q; small = w .small; isSet = w .isSet; edge = w .edge })))
     where
       below : (w .cell ≡ m → ⊥) → w .cell < m
       below q = omega (arith, w .below)

@@ -22,7 +22,14 @@ pub record Finding (i at p : ℕ) (s w : List ℕ) : Type 0 where
   pub same : (n : ℕ) (es : List Edge) → i < n → Forest es n (word s) → part es at ≡ part es i
 
 pub finding-start : (i p : ℕ) (s : List ℕ) → p ≡ word s i → Finding i i p s s
-finding-start i p s e = record { below = omega arith; parent = e; usable = λ m u. u; kept = λ n l. kept-none n s; forest = λ n es l f. f; same = λ n es l f. refl }
+finding-start i p s e = record {
+  below = omega arith;
+  parent = e;
+  usable = λ m u. u;
+  kept = λ n l. kept-none n s;
+  forest = λ n es l f. f;
+  same = λ n es l f. refl;
+}
 
 module _ {i at p : ℕ} {s w : List ℕ} (u : Usable i s) (f : Finding i at p s w) where
   -- the parent is no later

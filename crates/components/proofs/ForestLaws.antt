@@ -29,10 +29,12 @@ pub forest-halved : {es : List Edge} {n : ℕ} {p q : ℕ → ℕ} (i : ℕ) →
 forest-halved {es} {n} {p} {q} i h f u = record {
   falls = λ k l. by-cases (ℕ-discrete k i) (λ e. omega (arith, ap q e, u .at, up, upup)) (λ d. omega (arith, u .off k d, f .falls k l));
   along = λ k l.
-      by-cases (ℕ-discrete k i) (λ e. ap (λ (x : ℕ). part es (q x)) e ∙ (ap (part es) (u .at) ∙ (f .along (p i) (omega (arith, up)) ∙ (f .along i h ∙ ap (part es) (sym e)))))
+      by-cases (ℕ-discrete k i)
+      (λ e. ap (λ (x : ℕ). part es (q x)) e ∙ (ap (part es) (u .at) ∙ (f .along (p i) (omega (arith, up)) ∙ (f .along i h ∙ ap (part es) (sym e)))))
       (λ d. ap (part es) (u .off k d) ∙ f .along k l);
   top = λ k l t.
-      by-cases (ℕ-discrete k i) (λ e. f .top k l (ap p e ∙ let z : p i ≡ k = omega (arith, ap q e, u .at, up, upup) in z)) (λ d. f .top k l (sym (u .off k d) ∙ t));
+      by-cases (ℕ-discrete k i) (λ e. f .top k l (ap p e ∙ let z : p i ≡ k = omega (arith, ap q e, u .at, up, upup) in z))
+      (λ d. f .top k l (sym (u .off k d) ∙ t));
 }
   where
     up : p i ≤ i
@@ -88,7 +90,8 @@ module _ (e : Edge) {es : List Edge} {n : ℕ} {p : ℕ → ℕ} (f : Forest es 
   forest-right-low l u = forest-low a b a-first b-first (omega arith) (omega arith) l u
 
 -- two vertices of one part
-pub forest-joined : (e : Edge) {es : List Edge} {n : ℕ} {p : ℕ → ℕ} → Forest es n p → (a b : ℕ) → a ≡ part es (e .left) → b ≡ part es (e .right) → a ≡ b → Forest (e ∷ es) n p
+pub forest-joined : (e : Edge) {es : List Edge} {n : ℕ} {p : ℕ → ℕ} → Forest es n p → (a b : ℕ) → a ≡ part es (e .left) → b ≡ part es (e .right) → a ≡ b
+    → Forest (e ∷ es) n p
 forest-joined e {es} f a b left right same = forest-ext (λ c. sym (new e f a b left right c ∙ stay (part es c))) f
   where
     stay : (c : ℕ) → join a b c ≡ c

@@ -38,14 +38,16 @@ module _ {i j a b : ℕ} {s t w : List ℕ} (ui : Usable i s) (uj : Usable j s) 
   joined-left small less v ev = subst (λ (x : List ℕ). Joined true i j s x) (sym ev) (record {
     usable = λ m u. put-usable w b a right-room small (omega arith) m (usable m u);
     kept = λ n l m. kept-trans n (kept n l (m refl)) (put-kept w b a right-room n (omega (arith, fb .below, m refl)));
-    forest = λ n es l m f. forest-left-low (stepOf i j) (forest n es l (m refl) f) a b (fa .first n es l f) (second n es l (m refl) f) less (put-upd w b a right-room small);
+    forest = λ n es l m f. forest-left-low (stepOf i j) (forest n es l (m refl) f) a b (fa .first n es l f) (second n es l (m refl) f) less
+        (put-upd w b a right-room small);
   })
 
   pub joined-right : b < 4294967296 → b < a → (v : List ℕ) → v ≡ splice w (4 * a) (u32Bytes b) → Joined true i j s v
   joined-right small less v ev = subst (λ (x : List ℕ). Joined true i j s x) (sym ev) (record {
     usable = λ m u. put-usable w a b left-room small (omega arith) m (usable m u);
     kept = λ n l m. kept-trans n (kept n l (m refl)) (put-kept w a b left-room n (omega (arith, fa .below)));
-    forest = λ n es l m f. forest-right-low (stepOf i j) (forest n es l (m refl) f) a b (fa .first n es l f) (second n es l (m refl) f) less (put-upd w a b left-room small);
+    forest = λ n es l m f. forest-right-low (stepOf i j) (forest n es l (m refl) f) a b (fa .first n es l f) (second n es l (m refl) f) less
+        (put-upd w a b left-room small);
   })
 
   pub joined-same : (a < b → ⊥) → (b < a → ⊥) → Joined true i j s w

@@ -31,7 +31,8 @@ use Rattle.components.specs.Joining.{Sound}
 pub map-up-last : {A : Type 0} (f : ℕ → A) (a n : ℕ) → map f (upFrom a (suc n)) ≡ map f (upFrom a n) ++ (f (a + n) ∷ [])
 unfolding upFrom
 map-up-last f a zero = ap (λ (x : ℕ). f x ∷ []) (let z : a ≡ a + 0 = omega arith in z)
-map-up-last f a (suc n) = ap (λ t. f a ∷ t) (map-up-last f (suc a) n ∙ ap (λ (x : ℕ). map f (upFrom (suc a) n) ++ (f x ∷ [])) (let z : suc a + n ≡ a + suc n = omega arith in z))
+map-up-last f a (suc n) = ap (λ t. f a ∷ t)
+    (map-up-last f (suc a) n ∙ ap (λ (x : ℕ). map f (upFrom (suc a) n) ++ (f x ∷ [])) (let z : suc a + n ≡ a + suc n = omega arith in z))
 
 map-up-next : {A : Type 0} (f : ℕ → A) (n : ℕ) → map f (upFrom 0 (n + 1)) ≡ map f (upFrom 0 n) ++ (f n ∷ [])
 map-up-next f n = rw add-one (map-up-last f 0 n ∙ ap (λ (x : ℕ). map f (upFrom 0 n) ++ (f x ∷ [])) (let z : 0 + n ≡ n = omega arith in z))

@@ -33,13 +33,16 @@ walks-below : (cells : List ℕ) (i : ℕ) → walks cells i ≡ true → i < le
 unfolding walkable
 walks-below cells i h = walkable-on (record { width = 0; height = 0; cells = cells }) i h
 
-module _ {n width base : ℕ} {cells : List ℕ} (s : List ℕ) (e : length cells ≡ n) (apart : 4 * n ≤ base) (room : base + n ≤ length s) (sound : Sound cells width (part s base n)) where
+module _ {n width base : ℕ} {cells : List ℕ} (s : List ℕ) (e : length cells ≡ n) (apart : 4 * n ≤ base) (room : base + n ≤ length s)
+    (sound : Sound cells width (part s base n)) where
   pub sound-within : {w : List ℕ} → Kept n s w → (i : ℕ) → i < n → Within n width (getD w (base + i) 0) i
-  sound-within {w} k i l = record { here = l; there = λ b small h. there b small (ap (λ (x : ℕ). bitAt x b) (part-at s base n i l ∙ sym (kept-at k (base + i) (omega arith))) ∙ h) }
+  sound-within {w} k i l =
+      record { here = l; there = λ b small h. there b small (ap (λ (x : ℕ). bitAt x b) (part-at s base n i l ∙ sym (kept-at k (base + i) (omega arith))) ∙ h) }
     where
       there : (b : ℕ) → b < 4 → bitAt (getD (part s base n) i 0) b ≡ true → i + later width b < n
       there b small h =
-          let m = names-named width (part s base n) (stepOf i (i + later width b)) (record { cell = i; bit = b; below = omega (arith, length-part s base n room); small = small; isSet = h; edge = refl }) in
+          let m = names-named width (part s base n) (stepOf i (i + later width b))
+          (record { cell = i; bit = b; below = omega (arith, length-part s base n room); small = small; isSet = h; edge = refl }) in
           omega (arith, walks-below cells (i + later width b) (sound .ends (stepOf i (i + later width b)) m .1))
 
 pub kept-part : {n base : ℕ} {s w : List ℕ} (m : ℕ) → 4 * n ≤ base → Kept n s w → part w base m ≡ part s base m

@@ -87,7 +87,8 @@ module _ (on : ℕ → Bool) (es : List Edge) (among : Among on es) {n : ℕ} {p
 -- the next label is at most one more than there are
 next-small : (b : Bool) (q : ℕ → ℕ) (i c : ℕ) → q i ≤ i → ((j : ℕ) → j < i → q j ≤ c) → nextLabel b q i c ≤ c + 1
 next-small b q i c k m =
-    by-test b (λ e. rw e (by-cases (ℕ-discrete (q i) i) (λ d. rw (eq-eqb (q i) i d) (omega arith)) (λ d. rw (ne-eqb (q i) i d) (omega (arith, m (q i) (omega arith))))))
+    by-test b (λ e. rw e (by-cases (ℕ-discrete (q i) i) (λ d. rw (eq-eqb (q i) i d) (omega arith))
+    (λ d. rw (ne-eqb (q i) i d) (omega (arith, m (q i) (omega arith))))))
     (λ e. rw e (omega arith))
 
 -- the word at the start of what is kept
@@ -115,7 +116,8 @@ numbering-start n on s = record {
   at = λ es f a j l. absurd (omega arith);
 }
 
-module _ {n i c : ℕ} {on : ℕ → Bool} {s w : List ℕ} (h : Numbering n i c on s w) (few : n ≤ 1048576) (room : 4 * n ≤ length s) (falls : (j : ℕ) → j < n → word s j ≤ j) (l : i < n) where
+module _ {n i c : ℕ} {on : ℕ → Bool} {s w : List ℕ} (h : Numbering n i c on s w) (few : n ≤ 1048576) (room : 4 * n ≤ length s)
+    (falls : (j : ℕ) → j < n → word s j ≤ j) (l : i < n) where
   pub numbering-room : 4 * i + 4 ≤ length w
   numbering-room = omega (arith, h .kept .size)
 
@@ -139,7 +141,8 @@ module _ {n i c : ℕ} {on : ℕ → Bool} {s w : List ℕ} (h : Numbering n i c
       kept = kept-trans (i + 1) (kept-more i (i + 1) (omega arith) (h .kept)) (put-kept w i r numbering-room (i + 1) (omega arith));
       done = λ es f a. record {
         same = ap (λ (x : List ℕ). splice x (4 * i) (u32Bytes r)) (h .done es f a .same)
-            ∙ (ap (λ (x : ℕ). splice (splice s 0 (flatMap u32Bytes (labels i on es))) (4 * i) (u32Bytes x)) (right-label es f a) ∙ bytes-last s on es i (omega arith));
+            ∙ (ap (λ (x : ℕ). splice (splice s 0 (flatMap u32Bytes (labels i on es))) (4 * i) (u32Bytes x)) (right-label es f a)
+            ∙ bytes-last s on es i (omega arith));
         total = em ∙ (ap (λ (x : ℕ). max x r) (h .done es f a .total) ∙ (ap (max (labelCount i on es)) (right-label es f a) ∙ sym (next-count on es a f i l)));
       };
       at = λ es f a j k.
@@ -153,7 +156,8 @@ module _ {n i c : ℕ} {on : ℕ → Bool} {s w : List ℕ} (h : Numbering n i c
   pub numbering-next : (v : List ℕ) (m : ℕ) → NextNumbered (on i) i c w v m → Numbering n (i + 1) m on s v
   numbering-next v m k = subst (λ (x : List ℕ). Numbering n (i + 1) m on s x) (sym (k .same)) (numbering-put (nextLabel (on i) (word w) i c) refl m (k .most))
 
-pub numbering-end : {n i c : ℕ} {on : ℕ → Bool} {s w : List ℕ} → Numbering n i c on s w → (i < n → ⊥) → (es : List Edge) → Forest es n (word s) → Among on es → Numbered n on es s w c
+pub numbering-end : {n i c : ℕ} {on : ℕ → Bool} {s w : List ℕ} → Numbering n i c on s w → (i < n → ⊥) → (es : List Edge) → Forest es n (word s) → Among on es
+    → Numbered n on es s w c
 numbering-end {n} {i} {c} {on} {s} {w} h q es f a = subst (λ (x : ℕ). Numbered x on es s w c) (let z : i ≡ n = omega (arith, h .below) in z) (h .done es f a)
 
 -- a number times 0 or 1

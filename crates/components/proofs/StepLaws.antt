@@ -48,12 +48,14 @@ to-last width i = omega arith
 
 module _ (width b i : ℕ) where
   -- what a join asks
-  pub asked : {s w : List ℕ} → Ready width b i s → ((m : ℕ) → Usable m s → Usable m w) → (k : ℕ) → k < 4 → {on : Bool} {j : ℕ} → on ≡ bitAt b k → j ≡ i + later width k →
+  pub asked : {s w : List ℕ} → Ready width b i s → ((m : ℕ) → Usable m s → Usable m w) → (k : ℕ) → k < 4 → {on : Bool} {j : ℕ} → on ≡ bitAt b k
+      → j ≡ i + later width k →
       Usable i w × (on ≡ true → Usable j w)
   asked {w = w} r u k l e f = (u i (r .here), λ h. subst (λ (x : ℕ). Usable x w) (sym f) (u (i + later width k) (r .there k l (sym e ∙ h))))
 
   -- and what it gives
-  pub as-bit : {s w : List ℕ} (k : ℕ) {on : Bool} {j : ℕ} → on ≡ bitAt b k → j ≡ i + later width k → Joined on i j s w → Joined (bitAt b k) i (i + later width k) s w
+  pub as-bit : {s w : List ℕ} (k : ℕ) {on : Bool} {j : ℕ} → on ≡ bitAt b k → j ≡ i + later width k → Joined on i j s w
+      → Joined (bitAt b k) i (i + later width k) s w
   as-bit {s} {w} k {j = j} e f h = subst (λ (x : ℕ). Joined (bitAt b k) i x s w) f (subst (λ (x : Bool). Joined x i j s w) e h)
 
   pub joined-from : {s t u v w : List ℕ} → Joined (bitAt b 0) i (i + later width 0) s t → Joined (bitAt b 1) i (i + later width 1) t u →
@@ -72,7 +74,8 @@ module _ (width b i : ℕ) where
 -- a byte without bits names nothing
 pub joined-zero : (width b i : ℕ) (s : List ℕ) → b ≡ 0 → JoinedFrom width b i s s
 unfolding addedFrom
-joined-zero width b i s e = subst (λ (x : ℕ). JoinedFrom width x i s s) (sym e) (record { usable = λ m u. u; kept = λ n h. kept-none n s; forest = λ n es h f. f })
+joined-zero width b i s e = subst (λ (x : ℕ). JoinedFrom width x i s s) (sym e)
+    (record { usable = λ m u. u; kept = λ n h. kept-none n s; forest = λ n es h f. f })
 
 -- what stands past the words is as it was
 pub kept-at : {n : ℕ} {s w : List ℕ} → Kept n s w → (k : ℕ) → 4 * n ≤ k → getD w k 0 ≡ getD s k 0

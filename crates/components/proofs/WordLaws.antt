@@ -32,7 +32,8 @@ module _ (s : List ℕ) (i v : ℕ) (room : 4 * i + 4 ≤ length s) where
   pub put-other : (k : ℕ) → (k ≡ i → ⊥) → word (splice s (4 * i) (u32Bytes v)) k ≡ word s k
   put-other k q =
       by-cases (decLt k i) (λ l. read-before s (4 * i) (u32Bytes v) fits 4 (4 * k) (omega arith))
-      (λ l. read-after s (4 * i) (u32Bytes v) fits 4 (4 * k) (let h : i < k = by-cases (decLt i k) (λ m. m) (λ m. absurd (q (omega arith))) in omega (arith, length-bytes 4 v)))
+      (λ l. read-after s (4 * i) (u32Bytes v) fits 4 (4 * k)
+      (let h : i < k = by-cases (decLt i k) (λ m. m) (λ m. absurd (q (omega arith))) in omega (arith, length-bytes 4 v)))
 
   pub put-upd : v < 4294967296 → Upd (word s) (word (splice s (4 * i) (u32Bytes v))) i v
   put-upd small = record { at = read-same 4 s (4 * i) v room small; off = put-other }
@@ -53,7 +54,8 @@ module _ (s : List ℕ) (i v : ℕ) (room : 4 * i + 4 ≤ length s) where
     small = u .small;
     room = omega (arith, put-length);
     falls = λ j l.
-        by-cases (ℕ-discrete j i) (λ e. omega (arith, ap (word (splice s (4 * i) (u32Bytes v))) e, put-upd small .at)) (λ q. omega (arith, put-other j q, u .falls j l));
+        by-cases (ℕ-discrete j i) (λ e. omega (arith, ap (word (splice s (4 * i) (u32Bytes v))) e, put-upd small .at))
+        (λ q. omega (arith, put-other j q, u .falls j l));
   }
 
 pub kept-none : (n : ℕ) (s : List ℕ) → Kept n s s

@@ -13,7 +13,8 @@ pub record Usable (i : ℕ) (w : List ℕ) : Type 0 where
   pub room : 4 * i + 4 ≤ length w
   pub falls : (j : ℕ) → j ≤ i → word w j ≤ j
 
--- parents p of the vertices 0, …, n - 1: none comes after its vertex, each is in its vertex's part, and a vertex that is its own parent is the first of its part
+-- parents p of the vertices 0, …, n - 1: none comes after its vertex, each is in its vertex's part, and a vertex that is its own parent is the first
+-- of its part
 pub record Forest (es : List Edge) (n : ℕ) (p : ℕ → ℕ) : Type 0 where
   pub falls : (i : ℕ) → i < n → p i ≤ i
   pub along : (i : ℕ) → i < n → part es (p i) ≡ part es i

@@ -32,7 +32,9 @@ pub fn components(cells: &[u8], width: u32, work: &mut [u8], base: usize) -> u32
     requires { ⌜ (length (now cells) ≤ 1048576) × (0 < width) × (4 * length (now cells) ≤ base) × (base + 2 * length (now cells) ≤ length (now work)) ⌝ }
     requires { ⌜ Sound (now cells) width (part (now work) base (length (now cells))) ⌝ }
     requires { ⌜ part (now work) (base + length (now cells)) (length (now cells)) ≡ dues width (part (now work) base (length (now cells))) ⌝ }
-    ensures { λ r. ⌜ ((g : Grid) → g .cells ≡ now (cells .entry) → Numbered (length (now (cells .entry))) (walkable g) (named width (part (now (work .entry)) base (length (now (cells .entry))))) (now (work .entry)) (now (work .exit)) r) ⌝ }
+    ensures { λ r. ⌜ ((g : Grid) → g .cells ≡ now (cells .entry)
+        → Numbered (length (now (cells .entry))) (walkable g) (named width (part (now (work .entry)) base (length (now (cells .entry)))))
+        (now (work .entry)) (now (work .exit)) r) ⌝ }
 {
     let n = cells.len();
     run_parents(work, base, n);

@@ -47,7 +47,8 @@ fn number_cell(cells: &[u8], work: &mut [u8], i: usize, count: u32) -> u32
 // Replaces the parents by labels. Gives the number of labels.
 pub fn number(cells: &[u8], work: &mut [u8]) -> u32
     requires { ⌜ (length (now cells) ≤ 1048576) × (4 * length (now cells) ≤ length (now work)) × ((i : ℕ) → i < length (now cells) → word (now work) i ≤ i) ⌝ }
-    ensures { λ r. ⌜ ((es : List Edge) → Forest es (length (now (cells .entry))) (word (now (work .entry))) → Among (walks (now (cells .entry))) es → Numbered (length (now (cells .entry))) (walks (now (cells .entry))) es (now (work .entry)) (now (work .exit)) r) ⌝ }
+    ensures { λ r. ⌜ ((es : List Edge) → Forest es (length (now (cells .entry))) (word (now (work .entry))) → Among (walks (now (cells .entry))) es
+        → Numbered (length (now (cells .entry))) (walks (now (cells .entry))) es (now (work .entry)) (now (work .exit)) r) ⌝ }
 {
     let mut count: u32 = 0;
     let mut i: usize = 0;

@@ -18,7 +18,8 @@ fn pick(t: bool, a: usize, b: usize) -> usize
 // The open bytes stand from `base` on.
 pub fn run_parents(work: &mut [u8], base: usize, n: usize)
     requires { ⌜ (4 * n ≤ base) × (base + n ≤ length (now work)) × (n ≤ 1048576) ⌝ }
-    ensures { λ r. ⌜ Kept n (now (work .entry)) (now (work .exit)) × ((i : ℕ) → i < n → word (now (work .exit)) i ≡ runStart (part (now (work .entry)) base n) i) ⌝ }
+    ensures { λ r. ⌜ Kept n (now (work .entry)) (now (work .exit))
+        × ((i : ℕ) → i < n → word (now (work .exit)) i ≡ runStart (part (now (work .entry)) base n) i) ⌝ }
 {
     let mut first: usize = 0;
     let mut joined = false;

@@ -40,7 +40,8 @@ below-sum h [] d g e = refl
 below-sum h (x ∷ l) d g e = let a = e 0 (omega arith) in let b = below-sum h l d (λ k. g (suc k)) (λ k i. e (suc k) (omega arith)) in omega arith
 
 -- A member's piece, where it stands.
-pub flat-part : {A B : Type 0} (f : A → List B) (l : List A) (d : A) (g : ℕ → ℕ) (k : ℕ) → k < length l → ((i : ℕ) → i < length l → g i ≡ length (f (getD l i d)))
+pub flat-part : {A B : Type 0} (f : A → List B) (l : List A) (d : A) (g : ℕ → ℕ) (k : ℕ) → k < length l
+    → ((i : ℕ) → i < length l → g i ≡ length (f (getD l i d)))
     → take (length (f (getD l k d))) (drop (below g k) (flatMap f l)) ≡ f (getD l k d)
 unfolding flatMap sum rows
 flat-part f [] d g k h e = absurd (omega arith)
@@ -59,7 +60,8 @@ flat-at f l d g k h e i b j =
     ∙ ap (λ t. getD t i b) (flat-part f l d g k h e)
 
 -- Their place is within the whole.
-pub flat-within : {A B : Type 0} (f : A → List B) (l : List A) (d : A) (g : ℕ → ℕ) (k : ℕ) → k < length l → ((i : ℕ) → i < length l → g i ≡ length (f (getD l i d)))
+pub flat-within : {A B : Type 0} (f : A → List B) (l : List A) (d : A) (g : ℕ → ℕ) (k : ℕ) → k < length l
+    → ((i : ℕ) → i < length l → g i ≡ length (f (getD l i d)))
     → below g k + length (f (getD l k d)) ≤ length (flatMap f l)
 unfolding flatMap sum rows
 flat-within f [] d g k h e = absurd (omega arith)

@@ -18,7 +18,8 @@ use Rattle.length.specs.Total.{totalKey}
 use Rattle.position.specs.declared.Span.{Span}
 use Rattle.format.specs.Values.{Observation, Boundary}
 use Rattle.format.specs.Records.{sourceBytes, boundaryBytes, observationBytes}
-use Rattle.format.specs.Encode.{rampRecord, boundaryRecord, observationRecord, observationsOf, sourcesWith, sourcesOf, encodeBoundaries, encodeAnswer, answerWords}
+use Rattle.format.specs.Encode.{rampRecord, boundaryRecord, observationRecord, observationsOf, sourcesWith, sourcesOf, encodeBoundaries, encodeAnswer}
+use Rattle.format.specs.Encode.{answerWords}
 use Rattle.format.specs.Fits.{SourceFits}
 use Rattle.format.specs.declared.records.Source.{Source}
 use Rattle.format.specs.declared.records.BoundaryRecord.{BoundaryRecord}
@@ -31,7 +32,8 @@ use Rattle.answer.specs.Packed.{sourcePack, packed}
 use Rattle.answer.specs.Written.{observationWords}
 use Rattle.answer.specs.Placed.{Holds}
 use Rattle.answer.specs.Gathered.{noObservation, Gathered}
-use Rattle.encoding.specs.Pieces.{pieces, keySource, keySpan, keyBits, keptRecord, keptPiece, keyPiece, runFrom, runLength, placeRun, placePiece, runsFrom, elements, groupPiece, citedTotal, answerBytes}
+use Rattle.encoding.specs.Pieces.{pieces, keySource, keySpan, keyBits, keptRecord, keptPiece, keyPiece, runFrom, runLength, placeRun, placePiece}
+use Rattle.encoding.specs.Pieces.{runsFrom, elements, groupPiece, citedTotal, answerBytes}
 use Rattle.encoding.proofs.Flats.{pieces-flat, flat-flat, below-sum, flat-part, flat-at, flat-within}
 use Rattle.encoding.proofs.Lengths.{part-short}
 
@@ -43,7 +45,8 @@ key-source s f =
     let b : pack (s .from) (s .to) % 0x1_0000_0000 ≡ s .to = omega (arith, f .to) in
     λ k. record { from = a k; to = b k }
 
-key-span : (e : Span) {v w : ℕ} → v ≡ pack (e .a .x) (e .a .y) → w ≡ pack (e .b .x) (e .b .y) → e .a .y < 0x1_0000_0000 → e .b .y < 0x1_0000_0000 → keySpan v w ≡ e
+key-span : (e : Span) {v w : ℕ} → v ≡ pack (e .a .x) (e .a .y) → w ≡ pack (e .b .x) (e .b .y) → e .a .y < 0x1_0000_0000 → e .b .y < 0x1_0000_0000
+    → keySpan v w ≡ e
 unfolding keySpan
 key-span e {v} {w} f g h i =
     let a : v / 0x1_0000_0000 ≡ e .a .x = omega arith in
@@ -74,11 +77,13 @@ abbrev noSource : Source
 noSource = record { from = 0; to = 0 }
 
 -- The numbers of sources are their bytes.
-pub keys-flat : (keys : List ℕ) (from n : ℕ) (ss : List Source) → All SourceFits ss → n ≡ length ss → ((i : ℕ) → i < length ss → getD keys (from + i) 0 ≡ getD (packed ss) i 0) → runFrom keys from n ≡ flatMap sourceBytes ss
+pub keys-flat : (keys : List ℕ) (from n : ℕ) (ss : List Source) → All SourceFits ss → n ≡ length ss
+    → ((i : ℕ) → i < length ss → getD keys (from + i) 0 ≡ getD (packed ss) i 0) → runFrom keys from n ≡ flatMap sourceBytes ss
 unfolding keyPiece packed sourcePack
 keys-flat keys from n ss f e h =
     pieces-flat sourceBytes ss noSource (λ i. keyPiece keys (from + i)) n e
-    (λ i l. ap (λ (v : ℕ). sourceBytes (keySource v)) (h i l ∙ List·getD-map sourcePack ss i noSource) ∙ ap sourceBytes (key-source (getD ss i noSource) (all-at ss i noSource f l)))
+    (λ i l. ap (λ (v : ℕ). sourceBytes (keySource v)) (h i l ∙ List·getD-map sourcePack ss i noSource)
+    ∙ ap sourceBytes (key-source (getD ss i noSource) (all-at ss i noSource f l)))
 
 module _ {first second third starts counts keys : List ℕ} {p : ℕ} {o : Observation} (h : Holds first second third starts counts keys p o) where
   pub run-count : runLength starts counts keys p ≡ length (o .sources)
@@ -88,7 +93,8 @@ module _ {first second third starts counts keys : List ℕ} {p : ℕ} {o : Obser
   pub place-bytes : placePiece first second third starts counts keys p ≡ observationBytes (observationRecord o)
   unfolding placePiece observationWords observationRecord
   place-bytes =
-      let a : keySpan (getD first p 0) (getD second p 0) ≡ o .ends = key-span (o .ends) (h .key .first-is) (h .key .second-is) (h .key .first-fits) (h .key .second-fits) in
+      let a : keySpan (getD first p 0) (getD second p 0) ≡ o .ends =
+      key-span (o .ends) (h .key .first-is) (h .key .second-is) (h .key .first-fits) (h .key .second-fits) in
       let b : keyBits (getD third p 0) ≡ o .bits = ap keyBits (h .key .third-is) ∙ key-bits (o .bits) in
       ap observationBytes (λ k. record { ends = a k; bits = b k; sources = run-count k })
 
@@ -99,7 +105,8 @@ module _ {first second third starts counts keys : List ℕ} {p : ℕ} {o : Obser
       keys-flat keys (getD starts p 0) (runLength starts counts keys p) (o .sources) (h .fits) run-count
       (λ i l. sym (part-at keys (getD starts p 0) (getD counts p 0) i (omega (arith, s .0, run-count))) ∙ ap (λ (t : List ℕ). getD t i 0) (h .run))
 
-module _ {bs : ℕ → BoundaryRecord} {n : ℕ} {ks : List Boundary} {kept owns seens owned seen first second third starts counts keys : List ℕ} (g : Gathered bs n ks kept owns seens owned seen first second third starts counts keys) where
+module _ {bs : ℕ → BoundaryRecord} {n : ℕ} {ks : List Boundary} {kept owns seens owned seen first second third starts counts keys : List ℕ}
+    (g : Gathered bs n ks kept owns seens owned seen first second third starts counts keys) where
   abbrev os : List Observation
   os = observationsOf ks
 
@@ -111,27 +118,32 @@ module _ {bs : ℕ → BoundaryRecord} {n : ℕ} {ks : List Boundary} {kept owns
 
   pub seen-sum : below (elements seens) (length ks) ≡ length os
   unfolding observationsOf
-  seen-sum = below-sum (λ (b : Boundary). length (b .observations)) ks noBoundary (elements seens) seen-at ∙ sym (length-flatMap (λ (b : Boundary). b .observations) ks)
+  seen-sum = below-sum (λ (b : Boundary). length (b .observations)) ks noBoundary (elements seens) seen-at
+      ∙ sym (length-flatMap (λ (b : Boundary). b .observations) ks)
 
   own-flat : ownSources ks ≡ flatMap (λ (b : Boundary). b .sources) ks
   unfolding ownSources
   own-flat = sym (flat-gather (λ (b : Boundary). b .sources) ks)
 
   pub own-sum : below (elements owns) (length ks) ≡ length (ownSources ks)
-  own-sum = below-sum (λ (b : Boundary). length (b .sources)) ks noBoundary (elements owns) own-at ∙ sym (ap length own-flat ∙ length-flatMap (λ (b : Boundary). b .sources) ks)
+  own-sum = below-sum (λ (b : Boundary). length (b .sources)) ks noBoundary (elements owns) own-at
+      ∙ sym (ap length own-flat ∙ length-flatMap (λ (b : Boundary). b .sources) ks)
 
   -- The places of observations.
   seen-holds : (q : ℕ) → q < length os → Holds first second third starts counts keys (getD seen q 0) (getD os q noObservation)
-  seen-holds q h = subst (λ (p : ℕ). Holds first second third starts counts keys p (getD os q noObservation)) (getD-take (length os) seen q 0 h) (g .seen-there .each q h)
+  seen-holds q h = subst (λ (p : ℕ). Holds first second third starts counts keys p (getD os q noObservation)) (getD-take (length os) seen q 0 h)
+      (g .seen-there .each q h)
 
   pub cited-sum : citedTotal seen starts counts keys (length os) ≡ length (observed os)
-  cited-sum = below-sum (λ (o : Observation). length (o .sources)) os noObservation (λ q. runLength starts counts keys (getD seen q 0)) (λ q h. run-count (seen-holds q h)) ∙ sym (length-flatMap (λ (o : Observation). o .sources) os)
+  cited-sum = below-sum (λ (o : Observation). length (o .sources)) os noObservation (λ q. runLength starts counts keys (getD seen q 0))
+      (λ q h. run-count (seen-holds q h)) ∙ sym (length-flatMap (λ (o : Observation). o .sources) os)
 
   pub sources-sum : below (elements owns) (length ks) + citedTotal seen starts counts keys (length os) ≡ length (sourcesOf ks)
   unfolding boundaryRecord
   sources-sum =
       let a : sum (map (λ (r : BoundaryRecord). r .sources) (map boundaryRecord ks)) ≡ below (elements owns) (length ks)
-      = ap sum (map-map (λ (r : BoundaryRecord). r .sources) boundaryRecord ks) ∙ sym (below-sum (λ (b : Boundary). length (b .sources)) ks noBoundary (elements owns) own-at) in
+      = ap sum (map-map (λ (r : BoundaryRecord). r .sources) boundaryRecord ks)
+      ∙ sym (below-sum (λ (b : Boundary). length (b .sources)) ks noBoundary (elements owns) own-at) in
       omega (arith, a, cited-sum, own-and-observed ks)
 
   -- The three sections.
@@ -147,9 +159,11 @@ module _ {bs : ℕ → BoundaryRecord} {n : ℕ} {ks : List Boundary} {kept owns
       let o = g .seen-count k h in
       ap boundaryBytes (λ i. record { ends = e i; bits = w i; sources = c i; observations = o i; ramp = r i }))
 
-  seen-bytes : pieces (length os) (λ q. placePiece first second third starts counts keys (getD seen q 0)) ≡ flatMap (λ (o : Observation). observationBytes (observationRecord o)) os
+  seen-bytes : pieces (length os) (λ q. placePiece first second third starts counts keys (getD seen q 0)) ≡ flatMap
+      (λ (o : Observation). observationBytes (observationRecord o)) os
   seen-bytes =
-      pieces-flat (λ (o : Observation). observationBytes (observationRecord o)) os noObservation (λ q. placePiece first second third starts counts keys (getD seen q 0)) (length os) refl
+      pieces-flat (λ (o : Observation). observationBytes (observationRecord o)) os noObservation
+      (λ q. placePiece first second third starts counts keys (getD seen q 0)) (length os) refl
       (λ q h. place-bytes (seen-holds q h))
 
   module _ (k : ℕ) (h : k < length ks) where
@@ -159,7 +173,8 @@ module _ {bs : ℕ → BoundaryRecord} {n : ℕ} {ks : List Boundary} {kept owns
     own-fit : All SourceFits (here .sources)
     own-fit =
         subst (λ (l : List Source). All SourceFits l)
-        (ap (λ (l : List Source). take (length (here .sources)) (drop (below (elements owns) k) l)) own-flat ∙ flat-part (λ (b : Boundary). b .sources) ks noBoundary (elements owns) k h own-at)
+        (ap (λ (l : List Source). take (length (here .sources)) (drop (below (elements owns) k) l)) own-flat
+        ∙ flat-part (λ (b : Boundary). b .sources) ks noBoundary (elements owns) k h own-at)
         (all-take (length (here .sources)) (all-drop (below (elements owns) k) (g .own-fits)))
 
     own-key : (i : ℕ) → i < length (here .sources) → getD owned (below (elements owns) k + i) 0 ≡ getD (packed (here .sources)) i 0
@@ -171,16 +186,19 @@ module _ {bs : ℕ → BoundaryRecord} {n : ℕ} {ks : List Boundary} {kept owns
         sym (getD-take (length (ownSources ks)) owned j 0 m)
         ∙ ap (λ (t : List ℕ). getD t j 0) (g .own-there)
         ∙ List·getD-map sourcePack (ownSources ks) j noSource
-        ∙ ap sourcePack (ap (λ (t : List Source). getD t j noSource) own-flat ∙ flat-at (λ (b : Boundary). b .sources) ks noBoundary (elements owns) k h own-at i noSource l)
+        ∙ ap sourcePack (ap (λ (t : List Source). getD t j noSource) own-flat
+        ∙ flat-at (λ (b : Boundary). b .sources) ks noBoundary (elements owns) k h own-at i noSource l)
         ∙ sym (List·getD-map sourcePack (here .sources) i noSource)
 
-    seen-run : (i : ℕ) → i < length (here .observations) → placeRun starts counts keys (getD seen (below (elements seens) k + i) 0) ≡ flatMap sourceBytes (getD (here .observations) i noObservation .sources)
+    seen-run : (i : ℕ) → i < length (here .observations)
+        → placeRun starts counts keys (getD seen (below (elements seens) k + i) 0) ≡ flatMap sourceBytes (getD (here .observations) i noObservation .sources)
     unfolding observationsOf
     seen-run i l =
         let j = below (elements seens) k + i in
         let w = flat-within (λ (b : Boundary). b .observations) ks noBoundary (elements seens) k h seen-at in
         run-bytes (seen-holds j (omega arith))
-        ∙ ap (λ (o : Observation). flatMap sourceBytes (o .sources)) (flat-at (λ (b : Boundary). b .observations) ks noBoundary (elements seens) k h seen-at i noObservation l)
+        ∙ ap (λ (o : Observation). flatMap sourceBytes (o .sources))
+        (flat-at (λ (b : Boundary). b .observations) ks noBoundary (elements seens) k h seen-at i noObservation l)
 
     group-bytes : groupPiece owns seens owned seen starts counts keys k ≡ flatMap sourceBytes (sourcesWith here)
     unfolding groupPiece sourcesWith
@@ -188,14 +206,16 @@ module _ {bs : ℕ → BoundaryRecord} {n : ℕ} {ks : List Boundary} {kept owns
         ap (λ (t : List ℕ). t ++ runsFrom seen starts counts keys (below (elements seens) k) (getD seens k 0))
         (keys-flat owned (below (elements owns) k) (getD owns k 0) (here .sources) own-fit (own-at k h) own-key)
         ∙ ap (λ (t : List ℕ). flatMap sourceBytes (here .sources) ++ t)
-        (pieces-flat (λ (o : Observation). flatMap sourceBytes (o .sources)) (here .observations) noObservation (λ i. placeRun starts counts keys (getD seen (below (elements seens) k + i) 0)) (getD seens k 0) (seen-at k h) seen-run
+        (pieces-flat (λ (o : Observation). flatMap sourceBytes (o .sources)) (here .observations) noObservation
+        (λ i. placeRun starts counts keys (getD seen (below (elements seens) k + i) 0)) (getD seens k 0) (seen-at k h) seen-run
         ∙ sym (flat-flat sourceBytes (λ (o : Observation). o .sources) (here .observations)))
         ∙ sym (flatMap-append sourceBytes (here .sources) (flatMap (λ (o : Observation). o .sources) (here .observations)))
 
   pub source-bytes : pieces (length ks) (groupPiece owns seens owned seen starts counts keys) ≡ flatMap sourceBytes (sourcesOf ks)
   unfolding sourcesOf
   source-bytes =
-      pieces-flat (λ (b : Boundary). flatMap sourceBytes (sourcesWith b)) ks noBoundary (groupPiece owns seens owned seen starts counts keys) (length ks) refl group-bytes
+      pieces-flat (λ (b : Boundary). flatMap sourceBytes (sourcesWith b)) ks noBoundary (groupPiece owns seens owned seen starts counts keys) (length ks) refl
+      group-bytes
       ∙ sym (flat-flat sourceBytes sourcesWith ks)
 
   -- All bytes.

@@ -79,16 +79,21 @@ module _ (s : List ℕ) (passed : firstRefusal (jobChecks s) ≡ none) where
   abbrev counts : Counts
   counts = countsAt s 0
 
-  pub counts-places : JobPlaces s (boundariesStart counts) (counts .boundaries) (observationsStart counts) (counts .observations) (sourcesStart counts) (counts .sources)
+  pub counts-places : JobPlaces s (boundariesStart counts) (counts .boundaries) (observationsStart counts) (counts .observations) (sourcesStart counts)
+      (counts .sources)
   counts-places = counted-places s counts (job-formed s passed) allowed
 
-  pub job-boundaries : decode s .boundaries ≡ rows (counts .boundaries) (boundaryOf (boundaryRows s (boundariesStart counts)) (observationRows s (observationsStart counts)) (sourceRecords s (sourcesStart counts) (counts .sources)))
+  pub job-boundaries : decode s .boundaries ≡ rows (counts .boundaries)
+      (boundaryOf (boundaryRows s (boundariesStart counts)) (observationRows s (observationsStart counts))
+      (sourceRecords s (sourcesStart counts) (counts .sources)))
   unfolding decode jobWith
-  job-boundaries = decoded s (boundariesStart counts) (counts .boundaries) (counts .observations) (counts .sources) (omega (arith, seen-adds s counts (job-formed s passed) allowed))
+  job-boundaries = decoded s (boundariesStart counts) (counts .boundaries) (counts .observations) (counts .sources)
+      (omega (arith, seen-adds s counts (job-formed s passed) allowed))
 
   -- The copies by rank are those of the job's boundaries.
   pub job-copies : (order : List ℕ) → Ordered order (counts .boundaries)
-      → copiesBy (boundaryRows s (boundariesStart counts)) (observationRows s (observationsStart counts)) (sourceRecords s (sourcesStart counts) (counts .sources)) order (counts .boundaries)
+      → copiesBy (boundaryRows s (boundariesStart counts)) (observationRows s (observationsStart counts))
+      (sourceRecords s (sourcesStart counts) (counts .sources)) order (counts .boundaries)
       ≡ map (λ i. canon (getD (decode s .boundaries) (getD order i 0) noBoundary)) (upFrom 0 (counts .boundaries))
   job-copies order p =
       map-ext _ _ (upFrom 0 (counts .boundaries))
@@ -105,7 +110,8 @@ module _ (s : List ℕ) (passed : firstRefusal (jobChecks s) ≡ none) where
     pub from-is : from ≡ sourcesStart counts
     pub count-is : count ≡ counts .sources
 
-  pub words-read : (h : Header) → h ≡ headerAt s → {at n ats m from count : ℕ} → at ≡ h .offsets .boundaries → n ≡ h .counts .boundaries → ats ≡ h .offsets .observations → m ≡ h .counts .observations
+  pub words-read : (h : Header) → h ≡ headerAt s → {at n ats m from count : ℕ} → at ≡ h .offsets .boundaries → n ≡ h .counts .boundaries
+      → ats ≡ h .offsets .observations → m ≡ h .counts .observations
       → from ≡ h .offsets .sources → count ≡ h .counts .sources → Words at n ats m from count
   unfolding headerAt
   words-read h e a b c d f g =

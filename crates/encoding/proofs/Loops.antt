@@ -15,7 +15,8 @@ use Rattle.position.specs.declared.Span.{Span}
 use Rattle.answer.proofs.Lays.{below-next}
 use Rattle.lists.specs.Rows.{sum, rows}
 use Rattle.lists.proofs.Rows.{sum-prefix}
-use Rattle.encoding.specs.Pieces.{pieces, keySource, keySpan, keyBits, keptRecord, keptPiece, keyPiece, runFrom, runLength, placeRun, placePiece, runsFrom, elements, groupPiece, citedTotal}
+use Rattle.encoding.specs.Pieces.{pieces, keySource, keySpan, keyBits, keptRecord, keptPiece, keyPiece, runFrom, runLength, placeRun, placePiece}
+use Rattle.encoding.specs.Pieces.{runsFrom, elements, groupPiece, citedTotal}
 use Rattle.encoding.specs.Answered.{RunsWritten, SourceRoom}
 use Rattle.encoding.proofs.Writing.{pieces-none, length-next, piece-written, length-written, length-even, length-fewer}
 use Rattle.encoding.proofs.Lengths.{part-short}
@@ -29,7 +30,8 @@ pub record Writes (before : List ℕ) (at : ℕ) (f : ℕ → List ℕ) (i : ℕ
 pub writes-start : (s : List ℕ) (at : ℕ) (f : ℕ → List ℕ) → Writes s at f 0 s
 writes-start s at f = record { wrote = pieces-none s at f; long = refl }
 
-pub writes-next : {s t : List ℕ} {at i : ℕ} {f : ℕ → List ℕ} (j : ℕ) (b : List ℕ) {u : List ℕ} → Writes s at f i t → at + length (pieces (i + 1) f) ≤ length s → j ≡ at + length (pieces i f) → u ≡ splice t j b → b ≡ f i → Writes s at f (i + 1) u
+pub writes-next : {s t : List ℕ} {at i : ℕ} {f : ℕ → List ℕ} (j : ℕ) (b : List ℕ) {u : List ℕ} → Writes s at f i t → at + length (pieces (i + 1) f) ≤ length s
+    → j ≡ at + length (pieces i f) → u ≡ splice t j b → b ≡ f i → Writes s at f (i + 1) u
 writes-next {s} {t} {at} {i} {f} j b {u} w h e p q =
     let n = length-next i f in
     let x = piece-written s at i f (omega arith) e (w .wrote) (p ∙ ap (splice t j) q) in
@@ -50,9 +52,11 @@ run-long keys from n = length-even 8 n (λ i. keyPiece keys (from + i)) (λ k. s
 -- One boundary.
 pub kept-long : (bs : ℕ → BoundaryRecord) (kept owns seens : List ℕ) (n : ℕ) → length (pieces n (keptPiece bs kept owns seens)) ≡ n * 40
 unfolding keptPiece
-kept-long bs kept owns seens n = length-even 40 n (keptPiece bs kept owns seens) (λ k. boundary-trip .size (keptRecord (bs (getD kept k 0)) (getD owns k 0) (getD seens k 0)))
+kept-long bs kept owns seens n =
+    length-even 40 n (keptPiece bs kept owns seens) (λ k. boundary-trip .size (keptRecord (bs (getD kept k 0)) (getD owns k 0) (getD seens k 0)))
 
-pub kept-is : (s : List ℕ) (at : ℕ) (kept owns seens : List ℕ) (k : ℕ) {x : BoundaryRecord} {p own seen : ℕ} → x ≡ boundaryAt s (at + p * 40) → p ≡ getD kept k 0 → own ≡ getD owns k 0 → seen ≡ getD seens k 0
+pub kept-is : (s : List ℕ) (at : ℕ) (kept owns seens : List ℕ) (k : ℕ) {x : BoundaryRecord} {p own seen : ℕ} → x ≡ boundaryAt s (at + p * 40)
+    → p ≡ getD kept k 0 → own ≡ getD owns k 0 → seen ≡ getD seens k 0
     → boundaryBytes (keptRecord x own seen) ≡ keptPiece (boundaryRows s at) kept owns seens k
 unfolding keptPiece
 kept-is s at kept owns seens k {x} {p} {own} {seen} e f g h =
@@ -62,7 +66,8 @@ kept-is s at kept owns seens k {x} {p} {own} {seen} e f g h =
 
 -- One observation.
 module _ (first second third starts counts keys : List ℕ) where
-  pub place-is : (p : ℕ) {e : Span} {v w x b n : ℕ} → v ≡ getD first p 0 → w ≡ getD second p 0 → x ≡ getD third p 0 → e ≡ keySpan v w → b ≡ keyBits x → n ≡ runLength starts counts keys p
+  pub place-is : (p : ℕ) {e : Span} {v w x b n : ℕ} → v ≡ getD first p 0 → w ≡ getD second p 0 → x ≡ getD third p 0 → e ≡ keySpan v w → b ≡ keyBits x
+      → n ≡ runLength starts counts keys p
       → observationBytes (observationWords e b n) ≡ placePiece first second third starts counts keys p
   unfolding placePiece
   place-is p {e} {v} {w} {x} {b} {n} f g h i j k =
@@ -74,7 +79,9 @@ module _ (first second third starts counts keys : List ℕ) where
   unfolding placePiece
   places-long seen n =
       length-even 28 n (λ q. placePiece first second third starts counts keys (getD seen q 0))
-      (λ q. observation-trip .size (observationWords (keySpan (getD first (getD seen q 0) 0) (getD second (getD seen q 0) 0)) (keyBits (getD third (getD seen q 0) 0)) (runLength starts counts keys (getD seen q 0))))
+      (λ q. observation-trip .size
+      (observationWords (keySpan (getD first (getD seen q 0) 0) (getD second (getD seen q 0) 0)) (keyBits (getD third (getD seen q 0) 0))
+      (runLength starts counts keys (getD seen q 0))))
 
 -- One observation's sources.
 module _ (seen starts counts keys : List ℕ) (from : ℕ) where
@@ -133,7 +140,8 @@ module _ (seen starts counts keys : List ℕ) where
   unfolding sum rows
   cited-start n = record { below-count = omega arith; value = refl; small = omega arith }
 
-  pub cited-next : {n i t : ℕ} (p c : ℕ) → length keys ≤ 4096 → Cited n i t → i < n → p ≡ getD seen i 0 → c ≡ runLength starts counts keys p → Cited n (i + 1) (t + c)
+  pub cited-next : {n i t : ℕ} (p c : ℕ) → length keys ≤ 4096 → Cited n i t → i < n → p ≡ getD seen i 0 → c ≡ runLength starts counts keys p
+      → Cited n (i + 1) (t + c)
   cited-next {n} {i} {t} p c h r l e f =
       let g : c ≡ runLength starts counts keys (getD seen i 0) = f ∙ ap (runLength starts counts keys) e in
       let m = part-short keys (getD starts p 0) (getD counts p 0) in
@@ -185,7 +193,13 @@ module _ (owns seens owned seen starts counts keys : List ℕ) where
         ∙ ap (λ (z : ℕ). runFrom owned (below (elements owns) k) (getD owns k 0) ++ runsFrom seen starts counts keys (below (elements seens) k) z) f
 
     group-long : length (pieces (k + 1) groupAt) ≡ length (pieces k groupAt) + (own * 8 + length (runsFrom seen starts counts keys q m))
-    group-long = omega (arith, length-next k groupAt, ap length group-is, length-append (runFrom owned a own) (runsFrom seen starts counts keys q m), run-long owned a own)
+    group-long = omega (
+      arith,
+      length-next k groupAt,
+      ap length group-is,
+      length-append (runFrom owned a own) (runsFrom seen starts counts keys q m),
+      run-long owned a own,
+    )
 
     group-fits : at + length (pieces (k + 1) groupAt) ≤ length s
     group-fits = omega (arith, length-fewer groupAt (k + 1) n (omega arith), h .room)
@@ -200,11 +214,13 @@ module _ (owns seens owned seen starts counts keys : List ℕ) where
       pub seen-room : to + own * 8 + length (runsFrom seen starts counts keys q m) ≤ length u
       seen-room = omega (arith, own-kept, group-fits, group-long, r .place, r .writes .long)
 
-      pub grouping-next : {v : List ℕ} {end : ℕ} → RunsWritten u (to + own * 8) (runsFrom seen starts counts keys q m) v end → Grouping s at (k + 1) n v end (a + own) (q + m)
+      pub grouping-next : {v : List ℕ} {end : ℕ} → RunsWritten u (to + own * 8) (runsFrom seen starts counts keys q m) v end
+          → Grouping s at (k + 1) n v end (a + own) (q + m)
       grouping-next x = record {
         below-count = omega arith;
         writes = writes-next to (runFrom owned a own ++ runsFrom seen starts counts keys q m) (r .writes) group-fits (r .place)
-            (then-write t to (runFrom owned a own) (runsFrom seen starts counts keys q m) (omega (arith, run-long owned a own, own-room)) (omega (arith, run-long owned a own)) w (x .wrote))
+            (then-write t to (runFrom owned a own) (runsFrom seen starts counts keys q m) (omega (arith, run-long owned a own, own-room))
+            (omega (arith, run-long owned a own)) w (x .wrote))
             group-is;
         place = omega (arith, x .end, group-long, r .place);
         owns-are = own-sum;

@@ -35,13 +35,16 @@ four-set s i a b c d h =
     rw (e1, e2, e3) (sets-eq (a ∷ b ∷ c ∷ d ∷ []) s i h ∙ append-assoc (take i s) (a ∷ b ∷ c ∷ d ∷ []) (drop (i + 4) s))
 
 pub ramp-written : (s : List ℕ) (i : ℕ) (r : RampRecord) {t u : List ℕ} → i + 8 ≤ length s
-    → t ≡ set (set (set (set s i (r .end)) (i + 1) (r .lower)) (i + 2) (r .upper)) (i + 3) 0 → u ≡ splice t (i + 4) (u32Bytes (r .id)) → u ≡ splice s i (rampBytes (rampRecord (rampOf r)))
+    → t ≡ set (set (set (set s i (r .end)) (i + 1) (r .lower)) (i + 2) (r .upper)) (i + 3) 0 → u ≡ splice t (i + 4) (u32Bytes (r .id))
+    → u ≡ splice s i (rampBytes (rampRecord (rampOf r)))
 unfolding rampBytes rampRecord rampOf
 ramp-written s i r h a b =
-    then-write s i (r .end ∷ r .lower ∷ r .upper ∷ 0 ∷ []) (u32Bytes (r .id)) (omega arith) (omega arith) (a ∙ four-set s i (r .end) (r .lower) (r .upper) 0 (omega arith)) b
+    then-write s i (r .end ∷ r .lower ∷ r .upper ∷ 0 ∷ []) (u32Bytes (r .id)) (omega arith) (omega arith)
+    (a ∙ four-set s i (r .end) (r .lower) (r .upper) 0 (omega arith)) b
 
 pub boundary-written : (s : List ℕ) (i : ℕ) (x : BoundaryRecord) (own seen : ℕ) {t u v w y : List ℕ} → i + 40 ≤ length s
-    → t ≡ splice s i (spanBytes (canonical (x .ends))) → u ≡ splice t (i + 16) (u64Bytes (x .bits)) → v ≡ splice u (i + 24) (u32Bytes own) → w ≡ splice v (i + 28) (u32Bytes seen)
+    → t ≡ splice s i (spanBytes (canonical (x .ends))) → u ≡ splice t (i + 16) (u64Bytes (x .bits)) → v ≡ splice u (i + 24) (u32Bytes own)
+    → w ≡ splice v (i + 28) (u32Bytes seen)
     → y ≡ splice w (i + 32) (rampBytes (rampRecord (rampOf (x .ramp)))) → y ≡ splice s i (boundaryBytes (keptRecord x own seen))
 unfolding boundaryBytes keptRecord
 boundary-written s i x own seen h a b c d e =
@@ -65,7 +68,8 @@ boundary-written s i x own seen h a b c d e =
     z5 ∙ ap (splice s i) q
 
 pub header-written : (s : List ℕ) (b o n : ℕ) {t u v w x y : List ℕ} → 24 ≤ length s
-    → t ≡ splice s 0 (u32Bytes b) → u ≡ splice t 4 (u32Bytes o) → v ≡ splice u 8 (u32Bytes n) → w ≡ splice v 12 (u32Bytes (24 + b * 40)) → x ≡ splice w 16 (u32Bytes (24 + b * 40 + o * 28))
+    → t ≡ splice s 0 (u32Bytes b) → u ≡ splice t 4 (u32Bytes o) → v ≡ splice u 8 (u32Bytes n) → w ≡ splice v 12 (u32Bytes (24 + b * 40))
+    → x ≡ splice w 16 (u32Bytes (24 + b * 40 + o * 28))
     → y ≡ splice x 20 (u32Bytes (24 + b * 40 + o * 28 + n * 8)) → y ≡ splice s 0 (flatMap u32Bytes (answerWords b o n))
 unfolding answerWords flatMap
 header-written s b o n h p1 p2 p3 p4 p5 p6 =

@@ -16,7 +16,8 @@ use Rattle.encoding.specs.Answered.{Answered, WorkRoom}
 
 -- New arrays, of a numbers and of b.
 pub work-room : {n m count : ℕ} (a b : ℕ) → count ≤ a → a ≤ 4096 → m + n ≤ b
-    → WorkRoom n m count (replicate a 0) (replicate a 0) (replicate a 0) (replicate b 0) (replicate b 0) (replicate b 0) (replicate b 0) (replicate b 0) (replicate b 0) (replicate b 0)
+    → WorkRoom n m count (replicate a 0) (replicate a 0) (replicate a 0) (replicate b 0) (replicate b 0) (replicate b 0) (replicate b 0) (replicate b 0)
+    (replicate b 0) (replicate b 0)
 work-room a b h k l =
     let x = length-replicate {A = ℕ} a 0 in
     let y = length-replicate {A = ℕ} b 0 in
@@ -34,7 +35,8 @@ work-room a b h k l =
     }
 
 -- Of a job's counts.
-module _ {s : List ℕ} {at n ats m from count : ℕ} (j : JobPlaces s at n ats m from count) {keys spare owned starts counts first second third seen places : List ℕ}
+module _ {s : List ℕ} {at n ats m from count : ℕ} (j : JobPlaces s at n ats m from count)
+    {keys spare owned starts counts first second third seen places : List ℕ}
     (w : WorkRoom n m count keys spare owned starts counts first second third seen places) where
   pub place-room : PlaceRoom n m count keys spare (replicate 256 0) starts counts first second third
   place-room = record {
@@ -49,7 +51,8 @@ module _ {s : List ℕ} {at n ats m from count : ℕ} (j : JobPlaces s at n ats 
     ranks = w .ranks;
   }
 
-  pub gather-room : {os : ℕ → ObservationRecord} {ss : List Source} {order firsts starts′ counts′ keys′ spare′ : List ℕ} → PlacedInside (boundaryRows s at) os ss m n count firsts starts′ counts′ → Ordered order n
+  pub gather-room : {os : ℕ → ObservationRecord} {ss : List Source} {order firsts starts′ counts′ keys′ spare′ : List ℕ}
+      → PlacedInside (boundaryRows s at) os ss m n count firsts starts′ counts′ → Ordered order n
       → n ≤ length firsts → length starts′ ≡ length starts → length counts′ ≡ length counts → length keys′ ≡ length keys → length spare′ ≡ length spare
       → GatherRoom s at m n order firsts starts′ counts′ keys′ spare′ (replicate 256 0) (replicate 256 0) (replicate 256 0) owned seen places
   gather-room p o f a b c d =
@@ -79,8 +82,10 @@ module _ {s : List ℕ} {at n ats m from count : ℕ} (j : JobPlaces s at n ats 
 
 -- Equal counts need equal room.
 pub work-same : {n m count n′ m′ count′ : ℕ} {keys spare owned starts counts first second third seen places : List ℕ} → n′ ≡ n → m′ ≡ m → count′ ≡ count
-    → WorkRoom n m count keys spare owned starts counts first second third seen places → WorkRoom n′ m′ count′ keys spare owned starts counts first second third seen places
+    → WorkRoom n m count keys spare owned starts counts first second third seen places
+    → WorkRoom n′ m′ count′ keys spare owned starts counts first second third seen places
 work-same a b c w = rw (a, b, c) w
 
-pub answered-same : {ks ls : List Boundary} {before after : List ℕ} {r : ℕ} → ks ≡ ls → Answered (encodeAnswer ks) before after r → Answered (encodeAnswer ls) before after r
+pub answered-same : {ks ls : List Boundary} {before after : List ℕ} {r : ℕ} → ks ≡ ls → Answered (encodeAnswer ks) before after r
+    → Answered (encodeAnswer ls) before after r
 answered-same {before} {after} {r} e a = subst (λ (k : List Boundary). Answered (encodeAnswer k) before after r) e a

@@ -20,7 +20,8 @@ use Rattle.encoding.proofs.Loops.{kept-long, places-long}
 use Rattle.encoding.proofs.GatheredBytes.{seen-sum, own-sum, sources-sum, source-bytes, answer-bytes}
 use Rattle.answer.proofs.Writes.{then-write}
 
-module _ {s : List ℕ} {at count : ℕ} {kept owns seens owned seen first second third starts counts keys : List ℕ} (w : Writable s at count kept owns seens owned seen first second third starts counts keys) where
+module _ {s : List ℕ} {at count : ℕ} {kept owns seens owned seen first second third starts counts keys : List ℕ}
+    (w : Writable s at count kept owns seens owned seen first second third starts counts keys) where
   pub count-few : count ≤ 256
   count-few = omega (arith, w .gathered .few, w .many, w .limit)
 
@@ -79,7 +80,8 @@ module _ {s : List ℕ} {at count : ℕ} {kept owns seens owned seen first secon
         let y : ((b1 ++ b2) ++ b3) ++ b4 ≡ b1 ++ (b2 ++ (b3 ++ b4)) = simp append-assoc in
         x4
         ∙ ap (splice t0 0) y
-        ∙ ap (splice t0 0) (λ i. flatMap u32Bytes (answerWords count (eo i) (words-same i)) ++ (b2 ++ (pieces (eo i) (λ k. placePiece first second third starts counts keys (getD seen k 0)) ++ b4)))
+        ∙ ap (splice t0 0) (λ i. flatMap u32Bytes (answerWords count (eo i) (words-same i))
+        ++ (b2 ++ (pieces (eo i) (λ k. placePiece first second third starts counts keys (getD seen k 0)) ++ b4)))
 
     -- The answer of any boundaries that were gathered so.
     module _ (total : ℕ) (t : total ≡ 24 + count * 40 + o * 28 + (own + c) * 8) (n : ℕ) (ks : List Boundary) (e : length ks ≡ count)

@@ -32,7 +32,8 @@ pub length-next : (n : ℕ) (f : ℕ → List ℕ) → length (pieces (n + 1) f)
 length-next n f = ap length (pieces-next n f) ∙ length-append (pieces n f) (f n)
 
 -- One piece more.
-pub piece-written : (s : List ℕ) (i n : ℕ) (f : ℕ → List ℕ) {t u : List ℕ} {j : ℕ} → i + length (pieces n f) ≤ length s → j ≡ i + length (pieces n f) → t ≡ splice s i (pieces n f) → u ≡ splice t j (f n) → u ≡ splice s i (pieces (n + 1) f)
+pub piece-written : (s : List ℕ) (i n : ℕ) (f : ℕ → List ℕ) {t u : List ℕ} {j : ℕ} → i + length (pieces n f) ≤ length s → j ≡ i + length (pieces n f)
+    → t ≡ splice s i (pieces n f) → u ≡ splice t j (f n) → u ≡ splice s i (pieces (n + 1) f)
 piece-written s i n f h e p q = then-write s i (pieces n f) (f n) h e p q ∙ ap (splice s i) (sym (pieces-next n f))
 
 pub length-written : (s : List ℕ) (i : ℕ) (bs : List ℕ) {t : List ℕ} → i + length bs ≤ length s → t ≡ splice s i bs → length t ≡ length s

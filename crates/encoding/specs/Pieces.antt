@@ -86,5 +86,6 @@ sectionBytes bs count kept owns seens owned seen first second third starts count
 
 unfoldable pub answerBytes : (bs : ℕ → BoundaryRecord) (count : ℕ) (kept owns seens owned seen first second third starts counts keys : List ℕ) → List ℕ
 answerBytes bs count kept owns seens owned seen first second third starts counts keys =
-    flatMap u32Bytes (answerWords count (below (elements seens) count) (below (elements owns) count + citedTotal seen starts counts keys (below (elements seens) count)))
+    flatMap u32Bytes (answerWords count (below (elements seens) count)
+    (below (elements owns) count + citedTotal seen starts counts keys (below (elements seens) count)))
     ++ sectionBytes bs count kept owns seens owned seen first second third starts counts keys

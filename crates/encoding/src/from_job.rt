@@ -53,8 +53,13 @@ fn write_placed(
     places: &mut [u32],
     answer: &mut [u8],
 ) -> usize
-    requires { ⌜ Placeable (now job) at base n (now order) (now firsts) (now first) (now second) (now third) (now starts) (now counts) (now keys) (now spare) (now owned) (now seen) (now places) ⌝ }
-    ensures { λ r. ⌜ ((os : ℕ → ObservationRecord) (ss : List Source) → Placed (boundaryRows (now (job .entry)) at) os ss base n (now (firsts .entry)) (now (first .entry)) (now (second .entry)) (now (third .entry)) (now (starts .entry)) (now (counts .entry)) (now (keys .entry)) → Answered (encodeAnswer (keptBy (boundaryRows (now (job .entry)) at) os ss (now (order .entry)) (now (plan .entry)) n)) (now (answer .entry)) (now (answer .exit)) r) ⌝ }
+    requires { ⌜ Placeable (now job) at base n (now order) (now firsts) (now first) (now second) (now third) (now starts) (now counts) (now keys) (now spare)
+        (now owned) (now seen) (now places) ⌝ }
+    ensures { λ r. ⌜ ((os : ℕ → ObservationRecord) (ss : List Source)
+        → Placed (boundaryRows (now (job .entry)) at) os ss base n (now (firsts .entry)) (now (first .entry)) (now (second .entry)) (now (third .entry))
+        (now (starts .entry)) (now (counts .entry)) (now (keys .entry))
+        → Answered (encodeAnswer (keptBy (boundaryRows (now (job .entry)) at) os ss (now (order .entry)) (now (plan .entry)) n)) (now (answer .entry))
+        (now (answer .exit)) r) ⌝ }
 {
     let mut kept = [0u32; 256];
     let mut owns = [0u32; 256];
@@ -118,8 +123,11 @@ fn write_with(
     places: &mut [u32],
     answer: &mut [u8],
 ) -> usize
-    requires { ⌜ Answerable (now job) h (now order) × WorkRoom (h .counts .boundaries) (h .counts .observations) (h .counts .sources) (now keys) (now spare) (now owned) (now starts) (now counts) (now first) (now second) (now third) (now seen) (now places) ⌝ }
-    ensures { λ r. ⌜ Answered (encodeAnswer (keptOf (now (job .entry)) (now (order .entry)) (now (plan .entry)))) (now (answer .entry)) (now (answer .exit)) r ⌝ }
+    requires { ⌜ Answerable (now job) h (now order)
+        × WorkRoom (h .counts .boundaries) (h .counts .observations) (h .counts .sources) (now keys) (now spare) (now owned) (now starts) (now counts)
+        (now first) (now second) (now third) (now seen) (now places) ⌝ }
+    ensures { λ r. ⌜ Answered (encodeAnswer (keptOf (now (job .entry)) (now (order .entry)) (now (plan .entry)))) (now (answer .entry)) (now (answer .exit))
+        r ⌝ }
 {
     let c = h.counts;
     let o = h.offsets;
@@ -175,7 +183,8 @@ fn write_small(
     answer: &mut [u8],
 ) -> usize
     requires { ⌜ Answerable (now job) h (now order) × (h .counts .boundaries + h .counts .observations ≤ 64) × (h .counts .sources ≤ 64) ⌝ }
-    ensures { λ r. ⌜ Answered (encodeAnswer (keptOf (now (job .entry)) (now (order .entry)) (now (plan .entry)))) (now (answer .entry)) (now (answer .exit)) r ⌝ }
+    ensures { λ r. ⌜ Answered (encodeAnswer (keptOf (now (job .entry)) (now (order .entry)) (now (plan .entry)))) (now (answer .entry)) (now (answer .exit))
+        r ⌝ }
 {
     let mut keys = [0u64; SMALL];
     let mut spare = [0u64; SMALL];
@@ -215,7 +224,8 @@ fn write_large(
     answer: &mut [u8],
 ) -> usize
     requires { ⌜ Answerable (now job) h (now order) ⌝ }
-    ensures { λ r. ⌜ Answered (encodeAnswer (keptOf (now (job .entry)) (now (order .entry)) (now (plan .entry)))) (now (answer .entry)) (now (answer .exit)) r ⌝ }
+    ensures { λ r. ⌜ Answered (encodeAnswer (keptOf (now (job .entry)) (now (order .entry)) (now (plan .entry)))) (now (answer .entry)) (now (answer .exit))
+        r ⌝ }
 {
     let mut keys = [0u64; MOST_SOURCES];
     let mut spare = [0u64; MOST_SOURCES];
@@ -255,7 +265,9 @@ pub fn write_answer(
     answer: &mut [u8],
 ) -> usize
     requires { ⌜ Answerable (now job) h (now order) ⌝ }
-    ensures { λ r. ⌜ Answered (encodeAnswer (planned (map (λ i. canon (getD (decode (now (job .entry)) .boundaries) (getD (now (order .entry)) i 0) noBoundary)) (upFrom 0 (countsAt (now (job .entry)) 0 .boundaries))) (λ i. getD (now (plan .entry)) i 0))) (now (answer .entry)) (now (answer .exit)) r ⌝ }
+    ensures { λ r. ⌜ Answered
+        (encodeAnswer (planned (map (λ i. canon (getD (decode (now (job .entry)) .boundaries) (getD (now (order .entry)) i 0) noBoundary))
+        (upFrom 0 (countsAt (now (job .entry)) 0 .boundaries))) (λ i. getD (now (plan .entry)) i 0))) (now (answer .entry)) (now (answer .exit)) r ⌝ }
 {
     let c = h.counts;
     if size(c.boundaries) + size(c.observations) <= SMALL && size(c.sources) <= SMALL {

@@ -51,7 +51,8 @@ pub fn write_runs(
     keys: &[u64],
 ) -> usize
     requires { ⌜ (at + length (runsFrom (now seen) (now starts) (now counts) (now keys) from n) ≤ length (now s)) × (from ≤ 1280) × (n ≤ 1280) ⌝ }
-    ensures { λ r. ⌜ RunsWritten (now (s .entry)) at (runsFrom (now (seen .entry)) (now (starts .entry)) (now (counts .entry)) (now (keys .entry)) from n) (now (s .exit)) r ⌝ }
+    ensures { λ r. ⌜ RunsWritten (now (s .entry)) at (runsFrom (now (seen .entry)) (now (starts .entry)) (now (counts .entry)) (now (keys .entry)) from n)
+        (now (s .exit)) r ⌝ }
 {
     let mut to = at;
     let mut i: usize = 0;

@@ -31,7 +31,8 @@ pub fn write_boundaries(
     to: usize,
 )
     requires { ⌜ BoundaryRoom (now job) at count (now kept) to (now s) ⌝ }
-    ensures { λ _. ⌜ now (s .exit) ≡ splice (now (s .entry)) to (pieces count (keptPiece (boundaryRows (now (job .entry)) at) (now (kept .entry)) (now (owns .entry)) (now (seens .entry)))) ⌝ }
+    ensures { λ _. ⌜ now (s .exit) ≡ splice (now (s .entry)) to
+        (pieces count (keptPiece (boundaryRows (now (job .entry)) at) (now (kept .entry)) (now (owns .entry)) (now (seens .entry)))) ⌝ }
 {
     let mut k: usize = 0;
     while k < count {
@@ -54,7 +55,8 @@ pub fn write_place(
     keys: &[u64],
 )
     requires { ⌜ at + 28 ≤ length (now s) ⌝ }
-    ensures { λ _. ⌜ now (s .exit) ≡ splice (now (s .entry)) at (placePiece (now (first .entry)) (now (second .entry)) (now (third .entry)) (now (starts .entry)) (now (counts .entry)) (now (keys .entry)) p) ⌝ }
+    ensures { λ _. ⌜ now (s .exit) ≡ splice (now (s .entry)) at
+        (placePiece (now (first .entry)) (now (second .entry)) (now (third .entry)) (now (starts .entry)) (now (counts .entry)) (now (keys .entry)) p) ⌝ }
 {
     let e = span_of(long(first, p), long(second, p));
     let bits = bits_of(long(third, p));
@@ -74,7 +76,9 @@ pub fn write_observations(
     keys: &[u64],
 )
     requires { ⌜ (to + count * 28 ≤ length (now s)) × (count ≤ 1280) ⌝ }
-    ensures { λ _. ⌜ now (s .exit) ≡ splice (now (s .entry)) to (pieces count (λ q. placePiece (now (first .entry)) (now (second .entry)) (now (third .entry)) (now (starts .entry)) (now (counts .entry)) (now (keys .entry)) (getD (now (seen .entry)) q 0))) ⌝ }
+    ensures { λ _. ⌜ now (s .exit) ≡ splice (now (s .entry)) to
+        (pieces count (λ q. placePiece (now (first .entry)) (now (second .entry)) (now (third .entry)) (now (starts .entry)) (now (counts .entry))
+        (now (keys .entry)) (getD (now (seen .entry)) q 0))) ⌝ }
 {
     let mut q: usize = 0;
     while q < count {
@@ -108,7 +112,9 @@ pub fn write_sources(
     keys: &[u64],
 )
     requires { ⌜ SourceRoom count (now owns) (now seens) (now owned) (now seen) (now starts) (now counts) (now keys) at (now s) ⌝ }
-    ensures { λ _. ⌜ now (s .exit) ≡ splice (now (s .entry)) at (pieces count (groupPiece (now (owns .entry)) (now (seens .entry)) (now (owned .entry)) (now (seen .entry)) (now (starts .entry)) (now (counts .entry)) (now (keys .entry)))) ⌝ }
+    ensures { λ _. ⌜ now (s .exit) ≡ splice (now (s .entry)) at
+        (pieces count (groupPiece (now (owns .entry)) (now (seens .entry)) (now (owned .entry)) (now (seen .entry)) (now (starts .entry))
+        (now (counts .entry)) (now (keys .entry)))) ⌝ }
 {
     let mut to = at;
     let mut a: usize = 0;

@@ -33,8 +33,12 @@ pub fn write_kept(
     keys: &[u64],
     answer: &mut [u8],
 ) -> usize
-    requires { ⌜ Writable (now job) at count (now kept) (now owns) (now seens) (now owned) (now seen) (now first) (now second) (now third) (now starts) (now counts) (now keys) ⌝ }
-    ensures { λ r. ⌜ ((n : ℕ) (ks : List Boundary) → length ks ≡ count → Gathered (boundaryRows (now (job .entry)) at) n ks (now (kept .entry)) (now (owns .entry)) (now (seens .entry)) (now (owned .entry)) (now (seen .entry)) (now (first .entry)) (now (second .entry)) (now (third .entry)) (now (starts .entry)) (now (counts .entry)) (now (keys .entry)) → Answered (encodeAnswer ks) (now (answer .entry)) (now (answer .exit)) r) ⌝ }
+    requires { ⌜ Writable (now job) at count (now kept) (now owns) (now seens) (now owned) (now seen) (now first) (now second) (now third) (now starts)
+        (now counts) (now keys) ⌝ }
+    ensures { λ r. ⌜ ((n : ℕ) (ks : List Boundary) → length ks ≡ count
+        → Gathered (boundaryRows (now (job .entry)) at) n ks (now (kept .entry)) (now (owns .entry)) (now (seens .entry)) (now (owned .entry))
+        (now (seen .entry)) (now (first .entry)) (now (second .entry)) (now (third .entry)) (now (starts .entry)) (now (counts .entry))
+        (now (keys .entry)) → Answered (encodeAnswer ks) (now (answer .entry)) (now (answer .exit)) r) ⌝ }
 {
     let observations = sum_first(seens, count);
     let sources = sum_first(owns, count) + sum_runs(seen, observations, starts, counts, keys);

@@ -41,7 +41,8 @@ module _ (bs : List Boundary) (f : AnswerFits bs) where
   unfolding encodeAnswer answerWords rows
   answer-words =
       let ws = answerWords (length bs) (length (observationsOf bs)) (length (sourcesOf bs)) in
-      rows-read (number-trip 4) words-fit 6 refl (encodeAnswer bs) 0 (part-here (encodeAnswer bs) 0 24 (flatMap u32Bytes ws) _ (header-length (length bs) (length (observationsOf bs)) (length (sourcesOf bs))) refl)
+      rows-read (number-trip 4) words-fit 6 refl (encodeAnswer bs) 0
+      (part-here (encodeAnswer bs) 0 24 (flatMap u32Bytes ws) _ (header-length (length bs) (length (observationsOf bs)) (length (sourcesOf bs))) refl)
 
   -- An answer's last word is its length.
   pub answer-total : u32At (encodeAnswer bs) 20 ≡ length (encodeAnswer bs)
@@ -59,4 +60,6 @@ module _ (bs : List Boundary) (f : AnswerFits bs) where
       = λ k. decodeBoundaries s answerHeaderSize (word 0 k) (word 1 k) (word 2 k) in
       e
       ∙ boundaries-read s answerHeaderSize bs (f .boundaries) (omega arith) (omega arith)
-      (part-last s answerHeaderSize _ (encodeBoundaries bs) (length-encodeBoundaries bs) (drop-here s 0 24 (flatMap u32Bytes ws) (encodeBoundaries bs) (header-length (length bs) (length (observationsOf bs)) (length (sourcesOf bs))) refl))
+      (part-last s answerHeaderSize _ (encodeBoundaries bs) (length-encodeBoundaries bs)
+      (drop-here s 0 24 (flatMap u32Bytes ws) (encodeBoundaries bs) (header-length (length bs) (length (observationsOf bs)) (length (sourcesOf bs)))
+      refl))

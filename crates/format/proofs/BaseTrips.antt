@@ -100,7 +100,8 @@ pub bases-read : (s : List ℕ) (i : ℕ) (bs : List Base) → All BaseFits bs
     → part s i (length bs * baseSize) ≡ baseSection bs → map baseOf (baseRecords s i (length bs)) ≡ bs
 unfolding baseRecords
 bases-read s i bs h e =
-    ap (map baseOf) (rows-read base-trip (all-map baseRecord (all-implies record-fits h)) (length bs) (length-map bs baseRecord) s i (e ∙ sym (flatMap-map baseBytes baseRecord bs)))
+    ap (map baseOf) (rows-read base-trip (all-map baseRecord (all-implies record-fits h)) (length bs) (length-map bs baseRecord) s i
+    (e ∙ sym (flatMap-map baseBytes baseRecord bs)))
     ∙ map-map baseOf baseRecord bs
     ∙ map-id (λ b. baseOf (baseRecord b)) (all-implies base-again h)
 

@@ -22,7 +22,8 @@ use Rattle.format.specs.Fits.{IsWord, SourceFits, ObservationFits, Bound
 use Rattle.format.proofs.Sections.{part-first, part-second}
 use Rattle.format.proofs.RecordTrips.{boundary-trip, observation-trip, source-trip}
 use Rattle.format.proofs.RowTrips.{rows-read, rows-write, rows-fit}
-use Rattle.format.proofs.Distribution.{observed, own-and-observed, AddUp, boundaries-again, boundary-records, all-observations, all-sources, map-boundariesWith, length-boundariesWith, boundaries-within}
+use Rattle.format.proofs.Distribution.{observed, own-and-observed, AddUp, boundaries-again, boundary-records, all-observations, all-sources}
+use Rattle.format.proofs.Distribution.{map-boundariesWith, length-boundariesWith, boundaries-within}
 
 -- How many bytes b boundaries, o observations and n sources have.
 abbrev pub recordsLength : ℕ → ℕ → ℕ → ℕ
@@ -30,7 +31,8 @@ recordsLength b o n = b * boundarySize + (o * observationSize + n * sourceSize)
 
 -- The three sections, record by record.
 by-records : (bs : List Boundary) → encodeBoundaries bs
-    ≡ flatMap boundaryBytes (map boundaryRecord bs) ++ (flatMap observationBytes (map observationRecord (observationsOf bs)) ++ flatMap sourceBytes (sourcesOf bs))
+    ≡ flatMap boundaryBytes (map boundaryRecord bs)
+    ++ (flatMap observationBytes (map observationRecord (observationsOf bs)) ++ flatMap sourceBytes (sourcesOf bs))
 unfolding encodeBoundaries
 by-records bs = simp flatMap-map
 
@@ -44,7 +46,8 @@ length-sources : (ss : List Source) → length (flatMap sourceBytes ss) ≡ leng
 length-sources ss = length-pieces sourceSize sourceBytes (source-trip .size) ss
 
 -- The three sections are as long as their records.
-pub length-encodeBoundaries : (bs : List Boundary) → length (encodeBoundaries bs) ≡ recordsLength (length bs) (length (observationsOf bs)) (length (sourcesOf bs))
+pub length-encodeBoundaries : (bs : List Boundary)
+    → length (encodeBoundaries bs) ≡ recordsLength (length bs) (length (observationsOf bs)) (length (sourcesOf bs))
 length-encodeBoundaries bs = rw by-records (simp (length-append, length-boundaries, length-observations, length-sources, length-map))
 
 -- From place i on, b, o and n records of the three kinds are read as rs, os and ss.
@@ -84,11 +87,13 @@ observations-fit (more {x} {xs} p h) l =
     let e : length (x .sources ++ observed xs) ≡ length (x .sources) + length (observed xs) = length-append (x .sources) (observed xs) in
     more {x = observationRecord x} (record { ends = p .ends; bits = p .bits; sources = omega arith }) (observations-fit h (omega arith))
 
-boundaries-fit : {bs : List Boundary} → All BoundaryFits bs → IsWord (length (observationsOf bs)) → IsWord (length (sourcesOf bs)) → All BoundaryRecordFits (map boundaryRecord bs)
+boundaries-fit : {bs : List Boundary} → All BoundaryFits bs → IsWord (length (observationsOf bs)) → IsWord (length (sourcesOf bs))
+    → All BoundaryRecordFits (map boundaryRecord bs)
 unfolding boundaryRecord rampRecord observationsOf sourcesOf sourcesWith flatMap
 boundaries-fit none m l = none
 boundaries-fit (more {x} {xs} p h) m l =
-    let e : length (x .observations ++ observationsOf xs) ≡ length (x .observations) + length (observationsOf xs) = length-append (x .observations) (observationsOf xs) in
+    let e : length (x .observations ++ observationsOf xs) ≡ length (x .observations) + length (observationsOf xs) =
+    length-append (x .observations) (observationsOf xs) in
     let f : length (sourcesWith x ++ sourcesOf xs) ≡ length (sourcesWith x) + length (sourcesOf xs) = length-append (sourcesWith x) (sourcesOf xs) in
     let g : length (sourcesWith x) ≡ length (x .sources) + length (observed (x .observations)) = length-append (x .sources) (observed (x .observations)) in
     more {x = boundaryRecord x}
@@ -116,7 +121,8 @@ module _ (s : List ℕ) (i : ℕ) (bs : List Boundary)
     (h : All BoundaryFits bs) (m : IsWord (length (observationsOf bs))) (l : IsWord (length (sourcesOf bs)))
     (e : part s i (recordsLength (length bs) (length (observationsOf bs)) (length (sourcesOf bs))) ≡ encodeBoundaries bs) where
   -- Their records are read.
-  pub boundaries-records : Read s i (length bs) (length (observationsOf bs)) (length (sourcesOf bs)) (map boundaryRecord bs) (map observationRecord (observationsOf bs)) (sourcesOf bs)
+  pub boundaries-records : Read s i (length bs) (length (observationsOf bs)) (length (sourcesOf bs)) (map boundaryRecord bs)
+      (map observationRecord (observationsOf bs)) (sourcesOf bs)
   boundaries-records =
       records-read s i (map boundaryRecord bs) (map observationRecord (observationsOf bs)) (sourcesOf bs)
       (length-map bs boundaryRecord) (length-map (observationsOf bs) observationRecord) refl
@@ -130,13 +136,15 @@ module _ (s : List ℕ) (i : ℕ) (bs : List Boundary)
   unfolding decodeBoundaries
   boundaries-read =
       let r = boundaries-records in
-      let again : decodeBoundaries s i (length bs) (length (observationsOf bs)) (length (sourcesOf bs)) ≡ boundariesWith (map boundaryRecord bs) (map observationRecord (observationsOf bs)) (sourcesOf bs)
+      let again : decodeBoundaries s i (length bs) (length (observationsOf bs)) (length (sourcesOf bs)) ≡ boundariesWith (map boundaryRecord bs)
+      (map observationRecord (observationsOf bs)) (sourcesOf bs)
       = λ k. boundariesWith (r .0 k) (r .1 k) (r .2 k) in
       again ∙ boundaries-again bs
 
 -- Where records add up:
 module _ (s : List ℕ) (i b o n : ℕ)
-    (adds : AddUp (boundaryRecords s i b) (observationRecords s (i + b * boundarySize) o) (sourceRecords s (i + b * boundarySize + o * observationSize) n)) where
+    (adds : AddUp (boundaryRecords s i b) (observationRecords s (i + b * boundarySize) o)
+    (sourceRecords s (i + b * boundarySize + o * observationSize) n)) where
   -- The bytes of the boundaries that are read are those that stand there.
   pub boundaries-write : AreBytes s → i + recordsLength b o n ≤ length s
       → ((k : ℕ) → k < b → boundaryAt s (i + k * boundarySize) .ramp .zero ≡ 0)
@@ -161,21 +169,24 @@ module _ (s : List ℕ) (i b o n : ℕ)
   unfolding decodeBoundaries observationRecords
   observations-decoded =
       sym (length-map (observationsOf (decodeBoundaries s i b o n)) observationRecord)
-      ∙ ap length (all-observations (boundaryRecords s i b) (observationRecords s (i + b * boundarySize) o) (sourceRecords s (i + b * boundarySize + o * observationSize) n) adds)
+      ∙ ap length (all-observations (boundaryRecords s i b) (observationRecords s (i + b * boundarySize) o)
+      (sourceRecords s (i + b * boundarySize + o * observationSize) n) adds)
       ∙ length-rows o (λ k. observationAt s (i + b * boundarySize + k * observationSize))
 
   -- and as many sources.
   pub sources-decoded : length (sourcesOf (decodeBoundaries s i b o n)) ≡ n
   unfolding decodeBoundaries sourceRecords
   sources-decoded =
-      ap length (all-sources (boundaryRecords s i b) (observationRecords s (i + b * boundarySize) o) (sourceRecords s (i + b * boundarySize + o * observationSize) n) adds)
+      ap length (all-sources (boundaryRecords s i b) (observationRecords s (i + b * boundarySize) o)
+      (sourceRecords s (i + b * boundarySize + o * observationSize) n) adds)
       ∙ length-rows n (λ k. sourceAt s (i + b * boundarySize + o * observationSize + k * sourceSize))
 
 -- As many boundaries are read as the count says.
 pub boundaries-decoded : (s : List ℕ) (i b o n : ℕ) → length (decodeBoundaries s i b o n) ≡ b
 unfolding decodeBoundaries boundaryRecords
 boundaries-decoded s i b o n =
-    length-boundariesWith (boundaryRecords s i b) (observationRecords s (i + b * boundarySize) o) (sourceRecords s (i + b * boundarySize + o * observationSize) n)
+    length-boundariesWith (boundaryRecords s i b) (observationRecords s (i + b * boundarySize) o)
+    (sourceRecords s (i + b * boundarySize + o * observationSize) n)
     ∙ length-rows b (λ k. boundaryAt s (i + k * boundarySize))
 
 -- Boundaries that are read are within the limits.

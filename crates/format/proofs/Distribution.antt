@@ -51,11 +51,13 @@ boundaries-again (b ∷ bs) =
     let d : drop (length (b .observations)) (os ++ rest) ≡ rest = drop-at os rest (length (b .observations)) (length-map (b .observations) observationRecord) in
     let n : length (sourcesWith b) ≡ length (b .sources) + sourceCount os
     = length-append (b .sources) (observed (b .observations)) ∙ ap (λ (k : ℕ). length (b .sources) + k) (sym (source-count (b .observations))) in
-    let f : drop (length (b .sources) + sourceCount os) (sourcesWith b ++ sourcesOf bs) ≡ sourcesOf bs = drop-at (sourcesWith b) (sourcesOf bs) (length (b .sources) + sourceCount os) n in
+    let f : drop (length (b .sources) + sourceCount os) (sourcesWith b ++ sourcesOf bs) ≡ sourcesOf bs =
+    drop-at (sourcesWith b) (sourcesOf bs) (length (b .sources) + sourceCount os) n in
     rw (e, t, d, f, boundaries-again bs, boundary-again b (sourcesOf bs))
 
 -- The own sources and those of the observations are all.
-pub own-and-observed : (bs : List Boundary) → sum (map (λ (r : BoundaryRecord). r .sources) (map boundaryRecord bs)) + length (observed (observationsOf bs)) ≡ length (sourcesOf bs)
+pub own-and-observed : (bs : List Boundary)
+    → sum (map (λ (r : BoundaryRecord). r .sources) (map boundaryRecord bs)) + length (observed (observationsOf bs)) ≡ length (sourcesOf bs)
 unfolding boundaryRecord observationsOf sourcesOf sourcesWith flatMap sum
 own-and-observed [] = refl
 own-and-observed (b ∷ bs) =
@@ -142,7 +144,8 @@ boundary-records (r ∷ rs) os ss a (more p z) =
     (boundary-records rs (drop (r .observations) os) (drop (r .sources + sourceCount (take (r .observations) os)) ss) (others a) z)
 
 -- these observation records,
-pub all-observations : (rs : List BoundaryRecord) (os : List ObservationRecord) (ss : List Source) → AddUp rs os ss → map observationRecord (observationsOf (boundariesWith rs os ss)) ≡ os
+pub all-observations : (rs : List BoundaryRecord) (os : List ObservationRecord) (ss : List Source) → AddUp rs os ss
+    → map observationRecord (observationsOf (boundariesWith rs os ss)) ≡ os
 unfolding boundariesWith observationsOf flatMap sum boundaryWith
 all-observations [] os ss a = take-all 0 os (omega (arith, a .observations))
 all-observations (r ∷ rs) os ss a =
@@ -182,10 +185,12 @@ map-boundariesWith f g e (r ∷ rs) os ss =
 pub length-boundariesWith : (rs : List BoundaryRecord) (os : List ObservationRecord) (ss : List Source) → length (boundariesWith rs os ss) ≡ length rs
 unfolding boundariesWith
 length-boundariesWith [] os ss = refl
-length-boundariesWith (r ∷ rs) os ss = ap suc (length-boundariesWith rs (drop (r .observations) os) (drop (r .sources + sourceCount (take (r .observations) os)) ss))
+length-boundariesWith (r ∷ rs) os ss =
+    ap suc (length-boundariesWith rs (drop (r .observations) os) (drop (r .sources + sourceCount (take (r .observations) os)) ss))
 
 -- Observations that are made of records that fit are within the limits.
-observations-within : {os : List ObservationRecord} {ss : List Source} → All ObservationRecordFits os → All SourceFits ss → All ObservationFits (observationsWith os ss)
+observations-within : {os : List ObservationRecord} {ss : List Source} → All ObservationRecordFits os → All SourceFits ss
+    → All ObservationFits (observationsWith os ss)
 unfolding observationsWith
 observations-within none k = none
 observations-within (more {x} f h) k =

@@ -51,7 +51,8 @@ formed j f =
       total = l;
       observations = ap (λ (rs : List BoundaryRecord). sum (map (λ (r : BoundaryRecord). r .observations) rs)) (r .0)
           ∙ a .observations ∙ length-map (observationsOf bs) observationRecord;
-      sources = ap₂ (λ (rs : List BoundaryRecord) (os : List ObservationRecord). sum (map (λ (r : BoundaryRecord). r .sources) rs) + sourceCount os) (r .0) (r .1)
+      sources = ap₂ (λ (rs : List BoundaryRecord) (os : List ObservationRecord). sum (map (λ (r : BoundaryRecord). r .sources) rs) + sourceCount os) (r .0)
+          (r .1)
           ∙ a .sources;
       zeros = λ k h. row-of (c .boundaries) (λ k. boundaryAt s (boundariesStart c + k * boundarySize)) k z h;
     }

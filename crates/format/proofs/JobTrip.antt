@@ -9,7 +9,8 @@ use Rattle.wire.specs.Bytes.{part, AreBytes}
 use Rattle.wire.proofs.Parts.{part-join, part-whole, length-part}
 use Rattle.format.specs.Sizes.{headerSize, baseSize}
 use Rattle.format.specs.Values.{Job}
-use Rattle.format.specs.Header.{countsAt, countsBytes, offsetsBytes, cellCount, basesStart, boundariesStart, observationsStart, sourcesStart, totalLength, offsetsOf}
+use Rattle.format.specs.Header.{countsAt, countsBytes, offsetsBytes, cellCount, basesStart, boundariesStart, observationsStart, sourcesStart, totalLength}
+use Rattle.format.specs.Header.{offsetsOf}
 use Rattle.format.specs.Encode.{encodeBoundaries, countsOf, encode}
 use Rattle.format.specs.Decode.{baseOf, boundaryRecords, observationRecords, sourceRecords, baseRecords, decodeBoundaries, jobWith, decode}
 use Rattle.format.specs.declared.header.Counts.{Counts}
@@ -18,7 +19,8 @@ use Rattle.format.proofs.Sections.{part-here, drop-here, part-last}
 use Rattle.format.proofs.RecordTrips.{counts-trip, offsets-trip}
 use Rattle.format.proofs.BaseTrips.{baseSection, length-baseSection, bases-read, bases-write, bases-within}
 use Rattle.format.proofs.Distribution.{AddUp}
-use Rattle.format.proofs.BoundaryTrips.{recordsLength, length-encodeBoundaries, boundaries-read, boundaries-write, observations-decoded, sources-decoded, boundaries-decoded, decoded-within}
+use Rattle.format.proofs.BoundaryTrips.{recordsLength, length-encodeBoundaries, boundaries-read, boundaries-write, observations-decoded, sources-decoded}
+use Rattle.format.proofs.BoundaryTrips.{boundaries-decoded, decoded-within}
 
 -- A job is as long as its counts give.
 pub length-encode : (j : Job) → length (j .cells) ≡ j .width * j .height → length (encode j) ≡ totalLength (countsOf j)
@@ -41,7 +43,8 @@ module _ (j : Job) (cells : length (j .cells) ≡ j .width * j .height) where
 
   pub boundaries-on : drop (boundariesStart (countsOf j)) (encode j) ≡ encodeBoundaries (j .boundaries)
   unfolding countsOf
-  boundaries-on = drop-here (encode j) (basesStart (countsOf j)) (length (j .bases) * baseSize) (baseSection (j .bases)) _ (length-baseSection (j .bases)) bases-on
+  boundaries-on = drop-here (encode j) (basesStart (countsOf j)) (length (j .bases) * baseSize) (baseSection (j .bases)) _ (length-baseSection (j .bases))
+      bases-on
 
 counts-fit : (c : Counts) → CountsAllowed c → CountsFit c
 counts-fit c a = omega arith
@@ -49,7 +52,8 @@ counts-fit c a = omega arith
 -- The counts of a job that was written are read back.
 pub counts-encode : (j : Job) → JobFits j → countsAt (encode j) 0 ≡ countsOf j
 unfolding encode
-counts-encode j f = counts-trip .read (encode j) 0 (countsOf j) (counts-fit (countsOf j) (f .counts)) (part-here (encode j) 0 24 (countsBytes (countsOf j)) _ (counts-trip .size (countsOf j)) refl)
+counts-encode j f = counts-trip .read (encode j) 0 (countsOf j) (counts-fit (countsOf j) (f .counts))
+    (part-here (encode j) 0 24 (countsBytes (countsOf j)) _ (counts-trip .size (countsOf j)) refl)
 
 -- A job that was written is read back.
 pub decode-encode : (j : Job) → JobFits j → decode (encode j) ≡ j
@@ -59,7 +63,8 @@ decode-encode j f =
     let c = countsOf j in
     let e1 : part s headerSize (cellCount c) ≡ j .cells = part-here s headerSize (cellCount c) (j .cells) _ (f .cells) (cells-on j (f .cells)) in
     let e2 : map baseOf (baseRecords s (basesStart c) (c .bases)) ≡ j .bases
-    = bases-read s (basesStart c) (j .bases) (f .bases) (part-here s (basesStart c) (c .bases * baseSize) _ _ (length-baseSection (j .bases)) (bases-on j (f .cells))) in
+    = bases-read s (basesStart c) (j .bases) (f .bases)
+    (part-here s (basesStart c) (c .bases * baseSize) _ _ (length-baseSection (j .bases)) (bases-on j (f .cells))) in
     let e3 : decodeBoundaries s (boundariesStart c) (c .boundaries) (c .observations) (c .sources) ≡ j .boundaries
     = boundaries-read s (boundariesStart c) (j .boundaries) (f .boundaries) (omega arith) (omega arith)
     (part-last s (boundariesStart c) _ (encodeBoundaries (j .boundaries)) (length-encodeBoundaries (j .boundaries)) (boundaries-on j (f .cells))) in
@@ -82,7 +87,8 @@ module _ (s : List ℕ) (f : Formed s) where
   unfolding countsOf decode jobWith baseRecords
   counts-decode =
       let c = countsAt s 0 in
-      let e1 : length (map baseOf (baseRecords s (basesStart c) (c .bases))) ≡ c .bases = length-map (baseRecords s (basesStart c) (c .bases)) baseOf ∙ length-rows (c .bases) _ in
+      let e1 : length (map baseOf (baseRecords s (basesStart c) (c .bases))) ≡ c .bases = length-map (baseRecords s (basesStart c) (c .bases)) baseOf
+      ∙ length-rows (c .bases) _ in
       let e2 = boundaries-decoded s (boundariesStart c) (c .boundaries) (c .observations) (c .sources) in
       let e3 = observations-decoded s (boundariesStart c) (c .boundaries) (c .observations) (c .sources) adds in
       let e4 = sources-decoded s (boundariesStart c) (c .boundaries) (c .observations) (c .sources) adds in

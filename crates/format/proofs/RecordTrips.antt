@@ -2,9 +2,11 @@
 use mathlib.Core.Path.{refl}
 use mathlib.Core.List.{append-assoc}
 use Rattle.format.specs.Sizes.{baseSize, boundarySize, observationSize, sourceSize, spanSize}
-use Rattle.format.specs.Records.{positionAt, positionBytes, spanAt, spanBytes, sourceAt, sourceBytes, baseAt, baseBytes, rampAt, rampBytes, boundaryAt, boundaryBytes, observationAt, observationBytes}
+use Rattle.format.specs.Records.{positionAt, positionBytes, spanAt, spanBytes, sourceAt, sourceBytes, baseAt, baseBytes, rampAt, rampBytes, boundaryAt}
+use Rattle.format.specs.Records.{boundaryBytes, observationAt, observationBytes}
 use Rattle.format.specs.Header.{countsAt, countsBytes, offsetsAt, offsetsBytes}
-use Rattle.format.specs.Fits.{PositionFits, SpanFits, SourceFits, BaseRecordFits, RampRecordFits, BoundaryRecordFits, ObservationRecordFits, CountsFit, OffsetsFit}
+use Rattle.format.specs.Fits.{PositionFits, SpanFits, SourceFits, BaseRecordFits, RampRecordFits, BoundaryRecordFits, ObservationRecordFits, CountsFit}
+use Rattle.format.specs.Fits.{OffsetsFit}
 use Rattle.format.proofs.Trip.{Trip, number-trip, byte-trip, both-trip, as-trip}
 
 -- A position: column and row.
@@ -110,13 +112,27 @@ pub counts-trip : Trip 24 countsAt countsBytes CountsFit
 unfolding countsAt countsBytes
 counts-trip =
     as-trip
-    (λ t. record { width = t .0 .0 .0 .0 .0; height = t .0 .0 .0 .0 .1; bases = t .0 .0 .0 .1; boundaries = t .0 .0 .1; observations = t .0 .1; sources = t .1 })
+    (λ t. record {
+      width = t .0 .0 .0 .0 .0;
+      height = t .0 .0 .0 .0 .1;
+      bases = t .0 .0 .0 .1;
+      boundaries = t .0 .0 .1;
+      observations = t .0 .1;
+      sources = t .1;
+    })
     (λ c. (((((c .width, c .height), c .bases), c .boundaries), c .observations), c .sources))
     (λ c. refl)
     (λ s i. refl)
     (λ t. simp append-assoc)
     (λ c h. (((((h .width, h .height), h .bases), h .boundaries), h .observations), h .sources))
-    (λ t h. record { width = h .0 .0 .0 .0 .0; height = h .0 .0 .0 .0 .1; bases = h .0 .0 .0 .1; boundaries = h .0 .0 .1; observations = h .0 .1; sources = h .1 })
+    (λ t h. record {
+      width = h .0 .0 .0 .0 .0;
+      height = h .0 .0 .0 .0 .1;
+      bases = h .0 .0 .0 .1;
+      boundaries = h .0 .0 .1;
+      observations = h .0 .1;
+      sources = h .1;
+    })
     (both-trip (both-trip (both-trip (both-trip (both-trip (number-trip 4) (number-trip 4)) (number-trip 4)) (number-trip 4)) (number-trip 4)) (number-trip 4))
 
 -- The next six.
@@ -130,5 +146,12 @@ offsets-trip =
     (λ s i. refl)
     (λ t. simp append-assoc)
     (λ o h. (((((h .cells, h .bases), h .boundaries), h .observations), h .sources), h .total))
-    (λ t h. record { cells = h .0 .0 .0 .0 .0; bases = h .0 .0 .0 .0 .1; boundaries = h .0 .0 .0 .1; observations = h .0 .0 .1; sources = h .0 .1; total = h .1 })
+    (λ t h. record {
+      cells = h .0 .0 .0 .0 .0;
+      bases = h .0 .0 .0 .0 .1;
+      boundaries = h .0 .0 .0 .1;
+      observations = h .0 .0 .1;
+      sources = h .0 .1;
+      total = h .1;
+    })
     (both-trip (both-trip (both-trip (both-trip (both-trip (number-trip 4) (number-trip 4)) (number-trip 4)) (number-trip 4)) (number-trip 4)) (number-trip 4))

@@ -34,7 +34,8 @@ module _ {A : Type 0} {n : ℕ} {at : List ℕ → ℕ → A} {out : A → List 
       ∙ reads h s (i + n) (part-second s i n (length xs * n) (out x) (flatMap out xs) (T .size x) (length-pieces n out (T .size) xs) d))
 
   -- Where the bytes of m records stand, they are read.
-  pub rows-read : {xs : List A} → All F xs → (m : ℕ) → length xs ≡ m → (s : List ℕ) (i : ℕ) → part s i (m * n) ≡ flatMap out xs → rows m (λ k. at s (i + k * n)) ≡ xs
+  pub rows-read : {xs : List A} → All F xs → (m : ℕ) → length xs ≡ m → (s : List ℕ) (i : ℕ) → part s i (m * n) ≡ flatMap out xs
+      → rows m (λ k. at s (i + k * n)) ≡ xs
   rows-read h m l s i e =
       ap (λ (c : ℕ). rows c (λ k. at s (i + k * n))) (sym l)
       ∙ reads h s i (ap (λ (c : ℕ). part s i (c * n)) l ∙ e)

@@ -31,7 +31,13 @@ rampRecord r = record { end = r .end; lower = r .lower; upper = r .upper; zero =
 
 unfoldable pub boundaryRecord : Boundary → BoundaryRecord
 unfolding rampRecord
-boundaryRecord b = record { ends = b .ends; bits = b .bits; sources = length (b .sources); observations = length (b .observations); ramp = rampRecord (b .ramp) }
+boundaryRecord b = record {
+  ends = b .ends;
+  bits = b .bits;
+  sources = length (b .sources);
+  observations = length (b .observations);
+  ramp = rampRecord (b .ramp);
+}
 
 unfoldable pub observationRecord : Observation → ObservationRecord
 observationRecord o = record { ends = o .ends; bits = o .bits; sources = length (o .sources) }

@@ -145,7 +145,8 @@ pub record FormedWith (c : Counts) (s : List ℕ) : Type 0 where
   pub offsets : offsetsAt s 24 ≡ offsetsOf c
   pub total : length s ≡ totalLength c
   pub observations : observationTotal (boundaryRecords s (boundariesStart c) (c .boundaries)) ≡ c .observations
-  pub sources : ownTotal (boundaryRecords s (boundariesStart c) (c .boundaries)) + sourceCount (observationRecords s (observationsStart c) (c .observations)) ≡ c .sources
+  pub sources : ownTotal (boundaryRecords s (boundariesStart c) (c .boundaries)) + sourceCount
+      (observationRecords s (observationsStart c) (c .observations)) ≡ c .sources
   pub zeros : (k : ℕ) → k < c .boundaries → boundaryAt s (boundariesStart c + k * boundarySize) .ramp .zero ≡ 0
 
 -- A job's bytes, as far as refusals 1, 5, 8 and 9 leave them and encoding after decoding rests on it.

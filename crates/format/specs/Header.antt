@@ -9,16 +9,32 @@ use Rattle.format.specs.declared.header.Offsets.{Offsets}
 use Rattle.format.specs.declared.header.Header.{Header}
 
 unfoldable pub countsAt : List ℕ → ℕ → Counts
-countsAt s i = record { width = u32At s i; height = u32At s (i + 4); bases = u32At s (i + 8); boundaries = u32At s (i + 12); observations = u32At s (i + 16); sources = u32At s (i + 20) }
+countsAt s i = record {
+  width = u32At s i;
+  height = u32At s (i + 4);
+  bases = u32At s (i + 8);
+  boundaries = u32At s (i + 12);
+  observations = u32At s (i + 16);
+  sources = u32At s (i + 20);
+}
 
 unfoldable pub countsBytes : Counts → List ℕ
-countsBytes c = u32Bytes (c .width) ++ (u32Bytes (c .height) ++ (u32Bytes (c .bases) ++ (u32Bytes (c .boundaries) ++ (u32Bytes (c .observations) ++ u32Bytes (c .sources)))))
+countsBytes c = u32Bytes (c .width)
+    ++ (u32Bytes (c .height) ++ (u32Bytes (c .bases) ++ (u32Bytes (c .boundaries) ++ (u32Bytes (c .observations) ++ u32Bytes (c .sources)))))
 
 unfoldable pub offsetsAt : List ℕ → ℕ → Offsets
-offsetsAt s i = record { cells = u32At s i; bases = u32At s (i + 4); boundaries = u32At s (i + 8); observations = u32At s (i + 12); sources = u32At s (i + 16); total = u32At s (i + 20) }
+offsetsAt s i = record {
+  cells = u32At s i;
+  bases = u32At s (i + 4);
+  boundaries = u32At s (i + 8);
+  observations = u32At s (i + 12);
+  sources = u32At s (i + 16);
+  total = u32At s (i + 20);
+}
 
 unfoldable pub offsetsBytes : Offsets → List ℕ
-offsetsBytes o = u32Bytes (o .cells) ++ (u32Bytes (o .bases) ++ (u32Bytes (o .boundaries) ++ (u32Bytes (o .observations) ++ (u32Bytes (o .sources) ++ u32Bytes (o .total)))))
+offsetsBytes o = u32Bytes (o .cells)
+    ++ (u32Bytes (o .bases) ++ (u32Bytes (o .boundaries) ++ (u32Bytes (o .observations) ++ (u32Bytes (o .sources) ++ u32Bytes (o .total)))))
 
 unfoldable pub headerAt : List ℕ → Header
 unfolding countsAt offsetsAt
@@ -44,4 +60,11 @@ abbrev pub totalLength : Counts → ℕ
 totalLength c = sourcesStart c + c .sources * sourceSize
 
 unfoldable pub offsetsOf : Counts → Offsets
-offsetsOf c = record { cells = headerSize; bases = basesStart c; boundaries = boundariesStart c; observations = observationsStart c; sources = sourcesStart c; total = totalLength c }
+offsetsOf c = record {
+  cells = headerSize;
+  bases = basesStart c;
+  boundaries = boundariesStart c;
+  observations = observationsStart c;
+  sources = sourcesStart c;
+  total = totalLength c;
+}

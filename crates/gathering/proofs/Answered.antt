@@ -26,7 +26,8 @@ use Rattle.answer.specs.Packed.{packed, sourcePack}
 use Rattle.answer.specs.Laying.{below}
 use Rattle.answer.specs.Placed.{Placed, seenOf}
 use Rattle.answer.specs.Gathered.{copiesBy, keptBy, Stands, Gathered}
-use Rattle.answer.proofs.Merged.{packed-append, kept-list, kept-at, merged-ends, merged-bits, merged-ramp, merged-fits, merged-own, merged-seen, stands-none, stands-append}
+use Rattle.answer.proofs.Merged.{packed-append, kept-list, kept-at, merged-ends, merged-bits, merged-ramp, merged-fits, merged-own, merged-seen, stands-none}
+use Rattle.answer.proofs.Merged.{stands-append}
 use Rattle.gathering.specs.Runs.{Filled, keptRanks, going, ownRun, seenRun, ownWeight, seenWeight, OwnsBy, SeensBy}
 use Rattle.gathering.proofs.Weights.{lower-all}
 
@@ -50,7 +51,8 @@ module _ {bs : ℕ → BoundaryRecord} {os : ℕ → ObservationRecord} {ss : Li
   own-fits : (i : ℕ) → Stays i → All SourceFits (whole i .sources)
   own-fits i h = merged-fits placed order inside (λ j. getD plan j 0) i (h .0) (h .1)
 
-  seen-run : (i : ℕ) → Stays i → Stands first second third starts counts keys (seenRun base order plan firsts first second third starts counts keys (seenOf bs os ss) n i) (whole i .observations)
+  seen-run : (i : ℕ) → Stays i → Stands first second third starts counts keys
+      (seenRun base order plan firsts first second third starts counts keys (seenOf bs os ss) n i) (whole i .observations)
   unfolding seenRun
   seen-run i h = merged-seen placed order inside (λ j. getD plan j 0) i (h .0) (h .1)
 
@@ -64,7 +66,9 @@ module _ {bs : ℕ → BoundaryRecord} {os : ℕ → ObservationRecord} {ss : Li
   owns-are : (l : List ℕ) → ((i : ℕ) → List·Memᴰ i l → Stays i) → packed (ownSources (map whole l)) ≡ gather (ownRun base order plan starts counts keys n) l
   unfolding ownSources gather packed
   owns-are [] h = refl
-  owns-are (i ∷ l) h = packed-append (whole i .sources) (ownSources (map whole l)) ∙ (ap (λ (t : List ℕ). t ++ packed (ownSources (map whole l))) (own-run i (h i (List·Memᴰ·head refl))) ∙ ap (λ (t : List ℕ). ownRun base order plan starts counts keys n i ++ t) (owns-are l (λ j m. h j (List·Memᴰ·tail m))))
+  owns-are (i ∷ l) h = packed-append (whole i .sources) (ownSources (map whole l))
+      ∙ (ap (λ (t : List ℕ). t ++ packed (ownSources (map whole l))) (own-run i (h i (List·Memᴰ·head refl)))
+      ∙ ap (λ (t : List ℕ). ownRun base order plan starts counts keys n i ++ t) (owns-are l (λ j m. h j (List·Memᴰ·tail m))))
 
   owns-fit : (l : List ℕ) → ((i : ℕ) → List·Memᴰ i l → Stays i) → All SourceFits (ownSources (map whole l))
   unfolding ownSources gather
@@ -72,7 +76,8 @@ module _ {bs : ℕ → BoundaryRecord} {os : ℕ → ObservationRecord} {ss : Li
   owns-fit (i ∷ l) h = all-append (own-fits i (h i (List·Memᴰ·head refl))) (owns-fit l (λ j m. h j (List·Memᴰ·tail m)))
 
   seens-are : (l : List ℕ) → ((i : ℕ) → List·Memᴰ i l → Stays i)
-      → Stands first second third starts counts keys (gather (seenRun base order plan firsts first second third starts counts keys (seenOf bs os ss) n) l) (observationsOf (map whole l))
+      → Stands first second third starts counts keys (gather (seenRun base order plan firsts first second third starts counts keys (seenOf bs os ss) n) l)
+      (observationsOf (map whole l))
   unfolding observationsOf flatMap gather
   seens-are [] h = stands-none
   seens-are (i ∷ l) h = stands-append (seen-run i (h i (List·Memᴰ·head refl))) (seens-are l (λ j m. h j (List·Memᴰ·tail m)))
@@ -108,10 +113,14 @@ module _ {bs : ℕ → BoundaryRecord} {os : ℕ → ObservationRecord} {ss : Li
         sym (getD-take m l q 0 d) ∙ (ap (λ (t : List ℕ). getD t q 0) (g .there) ∙ map-at f ranks q 0 0 c)
 
     owns-long : length (ownSources ks) ≡ a
-    owns-long = packed-long (ownSources ks) ∙ (ap length (ap (λ (l : List Boundary). packed (ownSources l)) ks-are ∙ owns-are ranks ranks-stay) ∙ sym (o .owned-there .many))
+    owns-long = packed-long (ownSources ks)
+        ∙ (ap length (ap (λ (l : List Boundary). packed (ownSources l)) ks-are ∙ owns-are ranks ranks-stay) ∙ sym (o .owned-there .many))
 
-    stands-all : Stands first second third starts counts keys (gather (seenRun base order plan firsts first second third starts counts keys (seenOf bs os ss) n) ranks) (observationsOf ks)
-    stands-all = subst (λ (l : List Boundary). Stands first second third starts counts keys (gather (seenRun base order plan firsts first second third starts counts keys (seenOf bs os ss) n) ranks) (observationsOf l)) (sym ks-are) (seens-are ranks ranks-stay)
+    stands-all : Stands first second third starts counts keys
+        (gather (seenRun base order plan firsts first second third starts counts keys (seenOf bs os ss) n) ranks) (observationsOf ks)
+    stands-all = subst (λ (l : List Boundary).
+        Stands first second third starts counts keys (gather (seenRun base order plan firsts first second third starts counts keys (seenOf bs os ss) n) ranks)
+        (observationsOf l)) (sym ks-are) (seens-are ranks ranks-stay)
 
     seens-long : length (observationsOf ks) ≡ b
     seens-long = sym (stands-all .many) ∙ sym (s .seen-there .many)
@@ -135,7 +144,8 @@ module _ {bs : ℕ → BoundaryRecord} {os : ℕ → ObservationRecord} {ss : Li
             filled-at (λ j. length (seenRun base order plan firsts first second third starts counts keys (seenOf bs os ss) n j)) (s .seens-there) q h
             ∙ (seen-run (getD ranks q 0) (rank-at q h) .many ∙ ap (λ (z : Boundary). length (z .observations)) (sym (ks-at q h)));
         own-room = omega (arith, owns-long, o .room, lower-all plan (ownWeight base order counts) n n, small);
-        own-there = ap (λ (m : ℕ). take m owned) owns-long ∙ (o .owned-there .there ∙ sym (ap (λ (l : List Boundary). packed (ownSources l)) ks-are ∙ owns-are ranks ranks-stay));
+        own-there = ap (λ (m : ℕ). take m owned) owns-long
+            ∙ (o .owned-there .there ∙ sym (ap (λ (l : List Boundary). packed (ownSources l)) ks-are ∙ owns-are ranks ranks-stay));
         own-fits = rw ks-are (owns-fit ranks ranks-stay);
         seen-room = omega (arith, seens-long, s .room, lower-all plan (seenWeight order (seenOf bs os ss)) n n, few);
         seen-there = rw (seens-long, s .seen-there .there) stands-all;

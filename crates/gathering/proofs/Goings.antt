@@ -43,7 +43,8 @@ pub going-none : (plan : List ℕ) (i : ℕ) → going plan 0 i ≡ []
 unfolding members keep upFrom
 going-none plan i = refl
 
-pub gather-last : (f : ℕ → List ℕ) (plan : List ℕ) (j i : ℕ) → gather f (going plan (j + 1) i) ≡ gather f (going plan j i) ++ cond (eqb (getD plan j 0) i) (f j) []
+pub gather-last : (f : ℕ → List ℕ) (plan : List ℕ) (j i : ℕ)
+    → gather f (going plan (j + 1) i) ≡ gather f (going plan j i) ++ cond (eqb (getD plan j 0) i) (f j) []
 gather-last f plan j i =
     ap (gather f) (going-last plan j i)
     ∙ (gather-append f (going plan j i) (cond (eqb (getD plan j 0) i) (j ∷ []) [])
@@ -74,7 +75,8 @@ module _ {l₀ l m : List ℕ} {from to r : ℕ} (f : ℕ → List ℕ) (plan : 
 pub runs-start : (f : ℕ → List ℕ) (plan : List ℕ) (i : ℕ) (l : List ℕ) (from : ℕ) → Added l from (gather f (going plan 0 i)) l from
 runs-start f plan i l from = added-is (added-none l from) refl (sym (gather-none f plan i))
 
-pub runs-end : {l m : List ℕ} {from to : ℕ} (f : ℕ → List ℕ) (w : ℕ → ℕ) (plan : List ℕ) (i j n : ℕ) → Added l from (gather f (going plan j i)) m to → to ≤ from + below (into plan w i) j → j ≤ n → n ≤ j
+pub runs-end : {l m : List ℕ} {from to : ℕ} (f : ℕ → List ℕ) (w : ℕ → ℕ) (plan : List ℕ) (i j n : ℕ) → Added l from (gather f (going plan j i)) m to
+    → to ≤ from + below (into plan w i) j → j ≤ n → n ≤ j
     → Added l from (gather f (going plan n i)) m to × (to ≤ from + below (into plan w i) n)
 runs-end {l} {m} {from} {to} f w plan i j n a b h k =
     let e : j ≡ n = omega arith in
@@ -106,7 +108,8 @@ module _ {base : ℕ} {order starts counts keys : List ℕ} {n j : ℕ} (room : 
       let v : into plan (ownWeight base order counts) i j ≡ ownWeight base order counts j = rw (eq-eqb (getD plan j 0) i (sym p ∙ q)) in
       omega (arith, l, v, own-count)
 
-pub own-long : {base : ℕ} {order starts counts keys : List ℕ} {n : ℕ} → OwnRoom base order starts counts keys n → (j : ℕ) → j < n → length (ownAt base order starts counts keys j) ≤ ownWeight base order counts j
+pub own-long : {base : ℕ} {order starts counts keys : List ℕ} {n : ℕ} → OwnRoom base order starts counts keys n → (j : ℕ) → j < n
+    → length (ownAt base order starts counts keys j) ≤ ownWeight base order counts j
 own-long {base} {order} {starts} {counts} {keys} r j h =
     let e = length-part keys (getD starts (base + getD order j 0) 0) (getD counts (base + getD order j 0) 0) (r .inside (getD order j 0) (r .order-in j h)) in
     omega (arith, e)
@@ -116,7 +119,9 @@ pub into-part : (plan : List ℕ) (w : ℕ → ℕ) (i j n : ℕ) → j < n → 
 into-part plan w i j n h = omega (arith, below-next (into plan w i) j, sum-prefix (j + 1) n (into plan w i) (omega arith))
 
 -- These, sorted and each once.
-pub own-gathered : {l₀ l m : List ℕ} {from to r : ℕ} (base : ℕ) (order plan starts counts keys : List ℕ) (n i : ℕ) → Added l₀ from (gather (ownAt base order starts counts keys) (going plan n i)) l to
-    → from ≤ length l₀ → Front l from to (sortOnce leb (between l from to)) m r → length m ≡ length l → Added l₀ from (ownRun base order plan starts counts keys n i) m r
+pub own-gathered : {l₀ l m : List ℕ} {from to r : ℕ} (base : ℕ) (order plan starts counts keys : List ℕ) (n i : ℕ)
+    → Added l₀ from (gather (ownAt base order starts counts keys) (going plan n i)) l to
+    → from ≤ length l₀ → Front l from to (sortOnce leb (between l from to)) m r → length m ≡ length l
+    → Added l₀ from (ownRun base order plan starts counts keys n i) m r
 unfolding ownRun
 own-gathered base order plan starts counts keys n i a h f d = added-once a h f d

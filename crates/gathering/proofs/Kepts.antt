@@ -50,7 +50,8 @@ module _ (plan : List ℕ) (i : ℕ) {z : ℕ} (e : z ≡ getD plan i 0) where
         filled-is (filled-put v a h) (sym (count-on k))
         (ap (λ (y : ℕ). map f (keptRanks plan i) ++ (y ∷ [])) q ∙ (sym (map-append f (keptRanks plan i) (i ∷ [])) ∙ ap (map f) (sym ranks-on)))
 
-    then-on : {l m : List ℕ} {a r : ℕ} (f : ℕ → List ℕ) → Filled l a (gather f (keptRanks plan i)) → Added l a (f i) m r → Filled m r (gather f (keptRanks plan (i + 1)))
+    then-on : {l m : List ℕ} {a r : ℕ} (f : ℕ → List ℕ) → Filled l a (gather f (keptRanks plan i)) → Added l a (f i) m r
+        → Filled m r (gather f (keptRanks plan (i + 1)))
     then-on f a g = filled-is (filled-then a g) refl (sym (gather-last f (keptRanks plan i) i) ∙ ap (gather f) (sym ranks-on))
 
 module _ (base : ℕ) (order plan starts counts keys : List ℕ) (n : ℕ) where
@@ -81,7 +82,8 @@ module _ (base : ℕ) (order plan starts counts keys : List ℕ) (n : ℕ) where
     }
 
     pub owns-keep : z ≡ i → {p v r : ℕ} {owned′ : List ℕ} → Added owned a (run i) owned′ r → r ≤ a + below (into plan (ownWeight base order counts) i) n
-        → k < length kept → k < length owns → p ≡ getD order i 0 → v ≡ r - a → state (i + 1) (k + cond (eqb (getD plan i 0) i) 1 0) r (set kept k p) (set owns k v) owned′
+        → k < length kept → k < length owns → p ≡ getD order i 0 → v ≡ r - a
+        → state (i + 1) (k + cond (eqb (getD plan i 0) i) 1 0) r (set kept k p) (set owns k v) owned′
     owns-keep d {p} {v} {r} g b h l x y = record {
       few = omega (arith, count-on plan i e d k, s .few);
       kept-there = put-on plan i e d (λ j. getD order j 0) (s .kept-there) h x;
@@ -90,13 +92,15 @@ module _ (base : ℕ) (order plan starts counts keys : List ℕ) (n : ℕ) where
       room = omega (arith, s .room, b, lower-next plan (ownWeight base order counts) i n);
     }
 
-  pub owns-end : {i k a : ℕ} {kept owns owned : List ℕ} → state i k a kept owns owned → i ≤ n → n ≤ i → state n k (ownTotal base order plan starts counts keys n) kept owns owned
+  pub owns-end : {i k a : ℕ} {kept owns owned : List ℕ} → state i k a kept owns owned → i ≤ n → n ≤ i
+      → state n k (ownTotal base order plan starts counts keys n) kept owns owned
   owns-end {i} {k} {a} {kept} {owns} {owned} s h l =
       let e : i ≡ n = omega arith in
       let d : a ≡ ownTotal base order plan starts counts keys n = s .owned-there .many ∙ ap (λ (y : ℕ). length (gather run (keptRanks plan y))) e in
       subst (λ (y : ℕ). state n k y kept owns owned) d (subst (λ (y : ℕ). state y k a kept owns owned) e s)
 
-pub owns-counted : {base : ℕ} {order plan starts counts keys kept owns owned : List ℕ} {n i v w a : ℕ} (k : ℕ) → w ≡ v → OwnsBy base order plan starts counts keys n i (k + v) a kept owns owned → OwnsBy base order plan starts counts keys n i (k + w) a kept owns owned
+pub owns-counted : {base : ℕ} {order plan starts counts keys kept owns owned : List ℕ} {n i v w a : ℕ} (k : ℕ) → w ≡ v
+    → OwnsBy base order plan starts counts keys n i (k + v) a kept owns owned → OwnsBy base order plan starts counts keys n i (k + w) a kept owns owned
 owns-counted k e s = rw e s
 
 module _ (base : ℕ) (order plan firsts first second third starts counts keys : List ℕ) (count : ℕ → ℕ) (n : ℕ) where
@@ -133,12 +137,15 @@ module _ (base : ℕ) (order plan firsts first second third starts counts keys :
       room = omega (arith, s .room, b, lower-next plan (seenWeight order count) i n);
     }
 
-  pub seens-end : {i k a : ℕ} {seens seen : List ℕ} → seenState i k a seens seen → i ≤ n → n ≤ i → seenState n k (seenTotal base order plan firsts first second third starts counts keys count n) seens seen
+  pub seens-end : {i k a : ℕ} {seens seen : List ℕ} → seenState i k a seens seen → i ≤ n → n ≤ i
+      → seenState n k (seenTotal base order plan firsts first second third starts counts keys count n) seens seen
   seens-end {i} {k} {a} {seens} {seen} s h l =
       let e : i ≡ n = omega arith in
-      let d : a ≡ seenTotal base order plan firsts first second third starts counts keys count n = s .seen-there .many ∙ ap (λ (y : ℕ). length (gather sights (keptRanks plan y))) e in
+      let d : a ≡ seenTotal base order plan firsts first second third starts counts keys count n = s .seen-there .many
+      ∙ ap (λ (y : ℕ). length (gather sights (keptRanks plan y))) e in
       subst (λ (y : ℕ). seenState n k y seens seen) d (subst (λ (y : ℕ). seenState y k a seens seen) e s)
 
 pub seens-counted : {base : ℕ} {order plan firsts first second third starts counts keys seens seen : List ℕ} {count : ℕ → ℕ} {n i v w a : ℕ} (k : ℕ) → w ≡ v
-    → SeensBy base order plan firsts first second third starts counts keys count n i (k + v) a seens seen → SeensBy base order plan firsts first second third starts counts keys count n i (k + w) a seens seen
+    → SeensBy base order plan firsts first second third starts counts keys count n i (k + v) a seens seen
+    → SeensBy base order plan firsts first second third starts counts keys count n i (k + w) a seens seen
 seens-counted k e s = rw e s

@@ -30,7 +30,8 @@ module _ {p k b : ℕ} (base among : ℕ) (firsts : List ℕ) (count : ℕ → �
   unfolding placesFrom upFrom
   places-alone l to z h = rw (f, z, eq-eqb among 1 h) (added-none l to)
 
-  pub places-itself : {l m : List ℕ} {to r : ℕ} → k ≡ 0 → (among ≡ 1 → ⊥) → Added l to (upFrom (base + b) 1) m r → Added l to (placesFrom base firsts count (eqb among 1) b) m r
+  pub places-itself : {l m : List ℕ} {to r : ℕ} → k ≡ 0 → (among ≡ 1 → ⊥) → Added l to (upFrom (base + b) 1) m r
+      → Added l to (placesFrom base firsts count (eqb among 1) b) m r
   unfolding placesFrom upFrom
   places-itself z h a = rw (f, z, ne-eqb among 1 h) a
 
@@ -38,7 +39,8 @@ cond-long : (t : Bool) (x : ℕ) (l : List ℕ) → length (cond t (x ∷ []) l)
 cond-long true x l = omega arith
 cond-long false x l = omega arith
 
-pub places-long : (base : ℕ) (order firsts : List ℕ) (count : ℕ → ℕ) (among j : ℕ) → length (placesAt base order firsts count among j) ≤ seenWeight order count j
+pub places-long : (base : ℕ) (order firsts : List ℕ) (count : ℕ → ℕ) (among j : ℕ)
+    → length (placesAt base order firsts count among j) ≤ seenWeight order count j
 unfolding placesFrom
 places-long base order firsts count among j =
     let b : ℕ = getD order j 0 in
@@ -61,7 +63,8 @@ module _ {s order firsts : List ℕ} {at base n j : ℕ} (room : SeenRoom s at b
   pub places-inside : {p m : ℕ} → p ≡ getD firsts z 0 → m ≡ seenCount s at z → p + m ≤ 1280
   places-inside a b = omega (arith, a, b, room .places-in z place-small, room .base-few)
 
-  pub places-there : {l m : List ℕ} {to r : ℕ} (among : ℕ) → Added l to (placesFrom base firsts (seenCount s at) (eqb among 1) z) m r → Added l to (placesAt base order firsts (seenCount s at) among j) m r
+  pub places-there : {l m : List ℕ} {to r : ℕ} (among : ℕ) → Added l to (placesFrom base firsts (seenCount s at) (eqb among 1) z) m r
+      → Added l to (placesAt base order firsts (seenCount s at) among j) m r
   places-there among a = added-is a refl (ap (placesFrom base firsts (seenCount s at) (eqb among 1)) e)
 
 length-one : (t : Bool) (j : ℕ) → length (cond t (j ∷ []) []) ≡ cond t 1 0
@@ -74,9 +77,17 @@ counted-one {x} {i} e h = rw (eq-eqb x i (sym e ∙ h))
 pub counted-none : {x i z : ℕ} → z ≡ x → (z ≡ i → ⊥) → _≡_ {A = ℕ} 0 (cond (eqb x i) 1 0)
 counted-none {x} {i} e h = rw (ne-eqb x i (λ q. h (e ∙ q)))
 
-pub count-next : (plan : List ℕ) (i j : ℕ) {c d : ℕ} → c ≡ length (going plan j i) → d ≡ cond (eqb (getD plan j 0) i) 1 0 → c + d ≡ length (going plan (j + 1) i)
+pub count-next : (plan : List ℕ) (i j : ℕ) {c d : ℕ} → c ≡ length (going plan j i) → d ≡ cond (eqb (getD plan j 0) i) 1 0
+    → c + d ≡ length (going plan (j + 1) i)
 count-next plan i j e f =
-    omega (arith, e, f, ap length (going-last plan j i), length-append (going plan j i) (cond (eqb (getD plan j 0) i) (j ∷ []) []), length-one (eqb (getD plan j 0) i) j)
+    omega (
+      arith,
+      e,
+      f,
+      ap length (going-last plan j i),
+      length-append (going plan j i) (cond (eqb (getD plan j 0) i) (j ∷ []) []),
+      length-one (eqb (getD plan j 0) i) j,
+    )
 
 pub count-start : (plan : List ℕ) (i : ℕ) → 0 ≡ length (going plan 0 i)
 count-start plan i = sym (ap length (going-none plan i))
@@ -85,7 +96,8 @@ pub count-end : {c : ℕ} (plan : List ℕ) (i j n : ℕ) → c ≡ length (goin
 count-end plan i j n e h k = let d : j ≡ n = omega arith in e ∙ ap (λ (z : ℕ). length (going plan z i)) d
 
 -- These, sorted.
-pub seen-gathered : {l₀ l m : List ℕ} {from to among : ℕ} (base : ℕ) (order plan firsts first second third starts counts keys : List ℕ) (count : ℕ → ℕ) (n i : ℕ)
+pub seen-gathered : {l₀ l m : List ℕ} {from to among : ℕ} (base : ℕ) (order plan firsts first second third starts counts keys : List ℕ) (count : ℕ → ℕ)
+    (n i : ℕ)
     → among ≡ length (going plan n i) → Added l₀ from (gather (placesAt base order firsts count among) (going plan n i)) l to → from ≤ length l₀ → to ≤ length l
     → m ≡ splice l from (sort (byRun first second third starts counts keys) (between l from to))
     → Added l₀ from (seenRun base order plan firsts first second third starts counts keys count n i) m to

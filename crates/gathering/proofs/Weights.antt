@@ -36,7 +36,14 @@ weight-split x i v =
 pub lower-next : (plan : List ℕ) (w : ℕ → ℕ) (i n : ℕ) → below (lower plan w i) n + below (into plan w i) n ≡ below (lower plan w (i + 1)) n
 lower-next plan w i zero = omega (arith, below-none (lower plan w i), below-none (into plan w i), below-none (lower plan w (i + 1)))
 lower-next plan w i (suc n) =
-    omega (arith, lower-next plan w i n, sum-last n (lower plan w i), sum-last n (into plan w i), sum-last n (lower plan w (i + 1)), weight-split (getD plan n 0) i (w n))
+    omega (
+      arith,
+      lower-next plan w i n,
+      sum-last n (lower plan w i),
+      sum-last n (into plan w i),
+      sum-last n (lower plan w (i + 1)),
+      weight-split (getD plan n 0) i (w n),
+    )
 
 cond-most : (b : Bool) (v : ℕ) → cond b v 0 ≤ v
 cond-most true v = omega arith
@@ -52,7 +59,9 @@ unfolding upFrom rows
 rows-up f a zero = refl
 rows-up f a (suc n) =
     let e : a ≡ a + 0 = omega arith in
-    ap (λ (z : ℕ). f z ∷ map f (upFrom (suc a) n)) e ∙ ap (λ (t : List ℕ). f (a + 0) ∷ t) (rows-up f (suc a) n ∙ rows-same n (λ k. f (suc a + k)) (λ k. f (a + suc k)) (λ k h. ap f (let d : suc a + k ≡ a + suc k = omega arith in d)))
+    ap (λ (z : ℕ). f z ∷ map f (upFrom (suc a) n)) e
+    ∙ ap (λ (t : List ℕ). f (a + 0) ∷ t)
+    (rows-up f (suc a) n ∙ rows-same n (λ k. f (suc a + k)) (λ k. f (a + suc k)) (λ k h. ap f (let d : suc a + k ≡ a + suc k = omega arith in d)))
 
 below-up : (f : ℕ → ℕ) (n : ℕ) → below f n ≡ sum (map f (upFrom 0 n))
 below-up f n = ap sum (sym (rows-up f 0 n ∙ rows-same n (λ k. f (0 + k)) f (λ k h. ap f (let d : 0 + k ≡ k = omega arith in d))))
@@ -65,9 +74,11 @@ below-order order n p f =
 
 pub order-inside : (order : List ℕ) (n : ℕ) → Ordered order n → (j : ℕ) → j < n → getD order j 0 < n
 order-inside order n p j h =
-    let e : getD (map (λ i. getD order i 0) (upFrom 0 n)) j 0 ≡ getD order j 0 = map-up-at (λ i. getD order i 0) 0 n j 0 h ∙ ap (λ (k : ℕ). getD order k 0) (let d : 0 + j ≡ j = omega arith in d) in
+    let e : getD (map (λ i. getD order i 0) (upFrom 0 n)) j 0 ≡ getD order j 0 = map-up-at (λ i. getD order i 0) 0 n j 0 h
+    ∙ ap (λ (k : ℕ). getD order k 0) (let d : 0 + j ≡ j = omega arith in d) in
     let l : length (map (λ i. getD order i 0) (upFrom 0 n)) ≡ n = length-map (upFrom 0 n) (λ i. getD order i 0) ∙ up-length 0 n in
-    let m : List·Memᴰ (getD (map (λ i. getD order i 0) (upFrom 0 n)) j 0) (map (λ i. getD order i 0) (upFrom 0 n)) = getD-mem (map (λ i. getD order i 0) (upFrom 0 n)) 0 j (omega (arith, l)) in
+    let m : List·Memᴰ (getD (map (λ i. getD order i 0) (upFrom 0 n)) j 0) (map (λ i. getD order i 0) (upFrom 0 n)) =
+    getD-mem (map (λ i. getD order i 0) (upFrom 0 n)) 0 j (omega (arith, l)) in
     let u = up-mem 0 n (perm-mem (Permᴰ·symm p) m) in
     omega (arith, u .1, e)
 
@@ -116,8 +127,10 @@ module _ {s : List ℕ} {at base n : ℕ} {order firsts starts counts keys spare
   }
 
 -- Room stays room in lists that are as long.
-pub owns-room-same : {base : ℕ} {order starts counts keys spare kept owns owned spare′ kept′ owns′ owned′ : List ℕ} {n : ℕ} → OwnsRoom base order starts counts keys spare kept owns owned n
-    → length spare′ ≡ length spare → length kept′ ≡ length kept → length owns′ ≡ length owns → length owned′ ≡ length owned → OwnsRoom base order starts counts keys spare′ kept′ owns′ owned′ n
+pub owns-room-same : {base : ℕ} {order starts counts keys spare kept owns owned spare′ kept′ owns′ owned′ : List ℕ} {n : ℕ}
+    → OwnsRoom base order starts counts keys spare kept owns owned n
+    → length spare′ ≡ length spare → length kept′ ≡ length kept → length owns′ ≡ length owns → length owned′ ≡ length owned
+    → OwnsRoom base order starts counts keys spare′ kept′ owns′ owned′ n
 owns-room-same r a b c d = record {
   own = r .own;
   small = r .small;

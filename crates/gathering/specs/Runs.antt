@@ -75,7 +75,8 @@ pub record OwnsBy (base : ℕ) (order plan starts counts keys : List ℕ) (n i k
   pub room : a ≤ below (lower plan (ownWeight base order counts) i) n
 
 -- The places of their observations, which end at a: how many each one has, and these.
-pub record SeensBy (base : ℕ) (order plan firsts first second third starts counts keys : List ℕ) (count : ℕ → ℕ) (n i k a : ℕ) (seens seen : List ℕ) : Type 0 where
+pub record SeensBy (base : ℕ) (order plan firsts first second third starts counts keys : List ℕ) (count : ℕ → ℕ) (n i k a : ℕ) (seens seen : List ℕ) : Type
+    0 where
   pub few : k ≤ i
   pub seens-there : Filled seens k (map (λ j. length (seenRun base order plan firsts first second third starts counts keys count n j)) (keptRanks plan i))
   pub seen-there : Filled seen a (gather (seenRun base order plan firsts first second third starts counts keys count n) (keptRanks plan i))
@@ -86,4 +87,5 @@ abbrev pub ownTotal : (base : ℕ) (order plan starts counts keys : List ℕ) �
 ownTotal base order plan starts counts keys n = length (gather (ownRun base order plan starts counts keys n) (keptRanks plan n))
 
 abbrev pub seenTotal : (base : ℕ) (order plan firsts first second third starts counts keys : List ℕ) (count : ℕ → ℕ) → ℕ → ℕ
-seenTotal base order plan firsts first second third starts counts keys count n = length (gather (seenRun base order plan firsts first second third starts counts keys count n) (keptRanks plan n))
+seenTotal base order plan firsts first second third starts counts keys count n =
+    length (gather (seenRun base order plan firsts first second third starts counts keys count n) (keptRanks plan n))

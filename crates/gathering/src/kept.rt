@@ -35,8 +35,15 @@ pub fn gather_kept(
     seen: &mut [u32],
     spare_places: &mut [u32],
 ) -> usize
-    requires { ⌜ GatherRoom (now job) at base n (now order) (now firsts) (now starts) (now counts) (now keys) (now spare) (now kept) (now owns) (now seens) (now owned) (now seen) (now «spare_places») ⌝ }
-    ensures { λ r. ⌜ ((os : ℕ → ObservationRecord) (ss : List Source) → Placed (boundaryRows (now (job .entry)) at) os ss base n (now (firsts .entry)) (now (first .entry)) (now (second .entry)) (now (third .entry)) (now (starts .entry)) (now (counts .entry)) (now (keys .entry)) → Gathered (boundaryRows (now (job .entry)) at) n (keptBy (boundaryRows (now (job .entry)) at) os ss (now (order .entry)) (now (plan .entry)) n) (now (kept .exit)) (now (owns .exit)) (now (seens .exit)) (now (owned .exit)) (now (seen .exit)) (now (first .entry)) (now (second .entry)) (now (third .entry)) (now (starts .entry)) (now (counts .entry)) (now (keys .entry)) × (r ≡ length (keptBy (boundaryRows (now (job .entry)) at) os ss (now (order .entry)) (now (plan .entry)) n))) ⌝ }
+    requires { ⌜ GatherRoom (now job) at base n (now order) (now firsts) (now starts) (now counts) (now keys) (now spare) (now kept) (now owns) (now seens)
+        (now owned) (now seen) (now «spare_places») ⌝ }
+    ensures { λ r. ⌜ ((os : ℕ → ObservationRecord) (ss : List Source)
+        → Placed (boundaryRows (now (job .entry)) at) os ss base n (now (firsts .entry)) (now (first .entry)) (now (second .entry)) (now (third .entry))
+        (now (starts .entry)) (now (counts .entry)) (now (keys .entry))
+        → Gathered (boundaryRows (now (job .entry)) at) n (keptBy (boundaryRows (now (job .entry)) at) os ss (now (order .entry)) (now (plan .entry)) n)
+        (now (kept .exit)) (now (owns .exit)) (now (seens .exit)) (now (owned .exit)) (now (seen .exit)) (now (first .entry)) (now (second .entry))
+        (now (third .entry)) (now (starts .entry)) (now (counts .entry)) (now (keys .entry))
+        × (r ≡ length (keptBy (boundaryRows (now (job .entry)) at) os ss (now (order .entry)) (now (plan .entry)) n))) ⌝ }
 {
     gather_seens(
         job,

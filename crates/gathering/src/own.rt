@@ -27,8 +27,11 @@ fn add_own(
     owned: &mut [u64],
     to: usize,
 ) -> usize
-    requires { ⌜ OwnRoom base (now order) (now starts) (now counts) (now keys) n × (j < n) × (to + into (now plan) (ownWeight base (now order) (now counts)) i j ≤ length (now owned)) ⌝ }
-    ensures { λ r. ⌜ Added (now (owned .entry)) to (cond (eqb (getD (now (plan .entry)) j 0) i) (ownAt base (now (order .entry)) (now (starts .entry)) (now (counts .entry)) (now (keys .entry)) j) []) (now (owned .exit)) r ⌝ }
+    requires { ⌜ OwnRoom base (now order) (now starts) (now counts) (now keys) n × (j < n)
+        × (to + into (now plan) (ownWeight base (now order) (now counts)) i j ≤ length (now owned)) ⌝ }
+    ensures { λ r. ⌜ Added (now (owned .entry)) to
+        (cond (eqb (getD (now (plan .entry)) j 0) i) (ownAt base (now (order .entry)) (now (starts .entry)) (now (counts .entry)) (now (keys .entry)) j) [])
+        (now (owned .exit)) r ⌝ }
 {
     if size(plan[j]) != i {
         return to;
@@ -50,8 +53,11 @@ fn add_owns(
     owned: &mut [u64],
     from: usize,
 ) -> usize
-    requires { ⌜ OwnRoom base (now order) (now starts) (now counts) (now keys) n × (from + below (into (now plan) (ownWeight base (now order) (now counts)) i) n ≤ length (now owned)) ⌝ }
-    ensures { λ r. ⌜ Added (now (owned .entry)) from (gather (ownAt base (now (order .entry)) (now (starts .entry)) (now (counts .entry)) (now (keys .entry))) (going (now (plan .entry)) n i)) (now (owned .exit)) r × (r ≤ from + below (into (now (plan .entry)) (ownWeight base (now (order .entry)) (now (counts .entry))) i) n) ⌝ }
+    requires { ⌜ OwnRoom base (now order) (now starts) (now counts) (now keys) n
+        × (from + below (into (now plan) (ownWeight base (now order) (now counts)) i) n ≤ length (now owned)) ⌝ }
+    ensures { λ r. ⌜ Added (now (owned .entry)) from
+        (gather (ownAt base (now (order .entry)) (now (starts .entry)) (now (counts .entry)) (now (keys .entry))) (going (now (plan .entry)) n i))
+        (now (owned .exit)) r × (r ≤ from + below (into (now (plan .entry)) (ownWeight base (now (order .entry)) (now (counts .entry))) i) n) ⌝ }
 {
     let mut to = from;
     let mut j: usize = 0;
@@ -76,8 +82,12 @@ fn gather_own(
     owned: &mut [u64],
     from: usize,
 ) -> usize
-    requires { ⌜ OwnRoom base (now order) (now starts) (now counts) (now keys) n × (from + below (into (now plan) (ownWeight base (now order) (now counts)) i) n ≤ length (now owned)) × (from + below (into (now plan) (ownWeight base (now order) (now counts)) i) n ≤ length (now spare)) ⌝ }
-    ensures { λ r. ⌜ Added (now (owned .entry)) from (ownRun base (now (order .entry)) (now (plan .entry)) (now (starts .entry)) (now (counts .entry)) (now (keys .entry)) n i) (now (owned .exit)) r × (r ≤ from + below (into (now (plan .entry)) (ownWeight base (now (order .entry)) (now (counts .entry))) i) n) ⌝ }
+    requires { ⌜ OwnRoom base (now order) (now starts) (now counts) (now keys) n
+        × (from + below (into (now plan) (ownWeight base (now order) (now counts)) i) n ≤ length (now owned))
+        × (from + below (into (now plan) (ownWeight base (now order) (now counts)) i) n ≤ length (now spare)) ⌝ }
+    ensures { λ r. ⌜ Added (now (owned .entry)) from
+        (ownRun base (now (order .entry)) (now (plan .entry)) (now (starts .entry)) (now (counts .entry)) (now (keys .entry)) n i) (now (owned .exit)) r
+        × (r ≤ from + below (into (now (plan .entry)) (ownWeight base (now (order .entry)) (now (counts .entry))) i) n) ⌝ }
 {
     let end = add_owns(order, plan, n, i, base, starts, counts, keys, owned, from);
     sort_unique(owned, spare, from, end)
@@ -100,8 +110,10 @@ fn own_rank(
     k: usize,
     a: usize,
 ) -> usize
-    requires { ⌜ OwnsRoom base (now order) (now starts) (now counts) (now keys) (now spare) (now kept) (now owns) (now owned) n × (i < n) × OwnsBy base (now order) (now plan) (now starts) (now counts) (now keys) n i k a (now kept) (now owns) (now owned) ⌝ }
-    ensures { λ r. ⌜ OwnsBy base (now (order .entry)) (now (plan .entry)) (now (starts .entry)) (now (counts .entry)) (now (keys .entry)) n (i + 1) (k + cond (eqb (getD (now (plan .entry)) i 0) i) 1 0) r (now (kept .exit)) (now (owns .exit)) (now (owned .exit)) ⌝ }
+    requires { ⌜ OwnsRoom base (now order) (now starts) (now counts) (now keys) (now spare) (now kept) (now owns) (now owned) n × (i < n)
+        × OwnsBy base (now order) (now plan) (now starts) (now counts) (now keys) n i k a (now kept) (now owns) (now owned) ⌝ }
+    ensures { λ r. ⌜ OwnsBy base (now (order .entry)) (now (plan .entry)) (now (starts .entry)) (now (counts .entry)) (now (keys .entry)) n (i + 1)
+        (k + cond (eqb (getD (now (plan .entry)) i 0) i) 1 0) r (now (kept .exit)) (now (owns .exit)) (now (owned .exit)) ⌝ }
 {
     if size(plan[i]) != i {
         return a;
@@ -139,7 +151,9 @@ pub fn gather_owns(
     owned: &mut [u64],
 ) -> usize
     requires { ⌜ OwnsRoom base (now order) (now starts) (now counts) (now keys) (now spare) (now kept) (now owns) (now owned) n ⌝ }
-    ensures { λ r. ⌜ OwnsBy base (now (order .entry)) (now (plan .entry)) (now (starts .entry)) (now (counts .entry)) (now (keys .entry)) n n r (ownTotal base (now (order .entry)) (now (plan .entry)) (now (starts .entry)) (now (counts .entry)) (now (keys .entry)) n) (now (kept .exit)) (now (owns .exit)) (now (owned .exit)) ⌝ }
+    ensures { λ r. ⌜ OwnsBy base (now (order .entry)) (now (plan .entry)) (now (starts .entry)) (now (counts .entry)) (now (keys .entry)) n n r
+        (ownTotal base (now (order .entry)) (now (plan .entry)) (now (starts .entry)) (now (counts .entry)) (now (keys .entry)) n) (now (kept .exit))
+        (now (owns .exit)) (now (owned .exit)) ⌝ }
 {
     let mut k: usize = 0;
     let mut a: usize = 0;

@@ -42,7 +42,8 @@ fn add_places(
     to: usize,
 ) -> usize
     requires { ⌜ (base + b < 1280) × (p + m ≤ 1280) × (to + m + 1 ≤ length (now seen)) ⌝ }
-    ensures { λ r. ⌜ ((firsts : List ℕ) (count : ℕ → ℕ) → getD firsts b 0 ≡ p → count b ≡ m → Added (now (seen .entry)) to (placesFrom base firsts count (eqb among 1) b) (now (seen .exit)) r) ⌝ }
+    ensures { λ r. ⌜ ((firsts : List ℕ) (count : ℕ → ℕ) → getD firsts b 0 ≡ p → count b ≡ m
+        → Added (now (seen .entry)) to (placesFrom base firsts count (eqb among 1) b) (now (seen .exit)) r) ⌝ }
 {
     if m != 0 {
         return append_places(p, m, seen, to);
@@ -68,8 +69,11 @@ fn add_seen(
     seen: &mut [u32],
     to: usize,
 ) -> usize
-    requires { ⌜ SeenRoom (now job) at base (now order) (now firsts) n × (j < n) × (to + into (now plan) (seenWeight (now order) (seenCount (now job) at)) i j ≤ length (now seen)) ⌝ }
-    ensures { λ r. ⌜ Added (now (seen .entry)) to (cond (eqb (getD (now (plan .entry)) j 0) i) (placesAt base (now (order .entry)) (now (firsts .entry)) (seenCount (now (job .entry)) at) among j) []) (now (seen .exit)) r ⌝ }
+    requires { ⌜ SeenRoom (now job) at base (now order) (now firsts) n × (j < n)
+        × (to + into (now plan) (seenWeight (now order) (seenCount (now job) at)) i j ≤ length (now seen)) ⌝ }
+    ensures { λ r. ⌜ Added (now (seen .entry)) to
+        (cond (eqb (getD (now (plan .entry)) j 0) i) (placesAt base (now (order .entry)) (now (firsts .entry)) (seenCount (now (job .entry)) at) among j)
+        []) (now (seen .exit)) r ⌝ }
 {
     if size(plan[j]) != i {
         return to;
@@ -101,8 +105,11 @@ fn add_seens(
     seen: &mut [u32],
     from: usize,
 ) -> usize
-    requires { ⌜ SeenRoom (now job) at base (now order) (now firsts) n × (from + below (into (now plan) (seenWeight (now order) (seenCount (now job) at)) i) n ≤ length (now seen)) ⌝ }
-    ensures { λ r. ⌜ Added (now (seen .entry)) from (gather (placesAt base (now (order .entry)) (now (firsts .entry)) (seenCount (now (job .entry)) at) among) (going (now (plan .entry)) n i)) (now (seen .exit)) r × (r ≤ from + below (into (now (plan .entry)) (seenWeight (now (order .entry)) (seenCount (now (job .entry)) at)) i) n) ⌝ }
+    requires { ⌜ SeenRoom (now job) at base (now order) (now firsts) n
+        × (from + below (into (now plan) (seenWeight (now order) (seenCount (now job) at)) i) n ≤ length (now seen)) ⌝ }
+    ensures { λ r. ⌜ Added (now (seen .entry)) from
+        (gather (placesAt base (now (order .entry)) (now (firsts .entry)) (seenCount (now (job .entry)) at) among) (going (now (plan .entry)) n i))
+        (now (seen .exit)) r × (r ≤ from + below (into (now (plan .entry)) (seenWeight (now (order .entry)) (seenCount (now (job .entry)) at)) i) n) ⌝ }
 {
     let mut to = from;
     let mut j: usize = 0;
@@ -133,8 +140,13 @@ fn gather_seen(
     spare: &mut [u32],
     from: usize,
 ) -> usize
-    requires { ⌜ SeenRoom (now job) at base (now order) (now firsts) n × (from + below (into (now plan) (seenWeight (now order) (seenCount (now job) at)) i) n ≤ length (now seen)) × (from + below (into (now plan) (seenWeight (now order) (seenCount (now job) at)) i) n ≤ length (now spare)) ⌝ }
-    ensures { λ r. ⌜ Added (now (seen .entry)) from (seenRun base (now (order .entry)) (now (plan .entry)) (now (firsts .entry)) (now (first .entry)) (now (second .entry)) (now (third .entry)) (now (starts .entry)) (now (counts .entry)) (now (keys .entry)) (seenCount (now (job .entry)) at) n i) (now (seen .exit)) r × (r ≤ from + below (into (now (plan .entry)) (seenWeight (now (order .entry)) (seenCount (now (job .entry)) at)) i) n) ⌝ }
+    requires { ⌜ SeenRoom (now job) at base (now order) (now firsts) n
+        × (from + below (into (now plan) (seenWeight (now order) (seenCount (now job) at)) i) n ≤ length (now seen))
+        × (from + below (into (now plan) (seenWeight (now order) (seenCount (now job) at)) i) n ≤ length (now spare)) ⌝ }
+    ensures { λ r. ⌜ Added (now (seen .entry)) from
+        (seenRun base (now (order .entry)) (now (plan .entry)) (now (firsts .entry)) (now (first .entry)) (now (second .entry)) (now (third .entry))
+        (now (starts .entry)) (now (counts .entry)) (now (keys .entry)) (seenCount (now (job .entry)) at) n i) (now (seen .exit)) r
+        × (r ≤ from + below (into (now (plan .entry)) (seenWeight (now (order .entry)) (seenCount (now (job .entry)) at)) i) n) ⌝ }
 {
     let among = count_going(plan, n, i);
     let end = add_seens(job, at, order, plan, n, i, base, firsts, among, seen, from);
@@ -175,8 +187,12 @@ fn seen_rank(
     k: usize,
     a: usize,
 ) -> usize
-    requires { ⌜ SeensRoom (now job) at base (now order) (now firsts) (now seens) (now seen) (now spare) n × (i < n) × SeensBy base (now order) (now plan) (now firsts) (now first) (now second) (now third) (now starts) (now counts) (now keys) (seenCount (now job) at) n i k a (now seens) (now seen) ⌝ }
-    ensures { λ r. ⌜ SeensBy base (now (order .entry)) (now (plan .entry)) (now (firsts .entry)) (now (first .entry)) (now (second .entry)) (now (third .entry)) (now (starts .entry)) (now (counts .entry)) (now (keys .entry)) (seenCount (now (job .entry)) at) n (i + 1) (k + cond (eqb (getD (now (plan .entry)) i 0) i) 1 0) r (now (seens .exit)) (now (seen .exit)) ⌝ }
+    requires { ⌜ SeensRoom (now job) at base (now order) (now firsts) (now seens) (now seen) (now spare) n × (i < n)
+        × SeensBy base (now order) (now plan) (now firsts) (now first) (now second) (now third) (now starts) (now counts) (now keys)
+        (seenCount (now job) at) n i k a (now seens) (now seen) ⌝ }
+    ensures { λ r. ⌜ SeensBy base (now (order .entry)) (now (plan .entry)) (now (firsts .entry)) (now (first .entry)) (now (second .entry)) (now (third .entry))
+        (now (starts .entry)) (now (counts .entry)) (now (keys .entry)) (seenCount (now (job .entry)) at) n (i + 1)
+        (k + cond (eqb (getD (now (plan .entry)) i 0) i) 1 0) r (now (seens .exit)) (now (seen .exit)) ⌝ }
 {
     if size(plan[i]) != i {
         return a;
@@ -224,7 +240,10 @@ pub fn gather_seens(
     spare: &mut [u32],
 ) -> usize
     requires { ⌜ SeensRoom (now job) at base (now order) (now firsts) (now seens) (now seen) (now spare) n ⌝ }
-    ensures { λ r. ⌜ SeensBy base (now (order .entry)) (now (plan .entry)) (now (firsts .entry)) (now (first .entry)) (now (second .entry)) (now (third .entry)) (now (starts .entry)) (now (counts .entry)) (now (keys .entry)) (seenCount (now (job .entry)) at) n n r (seenTotal base (now (order .entry)) (now (plan .entry)) (now (firsts .entry)) (now (first .entry)) (now (second .entry)) (now (third .entry)) (now (starts .entry)) (now (counts .entry)) (now (keys .entry)) (seenCount (now (job .entry)) at) n) (now (seens .exit)) (now (seen .exit)) ⌝ }
+    ensures { λ r. ⌜ SeensBy base (now (order .entry)) (now (plan .entry)) (now (firsts .entry)) (now (first .entry)) (now (second .entry)) (now (third .entry))
+        (now (starts .entry)) (now (counts .entry)) (now (keys .entry)) (seenCount (now (job .entry)) at) n n r
+        (seenTotal base (now (order .entry)) (now (plan .entry)) (now (firsts .entry)) (now (first .entry)) (now (second .entry)) (now (third .entry))
+        (now (starts .entry)) (now (counts .entry)) (now (keys .entry)) (seenCount (now (job .entry)) at) n) (now (seens .exit)) (now (seen .exit)) ⌝ }
 {
     let mut k: usize = 0;
     let mut a: usize = 0;

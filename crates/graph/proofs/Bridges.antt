@@ -20,7 +20,8 @@ unfolding someRecord
 some-record t [] h = clash h refl
 some-record t (r ∷ rs) h = go (or-cases (t 0 r) (someRecord (λ k. t (suc k)) rs) h) (λ i. some-record (λ k. t (suc k)) rs i)
   where
-    go : (t 0 r ≡ true) ⊎ (someRecord (λ k. t (suc k)) rs ≡ true) → (someRecord (λ k. t (suc k)) rs ≡ true → (k : ℕ) × (k < length rs) × (t (suc k) (at rs k) ≡ true)) →
+    go : (t 0 r ≡ true) ⊎ (someRecord (λ k. t (suc k)) rs ≡ true)
+        → (someRecord (λ k. t (suc k)) rs ≡ true → (k : ℕ) × (k < length rs) × (t (suc k) (at rs k) ≡ true)) →
         (k : ℕ) × (k < suc (length rs)) × (t k (at (r ∷ rs) k) ≡ true)
     go (inl e) i = (0, omega arith, e)
     go (inr e) i = let w = i e in (suc (w .0), omega arith, w .2)
@@ -31,7 +32,8 @@ record-some t [] k l e = absurd (omega arith)
 record-some t (r ∷ rs) zero l e = rw e
 record-some t (r ∷ rs) (suc k) l e = or-right (t 0 r) (record-some (λ k. t (suc k)) rs k (omega arith) e)
 
-pub parted-iff : (gone : ℕ → Record → Bool) (rs : List Record) (r : Record) → (isParted gone rs r ≡ true) ↔ (Path (edges (without gone rs)) (r .left) (r .right) → ⊥)
+pub parted-iff : (gone : ℕ → Record → Bool) (rs : List Record) (r : Record)
+    → (isParted gone rs r ≡ true) ↔ (Path (edges (without gone rs)) (r .left) (r .right) → ⊥)
 unfolding isParted
 parted-iff gone rs r = (
   λ h. other-part (edges (without gone rs)) (r .left) (r .right) .0 (not-true (samePart (edges (without gone rs)) (r .left) (r .right)) h),

@@ -45,8 +45,10 @@ module _ (on : ℕ → Bool) (es : List Edge) (among : Among on es) where
 
   one-part : (i j : ℕ) → on i ≡ true → on j ≡ true → label on es i ≡ label on es j → part es i ≡ part es j
   one-part i j s t e =
-      by-cases (decLt (part es i) (part es j)) (λ l. absurd (omega (arith, count-lt (begins on es) (part es i) (part es j) l (begins-part i s), label-in i s, label-in j t))) λ l.
-      by-cases (decLt (part es j) (part es i)) (λ k. absurd (omega (arith, count-lt (begins on es) (part es j) (part es i) k (begins-part j t), label-in i s, label-in j t))) λ k.
+      by-cases (decLt (part es i) (part es j))
+      (λ l. absurd (omega (arith, count-lt (begins on es) (part es i) (part es j) l (begins-part i s), label-in i s, label-in j t))) λ l.
+      by-cases (decLt (part es j) (part es i))
+      (λ k. absurd (omega (arith, count-lt (begins on es) (part es j) (part es i) k (begins-part j t), label-in i s, label-in j t))) λ k.
       omega arith
 
   earlier : (i v : ℕ) → 0 < v → v < label on es i → (j : ℕ) × (j < i) × (label on es j ≡ v)

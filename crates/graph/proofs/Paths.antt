@@ -30,7 +30,8 @@ module _ {es : List Edge} where
   path-between e p f = path-trans (path-eq e) (path-trans p (path-eq f))
 
   -- what each edge carries from end to end, a path carries
-  pub path-kept : (P : ℕ → Type 0) → ((e : Edge) → List·Memᴰ e es → (P (e .left) → P (e .right)) × (P (e .right) → P (e .left))) → {a b : ℕ} → Path es a b → P a → P b
+  pub path-kept : (P : ℕ → Type 0) → ((e : Edge) → List·Memᴰ e es → (P (e .left) → P (e .right)) × (P (e .right) → P (e .left))) → {a b : ℕ} → Path es a b → P a
+      → P b
   path-kept P keep here h = h
   path-kept P keep (onward {a} {b} {c} {e} m j p) h = path-kept P keep p (over j)
     where

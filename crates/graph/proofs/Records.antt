@@ -52,7 +52,8 @@ remains-without gone (s ∷ rs) {r} w = go (w .place) (w .inside) (w .spared) (w
     behind true m = m
     behind false m = List·Memᴰ·tail m
 
-    go : (k : ℕ) → k < suc (length rs) → gone k (at (s ∷ rs) k) ≡ false → at (s ∷ rs) k ≡ r → (Remains (λ k. gone (suc k)) rs r → List·Memᴰ r rest) → List·Memᴰ r (cond (gone 0 s) rest (s ∷ rest))
+    go : (k : ℕ) → k < suc (length rs) → gone k (at (s ∷ rs) k) ≡ false → at (s ∷ rs) k ≡ r → (Remains (λ k. gone (suc k)) rs r → List·Memᴰ r rest)
+        → List·Memᴰ r (cond (gone 0 s) rest (s ∷ rest))
     go zero l e q i = rw e (List·Memᴰ·head (sym q))
     go (suc k) l e q i = behind (gone 0 s) (i (record { place = k; inside = omega arith; spared = e; stands = q }))
 
@@ -63,7 +64,8 @@ without-none gone [] h = refl
 without-none gone (s ∷ rs) h = rw (h 0 (omega arith)) (ap (λ (l : List Record). s ∷ l) (without-none (λ k. gone (suc k)) rs (λ k l. h (suc k) (omega arith))))
 
 -- the edges of what is left, by place
-pub edge-remains : (gone : ℕ → Record → Bool) (rs : List Record) {e : Edge} → List·Memᴰ e (edges (without gone rs)) → (r : Record) × Remains gone rs r × (edgeOf r ≡ e)
+pub edge-remains : (gone : ℕ → Record → Bool) (rs : List Record) {e : Edge} → List·Memᴰ e (edges (without gone rs)) → (r : Record) × Remains gone rs r
+    × (edgeOf r ≡ e)
 unfolding edges
 edge-remains gone rs m = let w = Memᴰ·of-map edgeOf (without gone rs) m in (w .0, without-remains gone rs (w .1), w .2)
 

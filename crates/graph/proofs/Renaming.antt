@@ -53,7 +53,8 @@ module _ {g : ℕ → ℕ} {rs ss : List Record} (N : Renaming g rs ss) where
 
       joins : Joins e a b → Joins (edgeOf (at ss i)) (g a) (g b)
       joins (forth p q) =
-          forth (N .left i (w .1 .inside) ∙ ap g (ap (λ (x : Edge). x .left) same ∙ p)) (N .right i (w .1 .inside) ∙ ap g (ap (λ (x : Edge). x .right) same ∙ q))
+          forth (N .left i (w .1 .inside) ∙ ap g (ap (λ (x : Edge). x .left) same ∙ p))
+          (N .right i (w .1 .inside) ∙ ap g (ap (λ (x : Edge). x .right) same ∙ q))
       joins (back p q) =
           back (N .left i (w .1 .inside) ∙ ap g (ap (λ (x : Edge). x .left) same ∙ p)) (N .right i (w .1 .inside) ∙ ap g (ap (λ (x : Edge). x .right) same ∙ q))
 
@@ -102,7 +103,8 @@ module _ {g : ℕ → ℕ} {rs ss : List Record} (N : Renaming g rs ss) where
         place = w .place;
         inside = l;
         owned = sym (N .owner (w .place) l) ∙ w .owned;
-        parted = λ p. w .parted (subst₂ (Path (edges (without (only (w .place)) ss))) (sym (N .left (w .place) l)) (sym (N .right (w .place) l)) (there (w .place) p));
+        parted = λ p. w .parted (subst₂ (Path (edges (without (only (w .place)) ss))) (sym (N .left (w .place) l)) (sym (N .right (w .place) l))
+            (there (w .place) p));
       }
 
   to-new : {b : ℕ} → Bridge rs b → Bridge ss b
@@ -111,7 +113,8 @@ module _ {g : ℕ → ℕ} {rs ss : List Record} (N : Renaming g rs ss) where
     inside = omega (arith, w .inside, N .as-many);
     owned = N .owner (w .place) (w .inside) ∙ w .owned;
     parted = λ p.
-        let f = back-again (w .place) (subst₂ (Path (edges (without (only (w .place)) ss))) (N .left (w .place) (w .inside)) (N .right (w .place) (w .inside)) p)
+        let f = back-again (w .place)
+        (subst₂ (Path (edges (without (only (w .place)) ss))) (N .left (w .place) (w .inside)) (N .right (w .place) (w .inside)) p)
         (at rs (w .place) .left) (record { place = w .place; inside = w .inside; end = inl refl }) refl in
         let is : f .to ≡ at rs (w .place) .right
         = N .apart (f .to) (at rs (w .place) .right) (f .occurs) (record { place = w .place; inside = w .inside; end = inr refl }) (f .named) in

@@ -32,7 +32,8 @@ module _ {n : ℕ} {on : ℕ → Bool} {es : List Edge} where
 
   agree-below : (f g : ℕ → ℕ) → Labelling n on es f → Labelling n on es g → (m : ℕ) → m ≤ n → (j : ℕ) → j < m → f j ≡ g j
   agree-below f g F G zero h j l = absurd (omega arith)
-  agree-below f g F G (suc m) h j l = by-cases (decLt j m) (λ s. agree-below f g F G m (omega arith) j s) (λ s. last (λ k q. agree-below f g F G m (omega arith) k q) (omega arith))
+  agree-below f g F G (suc m) h j l =
+      by-cases (decLt j m) (λ s. agree-below f g F G m (omega arith) j s) (λ s. last (λ k q. agree-below f g F G m (omega arith) k q) (omega arith))
     where
       last : ((k : ℕ) → k < m → f k ≡ g k) → j ≡ m → f j ≡ g j
       last before e =

@@ -69,7 +69,8 @@ four-distinct = keep-pairs (λ d. not (diagonal d)) eight-distinct
 -- a set of directions as a number: its members are its bits
 has-keep : (t : ℕ → Bool) (d : ℕ) (l : List ℕ) → List·Memᴰ d l → has d (keep t l) ≡ t d
 has-keep t d l m =
-    by-test (t d) (λ h. mem-has d (keep t l) (mem-keep t m h) ∙ sym h) (λ h. is-false (has d (keep t l)) (λ k. clash (keep-mem t l (has-mem d (keep t l) k) .1) h) ∙ sym h)
+    by-test (t d) (λ h. mem-has d (keep t l) (mem-keep t m h) ∙ sym h)
+    (λ h. is-false (has d (keep t l)) (λ k. clash (keep-mem t l (has-mem d (keep t l) k) .1) h) ∙ sym h)
 
 pub has-bit : (set d : ℕ) → d < 9 → eqb (set / 2 ^ d % 2) 1 ≡ has d (directionsOf set)
 unfolding directionsOf

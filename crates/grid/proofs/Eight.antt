@@ -66,7 +66,10 @@ module _ (g : Grid) (whole : Whole g) (i j : ℕ) where
   from-eight : EightStep g i j → Step eight g i j
   from-eight s = record {
     by = d;
-    among = in-eight d (omega (arith, s .columns, s .rows), λ e. s .apart (sym (index-split g i) ∙ (ap₂ (indexOf g) (omega (arith, e)) (omega (arith, e)) ∙ index-split g j)));
+    among = in-eight d (
+      omega (arith, s .columns, s .rows),
+      λ e. s .apart (sym (index-split g i) ∙ (ap₂ (indexOf g) (omega (arith, e)) (omega (arith, e)) ∙ index-split g j)),
+    );
     taken = record {
       leads = means-leads g i d (record {
         left-edge = omega (arith, places);

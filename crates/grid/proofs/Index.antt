@@ -30,7 +30,8 @@ module _ (g : Grid) where
 
   module _ (whole : Whole g) (i : ℕ) (on : i < size g) where
     has-columns : 0 < g .width
-    has-columns = by-cases (decLt 0 (g .width)) (λ l. l) (λ l. let e : g .width ≡ 0 = omega arith in absurd (omega (arith, ap (λ (k : ℕ). k * g .height) e, zero-mul (g .height))))
+    has-columns = by-cases (decLt 0 (g .width)) (λ l. l)
+        (λ l. let e : g .width ≡ 0 = omega arith in absurd (omega (arith, ap (λ (k : ℕ). k * g .height) e, zero-mul (g .height))))
 
     pub column-in : columnOf g i < g .width
     column-in = mod-lt i has-columns

@@ -53,7 +53,8 @@ module _ (g : Grid) (i d : ℕ) where
   module _ (leads : leadsOn g i d ≡ true) where
     pub blocked : walkable g i && walkable g (neighbour g i d) ≡ false → false ≡ hasStep g i d
     unfolding hasStep
-    blocked h = rw leads (either-false (walkable g i) (walkable g (neighbour g i d)) (not (diagonal d) || (walkable g (beside g i d) && walkable g (across g i d))) h)
+    blocked h = rw leads (either-false (walkable g i) (walkable g (neighbour g i d))
+        (not (diagonal d) || (walkable g (beside g i d) && walkable g (across g i d))) h)
 
     module _ (ends : walkable g i && walkable g (neighbour g i d) ≡ true) where
       pub straight : diagonal d ≡ false → true ≡ hasStep g i d

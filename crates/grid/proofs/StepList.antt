@@ -59,7 +59,8 @@ module _ (dirs : List ℕ) (g : Grid) where
           here s l =
               let n = neighbour g i (s .by) in
               let k : i < n = rw (s .taken .there) l in
-              Memᴰ·cast (ap (stepOf i) (sym (s .taken .there))) (Memᴰ·map (edgeBy i) (mem-keep (later i) (s .among) (and-both (step-has g i (s .by) (s .taken)) (lt-ltb i n k))))
+              Memᴰ·cast (ap (stepOf i) (sym (s .taken .there)))
+              (Memᴰ·map (edgeBy i) (mem-keep (later i) (s .among) (and-both (step-has g i (s .by) (s .taken)) (lt-ltb i n k))))
 
   -- both ends are walkable, and on the map
   pub steps-among : Among (walkable g) (steps dirs g)
@@ -81,10 +82,12 @@ module _ (dirs : List ℕ) (g : Grid) where
   steps-distinct once = gather-pairs (stepsFrom dirs g) (from-distinct once) (pairs-imp across (up-strict 0 (size g)))
     where
       across : (i k : ℕ) → i < k → (b c : Edge) → List·Memᴰ b (stepsFrom dirs g i) → List·Memᴰ c (stepsFrom dirs g k) → b ≡ c → ⊥
-      across i k l b c m n e = omega (arith, ap (λ (x : Edge). x .left) (from-mem i m .2), ap (λ (x : Edge). x .left) (from-mem k n .2), ap (λ (x : Edge). x .left) e)
+      across i k l b c m n e = omega
+          (arith, ap (λ (x : Edge). x .left) (from-mem i m .2), ap (λ (x : Edge). x .left) (from-mem k n .2), ap (λ (x : Edge). x .left) e)
 
   -- a step is listed from its earlier cell, whichever it is
-  pub step-listed : ClosedUnderReversal dirs → Whole g → (i j : ℕ) → Step dirs g i j → List·Memᴰ (stepOf i j) (steps dirs g) ⊎ List·Memᴰ (stepOf j i) (steps dirs g)
+  pub step-listed : ClosedUnderReversal dirs → Whole g → (i j : ℕ) → Step dirs g i j → List·Memᴰ (stepOf i j) (steps dirs g)
+      ⊎ List·Memᴰ (stepOf j i) (steps dirs g)
   step-listed closed whole i j s =
       by-cases (decLt i j) (λ l. inl (steps-iff i j .1 (s, l)))
       (λ l. by-cases (decLt j i) (λ k. inr (steps-iff j i .1 (step-back closed whole s, k))) (λ k. absurd (step-apart closed whole s (omega arith))))

@@ -24,7 +24,8 @@ pub record Leads (g : Grid) (i d : ℕ) : Type 0 where
 pub leads-means : (g : Grid) (i d : ℕ) → leadsOn g i d ≡ true → Leads g i d
 unfolding leadsOn
 leads-means g i d h =
-    let p = and-parts (ltb 0 (columnOf g i + right d) && leb (columnOf g i + right d) (g .width)) (ltb 0 (rowOf g i + down d) && leb (rowOf g i + down d) (g .height)) h in
+    let p = and-parts (ltb 0 (columnOf g i + right d) && leb (columnOf g i + right d) (g .width))
+    (ltb 0 (rowOf g i + down d) && leb (rowOf g i + down d) (g .height)) h in
     let q = and-parts (ltb 0 (columnOf g i + right d)) (leb (columnOf g i + right d) (g .width)) (p .0) in
     let r = and-parts (ltb 0 (rowOf g i + down d)) (leb (rowOf g i + down d) (g .height)) (p .1) in
     record { left-edge = ltb-true _ _ (q .0); right-edge = leb-true _ _ (q .1); top-edge = ltb-true _ _ (r .0); bottom-edge = leb-true _ _ (r .1) }
@@ -48,7 +49,15 @@ pub neighbour-one : (g : Grid) (i d k : ℕ) → leadsOn g i d ≡ true → lead
 neighbour-one g i d k h l e = only (leads-means g i d h) (leads-means g i k l)
   where
     only : Leads g i d → Leads g i k → d ≡ k
-    only m n = omega (arith, neighbour-column g i d m, neighbour-column g i k n, neighbour-row g i d m, neighbour-row g i k n, ap (columnOf g) e, ap (rowOf g) e)
+    only m n = omega (
+      arith,
+      neighbour-column g i d m,
+      neighbour-column g i k n,
+      neighbour-row g i d m,
+      neighbour-row g i k n,
+      ap (columnOf g) e,
+      ap (rowOf g) e,
+    )
 
 -- the computed test is what a step means
 module _ (g : Grid) (i d : ℕ) where

@@ -43,7 +43,8 @@ pub fn leads_on(width: u32, height: u32, position: WalkPosition, d: u32) -> bool
 // The place of the cell that it leads to.
 pub fn place_to(position: WalkPosition, d: u32) -> WalkPosition
     requires { ⌜ (position .x < 1024) × (position .y < 1024) × (d < 9) × (0 < position .x + d % 3) × (0 < position .y + d / 3) ⌝ }
-    ensures { λ r. ⌜ ((g : Grid) (i : ℕ) → columnOf g i ≡ position .x → rowOf g i ≡ position .y → (r .x ≡ columnTo g i d) × (r .y ≡ rowTo g i d)) × (r .x ≤ 1024) × (r .y ≤ 1024) ⌝ }
+    ensures { λ r. ⌜ ((g : Grid) (i : ℕ) → columnOf g i ≡ position .x → rowOf g i ≡ position .y → (r .x ≡ columnTo g i d) × (r .y ≡ rowTo g i d))
+        × (r .x ≤ 1024) × (r .y ≤ 1024) ⌝ }
 {
     let x = position.x;
     let y = position.y;
@@ -85,16 +86,20 @@ fn across(width: u32, position: WalkPosition, d: u32) -> u32
 
 // The cell and the one that the direction leads to are walkable.
 fn ends_walkable(cells: &[u8], width: u32, height: u32, position: WalkPosition, d: u32) -> bool
-    requires { ⌜ Placed width height (now cells) position × (d < 9) × (leadsOn (record { width = width; height = height; cells = now cells }) (position .y * width + position .x) d ≡ true) ⌝ }
-    ensures { λ r. ⌜ ((g : Grid) (i : ℕ) → g ≡ record { width = width; height = height; cells = now (cells .entry) } → i ≡ position .y * width + position .x → r ≡ (walkable g i && walkable g (neighbour g i d))) ⌝ }
+    requires { ⌜ Placed width height (now cells) position × (d < 9)
+        × (leadsOn (record { width = width; height = height; cells = now cells }) (position .y * width + position .x) d ≡ true) ⌝ }
+    ensures { λ r. ⌜ ((g : Grid) (i : ℕ) → g ≡ record { width = width; height = height; cells = now (cells .entry) } → i ≡ position .y * width + position .x
+        → r ≡ (walkable g i && walkable g (neighbour g i d))) ⌝ }
 {
     walkable_at(cells, index(width, position)) & walkable_at(cells, neighbor(width, position, d))
 }
 
 // The two cells beside the direction are walkable.
 fn sides_walkable(cells: &[u8], width: u32, height: u32, position: WalkPosition, d: u32) -> bool
-    requires { ⌜ Placed width height (now cells) position × (d < 9) × (leadsOn (record { width = width; height = height; cells = now cells }) (position .y * width + position .x) d ≡ true) ⌝ }
-    ensures { λ r. ⌜ ((g : Grid) (i : ℕ) → g ≡ record { width = width; height = height; cells = now (cells .entry) } → i ≡ position .y * width + position .x → r ≡ (walkable g (beside g i d) && walkable g (across g i d))) ⌝ }
+    requires { ⌜ Placed width height (now cells) position × (d < 9)
+        × (leadsOn (record { width = width; height = height; cells = now cells }) (position .y * width + position .x) d ≡ true) ⌝ }
+    ensures { λ r. ⌜ ((g : Grid) (i : ℕ) → g ≡ record { width = width; height = height; cells = now (cells .entry) } → i ≡ position .y * width + position .x
+        → r ≡ (walkable g (beside g i d) && walkable g (across g i d))) ⌝ }
 {
     walkable_at(cells, beside(width, position, d)) & walkable_at(cells, across(width, position, d))
 }

@@ -34,11 +34,13 @@ use Rattle.groups.proofs.Groups.{group-below, group-joined, group-risin
 
 module _ (limits : Limits) (dirs : List ℕ) (g : Grid) (anchors : List WalkPosition) (l : List Item) where
   -- an accepted group is a part of its links
-  pub serial-part : {a : Group} → List·Memᴰ a (serialGroups limits dirs g anchors l) → List·Memᴰ a (groupsOf (length l) (serialLinks dirs g anchors l)) × (acceptsSerial limits dirs g l a ≡ true)
+  pub serial-part : {a : Group} → List·Memᴰ a (serialGroups limits dirs g anchors l) → List·Memᴰ a (groupsOf (length l) (serialLinks dirs g anchors l))
+      × (acceptsSerial limits dirs g l a ≡ true)
   unfolding serialGroups
   serial-part m = keep-mem (acceptsSerial limits dirs g l) (groupsOf (length l) (serialLinks dirs g anchors l)) m
 
-  pub flat-part : {a : Group} → List·Memᴰ a (flatGroups limits dirs g anchors l) → List·Memᴰ a (groupsOf (length l) (flatLinks limits dirs g anchors l)) × (acceptsFlat limits dirs g l a ≡ true)
+  pub flat-part : {a : Group} → List·Memᴰ a (flatGroups limits dirs g anchors l) → List·Memᴰ a (groupsOf (length l) (flatLinks limits dirs g anchors l))
+      × (acceptsFlat limits dirs g l a ≡ true)
   unfolding flatGroups
   flat-part m = keep-mem (acceptsFlat limits dirs g l) (groupsOf (length l) (flatLinks limits dirs g anchors l)) m
 
@@ -46,7 +48,8 @@ module _ (limits : Limits) (dirs : List ℕ) (g : Grid) (anchors : List WalkPosi
   flat-left : (i : ℕ) → isJoined (flatLinks limits dirs g anchors l) i ≡ true → inAny (serialGroups limits dirs g anchors l) i ≡ false
   unfolding isJoined flatLinks isFlatLink
   flat-left i h =
-      ⊎-elim (λ e. rw (eqb-true i (k .first) e) (not-true (inAny serial (k .first)) (left .0))) (λ e. rw (eqb-true i (k .second) e) (not-true (inAny serial (k .second)) (left .1)))
+      ⊎-elim (λ e. rw (eqb-true i (k .first) e) (not-true (inAny serial (k .first)) (left .0)))
+      (λ e. rw (eqb-true i (k .second) e) (not-true (inAny serial (k .second)) (left .1)))
       (or-cases (eqb i (k .first)) (eqb i (k .second)) (w .2))
     where
       serial : List Group
@@ -79,7 +82,8 @@ module _ (limits : Limits) (dirs : List ℕ) (g : Grid) (anchors : List WalkPosi
       across
 
   -- what holds of the accepted parts of any links holds of the accepted groups
-  by-kind : (P : Group → Type 0) → ((a : Group) → List·Memᴰ a (serialGroups limits dirs g anchors l) → P a) → ((a : Group) → List·Memᴰ a (flatGroups limits dirs g anchors l) → P a) →
+  by-kind : (P : Group → Type 0) → ((a : Group) → List·Memᴰ a (serialGroups limits dirs g anchors l) → P a)
+      → ((a : Group) → List·Memᴰ a (flatGroups limits dirs g anchors l) → P a) →
       {a : Group} → List·Memᴰ a (accepted limits dirs g anchors l) → P a
   unfolding accepted
   by-kind P s f {a} m =
@@ -101,8 +105,10 @@ module _ (limits : Limits) (dirs : List ℕ) (g : Grid) (anchors : List WalkPosi
   pub serial-path : {a : Group} → List·Memᴰ a (serialGroups limits dirs g anchors l) → IsSimplePath limits dirs g l (limits .leastSpans) a
   unfolding acceptsSerial
   serial-path {a} m =
-      let p = and-parts (every (passes limits dirs g l) (a .links) && simplePath limits dirs g l (limits .leastSpans) a) (le (chainSum l a) (limits .chain) && le (endDistance l a) (limits .chain)) (serial-part m .1) in
-      simple-path-iff limits dirs g l (limits .leastSpans) a .0 (and-parts (every (passes limits dirs g l) (a .links)) (simplePath limits dirs g l (limits .leastSpans) a) (p .0) .1)
+      let p = and-parts (every (passes limits dirs g l) (a .links) && simplePath limits dirs g l (limits .leastSpans) a)
+      (le (chainSum l a) (limits .chain) && le (endDistance l a) (limits .chain)) (serial-part m .1) in
+      simple-path-iff limits dirs g l (limits .leastSpans) a .0
+      (and-parts (every (passes limits dirs g l) (a .links)) (simplePath limits dirs g l (limits .leastSpans) a) (p .0) .1)
 
   pub flat-path : {a : Group} → List·Memᴰ a (flatGroups limits dirs g anchors l) → IsSimplePath limits dirs g l leastFlatSpans a
   unfolding acceptsFlat

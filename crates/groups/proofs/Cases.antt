@@ -24,7 +24,11 @@ use Rattle.groups.specs.Plan.{mergePlan}
 
 -- a boundary of a width, with the span that stands for it
 abbrev itemOf : ℕ → Span → Span → Item
-itemOf bits ends span = record { boundary = record { ends = ends; bits = bits; ramp = record { end = 0; lower = 0; upper = 0; id = 0 }; sources = []; observations = [] }; span = span }
+itemOf bits ends span = record {
+  boundary =
+      record { ends = ends; bits = bits; ramp = record { end = 0; lower = 0; upper = 0; id = 0 }; sources = []; observations = [] };
+  span = span;
+}
 
 -- of width 8, upright at a column of pixels
 abbrev uprightAt : ℕ → Item
@@ -114,15 +118,19 @@ unfolding retained lengthOf ofInt ofBits toBits neg add sub mul div lt le
 retained-middle = refl
 
 -- widths 16 and 8: at most the least and 8; 24 is over
-wide : eligible limits000 (itemOf 0x4030_0000_0000_0000 (spanOf 8 0 8 8) (spanOf 8 0 8 8) ∷ uprightAt 16 ∷ itemOf 0x4038_0000_0000_0000 (spanOf 24 0 24 8) (spanOf 24 0 24 8) ∷ []) (0 ∷ 1 ∷ 2 ∷ []) ≡ 0 ∷ 1 ∷ []
+wide : eligible limits000
+    (itemOf 0x4030_0000_0000_0000 (spanOf 8 0 8 8) (spanOf 8 0 8 8) ∷ uprightAt 16 ∷ itemOf 0x4038_0000_0000_0000 (spanOf 24 0 24 8) (spanOf 24 0 24 8) ∷ [])
+    (0 ∷ 1 ∷ 2 ∷ []) ≡ 0 ∷ 1 ∷ []
 unfolding eligible ofBits add lt le
 wide = refl
 
 -- centres that are √10 ÷ 2, √2 ÷ 2 and 1 ÷ 2 apart: the sum is taken in ascending order, where the order of the links gives another f64
 abbrev uneven : List Item
-uneven = itemOf 0 (spanOf 0 0 0 0) (spanOf 0 0 0 0) ∷ itemOf 0 (spanOf 0 0 1 3) (spanOf 0 0 1 3) ∷ itemOf 0 (spanOf 1 1 1 3) (spanOf 1 1 1 3) ∷ itemOf 0 (spanOf 1 1 2 3) (spanOf 1 1 2 3) ∷ []
+uneven = itemOf 0 (spanOf 0 0 0 0) (spanOf 0 0 0 0) ∷ itemOf 0 (spanOf 0 0 1 3) (spanOf 0 0 1 3) ∷ itemOf 0 (spanOf 1 1 1 3) (spanOf 1 1 1 3) ∷ itemOf 0
+    (spanOf 1 1 2 3) (spanOf 1 1 2 3) ∷ []
 
-ascending : chainSum uneven (record { ranks = 0 ∷ 1 ∷ 2 ∷ 3 ∷ []; links = linkOver 2 0 1 ∷ linkOver 3 1 2 ∷ linkOver 4 2 3 ∷ [] }) ≡ ofBits binary64 0x4006_4E53_B70C_FC9C
+ascending : chainSum uneven (record { ranks = 0 ∷ 1 ∷ 2 ∷ 3 ∷ []; links = linkOver 2 0 1 ∷ linkOver 3 1 2 ∷ linkOver 4 2 3 ∷ [] }) ≡ ofBits binary64
+    0x4006_4E53_B70C_FC9C
 unfolding chainSum lengthOf ofBits toBits add
 ascending = refl
 
@@ -130,7 +138,8 @@ ascending = refl
 abbrev hall : Grid
 hall = record { width = 51; height = 1; cells = map (λ i. 1) (upFrom 0 51) }
 
-exactly-384 : accepted limits000 eight hall [] (uprightAt 8 ∷ uprightAt 200 ∷ uprightAt 392 ∷ []) ≡ record { ranks = 0 ∷ 1 ∷ 2 ∷ []; links = linkOver 2 0 1 ∷ linkOver 3 1 2 ∷ [] } ∷ []
+exactly-384 : accepted limits000 eight hall []
+    (uprightAt 8 ∷ uprightAt 200 ∷ uprightAt 392 ∷ []) ≡ record { ranks = 0 ∷ 1 ∷ 2 ∷ []; links = linkOver 2 0 1 ∷ linkOver 3 1 2 ∷ [] } ∷ []
 unfolding accepted part count upFrom lengthOf ofInt ofBits toBits neg add sub mul div lt le
 exactly-384 = refl
 

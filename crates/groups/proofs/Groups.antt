@@ -101,7 +101,11 @@ module _ (n : ℕ) (ks : List LinkAt) where
   -- each rank that a link joins is in a group
   pub group-covers : (i : ℕ) → i < n → isJoined ks i ≡ true → (a : Group) × List·Memᴰ a (groupsOf n ks) × List·Memᴰ i (a .ranks)
   unfolding groupsOf begins
-  group-covers i l h = (groupAt n ks c, Memᴰ·map (groupAt n ks) (mem-keep (begins (isJoined ks) (linkEdges ks)) (mem-up 0 n c (omega arith) (omega (arith, part-le (linkEdges ks) i))) begin), ranks-iff c i .1 (l, h, refl))
+  group-covers i l h = (
+    groupAt n ks c,
+    Memᴰ·map (groupAt n ks) (mem-keep (begins (isJoined ks) (linkEdges ks)) (mem-up 0 n c (omega arith) (omega (arith, part-le (linkEdges ks) i))) begin),
+    ranks-iff c i .1 (l, h, refl),
+  )
     where
       c : ℕ
       c = part (linkEdges ks) i
@@ -119,13 +123,15 @@ module _ (n : ℕ) (ks : List LinkAt) where
       λ m.
           let p = keep-mem (λ (j : LinkAt). eqb (part (linkEdges ks) (j .first)) c) ks m in
           (p .0, ranks-iff c (k .first) .1 (inside k (p .0) .0, joined (p .0) .0, eqb-true (part (linkEdges ks) (k .first)) c (p .1))),
-      λ p. mem-keep (λ (j : LinkAt). eqb (part (linkEdges ks) (j .first)) c) (p .0) (eq-eqb (part (linkEdges ks) (k .first)) c (ranks-iff c (k .first) .0 (p .1) .2)),
+      λ p. mem-keep (λ (j : LinkAt). eqb (part (linkEdges ks) (j .first)) c) (p .0)
+          (eq-eqb (part (linkEdges ks) (k .first)) c (ranks-iff c (k .first) .0 (p .1) .2)),
     )
 
     pub group-links : {a : Group} → List·Memᴰ a (groupsOf n ks) → (k : LinkAt) → List·Memᴰ k (a .links) ↔ (List·Memᴰ k ks × List·Memᴰ (k .first) (a .ranks))
     group-links m k = let w = group-first m in rw (← w .1) (links-iff (w .0) k)
 
-    pub link-within : {a : Group} → List·Memᴰ a (groupsOf n ks) → (k : LinkAt) → List·Memᴰ k (a .links) → List·Memᴰ (k .first) (a .ranks) × List·Memᴰ (k .second) (a .ranks)
+    pub link-within : {a : Group} → List·Memᴰ a (groupsOf n ks) → (k : LinkAt) → List·Memᴰ k (a .links) → List·Memᴰ (k .first) (a .ranks)
+        × List·Memᴰ (k .second) (a .ranks)
     unfolding linkEdges
     link-within m k p =
         let w = group-links m k .0 p in

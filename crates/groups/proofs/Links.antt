@@ -49,7 +49,8 @@ module _ (dirs : List ℕ) (g : Grid) (anchors : List WalkPosition) (l : List It
   differ-iff : (i j : ℕ) → (centresDiffer l i j ≡ true) ↔ (squares (doubledCentre (endsAt l i)) (doubledCentre (endsAt l j)) ≡ 0 → ⊥)
   unfolding centresDiffer
   differ-iff i j = (
-    λ h. let e = not-true (eqb (squares (doubledCentre (endsAt l i)) (doubledCentre (endsAt l j))) 0) h in eqb-false (squares (doubledCentre (endsAt l i)) (doubledCentre (endsAt l j))) 0 e,
+    λ h. let e = not-true (eqb (squares (doubledCentre (endsAt l i)) (doubledCentre (endsAt l j))) 0) h in
+        eqb-false (squares (doubledCentre (endsAt l i)) (doubledCentre (endsAt l j))) 0 e,
     λ h. rw (ne-eqb (squares (doubledCentre (endsAt l i)) (doubledCentre (endsAt l j))) 0 h),
   )
 
@@ -58,10 +59,12 @@ module _ (dirs : List ℕ) (g : Grid) (anchors : List WalkPosition) (l : List It
   unfolding linkAt
   touching-two r e = two-members (touching dirs g l r) 0 e
 
-  two-touching : (r i j : ℕ) → i < j → ((x : ℕ) → ((x < length l) × (touches (assessAt dirs g l x) r ≡ true)) ↔ ((x ≡ i) ⊎ (x ≡ j))) → touching dirs g l r ≡ i ∷ j ∷ []
+  two-touching : (r i j : ℕ) → i < j → ((x : ℕ) → ((x < length l) × (touches (assessAt dirs g l x) r ≡ true)) ↔ ((x ≡ i) ⊎ (x ≡ j)))
+      → touching dirs g l r ≡ i ∷ j ∷ []
   two-touching r i j h f =
       pairs-ext (λ x y p q. omega arith) (touching dirs g l r) (i ∷ j ∷ []) (touching-rising r)
-      (more (λ y m. ⊎-elim (λ (e : y ≡ j). rw e h) (λ (n : List·Memᴰ y []). absurd (List·Memᴰ·not-nil n)) (List·Memᴰ·cases-cons m)) (more (λ y m. absurd (List·Memᴰ·not-nil m)) none))
+      (more (λ y m. ⊎-elim (λ (e : y ≡ j). rw e h) (λ (n : List·Memᴰ y []). absurd (List·Memᴰ·not-nil n)) (List·Memᴰ·cases-cons m))
+      (more (λ y m. absurd (List·Memᴰ·not-nil m)) none))
       (λ x. (λ m. pair-iff i j x .1 (f x .0 (touching-iff r x .0 m)), λ m. touching-iff r x .1 (f x .1 (pair-iff i j x .0 m))))
 
   gives-is : (r : ℕ) → 0 < r → r ≤ regionCount dirs g l → givesLink dirs g anchors l r ≡ true → IsLink dirs g anchors l (linkAt dirs g l r)
@@ -72,7 +75,10 @@ module _ (dirs : List ℕ) (g : Grid) (anchors : List WalkPosition) (l : List It
     free = not-true (isAnchored g (regionLabels dirs g l) anchors r) (q .0);
     rising = pairs-at 0 (touching-rising r) 0 1 (omega arith) (omega (arith, two));
     below = touching-iff r (k .second) .0 (rw e (List·Memᴰ·tail (List·Memᴰ·head refl))) .0;
-    touching = λ i. (λ p. pair-iff (k .first) (k .second) i .0 (rw e at (touching-iff r i .1 p)), λ p. touching-iff r i .0 (rw e (pair-iff (k .first) (k .second) i .1 p)));
+    touching = λ i. (
+      λ p. pair-iff (k .first) (k .second) i .0 (rw e at (touching-iff r i .1 p)),
+      λ p. touching-iff r i .0 (rw e (pair-iff (k .first) (k .second) i .1 p)),
+    );
     first-linkable = s .0;
     second-linkable = s .1;
     apart = differ-iff (k .first) (k .second) .0 (v .1);
@@ -125,7 +131,8 @@ module _ (dirs : List ℕ) (g : Grid) (anchors : List WalkPosition) (l : List It
       from : IsLink dirs g anchors l k → List·Memᴰ k (links dirs g anchors l)
       from w =
           let p = is-gives k w in
-          let m = Memᴰ·map (linkAt dirs g l) (mem-keep (givesLink dirs g anchors l) (mem-up 1 (regionCount dirs g l) (k .region) (omega (arith, w .some)) (omega (arith, w .last))) (p .1)) in
+          let m = Memᴰ·map (linkAt dirs g l)
+          (mem-keep (givesLink dirs g anchors l) (mem-up 1 (regionCount dirs g l) (k .region) (omega (arith, w .some)) (omega (arith, w .last))) (p .1)) in
           subst (λ (j : LinkAt). List·Memᴰ j (links dirs g anchors l)) (p .0) m
 
   -- one a region at most, in the order of the regions

@@ -33,7 +33,8 @@ unfolding inAny
 any-in {a = a} {i = i} m k = mem-any (λ (b : Group). has i (b .ranks)) m (mem-has i (a .ranks) k)
 
 module _ (limits : Limits) (l : List Item) where
-  pub goes-member : {gs : List Group} → Pairs Disjoint gs → {a : Group} → List·Memᴰ a gs → (i : ℕ) → List·Memᴰ i (a .ranks) → goesInto limits l gs i ≡ retained limits l (a .ranks)
+  pub goes-member : {gs : List Group} → Pairs Disjoint gs → {a : Group} → List·Memᴰ a gs → (i : ℕ) → List·Memᴰ i (a .ranks)
+      → goesInto limits l gs i ≡ retained limits l (a .ranks)
   unfolding goesInto
   goes-member (more f o) {a} (List·Memᴰ·head e) i k = let h = mem-has i (a .ranks) k in rw (← e, h)
   goes-member (more {x = b} f o) {a} (List·Memᴰ·tail m) i k =
@@ -44,7 +45,8 @@ module _ (limits : Limits) (l : List Item) where
   goes-other [] i h = refl
   goes-other (a ∷ gs) i h = go (has i (a .ranks)) h (goes-other gs i)
     where
-      go : (t : Bool) → t || any (λ (b : Group). has i (b .ranks)) gs ≡ false → (any (λ (b : Group). has i (b .ranks)) gs ≡ false → goesInto limits l gs i ≡ i) → cond t (retained limits l (a .ranks)) (goesInto limits l gs i) ≡ i
+      go : (t : Bool) → t || any (λ (b : Group). has i (b .ranks)) gs ≡ false → (any (λ (b : Group). has i (b .ranks)) gs ≡ false → goesInto limits l gs i ≡ i)
+          → cond t (retained limits l (a .ranks)) (goesInto limits l gs i) ≡ i
       go true h f = clash refl h
       go false h f = f h
 
@@ -56,7 +58,8 @@ module _ (limits : Limits) (dirs : List ℕ) (g : Grid) (anchors : List WalkPosi
   pub accepted-retained : {a : Group} → List·Memᴰ a (accepted limits dirs g anchors l) → List·Memᴰ (retained limits l (a .ranks)) (a .ranks)
   accepted-retained {a} m = retained-mem limits l (a .ranks) (some-rank m)
 
-  pub plan-member : {a : Group} → List·Memᴰ a (accepted limits dirs g anchors l) → (i : ℕ) → List·Memᴰ i (a .ranks) → mergePlan limits dirs g anchors l i ≡ retained limits l (a .ranks)
+  pub plan-member : {a : Group} → List·Memᴰ a (accepted limits dirs g anchors l) → (i : ℕ) → List·Memᴰ i (a .ranks)
+      → mergePlan limits dirs g anchors l i ≡ retained limits l (a .ranks)
   unfolding mergePlan
   plan-member m i k = goes-member limits l (groups-disjoint limits dirs g anchors l) m i k
 

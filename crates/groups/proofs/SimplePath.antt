@@ -47,7 +47,8 @@ module _ (limits : Limits) (dirs : List ℕ) (g : Grid) (l : List Item) (least :
             most = leb-true ranks (limits .mostSpans) (s .1);
             one-fewer = eqb-true (suc (length (a .links))) ranks (v .0);
             two-ends = eqb-true (length (endsOf a)) 2 (v .1);
-            degrees = λ i m. let d = and-parts (leb 1 (degree a i)) (leb (degree a i) 2) (every-mem regular m (u .1)) in (leb-true 1 (degree a i) (d .0), leb-true (degree a i) 2 (d .1));
+            degrees = λ i m. let d = and-parts (leb 1 (degree a i)) (leb (degree a i) 2) (every-mem regular m (u .1)) in
+                (leb-true 1 (degree a i) (d .0), leb-true (degree a i) 2 (d .1));
             outer = eqb-false one other (not-true (eqb one other) (p .1));
           }
 

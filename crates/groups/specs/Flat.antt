@@ -46,7 +46,8 @@ module _ (limits : Limits) (dirs : List ℕ) (g : Grid) (anchors : List WalkPosi
 
   unfoldable pub isFlatLink : LinkAt → Bool
   unfolding staysInside isFlat serialGroups inAny nearbyParallel
-  isFlatLink k = (staysInside limits dirs g l k && isFlat dirs g l (k .region)) && ((isLeft (k .first) && isLeft (k .second)) && alike limits l (k .first) (k .second))
+  isFlatLink k = (staysInside limits dirs g l k && isFlat dirs g l (k .region))
+      && ((isLeft (k .first) && isLeft (k .second)) && alike limits l (k .first) (k .second))
 
   unfoldable pub flatLinks : List LinkAt
   unfolding isFlatLink links keep

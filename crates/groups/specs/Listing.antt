@@ -14,7 +14,10 @@ abbrev pub noSpan : Span
 noSpan = record { a = noPosition; b = noPosition }
 
 abbrev pub noItem : Item
-noItem = record { boundary = record { ends = noSpan; bits = 0; ramp = record { end = 0; lower = 0; upper = 0; id = 0 }; sources = []; observations = [] }; span = noSpan }
+noItem = record {
+  boundary = record { ends = noSpan; bits = 0; ramp = record { end = 0; lower = 0; upper = 0; id = 0 }; sources = []; observations = [] };
+  span = noSpan;
+}
 
 module _ (l : List Item) where
   -- the spans, by rank

@@ -1,4 +1,5 @@
--- The links of the map, measured by the cells of their regions. Document 01: "The measured link is empty, or within, or beyond, the last two carrying both envelopes."
+-- The links of the map, measured by the cells of their regions. Document 01: "The measured link is empty, or within, or beyond, the last two carrying
+-- both envelopes."
 use mathlib.Core.Bool.{Bool}
 use mathlib.Core.List.{List}
 use Prim.Native.Nat.{ℕ}

@@ -36,10 +36,12 @@ all-refuse s r e = record {
 }
 
 -- The checks of widths before k find nothing.
-widths-clear : (s : List ℕ) (c : Counts) (k : ℕ) → ((i : ℕ) → i < k → widthFault (bitsAt s c i) ≡ false) → firstRefusal (each k (widthCheck s (boundariesStart c))) ≡ none
+widths-clear : (s : List ℕ) (c : Counts) (k : ℕ) → ((i : ℕ) → i < k → widthFault (bitsAt s c i) ≡ false)
+    → firstRefusal (each k (widthCheck s (boundariesStart c))) ≡ none
 unfolding each firstRefusal widthCheck
 widths-clear s c zero h = refl
-widths-clear s c (suc k) h = append-none (each k (widthCheck s (boundariesStart c))) (widthCheck s (boundariesStart c) k) (widths-clear s c k (λ i l. h i (omega arith))) ∙ clear 10 k (h k (omega arith))
+widths-clear s c (suc k) h = append-none (each k (widthCheck s (boundariesStart c))) (widthCheck s (boundariesStart c) k)
+    (widths-clear s c k (λ i l. h i (omega arith))) ∙ clear 10 k (h k (omega arith))
 
 width-found : (s : List ℕ) (c : Counts) (k : ℕ) → k < c .boundaries → ((i : ℕ) → i < k → widthFault (bitsAt s c i) ≡ false) → widthFault (bitsAt s c k) ≡ true
     → firstRefusal (each (c .boundaries) (widthCheck s (boundariesStart c))) ≡ some (record { number = 10; detail = k })
@@ -47,19 +49,22 @@ unfolding widthCheck
 width-found s c k l h e = each-found (widthCheck s (boundariesStart c)) k (c .boundaries) _ l (widths-clear s c k h) (stop 10 k [] e)
 
 -- 9 is passed before 10 is tested.
-after-ramps : (s : List ℕ) (c : Counts) → firstRefusal (upToRamps s c) ≡ none → firstRefusal (recordChecks s c) ≡ firstRefusal (each (c .boundaries) (widthCheck s (boundariesStart c)))
+after-ramps : (s : List ℕ) (c : Counts) → firstRefusal (upToRamps s c) ≡ none
+    → firstRefusal (recordChecks s c) ≡ firstRefusal (each (c .boundaries) (widthCheck s (boundariesStart c)))
 unfolding recordChecks
 after-ramps s c e =
     let cells = each (cellCount c) (cellCheck s) in
     let bases = each (c .bases) (baseCheck s (c .width) (c .height) (basesStart c)) in
     let r1 = none-right cells _ e in
     let r2 = none-head (sumsFault s c) 8 0 _ (none-right bases _ r1) in
-    append-none cells _ (none-left cells _ e) ∙ append-none bases _ (none-left bases _ r1) ∙ skip 8 0 _ (r2 .0) ∙ append-none (each (c .boundaries) (rampCheck s (boundariesStart c))) _ (r2 .1)
+    append-none cells _ (none-left cells _ e) ∙ append-none bases _ (none-left bases _ r1) ∙ skip 8 0 _ (r2 .0)
+    ∙ append-none (each (c .boundaries) (rampCheck s (boundariesStart c))) _ (r2 .1)
 
 negative-zero : (b : ℕ) → b ≡ 0x8000_0000_0000_0000 → widthFault b ≡ true
 negative-zero b e = lt-ltb maxWidthBits b (omega arith)
 
-nine : (s : List ℕ) (k : ℕ) → FirstWidth s k → bitsAt s (headerAt s .counts) k ≡ 0x8000_0000_0000_0000 → firstRefusal (jobChecks s) ≡ some (record { number = 10; detail = k })
+nine : (s : List ℕ) (k : ℕ) → FirstWidth s k → bitsAt s (headerAt s .counts) k ≡ 0x8000_0000_0000_0000
+    → firstRefusal (jobChecks s) ≡ some (record { number = 10; detail = k })
 unfolding jobChecks
 nine s k w e =
     append-none (layoutChecks s) _ (w .laid)

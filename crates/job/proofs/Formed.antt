@@ -37,12 +37,14 @@ zero-byte r e =
 
 -- What checks 8 and 9 leave.
 module _ (s : List ℕ) (c : Counts) (e : firstRefusal (recordChecks s c) ≡ none) where
-  after-bases : firstRefusal (check (sumsFault s c) 8 0 ∷ (each (c .boundaries) (rampCheck s (boundariesStart c)) ++ each (c .boundaries) (widthCheck s (boundariesStart c)))) ≡ none
+  after-bases : firstRefusal
+      (check (sumsFault s c) 8 0 ∷ (each (c .boundaries) (rampCheck s (boundariesStart c)) ++ each (c .boundaries) (widthCheck s (boundariesStart c)))) ≡ none
   unfolding recordChecks
   after-bases = none-right (each (c .bases) (baseCheck s (c .width) (c .height) (basesStart c))) _ (none-right (each (cellCount c) (cellCheck s)) _ e)
 
   sums-right : (observationTotal (boundaryRecords s (boundariesStart c) (c .boundaries)) ≡ c .observations)
-      × (ownTotal (boundaryRecords s (boundariesStart c) (c .boundaries)) + sourceCount (observationRecords s (observationsStart c) (c .observations)) ≡ c .sources)
+      × (ownTotal (boundaryRecords s (boundariesStart c) (c .boundaries)) + sourceCount
+      (observationRecords s (observationsStart c) (c .observations)) ≡ c .sources)
   unfolding sumsFault
   sums-right =
       let a = none-head (sumsFault s c) 8 0 _ after-bases in
@@ -80,17 +82,26 @@ module _ (s : List ℕ) (e : firstRefusal (jobChecks s) ≡ none) where
   field-prefix : {A : Type 0} (g : A → ℕ) (f : ℕ → A) (k n : ℕ) → k ≤ n → sum (map g (rows k f)) ≤ sum (map g (rows n f))
   field-prefix g f k n h = rw (map-rows g k f, map-rows g n f) (sum-prefix k n (λ i. g (f i)) h)
 
-  pub observations-before : (k : ℕ) → k ≤ countsAt s 0 .boundaries → observationTotal (boundaryRecords s (boundariesStart (countsAt s 0)) k) ≤ countsAt s 0 .observations
+  pub observations-before : (k : ℕ) → k ≤ countsAt s 0 .boundaries
+      → observationTotal (boundaryRecords s (boundariesStart (countsAt s 0)) k) ≤ countsAt s 0 .observations
   unfolding boundaryRecords
-  observations-before k h = omega (arith, job-formed s e .observations, field-prefix (λ (b : BoundaryRecord). b .observations) (λ i. boundaryAt s (boundariesStart (countsAt s 0) + i * boundarySize)) k (countsAt s 0 .boundaries) h)
+  observations-before k h = omega (
+    arith,
+    job-formed s e .observations,
+    field-prefix (λ (b : BoundaryRecord). b .observations) (λ i. boundaryAt s (boundariesStart (countsAt s 0) + i * boundarySize)) k
+        (countsAt s 0 .boundaries) h,
+  )
 
   pub sources-before : (k m : ℕ) → k ≤ countsAt s 0 .boundaries → m ≤ countsAt s 0 .observations
-      → ownTotal (boundaryRecords s (boundariesStart (countsAt s 0)) k) + sourceCount (observationRecords s (observationsStart (countsAt s 0)) m) ≤ countsAt s 0 .sources
+      → ownTotal (boundaryRecords s (boundariesStart (countsAt s 0)) k) + sourceCount (observationRecords s (observationsStart (countsAt s 0)) m) ≤ countsAt s
+      0 .sources
   unfolding boundaryRecords observationRecords sourceCount
   sources-before k m h l =
       omega (
         arith,
         job-formed s e .sources,
-        field-prefix (λ (b : BoundaryRecord). b .sources) (λ i. boundaryAt s (boundariesStart (countsAt s 0) + i * boundarySize)) k (countsAt s 0 .boundaries) h,
-        field-prefix (λ (o : ObservationRecord). o .sources) (λ i. observationAt s (observationsStart (countsAt s 0) + i * observationSize)) m (countsAt s 0 .observations) l,
+        field-prefix (λ (b : BoundaryRecord). b .sources) (λ i. boundaryAt s (boundariesStart (countsAt s 0) + i * boundarySize)) k (countsAt s 0 .boundaries)
+            h,
+        field-prefix (λ (o : ObservationRecord). o .sources) (λ i. observationAt s (observationsStart (countsAt s 0) + i * observationSize)) m
+            (countsAt s 0 .observations) l,
       )

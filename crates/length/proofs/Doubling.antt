@@ -50,4 +50,5 @@ module _ (r q : ℕ) (low : 2 ^ 26 ≤ r) (high : r < 2 ^ 27) (small : q ≤ 2 *
   pub one-less : left * 0x800_0000 < half * half
       → Doubled r q (r * 0x800_0000 + half - 1) (left * 0x800_0000 + ((r * 0x800_0000 + half) * 2 - 1) - half * half)
   one-less h =
-      lowered (r * 0x800_0000 + half - 1) (left * 0x800_0000 + ((r * 0x800_0000 + half) * 2 - 1) - half * half) h (omega (arith, some h)) (omega (arith, square-most, some h))
+      lowered (r * 0x800_0000 + half - 1) (left * 0x800_0000 + ((r * 0x800_0000 + half) * 2 - 1) - half * half) h (omega (arith, some h))
+      (omega (arith, square-most, some h))

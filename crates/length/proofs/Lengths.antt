@@ -39,7 +39,8 @@ module _ (d r q R Q p : ℕ) (h : Rooted d r q) (H : Rooted (d * (p * p)) R Q) (
       root-lt {a = R} {b = t * p} (omega (arith, mul-lt-mul-of-pos-right high (mul-pos P P), H .sum))
 
 -- half a root of 54 digits
-rounded : (d k R Q : ℕ) → Rooted (d * (2 ^ suc k * 2 ^ suc k)) R Q → 2 ^ 53 ≤ R → R < 2 ^ 54 → k ≤ 52 → NearestLength d (round binary64 false (halved R) (2 ^ suc k))
+rounded : (d k R Q : ℕ) → Rooted (d * (2 ^ suc k * 2 ^ suc k)) R Q → 2 ^ 53 ≤ R → R < 2 ^ 54 → k ≤ 52
+    → NearestLength d (round binary64 false (halved R) (2 ^ suc k))
 rounded d k R Q h lo hi K =
     nearest d R Q k (halved R) (round binary64 false (halved R) (2 ^ suc k)) (h .sum) (h .small) lo
     (exact (halved R) (suc k) (omega arith) (omega arith)) (round-fits binary64 false (halved R) (2 ^ suc k)) (omega arith) (omega arith)
@@ -64,7 +65,8 @@ module _ (d s : ℕ) (D : d ≤ 2 ^ 29) (is : size (wholeRoot d) ≡ suc s) wher
       let r = wholeRoot d in
       let a : 2 ^ s ≤ r = size-reaches r s (omega arith) in
       let b : r < 2 ^ suc s = subst (λ (z : ℕ). r < 2 ^ z) is (size-lt r) in
-      let lo : 2 ^ s * p ≤ wholeRoot n = le-trans (mul-le-mul-right p a) (at-least d r (restOf d) (wholeRoot n) (restOf n) p (root-is d) (root-is n) (pow-pos (suc k))) in
+      let lo : 2 ^ s * p ≤ wholeRoot n =
+      le-trans (mul-le-mul-right p a) (at-least d r (restOf d) (wholeRoot n) (restOf n) p (root-is d) (root-is n) (pow-pos (suc k))) in
       let hi : wholeRoot n < 2 ^ suc s * p = under d r (restOf d) (wholeRoot n) (restOf n) p (root-is d) (root-is n) (pow-pos (suc k)) (2 ^ suc s) b in
       subst (λ (z : ℕ). NearestLength d (round binary64 false (halved (wholeRoot (d * z))) p)) (sym (twice-power (suc k)))
       (rounded d k (wholeRoot n) (restOf n) (root-is n) (subst (λ (z : ℕ). z ≤ wholeRoot n) low lo) (subst (λ (z : ℕ). wholeRoot n < z) high hi) (omega arith))

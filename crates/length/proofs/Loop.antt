@@ -86,7 +86,8 @@ module _ (d R Q p M : ℕ) (g : Going d R Q p) (l : 2 ^ 53 ≤ R) (m : R ≤ 2 *
       go zero e f = absurd (omega (arith, le-square R, g .sum, ap (λ (z : ℕ). d * (z * z)) e))
       go (suc k) e f =
           let q = quotient M p (suc k) e f (half .0) (half .1) in
-          nearest d R Q k M (div binary64 (ofInt binary64 (pos M)) (ofInt binary64 (pos p))) (g .sum ∙ ap (λ (z : ℕ). d * (z * z)) e) (g .small) l (q .0) (q .1) m n
+          nearest d R Q k M (div binary64 (ofInt binary64 (pos M)) (ofInt binary64 (pos p))) (g .sum ∙ ap (λ (z : ℕ). d * (z * z)) e) (g .small) l (q .0) (q .1)
+          m n
 
 pub power-casts : (d R Q p : ℕ) → Going d R Q p → T (inFloat binary64 (pos p))
 power-casts d R Q p g = small-casts p (subst (λ (z : ℕ). z ≤ 2 ^ 53) (sym (g .power)) (pow-mono (few d R Q p g)))

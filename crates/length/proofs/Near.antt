@@ -67,7 +67,8 @@ at-least y M k p m l = go (decLe (suc M * den y) (num y * 2 ^ k))
     go (no f) = absurd (gap y M k p m l (lt-of-not-le f))
 
 -- x is M / p with p = 2 ^ (k + 1), and R the root of d * p * p; p is even
-module _ (d R Q k M : ℕ) (x : Float) (sum : R * R + Q ≡ d * (2 ^ suc k * 2 ^ suc k)) (small : Q ≤ 2 * R) (big : 2 ^ 53 ≤ R) (value : HasValue x false M (2 ^ suc k)) (held : T (fits binary64 x)) where
+module _ (d R Q k M : ℕ) (x : Float) (sum : R * R + Q ≡ d * (2 ^ suc k * 2 ^ suc k)) (small : Q ≤ 2 * R) (big : 2 ^ 53 ≤ R)
+    (value : HasValue x false M (2 ^ suc k)) (held : T (fits binary64 x)) where
   -- x + y in units of 1 / p, times y's denominator
   abbrev both : Float → ℕ
   both y = M * den y + num y * 2 ^ suc k
@@ -88,7 +89,8 @@ module _ (d R Q k M : ℕ) (x : Float) (sum : R * R + Q ≡ d * (2 ^ suc k * 2 ^
   below-odd : (g : ℕ) → M ≡ suc g → R ≡ 2 * g + 1 → Below
   below-odd g m e y p l =
       let n : num y * 2 ^ suc k ≤ g * den y = at-most y g (suc k) p (omega arith) (subst (λ (z : ℕ). num y * 2 ^ suc k < z * den y) m l) in
-      under-odd (both y) (den y) R Q (den-pos y) (rest d R Q (2 ^ suc k) g sum e (2 ^ k) (pow-succ' 2 k)) (omega (arith, ap (λ (z : ℕ). z * den y) e, ap (λ (z : ℕ). z * den y) m))
+      under-odd (both y) (den y) R Q (den-pos y) (rest d R Q (2 ^ suc k) g sum e (2 ^ k) (pow-succ' 2 k))
+      (omega (arith, ap (λ (z : ℕ). z * den y) e, ap (λ (z : ℕ). z * den y) m))
 
   above-odd : (g : ℕ) → M ≡ suc g → R ≡ 2 * g + 1 → Above
   above-odd g m e y p l = over (both y) (den y) R Q (den-pos y) small (omega (arith, ap (λ (z : ℕ). z * den y) e, ap (λ (z : ℕ). z * den y) m))

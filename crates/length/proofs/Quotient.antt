@@ -64,12 +64,14 @@ exact a k K A = go (eq-or-lt-of-le A)
     go (inr l) = exact-below a k K l
 
 pub quotient : (a p k : ℕ) → p ≡ 2 ^ k → k ≤ 53 → 0 < a → a ≤ 2 ^ 53
-    → HasValue (div binary64 (ofInt binary64 (pos a)) (ofInt binary64 (pos p))) false a (2 ^ k) × T (fits binary64 (div binary64 (ofInt binary64 (pos a)) (ofInt binary64 (pos p))))
+    → HasValue (div binary64 (ofInt binary64 (pos a)) (ofInt binary64 (pos p))) false a (2 ^ k)
+    × T (fits binary64 (div binary64 (ofInt binary64 (pos a)) (ofInt binary64 (pos p))))
 unfolding ofInt
 quotient a p k e K P A =
     let x = ofInt binary64 (pos a) in
     let y = ofInt binary64 (pos p) in
     let small : p ≤ 2 ^ 53 = subst (λ (z : ℕ). z ≤ 2 ^ 53) (sym e) (pow-mono K) in
     let above : 0 < p = subst (λ (z : ℕ). 0 < z) (sym e) (pow-pos k) in
-    let is : div binary64 x y ≡ round binary64 false a (2 ^ k) = div-whole binary64 x y a p P above (round-whole binary64 false a A) (round-whole binary64 false p small) ∙ ap (λ (z : ℕ). round binary64 false a z) e in
+    let is : div binary64 x y ≡ round binary64 false a (2 ^ k) =
+    div-whole binary64 x y a p P above (round-whole binary64 false a A) (round-whole binary64 false p small) ∙ ap (λ (z : ℕ). round binary64 false a z) e in
     (subst (λ (z : Float). HasValue z false a (2 ^ k)) (sym is) (exact a k (omega arith) A), div-fits binary64 x y)

@@ -2,7 +2,8 @@
 use mathlib.Core.Path.{_≡_, refl, sym, ap, _∙_}
 use Prim.Native.Nat.{ℕ, zero, suc, _+_, _*_, _≤_, _<_, zero-le}
 use native.Mathlib.Omega.{arith}
-use native.Mathlib.Nat.{le-of-lt, lt-of-le-of-lt, mul-le-mul-left, mul-le-mul, mul-le-mul-right, mul-lt-mul-of-pos-right, mul-pos, pos-of-ne-zero, lt-of-mul-lt-mul-right, mul-mul-mul-comm, mul-assoc, mul-comm, mul-left-comm, lt-of-not-le, not-le-of-lt}
+use native.Mathlib.Nat.{le-of-lt, lt-of-le-of-lt, mul-le-mul-left, mul-le-mul, mul-le-mul-right, mul-lt-mul-of-pos-right, mul-pos, pos-of-ne-zero}
+use native.Mathlib.Nat.{lt-of-mul-lt-mul-right, mul-mul-mul-comm, mul-assoc, mul-comm, mul-left-comm, lt-of-not-le, not-le-of-lt}
 
 -- a number is at most its square
 pub le-square : (r : ℕ) → r ≤ r * r
@@ -56,7 +57,8 @@ module _ (a b c e p M : ℕ) (B : 0 < b) (P : 0 < p) (h : a * p ≡ M * b) where
   scaled = omega (arith, ap (λ (z : ℕ). z * e) h)
 
   scaled-square : (a * e + c * b) * (a * e + c * b) * (p * p) ≡ (M * e + c * p) * (M * e + c * p) * (b * b)
-  scaled-square = mul-mul-mul-comm (a * e + c * b) (a * e + c * b) p p ∙ ap (λ (z : ℕ). z * z) scaled ∙ sym (mul-mul-mul-comm (M * e + c * p) (M * e + c * p) b b)
+  scaled-square = mul-mul-mul-comm (a * e + c * b) (a * e + c * b) p p ∙ ap (λ (z : ℕ). z * z) scaled
+      ∙ sym (mul-mul-mul-comm (M * e + c * p) (M * e + c * p) b b)
 
   number : (d N : ℕ) → N ≡ d * (p * p) → d * (b * e * (b * e)) * (p * p) ≡ N * (e * e) * (b * b)
   number d N n = simp (mul-assoc, mul-comm, mul-left-comm) (simp (mul-assoc, mul-comm, mul-left-comm) at (ap (λ (z : ℕ). z * (b * b * (e * e))) (sym n)))

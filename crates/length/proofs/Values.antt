@@ -33,7 +33,8 @@ digits s zero e h = pow-pos 53
 digits s (suc m) e h = ltb→lt (suc m) (2 ^ 53) (and-r (eqb (suc m % 2) 1) (ltb (suc m) (2 ^ 53)) (odd-few s m e h))
 
 -- the bit pattern of a plain f64 depends on the number alone
-bits : (x : Float) → T (plain x) → toBits binary64 x ≡ 0 + (size (num x * 2 ^ 1074 / den x) - 53) * hid binary64 + num x * 2 ^ 1074 / den x / 2 ^ (size (num x * 2 ^ 1074 / den x) - 53)
+bits : (x : Float) → T (plain x)
+    → toBits binary64 x ≡ 0 + (size (num x * 2 ^ 1074 / den x) - 53) * hid binary64 + num x * 2 ^ 1074 / den x / 2 ^ (size (num x * 2 ^ 1074 / den x) - 53)
 unfolding toBits
 bits nan p = absurd p
 bits (inf s) p = absurd p

@@ -1,4 +1,5 @@
--- The operations on f64s, each rounded once, and those that Rust has as methods. Document 01: "Float operations are each rounded once, in the order the Rust writes them."
+-- The operations on f64s, each rounded once, and those that Rust has as methods. Document 01: "Float operations are each rounded once, in the order
+-- the Rust writes them."
 use mathlib.Core.Bool.{cond}
 use Prim.Native.Nat.{ℕ}
 use lib.IntN.{pos}

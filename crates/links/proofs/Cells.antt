@@ -30,10 +30,12 @@ and-true false = refl
 
 module _ (limits : Limits) (k : Link) (columns : ℕ) where
   -- one cell more, at the end
-  pub inside-last : (cs : List ℕ) (c : ℕ) → insideFlat limits k columns (cs ++ (c ∷ [])) ≡ (insideFlat limits k columns cs && insideBoth limits k (cellCentre columns c))
+  pub inside-last : (cs : List ℕ) (c : ℕ)
+      → insideFlat limits k columns (cs ++ (c ∷ [])) ≡ (insideFlat limits k columns cs && insideBoth limits k (cellCentre columns c))
   unfolding insideFlat
   inside-last [] c = and-true (insideBoth limits k (cellCentre columns c))
-  inside-last (d ∷ ds) c = ap (λ p. insideBoth limits k (cellCentre columns d) && p) (inside-last ds c) ∙ and-assoc (insideBoth limits k (cellCentre columns d)) (insideFlat limits k columns ds) (insideBoth limits k (cellCentre columns c))
+  inside-last (d ∷ ds) c = ap (λ p. insideBoth limits k (cellCentre columns d) && p) (inside-last ds c)
+      ∙ and-assoc (insideBoth limits k (cellCentre columns d)) (insideFlat limits k columns ds) (insideBoth limits k (cellCentre columns c))
 
   some-last : (cs : List ℕ) (c : ℕ) → someCell (cs ++ (c ∷ [])) ≡ true
   some-last [] c = refl
@@ -43,7 +45,8 @@ module _ (limits : Limits) (k : Link) (columns : ℕ) where
   unfolding linkAfter extremes insideFlat widenedBy
   after-none = refl
 
-  pub after-next : (cs : List ℕ) (c : ℕ) → withCell limits (linkAfter limits k columns cs) (c % columns) (c / columns) ≡ linkAfter limits k columns (cs ++ (c ∷ []))
+  pub after-next : (cs : List ℕ) (c : ℕ)
+      → withCell limits (linkAfter limits k columns cs) (c % columns) (c / columns) ≡ linkAfter limits k columns (cs ++ (c ∷ []))
   unfolding withCell linkAfter extremes
   after-next cs c =
       simp (bounds-last (placed k (k .unit) columns) cs c, bounds-last (placed k (k .normal) columns) cs c, inside-last cs c, some-last cs c)

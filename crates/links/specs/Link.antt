@@ -1,4 +1,5 @@
--- A link of two boundaries: 000's `Link`, as `candidate_links` fills it. Document 01: "Link keeps directions, centres and running extremes as single f64 fields";
+-- A link of two boundaries: 000's `Link`, as `candidate_links` fills it. Document 01: "Link keeps directions, centres and running extremes as single
+-- f64 fields";
 -- the extremes are Measure.antt's.
 use mathlib.Core.Bool.{true, false}
 use mathlib.Core.List.{List, [], _∷_}

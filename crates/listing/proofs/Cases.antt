@@ -11,21 +11,27 @@ use Rattle.format.specs.Values.{Boundary}
 use Rattle.format.specs.Encode.{observationsOf, sourcesOf, answerWords, encodeAnswer}
 use Rattle.format.specs.Fits.{AnswerFits}
 use Rattle.format.specs.Records.{positionAt, spanAt, sourceAt, rampAt, boundaryAt, observationAt}
-use Rattle.format.specs.Decode.{boundaryRecords, observationRecords, sourceRecords, observationsWith, boundaryWith, boundariesWith, sourceCount, decodeBoundaries, decodeAnswer, rampOf}
+use Rattle.format.specs.Decode.{boundaryRecords, observationRecords, sourceRecords, observationsWith, boundaryWith, boundariesWith, sourceCount}
+use Rattle.format.specs.Decode.{decodeBoundaries, decodeAnswer, rampOf}
 use Rattle.format.proofs.AnswerTrip.{length-encodeAnswer, answer-words, decodeAnswer-encodeAnswer}
 use Rattle.listing.specs.Digits.{glyph, lastDigits, placesFrom, places, digits, hexDigits}
-use Rattle.listing.specs.Lines.{fieldText, bitsText, endsText, rampText, sourceLine, sourceLines, observationFields, observationLine, observationText, observationTexts, boundaryFields, boundaryLine, boundaryText, boundaryTexts, keptLine, listingOf}
+use Rattle.listing.specs.Lines.{fieldText, bitsText, endsText, rampText, sourceLine, sourceLines, observationFields, observationLine, observationText}
+use Rattle.listing.specs.Lines.{observationTexts, boundaryFields, boundaryLine, boundaryText, boundaryTexts, keptLine, listingOf}
 use Rattle.listing.specs.Answer.{answerLength, whole, listing}
 use Rattle.listing.specs.Corridor.{corridorBytes, corridorText}
 use Rattle.listing.proofs.Sizing.{is-whole}
 
 -- "Here it prints": the corridor's answer, in a slice of three times its length.
 pub corridor-listing : listing corridorBytes 456 ≡ corridorText
-unfolding listing whole corridorBytes corridorText words decodeAnswer decodeBoundaries boundariesWith boundaryWith observationsWith sourceCount boundaryRecords observationRecords sourceRecords rampOf positionAt spanAt sourceAt rampAt boundaryAt observationAt numberAt part number bytes rows sum flatMap glyph lastDigits placesFrom places digits hexDigits fieldText bitsText endsText rampText sourceLine sourceLines observationFields observationLine observationText observationTexts boundaryFields boundaryLine boundaryText boundaryTexts keptLine listingOf
+unfolding listing whole corridorBytes corridorText words decodeAnswer decodeBoundaries boundariesWith boundaryWith observationsWith sourceCount boundaryRecords
+    observationRecords sourceRecords rampOf positionAt spanAt sourceAt rampAt boundaryAt observationAt numberAt part number bytes rows sum flatMap glyph
+    lastDigits placesFrom places digits hexDigits fieldText bitsText endsText rampText sourceLine sourceLines observationFields observationLine observationText
+    observationTexts boundaryFields boundaryLine boundaryText boundaryTexts keptLine listingOf
 corridor-listing = refl
 
 module _ (bs : List Boundary) (f : AnswerFits bs) where
-  word : (k : ℕ) → getD (rows 6 (λ i. u32At (encodeAnswer bs) (i * 4))) k 0 ≡ getD (answerWords (length bs) (length (observationsOf bs)) (length (sourcesOf bs))) k 0
+  word : (k : ℕ) → getD (rows 6 (λ i. u32At (encodeAnswer bs) (i * 4))) k 0 ≡ getD
+      (answerWords (length bs) (length (observationsOf bs)) (length (sourcesOf bs))) k 0
   word k = ap (λ (l : List ℕ). getD l k 0) (answer-words bs f)
 
   same-length : answerLength (encodeAnswer bs) ≡ length (encodeAnswer bs)
@@ -36,5 +42,6 @@ module _ (bs : List Boundary) (f : AnswerFits bs) where
   pub listing-encoded : (out : List ℕ) → length (encodeAnswer bs) * 3 ≤ length out → listing (encodeAnswer bs) (length out) ≡ listingOf bs
   unfolding listing
   listing-encoded out h =
-      ap (λ (b : Bool). cond b (listingOf (decodeAnswer (encodeAnswer bs))) []) (is-whole (encodeAnswer bs) out (omega (arith, same-length)) (omega (arith, same-length, h)))
+      ap (λ (b : Bool). cond b (listingOf (decodeAnswer (encodeAnswer bs))) [])
+      (is-whole (encodeAnswer bs) out (omega (arith, same-length)) (omega (arith, same-length, h)))
       ∙ ap listingOf (decodeAnswer-encodeAnswer bs f)

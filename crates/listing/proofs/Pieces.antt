@@ -10,7 +10,8 @@ use Rattle.format.specs.Decode.{rampOf}
 use Rattle.format.specs.declared.records.RampRecord.{RampRecord}
 use Rattle.format.specs.declared.records.Source.{Source}
 use Rattle.listing.specs.Digits.{digits, hexDigits}
-use Rattle.listing.specs.Lines.{space, newline, fieldText, bitsText, endsText, rampText, sourceLine, observationFields, boundaryFields, keptLine, refusedLine}
+use Rattle.listing.specs.Lines.{space, newline, fieldText, bitsText, endsText, rampText, sourceLine, observationFields, boundaryFields, keptLine}
+use Rattle.listing.specs.Lines.{refusedLine}
 use Rattle.listing.specs.Answer.{Room}
 use Rattle.listing.proofs.Writing.{Left, start}
 use Rattle.listing.proofs.Spelling.{places-most, length-digits, length-hexDigits}
@@ -24,15 +25,19 @@ module _ (out : List ℕ) (at : ℕ) where
   unfolding bitsText
   bits-start v h = start _ (ap (λ (t : List ℕ). space ∷ t) (append-nil (hexDigits v))) h
 
-  pub ends-start : (e : Span) → Room (endsText e) out at → Left (endsText e) out at (fieldText (e .a .x) ∷ fieldText (e .a .y) ∷ fieldText (e .b .x) ∷ fieldText (e .b .y) ∷ []) out at
+  pub ends-start : (e : Span) → Room (endsText e) out at
+      → Left (endsText e) out at (fieldText (e .a .x) ∷ fieldText (e .a .y) ∷ fieldText (e .b .x) ∷ fieldText (e .b .y) ∷ []) out at
   unfolding endsText
-  ends-start e h = start _ (ap (λ (t : List ℕ). fieldText (e .a .x) ++ (fieldText (e .a .y) ++ (fieldText (e .b .x) ++ t))) (append-nil (fieldText (e .b .y)))) h
+  ends-start e h = start _ (ap (λ (t : List ℕ). fieldText (e .a .x) ++ (fieldText (e .a .y) ++ (fieldText (e .b .x) ++ t))) (append-nil (fieldText (e .b .y))))
+      h
 
-  pub ramp-start : (r : RampRecord) → Room (rampText (rampOf r)) out at → Left (rampText (rampOf r)) out at (fieldText (r .end) ∷ fieldText (r .lower) ∷ fieldText (r .upper) ∷ fieldText (r .id) ∷ []) out at
+  pub ramp-start : (r : RampRecord) → Room (rampText (rampOf r)) out at
+      → Left (rampText (rampOf r)) out at (fieldText (r .end) ∷ fieldText (r .lower) ∷ fieldText (r .upper) ∷ fieldText (r .id) ∷ []) out at
   unfolding rampText rampOf
   ramp-start r h = start _ (ap (λ (t : List ℕ). fieldText (r .end) ++ (fieldText (r .lower) ++ (fieldText (r .upper) ++ t))) (append-nil (fieldText (r .id)))) h
 
-  pub source-start : (s : Source) → Room (sourceLine s) out at → Left (sourceLine s) out at ((115 ∷ []) ∷ fieldText (s .from) ∷ fieldText (s .to) ∷ newline ∷ []) out at
+  pub source-start : (s : Source) → Room (sourceLine s) out at
+      → Left (sourceLine s) out at ((115 ∷ []) ∷ fieldText (s .from) ∷ fieldText (s .to) ∷ newline ∷ []) out at
   unfolding sourceLine
   source-start s h = start _ refl h
 

@@ -16,13 +16,15 @@ use Rattle.wire.proofs.Parts.{splice-none}
 use Rattle.format.specs.Values.{Ramp, Boundary}
 use Rattle.format.specs.Fits.{SourceFits, SpanFits, RampFits, ObservationFits, BoundaryFits}
 use Rattle.format.specs.Records.{boundaryAt, observationAt, sourceAt}
-use Rattle.format.specs.Decode.{boundaryRecords, observationRecords, sourceRecords, observationsWith, boundaryWith, boundariesWith, sourceCount, decodeBoundaries, decodeAnswer}
+use Rattle.format.specs.Decode.{boundaryRecords, observationRecords, sourceRecords, observationsWith, boundaryWith, boundariesWith, sourceCount}
+use Rattle.format.specs.Decode.{decodeBoundaries, decodeAnswer}
 use Rattle.format.specs.declared.records.BoundaryRecord.{BoundaryRecord}
 use Rattle.format.specs.declared.records.ObservationRecord.{ObservationRecord}
 use Rattle.format.specs.declared.records.Source.{Source}
 use Rattle.format.proofs.Distribution.{length-observationsWith, length-boundariesWith}
 use Rattle.format.proofs.BoundaryTrips.{decoded-within}
-use Rattle.listing.specs.Lines.{newline, fieldText, bitsText, endsText, rampText, sourceLine, sourceLines, observationFields, observationLine, observationText, observationTexts, boundaryFields, boundaryLine, boundaryText, boundaryTexts, keptLine, listingOf}
+use Rattle.listing.specs.Lines.{newline, fieldText, bitsText, endsText, rampText, sourceLine, sourceLines, observationFields, observationLine}
+use Rattle.listing.specs.Lines.{observationText, observationTexts, boundaryFields, boundaryLine, boundaryText, boundaryTexts, keptLine, listingOf}
 use Rattle.listing.specs.Answer.{Writes, answerLength, whole, listing}
 use Rattle.listing.proofs.Writing.{Left, start}
 use Rattle.listing.proofs.Pieces.{word-length, byte-length, length-bits}
@@ -57,7 +59,13 @@ ramp-most r f =
 
 source-most : (s : Source) → SourceFits s → length (sourceLine s) ≤ 24
 unfolding sourceLine
-source-most s f = omega (arith, length-append (fieldText (s .from)) (fieldText (s .to) ++ newline), length-append (fieldText (s .to)) newline, word-length (s .from) (f .from), word-length (s .to) (f .to))
+source-most s f = omega (
+  arith,
+  length-append (fieldText (s .from)) (fieldText (s .to) ++ newline),
+  length-append (fieldText (s .to)) newline,
+  word-length (s .from) (f .from),
+  word-length (s .to) (f .to),
+)
 
 sources-most : (ss : List Source) → All SourceFits ss → length (sourceLines ss) ≤ length ss * 24
 unfolding sourceLines flatMap
@@ -67,9 +75,18 @@ sources-most (s ∷ ss) (more p h) = omega (arith, length-append (sourceLine s) 
 observation-most : (e : Span) (bits n : ℕ) → SpanFits e → n < 4_294_967_296 → length (observationFields e bits n) ≤ 74
 unfolding observationFields
 observation-most e bits n f h =
-    omega (arith, length-append (endsText e) (bitsText bits ++ (fieldText n ++ newline)), length-append (bitsText bits) (fieldText n ++ newline), length-append (fieldText n) newline, ends-most e f, length-bits bits, word-length n h)
+    omega (
+      arith,
+      length-append (endsText e) (bitsText bits ++ (fieldText n ++ newline)),
+      length-append (bitsText bits) (fieldText n ++ newline),
+      length-append (fieldText n) newline,
+      ends-most e f,
+      length-bits bits,
+      word-length n h,
+    )
 
-boundary-most : (e : Span) (bits n m : ℕ) (r : Ramp) → SpanFits e → n < 4_294_967_296 → m < 4_294_967_296 → RampFits r → length (boundaryFields e bits n m r) ≤ 108
+boundary-most : (e : Span) (bits n m : ℕ) (r : Ramp) → SpanFits e → n < 4_294_967_296 → m < 4_294_967_296 → RampFits r
+    → length (boundaryFields e bits n m r) ≤ 108
 unfolding boundaryFields
 boundary-most e bits n m r f h k g =
     omega (
@@ -111,7 +128,8 @@ observations-most (o ∷ os) ss (more p h) k =
       observations-most os d h (omega (arith, parts (o .sources) ss)),
     )
 
-boundaries-most : (bs : List BoundaryRecord) (os : List ObservationRecord) (ss : List Source) → All BoundaryFits (boundariesWith bs os ss) → length os < 4_294_967_296 → length ss < 4_294_967_296
+boundaries-most : (bs : List BoundaryRecord) (os : List ObservationRecord) (ss : List Source) → All BoundaryFits (boundariesWith bs os ss)
+    → length os < 4_294_967_296 → length ss < 4_294_967_296
     → length (boundaryTexts (boundariesWith bs os ss)) ≤ length bs * 120 + length os * 84 + length ss * 24
 unfolding boundaryTexts boundariesWith boundaryWith boundaryText boundaryLine flatMap
 boundaries-most [] os ss h i j = omega arith
@@ -129,11 +147,13 @@ boundaries-most (r ∷ rs) os ss (more p h) i j =
       length-append (line ++ (sourceLines t ++ lines)) (boundaryTexts (boundariesWith rs (drop (r .observations) os) others)),
       length-append line (sourceLines t ++ lines),
       length-append (sourceLines t) lines,
-      boundary-most (r .ends) (r .bits) (length t) (length (observationsWith seen d)) (boundaryWith r seen ss .ramp) (p .ends) (omega (arith, parts (r .sources) ss)) (omega (arith, length-observationsWith seen d, parts (r .observations) os)) (p .ramp),
+      boundary-most (r .ends) (r .bits) (length t) (length (observationsWith seen d)) (boundaryWith r seen ss .ramp) (p .ends)
+          (omega (arith, parts (r .sources) ss)) (omega (arith, length-observationsWith seen d, parts (r .observations) os)) (p .ramp),
       sources-most t (p .sources),
       observations-most seen d (p .observations) (omega (arith, parts (r .sources) ss)),
       ap length (drop-drop (sourceCount seen) (r .sources) ss),
-      boundaries-most rs (drop (r .observations) os) others h (omega (arith, parts (r .observations) os)) (omega (arith, parts (r .sources + sourceCount seen) ss)),
+      boundaries-most rs (drop (r .observations) os) others h (omega (arith, parts (r .observations) os))
+          (omega (arith, parts (r .sources + sourceCount seen) ss)),
     )
 
 and-false : (b : Bool) → b && false ≡ false
@@ -152,7 +172,9 @@ module _ (s out : List ℕ) where
 
   pub no-records : length s < answerLength s → Writes (listing s (length out)) out 0 out 0
   unfolding whole
-  no-records h = unlisted s out (ap (λ (b : Bool). leb 24 (length s) && (b && leb (answerLength s * 3) (length out))) (lt-leb (answerLength s) (length s) h) ∙ and-false (leb 24 (length s)))
+  no-records h = unlisted s out
+      (ap (λ (b : Bool). leb 24 (length s) && (b && leb (answerLength s * 3) (length out))) (lt-leb (answerLength s) (length s) h)
+      ∙ and-false (leb 24 (length s)))
 
   pub no-room : length out < answerLength s * 3 → Writes (listing s (length out)) out 0 out 0
   unfolding whole
@@ -170,21 +192,25 @@ module _ (s out : List ℕ) where
 
   -- The three counts as they were read.
   module _ (a : AreBytes s) (b o n : ℕ) (e : b ≡ u32At s 0) (f : o ≡ u32At s 4) (g : n ≡ u32At s 8)
-      (bw : b < 4_294_967_296) (ow : o < 4_294_967_296) (nw : n < 4_294_967_296) (h : 24 + b * 40 + o * 28 + n * 8 ≤ length s) (k : (24 + b * 40 + o * 28 + n * 8) * 3 ≤ length out) where
+      (bw : b < 4_294_967_296) (ow : o < 4_294_967_296) (nw : n < 4_294_967_296) (h : 24 + b * 40 + o * 28 + n * 8 ≤ length s)
+      (k : (24 + b * 40 + o * 28 + n * 8) * 3 ≤ length out) where
     abbrev pub records : List Boundary
     records = decodeBoundaries s 24 b o n
 
     decoded : decodeAnswer s ≡ records
     unfolding decodeAnswer
-    decoded = ap (λ (i : ℕ). decodeBoundaries s 24 i (u32At s 4) (u32At s 8)) (sym e) ∙ ap (λ (i : ℕ). decodeBoundaries s 24 b i (u32At s 8)) (sym f) ∙ ap (λ (i : ℕ). decodeBoundaries s 24 b o i) (sym g)
+    decoded = ap (λ (i : ℕ). decodeBoundaries s 24 i (u32At s 4) (u32At s 8)) (sym e) ∙ ap (λ (i : ℕ). decodeBoundaries s 24 b i (u32At s 8)) (sym f)
+        ∙ ap (λ (i : ℕ). decodeBoundaries s 24 b o i) (sym g)
 
     is-listing : listing s (length out) ≡ listingOf records
     unfolding listing
-    is-listing = ap (λ (c : Bool). cond c (listingOf (decodeAnswer s)) []) (is-whole (omega (arith, h, e, f, g)) (omega (arith, k, e, f, g))) ∙ ap listingOf decoded
+    is-listing = ap (λ (c : Bool). cond c (listingOf (decodeAnswer s)) []) (is-whole (omega (arith, h, e, f, g)) (omega (arith, k, e, f, g)))
+        ∙ ap listingOf decoded
 
     count : length records ≡ b
     unfolding decodeBoundaries boundaryRecords
-    count = length-boundariesWith (boundaryRecords s 24 b) (observationRecords s (24 + b * 40) o) (sourceRecords s (24 + b * 40 + o * 28) n) ∙ length-rows b (λ i. boundaryAt s (24 + i * 40))
+    count = length-boundariesWith (boundaryRecords s 24 b) (observationRecords s (24 + b * 40) o) (sourceRecords s (24 + b * 40 + o * 28) n)
+        ∙ length-rows b (λ i. boundaryAt s (24 + i * 40))
 
     most : length (boundaryTexts records) ≤ b * 120 + o * 84 + n * 24
     unfolding decodeBoundaries boundaryRecords observationRecords sourceRecords
@@ -192,10 +218,22 @@ module _ (s out : List ℕ) where
         let lb = length-rows b (λ i. boundaryAt s (24 + i * 40)) in
         let lo = length-rows o (λ i. observationAt s (24 + b * 40 + i * 28)) in
         let ln = length-rows n (λ i. sourceAt s (24 + b * 40 + o * 28 + i * 8)) in
-        omega (arith, lb, lo, ln, boundaries-most (boundaryRecords s 24 b) (observationRecords s (24 + b * 40) o) (sourceRecords s (24 + b * 40 + o * 28) n) (decoded-within s 24 b o n a (omega arith)) (omega (arith, lo)) (omega (arith, ln)))
+        omega (
+          arith,
+          lb,
+          lo,
+          ln,
+          boundaries-most (boundaryRecords s 24 b) (observationRecords s (24 + b * 40) o) (sourceRecords s (24 + b * 40 + o * 28) n)
+              (decoded-within s 24 b o n a (omega arith)) (omega (arith, lo)) (omega (arith, ln)),
+        )
 
-    pub listing-start : (v : ℕ) → v ≡ b → Left (listing s (length out)) out 0 (keptLine v ∷ boundaryTexts (boundariesWith (boundaryRecords s 24 b) (observationRecords s (24 + b * 40) o) (sourceRecords s (24 + b * 40 + o * 28) n)) ∷ []) out 0
+    pub listing-start : (v : ℕ) → v ≡ b
+        → Left (listing s (length out)) out 0
+        (keptLine v ∷ boundaryTexts (boundariesWith (boundaryRecords s 24 b) (observationRecords s (24 + b * 40) o) (sourceRecords s (24 + b * 40 + o * 28) n))
+        ∷ []) out 0
     unfolding listingOf decodeBoundaries
     listing-start v c =
-        let q : keptLine v ++ boundaryTexts records ≡ listing s (length out) = ap (λ (i : ℕ). keptLine i ++ boundaryTexts records) (c ∙ sym count) ∙ sym is-listing in
-        start _ (ap (λ (t : List ℕ). keptLine v ++ t) (append-nil (boundaryTexts records)) ∙ q) (omega (arith, ap length q, length-append (keptLine v) (boundaryTexts records), kept-most v (omega (arith, c, bw)), most))
+        let q : keptLine v ++ boundaryTexts records ≡ listing s (length out) = ap (λ (i : ℕ). keptLine i ++ boundaryTexts records) (c ∙ sym count)
+        ∙ sym is-listing in
+        start _ (ap (λ (t : List ℕ). keptLine v ++ t) (append-nil (boundaryTexts records)) ∙ q)
+        (omega (arith, ap length q, length-append (keptLine v) (boundaryTexts records), kept-most v (omega (arith, c, bw)), most))

@@ -118,12 +118,14 @@ module _ {b k v : ℕ} {out : List ℕ} {at : ℕ} where
       record {
         text = glyph (rest % b) ∷ s .text;
         fits = s .fits;
-        is = ap (λ (l : List ℕ). set l (at + j) (glyph (rest % b))) (s .is ∙ ap (λ (p : ℕ). splice out p (s .text)) e) ∙ set-before out (at + j) (glyph (rest % b)) (s .text) (omega (arith, s .size, s .fits));
+        is = ap (λ (l : List ℕ). set l (at + j) (glyph (rest % b))) (s .is ∙ ap (λ (p : ℕ). splice out p (s .text)) e)
+            ∙ set-before out (at + j) (glyph (rest % b)) (s .text) (omega (arith, s .size, s .fits));
         size = omega (arith, s .size);
         all = sym (append-assoc (lastDigits b j (rest / b)) (glyph (rest % b) ∷ []) (s .text)) ∙ s .all;
       }
 
-  pub spelt-next : {now : List ℕ} {i rest : ℕ} → Spelt b k v out at now i rest → 0 < i → Spelt b k v out at (set now (at + (i - 1)) (glyph (rest % b))) (i - 1) (rest / b)
+  pub spelt-next : {now : List ℕ} {i rest : ℕ} → Spelt b k v out at now i rest → 0 < i
+      → Spelt b k v out at (set now (at + (i - 1)) (glyph (rest % b))) (i - 1) (rest / b)
   spelt-next {now} {i} {rest} s h =
       let e : i ≡ suc (i - 1) = omega arith in
       step (i - 1) (subst (λ (j : ℕ). Spelt b k v out at now j rest) e s)
@@ -139,9 +141,11 @@ module _ {b k v : ℕ} {out : List ℕ} {at : ℕ} where
 pub remainder-small : (v : ℕ) {b : ℕ} → 1 < b → b ≤ 16 → v % b < 16
 remainder-small v {b} h k = omega (arith, mod-lt v {m = b} (omega arith))
 
-pub decimal-writes : (v : ℕ) {k : ℕ} {out : List ℕ} {at : ℕ} {after : List ℕ} → k ≡ places v → after ≡ splice out at (lastDigits 10 k v) → Writes (digits v) out at after (at + k)
+pub decimal-writes : (v : ℕ) {k : ℕ} {out : List ℕ} {at : ℕ} {after : List ℕ} → k ≡ places v → after ≡ splice out at (lastDigits 10 k v)
+    → Writes (digits v) out at after (at + k)
 unfolding digits
-decimal-writes v {k} {out} {at} e h = record { is = h ∙ ap (λ (j : ℕ). splice out at (lastDigits 10 j v)) e; end = omega (arith, e, length-lastDigits 10 (places v) v) }
+decimal-writes v {k} {out} {at} e h =
+    record { is = h ∙ ap (λ (j : ℕ). splice out at (lastDigits 10 j v)) e; end = omega (arith, e, length-lastDigits 10 (places v) v) }
 
 pub hex-writes : (v : ℕ) {out : List ℕ} {at : ℕ} {after : List ℕ} → after ≡ splice out at (lastDigits 16 16 v) → Writes (hexDigits v) out at after (at + 16)
 unfolding hexDigits

@@ -15,7 +15,8 @@ use Rattle.format.specs.declared.records.BoundaryRecord.{BoundaryRecord}
 use Rattle.format.specs.declared.records.ObservationRecord.{ObservationRecord}
 use Rattle.format.specs.declared.records.Source.{Source}
 use Rattle.format.proofs.Distribution.{length-observationsWith}
-use Rattle.listing.specs.Lines.{sourceLine, sourceLines, observationFields, observationLine, observationText, observationTexts, boundaryFields, boundaryLine, boundaryText, boundaryTexts}
+use Rattle.listing.specs.Lines.{sourceLine, sourceLines, observationFields, observationLine, observationText, observationTexts, boundaryFields}
+use Rattle.listing.specs.Lines.{boundaryLine, boundaryText, boundaryTexts}
 use Rattle.listing.specs.Answer.{Room, Writes, observationsAt, sourcesAt, observationHere, Inside, Moved}
 use Rattle.listing.specs.declared.walk.Cursor.{Cursor}
 use Rattle.listing.proofs.Writing.{Left, start, next, done, retell, room}
@@ -28,14 +29,18 @@ module _ {A : Type 0} (read : List ℕ → ℕ → A) (s : List ℕ) (size : ℕ
   pub table-cut : (i n m : ℕ) → table i (n + m) ≡ table i n ++ table (i + n * size) m
   table-cut i n m =
       rows-split n m (λ k. read s (i + k * size))
-      ∙ ap (λ (t : List A). table i n ++ t) (rows-same m (λ k. read s (i + (n + k) * size)) (λ k. read s (i + n * size + k * size)) (λ k h. let e : i + (n + k) * size ≡ i + n * size + k * size = omega arith in ap (read s) e))
+      ∙ ap (λ (t : List A). table i n ++ t)
+      (rows-same m (λ k. read s (i + (n + k) * size)) (λ k. read s (i + n * size + k * size))
+      (λ k h. let e : i + (n + k) * size ≡ i + n * size + k * size = omega arith in ap (read s) e))
 
   pub table-first : (i n j : ℕ) → i + size ≡ j → table i (suc n) ≡ read s i ∷ table j n
   unfolding rows
   table-first i n j h =
       let e : i + 0 * size ≡ i = omega arith in
       ap (λ (k : ℕ). read s k ∷ rows n (λ k. read s (i + suc k * size))) e
-      ∙ ap (λ (t : List A). read s i ∷ t) (rows-same n (λ k. read s (i + suc k * size)) (λ k. read s (j + k * size)) (λ k l. let f : i + suc k * size ≡ j + k * size = omega arith in ap (read s) f))
+      ∙ ap (λ (t : List A). read s i ∷ t)
+      (rows-same n (λ k. read s (i + suc k * size)) (λ k. read s (j + k * size))
+      (λ k l. let f : i + suc k * size ≡ j + k * size = omega arith in ap (read s) f))
 
   -- As many as there are, of those that are asked for.
   pub table-take : (i a n : ℕ) → take a (table i n) ≡ table i (min a n)
@@ -89,16 +94,22 @@ module _ (s : List ℕ) where
         let f : n ≡ n - 0 = omega arith in
         start _ (append-nil _ ∙ sym (ap (λ (k : ℕ). sourceLines (sourceRecords s k n)) e ∙ ap (λ (k : ℕ). sourceLines (sourceRecords s (from + 0 * 8) k)) f)) h
 
-    split : {now : List ℕ} {i p : ℕ} → i < n → SourcesLeft from n out at now i p → Left (sourceLines (sourceRecords s from n)) out at (sourceLine (sourceAt s (from + i * 8)) ∷ sourceLines (sourceRecords s (from + (i + 1) * 8) (n - (i + 1))) ∷ []) now p
+    split : {now : List ℕ} {i p : ℕ} → i < n → SourcesLeft from n out at now i p
+        → Left (sourceLines (sourceRecords s from n)) out at
+        (sourceLine (sourceAt s (from + i * 8)) ∷ sourceLines (sourceRecords s (from + (i + 1) * 8) (n - (i + 1))) ∷ []) now p
     split {i = i} h l =
         let e : n - i ≡ suc (n - (i + 1)) = omega arith in
         let f : from + i * 8 + 8 ≡ from + (i + 1) * 8 = omega arith in
-        retell _ (append-nil _ ∙ ap (λ (k : ℕ). sourceLines (sourceRecords s (from + i * 8) k)) e ∙ source-first (from + i * 8) (n - (i + 1)) (from + (i + 1) * 8) f ∙ ap (λ (t : List ℕ). sourceLine (sourceAt s (from + i * 8)) ++ t) (sym (append-nil _))) l
+        retell _ (append-nil _ ∙ ap (λ (k : ℕ). sourceLines (sourceRecords s (from + i * 8) k)) e
+        ∙ source-first (from + i * 8) (n - (i + 1)) (from + (i + 1) * 8) f
+        ∙ ap (λ (t : List ℕ). sourceLine (sourceAt s (from + i * 8)) ++ t) (sym (append-nil _))) l
 
-    pub source-room : {now : List ℕ} {i p : ℕ} (r : Source) → r ≡ sourceAt s (from + i * 8) → i < n → SourcesLeft from n out at now i p → Room (sourceLine r) now p
+    pub source-room : {now : List ℕ} {i p : ℕ} (r : Source) → r ≡ sourceAt s (from + i * 8) → i < n → SourcesLeft from n out at now i p
+        → Room (sourceLine r) now p
     source-room {now} {i} {p} r e h l = subst (λ (x : Source). Room (sourceLine x) now p) (sym e) (room (split h l))
 
-    pub sources-next : {now after : List ℕ} {i p q : ℕ} (r : Source) → r ≡ sourceAt s (from + i * 8) → i < n → SourcesLeft from n out at now i p → Writes (sourceLine r) now p after q → SourcesLeft from n out at after (i + 1) q
+    pub sources-next : {now after : List ℕ} {i p q : ℕ} (r : Source) → r ≡ sourceAt s (from + i * 8) → i < n → SourcesLeft from n out at now i p
+        → Writes (sourceLine r) now p after q → SourcesLeft from n out at after (i + 1) q
     sources-next {now} {after} {i} {p} {q} r e h l w = next (split h l) (subst (λ (x : Source). Writes (sourceLine x) now p after q) e w)
 
     pub sources-end : {now : List ℕ} {i p : ℕ} → n ≤ i → SourcesLeft from n out at now i p → Writes (sourceLines (sourceRecords s from n)) out at now p
@@ -142,11 +153,13 @@ module _ (s : List ℕ) (c : Cursor) where
     unfolding sourceRecords
     sources-dropped = ap (λ (j : ℕ). table sourceAt s 8 (c .source + j * 8) (c .sources - j)) h ∙ sym (table-drop sourceAt s 8 (c .source) k (c .sources))
 
-  observations-cons : 0 < c .observations → observationsAt s c ≡ observationAt s (c .observation) ∷ observationRecords s (c .observation + 28) (c .observations - 1)
+  observations-cons : 0 < c .observations
+      → observationsAt s c ≡ observationAt s (c .observation) ∷ observationRecords s (c .observation + 28) (c .observations - 1)
   unfolding observationRecords
   observations-cons h =
       let e : c .observations ≡ suc (c .observations - 1) = omega arith in
-      ap (λ (j : ℕ). table observationAt s 28 (c .observation) j) e ∙ table-first observationAt s 28 (c .observation) (c .observations - 1) (c .observation + 28) refl
+      ap (λ (j : ℕ). table observationAt s 28 (c .observation) j) e
+      ∙ table-first observationAt s 28 (c .observation) (c .observations - 1) (c .observation + 28) refl
 
   -- The next observation is written in two pieces, and then passed.
   module _ (o : ObservationRecord) (n : ℕ) (e : o ≡ observationAt s (c .observation)) (h : n ≡ min (o .sources) (c .sources)) where
@@ -158,18 +171,27 @@ module _ (s : List ℕ) (c : Cursor) where
     here-text =
         let p = observationAt s (c .observation) in
         ap (λ (x : ObservationRecord). observationFields (x .ends) (x .bits) n ++ sourceLines (sourceRecords s (c .source) n)) e
-        ∙ ap (λ (j : ℕ). observationFields (p .ends) (p .bits) j ++ sourceLines (sourceRecords s (c .source) n)) (sym (length-least (sourcesAt s c) (p .sources) (c .sources) n length-sources here-count))
-        ∙ ap (λ (l : List Source). observationFields (p .ends) (p .bits) (length (take (p .sources) (sourcesAt s c))) ++ sourceLines l) (sources-taken (p .sources) n here-count)
+        ∙ ap (λ (j : ℕ). observationFields (p .ends) (p .bits) j ++ sourceLines (sourceRecords s (c .source) n))
+        (sym (length-least (sourcesAt s c) (p .sources) (c .sources) n length-sources here-count))
+        ∙ ap (λ (l : List Source). observationFields (p .ends) (p .bits) (length (take (p .sources) (sourcesAt s c))) ++ sourceLines l)
+        (sources-taken (p .sources) n here-count)
 
     pub here-start : (out : List ℕ) → Room (observationText (observationHere s c)) out (c .at)
-        → Left (observationText (observationHere s c)) out (c .at) (observationFields (o .ends) (o .bits) n ∷ sourceLines (sourceRecords s (c .source) n) ∷ []) out (c .at)
+        → Left (observationText (observationHere s c)) out (c .at) (observationFields (o .ends) (o .bits) n ∷ sourceLines (sourceRecords s (c .source) n) ∷ [])
+        out (c .at)
     here-start out r = start _ (ap (λ (t : List ℕ). observationFields (o .ends) (o .bits) n ++ t) (append-nil _) ∙ here-text) r
 
     pub here-sources : Inside s c → c .source + n * 8 ≤ length s
     here-sources i = omega (arith, i .sources, here-count)
 
     pub here-moved : Inside s c → 0 < c .observations → (at : ℕ)
-        → Moved s c (record { at = at; observation = c .observation + 28; observations = c .observations - 1; source = c .source + n * 8; sources = c .sources - n }) 1 (observationAt s (c .observation) .sources)
+        → Moved s c (record {
+          at = at;
+          observation = c .observation + 28;
+          observations = c .observations - 1;
+          source = c .source + n * 8;
+          sources = c .sources - n;
+        }) 1 (observationAt s (c .observation) .sources)
     here-moved i k at = record {
       inside = record { observations = omega (arith, i .observations); sources = omega (arith, i .sources, here-count) };
       observations = sym (ap (drop 1) (observations-cons k));
@@ -177,13 +199,17 @@ module _ (s : List ℕ) (c : Cursor) where
     }
 
   next-observations : (m : ℕ) → 0 < c .observations → observationTexts (observationsWith (take (suc m) (observationsAt s c)) (sourcesAt s c))
-      ≡ observationText (observationHere s c) ++ observationTexts (observationsWith (take m (drop 1 (observationsAt s c))) (drop (observationAt s (c .observation) .sources) (sourcesAt s c)))
+      ≡ observationText (observationHere s c) ++ observationTexts
+      (observationsWith (take m (drop 1 (observationsAt s c))) (drop (observationAt s (c .observation) .sources) (sourcesAt s c)))
   unfolding observationTexts observationsWith observationHere flatMap
   next-observations m h =
       ap (λ (l : List ObservationRecord). observationTexts (observationsWith (take (suc m) l) (sourcesAt s c))) (observations-cons h)
-      ∙ ap (λ (l : List ObservationRecord). observationText (observationHere s c) ++ observationTexts (observationsWith (take m l) (drop (observationAt s (c .observation) .sources) (sourcesAt s c)))) (sym (ap (drop 1) (observations-cons h)))
+      ∙ ap (λ (l : List ObservationRecord).
+      observationText (observationHere s c) ++ observationTexts
+      (observationsWith (take m l) (drop (observationAt s (c .observation) .sources) (sourcesAt s c)))) (sym (ap (drop 1) (observations-cons h)))
 
-  next-count : (m : ℕ) → 0 < c .observations → sourceCount (take (suc m) (observationsAt s c)) ≡ observationAt s (c .observation) .sources + sourceCount (take m (drop 1 (observationsAt s c)))
+  next-count : (m : ℕ) → 0 < c .observations
+      → sourceCount (take (suc m) (observationsAt s c)) ≡ observationAt s (c .observation) .sources + sourceCount (take m (drop 1 (observationsAt s c)))
   unfolding sourceCount sum
   next-count m h =
       ap (λ (l : List ObservationRecord). sourceCount (take (suc m) l)) (observations-cons h)
@@ -191,14 +217,16 @@ module _ (s : List ℕ) (c : Cursor) where
 
 -- The first i of n observations are written with their sources.
 pub record ObservationsLeft (s : List ℕ) (n : ℕ) (c : Cursor) (out now : List ℕ) (i : ℕ) (d : Cursor) : Type 0 where
-  pub text : Left (observationTexts (observationsWith (take n (observationsAt s c)) (sourcesAt s c))) out (c .at) (observationTexts (observationsWith (take (n - i) (observationsAt s d)) (sourcesAt s d)) ∷ []) now (d .at)
+  pub text : Left (observationTexts (observationsWith (take n (observationsAt s c)) (sourcesAt s c))) out (c .at)
+      (observationTexts (observationsWith (take (n - i) (observationsAt s d)) (sourcesAt s d)) ∷ []) now (d .at)
   pub inside : Inside s d
   pub enough : n - i ≤ d .observations
   pub observations : drop (n - i) (observationsAt s d) ≡ drop n (observationsAt s c)
   pub sources : drop (sourceCount (take (n - i) (observationsAt s d))) (sourcesAt s d) ≡ drop (sourceCount (take n (observationsAt s c))) (sourcesAt s c)
 
 module _ (s : List ℕ) (n : ℕ) (c : Cursor) (out : List ℕ) where
-  pub observations-start : Inside s c → n ≤ c .observations → Room (observationTexts (observationsWith (take n (observationsAt s c)) (sourcesAt s c))) out (c .at) → ObservationsLeft s n c out out 0 c
+  pub observations-start : Inside s c → n ≤ c .observations
+      → Room (observationTexts (observationsWith (take n (observationsAt s c)) (sourcesAt s c))) out (c .at) → ObservationsLeft s n c out out 0 c
   observations-start i h r =
       let e : n - 0 ≡ n = omega arith in
       record {
@@ -217,7 +245,9 @@ module _ (s : List ℕ) (n : ℕ) (c : Cursor) (out : List ℕ) where
     again = omega arith
 
     cut : Left (observationTexts (observationsWith (take n (observationsAt s c)) (sourcesAt s c))) out (c .at)
-        (observationText (observationHere s d) ∷ observationTexts (observationsWith (take (n - (i + 1)) (drop 1 (observationsAt s d))) (drop (observationAt s (d .observation) .sources) (sourcesAt s d))) ∷ []) now (d .at)
+        (observationText (observationHere s d) ∷ observationTexts
+        (observationsWith (take (n - (i + 1)) (drop 1 (observationsAt s d))) (drop (observationAt s (d .observation) .sources) (sourcesAt s d))) ∷ []) now
+        (d .at)
     cut =
         retell _ (append-nil _ ∙ ap (λ (k : ℕ). observationTexts (observationsWith (take k (observationsAt s d)) (sourcesAt s d))) again
         ∙ next-observations s d (n - (i + 1)) some-left ∙ ap (λ (t : List ℕ). observationText (observationHere s d) ++ t) (sym (append-nil _))) (l .text)
@@ -225,21 +255,33 @@ module _ (s : List ℕ) (n : ℕ) (c : Cursor) (out : List ℕ) where
     pub observation-room : Room (observationText (observationHere s d)) now (d .at)
     observation-room = room cut
 
-    module _ {after : List ℕ} (e : Cursor) (w : Writes (observationText (observationHere s d)) now (d .at) after (e .at)) (m : Moved s d e 1 (observationAt s (d .observation) .sources)) where
+    module _ {after : List ℕ} (e : Cursor) (w : Writes (observationText (observationHere s d)) now (d .at) after (e .at))
+        (m : Moved s d e 1 (observationAt s (d .observation) .sources)) where
       pub observations-next : ObservationsLeft s n c out after (i + 1) e
       observations-next =
           let k = n - (i + 1) in
           let f : drop k (observationsAt s e) ≡ drop (n - i) (observationsAt s d)
-          = ap (drop k) (m .observations) ∙ drop-drop k 1 (observationsAt s d) ∙ ap (λ (j : ℕ). drop j (observationsAt s d)) (let q : 1 + k ≡ n - i = omega arith in q) in
+          = ap (drop k) (m .observations) ∙ drop-drop k 1 (observationsAt s d)
+          ∙ ap (λ (j : ℕ). drop j (observationsAt s d)) (let q : 1 + k ≡ n - i = omega arith in q) in
           let g : drop (sourceCount (take k (observationsAt s e))) (sourcesAt s e) ≡ drop (sourceCount (take (n - i) (observationsAt s d))) (sourcesAt s d)
           = ap (λ (x : List ObservationRecord). drop (sourceCount (take k x)) (sourcesAt s e)) (m .observations)
           ∙ ap (drop (sourceCount (take k (drop 1 (observationsAt s d))))) (m .sources)
           ∙ drop-drop (sourceCount (take k (drop 1 (observationsAt s d)))) (observationAt s (d .observation) .sources) (sourcesAt s d)
           ∙ ap (λ (j : ℕ). drop j (sourcesAt s d)) (sym (next-count s d k some-left) ∙ ap (λ (j : ℕ). sourceCount (take j (observationsAt s d))) (sym again)) in
           record {
-            text = retell _ (ap (λ (t : List ℕ). t ++ []) (ap (λ (x : List ObservationRecord). observationTexts (observationsWith (take k x) (drop (observationAt s (d .observation) .sources) (sourcesAt s d)))) (sym (m .observations)) ∙ ap (λ (x : List Source). observationTexts (observationsWith (take k (observationsAt s e)) x)) (sym (m .sources)))) (next cut w);
+            text = retell _ (ap (λ (t : List ℕ). t ++ [])
+                (ap (λ (x : List ObservationRecord).
+                observationTexts (observationsWith (take k x) (drop (observationAt s (d .observation) .sources) (sourcesAt s d)))) (sym (m .observations))
+                ∙ ap (λ (x : List Source). observationTexts (observationsWith (take k (observationsAt s e)) x)) (sym (m .sources)))) (next cut w);
             inside = m .inside;
-            enough = omega (arith, l .enough, length-observations s e, length-observations s d, ap length (m .observations), length-drop 1 (observationsAt s d));
+            enough = omega (
+              arith,
+              l .enough,
+              length-observations s e,
+              length-observations s d,
+              ap length (m .observations),
+              length-drop 1 (observationsAt s d),
+            );
             observations = f ∙ l .observations;
             sources = g ∙ l .sources;
           }
@@ -250,7 +292,8 @@ module _ (s : List ℕ) (n : ℕ) (c : Cursor) (out : List ℕ) where
 
     pub observations-written : Writes (observationTexts (observationsWith (take n (observationsAt s c)) (sourcesAt s c))) out (c .at) now (d .at)
     unfolding observationTexts observationsWith flatMap
-    observations-written = done (retell [] (append-nil _ ∙ ap (λ (k : ℕ). observationTexts (observationsWith (take k (observationsAt s d)) (sourcesAt s d))) over) (l .text))
+    observations-written = done
+        (retell [] (append-nil _ ∙ ap (λ (k : ℕ). observationTexts (observationsWith (take k (observationsAt s d)) (sourcesAt s d))) over) (l .text))
 
     pub observations-moved : Moved s c d n (sourceCount (take n (observationsAt s c)))
     unfolding sourceCount sum
@@ -261,7 +304,8 @@ module _ (s : List ℕ) (n : ℕ) (c : Cursor) (out : List ℕ) where
     }
 
 -- The boundary at a place is written in three pieces, the last of them from the cursor past its own sources, and then passed.
-module _ (s : List ℕ) (place : ℕ) (c : Cursor) (b : BoundaryRecord) (n m : ℕ) (e : b ≡ boundaryAt s place) (h : n ≡ min (b .sources) (c .sources)) (k : m ≡ min (b .observations) (c .observations)) where
+module _ (s : List ℕ) (place : ℕ) (c : Cursor) (b : BoundaryRecord) (n m : ℕ) (e : b ≡ boundaryAt s place) (h : n ≡ min (b .sources) (c .sources))
+    (k : m ≡ min (b .observations) (c .observations)) where
   abbrev pub wholeOf : BoundaryRecord → List ℕ
   wholeOf r = boundaryText (boundaryWith r (take (r .observations) (observationsAt s c)) (sourcesAt s c))
 
@@ -269,7 +313,8 @@ module _ (s : List ℕ) (place : ℕ) (c : Cursor) (b : BoundaryRecord) (n m : �
   after-own at = record { at = at; observation = c .observation; observations = c .observations; source = c .source + n * 8; sources = c .sources - n }
 
   text-of : boundaryFields (b .ends) (b .bits) n m (rampOf (b .ramp))
-      ++ (sourceLines (sourceRecords s (c .source) n) ++ observationTexts (observationsWith (take m (observationsAt s c)) (sourceRecords s (c .source + n * 8) (c .sources - n))))
+      ++ (sourceLines (sourceRecords s (c .source) n) ++ observationTexts
+      (observationsWith (take m (observationsAt s c)) (sourceRecords s (c .source + n * 8) (c .sources - n))))
       ≡ wholeOf b
   unfolding boundaryText boundaryLine boundaryWith
   text-of =
@@ -280,18 +325,27 @@ module _ (s : List ℕ) (place : ℕ) (c : Cursor) (b : BoundaryRecord) (n m : �
       let seen : take m os ≡ take (b .observations) os = take-least os (b .observations) (c .observations) m (length-observations s c) k in
       let count : n ≡ length (take (b .sources) ss) = sym (length-least ss (b .sources) (c .sources) n (length-sources s c) h) in
       let count2 : m ≡ length (observationsWith (take (b .observations) os) (drop (b .sources) ss))
-      = sym (length-observationsWith (take (b .observations) os) (drop (b .sources) ss) ∙ length-least os (b .observations) (c .observations) m (length-observations s c) k) in
-      ap (λ (x : List Source). boundaryFields (b .ends) (b .bits) n m (rampOf (b .ramp)) ++ (sourceLines x ++ observationTexts (observationsWith (take m os) (sourceRecords s (c .source + n * 8) (c .sources - n))))) own
-      ∙ ap (λ (x : List Source). boundaryFields (b .ends) (b .bits) n m (rampOf (b .ramp)) ++ (sourceLines (take (b .sources) ss) ++ observationTexts (observationsWith (take m os) x))) others
-      ∙ ap (λ (x : List ObservationRecord). boundaryFields (b .ends) (b .bits) n m (rampOf (b .ramp)) ++ (sourceLines (take (b .sources) ss) ++ observationTexts (observationsWith x (drop (b .sources) ss)))) seen
-      ∙ ap (λ (x : ℕ). boundaryFields (b .ends) (b .bits) x m (rampOf (b .ramp)) ++ (sourceLines (take (b .sources) ss) ++ observationTexts (observationsWith (take (b .observations) os) (drop (b .sources) ss)))) count
-      ∙ ap (λ (x : ℕ). boundaryFields (b .ends) (b .bits) (length (take (b .sources) ss)) x (rampOf (b .ramp)) ++ (sourceLines (take (b .sources) ss) ++ observationTexts (observationsWith (take (b .observations) os) (drop (b .sources) ss)))) count2
+      = sym (length-observationsWith (take (b .observations) os) (drop (b .sources) ss)
+      ∙ length-least os (b .observations) (c .observations) m (length-observations s c) k) in
+      ap (λ (x : List Source). boundaryFields (b .ends) (b .bits) n m (rampOf (b .ramp))
+      ++ (sourceLines x ++ observationTexts (observationsWith (take m os) (sourceRecords s (c .source + n * 8) (c .sources - n))))) own
+      ∙ ap (λ (x : List Source). boundaryFields (b .ends) (b .bits) n m (rampOf (b .ramp))
+      ++ (sourceLines (take (b .sources) ss) ++ observationTexts (observationsWith (take m os) x))) others
+      ∙ ap (λ (x : List ObservationRecord).
+      boundaryFields (b .ends) (b .bits) n m (rampOf (b .ramp))
+      ++ (sourceLines (take (b .sources) ss) ++ observationTexts (observationsWith x (drop (b .sources) ss)))) seen
+      ∙ ap (λ (x : ℕ). boundaryFields (b .ends) (b .bits) x m (rampOf (b .ramp))
+      ++ (sourceLines (take (b .sources) ss) ++ observationTexts (observationsWith (take (b .observations) os) (drop (b .sources) ss)))) count
+      ∙ ap (λ (x : ℕ). boundaryFields (b .ends) (b .bits) (length (take (b .sources) ss)) x (rampOf (b .ramp))
+      ++ (sourceLines (take (b .sources) ss) ++ observationTexts (observationsWith (take (b .observations) os) (drop (b .sources) ss)))) count2
 
   pub whole-start : (out : List ℕ) → Room (wholeOf (boundaryAt s place)) out (c .at)
       → Left (wholeOf (boundaryAt s place)) out (c .at)
-      (boundaryFields (b .ends) (b .bits) n m (rampOf (b .ramp)) ∷ sourceLines (sourceRecords s (c .source) n) ∷ observationTexts (observationsWith (take m (observationsAt s c)) (sourceRecords s (c .source + n * 8) (c .sources - n))) ∷ []) out (c .at)
+      (boundaryFields (b .ends) (b .bits) n m (rampOf (b .ramp)) ∷ sourceLines (sourceRecords s (c .source) n) ∷ observationTexts
+      (observationsWith (take m (observationsAt s c)) (sourceRecords s (c .source + n * 8) (c .sources - n))) ∷ []) out (c .at)
   whole-start out r =
-      start _ (ap (λ (t : List ℕ). boundaryFields (b .ends) (b .bits) n m (rampOf (b .ramp)) ++ (sourceLines (sourceRecords s (c .source) n) ++ t)) (append-nil _) ∙ text-of ∙ ap wholeOf e) r
+      start _ (ap (λ (t : List ℕ). boundaryFields (b .ends) (b .bits) n m (rampOf (b .ramp)) ++ (sourceLines (sourceRecords s (c .source) n) ++ t))
+      (append-nil _) ∙ text-of ∙ ap wholeOf e) r
 
   pub own-inside : Inside s c → c .source + n * 8 ≤ length s
   own-inside i = omega (arith, i .sources, h)
@@ -303,7 +357,8 @@ module _ (s : List ℕ) (place : ℕ) (c : Cursor) (b : BoundaryRecord) (n m : �
   seen-few = omega (arith, k)
 
   pub whole-moved : (at : ℕ) (r : Cursor) → Moved s (after-own at) r m (sourceCount (take m (observationsAt s c)))
-      → Moved s c r (boundaryAt s place .observations) (boundaryAt s place .sources + sourceCount (take (boundaryAt s place .observations) (observationsAt s c)))
+      → Moved s c r (boundaryAt s place .observations)
+      (boundaryAt s place .sources + sourceCount (take (boundaryAt s place .observations) (observationsAt s c)))
   whole-moved at r v =
       let os = observationsAt s c in
       let ss = sourcesAt s c in
@@ -333,16 +388,19 @@ module _ (s : List ℕ) (place n : ℕ) (c : Cursor) (out : List ℕ) where
   headOf p d = boundaryText (boundaryWith (boundaryAt s p) (take (boundaryAt s p .observations) (observationsAt s d)) (sourcesAt s d))
 
   next-boundary : (p k q : ℕ) (d : Cursor) → p + 40 ≡ q → rest p (suc k) (observationsAt s d) (sourcesAt s d)
-      ≡ headOf p d ++ rest q k (drop (boundaryAt s p .observations) (observationsAt s d)) (drop (boundaryAt s p .sources + sourceCount (take (boundaryAt s p .observations) (observationsAt s d))) (sourcesAt s d))
+      ≡ headOf p d ++ rest q k (drop (boundaryAt s p .observations) (observationsAt s d))
+      (drop (boundaryAt s p .sources + sourceCount (take (boundaryAt s p .observations) (observationsAt s d))) (sourcesAt s d))
   unfolding boundaryTexts boundariesWith boundaryRecords flatMap
-  next-boundary p k q d h = ap (λ (l : List BoundaryRecord). boundaryTexts (boundariesWith l (observationsAt s d) (sourcesAt s d))) (table-first boundaryAt s 40 p k q h)
+  next-boundary p k q d h = ap (λ (l : List BoundaryRecord). boundaryTexts (boundariesWith l (observationsAt s d) (sourcesAt s d)))
+      (table-first boundaryAt s 40 p k q h)
 
   pub boundaries-start : Inside s c → Room (rest place n (observationsAt s c) (sourcesAt s c)) out (c .at) → BoundariesLeft s place n c out out 0 c
   boundaries-start i r =
       let e : place + 0 * 40 ≡ place = omega arith in
       let f : n - 0 ≡ n = omega arith in
       record {
-        text = start _ (append-nil _ ∙ ap (λ (k : ℕ). rest k (n - 0) (observationsAt s c) (sourcesAt s c)) e ∙ ap (λ (k : ℕ). rest place k (observationsAt s c) (sourcesAt s c)) f) r;
+        text = start _ (append-nil _ ∙ ap (λ (k : ℕ). rest k (n - 0) (observationsAt s c) (sourcesAt s c)) e
+            ∙ ap (λ (k : ℕ). rest place k (observationsAt s c) (sourcesAt s c)) f) r;
         inside = i;
       }
 
@@ -351,7 +409,8 @@ module _ (s : List ℕ) (place n : ℕ) (c : Cursor) (out : List ℕ) where
     here = place + i * 40
 
     part-left : Left (rest place n (observationsAt s c) (sourcesAt s c)) out (c .at)
-        (headOf here d ∷ rest (place + (i + 1) * 40) (n - (i + 1)) (drop (boundaryAt s here .observations) (observationsAt s d)) (drop (boundaryAt s here .sources + sourceCount (take (boundaryAt s here .observations) (observationsAt s d))) (sourcesAt s d)) ∷ []) now (d .at)
+        (headOf here d ∷ rest (place + (i + 1) * 40) (n - (i + 1)) (drop (boundaryAt s here .observations) (observationsAt s d))
+        (drop (boundaryAt s here .sources + sourceCount (take (boundaryAt s here .observations) (observationsAt s d))) (sourcesAt s d)) ∷ []) now (d .at)
     part-left =
         let e : n - i ≡ suc (n - (i + 1)) = omega arith in
         let f : here + 40 ≡ place + (i + 1) * 40 = omega arith in
@@ -362,13 +421,19 @@ module _ (s : List ℕ) (place n : ℕ) (c : Cursor) (out : List ℕ) where
     boundary-room = room part-left
 
     pub boundaries-next : {after : List ℕ} (e : Cursor) → Writes (headOf here d) now (d .at) after (e .at)
-        → Moved s d e (boundaryAt s here .observations) (boundaryAt s here .sources + sourceCount (take (boundaryAt s here .observations) (observationsAt s d))) → BoundariesLeft s place n c out after (i + 1) e
+        → Moved s d e (boundaryAt s here .observations) (boundaryAt s here .sources + sourceCount (take (boundaryAt s here .observations) (observationsAt s d)))
+        → BoundariesLeft s place n c out after (i + 1) e
     boundaries-next e w m = record {
-      text = retell _ (ap (λ (t : List ℕ). t ++ []) (ap (λ (x : List ObservationRecord). rest (place + (i + 1) * 40) (n - (i + 1)) x (drop (boundaryAt s here .sources + sourceCount (take (boundaryAt s here .observations) (observationsAt s d))) (sourcesAt s d))) (sym (m .observations)) ∙ ap (rest (place + (i + 1) * 40) (n - (i + 1)) (observationsAt s e)) (sym (m .sources)))) (next part-left w);
+      text = retell _ (ap (λ (t : List ℕ). t ++ [])
+          (ap (λ (x : List ObservationRecord).
+          rest (place + (i + 1) * 40) (n - (i + 1)) x
+          (drop (boundaryAt s here .sources + sourceCount (take (boundaryAt s here .observations) (observationsAt s d))) (sourcesAt s d)))
+          (sym (m .observations)) ∙ ap (rest (place + (i + 1) * 40) (n - (i + 1)) (observationsAt s e)) (sym (m .sources)))) (next part-left w);
       inside = m .inside;
     }
 
-  pub boundaries-written : {now : List ℕ} {i : ℕ} {d : Cursor} → BoundariesLeft s place n c out now i d → n ≤ i → Writes (rest place n (observationsAt s c) (sourcesAt s c)) out (c .at) now (d .at)
+  pub boundaries-written : {now : List ℕ} {i : ℕ} {d : Cursor} → BoundariesLeft s place n c out now i d → n ≤ i
+      → Writes (rest place n (observationsAt s c) (sourcesAt s c)) out (c .at) now (d .at)
   unfolding boundaryTexts boundariesWith boundaryRecords flatMap rows
   boundaries-written {i = i} {d = d} l h =
       let e : n - i ≡ 0 = omega arith in

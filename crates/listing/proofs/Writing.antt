@@ -41,7 +41,8 @@ module _ {whole out : List ℕ} {at : ℕ} where
   room {a} {ps} l = omega (arith, lengths l, length-append a (joined ps), as-long l, l .fits, l .end)
 
   -- It is written.
-  pub next : {a : List ℕ} {ps : List (List ℕ)} {now after : List ℕ} {p r : ℕ} → Left whole out at (a ∷ ps) now p → Writes a now p after r → Left whole out at ps after r
+  pub next : {a : List ℕ} {ps : List (List ℕ)} {now after : List ℕ} {p r : ℕ} → Left whole out at (a ∷ ps) now p → Writes a now p after r
+      → Left whole out at ps after r
   next {a} {ps} {p = p} l w = record {
     text = l .text ++ a;
     fits = l .fits;
@@ -61,7 +62,8 @@ module _ {whole out : List ℕ} {at : ℕ} where
   }
 
   -- The same pieces told in another way.
-  pub retell : {ps : List (List ℕ)} (qs : List (List ℕ)) {now : List ℕ} {p : ℕ} → joined ps ≡ joined qs → Left whole out at ps now p → Left whole out at qs now p
+  pub retell : {ps : List (List ℕ)} (qs : List (List ℕ)) {now : List ℕ} {p : ℕ} → joined ps ≡ joined qs → Left whole out at ps now p
+      → Left whole out at qs now p
   retell qs e l = record { text = l .text; fits = l .fits; is = l .is; end = l .end; all = ap (λ (t : List ℕ). l .text ++ t) (sym e) ∙ l .all }
 
 -- A store is a text of one byte.
@@ -83,7 +85,8 @@ module _ (t out : List ℕ) (at : ℕ) where
       let e : suc i ≡ i + 1 = omega arith in
       let f : at + i + 1 ≡ at + (i + 1) = omega arith in
       let m = retell ((getD t i 0 ∷ []) ∷ drop (i + 1) t ∷ []) (ap (λ (x : List ℕ). x ++ []) (drop-cons t i 0 h ∙ ap (λ (k : ℕ). getD t i 0 ∷ drop k t) e)) l in
-      subst (λ (p : ℕ). Left t out at (drop (i + 1) t ∷ []) (set now (at + i) (getD t i 0)) p) f (next m (byte-writes (getD t i 0) now (at + i) (omega (arith, room m))))
+      subst (λ (p : ℕ). Left t out at (drop (i + 1) t ∷ []) (set now (at + i) (getD t i 0)) p) f
+      (next m (byte-writes (getD t i 0) now (at + i) (omega (arith, room m))))
 
   pub copied-end : (now : List ℕ) (i n : ℕ) → n ≡ length t → n ≤ i → i ≤ n → Copied t out at now i → Writes t out at now (at + n)
   copied-end now i n e h k l =

@@ -21,7 +21,8 @@ fn write_kept(n: u32, out: &mut [u8], at: usize) -> usize
     write_byte(b'\n', out, end2)
 }
 
-// The listing of an answer, written at the start of out; gives its length. Nothing is written, and 0 given, where the answer is not whole or out is shorter than three times the answer.
+// The listing of an answer, written at the start of out; gives its length. Nothing is written, and 0 given, where the answer is not whole or out is
+// shorter than three times the answer.
 pub fn write_listing(answer: &[u8], out: &mut [u8]) -> usize
     ensures { λ r. ⌜ Writes (listing (now (answer .entry)) (length (now (out .entry)))) (now (out .entry)) 0 (now (out .exit)) r ⌝ }
     ensures fits { λ r. ⌜ r ≤ length (now (out .exit)) ⌝ }

@@ -69,8 +69,10 @@ fn write_observation(answer: &[u8], c: Cursor, out: &mut [u8]) -> Cursor
 
 // The next n observations, each with its sources.
 fn write_observations(answer: &[u8], n: usize, c: Cursor, out: &mut [u8]) -> Cursor
-    requires { ⌜ Inside (now answer) c × (n ≤ c .observations) × Room (observationTexts (observationsWith (take n (observationsAt (now answer) c)) (sourcesAt (now answer) c))) (now out) (c .at) ⌝ }
-    ensures text { λ r. ⌜ Writes (observationTexts (observationsWith (take n (observationsAt (now (answer .entry)) c)) (sourcesAt (now (answer .entry)) c))) (now (out .entry)) (c .at) (now (out .exit)) (r .at) ⌝ }
+    requires { ⌜ Inside (now answer) c × (n ≤ c .observations)
+        × Room (observationTexts (observationsWith (take n (observationsAt (now answer) c)) (sourcesAt (now answer) c))) (now out) (c .at) ⌝ }
+    ensures text { λ r. ⌜ Writes (observationTexts (observationsWith (take n (observationsAt (now (answer .entry)) c)) (sourcesAt (now (answer .entry)) c)))
+        (now (out .entry)) (c .at) (now (out .exit)) (r .at) ⌝ }
     ensures moved { λ r. ⌜ Moved (now (answer .entry)) c r n (sourceCount (take n (observationsAt (now (answer .entry)) c))) ⌝ }
 {
     let mut i = 0;
@@ -84,9 +86,16 @@ fn write_observations(answer: &[u8], n: usize, c: Cursor, out: &mut [u8]) -> Cur
 
 // The boundary at a place of the answer, with its own sources and its observations.
 fn write_boundary(answer: &[u8], place: usize, c: Cursor, out: &mut [u8]) -> Cursor
-    requires { ⌜ Inside (now answer) c × (place + 40 ≤ length (now answer)) × Room (boundaryText (boundaryWith (boundaryAt (now answer) place) (take (boundaryAt (now answer) place .observations) (observationsAt (now answer) c)) (sourcesAt (now answer) c))) (now out) (c .at) ⌝ }
-    ensures text { λ r. ⌜ Writes (boundaryText (boundaryWith (boundaryAt (now (answer .entry)) place) (take (boundaryAt (now (answer .entry)) place .observations) (observationsAt (now (answer .entry)) c)) (sourcesAt (now (answer .entry)) c))) (now (out .entry)) (c .at) (now (out .exit)) (r .at) ⌝ }
-    ensures moved { λ r. ⌜ Moved (now (answer .entry)) c r (boundaryAt (now (answer .entry)) place .observations) (boundaryAt (now (answer .entry)) place .sources + sourceCount (take (boundaryAt (now (answer .entry)) place .observations) (observationsAt (now (answer .entry)) c))) ⌝ }
+    requires { ⌜ Inside (now answer) c × (place + 40 ≤ length (now answer))
+        × Room (boundaryText (boundaryWith (boundaryAt (now answer) place)
+        (take (boundaryAt (now answer) place .observations) (observationsAt (now answer) c)) (sourcesAt (now answer) c))) (now out) (c .at) ⌝ }
+    ensures text { λ r. ⌜ Writes
+        (boundaryText (boundaryWith (boundaryAt (now (answer .entry)) place)
+        (take (boundaryAt (now (answer .entry)) place .observations) (observationsAt (now (answer .entry)) c)) (sourcesAt (now (answer .entry)) c)))
+        (now (out .entry)) (c .at) (now (out .exit)) (r .at) ⌝ }
+    ensures moved { λ r. ⌜ Moved (now (answer .entry)) c r (boundaryAt (now (answer .entry)) place .observations)
+        (boundaryAt (now (answer .entry)) place .sources + sourceCount
+        (take (boundaryAt (now (answer .entry)) place .observations) (observationsAt (now (answer .entry)) c))) ⌝ }
 {
     let source = c.source;
     let left = c.sources;
@@ -107,8 +116,12 @@ fn write_boundary(answer: &[u8], place: usize, c: Cursor, out: &mut [u8]) -> Cur
 
 // The n boundaries from a place of the answer on.
 pub fn write_boundaries(answer: &[u8], place: usize, n: usize, c: Cursor, out: &mut [u8]) -> usize
-    requires { ⌜ Inside (now answer) c × (place + n * 40 ≤ length (now answer)) × Room (boundaryTexts (boundariesWith (boundaryRecords (now answer) place n) (observationsAt (now answer) c) (sourcesAt (now answer) c))) (now out) (c .at) ⌝ }
-    ensures { λ r. ⌜ Writes (boundaryTexts (boundariesWith (boundaryRecords (now (answer .entry)) place n) (observationsAt (now (answer .entry)) c) (sourcesAt (now (answer .entry)) c))) (now (out .entry)) (c .at) (now (out .exit)) r ⌝ }
+    requires { ⌜ Inside (now answer) c × (place + n * 40 ≤ length (now answer))
+        × Room (boundaryTexts (boundariesWith (boundaryRecords (now answer) place n) (observationsAt (now answer) c) (sourcesAt (now answer) c))) (now out)
+        (c .at) ⌝ }
+    ensures { λ r. ⌜ Writes (boundaryTexts
+        (boundariesWith (boundaryRecords (now (answer .entry)) place n) (observationsAt (now (answer .entry)) c) (sourcesAt (now (answer .entry)) c)))
+        (now (out .entry)) (c .at) (now (out .exit)) r ⌝ }
 {
     let mut i = 0;
     let mut d = c;

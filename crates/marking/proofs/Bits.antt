@@ -29,11 +29,13 @@ bits b s t u v e = go (bitOf s) (bitOf t) (bitOf u) (bitOf v) (bit-small s) (bit
     go : (k l m n : ℕ) → k ≤ 1 → l ≤ 1 → m ≤ 1 → n ≤ 1 → b ≡ k + 2 * l + 4 * m + 8 * n → (b % 2 ≡ k) × (b / 2 % 2 ≡ l) × (b / 4 % 2 ≡ m) × (b / 8 % 2 ≡ n)
     go k l m n p q r o f = (omega arith, omega arith, omega arith, omega arith)
 
-pub byte-is : (dirs : List ℕ) (g : Grid) (ss : List Span) (i : ℕ) → openByte dirs g ss i ≡ byteOf (isOpen dirs g ss i 0) (isOpen dirs g ss i 1) (isOpen dirs g ss i 2) (isOpen dirs g ss i 3)
+pub byte-is : (dirs : List ℕ) (g : Grid) (ss : List Span) (i : ℕ)
+    → openByte dirs g ss i ≡ byteOf (isOpen dirs g ss i 0) (isOpen dirs g ss i 1) (isOpen dirs g ss i 2) (isOpen dirs g ss i 3)
 unfolding openByte
 byte-is dirs g ss i = refl
 
-pub byte-from : (dirs : List ℕ) (g : Grid) (ss : List Span) (i k l m n : ℕ) → k ≡ bitOf (isOpen dirs g ss i 0) → l ≡ bitOf (isOpen dirs g ss i 1) → m ≡ bitOf (isOpen dirs g ss i 2) → n ≡ bitOf (isOpen dirs g ss i 3) →
+pub byte-from : (dirs : List ℕ) (g : Grid) (ss : List Span) (i k l m n : ℕ) → k ≡ bitOf (isOpen dirs g ss i 0) → l ≡ bitOf (isOpen dirs g ss i 1)
+    → m ≡ bitOf (isOpen dirs g ss i 2) → n ≡ bitOf (isOpen dirs g ss i 3) →
     k + 2 * l + 4 * m + 8 * n ≡ openByte dirs g ss i
 unfolding openByte
 byte-from dirs g ss i k l m n a b c d = omega arith
@@ -70,7 +72,8 @@ module _ (dirs : List ℕ) (g : Grid) (ss : List Span) (s : Span) (i k : ℕ) wh
   -- an open step is one
   pub open-step : isOpen dirs g ss i k ≡ true → hasStep g i (5 + k) ≡ true
   unfolding isOpen
-  open-step h = and-parts (hasStep g i (5 + k)) (not (isCut g ss (stepOf i (neighbour g i (5 + k))))) (and-parts (has (5 + k) dirs) (hasStep g i (5 + k) && not (isCut g ss (stepOf i (neighbour g i (5 + k))))) h .1) .0
+  open-step h = and-parts (hasStep g i (5 + k)) (not (isCut g ss (stepOf i (neighbour g i (5 + k)))))
+      (and-parts (has (5 + k) dirs) (hasStep g i (5 + k) && not (isCut g ss (stepOf i (neighbour g i (5 + k))))) h .1) .0
 
   pub open-leads : isOpen dirs g ss i k ≡ true → leadsOn g i (5 + k) ≡ true
   open-leads h = has-step g i (5 + k) (open-step h) .leads
@@ -80,14 +83,21 @@ module _ (dirs : List ℕ) (g : Grid) (ss : List Span) (s : Span) (i k : ℕ) wh
   open-off whole o l off =
       open-last ∙ by-test (isOpen dirs g ss i k)
       (λ h.
-      let n : cutBy g s (stepOf i (neighbour g i (5 + k))) ≡ false = is-false (cutBy g s (stepOf i (neighbour g i (5 + k)))) (λ q. off (cut-in whole s o i k l (open-step h) q)) in
+      let n : cutBy g s (stepOf i (neighbour g i (5 + k))) ≡ false =
+      is-false (cutBy g s (stepOf i (neighbour g i (5 + k)))) (λ q. off (cut-in whole s o i k l (open-step h) q)) in
       rw (h, n))
       (λ h. rw h)
 
-pub byte-off : (dirs : List ℕ) (g : Grid) (ss : List Span) (s : Span) (i : ℕ) → Whole g → posLe (s .a) (s .b) ≡ true → (InStrip g s i → ⊥) → openByte dirs g (ss ++ (s ∷ [])) i ≡ openByte dirs g ss i
+pub byte-off : (dirs : List ℕ) (g : Grid) (ss : List Span) (s : Span) (i : ℕ) → Whole g → posLe (s .a) (s .b) ≡ true → (InStrip g s i → ⊥)
+    → openByte dirs g (ss ++ (s ∷ [])) i ≡ openByte dirs g ss i
 unfolding openByte
 byte-off dirs g ss s i whole o off =
-    rw (open-off dirs g ss s i 0 whole o (omega arith) off, open-off dirs g ss s i 1 whole o (omega arith) off, open-off dirs g ss s i 2 whole o (omega arith) off, open-off dirs g ss s i 3 whole o (omega arith) off)
+    rw (
+      open-off dirs g ss s i 0 whole o (omega arith) off,
+      open-off dirs g ss s i 1 whole o (omega arith) off,
+      open-off dirs g ss s i 2 whole o (omega arith) off,
+      open-off dirs g ss s i 3 whole o (omega arith) off,
+    )
 
 -- a bit that is kept, or is not
 pub kept-none : (b : ℕ) (t q : Bool) → b ≡ 0 → b ≡ bitOf t → 0 ≡ bitOf (t && not q)

@@ -16,7 +16,8 @@ use Rattle.marking.specs.Marks.{Held}
 pub held-none : (base : ℕ) (f : ℕ → ℕ) (s : List ℕ) → Held base 0 f s s
 held-none base f s = record { long = refl; here = λ i l. absurd (omega arith); rest = λ j off. refl }
 
-pub held-next : {base n : ℕ} {f : ℕ → ℕ} {before work : List ℕ} (v : ℕ) → base + n < length work → v ≡ f n → Held base n f before work → Held base (n + 1) f before (set work (base + n) v)
+pub held-next : {base n : ℕ} {f : ℕ → ℕ} {before work : List ℕ} (v : ℕ) → base + n < length work → v ≡ f n → Held base n f before work
+    → Held base (n + 1) f before (set work (base + n) v)
 held-next {base} {n} {f} {before} {work} v room e h = record {
   long = length-set work (base + n) v ∙ h .long;
   here = λ i l.
@@ -78,7 +79,8 @@ module _ (s : List ℕ) (base n : ℕ) (f : ℕ → ℕ) (fits : base + n ≤ le
           (λ a. by-cases (decLt j (base + n))
           (λ b. let e : base + (j - base) ≡ j = omega arith in
           let k : j - base < n = omega arith in
-          let z : getD work (base + (j - base)) 0 ≡ getD (splice s base (rows n f)) (base + (j - base)) 0 = h .here (j - base) k ∙ sym (splice-here (j - base) k) in
+          let z : getD work (base + (j - base)) 0 ≡ getD (splice s base (rows n f)) (base + (j - base)) 0 = h .here (j - base) k
+          ∙ sym (splice-here (j - base) k) in
           rw e at z)
           (λ b. let o : base ≤ j → j < base + n → ⊥ = λ p q. b q in h .rest j o ∙ sym (splice-rest j o)))
           (λ a. let o : base ≤ j → j < base + n → ⊥ = λ p q. a p in h .rest j o ∙ sym (splice-rest j o))

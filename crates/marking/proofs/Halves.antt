@@ -57,7 +57,8 @@ module _ (g : Grid) (whole : Whole g) (sides : Sides (g .width) (g .height)) (s 
     half-skip {base} {dirs} {ss} {k} {before} {work} m le off h = record {
       long = h .long;
       done = λ i l r.
-          by-cases (decLt (rank g s i) k) (λ q. h .done i l q) (λ q. h .left i l (omega arith) ∙ sym (byte-off dirs g ss s i whole o (off i l (omega arith) r)));
+          by-cases (decLt (rank g s i) k) (λ q. h .done i l q)
+          (λ q. h .left i l (omega arith) ∙ sym (byte-off dirs g ss s i whole o (off i l (omega arith) r)));
       left = λ i l r. h .left i l (omega arith);
       rest = h .rest;
     }
@@ -72,7 +73,8 @@ module _ (g : Grid) (whole : Whole g) (sides : Sides (g .width) (g .height)) (s 
     }
 
     pub half-end : {base : ℕ} {dirs : List ℕ} {ss : List Span} {k : ℕ} {before work : List ℕ} →
-        ((i : ℕ) → i < size g → k ≤ rank g s i → InStrip g s i → ⊥) → Half base g dirs ss s k before work → Held base (size g) (openByte dirs g (ss ++ (s ∷ []))) before work
+        ((i : ℕ) → i < size g → k ≤ rank g s i → InStrip g s i → ⊥) → Half base g dirs ss s k before work
+        → Held base (size g) (openByte dirs g (ss ++ (s ∷ []))) before work
     half-end {base} {dirs} {ss} {k} {before} {work} off h = record {
       long = h .long;
       here = λ i l.
@@ -81,13 +83,15 @@ module _ (g : Grid) (whole : Whole g) (sides : Sides (g .width) (g .height)) (s 
     }
 
   -- one cell is done
-  pub half-set : {base : ℕ} {dirs : List ℕ} {ss : List Span} {k : ℕ} {before work : List ℕ} (i v : ℕ) → i < size g → base + size g ≤ length work → rank g s i ≡ k →
+  pub half-set : {base : ℕ} {dirs : List ℕ} {ss : List Span} {k : ℕ} {before work : List ℕ} (i v : ℕ) → i < size g → base + size g ≤ length work
+      → rank g s i ≡ k →
       v ≡ openByte dirs g (ss ++ (s ∷ [])) i → Half base g dirs ss s k before work → Half base g dirs ss s (k + 1) before (set work (base + i) v)
   half-set {base} {dirs} {ss} {k} {before} {work} i v l room r ev h = record {
     long = length-set work (base + i) v ∙ h .long;
     done = λ j m q.
         by-cases (ℕ-discrete j i)
-        (λ e. ap (λ (x : ℕ). getD (set work (base + i) v) (base + x) 0) e ∙ getD-set-same work (base + i) v 0 (omega arith) ∙ ev ∙ ap (openByte dirs g (ss ++ (s ∷ []))) (sym e))
+        (λ e. ap (λ (x : ℕ). getD (set work (base + i) v) (base + x) 0) e ∙ getD-set-same work (base + i) v 0 (omega arith) ∙ ev
+        ∙ ap (openByte dirs g (ss ++ (s ∷ []))) (sym e))
         (λ ne. getD-set-other work (base + i) (base + j) v 0 (λ e. ne (omega arith)) ∙ h .done j m (below j m q ne));
     left = λ j m q. getD-set-other work (base + i) (base + j) v 0 (λ e. over j q (omega arith)) ∙ h .left j m (omega arith);
     rest = λ j off. getD-set-other work (base + i) j v 0 (λ e. off (omega arith) (omega arith)) ∙ h .rest j off;
@@ -124,7 +128,8 @@ module _ {g : Grid} {w h : ℕ} (m : MapOf w h g) (sides : Sides w h) (s : Span)
       let t : (stripMinor w h s c .first ≤ minorOf g s i) × (minorOf g s i ≤ stripMinor w h s c .last) = rw e at p in
       omega arith
 
-  pub past-minor : (c k i : ℕ) → i < size g → stripMinor w h s c .last < k → c * 1024 + min k 1024 ≤ rank g s i → rank g s i < (c + 1) * 1024 → InStrip g s i → ⊥
+  pub past-minor : (c k i : ℕ) → i < size g → stripMinor w h s c .last < k → c * 1024 + min k 1024 ≤ rank g s i → rank g s i < (c + 1) * 1024 → InStrip g s i
+      → ⊥
   past-minor c k i l q r u z =
       let n = minor-small g (m .whole) (sides-of m sides) s i l in
       let e : majorOf g s i ≡ c = omega arith in
@@ -154,7 +159,8 @@ module _ {w h : ℕ} {g : Grid} (m : MapOf w h g) where
 pub leads-at : (w h x y d : ℕ) → x < w → leadsOn (gridOf w h []) (y * w + x) d ≡ true → (0 < x + d % 3) × (x + d % 3 ≤ w) × (0 < y + d / 3) × (y + d / 3 ≤ h)
 leads-at w h x y d l e = go (leads-means (gridOf w h []) (y * w + x) d e) (column-of (gridOf w h []) x y l) (row-of (gridOf w h []) x y l)
   where
-    go : Leads (gridOf w h []) (y * w + x) d → columnOf (gridOf w h []) (y * w + x) ≡ x → rowOf (gridOf w h []) (y * w + x) ≡ y → (0 < x + d % 3) × (x + d % 3 ≤ w) × (0 < y + d / 3) × (y + d / 3 ≤ h)
+    go : Leads (gridOf w h []) (y * w + x) d → columnOf (gridOf w h []) (y * w + x) ≡ x → rowOf (gridOf w h []) (y * w + x) ≡ y → (0 < x + d % 3)
+        × (x + d % 3 ≤ w) × (0 < y + d / 3) × (y + d / 3 ≤ h)
     go m p q = (omega arith, omega arith, omega arith, omega arith)
 
 -- the ends of a span on the map
@@ -174,7 +180,8 @@ rank-place s t c cm x y et ex ey = rw (← et) (go t ex ey)
     go true a b = omega arith
     go false a b = omega arith
 
-pub half-at : {base : ℕ} {g : Grid} {dirs : List ℕ} {ss : List Span} {s : Span} {k : ℕ} {before work : List ℕ} (m : ℕ) → k ≡ m → Half base g dirs ss s k before work → Half base g dirs ss s m before work
+pub half-at : {base : ℕ} {g : Grid} {dirs : List ℕ} {ss : List Span} {s : Span} {k : ℕ} {before work : List ℕ} (m : ℕ) → k ≡ m
+    → Half base g dirs ss s k before work → Half base g dirs ss s m before work
 half-at m e h = rw (← e) h
 
 pub limit-small : {w h : ℕ} → Sides w h → (t : Bool) → (cond t h w ≤ 1024) × (cond t w h ≤ 1024)

@@ -17,8 +17,10 @@ spans-none ends = refl
 
 pub spans-last : (ends : List ℕ) (k : ℕ) {s : Span} → s ≡ spanIn ends k → spansIn ends k ++ (s ∷ []) ≡ spansIn ends (k + 1)
 unfolding spansIn
-spans-last ends k e = ap (λ (t : Span). rows k (spanIn ends) ++ (t ∷ [])) e ∙ (sym (rows-last k (spanIn ends)) ∙ ap (λ (n : ℕ). rows n (spanIn ends)) (sym (add-one k)))
+spans-last ends k e = ap (λ (t : Span). rows k (spanIn ends) ++ (t ∷ [])) e
+    ∙ (sym (rows-last k (spanIn ends)) ∙ ap (λ (n : ℕ). rows n (spanIn ends)) (sym (add-one k)))
 
 -- the same bytes of equal lists of spans
-pub held-as : {base n : ℕ} {before work : List ℕ} (dirs : List ℕ) (g : Grid) {ss ts : List Span} → ss ≡ ts → Held base n (openByte dirs g ss) before work → Held base n (openByte dirs g ts) before work
+pub held-as : {base n : ℕ} {before work : List ℕ} (dirs : List ℕ) (g : Grid) {ss ts : List Span} → ss ≡ ts → Held base n (openByte dirs g ss) before work
+    → Held base n (openByte dirs g ts) before work
 held-as dirs g e h = rw (← e) h

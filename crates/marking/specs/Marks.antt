@@ -39,4 +39,5 @@ pub record Half (base : ℕ) (g : Grid) (dirs : List ℕ) (ss : List Span) (s : 
 -- from one list to another, the cells of rank from j to k get the bytes with span s
 abbrev pub Closes : ℕ → ℕ → ℕ → Span → ℕ → ℕ → List ℕ → List ℕ → Type 0
 Closes width height base s j k from to =
-    (g : Grid) (dirs : List ℕ) (ss : List Span) (before : List ℕ) → MapOf width height g → Half base g dirs ss s j before from → Half base g dirs ss s k before to
+    (g : Grid) (dirs : List ℕ) (ss : List Span) (before : List ℕ) → MapOf width height g → Half base g dirs ss s j before from
+    → Half base g dirs ss s k before to

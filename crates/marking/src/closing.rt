@@ -25,7 +25,8 @@ use position::WalkPosition;
 // The bit of direction d at the cell at a place of the map, where the span cuts no step, and else 0.
 fn keep_bit(bit: u8, span: Span, width: u32, height: u32, position: WalkPosition, d: u32) -> u8
     requires { ⌜ Sides width height × SpanFits width height span × (position .x < width) × (position .y < height) × (d < 9) ⌝ }
-    ensures { λ r. ⌜ ((g : Grid) (i : ℕ) (t : Bool) → MapOf width height g → columnOf g i ≡ position .x → rowOf g i ≡ position .y → (t ≡ true → leadsOn g i d ≡ true) → bit ≡ bitOf t → r ≡ bitOf (t && not (cutBy g span (stepOf i (neighbour g i d))))) × (r ≤ 1) ⌝ }
+    ensures { λ r. ⌜ ((g : Grid) (i : ℕ) (t : Bool) → MapOf width height g → columnOf g i ≡ position .x → rowOf g i ≡ position .y
+        → (t ≡ true → leadsOn g i d ≡ true) → bit ≡ bitOf t → r ≡ bitOf (t && not (cutBy g span (stepOf i (neighbour g i d))))) × (r ≤ 1) ⌝ }
 {
     if bit == 0 {
         return 0;
@@ -42,7 +43,8 @@ fn keep_bit(bit: u8, span: Span, width: u32, height: u32, position: WalkPosition
 // The byte of the cell at a place of the map, with one more span.
 fn close_byte(byte: u8, span: Span, width: u32, height: u32, position: WalkPosition) -> u8
     requires { ⌜ Sides width height × SpanFits width height span × (position .x < width) × (position .y < height) ⌝ }
-    ensures { λ r. ⌜ ((g : Grid) (dirs : List ℕ) (ss : List Span) (i : ℕ) → MapOf width height g → columnOf g i ≡ position .x → rowOf g i ≡ position .y → byte ≡ openByte dirs g ss i → r ≡ openByte dirs g (ss ++ (span ∷ [])) i) ⌝ }
+    ensures { λ r. ⌜ ((g : Grid) (dirs : List ℕ) (ss : List Span) (i : ℕ) → MapOf width height g → columnOf g i ≡ position .x → rowOf g i ≡ position .y
+        → byte ≡ openByte dirs g ss i → r ≡ openByte dirs g (ss ++ (span ∷ [])) i) ⌝ }
 {
     let right = keep_bit(byte % 2, span, width, height, position, 5);
     let below_left = keep_bit(byte / 2 % 2, span, width, height, position, 6);
@@ -60,8 +62,10 @@ fn close_cell(
     work: &mut [u8],
     base: usize,
 )
-    requires { ⌜ Sides width height × SpanFits width height span × (base + width * height ≤ length (now work)) × (position .x < width) × (position .y < height) ⌝ }
-    ensures { λ r. ⌜ Closes width height base span (rankAt span (position .x) (position .y)) (rankAt span (position .x) (position .y) + 1) (now (work .entry)) (now (work .exit)) ⌝ }
+    requires { ⌜ Sides width height × SpanFits width height span × (base + width * height ≤ length (now work)) × (position .x < width)
+        × (position .y < height) ⌝ }
+    ensures { λ r. ⌜ Closes width height base span (rankAt span (position .x) (position .y)) (rankAt span (position .x) (position .y) + 1) (now (work .entry))
+        (now (work .exit)) ⌝ }
 {
     let i = byte_of(width, position, base);
     work[i] = close_byte(work[i], span, width, height, position);
@@ -95,7 +99,9 @@ fn close_line(span: Span, width: u32, height: u32, c: u32, work: &mut [u8], base
 // Takes the steps that the span cuts out of the bytes from base on, which are those of other spans.
 pub fn close_cut(span: Span, width: u32, height: u32, work: &mut [u8], base: usize)
     requires { ⌜ Sides width height × SpanFits width height span × (base + width * height ≤ length (now work)) ⌝ }
-    ensures { λ r. ⌜ ((g : Grid) (dirs : List ℕ) (ss : List Span) (before : List ℕ) → MapOf width height g → Held base (size g) (openByte dirs g ss) before (now (work .entry)) → Held base (size g) (openByte dirs g (ss ++ (span ∷ []))) before (now (work .exit))) ⌝ }
+    ensures { λ r. ⌜ ((g : Grid) (dirs : List ℕ) (ss : List Span) (before : List ℕ) → MapOf width height g
+        → Held base (size g) (openByte dirs g ss) before (now (work .entry))
+        → Held base (size g) (openByte dirs g (ss ++ (span ∷ []))) before (now (work .exit))) ⌝ }
 {
     let range = strip_axis(span, width, height);
     let last = range.last;

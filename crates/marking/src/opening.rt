@@ -35,7 +35,9 @@ fn open_bit(
     d: u32,
 ) -> u8
     requires { ⌜ Placed width height (now cells) position × (d < 9) ⌝ }
-    ensures { λ r. ⌜ (r ≡ bitOf (has d (directionsOf directions) && hasStep (record { width = width; height = height; cells = now (cells .entry) }) (position .y * width + position .x) d)) × (r ≤ 1) ⌝ }
+    ensures { λ r. ⌜ (r ≡ bitOf
+        (has d (directionsOf directions) && hasStep (record { width = width; height = height; cells = now (cells .entry) })
+        (position .y * width + position .x) d)) × (r ≤ 1) ⌝ }
 {
     if !has_direction(directions, d) {
         return 0;
@@ -49,7 +51,8 @@ fn open_bit(
 // The byte of the cell at a place of the map, where no step is cut.
 fn open_byte(cells: &[u8], width: u32, height: u32, directions: u32, position: WalkPosition) -> u8
     requires { ⌜ Placed width height (now cells) position ⌝ }
-    ensures { λ r. ⌜ r ≡ openByte (directionsOf directions) (record { width = width; height = height; cells = now (cells .entry) }) [] (position .y * width + position .x) ⌝ }
+    ensures { λ r. ⌜ r ≡ openByte (directionsOf directions) (record { width = width; height = height; cells = now (cells .entry) }) []
+        (position .y * width + position .x) ⌝ }
 {
     let right = open_bit(cells, width, height, directions, position, 5);
     let below_left = open_bit(cells, width, height, directions, position, 6);
@@ -69,7 +72,10 @@ fn open_row(
     base: usize,
 )
     requires { ⌜ Sides width height × (length (now cells) ≡ width * height) × (base + width * height ≤ length (now work)) × (y < height) ⌝ }
-    ensures { λ r. ⌜ ((before : List ℕ) → Held base (y * width) (openByte (directionsOf directions) (record { width = width; height = height; cells = now (cells .entry) }) []) before (now (work .entry)) → Held base ((y + 1) * width) (openByte (directionsOf directions) (record { width = width; height = height; cells = now (cells .entry) }) []) before (now (work .exit))) ⌝ }
+    ensures { λ r. ⌜ ((before : List ℕ)
+        → Held base (y * width) (openByte (directionsOf directions) (record { width = width; height = height; cells = now (cells .entry) }) []) before
+        (now (work .entry)) → Held base ((y + 1) * width)
+        (openByte (directionsOf directions) (record { width = width; height = height; cells = now (cells .entry) }) []) before (now (work .exit))) ⌝ }
 {
     let mut x: u32 = 0;
     while x < width {
@@ -90,7 +96,9 @@ pub fn open_steps(
     base: usize,
 )
     requires { ⌜ Sides width height × (length (now cells) ≡ width * height) × (base + width * height ≤ length (now work)) ⌝ }
-    ensures { λ r. ⌜ now (work .exit) ≡ splice (now (work .entry)) base (rows (length (now (cells .entry))) (openByte (directionsOf directions) (record { width = width; height = height; cells = now (cells .entry) }) [])) ⌝ }
+    ensures { λ r. ⌜ now (work .exit) ≡ splice (now (work .entry)) base
+        (rows (length (now (cells .entry)))
+        (openByte (directionsOf directions) (record { width = width; height = height; cells = now (cells .entry) }) [])) ⌝ }
 {
     let mut y: u32 = 0;
     while y < height {

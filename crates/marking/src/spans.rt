@@ -40,8 +40,12 @@ pub fn mark_spans(
     work: &mut [u8],
     base: usize,
 )
-    requires { ⌜ Sides width height × (length (now cells) ≡ width * height) × (base + width * height ≤ length (now work)) × (count ≤ 256) × SpansFit width height (now ends) count ⌝ }
-    ensures { λ r. ⌜ now (work .exit) ≡ splice (now (work .entry)) base (rows (length (now (cells .entry))) (openByte (directionsOf directions) (record { width = width; height = height; cells = now (cells .entry) }) (spansIn (now (ends .entry)) count))) ⌝ }
+    requires { ⌜ Sides width height × (length (now cells) ≡ width * height) × (base + width * height ≤ length (now work)) × (count ≤ 256)
+        × SpansFit width height (now ends) count ⌝ }
+    ensures { λ r. ⌜ now (work .exit) ≡ splice (now (work .entry)) base
+        (rows (length (now (cells .entry)))
+        (openByte (directionsOf directions) (record { width = width; height = height; cells = now (cells .entry) })
+        (spansIn (now (ends .entry)) count))) ⌝ }
 {
     open_steps(cells, width, height, directions, work, base);
     let mut k: usize = 0;

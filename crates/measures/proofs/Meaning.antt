@@ -61,12 +61,14 @@ module _ {limits : Limits} {own bits regions firsts seconds : List ℕ} {g : Gri
         (λ q.
         ap (λ (z : ℕ). at (set fs k f) z) q
         ∙ (getD-set-same fs k f 0 (omega (arith, J .flat-long))
-        ∙ (v ∙ ap (λ (z : ℕ). cond (flatIn (linkNow limits own bits regions firsts seconds g ls z n) (statsNow limits own bits regions firsts seconds g ls z n)) 1 0) (sym q))))
+        ∙ (v ∙ ap (λ (z : ℕ). cond (flatIn (linkNow limits own bits regions firsts seconds g ls z n) (statsNow limits own bits regions firsts seconds g ls z n))
+        1 0) (sym q))))
         (λ q. getD-set-other fs k j f 0 q ∙ J .flat-is j (omega arith));
   }
 
   -- from tables of links and statistics
-  pub judge-row : {n k links : ℕ} {table : List LinkHeld} {stats : List StatsHeld} {ps fs : List ℕ} {p f : ℕ} (d e : LinkHeld) (h : StatsHeld) → links ≤ 256 → k < links
+  pub judge-row : {n k links : ℕ} {table : List LinkHeld} {stats : List StatsHeld} {ps fs : List ℕ} {p f : ℕ} (d e : LinkHeld) (h : StatsHeld) → links ≤ 256
+      → k < links
       → Running limits own bits regions firsts seconds g ls links n table stats → Judged limits own bits regions firsts seconds g ls n k ps fs
       → p ≡ cond (passing (measuredIn limits (getD table k d))) 1 0 → f ≡ cond (flatIn (getD table k e) (getD stats k h)) 1 0
       → Judged limits own bits regions firsts seconds g ls n (k + 1) (set ps k p) (set fs k f)
@@ -77,17 +79,21 @@ module _ {limits : Limits} {own bits regions firsts seconds : List ℕ} {g : Gri
       ∙ ap (λ (t : StatsHeld). cond (flatIn (linkNow limits own bits regions firsts seconds g ls k n) t) 1 0) (R .stats-is k h l)))
 
   -- from a link and statistics that are by themselves
-  pub judge-one : {n k : ℕ} {ps fs : List ℕ} {p f : ℕ} {r : LinkHeld} {s : StatsHeld} → length ls ≡ n → k < 256 → Judged limits own bits regions firsts seconds g ls n k ps fs
+  pub judge-one : {n k : ℕ} {ps fs : List ℕ} {p f : ℕ} {r : LinkHeld} {s : StatsHeld} → length ls ≡ n → k < 256
+      → Judged limits own bits regions firsts seconds g ls n k ps fs
       → r ≡ linkNow limits own bits regions firsts seconds g ls k n → statsIn s ≡ regionStats g ls (at regions k)
-      → p ≡ cond (passing (measuredIn limits r)) 1 0 → f ≡ cond (flatIn r s) 1 0 → Judged limits own bits regions firsts seconds g ls n (k + 1) (set ps k p) (set fs k f)
+      → p ≡ cond (passing (measuredIn limits r)) 1 0 → f ≡ cond (flatIn r s) 1 0
+      → Judged limits own bits regions firsts seconds g ls n (k + 1) (set ps k p) (set fs k f)
   judge-one {n} {k} {r = r} many l J e q u v =
       judge-next l J (u ∙ ap (λ (t : LinkHeld). cond (passing (measuredIn limits t)) 1 0) e)
       (v
       ∙ (ap (λ (t : RegionStats). cond (r .inside && (not (t .hasRamp) && eqb (elevationKinds t) 1)) 1 0)
-      (q ∙ sym (ap (λ (cs : List ℕ). statsIn (statsAfter g cs)) (ap (λ (z : ℕ). firstCells ls (at regions k) z) (sym many) ∙ cells-all ls (at regions k)) ∙ after-all g ls (at regions k)))
+      (q ∙ sym (ap (λ (cs : List ℕ). statsIn (statsAfter g cs)) (ap (λ (z : ℕ). firstCells ls (at regions k) z) (sym many) ∙ cells-all ls (at regions k))
+      ∙ after-all g ls (at regions k)))
       ∙ ap (λ (t : LinkHeld). cond (flatIn t (statsNow limits own bits regions firsts seconds g ls k n)) 1 0) e))
 
-  pub judge-end : {n k links : ℕ} {ps fs : List ℕ} → k ≡ links → Judged limits own bits regions firsts seconds g ls n k ps fs → Judged limits own bits regions firsts seconds g ls n links ps fs
+  pub judge-end : {n k links : ℕ} {ps fs : List ℕ} → k ≡ links → Judged limits own bits regions firsts seconds g ls n k ps fs
+      → Judged limits own bits regions firsts seconds g ls n links ps fs
   judge-end {n} {ps = ps} {fs = fs} e J = subst (λ (z : ℕ). Judged limits own bits regions firsts seconds g ls n z ps fs) e J
 
   module _ {n links : ℕ} {ps fs : List ℕ} (many : length ls ≡ n) (J : Judged limits own bits regions firsts seconds g ls n links ps fs)
@@ -95,10 +101,14 @@ module _ {limits : Limits} {own bits regions firsts seconds : List ℕ} {g : Gri
       (first : at firsts k < length l) (second : at seconds k < length l) where
     value : valueIn own bits (at firsts k) (at seconds k) ≡ valueOf l (linkRow regions firsts seconds k)
     value =
-        ap (λ (s : Span). linkOf (side s (at bits (at firsts k))) (side (spanIn own (at seconds k)) (at bits (at seconds k)))) (sym (B .ends (at firsts k) first))
-        ∙ (ap (λ (z : ℕ). linkOf (side (endsAt l (at firsts k)) z) (side (spanIn own (at seconds k)) (at bits (at seconds k)))) (sym (B .widths (at firsts k) first))
-        ∙ (ap (λ (s : Span). linkOf (side (endsAt l (at firsts k)) (bitsAt l (at firsts k))) (side s (at bits (at seconds k)))) (sym (B .ends (at seconds k) second))
-        ∙ ap (λ (z : ℕ). linkOf (side (endsAt l (at firsts k)) (bitsAt l (at firsts k))) (side (endsAt l (at seconds k)) z)) (sym (B .widths (at seconds k) second))))
+        ap (λ (s : Span). linkOf (side s (at bits (at firsts k))) (side (spanIn own (at seconds k)) (at bits (at seconds k))))
+        (sym (B .ends (at firsts k) first))
+        ∙ (ap (λ (z : ℕ). linkOf (side (endsAt l (at firsts k)) z) (side (spanIn own (at seconds k)) (at bits (at seconds k))))
+        (sym (B .widths (at firsts k) first))
+        ∙ (ap (λ (s : Span). linkOf (side (endsAt l (at firsts k)) (bitsAt l (at firsts k))) (side s (at bits (at seconds k))))
+        (sym (B .ends (at seconds k) second))
+        ∙ ap (λ (z : ℕ). linkOf (side (endsAt l (at firsts k)) (bitsAt l (at firsts k))) (side (endsAt l (at seconds k)) z))
+        (sym (B .widths (at seconds k) second))))
 
     all : firstCells ls (at regions k) n ≡ regionCells ls (at regions k)
     all = ap (λ (z : ℕ). firstCells ls (at regions k) z) (sym many) ∙ cells-all ls (at regions k)
@@ -125,7 +135,8 @@ module _ {limits : Limits} {own bits regions firsts seconds : List ℕ} {g : Gri
         ap (λ (t : Link). insideFlat limits t (g .width) (firstCells ls (at regions k) n)) value
         ∙ ap (λ (cs : List ℕ). insideFlat limits (valueOf l (linkRow regions firsts seconds k)) (g .width) cs) cells
 
-    flat : (not (statsNow limits own bits regions firsts seconds g ls k n .«has_ramp») && eqb (elevationKinds (statsIn (statsNow limits own bits regions firsts seconds g ls k n))) 1) ≡ isFlat dirs g l (at regions k)
+    flat : (not (statsNow limits own bits regions firsts seconds g ls k n .«has_ramp») && eqb
+        (elevationKinds (statsIn (statsNow limits own bits regions firsts seconds g ls k n))) 1) ≡ isFlat dirs g l (at regions k)
     unfolding isFlat
     flat = ap (λ (t : RegionStats). not (t .hasRamp) && eqb (elevationKinds t) 1) stats
 
@@ -136,10 +147,13 @@ module _ {limits : Limits} {own bits regions firsts seconds : List ℕ} {g : Gri
     flat-right : at fs k ≡ cond (staysInside limits dirs g l (linkRow regions firsts seconds k) && isFlat dirs g l (at regions k)) 1 0
     flat-right =
         J .flat-is k b
-        ∙ (ap (λ (t : Bool). cond (t && (not (statsNow limits own bits regions firsts seconds g ls k n .«has_ramp») && eqb (elevationKinds (statsIn (statsNow limits own bits regions firsts seconds g ls k n))) 1)) 1 0) inside
+        ∙ (ap (λ (t : Bool). cond
+        (t && (not (statsNow limits own bits regions firsts seconds g ls k n .«has_ramp») && eqb
+        (elevationKinds (statsIn (statsNow limits own bits regions firsts seconds g ls k n))) 1)) 1 0) inside
         ∙ ap (λ (t : Bool). cond (staysInside limits dirs g l (linkRow regions firsts seconds k) && t) 1 0) flat)
 
-  pub judged-measured : {n links : ℕ} {ps fs : List ℕ} → length ls ≡ n → Judged limits own bits regions firsts seconds g ls n links ps fs → Measured limits own bits regions firsts seconds g ls links ps fs
+  pub judged-measured : {n links : ℕ} {ps fs : List ℕ} → length ls ≡ n → Judged limits own bits regions firsts seconds g ls n links ps fs
+      → Measured limits own bits regions firsts seconds g ls links ps fs
   judged-measured many J = record {
     passing-is = λ dirs l ramps B labels k b first second. passing-right many J dirs l ramps B labels k b first second;
     flat-is = λ dirs l ramps B labels k b first second. flat-right many J dirs l ramps B labels k b first second;
@@ -154,7 +168,8 @@ none-measured e = record {
 }
 
 -- by labels that are the same
-pub measured-by : {limits : Limits} {own bits regions firsts seconds : List ℕ} {g : Grid} {ls ms : List ℕ} {n links : ℕ} {ps fs : List ℕ} → length ms ≡ n → ls ≡ ms
+pub measured-by : {limits : Limits} {own bits regions firsts seconds : List ℕ} {g : Grid} {ls ms : List ℕ} {n links : ℕ} {ps fs : List ℕ} → length ms ≡ n
+    → ls ≡ ms
     → Judged limits own bits regions firsts seconds g ls n links ps fs → Measured limits own bits regions firsts seconds g ms links ps fs
 measured-by {limits} {own} {bits} {regions} {firsts} {seconds} {g} {n = n} {links = links} {ps = ps} {fs = fs} many e judged =
     judged-measured many (subst (λ (z : List ℕ). Judged limits own bits regions firsts seconds g z n links ps fs) e judged)

@@ -16,10 +16,14 @@ use Rattle.measures.proofs.Turns.{no-cells}
 pub one-start : (limits : Limits) (width : ℕ) (ls : List ℕ) (region : ℕ) (start : LinkHeld) → AllCells limits width ls region 0 start start
 one-start limits width ls region start k e = e ∙ (after-none limits k width ∙ ap (λ (cs : List ℕ). linkAfter limits k width cs) (no-cells ls region))
 
-pub one-next : (limits : Limits) (width : ℕ) (bytes : List ℕ) (n region : ℕ) {i : ℕ} {start link t : LinkHeld} → AllCells limits width (labelsIn bytes n) region i start link
-    → i < n → {v : ℕ} → v ≡ word bytes i → t ≡ cond (eqb region v) (withCell limits link (i % width) (i / width)) link → AllCells limits width (labelsIn bytes n) region (i + 1) start t
+pub one-next : (limits : Limits) (width : ℕ) (bytes : List ℕ) (n region : ℕ) {i : ℕ} {start link t : LinkHeld}
+    → AllCells limits width (labelsIn bytes n) region i start link
+    → i < n → {v : ℕ} → v ≡ word bytes i → t ≡ cond (eqb region v) (withCell limits link (i % width) (i / width)) link
+    → AllCells limits width (labelsIn bytes n) region (i + 1) start t
 one-next limits width bytes n region {i} now l q f k e =
-    pass-next (linkAfter limits k width) bytes n region (now k e) l q (λ cs h. ap (λ (x : LinkHeld). withCell limits x (i % width) (i / width)) h ∙ after-next limits k width cs i) f
+    pass-next (linkAfter limits k width) bytes n region (now k e) l q
+    (λ cs h. ap (λ (x : LinkHeld). withCell limits x (i % width) (i / width)) h ∙ after-next limits k width cs i) f
 
-pub one-end : (limits : Limits) (width : ℕ) (ls : List ℕ) (region : ℕ) {i n : ℕ} {start link : LinkHeld} → i ≡ n → AllCells limits width ls region i start link → AllCells limits width ls region n start link
+pub one-end : (limits : Limits) (width : ℕ) (ls : List ℕ) (region : ℕ) {i n : ℕ} {start link : LinkHeld} → i ≡ n → AllCells limits width ls region i start link
+    → AllCells limits width ls region n start link
 one-end limits width ls region {start = start} {link = link} e now = subst (λ (z : ℕ). AllCells limits width ls region z start link) e now

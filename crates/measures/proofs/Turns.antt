@@ -34,7 +34,8 @@ place-of g {x} {y} e l = (sym (column-of g x y l) ∙ ap (λ (z : ℕ). z % g .w
 pub row-below : (g : Grid) {x y i : ℕ} → Whole g → y * g .width + x ≡ i → x < g .width → i < size g → y < g .height
 row-below g {x} {y} {i} w e l on = omega (arith, place-of g e l .1, row-in g w i on)
 
-pub next-place : {x y w i c r : ℕ} → y * w + x ≡ i → x < w → (x + 1 ≡ w → c ≡ 0) × ((x + 1 ≡ w → ⊥) → c ≡ x + 1) → (x + 1 ≡ w → r ≡ y + 1) × ((x + 1 ≡ w → ⊥) → r ≡ y)
+pub next-place : {x y w i c r : ℕ} → y * w + x ≡ i → x < w → (x + 1 ≡ w → c ≡ 0) × ((x + 1 ≡ w → ⊥) → c ≡ x + 1) → (x + 1 ≡ w → r ≡ y + 1)
+    × ((x + 1 ≡ w → ⊥) → r ≡ y)
     → (r * w + c ≡ i + 1) × (c < w)
 next-place {x} {y} {w} {i} {c} {r} e l p q =
     by-cases (ℕ-discrete (x + 1) w)
@@ -58,11 +59,13 @@ fill-next {own} {bits} {firsts} {seconds} {k} {table} {v} F b e = record {
   link-is = λ j d l.
       by-cases (ℕ-discrete j k)
       (λ q.
-      ap (λ (z : ℕ). getD (set table k v) z d) q ∙ (getD-set-same table k v d (omega (arith, F .long)) ∙ (e ∙ ap (λ (z : ℕ). noCell (valueIn own bits (at firsts z) (at seconds z))) (sym q))))
+      ap (λ (z : ℕ). getD (set table k v) z d) q
+      ∙ (getD-set-same table k v d (omega (arith, F .long)) ∙ (e ∙ ap (λ (z : ℕ). noCell (valueIn own bits (at firsts z) (at seconds z))) (sym q))))
       (λ q. getD-set-other table k j v d q ∙ F .link-is j d (omega arith));
 }
 
-pub fill-end : {own bits firsts seconds : List ℕ} {k links : ℕ} {table : List LinkHeld} → k ≡ links → Filled own bits firsts seconds k table → Filled own bits firsts seconds links table
+pub fill-end : {own bits firsts seconds : List ℕ} {k links : ℕ} {table : List LinkHeld} → k ≡ links → Filled own bits firsts seconds k table
+    → Filled own bits firsts seconds links table
 fill-end {own} {bits} {firsts} {seconds} {table = table} e F = subst (λ (z : ℕ). Filled own bits firsts seconds z table) e F
 
 pub no-cells : (ls : List ℕ) (r : ℕ) → [] ≡ firstCells ls r 0
@@ -82,11 +85,13 @@ module _ {limits : Limits} {own bits regions firsts seconds : List ℕ} {g : Gri
     stats-is = λ k d l. getD-replicate 256 k s d (omega arith) ∙ (S .after g ∙ ap (λ (cs : List ℕ). statsAfter g cs) (no-cells ls (at regions k)));
   }
 
-  pub pass-end : {links i n : ℕ} {table : List LinkHeld} {stats : List StatsHeld} → i ≡ n → Running limits own bits regions firsts seconds g ls links i table stats
+  pub pass-end : {links i n : ℕ} {table : List LinkHeld} {stats : List StatsHeld} → i ≡ n
+      → Running limits own bits regions firsts seconds g ls links i table stats
       → Running limits own bits regions firsts seconds g ls links n table stats
   pass-end {links} {table = table} {stats = stats} e R = subst (λ (z : ℕ). Running limits own bits regions firsts seconds g ls links z table stats) e R
 
-module _ {limits : Limits} {own bits regions firsts seconds : List ℕ} {g : Grid} {work : List ℕ} {n links i : ℕ} {table : List LinkHeld} {stats : List StatsHeld}
+module _ {limits : Limits} {own bits regions firsts seconds : List ℕ} {g : Grid} {work : List ℕ} {n links i : ℕ} {table : List LinkHeld}
+    {stats : List StatsHeld}
     (N : Numbered work n regions links) (on : i < n) (R : Running limits own bits regions firsts seconds g (labelsIn work n) links i table stats)
     (v : ℕ) (number : v ≡ numberOf work n (word work i)) where
   abbrev ls : List ℕ
@@ -102,10 +107,12 @@ module _ {limits : Limits} {own bits regions firsts seconds : List ℕ} {g : Gri
   same-cells : (k : ℕ) → k < links → (v ≡ k + 1 → ⊥) → firstCells ls (at regions k) i ≡ firstCells ls (at regions k) (i + 1)
   same-cells k b h = let s : suc i ≡ i + 1 = omega arith in sym (cells-out ls (at regions k) i (other k b h)) ∙ ap (λ (z : ℕ). firstCells ls (at regions k) z) s
 
-  same-link : (k : ℕ) → k < links → (v ≡ k + 1 → ⊥) → linkNow limits own bits regions firsts seconds g ls k i ≡ linkNow limits own bits regions firsts seconds g ls k (i + 1)
+  same-link : (k : ℕ) → k < links → (v ≡ k + 1 → ⊥)
+      → linkNow limits own bits regions firsts seconds g ls k i ≡ linkNow limits own bits regions firsts seconds g ls k (i + 1)
   same-link k b h = ap (λ (cs : List ℕ). linkAfter limits (valueIn own bits (at firsts k) (at seconds k)) (g .width) cs) (same-cells k b h)
 
-  same-stats : (k : ℕ) → k < links → (v ≡ k + 1 → ⊥) → statsNow limits own bits regions firsts seconds g ls k i ≡ statsNow limits own bits regions firsts seconds g ls k (i + 1)
+  same-stats : (k : ℕ) → k < links → (v ≡ k + 1 → ⊥)
+      → statsNow limits own bits regions firsts seconds g ls k i ≡ statsNow limits own bits regions firsts seconds g ls k (i + 1)
   same-stats k b h = ap (λ (cs : List ℕ). statsAfter g cs) (same-cells k b h)
 
   -- no link has the cell
@@ -152,7 +159,8 @@ module _ {limits : Limits} {own bits regions firsts seconds : List ℕ} {g : Gri
           ∙ (ap (λ (z : ℕ). withStats (statsAfter g (firstCells ls (at regions j) i)) (i % g .width) z (cellAt g i)) row
           ∙ (stats-next g (firstCells ls (at regions j) i) i ∙ ap (λ (cs : List ℕ). statsAfter g cs) more-cells)))
 
-      pub turn-in : {a : LinkHeld} {b : StatsHeld} (d : LinkHeld) (f : StatsHeld) → a ≡ withCell limits (getD table j d) x y → b ≡ withStats (getD stats j f) x y (cellAt g i)
+      pub turn-in : {a : LinkHeld} {b : StatsHeld} (d : LinkHeld) (f : StatsHeld) → a ≡ withCell limits (getD table j d) x y
+          → b ≡ withStats (getD stats j f) x y (cellAt g i)
           → Running limits own bits regions firsts seconds g ls links (i + 1) (set table j a) (set stats j b)
       turn-in {a} {b} d f p q = record {
         long = length-set table j a ∙ R .long;

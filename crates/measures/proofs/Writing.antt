@@ -32,7 +32,8 @@ below : {regions : List ℕ} {links k n : ℕ} → Regions regions links n → k
 below {regions} {links} {k} R inside = omega (arith, R .from k inside, R .to k inside)
 
 module _ {start work : List ℕ} {n : ℕ} {regions : List ℕ} {links k : ℕ} (R : Regions regions links n) (room : 8 * n ≤ length start) (inside : k < links) where
-  pub write-next : Written start work n regions k → {next : List ℕ} → next ≡ splice work (4 * n + 4 * (at regions k - 1)) (u32Bytes (k + 1)) → Written start next n regions (k + 1)
+  pub write-next : Written start work n regions k → {next : List ℕ} → next ≡ splice work (4 * n + 4 * (at regions k - 1)) (u32Bytes (k + 1))
+      → Written start next n regions (k + 1)
   write-next W {next} e = subst (λ (z : List ℕ). Written start z n regions (k + 1)) (sym e) (record {
     words = put (W .words) (spot regions k) (k + 1);
     table = table-set (W .table) (omega arith) (spot regions k) (k + 1) (below R inside) (omega (arith, R .few));
@@ -43,16 +44,20 @@ module _ {start work : List ℕ} {n : ℕ} {regions : List ℕ} {links k : ℕ} 
       own : (j : ℕ) → j < k + 1 → put (W .words) (spot regions k) (k + 1) (at regions j - 1) ≡ j + 1
       own j l =
           by-cases (ℕ-discrete j k)
-          (λ q. ap (λ (z : ℕ). put (W .words) (spot regions k) (k + 1) (at regions z - 1)) q ∙ (put-at (W .words) (spot regions k) (k + 1) ∙ ap (λ (z : ℕ). z + 1) (sym q)))
+          (λ q. ap (λ (z : ℕ). put (W .words) (spot regions k) (k + 1) (at regions z - 1)) q
+          ∙ (put-at (W .words) (spot regions k) (k + 1) ∙ ap (λ (z : ℕ). z + 1) (sym q)))
           (λ q.
-          put-off (W .words) (spot regions k) (k + 1) (at regions j - 1) (λ s. q (R .apart j k (omega arith) inside (omega (arith, s, R .from j (omega arith), R .from k inside))))
+          put-off (W .words) (spot regions k) (k + 1) (at regions j - 1)
+          (λ s. q (R .apart j k (omega arith) inside (omega (arith, s, R .from j (omega arith), R .from k inside))))
           ∙ W .own j (omega arith))
 
-      named : (y : ℕ) → 0 < put (W .words) (spot regions k) (k + 1) y → (put (W .words) (spot regions k) (k + 1) y ≤ k + 1) × (at regions (put (W .words) (spot regions k) (k + 1) y - 1) ≡ y + 1)
+      named : (y : ℕ) → 0 < put (W .words) (spot regions k) (k + 1) y → (put (W .words) (spot regions k) (k + 1) y ≤ k + 1)
+          × (at regions (put (W .words) (spot regions k) (k + 1) y - 1) ≡ y + 1)
       named y p =
           by-cases (ℕ-discrete y (spot regions k))
           (λ q.
-          let v : put (W .words) (spot regions k) (k + 1) y ≡ k + 1 = ap (put (W .words) (spot regions k) (k + 1)) q ∙ put-at (W .words) (spot regions k) (k + 1) in
+          let v : put (W .words) (spot regions k) (k + 1) y ≡ k + 1 = ap (put (W .words) (spot regions k) (k + 1)) q
+          ∙ put-at (W .words) (spot regions k) (k + 1) in
           let s : put (W .words) (spot regions k) (k + 1) y - 1 ≡ k = omega (arith, v) in
           let t : at regions k ≡ y + 1 = omega (arith, q, R .from k inside) in
           (omega (arith, v), ap (λ (z : ℕ). at regions z) s ∙ t))
@@ -61,7 +66,8 @@ module _ {start work : List ℕ} {n : ℕ} {regions : List ℕ} {links k : ℕ} 
           let o = W .named y (omega (arith, v, p)) in
           (omega (arith, v, o .0), ap (λ (z : ℕ). at regions (z - 1)) v ∙ o .1))
 
-  pub clear-next : Cleared start work n regions links k → {next : List ℕ} → next ≡ splice work (4 * n + 4 * (at regions k - 1)) (u32Bytes 0) → Cleared start next n regions links (k + 1)
+  pub clear-next : Cleared start work n regions links k → {next : List ℕ} → next ≡ splice work (4 * n + 4 * (at regions k - 1)) (u32Bytes 0)
+      → Cleared start next n regions links (k + 1)
   clear-next C {next} e = subst (λ (z : List ℕ). Cleared start z n regions links (k + 1)) (sym e) (record {
     words = put (C .words) (spot regions k) 0;
     table = table-set (C .table) (omega arith) (spot regions k) 0 (below R inside) (omega arith);
@@ -71,13 +77,15 @@ module _ {start work : List ℕ} {n : ℕ} {regions : List ℕ} {links k : ℕ} 
       left-over : (y : ℕ) → 0 < put (C .words) (spot regions k) 0 y → Later regions links (k + 1) y
       left-over y p =
           by-cases (ℕ-discrete y (spot regions k))
-          (λ q. let v : put (C .words) (spot regions k) 0 y ≡ 0 = ap (put (C .words) (spot regions k) 0) q ∙ put-at (C .words) (spot regions k) 0 in absurd (omega (arith, v, p)))
+          (λ q. let v : put (C .words) (spot regions k) 0 y ≡ 0 = ap (put (C .words) (spot regions k) 0) q ∙ put-at (C .words) (spot regions k) 0 in
+          absurd (omega (arith, v, p)))
           (λ q.
           let v : put (C .words) (spot regions k) 0 y ≡ C .words y = put-off (C .words) (spot regions k) 0 y q in
           let o = C .left-over y (omega (arith, v, p)) in
           record {
             link = o .link;
-            from = by-cases (ℕ-discrete (o .link) k) (λ s. let t : at regions k ≡ y + 1 = sym (ap (at regions) s) ∙ o .is in absurd (q (omega (arith, t)))) (λ s. omega (arith, o .from, s));
+            from = by-cases (ℕ-discrete (o .link) k) (λ s. let t : at regions k ≡ y + 1 = sym (ap (at regions) s) ∙ o .is in absurd (q (omega (arith, t))))
+                (λ s. omega (arith, o .from, s));
             inside = o .inside;
             is = o .is;
           })
@@ -92,7 +100,8 @@ clear-start W = record {
 pub clear-end : {start work : List ℕ} {n : ℕ} {regions : List ℕ} {links : ℕ} → Labels start n → Cleared start work n regions links links → work ≡ start
 clear-end {start} {work} {n} L C =
     table-clear start n (4 * n) (C .words) (λ x. 0) work (omega (arith, L .room)) (C .table) (blank L)
-    (λ x l. by-cases (ℕ-discrete (C .words x) 0) (λ e. e) (λ e. let o = C .left-over x (omega (arith, e)) in absurd (omega (arith, o .from, o .inside)))) (λ x l. refl)
+    (λ x l. by-cases (ℕ-discrete (C .words x) 0) (λ e. e) (λ e. let o = C .left-over x (omega (arith, e)) in absurd (omega (arith, o .from, o .inside))))
+    (λ x l. refl)
 
 module _ {start work : List ℕ} {n : ℕ} {regions : List ℕ} {links : ℕ} (L : Labels start n) (W : Written start work n regions links) where
   same-label : (i : ℕ) → i < n → word work i ≡ word start i

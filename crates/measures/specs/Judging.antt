@@ -72,7 +72,9 @@ module _ (limits : Limits) (own bits regions firsts seconds : List ℕ) (g : Gri
 
   -- where the arrays are those of a listing, and the labels those of its regions: which links pass, and which are flat
   pub record Measured (links : ℕ) (passing-marks flat-marks : List ℕ) : Type 0 where
-    pub passing-is : (dirs : List ℕ) (l : List Item) (ramps : List ℕ) → Boundaries l own bits ramps → ls ≡ regionLabels dirs g l → (k : ℕ) → k < links → at firsts k < length l → at seconds k < length l
+    pub passing-is : (dirs : List ℕ) (l : List Item) (ramps : List ℕ) → Boundaries l own bits ramps → ls ≡ regionLabels dirs g l → (k : ℕ) → k < links
+        → at firsts k < length l → at seconds k < length l
         → at passing-marks k ≡ cond (passes limits dirs g l (linkRow regions firsts seconds k)) 1 0
-    pub flat-is : (dirs : List ℕ) (l : List Item) (ramps : List ℕ) → Boundaries l own bits ramps → ls ≡ regionLabels dirs g l → (k : ℕ) → k < links → at firsts k < length l → at seconds k < length l
+    pub flat-is : (dirs : List ℕ) (l : List Item) (ramps : List ℕ) → Boundaries l own bits ramps → ls ≡ regionLabels dirs g l → (k : ℕ) → k < links
+        → at firsts k < length l → at seconds k < length l
         → at flat-marks k ≡ cond (staysInside limits dirs g l (linkRow regions firsts seconds k) && isFlat dirs g l (at regions k)) 1 0

@@ -67,8 +67,11 @@ pub fn measure_few(
     passing: &mut [u8; 256],
     flat: &mut [u8; 256],
 )
-    requires { ⌜ Sides width height × (length (now cells) ≡ width * height) × Plain (now own) (now bits) × Ranks (now firsts) (now seconds) links × (links ≤ 256) × (length (now cells) * 4 ≤ length (now work)) ⌝ }
-    ensures { λ _. ⌜ Judged (limitsOf limits) (now (own .entry)) (now (bits .entry)) (now (regions .entry)) (now (firsts .entry)) (now (seconds .entry)) (record { width = width; height = height; cells = now (cells .entry) }) (labelsIn (now (work .entry)) (length (now (cells .entry)))) (length (now (cells .entry))) links (now (passing .exit)) (now (flat .exit)) ⌝ }
+    requires { ⌜ Sides width height × (length (now cells) ≡ width * height) × Plain (now own) (now bits) × Ranks (now firsts) (now seconds) links
+        × (links ≤ 256) × (length (now cells) * 4 ≤ length (now work)) ⌝ }
+    ensures { λ _. ⌜ Judged (limitsOf limits) (now (own .entry)) (now (bits .entry)) (now (regions .entry)) (now (firsts .entry)) (now (seconds .entry))
+        (record { width = width; height = height; cells = now (cells .entry) }) (labelsIn (now (work .entry)) (length (now (cells .entry))))
+        (length (now (cells .entry))) links (now (passing .exit)) (now (flat .exit)) ⌝ }
 {
     *passing = [0u8; 256];
     *flat = [0u8; 256];

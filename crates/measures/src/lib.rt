@@ -135,8 +135,11 @@ fn measure_all(
     passing: &mut [u8; 256],
     flat: &mut [u8; 256],
 )
-    requires { ⌜ Sides width height × (length (now cells) ≡ width * height) × Plain (now own) (now bits) × Ranks (now firsts) (now seconds) links × Numbered (now work) (length (now cells)) (now regions) links ⌝ }
-    ensures { λ _. ⌜ Judged (limitsOf limits) (now (own .entry)) (now (bits .entry)) (now (regions .entry)) (now (firsts .entry)) (now (seconds .entry)) (record { width = width; height = height; cells = now (cells .entry) }) (labelsIn (now (work .entry)) (length (now (cells .entry)))) (length (now (cells .entry))) links (now (passing .exit)) (now (flat .exit)) ⌝ }
+    requires { ⌜ Sides width height × (length (now cells) ≡ width * height) × Plain (now own) (now bits) × Ranks (now firsts) (now seconds) links
+        × Numbered (now work) (length (now cells)) (now regions) links ⌝ }
+    ensures { λ _. ⌜ Judged (limitsOf limits) (now (own .entry)) (now (bits .entry)) (now (regions .entry)) (now (firsts .entry)) (now (seconds .entry))
+        (record { width = width; height = height; cells = now (cells .entry) }) (labelsIn (now (work .entry)) (length (now (cells .entry))))
+        (length (now (cells .entry))) links (now (passing .exit)) (now (flat .exit)) ⌝ }
 {
     *passing = [0u8; 256];
     *flat = [0u8; 256];
@@ -193,9 +196,12 @@ pub fn measure_links(
     passing: &mut [u8; 256],
     flat: &mut [u8; 256],
 )
-    requires { ⌜ Sides width height × (length (now cells) ≡ width * height) × Labels (now work) (length (now cells)) × Regions (now regions) links (length (now cells)) × Ranks (now firsts) (now seconds) links × Plain (now own) (now bits) ⌝ }
+    requires { ⌜ Sides width height × (length (now cells) ≡ width * height) × Labels (now work) (length (now cells))
+        × Regions (now regions) links (length (now cells)) × Ranks (now firsts) (now seconds) links × Plain (now own) (now bits) ⌝ }
     ensures work { λ _. ⌜ now (work .exit) ≡ now (work .entry) ⌝ }
-    ensures marks { λ _. ⌜ Measured (limitsOf limits) (now (own .entry)) (now (bits .entry)) (now (regions .entry)) (now (firsts .entry)) (now (seconds .entry)) (record { width = width; height = height; cells = now (cells .entry) }) (labelsIn (now (work .entry)) (length (now (cells .entry)))) links (now (passing .exit)) (now (flat .exit)) ⌝ }
+    ensures marks { λ _. ⌜ Measured (limitsOf limits) (now (own .entry)) (now (bits .entry)) (now (regions .entry)) (now (firsts .entry)) (now (seconds .entry))
+        (record { width = width; height = height; cells = now (cells .entry) }) (labelsIn (now (work .entry)) (length (now (cells .entry)))) links
+        (now (passing .exit)) (now (flat .exit)) ⌝ }
 {
     if links == 0 {
         return;

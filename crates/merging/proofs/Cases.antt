@@ -70,11 +70,13 @@ corridorKept = record {
 } ∷ []
 
 corridor-kept : keptOf firstTwo (reduceRun corridor) ≡ corridorKept
-unfolding keptOf groupsOf every kept slot consolidated consolidate membersOf observed orItself copiesOf canon canonObservation canonical posLe endsKey spanKey sourceKey sourcesKey observationKey totalKey sort insert sortOnce include lexLe gather upFrom has
+unfolding keptOf groupsOf every kept slot consolidated consolidate membersOf observed orItself copiesOf canon canonObservation canonical posLe endsKey spanKey
+    sourceKey sourcesKey observationKey totalKey sort insert sortOnce include lexLe gather upFrom has
 corridor-kept = refl
 
 relisted-kept : keptOf firstTwo (reduceRun relisted) ≡ corridorKept
-unfolding keptOf groupsOf every kept slot consolidated consolidate membersOf observed orItself copiesOf canon canonObservation canonical posLe endsKey spanKey sourceKey sourcesKey observationKey totalKey sort insert sortOnce include lexLe gather upFrom has
+unfolding keptOf groupsOf every kept slot consolidated consolidate membersOf observed orItself copiesOf canon canonObservation canonical posLe endsKey spanKey
+    sourceKey sourcesKey observationKey totalKey sort insert sortOnce include lexLe gather upFrom has
 relisted-kept = refl
 
 -- "Job 148 bytes, answer 152."
@@ -89,8 +91,10 @@ wide ends bits = record { ends = ends; bits = bits; ramp = noRamp; sources = [];
 abbrev none : List Item → Groups
 none items = noGroups
 
-equal-ends : keptOf none (reduceRun (wide (span 8 8 8 0) 7 ∷ wide (span 0 0 0 8) 1 ∷ wide (span 8 0 8 8) 2 ∷ [])) ≡ wide (span 0 0 0 8) 1 ∷ wide (span 8 0 8 8) 7 ∷ wide (span 8 0 8 8) 2 ∷ []
-unfolding keptOf groupsOf every kept slot copiesOf canon canonObservation canonical posLe endsKey spanKey sourceKey sourcesKey observationKey totalKey sort insert sortOnce include lexLe gather upFrom
+equal-ends : keptOf none (reduceRun (wide (span 8 8 8 0) 7 ∷ wide (span 0 0 0 8) 1 ∷ wide (span 8 0 8 8) 2 ∷ [])) ≡ wide (span 0 0 0 8) 1 ∷ wide (span 8 0 8 8)
+    7 ∷ wide (span 8 0 8 8) 2 ∷ []
+unfolding keptOf groupsOf every kept slot copiesOf canon canonObservation canonical posLe endsKey spanKey sourceKey sourcesKey observationKey totalKey sort
+    insert sortOnce include lexLe gather upFrom
 equal-ends = refl
 
 -- Observations alike in ends: −1 before 1, those of one width by their sources, sorted and each once; equal ones all stay.
@@ -116,8 +120,10 @@ observations-ordered = refl
 abbrev twoPairs : List Item → Groups
 twoPairs items = record { serial = record { ranks = 0 ∷ 3 ∷ []; retained = 3 } ∷ []; flat = record { ranks = 1 ∷ 2 ∷ []; retained = 1 } ∷ [] }
 
-two-groups : map (λ (b : Boundary). b .bits) (keptOf twoPairs (reduceRun (wide (span 0 0 0 8) 1 ∷ wide (span 1 0 1 8) 2 ∷ wide (span 2 0 2 8) 3 ∷ wide (span 3 0 3 8) 4 ∷ []))) ≡ 2 ∷ 4 ∷ []
-unfolding keptOf groupsOf every kept slot consolidated consolidate copiesOf canon canonObservation canonical posLe endsKey spanKey sort insert lexLe gather upFrom has
+two-groups : map (λ (b : Boundary). b .bits)
+    (keptOf twoPairs (reduceRun (wide (span 0 0 0 8) 1 ∷ wide (span 1 0 1 8) 2 ∷ wide (span 2 0 2 8) 3 ∷ wide (span 3 0 3 8) 4 ∷ []))) ≡ 2 ∷ 4 ∷ []
+unfolding keptOf groupsOf every kept slot consolidated consolidate copiesOf canon canonObservation canonical posLe endsKey spanKey sort insert lexLe gather
+    upFrom has
 two-groups = refl
 
 -- Three boundaries with equal ends, the first and the last merged into the last: what is kept follows the rules, and the list that has the merged one

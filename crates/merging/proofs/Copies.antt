@@ -69,17 +69,21 @@ unfolding canonObservation
 observation-again o = observation-fixed (canonObservation o) (canonical-again (o .ends)) (once-idem source-order (o .sources))
 
 -- Observations of a canonical copy are their own copies.
-pub copied-observation : (b : Boundary) (o : Observation) → List·Memᴰ o (canon b .observations) → (p : Observation) × List·Memᴰ p (b .observations) × (canonObservation p ≡ o)
+pub copied-observation : (b : Boundary) (o : Observation) → List·Memᴰ o (canon b .observations) → (p : Observation) × List·Memᴰ p (b .observations)
+    × (canonObservation p ≡ o)
 unfolding canon
-copied-observation b o m = Memᴰ·of-map canonObservation (b .observations) (perm-mem (Permᴰ·symm (sort-perm (byKey observationKey) (map canonObservation (b .observations)))) m)
+copied-observation b o m = Memᴰ·of-map canonObservation (b .observations)
+    (perm-mem (Permᴰ·symm (sort-perm (byKey observationKey) (map canonObservation (b .observations)))) m)
 
 pub copied-fixed : (b : Boundary) (o : Observation) → List·Memᴰ o (canon b .observations) → canonObservation o ≡ o
 copied-fixed b o m = let r = copied-observation b o m in rw (← r .2) (observation-again (r .0))
 
 -- Where all are their own copies, copying and sorting them again changes nothing.
-pub sorted-again : (l : List Observation) → ((o : Observation) → List·Memᴰ o l → canonObservation o ≡ o) → sortedObservations (map canonObservation (sortedObservations l)) ≡ sortedObservations l
+pub sorted-again : (l : List Observation) → ((o : Observation) → List·Memᴰ o l → canonObservation o ≡ o)
+    → sortedObservations (map canonObservation (sortedObservations l)) ≡ sortedObservations l
 sorted-again l f =
-    ap sortedObservations (map-ext canonObservation (λ o. o) (sortedObservations l) (λ o m. f o (perm-mem (Permᴰ·symm (sort-perm (byKey observationKey) l)) m)) ∙ map-id (sortedObservations l))
+    ap sortedObservations (map-ext canonObservation (λ o. o) (sortedObservations l) (λ o m. f o (perm-mem (Permᴰ·symm (sort-perm (byKey observationKey) l)) m))
+    ∙ map-id (sortedObservations l))
     ∙ sort-idem (observation-order .orders) l
 
 -- As many copies as boundaries.

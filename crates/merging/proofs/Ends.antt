@@ -24,7 +24,10 @@ unlike-symm b c h = and-comm (byKey endsKey c b) (byKey endsKey b c) ∙ h
 
 pub distinct-unlike : {l : List Boundary} → DistinctEnds l → Pairs Unlike l
 unfolding endsKey
-distinct-unlike = pairs-imp (λ b c h. is-false (sameEnds b c) (λ e. let p = and-parts (byKey endsKey b c) (byKey endsKey c b) e in h (span-inj (canonical (b .ends)) (canonical (c .ends)) (lex-order .anti (endsKey b) (endsKey c) (p .0) (p .1)))))
+distinct-unlike = pairs-imp
+    (λ b c h. is-false (sameEnds b c)
+    (λ e. let p = and-parts (byKey endsKey b c) (byKey endsKey c b) e in
+    h (span-inj (canonical (b .ends)) (canonical (c .ends)) (lex-order .anti (endsKey b) (endsKey c) (p .0) (p .1)))))
 
 pub copies-unlike : {l : List Boundary} → Pairs Unlike l → Pairs Unlike (map canon l)
 copies-unlike = pairs-map canon (λ b c h. rw (key-canon b, key-canon c) h)

@@ -1,7 +1,8 @@
 -- There is a list of merges, and each can be carried out.
 use mathlib.Core.Path.{_≡_, refl, sym, _∙_, ap}
 use mathlib.Core.Bool.{true, not}
-use mathlib.Core.List.{List, [], _∷_, map, reverseAux, List·Memᴰ, List·Memᴰ·head, List·Memᴰ·not-nil, Memᴰ·map, Memᴰ·of-map, Memᴰ·append-right, List·Permᴰ, List·Permᴰ·trans, Permᴰ·refl, Permᴰ·symm, Permᴰ·append-left, Permᴰ·append-right}
+use mathlib.Core.List.{List, [], _∷_, map, reverseAux, List·Memᴰ, List·Memᴰ·head, List·Memᴰ·not-nil, Memᴰ·map, Memᴰ·of-map, Memᴰ·append-right, List·Permᴰ}
+use mathlib.Core.List.{List·Permᴰ·trans, Permᴰ·refl, Permᴰ·symm, Permᴰ·append-left, Permᴰ·append-right}
 use native.Mathlib.Omega.{arith}
 use lib.ListN.{length}
 use Rattle.order.specs.Keys.{byKey}
@@ -33,7 +34,8 @@ first-list gs = record { first = gs .serial; second = gs .flat; whole = refl; se
 -- A list of merges names each group once.
 pub list-perm : {gs : Groups} {ms : List Group} → MergeList gs ms → List·Permᴰ ms (every gs)
 unfolding every
-list-perm {gs} m = List·Permᴰ·trans (perm-eq (m .whole)) (List·Permᴰ·trans (Permᴰ·append-right (m .second) (m .serials)) (Permᴰ·append-left (gs .serial) (m .flats)))
+list-perm {gs} m = List·Permᴰ·trans (perm-eq (m .whole))
+    (List·Permᴰ·trans (Permᴰ·append-right (m .second) (m .serials)) (Permᴰ·append-left (gs .serial) (m .flats)))
 
 -- "without such groups it is empty"
 pub empty-list : {ms : List Group} → MergeList noGroups ms → ms ≡ []
@@ -45,7 +47,8 @@ empty-list {ms} m = go ms (list-perm m)
     go (g ∷ gs) p = absurd (List·Memᴰ·not-nil (perm-mem p (List·Memᴰ·head refl)))
 
 module _ (copies : List Boundary) (unlike : Pairs Unlike copies) where
-  module _ (g : Group) (ds : List Group) (next : Next (length copies) g ds) (before : List Boundary) (inv : List·Permᴰ (map canon before) (replaced copies ds)) where
+  module _ (g : Group) (ds : List Group) (next : Next (length copies) g ds) (before : List Boundary)
+      (inv : List·Permᴰ (map canon before) (replaced copies ds)) where
     there : List·Memᴰ (copyAt copies (g .retained)) (replaced copies ds)
     unfolding replaced unmerged
     there = Memᴰ·append-right (map (consolidated copies) ds) (Memᴰ·map (copyAt copies) (mem-keep (λ i. not (inAny ds i))
@@ -57,13 +60,17 @@ module _ (copies : List Boundary) (unlike : Pairs Unlike copies) where
     a-step =
         let r = Memᴰ·of-map canon before (perm-mem (Permᴰ·symm inv) there) in
         let e : endsKey (r .0) ≡ endsKey (copyAt copies (g .retained)) = sym (key-canon (r .0)) ∙ ap endsKey (r .2) in
-        let alike : byKey endsKey (copyAt copies (g .retained)) (copyAt copies (g .retained)) ≡ true = le-refl (key-preorder endsKey) (copyAt copies (g .retained)) in
-        let m : isMember copies g (r .0) ≡ true = sym (member-canon copies g (r .0)) ∙ (ap (isMember copies g) (r .2) ∙ (member-at copies unlike g (next .good) (g .retained) (retained-below (next .good)) ∙ mem-has (g .retained) (g .ranks) (next .good .mine))) in (
+        let alike : byKey endsKey (copyAt copies (g .retained)) (copyAt copies (g .retained)) ≡ true =
+        le-refl (key-preorder endsKey) (copyAt copies (g .retained)) in
+        let m : isMember copies g (r .0) ≡ true = sym (member-canon copies g (r .0))
+        ∙ (ap (isMember copies g) (r .2)
+        ∙ (member-at copies unlike g (next .good) (g .retained) (retained-below (next .good)) ∙ mem-has (g .retained) (g .ranks) (next .good .mine))) in (
           consolidate (canon (r .0)) (map canon (taken copies g before)) ∷ left copies g before,
           record { retained = r .0; there = mem-keep (isMember copies g) (r .1) m; named = rw e (and-both alike alike); placed = Permᴰ·refl _ },
         )
 
-  steps-after : (ds : List Group) (before : List Boundary) (ms : List Group) → List·Permᴰ (map canon before) (replaced copies ds) → WellGrouped (length copies) (reverseAux ms ds) → (after : List Boundary) × Merges copies before ms after
+  steps-after : (ds : List Group) (before : List Boundary) (ms : List Group) → List·Permᴰ (map canon before) (replaced copies ds)
+      → WellGrouped (length copies) (reverseAux ms ds) → (after : List Boundary) × Merges copies before ms after
   steps-after ds before [] inv w = (before, done)
   steps-after ds before (g ∷ gs) inv w =
       let n = next-of g gs ds w in
@@ -71,5 +78,6 @@ module _ (copies : List Boundary) (unlike : Pairs Unlike copies) where
       let t = steps-after (g ∷ ds) (s .0) gs (step copies unlike g ds n before inv (s .1)) w in
       (t .0, merge (s .1) (t .1))
 
-  pub steps : (before : List Boundary) (ms : List Group) {gs : List Group} → List·Permᴰ ms gs → WellGrouped (length copies) gs → List·Permᴰ (map canon before) copies → (after : List Boundary) × Merges copies before ms after
+  pub steps : (before : List Boundary) (ms : List Group) {gs : List Group} → List·Permᴰ ms gs → WellGrouped (length copies) gs
+      → List·Permᴰ (map canon before) copies → (after : List Boundary) × Merges copies before ms after
   steps before ms p well b = steps-after [] before ms (List·Permᴰ·trans b (start copies)) (well-perm (Permᴰ·symm (turned-round p)) well)

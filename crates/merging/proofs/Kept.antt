@@ -42,13 +42,15 @@ module _ (copies : List Boundary) where
     none-retained : (l : List ℕ) → ((i : ℕ) → List·Memᴰ i l → i ≡ g .retained → ⊥) → gather pick l ≡ gather f (others l)
     unfolding gather keep pick others
     none-retained [] h = refl
-    none-retained (i ∷ is) h = rw (ne-eqb i (g .retained) (h i (List·Memᴰ·head refl))) (go (has i (g .ranks)) (none-retained is (λ j m. h j (List·Memᴰ·tail m))))
+    none-retained (i ∷ is) h = rw (ne-eqb i (g .retained) (h i (List·Memᴰ·head refl)))
+        (go (has i (g .ranks)) (none-retained is (λ j m. h j (List·Memᴰ·tail m))))
       where
         go : (t : Bool) → gather pick is ≡ gather f (others is) → cond t [] (f i) ++ gather pick is ≡ gather f (cond (not t) (i ∷ others is) (others is))
         go true e = e
         go false e = ap (λ (l : List Boundary). f i ++ l) e
 
-    one-retained : (l : List ℕ) → Pairs (λ i j. i < j) l → has (g .retained) (g .ranks) ≡ true → List·Memᴰ (g .retained) l → List·Permᴰ (gather pick l) (c ∷ gather f (others l))
+    one-retained : (l : List ℕ) → Pairs (λ i j. i < j) l → has (g .retained) (g .ranks) ≡ true → List·Memᴰ (g .retained) l
+        → List·Permᴰ (gather pick l) (c ∷ gather f (others l))
     unfolding gather keep pick others
     one-retained (i ∷ is) (more h t) e (List·Memᴰ·head k) =
         let q : eqb i (g .retained) ≡ true = eq-eqb i (g .retained) (sym k) in
@@ -58,11 +60,13 @@ module _ (copies : List Boundary) where
         let q : eqb i (g .retained) ≡ false = ne-eqb i (g .retained) (λ z. let w = h (g .retained) k in omega arith) in
         rw q (go (has i (g .ranks)) (one-retained is t e k))
       where
-        go : (t : Bool) → List·Permᴰ (gather pick is) (c ∷ gather f (others is)) → List·Permᴰ (cond t [] (f i) ++ gather pick is) (c ∷ gather f (cond (not t) (i ∷ others is) (others is)))
+        go : (t : Bool) → List·Permᴰ (gather pick is) (c ∷ gather f (others is))
+            → List·Permᴰ (cond t [] (f i) ++ gather pick is) (c ∷ gather f (cond (not t) (i ∷ others is) (others is)))
         go true p = p
         go false p = List·Permᴰ·trans (Permᴰ·append-left (f i) p) (Permᴰ·middle c (f i) (gather f (others is)))
 
-  all-slots : (gs : List Group) (l : List ℕ) → Pairs (λ i j. i < j) l → ((g : Group) → List·Memᴰ g gs → List·Memᴰ (g .retained) (g .ranks)) → ((g : Group) → List·Memᴰ g gs → List·Memᴰ (g .retained) l) → Pairs Disjoint gs
+  all-slots : (gs : List Group) (l : List ℕ) → Pairs (λ i j. i < j) l → ((g : Group) → List·Memᴰ g gs → List·Memᴰ (g .retained) (g .ranks))
+      → ((g : Group) → List·Memᴰ g gs → List·Memᴰ (g .retained) l) → Pairs Disjoint gs
       → List·Permᴰ (gather (slot copies gs) l) (map (consolidated copies) gs ++ map (copyAt copies) (keep (λ i. not (inAny gs i)) l))
   unfolding slot inAny pick others gather
   all-slots [] l o mine there apart = perm-eq (singles l ∙ ap (map (copyAt copies)) (sym (keep-all (λ i. true) l (λ y m. refl))))
@@ -71,12 +75,17 @@ module _ (copies : List Boundary) where
       singles [] = refl
       singles (i ∷ is) = ap (λ (k : List Boundary). copyAt copies i ∷ k) (singles is)
   all-slots (g ∷ gs) l o mine there (more d apart) =
-      List·Permᴰ·trans (one-retained g (consolidated copies g) (slot copies gs) l o (mem-has (g .retained) (g .ranks) (mine g (List·Memᴰ·head refl))) (there g (List·Memᴰ·head refl)))
-      (List·Permᴰ·cons refl (List·Permᴰ·trans (all-slots gs (keep (λ i. not (has i (g .ranks))) l) (keep-pairs (λ i. not (has i (g .ranks))) o) (λ h m. mine h (List·Memᴰ·tail m)) there′ apart)
-      (perm-eq (ap (λ (k : List ℕ). map (consolidated copies) gs ++ map (copyAt copies) k) (keep-keep (λ i. not (inAny gs i)) (λ i. not (has i (g .ranks))) (λ i. not (has i (g .ranks) || inAny gs i)) l (λ i m. both (has i (g .ranks)) (inAny gs i)))))))
+      List·Permᴰ·trans (one-retained g (consolidated copies g) (slot copies gs) l o (mem-has (g .retained) (g .ranks) (mine g (List·Memᴰ·head refl)))
+      (there g (List·Memᴰ·head refl)))
+      (List·Permᴰ·cons refl (List·Permᴰ·trans
+      (all-slots gs (keep (λ i. not (has i (g .ranks))) l) (keep-pairs (λ i. not (has i (g .ranks))) o) (λ h m. mine h (List·Memᴰ·tail m)) there′ apart)
+      (perm-eq (ap (λ (k : List ℕ). map (consolidated copies) gs ++ map (copyAt copies) k)
+      (keep-keep (λ i. not (inAny gs i)) (λ i. not (has i (g .ranks))) (λ i. not (has i (g .ranks) || inAny gs i)) l
+      (λ i m. both (has i (g .ranks)) (inAny gs i)))))))
     where
       there′ : (h : Group) → List·Memᴰ h gs → List·Memᴰ (h .retained) (keep (λ i. not (has i (g .ranks))) l)
-      there′ h m = mem-keep (λ i. not (has i (g .ranks))) (there h (List·Memᴰ·tail m)) (ap not (outside h g (disjoint-symm g h (d h m)) (h .retained) (mine h (List·Memᴰ·tail m))))
+      there′ h m = mem-keep (λ i. not (has i (g .ranks))) (there h (List·Memᴰ·tail m))
+          (ap not (outside h g (disjoint-symm g h (d h m)) (h .retained) (mine h (List·Memᴰ·tail m))))
 
       both : (s t : Bool) → cond (not s) (not t) false ≡ not (s || t)
       both true t = refl
@@ -97,8 +106,10 @@ module _ (copies : List Boundary) where
   slot-key [] i b m = ap endsKey (List·Memᴰ·eq-of-singleton m)
   slot-key (g ∷ gs) i b m = go (eqb i (g .retained)) (has i (g .ranks)) refl m (slot-key gs i b)
     where
-      go : (s t : Bool) → eqb i (g .retained) ≡ s → List·Memᴰ b (cond s (consolidated copies g ∷ []) (cond t [] (slot copies gs i))) → (List·Memᴰ b (slot copies gs i) → endsKey b ≡ endsKey (copyAt copies i)) → endsKey b ≡ endsKey (copyAt copies i)
-      go true t e n k = ap endsKey (List·Memᴰ·eq-of-singleton n) ∙ (consolidated-key g ∙ ap (λ (j : ℕ). endsKey (copyAt copies j)) (sym (eqb-true i (g .retained) e)))
+      go : (s t : Bool) → eqb i (g .retained) ≡ s → List·Memᴰ b (cond s (consolidated copies g ∷ []) (cond t [] (slot copies gs i)))
+          → (List·Memᴰ b (slot copies gs i) → endsKey b ≡ endsKey (copyAt copies i)) → endsKey b ≡ endsKey (copyAt copies i)
+      go true t e n k = ap endsKey (List·Memᴰ·eq-of-singleton n)
+          ∙ (consolidated-key g ∙ ap (λ (j : ℕ). endsKey (copyAt copies j)) (sym (eqb-true i (g .retained) e)))
       go false true e n k = absurd (List·Memᴰ·not-nil n)
       go false false e n k = k n
 
@@ -113,9 +124,12 @@ module _ (copies : List Boundary) where
       go false false p = p
 
   -- What holds of what is kept at any two ranks, the lower first, holds of every two that are kept.
-  pub kept-pairs : {R : Boundary → Boundary → Type 0} (gs : List Group) → ((i j : ℕ) → i < j → j < length copies → (b c : Boundary) → List·Memᴰ b (slot copies gs i) → List·Memᴰ c (slot copies gs j) → R b c) → Pairs R (kept copies gs)
+  pub kept-pairs : {R : Boundary → Boundary → Type 0} (gs : List Group)
+      → ((i j : ℕ) → i < j → j < length copies → (b c : Boundary) → List·Memᴰ b (slot copies gs i) → List·Memᴰ c (slot copies gs j) → R b c)
+      → Pairs R (kept copies gs)
   unfolding kept
-  kept-pairs gs f = gather-pairs (slot copies gs) (slot-one gs) (pairs-imp (λ i j h. let u = up-mem 0 (length copies) (h .2) in f i j (h .0) (omega arith)) (pairs-mem (up-strict 0 (length copies))))
+  kept-pairs gs f = gather-pairs (slot copies gs) (slot-one gs)
+      (pairs-imp (λ i j h. let u = up-mem 0 (length copies) (h .2) in f i j (h .0) (omega arith)) (pairs-mem (up-strict 0 (length copies))))
 
 module _ (bs : List Boundary) where
   -- The copies, by the places of the input in order.

@@ -46,7 +46,8 @@ copied-items (i ∷ is) = ap (λ (l : List Boundary). canon (i .boundary) ∷ l)
 
 pub listing-copies : (r : Run) → Matched r → boundariesOf (listing (map canonItem (itemsOf r))) ≡ copiesOf (r .boundaries)
 unfolding copiesOf
-listing-copies r e = sym (sort-map (λ (i : Item). i .boundary) (byKey (λ (i : Item). endsKey (i .boundary))) (byKey endsKey) (λ i j. refl) (map canonItem (itemsOf r)))
+listing-copies r e = sym
+    (sort-map (λ (i : Item). i .boundary) (byKey (λ (i : Item). endsKey (i .boundary))) (byKey endsKey) (λ i j. refl) (map canonItem (itemsOf r)))
     ∙ ap (sortBy endsKey) (copied-items (itemsOf r) ∙ ap (map canon) (boundaries-of r e))
 
 pub copies-perm : (bs : List Boundary) → List·Permᴰ (map canon bs) (copiesOf bs)
@@ -75,31 +76,44 @@ pub relisted-copies : {r s : Run} → Relisted r s → List·Permᴰ (map canon 
 relisted-copies h = shuffled-map canon canon-like (relisted-boundaries h)
 
 pub relisted-unlike : {r s : Run} → Relisted r s → Pairs Unlike (r .boundaries) → Pairs Unlike (s .boundaries)
-relisted-unlike {s = s} h u = pairs-imp (λ b c f. rw (key-canon b, key-canon c) at f) (map-pairs canon (s .boundaries) (perm-pairs unlike-symm (relisted-copies h) (copies-unlike u)))
+relisted-unlike {s = s} h u = pairs-imp (λ b c f. rw (key-canon b, key-canon c) at f)
+    (map-pairs canon (s .boundaries) (perm-pairs unlike-symm (relisted-copies h) (copies-unlike u)))
 
 pub same-copies : {r s : Run} → Pairs Unlike (r .boundaries) → Relisted r s → copiesOf (r .boundaries) ≡ copiesOf (s .boundaries)
 unfolding copiesOf
 same-copies u h = sort-forgets-told (key-preorder endsKey) (pairs-imp (apart-told (byKey endsKey)) (copies-unlike u)) (relisted-copies h)
 
 -- And where each span goes with its boundary, the same listing.
-same-listing : (r s : Run) → Pairs Unlike (r .boundaries) → Matched r → Shuffled LikeItem (itemsOf r) (itemsOf s) → listing (map canonItem (itemsOf r)) ≡ listing (map canonItem (itemsOf s))
+same-listing : (r s : Run) → Pairs Unlike (r .boundaries) → Matched r → Shuffled LikeItem (itemsOf r) (itemsOf s)
+    → listing (map canonItem (itemsOf r)) ≡ listing (map canonItem (itemsOf s))
 same-listing r s u e h =
     let u′ : Pairs Unlike (boundariesOf (map canonItem (itemsOf r))) = rw (copied-items (itemsOf r), boundaries-of r e) (copies-unlike u) in
     sort-forgets-told (key-preorder (λ (i : Item). endsKey (i .boundary)))
-    (pairs-imp (apart-told (byKey (λ (i : Item). endsKey (i .boundary)))) (map-pairs (λ (i : Item). i .boundary) (map canonItem (itemsOf r)) u′)) (shuffled-map canonItem item-like h)
+    (pairs-imp (apart-told (byKey (λ (i : Item). endsKey (i .boundary)))) (map-pairs (λ (i : Item). i .boundary) (map canonItem (itemsOf r)) u′))
+    (shuffled-map canonItem item-like h)
 
 pub same-groups : (rules : List Item → Groups) {r s : Run} → Pairs Unlike (r .boundaries) → Relisted r s → groupsOf rules r ≡ groupsOf rules s
 unfolding groupsOf
-same-groups rules u (matched {r = r} {s = s} e f h) = rw (eq-eqb (length (r .boundaries)) (length (r .spans)) e, eq-eqb (length (s .boundaries)) (length (s .spans)) f) (ap rules (same-listing r s u e h))
+same-groups rules u (matched {r = r} {s = s} e f h) =
+    rw (eq-eqb (length (r .boundaries)) (length (r .spans)) e, eq-eqb (length (s .boundaries)) (length (s .spans)) f) (ap rules (same-listing r s u e h))
 same-groups rules u (unmatched {r = r} {s = s} n h k) =
-    rw (ne-eqb (length (r .boundaries)) (length (r .spans)) n, ne-eqb (length (s .boundaries)) (length (s .spans)) (λ q. n (shuffled-length h ∙ (q ∙ sym (shuffled-length k)))))
+    rw (
+      ne-eqb (length (r .boundaries)) (length (r .spans)) n,
+      ne-eqb (length (s .boundaries)) (length (s .spans)) (λ q. n (shuffled-length h ∙ (q ∙ sym (shuffled-length k)))),
+    )
 
 -- Every run is a relisting of itself.
 like-observation : (o : Observation) → LikeObservation o o
 like-observation o = record { ends = same; bits = refl; sources = Permᴰ·refl (o .sources) }
 
 like-boundary : (b : Boundary) → LikeBoundary b b
-like-boundary b = record { ends = same; bits = refl; ramp = refl; sources = Permᴰ·refl (b .sources); observations = shuffled-refl like-observation (b .observations) }
+like-boundary b = record {
+  ends = same;
+  bits = refl;
+  ramp = refl;
+  sources = Permᴰ·refl (b .sources);
+  observations = shuffled-refl like-observation (b .observations);
+}
 
 pub relisted-itself : (r : Run) → Relisted r r
 relisted-itself r =

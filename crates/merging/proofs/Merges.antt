@@ -1,7 +1,8 @@
 -- A list of merges leaves what is kept.
 use mathlib.Core.Path.{_≡_, refl, sym, _∙_, ap}
 use mathlib.Core.Bool.{Bool, true, false, cond, not, _||_}
-use mathlib.Core.List.{List, [], _∷_, _++_, map, reverseAux, List·Memᴰ, List·Memᴰ·head, List·Memᴰ·tail, Memᴰ·map, Memᴰ·of-map, List·Permᴰ, List·Permᴰ·cons, List·Permᴰ·trans, Permᴰ·symm, Permᴰ·map, Permᴰ·append-right, Permᴰ·reverseAux, Permᴰ·append-nil}
+use mathlib.Core.List.{List, [], _∷_, _++_, map, reverseAux, List·Memᴰ, List·Memᴰ·head, List·Memᴰ·tail, Memᴰ·map, Memᴰ·of-map, List·Permᴰ, List·Permᴰ·cons}
+use mathlib.Core.List.{List·Permᴰ·trans, Permᴰ·symm, Permᴰ·map, Permᴰ·append-right, Permᴰ·reverseAux, Permᴰ·append-nil}
 use Prim.Native.Nat.{ℕ, _<_}
 use native.Mathlib.Omega.{arith}
 use borrow.Author.Tests.{eqb-true}
@@ -36,7 +37,8 @@ use Rattle.merging.proofs.Ends.{Unlike}
 replaced-perm : (copies : List Boundary) {l m : List Group} → List·Permᴰ l m → List·Permᴰ (replaced copies l) (replaced copies m)
 unfolding replaced unmerged
 replaced-perm copies {l} {m} p = List·Permᴰ·trans (Permᴰ·append-right _ (Permᴰ·map (consolidated copies) p))
-    (perm-eq (ap (λ (k : List ℕ). map (consolidated copies) m ++ map (copyAt copies) k) (keep-ext (λ i. not (inAny l i)) (λ i. not (inAny m i)) (upFrom 0 (length copies)) (λ y n. ap not (any-perm p y)))))
+    (perm-eq (ap (λ (k : List ℕ). map (consolidated copies) m ++ map (copyAt copies) k)
+    (keep-ext (λ i. not (inAny l i)) (λ i. not (inAny m i)) (upFrom 0 (length copies)) (λ y n. ap not (any-perm p y)))))
 
 -- Only the ends tell members.
 among-key : (copies : List Boundary) (is : List ℕ) (b c : Boundary) → endsKey b ≡ endsKey c → among copies is b ≡ among copies is c
@@ -82,9 +84,12 @@ module _ (copies : List Boundary) (unlike : Pairs Unlike copies) where
     unfolding replaced unmerged membersOf
     takes =
         keep-append (isMember copies g) (map (consolidated copies) ds) (map (copyAt copies) remaining)
-        ∙ (ap (λ (l : List Boundary). l ++ keep (isMember copies g) (map (copyAt copies) remaining)) (keep-none (isMember copies g) (map (consolidated copies) ds) not-consolidated)
+        ∙ (ap (λ (l : List Boundary). l ++ keep (isMember copies g) (map (copyAt copies) remaining))
+        (keep-none (isMember copies g) (map (consolidated copies) ds) not-consolidated)
         ∙ (keep-map (copyAt copies) (isMember copies g) (λ i. has i (g .ranks)) remaining member-remaining
-        ∙ ap (map (copyAt copies)) (keep-keep (λ i. has i (g .ranks)) (λ i. not (inAny ds i)) (λ i. has i (g .ranks)) (upFrom 0 size) (λ i m. both i (has i (g .ranks)) refl) ∙ ranks-are size g (next .good))))
+        ∙ ap (map (copyAt copies))
+        (keep-keep (λ i. has i (g .ranks)) (λ i. not (inAny ds i)) (λ i. has i (g .ranks)) (upFrom 0 size) (λ i m. both i (has i (g .ranks)) refl)
+        ∙ ranks-are size g (next .good))))
       where
         both : (i : ℕ) (t : Bool) → has i (g .ranks) ≡ t → cond (not (inAny ds i)) t false ≡ t
         both i true e = rw (any-false i ds (λ h m. outside g h (next .apart h m) i (has-mem i (g .ranks) e)))
@@ -98,9 +103,13 @@ module _ (copies : List Boundary) (unlike : Pairs Unlike copies) where
     unfolding replaced unmerged inAny
     leaves =
         keep-append (λ b. not (isMember copies g b)) (map (consolidated copies) ds) (map (copyAt copies) remaining)
-        ∙ (ap (λ (l : List Boundary). l ++ keep (λ b. not (isMember copies g b)) (map (copyAt copies) remaining)) (keep-all (λ b. not (isMember copies g b)) (map (consolidated copies) ds) (λ b m. ap not (not-consolidated b m)))
-        ∙ ap (λ (l : List Boundary). map (consolidated copies) ds ++ l) (keep-map (copyAt copies) (λ b. not (isMember copies g b)) (λ i. not (has i (g .ranks))) remaining (λ i m. ap not (member-remaining i m))
-        ∙ ap (map (copyAt copies)) (keep-keep (λ i. not (has i (g .ranks))) (λ i. not (inAny ds i)) (λ i. not (inAny (g ∷ ds) i)) (upFrom 0 size) (λ i m. both (has i (g .ranks)) (inAny ds i)))))
+        ∙ (ap (λ (l : List Boundary). l ++ keep (λ b. not (isMember copies g b)) (map (copyAt copies) remaining))
+        (keep-all (λ b. not (isMember copies g b)) (map (consolidated copies) ds) (λ b m. ap not (not-consolidated b m)))
+        ∙ ap (λ (l : List Boundary). map (consolidated copies) ds ++ l)
+        (keep-map (copyAt copies) (λ b. not (isMember copies g b)) (λ i. not (has i (g .ranks))) remaining (λ i m. ap not (member-remaining i m))
+        ∙ ap (map (copyAt copies))
+        (keep-keep (λ i. not (has i (g .ranks))) (λ i. not (inAny ds i)) (λ i. not (inAny (g ∷ ds) i)) (upFrom 0 size)
+        (λ i m. both (has i (g .ranks)) (inAny ds i)))))
       where
         both : (s t : Bool) → cond (not t) (not s) false ≡ not (s || t)
         both true true = refl
@@ -116,19 +125,23 @@ module _ (copies : List Boundary) (unlike : Pairs Unlike copies) where
 
       left-replaced : List·Permᴰ (map canon (left copies g before)) (map (consolidated copies) ds ++ map (copyAt copies) (unmerged (g ∷ ds) size))
       unfolding left
-      left-replaced = List·Permᴰ·trans (perm-eq (sym (keep-map canon (λ b. not (isMember copies g b)) (λ b. not (isMember copies g b)) before (λ b m. ap not (member-canon copies g b)))))
+      left-replaced = List·Permᴰ·trans
+          (perm-eq (sym (keep-map canon (λ b. not (isMember copies g b)) (λ b. not (isMember copies g b)) before (λ b m. ap not (member-canon copies g b)))))
           (List·Permᴰ·trans (keep-perm (λ b. not (isMember copies g b)) inv) (perm-eq leaves))
 
-      retained-copy : (r : Boundary) → List·Memᴰ r (taken copies g before) → sameEnds r (copyAt copies (g .retained)) ≡ true → canon r ≡ copyAt copies (g .retained)
+      retained-copy : (r : Boundary) → List·Memᴰ r (taken copies g before) → sameEnds r (copyAt copies (g .retained)) ≡ true
+          → canon r ≡ copyAt copies (g .retained)
       unfolding membersOf
       retained-copy r m e =
           let k = Memᴰ·of-map (copyAt copies) (g .ranks) (perm-mem taken-members (Memᴰ·map canon m)) in
           let f : endsKey (copyAt copies (k .0)) ≡ endsKey r = ap endsKey (k .2) ∙ key-canon r in
           let h : sameEnds (copyAt copies (k .0)) (copyAt copies (g .retained)) ≡ true = rw f e in
-          let q : k .0 ≡ g .retained = eqb-true (k .0) (g .retained) (sym (told (k .0) (g .retained) (next .good .below (k .0) (k .1)) (retained-below (next .good))) ∙ h) in
+          let q : k .0 ≡ g .retained = eqb-true (k .0) (g .retained)
+          (sym (told (k .0) (g .retained) (next .good .below (k .0) (k .1)) (retained-below (next .good))) ∙ h) in
           sym (k .2) ∙ ap (copyAt copies) q
 
-      new-is : {after : List Boundary} (s : MergeStep copies g before after) → consolidate (canon (s .retained)) (map canon (taken copies g before)) ≡ consolidated copies g
+      new-is : {after : List Boundary} (s : MergeStep copies g before after)
+          → consolidate (canon (s .retained)) (map canon (taken copies g before)) ≡ consolidated copies g
       unfolding consolidated
       new-is s = ap (λ (b : Boundary). consolidate b (map canon (taken copies g before))) (retained-copy (s .retained) (s .there) (s .named))
           ∙ consolidate-perm (copyAt copies (g .retained)) taken-members
@@ -139,11 +152,13 @@ module _ (copies : List Boundary) (unlike : Pairs Unlike copies) where
           (List·Permᴰ·cons (consolidate-canon (s .retained) (taken copies g before) ∙ new-is s) left-replaced)
 
   -- The merges of ms, after those of ds.
-  run : (ds : List Group) {before after : List Boundary} {ms : List Group} → Merges copies before ms after → List·Permᴰ (map canon before) (replaced copies ds) → WellGrouped size (reverseAux ms ds) → List·Permᴰ (map canon after) (replaced copies (reverseAux ms ds))
+  run : (ds : List Group) {before after : List Boundary} {ms : List Group} → Merges copies before ms after → List·Permᴰ (map canon before) (replaced copies ds)
+      → WellGrouped size (reverseAux ms ds) → List·Permᴰ (map canon after) (replaced copies (reverseAux ms ds))
   run ds done inv w = inv
   run ds (merge {s = before} {g = g} {gs = gs} s more) inv w = run (g ∷ ds) more (step g ds (next-of g gs ds w) before inv s) w
 
-  run-exact : (ds : List Group) {before after : List Boundary} {ms : List Group} (s : Merges copies before ms after) → List·Permᴰ (map canon before) (replaced copies ds) → WellGrouped size (reverseAux ms ds) → Exact s
+  run-exact : (ds : List Group) {before after : List Boundary} {ms : List Group} (s : Merges copies before ms after)
+      → List·Permᴰ (map canon before) (replaced copies ds) → WellGrouped size (reverseAux ms ds) → Exact s
   unfolding Exact
   run-exact ds done inv w = tt
   run-exact ds (merge {s = before} {g = g} {gs = gs} s more) inv w =
@@ -159,11 +174,14 @@ pub turned-round : {ms gs : List Group} → List·Permᴰ ms gs → List·Perm�
 turned-round {ms} p = List·Permᴰ·trans (Permᴰ·reverseAux ms []) (List·Permᴰ·trans (Permᴰ·append-nil ms) p)
 
 -- Whatever the order and the places, finishing gives what is kept.
-module _ (copies : List Boundary) (sorted : Sorted (byKey endsKey) copies) (unlike : Pairs Unlike copies) (gs : List Group) (well : WellGrouped (length copies) gs) where
+module _ (copies : List Boundary) (sorted : Sorted (byKey endsKey) copies) (unlike : Pairs Unlike copies) (gs : List Group)
+    (well : WellGrouped (length copies) gs) where
   kept-unlike : Pairs (λ b c. (byKey endsKey b c ≡ true) × Unlike b c) (kept copies gs)
-  kept-unlike = kept-pairs copies gs (λ i j h k b c m n. rw (slot-key copies gs i b m, slot-key copies gs j c n) (pairs-at noBoundary (pairs-both sorted unlike) i j h k))
+  kept-unlike = kept-pairs copies gs
+      (λ i j h k b c m n. rw (slot-key copies gs i b m, slot-key copies gs j c n) (pairs-at noBoundary (pairs-both sorted unlike) i j h k))
 
-  module _ {before after : List Boundary} {ms : List Group} (p : List·Permᴰ ms gs) (b : List·Permᴰ (map canon before) copies) (s : Merges copies before ms after) where
+  module _ {before after : List Boundary} {ms : List Group} (p : List·Permᴰ ms gs) (b : List·Permᴰ (map canon before) copies)
+      (s : Merges copies before ms after) where
     pub merged-exact : Exact s
     merged-exact = run-exact copies unlike [] s (List·Permᴰ·trans b (start copies)) (well-perm (Permᴰ·symm (turned-round p)) well)
 
@@ -173,4 +191,5 @@ module _ (copies : List Boundary) (sorted : Sorted (byKey endsKey) copies) (unli
 
     pub finished : copiesOf after ≡ kept copies gs
     unfolding copiesOf
-    finished = sym (sort-forgets-told (key-preorder endsKey) (pairs-imp (λ x y h. apart-told (byKey endsKey) x y (h .1)) kept-unlike) (Permᴰ·symm merged-kept)) ∙ sort-fixed (byKey endsKey) (kept copies gs) (pairs-imp (λ x y h. h .0) kept-unlike)
+    finished = sym (sort-forgets-told (key-preorder endsKey) (pairs-imp (λ x y h. apart-told (byKey endsKey) x y (h .1)) kept-unlike) (Permᴰ·symm merged-kept))
+        ∙ sort-fixed (byKey endsKey) (kept copies gs) (pairs-imp (λ x y h. h .0) kept-unlike)

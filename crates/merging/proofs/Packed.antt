@@ -38,11 +38,13 @@ abbrev pub packSource : Source → ℕ
 packSource s = pack (s .from) (s .to)
 
 -- two spans, whatever follows
-pub span-packed : (s t : Span) (l m : List ℕ) → SpanFits s → SpanFits t → lexLe (spanKey s ++ l) (spanKey t ++ m) ≡ lexLe (packFirst s ∷ packSecond s ∷ l) (packFirst t ∷ packSecond t ∷ m)
+pub span-packed : (s t : Span) (l m : List ℕ) → SpanFits s → SpanFits t
+    → lexLe (spanKey s ++ l) (spanKey t ++ m) ≡ lexLe (packFirst s ∷ packSecond s ∷ l) (packFirst t ∷ packSecond t ∷ m)
 unfolding spanKey
 span-packed s t l m f g =
     lex-pack (s .a .x) (s .a .y) (t .a .x) (t .a .y) (s .b .x ∷ s .b .y ∷ l) (t .b .x ∷ t .b .y ∷ m) (f .a .y) (g .a .y)
-    ∙ lex-behind (packFirst s) (packFirst t) (s .b .x ∷ s .b .y ∷ l) (t .b .x ∷ t .b .y ∷ m) (packSecond s ∷ l) (packSecond t ∷ m) (lex-pack (s .b .x) (s .b .y) (t .b .x) (t .b .y) l m (f .b .y) (g .b .y))
+    ∙ lex-behind (packFirst s) (packFirst t) (s .b .x ∷ s .b .y ∷ l) (t .b .x ∷ t .b .y ∷ m) (packSecond s ∷ l) (packSecond t ∷ m)
+    (lex-pack (s .b .x) (s .b .y) (t .b .x) (t .b .y) l m (f .b .y) (g .b .y))
 
 pub ends-packed : (b c : Boundary) → SpanFits (b .ends) → SpanFits (c .ends)
     → lexLe (endsKey b) (endsKey c)
@@ -54,7 +56,8 @@ pub source-packed : (s t : Source) → SourceFits s → SourceFits t → leb (pa
 unfolding sourceKey
 source-packed s t f g = rw (lex-pack (s .from) (s .to) (t .from) (t .to) [] [] (f .to) (g .to), lex-one (packSource s) (packSource t)) refl
 
-pub sources-packed : (ss ts : List Source) → All SourceFits ss → All SourceFits ts → lexLe (sourcesKey ss) (sourcesKey ts) ≡ lexLe (map packSource ss) (map packSource ts)
+pub sources-packed : (ss ts : List Source) → All SourceFits ss → All SourceFits ts
+    → lexLe (sourcesKey ss) (sourcesKey ts) ≡ lexLe (map packSource ss) (map packSource ts)
 unfolding sourcesKey lexLe
 sources-packed [] ts f g = refl
 sources-packed (s ∷ ss) [] f g = refl
@@ -85,7 +88,8 @@ module _ {A B : Type 0} (f : A → B) (le : A → A → Bool) (other : B → B �
   include-packed a p (more {x} {xs} q k) = rw (h a x p q, h x a q p) (go (same le a x) (le a x) (include-packed a p k))
     where
       go : (s t : Bool) → include other (f a) (map f xs) ≡ map f (include le a xs)
-          → cond s (f x ∷ map f xs) (cond t (f a ∷ f x ∷ map f xs) (f x ∷ include other (f a) (map f xs))) ≡ map f (cond s (x ∷ xs) (cond t (a ∷ x ∷ xs) (x ∷ include le a xs)))
+          → cond s (f x ∷ map f xs) (cond t (f a ∷ f x ∷ map f xs) (f x ∷ include other (f a) (map f xs))) ≡ map f
+          (cond s (x ∷ xs) (cond t (a ∷ x ∷ xs) (x ∷ include le a xs)))
       go true t e = refl
       go false true e = refl
       go false false e = ap (λ (l : List B). f x ∷ l) e

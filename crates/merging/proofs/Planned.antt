@@ -31,7 +31,8 @@ goes-other (g ∷ gs) i h = let p = or-parts (has i (g .ranks)) (inAny gs i) h i
 pub goes-member : {gs : List Group} → Pairs Disjoint gs → {a : Group} → List·Memᴰ a gs → (i : ℕ) → List·Memᴰ i (a .ranks) → goes gs i ≡ a .retained
 unfolding goes
 goes-member (more f o) {a} (List·Memᴰ·head e) i k = let h = mem-has i (a .ranks) k in rw (← e, h)
-goes-member (more {x = b} f o) {a} (List·Memᴰ·tail m) i k = let h = is-false (has i (b .ranks)) (λ p. f a m i (has-mem i (b .ranks) p) k) in rw h (goes-member o m i k)
+goes-member (more {x = b} f o) {a} (List·Memᴰ·tail m) i k = let h = is-false (has i (b .ranks)) (λ p. f a m i (has-mem i (b .ranks) p) k) in
+    rw h (goes-member o m i k)
 
 pub group-in : {gs : List Group} {a : Group} → List·Memᴰ a gs → (i : ℕ) → List·Memᴰ i (a .ranks) → inAny gs i ≡ true
 unfolding inAny
@@ -39,7 +40,8 @@ group-in {a = a} (List·Memᴰ·head e) i k = let h = mem-has i (a .ranks) k in 
 group-in (List·Memᴰ·tail {x = b} m) i k = or-right (has i (b .ranks)) (group-in m i k)
 
 -- Two of the groups that share a rank are one.
-one-group : {gs : List Group} → Pairs Disjoint gs → {b c : Group} → List·Memᴰ b gs → List·Memᴰ c gs → (i : ℕ) → List·Memᴰ i (b .ranks) → List·Memᴰ i (c .ranks) → b ≡ c
+one-group : {gs : List Group} → Pairs Disjoint gs → {b c : Group} → List·Memᴰ b gs → List·Memᴰ c gs → (i : ℕ) → List·Memᴰ i (b .ranks) → List·Memᴰ i (c .ranks)
+    → b ≡ c
 one-group (more h o) (List·Memᴰ·head p) (List·Memᴰ·head q) i x y = p ∙ sym q
 one-group (more h o) {b} {c} (List·Memᴰ·head p) (List·Memᴰ·tail q) i x y = absurd (h c q i (rw (← p) x) y)
 one-group (more h o) {b} {c} (List·Memᴰ·tail p) (List·Memᴰ·head q) i x y = absurd (h b p i (rw (← q) y) x)
@@ -54,7 +56,8 @@ module _ (copies : List Boundary) where
       let q : eqb i (g .retained) ≡ false = ne-eqb i (g .retained) (λ z. clash (mem-has i (g .ranks) (rw z (mine g (List·Memᴰ·head refl)))) (p .0)) in
       rw (q, p .0) (slot-other gs (λ h m. mine h (List·Memᴰ·tail m)) i (p .1))
 
-  slot-member : {gs : List Group} → Pairs Disjoint gs → Mine gs → {a : Group} → List·Memᴰ a gs → (i : ℕ) → List·Memᴰ i (a .ranks) → slot copies gs i ≡ cond (eqb i (a .retained)) (consolidated copies a ∷ []) []
+  slot-member : {gs : List Group} → Pairs Disjoint gs → Mine gs → {a : Group} → List·Memᴰ a gs → (i : ℕ) → List·Memᴰ i (a .ranks)
+      → slot copies gs i ≡ cond (eqb i (a .retained)) (consolidated copies a ∷ []) []
   unfolding slot
   slot-member (more f o) mine {a} (List·Memᴰ·head e) i k = let h = mem-has i (a .ranks) k in rw (← e, h)
   slot-member {gs = gs} (more {x = b} f o) mine {a} (List·Memᴰ·tail m) i k =
@@ -76,10 +79,12 @@ module _ (copies : List Boundary) where
     alone : (i : ℕ) → i < length copies → inAny gs i ≡ false → members (goes gs) (length copies) i ≡ i ∷ []
     unfolding members
     alone i b h =
-        pairs-ext (λ x y p q. omega arith) _ (i ∷ []) (keep-pairs (λ j. eqb (goes gs j) i) (up-strict 0 (length copies))) (more (λ y m. absurd (List·Memᴰ·not-nil m)) none)
+        pairs-ext (λ x y p q. omega arith) _ (i ∷ []) (keep-pairs (λ j. eqb (goes gs j) i) (up-strict 0 (length copies)))
+        (more (λ y m. absurd (List·Memᴰ·not-nil m)) none)
         λ j. (
           λ m. List·Memᴰ·head (only i h j (eqb-true (goes gs j) i (keep-mem (λ j. eqb (goes gs j) i) (upFrom 0 (length copies)) m .1))),
-          λ m. rw (List·Memᴰ·eq-of-singleton m) (mem-keep (λ j. eqb (goes gs j) i) (mem-up 0 (length copies) i (omega arith) (omega arith)) (eq-eqb (goes gs i) i (goes-other gs i h))),
+          λ m. rw (List·Memᴰ·eq-of-singleton m)
+              (mem-keep (λ j. eqb (goes gs j) i) (mem-up 0 (length copies) i (omega arith) (omega arith)) (eq-eqb (goes gs i) i (goes-other gs i h))),
         )
 
     -- what goes into a retained rank is its group
@@ -92,7 +97,8 @@ module _ (copies : List Boundary) where
         among : inAny gs j ≡ true → goes gs j ≡ a .retained → List·Memᴰ j (a .ranks)
         among t e =
             let r = any-group j gs t in
-            let q : r .0 ≡ a = one-group (w .apart) (r .1) m (a .retained) (rw (← e, goes-member (w .apart) (r .1) j (r .2)) (mine-all (r .0) (r .1))) (mine-all a m) in
+            let q : r .0 ≡ a = one-group (w .apart) (r .1) m (a .retained) (rw (← e, goes-member (w .apart) (r .1) j (r .2)) (mine-all (r .0) (r .1)))
+            (mine-all a m) in
             rw (← q) (r .2)
 
         elsewhere : has j (a .ranks) ≡ false → goes gs j ≡ a .retained → ⊥
@@ -103,7 +109,8 @@ module _ (copies : List Boundary) where
     group : {a : Group} → List·Memᴰ a gs → members (goes gs) (length copies) (a .retained) ≡ a .ranks
     unfolding members
     group {a} m =
-        keep-ext (λ j. eqb (goes gs j) (a .retained)) (λ j. has j (a .ranks)) (upFrom 0 (length copies)) (λ j _. into m j) ∙ ranks-are (length copies) a (w .good a m)
+        keep-ext (λ j. eqb (goes gs j) (a .retained)) (λ j. has j (a .ranks)) (upFrom 0 (length copies)) (λ j _. into m j)
+        ∙ ranks-are (length copies) a (w .good a m)
 
     module _ (two : (a : Group) → List·Memᴰ a gs → 2 ≤ length (a .ranks)) where
       -- what is kept at a rank, by its group and by the plan
@@ -117,9 +124,11 @@ module _ (copies : List Boundary) where
           let z = eqb-true i (a .retained) e in
           rw (goes-member (w .apart) m i k, z, eq-eqb (a .retained) (a .retained) refl) (ap (λ (b : Boundary). b ∷ []) (group-merged m))
       at-member {a} m i k false e =
-          let q : eqb (a .retained) i ≡ false = ne-eqb (a .retained) i (λ z. clash (eq-eqb i (a .retained) (sym z)) e) in rw (goes-member (w .apart) m i k, q) refl
+          let q : eqb (a .retained) i ≡ false = ne-eqb (a .retained) i (λ z. clash (eq-eqb i (a .retained) (sym z)) e) in
+          rw (goes-member (w .apart) m i k, q) refl
 
-      at-other : (i : ℕ) → i < length copies → inAny gs i ≡ false → slot copies gs i ≡ cond (eqb (goes gs i) i) (merged copies (members (goes gs) (length copies) i) i ∷ []) []
+      at-other : (i : ℕ) → i < length copies → inAny gs i ≡ false
+          → slot copies gs i ≡ cond (eqb (goes gs i) i) (merged copies (members (goes gs) (length copies) i) i ∷ []) []
       unfolding merged
       at-other i b h = let q = eq-eqb (goes gs i) i (goes-other gs i h) in rw (q, alone i b h) (slot-other gs mine-all i h)
 
@@ -133,13 +142,16 @@ module _ (copies : List Boundary) where
       unfolding kept planned gather
       kept-planned = go (upFrom 0 (length copies)) (λ i m. let u = up-mem 0 (length copies) m in omega arith)
         where
-          go : (l : List ℕ) → ((i : ℕ) → List·Memᴰ i l → i < length copies) → gather (slot copies gs) l ≡ map (λ i. merged copies (members (goes gs) (length copies) i) i) (keep (λ i. eqb (goes gs i) i) l)
+          go : (l : List ℕ) → ((i : ℕ) → List·Memᴰ i l → i < length copies)
+              → gather (slot copies gs) l ≡ map (λ i. merged copies (members (goes gs) (length copies) i) i) (keep (λ i. eqb (goes gs i) i) l)
           go [] h = refl
           go (i ∷ is) h = rw (at-rank i (h i (List·Memᴰ·head refl))) (one (eqb (goes gs i) i) (go is (λ j m. h j (List·Memᴰ·tail m))))
             where
-              one : (t : Bool) → gather (slot copies gs) is ≡ map (λ i. merged copies (members (goes gs) (length copies) i) i) (keep (λ i. eqb (goes gs i) i) is)
+              one : (t : Bool) → gather (slot copies gs) is ≡ map (λ i. merged copies (members (goes gs) (length copies) i) i)
+                  (keep (λ i. eqb (goes gs i) i) is)
                   → cond t (merged copies (members (goes gs) (length copies) i) i ∷ []) [] ++ gather (slot copies gs) is
-                  ≡ map (λ i. merged copies (members (goes gs) (length copies) i) i) (cond t (i ∷ keep (λ i. eqb (goes gs i) i) is) (keep (λ i. eqb (goes gs i) i) is))
+                  ≡ map (λ i. merged copies (members (goes gs) (length copies) i) i)
+                  (cond t (i ∷ keep (λ i. eqb (goes gs i) i) is) (keep (λ i. eqb (goes gs i) i) is))
               one true e = ap (λ (m : List Boundary). merged copies (members (goes gs) (length copies) i) i ∷ m) e
               one false e = e
 
@@ -147,12 +159,14 @@ module _ (copies : List Boundary) where
 pub planned-ext : (copies : List Boundary) (p q : ℕ → ℕ) → ((i : ℕ) → i < length copies → p i ≡ q i) → planned copies p ≡ planned copies q
 unfolding planned members
 planned-ext copies p q h =
-    ap (map (λ i. merged copies (keep (λ j. eqb (p j) i) (upFrom 0 (length copies))) i)) (keep-ext (λ i. eqb (p i) i) (λ i. eqb (q i) i) (upFrom 0 (length copies)) (λ i m. ap (λ k. eqb k i) (agree m)))
+    ap (map (λ i. merged copies (keep (λ j. eqb (p j) i) (upFrom 0 (length copies))) i))
+    (keep-ext (λ i. eqb (p i) i) (λ i. eqb (q i) i) (upFrom 0 (length copies)) (λ i m. ap (λ k. eqb k i) (agree m)))
     ∙ go (keep (λ i. eqb (q i) i) (upFrom 0 (length copies)))
   where
     agree : {i : ℕ} → List·Memᴰ i (upFrom 0 (length copies)) → p i ≡ q i
     agree {i} m = let u = up-mem 0 (length copies) m in h i (omega arith)
 
-    go : (l : List ℕ) → map (λ i. merged copies (keep (λ j. eqb (p j) i) (upFrom 0 (length copies))) i) l ≡ map (λ i. merged copies (keep (λ j. eqb (q j) i) (upFrom 0 (length copies))) i) l
+    go : (l : List ℕ) → map (λ i. merged copies (keep (λ j. eqb (p j) i) (upFrom 0 (length copies))) i) l ≡ map
+        (λ i. merged copies (keep (λ j. eqb (q j) i) (upFrom 0 (length copies))) i) l
     go [] = refl
     go (i ∷ is) = rw (keep-ext (λ j. eqb (p j) i) (λ j. eqb (q j) i) (upFrom 0 (length copies)) (λ j m. ap (λ k. eqb k i) (agree m)), go is) refl

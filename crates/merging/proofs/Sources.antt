@@ -2,7 +2,8 @@
 use mathlib.Core.Bool.{not}
 use mathlib.Core.Path.{_≡_, ap}
 use mathlib.Core.Logic.{⊎-elim}
-use mathlib.Core.List.{List, [], _∷_, _++_, map, List·Memᴰ, List·Memᴰ·not-nil, List·Memᴰ·append-cases, Memᴰ·append-left, Memᴰ·append-right, Memᴰ·map, Memᴰ·of-map, List·Permᴰ, Permᴰ·symm}
+use mathlib.Core.List.{List, [], _∷_, _++_, map, List·Memᴰ, List·Memᴰ·not-nil, List·Memᴰ·append-cases, Memᴰ·append-left, Memᴰ·append-right, Memᴰ·map}
+use mathlib.Core.List.{Memᴰ·of-map, List·Permᴰ, Permᴰ·symm}
 use Prim.Native.Nat.{ℕ}
 use native.Mathlib.Omega.{arith}
 use lib.ListN.{length}
@@ -34,13 +35,17 @@ use Rattle.merging.proofs.Kept.{kept-whole}
 use Rattle.merging.proofs.Listings.{copies-perm}
 
 -- What keeps its members under canonical copies and consolidation keeps them under a merge, and in what is kept.
-module _ (q : Boundary → List Source) (copied : (b : Boundary) → SameMembers (q (canon b)) (q b)) (merged : (r : Boundary) (ms : List Boundary) → SameMembers (q (consolidate r ms)) (gather q ms)) where
-  step-members : {copies : List Boundary} {g : Group} {before after : List Boundary} → MergeStep copies g before after → SameMembers (gather q before) (gather q after)
+module _ (q : Boundary → List Source) (copied : (b : Boundary) → SameMembers (q (canon b)) (q b))
+    (merged : (r : Boundary) (ms : List Boundary) → SameMembers (q (consolidate r ms)) (gather q ms)) where
+  step-members : {copies : List Boundary} {g : Group} {before after : List Boundary} → MergeStep copies g before after
+      → SameMembers (gather q before) (gather q after)
   unfolding taken left gather
   step-members {copies} {g} {before} s =
       members-trans (perm-members (gather-perm q (keep-split (isMember copies g) before)))
       (members-trans (members-eq (gather-append q (taken copies g before) (left copies g before)))
-      (members-trans (append-members (members-trans (members-sym (gather-changed q canon copied (taken copies g before))) (members-sym (merged (canon (s .retained)) (map canon (taken copies g before))))) (members-refl (gather q (left copies g before))))
+      (members-trans (append-members
+      (members-trans (members-sym (gather-changed q canon copied (taken copies g before)))
+      (members-sym (merged (canon (s .retained)) (map canon (taken copies g before))))) (members-refl (gather q (left copies g before))))
       (perm-members (gather-perm q (Permᴰ·symm (s .placed))))))
 
   module _ (copies : List Boundary) (gs : List Group) (well : WellGrouped (length copies) gs) where
@@ -61,7 +66,8 @@ module _ (q : Boundary → List Source) (copied : (b : Boundary) → SameMembers
       λ m.
           let r = gather-mem q (replaced copies gs) m in
           ⊎-elim
-          (λ (n : List·Memᴰ (r .0) (map (consolidated copies) gs)). let g = Memᴰ·of-map (consolidated copies) gs n in group-members (g .0) (g .1) x (rw (g .2) (r .2)))
+          (λ (n : List·Memᴰ (r .0) (map (consolidated copies) gs)). let g = Memᴰ·of-map (consolidated copies) gs n in
+          group-members (g .0) (g .1) x (rw (g .2) (r .2)))
           (λ (n : List·Memᴰ (r .0) (map (copyAt copies) (unmerged gs (length copies)))).
           let i = Memᴰ·of-map (copyAt copies) (unmerged gs (length copies)) n in
           let b = up-mem 0 (length copies) (keep-mem (λ j. not (inAny gs j)) (upFrom 0 (length copies)) (i .1) .0) in
@@ -72,10 +78,12 @@ module _ (q : Boundary → List Source) (copied : (b : Boundary) → SameMembers
           let i = mem-getD noBoundary (r .1) in
           let n : List·Memᴰ x (q (copyAt copies (i .0))) = rw (i .2) (r .2) in
           by-test (inAny gs (i .0))
-          (λ e. let g = any-group (i .0) gs e in mem-gather q (Memᴰ·append-left _ (Memᴰ·map (consolidated copies) (g .1))) (members-group (g .0) (i .0) (g .2) x n))
+          (λ e. let g = any-group (i .0) gs e in
+          mem-gather q (Memᴰ·append-left _ (Memᴰ·map (consolidated copies) (g .1))) (members-group (g .0) (i .0) (g .2) x n))
           (λ e.
           let b = i .1 in
-          mem-gather q (Memᴰ·append-right (map (consolidated copies) gs) (Memᴰ·map (copyAt copies) (mem-keep (λ j. not (inAny gs j)) (mem-up 0 (length copies) (i .0) (omega arith) (omega arith)) (ap not e)))) n),
+          mem-gather q (Memᴰ·append-right (map (consolidated copies) gs)
+          (Memᴰ·map (copyAt copies) (mem-keep (λ j. not (inAny gs j)) (mem-up 0 (length copies) (i .0) (omega arith) (omega arith)) (ap not e)))) n),
     )
 
 abbrev own : Boundary → List Source
@@ -107,7 +115,8 @@ observation-copied o = once-members source-order (o .sources)
 with-copied : (b : Boundary) → SameMembers (sourcesWith (canon b)) (sourcesWith b)
 unfolding canon
 with-copied b = rw (with-observed (canon b), with-observed b)
-    (append-members (own-copied b) (members-trans (sorted-members (map canonObservation (b .observations))) (gather-changed of canonObservation observation-copied (b .observations))))
+    (append-members (own-copied b)
+    (members-trans (sorted-members (map canonObservation (b .observations))) (gather-changed of canonObservation observation-copied (b .observations))))
 
 -- What a member gives: its observations' sources, or its own.
 observed-with : (b : Boundary) (x : Source) → List·Memᴰ x (gather of (observed b)) → List·Memᴰ x (b .sources ++ gather of (b .observations))
@@ -129,7 +138,8 @@ with-given b x m = go (b .observations) m
 members-with : (ms : List Boundary) → SameMembers (gather own ms ++ gather of (gather observed ms)) (gather sourcesWith ms)
 members-with ms x = (
   λ m. ⊎-elim
-      (λ (n : List·Memᴰ x (gather own ms)). let k = gather-mem own ms n in mem-gather sourcesWith (k .1) (rw (with-observed (k .0)) (Memᴰ·append-left _ (k .2))))
+      (λ (n : List·Memᴰ x (gather own ms)). let k = gather-mem own ms n in
+      mem-gather sourcesWith (k .1) (rw (with-observed (k .0)) (Memᴰ·append-left _ (k .2))))
       (λ (n : List·Memᴰ x (gather of (gather observed ms))).
       let o = gather-mem of (gather observed ms) n in
       let k = gather-mem observed ms (o .1) in
@@ -147,7 +157,8 @@ members-with ms x = (
 
 with-merged : (r : Boundary) (ms : List Boundary) → SameMembers (sourcesWith (consolidate r ms)) (gather sourcesWith ms)
 unfolding consolidate
-with-merged r ms = rw (with-observed (consolidate r ms)) (members-trans (append-members (own-merged r ms) (sorted-members (gather observed ms))) (members-with ms))
+with-merged r ms = rw (with-observed (consolidate r ms))
+    (members-trans (append-members (own-merged r ms) (sorted-members (gather observed ms))) (members-with ms))
 
 -- Both kinds of sources, from lists gathered.
 both-same : {l m : List Boundary} → SameMembers (gather own l) (gather own m) → SameMembers (gather sourcesWith l) (gather sourcesWith m) → SameSources l m
@@ -173,7 +184,8 @@ pub sources-trans : {l m n : List Boundary} → SameSources l m → SameSources 
 sources-trans s t = record { own = members-trans (s .own) (t .own); all = members-trans (s .all) (t .all) }
 
 -- At the start and after every merge.
-pub through : {copies origin before after : List Boundary} {ms : List Group} → SameSources origin before → (s : Merges copies before ms after) → Throughout (SameSources origin) s
+pub through : {copies origin before after : List Boundary} {ms : List Group} → SameSources origin before → (s : Merges copies before ms after)
+    → Throughout (SameSources origin) s
 unfolding Throughout
 through p done = p
 through p (merge s more) = (p, through (sources-trans p (step-sources s)) more)
@@ -184,5 +196,6 @@ kept-sources bs gs w =
     let copies = copiesOf bs in
     sources-trans (sources-sym (sources-canon bs))
     (sources-trans (sources-perm (copies-perm bs))
-    (sources-trans (sources-sym (both-same (replaced-members own own-copied own-merged copies gs w) (replaced-members sourcesWith with-copied with-merged copies gs w)))
+    (sources-trans (sources-sym
+    (both-same (replaced-members own own-copied own-merged copies gs w) (replaced-members sourcesWith with-copied with-merged copies gs w)))
     (sources-perm (Permᴰ·symm (kept-whole copies gs w)))))

@@ -36,4 +36,5 @@ item-sym i j h = record { boundary = boundary-sym (i .boundary) (j .boundary) (h
 
 pub relisted-symmetric : {r s : Run} → Relisted r s → Relisted s r
 relisted-symmetric (matched e f h) = matched f e (shuffled-sym item-sym h)
-relisted-symmetric (unmatched n h k) = unmatched (λ e. n (shuffled-length h ∙ (e ∙ sym (shuffled-length k)))) (shuffled-sym boundary-sym h) (shuffled-sym turned-sym k)
+relisted-symmetric (unmatched n h k) =
+    unmatched (λ e. n (shuffled-length h ∙ (e ∙ sym (shuffled-length k)))) (shuffled-sym boundary-sym h) (shuffled-sym turned-sym k)

@@ -1,4 +1,5 @@
--- Canonical copies: 000's `clone_boundary` and `clone_observation`. Document 01: "a canonical copy: earlier end first, own sources sorted, observations in 000's order".
+-- Canonical copies: 000's `clone_boundary` and `clone_observation`. Document 01: "a canonical copy: earlier end first, own sources sorted,
+-- observations in 000's order".
 use mathlib.Core.List.{List, map}
 use Rattle.order.specs.Keys.{sortBy, sortOnceBy}
 use Rattle.position.specs.Order.{canonical}

@@ -28,7 +28,8 @@ membersOf copies g = map (copyAt copies) (g .ranks)
 unfoldable pub consolidated : List Boundary → Group → Boundary
 consolidated copies g = consolidate (copyAt copies (g .retained)) (membersOf copies g)
 
--- At a rank: "one consolidated boundary in its members' stead", "a merged one counting as its retained member"; another member leaves nothing, a boundary of no group its copy.
+-- At a rank: "one consolidated boundary in its members' stead", "a merged one counting as its retained member"; another member leaves nothing, a
+-- boundary of no group its copy.
 unfoldable pub slot : List Boundary → List Group → ℕ → List Boundary
 slot copies [] i = copyAt copies i ∷ []
 slot copies (g ∷ gs) i = cond (eqb i (g .retained)) (consolidated copies g ∷ []) (cond (has i (g .ranks)) [] (slot copies gs i))

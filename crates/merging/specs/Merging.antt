@@ -45,7 +45,8 @@ pub data Merges (copies : List Boundary) : List Boundary → List Group → List
   done : {s : List Boundary} → Merges copies s [] s
   merge : {s t u : List Boundary} {g : Group} {gs : List Group} → MergeStep copies g s t → Merges copies t gs u → Merges copies s (g ∷ gs) u
 
--- "A list of merges … names each group that these rules accept just once, serial ones before flat ones, otherwise in any order; without such groups it is empty."
+-- "A list of merges … names each group that these rules accept just once, serial ones before flat ones, otherwise in any order; without such groups
+-- it is empty."
 pub record MergeList (gs : Groups) (ms : List Group) : Type 0 where
   pub first : List Group
   pub second : List Group

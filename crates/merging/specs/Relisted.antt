@@ -31,7 +31,8 @@ pub record LikeItem (i j : Item) : Type 0 where
   pub boundary : LikeBoundary (i .boundary) (j .boundary)
   pub span : Turned (i .span) (j .span)
 
--- "span i belongs to boundary i and moves with it, its ends either way round; where spans and boundaries differ in number, run B has the same spans in any order"
+-- "span i belongs to boundary i and moves with it, its ends either way round; where spans and boundaries differ in number, run B has the same spans
+-- in any order"
 pub data Relisted : Run → Run → Type 0 where
   matched : {r s : Run} → Matched r → Matched s → Shuffled LikeItem (itemsOf r) (itemsOf s) → Relisted r s
   unmatched : {r s : Run} → (Matched r → ⊥) → Shuffled LikeBoundary (r .boundaries) (s .boundaries) → Shuffled Turned (r .spans) (s .spans) → Relisted r s

@@ -1,7 +1,9 @@
 -- Laws of `gather`.
 use mathlib.Core.Path.{_≡_, refl, _∙_, ap, subst}
 use mathlib.Core.Logic.{⊎-elim}
-use mathlib.Core.List.{List, [], _∷_, _++_, append-assoc, append-nil, List·Memᴰ, List·Memᴰ·head, List·Memᴰ·tail, List·Memᴰ·not-nil, List·Memᴰ·append-cases, Memᴰ·append-left, Memᴰ·append-right, List·Permᴰ, List·Permᴰ·nil, List·Permᴰ·cons, List·Permᴰ·swap, List·Permᴰ·trans, Permᴰ·append-left, Permᴰ·append-right, List·Permᴰ·append-comm}
+use mathlib.Core.List.{List, [], _∷_, _++_, append-assoc, append-nil, List·Memᴰ, List·Memᴰ·head, List·Memᴰ·tail, List·Memᴰ·not-nil, List·Memᴰ·append-cases}
+use mathlib.Core.List.{Memᴰ·append-left, Memᴰ·append-right, List·Permᴰ, List·Permᴰ·nil, List·Permᴰ·cons, List·Permᴰ·swap, List·Permᴰ·trans, Permᴰ·append-left}
+use mathlib.Core.List.{Permᴰ·append-right, List·Permᴰ·append-comm}
 use Rattle.order.specs.Lists.{gather}
 use Rattle.order.specs.Pairs.{Pairs, none, more}
 use Rattle.order.proofs.Pairs.{pairs-append}
@@ -42,7 +44,8 @@ module _ {A B : Type 0} (f : A → List B) where
   gather-perm (List·Permᴰ·trans p q) = List·Permᴰ·trans (gather-perm p) (gather-perm q)
 
   -- within the list of each member, and across the lists of every two
-  pub gather-pairs : {R : B → B → Type 0} → ((x : A) → Pairs R (f x)) → {l : List A} → Pairs (λ x y. (b c : B) → List·Memᴰ b (f x) → List·Memᴰ c (f y) → R b c) l → Pairs R (gather f l)
+  pub gather-pairs : {R : B → B → Type 0} → ((x : A) → Pairs R (f x)) → {l : List A}
+      → Pairs (λ x y. (b c : B) → List·Memᴰ b (f x) → List·Memᴰ c (f y) → R b c) l → Pairs R (gather f l)
   unfolding gather
   gather-pairs o none = none
   gather-pairs o (more {x = x} {xs = xs} g t) =

@@ -2,7 +2,8 @@
 use mathlib.Core.Path.{_≡_, refl, ap}
 use mathlib.Core.Logic.{_↔_}
 use mathlib.Core.Bool.{Bool, true, false, cond, not, _&&_, _||_}
-use mathlib.Core.List.{List, [], _∷_, _++_, map, List·Memᴰ, List·Memᴰ·head, List·Memᴰ·tail, List·Memᴰ·not-nil, List·Permᴰ, List·Permᴰ·nil, List·Permᴰ·cons, List·Permᴰ·swap, List·Permᴰ·trans, Permᴰ·refl, Permᴰ·symm, Permᴰ·middle}
+use mathlib.Core.List.{List, [], _∷_, _++_, map, List·Memᴰ, List·Memᴰ·head, List·Memᴰ·tail, List·Memᴰ·not-nil, List·Permᴰ, List·Permᴰ·nil, List·Permᴰ·cons}
+use mathlib.Core.List.{List·Permᴰ·swap, List·Permᴰ·trans, Permᴰ·refl, Permᴰ·symm, Permᴰ·middle}
 use Prim.Native.Nat.{suc, _+_, _≤_, _<_}
 use native.Mathlib.Omega.{arith}
 use lib.ListN.{length}
@@ -21,7 +22,8 @@ module _ {A : Type 0} where
       here e (List·Memᴰ·head k) i = (List·Memᴰ·head k, rw k e)
       here e (List·Memᴰ·tail k) i = (List·Memᴰ·tail (i k .0), i k .1)
 
-      go : (s : Bool) → t x ≡ s → List·Memᴰ y (cond s (x ∷ keep t xs) (keep t xs)) → (List·Memᴰ y (keep t xs) → List·Memᴰ y xs × (t y ≡ true)) → List·Memᴰ y (x ∷ xs) × (t y ≡ true)
+      go : (s : Bool) → t x ≡ s → List·Memᴰ y (cond s (x ∷ keep t xs) (keep t xs)) → (List·Memᴰ y (keep t xs) → List·Memᴰ y xs × (t y ≡ true))
+          → List·Memᴰ y (x ∷ xs) × (t y ≡ true)
       go true e n i = here e n i
       go false e n i = (List·Memᴰ·tail (i n .0), i n .1)
 
@@ -50,7 +52,8 @@ module _ {A : Type 0} where
   keep-append t [] m = refl
   keep-append t (x ∷ xs) m = go (t x) (keep-append t xs m)
     where
-      go : (s : Bool) → keep t (xs ++ m) ≡ keep t xs ++ keep t m → cond s (x ∷ keep t (xs ++ m)) (keep t (xs ++ m)) ≡ cond s (x ∷ keep t xs) (keep t xs) ++ keep t m
+      go : (s : Bool) → keep t (xs ++ m) ≡ keep t xs ++ keep t m
+          → cond s (x ∷ keep t (xs ++ m)) (keep t (xs ++ m)) ≡ cond s (x ∷ keep t xs) (keep t xs) ++ keep t m
       go true e = ap (λ (l : List A). x ∷ l) e
       go false e = e
 
@@ -90,7 +93,8 @@ module _ {A : Type 0} where
       go false q = q
   keep-perm t (List·Permᴰ·swap {a = a} {b = b} {l = l} e f) = rw (← e, ← f) (go (t a) (t b))
     where
-      go : (p q : Bool) → List·Permᴰ (cond p (a ∷ cond q (b ∷ keep t l) (keep t l)) (cond q (b ∷ keep t l) (keep t l))) (cond q (b ∷ cond p (a ∷ keep t l) (keep t l)) (cond p (a ∷ keep t l) (keep t l)))
+      go : (p q : Bool) → List·Permᴰ (cond p (a ∷ cond q (b ∷ keep t l) (keep t l)) (cond q (b ∷ keep t l) (keep t l)))
+          (cond q (b ∷ cond p (a ∷ keep t l) (keep t l)) (cond p (a ∷ keep t l) (keep t l)))
       go true true = List·Permᴰ·swap refl refl
       go true false = Permᴰ·refl (a ∷ keep t l)
       go false true = Permᴰ·refl (b ∷ keep t l)
@@ -117,7 +121,8 @@ module _ {A : Type 0} where
       go true p = more (λ y m. f y (keep-mem t xs m .0)) p
       go false p = p
 
-pub keep-map : {A B : Type 0} (f : A → B) (t : B → Bool) (u : A → Bool) (l : List A) → ((y : A) → List·Memᴰ y l → t (f y) ≡ u y) → keep t (map f l) ≡ map f (keep u l)
+pub keep-map : {A B : Type 0} (f : A → B) (t : B → Bool) (u : A → Bool) (l : List A) → ((y : A) → List·Memᴰ y l → t (f y) ≡ u y)
+    → keep t (map f l) ≡ map f (keep u l)
 unfolding keep
 keep-map f t u [] h = refl
 keep-map {A} {B} f t u (x ∷ xs) h = rw (h x (List·Memᴰ·head refl)) (go (u x) (keep-map f t u xs (λ y n. h y (List·Memᴰ·tail n))))

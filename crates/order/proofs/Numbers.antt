@@ -40,7 +40,8 @@ up-length a (suc n) = ap suc (up-length (suc a) n)
 pub up-last : (a n : ℕ) → upFrom a (suc n) ≡ upFrom a n ++ ((a + n) ∷ [])
 unfolding upFrom
 up-last a zero = let e : a ≡ a + 0 = omega arith in ap (λ (z : ℕ). z ∷ []) e
-up-last a (suc n) = let e : suc a + n ≡ a + suc n = omega arith in ap (λ (l : List ℕ). a ∷ l) (up-last (suc a) n ∙ ap (λ (z : ℕ). upFrom (suc a) n ++ (z ∷ [])) e)
+up-last a (suc n) = let e : suc a + n ≡ a + suc n = omega arith in
+    ap (λ (l : List ℕ). a ∷ l) (up-last (suc a) n ∙ ap (λ (z : ℕ). upFrom (suc a) n ++ (z ∷ [])) e)
 
 -- what a map gives at a place
 pub map-at : {A B : Type 0} (f : A → B) (l : List A) (i : ℕ) (d : A) (z : B) → i < length l → getD (map f l) i z ≡ f (getD l i d)

@@ -81,14 +81,16 @@ module _ (dirs : List ℕ) (g : Grid) (ss : List Span) (base : ℕ) (w : List �
     pub marked-sound : Sound (g .cells) (g .width) (part m base (size g))
     marked-sound = subst (Sound (g .cells) (g .width)) (sym (h .bytes)) (sound-of g (g .width) (rows (size g) (openByte dirs g ss)) (open-among dirs g ss each))
 
-    module _ {w′ : List ℕ} {r : ℕ} (numbered : (i : Grid) → i .cells ≡ g .cells → Numbered (size g) (walkable i) (named (g .width) (part m base (size g))) m w′ r) where
+    module _ {w′ : List ℕ} {r : ℕ}
+        (numbered : (i : Grid) → i .cells ≡ g .cells → Numbered (size g) (walkable i) (named (g .width) (part m base (size g))) m w′ r) where
       abbrev flat : List ℕ
       flat = flatMap u32Bytes (areaLabels dirs g ss)
 
       labels-are : w′ ≡ splice m 0 flat
       labels-are =
           numbered g refl .same
-          ∙ ap (λ (l : List ℕ). splice m 0 (flatMap u32Bytes l)) (ap (λ (b : List ℕ). labels (size g) (walkable g) (named (g .width) b)) (h .bytes) ∙ open-labels dirs g ss each)
+          ∙ ap (λ (l : List ℕ). splice m 0 (flatMap u32Bytes l))
+          (ap (λ (b : List ℕ). labels (size g) (walkable g) (named (g .width) b)) (h .bytes) ∙ open-labels dirs g ss each)
 
       flat-fits : 0 + length flat ≤ length m
       flat-fits = omega (arith, flat-long dirs g ss, h .long)

@@ -34,7 +34,8 @@ over-nothing bs = ap (λ (t : List ℕ). bs ++ t) (drop-none (0 + length bs)) �
 module _ (dirs : List ℕ) (g : Grid) (few : size g ≤ 1048576) where
   -- the labels read back
   pub labels-read : (ss : List Span) (bytes : List ℕ) → bytes ≡ flatMap u32Bytes (areaLabels dirs g ss) → labelsIn bytes (size g) ≡ areaLabels dirs g ss
-  labels-read ss bytes e = ap (λ (b : List ℕ). labelsIn b (size g)) (e ∙ sym (over-nothing (flatMap u32Bytes (areaLabels dirs g ss)))) ∙ area-labels-read dirs g ss few []
+  labels-read ss bytes e = ap (λ (b : List ℕ). labelsIn b (size g)) (e ∙ sym (over-nothing (flatMap u32Bytes (areaLabels dirs g ss))))
+      ∙ area-labels-read dirs g ss few []
 
   -- a record is of a span of the list, and between two areas
   record-in : (ss : List Span) (d : Span) (r : Record) → List·Memᴰ r (records dirs g ss) → (r .owner < length ss) × Regions (size g) (r .left) (r .right)
@@ -51,7 +52,8 @@ zeros-long : (k : ℕ) → length (zeros k) ≡ k
 zeros-long k = length-replicate k 0
 
 -- zeros after the labels
-pub zeros-after : (dirs : List ℕ) (g : Grid) (ss : List Span) {before w w′ : List ℕ} {from to r : ℕ} → AreasIn dirs g ss before w r → from ≡ 4 * size g → to ≡ 10 * size g →
+pub zeros-after : (dirs : List ℕ) (g : Grid) (ss : List Span) {before w w′ : List ℕ} {from to r : ℕ} → AreasIn dirs g ss before w r → from ≡ 4 * size g
+    → to ≡ 10 * size g →
     w′ ≡ splice w from (replicate (to - from) 0) → w′ ≡ labelled (areaLabels dirs g ss) before
 unfolding splice labelled
 zeros-after dirs g ss {before} {w} {w′} {from} {to} a f t e =
@@ -62,7 +64,8 @@ zeros-after dirs g ss {before} {w} {w′} {from} {to} a f t e =
     e
     ∙ (ap (λ (i : ℕ). take i w ++ (zeros (to - from) ++ drop (from + length (zeros (to - from))) w)) f
     ∙ (ap (λ (h : List ℕ). h ++ (zeros (to - from) ++ drop (from + length (zeros (to - from))) w)) (a .first)
-    ∙ (ap (λ (l : List ℕ). flatMap u32Bytes (areaLabels dirs g ss) ++ (zeros (to - from) ++ l)) (ap (λ (i : ℕ). drop i w) k ∙ (a .rest ∙ ap (λ (i : ℕ). drop i before) d))
+    ∙ (ap (λ (l : List ℕ). flatMap u32Bytes (areaLabels dirs g ss) ++ (zeros (to - from) ++ l))
+    (ap (λ (i : ℕ). drop i w) k ∙ (a .rest ∙ ap (λ (i : ℕ). drop i before) d))
     ∙ ap (λ (i : ℕ). flatMap u32Bytes (areaLabels dirs g ss) ++ (zeros i ++ drop (10 * length (areaLabels dirs g ss)) before)) z)))
 
 -- what the records and counts are by the labels of the areas
@@ -75,7 +78,8 @@ module _ (dirs : List ℕ) (g : Grid) (few : size g ≤ 1048576) (ends : List �
   rs = records dirs g spans
 
   pairs-fit : length rs ≤ most → (r ≡ length rs) × (recordsIn owners lefts rights r ≡ rs)
-      × ((i : ℕ) → i < count → (getD removed i 0 ≡ assess dirs g spans (spanIn ends i) .removed) × (getD separated i 0 ≡ assess dirs g spans (spanIn ends i) .separated))
+      × ((i : ℕ) → i < count → (getD removed i 0 ≡ assess dirs g spans (spanIn ends i) .removed)
+      × (getD separated i 0 ≡ assess dirs g spans (spanIn ends i) .separated))
   unfolding recordsOf assessed records assess
   pairs-fit h = recorded .fits h
 
@@ -138,5 +142,6 @@ pub all-parted : (dirs : List ℕ) (g : Grid) (ends : List ℕ) (count : ℕ) �
     Partitioned most dirs g ends count before w′ removed separated owners lefts rights (record { areas = a; pairs = r })
 all-parted dirs g ends count few h {before} {w} {w′} {removed} {separated} {owners} {lefts} {rights} {most} {from} {to} {a} {r} areas recorded e f t =
     partitioned dirs g few ends count
-    (subst (λ (ls : List ℕ). Recorded ls dirs g most ends count removed separated owners lefts rights r) (lent-labels dirs g (spansIn ends count) areas few h) recorded)
+    (subst (λ (ls : List ℕ). Recorded ls dirs g most ends count removed separated owners lefts rights r) (lent-labels dirs g (spansIn ends count) areas few h)
+    recorded)
     (zeros-after dirs g (spansIn ends count) areas f t e) (areas .total)

@@ -41,7 +41,8 @@ pub record Regions (n left right : ℕ) : Type 0 where
   pub most : right ≤ n
 
 -- the areas that the first count spans make, their number, and the region pairs and counts of each span, in arrays of most pairs; one more stands for over most
-pub record Partitioned (most : ℕ) (dirs : List ℕ) (g : Grid) (ends : List ℕ) (count : ℕ) (before work removed separated owners lefts rights : List ℕ) (p : Partition) : Type 0 where
+pub record Partitioned (most : ℕ) (dirs : List ℕ) (g : Grid) (ends : List ℕ) (count : ℕ) (before work removed separated owners lefts rights : List ℕ)
+    (p : Partition) : Type 0 where
   pub work-is : work ≡ labelled (areaLabels dirs g (spansIn ends count)) before
   pub areas-are : p .areas ≡ areaCount dirs g (spansIn ends count)
   pub areas-few : areaCount dirs g (spansIn ends count) ≤ size g

@@ -29,7 +29,8 @@ fn label_areas(
     work: &mut [u8],
 ) -> u32
     requires { ⌜ Partitionable width height (now cells) directions (now ends) count (now work) ⌝ }
-    ensures { λ r. ⌜ AreasIn (directionsOf directions) (mapOf width height (now (cells .entry))) (spansIn (now (ends .entry)) count) (now (work .entry)) (now (work .exit)) r ⌝ }
+    ensures { λ r. ⌜ AreasIn (directionsOf directions) (mapOf width height (now (cells .entry))) (spansIn (now (ends .entry)) count) (now (work .entry))
+        (now (work .exit)) r ⌝ }
 {
     let n = cells.len();
     let base = 4 * n;
@@ -54,8 +55,11 @@ pub fn partition_by_spans(
     lefts: &mut [u32],
     rights: &mut [u32],
 ) -> Partition
-    requires { ⌜ Partitionable width height (now cells) directions (now ends) count (now work) × Arrays (length (now lefts)) (now removed) (now separated) (now owners) (now lefts) (now rights) ⌝ }
-    ensures { λ r. ⌜ Partitioned (length (now (lefts .entry))) (directionsOf directions) (mapOf width height (now (cells .entry))) (now (ends .entry)) count (now (work .entry)) (now (work .exit)) (now (removed .exit)) (now (separated .exit)) (now (owners .exit)) (now (lefts .exit)) (now (rights .exit)) r ⌝ }
+    requires { ⌜ Partitionable width height (now cells) directions (now ends) count (now work)
+        × Arrays (length (now lefts)) (now removed) (now separated) (now owners) (now lefts) (now rights) ⌝ }
+    ensures { λ r. ⌜ Partitioned (length (now (lefts .entry))) (directionsOf directions) (mapOf width height (now (cells .entry))) (now (ends .entry)) count
+        (now (work .entry)) (now (work .exit)) (now (removed .exit)) (now (separated .exit)) (now (owners .exit)) (now (lefts .exit)) (now (rights .exit))
+        r ⌝ }
 {
     let n = cells.len();
     let areas = label_areas(cells, width, height, directions, ends, count, work);

@@ -60,26 +60,31 @@ mapped-next {g} {i} {xs} {ys} v p l e = record {
 pub mapped-all : {g : ℕ → ℕ} {k : ℕ} {xs ys : List ℕ} → Mapped g k xs ys → 256 ≤ k → Filled (λ j. g (at xs j)) 256 ys
 mapped-all p n = filled-all (p .done) n
 
-pub join-as : (a b low high : ℕ) (xs : List ℕ) {ys : List ℕ} → low ≡ min a b → high ≡ max a b → Filled (λ i. cond (eqb (at xs i) high) low (at xs i)) 256 ys → Filled (λ i. join a b (at xs i)) 256 ys
+pub join-as : (a b low high : ℕ) (xs : List ℕ) {ys : List ℕ} → low ≡ min a b → high ≡ max a b → Filled (λ i. cond (eqb (at xs i) high) low (at xs i)) 256 ys
+    → Filled (λ i. join a b (at xs i)) 256 ys
 unfolding join
-join-as a b low high xs e h p = filled-as p (λ i l. ap (λ (m : ℕ). cond (eqb (at xs i) m) low (at xs i)) h ∙ ap (λ (m : ℕ). cond (eqb (at xs i) (max a b)) m (at xs i)) e)
+join-as a b low high xs e h p =
+    filled-as p (λ i l. ap (λ (m : ℕ). cond (eqb (at xs i) m) low (at xs i)) h ∙ ap (λ (m : ℕ). cond (eqb (at xs i) (max a b)) m (at xs i)) e)
 
 abbrev linked : Bool → ℕ → ℕ → List ℕ → ℕ → ℕ
 linked on first second xs i = cond on (join (at xs first) (at xs second) (at xs i)) (at xs i)
 
-pub link-yes : (on first second u v : ℕ) (xs : List ℕ) {ys : List ℕ} → on ≡ 1 → u ≡ first → v ≡ second → Filled (λ i. join (at xs u) (at xs v) (at xs i)) 256 ys → Filled (λ i. cond (eqb on 1) (join (at xs first) (at xs second) (at xs i)) (at xs i)) 256 ys
+pub link-yes : (on first second u v : ℕ) (xs : List ℕ) {ys : List ℕ} → on ≡ 1 → u ≡ first → v ≡ second → Filled (λ i. join (at xs u) (at xs v) (at xs i)) 256 ys
+    → Filled (λ i. cond (eqb on 1) (join (at xs first) (at xs second) (at xs i)) (at xs i)) 256 ys
 link-yes on first second u v xs e a b p =
     let h = eq-eqb on 1 e in
     rw h (filled-as p (λ i l. ap (λ (m : ℕ). join (at xs m) (at xs v) (at xs i)) a ∙ ap (λ (m : ℕ). join (at xs first) (at xs m) (at xs i)) b))
 
-pub link-no : (on first second : ℕ) (xs : List ℕ) → (on ≡ 1 → ⊥) → length xs ≡ 256 → Filled (λ i. cond (eqb on 1) (join (at xs first) (at xs second) (at xs i)) (at xs i)) 256 xs
+pub link-no : (on first second : ℕ) (xs : List ℕ) → (on ≡ 1 → ⊥) → length xs ≡ 256
+    → Filled (λ i. cond (eqb on 1) (join (at xs first) (at xs second) (at xs i)) (at xs i)) 256 xs
 link-no on first second xs n e = let h = ne-eqb on 1 n in rw h (record { size = e; each = λ i l. refl })
 
 module _ (chosen firsts seconds : List ℕ) (n : ℕ) where
   abbrev parted : ℕ → ℕ → ℕ
   parted k i = partFrom chosen firsts seconds k (n - k) i
 
-  part-step : (j : ℕ) → j < n → (i : ℕ) → parted j i ≡ cond (isOn chosen j) (join (parted (suc j) (at firsts j)) (parted (suc j) (at seconds j)) (parted (suc j) i)) (parted (suc j) i)
+  part-step : (j : ℕ) → j < n → (i : ℕ)
+      → parted j i ≡ cond (isOn chosen j) (join (parted (suc j) (at firsts j)) (parted (suc j) (at seconds j)) (parted (suc j) i)) (parted (suc j) i)
   unfolding partFrom chosenFrom keep part
   part-step j l i = ap (λ (ks : List ℕ). part (map (edgeRow firsts seconds) (keep (isOn chosen) ks)) i) (up-down j n l) ∙ choose (isOn chosen j)
     where
@@ -89,7 +94,8 @@ module _ (chosen firsts seconds : List ℕ) (n : ℕ) where
       before : ℕ → ℕ
       before = part (map (edgeRow firsts seconds) later)
 
-      choose : (b : Bool) → part (map (edgeRow firsts seconds) (cond b (j ∷ later) later)) i ≡ cond b (join (before (at firsts j)) (before (at seconds j)) (before i)) (before i)
+      choose : (b : Bool) → part (map (edgeRow firsts seconds) (cond b (j ∷ later) later)) i ≡ cond b
+          (join (before (at firsts j)) (before (at seconds j)) (before i)) (before i)
       choose true = refl
       choose false = refl
 
@@ -97,7 +103,8 @@ module _ (chosen firsts seconds : List ℕ) (n : ℕ) where
   unfolding partFrom chosenFrom keep part upFrom
   parts-start p = filled-as p (λ i l. let e : n - n ≡ 0 = omega arith in ap (λ (m : ℕ). partFrom chosen firsts seconds n m i) (sym e))
 
-  turn : (j : ℕ) {xs ys : List ℕ} → j < n → at firsts j < 256 → at seconds j < 256 → Filled (parted (suc j)) 256 xs → Filled (linked (isOn chosen j) (at firsts j) (at seconds j) xs) 256 ys → Filled (parted j) 256 ys
+  turn : (j : ℕ) {xs ys : List ℕ} → j < n → at firsts j < 256 → at seconds j < 256 → Filled (parted (suc j)) 256 xs
+      → Filled (linked (isOn chosen j) (at firsts j) (at seconds j) xs) 256 ys → Filled (parted j) 256 ys
   turn j {xs} {ys} l a b p q = filled-as q (λ i h.
       let x : at xs i ≡ parted (suc j) i = p .each i h in
       let y : at xs (at firsts j) ≡ parted (suc j) (at firsts j) = p .each (at firsts j) a in
@@ -118,14 +125,16 @@ module _ (chosen firsts seconds : List ℕ) (n : ℕ) where
   abbrev marked : ℕ → ℕ → ℕ
   marked k i = cond (joinedFrom chosen firsts seconds k (n - k) i) 1 0
 
-  joined-step : (j : ℕ) → j < n → (i : ℕ) → joinedFrom chosen firsts seconds j (n - j) i ≡ (isOn chosen j && joinsAt firsts seconds i j) || joinedFrom chosen firsts seconds (suc j) (n - suc j) i
+  joined-step : (j : ℕ) → j < n → (i : ℕ)
+      → joinedFrom chosen firsts seconds j (n - j) i ≡ (isOn chosen j && joinsAt firsts seconds i j) || joinedFrom chosen firsts seconds (suc j) (n - suc j) i
   unfolding joinedFrom chosenFrom keep any
   joined-step j l i = ap (λ (ks : List ℕ). any (joinsAt firsts seconds i) (keep (isOn chosen) ks)) (up-down j n l) ∙ choose (isOn chosen j)
     where
       later : List ℕ
       later = keep (isOn chosen) (upFrom (suc j) (n - suc j))
 
-      choose : (b : Bool) → any (joinsAt firsts seconds i) (cond b (j ∷ later) later) ≡ (b && joinsAt firsts seconds i j) || any (joinsAt firsts seconds i) later
+      choose : (b : Bool) → any (joinsAt firsts seconds i) (cond b (j ∷ later) later) ≡ (b && joinsAt firsts seconds i j) || any (joinsAt firsts seconds i)
+          later
       choose true = refl
       choose false = refl
 
@@ -142,12 +151,15 @@ module _ (chosen firsts seconds : List ℕ) (n : ℕ) where
   either true b = refl
   either false b = refl
 
-  mark-turn : (j : ℕ) {xs ys : List ℕ} → j < n → Filled (marked (suc j)) 256 xs → Filled (λ i. cond (isOn chosen j && joinsAt firsts seconds i j) 1 (at xs i)) 256 ys → Filled (marked j) 256 ys
+  mark-turn : (j : ℕ) {xs ys : List ℕ} → j < n → Filled (marked (suc j)) 256 xs
+      → Filled (λ i. cond (isOn chosen j && joinsAt firsts seconds i j) 1 (at xs i)) 256 ys → Filled (marked j) 256 ys
   mark-turn j {xs} l p q = filled-as q (λ i h.
       ap (λ (m : ℕ). cond (isOn chosen j && joinsAt firsts seconds i j) 1 m) (p .each i h)
-      ∙ (either (isOn chosen j && joinsAt firsts seconds i j) (joinedFrom chosen firsts seconds (suc j) (n - suc j) i) ∙ ap (λ (b : Bool). cond b 1 0) (sym (joined-step j l i))))
+      ∙ (either (isOn chosen j && joinsAt firsts seconds i j) (joinedFrom chosen firsts seconds (suc j) (n - suc j) i)
+      ∙ ap (λ (b : Bool). cond b 1 0) (sym (joined-step j l i))))
 
-  pub marks-next : {k : ℕ} {xs ys : List ℕ} → 0 < k → k ≤ n → Filled (marked k) 256 xs → Filled (λ i. cond (isOn chosen (k - 1) && joinsAt firsts seconds i (k - 1)) 1 (at xs i)) 256 ys → Filled (marked (k - 1)) 256 ys
+  pub marks-next : {k : ℕ} {xs ys : List ℕ} → 0 < k → k ≤ n → Filled (marked k) 256 xs
+      → Filled (λ i. cond (isOn chosen (k - 1) && joinsAt firsts seconds i (k - 1)) 1 (at xs i)) 256 ys → Filled (marked (k - 1)) 256 ys
   marks-next {k} {xs} l h p q =
       let z : k ≡ suc (k - 1) = omega arith in
       mark-turn (k - 1) (omega arith) (subst (λ (m : ℕ). Filled (marked m) 256 xs) z p) q
@@ -182,5 +194,6 @@ mark-yes on first second {a} {b} xs e p q n l h =
     or-true true = refl
     or-true false = refl
 
-pub mark-no : (on first second : ℕ) (xs : List ℕ) → (on ≡ 1 → ⊥) → length xs ≡ 256 → Filled (λ i. cond (eqb on 1 && (eqb i first || eqb i second)) 1 (at xs i)) 256 xs
+pub mark-no : (on first second : ℕ) (xs : List ℕ) → (on ≡ 1 → ⊥) → length xs ≡ 256
+    → Filled (λ i. cond (eqb on 1 && (eqb i first || eqb i second)) 1 (at xs i)) 256 xs
 mark-no on first second xs n e = let h = ne-eqb on 1 n in rw h (record { size = e; each = λ i l. refl })

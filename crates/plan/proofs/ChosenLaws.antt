@@ -29,7 +29,8 @@ use Rattle.plan.proofs.MergeLaws.{serialGoes, left-is}
 pair : {a b c d : Bool} → a ≡ c → b ≡ d → a && b ≡ c && d
 pair {b = b} {c = c} p q = ap (λ (t : Bool). t && b) p ∙ ap (λ (t : Bool). c && t) q
 
-module _ {dirs : List ℕ} {g : Grid} {anchors : List WalkPosition} {l : List Item} {regions firsts seconds : List ℕ} {n : ℕ} (linked : Linked dirs g anchors l regions firsts seconds n)
+module _ {dirs : List ℕ} {g : Grid} {anchors : List WalkPosition} {l : List Item} {regions firsts seconds : List ℕ} {n : ℕ}
+    (linked : Linked dirs g anchors l regions firsts seconds n)
     (ranked : Ranked (length l) firsts seconds n) where
   on-chosen : (t : ℕ → Bool) {chosen : List ℕ} → Filled (λ k. cond (t k) 1 0) n chosen → (k : ℕ) → k < n → isOn chosen k ≡ t k
   on-chosen t {chosen} p k h = ap (λ (x : ℕ). eqb x 1) (p .each k h) ∙ on-mark (t k)
@@ -39,18 +40,23 @@ module _ {dirs : List ℕ} {g : Grid} {anchors : List WalkPosition} {l : List It
   unfolding serialLinks
   serial-chosen {marks} {chosen} bridged p =
       chosen-are chosen (λ (k : LinkAt). bridgeAt dirs g l (k .first) && bridgeAt dirs g l (k .second)) linked
-      (λ k h. pair (bridge (at firsts k) (ranked .first-in k h)) (bridge (at seconds k) (ranked .second-in k h)) ∙ sym (on-chosen (λ j. bothOn marks (at firsts j) (at seconds j)) p k h))
+      (λ k h. pair (bridge (at firsts k) (ranked .first-in k h)) (bridge (at seconds k) (ranked .second-in k h))
+      ∙ sym (on-chosen (λ j. bothOn marks (at firsts j) (at seconds j)) p k h))
     where
       bridge : (i : ℕ) → i < length l → bridgeAt dirs g l i ≡ isOn marks i
       bridge i h = sym (ap (λ (x : ℕ). eqb x 1) (bridged .marks-are i h) ∙ on-mark (bridgeAt dirs g l i))
 
-  pub flat-chosen : {limits : Limits} {flat chosen : List ℕ} (own into : List ℕ) (few : length l ≤ 256) → FlatInside limits dirs g l regions firsts seconds flat n → ((i : ℕ) → i < length l → endsAt l i ≡ spanIn own i) →
+  pub flat-chosen : {limits : Limits} {flat chosen : List ℕ} (own into : List ℕ) (few : length l ≤ 256)
+      → FlatInside limits dirs g l regions firsts seconds flat n → ((i : ℕ) → i < length l → endsAt l i ≡ spanIn own i) →
       ((i : ℕ) → i < length l → at into i ≡ serialGoes limits dirs g anchors l few i) →
-      Filled (λ k. cond (flatLinkIn limits own into (at flat k) (at firsts k) (at seconds k)) 1 0) n chosen → flatLinks limits dirs g anchors l ≡ chosenLinks regions firsts seconds chosen n
+      Filled (λ k. cond (flatLinkIn limits own into (at flat k) (at firsts k) (at seconds k)) 1 0) n chosen
+      → flatLinks limits dirs g anchors l ≡ chosenLinks regions firsts seconds chosen n
   unfolding flatLinks isFlatLink
   flat-chosen {limits} {flat} {chosen} own into few inner ends goes p =
       chosen-are chosen (isFlatLink limits dirs g anchors l) linked
-      (λ k h. pair (sym (inner .each k h)) (pair (pair (free (at firsts k) (ranked .first-in k h)) (free (at seconds k) (ranked .second-in k h))) (near (at firsts k) (at seconds k) (ranked .first-in k h) (ranked .second-in k h)))
+      (λ k h. pair (sym (inner .each k h))
+      (pair (pair (free (at firsts k) (ranked .first-in k h)) (free (at seconds k) (ranked .second-in k h)))
+      (near (at firsts k) (at seconds k) (ranked .first-in k h) (ranked .second-in k h)))
       ∙ sym (on-chosen (λ j. flatLinkIn limits own into (at flat j) (at firsts j) (at seconds j)) p k h))
     where
       free : (i : ℕ) → i < length l → isLeft limits dirs g anchors l i ≡ eqb (at into i) 256

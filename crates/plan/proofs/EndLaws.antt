@@ -23,8 +23,10 @@ use Rattle.plan.proofs.GoesLaws.{serial-into, flat-into}
 use Rattle.plan.proofs.MergeLaws.{goesBy, serialGoes, flatGoes, plan-goes}
 use Rattle.plan.proofs.ChosenLaws.{serial-chosen, flat-chosen}
 
-module _ (limits : Limits) {dirs : List ℕ} {g : Grid} {anchors : List WalkPosition} {l : List Item} {own bits lowers highers regions firsts seconds : List ℕ} {count : ℕ}
-    (few : length l ≤ 256) (told : Told dirs g l (length l) own bits lowers highers) (linked : Linked dirs g anchors l regions firsts seconds count) (ranked : Ranked (length l) firsts seconds count) where
+module _ (limits : Limits) {dirs : List ℕ} {g : Grid} {anchors : List WalkPosition} {l : List Item} {own bits lowers highers regions firsts seconds : List ℕ}
+    {count : ℕ}
+    (few : length l ≤ 256) (told : Told dirs g l (length l) own bits lowers highers) (linked : Linked dirs g anchors l regions firsts seconds count)
+    (ranked : Ranked (length l) firsts seconds count) where
   pub serial-goes : {marks passing chosen parts joined into : List ℕ} → Bridged dirs g l marks → Passed limits dirs g l regions firsts seconds passing count →
       Filled (λ k. cond (bothOn marks (at firsts k) (at seconds k)) 1 0) count chosen → Parted chosen firsts seconds count parts joined →
       Filled (serialInto limits (length l) own bits lowers highers regions firsts seconds count passing chosen joined parts) (length l) into →
@@ -36,15 +38,19 @@ module _ (limits : Limits) {dirs : List ℕ} {g : Grid} {anchors : List WalkPosi
 
   pub flat-goes : {flat chosen parts joined into : List ℕ} (serial : List ℕ) → FlatInside limits dirs g l regions firsts seconds flat count →
       ((i : ℕ) → i < length l → at serial i ≡ serialGoes limits dirs g anchors l few i) →
-      Filled (λ k. cond (flatLinkIn limits own serial (at flat k) (at firsts k) (at seconds k)) 1 0) count chosen → Parted chosen firsts seconds count parts joined →
+      Filled (λ k. cond (flatLinkIn limits own serial (at flat k) (at firsts k) (at seconds k)) 1 0) count chosen
+      → Parted chosen firsts seconds count parts joined →
       Filled (flatInto limits (length l) own bits lowers highers regions firsts seconds count chosen joined parts) (length l) into →
       (i : ℕ) → i < length l → at into i ≡ flatGoes limits dirs g anchors l few i
   flat-goes {chosen = chosen} serial inner goes selected p filled i h =
       filled .each i h
       ∙ (flat-into limits told regions firsts seconds chosen count few ranked (p .parted) (p .marked) i h
-      ∙ ap (λ (ks : List LinkAt). goesBy limits l (length l) ks (acceptsFlat limits dirs g l) i) (sym (flat-chosen linked ranked own serial few inner (told .ends) goes selected)))
+      ∙ ap (λ (ks : List LinkAt). goesBy limits l (length l) ks (acceptsFlat limits dirs g l) i)
+      (sym (flat-chosen linked ranked own serial few inner (told .ends) goes selected)))
 
-  pub merged : (serial flat : List ℕ) → ((i : ℕ) → i < length l → at serial i ≡ serialGoes limits dirs g anchors l few i) → ((i : ℕ) → i < length l → at flat i ≡ flatGoes limits dirs g anchors l few i) →
+  pub merged : (serial flat : List ℕ) → ((i : ℕ) → i < length l → at serial i ≡ serialGoes limits dirs g anchors l few i)
+      → ((i : ℕ) → i < length l → at flat i ≡ flatGoes limits dirs g anchors l few i) →
       (i : ℕ) → i < length l → goesTo (at serial i) (at flat i) i ≡ mergePlan limits dirs g anchors l i
   merged serial flat a b i h =
-      ap (λ (x : ℕ). goesTo x (at flat i) i) (a i h) ∙ (ap (λ (x : ℕ). goesTo (serialGoes limits dirs g anchors l few i) x i) (b i h) ∙ sym (plan-goes limits dirs g anchors l few i h))
+      ap (λ (x : ℕ). goesTo x (at flat i) i) (a i h)
+      ∙ (ap (λ (x : ℕ). goesTo (serialGoes limits dirs g anchors l few i) x i) (b i h) ∙ sym (plan-goes limits dirs g anchors l few i h))

@@ -28,7 +28,8 @@ use Rattle.plan.specs.Fitting.{Plannable}
 use Rattle.plan.proofs.WholeLaws.{on-mark}
 
 module _ {l : List Item} {own bits ramps : List ℕ} (b : Boundaries l own bits ramps) where
-  pub told : {dirs : List ℕ} {g : Grid} {counts lowers highers : List ℕ} → FirstPairs dirs g l counts lowers highers → {n : ℕ} → length l ≡ n → Told dirs g l n own bits lowers highers
+  pub told : {dirs : List ℕ} {g : Grid} {counts lowers highers : List ℕ} → FirstPairs dirs g l counts lowers highers → {n : ℕ} → length l ≡ n
+      → Told dirs g l n own bits lowers highers
   told {dirs} {g} {lowers = lowers} p e = record {
     size = e;
     ends = λ i h. b .ends i (omega (arith, e));
@@ -50,7 +51,8 @@ module _ {l : List Item} {own bits ramps : List ℕ} (b : Boundaries l own bits 
   }
 
 -- links join ranks of the listing
-module _ {dirs : List ℕ} {g : Grid} {anchors : List WalkPosition} {l : List Item} {regions firsts seconds : List ℕ} {count : ℕ} (linked : Linked dirs g anchors l regions firsts seconds count) where
+module _ {dirs : List ℕ} {g : Grid} {anchors : List WalkPosition} {l : List Item} {regions firsts seconds : List ℕ} {count : ℕ}
+    (linked : Linked dirs g anchors l regions firsts seconds count) where
   pub is-link : (k : ℕ) → k < count → IsLink dirs g anchors l (linkRow regions firsts seconds k)
   unfolding linksIn
   is-link k h = link-iff dirs g anchors l (linkRow regions firsts seconds k) .0 (subst (List·Memᴰ (linkRow regions firsts seconds k)) (linked .all) member)
@@ -59,7 +61,8 @@ module _ {dirs : List ℕ} {g : Grid} {anchors : List WalkPosition} {l : List It
       row = linkRow regions firsts seconds
 
       member : List·Memᴰ (row k) (rows count row)
-      member = subst (λ (x : LinkAt). List·Memᴰ x (rows count row)) (rows-at count row k (row 0) h) (getD-mem (rows count row) (row 0) k (omega (arith, length-rows count row)))
+      member = subst (λ (x : LinkAt). List·Memᴰ x (rows count row)) (rows-at count row k (row 0) h)
+          (getD-mem (rows count row) (row 0) k (omega (arith, length-rows count row)))
 
   pub ranked : {n : ℕ} → length l ≡ n → Ranked n firsts seconds count
   ranked e = record {
@@ -70,9 +73,15 @@ module _ {dirs : List ℕ} {g : Grid} {anchors : List WalkPosition} {l : List It
 
 -- marks of 1 and 0
 module _ {limits : Limits} {dirs : List ℕ} {g : Grid} {l : List Item} {regions firsts seconds : List ℕ} where
-  pub passed : {passing : List ℕ} {count : ℕ} → ((k : ℕ) → k < count → getD passing k 0 ≡ cond (passes limits dirs g l (linkRow regions firsts seconds k)) 1 0) → Passed limits dirs g l regions firsts seconds passing count
+  pub passed : {passing : List ℕ} {count : ℕ} → ((k : ℕ) → k < count → getD passing k 0 ≡ cond (passes limits dirs g l (linkRow regions firsts seconds k)) 1 0)
+      → Passed limits dirs g l regions firsts seconds passing count
   passed f = record { each = λ k h. ap (λ (x : ℕ). eqb x 1) (f k h) ∙ on-mark (passes limits dirs g l (linkRow regions firsts seconds k)) }
 
-  pub flat-inside : {flat : List ℕ} {count : ℕ} → ((k : ℕ) → k < count → getD flat k 0 ≡ cond (staysInside limits dirs g l (linkRow regions firsts seconds k) && isFlat dirs g l (getD regions k 0)) 1 0) →
+  pub flat-inside : {flat : List ℕ} {count : ℕ}
+      → ((k : ℕ) → k < count → getD flat k 0 ≡ cond (staysInside limits dirs g l (linkRow regions firsts seconds k) && isFlat dirs g l (getD regions k 0)) 1 0)
+      →
       FlatInside limits dirs g l regions firsts seconds flat count
-  flat-inside f = record { each = λ k h. ap (λ (x : ℕ). eqb x 1) (f k h) ∙ on-mark (staysInside limits dirs g l (linkRow regions firsts seconds k) && isFlat dirs g l (getD regions k 0)) }
+  flat-inside f = record {
+    each = λ k h. ap (λ (x : ℕ). eqb x 1) (f k h)
+        ∙ on-mark (staysInside limits dirs g l (linkRow regions firsts seconds k) && isFlat dirs g l (getD regions k 0));
+  }

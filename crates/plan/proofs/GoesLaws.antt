@@ -41,16 +41,21 @@ rows-up {A} (suc n) a h f e =
     ∙ ap (λ (xs : List A). f a ∷ xs) (rows-up n (suc a) (λ i. h (suc i)) f (λ i. let s : a + suc i ≡ suc a + i = omega arith in e (suc i) ∙ ap f s))
 
 -- the links that pass a test are the chosen ones
-pub chosen-are : {dirs : List ℕ} {g : Grid} {anchors : List WalkPosition} {l : List Item} {regions firsts seconds : List ℕ} {n : ℕ} (chosen : List ℕ) (t : LinkAt → Bool) → Linked dirs g anchors l regions firsts seconds n →
+pub chosen-are : {dirs : List ℕ} {g : Grid} {anchors : List WalkPosition} {l : List Item} {regions firsts seconds : List ℕ} {n : ℕ} (chosen : List ℕ)
+    (t : LinkAt → Bool) → Linked dirs g anchors l regions firsts seconds n →
     ((k : ℕ) → k < n → t (linkRow regions firsts seconds k) ≡ isOn chosen k) → keep t (links dirs g anchors l) ≡ chosenLinks regions firsts seconds chosen n
 unfolding chosenFrom linksIn
 chosen-are {regions = regions} {firsts} {seconds} {n} chosen t linked e =
-    ap (keep t) (sym (linked .all) ∙ rows-up n 0 (linkRow regions firsts seconds) (linkRow regions firsts seconds) (λ i. let z : i ≡ 0 + i = omega arith in ap (linkRow regions firsts seconds) z))
+    ap (keep t) (sym (linked .all)
+    ∙ rows-up n 0 (linkRow regions firsts seconds) (linkRow regions firsts seconds)
+    (λ i. let z : i ≡ 0 + i = omega arith in ap (linkRow regions firsts seconds) z))
     ∙ keep-map (linkRow regions firsts seconds) t (isOn chosen) (upFrom 0 n) (λ k m. e k (omega (arith, up-mem 0 n m)))
 
-module _ (limits : Limits) {dirs : List ℕ} {g : Grid} {l : List Item} {n : ℕ} {own bits lowers highers : List ℕ} (told : Told dirs g l n own bits lowers highers)
+module _ (limits : Limits) {dirs : List ℕ} {g : Grid} {l : List Item} {n : ℕ} {own bits lowers highers : List ℕ}
+    (told : Told dirs g l n own bits lowers highers)
     (regions firsts seconds chosen : List ℕ) (count : ℕ) (few : n ≤ 256) (ranked : Ranked n firsts seconds count) {parts joined : List ℕ}
-    (parted : Filled (partFrom chosen firsts seconds 0 count) 256 parts) (marked : Filled (λ i. cond (joinedFrom chosen firsts seconds 0 count i) 1 0) 256 joined) where
+    (parted : Filled (partFrom chosen firsts seconds 0 count) 256 parts)
+    (marked : Filled (λ i. cond (joinedFrom chosen firsts seconds 0 count i) 1 0) 256 joined) where
   abbrev ks : List LinkAt
   ks = chosenLinks regions firsts seconds chosen count
 
@@ -83,20 +88,25 @@ module _ (limits : Limits) {dirs : List ℕ} {g : Grid} {l : List Item} {n : ℕ
       ∙ into-step (isJoined ks i) (G (part (linkEdges ks) i)) (S (part (linkEdges ks) i)))))
 
   pub serial-into : (passing : List ℕ) → Passed limits dirs g l regions firsts seconds passing count → 0 < n → (i : ℕ) → i < n →
-      serialInto limits n own bits lowers highers regions firsts seconds count passing chosen joined parts i ≡ cond (taken n ks (acceptsSerial limits dirs g l) i) (retained limits l (ownGroup n ks i .ranks)) 256
+      serialInto limits n own bits lowers highers regions firsts seconds count passing chosen joined parts i ≡ cond
+      (taken n ks (acceptsSerial limits dirs g l) i) (retained limits l (ownGroup n ks i .ranks)) 256
   unfolding serialInto
   serial-into passing passed some i h =
-      into-by (λ c. serialIn limits own lowers highers regions firsts seconds passing (ranksIn n joined parts c) (numbersIn count chosen firsts parts c)) (λ c. acceptsSerial limits dirs g l (groupAt n ks c))
+      into-by (λ c. serialIn limits own lowers highers regions firsts seconds passing (ranksIn n joined parts c) (numbersIn count chosen firsts parts c))
+      (λ c. acceptsSerial limits dirs g l (groupAt n ks c))
       (λ c. retainedIn limits own bits (ranksIn n joined parts c)) (λ c. retained limits l (groupAt n ks c .ranks))
-      (λ c. sym (serial-is told (ranksIn n joined parts c) (inside c) regions firsts seconds (numbersIn count chosen firsts parts c) limits count some (below c) (λ k b. (ranked .first-in k b, ranked .second-in k b)) passing passed)
+      (λ c. sym (serial-is told (ranksIn n joined parts c) (inside c) regions firsts seconds (numbersIn count chosen firsts parts c) limits count some (below c)
+      (λ k b. (ranked .first-in k b, ranked .second-in k b)) passing passed)
       ∙ ap (acceptsSerial limits dirs g l) (sym (group-by regions firsts seconds chosen count few ranked parted marked c)))
       retained-at i h
 
   pub flat-into : (i : ℕ) → i < n →
-      flatInto limits n own bits lowers highers regions firsts seconds count chosen joined parts i ≡ cond (taken n ks (acceptsFlat limits dirs g l) i) (retained limits l (ownGroup n ks i .ranks)) 256
+      flatInto limits n own bits lowers highers regions firsts seconds count chosen joined parts i ≡ cond (taken n ks (acceptsFlat limits dirs g l) i)
+      (retained limits l (ownGroup n ks i .ranks)) 256
   unfolding flatInto
   flat-into i h =
-      into-by (λ c. flatIn limits own lowers highers regions firsts seconds (ranksIn n joined parts c) (numbersIn count chosen firsts parts c)) (λ c. acceptsFlat limits dirs g l (groupAt n ks c))
+      into-by (λ c. flatIn limits own lowers highers regions firsts seconds (ranksIn n joined parts c) (numbersIn count chosen firsts parts c))
+      (λ c. acceptsFlat limits dirs g l (groupAt n ks c))
       (λ c. retainedIn limits own bits (ranksIn n joined parts c)) (λ c. retained limits l (groupAt n ks c .ranks))
       (λ c. sym (flat-is told (ranksIn n joined parts c) (inside c) regions firsts seconds (numbersIn count chosen firsts parts c) limits)
       ∙ ap (acceptsFlat limits dirs g l) (sym (group-by regions firsts seconds chosen count few ranked parted marked c)))

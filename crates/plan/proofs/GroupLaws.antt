@@ -38,7 +38,8 @@ use Rattle.groups.specs.Flat.{alike, acceptsFlat, leastFlatSpans}
 use Rattle.groups.specs.Representative.{leastWidth, distanceTo, nearer, eligible, retained, widthAt}
 use Rattle.groups.specs.Tables.{linkRow}
 use Rattle.plan.specs.Arrays.{isOn, joinsAt}
-use Rattle.plan.specs.Shape.{degreeIn, endsIn, regularIn, gapIn, chainIn, outerIn, pathIn, alikeIn, allAlikeIn, leastIn, sumIn, nearerIn, fineIn, eligibleIn, retainedIn}
+use Rattle.plan.specs.Shape.{degreeIn, endsIn, regularIn, gapIn, chainIn, outerIn, pathIn, alikeIn, allAlikeIn, leastIn, sumIn, nearerIn, fineIn}
+use Rattle.plan.specs.Shape.{eligibleIn, retainedIn}
 use Rattle.plan.specs.Told.{groupBy, Told, Passed, serialIn, flatIn}
 use Rattle.plan.proofs.ShapeLaws.{at-each}
 
@@ -97,7 +98,8 @@ module _ (regions firsts seconds rs js : List ℕ) where
       (λ y m. ap (λ (d : ℕ). leb 1 d && leb d 2) (degree-is y))
 
   -- an end is a rank of degree 1
-  pub end-in : (j : ℕ) → j < length (endsIn firsts seconds rs js) → List·Memᴰ (getD (endsIn firsts seconds rs js) j 0) rs × (degreeIn firsts seconds js (getD (endsIn firsts seconds rs js) j 0) ≡ 1)
+  pub end-in : (j : ℕ) → j < length (endsIn firsts seconds rs js) → List·Memᴰ (getD (endsIn firsts seconds rs js) j 0) rs
+      × (degreeIn firsts seconds js (getD (endsIn firsts seconds rs js) j 0) ≡ 1)
   unfolding endsIn
   end-in j l =
       let w = keep-mem (λ i. eqb (degreeIn firsts seconds js i) 1) rs (getD-mem (endsIn firsts seconds rs js) 0 j l) in
@@ -107,21 +109,27 @@ module _ (regions firsts seconds rs js : List ℕ) where
   first-region [] e = absurd (omega arith)
   first-region (k ∷ ks) e = refl
 
-  module _ {dirs : List ℕ} {g : Grid} {l : List Item} {n : ℕ} {own bits lowers highers : List ℕ} (told : Told dirs g l n own bits lowers highers) (inside : (i : ℕ) → List·Memᴰ i rs → i < n) where
+  module _ {dirs : List ℕ} {g : Grid} {l : List Item} {n : ℕ} {own bits lowers highers : List ℕ} (told : Told dirs g l n own bits lowers highers)
+      (inside : (i : ℕ) → List·Memᴰ i rs → i < n) where
     outer-is : (i : ℕ) → i < n → degreeIn firsts seconds js i ≡ 1 → outerRegion dirs g l a i ≡ outerIn lowers highers regions firsts seconds js i
     unfolding outerRegion outerIn
     outer-is i h e =
         ap (λ (p : RegionPair). otherRegion p (getD (linksAt a i) 0 noLink .region)) (told .pairs i h)
-        ∙ ap (λ (r : ℕ). otherRegion (pairOf (at lowers i) (at highers i)) r) (ap (λ (ks : List LinkAt). getD ks 0 noLink .region) (links-at-is i) ∙ first-region (near i) e)
+        ∙ ap (λ (r : ℕ). otherRegion (pairOf (at lowers i) (at highers i)) r)
+        (ap (λ (ks : List LinkAt). getD ks 0 noLink .region) (links-at-is i) ∙ first-region (near i) e)
 
-    outer-at : (j : ℕ) → j < length (endsIn firsts seconds rs js) → outerRegion dirs g l a (getD (endsOf a) j 0) ≡ outerIn lowers highers regions firsts seconds js (getD (endsIn firsts seconds rs js) j 0)
+    outer-at : (j : ℕ) → j < length (endsIn firsts seconds rs js)
+        → outerRegion dirs g l a (getD (endsOf a) j 0) ≡ outerIn lowers highers regions firsts seconds js (getD (endsIn firsts seconds rs js) j 0)
     outer-at j h =
         let w = end-in j h in
         ap (λ (es : List ℕ). outerRegion dirs g l a (getD es j 0)) ends-is ∙ outer-is (getD (endsIn firsts seconds rs js) j 0) (inside _ (w .0)) (w .1)
 
-    pub path-is : (limits : Limits) (least : ℕ) → simplePath limits dirs g l least a ≡ pathIn lowers highers regions firsts seconds least (limits .mostSpans) rs js
+    pub path-is : (limits : Limits) (least : ℕ)
+        → simplePath limits dirs g l least a ≡ pathIn lowers highers regions firsts seconds least (limits .mostSpans) rs js
     unfolding simplePath isPath pathIn
-    path-is limits least = ends ∙ (tested ∙ last-matters low high (eqb (suc (length js)) (length rs)) two (regularIn firsts seconds rs js) (not (eqb (one 0) (one 1))) (not (eqb (other 0) (other 1))) outers)
+    path-is limits least = ends
+        ∙ (tested ∙ last-matters low high (eqb (suc (length js)) (length rs)) two (regularIn firsts seconds rs js) (not (eqb (one 0) (one 1)))
+        (not (eqb (other 0) (other 1))) outers)
       where
         one : ℕ → ℕ
         one j = outerRegion dirs g l a (getD (endsOf a) j 0)
@@ -141,9 +149,11 @@ module _ (regions firsts seconds rs js : List ℕ) where
         two : Bool
         two = eqb (length (endsIn firsts seconds rs js)) 2
 
-        ends : shaped low high (eqb (suc (length (map (linkRow regions firsts seconds) js))) (length rs)) (eqb (length (endsOf a)) 2) regular (not (eqb (one 0) (one 1)))
+        ends : shaped low high (eqb (suc (length (map (linkRow regions firsts seconds) js))) (length rs)) (eqb (length (endsOf a)) 2) regular
+            (not (eqb (one 0) (one 1)))
             ≡ shaped low high (eqb (suc (length js)) (length rs)) two regular (not (eqb (one 0) (one 1)))
-        ends = ap (λ (m : ℕ). shaped low high (eqb (suc m) (length rs)) (eqb (length (endsOf a)) 2) regular (not (eqb (one 0) (one 1)))) (length-map js (linkRow regions firsts seconds))
+        ends = ap (λ (m : ℕ). shaped low high (eqb (suc m) (length rs)) (eqb (length (endsOf a)) 2) regular (not (eqb (one 0) (one 1))))
+            (length-map js (linkRow regions firsts seconds))
             ∙ ap (λ (es : List ℕ). shaped low high (eqb (suc (length js)) (length rs)) (eqb (length es) 2) regular (not (eqb (one 0) (one 1)))) ends-is
 
         tested : shaped low high (eqb (suc (length js)) (length rs)) two regular (not (eqb (one 0) (one 1)))
@@ -172,7 +182,8 @@ sort-ext p q (x ∷ xs) f =
     ap (insert p x) (sort-ext p q xs (λ y z m k. f y z (List·Memᴰ·tail m) (List·Memᴰ·tail k)))
     ∙ insert-ext p q x (sort q xs) (λ y m. f x y (List·Memᴰ·head refl) (List·Memᴰ·tail (perm-mem (Permᴰ·symm (sort-perm q xs)) m)))
 
-module _ {dirs : List ℕ} {g : Grid} {l : List Item} {n : ℕ} {own bits lowers highers : List ℕ} (told : Told dirs g l n own bits lowers highers) (rs : List ℕ) (inside : (i : ℕ) → List·Memᴰ i rs → i < n) where
+module _ {dirs : List ℕ} {g : Grid} {l : List Item} {n : ℕ} {own bits lowers highers : List ℕ} (told : Told dirs g l n own bits lowers highers) (rs : List ℕ)
+    (inside : (i : ℕ) → List·Memᴰ i rs → i < n) where
   ends-as : (i : ℕ) → List·Memᴰ i rs → endsAt l i ≡ spanIn own i
   ends-as i m = told .ends i (inside i m)
 
@@ -215,32 +226,40 @@ module _ {dirs : List ℕ} {g : Grid} {l : List Item} {n : ℕ} {own bits lowers
         ap (λ (b : Bool). b && every (λ i. every (alike limits l i) rs) rs) (path-is regions firsts seconds rs js told inside limits leastFlatSpans)
         ∙ ap (λ (b : Bool). pathIn lowers highers regions firsts seconds leastFlatSpans (limits .mostSpans) rs js && b) (all-alike-is limits)
 
-    module _ (links : ℕ) (some : 0 < n) (below : (k : ℕ) → List·Memᴰ k js → k < links) (joined : (k : ℕ) → k < links → (at firsts k < n) × (at seconds k < n)) where
+    module _ (links : ℕ) (some : 0 < n) (below : (k : ℕ) → List·Memᴰ k js → k < links)
+        (joined : (k : ℕ) → k < links → (at firsts k < n) × (at seconds k < n)) where
       chain-is : chainSum l (groupBy regions firsts seconds rs js) ≡ chainIn firsts seconds own js
       unfolding chainSum chainIn
       chain-is =
           ap (λ (xs : List Float). ascendingSum xs)
           (map-both (linkRow regions firsts seconds) (λ (k : LinkAt). rankDistance l (k .first) (k .second)) (gapIn firsts seconds own) js
-          (λ k m. let w = joined k (below k m) in ap (λ (s : Span). centreDistance s (endsAt l (at seconds k))) (told .ends (at firsts k) (w .0)) ∙ ap (centreDistance (spanIn own (at firsts k))) (told .ends (at seconds k) (w .1))))
+          (λ k m. let w = joined k (below k m) in
+          ap (λ (s : Span). centreDistance s (endsAt l (at seconds k))) (told .ends (at firsts k) (w .0))
+          ∙ ap (centreDistance (spanIn own (at firsts k))) (told .ends (at seconds k) (w .1))))
 
       end-below : (j : ℕ) → getD (endsIn firsts seconds rs js) j 0 < n
       unfolding endsIn
       end-below j = at-each (λ x. x < n) (endsIn firsts seconds rs js) j (λ x m. inside x (keep-mem (λ i. eqb (degreeIn firsts seconds js i) 1) rs m .0)) some
 
-      far-is : endDistance l (groupBy regions firsts seconds rs js) ≡ centreDistance (spanIn own (getD (endsIn firsts seconds rs js) 0 0)) (spanIn own (getD (endsIn firsts seconds rs js) 1 0))
+      far-is : endDistance l (groupBy regions firsts seconds rs js) ≡ centreDistance (spanIn own (getD (endsIn firsts seconds rs js) 0 0))
+          (spanIn own (getD (endsIn firsts seconds rs js) 1 0))
       unfolding endDistance
       far-is =
           ap (λ (es : List ℕ). rankDistance l (getD es 0 0) (getD es 1 0)) (ends-is regions firsts seconds rs js)
-          ∙ (ap (λ (s : Span). centreDistance s (endsAt l (getD (endsIn firsts seconds rs js) 1 0))) (told .ends (getD (endsIn firsts seconds rs js) 0 0) (end-below 0))
+          ∙ (ap (λ (s : Span). centreDistance s (endsAt l (getD (endsIn firsts seconds rs js) 1 0)))
+          (told .ends (getD (endsIn firsts seconds rs js) 0 0) (end-below 0))
           ∙ ap (centreDistance (spanIn own (getD (endsIn firsts seconds rs js) 0 0))) (told .ends (getD (endsIn firsts seconds rs js) 1 0) (end-below 1)))
 
-      pub serial-is : (passing : List ℕ) → Passed limits dirs g l regions firsts seconds passing links → acceptsSerial limits dirs g l (groupBy regions firsts seconds rs js) ≡ serialIn limits own lowers highers regions firsts seconds passing rs js
+      pub serial-is : (passing : List ℕ) → Passed limits dirs g l regions firsts seconds passing links
+          → acceptsSerial limits dirs g l (groupBy regions firsts seconds rs js) ≡ serialIn limits own lowers highers regions firsts seconds passing rs js
       unfolding acceptsSerial serialIn
       serial-is passing passed =
           ap (λ (b : Bool). (b && simplePath limits dirs g l (limits .leastSpans) h) && rest (chainSum l h) (endDistance l h))
           (every-map (linkRow regions firsts seconds) (passes limits dirs g l) (isOn passing) js (λ k m. sym (passed .each k (below k m))))
-          ∙ (ap (λ (b : Bool). (every (isOn passing) js && b) && rest (chainSum l h) (endDistance l h)) (path-is regions firsts seconds rs js told inside limits (limits .leastSpans))
-          ∙ (ap (λ (x : Float). both-pass && rest x (endDistance l h)) chain-is ∙ ap (λ (x : Float). both-pass && rest (chainIn firsts seconds own js) x) far-is))
+          ∙ (ap (λ (b : Bool). (every (isOn passing) js && b) && rest (chainSum l h) (endDistance l h))
+          (path-is regions firsts seconds rs js told inside limits (limits .leastSpans))
+          ∙ (ap (λ (x : Float). both-pass && rest x (endDistance l h)) chain-is
+          ∙ ap (λ (x : Float). both-pass && rest (chainIn firsts seconds own js) x) far-is))
         where
           h : Group
           h = groupBy regions firsts seconds rs js

@@ -22,19 +22,25 @@ one-group {j} e q = let h = eq-eqb j 1 e in rw h q
 together : (into : ℕ → ℕ) {j k p q : ℕ} → j ≡ k → p ≡ q → cond (eqb j 1) (into p) 256 ≡ cond (eqb k 1) (into q) 256
 together into e f = cc
 
-module _ (limits : Limits) (n links : ℕ) (own bits lowers highers regions firsts seconds chosen joined parts : List ℕ) (e i : ℕ) (p : at joined e ≡ at joined i) (q : at parts e ≡ at parts i) where
-  pub together-serial : (passing : List ℕ) → serialInto limits n own bits lowers highers regions firsts seconds links passing chosen joined parts e ≡ serialInto limits n own bits lowers highers regions firsts seconds links passing chosen joined parts i
+module _ (limits : Limits) (n links : ℕ) (own bits lowers highers regions firsts seconds chosen joined parts : List ℕ) (e i : ℕ) (p : at joined e ≡ at joined i)
+    (q : at parts e ≡ at parts i) where
+  pub together-serial : (passing : List ℕ)
+      → serialInto limits n own bits lowers highers regions firsts seconds links passing chosen joined parts e ≡ serialInto limits n own bits lowers highers
+      regions firsts seconds links passing chosen joined parts i
   unfolding serialInto
   together-serial passing =
       together
-      (λ c. cond (serialIn limits own lowers highers regions firsts seconds passing (ranksIn n joined parts c) (numbersIn links chosen firsts parts c)) (retainedIn limits own bits (ranksIn n joined parts c)) 256)
+      (λ c. cond (serialIn limits own lowers highers regions firsts seconds passing (ranksIn n joined parts c) (numbersIn links chosen firsts parts c))
+      (retainedIn limits own bits (ranksIn n joined parts c)) 256)
       p q
 
-  pub together-flat : flatInto limits n own bits lowers highers regions firsts seconds links chosen joined parts e ≡ flatInto limits n own bits lowers highers regions firsts seconds links chosen joined parts i
+  pub together-flat : flatInto limits n own bits lowers highers regions firsts seconds links chosen joined parts e ≡ flatInto limits n own bits lowers highers
+      regions firsts seconds links chosen joined parts i
   unfolding flatInto
   together-flat =
       together
-      (λ c. cond (flatIn limits own lowers highers regions firsts seconds (ranksIn n joined parts c) (numbersIn links chosen firsts parts c)) (retainedIn limits own bits (ranksIn n joined parts c)) 256)
+      (λ c. cond (flatIn limits own lowers highers regions firsts seconds (ranksIn n joined parts c) (numbersIn links chosen firsts parts c))
+      (retainedIn limits own bits (ranksIn n joined parts c)) 256)
       p q
 
 pub goes-serial : (s f i : ℕ) → (s ≡ 256 → ⊥) → s ≡ goesTo s f i

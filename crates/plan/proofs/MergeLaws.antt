@@ -20,7 +20,8 @@ use Rattle.groups.specs.Plan.{mergePlan}
 use Rattle.groups.proofs.Accepted.{accepted-below}
 use Rattle.groups.proofs.Plan.{accepted-retained}
 use Rattle.plan.specs.Into.{goesTo}
-use Rattle.plan.proofs.TakenLaws.{ownGroup, taken, serialTaken, flatTaken, serial-any, serial-accepted, flat-accepted, plan-serial, plan-flat, plan-stays}
+use Rattle.plan.proofs.TakenLaws.{ownGroup, taken, serialTaken, flatTaken, serial-any, serial-accepted, flat-accepted, plan-serial, plan-flat}
+use Rattle.plan.proofs.TakenLaws.{plan-stays}
 
 -- the rank that the rank goes into by the accepted ones of the links' groups
 abbrev pub goesBy : Limits → List Item → ℕ → List LinkAt → (Group → Bool) → ℕ → ℕ
@@ -30,7 +31,8 @@ free-by : (t : Bool) (x : ℕ) → (t ≡ true → x < 256) → eqb (cond t x 25
 free-by true x f = ne-eqb x 256 (λ e. omega (arith, f refl))
 free-by false x f = refl
 
-goes-by : (a b : Bool) (x y i p : ℕ) → (a ≡ true → x < 256) → (b ≡ true → y < 256) → (a ≡ true → p ≡ x) → (b ≡ true → p ≡ y) → (a ≡ false → b ≡ false → p ≡ i) → p ≡ goesTo (cond a x 256) (cond b y 256) i
+goes-by : (a b : Bool) (x y i p : ℕ) → (a ≡ true → x < 256) → (b ≡ true → y < 256) → (a ≡ true → p ≡ x) → (b ≡ true → p ≡ y) → (a ≡ false → b ≡ false → p ≡ i)
+    → p ≡ goesTo (cond a x 256) (cond b y 256) i
 goes-by true b x y i p f g s t u = let h : eqb x 256 ≡ false = ne-eqb x 256 (λ e. omega (arith, f refl)) in rw h (s refl)
 goes-by false true x y i p f g s t u = let h : eqb y 256 ≡ false = ne-eqb y 256 (λ e. omega (arith, g refl)) in rw h (t refl)
 goes-by false false x y i p f g s t u = u refl refl
@@ -45,10 +47,12 @@ module _ (limits : Limits) (dirs : List ℕ) (g : Grid) (anchors : List WalkPosi
   retained-low : {a : Group} → List·Memᴰ a (accepted limits dirs g anchors l) → retained limits l (a .ranks) < 256
   retained-low {a} m = omega (arith, few, accepted-below limits dirs g anchors l m (retained limits l (a .ranks)) (accepted-retained limits dirs g anchors l m))
 
-  serial-low : (i : ℕ) → i < length l → serialTaken limits dirs g anchors l i ≡ true → retained limits l (ownGroup (length l) (serialLinks dirs g anchors l) i .ranks) < 256
+  serial-low : (i : ℕ) → i < length l → serialTaken limits dirs g anchors l i ≡ true
+      → retained limits l (ownGroup (length l) (serialLinks dirs g anchors l) i .ranks) < 256
   serial-low i h e = retained-low (serial-accepted limits dirs g anchors l i h e .0)
 
-  flat-low : (i : ℕ) → i < length l → flatTaken limits dirs g anchors l i ≡ true → retained limits l (ownGroup (length l) (flatLinks limits dirs g anchors l) i .ranks) < 256
+  flat-low : (i : ℕ) → i < length l → flatTaken limits dirs g anchors l i ≡ true
+      → retained limits l (ownGroup (length l) (flatLinks limits dirs g anchors l) i .ranks) < 256
   flat-low i h e = retained-low (flat-accepted limits dirs g anchors l i h e .0)
 
   -- no serial group has the rank just if it goes into 256
@@ -60,5 +64,7 @@ module _ (limits : Limits) (dirs : List ℕ) (g : Grid) (anchors : List WalkPosi
   pub plan-goes : (i : ℕ) → i < length l → mergePlan limits dirs g anchors l i ≡ goesTo (serialGoes i) (flatGoes i) i
   plan-goes i h =
       goes-by (serialTaken limits dirs g anchors l i) (flatTaken limits dirs g anchors l i)
-      (retained limits l (ownGroup (length l) (serialLinks dirs g anchors l) i .ranks)) (retained limits l (ownGroup (length l) (flatLinks limits dirs g anchors l) i .ranks))
-      i (mergePlan limits dirs g anchors l i) (serial-low i h) (flat-low i h) (plan-serial limits dirs g anchors l i h) (plan-flat limits dirs g anchors l i h) (plan-stays limits dirs g anchors l i)
+      (retained limits l (ownGroup (length l) (serialLinks dirs g anchors l) i .ranks))
+      (retained limits l (ownGroup (length l) (flatLinks limits dirs g anchors l) i .ranks))
+      i (mergePlan limits dirs g anchors l i) (serial-low i h) (flat-low i h) (plan-serial limits dirs g anchors l i h) (plan-flat limits dirs g anchors l i h)
+      (plan-stays limits dirs g anchors l i)

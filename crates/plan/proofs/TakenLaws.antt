@@ -77,19 +77,25 @@ module _ (limits : Limits) (dirs : List ℕ) (g : Grid) (anchors : List WalkPosi
   serial-any i h = taken-any (length l) (serialLinks dirs g anchors l) (acceptsSerial limits dirs g l) i h
 
   pub serial-accepted : (i : ℕ) → i < length l → serialTaken i ≡ true →
-      List·Memᴰ (ownGroup (length l) (serialLinks dirs g anchors l) i) (accepted limits dirs g anchors l) × List·Memᴰ i (ownGroup (length l) (serialLinks dirs g anchors l) i .ranks)
+      List·Memᴰ (ownGroup (length l) (serialLinks dirs g anchors l) i) (accepted limits dirs g anchors l)
+      × List·Memᴰ i (ownGroup (length l) (serialLinks dirs g anchors l) i .ranks)
   unfolding accepted serialGroups
-  serial-accepted i h e = let m = taken-mem (length l) (serialLinks dirs g anchors l) (acceptsSerial limits dirs g l) i h e in (Memᴰ·append-left (flatGroups limits dirs g anchors l) (m .0), m .1)
+  serial-accepted i h e = let m = taken-mem (length l) (serialLinks dirs g anchors l) (acceptsSerial limits dirs g l) i h e in
+      (Memᴰ·append-left (flatGroups limits dirs g anchors l) (m .0), m .1)
 
   pub flat-accepted : (i : ℕ) → i < length l → flatTaken i ≡ true →
-      List·Memᴰ (ownGroup (length l) (flatLinks limits dirs g anchors l) i) (accepted limits dirs g anchors l) × List·Memᴰ i (ownGroup (length l) (flatLinks limits dirs g anchors l) i .ranks)
+      List·Memᴰ (ownGroup (length l) (flatLinks limits dirs g anchors l) i) (accepted limits dirs g anchors l)
+      × List·Memᴰ i (ownGroup (length l) (flatLinks limits dirs g anchors l) i .ranks)
   unfolding accepted flatGroups
-  flat-accepted i h e = let m = taken-mem (length l) (flatLinks limits dirs g anchors l) (acceptsFlat limits dirs g l) i h e in (Memᴰ·append-right (serialGroups limits dirs g anchors l) (m .0), m .1)
+  flat-accepted i h e = let m = taken-mem (length l) (flatLinks limits dirs g anchors l) (acceptsFlat limits dirs g l) i h e in
+      (Memᴰ·append-right (serialGroups limits dirs g anchors l) (m .0), m .1)
 
-  pub plan-serial : (i : ℕ) → i < length l → serialTaken i ≡ true → mergePlan limits dirs g anchors l i ≡ retained limits l (ownGroup (length l) (serialLinks dirs g anchors l) i .ranks)
+  pub plan-serial : (i : ℕ) → i < length l → serialTaken i ≡ true
+      → mergePlan limits dirs g anchors l i ≡ retained limits l (ownGroup (length l) (serialLinks dirs g anchors l) i .ranks)
   plan-serial i h e = let m = serial-accepted i h e in plan-member limits dirs g anchors l (m .0) i (m .1)
 
-  pub plan-flat : (i : ℕ) → i < length l → flatTaken i ≡ true → mergePlan limits dirs g anchors l i ≡ retained limits l (ownGroup (length l) (flatLinks limits dirs g anchors l) i .ranks)
+  pub plan-flat : (i : ℕ) → i < length l → flatTaken i ≡ true
+      → mergePlan limits dirs g anchors l i ≡ retained limits l (ownGroup (length l) (flatLinks limits dirs g anchors l) i .ranks)
   plan-flat i h e = let m = flat-accepted i h e in plan-member limits dirs g anchors l (m .0) i (m .1)
 
   pub plan-stays : (i : ℕ) → serialTaken i ≡ false → flatTaken i ≡ false → mergePlan limits dirs g anchors l i ≡ i
@@ -97,6 +103,8 @@ module _ (limits : Limits) (dirs : List ℕ) (g : Grid) (anchors : List WalkPosi
   plan-stays i s f = plan-other limits dirs g anchors l i (is-false (inAny (accepted limits dirs g anchors l) i) (λ h.
       let w = in-any (accepted limits dirs g anchors l) i h in
       ⊎-elim
-      (λ (m : List·Memᴰ (w .0) (serialGroups limits dirs g anchors l)). clash (mem-taken (length l) (serialLinks dirs g anchors l) (acceptsSerial limits dirs g l) i (any-in m (w .2))) s)
-      (λ (m : List·Memᴰ (w .0) (flatGroups limits dirs g anchors l)). clash (mem-taken (length l) (flatLinks limits dirs g anchors l) (acceptsFlat limits dirs g l) i (any-in m (w .2))) f)
+      (λ (m : List·Memᴰ (w .0) (serialGroups limits dirs g anchors l)). clash
+      (mem-taken (length l) (serialLinks dirs g anchors l) (acceptsSerial limits dirs g l) i (any-in m (w .2))) s)
+      (λ (m : List·Memᴰ (w .0) (flatGroups limits dirs g anchors l)). clash
+      (mem-taken (length l) (flatLinks limits dirs g anchors l) (acceptsFlat limits dirs g l) i (any-in m (w .2))) f)
       (List·Memᴰ·append-cases (serialGroups limits dirs g anchors l) (w .1))))

@@ -51,22 +51,27 @@ module _ (regions firsts seconds chosen : List ℕ) (links : ℕ) where
   as-and false b = refl
 
   module _ {n : ℕ} {parts joined : List ℕ} (few : n ≤ 256) (ranked : Ranked n firsts seconds links)
-      (parted : Filled (partFrom chosen firsts seconds 0 links) 256 parts) (marked : Filled (λ i. cond (joinedFrom chosen firsts seconds 0 links i) 1 0) 256 joined) where
+      (parted : Filled (partFrom chosen firsts seconds 0 links) 256 parts)
+      (marked : Filled (λ i. cond (joinedFrom chosen firsts seconds 0 links i) 1 0) 256 joined) where
     member-by : (c i : ℕ) → i < n → isJoined chosenLinks i && eqb (part (linkEdges chosenLinks) i) c ≡ inPart joined parts c i
     member-by c i l =
         let e : at parts i ≡ part (linkEdges chosenLinks) i = parted .each i (omega arith) ∙ sym (part-by i) in
-        let d : isOn joined i ≡ isJoined chosenLinks i = ap (λ (x : ℕ). eqb x 1) (marked .each i (omega arith)) ∙ (on-mark (joinedFrom chosen firsts seconds 0 links i) ∙ sym (joined-by i)) in
+        let d : isOn joined i ≡ isJoined chosenLinks i = ap (λ (x : ℕ). eqb x 1) (marked .each i (omega arith))
+        ∙ (on-mark (joinedFrom chosen firsts seconds 0 links i) ∙ sym (joined-by i)) in
         ap (λ (t : Bool). t && eqb (part (linkEdges chosenLinks) i) c) (sym d) ∙ ap (λ (x : ℕ). isOn joined i && eqb x c) (sym e)
 
     ranks-by : (c : ℕ) → groupAt n chosenLinks c .ranks ≡ ranksIn n joined parts c
     unfolding groupAt
-    ranks-by c = keep-ext (λ i. isJoined chosenLinks i && eqb (part (linkEdges chosenLinks) i) c) (inPart joined parts c) (upFrom 0 n) (λ i m. member-by c i (omega (arith, up-mem 0 n m)))
+    ranks-by c = keep-ext (λ i. isJoined chosenLinks i && eqb (part (linkEdges chosenLinks) i) c) (inPart joined parts c) (upFrom 0 n)
+        (λ i m. member-by c i (omega (arith, up-mem 0 n m)))
 
     links-by : (c : ℕ) → groupAt n chosenLinks c .links ≡ map (linkRow regions firsts seconds) (numbersIn links chosen firsts parts c)
     unfolding groupAt chosenFrom
     links-by c =
-        keep-map (linkRow regions firsts seconds) (λ (k : LinkAt). eqb (part (linkEdges chosenLinks) (k .first)) c) (λ k. eqb (part (linkEdges chosenLinks) (at firsts k)) c) (chosenFrom chosen 0 links) (λ k m. refl)
-        ∙ ap (map (linkRow regions firsts seconds)) (keep-keep (λ k. eqb (part (linkEdges chosenLinks) (at firsts k)) c) (isOn chosen) (linkIn chosen firsts parts c) (upFrom 0 links)
+        keep-map (linkRow regions firsts seconds) (λ (k : LinkAt). eqb (part (linkEdges chosenLinks) (k .first)) c)
+        (λ k. eqb (part (linkEdges chosenLinks) (at firsts k)) c) (chosenFrom chosen 0 links) (λ k m. refl)
+        ∙ ap (map (linkRow regions firsts seconds))
+        (keep-keep (λ k. eqb (part (linkEdges chosenLinks) (at firsts k)) c) (isOn chosen) (linkIn chosen firsts parts c) (upFrom 0 links)
         (λ k m.
         let l : at firsts k < n = ranked .first-in k (omega (arith, up-mem 0 links m)) in
         let e : part (linkEdges chosenLinks) (at firsts k) ≡ at parts (at firsts k) = part-by (at firsts k) ∙ sym (parted .each (at firsts k) (omega arith)) in

@@ -18,7 +18,8 @@ module _ (limits : Limits) (n : ℕ) (own bits lowers highers regions firsts sec
   unfolding serialIn retainedIn
   serialInto passing chosen joined parts i =
       cond (isOn joined i)
-      (cond (serialIn limits own lowers highers regions firsts seconds passing (ranksIn n joined parts (at parts i)) (numbersIn links chosen firsts parts (at parts i)))
+      (cond (serialIn limits own lowers highers regions firsts seconds passing (ranksIn n joined parts (at parts i))
+      (numbersIn links chosen firsts parts (at parts i)))
       (retainedIn limits own bits (ranksIn n joined parts (at parts i))) 256) 256
 
   unfoldable pub flatInto : List ℕ → List ℕ → List ℕ → ℕ → ℕ

@@ -22,7 +22,8 @@ pub record Parted (chosen firsts seconds : List ℕ) (links : ℕ) (parts joined
   pub marked : Filled (λ i. cond (joinedFrom chosen firsts seconds 0 links i) 1 0) 256 joined
 
 -- which rank each rank goes into by the serial groups, 256 where none has it
-pub record SerialPlan (limits : Limits) (n : ℕ) (own bits lowers highers regions firsts seconds : List ℕ) (links : ℕ) (marks passing into : List ℕ) : Type 0 where
+pub record SerialPlan (limits : Limits) (n : ℕ) (own bits lowers highers regions firsts seconds : List ℕ) (links : ℕ) (marks passing into : List ℕ) : Type
+    0 where
   pub chosen : List ℕ
   pub parts : List ℕ
   pub joined : List ℕ
@@ -40,8 +41,10 @@ pub record FlatPlan (limits : Limits) (n : ℕ) (own bits lowers highers regions
   pub goes : Filled (flatInto limits n own bits lowers highers regions firsts seconds links chosen joined parts) n into
 
 -- the array is the merge plan of every listing that the tables tell of
-pub record PlanOf (limits : Limits) (n : ℕ) (own bits lowers highers regions firsts seconds : List ℕ) (links : ℕ) (marks passing flat into : List ℕ) : Type 0 where
+pub record PlanOf (limits : Limits) (n : ℕ) (own bits lowers highers regions firsts seconds : List ℕ) (links : ℕ) (marks passing flat into : List ℕ) : Type
+    0 where
   pub whole : length into ≡ 256
-  pub each : (dirs : List ℕ) (g : Grid) (anchors : List WalkPosition) (l : List Item) → Told dirs g l n own bits lowers highers → Linked dirs g anchors l regions firsts seconds links →
+  pub each : (dirs : List ℕ) (g : Grid) (anchors : List WalkPosition) (l : List Item) → Told dirs g l n own bits lowers highers
+      → Linked dirs g anchors l regions firsts seconds links →
       Bridged dirs g l marks → Passed limits dirs g l regions firsts seconds passing links → FlatInside limits dirs g l regions firsts seconds flat links →
       (i : ℕ) → i < n → getD into i 0 ≡ mergePlan limits dirs g anchors l i

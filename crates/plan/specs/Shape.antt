@@ -58,7 +58,8 @@ module _ (lowers highers regions firsts seconds : List ℕ) where
   unfoldable pub pathIn : ℕ → ℕ → List ℕ → List ℕ → Bool
   unfolding endsIn regularIn outerIn
   pathIn least most rs js =
-      ((leb least (length rs) && leb (length rs) most) && ((eqb (suc (length js)) (length rs) && eqb (length (endsIn firsts seconds rs js)) 2) && regularIn firsts seconds rs js))
+      ((leb least (length rs) && leb (length rs) most)
+      && ((eqb (suc (length js)) (length rs) && eqb (length (endsIn firsts seconds rs js)) 2) && regularIn firsts seconds rs js))
       && not (eqb (outerIn js (getD (endsIn firsts seconds rs js) 0 0)) (outerIn js (getD (endsIn firsts seconds rs js) 1 0)))
 
 module _ (limits : Limits) (own : List ℕ) where

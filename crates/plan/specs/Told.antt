@@ -47,7 +47,8 @@ module _ (limits : Limits) (own lowers highers regions firsts seconds : List ℕ
   unfolding every pathIn chainIn endsIn squares spanIn
   serialIn passing rs js =
       (every (isOn passing) js && pathIn lowers highers regions firsts seconds (limits .leastSpans) (limits .mostSpans) rs js)
-      && (le (chainIn firsts seconds own js) (limits .chain) && le (centreDistance (spanIn own (getD (endsIn firsts seconds rs js) 0 0)) (spanIn own (getD (endsIn firsts seconds rs js) 1 0))) (limits .chain))
+      && (le (chainIn firsts seconds own js) (limits .chain) && le
+      (centreDistance (spanIn own (getD (endsIn firsts seconds rs js) 0 0)) (spanIn own (getD (endsIn firsts seconds rs js) 1 0))) (limits .chain))
 
   unfoldable pub flatIn : List ℕ → List ℕ → Bool
   unfolding pathIn allAlikeIn

@@ -28,8 +28,10 @@ pub fn accepts_serial(
     ranks: Few,
     links: Few,
 ) -> bool
-    requires { ⌜ (limits .«most_spans» ≤ 16) × (ranks .count ≤ 256) × (links .count ≤ 256) × Ranks (now own) ranks × Links (now own) (now firsts) (now seconds) links × RankFits (now own) 0 ⌝ }
-    ensures { λ r. ⌜ r ≡ serialIn (limitsOf limits) (now (own .entry)) (now (lowers .entry)) (now (highers .entry)) (now (regions .entry)) (now (firsts .entry)) (now (seconds .entry)) (now (passing .entry)) (listed ranks) (listed links) ⌝ }
+    requires { ⌜ (limits .«most_spans» ≤ 16) × (ranks .count ≤ 256) × (links .count ≤ 256) × Ranks (now own) ranks
+        × Links (now own) (now firsts) (now seconds) links × RankFits (now own) 0 ⌝ }
+    ensures { λ r. ⌜ r ≡ serialIn (limitsOf limits) (now (own .entry)) (now (lowers .entry)) (now (highers .entry)) (now (regions .entry)) (now (firsts .entry))
+        (now (seconds .entry)) (now (passing .entry)) (listed ranks) (listed links) ⌝ }
 {
     let pass = all_on(passing, links);
     let least = limits.least_spans;
@@ -67,7 +69,8 @@ pub fn accepts_flat(
     links: Few,
 ) -> bool
     requires { ⌜ (ranks .count ≤ 256) × (links .count ≤ 256) × Ranks (now own) ranks × Links (now own) (now firsts) (now seconds) links ⌝ }
-    ensures { λ r. ⌜ r ≡ flatIn (limitsOf limits) (now (own .entry)) (now (lowers .entry)) (now (highers .entry)) (now (regions .entry)) (now (firsts .entry)) (now (seconds .entry)) (listed ranks) (listed links) ⌝ }
+    ensures { λ r. ⌜ r ≡ flatIn (limitsOf limits) (now (own .entry)) (now (lowers .entry)) (now (highers .entry)) (now (regions .entry)) (now (firsts .entry))
+        (now (seconds .entry)) (listed ranks) (listed links) ⌝ }
 {
     let path = group_is_simple_path(
         limits,

@@ -54,8 +54,12 @@ fn one_serial(
     into: &[u32; 256],
     i: usize,
 ) -> u32
-    requires { ⌜ (limits .«most_spans» ≤ 16) × Safe n (now own) (now bits) (now firsts) (now seconds) links × (i < 256) × Filled (serialInto (limitsOf limits) n (now own) (now bits) (now lowers) (now highers) (now regions) (now firsts) (now seconds) links (now passing) (now chosen) (now joined) (now parts)) i (now into) ⌝ }
-    ensures { λ r. ⌜ r ≡ serialInto (limitsOf limits) n (now (own .entry)) (now (bits .entry)) (now (lowers .entry)) (now (highers .entry)) (now (regions .entry)) (now (firsts .entry)) (now (seconds .entry)) links (now (passing .entry)) (now (chosen .entry)) (now (joined .entry)) (now (parts .entry)) i ⌝ }
+    requires { ⌜ (limits .«most_spans» ≤ 16) × Safe n (now own) (now bits) (now firsts) (now seconds) links × (i < 256)
+        × Filled (serialInto (limitsOf limits) n (now own) (now bits) (now lowers) (now highers) (now regions) (now firsts) (now seconds) links
+        (now passing) (now chosen) (now joined) (now parts)) i (now into) ⌝ }
+    ensures { λ r. ⌜ r ≡ serialInto (limitsOf limits) n (now (own .entry)) (now (bits .entry)) (now (lowers .entry)) (now (highers .entry))
+        (now (regions .entry)) (now (firsts .entry)) (now (seconds .entry)) links (now (passing .entry)) (now (chosen .entry)) (now (joined .entry))
+        (now (parts .entry)) i ⌝ }
 {
     if joined[i] != 1 {
         return 256;
@@ -103,7 +107,9 @@ pub fn into_serial(
     into: &mut [u32; 256],
 )
     requires { ⌜ (limits .«most_spans» ≤ 16) × Safe n (now own) (now bits) (now firsts) (now seconds) links × (length (now into) ≡ 256) ⌝ }
-    ensures { λ r. ⌜ Filled (serialInto (limitsOf limits) n (now (own .entry)) (now (bits .entry)) (now (lowers .entry)) (now (highers .entry)) (now (regions .entry)) (now (firsts .entry)) (now (seconds .entry)) links (now (passing .entry)) (now (chosen .entry)) (now (joined .entry)) (now (parts .entry))) n (now (into .exit)) ⌝ }
+    ensures { λ r. ⌜ Filled (serialInto (limitsOf limits) n (now (own .entry)) (now (bits .entry)) (now (lowers .entry)) (now (highers .entry))
+        (now (regions .entry)) (now (firsts .entry)) (now (seconds .entry)) links (now (passing .entry)) (now (chosen .entry)) (now (joined .entry))
+        (now (parts .entry))) n (now (into .exit)) ⌝ }
 {
     let mut i: usize = 0;
     while i < n {
@@ -147,8 +153,11 @@ fn one_flat(
     into: &[u32; 256],
     i: usize,
 ) -> u32
-    requires { ⌜ (limits .«most_spans» ≤ 16) × Safe n (now own) (now bits) (now firsts) (now seconds) links × (i < 256) × Filled (flatInto (limitsOf limits) n (now own) (now bits) (now lowers) (now highers) (now regions) (now firsts) (now seconds) links (now chosen) (now joined) (now parts)) i (now into) ⌝ }
-    ensures { λ r. ⌜ r ≡ flatInto (limitsOf limits) n (now (own .entry)) (now (bits .entry)) (now (lowers .entry)) (now (highers .entry)) (now (regions .entry)) (now (firsts .entry)) (now (seconds .entry)) links (now (chosen .entry)) (now (joined .entry)) (now (parts .entry)) i ⌝ }
+    requires { ⌜ (limits .«most_spans» ≤ 16) × Safe n (now own) (now bits) (now firsts) (now seconds) links × (i < 256)
+        × Filled (flatInto (limitsOf limits) n (now own) (now bits) (now lowers) (now highers) (now regions) (now firsts) (now seconds) links (now chosen)
+        (now joined) (now parts)) i (now into) ⌝ }
+    ensures { λ r. ⌜ r ≡ flatInto (limitsOf limits) n (now (own .entry)) (now (bits .entry)) (now (lowers .entry)) (now (highers .entry)) (now (regions .entry))
+        (now (firsts .entry)) (now (seconds .entry)) links (now (chosen .entry)) (now (joined .entry)) (now (parts .entry)) i ⌝ }
 {
     if joined[i] != 1 {
         return 256;
@@ -194,7 +203,9 @@ pub fn into_flat(
     into: &mut [u32; 256],
 )
     requires { ⌜ (limits .«most_spans» ≤ 16) × Safe n (now own) (now bits) (now firsts) (now seconds) links × (length (now into) ≡ 256) ⌝ }
-    ensures { λ r. ⌜ Filled (flatInto (limitsOf limits) n (now (own .entry)) (now (bits .entry)) (now (lowers .entry)) (now (highers .entry)) (now (regions .entry)) (now (firsts .entry)) (now (seconds .entry)) links (now (chosen .entry)) (now (joined .entry)) (now (parts .entry))) n (now (into .exit)) ⌝ }
+    ensures { λ r. ⌜ Filled (flatInto (limitsOf limits) n (now (own .entry)) (now (bits .entry)) (now (lowers .entry)) (now (highers .entry))
+        (now (regions .entry)) (now (firsts .entry)) (now (seconds .entry)) links (now (chosen .entry)) (now (joined .entry)) (now (parts .entry))) n
+        (now (into .exit)) ⌝ }
 {
     let mut i: usize = 0;
     while i < n {

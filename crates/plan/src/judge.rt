@@ -33,7 +33,12 @@ pub fn judge_serial(
     c: u32,
 ) -> usize
     requires { ⌜ (limits .«most_spans» ≤ 16) × Safe n (now own) (now bits) (now firsts) (now seconds) links ⌝ }
-    ensures { λ r. ⌜ (r ≡ cond (serialIn (limitsOf limits) (now (own .entry)) (now (lowers .entry)) (now (highers .entry)) (now (regions .entry)) (now (firsts .entry)) (now (seconds .entry)) (now (passing .entry)) (ranksIn n (now (joined .entry)) (now (parts .entry)) c) (numbersIn links (now (chosen .entry)) (now (firsts .entry)) (now (parts .entry)) c)) (retainedIn (limitsOf limits) (now (own .entry)) (now (bits .entry)) (ranksIn n (now (joined .entry)) (now (parts .entry)) c)) 256) × (r ≤ 256) ⌝ }
+    ensures { λ r. ⌜ (r ≡ cond
+        (serialIn (limitsOf limits) (now (own .entry)) (now (lowers .entry)) (now (highers .entry)) (now (regions .entry)) (now (firsts .entry))
+        (now (seconds .entry)) (now (passing .entry)) (ranksIn n (now (joined .entry)) (now (parts .entry)) c)
+        (numbersIn links (now (chosen .entry)) (now (firsts .entry)) (now (parts .entry)) c))
+        (retainedIn (limitsOf limits) (now (own .entry)) (now (bits .entry)) (ranksIn n (now (joined .entry)) (now (parts .entry)) c)) 256)
+        × (r ≤ 256) ⌝ }
 {
     let ranks = ranks_of(n, joined, parts, c);
     let found = links_of(links, chosen, firsts, seconds, parts, c);
@@ -72,7 +77,12 @@ pub fn judge_flat(
     c: u32,
 ) -> usize
     requires { ⌜ (limits .«most_spans» ≤ 16) × Safe n (now own) (now bits) (now firsts) (now seconds) links ⌝ }
-    ensures { λ r. ⌜ (r ≡ cond (flatIn (limitsOf limits) (now (own .entry)) (now (lowers .entry)) (now (highers .entry)) (now (regions .entry)) (now (firsts .entry)) (now (seconds .entry)) (ranksIn n (now (joined .entry)) (now (parts .entry)) c) (numbersIn links (now (chosen .entry)) (now (firsts .entry)) (now (parts .entry)) c)) (retainedIn (limitsOf limits) (now (own .entry)) (now (bits .entry)) (ranksIn n (now (joined .entry)) (now (parts .entry)) c)) 256) × (r ≤ 256) ⌝ }
+    ensures { λ r. ⌜ (r ≡ cond
+        (flatIn (limitsOf limits) (now (own .entry)) (now (lowers .entry)) (now (highers .entry)) (now (regions .entry)) (now (firsts .entry))
+        (now (seconds .entry)) (ranksIn n (now (joined .entry)) (now (parts .entry)) c)
+        (numbersIn links (now (chosen .entry)) (now (firsts .entry)) (now (parts .entry)) c))
+        (retainedIn (limitsOf limits) (now (own .entry)) (now (bits .entry)) (ranksIn n (now (joined .entry)) (now (parts .entry)) c)) 256)
+        × (r ≤ 256) ⌝ }
 {
     let ranks = ranks_of(n, joined, parts, c);
     let found = links_of(links, chosen, firsts, seconds, parts, c);

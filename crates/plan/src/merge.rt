@@ -49,7 +49,8 @@ fn serial_plan(
     into: &mut [u32; 256],
 )
     requires { ⌜ (limits .«most_spans» ≤ 16) × Safe n (now own) (now bits) (now firsts) (now seconds) links × (length (now into) ≡ 256) ⌝ }
-    ensures { λ r. ⌜ SerialPlan (limitsOf limits) n (now (own .entry)) (now (bits .entry)) (now (lowers .entry)) (now (highers .entry)) (now (regions .entry)) (now (firsts .entry)) (now (seconds .entry)) links (now (marks .entry)) (now (passing .entry)) (now (into .exit)) ⌝ }
+    ensures { λ r. ⌜ SerialPlan (limitsOf limits) n (now (own .entry)) (now (bits .entry)) (now (lowers .entry)) (now (highers .entry)) (now (regions .entry))
+        (now (firsts .entry)) (now (seconds .entry)) links (now (marks .entry)) (now (passing .entry)) (now (into .exit)) ⌝ }
 {
     let mut chosen = [0u8; 256];
     let mut parts = [0u32; 256];
@@ -92,7 +93,8 @@ fn flat_plan(
     into: &mut [u32; 256],
 )
     requires { ⌜ (limits .«most_spans» ≤ 16) × Safe n (now own) (now bits) (now firsts) (now seconds) links × (length (now into) ≡ 256) ⌝ }
-    ensures { λ r. ⌜ FlatPlan (limitsOf limits) n (now (own .entry)) (now (bits .entry)) (now (lowers .entry)) (now (highers .entry)) (now (regions .entry)) (now (firsts .entry)) (now (seconds .entry)) links (now (flat .entry)) (now (serial .entry)) (now (into .exit)) ⌝ }
+    ensures { λ r. ⌜ FlatPlan (limitsOf limits) n (now (own .entry)) (now (bits .entry)) (now (lowers .entry)) (now (highers .entry)) (now (regions .entry))
+        (now (firsts .entry)) (now (seconds .entry)) links (now (flat .entry)) (now (serial .entry)) (now (into .exit)) ⌝ }
 {
     let mut chosen = [0u8; 256];
     let mut parts = [0u32; 256];
@@ -144,7 +146,8 @@ fn linked_plan(
     into: &mut [u32; 256],
 )
     requires { ⌜ (limits .«most_spans» ≤ 16) × Safe n (now own) (now bits) (now firsts) (now seconds) links × (length (now into) ≡ 256) ⌝ }
-    ensures { λ r. ⌜ PlanOf (limitsOf limits) n (now (own .entry)) (now (bits .entry)) (now (lowers .entry)) (now (highers .entry)) (now (regions .entry)) (now (firsts .entry)) (now (seconds .entry)) links (now (marks .entry)) (now (passing .entry)) (now (flat .entry)) (now (into .exit)) ⌝ }
+    ensures { λ r. ⌜ PlanOf (limitsOf limits) n (now (own .entry)) (now (bits .entry)) (now (lowers .entry)) (now (highers .entry)) (now (regions .entry))
+        (now (firsts .entry)) (now (seconds .entry)) links (now (marks .entry)) (now (passing .entry)) (now (flat .entry)) (now (into .exit)) ⌝ }
 {
     let mut serial = [0u32; 256];
     let mut other = [0u32; 256];
@@ -199,7 +202,8 @@ pub fn merge_plan(
     into: &mut [u32; 256],
 )
     requires { ⌜ (limits .«most_spans» ≤ 16) × Plannable n (now own) (now bits) (now firsts) (now seconds) links × (length (now into) ≡ 256) ⌝ }
-    ensures { λ r. ⌜ PlanOf (limitsOf limits) n (now (own .entry)) (now (bits .entry)) (now (lowers .entry)) (now (highers .entry)) (now (regions .entry)) (now (firsts .entry)) (now (seconds .entry)) links (now (marks .entry)) (now (passing .entry)) (now (flat .entry)) (now (into .exit)) ⌝ }
+    ensures { λ r. ⌜ PlanOf (limitsOf limits) n (now (own .entry)) (now (bits .entry)) (now (lowers .entry)) (now (highers .entry)) (now (regions .entry))
+        (now (firsts .entry)) (now (seconds .entry)) links (now (marks .entry)) (now (passing .entry)) (now (flat .entry)) (now (into .exit)) ⌝ }
 {
     if n == 0 {
         start(into);

@@ -56,7 +56,8 @@ fn join_parts(parts: &mut [u32; 256], a: u32, b: u32)
 // Joins the parts of two ranks, if the link is chosen.
 fn join_link(parts: &mut [u32; 256], on: u8, first: u32, second: u32)
     requires { ⌜ (length (now parts) ≡ 256) × (first < 256) × (second < 256) ⌝ }
-    ensures { λ r. ⌜ Filled (λ i. cond (eqb on 1) (join (at (now (parts .entry)) first) (at (now (parts .entry)) second) (at (now (parts .entry)) i)) (at (now (parts .entry)) i)) 256 (now (parts .exit)) ⌝ }
+    ensures { λ r. ⌜ Filled (λ i. cond (eqb on 1) (join (at (now (parts .entry)) first) (at (now (parts .entry)) second) (at (now (parts .entry)) i))
+        (at (now (parts .entry)) i)) 256 (now (parts .exit)) ⌝ }
 {
     if on != 1 {
         return;
@@ -106,7 +107,8 @@ pub fn mark_joined(
     joined: &mut [u8; 256],
 )
     requires { ⌜ Ranked 256 (now firsts) (now seconds) links ⌝ }
-    ensures { λ r. ⌜ Filled (λ i. cond (joinedFrom (now (chosen .entry)) (now (firsts .entry)) (now (seconds .entry)) 0 links i) 1 0) 256 (now (joined .exit)) ⌝ }
+    ensures { λ r. ⌜ Filled (λ i. cond (joinedFrom (now (chosen .entry)) (now (firsts .entry)) (now (seconds .entry)) 0 links i) 1 0) 256
+        (now (joined .exit)) ⌝ }
 {
     *joined = [0u8; 256];
     let mut k = links;

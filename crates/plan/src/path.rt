@@ -116,7 +116,8 @@ fn outer(
     i: u32,
 ) -> u32
     requires { ⌜ (links .count ≤ 256) × Slots 256 links × (i < 256) ⌝ }
-    ensures { λ r. ⌜ r ≡ outerIn (now (lowers .entry)) (now (highers .entry)) (now (regions .entry)) (now (firsts .entry)) (now (seconds .entry)) (listed links) i ⌝ }
+    ensures { λ r. ⌜ r ≡ outerIn (now (lowers .entry)) (now (highers .entry)) (now (regions .entry)) (now (firsts .entry)) (now (seconds .entry)) (listed links)
+        i ⌝ }
 {
     let near = links_at(firsts, seconds, links, i);
     let at = i as usize;
@@ -136,7 +137,8 @@ pub fn group_is_simple_path(
     links: Few,
 ) -> bool
     requires { ⌜ (ranks .count ≤ 256) × (links .count ≤ 256) × Slots 256 ranks × Slots 256 links ⌝ }
-    ensures { λ r. ⌜ r ≡ pathIn (now (lowers .entry)) (now (highers .entry)) (now (regions .entry)) (now (firsts .entry)) (now (seconds .entry)) least (limitsOf limits .mostSpans) (listed ranks) (listed links) ⌝ }
+    ensures { λ r. ⌜ r ≡ pathIn (now (lowers .entry)) (now (highers .entry)) (now (regions .entry)) (now (firsts .entry)) (now (seconds .entry)) least
+        (limitsOf limits .mostSpans) (listed ranks) (listed links) ⌝ }
 {
     let size = GroupSize { spans: ranks.count };
     let two = group_end_nodes(firsts, seconds, ranks, links);

@@ -36,7 +36,8 @@ pub fn select_serial(
     chosen: &mut [u8; 256],
 )
     requires { ⌜ (length (now chosen) ≡ 256) × Ranked 256 (now firsts) (now seconds) links ⌝ }
-    ensures { λ r. ⌜ Filled (λ k. cond (bothOn (now (marks .entry)) (at (now (firsts .entry)) k) (at (now (seconds .entry)) k)) 1 0) links (now (chosen .exit)) ⌝ }
+    ensures { λ r. ⌜ Filled (λ k. cond (bothOn (now (marks .entry)) (at (now (firsts .entry)) k) (at (now (seconds .entry)) k)) 1 0) links
+        (now (chosen .exit)) ⌝ }
 {
     let mut k: usize = 0;
     while k < links {
@@ -82,7 +83,9 @@ pub fn select_flat(
     chosen: &mut [u8; 256],
 )
     requires { ⌜ (length (now chosen) ≡ 256) × (links ≤ 256) × ((k : ℕ) → k < links → LinkFits (now own) (now firsts) (now seconds) k) ⌝ }
-    ensures { λ r. ⌜ Filled (λ k. cond (flatLinkIn (limitsOf limits) (now (own .entry)) (now (into .entry)) (at (now (flat .entry)) k) (at (now (firsts .entry)) k) (at (now (seconds .entry)) k)) 1 0) links (now (chosen .exit)) ⌝ }
+    ensures { λ r. ⌜ Filled (λ k. cond
+        (flatLinkIn (limitsOf limits) (now (own .entry)) (now (into .entry)) (at (now (flat .entry)) k) (at (now (firsts .entry)) k)
+        (at (now (seconds .entry)) k)) 1 0) links (now (chosen .exit)) ⌝ }
 {
     let mut k: usize = 0;
     while k < links {

@@ -33,14 +33,16 @@ use Rattle.plan.specs.Arrays.{Ranked}
 use Rattle.plan.proofs.FromTables.{is-link}
 
 -- a label that a cell can have is no more than the number of cells
-label-within : (dirs : List ℕ) (g : Grid) (l : List Item) (work : List ℕ) → labelsIn work (size g) ≡ regionLabels dirs g l → Labels work (size g) → (v : ℕ) → 0 < v → v ≤ regionCount dirs g l → v ≤ size g
+label-within : (dirs : List ℕ) (g : Grid) (l : List Item) (work : List ℕ) → labelsIn work (size g) ≡ regionLabels dirs g l → Labels work (size g) → (v : ℕ)
+    → 0 < v → v ≤ regionCount dirs g l → v ≤ size g
 unfolding regionLabels regionCount
 label-within dirs g l work e L v p q =
     let w = each-label-occurs dirs g (spansOf l) v p q in
     let x : word work (w .0) ≡ v = sym (label-in work (size g) (w .0) (w .1)) ∙ (ap (λ (t : List ℕ). getD t (w .0) 0) e ∙ w .2) in
     omega (arith, x, L .most (w .0) (w .1))
 
-module _ {dirs : List ℕ} {g : Grid} {anchors : List WalkPosition} {l : List Item} {regions firsts seconds : List ℕ} {r : ℕ} (L : Linked dirs g anchors l regions firsts seconds r) where
+module _ {dirs : List ℕ} {g : Grid} {anchors : List WalkPosition} {l : List Item} {regions firsts seconds : List ℕ} {r : ℕ}
+    (L : Linked dirs g anchors l regions firsts seconds r) where
   row-at : (k : ℕ) → k < r → getD (links dirs g anchors l) k noLink ≡ linkRow regions firsts seconds k
   unfolding linksIn
   row-at k h = ap (λ (t : List LinkAt). getD t k noLink) (sym (L .all)) ∙ rows-at r (linkRow regions firsts seconds) k noLink h
@@ -63,16 +65,19 @@ module _ {dirs : List ℕ} {g : Grid} {anchors : List WalkPosition} {l : List It
     to = λ k h. label-within dirs g l work e B (getD regions k 0) (is-link L k h .some) (is-link L k h .last);
     apart = λ j k h m e.
         by-test (ltb j k) (λ t. let z = rises j k (ltb-true j k t) m in absurd (omega (arith, z, e)))
-        (λ t. by-test (ltb k j) (λ s. let z = rises k j (ltb-true k j s) h in absurd (omega (arith, z, e))) (λ s. let u = ltb-false j k t in let v = ltb-false k j s in omega (arith, u, v)));
+        (λ t. by-test (ltb k j) (λ s. let z = rises k j (ltb-true k j s) h in absurd (omega (arith, z, e)))
+        (λ s. let u = ltb-false j k t in let v = ltb-false k j s in omega (arith, u, v)));
   }
 
 pub ranks-are : {n : ℕ} {firsts seconds : List ℕ} {r : ℕ} → n ≤ 256 → Ranked n firsts seconds r → Ranks firsts seconds r
 ranks-are h R = record { first = λ k b. omega (arith, R .first-in k b); second = λ k b. omega (arith, R .second-in k b) }
 
-pub owners-are : (dirs : List ℕ) (g : Grid) (l : List Item) {owners lefts rights : List ℕ} {n : ℕ} → Paired dirs g l owners lefts rights n → OwnersBelow owners n (length l)
+pub owners-are : (dirs : List ℕ) (g : Grid) (l : List Item) {owners lefts rights : List ℕ} {n : ℕ} → Paired dirs g l owners lefts rights n
+    → OwnersBelow owners n (length l)
 owners-are dirs g l {owners} {lefts} {rights} {n} P = record {
   each = λ k h.
-      let x : getD (records dirs g (spansOf l)) k noRecord ≡ recordIn owners lefts rights k = ap (λ (t : List Record). getD t k noRecord) (sym (P .all)) ∙ records-at owners lefts rights n k h in
+      let x : getD (records dirs g (spansOf l)) k noRecord ≡ recordIn owners lefts rights k = ap (λ (t : List Record). getD t k noRecord) (sym (P .all))
+      ∙ records-at owners lefts rights n k h in
       let y : length (records dirs g (spansOf l)) ≡ n = ap (λ (t : List Record). length t) (sym (P .all)) ∙ records-length owners lefts rights n in
       let m = subst (λ (t : Record). List·Memᴰ t (records dirs g (spansOf l))) x (getD-mem (records dirs g (spansOf l)) noRecord k (omega (arith, y))) in
       let b = records-iff dirs g (spansOf l) noSpan (recordIn owners lefts rights k) .0 m .0 in

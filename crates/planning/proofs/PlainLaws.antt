@@ -21,9 +21,12 @@ module _ {l : List Item} {own bits ramps : List ℕ} (B : Boundaries l own bits 
       let e : endsAt l i .a .x ≡ getD own (4 * i) 0 = ap (λ (s : Span). s .a .x) (B .ends i b) in
       let z : 4 * i ≡ 4 * i + 0 = omega arith in
       subst (λ (k : ℕ). getD own k 0 ≤ 8192) z (omega (arith, e, B .bounded i b .0 .column))
-  coordinate-of i b (suc zero) h = let e : endsAt l i .a .y ≡ getD own (4 * i + 1) 0 = ap (λ (s : Span). s .a .y) (B .ends i b) in omega (arith, e, B .bounded i b .0 .row)
-  coordinate-of i b (suc (suc zero)) h = let e : endsAt l i .b .x ≡ getD own (4 * i + 2) 0 = ap (λ (s : Span). s .b .x) (B .ends i b) in omega (arith, e, B .bounded i b .1 .column)
-  coordinate-of i b (suc (suc (suc zero))) h = let e : endsAt l i .b .y ≡ getD own (4 * i + 3) 0 = ap (λ (s : Span). s .b .y) (B .ends i b) in omega (arith, e, B .bounded i b .1 .row)
+  coordinate-of i b (suc zero) h = let e : endsAt l i .a .y ≡ getD own (4 * i + 1) 0 = ap (λ (s : Span). s .a .y) (B .ends i b) in
+      omega (arith, e, B .bounded i b .0 .row)
+  coordinate-of i b (suc (suc zero)) h = let e : endsAt l i .b .x ≡ getD own (4 * i + 2) 0 = ap (λ (s : Span). s .b .x) (B .ends i b) in
+      omega (arith, e, B .bounded i b .1 .column)
+  coordinate-of i b (suc (suc (suc zero))) h = let e : endsAt l i .b .y ≡ getD own (4 * i + 3) 0 = ap (λ (s : Span). s .b .y) (B .ends i b) in
+      omega (arith, e, B .bounded i b .1 .row)
   coordinate-of i b (suc (suc (suc (suc j)))) h = absurd (omega arith)
 
   pub plain-arrays : ((k : ℕ) → 4 * length l ≤ k → getD own k 0 ≡ 0) → ((k : ℕ) → length l ≤ k → getD bits k 0 ≡ 0) → Plain own bits

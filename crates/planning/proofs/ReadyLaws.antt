@@ -41,9 +41,11 @@ lent-labels : (work : List ℕ) (m : ℕ) → labelsIn (lent work m) m ≡ label
 unfolding numberAt part
 lent-labels work m =
     labels-same (lent work m) m work
-    (λ i h. ap number (part-part work 0 (4 * m - 0) (4 * i) 4 (omega arith)) ∙ ap (λ (k : ℕ). number (part work k 4)) (let z : 0 + 4 * i ≡ 4 * i = omega arith in z))
+    (λ i h. ap number (part-part work 0 (4 * m - 0) (4 * i) 4 (omega arith))
+    ∙ ap (λ (k : ℕ). number (part work k 4)) (let z : 0 + 4 * i ≡ 4 * i = omega arith in z))
 
-module _ {job : List ℕ} {start bases : ℕ} {cells : List ℕ} {width height n : ℕ} {own bits ramps work removed separated owners lefts rights : List ℕ} {records : ℕ}
+module _ {job : List ℕ} {start bases : ℕ} {cells : List ℕ} {width height n : ℕ} {own bits ramps work removed separated owners lefts rights : List ℕ}
+    {records : ℕ}
     (R : Ready job start bases cells width height n own bits ramps work removed separated owners lefts rights records) where
   few : n ≤ 256
   few = omega (arith, R .listed .told .few, R .listed .count)
@@ -63,16 +65,20 @@ module _ {job : List ℕ} {start bases : ℕ} {cells : List ℕ} {width height n
   owned = subst (OwnersBelow owners records) (R .listed .count) (owners-are (R .dirs) (mapOf width height cells) (R .items) (R .listed .paired))
 
   -- what `candidate_links` asks for
-  pub findable : OnMap job start bases width (lent work (length cells)) (length cells) × (n ≤ 256) × OwnBounded own n × Stored owners lefts rights records × OwnersBelow owners records n
+  pub findable : OnMap job start bases width (lent work (length cells)) (length cells) × (n ≤ 256) × OwnBounded own n × Stored owners lefts rights records
+      × OwnersBelow owners records n
   findable = (on-map, few, own-bounded, R .stored, owned)
 
   module _ {counts lowers highers regions firsts seconds : List ℕ} {r : ℕ}
-      (A : Answer job start bases width (labelsIn (lent work (length cells)) (length cells)) n own ramps removed separated owners lefts rights records counts lowers highers regions firsts seconds r) where
+      (A : Answer job start bases width (labelsIn (lent work (length cells)) (length cells)) n own ramps removed separated owners lefts rights records counts
+      lowers highers regions firsts seconds r) where
     -- the links of a listing that the arrays tell of
-    linked : (dirs : List ℕ) (anchors : List WalkPosition) (l : List Item) (marks : List ℕ) → Listed dirs (mapOf width height cells) l n own bits ramps (labelsIn work (length cells)) removed separated owners lefts rights records marks
+    linked : (dirs : List ℕ) (anchors : List WalkPosition) (l : List Item) (marks : List ℕ)
+        → Listed dirs (mapOf width height cells) l n own bits ramps (labelsIn work (length cells)) removed separated owners lefts rights records marks
         → anchors ≡ anchorsIn job start bases → Linked dirs (mapOf width height cells) anchors l regions firsts seconds r
     linked dirs anchors l marks h e =
-        A .linked dirs (mapOf width height cells) anchors l bits (h .count) (h .told) (h .counted) (h .paired) (lent-labels work (length cells) ∙ h .labelled) refl e
+        A .linked dirs (mapOf width height cells) anchors l bits (h .count) (h .told) (h .counted) (h .paired) (lent-labels work (length cells) ∙ h .labelled)
+        refl e
 
     own-links : Linked (R .dirs) (mapOf width height cells) (anchorsIn job start bases) (R .items) regions firsts seconds r
     own-links = linked (R .dirs) (anchorsIn job start bases) (R .items) (R .marks) (R .listed) refl
@@ -81,11 +87,14 @@ module _ {job : List ℕ} {start bases : ℕ} {cells : List ℕ} {width height n
     ranked-found = ranked own-links (R .listed .count)
 
     -- what `measure_links` asks for
-    pub measurable : Sides width height × (length cells ≡ width * height) × Labels work (length cells) × Regions regions r (length cells) × Ranks firsts seconds r × Plain own bits
+    pub measurable : Sides width height × (length cells ≡ width * height) × Labels work (length cells) × Regions regions r (length cells)
+        × Ranks firsts seconds r × Plain own bits
     measurable = (R .sides, R .whole, R .labels, regions-are own-links (R .listed .labelled) (R .labels), ranks-are few ranked-found, R .plain)
 
-    module _ {limits : Limits} {passing flat : List ℕ} (M : Measured limits own bits regions firsts seconds (mapOf width height cells) (labelsIn work (length cells)) r passing flat) where
-      pub links-found : LinksFrom limits job start bases (mapOf width height cells) n own bits ramps (labelsIn work (length cells)) removed separated owners lefts rights records lowers highers regions firsts seconds passing flat r
+    module _ {limits : Limits} {passing flat : List ℕ}
+        (M : Measured limits own bits regions firsts seconds (mapOf width height cells) (labelsIn work (length cells)) r passing flat) where
+      pub links-found : LinksFrom limits job start bases (mapOf width height cells) n own bits ramps (labelsIn work (length cells)) removed separated owners
+          lefts rights records lowers highers regions firsts seconds passing flat r
       links-found = record {
         ranked = ranked-found;
         each = λ dirs anchors l marks h e.
@@ -102,11 +111,14 @@ module _ {job : List ℕ} {start bases : ℕ} {cells : List ℕ} {width height n
   pub fit : {firsts seconds : List ℕ} {r : ℕ} → Ranked n firsts seconds r → Plannable n own bits firsts seconds r
   fit F = plannable (R .listed .told) (R .listed .count) F
 
-pub planned : {limits : Limits} {job : List ℕ} {start bases : ℕ} {g : Grid} {n : ℕ} {own bits ramps labels removed separated owners lefts rights : List ℕ} {records : ℕ} {lowers highers regions firsts seconds passing flat : List ℕ} {r : ℕ} {marks into : List ℕ}
-    → LinksFrom limits job start bases g n own bits ramps labels removed separated owners lefts rights records lowers highers regions firsts seconds passing flat r
+pub planned : {limits : Limits} {job : List ℕ} {start bases : ℕ} {g : Grid} {n : ℕ} {own bits ramps labels removed separated owners lefts rights : List ℕ}
+    {records : ℕ} {lowers highers regions firsts seconds passing flat : List ℕ} {r : ℕ} {marks into : List ℕ}
+    → LinksFrom limits job start bases g n own bits ramps labels removed separated owners lefts rights records lowers highers regions firsts seconds passing
+    flat r
     → PlanOf limits n own bits lowers highers regions firsts seconds r marks passing flat into
     → PlanFrom limits job start bases g n own bits ramps labels removed separated owners lefts rights records marks into
 planned {g = g} {marks = marks} F P = record {
   whole = P .whole;
-  each = λ dirs anchors l h e. let t = F .each dirs anchors l marks h e in P .each dirs g anchors l (t .told) (t .linked) (h .bridged) (t .passed) (t .flat-inside);
+  each = λ dirs anchors l h e. let t = F .each dirs anchors l marks h e in
+      P .each dirs g anchors l (t .told) (t .linked) (h .bridged) (t .passed) (t .flat-inside);
 }

@@ -19,7 +19,8 @@ abbrev pub mapOf : ℕ → ℕ → List ℕ → Grid
 mapOf width height cells = record { width = width; height = height; cells = cells }
 
 -- n boundaries, the regions of the cells, what each span does to them, and which ones are bridges
-pub record Listed (dirs : List ℕ) (g : Grid) (l : List Item) (n : ℕ) (own bits ramps labels removed separated owners lefts rights : List ℕ) (records : ℕ) (marks : List ℕ) : Type 0 where
+pub record Listed (dirs : List ℕ) (g : Grid) (l : List Item) (n : ℕ) (own bits ramps labels removed separated owners lefts rights : List ℕ) (records : ℕ)
+    (marks : List ℕ) : Type 0 where
   pub count : length l ≡ n
   pub told : Boundaries l own bits ramps
   pub labelled : labels ≡ regionLabels dirs g l
@@ -28,7 +29,8 @@ pub record Listed (dirs : List ℕ) (g : Grid) (l : List Item) (n : ℕ) (own bi
   pub bridged : Bridged dirs g l marks
 
 -- a map with labels in bytes, bases with their anchors on it, arrays of plain numbers, room for the records, and some listing that they tell of
-pub record Ready (job : List ℕ) (start bases : ℕ) (cells : List ℕ) (width height n : ℕ) (own bits ramps work removed separated owners lefts rights : List ℕ) (records : ℕ) : Type 0 where
+pub record Ready (job : List ℕ) (start bases : ℕ) (cells : List ℕ) (width height n : ℕ) (own bits ramps work removed separated owners lefts rights : List ℕ)
+    (records : ℕ) : Type 0 where
   pub sides : Sides width height
   pub whole : length cells ≡ width * height
   pub labels : Labels work (length cells)

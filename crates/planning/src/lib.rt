@@ -39,9 +39,13 @@ fn measured_links(
     passing: &mut [u8; 256],
     flat: &mut [u8; 256],
 ) -> usize
-    requires { ⌜ Ready (now job) «bases_at» bases (now cells) width height n (now own) (now bits) (now ramps) (now work) (now removed) (now separated) (now owners) (now lefts) (now rights) records ⌝ }
+    requires { ⌜ Ready (now job) «bases_at» bases (now cells) width height n (now own) (now bits) (now ramps) (now work) (now removed) (now separated)
+        (now owners) (now lefts) (now rights) records ⌝ }
     ensures work { λ r. ⌜ now (work .exit) ≡ now (work .entry) ⌝ }
-    ensures links { λ r. ⌜ LinksFrom (limitsOf limits) (now (job .entry)) «bases_at» bases (mapOf width height (now (cells .entry))) n (now (own .entry)) (now (bits .entry)) (now (ramps .entry)) (labelsIn (now (work .entry)) (length (now (cells .entry)))) (now (removed .entry)) (now (separated .entry)) (now (owners .entry)) (now (lefts .entry)) (now (rights .entry)) records (now (lowers .exit)) (now (highers .exit)) (now (regions .exit)) (now (firsts .exit)) (now (seconds .exit)) (now (passing .exit)) (now (flat .exit)) r ⌝ }
+    ensures links { λ r. ⌜ LinksFrom (limitsOf limits) (now (job .entry)) «bases_at» bases (mapOf width height (now (cells .entry))) n (now (own .entry))
+        (now (bits .entry)) (now (ramps .entry)) (labelsIn (now (work .entry)) (length (now (cells .entry)))) (now (removed .entry))
+        (now (separated .entry)) (now (owners .entry)) (now (lefts .entry)) (now (rights .entry)) records (now (lowers .exit)) (now (highers .exit))
+        (now (regions .exit)) (now (firsts .exit)) (now (seconds .exit)) (now (passing .exit)) (now (flat .exit)) r ⌝ }
 {
     let m = cells.len();
     let mut counts = [0u32; 256];
@@ -109,9 +113,13 @@ pub fn plan_merges(
     marks: &[u8; 256],
     into: &mut [u32; 256],
 )
-    requires { ⌜ (limits .«most_spans» ≤ 16) × Ready (now job) «bases_at» bases (now cells) width height n (now own) (now bits) (now ramps) (now work) (now removed) (now separated) (now owners) (now lefts) (now rights) records × (length (now into) ≡ 256) ⌝ }
+    requires { ⌜ (limits .«most_spans» ≤ 16)
+        × Ready (now job) «bases_at» bases (now cells) width height n (now own) (now bits) (now ramps) (now work) (now removed) (now separated) (now owners)
+        (now lefts) (now rights) records × (length (now into) ≡ 256) ⌝ }
     ensures work { λ _. ⌜ now (work .exit) ≡ now (work .entry) ⌝ }
-    ensures plan { λ _. ⌜ PlanFrom (limitsOf limits) (now (job .entry)) «bases_at» bases (mapOf width height (now (cells .entry))) n (now (own .entry)) (now (bits .entry)) (now (ramps .entry)) (labelsIn (now (work .entry)) (length (now (cells .entry)))) (now (removed .entry)) (now (separated .entry)) (now (owners .entry)) (now (lefts .entry)) (now (rights .entry)) records (now (marks .entry)) (now (into .exit)) ⌝ }
+    ensures plan { λ _. ⌜ PlanFrom (limitsOf limits) (now (job .entry)) «bases_at» bases (mapOf width height (now (cells .entry))) n (now (own .entry))
+        (now (bits .entry)) (now (ramps .entry)) (labelsIn (now (work .entry)) (length (now (cells .entry)))) (now (removed .entry))
+        (now (separated .entry)) (now (owners .entry)) (now (lefts .entry)) (now (rights .entry)) records (now (marks .entry)) (now (into .exit)) ⌝ }
 {
     let mut lowers = [0u32; 256];
     let mut highers = [0u32; 256];

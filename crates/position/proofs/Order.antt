@@ -40,7 +40,8 @@ pub le-total : (p q : PixelPosition) → posLe p q ≡ false → posLe q p ≡ t
 unfolding posLe
 le-total p q e = go (ltb (p .x) (q .x)) (ltb (q .x) (p .x)) refl refl e
   where
-    go : (s t : Bool) → ltb (p .x) (q .x) ≡ s → ltb (q .x) (p .x) ≡ t → cond s true (cond t false (leb (p .y) (q .y))) ≡ false → cond (ltb (q .x) (p .x)) true (cond (ltb (p .x) (q .x)) false (leb (q .y) (p .y))) ≡ true
+    go : (s t : Bool) → ltb (p .x) (q .x) ≡ s → ltb (q .x) (p .x) ≡ t → cond s true (cond t false (leb (p .y) (q .y))) ≡ false
+        → cond (ltb (q .x) (p .x)) true (cond (ltb (p .x) (q .x)) false (leb (q .y) (p .y))) ≡ true
     go true t f g h = let z : _≡_ {A = ℕ} 0 1 = cc in absurd (omega arith)
     go false true f g h = rw g
     go false false f g h = rw (g, f) (le-leb (q .y) (p .y) (omega (arith, leb-false (p .y) (q .y) h)))

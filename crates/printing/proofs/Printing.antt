@@ -29,12 +29,20 @@ number-most (suc n) v = omega (arith, number-most n (v / 256))
 -- So an answer's counts give it no more than its length.
 counts-most : (bs : List Boundary) → answerLength (encodeAnswer bs) ≤ length (encodeAnswer bs)
 unfolding encodeAnswer answerWords flatMap numberAt part bytes
-counts-most bs = omega (arith, number-most 4 (length bs), number-most 4 (length (observationsOf bs)), number-most 4 (length (sourcesOf bs)), length-encodeAnswer bs)
+counts-most bs = omega (
+  arith,
+  number-most 4 (length bs),
+  number-most 4 (length (observationsOf bs)),
+  number-most 4 (length (sourcesOf bs)),
+  length-encodeAnswer bs,
+)
 
 -- An answer is listed whole, where there is room.
-listed : (bs : List Boundary) (out : List ℕ) → length (encodeAnswer bs) * 3 ≤ length out → listing (encodeAnswer bs) (length out) ≡ listingOf (decodeAnswer (encodeAnswer bs))
+listed : (bs : List Boundary) (out : List ℕ) → length (encodeAnswer bs) * 3 ≤ length out
+    → listing (encodeAnswer bs) (length out) ≡ listingOf (decodeAnswer (encodeAnswer bs))
 unfolding listing
-listed bs out h = ap (λ (b : Bool). cond b (listingOf (decodeAnswer (encodeAnswer bs))) []) (is-whole (encodeAnswer bs) out (counts-most bs) (omega (arith, counts-most bs, h)))
+listed bs out h = ap (λ (b : Bool). cond b (listingOf (decodeAnswer (encodeAnswer bs))) [])
+    (is-whole (encodeAnswer bs) out (counts-most bs) (omega (arith, counts-most bs, h)))
 
 -- The result that Reduce gave.
 module _ (job work answer : List ℕ) {number detail : ℕ} {work′ answer′ : List ℕ} (e : leftBy number detail work′ answer′ ≡ reduceResult job work answer) where

@@ -43,7 +43,8 @@ use Rattle.results.specs.Rules.{gridOf}
 use Rattle.results.specs.Results.{ownEnds}
 use Rattle.analysis.proofs.Checked.{Checked, boundariesAt, checked, checked-sides}
 use Rattle.analysis.proofs.RankedTables.{own-listed, canonical-own, own-listed-fit, own-labels-listed, own-records-listed}
-use Rattle.probe.specs.Parting.{OwnSpans, Taken, countBytes, recordBytes, partitionBytes, countsFrom, recordsFrom, heldBytes, Told, many, short, written, Parted}
+use Rattle.probe.specs.Parting.{OwnSpans, Taken, countBytes, recordBytes, partitionBytes, countsFrom, recordsFrom, heldBytes, Told, many, short, written}
+use Rattle.probe.specs.Parting.{Parted}
 use Rattle.probe.proofs.WritingLaws.{flat-blocks, blocks-same}
 
 -- records in their own order

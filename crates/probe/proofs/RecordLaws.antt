@@ -38,7 +38,8 @@ loaded-start s owners lefts rights a b c = record {
   right = λ i h. absurd (omega arith);
 }
 
-pub loaded-next : {s owners lefts rights : List ℕ} {k x y z : ℕ} → Loaded s k owners lefts rights → k < 4096 → x ≡ ownerAt s k → y ≡ leftAt s k → z ≡ rightAt s k → Loaded s (k + 1) (set owners k x) (set lefts k y) (set rights k z)
+pub loaded-next : {s owners lefts rights : List ℕ} {k x y z : ℕ} → Loaded s k owners lefts rights → k < 4096 → x ≡ ownerAt s k → y ≡ leftAt s k
+    → z ≡ rightAt s k → Loaded s (k + 1) (set owners k x) (set lefts k y) (set rights k z)
 loaded-next {s} {owners} {lefts} {rights} {k} {x} {y} {z} a h p q r = record {
   owners-are = length-set owners k x ∙ a .owners-are;
   lefts-are = length-set lefts k y ∙ a .lefts-are;
@@ -57,7 +58,8 @@ same-records {s} {owners} {lefts} {rights} {n} a =
     let p : getD owners k 0 ≡ ownerAt s k = a .owner k h in
     let q : getD lefts k 0 ≡ leftAt s k = a .left k h in
     let r : getD rights k 0 ≡ rightAt s k = a .right k h in
-    ap (λ (x : ℕ). made x (getD lefts k 0) (getD rights k 0)) p ∙ ap (λ (x : ℕ). made (ownerAt s k) x (getD rights k 0)) q ∙ ap (made (ownerAt s k) (leftAt s k)) r)
+    ap (λ (x : ℕ). made x (getD lefts k 0) (getD rights k 0)) p ∙ ap (λ (x : ℕ). made (ownerAt s k) x (getD rights k 0)) q
+    ∙ ap (made (ownerAt s k) (leftAt s k)) r)
   where
     made : ℕ → ℕ → ℕ → Record
     made x y z = record { owner = x; left = y; right = z }
@@ -99,7 +101,8 @@ fits-is s n k e = fitting-is (ownerAt s k) (leftAt s k) (rightAt s k) n e
 pub loaded-owners : {s owners lefts rights : List ℕ} {n : ℕ} (regions : ℕ) → Loaded s n owners lefts rights → AllFit s regions n → Owners n owners
 loaded-owners {s} {owners} {lefts} {rights} {n} regions a f k h = omega (arith, a .owner k h, fits-is s regions k (f k h) .small)
 
-pub loaded-labels : {s owners lefts rights : List ℕ} {n : ℕ} {regions : ℕ} → Loaded s n owners lefts rights → n ≤ 4096 → AllFit s regions n → Labelled n lefts rights regions
+pub loaded-labels : {s owners lefts rights : List ℕ} {n : ℕ} {regions : ℕ} → Loaded s n owners lefts rights → n ≤ 4096 → AllFit s regions n
+    → Labelled n lefts rights regions
 loaded-labels {s} {owners} {lefts} {rights} {n} {regions} a few f = record {
   few = few;
   lefts-are = omega (arith, a .lefts-are);
@@ -113,20 +116,29 @@ loaded-labels {s} {owners} {lefts} {rights} {n} {regions} a few f = record {
 -- a byte and a word of zeros at the start
 zero-byte : (w : List ℕ) (n i : ℕ) → i < n → getD (splice w 0 (replicate n 0)) i 0 ≡ 0
 unfolding splice
-zero-byte w n i h = List·getD-append (replicate n 0) (drop (0 + length {A = ℕ} (replicate n 0)) w) 0 i (omega (arith, h, length-replicate {A = ℕ} n 0)) ∙ getD-replicate n i 0 0 h
+zero-byte w n i h = List·getD-append (replicate n 0) (drop (0 + length {A = ℕ} (replicate n 0)) w) 0 i (omega (arith, h, length-replicate {A = ℕ} n 0))
+    ∙ getD-replicate n i 0 0 h
 
 pub zero-word : (w : List ℕ) (regions : ℕ) → 4 * regions ≤ length w → (x : ℕ) → x < regions → u32At (splice w 0 (replicate (4 * regions) 0)) (0 + 4 * x) ≡ 0
 zero-word w regions l x h =
-    let e : length (splice w 0 (replicate (4 * regions) 0)) ≡ length w = length-splice w 0 (replicate (4 * regions) 0) (omega (arith, length-replicate {A = ℕ} (4 * regions) 0)) in
-    omega
-    (arith, four-bytes (splice w 0 (replicate (4 * regions) 0)) (0 + 4 * x) (omega arith), zero-byte w (4 * regions) (0 + 4 * x) (omega arith), zero-byte w (4 * regions) (0 + 4 * x + 1) (omega arith), zero-byte w (4 * regions) (0 + 4 * x + 2) (omega arith), zero-byte w (4 * regions) (0 + 4 * x + 3) (omega arith))
+    let e : length (splice w 0 (replicate (4 * regions) 0)) ≡ length w =
+    length-splice w 0 (replicate (4 * regions) 0) (omega (arith, length-replicate {A = ℕ} (4 * regions) 0)) in
+    omega (
+      arith,
+      four-bytes (splice w 0 (replicate (4 * regions) 0)) (0 + 4 * x) (omega arith),
+      zero-byte w (4 * regions) (0 + 4 * x) (omega arith),
+      zero-byte w (4 * regions) (0 + 4 * x + 1) (omega arith),
+      zero-byte w (4 * regions) (0 + 4 * x + 2) (omega arith),
+      zero-byte w (4 * regions) (0 + 4 * x + 3) (omega arith),
+    )
 
 marks-length : (rs : List Record) (n : ℕ) → length (bridgeMarks rs n) ≡ n
 unfolding bridgeMarks
 marks-length rs n = length-rows n _
 
 -- 256 marks before the rest
-pub marks-copied : {found : List ℕ} (marks : List ℕ) (rs : List Record) → found ≡ bridgeMarks rs 256 → 256 ≤ length marks → copied marks found ≡ bridgeMarks rs 256 ++ drop 256 marks
+pub marks-copied : {found : List ℕ} (marks : List ℕ) (rs : List Record) → found ≡ bridgeMarks rs 256 → 256 ≤ length marks
+    → copied marks found ≡ bridgeMarks rs 256 ++ drop 256 marks
 unfolding copied
 marks-copied {found} marks rs e h =
     ap (copied marks) e ∙ rw (marks-length rs 256, le-ltb (length marks) 256 h)
@@ -140,9 +152,14 @@ zeros-are w regions e = e ∙ ap (λ (n : ℕ). splice w 0 (replicate n 0)) (let
 
 -- the table that was set to 0
 pub zero-room : {z : List ℕ} (w : List ℕ) (regions : ℕ) → z ≡ splice w 0 (replicate (4 * regions - 0) 0) → 4 * regions ≤ length w → 0 + 4 * regions ≤ length z
-zero-room {z} w regions e l = omega (arith, ap (λ (t : List ℕ). length t) (zeros-are w regions e), length-splice w 0 (replicate (4 * regions) 0) (omega (arith, length-replicate {A = ℕ} (4 * regions) 0)))
+zero-room {z} w regions e l = omega (
+  arith,
+  ap (λ (t : List ℕ). length t) (zeros-are w regions e),
+  length-splice w 0 (replicate (4 * regions) 0) (omega (arith, length-replicate {A = ℕ} (4 * regions) 0)),
+)
 
-pub zero-table : {z : List ℕ} (w : List ℕ) (regions : ℕ) → z ≡ splice w 0 (replicate (4 * regions - 0) 0) → 4 * regions ≤ length w → (x : ℕ) → x < regions → u32At z (0 + 4 * x) ≡ 0
+pub zero-table : {z : List ℕ} (w : List ℕ) (regions : ℕ) → z ≡ splice w 0 (replicate (4 * regions - 0) 0) → 4 * regions ≤ length w → (x : ℕ) → x < regions
+    → u32At z (0 + 4 * x) ≡ 0
 zero-table w regions e l x h = ap (λ (t : List ℕ). u32At t (0 + 4 * x)) (zeros-are w regions e) ∙ zero-word w regions l x h
 
 pub zero-end : {z t : List ℕ} (w : List ℕ) (regions : ℕ) → t ≡ z → z ≡ splice w 0 (replicate (4 * regions - 0) 0) → t ≡ splice w 0 (replicate (4 * regions) 0)
@@ -151,5 +168,7 @@ zero-end w regions q e = q ∙ zeros-are w regions e
 pub found-length : {found : List ℕ} (rs : List Record) → found ≡ bridgeMarks rs 256 → 256 ≡ length found
 found-length rs e = sym (ap (λ (t : List ℕ). length t) e ∙ marks-length rs 256)
 
-pub marks-end : {s owners lefts rights found out : List ℕ} {n : ℕ} (marks : List ℕ) → Loaded s n owners lefts rights → found ≡ bridgeMarks (recordsIn owners lefts rights n) 256 → 256 ≤ length marks → out ≡ copied marks found → out ≡ bridgeMarks (recordsAt s n) 256 ++ drop 256 marks
+pub marks-end : {s owners lefts rights found out : List ℕ} {n : ℕ} (marks : List ℕ) → Loaded s n owners lefts rights
+    → found ≡ bridgeMarks (recordsIn owners lefts rights n) 256 → 256 ≤ length marks → out ≡ copied marks found
+    → out ≡ bridgeMarks (recordsAt s n) 256 ++ drop 256 marks
 marks-end {s} {n = n} marks a e h q = q ∙ marks-copied marks (recordsAt s n) (e ∙ ap (λ (rs : List Record). bridgeMarks rs 256) (same-records a)) h

@@ -61,7 +61,11 @@ pub record Marked (s work marks workEnd marksEnd : List ℕ) (number detail : �
 -- the answer on bytes s, with work and marks at entry and at exit
 pub data Answer (s work marks workEnd marksEnd : List ℕ) (number detail : ℕ) : Type 0 where
   uneven : (length s % 12 ≡ 0 → ⊥) → Refused work marks workEnd marksEnd number detail 1 0 → Answer s work marks workEnd marksEnd number detail
-  many : length s % 12 ≡ 0 → 4096 < length s / 12 → Refused work marks workEnd marksEnd number detail 2 (length s / 12) → Answer s work marks workEnd marksEnd number detail
-  unfit : (k : ℕ) → length s % 12 ≡ 0 → length s / 12 ≤ 4096 → k < length s / 12 → AllFit s (length work / 4) k → fitsAt s (length work / 4) k ≡ false → Refused work marks workEnd marksEnd number detail 3 k → Answer s work marks workEnd marksEnd number detail
-  short : length s % 12 ≡ 0 → length s / 12 ≤ 4096 → AllFit s (length work / 4) (length s / 12) → length marks < 256 → Refused work marks workEnd marksEnd number detail 4 0 → Answer s work marks workEnd marksEnd number detail
-  marked : length s % 12 ≡ 0 → length s / 12 ≤ 4096 → AllFit s (length work / 4) (length s / 12) → 256 ≤ length marks → Marked s work marks workEnd marksEnd number detail → Answer s work marks workEnd marksEnd number detail
+  many : length s % 12 ≡ 0 → 4096 < length s / 12 → Refused work marks workEnd marksEnd number detail 2 (length s / 12)
+      → Answer s work marks workEnd marksEnd number detail
+  unfit : (k : ℕ) → length s % 12 ≡ 0 → length s / 12 ≤ 4096 → k < length s / 12 → AllFit s (length work / 4) k → fitsAt s (length work / 4) k ≡ false
+      → Refused work marks workEnd marksEnd number detail 3 k → Answer s work marks workEnd marksEnd number detail
+  short : length s % 12 ≡ 0 → length s / 12 ≤ 4096 → AllFit s (length work / 4) (length s / 12) → length marks < 256
+      → Refused work marks workEnd marksEnd number detail 4 0 → Answer s work marks workEnd marksEnd number detail
+  marked : length s % 12 ≡ 0 → length s / 12 ≤ 4096 → AllFit s (length work / 4) (length s / 12) → 256 ≤ length marks
+      → Marked s work marks workEnd marksEnd number detail → Answer s work marks workEnd marksEnd number detail

@@ -34,7 +34,8 @@ fn record_fits(records: &[u8], k: usize, regions: usize) -> bool
 // The first of n records that does not fit, n if all do.
 fn fault(records: &[u8], n: usize, regions: usize) -> usize
     requires { ⌜ (n ≤ 4096) × (12 * n ≤ length (now records)) ⌝ }
-    ensures { λ r. ⌜ (r ≤ n) × ((k : ℕ) → k < r → fitsAt (now (records .entry)) regions k ≡ true) × (r < n → fitsAt (now (records .entry)) regions r ≡ false) ⌝ }
+    ensures { λ r. ⌜ (r ≤ n) × ((k : ℕ) → k < r → fitsAt (now (records .entry)) regions k ≡ true)
+        × (r < n → fitsAt (now (records .entry)) regions r ≡ false) ⌝ }
 {
     let mut k: usize = 0;
     while k < n {
@@ -66,7 +67,8 @@ fn load(records: &[u8], n: usize, owners: &mut [u32], lefts: &mut [u32], rights:
 
 // Marks the bridges of records that fit.
 fn mark_records(records: &[u8], count: usize, regions: usize, work: &mut [u8], marks: &mut [u8])
-    requires { ⌜ (count ≤ 4096) × (12 * count ≤ length (now records)) × ((k : ℕ) → k < count → fitsAt (now records) regions k ≡ true) × (4 * regions ≤ length (now work)) × (256 ≤ length (now marks)) ⌝ }
+    requires { ⌜ (count ≤ 4096) × (12 * count ≤ length (now records)) × ((k : ℕ) → k < count → fitsAt (now records) regions k ≡ true)
+        × (4 * regions ≤ length (now work)) × (256 ≤ length (now marks)) ⌝ }
     ensures work { λ _. ⌜ now (work .exit) ≡ splice (now (work .entry)) 0 (replicate (4 * regions) 0) ⌝ }
     ensures marks { λ _. ⌜ now (marks .exit) ≡ bridgeMarks (recordsAt (now (records .entry)) count) 256 ++ drop 256 (now (marks .entry)) ⌝ }
 {

@@ -33,7 +33,8 @@ fn verdict(call: u32, job: &[u8], list: &[u8]) -> Verdict
 // The input checks of a call: 0 Reduce, 1 Reduce by list, any other Mark.
 #[no_mangle]
 pub extern "C" fn probe_check(call: u32, job: &[u8], list: &[u8]) -> ProbeResult
-    ensures { λ r. ⌜ (r .number ≡ numberOf (checked call (now (job .entry)) (now (list .entry)))) × (r .detail ≡ detailOf (checked call (now (job .entry)) (now (list .entry)))) ⌝ }
+    ensures { λ r. ⌜ (r .number ≡ numberOf (checked call (now (job .entry)) (now (list .entry))))
+        × (r .detail ≡ detailOf (checked call (now (job .entry)) (now (list .entry)))) ⌝ }
 {
     let v = verdict(call, job, list);
     ProbeResult {
@@ -67,7 +68,8 @@ pub extern "C" fn probe_span_ends<'a>(
     i: u32,
     out: &mut [u8],
 ) -> usize
-    ensures { λ r. ⌜ (r ≡ length (spanEnds (now (job .entry)) (now (list .entry)) which i)) × (now (out .exit) ≡ copied (now (out .entry)) (spanEnds (now (job .entry)) (now (list .entry)) which i)) ⌝ }
+    ensures { λ r. ⌜ (r ≡ length (spanEnds (now (job .entry)) (now (list .entry)) which i))
+        × (now (out .exit) ≡ copied (now (out .entry)) (spanEnds (now (job .entry)) (now (list .entry)) which i)) ⌝ }
 {
     copy(out, job::span_ends(job, list, which, i))
 }

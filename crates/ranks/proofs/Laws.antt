@@ -19,7 +19,8 @@ use Rattle.ranks.specs.Tables.{recordPlace, Records, putSpan, SpansOf, W
 use Rattle.lists.proofs.Rows.{zero-at}
 
 -- an array whose first i entries are those of f, with f i put at i
-pub entry-next : (f : ℕ → ℕ) (l : List ℕ) (i : ℕ) {v : ℕ} → i < length l → v ≡ f i → ((k : ℕ) → k < i → getD l k 0 ≡ f k) → (k : ℕ) → k < i + 1 → getD (set l i v) k 0 ≡ f k
+pub entry-next : (f : ℕ → ℕ) (l : List ℕ) (i : ℕ) {v : ℕ} → i < length l → v ≡ f i → ((k : ℕ) → k < i → getD l k 0 ≡ f k) → (k : ℕ) → k < i + 1
+    → getD (set l i v) k 0 ≡ f k
 entry-next f l i {v} b e h k m =
     by-cases (ℕ-discrete k i) (λ z. rw z (getD-set-same l i v 0 b ∙ e))
     (λ n. getD-set-other l i k v 0 n ∙ h k (omega arith))
@@ -96,7 +97,8 @@ module _ (ends : List ℕ) (i : ℕ) (s : Span) where
   put-behind k h = put-at k (λ e. omega arith) (λ e. omega arith) (λ e. omega arith) (λ e. omega arith)
 
 -- one more span
-pub span-next : (f : ℕ → Span) (ends : List ℕ) (i : ℕ) {s : Span} → 4 * i + 3 < length ends → s ≡ f i → ((k : ℕ) → k < i → spanIn ends k ≡ f k) → (k : ℕ) → k < i + 1 → spanIn (putSpan ends i s) k ≡ f k
+pub span-next : (f : ℕ → Span) (ends : List ℕ) (i : ℕ) {s : Span} → 4 * i + 3 < length ends → s ≡ f i → ((k : ℕ) → k < i → spanIn ends k ≡ f k) → (k : ℕ)
+    → k < i + 1 → spanIn (putSpan ends i s) k ≡ f k
 span-next f ends i {s} b e h k m =
     by-cases (ℕ-discrete k i) (λ z. rw z (put-same ends i s b ∙ e)) (λ n. put-other ends i s k n ∙ h k (omega arith))
 
@@ -118,7 +120,8 @@ pub spans-next : {s : List ℕ} {at stride : ℕ} {order : List ℕ} {i : ℕ} {
     → p ≡ recordPlace at stride order i → e ≡ canonical (spanAt s p) → SpansOf s at stride order (i + 1) (putSpan ends i e)
 spans-next {s} {at} {stride} {order} {i} {ends} {p} {e} v h a b = record {
   whole = put-length ends i e ∙ v .whole;
-  each = span-next (λ k. canonical (spanAt s (recordPlace at stride order k))) ends i (omega (arith, v .whole)) (b ∙ ap (λ q. canonical (spanAt s q)) a) (v .each);
+  each = span-next (λ k. canonical (spanAt s (recordPlace at stride order k))) ends i (omega (arith, v .whole)) (b ∙ ap (λ q. canonical (spanAt s q)) a)
+      (v .each);
   rest = λ k m. put-behind ends i e k m ∙ v .rest k (omega arith);
 }
 
@@ -152,9 +155,12 @@ pub keys-next : {s : List ℕ} {at stride i : ℕ} {first second : List ℕ} {e 
 keys-next {s} {at} {stride} {i} {first} {second} {e} {v} {w} k h a b d = record {
   whole-first = length-set first i v ∙ k .whole-first;
   whole-second = length-set second i w ∙ k .whole-second;
-  each-first = entry-next (λ j. pack (canonical (spanAt s (at + j * stride)) .a .x) (canonical (spanAt s (at + j * stride)) .a .y)) first i (omega (arith, k .whole-first)) (b ∙ ap (λ (z : Span). pack (z .a .x) (z .a .y)) a) (k .each-first);
-  each-second = entry-next (λ j. pack (canonical (spanAt s (at + j * stride)) .b .x) (canonical (spanAt s (at + j * stride)) .b .y)) second i (omega (arith, k .whole-second)) (d ∙ ap (λ (z : Span). pack (z .b .x) (z .b .y)) a) (k .each-second);
+  each-first = entry-next (λ j. pack (canonical (spanAt s (at + j * stride)) .a .x) (canonical (spanAt s (at + j * stride)) .a .y)) first i
+      (omega (arith, k .whole-first)) (b ∙ ap (λ (z : Span). pack (z .a .x) (z .a .y)) a) (k .each-first);
+  each-second = entry-next (λ j. pack (canonical (spanAt s (at + j * stride)) .b .x) (canonical (spanAt s (at + j * stride)) .b .y)) second i
+      (omega (arith, k .whole-second)) (d ∙ ap (λ (z : Span). pack (z .b .x) (z .b .y)) a) (k .each-second);
 }
 
-pub identity-next : (i : ℕ) (order : List ℕ) → length order ≡ 256 → i < 256 → ((k : ℕ) → k < i → getD order k 0 ≡ k) → (k : ℕ) → k < i + 1 → getD (set order i i) k 0 ≡ k
+pub identity-next : (i : ℕ) (order : List ℕ) → length order ≡ 256 → i < 256 → ((k : ℕ) → k < i → getD order k 0 ≡ k) → (k : ℕ) → k < i + 1
+    → getD (set order i i) k 0 ≡ k
 identity-next i order e h f = entry-next (λ k. k) order i (omega (arith, e)) refl f

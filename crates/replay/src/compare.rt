@@ -31,7 +31,10 @@ pub fn difference(
     want_work: &[u8],
     want_out: &[u8],
 ) -> u32
-    ensures { λ r. ⌜ (r ≡ 0 → Same number detail (now (work .entry)) (now (out .entry)) «want_number» «want_detail» (now («want_work» .entry)) (now («want_out» .entry))) × (Same number detail (now (work .entry)) (now (out .entry)) «want_number» «want_detail» (now («want_work» .entry)) (now («want_out» .entry)) → r ≡ 0) ⌝ }
+    ensures { λ r. ⌜ (r ≡ 0 → Same number detail (now (work .entry)) (now (out .entry)) «want_number» «want_detail» (now («want_work» .entry))
+        (now («want_out» .entry)))
+        × (Same number detail (now (work .entry)) (now (out .entry)) «want_number» «want_detail» (now («want_work» .entry)) (now («want_out» .entry))
+        → r ≡ 0) ⌝ }
 {
     if number != want_number {
         return OTHER_NUMBER;

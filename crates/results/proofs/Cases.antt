@@ -54,7 +54,14 @@ abbrev column : ℕ → Span
 column x = record { a = record { x = x; y = 0 }; b = record { x = x; y = 8 } }
 
 abbrev boundary : ℕ → List Source → List Observation → Boundary
-boundary x sources observations = record { ends = column x; bits = 0x4020_0000_0000_0000; ramp = record { end = 0; lower = 0; upper = 0; id = 0 }; sources = sources; observations = observations }
+boundary x sources observations =
+    record {
+      ends = column x;
+      bits = 0x4020_0000_0000_0000;
+      ramp = record { end = 0; lower = 0; upper = 0; id = 0 };
+      sources = sources;
+      observations = observations;
+    }
 
 abbrev source : ℕ → ℕ → Source
 source m n = record { from = m; to = n }
@@ -83,19 +90,23 @@ pair = record { serial = []; flat = record { ranks = 0 ∷ 1 ∷ []; retained = 
 
 -- Both jobs pass the checks, and decode to these values.
 corridor-passes : firstRefusal (reduceChecks corridor) ≡ none
-unfolding corridor reduceChecks boundaryChecks jobChecks layoutChecks headerChecks recordChecks each cellCheck baseCheck sumsFault rampCheck widthCheck endsChecks endsCheck spanChecks firstRefusal headerAt offsetsOf boundaryAt baseAt numberAt bytes boundaryRecords observationRecords sourceCount posSame
+unfolding corridor reduceChecks boundaryChecks jobChecks layoutChecks headerChecks recordChecks each cellCheck baseCheck sumsFault rampCheck widthCheck
+    endsChecks endsCheck spanChecks firstRefusal headerAt offsetsOf boundaryAt baseAt numberAt bytes boundaryRecords observationRecords sourceCount posSame
 corridor-passes = refl
 
 anchored-passes : (id : ℕ) → firstRefusal (reduceChecks (anchored id)) ≡ none
-unfolding anchored reduceChecks boundaryChecks jobChecks layoutChecks headerChecks recordChecks each cellCheck baseCheck sumsFault rampCheck widthCheck endsChecks endsCheck spanChecks firstRefusal headerAt offsetsOf boundaryAt baseAt numberAt bytes boundaryRecords observationRecords sourceCount posSame
+unfolding anchored reduceChecks boundaryChecks jobChecks layoutChecks headerChecks recordChecks each cellCheck baseCheck sumsFault rampCheck widthCheck
+    endsChecks endsCheck spanChecks firstRefusal headerAt offsetsOf boundaryAt baseAt numberAt bytes boundaryRecords observationRecords sourceCount posSame
 anchored-passes id = refl
 
 corridor-job : decode corridor ≡ job []
-unfolding corridor decode jobWith decodeBoundaries numberAt bytes countsAt baseRecords baseAt boundaryRecords observationRecords sourceRecords boundaryAt sourceAt
+unfolding corridor decode jobWith decodeBoundaries numberAt bytes countsAt baseRecords baseAt boundaryRecords observationRecords sourceRecords boundaryAt
+    sourceAt
 corridor-job = refl
 
 anchored-job : (id : ℕ) → decode (anchored id) ≡ job (anchor id ∷ [])
-unfolding anchored decode jobWith decodeBoundaries numberAt bytes countsAt baseRecords baseAt boundaryRecords observationRecords sourceRecords boundaryAt sourceAt
+unfolding anchored decode jobWith decodeBoundaries numberAt bytes countsAt baseRecords baseAt boundaryRecords observationRecords sourceRecords boundaryAt
+    sourceAt
 anchored-job id = refl
 
 -- Labels and groups.
@@ -111,28 +122,34 @@ abbrev run : Run
 run = reduceRun (first ∷ second ∷ [])
 
 corridor-groups : groupsOf (rulesOf limits000 eight (job [])) run ≡ pair
-unfolding groupsOf itemsOf canonItem canon canonical posLe endsKey spanKey sourceKey sort insert sortOnce include lexLe rulesOn anchorsOf partOf count upFrom lengthOf ofInt ofBits toBits neg add sub mul div lt le
+unfolding groupsOf itemsOf canonItem canon canonical posLe endsKey spanKey sourceKey sort insert sortOnce include lexLe rulesOn anchorsOf partOf count upFrom
+    lengthOf ofInt ofBits toBits neg add sub mul div lt le
 corridor-groups = refl
 
 anchored-groups : (id : ℕ) → groupsOf (rulesOf limits000 eight (job (anchor id ∷ []))) run ≡ noGroups
-unfolding groupsOf itemsOf canonItem canon canonical posLe endsKey spanKey sourceKey sort insert sortOnce include lexLe rulesOn anchorsOf partOf count upFrom lengthOf ofInt ofBits toBits neg add sub mul div lt le
+unfolding groupsOf itemsOf canonItem canon canonical posLe endsKey spanKey sourceKey sort insert sortOnce include lexLe rulesOn anchorsOf partOf count upFrom
+    lengthOf ofInt ofBits toBits neg add sub mul div lt le
 anchored-groups id = refl
 
 -- What is kept.
 pair-kept : kept (copiesOf (first ∷ second ∷ [])) (every pair) ≡ merged ∷ []
-unfolding keptOf every kept slot consolidated consolidate membersOf observed orItself copiesOf canon canonObservation canonical posLe endsKey spanKey sourceKey sourcesKey observationKey totalKey sort insert sortOnce include lexLe gather upFrom has
+unfolding keptOf every kept slot consolidated consolidate membersOf observed orItself copiesOf canon canonObservation canonical posLe endsKey spanKey sourceKey
+    sourcesKey observationKey totalKey sort insert sortOnce include lexLe gather upFrom has
 pair-kept = refl
 
 none-kept : kept (copiesOf (first ∷ second ∷ [])) (every noGroups) ≡ first ∷ second ∷ []
-unfolding keptOf every kept slot consolidated consolidate membersOf observed orItself copiesOf canon canonObservation canonical posLe endsKey spanKey sourceKey sourcesKey observationKey totalKey sort insert sortOnce include lexLe gather upFrom has
+unfolding keptOf every kept slot consolidated consolidate membersOf observed orItself copiesOf canon canonObservation canonical posLe endsKey spanKey sourceKey
+    sourcesKey observationKey totalKey sort insert sortOnce include lexLe gather upFrom has
 none-kept = refl
 
 merged-bytes : encodeAnswer (merged ∷ []) ≡ corridorAnswer
-unfolding corridorAnswer encodeAnswer answerWords encodeBoundaries boundaryRecord observationRecord observationsOf sourcesOf boundaryBytes observationBytes sourceBytes spanBytes bytes
+unfolding corridorAnswer encodeAnswer answerWords encodeBoundaries boundaryRecord observationRecord observationsOf sourcesOf boundaryBytes observationBytes
+    sourceBytes spanBytes bytes
 merged-bytes = refl
 
 both-bytes : encodeAnswer (first ∷ second ∷ []) ≡ anchoredAnswer
-unfolding anchoredAnswer encodeAnswer answerWords encodeBoundaries boundaryRecord observationRecord observationsOf sourcesOf boundaryBytes observationBytes sourceBytes spanBytes bytes
+unfolding anchoredAnswer encodeAnswer answerWords encodeBoundaries boundaryRecord observationRecord observationsOf sourcesOf boundaryBytes observationBytes
+    sourceBytes spanBytes bytes
 both-bytes = refl
 
 -- The answers, from the jobs' bytes.
@@ -156,7 +173,8 @@ anchored-answer id =
     ∙ both-bytes
 
 -- A job that passes and decodes to the corridor's map gives its answer.
-gives : (s : List ℕ) (bases : List Base) (written : List ℕ) → firstRefusal (reduceChecks s) ≡ none → decode s ≡ job bases → answer s ≡ written → Gives s (1 ∷ 2 ∷ 3 ∷ 3 ∷ []) written
+gives : (s : List ℕ) (bases : List Base) (written : List ℕ) → firstRefusal (reduceChecks s) ≡ none → decode s ≡ job bases → answer s ≡ written
+    → Gives s (1 ∷ 2 ∷ 3 ∷ 3 ∷ []) written
 unfolding reduceResult reduceWith labelled words
 gives s bases written p d a work out w o =
     let few : length (records eight (gridOf (decode s)) (ownEnds (decode s))) ≤ 4096
@@ -170,7 +188,9 @@ gives s bases written p d a work out w o =
 
 -- The corridor's marks.
 corridor-marked : firstRefusal (markChecks corridor) ≡ none
-unfolding markChecks corridor reduceChecks boundaryChecks jobChecks layoutChecks headerChecks recordChecks each cellCheck baseCheck sumsFault rampCheck widthCheck endsChecks endsCheck spanChecks firstRefusal headerAt offsetsOf boundaryAt baseAt numberAt bytes boundaryRecords observationRecords sourceCount posSame
+unfolding markChecks corridor reduceChecks boundaryChecks jobChecks layoutChecks headerChecks recordChecks each cellCheck baseCheck sumsFault rampCheck
+    widthCheck endsChecks endsCheck spanChecks firstRefusal headerAt offsetsOf boundaryAt baseAt numberAt bytes boundaryRecords observationRecords sourceCount
+    posSame
 corridor-marked = refl
 
 job-marks : marksOf eight (job []) ≡ 1 ∷ 1 ∷ []
@@ -182,7 +202,8 @@ doubled-marks : marksOf eight (record { width = 4; height = 1; cells = 1 ∷ 1 �
 unfolding marksOf partOf count upFrom
 doubled-marks = refl
 
-marks-left : (work marks : List ℕ) → 40 ≤ length work → 2 ≤ length marks → markResult corridor work marks ≡ leaves 2 (1 ∷ 2 ∷ 3 ∷ 3 ∷ []) (1 ∷ 1 ∷ []) work marks
+marks-left : (work marks : List ℕ) → 40 ≤ length work → 2 ≤ length marks
+    → markResult corridor work marks ≡ leaves 2 (1 ∷ 2 ∷ 3 ∷ 3 ∷ []) (1 ∷ 1 ∷ []) work marks
 unfolding markResult labelled words
 marks-left work marks w m =
     let d = corridor-job in
@@ -190,13 +211,20 @@ marks-left work marks w m =
     let room : workSize (decode corridor) ≤ length work = rw d w in
     let fits : length (decode corridor .boundaries) ≤ length marks = rw d m in
     mark-success eight corridor work marks corridor-marked room few fits
-    ∙ ap (λ (j : Job). record { number = 0; detail = length (j .boundaries); work = labelled (labelsOf eight j (ownEnds j)) work; out = splice marks 0 (marksOf eight j) }) d
+    ∙ ap (λ (j : Job). record {
+      number = 0;
+      detail = length (j .boundaries);
+      work = labelled (labelsOf eight j (ownEnds j)) work;
+      out = splice marks 0 (marksOf eight j);
+    }) d
     ∙ ap (λ (l : List ℕ). record { number = 0; detail = 2; work = labelled l work; out = splice marks 0 (marksOf eight (job [])) }) (job-labels [])
     ∙ ap (λ (l : List ℕ). leaves 2 (1 ∷ 2 ∷ 3 ∷ 3 ∷ []) l work marks) job-marks
 
 -- The corridor by a list of one span.
 listed-passes : firstRefusal (byListChecks corridor oneSpan) ≡ none
-unfolding byListChecks listChecks spanCheck oneSpan spanAt corridor reduceChecks boundaryChecks jobChecks layoutChecks headerChecks recordChecks each cellCheck baseCheck sumsFault rampCheck widthCheck endsChecks endsCheck spanChecks firstRefusal headerAt offsetsOf boundaryAt baseAt numberAt bytes boundaryRecords observationRecords sourceCount posSame
+unfolding byListChecks listChecks spanCheck oneSpan spanAt corridor reduceChecks boundaryChecks jobChecks layoutChecks headerChecks recordChecks each cellCheck
+    baseCheck sumsFault rampCheck widthCheck endsChecks endsCheck spanChecks firstRefusal headerAt offsetsOf boundaryAt baseAt numberAt bytes boundaryRecords
+    observationRecords sourceCount posSame
 listed-passes = refl
 
 listed : decodeList oneSpan ≡ column 8 ∷ []
@@ -224,7 +252,12 @@ list-left work out w o =
     ap (λ (j : Job). reduced limits000 eight (byListChecks corridor oneSpan) j (decodeList oneSpan) work out) corridor-job
     ∙ ap (λ (l : List Span). reduced limits000 eight (byListChecks corridor oneSpan) (job []) l work out) listed
     ∙ reduced-success limits000 eight (byListChecks corridor oneSpan) (job []) (column 8 ∷ []) work out listed-passes w few fits
-    ∙ ap (λ (l : List ℕ). record { number = 0; detail = length (answerOf limits000 eight (job []) (column 8 ∷ [])); work = labelled l work; out = splice out 0 (answerOf limits000 eight (job []) (column 8 ∷ [])) }) listed-labels
+    ∙ ap (λ (l : List ℕ). record {
+      number = 0;
+      detail = length (answerOf limits000 eight (job []) (column 8 ∷ []));
+      work = labelled l work;
+      out = splice out 0 (answerOf limits000 eight (job []) (column 8 ∷ []));
+    }) listed-labels
     ∙ ap (λ (l : List ℕ). leaves (length l) (1 ∷ 2 ∷ 2 ∷ 2 ∷ []) l work out) listed-answer
 
 pub other-calls : OtherCalls
@@ -261,7 +294,8 @@ unfolding reduceChecks
 one-passes c h = one-open true c h
 
 one-job : (c : ℕ) → decode (oneCell c) ≡ oneJob c
-unfolding oneCell decode jobWith decodeBoundaries numberAt bytes countsAt baseRecords baseAt boundaryRecords observationRecords sourceRecords boundaryAt sourceAt
+unfolding oneCell decode jobWith decodeBoundaries numberAt bytes countsAt baseRecords baseAt boundaryRecords observationRecords sourceRecords boundaryAt
+    sourceAt
 one-job c = refl
 
 one-pairs : (c : ℕ) → length (records eight (gridOf (oneJob c)) []) ≡ 0

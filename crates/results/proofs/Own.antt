@@ -32,10 +32,12 @@ use Rattle.checks.proofs.Firsts.{none-right, none-head, each-none}
 use Rattle.job.proofs.Passing.{boundaries-passed}
 use Rattle.results.specs.Results.{ownEnds}
 
-ends-with : (rs : List BoundaryRecord) (os : List ObservationRecord) (ss : List Source) → map (λ (b : Boundary). b .ends) (boundariesWith rs os ss) ≡ map (λ (r : BoundaryRecord). r .ends) rs
+ends-with : (rs : List BoundaryRecord) (os : List ObservationRecord) (ss : List Source)
+    → map (λ (b : Boundary). b .ends) (boundariesWith rs os ss) ≡ map (λ (r : BoundaryRecord). r .ends) rs
 unfolding boundariesWith boundaryWith
 ends-with [] os ss = refl
-ends-with (r ∷ rs) os ss = ap (λ (l : List Span). r .ends ∷ l) (ends-with rs (drop (r .observations) os) (drop (r .sources + sourceCount (take (r .observations) os)) ss))
+ends-with (r ∷ rs) os ss = ap (λ (l : List Span). r .ends ∷ l)
+    (ends-with rs (drop (r .observations) os) (drop (r .sources + sourceCount (take (r .observations) os)) ss))
 
 -- where the record of boundary k begins
 abbrev pub boundaryPlace : List ℕ → ℕ → ℕ

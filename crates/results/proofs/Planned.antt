@@ -57,7 +57,9 @@ module _ (limits : Limits) (dirs : List ℕ) (j : Job) (ss : List Span) where
       let gs : groupsOf (rulesOf limits dirs j) run ≡ rulesOf limits dirs j l = groups-matched e in
       let w = groups-well (rulesOf limits dirs j) (rules-well limits dirs j) run in
       ap encodeAnswer (kept-planned (copiesOf (j .boundaries)) (every (groupsOf (rulesOf limits dirs j) run)) w (λ a m. two-all l a (rw (← gs) m))
-      ∙ planned-ext (copiesOf (j .boundaries)) _ _ (λ i h. ap (λ hs. goes (every hs) i) gs ∙ (ap (λ hs. goes hs i) (every-group limits dirs j l) ∙ goes-into limits l (accepted limits dirs (gridOf j) (anchorsOf (j .bases)) l) i)))
+      ∙ planned-ext (copiesOf (j .boundaries)) _ _
+      (λ i h. ap (λ hs. goes (every hs) i) gs
+      ∙ (ap (λ hs. goes hs i) (every-group limits dirs j l) ∙ goes-into limits l (accepted limits dirs (gridOf j) (anchorsOf (j .bases)) l) i)))
 
   -- they differ in number
   pub unmatched-answer : (length (j .boundaries) ≡ length ss → ⊥) → answerOf limits dirs j ss ≡ encodeAnswer (planned (copiesOf (j .boundaries)) (λ i. i))
@@ -65,5 +67,6 @@ module _ (limits : Limits) (dirs : List ℕ) (j : Job) (ss : List Span) where
   unmatched-answer n =
       let gs = groups-unmatched n in
       let w = groups-well (rulesOf limits dirs j) (rules-well limits dirs j) run in
-      ap encodeAnswer (kept-planned (copiesOf (j .boundaries)) (every (groupsOf (rulesOf limits dirs j) run)) w (λ a m. let z : List·Memᴰ a [] = rw (← ap every gs) m in absurd (List·Memᴰ·not-nil z))
+      ap encodeAnswer (kept-planned (copiesOf (j .boundaries)) (every (groupsOf (rulesOf limits dirs j) run)) w
+      (λ a m. let z : List·Memᴰ a [] = rw (← ap every gs) m in absurd (List·Memᴰ·not-nil z))
       ∙ planned-ext (copiesOf (j .boundaries)) _ _ (λ i h. ap (λ hs. goes (every hs) i) gs))

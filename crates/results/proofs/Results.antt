@@ -20,9 +20,15 @@ use Rattle.partition.specs.Partitioned.{labelled}
 use Rattle.results.specs.Results.{workSize, ownEnds, marksOf, markWith, maxPairs, afterWork, outcome, workCheck, labelsOf, pairCheck, answerOf, reduced}
 
 module _ (limits : Limits) (dirs : List ℕ) (checks : List Check) (j : Job) (ss : List Span) (work answer : List ℕ) where
-  pub reduced-success : firstRefusal checks ≡ none → workSize j ≤ length work → length (records dirs (gridOf j) ss) ≤ maxPairs → length (answerOf limits dirs j ss) ≤ length answer
+  pub reduced-success : firstRefusal checks ≡ none → workSize j ≤ length work → length (records dirs (gridOf j) ss) ≤ maxPairs
+      → length (answerOf limits dirs j ss) ≤ length answer
       → reduced limits dirs checks j ss work answer
-      ≡ record { number = 0; detail = length (answerOf limits dirs j ss); work = labelled (labelsOf dirs j ss) work; out = splice answer 0 (answerOf limits dirs j ss) }
+      ≡ record {
+        number = 0;
+        detail = length (answerOf limits dirs j ss);
+        work = labelled (labelsOf dirs j ss) work;
+        out = splice answer 0 (answerOf limits dirs j ss);
+      }
   unfolding reduced outcome afterWork
   reduced-success e w p a =
       let before : firstRefusal (checks ++ (workCheck j work ∷ [])) ≡ none = append-none checks _ e ∙ clear 21 0 (le-ltb _ _ w) in
@@ -32,10 +38,16 @@ module _ (limits : Limits) (dirs : List ℕ) (checks : List Check) (j : Job) (ss
       rw (before, later)
 
 module _ (dirs : List ℕ) (s work marks : List ℕ) where
-  pub mark-success : firstRefusal (markChecks s) ≡ none → workSize (decode s) ≤ length work → length (records dirs (gridOf (decode s)) (ownEnds (decode s))) ≤ maxPairs
+  pub mark-success : firstRefusal (markChecks s) ≡ none → workSize (decode s) ≤ length work
+      → length (records dirs (gridOf (decode s)) (ownEnds (decode s))) ≤ maxPairs
       → length (decode s .boundaries) ≤ length marks
       → markWith dirs s work marks
-      ≡ record { number = 0; detail = length (decode s .boundaries); work = labelled (labelsOf dirs (decode s) (ownEnds (decode s))) work; out = splice marks 0 (marksOf dirs (decode s)) }
+      ≡ record {
+        number = 0;
+        detail = length (decode s .boundaries);
+        work = labelled (labelsOf dirs (decode s) (ownEnds (decode s))) work;
+        out = splice marks 0 (marksOf dirs (decode s));
+      }
   unfolding markWith outcome afterWork
   mark-success e w p a =
       let j = decode s in

@@ -24,7 +24,8 @@ use Rattle.results.specs.Rules.{gridOf, groupOf, rulesOn, rulesOf}
 module _ (limits : Limits) (dirs : List ℕ) (j : Job) where
   pub every-group : (l : List Item) → every (rulesOf limits dirs j l) ≡ map (groupOf limits l) (accepted limits dirs (gridOf j) (anchorsOf (j .bases)) l)
   unfolding every rulesOn accepted
-  every-group l = sym (map-append (groupOf limits l) (serialGroups limits dirs (gridOf j) (anchorsOf (j .bases)) l) (flatGroups limits dirs (gridOf j) (anchorsOf (j .bases)) l))
+  every-group l = sym (map-append (groupOf limits l) (serialGroups limits dirs (gridOf j) (anchorsOf (j .bases)) l)
+      (flatGroups limits dirs (gridOf j) (anchorsOf (j .bases)) l))
 
   pub rules-well : (l : List Item) → WellGrouped (length l) (every (rulesOf limits dirs j l))
   rules-well l = rw every-group (record { good = good; apart = apart })

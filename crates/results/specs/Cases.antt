@@ -53,12 +53,14 @@ anchoredAnswer = words (2 ∷ 0 ∷ 2 ∷ 104 ∷ 104 ∷ 120 ∷ []) ++ (uprigh
 -- What a call leaves on the corridor's four cells: the labels, zeros to ten bytes a cell, and what was written at the start of the other slice;
 -- nothing else is touched.
 abbrev pub leaves : ℕ → List ℕ → List ℕ → List ℕ → List ℕ → Outcome
-leaves detail labels written work out = record { number = 0; detail = detail; work = words labels ++ (replicate 24 0 ++ drop 40 work); out = splice out 0 written }
+leaves detail labels written work out =
+    record { number = 0; detail = detail; work = words labels ++ (replicate 24 0 ++ drop 40 work); out = splice out 0 written }
 
 -- Reduce succeeds with these labels and this answer, wherever the slices are long enough.
 abbrev pub Gives : List ℕ → List ℕ → List ℕ → Type 0
 Gives job labels written =
-    (work answer : List ℕ) → 40 ≤ length work → length written ≤ length answer → reduceResult job work answer ≡ leaves (length written) labels written work answer
+    (work answer : List ℕ) → 40 ≤ length work → length written ≤ length answer
+    → reduceResult job work answer ≡ leaves (length written) labels written work answer
 
 -- A list of the corridor's first span alone.
 unfoldable pub oneSpan : List ℕ
@@ -67,7 +69,8 @@ oneSpan = words (8 ∷ 0 ∷ 8 ∷ 8 ∷ [])
 
 -- The other two calls on the corridor: both boundaries are bridges; and where spans and boundaries differ in number, sorted copies and no merge.
 pub record OtherCalls : Type 0 where
-  pub marks : (work marks : List ℕ) → 40 ≤ length work → 2 ≤ length marks → markResult corridor work marks ≡ leaves 2 (1 ∷ 2 ∷ 3 ∷ 3 ∷ []) (1 ∷ 1 ∷ []) work marks
+  pub marks : (work marks : List ℕ) → 40 ≤ length work → 2 ≤ length marks
+      → markResult corridor work marks ≡ leaves 2 (1 ∷ 2 ∷ 3 ∷ 3 ∷ []) (1 ∷ 1 ∷ []) work marks
   pub by-list : (work answer : List ℕ) → 40 ≤ length work → length anchoredAnswer ≤ length answer
       → reduceByListResult corridor oneSpan work answer ≡ leaves (length anchoredAnswer) (1 ∷ 2 ∷ 2 ∷ 2 ∷ []) anchoredAnswer work answer
 

@@ -44,5 +44,6 @@ module _ (g : Grid) (ls : List ℕ) where
   anchor-some r (List·Memᴰ·head {x = q} e) h = let k : eqb r (anchorLabel q) ≡ true = eq-eqb r (anchorLabel q) (rw (← e) (sym h)) in rw k
   anchor-some r (List·Memᴰ·tail {x = q} m) h = or-right (eqb r (anchorLabel q)) (anchor-some r m h)
 
-  pub anchored-iff : (ps : List WalkPosition) (r : ℕ) → (isAnchored g ls ps r ≡ true) ↔ ((p : WalkPosition) × List·Memᴰ p ps × (labelAt ls (indexOf g (p .x) (p .y)) ≡ r))
+  pub anchored-iff : (ps : List WalkPosition) (r : ℕ)
+      → (isAnchored g ls ps r ≡ true) ↔ ((p : WalkPosition) × List·Memᴰ p ps × (labelAt ls (indexOf g (p .x) (p .y)) ≡ r))
   anchored-iff ps r = (some-anchor ps r, λ w. anchor-some r (w .1) (w .2))

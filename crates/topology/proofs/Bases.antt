@@ -30,17 +30,22 @@ not-hit ls width p r h = rw h
 
 pub hit : (s : List ℕ) (n width : ℕ) (p : WalkPosition) (r : ℕ) {v i : ℕ} → isNone p ≡ false → p .y * width + p .x < n → v ≡ word s i → i ≡ p .y * width + p .x
     → eqb r v ≡ anchorHit (labelsIn s n) width p r
-hit s n width p r {v} {i} h l e f = let k : v ≡ labelAt (labelsIn s n) (p .y * width + p .x) = e ∙ (ap (word s) f ∙ sym (label-in s n (p .y * width + p .x) l)) in rw h (ap (eqb r) k)
+hit s n width p r {v} {i} h l e f = let k : v ≡ labelAt (labelsIn s n) (p .y * width + p .x) = e
+    ∙ (ap (word s) f ∙ sym (label-in s n (p .y * width + p .x) l)) in rw h (ap (eqb r) k)
 
-pub base-next : (job : List ℕ) (at i width : ℕ) (ls : List ℕ) (r : ℕ) {b : BaseRecord} {h found : Bool} → b ≡ baseAt job (at + i * baseSize) → h ≡ anchorHit ls width (b .anchor) r
+pub base-next : (job : List ℕ) (at i width : ℕ) (ls : List ℕ) (r : ℕ) {b : BaseRecord} {h found : Bool} → b ≡ baseAt job (at + i * baseSize)
+    → h ≡ anchorHit ls width (b .anchor) r
     → found ≡ anchoredBy job at i width ls r → (h || found) ≡ anchoredBy job at (i + 1) width ls r
 unfolding anchoredBy
-base-next job at i width ls r {b} {h} {found} e f g = rw add-one (let k : h ≡ anchorHit ls width (baseAt job (at + i * baseSize) .anchor) r = f ∙ ap (λ (x : BaseRecord). anchorHit ls width (x .anchor) r) e in rw (k, g))
+base-next job at i width ls r {b} {h} {found} e f g =
+    rw add-one (let k : h ≡ anchorHit ls width (baseAt job (at + i * baseSize) .anchor) r = f ∙ ap (λ (x : BaseRecord). anchorHit ls width (x .anchor) r) e in
+    rw (k, g))
 
 pub hit-as : {b d : BaseRecord} {width n : ℕ} → b ≡ d → Hit (d .anchor) width n → Hit (b .anchor) width n
 hit-as e h = rw e h
 
-pub at-end : (job : List ℕ) (at width : ℕ) (ls : List ℕ) (r : ℕ) {i count : ℕ} {found : Bool} → i ≡ count → found ≡ anchoredBy job at i width ls r → found ≡ anchoredBy job at count width ls r
+pub at-end : (job : List ℕ) (at width : ℕ) (ls : List ℕ) (r : ℕ) {i count : ℕ} {found : Bool} → i ≡ count → found ≡ anchoredBy job at i width ls r
+    → found ≡ anchoredBy job at count width ls r
 at-end job at width ls r e h = rw e at h
 
 module _ (g : Grid) (ls : List ℕ) (r : ℕ) where
@@ -57,12 +62,15 @@ module _ (g : Grid) (ls : List ℕ) (r : ℕ) where
   found-append : (ps qs : List WalkPosition) → isAnchored g ls (ps ++ qs) r ≡ (isAnchored g ls ps r || isAnchored g ls qs r)
   unfolding isAnchored
   found-append [] qs = refl
-  found-append (p ∷ ps) qs = ap (λ (t : Bool). eqb r (labelAt ls (p .y * g .width + p .x)) || t) (found-append ps qs) ∙ sym (or-assoc (eqb r (labelAt ls (p .y * g .width + p .x))) (isAnchored g ls ps r) (isAnchored g ls qs r))
+  found-append (p ∷ ps) qs = ap (λ (t : Bool). eqb r (labelAt ls (p .y * g .width + p .x)) || t) (found-append ps qs)
+      ∙ sym (or-assoc (eqb r (labelAt ls (p .y * g .width + p .x))) (isAnchored g ls ps r) (isAnchored g ls qs r))
 
-  anchors-append : (bs : List BaseRecord) (b : BaseRecord) → anchorsOf (map baseOf (bs ++ (b ∷ []))) ≡ anchorsOf (map baseOf bs) ++ listed (anchorOf (b .anchor))
+  anchors-append : (bs : List BaseRecord) (b : BaseRecord)
+      → anchorsOf (map baseOf (bs ++ (b ∷ []))) ≡ anchorsOf (map baseOf bs) ++ listed (anchorOf (b .anchor))
   unfolding anchorsOf gather baseOf
   anchors-append [] b = append-nil (listed (anchorOf (b .anchor)))
-  anchors-append (d ∷ ds) b = ap (λ (l : List WalkPosition). listed (anchorOf (d .anchor)) ++ l) (anchors-append ds b) ∙ sym (append-assoc (listed (anchorOf (d .anchor))) (anchorsOf (map baseOf ds)) (listed (anchorOf (b .anchor))))
+  anchors-append (d ∷ ds) b = ap (λ (l : List WalkPosition). listed (anchorOf (d .anchor)) ++ l) (anchors-append ds b)
+      ∙ sym (append-assoc (listed (anchorOf (d .anchor))) (anchorsOf (map baseOf ds)) (listed (anchorOf (b .anchor))))
 
   one-anchor : (p : WalkPosition) → isAnchored g ls (listed (anchorOf p)) r ≡ anchorHit ls (g .width) p r
   unfolding isAnchored anchorOf
@@ -82,5 +90,6 @@ module _ (g : Grid) (ls : List ℕ) (r : ℕ) where
       let e : isAnchored g ls (anchorsOf (map baseOf (rows (suc k) f))) r ≡ (isAnchored g ls (anchorsOf (map baseOf (rows k f))) r || hitK) =
       ap (λ (l : List BaseRecord). isAnchored g ls (anchorsOf (map baseOf l)) r) (rows-last k f)
       ∙ (ap (λ (l : List WalkPosition). isAnchored g ls l r) (anchors-append (rows k f) (f k))
-      ∙ (found-append (anchorsOf (map baseOf (rows k f))) (listed (anchorOf (f k .anchor))) ∙ ap (λ (t : Bool). isAnchored g ls (anchorsOf (map baseOf (rows k f))) r || t) (one-anchor (f k .anchor)))) in
+      ∙ (found-append (anchorsOf (map baseOf (rows k f))) (listed (anchorOf (f k .anchor)))
+      ∙ ap (λ (t : Bool). isAnchored g ls (anchorsOf (map baseOf (rows k f))) r || t) (one-anchor (f k .anchor)))) in
       ap (λ (t : Bool). hitK || t) (by-bases job at k) ∙ (or-swap hitK (isAnchored g ls (anchorsOf (map baseOf (rows k f))) r) ∙ sym e)

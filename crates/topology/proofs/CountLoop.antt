@@ -28,7 +28,8 @@ row-small i w h = omega (arith, div-le-self i w)
 pub left-out : {A : Type 0} (t : Bool) {s : A} (x : A) → not t ≡ true → s ≡ cond t x s
 left-out t x h = let e = not-true t h in rw e
 
-pub put-in : {A : Type 0} (t : Bool) (with : ℕ → ℕ → A) (s : A) {x : A} {a b : ℕ} (column row : ℕ) → not t ≡ false → x ≡ with a b → a ≡ column → b ≡ row → x ≡ cond t (with column row) s
+pub put-in : {A : Type 0} (t : Bool) (with : ℕ → ℕ → A) (s : A) {x : A} {a b : ℕ} (column row : ℕ) → not t ≡ false → x ≡ with a b → a ≡ column → b ≡ row
+    → x ≡ cond t (with column row) s
 put-in t with s {x} {a} {b} column row h e p q = let k = not-false t h in rw k (e ∙ (ap (λ (y : ℕ). with y b) p ∙ ap (λ (y : ℕ). with column y) q))
 
 pub count-start : {s : StatsHeld} → NoCells s → (g : Grid) (ls : List ℕ) (r : ℕ) → s ≡ statsAfter g (firstCells ls r 0)
@@ -55,11 +56,13 @@ module _ (g : Grid) (bytes : List ℕ) (n r : ℕ) {i : ℕ} {s : StatsHeld} (no
   pub count-room : i < 1048576 → Room s
   count-room h = rw now (after-room g (firstCells (labelsIn bytes n) r i) (omega (arith, cells-most (labelsIn bytes n) r i)))
 
-  pub count-next : i < n → {v : ℕ} → v ≡ word bytes i → {t : StatsHeld} → t ≡ cond (eqb r v) (withCell s (columnOf g i) (rowOf g i) (cellAt g i)) s → t ≡ statsAfter g (firstCells (labelsIn bytes n) r (i + 1))
+  pub count-next : i < n → {v : ℕ} → v ≡ word bytes i → {t : StatsHeld} → t ≡ cond (eqb r v) (withCell s (columnOf g i) (rowOf g i) (cellAt g i)) s
+      → t ≡ statsAfter g (firstCells (labelsIn bytes n) r (i + 1))
   count-next l e f =
       pass-next (statsAfter g) bytes n r now l e (λ cs h. ap (λ (x : StatsHeld). withCell x (columnOf g i) (rowOf g i) (cellAt g i)) h ∙ after-next g cs i) f
 
   pub count-end : i ≡ n → statsIn s ≡ regionStats g (labelsIn bytes n) r
   count-end e =
-      ap statsIn (now ∙ (ap (λ (k : ℕ). statsAfter g (firstCells (labelsIn bytes n) r k)) (e ∙ sym (labels-many bytes n)) ∙ ap (statsAfter g) (cells-all (labelsIn bytes n) r)))
+      ap statsIn (now ∙ (ap (λ (k : ℕ). statsAfter g (firstCells (labelsIn bytes n) r k)) (e ∙ sym (labels-many bytes n))
+      ∙ ap (statsAfter g) (cells-all (labelsIn bytes n) r)))
       ∙ after-all g (labelsIn bytes n) r

@@ -78,7 +78,8 @@ module _ (g : Grid) where
   unfolding withCell statsAfter rampCell elevation
   after-next cs c =
       let e : length (cs ++ (c ∷ [])) ≡ length cs + 1 = length-append cs (c ∷ []) in
-      let ramp : ltb 0 (length (keep (rampCell g) (cs ++ (c ∷ [])))) ≡ (ltb 0 (length (keep (rampCell g) cs)) || rampCell g c) = rw (kept-last (rampCell g) cs c) (some-last (length (keep (rampCell g) cs)) (rampCell g c)) in
+      let ramp : ltb 0 (length (keep (rampCell g) (cs ++ (c ∷ [])))) ≡ (ltb 0 (length (keep (rampCell g) cs)) || rampCell g c) =
+      rw (kept-last (rampCell g) cs c) (some-last (length (keep (rampCell g) cs)) (rampCell g c)) in
       simp (
         e,
         least-of (leftOf g) cs c,
@@ -110,13 +111,15 @@ module _ (g : Grid) where
 -- the next cell has the label, or has not
 pub cells-in : (ls : List ℕ) (r i : ℕ) → eqb r (labelAt ls i) ≡ true → firstCells ls r (suc i) ≡ firstCells ls r i ++ (i ∷ [])
 unfolding firstCells keep
-cells-in ls r i h = ap (keep (λ j. eqb r (labelAt ls j))) (up-last 0 i) ∙ (keep-append (λ j. eqb r (labelAt ls j)) (upFrom 0 i) ((0 + i) ∷ []) ∙ (let e : 0 + i ≡ i = omega arith in rw (e, h)))
+cells-in ls r i h = ap (keep (λ j. eqb r (labelAt ls j))) (up-last 0 i)
+    ∙ (keep-append (λ j. eqb r (labelAt ls j)) (upFrom 0 i) ((0 + i) ∷ []) ∙ (let e : 0 + i ≡ i = omega arith in rw (e, h)))
 
 pub cells-out : (ls : List ℕ) (r i : ℕ) → eqb r (labelAt ls i) ≡ false → firstCells ls r (suc i) ≡ firstCells ls r i
 unfolding firstCells keep
 cells-out ls r i h =
     ap (keep (λ j. eqb r (labelAt ls j))) (up-last 0 i)
-    ∙ (keep-append (λ j. eqb r (labelAt ls j)) (upFrom 0 i) ((0 + i) ∷ []) ∙ (let e : 0 + i ≡ i = omega arith in rw (e, h) (append-nil (keep (λ j. eqb r (labelAt ls j)) (upFrom 0 i)))))
+    ∙ (keep-append (λ j. eqb r (labelAt ls j)) (upFrom 0 i) ((0 + i) ∷ [])
+    ∙ (let e : 0 + i ≡ i = omega arith in rw (e, h) (append-nil (keep (λ j. eqb r (labelAt ls j)) (upFrom 0 i)))))
 
 pub cells-most : (ls : List ℕ) (r i : ℕ) → length (firstCells ls r i) ≤ i
 unfolding firstCells

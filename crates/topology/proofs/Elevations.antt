@@ -56,7 +56,8 @@ module _ {A : Type 0} (t : A → Bool) (d : A) where
           absurd (omega (arith, w .only 0 (omega arith) h, w .only (suc (u .0)) (omega (arith, u .1)) q)))
           (λ p. omega arith)
       go false h zero w i = clash (w .passes) h
-      go false h (suc k) w i = i k (record { inside = omega (arith, w .inside); passes = w .passes; only = λ j l p. omega (arith, w .only (suc j) (omega arith) p) })
+      go false h (suc k) w i =
+          i k (record { inside = omega (arith, w .inside); passes = w .passes; only = λ j l p. omega (arith, w .only (suc j) (omega arith) p) })
 
 module _ (g : Grid) (ls : List ℕ) (r : ℕ) where
   counts : List ℕ

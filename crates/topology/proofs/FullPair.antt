@@ -15,7 +15,8 @@ in-pairs : (r : ℕ) (ps : List RegionPair) → inPairs r ps ≡ true → (p : R
 unfolding inPairs
 in-pairs r [] h = clash h refl
 in-pairs r (p ∷ ps) h =
-    ⊎-elim (λ (e : inPair r p ≡ true). (p, List·Memᴰ·head refl, e)) (λ (e : inPairs r ps ≡ true). let w = in-pairs r ps e in (w .0, List·Memᴰ·tail (w .1), w .2)) (or-cases (inPair r p) (inPairs r ps) h)
+    ⊎-elim (λ (e : inPair r p ≡ true). (p, List·Memᴰ·head refl, e))
+    (λ (e : inPairs r ps ≡ true). let w = in-pairs r ps e in (w .0, List·Memᴰ·tail (w .1), w .2)) (or-cases (inPair r p) (inPairs r ps) h)
 
 pairs-in : (r : ℕ) {ps : List RegionPair} {p : RegionPair} → List·Memᴰ p ps → inPair r p ≡ true → inPairs r ps ≡ true
 unfolding inPairs

@@ -22,7 +22,8 @@ use Rattle.topology.proofs.Extremes.{least-le, least-mem, le-greatest, 
 pub region-cells-iff : (ls : List ℕ) (r i : ℕ) → List·Memᴰ i (regionCells ls r) ↔ ((i < length ls) × (labelAt ls i ≡ r))
 unfolding regionCells
 region-cells-iff ls r i = (
-  λ m. let k = keep-mem (λ j. eqb r (labelAt ls j)) (upFrom 0 (length ls)) m in (omega (arith, up-mem 0 (length ls) (k .0)), sym (eqb-true r (labelAt ls i) (k .1))),
+  λ m. let k = keep-mem (λ j. eqb r (labelAt ls j)) (upFrom 0 (length ls)) m in
+      (omega (arith, up-mem 0 (length ls) (k .0)), sym (eqb-true r (labelAt ls i) (k .1))),
   λ p. mem-keep (λ j. eqb r (labelAt ls j)) (mem-up 0 (length ls) i (omega arith) (omega (arith, p .0))) (eq-eqb r (labelAt ls i) (sym (p .1))),
 )
 
@@ -47,7 +48,8 @@ four-values f h (x ∷ xs) = go (f x) (h x) (kept 0) (kept 1) (kept 2) (kept 3) 
     kept e = keep (λ i. eqb (f i) e) xs
 
     go : (v : ℕ) → v < 4 → (a b c d : List ℕ) → length a + (length b + (length c + (length d + 0))) ≡ length xs →
-        length (cond (eqb v 0) (x ∷ a) a) + (length (cond (eqb v 1) (x ∷ b) b) + (length (cond (eqb v 2) (x ∷ c) c) + (length (cond (eqb v 3) (x ∷ d) d) + 0))) ≡ suc (length xs)
+        length (cond (eqb v 0) (x ∷ a) a) + (length (cond (eqb v 1) (x ∷ b) b) + (length (cond (eqb v 2) (x ∷ c) c) + (length (cond (eqb v 3) (x ∷ d) d) + 0)))
+        ≡ suc (length xs)
     go zero l a b c d e = omega arith
     go (suc zero) l a b c d e = omega arith
     go (suc (suc zero)) l a b c d e = omega arith
@@ -59,7 +61,8 @@ module _ (g : Grid) (ls : List ℕ) (r : ℕ) where
   unfolding regionStats cellCount
   stats-cells =
       sym (ap (λ (l : List ℕ). length (keep (eqb r) l)) (sym (map-places ls 0))
-      ∙ (ap length (keep-map (labelAt ls) (eqb r) (λ i. eqb r (labelAt ls i)) (upFrom 0 (length ls)) (λ i m. refl)) ∙ length-map (regionCells ls r) (labelAt ls)))
+      ∙ (ap length (keep-map (labelAt ls) (eqb r) (λ i. eqb r (labelAt ls i)) (upFrom 0 (length ls)) (λ i m. refl))
+      ∙ length-map (regionCells ls r) (labelAt ls)))
 
   -- the box holds each cell of the region
   pub in-box : (i : ℕ) → List·Memᴰ i (regionCells ls r) → let s = regionStats g ls r in
@@ -124,13 +127,18 @@ module _ (g : Grid) (ls : List ℕ) (r : ℕ) where
   no-cells h = rw none
     where
       none : regionCells ls r ≡ []
-      none = keep-none (λ i. eqb r (labelAt ls i)) (upFrom 0 (length ls)) (λ i m. ne-eqb r (labelAt ls i) (λ e. h i (omega (arith, up-mem 0 (length ls) m)) (sym e)))
+      none = keep-none (λ i. eqb r (labelAt ls i)) (upFrom 0 (length ls))
+          (λ i m. ne-eqb r (labelAt ls i) (λ e. h i (omega (arith, up-mem 0 (length ls) m)) (sym e)))
 
   -- and only of such a label are no cells counted
   pub empty-iff : (regionStats g ls r .cells ≡ 0) ↔ ((i : ℕ) → i < length ls → labelAt ls i ≡ r → ⊥)
   unfolding regionStats
   empty-iff = (
     λ e i l k.
-        omega (arith, some-kept (λ j. eqb r (labelAt ls j)) (upFrom 0 (length ls)) .1 (i, mem-up 0 (length ls) i (omega arith) (omega (arith, l)), eq-eqb r (labelAt ls i) (sym k))),
+        omega (
+          arith,
+          some-kept (λ j. eqb r (labelAt ls j)) (upFrom 0 (length ls)) .1
+              (i, mem-up 0 (length ls) i (omega arith) (omega (arith, l)), eq-eqb r (labelAt ls i) (sym k)),
+        ),
     λ h. ap (λ (s : RegionStats). s .cells) (no-cells h),
   )

@@ -132,7 +132,9 @@ fn counted(stats: RegionStats, inside: bool, i: usize, width: u32, cell: u8) -> 
 // The statistics of the cells that have the label; the labels are in words.
 pub fn region_stats(cells: &[u8], width: u32, labels: &[u8], region: u32) -> RegionStats
     requires { ⌜ (0 < width) × (length (now cells) ≤ 1048576) × (length (now cells) * 4 ≤ length (now labels)) ⌝ }
-    ensures { λ r. ⌜ ((height : ℕ) → statsIn r ≡ regionStats (record { width = width; height = height; cells = now (cells .entry) }) (labelsIn (now (labels .entry)) (length (now (cells .entry)))) region) ⌝ }
+    ensures { λ r. ⌜ ((height : ℕ)
+        → statsIn r ≡ regionStats (record { width = width; height = height; cells = now (cells .entry) })
+        (labelsIn (now (labels .entry)) (length (now (cells .entry)))) region) ⌝ }
 {
     let n = cells.len();
     let mut stats = RegionStats::none();

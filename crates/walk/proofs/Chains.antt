@@ -30,7 +30,8 @@ follows-as {lefts = lefts} {leftNexts = leftNexts} {rightNexts} N f g v a b k t 
     (λ n. r (λ e. n (sym (ap (at lefts) a) ∙ e ∙ b)) ∙ ap (at rightNexts) a)
 
 -- a record has its places
-pub chain-in : {K R : ℕ} {lefts rights heads leftNexts rightNexts : List ℕ} {k : ℕ} → Graph K R lefts rights → Linked K R lefts rights heads leftNexts rightNexts k → (j : ℕ) → j < K →
+pub chain-in : {K R : ℕ} {lefts rights heads leftNexts rightNexts : List ℕ} {k : ℕ} → Graph K R lefts rights
+    → Linked K R lefts rights heads leftNexts rightNexts k → (j : ℕ) → j < K →
     (j < length lefts) × (j < length leftNexts) × (j < length rightNexts)
 chain-in G N j l = (omega (arith, G .lefts-are), omega (arith, N .lefts-are), omega (arith, N .rights-are))
 
@@ -47,7 +48,8 @@ unlinked a b c empty = record {
 }
 
 -- record k is put before the chains of its regions
-module _ (K R : ℕ) (lefts rights heads leftNexts rightNexts : List ℕ) (k : ℕ) (G : Graph K R lefts rights) (N : Linked K R lefts rights heads leftNexts rightNexts (k + 1)) (l : k < K) where
+module _ (K R : ℕ) (lefts rights heads leftNexts rightNexts : List ℕ) (k : ℕ) (G : Graph K R lefts rights)
+    (N : Linked K R lefts rights heads leftNexts rightNexts (k + 1)) (l : k < K) where
   abbrev a : ℕ
   a = at lefts k
 
@@ -96,11 +98,13 @@ module _ (K R : ℕ) (lefts rights heads leftNexts rightNexts : List ℕ) (k : �
       by-cases (ℕ-discrete i k)
       (λ e.
       let v : at (set nexts k (at heads (at ends k))) i ≡ at heads (at ends i)
-      = ap (at (set nexts k (at heads (at ends k)))) e ∙ getD-set-same nexts k (at heads (at ends k)) 0 (omega arith) ∙ sym (ap (λ (z : ℕ). at heads (at ends z)) e) in
+      = ap (at (set nexts k (at heads (at ends k)))) e ∙ getD-set-same nexts k (at heads (at ends k)) 0 (omega arith)
+      ∙ sym (ap (λ (z : ℕ). at heads (at ends z)) e) in
       subst₂ (λ (y z : ℕ). First K (at lefts) (at rights) (y + 1) (at ends i) z) (sym e) (sym v) (N .head (at ends i) (omega (arith, ap (at ends) e))))
       (λ e. subst (First K (at lefts) (at rights) (i + 1) (at ends i)) (sym (getD-set-other nexts k i (at heads (at ends k)) 0 e)) (old i (omega arith) d))
 
-  pub linked-one : Linked K R lefts rights (set (set heads (at lefts k) k) (at rights k) k) (set leftNexts k (at heads (at lefts k))) (set rightNexts k (at heads (at rights k))) k
+  pub linked-one : Linked K R lefts rights (set (set heads (at lefts k) k) (at rights k) k) (set leftNexts k (at heads (at lefts k)))
+      (set rightNexts k (at heads (at rights k))) k
   linked-one = record {
     heads-are = simp length-set (N .heads-are);
     lefts-are = simp length-set (N .lefts-are);
@@ -111,7 +115,8 @@ module _ (K R : ℕ) (lefts rights heads leftNexts rightNexts : List ℕ) (k : �
   }
 
 -- the same at lists that are equal
-pub linked-as : (K R : ℕ) (lefts rights heads leftNexts rightNexts heads′ leftNexts′ rightNexts′ : List ℕ) (k : ℕ) → leftNexts′ ≡ leftNexts → rightNexts′ ≡ rightNexts →
+pub linked-as : (K R : ℕ) (lefts rights heads leftNexts rightNexts heads′ leftNexts′ rightNexts′ : List ℕ) (k : ℕ) → leftNexts′ ≡ leftNexts
+    → rightNexts′ ≡ rightNexts →
     heads′ ≡ heads → Linked K R lefts rights heads leftNexts rightNexts k → Linked K R lefts rights heads′ leftNexts′ rightNexts′ k
 linked-as K R lefts rights heads leftNexts rightNexts heads′ leftNexts′ rightNexts′ k a b c N = rw (a, b, c) N
 

@@ -78,7 +78,8 @@ module _ {K : ℕ} {lf rt : ℕ → ℕ} where
         fresh-tree zero l e = omega (arith, W .root (omega arith), W .tree n a .0)
         fresh-tree (suc i) l e =
             let ti : Joins lf rt (pr (i + 1)) (st i) (st (i + 1)) = W .tree i (omega arith) .1 in
-            let tj : Joins lf rt (pr (i + 1)) (st (n + 1)) (st n) = subst (λ (x : ℕ). Joins lf rt x (st (n + 1)) (st n)) (e ∙ ap pr (let z : suc i ≡ i + 1 = omega arith in z)) t in
+            let tj : Joins lf rt (pr (i + 1)) (st (n + 1)) (st n) =
+            subst (λ (x : ℕ). Joins lf rt x (st (n + 1)) (st n)) (e ∙ ap pr (let z : suc i ≡ i + 1 = omega arith in z)) t in
             ⊎-elim (λ k. omega (arith, distinct (n + 1) i a (omega arith) k)) (λ k. omega (arith, distinct (n + 1) (i + 1) a (omega arith) k)) (one-of tj ti)
 
     -- the frames are a path, by the records by which they were entered

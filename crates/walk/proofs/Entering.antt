@@ -20,7 +20,8 @@ use Rattle.walk.proofs.Turn.{Loop, Hand, resized}
 -- a frame at region w, entered over record j, goes on the stack; v is the first record that touches w
 module _ (K : ℕ) {R : ℕ} (owners lefts rights disc stack parents marks : List ℕ) {nx lw : ℕ → ℕ} {r h time : ℕ}
     (W : Walk K (at lefts) (at rights) (length disc) r (Told owners marks) (at disc) (at stack) (at parents) nx lw h time)
-    (nexts lows : List ℕ) (Z : Sized R disc stack parents nexts lows) (hs : h < length disc) (el : (m : ℕ) → m < h → at lows m ≡ lw m) (w j v : ℕ) (fv : First K (at lefts) (at rights) 0 w v)
+    (nexts lows : List ℕ) (Z : Sized R disc stack parents nexts lows) (hs : h < length disc) (el : (m : ℕ) → m < h → at lows m ≡ lw m) (w j v : ℕ)
+    (fv : First K (at lefts) (at rights) 0 w v)
     (new : at disc w ≡ 0) (on : w < length disc) (first : h ≡ 0 → K ≤ j)
     (over : (m : ℕ) → m + 1 ≡ h → (j < K) × Joins (at lefts) (at rights) j (at stack m) w)
     (adv : (m i : ℕ) → m < h → i < at nexts m → i < K → Touches (at lefts) (at rights) i (at stack m) → (i < nx m) ⊎ ((m + 1 ≡ h) × (i ≡ j))) where
@@ -69,10 +70,12 @@ module _ (K : ℕ) {R : ℕ} (owners lefts rights disc stack parents marks : Lis
       (at (set parents h j)) (at (set nexts h v)) (at (set lows h (time + 1))) (h + 1) (time + 1)
   entered =
       subst
-      (λ (x : ℕ). Walk K (at lefts) (at rights) x r (Told owners marks) (at (set disc w (time + 1))) (at (set stack h w)) (at (set parents h j)) (at (set nexts h v)) (at (set lows h (time + 1))) (h + 1) (time + 1))
+      (λ (x : ℕ). Walk K (at lefts) (at rights) x r (Told owners marks) (at (set disc w (time + 1))) (at (set stack h w)) (at (set parents h j))
+      (at (set nexts h v)) (at (set lows h (time + 1))) (h + 1) (time + 1))
       (sym (length-set disc w (time + 1)))
       (push K (at lefts) (at rights)
-      (retell W st′ pr′ nx (at (set lows h (time + 1))) (λ m l. below stack w m l) (λ m l. below parents j m l) (λ m l. refl) (λ m l. below lows (time + 1) m l ∙ el m l))
+      (retell W st′ pr′ nx (at (set lows h (time + 1))) (λ m l. below stack w m l) (λ m l. below parents j m l) (λ m l. refl)
+      (λ m l. below lows (time + 1) m l ∙ el m l))
       (at (set disc w (time + 1))) (at (set nexts h v)) (ap (at disc) sh ∙ new) (omega (arith, sh)) upd first′ over′
       start (getD-set-same lows h (time + 1) 0 (omega (arith, Z .lows-are, Z .disc-are))) adv′)
 
@@ -89,7 +92,8 @@ module _ (K : ℕ) {R : ℕ} (owners lefts rights disc stack parents marks : Lis
       (old m (omega arith) (omega (arith, below nexts v m (omega arith)))))
 
 -- the first frame
-pub rooted : {K R : ℕ} {owners lefts rights disc stack parents nexts lows marks : List ℕ} {r time : ℕ} → Between K R owners lefts rights disc stack parents nexts lows marks r time →
+pub rooted : {K R : ℕ} {owners lefts rights disc stack parents nexts lows marks : List ℕ} {r time : ℕ}
+    → Between K R owners lefts rights disc stack parents nexts lows marks r time →
     (root v : ℕ) → root < length disc → at disc root ≡ 0 → root ≡ at lefts r → First K (at lefts) (at rights) 0 root v →
     Loop K R owners lefts rights (set disc root (time + 1)) (set stack 0 root) (set parents 0 K) (set nexts 0 v) (set lows 0 (time + 1)) marks r 1 (time + 1)
 rooted {K} {R} {owners} {lefts} {rights} {disc} {stack} {parents} {nexts} {lows} {marks} {r} {time} B root v on new is fv = record {
@@ -99,18 +103,21 @@ rooted {K} {R} {owners} {lefts} {rights} {disc} {stack} {parents} {nexts} {lows}
   marks-are = B .marks-are;
   marked = B .marked;
   walk =
-      entered K owners lefts rights disc stack parents marks (B .walk) nexts lows (B .sized) (omega arith) (λ m l. refl) root K v fv new on (λ e. omega arith) (λ m e. absurd (omega arith))
+      entered K owners lefts rights disc stack parents marks (B .walk) nexts lows (B .sized) (omega arith) (λ m l. refl) root K v fv new on (λ e. omega arith)
+      (λ m e. absurd (omega arith))
       (λ m i l q k t. absurd (omega arith));
   sound = B .sound;
   begun = omega (arith, ap (at (set disc root (time + 1))) is, getD-set-same disc root (time + 1) 0 on);
   touching =
-      touched K owners lefts rights disc stack parents marks (B .walk) nexts lows (B .sized) (omega arith) (λ m l. refl) root K v fv new on (λ e. omega arith) (λ m e. absurd (omega arith))
+      touched K owners lefts rights disc stack parents marks (B .walk) nexts lows (B .sized) (omega arith) (λ m l. refl) root K v fv new on (λ e. omega arith)
+      (λ m e. absurd (omega arith))
       (λ m i l q k t. absurd (omega arith)) (λ m l. absurd (omega arith));
 }
 
 -- the last frame finds a region, and another frame is entered there
 pub found : {K R : ℕ} {owners lefts rights disc stack parents nexts lows marks : List ℕ} {r top time : ℕ} (f g : Frame) (w v : ℕ) →
-    Loop K R owners lefts rights disc stack parents nexts lows marks r (top + 1) time → Hand K owners lefts rights disc stack parents nexts lows marks r top time f →
+    Loop K R owners lefts rights disc stack parents nexts lows marks r (top + 1) time
+    → Hand K owners lefts rights disc stack parents nexts lows marks r top time f →
     f .next < K → Joins (at lefts) (at rights) (f .next) (f .region) w → w < length disc → at disc w ≡ 0 →
     First K (at lefts) (at rights) (f .next + 1) (f .region) (g .next) → g .low ≡ f .low → First K (at lefts) (at rights) 0 w v →
     Loop K R owners lefts rights (set disc w (time + 1)) (set stack (top + 1) w) (set parents (top + 1) (f .next)) (set (set nexts top (g .next)) (top + 1) v)

@@ -69,9 +69,11 @@ module _ (owners marks : List ℕ) (k d low : ℕ) (on : at owners k < length ma
 
 -- the last frame is done, and is left for the one below it
 pub left : {K R : ℕ} {owners lefts rights disc stack parents nexts lows marks : List ℕ} {r top time : ℕ} (f : Frame) (up : ℕ) →
-    Loop K R owners lefts rights disc stack parents nexts lows marks r (top + 1) time → Hand K owners lefts rights disc stack parents nexts lows marks r top time f →
+    Loop K R owners lefts rights disc stack parents nexts lows marks r (top + 1) time
+    → Hand K owners lefts rights disc stack parents nexts lows marks r top time f →
     K ≤ f .next → top ≡ up + 1 →
-    Loop K R owners lefts rights disc stack parents nexts (set lows up (min (at lows up) (f .low))) (marking (at disc (at stack up)) (f .low) marks (at owners (f .parent))) r top time
+    Loop K R owners lefts rights disc stack parents nexts (set lows up (min (at lows up) (f .low)))
+    (marking (at disc (at stack up)) (f .low) marks (at owners (f .parent))) r top time
 left {K} {R} {owners} {lefts} {rights} {disc} {stack} {parents} {nexts} {lows} {marks} {r} {top} {time} f up L H all e = record {
   graph = L .graph;
   sized = resized _ _ _ _ _ _ _ _ _ _ (L .sized) refl refl refl refl (simp length-set);
@@ -79,7 +81,8 @@ left {K} {R} {owners} {lefts} {rights} {disc} {stack} {parents} {nexts} {lows} {
   marks-are = marks-length owners marks (f .parent) (at disc (at stack up)) (f .low) pin ∙ L .marks-are;
   marked = L .marked;
   walk = subst (λ (x : ℕ). Stacked K owners lefts rights r disc stack parents nexts lows′ marks′ x time) (sym e) done;
-  sound = marks-sound owners marks (f .parent) (at disc (at stack up)) (f .low) pin K lefts rights (L .sound) pk (λ l. subst B (sym pe) (is-bridge K lf rt W alln (omega (arith, lt))));
+  sound = marks-sound owners marks (f .parent) (at disc (at stack up)) (f .low) pin K lefts rights (L .sound) pk
+      (λ l. subst B (sym pe) (is-bridge K lf rt W alln (omega (arith, lt))));
   begun = L .begun;
   touching = λ m l. L .touching m (omega arith);
 }
@@ -142,7 +145,8 @@ left {K} {R} {owners} {lefts} {rights} {disc} {stack} {parents} {nexts} {lows} {
 
     popped : Walk K lf rt (length disc) r (Told owners marks′) (at disc) (at stack) (at parents) nx lw′ (up + 1) time
     popped =
-        pop K lf rt W alln lw′ (putting lw up (min (lw up) (lw (up + 1)))) (λ j t. marks-more owners marks (f .parent) (at disc (at stack up)) (f .low) pin j t) tells
+        pop K lf rt W alln lw′ (putting lw up (min (lw up) (lw (up + 1)))) (λ j t. marks-more owners marks (f .parent) (at disc (at stack up)) (f .low) pin j t)
+        tells
 
     lin : up < length lows
     lin = omega (arith, L .sized .lows-are, L .sized .disc-are, W .room)
@@ -156,14 +160,16 @@ left {K} {R} {owners} {lefts} {rights} {disc} {stack} {parents} {nexts} {lows} {
         agree m l =
             by-cases (ℕ-discrete m up)
             (λ z.
-            ap (at lows′) z ∙ getD-set-same lows up (min (at lows up) (f .low)) 0 lin ∙ omega (arith, lt, lu) ∙ sym (ap lw′ z ∙ put-at lw up (min (lw up) (lw (up + 1)))))
+            ap (at lows′) z ∙ getD-set-same lows up (min (at lows up) (f .low)) 0 lin ∙ omega (arith, lt, lu)
+            ∙ sym (ap lw′ z ∙ put-at lw up (min (lw up) (lw (up + 1)))))
             (λ z.
             getD-set-other lows up m (min (at lows up) (f .low)) 0 z ∙ sym (put-off (at lows) top (f .low) m (λ q. omega arith)) ∙
             sym (put-off lw up (min (lw up) (lw (up + 1))) m z))
 
 -- the first frame is done
 pub emptied : {K R : ℕ} {owners lefts rights disc stack parents nexts lows marks : List ℕ} {r top time : ℕ} (f : Frame) →
-    Loop K R owners lefts rights disc stack parents nexts lows marks r (top + 1) time → Hand K owners lefts rights disc stack parents nexts lows marks r top time f →
+    Loop K R owners lefts rights disc stack parents nexts lows marks r (top + 1) time
+    → Hand K owners lefts rights disc stack parents nexts lows marks r top time f →
     K ≤ f .next → top ≡ 0 → Loop K R owners lefts rights disc stack parents nexts lows marks r 0 time
 emptied {K} {R} {owners} {lefts} {rights} {disc} {stack} {parents} {nexts} {lows} {marks} {r} {top} {time} f L H all e = record {
   graph = L .graph;
@@ -184,5 +190,6 @@ emptied {K} {R} {owners} {lefts} {rights} {disc} {stack} {parents} {nexts} {lows
 
     W : Walk K (at lefts) (at rights) (length disc) r (Told owners marks) (at disc) (at stack) (at parents) nx (put (at lows) top (f .low)) 1 time
     W =
-        subst (λ (x : ℕ). Walk K (at lefts) (at rights) (length disc) r (Told owners marks) (at disc) (at stack) (at parents) nx (put (at lows) top (f .low)) x time)
+        subst (λ (x : ℕ). Walk K (at lefts) (at rights) (length disc) r (Told owners marks) (at disc) (at stack) (at parents) nx (put (at lows) top (f .low)) x
+        time)
         (let z : top + 1 ≡ 1 = omega arith in z) (H .walk)

@@ -50,7 +50,12 @@ module _ (K : ℕ) (owners lefts rights : List ℕ) where
       member : List·Memᴰ (records.edgeOf (records.at rs (s .by))) (records.edges (records.without (records.only k) rs))
       member =
           remains-edge (records.only k) rs
-          (record { place = s .by; inside = omega (arith, records-length owners lefts rights K, s .below); spared = ne-eqb (s .by) k (s .other); stands = refl })
+          (record {
+            place = s .by;
+            inside = omega (arith, records-length owners lefts rights K, s .below);
+            spared = ne-eqb (s .by) k (s .other);
+            stands = refl;
+          })
 
       joins : Joins (at lefts) (at rights) (s .by) a b → graph.Joins (records.edgeOf (records.at rs (s .by))) a b
       joins (forth p q) = graph.forth (ap (λ (r : records.Record). r .left) e ∙ p) (ap (λ (r : records.Record). r .right) e ∙ q)
@@ -117,7 +122,8 @@ module _ (K : ℕ) (owners lefts rights : List ℕ) where
           none e (inr z) = clash (bridge-iff rs b .1 (to-bridge b (z .1))) e
 
 -- the walk is at its end: the marks are those of the definition
-pub answered : {K R : ℕ} {owners lefts rights disc stack parents nexts lows marks : List ℕ} {r time : ℕ} → Between K R owners lefts rights disc stack parents nexts lows marks r time →
+pub answered : {K R : ℕ} {owners lefts rights disc stack parents nexts lows marks : List ℕ} {r time : ℕ}
+    → Between K R owners lefts rights disc stack parents nexts lows marks r time →
     r ≡ K → (n : ℕ) → length marks ≡ n → marks ≡ bridgeMarks (recordsIn owners lefts rights K) n
 answered {K} {R} {owners} {lefts} {rights} {marks = marks} B e n l =
     marks-are K owners lefts rights marks (B .sound) (finished B e) ∙ ap (bridgeMarks (recordsIn owners lefts rights K)) l

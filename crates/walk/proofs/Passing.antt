@@ -27,7 +27,8 @@ module _ (K : ℕ) (lf rt : ℕ → ℕ) where
   }
 
   -- every record is passed: each that is a bridge is told
-  pub end : {R : ℕ} {Told : ℕ → Type 0} {disc st pr nx lw : ℕ → ℕ} {time : ℕ} → Walk K lf rt R K Told disc st pr nx lw 0 time → (j : ℕ) → j < K → Parted K lf rt j → Told j
+  pub end : {R : ℕ} {Told : ℕ → Type 0} {disc st pr nx lw : ℕ → ℕ} {time : ℕ} → Walk K lf rt R K Told disc st pr nx lw 0 time → (j : ℕ) → j < K
+      → Parted K lf rt j → Told j
   end {pr = pr} {nx} W j k b =
       ⊎-elim (λ f. f b) (λ f. absurd (omega (arith, f .below))) (W .settled (lf j) j (rt j) (W .passed j k) (λ m a e. absurd (omega arith)) k (forth refl refl))
 

@@ -47,7 +47,8 @@ module _ (K : ℕ) (lf rt : ℕ → ℕ) where
       lw (n + 1) ≤ disc (st n) → Parted K lf rt (pr (n + 1)) → ⊥
   not-bridge {disc = disc} {st} {pr} {nx} {lw} {n} W le =
       let f = W .low (n + 1) (omega arith) in
-      let up : f .to ≤ n = by-cases (ℕ-discrete (f .to) (n + 1)) (λ e. absurd (omega (arith, f .is, ap (λ (x : ℕ). disc (st x)) e, W .rising n (n + 1) (omega arith) (omega arith)))) (λ e. omega (arith, f .upto)) in
+      let up : f .to ≤ n = by-cases (ℕ-discrete (f .to) (n + 1))
+      (λ e. absurd (omega (arith, f .is, ap (λ (x : ℕ). disc (st x)) e, W .rising n (n + 1) (omega arith) (omega arith)))) (λ e. omega (arith, f .upto)) in
       let down : Connected (Without K lf rt (pr (n + 1))) (st (n + 1)) (st (f .to)) =
       wider (λ x y s. record { by = s .by; below = s .below; other = s .other (n + 1) (omega arith); joins = s .joins }) (f .path) in
       no-bridge (joins-sym (W .tree n (omega arith) .1))
@@ -61,7 +62,8 @@ module _ (K : ℕ) (lf rt : ℕ → ℕ) where
     was x j k s m l e = by-cases (ℕ-discrete m (n + 1)) (λ z. omega (arith, ap nx z)) (λ z. s m (omega arith) e)
 
     pop-low : (m : ℕ) → m < n + 1 → Lowest K lf rt disc st pr lw′ m
-    pop-low m l = by-cases (ℕ-discrete m n) (λ e. subst (λ (x : ℕ). Lowest K lf rt disc st pr lw′ x) (sym e) (by-cases (decLt (lw (n + 1)) (lw n)) child own)) stay
+    pop-low m l = by-cases (ℕ-discrete m n) (λ e. subst (λ (x : ℕ). Lowest K lf rt disc st pr lw′ x) (sym e) (by-cases (decLt (lw (n + 1)) (lw n)) child own))
+        stay
       where
         stay : (m ≡ n → ⊥) → Lowest K lf rt disc st pr lw′ m
         stay e = let f = W .low m (omega arith) in record { to = f .to; upto = f .upto; is = u .off m e ∙ f .is; path = f .path }

@@ -29,7 +29,8 @@ module _ (K : ℕ) (lf rt : ℕ → ℕ) where
     which x f g = by-cases (ℕ-discrete x (st h)) (λ e. f e (ap disc′ e ∙ u .at)) (λ e. g (u .off x e))
 
     -- a record that was looked at was so before, or is the one by which the new frame is entered
-    un : {P : Type 0} (x i w : ℕ) → i < K → Joins lf rt i x w → 0 < disc′ x → Scanned K lf rt st nx′ (h + 1) x i → ((m : ℕ) → m + 1 ≡ h → st m ≡ x → i ≡ pr h → P) →
+    un : {P : Type 0} (x i w : ℕ) → i < K → Joins lf rt i x w → 0 < disc′ x → Scanned K lf rt st nx′ (h + 1) x i
+        → ((m : ℕ) → m + 1 ≡ h → st m ≡ x → i ≡ pr h → P) →
         (0 < disc x → disc′ x ≡ disc x → Scanned K lf rt st nx h x i → P) → P
     un {P} x i y b t p s f g =
         which x (λ e d. absurd (start .between i (omega arith) (s h (omega arith) (sym e)) b (touch (sym e)))) (λ d. look h refl d)
@@ -61,9 +62,11 @@ module _ (K : ℕ) (lf rt : ℕ → ℕ) where
         top e = record { to = m; upto = omega arith; is = ap lw e ∙ own ∙ sym (ap (λ (x : ℕ). disc′ (st x)) e ∙ u .at); path = here }
 
         below : (m ≡ h → ⊥) → Lowest K lf rt disc′ st pr lw m
-        below e = let f = W .low m (omega arith) in record { to = f .to; upto = f .upto; is = f .is ∙ sym (keep-s (f .to) (omega (arith, f .upto))); path = f .path }
+        below e = let f = W .low m (omega arith) in
+            record { to = f .to; upto = f .upto; is = f .is ∙ sym (keep-s (f .to) (omega (arith, f .upto))); path = f .path }
 
-    push-reach : (m x j w : ℕ) → m < h + 1 → disc′ (st m) ≤ disc′ x → Scanned K lf rt st nx′ (h + 1) x j → j < K → (j ≡ pr m → ⊥) → Joins lf rt j x w → Reach K lf rt disc′ lw m (h + 1) w
+    push-reach : (m x j w : ℕ) → m < h + 1 → disc′ (st m) ≤ disc′ x → Scanned K lf rt st nx′ (h + 1) x j → j < K → (j ≡ pr m → ⊥) → Joins lf rt j x w
+        → Reach K lf rt disc′ lw m (h + 1) w
     push-reach m x j w l d s k o t =
         un x j w k t (omega (arith, some m l)) s (λ q a b c. up q a b c) (λ p e z. old-one p e z)
       where
@@ -92,7 +95,8 @@ module _ (K : ℕ) (lf rt : ℕ → ℕ) where
         on-to : disc′ x ≡ disc x → OnStack K lf rt st h x ⊎ ((j y m : ℕ) → j < K → Joins lf rt j x y → m < h → st m ≡ y → disc y < disc x) →
             OnStack K lf rt st (h + 1) x ⊎ ((j y m : ℕ) → j < K → Joins lf rt j x y → m < h + 1 → st m ≡ y → disc′ y < disc′ x)
         on-to d (inl f) = inl (record { place = f .place; below = omega (arith, f .below); is = f .is })
-        on-to d (inr g) = by-cases (on-it h) (λ f. inl (record { place = f .place; below = omega (arith, f .below); is = f .is })) (λ off. inr (λ j y m k t l e. less off j y m k t l e))
+        on-to d (inr g) = by-cases (on-it h) (λ f. inl (record { place = f .place; below = omega (arith, f .below); is = f .is }))
+            (λ off. inr (λ j y m k t l e. less off j y m k t l e))
           where
             -- whether x is on the stack
             on-it : (b : ℕ) → Dec (OnStack K lf rt st b x)
@@ -102,13 +106,19 @@ module _ (K : ℕ) (lf rt : ℕ → ℕ) where
                 more : (st b ≡ x → ⊥) → Dec (OnStack K lf rt st b x) → Dec (OnStack K lf rt st (suc b) x)
                 more e (yes f) = yes (record { place = f .place; below = omega (arith, f .below); is = f .is })
                 more e (no q) =
-                    no (λ f. by-cases (ℕ-discrete (f .place) b) (λ k. e (sym (ap st k) ∙ f .is)) (λ k. q (record { place = f .place; below = omega (arith, f .below); is = f .is })))
+                    no (λ f. by-cases (ℕ-discrete (f .place) b) (λ k. e (sym (ap st k) ∙ f .is))
+                    (λ k. q (record { place = f .place; below = omega (arith, f .below); is = f .is })))
 
             less : (OnStack K lf rt st h x → ⊥) → (j y m : ℕ) → j < K → Joins lf rt j x y → m < h + 1 → st m ≡ y → disc′ y < disc′ x
             less off j y m k t l e =
                 by-cases (ℕ-discrete m h)
                 (λ z.
-                absurd (omega (arith, W .known x j y (omega arith) (λ i b c. absurd (off (record { place = i; below = b; is = c }))) k t, ap disc (sym (ap st z) ∙ e), new)))
+                absurd (omega (
+                  arith,
+                  W .known x j y (omega arith) (λ i b c. absurd (off (record { place = i; below = b; is = c }))) k t,
+                  ap disc (sym (ap st z) ∙ e),
+                  new,
+                )))
                 (λ z. omega (arith, g j y m k t (omega arith) e, keep-s m (omega arith), ap disc′ e, ap disc e))
 
     pub push : Walk K lf rt R r Told disc′ st pr nx′ lw (h + 1) (time + 1)
@@ -121,7 +131,8 @@ module _ (K : ℕ) (lf rt : ℕ → ℕ) where
           (λ e. omega (arith, keep-s m (omega arith), W .timed (st m), ap (λ (x : ℕ). disc′ (st x)) e, u .at))
           (λ e. omega (arith, keep-s m (omega arith), keep-s q (omega arith), W .rising m q l (omega arith)));
       tree = λ m l.
-          by-cases (ℕ-discrete (m + 1) h) (λ e. subst (λ (x : ℕ). (pr x < K) × Joins lf rt (pr x) (st m) (st x)) (sym e) (over m e)) (λ e. W .tree m (omega arith));
+          by-cases (ℕ-discrete (m + 1) h) (λ e. subst (λ (x : ℕ). (pr x < K) × Joins lf rt (pr x) (st m) (st x)) (sym e) (over m e))
+          (λ e. W .tree m (omega arith));
       root = λ l. by-cases (ℕ-discrete h 0) first (λ e. W .root (omega arith));
       low = push-low;
       known = λ x j w p s k t.

@@ -42,8 +42,11 @@ module _ {K : ℕ} {lf rt : ℕ → ℕ} {R r : ℕ} {Told : ℕ → Type 0} {di
     rising = λ m q l b. omega (arith, W .rising m q l b, ap disc (es m (omega arith)), ap disc (es q b));
     tree = λ m l.
         let t = W .tree m l in
-        let e : pr (m + 1) ≡ pr′ (m + 1) = sym (ep (m + 1) l) in
-        (omega (arith, t .0), subst (λ (x : ℕ). Joins lf rt x (st′ m) (st′ (m + 1))) e (subst₂ (λ (x y : ℕ). Joins lf rt (pr (m + 1)) x y) (sym (es m (omega arith))) (sym (es (m + 1) l)) (t .1)));
+        let e : pr (m + 1) ≡ pr′ (m + 1) = sym (ep (m + 1) l) in (
+          omega (arith, t .0),
+          subst (λ (x : ℕ). Joins lf rt x (st′ m) (st′ (m + 1))) e
+              (subst₂ (λ (x y : ℕ). Joins lf rt (pr (m + 1)) x y) (sym (es m (omega arith))) (sym (es (m + 1) l)) (t .1)),
+        );
     root = λ l. omega (arith, W .root l, ep 0 l);
     low = low-on;
     known = λ x j w p s k t. W .known x j w p (was x j s) k t;

@@ -14,7 +14,8 @@ use Rattle.walk.proofs.Turn.{Loop}
 
 -- no region is found and no record is marked
 pub started : {K R : ℕ} {owners lefts rights disc stack parents nexts lows : List ℕ} → Graph K R lefts rights → Owners K owners → K ≤ length owners →
-    Sized R disc stack parents nexts lows → ((x : ℕ) → at disc x ≡ 0) → (n : ℕ) → n ≡ 256 → Between K R owners lefts rights disc stack parents nexts lows (replicate n 0) 0 0
+    Sized R disc stack parents nexts lows → ((x : ℕ) → at disc x ≡ 0) → (n : ℕ) → n ≡ 256
+    → Between K R owners lefts rights disc stack parents nexts lows (replicate n 0) 0 0
 started {K} {lefts = lefts} {rights} {disc} G O o Z c n e = record {
   graph = G;
   sized = Z;
@@ -26,16 +27,19 @@ started {K} {lefts = lefts} {rights} {disc} G O o Z c n e = record {
 }
 
 -- every record is passed: a boundary with a record that parts its regions is marked
-pub finished : {K R : ℕ} {owners lefts rights disc stack parents nexts lows marks : List ℕ} {r time : ℕ} → Between K R owners lefts rights disc stack parents nexts lows marks r time →
+pub finished : {K R : ℕ} {owners lefts rights disc stack parents nexts lows marks : List ℕ} {r time : ℕ}
+    → Between K R owners lefts rights disc stack parents nexts lows marks r time →
     r ≡ K → (b : ℕ) → PartedBy K owners lefts rights b → at marks b ≡ 1
 finished {K} {R} {owners} {lefts} {rights} {disc} {stack} {parents} {nexts} {lows} {marks} {r} {time} B e b p =
     subst (λ (x : ℕ). at marks x ≡ 1) (p .owned)
     (end K (at lefts) (at rights)
-    (subst (λ (x : ℕ). Walk K (at lefts) (at rights) (length disc) x (Told owners marks) (at disc) (at stack) (at parents) (at nexts) (at lows) 0 time) e (B .walk))
+    (subst (λ (x : ℕ). Walk K (at lefts) (at rights) (length disc) x (Told owners marks) (at disc) (at stack) (at parents) (at nexts) (at lows) 0 time) e
+    (B .walk))
     (p .place) (p .inside) (p .parted))
 
 -- a record whose end was found before is passed
-pub passed : {K R : ℕ} {owners lefts rights disc stack parents nexts lows marks : List ℕ} {r time : ℕ} → Between K R owners lefts rights disc stack parents nexts lows marks r time →
+pub passed : {K R : ℕ} {owners lefts rights disc stack parents nexts lows marks : List ℕ} {r time : ℕ}
+    → Between K R owners lefts rights disc stack parents nexts lows marks r time →
     (at disc (at lefts r) ≡ 0 → ⊥) → Between K R owners lefts rights disc stack parents nexts lows marks (r + 1) time
 passed {K} {R} {owners} {lefts} {rights} B h = record {
   graph = B .graph;
@@ -48,7 +52,8 @@ passed {K} {R} {owners} {lefts} {rights} B h = record {
 }
 
 -- the walk from a root is done
-pub ended : {K R : ℕ} {owners lefts rights disc stack parents nexts lows marks : List ℕ} {r time : ℕ} → Loop K R owners lefts rights disc stack parents nexts lows marks r 0 time →
+pub ended : {K R : ℕ} {owners lefts rights disc stack parents nexts lows marks : List ℕ} {r time : ℕ}
+    → Loop K R owners lefts rights disc stack parents nexts lows marks r 0 time →
     Between K R owners lefts rights disc stack parents nexts lows marks (r + 1) time
 ended {K} {R} {owners} {lefts} {rights} L = record {
   graph = L .graph;

@@ -11,9 +11,11 @@ use Rattle.walk.proofs.Climb.{joins-sym, touching, other-end, no-bridge
 module _ (K : ℕ) (lf rt : ℕ → ℕ) where
   -- the last frame looks at its next record, and moves to the one after it that touches its region
   module _ {R r : ℕ} {Told : ℕ → Type 0} {disc st pr nx lw : ℕ → ℕ} {n time : ℕ} (W : Walk K lf rt R r Told disc st pr nx lw (n + 1) time)
-      (nx′ lw′ : ℕ → ℕ) (u : First K lf rt (nx n + 1) (st n) (nx′ n)) (o : (m : ℕ) → (m ≡ n → ⊥) → nx′ m ≡ nx m) (v : (m : ℕ) → (m ≡ n → ⊥) → lw′ m ≡ lw m) where
+      (nx′ lw′ : ℕ → ℕ) (u : First K lf rt (nx n + 1) (st n) (nx′ n)) (o : (m : ℕ) → (m ≡ n → ⊥) → nx′ m ≡ nx m)
+      (v : (m : ℕ) → (m ≡ n → ⊥) → lw′ m ≡ lw m) where
     -- what is looked at now was before, or is the record
-    unscan : {P : Type 0} (x i w : ℕ) → i < K → Joins lf rt i x w → Scanned K lf rt st nx′ (n + 1) x i → (st n ≡ x → i ≡ nx n → P) → (Scanned K lf rt st nx (n + 1) x i → P) → P
+    unscan : {P : Type 0} (x i w : ℕ) → i < K → Joins lf rt i x w → Scanned K lf rt st nx′ (n + 1) x i → (st n ≡ x → i ≡ nx n → P)
+        → (Scanned K lf rt st nx (n + 1) x i → P) → P
     unscan x i w b t s f g =
         by-cases (ℕ-discrete i (nx n)) (λ e. by-cases (ℕ-discrete (st n) x) (λ q. f q e) (λ q. g (λ m l z. away q m l z))) (λ e. g (λ m l z. before e m l z))
       where
@@ -30,7 +32,8 @@ module _ (K : ℕ) (lf rt : ℕ → ℕ) where
 
     scan : lw′ n ≤ lw n → Lowest K lf rt disc st pr lw′ n →
         ((w : ℕ) → Joins lf rt (nx n) (st n) w →
-        (0 < disc w) × ((m : ℕ) → m < n + 1 → (nx n ≡ pr m → ⊥) → Reach K lf rt disc lw′ m (n + 1) w) × ((Parted K lf rt (nx n) → Told (nx n)) ⊎ OnStack K lf rt pr (n + 1) (nx n))) →
+        (0 < disc w) × ((m : ℕ) → m < n + 1 → (nx n ≡ pr m → ⊥) → Reach K lf rt disc lw′ m (n + 1) w)
+        × ((Parted K lf rt (nx n) → Told (nx n)) ⊎ OnStack K lf rt pr (n + 1) (nx n))) →
         Walk K lf rt R r Told disc st pr nx′ lw′ (n + 1) time
     scan less lowest at = record {
       timed = W .timed;
@@ -67,7 +70,8 @@ module _ (K : ℕ) (lf rt : ℕ → ℕ) where
               (λ e. omega (arith, v (f .place) e, f .low));
         }
 
-        told : (i : ℕ) → i ≡ nx n → (Parted K lf rt (nx n) → Told (nx n)) ⊎ OnStack K lf rt pr (n + 1) (nx n) → (Parted K lf rt i → Told i) ⊎ OnStack K lf rt pr (n + 1) i
+        told : (i : ℕ) → i ≡ nx n → (Parted K lf rt (nx n) → Told (nx n)) ⊎ OnStack K lf rt pr (n + 1) (nx n) → (Parted K lf rt i → Told i)
+            ⊎ OnStack K lf rt pr (n + 1) i
         told i e z = subst (λ (y : ℕ). (Parted K lf rt y → Told y) ⊎ OnStack K lf rt pr (n + 1) y) (sym e) z
 
     -- the record is the one by which the frame was entered
@@ -78,7 +82,8 @@ module _ (K : ℕ) (lf rt : ℕ → ℕ) where
         (λ w t. parent n refl w t)
       where
         parent : (l : ℕ) → n ≡ l → (w : ℕ) → Joins lf rt (nx n) (st n) w →
-            (0 < disc w) × ((m : ℕ) → m < n + 1 → (nx n ≡ pr m → ⊥) → Reach K lf rt disc lw′ m (n + 1) w) × ((Parted K lf rt (nx n) → Told (nx n)) ⊎ OnStack K lf rt pr (n + 1) (nx n))
+            (0 < disc w) × ((m : ℕ) → m < n + 1 → (nx n ≡ pr m → ⊥) → Reach K lf rt disc lw′ m (n + 1) w)
+            × ((Parted K lf rt (nx n) → Told (nx n)) ⊎ OnStack K lf rt pr (n + 1) (nx n))
         parent zero z w t = absurd (omega (arith, W .root (omega arith), ap pr z))
         parent (suc l) z w t =
             let y : n ≡ l + 1 = omega arith in
@@ -104,7 +109,8 @@ module _ (K : ℕ) (lf rt : ℕ → ℕ) where
         clear : (i : ℕ) → i ≤ n → nx n ≡ pr i → ⊥
         clear = fresh W n (nx n) w (omega arith) k t q
 
-        first : OnStack K lf rt st (n + 1) w ⊎ ((j y m : ℕ) → j < K → Joins lf rt j w y → m < n + 1 → st m ≡ y → disc y < disc w) → disc w < lw n → Lowest K lf rt disc st pr lw′ n
+        first : OnStack K lf rt st (n + 1) w ⊎ ((j y m : ℕ) → j < K → Joins lf rt j w y → m < n + 1 → st m ≡ y → disc y < disc w) → disc w < lw n
+            → Lowest K lf rt disc st pr lw′ n
         first (inl f) l = record {
           to = f .place;
           upto = omega (arith, f .below);
@@ -118,16 +124,19 @@ module _ (K : ℕ) (lf rt : ℕ → ℕ) where
             by-cases (decLt (disc w) (lw n)) (λ l. first (W .old w p) l)
             (λ l. let f = W .low n (omega arith) in record { to = f .to; upto = f .upto; is = omega (arith, f .is); path = f .path })
 
-        says : OnStack K lf rt st (n + 1) w ⊎ ((j y m : ℕ) → j < K → Joins lf rt j w y → m < n + 1 → st m ≡ y → disc y < disc w) → (Parted K lf rt (nx n) → Told (nx n)) ⊎ OnStack K lf rt pr (n + 1) (nx n)
+        says : OnStack K lf rt st (n + 1) w ⊎ ((j y m : ℕ) → j < K → Joins lf rt j w y → m < n + 1 → st m ≡ y → disc y < disc w)
+            → (Parted K lf rt (nx n) → Told (nx n)) ⊎ OnStack K lf rt pr (n + 1) (nx n)
         says (inl f) =
-            inl (λ b. absurd (no-bridge (joins-sym t) (moved (f .is) refl (climb W (nx n) (f .place) n (omega (arith, f .below)) (omega arith) (λ i l z. clear i l (sym z)))) b))
+            inl (λ b. absurd (no-bridge (joins-sym t)
+            (moved (f .is) refl (climb W (nx n) (f .place) n (omega (arith, f .below)) (omega arith) (λ i l z. clear i l (sym z)))) b))
         says (inr g) =
             let later : disc (st n) < disc w = g (nx n) (st n) n k (joins-sym t) (omega arith) refl in
             W .settled w (nx n) (st n) p
             (λ m l z. absurd (omega (arith, ap disc z, place-le W m n (omega arith) (omega arith)))) k (joins-sym t)
 
         all : (w₂ : ℕ) → w ≡ w₂ →
-            (0 < disc w₂) × ((m : ℕ) → m < n + 1 → (nx n ≡ pr m → ⊥) → Reach K lf rt disc lw′ m (n + 1) w₂) × ((Parted K lf rt (nx n) → Told (nx n)) ⊎ OnStack K lf rt pr (n + 1) (nx n))
+            (0 < disc w₂) × ((m : ℕ) → m < n + 1 → (nx n ≡ pr m → ⊥) → Reach K lf rt disc lw′ m (n + 1) w₂)
+            × ((Parted K lf rt (nx n) → Told (nx n)) ⊎ OnStack K lf rt pr (n + 1) (nx n))
         all w₂ z = (
           omega (arith, ap disc z),
           λ m l o. record { place = n; from = omega arith; below = omega arith; low = omega (arith, ap disc z) },

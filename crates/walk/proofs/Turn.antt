@@ -51,7 +51,8 @@ pub slots : {R : ℕ} {disc stack parents nexts lows : List ℕ} → Sized R dis
     (m < length stack) × (m < length parents) × (m < length nexts) × (m < length lows)
 slots Z m l = (omega (arith, Z .stack-are), omega (arith, Z .parents-are), omega (arith, Z .nexts-are), omega (arith, Z .lows-are))
 
-pub resized : (d s p n l d′ s′ p′ n′ l′ : List ℕ) {R : ℕ} → Sized R d s p n l → length d′ ≡ length d → length s′ ≡ length s → length p′ ≡ length p → length n′ ≡ length n →
+pub resized : (d s p n l d′ s′ p′ n′ l′ : List ℕ) {R : ℕ} → Sized R d s p n l → length d′ ≡ length d → length s′ ≡ length s → length p′ ≡ length p
+    → length n′ ≡ length n →
     length l′ ≡ length l → Sized R d′ s′ p′ n′ l′
 resized d s p n l d′ s′ p′ n′ l′ Z a b c e f = record {
   disc-are = a ∙ Z .disc-are;
@@ -66,13 +67,16 @@ pub sized-as : {R R′ : ℕ} {disc stack parents nexts lows : List ℕ} → R�
 sized-as e Z = rw e Z
 
 -- the same walk at lists that are equal
-pub recast : {K R : ℕ} {owners lefts rights disc stack parents nexts lows marks : List ℕ} {r h time : ℕ} (disc′ stack′ parents′ nexts′ lows′ marks′ : List ℕ) (h′ time′ : ℕ) →
+pub recast : {K R : ℕ} {owners lefts rights disc stack parents nexts lows marks : List ℕ} {r h time : ℕ} (disc′ stack′ parents′ nexts′ lows′ marks′ : List ℕ)
+    (h′ time′ : ℕ) →
     disc′ ≡ disc → stack′ ≡ stack → parents′ ≡ parents → nexts′ ≡ nexts → lows′ ≡ lows → marks′ ≡ marks → h′ ≡ h → time′ ≡ time →
-    Loop K R owners lefts rights disc stack parents nexts lows marks r h time → Loop K R owners lefts rights disc′ stack′ parents′ nexts′ lows′ marks′ r h′ time′
+    Loop K R owners lefts rights disc stack parents nexts lows marks r h time
+    → Loop K R owners lefts rights disc′ stack′ parents′ nexts′ lows′ marks′ r h′ time′
 recast d s p n l m h t a b c e f g i j L = rw (a, b, c, e, f, g, i, j) L
 
 module _ {K : ℕ} {owners lefts rights disc stack parents nexts lows marks : List ℕ} {r : ℕ} where
-  pub take : {R top time : ℕ} (f : Frame) → Loop K R owners lefts rights disc stack parents nexts lows marks r (top + 1) time → f .region ≡ at stack top → f .parent ≡ at parents top →
+  pub take : {R top time : ℕ} (f : Frame) → Loop K R owners lefts rights disc stack parents nexts lows marks r (top + 1) time → f .region ≡ at stack top
+      → f .parent ≡ at parents top →
       f .next ≡ at nexts top → f .low ≡ at lows top → Hand K owners lefts rights disc stack parents nexts lows marks r top time f
   take {top = top} f L a b c d = record {
     walk =
@@ -94,13 +98,15 @@ module _ {K : ℕ} {owners lefts rights disc stack parents nexts lows marks : Li
     there : {w : ℕ} → Joins (at lefts) (at rights) (f .next) (f .region) w → Joins (at lefts) (at rights) (nx top) (at stack top) w
     there {w} t = subst₂ (λ (x y : ℕ). Joins (at lefts) (at rights) x y w) (sym (put-at (at nexts) top (f .next))) (H .region) t
 
-    there-to : (v : ℕ) → First K (at lefts) (at rights) (f .next + 1) (f .region) v → First K (at lefts) (at rights) (nx top + 1) (at stack top) (put (at nexts) top v top)
+    there-to : (v : ℕ) → First K (at lefts) (at rights) (f .next + 1) (f .region) v
+        → First K (at lefts) (at rights) (nx top + 1) (at stack top) (put (at nexts) top v top)
     there-to v n =
         subst (λ (x : ℕ). First K (at lefts) (at rights) (nx top + 1) (at stack top) x) (sym (put-at (at nexts) top v))
         (subst₂ (λ (x y : ℕ). First K (at lefts) (at rights) (x + 1) y v) (sym (put-at (at nexts) top (f .next))) (H .region) n)
 
     -- the record is the frame's entry
-    pub skipped : (g : Frame) → g .region ≡ f .region → g .parent ≡ f .parent → First K (at lefts) (at rights) (f .next + 1) (f .region) (g .next) → g .low ≡ f .low →
+    pub skipped : (g : Frame) → g .region ≡ f .region → g .parent ≡ f .parent → First K (at lefts) (at rights) (f .next + 1) (f .region) (g .next)
+        → g .low ≡ f .low →
         f .next < K → f .next ≡ f .parent → Hand K owners lefts rights disc stack parents nexts lows marks r top time g
     skipped g a b c d k e = record {
       walk =
@@ -114,13 +120,15 @@ module _ {K : ℕ} {owners lefts rights disc stack parents nexts lows marks : Li
     }
 
     -- the record leads to a region that was found
-    pub seen : (g : Frame) (w : ℕ) → g .region ≡ f .region → g .parent ≡ f .parent → First K (at lefts) (at rights) (f .next + 1) (f .region) (g .next) → g .low ≡ min (f .low) (at disc w) →
+    pub seen : (g : Frame) (w : ℕ) → g .region ≡ f .region → g .parent ≡ f .parent → First K (at lefts) (at rights) (f .next + 1) (f .region) (g .next)
+        → g .low ≡ min (f .low) (at disc w) →
         f .next < K → Joins (at lefts) (at rights) (f .next) (f .region) w → (f .next ≡ f .parent → ⊥) → (at disc w ≡ 0 → ⊥) →
         Hand K owners lefts rights disc stack parents nexts lows marks r top time g
     seen g w a b c d k t o p = record {
       walk =
           scan-seen K (at lefts) (at rights) (H .walk) (put (at nexts) top (g .next)) (put (at lows) top (g .low)) (there-to (g .next) c)
-          (λ m h. reputting (at nexts) top (f .next) (g .next) m h) (λ m h. reputting (at lows) top (f .low) (g .low) m h) w (omega (arith, put-at (at nexts) top (f .next)))
+          (λ m h. reputting (at nexts) top (f .next) (g .next) m h) (λ m h. reputting (at lows) top (f .low) (g .low) m h) w
+          (omega (arith, put-at (at nexts) top (f .next)))
           (λ e. o (sym (put-at (at nexts) top (f .next)) ∙ e ∙ sym (H .parent))) (there t) (omega arith)
           (put-at (at lows) top (g .low) ∙ d ∙ ap (λ (x : ℕ). min x (at disc w)) (sym (put-at (at lows) top (f .low))));
       region = a ∙ H .region;

@@ -69,7 +69,8 @@ Stacked K owners lefts rights r disc stack parents nexts lows marks h time =
 -- the same, with the last frame in hand
 abbrev pub Held : ℕ → List ℕ → List ℕ → List ℕ → ℕ → List ℕ → List ℕ → List ℕ → List ℕ → List ℕ → List ℕ → ℕ → ℕ → Frame → Type 0
 Held K owners lefts rights r disc stack parents nexts lows marks top time f =
-    Walk K (at lefts) (at rights) (length disc) r (Told owners marks) (at disc) (at stack) (at parents) (put (at nexts) top (f .next)) (put (at lows) top (f .low)) (top + 1) time
+    Walk K (at lefts) (at rights) (length disc) r (Told owners marks) (at disc) (at stack) (at parents) (put (at nexts) top (f .next))
+    (put (at lows) top (f .low)) (top + 1) time
 
 -- the walk between two roots: the ends of the records before r are found
 pub record Between (K R : ℕ) (owners lefts rights disc stack parents nexts lows marks : List ℕ) (r time : ℕ) : Type 0 where

@@ -15,7 +15,8 @@ fn link_record(
     left_nexts: &mut [u32],
     right_nexts: &mut [u32],
 )
-    requires { ⌜ (k < length (now lefts)) × (k < length (now rights)) × (k < length (now «left_nexts»)) × (k < length (now «right_nexts»)) × (at (now lefts) k < length (now heads)) × (at (now rights) k < length (now heads)) ⌝ }
+    requires { ⌜ (k < length (now lefts)) × (k < length (now rights)) × (k < length (now «left_nexts»)) × (k < length (now «right_nexts»))
+        × (at (now lefts) k < length (now heads)) × (at (now rights) k < length (now heads)) ⌝ }
     ensures lefts { λ _. ⌜ now («left_nexts» .exit) ≡ set (now («left_nexts» .entry)) k (at (now (heads .entry)) (at (now (lefts .entry)) k)) ⌝ }
     ensures rights { λ _. ⌜ now («right_nexts» .exit) ≡ set (now («right_nexts» .entry)) k (at (now (heads .entry)) (at (now (rights .entry)) k)) ⌝ }
     ensures heads { λ _. ⌜ now (heads .exit) ≡ set (set (now (heads .entry)) (at (now (lefts .entry)) k) k) (at (now (rights .entry)) k) k ⌝ }
@@ -38,8 +39,10 @@ pub fn full_graph(
     left_nexts: &mut [u32],
     right_nexts: &mut [u32],
 )
-    requires { ⌜ Graph count (length (now heads)) (now lefts) (now rights) × Linked count (length (now heads)) (now lefts) (now rights) (now heads) (now «left_nexts») (now «right_nexts») count ⌝ }
-    ensures { λ _. ⌜ Linked count (length (now (heads .entry))) (now (lefts .entry)) (now (rights .entry)) (now (heads .exit)) (now («left_nexts» .exit)) (now («right_nexts» .exit)) 0 ⌝ }
+    requires { ⌜ Graph count (length (now heads)) (now lefts) (now rights)
+        × Linked count (length (now heads)) (now lefts) (now rights) (now heads) (now «left_nexts») (now «right_nexts») count ⌝ }
+    ensures { λ _. ⌜ Linked count (length (now (heads .entry))) (now (lefts .entry)) (now (rights .entry)) (now (heads .exit)) (now («left_nexts» .exit))
+        (now («right_nexts» .exit)) 0 ⌝ }
 {
     let mut k = count;
     while 0 < k {

@@ -25,7 +25,8 @@ fn least(a: u32, b: u32) -> u32
 // The frame at a place of the stack.
 pub fn load(stack: &[u32], parents: &[u32], nexts: &[u32], lows: &[u32], top: usize) -> Frame
     requires { ⌜ (top < length (now stack)) × (top < length (now parents)) × (top < length (now nexts)) × (top < length (now lows)) ⌝ }
-    ensures { λ r. ⌜ (r .region ≡ at (now (stack .entry)) top) × (r .parent ≡ at (now (parents .entry)) top) × (r .next ≡ at (now (nexts .entry)) top) × (r .low ≡ at (now (lows .entry)) top) ⌝ }
+    ensures { λ r. ⌜ (r .region ≡ at (now (stack .entry)) top) × (r .parent ≡ at (now (parents .entry)) top) × (r .next ≡ at (now (nexts .entry)) top)
+        × (r .low ≡ at (now (lows .entry)) top) ⌝ }
 {
     Frame {
         region: stack[top],
@@ -45,8 +46,11 @@ pub fn enter(
     h: usize,
     f: Frame,
 )
-    requires { ⌜ (f .region < length (now disc)) × (h < length (now stack)) × (h < length (now parents)) × (h < length (now nexts)) × (h < length (now lows)) ⌝ }
-    ensures { λ r. ⌜ (now (disc .exit) ≡ set (now (disc .entry)) (f .region) (f .low)) × (now (stack .exit) ≡ set (now (stack .entry)) h (f .region)) × (now (parents .exit) ≡ set (now (parents .entry)) h (f .parent)) × (now (nexts .exit) ≡ set (now (nexts .entry)) h (f .next)) × (now (lows .exit) ≡ set (now (lows .entry)) h (f .low)) ⌝ }
+    requires { ⌜ (f .region < length (now disc)) × (h < length (now stack)) × (h < length (now parents)) × (h < length (now nexts))
+        × (h < length (now lows)) ⌝ }
+    ensures { λ r. ⌜ (now (disc .exit) ≡ set (now (disc .entry)) (f .region) (f .low)) × (now (stack .exit) ≡ set (now (stack .entry)) h (f .region))
+        × (now (parents .exit) ≡ set (now (parents .entry)) h (f .parent)) × (now (nexts .exit) ≡ set (now (nexts .entry)) h (f .next))
+        × (now (lows .exit) ≡ set (now (lows .entry)) h (f .low)) ⌝ }
 {
     let region = size(f.region);
     disc[region] = f.low;
@@ -75,9 +79,11 @@ pub fn leave(
     up: usize,
     f: Frame,
 )
-    requires { ⌜ (up < length (now stack)) × (at (now stack) up < length (now disc)) × (up < length (now lows)) × (f .parent < length (now owners)) × (at (now owners) (f .parent) < 256) ⌝ }
+    requires { ⌜ (up < length (now stack)) × (at (now stack) up < length (now disc)) × (up < length (now lows)) × (f .parent < length (now owners))
+        × (at (now owners) (f .parent) < 256) ⌝ }
     ensures low { λ r. ⌜ now (lows .exit) ≡ set (now (lows .entry)) up (min (at (now (lows .entry)) up) (f .low)) ⌝ }
-    ensures mark { λ r. ⌜ now (marks .exit) ≡ marking (at (now (disc .entry)) (at (now (stack .entry)) up)) (f .low) (now (marks .entry)) (at (now (owners .entry)) (f .parent)) ⌝ }
+    ensures mark { λ r. ⌜ now (marks .exit) ≡ marking (at (now (disc .entry)) (at (now (stack .entry)) up)) (f .low) (now (marks .entry))
+        (at (now (owners .entry)) (f .parent)) ⌝ }
 {
     let low = f.low;
     lows[up] = least(lows[up], low);

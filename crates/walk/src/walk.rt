@@ -35,8 +35,11 @@ fn walk(
     root: u32,
     start: u32,
 ) -> u32
-    requires { ⌜ Between count (length (now heads)) (now owners) (now lefts) (now rights) (now disc) (now stack) (now parents) (now nexts) (now lows) (now marks) r start × Linked count (length (now heads)) (now lefts) (now rights) (now heads) (now «left_nexts») (now «right_nexts») 0 × (root < length (now heads)) × (at (now disc) root ≡ 0) × (root ≡ at (now lefts) r) ⌝ }
-    ensures { λ t. ⌜ Between count (length (now (heads .entry))) (now (owners .entry)) (now (lefts .entry)) (now (rights .entry)) (now (disc .exit)) (now (stack .exit)) (now (parents .exit)) (now (nexts .exit)) (now (lows .exit)) (now (marks .exit)) (r + 1) t ⌝ }
+    requires { ⌜ Between count (length (now heads)) (now owners) (now lefts) (now rights) (now disc) (now stack) (now parents) (now nexts) (now lows)
+        (now marks) r start × Linked count (length (now heads)) (now lefts) (now rights) (now heads) (now «left_nexts») (now «right_nexts») 0
+        × (root < length (now heads)) × (at (now disc) root ≡ 0) × (root ≡ at (now lefts) r) ⌝ }
+    ensures { λ t. ⌜ Between count (length (now (heads .entry))) (now (owners .entry)) (now (lefts .entry)) (now (rights .entry)) (now (disc .exit))
+        (now (stack .exit)) (now (parents .exit)) (now (nexts .exit)) (now (lows .exit)) (now (marks .exit)) (r + 1) t ⌝ }
 {
     let mut time = start + 1;
     enter(
@@ -115,8 +118,11 @@ fn visit(
     r: usize,
     time: u32,
 ) -> u32
-    requires { ⌜ Between count (length (now heads)) (now owners) (now lefts) (now rights) (now disc) (now stack) (now parents) (now nexts) (now lows) (now marks) r time × Linked count (length (now heads)) (now lefts) (now rights) (now heads) (now «left_nexts») (now «right_nexts») 0 × (r < count) ⌝ }
-    ensures { λ t. ⌜ Between count (length (now (heads .entry))) (now (owners .entry)) (now (lefts .entry)) (now (rights .entry)) (now (disc .exit)) (now (stack .exit)) (now (parents .exit)) (now (nexts .exit)) (now (lows .exit)) (now (marks .exit)) (r + 1) t ⌝ }
+    requires { ⌜ Between count (length (now heads)) (now owners) (now lefts) (now rights) (now disc) (now stack) (now parents) (now nexts) (now lows)
+        (now marks) r time × Linked count (length (now heads)) (now lefts) (now rights) (now heads) (now «left_nexts») (now «right_nexts») 0
+        × (r < count) ⌝ }
+    ensures { λ t. ⌜ Between count (length (now (heads .entry))) (now (owners .entry)) (now (lefts .entry)) (now (rights .entry)) (now (disc .exit))
+        (now (stack .exit)) (now (parents .exit)) (now (nexts .exit)) (now (lows .exit)) (now (marks .exit)) (r + 1) t ⌝ }
 {
     let root = lefts[r];
     if time_of(disc, root) != 0 {
@@ -158,7 +164,9 @@ pub fn walk_all(
     lows: &mut [u32],
     marks: &mut [u8; 256],
 )
-    requires { ⌜ Graph count (length (now heads)) (now lefts) (now rights) × Owners count (now owners) × (count ≤ length (now owners)) × Linked count (length (now heads)) (now lefts) (now rights) (now heads) (now «left_nexts») (now «right_nexts») 0 × Sized (length (now heads)) (now disc) (now stack) (now parents) (now nexts) (now lows) × ((x : ℕ) → at (now disc) x ≡ 0) ⌝ }
+    requires { ⌜ Graph count (length (now heads)) (now lefts) (now rights) × Owners count (now owners) × (count ≤ length (now owners))
+        × Linked count (length (now heads)) (now lefts) (now rights) (now heads) (now «left_nexts») (now «right_nexts») 0
+        × Sized (length (now heads)) (now disc) (now stack) (now parents) (now nexts) (now lows) × ((x : ℕ) → at (now disc) x ≡ 0) ⌝ }
     ensures { λ _. ⌜ now (marks .exit) ≡ bridgeMarks (recordsIn (now (owners .entry)) (now (lefts .entry)) (now (rights .entry)) count) 256 ⌝ }
 {
     *marks = [0u8; 256];

@@ -6,7 +6,8 @@ use native.Mathlib.Nat.{zero-add, suc-add}
 use native.Mathlib.Numerals.{add-one}
 use native.Mathlib.Omega.{arith}
 use lib.ListN.{length, getD, set, take, drop, length-append, length-drop, take-append-drop}
-use lib.Seq.{set-split, drop-cons, take-append-le, drop-append-le, drop-append-add, take-at, drop-at, getD-drop, getD-take, drop-drop, take-add, take-take, length-take-le, take-length, take-nil}
+use lib.Seq.{set-split, drop-cons, take-append-le, drop-append-le, drop-append-add, take-at, drop-at, getD-drop, getD-take, drop-drop, take-add, take-take}
+use lib.Seq.{length-take-le, take-length, take-nil}
 use Rattle.wire.specs.Bytes.{part, splice}
 
 pub length-part : (s : List ℕ) (i n : ℕ) → i + n ≤ length s → length (part s i n) ≡ n

@@ -38,7 +38,8 @@ unfolding numberAt number
 number-step n s i j h e = ap number (part-cons s i n h) ∙ ap (λ (k : ℕ). getD s i 0 + 256 * numberAt n s k) e
 
 -- The four bytes of a u32, as the code adds them.
-pub four-bytes : (s : List ℕ) (i : ℕ) → i + 4 ≤ length s → numberAt 4 s i ≡ getD s i 0 + getD s (i + 1) 0 * 0x100 + getD s (i + 2) 0 * 0x1_0000 + getD s (i + 3) 0 * 0x100_0000
+pub four-bytes : (s : List ℕ) (i : ℕ) → i + 4 ≤ length s
+    → numberAt 4 s i ≡ getD s i 0 + getD s (i + 1) 0 * 0x100 + getD s (i + 2) 0 * 0x1_0000 + getD s (i + 3) 0 * 0x100_0000
 four-bytes s i h =
     let a : numberAt 4 s i ≡ getD s i 0 + 256 * numberAt 3 s (i + 1) = number-step 3 s i (i + 1) (omega arith) (omega arith) in
     let b : numberAt 3 s (i + 1) ≡ getD s (i + 1) 0 + 256 * numberAt 2 s (i + 2) = number-step 2 s (i + 1) (i + 2) (omega arith) (omega arith) in
@@ -66,7 +67,8 @@ four-stores s i v h =
     rw (e1, e2, e3) (sets-eq (bytes 4 v) s i h ∙ append-assoc (take i s) (bytes 4 v) (drop (i + 4) s))
 
 -- Two writes of four bytes are one of eight.
-pub two-writes : (s : List ℕ) (i v : ℕ) → i + 8 ≤ length s → splice (splice s i (bytes 4 (v % 0x1_0000_0000))) (i + 4) (bytes 4 (v / 0x1_0000_0000)) ≡ splice s i (bytes 8 v)
+pub two-writes : (s : List ℕ) (i v : ℕ) → i + 8 ≤ length s
+    → splice (splice s i (bytes 4 (v % 0x1_0000_0000))) (i + 4) (bytes 4 (v / 0x1_0000_0000)) ≡ splice s i (bytes 8 v)
 two-writes s i v h =
     let l : length (bytes 4 (v % 0x1_0000_0000)) ≡ 4 = length-bytes 4 _ in
     ap (λ (k : ℕ). splice (splice s i (bytes 4 (v % 0x1_0000_0000))) (i + k) (bytes 4 (v / 0x1_0000_0000))) (sym l)

@@ -1,10 +1,6 @@
 use borrow.Author.Needs.{needs}
 use Rattle.bridges.proofs.bridge_boundary_indices.Statement.{statement}
 use Rattle.bridges.proofs.bridge_boundary_indices.Tie as tie
-use Rattle.bridges.proofs.bridge_boundary_indices.Reads as reads
-use Rattle.bridges.proofs.bridge_boundary_indices.Lts as lts
-use Rattle.bridges.proofs.mark_few.Reads as mark-few-reads
-use Rattle.bridges.proofs.mark_many.Reads as mark-many-reads
 use mathlib.Core.Path.{refl}
 use Rattle.bridges.proofs.Unmarked.{no-records}
 

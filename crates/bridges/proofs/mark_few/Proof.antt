@@ -1,11 +1,12 @@
 use borrow.Author.Needs.{needs}
 use Rattle.bridges.proofs.mark_few.Statement.{statement}
 use Rattle.bridges.proofs.mark_few.Tie as tie
-use Rattle.bridges.proofs.mark_few.Reads as reads
-use Rattle.bridges.proofs.mark_few.Lts as lts
-use Rattle.bridges.proofs.mark_bridges.Reads as mark-bridges-reads
 use native.Mathlib.Omega.{arith}
 use Rattle.bridges.proofs.Lent.{cleared}
+
+-- what the function is given and asked: the places since only say that its slices have lengths
+abbrev start-of : tie.After-slice-known → tie.Start
+start-of c = c .before .before .before .before
 
 slice-aggregate-mark-bridges : tie.Need-slice-aggregate-mark-bridges
 slice-aggregate-mark-bridges c = search needs
@@ -39,8 +40,15 @@ slice-aggregate-mark-bridges-10 c = search needs
 
 mark-bridges-requires : tie.Need-mark-bridges-requires
 mark-bridges-requires c κs =
-    let p = c .before .before .before .before .before .before .before .before .before .before .before .before .before .before .before .before .pre in
-    (p .0, p .1, p .2, p .3, p .4, cleared (c .before .before .before .before .before .before .before .before .before .before .before .before .before .before .before .before .args .count) 64 128 4096 (omega (arith, p .5)) (omega (arith, p .5)) (omega arith) (omega (arith, p .2 .few)))
+    let start = start-of (c .before .before .before .before .before .before .before .before .before .before .before .before) in
+    let p = start .pre in (
+      p .0,
+      p .1,
+      p .2,
+      p .3,
+      p .4,
+      cleared (start .args .count) 64 128 4096 (omega (arith, p .5)) (omega (arith, p .5)) (omega arith) (omega (arith, p .2 .few)),
+    )
 
 same-length : tie.Need-same-length
 same-length c = search needs

@@ -2,14 +2,15 @@ use Rattle.candidates.proofs.TopLaws.{below-all, answered}
 use borrow.Author.Needs.{needs}
 use Rattle.candidates.proofs.candidate_links.Statement.{statement}
 use Rattle.candidates.proofs.candidate_links.Tie as tie
-use Rattle.candidates.proofs.candidate_links.Reads as reads
-use Rattle.candidates.proofs.candidate_links.Lts as lts
-use Rattle.candidates.proofs.collect.collect.Reads as collect-reads
-use Rattle.candidates.proofs.linkable.find_linkables.Reads as find-linkables-reads
-use Rattle.candidates.proofs.pairs.first_pairs.Reads as first-pairs-reads
+
+-- what the function is given and asked: the places since only say that its slices have lengths
+abbrev start-of : tie.After-shared-slice-known5 → tie.Start
+start-of c = c .before .before .before .before .before
 
 first-pairs-requires : tie.Need-first-pairs-requires
-first-pairs-requires c κs = let p = c .before .before .before .before .before .before .before .before .pre in (p .3, below-all (p .1) (p .4))
+first-pairs-requires c κs =
+    let start = start-of (c .before .before .before) in
+    let p = start .pre in (p .3, below-all (p .1) (p .4))
 
 find-linkables-requires : tie.Need-find-linkables-requires
 find-linkables-requires c κs = search needs
@@ -19,8 +20,12 @@ collect-requires c κs = search needs
 
 returns : tie.Need-returns
 returns c =
-    let a = c .before .before .before .before .before .before .before .before .before .before .before .before .before .before .before .before .before .before .before .args in
-    answered (a .job .now) (a .bases-at) (a .bases) (a .width) _ (a .own .now) (a .owners .now) (a .lefts .now) (a .rights .now) (a .records) (c .before .before .before .before .before .before .before .before .before .before .first-pairs .ensures) (c .before .before .before .before .before .before .before .find-linkables .ensures) (c .collect .ensures)
+    let after-find-linkables = c .before .before .before .before .before .before .before in
+    let after-first-pairs = after-find-linkables .before .before .before in
+    let start = start-of (after-first-pairs .before .before .before .before) in
+    let a = start .args in
+    answered (a .job .now) (a .bases-at) (a .bases) (a .width) _ (a .own .now) (a .owners .now) (a .lefts .now) (a .rights .now) (a .records)
+    (after-first-pairs .first-pairs .ensures) (after-find-linkables .find-linkables .ensures) (c .collect .ensures)
 
 pub candidate-links-spec : {M : Type 1} → statement M
 candidate-links-spec =

@@ -13,17 +13,20 @@ add-join-all c = search needs
 
 join-all-requires : tie.Need-join-all-requires
 join-all-requires c κs =
-    let runs = c .before .before .before .run-parents in
-    let start = c .before .before .before .before .before .before .before in
+    let at-run-parents = c .before .before .before in
+    let start = at-run-parents .before .before .before .before in
+    let runs = at-run-parents .run-parents in
     let pre = start .pre in
     due-joinable (start .args .work .now) refl (pre .0 .1) (pre .0 .2) (pre .0 .3) (pre .1 .0) (pre .1 .1) (runs .ensures .0) (runs .ensures .1)
     (omega arith) (pre .0 .0)
 
 number-requires : tie.Need-number-requires
 number-requires c κs =
-    let join = c .before .before .before .join-all in
-    let runs = c .before .before .before .before .before .before .before .run-parents in
-    let start = c .before .before .before .before .before .before .before .before .before .before .before in
+    let at-join-all = c .before .before .before in
+    let at-run-parents = at-join-all .before .before .before .before in
+    let start = at-run-parents .before .before .before .before in
+    let join = at-join-all .join-all in
+    let runs = at-run-parents .run-parents in
     let pre = start .pre in
     let forest = joined (start .args .work .now) refl (pre .0 .1) (pre .0 .2) (pre .0 .3) (pre .1 .0) (pre .1 .1) (runs .ensures .0) (runs .ensures .1)
     (join .ensures) in
@@ -34,10 +37,12 @@ same-length c = search needs
 
 returns : tie.Need-returns
 returns c =
+    let at-join-all = c .before .before .before .before .before .before in
+    let at-run-parents = at-join-all .before .before .before .before in
+    let start = at-run-parents .before .before .before .before in
     let number = c .before .before .number in
-    let join = c .before .before .before .before .before .before .join-all in
-    let runs = c .before .before .before .before .before .before .before .before .before .before .run-parents in
-    let start = c .before .before .before .before .before .before .before .before .before .before .before .before .before .before in
+    let join = at-join-all .join-all in
+    let runs = at-run-parents .run-parents in
     let pre = start .pre in
     whole (start .args .work .now) refl (pre .0 .1) (pre .0 .2) (pre .0 .3) (pre .1 .0) (pre .1 .1) (runs .ensures .0) (runs .ensures .1)
     (join .ensures) (number .ensures)

@@ -28,27 +28,33 @@ root-of-requires c κs = omega arith
 
 int-to-float-t8 : tie.Need-int-to-float-t8 Inv-loop μ-loop
 int-to-float-t8 c =
-    let entry = c .before .before .before .before .before in
-    let r = c .before .before .before .root-of .result in
-    small-casts (r .root) (omega (arith, le-square (r .root), rooted (entry .args .d) r (c .before .before .before .root-of .ensures) .sum))
+    let after-root-of = c .before .before .before in
+    let entry = after-root-of .before .before in
+    let r = after-root-of .root-of .result in
+    small-casts (r .root) (omega (arith, le-square (r .root), rooted (entry .args .d) r (after-root-of .root-of .ensures) .sum))
 
 returns-2 : tie.Need-returns-2 Inv-loop μ-loop
 unfolding isSquare
 returns-2 c =
-    let entry = c .before .before .before .before .before in
-    let found = c .before .before .before .root-of in
+    let at-root-of = c .before .before .before in
+    let if1-left = at-root-of .before in
+    let entry = if1-left .before in
+    let d = entry .args .d in
+    let found = at-root-of .root-of in
     let r = found .result in
-    let w = rooted (entry .args .d) r (found .ensures) in
-    is-length (entry .args .d) _ (entry .pre)
-    (root-halved (entry .args .d) (r .root) (root-pos (entry .args .d) (r .root) (r .rem) w (omega (arith, c .before .before .before .before .if1 .left))) (entry .pre) (omega (arith, w .sum)))
+    let w = rooted d r (found .ensures) in
+    is-length d _ (entry .pre)
+    (root-halved d (r .root) (root-pos d (r .root) (r .rem) w (omega (arith, if1-left .if1 .left))) (entry .pre) (omega (arith, w .sum)))
     (sym (eq-eqb (r .rem) 0 (c .before .if2 .taken)) ∙ ap (λ (x : Root). eqb (x .rem) 0) (found .ensures))
 
 loop-holds : tie.Need-loop-holds Inv-loop μ-loop
 loop-holds c =
-    let entry = c .before .before .before .before in
-    let r = c .before .before .root-of .result in
-    let w = rooted (entry .args .d) r (c .before .before .root-of .ensures) in
-    (start (entry .args .d) (r .root) (r .rem) (omega (arith, c .before .before .before .if1 .left)) (entry .pre) w, root-lt {a = r .root} {b = 2 ^ 27} (omega (arith, w .sum)))
+    let after-root-of = c .before .before in
+    let if1-left = after-root-of .before in
+    let entry = if1-left .before in
+    let r = after-root-of .root-of .result in
+    let w = rooted (entry .args .d) r (after-root-of .root-of .ensures) in
+    (start (entry .args .d) (r .root) (r .rem) (omega (arith, if1-left .if1 .left)) (entry .pre) w, root-lt {a = r .root} {b = 2 ^ 27} (omega (arith, w .sum)))
 
 digit-requires : tie.Need-digit-requires Inv-loop μ-loop
 digit-requires c κs = omega arith
@@ -58,13 +64,17 @@ mul-p c = omega arith
 
 loop-less : tie.Need-loop-less Inv-loop μ-loop
 loop-less c =
-    let l = c .before .before .before .loop in
+    let in-loop = c .before .before .before in
+    let l = in-loop .loop in
     omega (arith, grows _ (l .r .root) (l .r .rem) (l .p) (c .digit .result .root) (c .digit .result .rem) (l .inv .0) (c .digit .ensures))
 
 loop-again : tie.Need-loop-again Inv-loop μ-loop
 loop-again c =
-    let l = c .before .before .before .loop in
-    (turn _ (l .r .root) (l .r .rem) (l .p) (c .digit .result .root) (c .digit .result .rem) (l .inv .0) (omega arith) (c .digit .ensures), omega (arith, c .digit .ensures .most))
+    let in-loop = c .before .before .before in
+    let l = in-loop .loop in (
+      turn _ (l .r .root) (l .r .rem) (l .p) (c .digit .result .root) (c .digit .result .rem) (l .inv .0) (omega arith) (c .digit .ensures),
+      omega (arith, c .digit .ensures .most),
+    )
 
 doubled-requires : tie.Need-doubled-requires Inv-loop μ-loop
 doubled-requires c κs = omega arith
@@ -79,29 +89,35 @@ add-m c =
 
 int-to-float-value : tie.Need-int-to-float-value Inv-loop μ-loop
 int-to-float-value c =
-    let l = c .before .before .before .before .before .before .loop in
-    let f = c .before .before .before .doubled in
+    let at-doubled = c .before .before .before in
+    let in-loop = at-doubled .before .before .before in
+    let l = in-loop .loop in
+    let f = at-doubled .doubled in
     let g = lengthen _ (l .r .root) (l .r .rem) (l .p) (f .result .root) (f .result .rem) (l .inv .0) (l .inv .1) (f .ensures) in
     root-casts _ (f .result .root) (f .result .rem) (l .p * 0x800_0000) _ g (omega (arith, f .ensures .least)) (omega arith) (omega arith)
 
 int-to-float-value-2 : tie.Need-int-to-float-value-2 Inv-loop μ-loop
 int-to-float-value-2 c =
-    let l = c .before .before .before .before .before .before .before .loop in
-    let f = c .before .before .before .before .doubled in
+    let at-doubled = c .before .before .before .before in
+    let in-loop = at-doubled .before .before .before in
+    let l = in-loop .loop in
+    let f = at-doubled .doubled in
     let g = lengthen _ (l .r .root) (l .r .rem) (l .p) (f .result .root) (f .result .rem) (l .inv .0) (l .inv .1) (f .ensures) in
     power-casts _ (f .result .root) (f .result .rem) (l .p * 0x800_0000) g
 
 returns-3 : tie.Need-returns-3 Inv-loop μ-loop
 unfolding isSquare
 returns-3 c =
-    let l = c .before .before .before .before .before .before .before .loop in
-    let f = c .before .before .before .before .doubled in
+    let at-doubled = c .before .before .before .before in
+    let at-loop = at-doubled .before .before .before in
+    let l = at-loop .loop in
+    let f = at-doubled .doubled in
     let g = lengthen _ (l .r .root) (l .r .rem) (l .p) (f .result .root) (f .result .rem) (l .inv .0) (l .inv .1) (f .ensures) in
-    let at-loop = c .before .before .before .before .before .before .before in
     let entry = at-loop .before .before .before .before .before in
     let found = at-loop .before .before .before .root-of in
     is-length (entry .args .d) _ (entry .pre)
-    (finish (entry .args .d) (f .result .root) (f .result .rem) (l .p * 0x800_0000) _ g (omega (arith, f .ensures .least)) (omega arith) (omega arith) (entry .pre))
+    (finish (entry .args .d) (f .result .root) (f .result .rem) (l .p * 0x800_0000) _ g (omega (arith, f .ensures .least)) (omega arith) (omega arith)
+    (entry .pre))
     (sym (ne-eqb (found .result .rem) 0 (at-loop .before .if2 .left)) ∙ ap (λ (x : Root). eqb (x .rem) 0) (found .ensures))
 
 pub length-of-spec : {M : Type 1} → statement M

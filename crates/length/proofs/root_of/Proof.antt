@@ -32,7 +32,8 @@ shr-digit c = omega arith
 digit-requires : tie.Need-digit-requires Inv-loop μ-loop
 digit-requires c κs =
     let at-loop = c .before in
-    let fits = small-root (at-loop .before .args .n) (2 ^ (2 * at-loop .loop .i)) (at-loop .loop .r .root) (at-loop .loop .r .rem) (at-loop .before .pre) (at-loop .loop .inv .1) in
+    let fits = small-root (at-loop .before .args .n) (2 ^ (2 * at-loop .loop .i)) (at-loop .loop .r .root) (at-loop .loop .r .rem) (at-loop .before .pre)
+    (at-loop .loop .inv .1) in
     omega arith
 
 loop-less : tie.Need-loop-less Inv-loop μ-loop

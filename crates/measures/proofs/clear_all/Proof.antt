@@ -10,13 +10,10 @@ use Rattle.measures.specs.Tables.{Written, Cleared, Labels}
 use Rattle.measures.proofs.Writing.{clear-start, clear-next, clear-end}
 use Rattle.measures.proofs.clear_all.Statement.{statement}
 use Rattle.measures.proofs.clear_all.Tie as tie
-use Rattle.measures.proofs.clear_all.Reads as reads
-use Rattle.measures.proofs.clear_all.Lts as lts
-use Rattle.measures.proofs.put_word.Reads as put-word-reads
-use Rattle.wire.proofs.size.Reads as size-reads
 
 abbrev Inv-loop : tie.InvT-loop
-Inv-loop work₀ n regions links k₀ work k = (k ≤ links) × (length work ≡ length work₀) × ((start : List ℕ) → Labels start n → Written start work₀ n regions links → Cleared start work n regions links k)
+Inv-loop work₀ n regions links k₀ work k = (k ≤ links) × (length work ≡ length work₀)
+    × ((start : List ℕ) → Labels start n → Written start work₀ n regions links → Cleared start work n regions links k)
 
 abbrev μ-loop : tie.MeasureT-loop
 μ-loop work₀ n regions links k₀ work k = links - k
@@ -31,25 +28,58 @@ mul-put-word : tie.Need-mul-put-word Inv-loop μ-loop
 mul-put-word c = search needs
 
 element-copy-out-put-word : tie.Need-element-copy-out-put-word Inv-loop μ-loop
-element-copy-out-put-word c = omega (arith, c .size .ensures .0, c .before .before .loop-test .taken, c .before .before .before .before .before .pre .2 .few)
+element-copy-out-put-word c =
+    let start = c .before .before .before .before .before in
+    omega (arith, c .size .ensures .0, c .before .before .loop-test .taken, start .pre .2 .few)
 
 put-word-requires : tie.Need-put-word-requires Inv-loop μ-loop
-put-word-requires c κs = let t = ap (at (c .before .before .before .before .before .before .args .regions .now)) (c .before .size .ensures .0) in (omega (arith, t, c .before .before .before .before .before .before .pre .2 .from (c .before .before .before .before .loop .k) (c .before .before .before .loop-test .taken)), omega (arith, t, c .before .before .before .before .before .before .pre .2 .to (c .before .before .before .before .loop .k) (c .before .before .before .loop-test .taken)), c .before .before .before .before .before .before .pre .0, omega (arith, c .before .before .before .before .before .before .pre .1, c .before .before .before .before .loop .inv .1))
+put-word-requires c κs =
+    let turning = c .before .before .before in
+    let in-loop = turning .before in
+    let start = in-loop .before .before in
+    let t = ap (at (start .args .regions .now)) (c .before .size .ensures .0) in (
+      omega (arith, t, start .pre .2 .from (in-loop .loop .k) (turning .loop-test .taken)),
+      omega (arith, t, start .pre .2 .to (in-loop .loop .k) (turning .loop-test .taken)),
+      start .pre .0,
+      omega (arith, start .pre .1, in-loop .loop .inv .1),
+    )
 
 add-k : tie.Need-add-k Inv-loop μ-loop
-add-k c = omega (arith, c .before .before .before .before .before .before .loop-test .taken, c .before .before .before .before .before .before .before .before .before .pre .2 .few)
+add-k c =
+    let turning = c .before .before .before .before .before .before in
+    let start = turning .before .before .before in
+    omega (arith, turning .loop-test .taken, start .pre .2 .few)
 
 loop-less : tie.Need-loop-less Inv-loop μ-loop
-loop-less c = omega (arith, c .before .before .before .before .before .before .loop-test .taken)
+loop-less c =
+    let turning = c .before .before .before .before .before .before in
+    omega (arith, turning .loop-test .taken)
 
 loop-again : tie.Need-loop-again Inv-loop μ-loop
-loop-again c = (omega (arith, c .before .before .before .before .before .before .loop-test .taken), c .before .before .put-word .kept .0 ∙ c .before .before .before .before .before .before .before .loop .inv .1, λ s L W. clear-next (c .before .before .before .before .before .before .before .before .before .pre .2) (L .room) (c .before .before .before .before .before .before .loop-test .taken) (c .before .before .before .before .before .before .before .loop .inv .2 s L W) (c .before .before .put-word .ensures ∙ ap (λ (z : ℕ). splice (c .before .before .before .before .before .before .before .loop .work) (4 * c .before .before .before .before .before .before .before .before .before .args .n + 4 * (at (c .before .before .before .before .before .before .before .before .before .args .regions .now) z - 1)) (u32Bytes 0)) (c .before .before .before .before .size .ensures .0)))
+loop-again c =
+    let at-put-word = c .before .before in
+    let after-size = at-put-word .before .before in
+    let turning = after-size .before .before in
+    let in-loop = turning .before in
+    let start = in-loop .before .before in
+    let inv = in-loop .loop .inv in (
+      omega (arith, turning .loop-test .taken),
+      at-put-word .put-word .kept .0 ∙ inv .1,
+      λ s L W. clear-next (start .pre .2) (L .room) (turning .loop-test .taken) (inv .2 s L W)
+          (at-put-word .put-word .ensures
+          ∙ ap (λ (z : ℕ). splice (in-loop .loop .work) (4 * start .args .n + 4 * (at (start .args .regions .now) z - 1)) (u32Bytes 0))
+          (after-size .size .ensures .0)),
+    )
 
 same-length : tie.Need-same-length Inv-loop μ-loop
 same-length c = c .before .loop .inv .1
 
 returns : tie.Need-returns Inv-loop μ-loop
-returns c = λ s L W. clear-end L (subst (Cleared _ _ _ _ _) (let z : c .before .loop .k ≡ c .before .before .before .args .links = omega (arith, c .before .loop .inv .0, c .loop-test .left) in z) (c .before .loop .inv .2 s L W))
+returns c =
+    let start = c .before .before .before in
+    let inv = c .before .loop .inv in
+    λ s L W. clear-end L (subst (Cleared _ _ _ _ _) (let z : c .before .loop .k ≡ start .args .links = omega (arith, inv .0, c .loop-test .left) in z)
+    (inv .2 s L W))
 
 pub clear-all-spec : {M : Type 1} → statement M
 clear-all-spec =

@@ -1,10 +1,6 @@
 use borrow.Author.Needs.{needs}
 use Rattle.measures.proofs.flat_mark.Statement.{statement}
 use Rattle.measures.proofs.flat_mark.Tie as tie
-use Rattle.measures.proofs.flat_mark.Reads as reads
-use Rattle.measures.proofs.flat_mark.Lts as lts
-use Rattle.measures.proofs.flag.Reads as flag-reads
-use Rattle.topology.proofs.stats.RegionStats.elevation_kinds.Reads as elevation-kinds-reads
 
 elevation-kinds-requires : tie.Need-elevation-kinds-requires
 elevation-kinds-requires c κs = search needs

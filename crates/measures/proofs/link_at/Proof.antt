@@ -4,11 +4,6 @@ use borrow.Author.Needs.{needs}
 use Rattle.measures.proofs.Reading.{span-bounded, same-value}
 use Rattle.measures.proofs.link_at.Statement.{statement}
 use Rattle.measures.proofs.link_at.Tie as tie
-use Rattle.measures.proofs.link_at.Reads as reads
-use Rattle.measures.proofs.link_at.Lts as lts
-use Rattle.links.proofs.link.link_of.Reads as link-of-reads
-use Rattle.marking.proofs.spans.span_at.Reads as span-at-reads
-use Rattle.wire.proofs.size.Reads as size-reads
 
 size-requires : tie.Need-size-requires
 size-requires c κs = search needs
@@ -35,10 +30,27 @@ element-copy-out-link-of-2 : tie.Need-element-copy-out-link-of-2
 element-copy-out-link-of-2 c = search needs
 
 link-of-requires : tie.Need-link-of-requires
-link-of-requires c κs = let p = (c .before .before .before .before .before .before .pre) in (span-bounded (p .0) (c .before .before .before .before .before .size .result) (omega (arith, c .before .before .before .before .before .size .ensures .0, p .1)) (c .before .before .before .span-at .ensures), span-bounded (p .0) (c .before .before .before .before .size2 .result) (omega (arith, c .before .before .before .before .size2 .ensures .0, p .2)) (c .before .span-at2 .ensures), p .0 .width (c .before .before .before .before .before .size .result) (omega (arith, c .before .before .before .before .before .size .ensures .0, p .1)), p .0 .width (c .before .before .before .before .size2 .result) (omega (arith, c .before .before .before .before .size2 .ensures .0, p .2)))
+link-of-requires c κs =
+    let after-span-at = c .before .before .before in
+    let after-size2 = after-span-at .before in
+    let after-size = after-size2 .before in
+    let start = after-size .before in
+    let p = (start .pre) in (
+      span-bounded (p .0) (after-size .size .result) (omega (arith, after-size .size .ensures .0, p .1))
+          (after-span-at .span-at .ensures),
+      span-bounded (p .0) (after-size2 .size2 .result) (omega (arith, after-size2 .size2 .ensures .0, p .2)) (c .before .span-at2 .ensures),
+      p .0 .width (after-size .size .result) (omega (arith, after-size .size .ensures .0, p .1)),
+      p .0 .width (after-size2 .size2 .result) (omega (arith, after-size2 .size2 .ensures .0, p .2)),
+    )
 
 returns : tie.Need-returns
-returns c = c .link-of .ensures ∙ same-value (c .before .before .before .before .before .before .before .args .own .now) (c .before .before .before .before .before .before .before .args .bits .now) (c .before .before .before .before .span-at .ensures) (c .before .before .span-at2 .ensures) (c .before .before .before .before .before .before .size .ensures .0) (c .before .before .before .before .before .size2 .ensures .0)
+returns c =
+    let after-span-at = c .before .before .before .before in
+    let after-size2 = after-span-at .before in
+    let after-size = after-size2 .before in
+    let start = after-size .before in
+    c .link-of .ensures ∙ same-value (start .args .own .now) (start .args .bits .now) (after-span-at .span-at .ensures) (c .before .before .span-at2 .ensures)
+    (after-size .size .ensures .0) (after-size2 .size2 .ensures .0)
 
 pub link-at-spec : {M : Type 1} → statement M
 link-at-spec =

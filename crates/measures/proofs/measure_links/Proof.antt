@@ -15,7 +15,8 @@ returns c = (refl, none-measured (c .if1 .taken))
 
 mul-if2 : tie.Need-mul-if2
 mul-if2 c =
-    let p = c .before .before .before .pre in
+    let start = c .before .before .before in
+    let p = start .pre in
     omega (arith, p .3 .few, mul-le-mul (p .3 .few) (area (p .0 .wide) (p .0 .high) (p .1)))
 
 measure-few-requires : tie.Need-measure-few-requires
@@ -26,7 +27,8 @@ same-length c = search needs
 
 returns-2 : tie.Need-returns-2
 returns-2 c =
-    let a = c .before .before .before .before .before .before .before .before .args in
+    let start = c .before .before .before .before .before .before .before .before in
+    let a = start .args in
     (refl, judged-measured (labels-many (a .work .now) (length (a .cells .now))) (c .measure-few .ensures))
 
 cast-count : tie.Need-cast-count
@@ -34,29 +36,37 @@ cast-count c = search needs
 
 number-all-requires : tie.Need-number-all-requires
 number-all-requires c κs =
-    let p = c .before .before .before .before .before .pre in
+    let start = c .before .before .before .before .before in
+    let p = start .pre in
     (area (p .0 .wide) (p .0 .high) (p .1), p .2, p .3)
 
 measure-all-requires : tie.Need-measure-all-requires
 measure-all-requires c κs =
-    let p = c .before .before .before .before .before .before .before .before .before .before .before .pre in
-    (p .0, p .1, p .5, p .4, written-numbered (p .2) (c .before .before .before .before .before .number-all .ensures) (p .3))
+    let after-number-all = c .before .before .before .before .before in
+    let start = after-number-all .before .before .before .before .before .before in
+    let p = start .pre in
+    (p .0, p .1, p .5, p .4, written-numbered (p .2) (after-number-all .number-all .ensures) (p .3))
 
 clear-all-requires : tie.Need-clear-all-requires
 clear-all-requires c κs =
-    let p = c .before .before .before .before .before .before .before .before .before .before .before .before .before .pre in
-    (area (p .0 .wide) (p .0 .high) (p .1), omega (arith, p .2 .room, c .before .before .before .before .before .before .before .number-all .ensures .table .as-long), p .3)
+    let after-number-all = c .before .before .before .before .before .before .before in
+    let start = after-number-all .before .before .before .before .before .before in
+    let p = start .pre in
+    (area (p .0 .wide) (p .0 .high) (p .1), omega (arith, p .2 .room, after-number-all .number-all .ensures .table .as-long), p .3)
 
 same-length-2 : tie.Need-same-length-2
 same-length-2 c = search needs
 
 returns-3 : tie.Need-returns-3
 returns-3 c =
-    let a = c .before .before .before .before .before .before .before .before .before .before .before .before .before .before .before .before .args in
-    let p = c .before .before .before .before .before .before .before .before .before .before .before .before .before .before .before .before .pre in
-    let numbered = c .before .before .before .before .before .before .before .before .before .before .number-all .ensures in (
+    let after-measure-all = c .before .before .before .before in
+    let after-number-all = after-measure-all .before .before .before .before .before .before in
+    let start = after-number-all .before .before .before .before .before .before in
+    let a = start .args in
+    let p = start .pre in
+    let numbered = after-number-all .number-all .ensures in (
       c .before .before .clear-all .ensures (a .work .now) (p .2) numbered,
-      measured-by (labels-many (a .work .now) (length (a .cells .now))) (written-labels (p .2) numbered) (c .before .before .before .before .measure-all .ensures),
+      measured-by (labels-many (a .work .now) (length (a .cells .now))) (written-labels (p .2) numbered) (after-measure-all .measure-all .ensures),
     )
 
 pub measure-links-spec : {M : Type 1} → statement M

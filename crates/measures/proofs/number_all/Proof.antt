@@ -8,10 +8,6 @@ use Rattle.measures.specs.Tables.{Written}
 use Rattle.measures.proofs.Writing.{write-start, write-next}
 use Rattle.measures.proofs.number_all.Statement.{statement}
 use Rattle.measures.proofs.number_all.Tie as tie
-use Rattle.measures.proofs.number_all.Reads as reads
-use Rattle.measures.proofs.number_all.Lts as lts
-use Rattle.measures.proofs.put_word.Reads as put-word-reads
-use Rattle.wire.proofs.size.Reads as size-reads
 
 abbrev Inv-loop : tie.InvT-loop
 Inv-loop work₀ n regions links k₀ work k = (k ≤ links) × Written work₀ work n regions k
@@ -29,28 +25,60 @@ mul-put-word : tie.Need-mul-put-word Inv-loop μ-loop
 mul-put-word c = search needs
 
 element-copy-out-put-word : tie.Need-element-copy-out-put-word Inv-loop μ-loop
-element-copy-out-put-word c = omega (arith, c .size .ensures .0, c .before .before .loop-test .taken, c .before .before .before .before .before .pre .2 .few)
+element-copy-out-put-word c =
+    let start = c .before .before .before .before .before in
+    omega (arith, c .size .ensures .0, c .before .before .loop-test .taken, start .pre .2 .few)
 
 add-put-word : tie.Need-add-put-word Inv-loop μ-loop
-add-put-word c = omega (arith, c .before .before .before .loop-test .taken, c .before .before .before .before .before .before .pre .2 .few)
+add-put-word c =
+    let turning = c .before .before .before in
+    let start = turning .before .before .before in
+    omega (arith, turning .loop-test .taken, start .pre .2 .few)
 
 put-word-requires : tie.Need-put-word-requires Inv-loop μ-loop
-put-word-requires c κs = let t = ap (at (c .before .before .before .before .before .before .args .regions .now)) (c .before .size .ensures .0) in (omega (arith, t, c .before .before .before .before .before .before .pre .2 .from (c .before .before .before .before .loop .k) (c .before .before .before .loop-test .taken)), omega (arith, t, c .before .before .before .before .before .before .pre .2 .to (c .before .before .before .before .loop .k) (c .before .before .before .loop-test .taken)), c .before .before .before .before .before .before .pre .0, omega (arith, c .before .before .before .before .before .before .pre .1 .room, c .before .before .before .before .loop .inv .1 .table .as-long))
+put-word-requires c κs =
+    let turning = c .before .before .before in
+    let in-loop = turning .before in
+    let start = in-loop .before .before in
+    let t = ap (at (start .args .regions .now)) (c .before .size .ensures .0) in (
+      omega (arith, t, start .pre .2 .from (in-loop .loop .k) (turning .loop-test .taken)),
+      omega (arith, t, start .pre .2 .to (in-loop .loop .k) (turning .loop-test .taken)),
+      start .pre .0,
+      omega (arith, start .pre .1 .room, in-loop .loop .inv .1 .table .as-long),
+    )
 
 add-k : tie.Need-add-k Inv-loop μ-loop
-add-k c = omega (arith, c .before .before .before .before .before .before .loop-test .taken, c .before .before .before .before .before .before .before .before .before .pre .2 .few)
+add-k c =
+    let turning = c .before .before .before .before .before .before in
+    let start = turning .before .before .before in
+    omega (arith, turning .loop-test .taken, start .pre .2 .few)
 
 loop-less : tie.Need-loop-less Inv-loop μ-loop
-loop-less c = omega (arith, c .before .before .before .before .before .before .loop-test .taken)
+loop-less c =
+    let turning = c .before .before .before .before .before .before in
+    omega (arith, turning .loop-test .taken)
 
 loop-again : tie.Need-loop-again Inv-loop μ-loop
-loop-again c = (omega (arith, c .before .before .before .before .before .before .loop-test .taken), write-next (c .before .before .before .before .before .before .before .before .before .pre .2) (c .before .before .before .before .before .before .before .before .before .pre .1 .room) (c .before .before .before .before .before .before .loop-test .taken) (c .before .before .before .before .before .before .before .loop .inv .1) (c .before .before .put-word .ensures ∙ ap (λ (z : ℕ). splice (c .before .before .before .before .before .before .before .loop .work) (4 * c .before .before .before .before .before .before .before .before .before .args .n + 4 * (at (c .before .before .before .before .before .before .before .before .before .args .regions .now) z - 1)) (u32Bytes (c .before .before .before .before .before .before .before .loop .k + 1))) (c .before .before .before .before .size .ensures .0)))
+loop-again c =
+    let after-size = c .before .before .before .before in
+    let turning = after-size .before .before in
+    let in-loop = turning .before in
+    let start = in-loop .before .before in (
+      omega (arith, turning .loop-test .taken),
+      write-next (start .pre .2) (start .pre .1 .room) (turning .loop-test .taken) (in-loop .loop .inv .1)
+          (c .before .before .put-word .ensures
+          ∙ ap (λ (z : ℕ). splice (in-loop .loop .work) (4 * start .args .n + 4 * (at (start .args .regions .now) z - 1)) (u32Bytes (in-loop .loop .k + 1)))
+          (after-size .size .ensures .0)),
+    )
 
 same-length : tie.Need-same-length Inv-loop μ-loop
 same-length c = c .before .loop .inv .1 .table .as-long
 
 returns : tie.Need-returns Inv-loop μ-loop
-returns c = subst (Written _ _ _ _) (let z : c .before .loop .k ≡ c .before .before .before .args .links = omega (arith, c .before .loop .inv .0, c .loop-test .left) in z) (c .before .loop .inv .1)
+returns c =
+    let start = c .before .before .before in
+    let inv = c .before .loop .inv in
+    subst (Written _ _ _ _) (let z : c .before .loop .k ≡ start .args .links = omega (arith, inv .0, c .loop-test .left) in z) (inv .1)
 
 pub number-all-spec : {M : Type 1} → statement M
 number-all-spec =

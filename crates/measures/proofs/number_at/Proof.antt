@@ -6,10 +6,6 @@ use Rattle.wire.specs.Bytes.{u32At}
 use Rattle.measures.proofs.Reading.{number-zero, number-word}
 use Rattle.measures.proofs.number_at.Statement.{statement}
 use Rattle.measures.proofs.number_at.Tie as tie
-use Rattle.measures.proofs.number_at.Reads as reads
-use Rattle.measures.proofs.number_at.Lts as lts
-use Rattle.wire.proofs.read_u32.Reads as read-u32-reads
-use Rattle.wire.proofs.size.Reads as size-reads
 
 mul-read-u32 : tie.Need-mul-read-u32
 mul-read-u32 c = search needs
@@ -18,7 +14,10 @@ read-u32-requires : tie.Need-read-u32-requires
 read-u32-requires c κs = search needs
 
 returns : tie.Need-returns
-returns c = number-zero (c .before .before .before .args .work .now) (c .before .before .before .args .n) (let t : c .before .read-u32 .result ≡ 0 = omega (arith, c .if1 .taken) in sym (c .before .read-u32 .ensures) ∙ t)
+returns c =
+    let start = c .before .before .before in
+    number-zero (start .args .work .now) (start .args .n)
+    (let t : c .before .read-u32 .result ≡ 0 = omega (arith, c .if1 .taken) in sym (c .before .read-u32 .ensures) ∙ t)
 
 mul-read-u32-2 : tie.Need-mul-read-u32-2
 mul-read-u32-2 c = search needs
@@ -39,7 +38,14 @@ read-u32-requires-2 : tie.Need-read-u32-requires-2
 read-u32-requires-2 c κs = search needs
 
 returns-2 : tie.Need-returns-2
-returns-2 c = let q = c .before .before .before .read-u32 .ensures in let s : 4 * c .before .before .before .before .before .args .n + 4 * c .before .size .result ≡ 4 * c .before .before .before .before .before .args .n + 4 * (u32At (c .before .before .before .before .before .args .work .now) (4 * c .before .before .before .before .before .args .i) - 1) = omega (arith, c .before .size .ensures .0, q) in c .read-u322 .ensures ∙ (ap (u32At (c .before .before .before .before .before .args .work .now)) s ∙ number-word (c .before .before .before .before .before .args .work .now) (c .before .before .before .before .before .args .n) (λ e. omega (arith, e, q, c .before .before .if1 .left)))
+returns-2 c =
+    let after-read-u32 = c .before .before .before in
+    let start = after-read-u32 .before .before in
+    let work = start .args .work .now in
+    let n = start .args .n in
+    let q = after-read-u32 .read-u32 .ensures in
+    let s : 4 * n + 4 * c .before .size .result ≡ 4 * n + 4 * (u32At work (4 * start .args .i) - 1) = omega (arith, c .before .size .ensures .0, q) in
+    c .read-u322 .ensures ∙ (ap (u32At work) s ∙ number-word work n (λ e. omega (arith, e, q, c .before .before .if1 .left)))
 
 pub number-at-spec : {M : Type 1} → statement M
 number-at-spec =

@@ -1,11 +1,6 @@
 use borrow.Author.Needs.{needs}
 use Rattle.measures.proofs.passing_mark.Statement.{statement}
 use Rattle.measures.proofs.passing_mark.Tie as tie
-use Rattle.measures.proofs.passing_mark.Reads as reads
-use Rattle.measures.proofs.passing_mark.Lts as lts
-use Rattle.links.proofs.link.Link.measured.Reads as measured-reads
-use Rattle.links.proofs.link.Measured.passing.Reads as passing-reads
-use Rattle.measures.proofs.flag.Reads as flag-reads
 
 measured-requires : tie.Need-measured-requires
 measured-requires c κs = search needs

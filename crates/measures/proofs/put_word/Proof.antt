@@ -5,10 +5,6 @@ use borrow.Author.Needs.{needs}
 use Rattle.wire.specs.Bytes.{splice, u32Bytes}
 use Rattle.measures.proofs.put_word.Statement.{statement}
 use Rattle.measures.proofs.put_word.Tie as tie
-use Rattle.measures.proofs.put_word.Reads as reads
-use Rattle.measures.proofs.put_word.Lts as lts
-use Rattle.wire.proofs.size.Reads as size-reads
-use Rattle.wire.proofs.write_u32.Reads as write-u32-reads
 
 mul-write-u32 : tie.Need-mul-write-u32
 mul-write-u32 c = search needs
@@ -32,7 +28,12 @@ same-length : tie.Need-same-length
 same-length c = search needs
 
 returns : tie.Need-returns
-returns c = let s : 4 * c .before .before .before .before .before .before .args .n + 4 * c .before .before .before .size .result ≡ 4 * c .before .before .before .before .before .before .args .n + 4 * (c .before .before .before .before .before .before .args .label - 1) = omega (arith, c .before .before .before .size .ensures .0) in c .before .before .write-u32 .ensures ∙ ap (λ (i : ℕ). splice (c .before .before .before .before .before .before .args .work .now) i (u32Bytes (c .before .before .before .before .before .before .args .v))) s
+returns c =
+    let after-size = c .before .before .before in
+    let start = after-size .before .before .before in
+    let s : 4 * start .args .n + 4 * after-size .size .result ≡ 4 * start .args .n + 4 * (start .args .label - 1) =
+    omega (arith, after-size .size .ensures .0) in
+    c .before .before .write-u32 .ensures ∙ ap (λ (i : ℕ). splice (start .args .work .now) i (u32Bytes (start .args .v))) s
 
 pub put-word-spec : {M : Type 1} → statement M
 put-word-spec =

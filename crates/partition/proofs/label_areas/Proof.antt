@@ -17,29 +17,32 @@ mark-spans-requires c κs = search needs
 
 write-dues-requires : tie.Need-write-dues-requires
 write-dues-requires c κs =
-    let start = c .before .before .before .before .before .before .before in
+    let at-mark-spans = c .before .before .before in
+    let start = at-mark-spans .before .before .before .before in
     let args = start .args in
     let p = start .pre in
     let dirs = directionsOf (args .directions) in
     let g = mapOf (args .width) (args .height) (args .cells .now) in
     let ss = spansIn (args .ends .now) (args .count) in
     let base = 4 * length (args .cells .now) in
-    let mark = c .before .before .before .mark-spans in
+    let mark = at-mark-spans .mark-spans in
     let opened = marked-open dirs g ss base (args .work .now) (p .room) (omega arith) (mark .ensures) in
     (omega (arith, opened .long, p .room), omega (arith, p .whole, few-cells (p .sides), p .sides .wide))
 
 components-requires : tie.Need-components-requires
 components-requires c κs =
-    let start = c .before .before .before .before .before .before .before .before .before .before .before in
+    let after-write-dues = c .before .before .before in
+    let at-mark-spans = after-write-dues .before .before .before .before in
+    let start = at-mark-spans .before .before .before .before in
     let args = start .args in
     let p = start .pre in
     let dirs = directionsOf (args .directions) in
     let g = mapOf (args .width) (args .height) (args .cells .now) in
     let ss = spansIn (args .ends .now) (args .count) in
     let base = 4 * length (args .cells .now) in
-    let mark = c .before .before .before .before .before .before .before .mark-spans in
+    let mark = at-mark-spans .mark-spans in
     let opened = marked-open dirs g ss base (args .work .now) (p .room) (omega arith) (mark .ensures) in
-    let due = c .before .before .before .write-dues .ensures in
+    let due = after-write-dues .write-dues .ensures in
     let marked = marked-due dirs g ss base (args .work .now) (p .room) (omega arith) opened due in
     let sound = marked-sound dirs g ss base (args .work .now) (p .room) (p .each) marked in
     let there = due-there dirs g ss base (args .work .now) (p .room) (omega arith) opened due in
@@ -51,16 +54,18 @@ same-length c = search needs
 
 returns : tie.Need-returns
 returns c =
-    let start = c .before .before .before .before .before .before .before .before .before .before .before .before .before .before in
+    let after-write-dues = c .before .before .before .before .before .before in
+    let at-mark-spans = after-write-dues .before .before .before .before in
+    let start = at-mark-spans .before .before .before .before in
     let args = start .args in
     let p = start .pre in
     let dirs = directionsOf (args .directions) in
     let g = mapOf (args .width) (args .height) (args .cells .now) in
     let ss = spansIn (args .ends .now) (args .count) in
     let base = 4 * length (args .cells .now) in
-    let mark = c .before .before .before .before .before .before .before .before .before .before .mark-spans in
+    let mark = at-mark-spans .mark-spans in
     let opened = marked-open dirs g ss base (args .work .now) (p .room) (omega arith) (mark .ensures) in
-    let due = c .before .before .before .before .before .before .write-dues .ensures in
+    let due = after-write-dues .write-dues .ensures in
     let marked = marked-due dirs g ss base (args .work .now) (p .room) (omega arith) opened due in
     areas-in dirs g ss base (args .work .now) (p .room) (p .each) marked (c .before .before .components .ensures)
 

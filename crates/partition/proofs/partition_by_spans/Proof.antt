@@ -7,11 +7,10 @@ use Rattle.partition.proofs.Labelling.{few-cells}
 use Rattle.partition.proofs.Parting.{lent-long, room-after, all-parted}
 use Rattle.partition.proofs.partition_by_spans.Statement.{statement}
 use Rattle.partition.proofs.partition_by_spans.Tie as tie
-use Rattle.partition.proofs.partition_by_spans.Reads as reads
-use Rattle.partition.proofs.partition_by_spans.Lts as lts
-use Rattle.assessments.proofs.spans.assess_spans.Reads as assess-spans-reads
-use Rattle.components.proofs.zero_fill.Reads as zero-fill-reads
-use Rattle.partition.proofs.label_areas.Reads as label-areas-reads
+
+-- what the function is given and asked: the places since only say that its slices have lengths
+abbrev start-of : tie.After-slice-known6 → tie.Start
+start-of c = c .before .before .before .before .before .before .before
 
 label-areas-requires : tie.Need-label-areas-requires
 label-areas-requires c κs = search needs
@@ -30,19 +29,43 @@ part-assess-spans-end c = search needs
 
 assess-spans-requires : tie.Need-assess-spans-requires
 assess-spans-requires c κs =
-    let p = c .before .before .before .before .before .before .before .before .before .before .before .before .before .before .before .before .before .before .pre .0 in (
-      record { sides = p .sides; whole = p .whole; labelled = lent-long (directionsOf (c .before .before .before .before .before .before .before .before .before .before .before .before .before .before .before .before .before .before .args .directions)) (mapOf (c .before .before .before .before .before .before .before .before .before .before .before .before .before .before .before .before .before .before .args .width) (c .before .before .before .before .before .before .before .before .before .before .before .before .before .before .before .before .before .before .args .height) (c .before .before .before .before .before .before .before .before .before .before .before .before .before .before .before .before .before .before .args .cells .now)) (spansIn (c .before .before .before .before .before .before .before .before .before .before .before .before .before .before .before .before .before .before .args .ends .now) (c .before .before .before .before .before .before .before .before .before .before .before .before .before .before .before .before .before .before .args .count)) (c .before .before .before .before .before .before .before .before .before .label-areas .ensures) (p .whole); spans = p .spans; few = p .few },
-      c .before .before .before .before .before .before .before .before .before .before .before .before .before .before .before .before .before .before .pre .1,
+    let after-label-areas = c .before .before .before .before .before .before .before .before .before in
+    let start = start-of (after-label-areas .before .before) in
+    let p = start .pre .0 in (
+      record {
+        sides = p .sides;
+        whole = p .whole;
+        labelled = lent-long (directionsOf (start .args .directions)) (mapOf (start .args .width) (start .args .height) (start .args .cells .now))
+            (spansIn (start .args .ends .now) (start .args .count)) (after-label-areas .label-areas .ensures) (p .whole);
+        spans = p .spans;
+        few = p .few;
+      },
+      start .pre .1,
     )
 
 mul-zero-fill : tie.Need-mul-zero-fill
-mul-zero-fill c = omega (arith, c .before .before .before .before .before .before .before .before .before .before .before .before .before .before .before .before .before .before .before .before .before .before .before .before .before .before .before .before .before .before .pre .0 .whole, few-cells (c .before .before .before .before .before .before .before .before .before .before .before .before .before .before .before .before .before .before .before .before .before .before .before .before .before .before .before .before .before .before .pre .0 .sides))
+mul-zero-fill c =
+    let start =
+    start-of
+    (c .before .before .before .before .before .before .before .before .before .before .before .before .before .before .before .before .before .before .before .before .before .before .before) in
+    omega (arith, start .pre .0 .whole, few-cells (start .pre .0 .sides))
 
 mul-zero-fill-2 : tie.Need-mul-zero-fill-2
-mul-zero-fill-2 c = omega (arith, c .before .before .before .before .before .before .before .before .before .before .before .before .before .before .before .before .before .before .before .before .before .before .before .before .before .before .before .before .before .before .pre .0 .whole, few-cells (c .before .before .before .before .before .before .before .before .before .before .before .before .before .before .before .before .before .before .before .before .before .before .before .before .before .before .before .before .before .before .pre .0 .sides))
+mul-zero-fill-2 c =
+    let start =
+    start-of
+    (c .before .before .before .before .before .before .before .before .before .before .before .before .before .before .before .before .before .before .before .before .before .before .before) in
+    omega (arith, start .pre .0 .whole, few-cells (start .pre .0 .sides))
 
 zero-fill-requires : tie.Need-zero-fill-requires
-zero-fill-requires c κs = (omega arith, room-after (directionsOf (c .before .before .before .before .before .before .before .before .before .before .before .before .before .before .before .before .before .before .before .before .before .before .before .before .before .before .before .before .before .before .args .directions)) (mapOf (c .before .before .before .before .before .before .before .before .before .before .before .before .before .before .before .before .before .before .before .before .before .before .before .before .before .before .before .before .before .before .args .width) (c .before .before .before .before .before .before .before .before .before .before .before .before .before .before .before .before .before .before .before .before .before .before .before .before .before .before .before .before .before .before .args .height) (c .before .before .before .before .before .before .before .before .before .before .before .before .before .before .before .before .before .before .before .before .before .before .before .before .before .before .before .before .before .before .args .cells .now)) (spansIn (c .before .before .before .before .before .before .before .before .before .before .before .before .before .before .before .before .before .before .before .before .before .before .before .before .before .before .before .before .before .before .args .ends .now) (c .before .before .before .before .before .before .before .before .before .before .before .before .before .before .before .before .before .before .before .before .before .before .before .before .before .before .before .before .before .before .args .count)) (c .before .before .before .before .before .before .before .before .before .before .before .before .before .before .before .before .before .before .before .before .before .label-areas .ensures) (c .before .before .before .before .before .before .before .before .before .before .before .before .before .before .before .before .before .before .before .before .before .before .before .before .before .before .before .before .before .before .pre .0 .room))
+zero-fill-requires c κs =
+    let after-label-areas =
+    c .before .before .before .before .before .before .before .before .before .before .before .before .before .before .before .before .before .before .before .before .before in
+    let start = start-of (after-label-areas .before .before) in (
+      omega arith,
+      room-after (directionsOf (start .args .directions)) (mapOf (start .args .width) (start .args .height) (start .args .cells .now))
+          (spansIn (start .args .ends .now) (start .args .count)) (after-label-areas .label-areas .ensures) (start .pre .0 .room),
+    )
 
 same-length : tie.Need-same-length
 same-length c = search needs
@@ -64,8 +87,13 @@ same-length-6 c = search needs
 
 returns : tie.Need-returns
 returns c =
-    let p = c .before .before .before .before .before .before .before .before .before .before .before .before .before .before .before .before .before .before .before .before .before .before .before .before .before .before .before .before .before .before .before .before .before .pre .0 in
-    all-parted (directionsOf (c .before .before .before .before .before .before .before .before .before .before .before .before .before .before .before .before .before .before .before .before .before .before .before .before .before .before .before .before .before .before .before .before .before .args .directions)) (mapOf (c .before .before .before .before .before .before .before .before .before .before .before .before .before .before .before .before .before .before .before .before .before .before .before .before .before .before .before .before .before .before .before .before .before .args .width) (c .before .before .before .before .before .before .before .before .before .before .before .before .before .before .before .before .before .before .before .before .before .before .before .before .before .before .before .before .before .before .before .before .before .args .height) (c .before .before .before .before .before .before .before .before .before .before .before .before .before .before .before .before .before .before .before .before .before .before .before .before .before .before .before .before .before .before .before .before .before .args .cells .now)) (c .before .before .before .before .before .before .before .before .before .before .before .before .before .before .before .before .before .before .before .before .before .before .before .before .before .before .before .before .before .before .before .before .before .args .ends .now) (c .before .before .before .before .before .before .before .before .before .before .before .before .before .before .before .before .before .before .before .before .before .before .before .before .before .before .before .before .before .before .before .before .before .args .count) (omega (arith, p .whole, few-cells (p .sides))) (p .whole) (c .before .before .before .before .before .before .before .before .before .before .before .before .before .before .before .before .before .before .before .before .before .before .before .before .label-areas .ensures) (c .before .before .before .before .before .before .before .before .before .before .before .before .before .before .assess-spans .ensures) (c .before .before .zero-fill .ensures) (omega arith) (omega arith)
+    let after-assess-spans = c .before .before .before .before .before .before .before .before .before .before .before .before .before .before in
+    let after-label-areas = after-assess-spans .before .before .before .before .before .before .before .before .before .before in
+    let start = start-of (after-label-areas .before .before) in
+    let p = start .pre .0 in
+    all-parted (directionsOf (start .args .directions)) (mapOf (start .args .width) (start .args .height) (start .args .cells .now)) (start .args .ends .now)
+    (start .args .count) (omega (arith, p .whole, few-cells (p .sides))) (p .whole) (after-label-areas .label-areas .ensures)
+    (after-assess-spans .assess-spans .ensures) (c .before .before .zero-fill .ensures) (omega arith) (omega arith)
 
 pub partition-by-spans-spec : {M : Type 1} → statement M
 partition-by-spans-spec =

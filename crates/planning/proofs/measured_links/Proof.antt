@@ -2,10 +2,10 @@ use borrow.Author.Needs.{needs}
 use Rattle.planning.proofs.ReadyLaws.{findable, measurable, links-found}
 use Rattle.planning.proofs.measured_links.Statement.{statement}
 use Rattle.planning.proofs.measured_links.Tie as tie
-use Rattle.planning.proofs.measured_links.Reads as reads
-use Rattle.planning.proofs.measured_links.Lts as lts
-use Rattle.candidates.proofs.candidate_links.Reads as candidate-links-reads
-use Rattle.measures.proofs.measure_links.Reads as measure-links-reads
+
+-- what the function is given and asked: the places since only say that its slices have lengths
+abbrev start-of : tie.After-shared-slice-known5 → tie.Start
+start-of c = c .before .before .before .before .before .before
 
 mul-candidate-links : tie.Need-mul-candidate-links
 mul-candidate-links c = search needs
@@ -20,16 +20,27 @@ part-candidate-links-end : tie.Need-part-candidate-links-end
 part-candidate-links-end c = search needs
 
 candidate-links-requires : tie.Need-candidate-links-requires
-candidate-links-requires c κs = findable (c .before .before .before .before .before .before .before .before .before .before .before .before .before .before .pre)
+candidate-links-requires c κs =
+    let start = start-of (c .before .before .before .before .before .before .before .before) in
+    findable (start .pre)
 
 measure-links-requires : tie.Need-measure-links-requires
-measure-links-requires c κs = measurable (c .before .before .before .before .before .before .before .before .before .before .before .before .before .before .before .before .before .before .before .before .before .pre) (c .before .before .before .before .before .before .candidate-links .ensures)
+measure-links-requires c κs =
+    let after-candidate-links = c .before .before .before .before .before .before in
+    let start = start-of (after-candidate-links .before .before .before .before .before .before .before .before .before) in
+    measurable (start .pre) (after-candidate-links .candidate-links .ensures)
 
 same-length : tie.Need-same-length
 same-length c = search needs
 
 returns : tie.Need-returns
-returns c = (c .before .before .measure-links .ensures .0, links-found (c .before .before .before .before .before .before .before .before .before .before .before .before .before .before .before .before .before .before .before .before .before .before .before .before .pre) (c .before .before .before .before .before .before .before .before .before .candidate-links .ensures) (c .before .before .measure-links .ensures .1))
+returns c =
+    let after-measure-links = c .before .before in
+    let after-candidate-links = after-measure-links .before .before .before .before .before .before .before in
+    let start = start-of (after-candidate-links .before .before .before .before .before .before .before .before .before) in (
+      after-measure-links .measure-links .ensures .0,
+      links-found (start .pre) (after-candidate-links .candidate-links .ensures) (after-measure-links .measure-links .ensures .1),
+    )
 
 pub measured-links-spec : {M : Type 1} → statement M
 measured-links-spec =

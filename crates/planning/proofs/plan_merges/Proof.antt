@@ -2,10 +2,6 @@ use borrow.Author.Needs.{needs}
 use Rattle.planning.proofs.ReadyLaws.{fit, planned}
 use Rattle.planning.proofs.plan_merges.Statement.{statement}
 use Rattle.planning.proofs.plan_merges.Tie as tie
-use Rattle.planning.proofs.plan_merges.Reads as reads
-use Rattle.planning.proofs.plan_merges.Lts as lts
-use Rattle.plan.proofs.merge.merge_plan.Reads as merge-plan-reads
-use Rattle.planning.proofs.measured_links.Reads as measured-links-reads
 
 measured-links-requires : tie.Need-measured-links-requires
 measured-links-requires c κs = search needs

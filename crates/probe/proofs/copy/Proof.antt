@@ -60,7 +60,9 @@ loop-less : tie.Need-loop-less Inv-loop μ-loop
 loop-less c = search needs
 
 loop-again : tie.Need-loop-again Inv-loop μ-loop
-loop-again c = started-next (c .before .before .loop .inv) (c .before .loop-test .taken) (c .before .before .before .if1 .left)
+loop-again c =
+    let if1-left = c .before .before .before in
+    started-next (c .before .before .loop .inv) (c .before .loop-test .taken) (if1-left .if1 .left)
 
 same-length : tie.Need-same-length Inv-loop μ-loop
 same-length c = c .before .loop .inv .same

@@ -14,7 +14,9 @@ detail-requires : tie.Need-detail-requires
 detail-requires c κs = search needs
 
 returns : tie.Need-returns
-returns c = (c .before .number .ensures ∙ ap numberOf (c .before .before .verdict .ensures), c .detail .ensures ∙ ap detailOf (c .before .before .verdict .ensures))
+returns c =
+    let after-verdict = c .before .before in
+    (c .before .number .ensures ∙ ap numberOf (after-verdict .verdict .ensures), c .detail .ensures ∙ ap detailOf (after-verdict .verdict .ensures))
 
 pub probe-check-spec : {M : Type 1} → statement M
 probe-check-spec = tie.close (tie.spec verdict-requires number-requires detail-requires returns)

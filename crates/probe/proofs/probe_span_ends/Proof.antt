@@ -7,6 +7,10 @@ use borrow.Author.Needs.{needs}
 use Rattle.probe.proofs.probe_span_ends.Statement.{statement}
 use Rattle.probe.proofs.probe_span_ends.Tie as tie
 
+-- what the function is given and asked: the places since only say that its slices have lengths
+abbrev start-of : tie.After-slice-known → tie.Start
+start-of c = c .before .before .before
+
 span-ends-requires : tie.Need-span-ends-requires
 span-ends-requires c κs = search needs
 
@@ -17,7 +21,14 @@ same-length : tie.Need-same-length
 same-length c = search needs
 
 returns : tie.Need-returns
-returns c = (c .before .before .copy .ensures .0 ∙ ap (λ (l : List ℕ). length l) (c .before .before .before .span-ends .ensures .bytes-are), c .before .before .copy .ensures .1 ∙ ap (copied (c .before .before .before .before .before .before .before .before .args .out .now)) (c .before .before .before .span-ends .ensures .bytes-are))
+returns c =
+    let after-copy = c .before .before in
+    let after-span-ends = after-copy .before in
+    let start = start-of (after-span-ends .before .before) in (
+      after-copy .copy .ensures .0 ∙ ap (λ (l : List ℕ). length l) (after-span-ends .span-ends .ensures .bytes-are),
+      after-copy .copy .ensures .1
+          ∙ ap (copied (start .args .out .now)) (after-span-ends .span-ends .ensures .bytes-are),
+    )
 
 pub probe-span-ends-spec : {M : Type 1} → statement M
 probe-span-ends-spec = tie.close (tie.spec span-ends-requires copy-requires same-length returns)

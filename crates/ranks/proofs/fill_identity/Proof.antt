@@ -6,8 +6,6 @@ use borrow.Author.Needs.{needs}
 use Rattle.ranks.proofs.Laws.{identity-next}
 use Rattle.ranks.proofs.fill_identity.Statement.{statement}
 use Rattle.ranks.proofs.fill_identity.Tie as tie
-use Rattle.ranks.proofs.fill_identity.Reads as reads
-use Rattle.ranks.proofs.fill_identity.Lts as lts
 
 abbrev Inv-loop : tie.InvT-loop
 Inv-loop order₀ i₀ order i = (length order ≡ 256) × ((k : ℕ) → k < i → getD order k 0 ≡ k) × (i ≤ 256)
@@ -34,10 +32,17 @@ loop-less : tie.Need-loop-less Inv-loop μ-loop
 loop-less c = search needs
 
 loop-again : tie.Need-loop-again Inv-loop μ-loop
-loop-again c = (length-set (c .before .loop .order) (c .before .loop .i) (c .before .loop .i) ∙ c .before .loop .inv .0, identity-next (c .before .loop .i) (c .before .loop .order) (c .before .loop .inv .0) (omega (arith, c .loop-test .taken)) (c .before .loop .inv .1), omega (arith, c .loop-test .taken))
+loop-again c =
+    let inv = c .before .loop .inv in (
+      length-set (c .before .loop .order) (c .before .loop .i) (c .before .loop .i) ∙ inv .0,
+      identity-next (c .before .loop .i) (c .before .loop .order) (inv .0) (omega (arith, c .loop-test .taken)) (inv .1),
+      omega (arith, c .loop-test .taken),
+    )
 
 returns : tie.Need-returns Inv-loop μ-loop
-returns c = record { whole = c .before .loop .inv .0; each = λ k h. c .before .loop .inv .1 k (omega (arith, c .loop-test .left)) }
+returns c =
+    let inv = c .before .loop .inv in
+    record { whole = inv .0; each = λ k h. inv .1 k (omega (arith, c .loop-test .left)) }
 
 pub fill-identity-spec : {M : Type 1} → statement M
 fill-identity-spec =

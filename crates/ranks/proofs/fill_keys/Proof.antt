@@ -7,11 +7,6 @@ use Rattle.ranks.specs.Tables.{KeysOf}
 use Rattle.ranks.proofs.Laws.{keys-start, keys-next}
 use Rattle.ranks.proofs.fill_keys.Statement.{statement}
 use Rattle.ranks.proofs.fill_keys.Tie as tie
-use Rattle.ranks.proofs.fill_keys.Reads as reads
-use Rattle.ranks.proofs.fill_keys.Lts as lts
-use Rattle.format.proofs.read_span.Reads as read-span-reads
-use Rattle.position.proofs.Span.canonical.Reads as canonical-reads
-use Rattle.ranks.proofs.pack.Reads as pack-reads
 
 abbrev Inv-loop : tie.InvT-loop
 Inv-loop s at n first₀ second₀ i₀ first second i = KeysOf s at 40 i first second × (i ≤ n)
@@ -59,10 +54,21 @@ loop-less : tie.Need-loop-less Inv-loop μ-loop
 loop-less c = search needs
 
 loop-again : tie.Need-loop-again Inv-loop μ-loop
-loop-again c = (keys-next (c .before .before .before .before .before .loop .inv .0) (omega (arith, c .before .before .before .before .loop-test .taken, c .before .before .before .before .before .before .before .pre .0)) (c .before .before .canonical .ensures ∙ ap canonical (c .before .before .before .read-span .ensures)) (c .before .pack .ensures) (c .pack2 .ensures), omega (arith, c .before .before .before .before .loop-test .taken))
+loop-again c =
+    let after-read-span = c .before .before .before in
+    let turning = after-read-span .before in
+    let in-loop = turning .before in
+    let start = in-loop .before .before in (
+      keys-next (in-loop .loop .inv .0) (omega (arith, turning .loop-test .taken, start .pre .0))
+          (c .before .before .canonical .ensures ∙ ap canonical (after-read-span .read-span .ensures)) (c .before .pack .ensures) (c .pack2 .ensures),
+      omega (arith, turning .loop-test .taken),
+    )
 
 returns : tie.Need-returns Inv-loop μ-loop
-returns c = let e : c .before .loop .i ≡ c .before .before .before .args .n = omega (arith, c .before .loop .inv .1, c .loop-test .left) in rw (← e) (c .before .loop .inv .0)
+returns c =
+    let start = c .before .before .before in
+    let inv = c .before .loop .inv in
+    let e : c .before .loop .i ≡ start .args .n = omega (arith, inv .1, c .loop-test .left) in rw (← e) (inv .0)
 
 pub fill-keys-spec : {M : Type 1} → statement M
 fill-keys-spec =

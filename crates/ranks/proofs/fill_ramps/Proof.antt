@@ -6,9 +6,6 @@ use Rattle.ranks.specs.Tables.{RampsOf}
 use Rattle.ranks.proofs.Laws.{ramps-start, ramps-next}
 use Rattle.ranks.proofs.fill_ramps.Statement.{statement}
 use Rattle.ranks.proofs.fill_ramps.Tie as tie
-use Rattle.ranks.proofs.fill_ramps.Reads as reads
-use Rattle.ranks.proofs.fill_ramps.Lts as lts
-use Rattle.ranks.proofs.record_place.Reads as record-place-reads
 
 abbrev Inv-loop : tie.InvT-loop
 Inv-loop s at order n ramps₀ i₀ ramps i = RampsOf s at order i ramps × (i ≤ n)
@@ -38,10 +35,19 @@ loop-less : tie.Need-loop-less Inv-loop μ-loop
 loop-less c = search needs
 
 loop-again : tie.Need-loop-again Inv-loop μ-loop
-loop-again c = (ramps-next (c .before .before .before .loop .inv .0) (omega (arith, c .before .before .loop-test .taken, c .before .before .before .before .before .pre .0 .few)) (c .before .record-place .ensures .0), omega (arith, c .before .before .loop-test .taken))
+loop-again c =
+    let turning = c .before .before in
+    let in-loop = turning .before in
+    let start = in-loop .before .before in (
+      ramps-next (in-loop .loop .inv .0) (omega (arith, turning .loop-test .taken, start .pre .0 .few)) (c .before .record-place .ensures .0),
+      omega (arith, turning .loop-test .taken),
+    )
 
 returns : tie.Need-returns Inv-loop μ-loop
-returns c = let e : c .before .loop .i ≡ c .before .before .before .args .n = omega (arith, c .before .loop .inv .1, c .loop-test .left) in rw (← e) (c .before .loop .inv .0)
+returns c =
+    let start = c .before .before .before in
+    let inv = c .before .loop .inv in
+    let e : c .before .loop .i ≡ start .args .n = omega (arith, inv .1, c .loop-test .left) in rw (← e) (inv .0)
 
 pub fill-ramps-spec : {M : Type 1} → statement M
 fill-ramps-spec =

@@ -7,12 +7,6 @@ use Rattle.ranks.specs.Tables.{SpansOf}
 use Rattle.ranks.proofs.Laws.{spans-start, spans-next}
 use Rattle.ranks.proofs.fill_spans.Statement.{statement}
 use Rattle.ranks.proofs.fill_spans.Tie as tie
-use Rattle.ranks.proofs.fill_spans.Reads as reads
-use Rattle.ranks.proofs.fill_spans.Lts as lts
-use Rattle.format.proofs.read_span.Reads as read-span-reads
-use Rattle.position.proofs.Span.canonical.Reads as canonical-reads
-use Rattle.ranks.proofs.put_span.Reads as put-span-reads
-use Rattle.ranks.proofs.record_place.Reads as record-place-reads
 
 abbrev Inv-loop : tie.InvT-loop
 Inv-loop s at stride order n ends₀ i₀ ends i = SpansOf s at stride order i ends × (i ≤ n)
@@ -42,10 +36,22 @@ loop-less : tie.Need-loop-less Inv-loop μ-loop
 loop-less c = search needs
 
 loop-again : tie.Need-loop-again Inv-loop μ-loop
-loop-again c = rw (c .put-span .ensures) (spans-next (c .before .before .before .before .before .before .loop .inv .0) (omega (arith, c .before .before .before .before .before .loop-test .taken, c .before .before .before .before .before .before .before .before .before .pre .0 .few)) (c .before .before .before .before .record-place .ensures .0) (c .before .canonical .ensures ∙ ap canonical (c .before .before .read-span .ensures)), omega (arith, c .before .before .before .before .before .loop-test .taken))
+loop-again c =
+    let after-record-place = c .before .before .before .before in
+    let turning = after-record-place .before in
+    let in-loop = turning .before in
+    let start = in-loop .before .before .before in
+    rw (c .put-span .ensures) (
+      spans-next (in-loop .loop .inv .0) (omega (arith, turning .loop-test .taken, start .pre .0 .few)) (after-record-place .record-place .ensures .0)
+          (c .before .canonical .ensures ∙ ap canonical (c .before .before .read-span .ensures)),
+      omega (arith, turning .loop-test .taken),
+    )
 
 returns : tie.Need-returns Inv-loop μ-loop
-returns c = let e : c .before .loop .i ≡ c .before .before .before .before .args .n = omega (arith, c .before .loop .inv .1, c .loop-test .left) in rw (← e) (c .before .loop .inv .0)
+returns c =
+    let start = c .before .before .before .before in
+    let inv = c .before .loop .inv in
+    let e : c .before .loop .i ≡ start .args .n = omega (arith, inv .1, c .loop-test .left) in rw (← e) (inv .0)
 
 pub fill-spans-spec : {M : Type 1} → statement M
 fill-spans-spec =

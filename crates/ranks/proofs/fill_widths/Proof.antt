@@ -6,10 +6,6 @@ use Rattle.ranks.specs.Tables.{WidthsOf}
 use Rattle.ranks.proofs.Laws.{widths-start, widths-next}
 use Rattle.ranks.proofs.fill_widths.Statement.{statement}
 use Rattle.ranks.proofs.fill_widths.Tie as tie
-use Rattle.ranks.proofs.fill_widths.Reads as reads
-use Rattle.ranks.proofs.fill_widths.Lts as lts
-use Rattle.ranks.proofs.record_place.Reads as record-place-reads
-use Rattle.wire.proofs.read_u64.Reads as read-u64-reads
 
 abbrev Inv-loop : tie.InvT-loop
 Inv-loop s at order n bits₀ i₀ bits i = WidthsOf s at order i bits × (i ≤ n)
@@ -42,10 +38,20 @@ loop-less : tie.Need-loop-less Inv-loop μ-loop
 loop-less c = search needs
 
 loop-again : tie.Need-loop-again Inv-loop μ-loop
-loop-again c = (widths-next (c .before .before .before .loop .inv .0) (omega (arith, c .before .before .loop-test .taken, c .before .before .before .before .before .before .pre .0 .few)) (c .before .record-place .ensures .0) (c .read-u64 .ensures), omega (arith, c .before .before .loop-test .taken))
+loop-again c =
+    let turning = c .before .before in
+    let in-loop = turning .before in
+    let start = in-loop .before .before .before in (
+      widths-next (in-loop .loop .inv .0) (omega (arith, turning .loop-test .taken, start .pre .0 .few)) (c .before .record-place .ensures .0)
+          (c .read-u64 .ensures),
+      omega (arith, turning .loop-test .taken),
+    )
 
 returns : tie.Need-returns Inv-loop μ-loop
-returns c = let e : c .before .loop .i ≡ c .before .before .before .before .args .n = omega (arith, c .before .loop .inv .1, c .loop-test .left) in rw (← e) (c .before .loop .inv .0)
+returns c =
+    let start = c .before .before .before .before in
+    let inv = c .before .loop .inv in
+    let e : c .before .loop .i ≡ start .args .n = omega (arith, inv .1, c .loop-test .left) in rw (← e) (inv .0)
 
 pub fill-widths-spec : {M : Type 1} → statement M
 fill-widths-spec =

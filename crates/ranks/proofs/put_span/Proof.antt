@@ -3,8 +3,6 @@ use Rattle.ranks.specs.Tables.{putSpan}
 use borrow.Author.Needs.{needs}
 use Rattle.ranks.proofs.put_span.Statement.{statement}
 use Rattle.ranks.proofs.put_span.Tie as tie
-use Rattle.ranks.proofs.put_span.Reads as reads
-use Rattle.ranks.proofs.put_span.Lts as lts
 
 mul-ends : tie.Need-mul-ends
 mul-ends c = search needs

@@ -4,9 +4,6 @@ use borrow.Author.Needs.{needs}
 use Rattle.ranks.proofs.Laws.{placed}
 use Rattle.ranks.proofs.record_place.Statement.{statement}
 use Rattle.ranks.proofs.record_place.Tie as tie
-use Rattle.ranks.proofs.record_place.Reads as reads
-use Rattle.ranks.proofs.record_place.Lts as lts
-use Rattle.wire.proofs.size.Reads as size-reads
 
 mul-size : tie.Need-mul-size
 mul-size c = search needs
@@ -18,13 +15,19 @@ size-requires : tie.Need-size-requires
 size-requires c κs = search needs
 
 mul-result : tie.Need-mul-result
-mul-result c = let q = placed (c .before .before .before .pre .0) (c .before .before .before .args .i) (c .before .before .before .pre .1) in let e = c .size .ensures .0 in rw e (omega (arith, q .small))
+mul-result c =
+    let start = c .before .before .before in
+    let q = placed (start .pre .0) (start .args .i) (start .pre .1) in let e = c .size .ensures .0 in rw e (omega (arith, q .small))
 
 add-result : tie.Need-add-result
-add-result c = let q = placed (c .before .before .before .pre .0) (c .before .before .before .args .i) (c .before .before .before .pre .1) in let e = c .size .ensures .0 in rw e (omega (arith, q .small, q .ends))
+add-result c =
+    let start = c .before .before .before in
+    let q = placed (start .pre .0) (start .args .i) (start .pre .1) in let e = c .size .ensures .0 in rw e (omega (arith, q .small, q .ends))
 
 returns : tie.Need-returns
-returns c = let q = placed (c .before .before .before .pre .0) (c .before .before .before .args .i) (c .before .before .before .pre .1) in let e = c .size .ensures .0 in rw e (refl, q .ends)
+returns c =
+    let start = c .before .before .before in
+    let q = placed (start .pre .0) (start .args .i) (start .pre .1) in let e = c .size .ensures .0 in rw e (refl, q .ends)
 
 pub record-place-spec : {M : Type 1} → statement M
 record-place-spec =

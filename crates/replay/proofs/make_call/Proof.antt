@@ -3,12 +3,6 @@ use lib.ListN.{length-take}
 use borrow.Author.Needs.{needs}
 use Rattle.replay.proofs.make_call.Statement.{statement}
 use Rattle.replay.proofs.make_call.Tie as tie
-use Rattle.replay.proofs.make_call.Reads as reads
-use Rattle.replay.proofs.make_call.Lts as lts
-use Rattle.replay.proofs.calls.replay_call.Reads as replay-call-reads
-use Rattle.replay.proofs.stop.Reads as stop-reads
-use Rattle.replay.proofs.summary.count.Reads as count-reads
-use Rattle.replay.proofs.summary.next.Reads as next-reads
 
 -- src/main.rt:52:15
 add-end : tie.Need-add-end

@@ -4,12 +4,10 @@ use lib.ListN.{length}
 use borrow.Author.Needs.{needs}
 use Rattle.replay.proofs.replay.Statement.{statement}
 use Rattle.replay.proofs.replay.Tie as tie
-use Rattle.replay.proofs.replay.Reads as reads
-use Rattle.replay.proofs.replay.Lts as lts
-use Rattle.replay.proofs.step.Reads as step-reads
 
 abbrev Inv-loop : tie.InvT-loop
-Inv-loop item₀ held₀ counts₀ s₀ left₀ item held counts s left = (s .job + s .list ≤ length held) × (72 ≤ length counts) × (length item ≡ length item₀) × (length held ≡ length held₀) × (length counts ≡ length counts₀)
+Inv-loop item₀ held₀ counts₀ s₀ left₀ item held counts s left = (s .job + s .list ≤ length held) × (72 ≤ length counts) × (length item ≡ length item₀)
+    × (length held ≡ length held₀) × (length counts ≡ length counts₀)
 
 abbrev μ-loop : tie.MeasureT-loop
 μ-loop item₀ held₀ counts₀ s₀ left₀ item held counts s left = left

@@ -3,11 +3,6 @@ use lib.ListN.{length-take}
 use borrow.Author.Needs.{needs}
 use Rattle.replay.proofs.step.Statement.{statement}
 use Rattle.replay.proofs.step.Tie as tie
-use Rattle.replay.proofs.step.Reads as reads
-use Rattle.replay.proofs.step.Lts as lts
-use Rattle.replay.proofs.act.Reads as act-reads
-use Rattle.replay.proofs.reading.read_item.Reads as read-item-reads
-use Rattle.replay.proofs.stop.Reads as stop-reads
 
 -- src/main.rt:92:9
 read-item-requires : tie.Need-read-item-requires

@@ -56,7 +56,9 @@ add-result-3 : tie.Need-add-result-3
 add-result-3 c = search needs
 
 returns : tie.Need-returns
-returns c = omega (arith, four-bytes (c .before .before .before .before .before .before .before .before .before .args .s .now) (c .before .before .before .before .before .before .before .before .before .args .at) (search needs))
+returns c =
+    let start = c .before .before .before .before .before .before .before .before .before in
+    omega (arith, four-bytes (start .args .s .now) (start .args .at) (search needs))
 
 pub read-u32-spec : {M : Type 1} → statement M
 read-u32-spec =

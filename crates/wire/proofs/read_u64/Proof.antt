@@ -26,7 +26,9 @@ add-result : tie.Need-add-result
 add-result c = search needs
 
 returns : tie.Need-returns
-returns c = omega (arith, number-join 4 4 (c .before .before .before .before .before .args .s .now) (c .before .before .before .before .before .args .at) (omega arith))
+returns c =
+    let start = c .before .before .before .before .before in
+    omega (arith, number-join 4 4 (start .args .s .now) (start .args .at) (omega arith))
 
 pub read-u64-spec : {M : Type 1} → statement M
 read-u64-spec =

@@ -5,10 +5,10 @@ use Rattle.analysis.proofs.Bridging.{unbridged, owners-in, labels-in, r
 use borrow.Author.Needs.{needs}
 use Rattle.analysis.proofs.bridged.analyse.Statement.{statement}
 use Rattle.analysis.proofs.bridged.analyse.Tie as tie
-use Rattle.analysis.proofs.bridged.analyse.Reads as reads
-use Rattle.analysis.proofs.bridged.analyse.Lts as lts
-use Rattle.bridges.proofs.bridge_boundary_indices.Reads as bridge-boundary-indices-reads
-use Rattle.partition.proofs.partition_by_spans.Reads as partition-by-spans-reads
+
+-- what the function is given and asked: the places since only say that its slices have lengths
+abbrev start-of : tie.After-slice-known4 → tie.Start
+start-of c = c .before .before .before .before .before
 
 partition-by-spans-requires : tie.Need-partition-by-spans-requires
 partition-by-spans-requires c κs = search needs
@@ -26,18 +26,32 @@ same-length-4 : tie.Need-same-length-4
 same-length-4 c = search needs
 
 returns : tie.Need-returns
-returns c = let r = c .before .before .before .before .before .before .before .before .before .partition-by-spans .ensures in (r, unbridged r (c .if1 .taken))
+returns c =
+    let after-partition-by-spans = c .before .before .before .before .before .before .before .before .before in
+    let r = after-partition-by-spans .partition-by-spans .ensures in (r, unbridged r (c .if1 .taken))
 
 mul-bridge-boundary-indices : tie.Need-mul-bridge-boundary-indices
-mul-bridge-boundary-indices c = let p = c .before .before .before .before .before .before .before .before .before .before .before .before .before .before .before .before .before .before .before .before .before .before .before .before .before .pre .0 in omega (arith, p .whole, mul-le-mul (p .sides .wide) (p .sides .high))
+mul-bridge-boundary-indices c =
+    let start =
+    start-of
+    (c .before .before .before .before .before .before .before .before .before .before .before .before .before .before .before .before .before .before .before .before) in
+    let p = start .pre .0 in omega (arith, p .whole, mul-le-mul (p .sides .wide) (p .sides .high))
 
 bridge-boundary-indices-requires : tie.Need-bridge-boundary-indices-requires
 bridge-boundary-indices-requires c κs =
-    let p = c .before .before .before .before .before .before .before .before .before .before .before .before .before .before .before .before .before .before .before .before .before .before .before .before .before .before .pre in
-    let r = c .before .before .before .before .before .before .before .before .before .before .before .before .before .before .partition-by-spans .ensures in
-    let k = c .before .before .before .before .before .before .before .before .before .before .before .before .before .before .partition-by-spans .kept in
-    let few = c .before .before .before .before .before .if1 .left in
-    (owners-in r (p .0 .few) few, omega (arith, few, k .1 .1 .1 .1 .1 .1 .1 .1 .1 .0, p .1 .owners-are), labels-in r _ refl (p .1 .few) (k .1 .1 .1 .1 .1 .1 .1 .1 .1 .1 .0) (k .1 .1 .1 .1 .1 .1 .1 .1 .1 .1 .1 .0 ∙ p .1 .rights-are) few, room-in r _ refl, zero-in r _ refl)
+    let if1-left = c .before .before .before .before .before in
+    let after-partition-by-spans = if1-left .before .before .before .before .before .before .before .before .before in
+    let start = start-of (after-partition-by-spans .before .before .before .before .before .before .before) in
+    let p = start .pre in
+    let r = after-partition-by-spans .partition-by-spans .ensures in
+    let k = after-partition-by-spans .partition-by-spans .kept in
+    let few = if1-left .if1 .left in (
+      owners-in r (p .0 .few) few,
+      omega (arith, few, k .1 .1 .1 .1 .1 .1 .1 .1 .1 .0, p .1 .owners-are),
+      labels-in r _ refl (p .1 .few) (k .1 .1 .1 .1 .1 .1 .1 .1 .1 .1 .0) (k .1 .1 .1 .1 .1 .1 .1 .1 .1 .1 .1 .0 ∙ p .1 .rights-are) few,
+      room-in r _ refl,
+      zero-in r _ refl,
+    )
 
 same-length-5 : tie.Need-same-length-5
 same-length-5 c = search needs
@@ -52,7 +66,11 @@ same-length-8 : tie.Need-same-length-8
 same-length-8 c = search needs
 
 returns-2 : tie.Need-returns-2
-returns-2 c = let r = c .before .before .before .before .before .before .before .before .before .before .before .before .before .before .before .before .before .partition-by-spans .ensures in let e = c .before .before .bridge-boundary-indices .ensures in (rw (e .1) r, bridged r (e .0))
+returns-2 c =
+    let after-partition-by-spans =
+    c .before .before .before .before .before .before .before .before .before .before .before .before .before .before .before .before .before in
+    let r = after-partition-by-spans .partition-by-spans .ensures in let e = c .before .before .bridge-boundary-indices .ensures in
+    (rw (e .1) r, bridged r (e .0))
 
 pub analyse-spec : {M : Type 1} → statement M
 analyse-spec =

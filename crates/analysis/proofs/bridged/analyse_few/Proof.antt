@@ -3,9 +3,6 @@ use Rattle.assessments.proofs.Recording.{zero-arrays}
 use borrow.Author.Needs.{needs}
 use Rattle.analysis.proofs.bridged.analyse_few.Statement.{statement}
 use Rattle.analysis.proofs.bridged.analyse_few.Tie as tie
-use Rattle.analysis.proofs.bridged.analyse_few.Reads as reads
-use Rattle.analysis.proofs.bridged.analyse_few.Lts as lts
-use Rattle.analysis.proofs.bridged.analyse.Reads as analyse-reads
 
 slice-aggregate-analyse : tie.Need-slice-aggregate-analyse
 slice-aggregate-analyse c = search needs
@@ -17,7 +14,9 @@ slice-aggregate-analyse-3 : tie.Need-slice-aggregate-analyse-3
 slice-aggregate-analyse-3 c = search needs
 
 analyse-requires : tie.Need-analyse-requires
-analyse-requires c κs = (c .before .before .before .before .before .before .before .before .before .pre, zero-arrays 64 (omega arith))
+analyse-requires c κs =
+    let start = c .before .before .before .before .before .before .before .before .before in
+    (start .pre, zero-arrays 64 (omega arith))
 
 same-length : tie.Need-same-length
 same-length c = search needs

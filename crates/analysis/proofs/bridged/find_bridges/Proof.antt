@@ -3,11 +3,6 @@ use Rattle.analysis.proofs.Within.{parted-wider, parted-again}
 use borrow.Author.Needs.{needs}
 use Rattle.analysis.proofs.bridged.find_bridges.Statement.{statement}
 use Rattle.analysis.proofs.bridged.find_bridges.Tie as tie
-use Rattle.analysis.proofs.bridged.find_bridges.Reads as reads
-use Rattle.analysis.proofs.bridged.find_bridges.Lts as lts
-use Rattle.analysis.proofs.bridged.analyse_few.Reads as analyse-few-reads
-use Rattle.analysis.proofs.bridged.analyse_many.Reads as analyse-many-reads
-use Rattle.analysis.proofs.bridged.is_small.Reads as is-small-reads
 
 is-small-requires : tie.Need-is-small-requires
 is-small-requires c κs = search needs
@@ -28,7 +23,9 @@ same-length-2 : tie.Need-same-length-2
 same-length-2 c = search needs
 
 returns-2 : tie.Need-returns-2
-returns-2 c = parted-wider (c .before .before .before .analyse-few .ensures) (omega arith) (omega arith)
+returns-2 c =
+    let after-analyse-few = c .before .before .before in
+    parted-wider (after-analyse-few .analyse-few .ensures) (omega arith) (omega arith)
 
 analyse-many-requires-2 : tie.Need-analyse-many-requires-2
 analyse-many-requires-2 c κs = search needs
@@ -37,7 +34,9 @@ same-length-3 : tie.Need-same-length-3
 same-length-3 c = search needs
 
 returns-3 : tie.Need-returns-3
-returns-3 c = parted-again (c .before .before .before .before .before .before .before .before .analyse-few .ensures) (c .before .before .analyse-many2 .ensures)
+returns-3 c =
+    let after-analyse-few = c .before .before .before .before .before .before .before .before in
+    parted-again (after-analyse-few .analyse-few .ensures) (c .before .before .analyse-many2 .ensures)
 
 pub find-bridges-spec : {M : Type 1} → statement M
 find-bridges-spec =

@@ -4,11 +4,6 @@ use mathlib.Core.Path.{refl}
 use borrow.Author.Needs.{needs}
 use Rattle.analysis.proofs.drawing.order_boundaries.Statement.{statement}
 use Rattle.analysis.proofs.drawing.order_boundaries.Tie as tie
-use Rattle.analysis.proofs.drawing.order_boundaries.Reads as reads
-use Rattle.analysis.proofs.drawing.order_boundaries.Lts as lts
-use Rattle.ranks.proofs.fill_keys.Reads as fill-keys-reads
-use Rattle.places.proofs.ranks.sort_ranks.Reads as sort-ranks-reads
-use Rattle.wire.proofs.size.Reads as size-reads
 
 size-requires : tie.Need-size-requires
 size-requires c κs = search needs
@@ -17,7 +12,10 @@ size-requires-2 : tie.Need-size-requires-2
 size-requires-2 c κs = search needs
 
 fill-keys-requires : tie.Need-fill-keys-requires
-fill-keys-requires c κs = let k = keys-in (c .before .before .before .before .before .before .before .pre .0) _ _ (c .before .before .size2 .ensures .0) (c .before .before .before .size .ensures .0) in (k .0, k .1, refl, refl)
+fill-keys-requires c κs =
+    let after-size = c .before .before .before in
+    let start = after-size .before .before .before .before in
+    let k = keys-in (start .pre .0) _ _ (c .before .before .size2 .ensures .0) (after-size .size .ensures .0) in (k .0, k .1, refl, refl)
 
 slice-aggregate-sort-ranks : tie.Need-slice-aggregate-sort-ranks
 slice-aggregate-sort-ranks c = search needs
@@ -26,10 +24,22 @@ slice-aggregate-sort-ranks-2 : tie.Need-slice-aggregate-sort-ranks-2
 slice-aggregate-sort-ranks-2 c = search needs
 
 sort-ranks-requires : tie.Need-sort-ranks-requires
-sort-ranks-requires c κs = let k = keys-in (c .before .before .before .before .before .before .before .before .before .before .before .pre .0) _ _ (c .before .before .before .before .before .before .size2 .ensures .0) (c .before .before .before .before .before .before .before .size .ensures .0) in (omega (arith, k .0, c .before .before .before .before .before .before .before .before .before .before .before .pre .1), omega (arith, k .0))
+sort-ranks-requires c κs =
+    let after-size2 = c .before .before .before .before .before .before in
+    let after-size = after-size2 .before in
+    let start = after-size .before .before .before .before in
+    let k = keys-in (start .pre .0) _ _ (after-size2 .size2 .ensures .0) (after-size .size .ensures .0) in
+    (omega (arith, k .0, start .pre .1), omega (arith, k .0))
 
 returns : tie.Need-returns
-returns c = let k = keys-in (c .before .before .before .before .before .before .before .before .before .before .before .before .pre .0) _ _ (c .before .before .before .before .before .before .before .size2 .ensures .0) (c .before .before .before .before .before .before .before .before .size .ensures .0) in headed-ranked (c .before .before .before .before .before .before .before .before .before .before .before .before .pre .0) _ _ (c .before .before .before .before .before .before .before .size2 .ensures .0) (c .before .before .before .before .before .before .before .before .size .ensures .0) _ (c .before .before .before .before .fill-keys .ensures) (omega (arith, k .0, c .before .before .before .before .before .before .before .before .before .before .before .before .pre .1)) (c .sort-ranks .ensures)
+returns c =
+    let after-fill-keys = c .before .before .before .before in
+    let after-size2 = after-fill-keys .before .before .before in
+    let after-size = after-size2 .before in
+    let start = after-size .before .before .before .before in
+    let k = keys-in (start .pre .0) _ _ (after-size2 .size2 .ensures .0) (after-size .size .ensures .0) in
+    headed-ranked (start .pre .0) _ _ (after-size2 .size2 .ensures .0) (after-size .size .ensures .0) _ (after-fill-keys .fill-keys .ensures)
+    (omega (arith, k .0, start .pre .1)) (c .sort-ranks .ensures)
 
 pub order-boundaries-spec : {M : Type 1} → statement M
 order-boundaries-spec =

@@ -17,7 +17,8 @@ slice-aggregate-plan-with-3 c = search needs
 
 plan-with-requires : tie.Need-plan-with-requires
 plan-with-requires c κs =
-    let p = c .before .before .before .before .before .before .before .pre in
+    let start = c .before .before .before .before .before .before .before in
+    let p = start .pre in
     (p .0, p .1, p .2, record { owners-are = refl; rights-are = refl; few = omega (arith, length-replicate {A = ℕ} 64 0) }, p .3, p .4, p .5)
 
 same-length : tie.Need-same-length

@@ -6,16 +6,15 @@ use Rattle.analysis.proofs.Merges.{plan-records, ready, planned-as, own
 use borrow.Author.Needs.{needs}
 use Rattle.analysis.proofs.drawing.plan_listing.Statement.{statement}
 use Rattle.analysis.proofs.drawing.plan_listing.Tie as tie
-use Rattle.analysis.proofs.drawing.plan_listing.Reads as reads
-use Rattle.analysis.proofs.drawing.plan_listing.Lts as lts
-use Rattle.planning.proofs.plan_merges.Reads as plan-merges-reads
-use Rattle.ranks.proofs.fill_ramps.Reads as fill-ramps-reads
-use Rattle.ranks.proofs.fill_spans.Reads as fill-spans-reads
-use Rattle.ranks.proofs.fill_widths.Reads as fill-widths-reads
-use Rattle.wire.proofs.size.Reads as size-reads
+
+-- what the function is given and asked: the places since only say that its slices have lengths
+abbrev start-of : tie.After-shared-slice-known4 → tie.Start
+start-of c = c .before .before .before .before .before
 
 mul-size : tie.Need-mul-size
-mul-size c = omega (arith, headed-cells (c .before .before .before .before .before .before .before .before .pre .0 .headed))
+mul-size c =
+    let start = start-of (c .before .before .before) in
+    omega (arith, headed-cells (start .pre .0 .headed))
 
 size-requires : tie.Need-size-requires
 size-requires c κs = search needs
@@ -27,13 +26,23 @@ size-requires-3 : tie.Need-size-requires-3
 size-requires-3 c κs = search needs
 
 fill-spans-requires : tie.Need-fill-spans-requires
-fill-spans-requires c κs = (plan-records (c .before .before .before .before .before .before .before .before .before .before .before .before .pre .0) _ _ (c .before .size3 .ensures .0) (c .before .before .size2 .ensures .0), refl)
+fill-spans-requires c κs =
+    let start = start-of (c .before .before .before .before .before .before .before) in
+    (plan-records (start .pre .0) _ _ (c .before .size3 .ensures .0) (c .before .before .size2 .ensures .0), refl)
 
 fill-widths-requires : tie.Need-fill-widths-requires
-fill-widths-requires c κs = (plan-records (c .before .before .before .before .before .before .before .before .before .before .before .before .before .before .pre .0) _ _ (c .before .before .before .size3 .ensures .0) (c .before .before .before .before .size2 .ensures .0), refl)
+fill-widths-requires c κs =
+    let after-size3 = c .before .before .before in
+    let after-size2 = after-size3 .before in
+    let start = start-of (after-size2 .before .before .before .before .before) in
+    (plan-records (start .pre .0) _ _ (after-size3 .size3 .ensures .0) (after-size2 .size2 .ensures .0), refl)
 
 fill-ramps-requires : tie.Need-fill-ramps-requires
-fill-ramps-requires c κs = (plan-records (c .before .before .before .before .before .before .before .before .before .before .before .before .before .before .before .before .pre .0) _ _ (c .before .before .before .before .before .size3 .ensures .0) (c .before .before .before .before .before .before .size2 .ensures .0), refl)
+fill-ramps-requires c κs =
+    let after-size3 = c .before .before .before .before .before in
+    let after-size2 = after-size3 .before in
+    let start = start-of (after-size2 .before .before .before .before .before) in
+    (plan-records (start .pre .0) _ _ (after-size3 .size3 .ensures .0) (after-size2 .size2 .ensures .0), refl)
 
 size-requires-4 : tie.Need-size-requires-4
 size-requires-4 c κs = search needs
@@ -51,16 +60,54 @@ part-plan-merges-start : tie.Need-part-plan-merges-start
 part-plan-merges-start c = search needs
 
 part-plan-merges-end : tie.Need-part-plan-merges-end
-part-plan-merges-end c = omega (arith, map-inside (c .before .before .before .before .before .before .before .before .before .before .before .before .before .before .before .before .before .before .before .pre .0 .headed .header) (headed-laid (c .before .before .before .before .before .before .before .before .before .before .before .before .before .before .before .before .before .before .before .pre .0 .headed)) _ (c .before .before .before .before .before .before .before .before .before .before .size .ensures .0))
+part-plan-merges-end c =
+    let after-size = c .before .before .before .before .before .before .before .before .before .before in
+    let start = start-of (after-size .before .before .before .before) in
+    omega (arith, map-inside (start .pre .0 .headed .header) (headed-laid (start .pre .0 .headed)) _ (after-size .size .ensures .0))
 
 plan-merges-requires : tie.Need-plan-merges-requires
-plan-merges-requires c κs = let p = c .before .before .before .before .before .before .before .before .before .before .before .before .before .before .before .before .before .before .before .before .before .before .before .before .before .pre .0 in let a = c .before .before .before .before .before .before .before .before .before .before .before .before .before .before .size3 .ensures .0 in let n = c .before .before .before .before .before .before .before .before .before .before .before .before .before .before .before .size2 .ensures .0 in (c .before .before .before .before .before .before .before .before .before .before .before .before .before .before .before .before .before .before .before .before .before .before .before .before .before .pre .4, ready p (own-array p a n (c .before .before .before .before .before .before .before .before .before .before .before .before .fill-spans .ensures)) (widths-array p a n (c .before .before .before .before .before .before .before .before .before .before .fill-widths .ensures)) (ramps-array p a n (c .before .before .before .before .before .before .before .before .fill-ramps .ensures)) (c .before .before .before .before .before .before .before .before .before .before .before .before .before .before .before .before .before .before .before .before .before .before .before .before .before .pre .1 .are) _ _ _ (c .before .before .before .before .before .before .before .size4 .ensures .0) (c .before .before .before .before .before .before .size5 .ensures .0) n _ (c .before .before .before .before .before .before .before .before .before .before .before .before .before .before .before .before .size .ensures .0) (c .before .before .before .before .before .before .before .before .before .before .before .before .before .before .before .before .before .before .before .before .before .before .before .before .before .pre .2), c .before .before .before .before .before .before .before .before .before .before .before .before .before .before .before .before .before .before .before .before .before .before .before .before .before .pre .3)
+plan-merges-requires c κs =
+    let after-size5 = c .before .before .before .before .before .before in
+    let after-size4 = after-size5 .before in
+    let after-fill-ramps = after-size4 .before in
+    let after-fill-widths = after-fill-ramps .before .before in
+    let after-fill-spans = after-fill-widths .before .before in
+    let after-size3 = after-fill-spans .before .before in
+    let after-size2 = after-size3 .before in
+    let after-size = after-size2 .before in
+    let start = start-of (after-size .before .before .before .before) in
+    let p = start .pre .0 in let a = after-size3 .size3 .ensures .0 in let n = after-size2 .size2 .ensures .0 in (
+      start .pre .4,
+      ready p (own-array p a n (after-fill-spans .fill-spans .ensures)) (widths-array p a n (after-fill-widths .fill-widths .ensures))
+          (ramps-array p a n (after-fill-ramps .fill-ramps .ensures)) (start .pre .1 .are) _ _ _ (after-size4 .size4 .ensures .0)
+          (after-size5 .size5 .ensures .0) n _ (after-size .size .ensures .0) (start .pre .2),
+      start .pre .3,
+    )
 
 same-length : tie.Need-same-length
 same-length c = search needs
 
 returns : tie.Need-returns
-returns c = let p = c .before .before .before .before .before .before .before .before .before .before .before .before .before .before .before .before .before .before .before .before .before .before .before .before .before .before .before .before .pre .0 in let a = c .before .before .before .before .before .before .before .before .before .before .before .before .before .before .before .before .before .size3 .ensures .0 in let n = c .before .before .before .before .before .before .before .before .before .before .before .before .before .before .before .before .before .before .size2 .ensures .0 in (c .before .before .plan-merges .ensures .0, (λ dirs ss t. planned-as p (own-array p a n (c .before .before .before .before .before .before .before .before .before .before .before .before .before .before .before .fill-spans .ensures)) (widths-array p a n (c .before .before .before .before .before .before .before .before .before .before .before .before .before .fill-widths .ensures)) (ramps-array p a n (c .before .before .before .before .before .before .before .before .before .before .before .fill-ramps .ensures)) t _ _ _ (c .before .before .before .before .before .before .before .before .before .before .size4 .ensures .0) (c .before .before .before .before .before .before .before .before .before .size5 .ensures .0) n _ (c .before .before .before .before .before .before .before .before .before .before .before .before .before .before .before .before .before .before .before .size .ensures .0) (c .before .before .plan-merges .ensures .1), c .before .before .plan-merges .ensures .1 .whole))
+returns c =
+    let after-plan-merges = c .before .before in
+    let after-size5 = after-plan-merges .before .before .before .before .before .before .before in
+    let after-size4 = after-size5 .before in
+    let after-fill-ramps = after-size4 .before in
+    let after-fill-widths = after-fill-ramps .before .before in
+    let after-fill-spans = after-fill-widths .before .before in
+    let after-size3 = after-fill-spans .before .before in
+    let after-size2 = after-size3 .before in
+    let after-size = after-size2 .before in
+    let start = start-of (after-size .before .before .before .before) in
+    let p = start .pre .0 in let a = after-size3 .size3 .ensures .0 in let n = after-size2 .size2 .ensures .0 in (
+      after-plan-merges .plan-merges .ensures .0,
+      (
+        λ dirs ss t. planned-as p (own-array p a n (after-fill-spans .fill-spans .ensures)) (widths-array p a n (after-fill-widths .fill-widths .ensures))
+            (ramps-array p a n (after-fill-ramps .fill-ramps .ensures)) t _ _ _ (after-size4 .size4 .ensures .0) (after-size5 .size5 .ensures .0) n _
+            (after-size .size .ensures .0) (after-plan-merges .plan-merges .ensures .1),
+        after-plan-merges .plan-merges .ensures .1 .whole,
+      ),
+    )
 
 pub plan-listing-spec : {M : Type 1} → statement M
 plan-listing-spec =

@@ -5,9 +5,6 @@ use lib.ListN.{length-replicate}
 use borrow.Author.Needs.{needs}
 use Rattle.analysis.proofs.drawing.plan_many.Statement.{statement}
 use Rattle.analysis.proofs.drawing.plan_many.Tie as tie
-use Rattle.analysis.proofs.drawing.plan_many.Reads as reads
-use Rattle.analysis.proofs.drawing.plan_many.Lts as lts
-use Rattle.analysis.proofs.drawing.plan_with.Reads as plan-with-reads
 
 slice-aggregate-plan-with : tie.Need-slice-aggregate-plan-with
 slice-aggregate-plan-with c = search needs
@@ -19,7 +16,17 @@ slice-aggregate-plan-with-3 : tie.Need-slice-aggregate-plan-with-3
 slice-aggregate-plan-with-3 c = search needs
 
 plan-with-requires : tie.Need-plan-with-requires
-plan-with-requires c κs = let p = c .before .before .before .before .before .before .before .pre in (p .0, p .1, p .2, record { owners-are = refl; rights-are = refl; few = omega (arith, length-replicate {A = ℕ} 4096 0) }, p .3, p .4, p .5)
+plan-with-requires c κs =
+    let start = c .before .before .before .before .before .before .before in
+    let p = start .pre in (
+      p .0,
+      p .1,
+      p .2,
+      record { owners-are = refl; rights-are = refl; few = omega (arith, length-replicate {A = ℕ} 4096 0) },
+      p .3,
+      p .4,
+      p .5,
+    )
 
 same-length : tie.Need-same-length
 same-length c = search needs

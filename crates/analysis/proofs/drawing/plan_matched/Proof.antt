@@ -4,15 +4,11 @@ use Rattle.analysis.proofs.Within.{parted-wider, parted-again}
 use borrow.Author.Needs.{needs}
 use Rattle.analysis.proofs.drawing.plan_matched.Statement.{statement}
 use Rattle.analysis.proofs.drawing.plan_matched.Tie as tie
-use Rattle.analysis.proofs.drawing.plan_matched.Reads as reads
-use Rattle.analysis.proofs.drawing.plan_matched.Lts as lts
-use Rattle.analysis.proofs.bridged.is_small.Reads as is-small-reads
-use Rattle.analysis.proofs.drawing.plan_few.Reads as plan-few-reads
-use Rattle.analysis.proofs.drawing.plan_many.Reads as plan-many-reads
-use Rattle.wire.proofs.size.Reads as size-reads
 
 mul-size : tie.Need-mul-size
-mul-size c = omega (arith, headed-cells (c .before .before .before .before .pre .0 .job .headed))
+mul-size c =
+    let start = c .before .before .before .before in
+    omega (arith, headed-cells (start .pre .0 .job .headed))
 
 size-requires : tie.Need-size-requires
 size-requires c κs = search needs
@@ -39,16 +35,30 @@ same-length-2 : tie.Need-same-length-2
 same-length-2 c = search needs
 
 returns-2 : tie.Need-returns-2
-returns-2 c = λ ss e. parted-wider (c .before .before .before .plan-few .ensures .0 ss e) (omega arith) (omega arith)
+returns-2 c =
+    let after-plan-few = c .before .before .before in
+    λ ss e. parted-wider (after-plan-few .plan-few .ensures .0 ss e) (omega arith) (omega arith)
 
 plan-many-requires-2 : tie.Need-plan-many-requires-2
-plan-many-requires-2 c κs = let p = c .before .before .before .before .before .before .before .before .before .before .before .before .before .before .before .before .pre in (record { job = p .0 .job; room = omega (arith, p .0 .room, c .before .before .before .before .before .plan-few .kept .1 .1 .1 .1 .1 .1 .0) }, p .1, p .2, c .before .before .before .before .before .plan-few .ensures .1, p .4, p .5)
+plan-many-requires-2 c κs =
+    let at-plan-few = c .before .before .before .before .before in
+    let start = at-plan-few .before .before .before .before .before .before .before .before .before .before .before in
+    let p = start .pre in (
+      record { job = p .0 .job; room = omega (arith, p .0 .room, at-plan-few .plan-few .kept .1 .1 .1 .1 .1 .1 .0) },
+      p .1,
+      p .2,
+      at-plan-few .plan-few .ensures .1,
+      p .4,
+      p .5,
+    )
 
 same-length-3 : tie.Need-same-length-3
 same-length-3 c = search needs
 
 returns-3 : tie.Need-returns-3
-returns-3 c = λ ss e. parted-again (c .before .before .before .before .before .before .before .before .plan-few .ensures .0 ss e) (c .before .before .plan-many2 .ensures ss e)
+returns-3 c =
+    let after-plan-few = c .before .before .before .before .before .before .before .before in
+    λ ss e. parted-again (after-plan-few .plan-few .ensures .0 ss e) (c .before .before .plan-many2 .ensures ss e)
 
 pub plan-matched-spec : {M : Type 1} → statement M
 plan-matched-spec =

@@ -4,11 +4,6 @@ use Rattle.analysis.proofs.Matching.{own-by, own-fit}
 use borrow.Author.Needs.{needs}
 use Rattle.analysis.proofs.drawing.plan_own.Statement.{statement}
 use Rattle.analysis.proofs.drawing.plan_own.Tie as tie
-use Rattle.analysis.proofs.drawing.plan_own.Reads as reads
-use Rattle.analysis.proofs.drawing.plan_own.Lts as lts
-use Rattle.analysis.proofs.drawing.plan_matched.Reads as plan-matched-reads
-use Rattle.ranks.proofs.fill_spans.Reads as fill-spans-reads
-use Rattle.wire.proofs.size.Reads as size-reads
 
 size-requires : tie.Need-size-requires
 size-requires c κs = search needs
@@ -17,16 +12,36 @@ size-requires-2 : tie.Need-size-requires-2
 size-requires-2 c κs = search needs
 
 fill-spans-requires : tie.Need-fill-spans-requires
-fill-spans-requires c κs = (plan-records (c .before .before .before .before .before .before .before .pre .0 .job) _ _ (c .before .size2 .ensures .0) (c .before .before .size .ensures .0), refl)
+fill-spans-requires c κs =
+    let start = c .before .before .before .before .before .before .before in
+    (plan-records (start .pre .0 .job) _ _ (c .before .size2 .ensures .0) (c .before .before .size .ensures .0), refl)
 
 plan-matched-requires : tie.Need-plan-matched-requires
-plan-matched-requires c κs = let p = c .before .before .before .before .before .before .before .before .before .before .before .pre .0 in let o = c .before .before .before .fill-spans .ensures in (p, own-fit (p .job) _ _ (c .before .before .before .before .before .size2 .ensures .0) (c .before .before .before .before .before .before .size .ensures .0) o (c .before .before .before .before .before .before .before .before .before .before .before .pre .1), record { spans = _; are = own-by (p .job) _ _ (c .before .before .before .before .before .size2 .ensures .0) (c .before .before .before .before .before .before .size .ensures .0) o }, c .before .before .before .before .before .before .before .before .before .before .before .pre .2, c .before .before .before .before .before .before .before .before .before .before .before .pre .3, c .before .before .before .before .before .before .before .before .before .before .before .pre .4)
+plan-matched-requires c κs =
+    let after-fill-spans = c .before .before .before in
+    let after-size2 = after-fill-spans .before .before in
+    let after-size = after-size2 .before in
+    let start = after-size .before .before .before .before .before in
+    let p = start .pre .0 in let o = after-fill-spans .fill-spans .ensures in (
+      p,
+      own-fit (p .job) _ _ (after-size2 .size2 .ensures .0) (after-size .size .ensures .0) o (start .pre .1),
+      record { spans = _; are = own-by (p .job) _ _ (after-size2 .size2 .ensures .0) (after-size .size .ensures .0) o },
+      start .pre .2,
+      start .pre .3,
+      start .pre .4,
+    )
 
 same-length : tie.Need-same-length
 same-length c = search needs
 
 returns : tie.Need-returns
-returns c = c .before .before .plan-matched .ensures _ (own-by (c .before .before .before .before .before .before .before .before .before .before .before .before .before .before .pre .0 .job) _ _ (c .before .before .before .before .before .before .before .before .size2 .ensures .0) (c .before .before .before .before .before .before .before .before .before .size .ensures .0) (c .before .before .before .before .before .before .fill-spans .ensures))
+returns c =
+    let after-fill-spans = c .before .before .before .before .before .before in
+    let after-size2 = after-fill-spans .before .before in
+    let after-size = after-size2 .before in
+    let start = after-size .before .before .before .before .before in
+    c .before .before .plan-matched .ensures _
+    (own-by (start .pre .0 .job) _ _ (after-size2 .size2 .ensures .0) (after-size .size .ensures .0) (after-fill-spans .fill-spans .ensures))
 
 pub plan-own-spec : {M : Type 1} → statement M
 plan-own-spec =

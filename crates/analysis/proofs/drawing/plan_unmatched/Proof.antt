@@ -7,15 +7,15 @@ use borrow.Author.Needs.{needs}
 use Rattle.grid.specs.Directions.{directionsOf}
 use Rattle.analysis.proofs.drawing.plan_unmatched.Statement.{statement}
 use Rattle.analysis.proofs.drawing.plan_unmatched.Tie as tie
-use Rattle.analysis.proofs.drawing.plan_unmatched.Reads as reads
-use Rattle.analysis.proofs.drawing.plan_unmatched.Lts as lts
-use Rattle.analysis.proofs.bridged.find_bridges.Reads as find-bridges-reads
-use Rattle.ranks.proofs.fill_identity.Reads as fill-identity-reads
-use Rattle.ranks.proofs.fill_spans.Reads as fill-spans-reads
-use Rattle.wire.proofs.size.Reads as size-reads
+
+-- what the function is given and asked: the places since only say that its slices have lengths
+abbrev start-of : tie.After-slice-known → tie.Start
+start-of c = c .before .before .before
 
 mul-size : tie.Need-mul-size
-mul-size c = omega (arith, headed-cells (c .before .before .before .before .before .pre .0))
+mul-size c =
+    let start = start-of (c .before .before) in
+    omega (arith, headed-cells (start .pre .0))
 
 size-requires : tie.Need-size-requires
 size-requires c κs = search needs
@@ -24,7 +24,9 @@ fill-identity-requires : tie.Need-fill-identity-requires
 fill-identity-requires c κs = search needs
 
 fill-spans-requires : tie.Need-fill-spans-requires
-fill-spans-requires c κs = (list-unmatched-records (c .before .before .before .before .before .before .before .before .before .before .pre .0) _ (c .before .before .before .before .before .before .before .before .before .before .pre .2) _ (c .before .before .before .before .before .before .before .before .before .before .pre .3) (c .before .before .fill-identity .ensures), refl)
+fill-spans-requires c κs =
+    let start = start-of (c .before .before .before .before .before .before .before) in
+    (list-unmatched-records (start .pre .0) _ (start .pre .2) _ (start .pre .3) (c .before .before .fill-identity .ensures), refl)
 
 add-find-bridges : tie.Need-add-find-bridges
 add-find-bridges c = search needs
@@ -36,16 +38,32 @@ part-find-bridges-start : tie.Need-part-find-bridges-start
 part-find-bridges-start c = search needs
 
 part-find-bridges-end : tie.Need-part-find-bridges-end
-part-find-bridges-end c = omega (arith, map-inside (c .before .before .before .before .before .before .before .before .before .before .before .pre .0 .header) (headed-laid (c .before .before .before .before .before .before .before .before .before .before .before .pre .0)) _ (c .before .before .before .before .before .size .ensures .0))
+part-find-bridges-end c =
+    let after-size = c .before .before .before .before .before in
+    let start = start-of (after-size .before .before .before) in
+    omega (arith, map-inside (start .pre .0 .header) (headed-laid (start .pre .0)) _ (after-size .size .ensures .0))
 
 find-bridges-requires : tie.Need-find-bridges-requires
-find-bridges-requires c κs = unmatched-partitionable (c .before .before .before .before .before .before .before .before .before .before .before .before .before .before .before .pre .0) _ (c .before .before .before .before .before .before .before .before .before .before .before .before .before .before .before .pre .2) _ (c .before .before .before .before .before .before .before .before .before .before .before .before .before .before .before .pre .3) (c .before .before .before .before .before .before .before .fill-identity .ensures) (c .before .before .before .before .fill-spans .ensures) _ (c .before .before .before .before .before .before .before .before .before .size .ensures .0) (c .before .before .before .before .before .before .before .before .before .before .before .before .before .before .before .pre .6) (c .before .before .before .before .before .before .before .before .before .before .before .before .before .before .before .pre .1)
+find-bridges-requires c κs =
+    let after-fill-spans = c .before .before .before .before in
+    let after-fill-identity = after-fill-spans .before .before .before in
+    let after-size = after-fill-identity .before .before in
+    let start = start-of (after-size .before .before .before) in
+    unmatched-partitionable (start .pre .0) _ (start .pre .2) _ (start .pre .3) (after-fill-identity .fill-identity .ensures)
+    (after-fill-spans .fill-spans .ensures) _ (after-size .size .ensures .0) (start .pre .6) (start .pre .1)
 
 same-length : tie.Need-same-length
 same-length c = search needs
 
 returns : tie.Need-returns
-returns c = λ l. unmatched-drawn (c .before .before .before .before .before .before .before .before .before .before .before .before .before .before .before .before .before .before .pre .0) _ (c .before .before .before .before .before .before .before .before .before .before .before .before .before .before .before .before .before .before .pre .2) _ (c .before .before .before .before .before .before .before .before .before .before .before .before .before .before .before .before .before .before .pre .3) (c .before .before .before .before .before .before .before .before .before .before .fill-identity .ensures) (c .before .before .before .before .before .before .before .fill-spans .ensures) _ (c .before .before .before .before .before .before .before .before .before .before .before .before .size .ensures .0) l (directionsOf (c .before .before .before .before .before .before .before .before .before .before .before .before .before .before .before .before .before .before .args .directions)) (c .before .before .before .before .before .before .before .before .before .before .before .before .before .before .before .before .before .before .pre .4) (c .before .before .find-bridges .ensures)
+returns c =
+    let after-fill-spans = c .before .before .before .before .before .before .before in
+    let after-fill-identity = after-fill-spans .before .before .before in
+    let after-size = after-fill-identity .before .before in
+    let start = start-of (after-size .before .before .before) in
+    λ l. unmatched-drawn (start .pre .0) _ (start .pre .2) _ (start .pre .3) (after-fill-identity .fill-identity .ensures)
+    (after-fill-spans .fill-spans .ensures) _ (after-size .size .ensures .0) l (directionsOf (start .args .directions)) (start .pre .4)
+    (c .before .before .find-bridges .ensures)
 
 pub plan-unmatched-spec : {M : Type 1} → statement M
 plan-unmatched-spec =

@@ -7,14 +7,15 @@ use Rattle.grid.specs.Directions.{directionsOf}
 use Rattle.links.specs.HeldLimits.{limitsOf}
 use Rattle.analysis.proofs.drawing.plan_with.Statement.{statement}
 use Rattle.analysis.proofs.drawing.plan_with.Tie as tie
-use Rattle.analysis.proofs.drawing.plan_with.Reads as reads
-use Rattle.analysis.proofs.drawing.plan_with.Lts as lts
-use Rattle.analysis.proofs.bridged.analyse.Reads as analyse-reads
-use Rattle.analysis.proofs.drawing.plan_listing.Reads as plan-listing-reads
-use Rattle.wire.proofs.size.Reads as size-reads
+
+-- what the function is given and asked: the places since only say that its slices have lengths
+abbrev start-of : tie.After-slice-known4 → tie.Start
+start-of c = c .before .before .before .before .before
 
 mul-size : tie.Need-mul-size
-mul-size c = omega (arith, headed-cells (c .before .before .before .before .before .before .before .pre .0 .job .headed))
+mul-size c =
+    let start = start-of (c .before .before) in
+    omega (arith, headed-cells (start .pre .0 .job .headed))
 
 size-requires : tie.Need-size-requires
 size-requires c κs = search needs
@@ -32,10 +33,16 @@ part-analyse-start : tie.Need-part-analyse-start
 part-analyse-start c = search needs
 
 part-analyse-end : tie.Need-part-analyse-end
-part-analyse-end c = omega (arith, map-inside (c .before .before .before .before .before .before .before .before .before .pre .0 .job .headed .header) (headed-laid (c .before .before .before .before .before .before .before .before .before .pre .0 .job .headed)) _ (c .before .size .ensures .0))
+part-analyse-end c =
+    let start = start-of (c .before .before .before .before) in
+    omega (arith, map-inside (start .pre .0 .job .headed .header) (headed-laid (start .pre .0 .job .headed)) _ (c .before .size .ensures .0))
 
 analyse-requires : tie.Need-analyse-requires
-analyse-requires c κs = (matched-partitionable (c .before .before .before .before .before .before .before .before .before .before .before .before .before .before .before .before .before .pre .0) _ (c .before .before .before .before .before .before .before .before .before .size .ensures .0) _ (c .before .before .before .before .before .before .before .before .size2 .ensures .0) (c .before .before .before .before .before .before .before .before .before .before .before .before .before .before .before .before .before .pre .6) (c .before .before .before .before .before .before .before .before .before .before .before .before .before .before .before .before .before .pre .1), search needs)
+analyse-requires c κs =
+    let after-size2 = c .before .before .before .before .before .before .before .before in
+    let after-size = after-size2 .before in
+    let start = start-of (after-size .before .before .before) in
+    (matched-partitionable (start .pre .0) _ (after-size .size .ensures .0) _ (after-size2 .size2 .ensures .0) (start .pre .6) (start .pre .1), search needs)
 
 same-length : tie.Need-same-length
 same-length c = search needs
@@ -50,10 +57,35 @@ same-length-4 : tie.Need-same-length-4
 same-length-4 c = search needs
 
 returns : tie.Need-returns
-returns c = (matched-many (c .before .before .before .before .before .before .before .before .before .before .before .before .before .before .before .before .before .before .before .before .before .before .before .before .before .before .before .pre .0) _ (c .before .before .before .before .before .before .before .before .before .before .before .before .before .before .before .before .before .before .before .size .ensures .0) _ (c .before .before .before .before .before .before .before .before .before .before .before .before .before .before .before .before .before .before .size2 .ensures .0) (c .before .before .before .before .before .before .before .before .before .analyse .ensures .0) (limitsOf (c .before .before .before .before .before .before .before .before .before .before .before .before .before .before .before .before .before .before .before .before .before .before .before .before .before .before .before .args .limits)) (c .before .before .before .before .before .before .before .before .before .before .before .before .before .before .before .before .before .before .before .before .before .before .before .before .before .before .before .args .plan .now) (c .if1 .taken), c .before .before .before .before .before .before .before .before .before .before .before .before .before .before .before .before .before .before .before .before .before .before .before .before .before .before .before .pre .4)
+returns c =
+    let after-analyse = c .before .before .before .before .before .before .before .before .before in
+    let after-size2 = after-analyse .before .before .before .before .before .before .before .before .before in
+    let after-size = after-size2 .before in
+    let start = start-of (after-size .before .before .before) in (
+      matched-many (start .pre .0) _ (after-size .size .ensures .0) _ (after-size2 .size2 .ensures .0) (after-analyse .analyse .ensures .0)
+          (limitsOf (start .args .limits)) (start .args .plan .now) (c .if1 .taken),
+      start .pre .4,
+    )
 
 plan-listing-requires : tie.Need-plan-listing-requires
-plan-listing-requires c κs = (c .before .before .before .before .before .before .before .before .before .before .before .before .before .before .before .before .before .before .before .before .before .before .before .before .before .before .before .before .before .before .before .before .before .before .before .pre .0 .job, some-told (c .before .before .before .before .before .before .before .before .before .before .before .before .before .before .before .before .before .before .before .before .before .before .before .before .before .before .before .before .before .before .before .before .before .before .before .pre .0) _ (c .before .before .before .before .before .before .before .before .before .before .before .before .before .before .before .before .before .before .before .before .before .before .before .before .before .before .before .size .ensures .0) _ (c .before .before .before .before .before .before .before .before .before .before .before .before .before .before .before .before .before .before .before .before .before .before .before .before .before .before .size2 .ensures .0) (c .before .before .before .before .before .before .before .before .before .before .before .before .before .before .before .before .before .analyse .ensures .0) (c .before .before .before .before .before .before .before .before .before .before .before .before .before .before .before .before .before .before .before .before .before .before .before .before .before .before .before .before .before .before .before .before .before .before .before .pre .3 .few) (c .before .before .before .before .before .before .before .before .before .before .before .before .before .before .before .before .before .analyse .ensures .1) (c .before .before .before .before .before .before .before .before .if1 .left) (c .before .before .before .before .before .before .before .before .before .before .before .before .before .before .before .before .before .before .before .before .before .before .before .before .before .before .before .before .before .before .before .before .before .before .before .pre .2), record { few = omega (arith, c .before .before .before .before .before .before .before .before .if1 .left, c .before .before .before .before .before .before .before .before .before .before .before .before .before .before .before .before .before .before .before .before .before .before .before .before .before .before .before .before .before .before .before .before .before .before .before .pre .3 .few); in-owners = omega (arith, c .before .before .before .before .before .before .before .before .if1 .left, c .before .before .before .before .before .before .before .before .before .before .before .before .before .before .before .before .before .analyse .kept .1 .1 .1 .1 .1 .1 .1 .1 .1 .0, c .before .before .before .before .before .before .before .before .before .before .before .before .before .before .before .before .before .before .before .before .before .before .before .before .before .before .before .before .before .before .before .before .before .before .before .pre .3 .owners-are); in-lefts = omega (arith, c .before .before .before .before .before .before .before .before .if1 .left, c .before .before .before .before .before .before .before .before .before .before .before .before .before .before .before .before .before .analyse .kept .1 .1 .1 .1 .1 .1 .1 .1 .1 .1 .0); in-rights = omega (arith, c .before .before .before .before .before .before .before .before .if1 .left, c .before .before .before .before .before .before .before .before .before .before .before .before .before .before .before .before .before .analyse .kept .1 .1 .1 .1 .1 .1 .1 .1 .1 .1 .1 .0, c .before .before .before .before .before .before .before .before .before .before .before .before .before .before .before .before .before .before .before .before .before .before .before .before .before .before .before .before .before .before .before .before .before .before .before .pre .3 .rights-are) }, c .before .before .before .before .before .before .before .before .before .before .before .before .before .before .before .before .before .before .before .before .before .before .before .before .before .before .before .before .before .before .before .before .before .before .before .pre .4, c .before .before .before .before .before .before .before .before .before .before .before .before .before .before .before .before .before .before .before .before .before .before .before .before .before .before .before .before .before .before .before .before .before .before .before .pre .5)
+plan-listing-requires c κs =
+    let if1-left = c .before .before .before .before .before .before .before .before in
+    let at-analyse = if1-left .before .before .before .before .before .before .before .before .before in
+    let after-size2 = at-analyse .before .before .before .before .before .before .before .before .before in
+    let after-size = after-size2 .before in
+    let start = start-of (after-size .before .before .before) in (
+      start .pre .0 .job,
+      some-told (start .pre .0) _ (after-size .size .ensures .0) _ (after-size2 .size2 .ensures .0) (at-analyse .analyse .ensures .0)
+          (start .pre .3 .few) (at-analyse .analyse .ensures .1) (if1-left .if1 .left) (start .pre .2),
+      record {
+        few = omega (arith, if1-left .if1 .left, start .pre .3 .few);
+        in-owners = omega (arith, if1-left .if1 .left, at-analyse .analyse .kept .1 .1 .1 .1 .1 .1 .1 .1 .1 .0, start .pre .3 .owners-are);
+        in-lefts = omega (arith, if1-left .if1 .left, at-analyse .analyse .kept .1 .1 .1 .1 .1 .1 .1 .1 .1 .1 .0);
+        in-rights = omega (arith, if1-left .if1 .left, at-analyse .analyse .kept .1 .1 .1 .1 .1 .1 .1 .1 .1 .1 .1 .0, start .pre .3 .rights-are);
+      },
+      start .pre .4,
+      start .pre .5,
+    )
 
 same-length-5 : tie.Need-same-length-5
 same-length-5 c = search needs
@@ -68,7 +100,19 @@ same-length-8 : tie.Need-same-length-8
 same-length-8 c = search needs
 
 returns-2 : tie.Need-returns-2
-returns-2 c = (matched-drawn (c .before .before .before .before .before .before .before .before .before .before .before .before .before .before .before .before .before .before .before .before .before .before .before .before .before .before .before .before .before .before .before .before .before .before .before .before .before .before .pre .0) _ (c .before .before .before .before .before .before .before .before .before .before .before .before .before .before .before .before .before .before .before .before .before .before .before .before .before .before .before .before .before .before .size .ensures .0) _ (c .before .before .before .before .before .before .before .before .before .before .before .before .before .before .before .before .before .before .before .before .before .before .before .before .before .before .before .before .before .size2 .ensures .0) (c .before .before .before .before .before .before .before .before .before .before .before .before .before .before .before .before .before .before .before .before .analyse .ensures .0) (c .before .before .before .before .before .before .before .before .before .before .before .before .before .before .before .before .before .before .before .before .before .before .before .before .before .before .before .before .before .before .before .before .before .before .before .before .before .before .pre .3 .few) (c .before .before .before .before .before .before .before .before .before .before .before .before .before .before .before .before .before .before .before .before .analyse .ensures .1) (c .before .before .before .before .before .before .before .before .before .before .before .if1 .left) (limitsOf (c .before .before .before .before .before .before .before .before .before .before .before .before .before .before .before .before .before .before .before .before .before .before .before .before .before .before .before .before .before .before .before .before .before .before .before .before .before .before .args .limits)) (c .before .before .plan-listing .last .1 .1 .1 .1 .1 .1 .1 .1 .1 .1 .1 .1 .0) (c .before .before .plan-listing .ensures .0) (c .before .before .plan-listing .ensures .1 .0 (directionsOf (c .before .before .before .before .before .before .before .before .before .before .before .before .before .before .before .before .before .before .before .before .before .before .before .before .before .before .before .before .before .before .before .before .before .before .before .before .before .before .args .directions))), c .before .before .plan-listing .ensures .1 .1)
+returns-2 c =
+    let after-plan-listing = c .before .before in
+    let if1-left = after-plan-listing .before .before .before .before .before .before .before .before .before in
+    let after-analyse = if1-left .before .before .before .before .before .before .before .before .before in
+    let after-size2 = after-analyse .before .before .before .before .before .before .before .before .before in
+    let after-size = after-size2 .before in
+    let start = start-of (after-size .before .before .before) in (
+      matched-drawn (start .pre .0) _ (after-size .size .ensures .0) _ (after-size2 .size2 .ensures .0) (after-analyse .analyse .ensures .0) (start .pre .3 .few)
+          (after-analyse .analyse .ensures .1) (if1-left .if1 .left) (limitsOf (start .args .limits))
+          (after-plan-listing .plan-listing .last .1 .1 .1 .1 .1 .1 .1 .1 .1 .1 .1 .1 .0) (after-plan-listing .plan-listing .ensures .0)
+          (after-plan-listing .plan-listing .ensures .1 .0 (directionsOf (start .args .directions))),
+      after-plan-listing .plan-listing .ensures .1 .1,
+    )
 
 pub plan-with-spec : {M : Type 1} → statement M
 plan-with-spec =

@@ -7,16 +7,6 @@ use Rattle.analysis.proofs.Calling.{headed-work, header-there, reduce-j
 use borrow.Author.Needs.{needs}
 use Rattle.analysis.proofs.plans.plan_reduce.Statement.{statement}
 use Rattle.analysis.proofs.plans.plan_reduce.Tie as tie
-use Rattle.analysis.proofs.plans.plan_reduce.Reads as reads
-use Rattle.analysis.proofs.plans.plan_reduce.Lts as lts
-use Rattle.analysis.proofs.drawing.order_boundaries.Reads as order-boundaries-reads
-use Rattle.analysis.proofs.drawing.plan_own.Reads as plan-own-reads
-use Rattle.format.proofs.read_header.Reads as read-header-reads
-use Rattle.job.proofs.check_reduce.Reads as check-reduce-reads
-use Rattle.checks.proofs.verdict.Verdict.detail.Reads as detail-reads
-use Rattle.checks.proofs.verdict.Verdict.number.Reads as number-reads
-use Rattle.checks.proofs.verdict.Verdict.passed.Reads as passed-reads
-use Rattle.wire.proofs.size.Reads as size-reads
 
 check-reduce-requires : tie.Need-check-reduce-requires
 check-reduce-requires c κs = search needs
@@ -31,13 +21,23 @@ detail-requires : tie.Need-detail-requires
 detail-requires c κs = search needs
 
 returns : tie.Need-returns
-returns c = left-refused _ _ _ _ _ _ (c .before .before .before .before .check-reduce .result) (c .before .before .before .before .check-reduce .ensures) (c .before .before .before .passed .ensures) (c .before .before .if1 .taken) (c .before .number .ensures) (c .detail .ensures)
+returns c =
+    let after-passed = c .before .before .before in
+    let after-check-reduce = after-passed .before in
+    left-refused _ _ _ _ _ _ (after-check-reduce .check-reduce .result) (after-check-reduce .check-reduce .ensures) (after-passed .passed .ensures)
+    (c .before .before .if1 .taken) (c .before .number .ensures) (c .detail .ensures)
 
 read-header-requires : tie.Need-read-header-requires
 read-header-requires c κs = header-there _ (reduce-job _ (went-on _ (c .before .before .check-reduce .ensures) (c .before .passed .ensures) (c .if1 .left)))
 
 mul-size : tie.Need-mul-size
-mul-size c = let e = went-on _ (c .before .before .before .before .before .check-reduce .ensures) (c .before .before .before .before .passed .ensures) (c .before .before .before .if1 .left) in omega (arith, headed-cells (reduce-headed (λ i. c .before .before .before .before .before .before .before .shared-slice-known .given i .fits) e (c .before .before .read-header .ensures)))
+mul-size c =
+    let if1-left = c .before .before .before in
+    let after-passed = if1-left .before in
+    let after-check-reduce = after-passed .before in
+    let lent-shared-slice-known = after-check-reduce .before .before in
+    let e = went-on _ (after-check-reduce .check-reduce .ensures) (after-passed .passed .ensures) (if1-left .if1 .left) in
+    omega (arith, headed-cells (reduce-headed (λ i. lent-shared-slice-known .shared-slice-known .given i .fits) e (c .before .before .read-header .ensures)))
 
 size-requires : tie.Need-size-requires
 size-requires c κs = search needs
@@ -46,25 +46,85 @@ mul-if2 : tie.Need-mul-if2
 mul-if2 c = search needs
 
 returns-2 : tie.Need-returns-2
-returns-2 c = let e = went-on _ (c .before .before .before .before .before .before .before .check-reduce .ensures) (c .before .before .before .before .before .before .passed .ensures) (c .before .before .before .before .before .if1 .left) in let d = reduce-headed (λ i. c .before .before .before .before .before .before .before .before .before .shared-slice-known .given i .fits) e (c .before .before .before .before .read-header .ensures) in left-short _ _ _ _ _ _ e (omega (arith, c .if2 .taken, c .before .size .ensures .0, headed-work d))
+returns-2 c =
+    let after-read-header = c .before .before .before .before in
+    let if1-left = after-read-header .before in
+    let after-passed = if1-left .before in
+    let after-check-reduce = after-passed .before in
+    let lent-shared-slice-known = after-check-reduce .before .before in
+    let e = went-on _ (after-check-reduce .check-reduce .ensures) (after-passed .passed .ensures) (if1-left .if1 .left) in
+    let d = reduce-headed (λ i. lent-shared-slice-known .shared-slice-known .given i .fits) e (after-read-header .read-header .ensures) in
+    left-short _ _ _ _ _ _ e (omega (arith, c .if2 .taken, c .before .size .ensures .0, headed-work d))
 
 order-boundaries-requires : tie.Need-order-boundaries-requires
-order-boundaries-requires c κs = let e = went-on _ (c .before .before .before .before .before .before .before .before .before .before .check-reduce .ensures) (c .before .before .before .before .before .before .before .before .before .passed .ensures) (c .before .before .before .before .before .before .before .before .if1 .left) in (reduce-headed (λ i. c .before .before .before .before .before .before .before .before .before .before .before .before .shared-slice-known .given i .fits) e (c .before .before .before .before .before .before .before .read-header .ensures), refl)
+order-boundaries-requires c κs =
+    let after-read-header = c .before .before .before .before .before .before .before in
+    let if1-left = after-read-header .before in
+    let after-passed = if1-left .before in
+    let after-check-reduce = after-passed .before in
+    let lent-shared-slice-known = after-check-reduce .before .before in
+    let e = went-on _ (after-check-reduce .check-reduce .ensures) (after-passed .passed .ensures) (if1-left .if1 .left) in
+    (reduce-headed (λ i. lent-shared-slice-known .shared-slice-known .given i .fits) e (after-read-header .read-header .ensures), refl)
 
 plan-own-requires : tie.Need-plan-own-requires
-plan-own-requires c κs = let e = went-on _ (c .before .before .before .before .before .before .before .before .before .before .before .before .before .before .check-reduce .ensures) (c .before .before .before .before .before .before .before .before .before .before .before .before .before .passed .ensures) (c .before .before .before .before .before .before .before .before .before .before .before .before .if1 .left) in let d = reduce-headed (λ i. c .before .before .before .before .before .before .before .before .before .before .before .before .before .before .before .before .shared-slice-known .given i .fits) e (c .before .before .before .before .before .before .before .before .before .before .before .read-header .ensures) in (record { job = record { headed = d; ranks = c .before .before .before .order-boundaries .ensures }; room = omega (arith, c .before .before .before .before .before .before .before .if2 .left, c .before .before .before .before .before .before .before .before .size .ensures .0, headed-work d) }, e, refl, c .before .before .before .before .before .before .before .before .before .before .before .before .before .before .before .before .before .pre .0, c .before .before .before .before .before .before .before .before .before .before .before .before .before .before .before .before .before .pre .1)
+plan-own-requires c κs =
+    let after-order-boundaries = c .before .before .before in
+    let if2-left = after-order-boundaries .before .before .before .before in
+    let after-size = if2-left .before in
+    let after-read-header = after-size .before .before .before in
+    let if1-left = after-read-header .before in
+    let after-passed = if1-left .before in
+    let after-check-reduce = after-passed .before in
+    let lent-shared-slice-known = after-check-reduce .before .before in
+    let start = lent-shared-slice-known .before in
+    let e = went-on _ (after-check-reduce .check-reduce .ensures) (after-passed .passed .ensures) (if1-left .if1 .left) in
+    let d = reduce-headed (λ i. lent-shared-slice-known .shared-slice-known .given i .fits) e (after-read-header .read-header .ensures) in (
+      record {
+        job = record { headed = d; ranks = after-order-boundaries .order-boundaries .ensures };
+        room = omega (arith, if2-left .if2 .left, after-size .size .ensures .0, headed-work d);
+      },
+      e,
+      refl,
+      start .pre .0,
+      start .pre .1,
+    )
 
 same-length : tie.Need-same-length
 same-length c = search needs
 
 returns-3 : tie.Need-returns-3
-returns-3 c = let e = went-on _ (c .before .before .before .before .before .before .before .before .before .before .before .before .before .before .before .before .before .before .check-reduce .ensures) (c .before .before .before .before .before .before .before .before .before .before .before .before .before .before .before .before .before .passed .ensures) (c .before .before .before .before .before .before .before .before .before .before .before .before .before .before .before .before .if1 .left) in let d = reduce-headed (λ i. c .before .before .before .before .before .before .before .before .before .before .before .before .before .before .before .before .before .before .before .before .shared-slice-known .given i .fits) e (c .before .before .before .before .before .before .before .before .before .before .before .before .before .before .before .read-header .ensures) in left-many _ _ _ _ _ _ e (omega (arith, c .before .before .before .before .before .before .before .before .before .before .before .if2 .left, c .before .before .before .before .before .before .before .before .before .before .before .before .size .ensures .0, headed-work d)) (c .before .before .before .plan-own .ensures) (c .if3 .taken)
+returns-3 c =
+    let after-plan-own = c .before .before .before in
+    let if2-left = after-plan-own .before .before .before .before .before .before .before .before in
+    let after-size = if2-left .before in
+    let after-read-header = after-size .before .before .before in
+    let if1-left = after-read-header .before in
+    let after-passed = if1-left .before in
+    let after-check-reduce = after-passed .before in
+    let lent-shared-slice-known = after-check-reduce .before .before in
+    let e = went-on _ (after-check-reduce .check-reduce .ensures) (after-passed .passed .ensures) (if1-left .if1 .left) in
+    let d = reduce-headed (λ i. lent-shared-slice-known .shared-slice-known .given i .fits) e (after-read-header .read-header .ensures) in
+    left-many _ _ _ _ _ _ e (omega (arith, if2-left .if2 .left, after-size .size .ensures .0, headed-work d)) (after-plan-own .plan-own .ensures)
+    (c .if3 .taken)
 
 same-length-2 : tie.Need-same-length-2
 same-length-2 c = search needs
 
 returns-4 : tie.Need-returns-4
-returns-4 c = let e = went-on _ (c .before .before .before .before .before .before .before .before .before .before .before .before .before .before .before .before .before .before .check-reduce .ensures) (c .before .before .before .before .before .before .before .before .before .before .before .before .before .before .before .before .before .passed .ensures) (c .before .before .before .before .before .before .before .before .before .before .before .before .before .before .before .before .if1 .left) in let d = reduce-headed (λ i. c .before .before .before .before .before .before .before .before .before .before .before .before .before .before .before .before .before .before .before .before .shared-slice-known .given i .fits) e (c .before .before .before .before .before .before .before .before .before .before .before .before .before .before .before .read-header .ensures) in left-made _ _ _ _ _ _ e (omega (arith, c .before .before .before .before .before .before .before .before .before .before .before .if2 .left, c .before .before .before .before .before .before .before .before .before .before .before .before .size .ensures .0, headed-work d)) (c .before .before .before .plan-own .ensures) (c .if3 .left) (c .before .before .before .before .before .before .before .order-boundaries .ensures)
+returns-4 c =
+    let after-plan-own = c .before .before .before in
+    let after-order-boundaries = after-plan-own .before .before .before .before in
+    let if2-left = after-order-boundaries .before .before .before .before in
+    let after-size = if2-left .before in
+    let after-read-header = after-size .before .before .before in
+    let if1-left = after-read-header .before in
+    let after-passed = if1-left .before in
+    let after-check-reduce = after-passed .before in
+    let lent-shared-slice-known = after-check-reduce .before .before in
+    let e = went-on _ (after-check-reduce .check-reduce .ensures) (after-passed .passed .ensures) (if1-left .if1 .left) in
+    let d = reduce-headed (λ i. lent-shared-slice-known .shared-slice-known .given i .fits) e (after-read-header .read-header .ensures) in
+    left-made _ _ _ _ _ _ e (omega (arith, if2-left .if2 .left, after-size .size .ensures .0, headed-work d)) (after-plan-own .plan-own .ensures) (c .if3 .left)
+    (after-order-boundaries .order-boundaries .ensures)
 
 pub plan-reduce-spec : {M : Type 1} → statement M
 plan-reduce-spec =

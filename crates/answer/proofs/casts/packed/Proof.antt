@@ -2,9 +2,6 @@ use native.Mathlib.Omega.{arith}
 use borrow.Author.Needs.{needs}
 use Rattle.answer.proofs.casts.packed.Statement.{statement}
 use Rattle.answer.proofs.casts.packed.Tie as tie
-use Rattle.answer.proofs.casts.packed.Reads as reads
-use Rattle.answer.proofs.casts.packed.Lts as lts
-use Rattle.wire.proofs.wide.Reads as wide-reads
 
 wide-requires : tie.Need-wide-requires
 wide-requires c κs = search needs

@@ -5,10 +5,6 @@ use Rattle.answer.specs.Packed.{KeysRead}
 use Rattle.answer.proofs.KeysRead.{keys-start, keys-next, keys-end}
 use Rattle.answer.proofs.keys.read_keys.Statement.{statement}
 use Rattle.answer.proofs.keys.read_keys.Tie as tie
-use Rattle.answer.proofs.keys.read_keys.Reads as reads
-use Rattle.answer.proofs.keys.read_keys.Lts as lts
-use Rattle.answer.proofs.casts.packed.Reads as packed-reads
-use Rattle.format.proofs.read_source.Reads as read-source-reads
 
 abbrev Inv-loop : tie.InvT-loop
 Inv-loop job at n keys₀ i₀ keys i = (i ≤ n) × KeysRead job at i keys₀ keys
@@ -35,7 +31,9 @@ mul-keys : tie.Need-mul-keys Inv-loop μ-loop
 mul-keys c = search needs
 
 slice-write-keys : tie.Need-slice-write-keys Inv-loop μ-loop
-slice-write-keys c = omega (arith, c .before .before .before .loop .inv .1 .long)
+slice-write-keys c =
+    let in-loop = c .before .before .before in
+    omega (arith, in-loop .loop .inv .1 .long)
 
 add-i : tie.Need-add-i Inv-loop μ-loop
 add-i c = search needs
@@ -44,13 +42,21 @@ loop-less : tie.Need-loop-less Inv-loop μ-loop
 loop-less c = search needs
 
 loop-again : tie.Need-loop-again Inv-loop μ-loop
-loop-again c = (omega arith, keys-next (c .before .read-source .result) (c .before .before .before .loop .inv .1) (omega (arith, c .before .before .before .loop .inv .1 .long)) (c .before .read-source .ensures) (c .packed .ensures .0) (c .packed .ensures .1) (c .packed .ensures .2))
+loop-again c =
+    let in-loop = c .before .before .before in
+    let inv = in-loop .loop .inv in (
+      omega arith,
+      keys-next (c .before .read-source .result) (inv .1) (omega (arith, inv .1 .long)) (c .before .read-source .ensures) (c .packed .ensures .0)
+          (c .packed .ensures .1) (c .packed .ensures .2),
+    )
 
 same-length : tie.Need-same-length Inv-loop μ-loop
 same-length c = omega (arith, c .before .loop .inv .1 .long)
 
 returns : tie.Need-returns Inv-loop μ-loop
-returns c = keys-end (c .before .loop .inv .1) (c .before .loop .inv .0) (omega arith)
+returns c =
+    let inv = c .before .loop .inv in
+    keys-end (inv .1) (inv .0) (omega arith)
 
 pub read-keys-spec : {M : Type 1} → statement M
 read-keys-spec =

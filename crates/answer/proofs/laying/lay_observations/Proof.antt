@@ -7,9 +7,6 @@ use Rattle.answer.specs.Laying.{Lays, citedCount}
 use Rattle.answer.proofs.Lays.{lays-start, lays-next, lays-small, lays-end}
 use Rattle.answer.proofs.laying.lay_observations.Statement.{statement}
 use Rattle.answer.proofs.laying.lay_observations.Tie as tie
-use Rattle.answer.proofs.laying.lay_observations.Reads as reads
-use Rattle.answer.proofs.laying.lay_observations.Lts as lts
-use Rattle.format.proofs.read_observation.Reads as read-observation-reads
 
 abbrev Inv-loop : tie.InvT-loop
 Inv-loop job at p n run starts₀ counts₀ r₀ i₀ starts counts r i = (i ≤ n) × Lays (citedCount job at) p i run starts₀ counts₀ starts counts r
@@ -17,41 +14,69 @@ Inv-loop job at p n run starts₀ counts₀ r₀ i₀ starts counts r i = (i ≤
 abbrev μ-loop : tie.MeasureT-loop
 μ-loop job at p n run starts₀ counts₀ r₀ i₀ starts counts r i = n - i
 
+-- what the function is given and asked: the places since only say that its slices have lengths
+abbrev start-of : tie.After-slice-known2 Inv-loop μ-loop → tie.Start Inv-loop μ-loop
+start-of c = c .before .before .before
+
 loop-holds : tie.Need-loop-holds Inv-loop μ-loop
-loop-holds c = (omega arith, lays-start (c .before .before .before .pre))
+loop-holds c =
+    let start = start-of c in
+    (omega arith, lays-start (start .pre))
 
 add-read-observation : tie.Need-add-read-observation Inv-loop μ-loop
-add-read-observation c = omega (arith, c .before .before .before .before .before .pre .inside)
+add-read-observation c =
+    let start = start-of (c .before .before) in
+    omega (arith, start .pre .inside)
 
 mul-read-observation : tie.Need-mul-read-observation Inv-loop μ-loop
-mul-read-observation c = omega (arith, c .before .before .before .before .before .pre .inside)
+mul-read-observation c =
+    let start = start-of (c .before .before) in
+    omega (arith, start .pre .inside)
 
 add-read-observation-2 : tie.Need-add-read-observation-2 Inv-loop μ-loop
-add-read-observation-2 c = omega (arith, c .before .before .before .before .before .pre .inside)
+add-read-observation-2 c =
+    let start = start-of (c .before .before) in
+    omega (arith, start .pre .inside)
 
 read-observation-requires : tie.Need-read-observation-requires Inv-loop μ-loop
-read-observation-requires c κs = omega (arith, c .before .before .before .before .before .pre .inside)
+read-observation-requires c κs =
+    let start = start-of (c .before .before) in
+    omega (arith, start .pre .inside)
 
 add-starts : tie.Need-add-starts Inv-loop μ-loop
-add-starts c = omega (arith, c .before .before .before .before .before .before .pre .inside)
+add-starts c =
+    let start = start-of (c .before .before .before) in
+    omega (arith, start .pre .inside)
 
 mul-starts : tie.Need-mul-starts Inv-loop μ-loop
 mul-starts c = search needs
 
 slice-write-starts : tie.Need-slice-write-starts Inv-loop μ-loop
-slice-write-starts c = omega (arith, c .before .before .before .before .before .before .pre .starts-room, c .before .before .loop .inv .1 .starts-long)
+slice-write-starts c =
+    let start = start-of (c .before .before .before) in
+    omega (arith, start .pre .starts-room, c .before .before .loop .inv .1 .starts-long)
 
 add-counts : tie.Need-add-counts Inv-loop μ-loop
-add-counts c = omega (arith, c .before .before .before .before .before .before .pre .inside)
+add-counts c =
+    let start = start-of (c .before .before .before) in
+    omega (arith, start .pre .inside)
 
 mul-counts : tie.Need-mul-counts Inv-loop μ-loop
 mul-counts c = search needs
 
 slice-write-counts : tie.Need-slice-write-counts Inv-loop μ-loop
-slice-write-counts c = omega (arith, c .before .before .before .before .before .before .pre .counts-room, c .before .before .loop .inv .1 .counts-long)
+slice-write-counts c =
+    let start = start-of (c .before .before .before) in
+    omega (arith, start .pre .counts-room, c .before .before .loop .inv .1 .counts-long)
 
 add-r : tie.Need-add-r Inv-loop μ-loop
-add-r c = omega (arith, lays-small (c .before .before .before .before .before .before .pre) (c .before .before .loop .inv .1) (c .before .loop-test .taken), ap (λ (o : ObservationRecord). o .sources) (c .read-observation .ensures))
+add-r c =
+    let start = start-of (c .before .before .before) in
+    omega (
+      arith,
+      lays-small (start .pre) (c .before .before .loop .inv .1) (c .before .loop-test .taken),
+      ap (λ (o : ObservationRecord). o .sources) (c .read-observation .ensures),
+    )
 
 add-i : tie.Need-add-i Inv-loop μ-loop
 add-i c = search needs
@@ -60,7 +85,14 @@ loop-less : tie.Need-loop-less Inv-loop μ-loop
 loop-less c = search needs
 
 loop-again : tie.Need-loop-again Inv-loop μ-loop
-loop-again c = (omega arith, lays-next _ (c .before .before .loop .inv .1) (omega (arith, c .before .before .before .before .before .before .pre .starts-room, c .before .before .loop .inv .1 .starts-long)) (omega (arith, c .before .before .before .before .before .before .pre .counts-room, c .before .before .loop .inv .1 .counts-long)) (ap (λ (o : ObservationRecord). o .sources) (c .read-observation .ensures)))
+loop-again c =
+    let in-loop = c .before .before in
+    let start = start-of (in-loop .before) in
+    let inv = in-loop .loop .inv in (
+      omega arith,
+      lays-next _ (inv .1) (omega (arith, start .pre .starts-room, inv .1 .starts-long))
+          (omega (arith, start .pre .counts-room, inv .1 .counts-long)) (ap (λ (o : ObservationRecord). o .sources) (c .read-observation .ensures)),
+    )
 
 same-length : tie.Need-same-length Inv-loop μ-loop
 same-length c = omega (arith, c .before .loop .inv .1 .starts-long)
@@ -69,7 +101,9 @@ same-length-2 : tie.Need-same-length-2 Inv-loop μ-loop
 same-length-2 c = omega (arith, c .before .loop .inv .1 .counts-long)
 
 returns : tie.Need-returns Inv-loop μ-loop
-returns c = lays-end (c .before .loop .inv .1) (c .before .loop .inv .0) (omega arith)
+returns c =
+    let inv = c .before .loop .inv in
+    lays-end (inv .1) (inv .0) (omega arith)
 
 pub lay-observations-spec : {M : Type 1} → statement M
 lay-observations-spec =

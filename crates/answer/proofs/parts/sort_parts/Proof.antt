@@ -7,16 +7,16 @@ use Rattle.answer.specs.Squeezed.{Squeezed}
 use Rattle.answer.proofs.Squeezed.{squeezed-start, same, part-within, squeezed-next, squeezed-end}
 use Rattle.answer.proofs.parts.sort_parts.Statement.{statement}
 use Rattle.answer.proofs.parts.sort_parts.Tie as tie
-use Rattle.answer.proofs.parts.sort_parts.Reads as reads
-use Rattle.answer.proofs.parts.sort_parts.Lts as lts
-use Rattle.sorting.proofs.numbers.sort_unique.Reads as sort-unique-reads
-use Rattle.wire.proofs.size.Reads as size-reads
 
 abbrev Inv-loop : tie.InvT-loop
 Inv-loop keys₀ spare₀ starts counts₀ n q₀ keys spare counts q = (q ≤ n) × Squeezed starts keys₀ counts₀ keys counts q × (length spare ≡ length spare₀)
 
 abbrev μ-loop : tie.MeasureT-loop
 μ-loop keys₀ spare₀ starts counts₀ n q₀ keys spare counts q = n - q
+
+-- what the function is given and asked: the places since only say that its slices have lengths
+abbrev start-of : tie.After-slice-known3 Inv-loop μ-loop → tie.Start Inv-loop μ-loop
+start-of c = c .before .before .before .before
 
 loop-holds : tie.Need-loop-holds Inv-loop μ-loop
 loop-holds c = (omega arith, squeezed-start _ _ _, refl)
@@ -25,7 +25,9 @@ mul-size : tie.Need-mul-size Inv-loop μ-loop
 mul-size c = search needs
 
 shared-slice-read-size : tie.Need-shared-slice-read-size Inv-loop μ-loop
-shared-slice-read-size c = omega (arith, c .before .before .before .before .before .before .before .pre .starts-room)
+shared-slice-read-size c =
+    let start = start-of (c .before .before .before) in
+    omega (arith, start .pre .starts-room)
 
 size-requires : tie.Need-size-requires Inv-loop μ-loop
 size-requires c κs = search needs
@@ -34,7 +36,10 @@ mul-size-2 : tie.Need-mul-size-2 Inv-loop μ-loop
 mul-size-2 c = search needs
 
 slice-read-size : tie.Need-slice-read-size Inv-loop μ-loop
-slice-read-size c = omega (arith, c .before .before .before .before .before .before .before .before .before .before .before .pre .counts-room, (c .before .before .before .before .before .before .loop .inv .1) .counts-long)
+slice-read-size c =
+    let in-loop = c .before .before .before .before .before .before in
+    let start = start-of (in-loop .before) in
+    omega (arith, start .pre .counts-room, (in-loop .loop .inv .1) .counts-long)
 
 size-requires-2 : tie.Need-size-requires-2 Inv-loop μ-loop
 size-requires-2 c κs = search needs
@@ -43,19 +48,42 @@ add-sort-unique : tie.Need-add-sort-unique Inv-loop μ-loop
 add-sort-unique c = search needs
 
 sort-unique-requires : tie.Need-sort-unique-requires Inv-loop μ-loop
-sort-unique-requires c κs = (omega arith, omega (arith, part-within (c .before .before .before .before .before .before .before .before .before .before .before .before .pre .clear) (c .before .before .before .before .before .before .before .loop .inv .1), c .before .before .before .before .size .ensures .0, c .size2 .ensures .0, (c .before .before .before .before .before .before .before .loop .inv .1) .keys-long), omega (arith, same (c .before .before .before .before .before .before .before .before .before .before .before .before .pre .clear) (c .before .before .before .before .before .before .before .loop .inv .1), c .before .before .before .before .size .ensures .0, c .size2 .ensures .0, c .before .before .before .before .before .before .before .before .before .before .before .before .pre .spare-room (c .before .before .before .before .before .before .before .loop .q), c .before .before .before .before .before .before .before .loop .inv .2))
+sort-unique-requires c κs =
+    let after-size = c .before .before .before .before in
+    let in-loop = after-size .before .before .before in
+    let start = start-of (in-loop .before) in
+    let inv = in-loop .loop .inv in (
+      omega arith,
+      omega (arith, part-within (start .pre .clear) (inv .1), after-size .size .ensures .0, c .size2 .ensures .0, (inv .1) .keys-long),
+      omega (
+        arith,
+        same (start .pre .clear) (inv .1),
+        after-size .size .ensures .0,
+        c .size2 .ensures .0,
+        start .pre .spare-room (in-loop .loop .q),
+        inv .2,
+      ),
+    )
 
 sub-counts : tie.Need-sub-counts Inv-loop μ-loop
-sub-counts c = omega (arith, c .before .before .before .before .sort-unique .ensures .ends)
+sub-counts c =
+    let after-sort-unique = c .before .before .before .before in
+    omega (arith, after-sort-unique .sort-unique .ensures .ends)
 
 cast-counts : tie.Need-cast-counts Inv-loop μ-loop
-cast-counts c = omega (arith, c .before .before .before .before .sort-unique .ensures .within, c .before .before .before .before .before .size2 .ensures .1)
+cast-counts c =
+    let after-sort-unique = c .before .before .before .before in
+    let after-size2 = after-sort-unique .before in
+    omega (arith, after-sort-unique .sort-unique .ensures .within, after-size2 .size2 .ensures .1)
 
 mul-counts : tie.Need-mul-counts Inv-loop μ-loop
 mul-counts c = search needs
 
 slice-write-counts : tie.Need-slice-write-counts Inv-loop μ-loop
-slice-write-counts c = omega (arith, c .before .before .before .before .before .before .before .before .before .before .before .before .before .before .before .before .before .pre .counts-room, (c .before .before .before .before .before .before .before .before .before .before .before .before .loop .inv .1) .counts-long)
+slice-write-counts c =
+    let in-loop = c .before .before .before .before .before .before .before .before .before .before .before .before in
+    let start = start-of (in-loop .before) in
+    omega (arith, start .pre .counts-room, (in-loop .loop .inv .1) .counts-long)
 
 add-q : tie.Need-add-q Inv-loop μ-loop
 add-q c = search needs
@@ -64,7 +92,18 @@ loop-less : tie.Need-loop-less Inv-loop μ-loop
 loop-less c = search needs
 
 loop-again : tie.Need-loop-again Inv-loop μ-loop
-loop-again c = (omega arith, squeezed-next (c .before .before .before .before .before .before .before .before .before .before .before .before .before .before .before .before .before .pre .clear) (c .before .before .before .before .before .before .before .before .before .before .before .before .loop .inv .1) (omega (arith, c .before .before .before .before .before .before .before .before .before .before .before .before .before .before .before .before .before .pre .counts-room, (c .before .before .before .before .before .before .before .before .before .before .before .before .loop .inv .1) .counts-long)) (c .before .before .before .before .before .before .before .before .before .size .ensures .0) (omega (arith, c .before .before .before .before .before .size2 .ensures .0)) (c .before .before .before .before .sort-unique .ensures) refl (omega arith), omega (arith, c .before .before .before .before .before .before .before .before .before .before .before .before .loop .inv .2))
+loop-again c =
+    let after-sort-unique = c .before .before .before .before in
+    let after-size2 = after-sort-unique .before in
+    let after-size = after-size2 .before .before .before .before in
+    let in-loop = after-size .before .before .before in
+    let start = start-of (in-loop .before) in
+    let inv = in-loop .loop .inv in (
+      omega arith,
+      squeezed-next (start .pre .clear) (inv .1) (omega (arith, start .pre .counts-room, (inv .1) .counts-long)) (after-size .size .ensures .0)
+          (omega (arith, after-size2 .size2 .ensures .0)) (after-sort-unique .sort-unique .ensures) refl (omega arith),
+      omega (arith, inv .2),
+    )
 
 same-length : tie.Need-same-length Inv-loop μ-loop
 same-length c = omega (arith, (c .before .loop .inv .1) .keys-long)
@@ -76,7 +115,9 @@ same-length-3 : tie.Need-same-length-3 Inv-loop μ-loop
 same-length-3 c = omega (arith, (c .before .loop .inv .1) .counts-long)
 
 returns : tie.Need-returns Inv-loop μ-loop
-returns c = squeezed-end (c .before .loop .inv .1) (c .before .loop .inv .0) (omega arith)
+returns c =
+    let inv = c .before .loop .inv in
+    squeezed-end (inv .1) (inv .0) (omega arith)
 
 pub sort-parts-spec : {M : Type 1} → statement M
 sort-parts-spec =

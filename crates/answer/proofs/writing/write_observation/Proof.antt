@@ -3,11 +3,6 @@ use Rattle.answer.proofs.Writes.{observation-written}
 use borrow.Author.Needs.{needs}
 use Rattle.answer.proofs.writing.write_observation.Statement.{statement}
 use Rattle.answer.proofs.writing.write_observation.Tie as tie
-use Rattle.answer.proofs.writing.write_observation.Reads as reads
-use Rattle.answer.proofs.writing.write_observation.Lts as lts
-use Rattle.answer.proofs.writing.write_span.Reads as write-span-reads
-use Rattle.wire.proofs.write_u32.Reads as write-u32-reads
-use Rattle.wire.proofs.write_u64.Reads as write-u64-reads
 
 write-span-requires : tie.Need-write-span-requires
 write-span-requires c κs = search needs
@@ -28,7 +23,12 @@ same-length : tie.Need-same-length
 same-length c = search needs
 
 returns : tie.Need-returns
-returns c = observation-written (c .before .before .before .before .before .before .before .before .before .before .before .before .before .args .s .now) (c .before .before .before .before .before .before .before .before .before .before .before .before .before .args .at) (c .before .before .before .before .before .before .before .before .before .before .before .before .before .args .ends) (c .before .before .before .before .before .before .before .before .before .before .before .before .before .args .bits) (c .before .before .before .before .before .before .before .before .before .before .before .before .before .args .sources) (omega arith) (c .before .before .before .before .before .before .before .before .before .before .write-span .ensures) (c .before .before .before .before .before .before .write-u64 .ensures) (c .before .before .write-u32 .ensures)
+returns c =
+    let after-write-u64 = c .before .before .before .before .before .before in
+    let after-write-span = after-write-u64 .before .before .before .before in
+    let start = after-write-span .before .before .before in
+    observation-written (start .args .s .now) (start .args .at) (start .args .ends) (start .args .bits) (start .args .sources) (omega arith)
+    (after-write-span .write-span .ensures) (after-write-u64 .write-u64 .ensures) (c .before .before .write-u32 .ensures)
 
 pub write-observation-spec : {M : Type 1} → statement M
 write-observation-spec =

@@ -3,9 +3,6 @@ use Rattle.answer.proofs.Writes.{span-written}
 use borrow.Author.Needs.{needs}
 use Rattle.answer.proofs.writing.write_span.Statement.{statement}
 use Rattle.answer.proofs.writing.write_span.Tie as tie
-use Rattle.answer.proofs.writing.write_span.Reads as reads
-use Rattle.answer.proofs.writing.write_span.Lts as lts
-use Rattle.wire.proofs.write_u32.Reads as write-u32-reads
 
 write-u32-requires : tie.Need-write-u32-requires
 write-u32-requires c κs = search needs
@@ -32,7 +29,13 @@ same-length : tie.Need-same-length
 same-length c = search needs
 
 returns : tie.Need-returns
-returns c = span-written (c .before .before .before .before .before .before .before .before .before .before .before .before .before .before .before .before .before .before .before .args .s .now) (c .before .before .before .before .before .before .before .before .before .before .before .before .before .before .before .before .before .before .before .args .at) (c .before .before .before .before .before .before .before .before .before .before .before .before .before .before .before .before .before .before .before .args .ends) (omega arith) (c .before .before .before .before .before .before .before .before .before .before .before .before .before .before .write-u32 .ensures) (c .before .before .before .before .before .before .before .before .before .before .write-u322 .ensures) (c .before .before .before .before .before .before .write-u323 .ensures) (c .before .before .write-u324 .ensures)
+returns c =
+    let after-write-u323 = c .before .before .before .before .before .before in
+    let after-write-u322 = after-write-u323 .before .before .before .before in
+    let after-write-u32 = after-write-u322 .before .before .before .before in
+    let start = after-write-u32 .before .before .before .before .before in
+    span-written (start .args .s .now) (start .args .at) (start .args .ends) (omega arith) (after-write-u32 .write-u32 .ensures)
+    (after-write-u322 .write-u322 .ensures) (after-write-u323 .write-u323 .ensures) (c .before .before .write-u324 .ensures)
 
 pub write-span-spec : {M : Type 1} → statement M
 write-span-spec =

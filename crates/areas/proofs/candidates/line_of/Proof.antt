@@ -13,21 +13,30 @@ is-tall-requires c κs = search needs
 returns : tie.Need-returns
 unfolding lineOf
 returns c =
-    let e : tall (c .before .before .before .before .args .span) ≡ false = sym (c .before .is-tall .ensures) ∙ not-true _ (c .if1 .taken) in
+    let start = c .before .before .before .before in
+    let e : tall (start .args .span) ≡ false = sym (c .before .is-tall .ensures) ∙ not-true _ (c .if1 .taken) in
     rw e
 
 returns-2 : tie.Need-returns-2
 unfolding lineOf
 returns-2 c =
-    let e : tall (c .before .before .before .before .before .before .before .args .span) ≡ true = sym (c .before .before .before .before .is-tall .ensures) ∙ not-false _ (c .before .before .before .if1 .left) in
-    let k : leb (c .before .before .before .before .before .before .before .args .span .a .y) (c .before .before .before .before .before .before .before .args .span .b .y) ≡ true = le-leb _ _ (c .if2 .taken) in
+    let if1-left = c .before .before .before in
+    let after-is-tall = if1-left .before in
+    let start = after-is-tall .before .before .before in
+    let span = start .args .span in
+    let e : tall span ≡ true = sym (after-is-tall .is-tall .ensures) ∙ not-false _ (if1-left .if1 .left) in
+    let k : leb (span .a .y) (span .b .y) ≡ true = le-leb _ _ (c .if2 .taken) in
     rw (e, k)
 
 returns-3 : tie.Need-returns-3
 unfolding lineOf
 returns-3 c =
-    let e : tall (c .before .before .before .before .before .before .before .args .span) ≡ true = sym (c .before .before .before .before .is-tall .ensures) ∙ not-false _ (c .before .before .before .if1 .left) in
-    let k : leb (c .before .before .before .before .before .before .before .args .span .a .y) (c .before .before .before .before .before .before .before .args .span .b .y) ≡ false = lt-leb _ _ (c .if2 .left) in
+    let if1-left = c .before .before .before in
+    let after-is-tall = if1-left .before in
+    let start = after-is-tall .before .before .before in
+    let span = start .args .span in
+    let e : tall span ≡ true = sym (after-is-tall .is-tall .ensures) ∙ not-false _ (if1-left .if1 .left) in
+    let k : leb (span .a .y) (span .b .y) ≡ false = lt-leb _ _ (c .if2 .left) in
     rw (e, k)
 
 pub line-of-spec : {M : Type 1} → statement M

@@ -18,8 +18,9 @@ cuts-requires c κs = search needs
 
 returns : tie.Need-returns
 unfolding cutBy
-returns c = λ g i j e f h k.
+returns c =
     let start = c .before .before .before in
+    λ g i j e f h k.
     c .cuts .ensures
     ∙ ap₂ (cuts (start .args .span)) (c .before .before .cell-center .ensures .0 g i e f) (c .before .cell-center2 .ensures .0 g j h k)
     ∙ ap (λ (s : Span). cuts s (centre g i) (centre g j)) (sym (ordered (start .args .span) (start .pre .2)))

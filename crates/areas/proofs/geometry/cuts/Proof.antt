@@ -48,9 +48,10 @@ segments-intersect-requires c κs = search needs
 returns-2 : tie.Need-returns-2
 unfolding cuts
 returns-2 c =
-    let start = c .before .before .before .before .before .before in
+    let after-side = c .before .before .before in
+    let start = after-side .before .before .before in
     let meet = meets (start .args .span .a) (start .args .span .b) (start .args .from) (start .args .to) in
-    apart (c .before .before .before .side .ensures) (c .before .before .side2 .ensures) meet (c .before .if1 .left) (c .segments-intersect .ensures)
+    apart (after-side .side .ensures) (c .before .before .side2 .ensures) meet (c .before .if1 .left) (c .segments-intersect .ensures)
 
 pub cuts-spec : {M : Type 1} → statement M
 cuts-spec =

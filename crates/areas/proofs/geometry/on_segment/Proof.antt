@@ -24,10 +24,13 @@ max-requires-2 c κs = search needs
 returns : tie.Need-returns
 unfolding onSegment
 returns c =
+    let after-min = c .before .before .before in
+    let after-cross-minus = after-min .before in
+    let after-cross-plus = after-cross-minus .before in
     simp (
-      c .before .before .before .before .before .cross-plus .ensures,
-      c .before .before .before .before .cross-minus .ensures,
-      c .before .before .before .min .ensures,
+      after-cross-plus .cross-plus .ensures,
+      after-cross-minus .cross-minus .ensures,
+      after-min .min .ensures,
       c .before .before .max .ensures,
       c .before .min2 .ensures,
       c .max2 .ensures,

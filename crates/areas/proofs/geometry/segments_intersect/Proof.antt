@@ -26,8 +26,11 @@ on-segment-requires-4 c κs = search needs
 returns : tie.Need-returns
 unfolding meets
 returns c =
-    ap₂ _||_ (ap₂ _&&_ (c .before .before .before .before .before .strictly-opposite .ensures) (c .before .before .before .before .strictly-opposite2 .ensures))
-    (ap₂ _||_ (ap₂ _||_ (c .before .before .before .on-segment .ensures) (c .before .before .on-segment2 .ensures))
+    let after-on-segment = c .before .before .before in
+    let after-strictly-opposite2 = after-on-segment .before in
+    let after-strictly-opposite = after-strictly-opposite2 .before in
+    ap₂ _||_ (ap₂ _&&_ (after-strictly-opposite .strictly-opposite .ensures) (after-strictly-opposite2 .strictly-opposite2 .ensures))
+    (ap₂ _||_ (ap₂ _||_ (after-on-segment .on-segment .ensures) (c .before .before .on-segment2 .ensures))
     (ap₂ _||_ (c .before .on-segment3 .ensures) (c .on-segment4 .ensures)))
 
 pub segments-intersect-spec : {M : Type 1} → statement M

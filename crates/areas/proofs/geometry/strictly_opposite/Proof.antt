@@ -20,7 +20,8 @@ below-requires-2 c κs = search needs
 returns : tie.Need-returns
 unfolding opposite
 returns c =
-    ap₂ _||_ (ap₂ _&&_ (c .before .before .before .below .ensures) (c .before .before .above .ensures))
+    let after-below = c .before .before .before in
+    ap₂ _||_ (ap₂ _&&_ (after-below .below .ensures) (c .before .before .above .ensures))
     (ap₂ _&&_ (c .before .above2 .ensures) (c .below2 .ensures))
 
 pub strictly-opposite-spec : {M : Type 1} → statement M

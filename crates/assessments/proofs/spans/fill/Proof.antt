@@ -4,8 +4,6 @@ use native.Mathlib.Omega.{arith}
 use borrow.Author.Needs.{needs}
 use Rattle.assessments.proofs.spans.fill.Statement.{statement}
 use Rattle.assessments.proofs.spans.fill.Tie as tie
-use Rattle.assessments.proofs.spans.fill.Reads as reads
-use Rattle.assessments.proofs.spans.fill.Lts as lts
 
 abbrev Inv-loop : tie.InvT-loop
 Inv-loop numbers₀ start end v k₀ numbers k = Filling numbers₀ numbers start end v k

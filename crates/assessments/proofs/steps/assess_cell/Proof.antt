@@ -7,23 +7,30 @@ use Rattle.assessments.specs.Visits.{mapOf, cutIn, cutFrom}
 use Rattle.assessments.proofs.Advancing.{Going, going-start, going-room, going-next, going-end, grown-more}
 use Rattle.assessments.proofs.steps.assess_cell.Statement.{statement}
 use Rattle.assessments.proofs.steps.assess_cell.Tie as tie
-use Rattle.assessments.proofs.steps.assess_cell.Reads as reads
-use Rattle.assessments.proofs.steps.assess_cell.Lts as lts
-use Rattle.assessments.proofs.steps.assess_step.Reads as assess-step-reads
 
 abbrev Inv-loop : tie.InvT-loop
 Inv-loop cells width height directions labels span position lefts₀ rights₀ start done₀ d₀ lefts rights done d =
-    (d ≤ 9) × Going (labelsIn labels (width * height)) (cutIn (directionsOf directions) (mapOf width height cells) span (position .y * width + position .x)) 5 start lefts₀ rights₀ done₀ lefts rights done d (d - 5)
+    (d ≤ 9) × Going (labelsIn labels (width * height)) (cutIn (directionsOf directions) (mapOf width height cells) span (position .y * width + position .x)) 5
+    start lefts₀ rights₀ done₀ lefts rights done d (d - 5)
 
 abbrev μ-loop : tie.MeasureT-loop
 μ-loop cells width height directions labels span position lefts₀ rights₀ start done₀ d₀ lefts rights done d =
     9 - d
 
+-- what the function is given and asked: the places since only say that its slices have lengths
+abbrev start-of : tie.After-slice-known2 Inv-loop μ-loop → tie.Start Inv-loop μ-loop
+start-of c = c .before .before .before .before
+
 loop-holds : tie.Need-loop-holds Inv-loop μ-loop
-loop-holds c = (omega arith, going-start _ _ _ 4 (c .before .before .before .before .pre .3))
+loop-holds c =
+    let start = start-of c in
+    (omega arith, going-start _ _ _ 4 (start .pre .3))
 
 assess-step-requires : tie.Need-assess-step-requires Inv-loop μ-loop
-assess-step-requires c κs = let p = c .before .before .before .before .before .before .before .before .pre in (p .0, p .1, p .2, omega arith, going-room _ _ (c .before .before .before .loop .inv .1) 4 1 (p .3) (omega arith))
+assess-step-requires c κs =
+    let in-loop = c .before .before .before in
+    let start = start-of (in-loop .before) in
+    let p = start .pre in (p .0, p .1, p .2, omega arith, going-room _ _ (in-loop .loop .inv .1) 4 1 (p .3) (omega arith))
 
 add-d : tie.Need-add-d Inv-loop μ-loop
 add-d c = omega arith
@@ -32,7 +39,14 @@ loop-less : tie.Need-loop-less Inv-loop μ-loop
 loop-less c = omega arith
 
 loop-again : tie.Need-loop-again Inv-loop μ-loop
-loop-again c = (omega arith, going-next _ _ (c .before .before .before .before .before .before .before .before .loop .inv .1) _ 1 (omega (arith, c .before .before .before .before .before .before .before .before .loop .inv .1 .reached)) (c .before .before .before .before .assess-step .kept .1 .1 .1 .1 .1 .1 .1 .1 .0) (c .before .before .before .before .assess-step .kept .1 .1 .1 .1 .1 .1 .1 .1 .1 .0) (c .before .before .before .before .assess-step .ensures .0) (c .before .before .before .before .assess-step .ensures .1))
+loop-again c =
+    let at-assess-step = c .before .before .before .before in
+    let in-loop = at-assess-step .before .before .before .before in
+    let inv = in-loop .loop .inv in (
+      omega arith,
+      going-next _ _ (inv .1) _ 1 (omega (arith, inv .1 .reached)) (at-assess-step .assess-step .kept .1 .1 .1 .1 .1 .1 .1 .1 .0)
+          (at-assess-step .assess-step .kept .1 .1 .1 .1 .1 .1 .1 .1 .1 .0) (at-assess-step .assess-step .ensures .0) (at-assess-step .assess-step .ensures .1),
+    )
 
 same-length : tie.Need-same-length Inv-loop μ-loop
 same-length c = c .before .loop .inv .1 .lefts-are
@@ -42,7 +56,9 @@ same-length-2 c = c .before .loop .inv .1 .rights-are
 
 returns : tie.Need-returns Inv-loop μ-loop
 unfolding cutFrom
-returns c = (grown-more 4 (c .before .loop .inv .1 .grown) (omega arith), going-end _ _ (c .before .loop .inv .1) 4 (omega arith) refl)
+returns c =
+    let inv = c .before .loop .inv in
+    (grown-more 4 (inv .1 .grown) (omega arith), going-end _ _ (inv .1) 4 (omega arith) refl)
 
 pub assess-cell-spec : {M : Type 1} → statement M
 assess-cell-spec =

@@ -4,12 +4,6 @@ use Rattle.assessments.proofs.Advancing.{advance-same, advance-put, lab
 use borrow.Author.Needs.{needs}
 use Rattle.assessments.proofs.steps.count_step.Statement.{statement}
 use Rattle.assessments.proofs.steps.count_step.Tie as tie
-use Rattle.assessments.proofs.steps.count_step.Reads as reads
-use Rattle.assessments.proofs.steps.count_step.Lts as lts
-use Rattle.areas.proofs.geometry.max.Reads as max-reads
-use Rattle.areas.proofs.geometry.min.Reads as min-reads
-use Rattle.assessments.proofs.pairs.insert_pair.Reads as insert-pair-reads
-use Rattle.wire.proofs.read_u32.Reads as read-u32-reads
 
 add-removed : tie.Need-add-removed
 add-removed c = search needs
@@ -27,7 +21,10 @@ read-u32-requires-2 : tie.Need-read-u32-requires-2
 read-u32-requires-2 c κs = search needs
 
 returns : tie.Need-returns
-returns c = (record { from = omega arith; to = omega arith; removed = omega arith; separated = omega arith }, λ n a b. advance-same _ _ (labels-alike _ a b (c .before .before .read-u32 .ensures) (c .before .read-u322 .ensures) (c .if1 .taken)) refl refl refl)
+returns c = (
+  record { from = omega arith; to = omega arith; removed = omega arith; separated = omega arith },
+  λ n a b. advance-same _ _ (labels-alike _ a b (c .before .before .read-u32 .ensures) (c .before .read-u322 .ensures) (c .if1 .taken)) refl refl refl,
+)
 
 min-requires : tie.Need-min-requires
 min-requires c κs = search needs
@@ -48,7 +45,23 @@ same-length-2 : tie.Need-same-length-2
 same-length-2 c = search needs
 
 returns-2 : tie.Need-returns-2
-returns-2 c = (record { from = omega (arith, c .before .before .before .before .insert-pair .ensures .0); to = omega (arith, c .before .before .before .before .insert-pair .ensures .0); removed = omega arith; separated = omega arith }, λ n a b. advance-put _ _ _ (labels-apart _ a b (c .before .before .before .before .before .before .before .before .before .before .before .read-u32 .ensures) (c .before .before .before .before .before .before .before .before .before .before .read-u322 .ensures) (c .before .before .before .before .before .before .before .before .before .if1 .left)) (label-pair _ a b (c .before .before .before .before .before .before .before .before .before .before .before .read-u32 .ensures) (c .before .before .before .before .before .before .before .before .before .before .read-u322 .ensures) (c .before .before .before .before .before .before .min .ensures) (c .before .before .before .before .before .max .ensures)) refl refl (c .before .before .before .before .insert-pair .ensures .1 .0) (c .before .before .before .before .insert-pair .ensures .1 .1))
+returns-2 c =
+    let after-insert-pair = c .before .before .before .before in
+    let after-max = after-insert-pair .before in
+    let after-min = after-max .before in
+    let if1-left = after-min .before .before .before in
+    let after-read-u322 = if1-left .before in
+    let after-read-u32 = after-read-u322 .before in (
+      record {
+        from = omega (arith, after-insert-pair .insert-pair .ensures .0);
+        to = omega (arith, after-insert-pair .insert-pair .ensures .0);
+        removed = omega arith;
+        separated = omega arith;
+      },
+      λ n a b. advance-put _ _ _ (labels-apart _ a b (after-read-u32 .read-u32 .ensures) (after-read-u322 .read-u322 .ensures) (if1-left .if1 .left))
+          (label-pair _ a b (after-read-u32 .read-u32 .ensures) (after-read-u322 .read-u322 .ensures) (after-min .min .ensures) (after-max .max .ensures)) refl
+          refl (after-insert-pair .insert-pair .ensures .1 .0) (after-insert-pair .insert-pair .ensures .1 .1),
+    )
 
 pub count-step-spec : {M : Type 1} → statement M
 count-step-spec =

@@ -5,10 +5,6 @@ use Rattle.wire.specs.Bytes.{splice, u32Bytes}
 use borrow.Author.Needs.{needs}
 use Rattle.bridges.proofs.numbering.forget.Statement.{statement}
 use Rattle.bridges.proofs.numbering.forget.Tie as tie
-use Rattle.bridges.proofs.numbering.forget.Reads as reads
-use Rattle.bridges.proofs.numbering.forget.Lts as lts
-use Rattle.wire.proofs.size.Reads as size-reads
-use Rattle.wire.proofs.write_u32.Reads as write-u32-reads
 
 sub-size : tie.Need-sub-size
 sub-size c = search needs
@@ -30,8 +26,10 @@ same-length c = search needs
 
 returns : tie.Need-returns
 returns c =
-    let a = c .before .before .before .before .before .before .args in
-    let s : a .base + c .before .before .before .size .result * 4 ≡ a .base + 4 * (a .label - 1) = omega (arith, c .before .before .before .size .ensures .0) in
+    let after-size = c .before .before .before in
+    let start = after-size .before .before .before in
+    let a = start .args in
+    let s : a .base + after-size .size .result * 4 ≡ a .base + 4 * (a .label - 1) = omega (arith, after-size .size .ensures .0) in
     c .before .before .write-u32 .ensures ∙ ap (λ (i : ℕ). splice (a .work .now) i (u32Bytes 0)) s
 
 pub forget-spec : {M : Type 1} → statement M

@@ -5,10 +5,10 @@ use Rattle.bridges.proofs.Names.{forgotten-at}
 use borrow.Author.Needs.{needs}
 use Rattle.bridges.proofs.numbering.forget_record.Statement.{statement}
 use Rattle.bridges.proofs.numbering.forget_record.Tie as tie
-use Rattle.bridges.proofs.numbering.forget_record.Reads as reads
-use Rattle.bridges.proofs.numbering.forget_record.Lts as lts
-use Rattle.bridges.proofs.numbering.forget.Reads as forget-reads
-use Rattle.wire.proofs.size.Reads as size-reads
+
+-- what the function is given and asked: the places since only say that its slices have lengths
+abbrev start-of : tie.After-slice-known → tie.Start
+start-of c = c .before .before .before
 
 size-requires : tie.Need-size-requires
 size-requires c κs = search needs
@@ -21,9 +21,10 @@ shared-slice-read-forget c = search needs
 
 forget-requires : tie.Need-forget-requires
 forget-requires c κs =
-    let p = c .before .before .before .before .before .before .pre in
-    let k = c .before .before .before .before .before .before .args .k in
-    let t = ap (at (c .before .before .before .before .before .before .args .lefts .now)) (c .before .before .size .ensures .0) in
+    let start = start-of (c .before .before .before) in
+    let p = start .pre in
+    let k = start .args .k in
+    let t = ap (at (start .args .lefts .now)) (c .before .before .size .ensures .0) in
     (omega (arith, t, p .1 .left-from k (p .0)), omega (arith, t, p .1 .left-to k (p .0), p .2))
 
 mul-forget-2 : tie.Need-mul-forget-2
@@ -34,18 +35,24 @@ shared-slice-read-forget-2 c = search needs
 
 forget-requires-2 : tie.Need-forget-requires-2
 forget-requires-2 c κs =
-    let p = c .before .before .before .before .before .before .before .before .before .before .before .pre in
-    let k = c .before .before .before .before .before .before .before .before .before .before .before .args .k in
-    let t = ap (at (c .before .before .before .before .before .before .before .before .before .before .before .args .rights .now)) (c .before .before .before .before .before .before .before .size .ensures .0) in
-    (omega (arith, t, p .1 .right-from k (p .0)), omega (arith, t, p .1 .right-to k (p .0), p .2, c .before .before .before .before .forget .kept .0))
+    let at-forget = c .before .before .before .before in
+    let after-size = at-forget .before .before .before in
+    let start = start-of (after-size .before) in
+    let p = start .pre in
+    let k = start .args .k in
+    let t = ap (at (start .args .rights .now)) (after-size .size .ensures .0) in
+    (omega (arith, t, p .1 .right-from k (p .0)), omega (arith, t, p .1 .right-to k (p .0), p .2, at-forget .forget .kept .0))
 
 same-length : tie.Need-same-length
 same-length c = search needs
 
 returns : tie.Need-returns
 returns c =
-    let p = c .before .before .before .before .before .before .before .before .before .before .before .before .before .before .pre in
-    λ start f. forgotten-at (c .before .before .before .before .before .before .before .before .before .before .size .ensures .0) (p .0) (p .1) (p .2) f (c .before .before .before .before .before .before .before .forget .ensures) (c .before .before .forget2 .ensures)
+    let after-forget = c .before .before .before .before .before .before .before in
+    let after-size = after-forget .before .before .before in
+    let start-2 = start-of (after-size .before) in
+    let p = start-2 .pre in
+    λ start f. forgotten-at (after-size .size .ensures .0) (p .0) (p .1) (p .2) f (after-forget .forget .ensures) (c .before .before .forget2 .ensures)
 
 pub forget-record-spec : {M : Type 1} → statement M
 forget-record-spec =

@@ -5,31 +5,55 @@ use Rattle.bridges.specs.Names.{Numbered}
 use Rattle.bridges.proofs.Names.{unnumbered}
 use Rattle.bridges.proofs.numbering.number_all.Statement.{statement}
 use Rattle.bridges.proofs.numbering.number_all.Tie as tie
-use Rattle.bridges.proofs.numbering.number_all.Reads as reads
-use Rattle.bridges.proofs.numbering.number_all.Lts as lts
-use Rattle.bridges.proofs.numbering.number_record.Reads as number-record-reads
 use lib.ListN.{length}
 
 abbrev Inv-loop : tie.InvT-loop
-Inv-loop lefts rights count regions work₀ base small-lefts₀ small-rights₀ k₀ work small-lefts small-rights k = (k ≤ count) × (length small-lefts ≡ length small-lefts₀) × (length small-rights ≡ length small-rights₀) × Numbered count lefts rights regions base work₀ work small-lefts small-rights k
+Inv-loop lefts rights count regions work₀ base small-lefts₀ small-rights₀ k₀ work small-lefts small-rights k = (k ≤ count)
+    × (length small-lefts ≡ length small-lefts₀) × (length small-rights ≡ length small-rights₀)
+    × Numbered count lefts rights regions base work₀ work small-lefts small-rights k
 
 abbrev μ-loop : tie.MeasureT-loop
 μ-loop lefts rights count regions work₀ base small-lefts₀ small-rights₀ k₀ work small-lefts small-rights k = count - k
 
+-- what the function is given and asked: the places since only say that its slices have lengths
+abbrev start-of : tie.After-slice-known3 Inv-loop μ-loop → tie.Start Inv-loop μ-loop
+start-of c = c .before .before .before .before .before
+
 loop-holds : tie.Need-loop-holds Inv-loop μ-loop
-loop-holds c = (omega arith, refl, refl, unnumbered (c .before .before .before .before .before .args .work .now) (c .before .before .before .before .before .pre .2) (c .before .before .before .before .before .pre .3) (c .before .before .before .before .before .pre .4))
+loop-holds c =
+    let start = start-of c in
+    (omega arith, refl, refl, unnumbered (start .args .work .now) (start .pre .2) (start .pre .3) (start .pre .4))
 
 number-record-requires : tie.Need-number-record-requires Inv-loop μ-loop
-number-record-requires c κs = (c .before .before .before .loop-test .taken, c .before .before .before .before .before .before .before .before .before .before .pre .0, omega (arith, c .before .before .before .before .before .before .before .before .before .before .pre .1, c .before .before .before .before .loop .inv .3 .table .as-long), c .before .before .before .before .loop .inv .3 .lefts-are, c .before .before .before .before .loop .inv .3 .rights-are)
+number-record-requires c κs =
+    let turning = c .before .before .before in
+    let in-loop = turning .before in
+    let start = start-of (in-loop .before) in
+    let inv = in-loop .loop .inv in
+    (turning .loop-test .taken, start .pre .0, omega (arith, start .pre .1, inv .3 .table .as-long), inv .3 .lefts-are, inv .3 .rights-are)
 
 add-k : tie.Need-add-k Inv-loop μ-loop
-add-k c = omega (arith, c .before .before .before .before .before .before .before .before .before .before .loop-test .taken, c .before .before .before .before .before .before .before .before .before .before .before .before .before .before .before .before .before .pre .0 .few)
+add-k c =
+    let turning = c .before .before .before .before .before .before .before .before .before .before in
+    let start = start-of (turning .before .before) in
+    omega (arith, turning .loop-test .taken, start .pre .0 .few)
 
 loop-less : tie.Need-loop-less Inv-loop μ-loop
-loop-less c = omega (arith, c .before .before .before .before .before .before .before .before .before .before .loop-test .taken)
+loop-less c =
+    let turning = c .before .before .before .before .before .before .before .before .before .before in
+    omega (arith, turning .loop-test .taken)
 
 loop-again : tie.Need-loop-again Inv-loop μ-loop
-loop-again c = (omega (arith, c .before .before .before .before .before .before .before .before .before .before .loop-test .taken), omega (arith, c .before .before .before .before .before .before .number-record .kept, c .before .before .before .before .before .before .before .before .before .before .before .loop .inv .1), omega (arith, c .before .before .before .before .before .before .number-record .kept, c .before .before .before .before .before .before .before .before .before .before .before .loop .inv .2), c .before .before .before .before .before .before .number-record .ensures _ (c .before .before .before .before .before .before .before .before .before .before .before .loop .inv .3))
+loop-again c =
+    let at-number-record = c .before .before .before .before .before .before in
+    let turning = at-number-record .before .before .before .before in
+    let in-loop = turning .before in
+    let inv = in-loop .loop .inv in (
+      omega (arith, turning .loop-test .taken),
+      omega (arith, at-number-record .number-record .kept, inv .1),
+      omega (arith, at-number-record .number-record .kept, inv .2),
+      at-number-record .number-record .ensures _ (inv .3),
+    )
 
 same-length : tie.Need-same-length Inv-loop μ-loop
 same-length c = c .before .loop .inv .3 .table .as-long
@@ -41,7 +65,10 @@ same-length-3 : tie.Need-same-length-3 Inv-loop μ-loop
 same-length-3 c = c .before .loop .inv .2
 
 returns : tie.Need-returns Inv-loop μ-loop
-returns c = subst (Numbered _ _ _ _ _ _ _ _ _) (let z : c .before .loop .k ≡ c .before .before .before .before .before .before .before .args .count = omega (arith, c .before .loop .inv .0, c .loop-test .left) in z) (c .before .loop .inv .3)
+returns c =
+    let start = start-of (c .before .before) in
+    let inv = c .before .loop .inv in
+    subst (Numbered _ _ _ _ _ _ _ _ _) (let z : c .before .loop .k ≡ start .args .count = omega (arith, inv .0, c .loop-test .left) in z) (inv .3)
 
 pub number-all-spec : {M : Type 1} → statement M
 number-all-spec =

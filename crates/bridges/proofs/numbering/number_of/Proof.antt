@@ -5,11 +5,6 @@ use Rattle.wire.specs.Bytes.{splice, u32At, u32Bytes}
 use borrow.Author.Needs.{needs}
 use Rattle.bridges.proofs.numbering.number_of.Statement.{statement}
 use Rattle.bridges.proofs.numbering.number_of.Tie as tie
-use Rattle.bridges.proofs.numbering.number_of.Reads as reads
-use Rattle.bridges.proofs.numbering.number_of.Lts as lts
-use Rattle.wire.proofs.read_u32.Reads as read-u32-reads
-use Rattle.wire.proofs.size.Reads as size-reads
-use Rattle.wire.proofs.write_u32.Reads as write-u32-reads
 
 sub-size : tie.Need-sub-size
 sub-size c = search needs
@@ -34,9 +29,12 @@ same-length c = search needs
 
 returns : tie.Need-returns
 returns c =
-    let a = c .before .before .before .before .before .args in
-    let s : a .base + c .before .before .before .size .result * 4 ≡ a .base + 4 * (a .label - 1) = omega (arith, c .before .before .before .size .ensures .0) in
-    let q : u32At (a .work .now) (a .base + 4 * (a .label - 1)) ≡ c .before .read-u32 .result = ap (u32At (a .work .now)) (sym s) ∙ sym (c .before .read-u32 .ensures) in
+    let after-size = c .before .before .before in
+    let start = after-size .before .before in
+    let a = start .args in
+    let s : a .base + after-size .size .result * 4 ≡ a .base + 4 * (a .label - 1) = omega (arith, after-size .size .ensures .0) in
+    let q : u32At (a .work .now) (a .base + 4 * (a .label - 1)) ≡ c .before .read-u32 .result = ap (u32At (a .work .now)) (sym s)
+    ∙ sym (c .before .read-u32 .ensures) in
     let t : c .before .read-u32 .result ≡ c .before .read-u32 .result - 1 + 1 = omega (arith, c .if1 .taken) in
     (λ n. (q ∙ t, refl), λ z. absurd (c .if1 .taken (sym q ∙ z)))
 
@@ -51,10 +49,15 @@ same-length-2 c = search needs
 
 returns-2 : tie.Need-returns-2
 returns-2 c =
-    let a = c .before .before .before .before .before .before .before .before .before .args in
-    let s : a .base + c .before .before .before .before .before .before .before .size .result * 4 ≡ a .base + 4 * (a .label - 1) = omega (arith, c .before .before .before .before .before .before .before .size .ensures .0) in
-    let q : u32At (a .work .now) (a .base + 4 * (a .label - 1)) ≡ c .before .before .before .before .before .read-u32 .result = ap (u32At (a .work .now)) (sym s) ∙ sym (c .before .before .before .before .before .read-u32 .ensures) in
-    let t : c .before .before .before .before .before .read-u32 .result ≡ 0 = omega (arith, c .before .before .before .before .if1 .left) in
+    let if1-left = c .before .before .before .before in
+    let after-read-u32 = if1-left .before in
+    let after-size = after-read-u32 .before .before in
+    let start = after-size .before .before in
+    let a = start .args in
+    let s : a .base + after-size .size .result * 4 ≡ a .base + 4 * (a .label - 1) = omega (arith, after-size .size .ensures .0) in
+    let q : u32At (a .work .now) (a .base + 4 * (a .label - 1)) ≡ after-read-u32 .read-u32 .result = ap (u32At (a .work .now)) (sym s)
+    ∙ sym (after-read-u32 .read-u32 .ensures) in
+    let t : after-read-u32 .read-u32 .result ≡ 0 = omega (arith, if1-left .if1 .left) in
     (λ n. absurd (n (q ∙ t)), λ z. (refl, c .before .before .write-u32 .ensures ∙ ap (λ (i : ℕ). splice (a .work .now) i (u32Bytes (a .place + 1))) s))
 
 pub number-of-spec : {M : Type 1} → statement M

@@ -5,10 +5,10 @@ use Rattle.bridges.proofs.Names.{numbered-at}
 use borrow.Author.Needs.{needs}
 use Rattle.bridges.proofs.numbering.number_record.Statement.{statement}
 use Rattle.bridges.proofs.numbering.number_record.Tie as tie
-use Rattle.bridges.proofs.numbering.number_record.Reads as reads
-use Rattle.bridges.proofs.numbering.number_record.Lts as lts
-use Rattle.bridges.proofs.numbering.number_of.Reads as number-of-reads
-use Rattle.wire.proofs.size.Reads as size-reads
+
+-- what the function is given and asked: the places since only say that its slices have lengths
+abbrev start-of : tie.After-slice-known3 → tie.Start
+start-of c = c .before .before .before .before .before
 
 size-requires : tie.Need-size-requires
 size-requires c κs = search needs
@@ -24,9 +24,10 @@ mul-number-of-2 c = search needs
 
 number-of-requires : tie.Need-number-of-requires
 number-of-requires c κs =
-    let p = c .before .before .before .before .before .before .before .before .pre in
-    let k = c .before .before .before .before .before .before .before .before .args .k in
-    let t = ap (at (c .before .before .before .before .before .before .before .before .args .lefts .now)) (c .before .before .size .ensures .0) in
+    let start = start-of (c .before .before .before) in
+    let p = start .pre in
+    let k = start .args .k in
+    let t = ap (at (start .args .lefts .now)) (c .before .before .size .ensures .0) in
     (omega (arith, t, p .1 .left-from k (p .0)), omega (arith, t, p .1 .left-to k (p .0), p .2), omega (arith, p .1 .few, p .0))
 
 mul-small-lefts : tie.Need-mul-small-lefts
@@ -49,10 +50,16 @@ add-number-of c = search needs
 
 number-of-requires-2 : tie.Need-number-of-requires-2
 number-of-requires-2 c κs =
-    let p = c .before .before .before .before .before .before .before .before .before .before .before .before .before .pre in
-    let k = c .before .before .before .before .before .before .before .before .before .before .before .before .before .args .k in
-    let t = ap (at (c .before .before .before .before .before .before .before .before .before .before .before .before .before .args .rights .now)) (c .before .before .before .before .before .before .before .size .ensures .0) in
-    (omega (arith, t, p .1 .right-from k (p .0)), omega (arith, t, p .1 .right-to k (p .0), p .2, c .before .before .before .before .number-of .kept .0), omega (arith, p .1 .few, p .0))
+    let at-number-of = c .before .before .before .before in
+    let after-size = at-number-of .before .before .before in
+    let start = start-of (after-size .before) in
+    let p = start .pre in
+    let k = start .args .k in
+    let t = ap (at (start .args .rights .now)) (after-size .size .ensures .0) in (
+      omega (arith, t, p .1 .right-from k (p .0)),
+      omega (arith, t, p .1 .right-to k (p .0), p .2, at-number-of .number-of .kept .0),
+      omega (arith, p .1 .few, p .0),
+    )
 
 mul-small-rights : tie.Need-mul-small-rights
 mul-small-rights c = search needs
@@ -71,10 +78,13 @@ same-length-3 c = search needs
 
 returns : tie.Need-returns
 returns c =
-    let p = c .before .before .before .before .before .before .before .before .before .before .before .before .before .before .before .before .pre in
-    let x = c .before .before .before .before .before .before .before .number-of .ensures in
+    let after-number-of = c .before .before .before .before .before .before .before in
+    let after-size = after-number-of .before .before .before in
+    let start-2 = start-of (after-size .before) in
+    let p = start-2 .pre in
+    let x = after-number-of .number-of .ensures in
     let y = c .before .before .number-of2 .ensures in
-    λ start n. numbered-at (c .before .before .before .before .before .before .before .before .before .before .size .ensures .0) (p .0) (p .1) (p .2) n (x .0) (x .1) (y .0) (y .1)
+    λ start n. numbered-at (after-size .size .ensures .0) (p .0) (p .1) (p .2) n (x .0) (x .1) (y .0) (y .1)
 
 pub number-record-spec : {M : Type 1} → statement M
 number-record-spec =

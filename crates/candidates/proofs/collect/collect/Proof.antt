@@ -8,37 +8,75 @@ use Rattle.candidates.proofs.CollectLaws.{collected-start, above, has-r
 use borrow.Author.Needs.{needs}
 use Rattle.candidates.proofs.collect.collect.Statement.{statement}
 use Rattle.candidates.proofs.collect.collect.Tie as tie
-use Rattle.candidates.proofs.collect.collect.Reads as reads
-use Rattle.candidates.proofs.collect.collect.Lts as lts
-use Rattle.candidates.proofs.collect.consider.Reads as consider-reads
-use Rattle.candidates.proofs.regions.next_region.Reads as next-region-reads
 
 abbrev Inv-loop : tie.InvT-loop
-Inv-loop job bases-at bases width labels cells n own linkables lowers highers owners lefts rights records regions₀ firsts₀ seconds₀ count₀ after₀ region₀ regions firsts seconds count after region = (region ≡ nextAfter linkables lowers highers after n) × (region < 4294967296) × Collected (given job bases-at bases width (labelsIn labels cells) own linkables lowers highers owners lefts rights records) n after count regions firsts seconds
+Inv-loop job bases-at bases width labels cells n own linkables lowers highers owners lefts rights records regions₀ firsts₀ seconds₀ count₀ after₀ region₀
+    regions firsts seconds count after region = (region ≡ nextAfter linkables lowers highers after n) × (region < 4294967296)
+    × Collected (given job bases-at bases width (labelsIn labels cells) own linkables lowers highers owners lefts rights records) n after count regions firsts
+    seconds
 
 abbrev μ-loop : tie.MeasureT-loop
-μ-loop job bases-at bases width labels cells n own linkables lowers highers owners lefts rights records regions₀ firsts₀ seconds₀ count₀ after₀ region₀ regions firsts seconds count after region = left region
+μ-loop job bases-at bases width labels cells n own linkables lowers highers owners lefts rights records regions₀ firsts₀ seconds₀ count₀ after₀ region₀ regions
+    firsts seconds count after region = left region
+
+-- what the function is given and asked: the places since only say that its slices have lengths
+abbrev start-of : tie.After-shared-slice-known5 Inv-loop μ-loop → tie.Start Inv-loop μ-loop
+start-of c = c .before .before .before .before .before
 
 next-region-requires : tie.Need-next-region-requires Inv-loop μ-loop
 next-region-requires c κs = search needs
 
 loop-holds : tie.Need-loop-holds Inv-loop μ-loop
-loop-holds c = let a = c .before .before .before .before .before .before .before .before .before .args in let d : Given = given (a .job .now) (a .bases-at) (a .bases) (a .width) (labelsIn (a .labels .now) (a .cells)) (a .own .now) (a .linkables .now) (a .lowers .now) (a .highers .now) (a .owners .now) (a .lefts .now) (a .rights .now) (a .records) in (c .next-region .ensures .0, c .next-region .ensures .1, collected-start d (a .n) (c .before .before .before .before .before .before .before .before .before .pre .4) 256 refl)
+loop-holds c =
+    let start = start-of (c .before .before .before .before) in
+    let a = start .args in let d : Given =
+    given (a .job .now) (a .bases-at) (a .bases) (a .width) (labelsIn (a .labels .now) (a .cells)) (a .own .now) (a .linkables .now) (a .lowers .now)
+    (a .highers .now) (a .owners .now) (a .lefts .now) (a .rights .now) (a .records) in
+    (c .next-region .ensures .0, c .next-region .ensures .1, collected-start d (a .n) (start .pre .4) 256 refl)
 
 consider-requires : tie.Need-consider-requires Inv-loop μ-loop
-consider-requires c κs = let a = c .before .before .before .before .before .before .before .before .before .before .before .before .before .before .args in let d : Given = given (a .job .now) (a .bases-at) (a .bases) (a .width) (labelsIn (a .labels .now) (a .cells)) (a .own .now) (a .linkables .now) (a .lowers .now) (a .highers .now) (a .owners .now) (a .lefts .now) (a .rights .now) (a .records) in let p = c .before .before .before .before .before .before .before .before .before .before .before .before .before .before .pre in let m = c .before .before .before .before .loop in (p .0, p .1, p .2, p .3, p .4, has-room d (a .n) (p .4) (p .1) (m .inv .2) (m .region) (above d (a .n) (m .inv .0) (c .before .before .before .loop-test .taken)))
+consider-requires c κs =
+    let turning = c .before .before .before in
+    let in-loop = turning .before in
+    let start = start-of (in-loop .before .before .before .before .before) in
+    let a = start .args in let d : Given =
+    given (a .job .now) (a .bases-at) (a .bases) (a .width) (labelsIn (a .labels .now) (a .cells)) (a .own .now) (a .linkables .now) (a .lowers .now)
+    (a .highers .now) (a .owners .now) (a .lefts .now) (a .rights .now) (a .records) in let p = start .pre in let m = in-loop .loop in
+    (p .0, p .1, p .2, p .3, p .4, has-room d (a .n) (p .4) (p .1) (m .inv .2) (m .region) (above d (a .n) (m .inv .0) (turning .loop-test .taken)))
 
 next-region-requires-2 : tie.Need-next-region-requires-2 Inv-loop μ-loop
 next-region-requires-2 c κs = search needs
 
 loop-less : tie.Need-loop-less Inv-loop μ-loop
-loop-less c = let a = c .before .before .before .before .before .before .before .before .before .before .before .before .before .before .before .before .args in let d : Given = given (a .job .now) (a .bases-at) (a .bases) (a .width) (labelsIn (a .labels .now) (a .cells)) (a .own .now) (a .linkables .now) (a .lowers .now) (a .highers .now) (a .owners .now) (a .lefts .now) (a .rights .now) (a .records) in less-left d (a .n) (c .before .before .before .before .before .loop-test .taken) (c .before .before .before .before .before .before .loop .inv .1) (c .next-region2 .ensures .0)
+loop-less c =
+    let turning = c .before .before .before .before .before in
+    let in-loop = turning .before in
+    let start = start-of (in-loop .before .before .before .before .before) in
+    let a = start .args in let d : Given =
+    given (a .job .now) (a .bases-at) (a .bases) (a .width) (labelsIn (a .labels .now) (a .cells)) (a .own .now) (a .linkables .now) (a .lowers .now)
+    (a .highers .now) (a .owners .now) (a .lefts .now) (a .rights .now) (a .records) in
+    less-left d (a .n) (turning .loop-test .taken) (in-loop .loop .inv .1) (c .next-region2 .ensures .0)
 
 loop-again : tie.Need-loop-again Inv-loop μ-loop
-loop-again c = let a = c .before .before .before .before .before .before .before .before .before .before .before .before .before .before .before .before .args in let d : Given = given (a .job .now) (a .bases-at) (a .bases) (a .width) (labelsIn (a .labels .now) (a .cells)) (a .own .now) (a .linkables .now) (a .lowers .now) (a .highers .now) (a .owners .now) (a .lefts .now) (a .rights .now) (a .records) in let p = c .before .before .before .before .before .before .before .before .before .before .before .before .before .before .before .before .pre in let m = c .before .before .before .before .before .before .loop in (c .next-region2 .ensures .0, c .next-region2 .ensures .1, collected-next d (a .n) (p .4) (p .1) (m .inv .2) (m .inv .0) (omega (arith, c .before .before .before .before .before .loop-test .taken)) (c .before .consider .ensures))
+loop-again c =
+    let turning = c .before .before .before .before .before in
+    let in-loop = turning .before in
+    let start = start-of (in-loop .before .before .before .before .before) in
+    let a = start .args in let d : Given =
+    given (a .job .now) (a .bases-at) (a .bases) (a .width) (labelsIn (a .labels .now) (a .cells)) (a .own .now) (a .linkables .now) (a .lowers .now)
+    (a .highers .now) (a .owners .now) (a .lefts .now) (a .rights .now) (a .records) in let p = start .pre in let m = in-loop .loop in (
+      c .next-region2 .ensures .0,
+      c .next-region2 .ensures .1,
+      collected-next d (a .n) (p .4) (p .1) (m .inv .2) (m .inv .0) (omega (arith, turning .loop-test .taken)) (c .before .consider .ensures),
+    )
 
 returns : tie.Need-returns Inv-loop μ-loop
-returns c = let a = c .before .before .before .before .before .before .before .before .before .before .before .args in let d : Given = given (a .job .now) (a .bases-at) (a .bases) (a .width) (labelsIn (a .labels .now) (a .cells)) (a .own .now) (a .linkables .now) (a .lowers .now) (a .highers .now) (a .owners .now) (a .lefts .now) (a .rights .now) (a .records) in let p = c .before .before .before .before .before .before .before .before .before .before .before .pre in let m = c .before .loop in collected-all d (a .n) (p .4) (p .1) (m .inv .2) (sym (m .inv .0) ∙ (let z : m .region ≡ 0 = omega (arith, c .loop-test .left) in z))
+returns c =
+    let start = start-of (c .before .before .before .before .before .before) in
+    let a = start .args in let d : Given =
+    given (a .job .now) (a .bases-at) (a .bases) (a .width) (labelsIn (a .labels .now) (a .cells)) (a .own .now) (a .linkables .now) (a .lowers .now)
+    (a .highers .now) (a .owners .now) (a .lefts .now) (a .rights .now) (a .records) in let p = start .pre in let m = c .before .loop in
+    collected-all d (a .n) (p .4) (p .1) (m .inv .2) (sym (m .inv .0) ∙ (let z : m .region ≡ 0 = omega (arith, c .loop-test .left) in z))
 
 pub collect-spec : {M : Type 1} → statement M
 collect-spec =

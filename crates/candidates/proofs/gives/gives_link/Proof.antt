@@ -1,10 +1,6 @@
 use borrow.Author.Needs.{needs}
 use Rattle.candidates.proofs.gives.gives_link.Statement.{statement}
 use Rattle.candidates.proofs.gives.gives_link.Tie as tie
-use Rattle.candidates.proofs.gives.gives_link.Reads as reads
-use Rattle.candidates.proofs.gives.gives_link.Lts as lts
-use Rattle.candidates.proofs.gives.joins_two.Reads as joins-two-reads
-use Rattle.topology.proofs.anchored.is_anchored.Reads as is-anchored-reads
 
 is-anchored-requires : tie.Need-is-anchored-requires
 is-anchored-requires c κs = search needs

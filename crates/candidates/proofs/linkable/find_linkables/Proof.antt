@@ -7,12 +7,10 @@ use Rattle.candidates.proofs.StepLaws.{marked-next, marked-end}
 use borrow.Author.Needs.{needs}
 use Rattle.candidates.proofs.linkable.find_linkables.Statement.{statement}
 use Rattle.candidates.proofs.linkable.find_linkables.Tie as tie
-use Rattle.candidates.proofs.linkable.find_linkables.Reads as reads
-use Rattle.candidates.proofs.linkable.find_linkables.Lts as lts
-use Rattle.candidates.proofs.linkable.mark.Reads as mark-reads
 
 abbrev Inv-loop : tie.InvT-loop
-Inv-loop n own ramps removed separated counts linkables₀ i₀ linkables i = (i ≤ n) × (length linkables ≡ 256) × Marked (canLink own ramps removed separated counts) i linkables
+Inv-loop n own ramps removed separated counts linkables₀ i₀ linkables i = (i ≤ n) × (length linkables ≡ 256)
+    × Marked (canLink own ramps removed separated counts) i linkables
 
 abbrev μ-loop : tie.MeasureT-loop
 μ-loop n own ramps removed separated counts linkables₀ i₀ linkables i = n - i
@@ -33,10 +31,20 @@ loop-less : tie.Need-loop-less Inv-loop μ-loop
 loop-less c = search needs
 
 loop-again : tie.Need-loop-again Inv-loop μ-loop
-loop-again c = let m = c .before .before .loop in (omega (arith, c .before .loop-test .taken), length-set (m .linkables) (m .i) (c .mark .result) ∙ m .inv .1, marked-next _ (m .linkables) (m .i) (c .mark .result) (omega (arith, m .inv .1, c .before .loop-test .taken, c .before .before .before .before .pre)) (m .inv .2) (c .mark .ensures))
+loop-again c =
+    let start = c .before .before .before .before in
+    let m = c .before .before .loop in (
+      omega (arith, c .before .loop-test .taken),
+      length-set (m .linkables) (m .i) (c .mark .result) ∙ m .inv .1,
+      marked-next _ (m .linkables) (m .i) (c .mark .result) (omega (arith, m .inv .1, c .before .loop-test .taken, start .pre)) (m .inv .2)
+          (c .mark .ensures),
+    )
 
 returns : tie.Need-returns Inv-loop μ-loop
-returns c = marked-end {k = c .before .loop .i} {n = c .before .before .before .args .n} (omega (arith, c .before .loop .inv .0, c .loop-test .left)) (c .before .loop .inv .2)
+returns c =
+    let start = c .before .before .before in
+    let inv = c .before .loop .inv in
+    marked-end {k = c .before .loop .i} {n = start .args .n} (omega (arith, inv .0, c .loop-test .left)) (inv .2)
 
 pub find-linkables-spec : {M : Type 1} → statement M
 find-linkables-spec =

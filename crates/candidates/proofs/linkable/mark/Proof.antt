@@ -4,11 +4,6 @@ use mathlib.Core.Path.{sym, _∙_, ap}
 use borrow.Author.Needs.{needs}
 use Rattle.candidates.proofs.linkable.mark.Statement.{statement}
 use Rattle.candidates.proofs.linkable.mark.Tie as tie
-use Rattle.candidates.proofs.linkable.mark.Reads as reads
-use Rattle.candidates.proofs.linkable.mark.Lts as lts
-use Rattle.marking.proofs.spans.span_at.Reads as span-at-reads
-use Rattle.position.proofs.Span.coincides.Reads as coincides-reads
-use Rattle.topology.proofs.pairs.has_full_pair.Reads as has-full-pair-reads
 
 span-at-requires : tie.Need-span-at-requires
 span-at-requires c κs = search needs
@@ -41,10 +36,20 @@ has-full-pair-requires : tie.Need-has-full-pair-requires
 has-full-pair-requires c κs = search needs
 
 returns : tie.Need-returns
-returns c = let e = c .if1 .taken in let k = can-link _ _ _ _ _ _ (c .before .before .before .before .before .before .before .span-at .ensures) (c .before .before .before .before .before .before .coincides .ensures) (c .before .has-full-pair .ensures) in ap (λ (t : Bool). cond t 1 0) (sym e ∙ k)
+returns c =
+    let after-coincides = c .before .before .before .before .before .before in
+    let after-span-at = after-coincides .before in
+    let e = c .if1 .taken in
+    let k = can-link _ _ _ _ _ _ (after-span-at .span-at .ensures) (after-coincides .coincides .ensures) (c .before .has-full-pair .ensures) in
+    ap (λ (t : Bool). cond t 1 0) (sym e ∙ k)
 
 returns-2 : tie.Need-returns-2
-returns-2 c = let e = c .if1 .left in let k = can-link _ _ _ _ _ _ (c .before .before .before .before .before .before .before .span-at .ensures) (c .before .before .before .before .before .before .coincides .ensures) (c .before .has-full-pair .ensures) in ap (λ (t : Bool). cond t 1 0) (sym e ∙ k)
+returns-2 c =
+    let after-coincides = c .before .before .before .before .before .before in
+    let after-span-at = after-coincides .before in
+    let e = c .if1 .left in let k =
+    can-link _ _ _ _ _ _ (after-span-at .span-at .ensures) (after-coincides .coincides .ensures) (c .before .has-full-pair .ensures) in
+    ap (λ (t : Bool). cond t 1 0) (sym e ∙ k)
 
 pub mark-spec : {M : Type 1} → statement M
 mark-spec =

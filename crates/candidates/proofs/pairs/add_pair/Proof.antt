@@ -3,8 +3,6 @@ use mathlib.Core.Path.{refl}
 use borrow.Author.Needs.{needs}
 use Rattle.candidates.proofs.pairs.add_pair.Statement.{statement}
 use Rattle.candidates.proofs.pairs.add_pair.Tie as tie
-use Rattle.candidates.proofs.pairs.add_pair.Reads as reads
-use Rattle.candidates.proofs.pairs.add_pair.Lts as lts
 
 mul-count : tie.Need-mul-count
 mul-count c = search needs

@@ -6,10 +6,6 @@ use Rattle.candidates.proofs.FirstLaws.{firsts-start, count-few, firsts
 use borrow.Author.Needs.{needs}
 use Rattle.candidates.proofs.pairs.first_pairs.Statement.{statement}
 use Rattle.candidates.proofs.pairs.first_pairs.Tie as tie
-use Rattle.candidates.proofs.pairs.first_pairs.Reads as reads
-use Rattle.candidates.proofs.pairs.first_pairs.Lts as lts
-use Rattle.candidates.proofs.pairs.add_pair.Reads as add-pair-reads
-use Rattle.wire.proofs.size.Reads as size-reads
 
 abbrev Inv-loop : tie.InvT-loop
 Inv-loop owners lefts rights records counts₀ lowers₀ highers₀ k₀ counts lowers highers k = (k ≤ records) × Firsts owners lefts rights k counts lowers highers
@@ -17,11 +13,17 @@ Inv-loop owners lefts rights records counts₀ lowers₀ highers₀ k₀ counts 
 abbrev μ-loop : tie.MeasureT-loop
 μ-loop owners lefts rights records counts₀ lowers₀ highers₀ k₀ counts lowers highers k = records - k
 
+-- what the function is given and asked: the places since only say that its slices have lengths
+abbrev start-of : tie.After-shared-slice-known3 Inv-loop μ-loop → tie.Start Inv-loop μ-loop
+start-of c = c .before .before .before
+
 loop-holds : tie.Need-loop-holds Inv-loop μ-loop
 loop-holds c = (omega arith, firsts-start _ _ _ 256 refl)
 
 mul-size : tie.Need-mul-size Inv-loop μ-loop
-mul-size c = omega (arith, c .before .before .before .before .before .before .before .before .pre .0 .few, c .loop-test .taken)
+mul-size c =
+    let start = start-of (c .before .before .before .before .before) in
+    omega (arith, start .pre .0 .few, c .loop-test .taken)
 
 shared-slice-read-size : tie.Need-shared-slice-read-size Inv-loop μ-loop
 shared-slice-read-size c = search needs
@@ -42,7 +44,14 @@ shared-slice-read-add-pair-2 : tie.Need-shared-slice-read-add-pair-2 Inv-loop μ
 shared-slice-read-add-pair-2 c = search needs
 
 add-pair-requires : tie.Need-add-pair-requires Inv-loop μ-loop
-add-pair-requires c κs = let k = c .before .before .before .before .before .before .before .before .loop .k in let p = c .before .before .before .before .before .before .before .before .before .before .before .before .before .before .before .pre in let m = p .1 .each k (c .before .before .before .before .before .before .before .loop-test .taken) in let e = c .before .before .before .before .before .size .ensures .0 in let few = count-few (c .before .before .before .before .before .before .before .before .loop .inv .1) (omega (arith, c .before .before .before .before .before .before .before .before .loop .inv .0, p .0 .few)) (c .before .before .before .before .before .size .result) (omega (arith, e, m)) in (omega (arith, e, m), few)
+add-pair-requires c κs =
+    let after-size = c .before .before .before .before .before in
+    let turning = after-size .before .before in
+    let in-loop = turning .before in
+    let start = start-of (in-loop .before .before .before .before) in
+    let inv = in-loop .loop .inv in
+    let k = in-loop .loop .k in let p = start .pre in let m = p .1 .each k (turning .loop-test .taken) in let e = after-size .size .ensures .0 in
+    let few = count-few (inv .1) (omega (arith, inv .0, p .0 .few)) (after-size .size .result) (omega (arith, e, m)) in (omega (arith, e, m), few)
 
 add-k : tie.Need-add-k Inv-loop μ-loop
 add-k c = search needs
@@ -51,10 +60,21 @@ loop-less : tie.Need-loop-less Inv-loop μ-loop
 loop-less c = search needs
 
 loop-again : tie.Need-loop-again Inv-loop μ-loop
-loop-again c = let m = c .before .before .before .before .before .before .before .before .before .loop in let a = c .before .before .before .before .before .before .before .before .before .before .before .before .before .before .before .before .args in let e = c .before .before .before .before .before .before .size .ensures .0 in let w = c .add-pair .ensures in (omega (arith, c .before .before .before .before .before .before .before .before .loop-test .taken), firsts-at {owners = a .owners .now} {lefts = a .lefts .now} {rights = a .rights .now} {k = m .k} e (w .0) (w .1 .0) (w .1 .1) (m .inv .1))
+loop-again c =
+    let after-size = c .before .before .before .before .before .before in
+    let turning = after-size .before .before in
+    let in-loop = turning .before in
+    let start = start-of (in-loop .before .before .before .before) in
+    let m = in-loop .loop in let a = start .args in let e = after-size .size .ensures .0 in let w = c .add-pair .ensures in (
+      omega (arith, turning .loop-test .taken),
+      firsts-at {owners = a .owners .now} {lefts = a .lefts .now} {rights = a .rights .now} {k = m .k} e (w .0) (w .1 .0) (w .1 .1) (m .inv .1),
+    )
 
 returns : tie.Need-returns Inv-loop μ-loop
-returns c = firsts-end {k = c .before .loop .k} {n = c .before .before .before .before .before .before .before .before .args .records} (omega (arith, c .before .loop .inv .0, c .loop-test .left)) (c .before .loop .inv .1)
+returns c =
+    let start = start-of (c .before .before .before .before .before) in
+    let inv = c .before .loop .inv in
+    firsts-end {k = c .before .loop .k} {n = start .args .records} (omega (arith, inv .0, c .loop-test .left)) (inv .1)
 
 pub first-pairs-spec : {M : Type 1} → statement M
 first-pairs-spec =

@@ -3,9 +3,6 @@ use borrow.Author.Tests.{ne-eqb}
 use borrow.Author.Needs.{needs}
 use Rattle.candidates.proofs.regions.considered.Statement.{statement}
 use Rattle.candidates.proofs.regions.considered.Tie as tie
-use Rattle.candidates.proofs.regions.considered.Reads as reads
-use Rattle.candidates.proofs.regions.considered.Lts as lts
-use Rattle.candidates.proofs.regions.nearer.Reads as nearer-reads
 
 nearer-requires : tie.Need-nearer-requires
 nearer-requires c κs = search needs
@@ -14,7 +11,8 @@ nearer-requires-2 : tie.Need-nearer-requires-2
 nearer-requires-2 c κs = search needs
 
 returns : tie.Need-returns
-returns c = let e = c .before .before .if1 .taken in let f = c .before .nearer .ensures .0 in let g = c .nearer2 .ensures .0 in (rw (e, g, f), c .nearer2 .ensures .1)
+returns c = let e = c .before .before .if1 .taken in let f = c .before .nearer .ensures .0 in let g = c .nearer2 .ensures .0 in
+    (rw (e, g, f), c .nearer2 .ensures .1)
 
 returns-2 : tie.Need-returns-2
 returns-2 c = let e = ne-eqb _ _ (c .if1 .left) in (rw e, omega (arith, c .before .fits .best))

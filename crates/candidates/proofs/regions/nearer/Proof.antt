@@ -1,8 +1,6 @@
 use native.Mathlib.Omega.{arith}
 use Rattle.candidates.proofs.regions.nearer.Statement.{statement}
 use Rattle.candidates.proofs.regions.nearer.Tie as tie
-use Rattle.candidates.proofs.regions.nearer.Reads as reads
-use Rattle.candidates.proofs.regions.nearer.Lts as lts
 
 returns : tie.Need-returns
 returns c = let e = c .if1 .taken in (rw e, omega (arith, c .before .fits .x))

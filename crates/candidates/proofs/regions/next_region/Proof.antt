@@ -6,9 +6,6 @@ use Rattle.candidates.proofs.StepLaws.{region-next, region-end}
 use borrow.Author.Needs.{needs}
 use Rattle.candidates.proofs.regions.next_region.Statement.{statement}
 use Rattle.candidates.proofs.regions.next_region.Tie as tie
-use Rattle.candidates.proofs.regions.next_region.Reads as reads
-use Rattle.candidates.proofs.regions.next_region.Lts as lts
-use Rattle.candidates.proofs.regions.considered.Reads as considered-reads
 
 abbrev Inv-loop : tie.InvT-loop
 Inv-loop n linkables lowers highers after best₀ i₀ best i = (i ≤ n) × (best ≡ nextAfter linkables lowers highers after i) × (best < 4294967296)
@@ -45,10 +42,15 @@ loop-less : tie.Need-loop-less Inv-loop μ-loop
 loop-less c = search needs
 
 loop-again : tie.Need-loop-again Inv-loop μ-loop
-loop-again c = (omega (arith, c .before .before .before .before .loop-test .taken), region-next _ _ _ _ _ (c .before .before .before .before .before .loop .inv .1) (c .considered .ensures .0), c .considered .ensures .1)
+loop-again c =
+    let turning = c .before .before .before .before in
+    let in-loop = turning .before in
+    (omega (arith, turning .loop-test .taken), region-next _ _ _ _ _ (in-loop .loop .inv .1) (c .considered .ensures .0), c .considered .ensures .1)
 
 returns : tie.Need-returns Inv-loop μ-loop
-returns c = (region-end _ _ _ _ {k = c .before .loop .i} {n = c .before .before .args .n} (omega (arith, c .before .loop .inv .0, c .loop-test .left)) (c .before .loop .inv .1), c .before .loop .inv .2)
+returns c =
+    let inv = c .before .loop .inv in
+    (region-end _ _ _ _ {k = c .before .loop .i} {n = c .before .before .args .n} (omega (arith, inv .0, c .loop-test .left)) (inv .1), inv .2)
 
 pub next-region-spec : {M : Type 1} → statement M
 next-region-spec =

@@ -7,15 +7,16 @@ use Rattle.candidates.proofs.StepLaws.{touch-next, touch-end}
 use borrow.Author.Needs.{needs}
 use Rattle.candidates.proofs.touching.touching_of.Statement.{statement}
 use Rattle.candidates.proofs.touching.touching_of.Tie as tie
-use Rattle.candidates.proofs.touching.touching_of.Reads as reads
-use Rattle.candidates.proofs.touching.touching_of.Lts as lts
-use Rattle.candidates.proofs.touching.Touching.after.Reads as after-reads
 
 abbrev Inv-loop : tie.InvT-loop
 Inv-loop owners lefts rights records region t₀ k₀ t k = (k ≤ records) × (t ≡ touchingAfter (recordIn owners lefts rights) region k) × (t .count ≤ k)
 
 abbrev μ-loop : tie.MeasureT-loop
 μ-loop owners lefts rights records region t₀ k₀ t k = records - k
+
+-- what the function is given and asked: the places since only say that its slices have lengths
+abbrev start-of : tie.After-shared-slice-known3 Inv-loop μ-loop → tie.Start Inv-loop μ-loop
+start-of c = c .before .before .before
 
 loop-holds : tie.Need-loop-holds Inv-loop μ-loop
 unfolding touchingAfter
@@ -40,7 +41,11 @@ shared-slice-read-after-3 : tie.Need-shared-slice-read-after-3 Inv-loop μ-loop
 shared-slice-read-after-3 c = search needs
 
 after-requires : tie.Need-after-requires Inv-loop μ-loop
-after-requires c κs = omega (arith, c .before .before .before .before .loop .inv .2, c .before .before .before .before .loop .inv .0, c .before .before .before .before .before .before .before .before .pre .few)
+after-requires c κs =
+    let in-loop = c .before .before .before .before in
+    let start = start-of (in-loop .before) in
+    let inv = in-loop .loop .inv in
+    omega (arith, inv .2, inv .0, start .pre .few)
 
 add-k : tie.Need-add-k Inv-loop μ-loop
 add-k c = search needs
@@ -49,10 +54,21 @@ loop-less : tie.Need-loop-less Inv-loop μ-loop
 loop-less c = search needs
 
 loop-again : tie.Need-loop-again Inv-loop μ-loop
-loop-again c = let a = c .before .before .before .before .before .before .before .before .before .args in let w = touch-next (recordIn (a .owners .now) (a .lefts .now) (a .rights .now)) (a .region) (c .before .before .before .before .before .loop .k) (c .before .before .before .before .before .loop .inv .1) (c .before .before .before .before .before .loop .inv .2) (c .after .ensures) in (omega (arith, c .before .before .before .before .loop-test .taken), w .0, w .1)
+loop-again c =
+    let turning = c .before .before .before .before in
+    let in-loop = turning .before in
+    let start = start-of (in-loop .before) in
+    let inv = in-loop .loop .inv in
+    let a = start .args in let w =
+    touch-next (recordIn (a .owners .now) (a .lefts .now) (a .rights .now)) (a .region) (in-loop .loop .k) (inv .1) (inv .2) (c .after .ensures) in
+    (omega (arith, turning .loop-test .taken), w .0, w .1)
 
 returns : tie.Need-returns Inv-loop μ-loop
-returns c = touch-end (recordIn (c .before .before .before .before .before .args .owners .now) (c .before .before .before .before .before .args .lefts .now) (c .before .before .before .before .before .args .rights .now)) _ {k = c .before .loop .k} {n = c .before .before .before .before .before .args .records} (omega (arith, c .before .loop .inv .0, c .loop-test .left)) (c .before .loop .inv .1)
+returns c =
+    let start = start-of (c .before .before) in
+    let inv = c .before .loop .inv in
+    touch-end (recordIn (start .args .owners .now) (start .args .lefts .now) (start .args .rights .now)) _ {k = c .before .loop .k} {n = start .args .records}
+    (omega (arith, inv .0, c .loop-test .left)) (inv .1)
 
 pub touching-of-spec : {M : Type 1} → statement M
 touching-of-spec =

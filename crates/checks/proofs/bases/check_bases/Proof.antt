@@ -31,7 +31,13 @@ anchor-fault-requires c κs = search needs
 
 returns : tie.Need-returns Inv-loop μ-loop
 unfolding baseCheck
-returns c = clean-found (c .before .before .before .before .loop .inv) (c .before .before .before .loop-test .taken) (stop 7 _ [] (told (λ (b : BaseRecord). anchorFault (c .before .before .before .before .before .before .args .width) (c .before .before .before .before .before .before .args .height) (b .anchor)) (c .before .before .read-base .ensures) (c .before .anchor-fault .ensures) (c .if1 .taken)))
+returns c =
+    let turning = c .before .before .before in
+    let in-loop = turning .before in
+    let start = in-loop .before .before in
+    clean-found (in-loop .loop .inv) (turning .loop-test .taken)
+    (stop 7 _ [] (told (λ (b : BaseRecord). anchorFault (start .args .width) (start .args .height) (b .anchor)) (c .before .before .read-base .ensures)
+    (c .before .anchor-fault .ensures) (c .if1 .taken)))
 
 add-i : tie.Need-add-i Inv-loop μ-loop
 add-i c = search needs
@@ -41,7 +47,13 @@ loop-less c = search needs
 
 loop-again : tie.Need-loop-again Inv-loop μ-loop
 unfolding baseCheck
-loop-again c = clean-next (c .before .before .before .before .loop .inv) (c .before .before .before .loop-test .taken) (clear 7 _ (told (λ (b : BaseRecord). anchorFault (c .before .before .before .before .before .before .args .width) (c .before .before .before .before .before .before .args .height) (b .anchor)) (c .before .before .read-base .ensures) (c .before .anchor-fault .ensures) (c .if1 .left)))
+loop-again c =
+    let turning = c .before .before .before in
+    let in-loop = turning .before in
+    let start = in-loop .before .before in
+    clean-next (in-loop .loop .inv) (turning .loop-test .taken)
+    (clear 7 _ (told (λ (b : BaseRecord). anchorFault (start .args .width) (start .args .height) (b .anchor)) (c .before .before .read-base .ensures)
+    (c .before .anchor-fault .ensures) (c .if1 .left)))
 
 returns-2 : tie.Need-returns-2 Inv-loop μ-loop
 returns-2 c = clean-end (c .before .loop .inv) (c .loop-test .left)

@@ -33,14 +33,31 @@ ends-fault-requires c κs = search needs
 
 returns : tie.Need-returns Inv-loop μ-loop
 unfolding endsCheck spanChecks
-returns c = clean-found (c .before .before .before .before .before .loop .inv) (c .before .before .before .before .loop-test .taken) (stop 11 _ _ (told (λ (b : BoundaryRecord). endsFault (c .before .before .before .before .before .before .before .args .width) (c .before .before .before .before .before .before .before .args .height) (b .ends)) (c .before .before .before .read-boundary .ensures) (c .before .ends-fault .ensures) (c .if1 .taken)))
+returns c =
+    let after-read-boundary = c .before .before .before in
+    let turning = after-read-boundary .before in
+    let in-loop = turning .before in
+    let start = in-loop .before .before in
+    clean-found (in-loop .loop .inv) (turning .loop-test .taken)
+    (stop 11 _ _ (told (λ (b : BoundaryRecord). endsFault (start .args .width) (start .args .height) (b .ends))
+    (after-read-boundary .read-boundary .ensures) (c .before .ends-fault .ensures) (c .if1 .taken)))
 
 coincides-requires : tie.Need-coincides-requires Inv-loop μ-loop
 coincides-requires c κs = search needs
 
 returns-2 : tie.Need-returns-2 Inv-loop μ-loop
 unfolding endsCheck spanChecks
-returns-2 c = clean-found (c .before .before .before .before .before .before .before .loop .inv) (c .before .before .before .before .before .before .loop-test .taken) (skip 11 _ _ (told (λ (b : BoundaryRecord). endsFault (c .before .before .before .before .before .before .before .before .before .args .width) (c .before .before .before .before .before .before .before .before .before .args .height) (b .ends)) (c .before .before .before .before .before .read-boundary .ensures) (c .before .before .before .ends-fault .ensures) (c .before .before .if1 .left)) ∙ stop 12 _ _ (told (λ (b : BoundaryRecord). c .before .before .before .before .before .before .before .before .before .args .distinct && posSame (b .ends .a) (b .ends .b)) (c .before .before .before .before .before .read-boundary .ensures) (ap (λ (t : Bool). c .before .before .before .before .before .before .before .before .before .args .distinct && t) (c .before .coincides .ensures)) (c .if2 .taken)))
+returns-2 c =
+    let after-ends-fault = c .before .before .before in
+    let after-read-boundary = after-ends-fault .before .before in
+    let turning = after-read-boundary .before in
+    let in-loop = turning .before in
+    let start = in-loop .before .before in
+    clean-found (in-loop .loop .inv) (turning .loop-test .taken)
+    (skip 11 _ _ (told (λ (b : BoundaryRecord). endsFault (start .args .width) (start .args .height) (b .ends))
+    (after-read-boundary .read-boundary .ensures) (after-ends-fault .ends-fault .ensures) (c .before .before .if1 .left))
+    ∙ stop 12 _ _ (told (λ (b : BoundaryRecord). start .args .distinct && posSame (b .ends .a) (b .ends .b)) (after-read-boundary .read-boundary .ensures)
+    (ap (λ (t : Bool). start .args .distinct && t) (c .before .coincides .ensures)) (c .if2 .taken)))
 
 add-i : tie.Need-add-i Inv-loop μ-loop
 add-i c = search needs
@@ -50,7 +67,17 @@ loop-less c = search needs
 
 loop-again : tie.Need-loop-again Inv-loop μ-loop
 unfolding endsCheck spanChecks
-loop-again c = clean-next (c .before .before .before .before .before .before .before .loop .inv) (c .before .before .before .before .before .before .loop-test .taken) (clear-two 11 12 _ (told (λ (b : BoundaryRecord). endsFault (c .before .before .before .before .before .before .before .before .before .args .width) (c .before .before .before .before .before .before .before .before .before .args .height) (b .ends)) (c .before .before .before .before .before .read-boundary .ensures) (c .before .before .before .ends-fault .ensures) (c .before .before .if1 .left)) (told (λ (b : BoundaryRecord). c .before .before .before .before .before .before .before .before .before .args .distinct && posSame (b .ends .a) (b .ends .b)) (c .before .before .before .before .before .read-boundary .ensures) (ap (λ (t : Bool). c .before .before .before .before .before .before .before .before .before .args .distinct && t) (c .before .coincides .ensures)) (c .if2 .left)))
+loop-again c =
+    let after-ends-fault = c .before .before .before in
+    let after-read-boundary = after-ends-fault .before .before in
+    let turning = after-read-boundary .before in
+    let in-loop = turning .before in
+    let start = in-loop .before .before in
+    clean-next (in-loop .loop .inv) (turning .loop-test .taken)
+    (clear-two 11 12 _ (told (λ (b : BoundaryRecord). endsFault (start .args .width) (start .args .height) (b .ends))
+    (after-read-boundary .read-boundary .ensures) (after-ends-fault .ends-fault .ensures) (c .before .before .if1 .left))
+    (told (λ (b : BoundaryRecord). start .args .distinct && posSame (b .ends .a) (b .ends .b)) (after-read-boundary .read-boundary .ensures)
+    (ap (λ (t : Bool). start .args .distinct && t) (c .before .coincides .ensures)) (c .if2 .left)))
 
 returns-3 : tie.Need-returns-3 Inv-loop μ-loop
 returns-3 c = clean-end (c .before .loop .inv) (c .loop-test .left)

@@ -31,7 +31,12 @@ ramp-fault-requires c κs = search needs
 
 returns : tie.Need-returns Inv-loop μ-loop
 unfolding rampCheck
-returns c = clean-found (c .before .before .before .before .loop .inv) (c .before .before .before .loop-test .taken) (stop 9 _ [] (told (λ (b : BoundaryRecord). rampFault (b .ramp)) (c .before .before .read-boundary .ensures) (c .before .ramp-fault .ensures) (c .if1 .taken)))
+returns c =
+    let turning = c .before .before .before in
+    let in-loop = turning .before in
+    clean-found (in-loop .loop .inv) (turning .loop-test .taken)
+    (stop 9 _ [] (told (λ (b : BoundaryRecord). rampFault (b .ramp)) (c .before .before .read-boundary .ensures) (c .before .ramp-fault .ensures)
+    (c .if1 .taken)))
 
 add-i : tie.Need-add-i Inv-loop μ-loop
 add-i c = search needs
@@ -41,7 +46,12 @@ loop-less c = search needs
 
 loop-again : tie.Need-loop-again Inv-loop μ-loop
 unfolding rampCheck
-loop-again c = clean-next (c .before .before .before .before .loop .inv) (c .before .before .before .loop-test .taken) (clear 9 _ (told (λ (b : BoundaryRecord). rampFault (b .ramp)) (c .before .before .read-boundary .ensures) (c .before .ramp-fault .ensures) (c .if1 .left)))
+loop-again c =
+    let turning = c .before .before .before in
+    let in-loop = turning .before in
+    clean-next (in-loop .loop .inv) (turning .loop-test .taken)
+    (clear 9 _ (told (λ (b : BoundaryRecord). rampFault (b .ramp)) (c .before .before .read-boundary .ensures) (c .before .ramp-fault .ensures)
+    (c .if1 .left)))
 
 returns-2 : tie.Need-returns-2 Inv-loop μ-loop
 returns-2 c = clean-end (c .before .loop .inv) (c .loop-test .left)

@@ -24,7 +24,9 @@ shared-slice-read-if1 c = search needs
 
 returns : tie.Need-returns Inv-loop μ-loop
 unfolding cellCheck
-returns c = clean-found (c .before .before .before .loop .inv) (c .before .before .loop-test .taken) (stop 6 _ [] (le-leb _ _ (c .if1 .taken)))
+returns c =
+    let in-loop = c .before .before .before in
+    clean-found (in-loop .loop .inv) (c .before .before .loop-test .taken) (stop 6 _ [] (le-leb _ _ (c .if1 .taken)))
 
 add-i : tie.Need-add-i Inv-loop μ-loop
 add-i c = search needs
@@ -34,7 +36,9 @@ loop-less c = search needs
 
 loop-again : tie.Need-loop-again Inv-loop μ-loop
 unfolding cellCheck
-loop-again c = clean-next (c .before .before .before .loop .inv) (c .before .before .loop-test .taken) (clear 6 _ (lt-leb _ _ (c .if1 .left)))
+loop-again c =
+    let in-loop = c .before .before .before in
+    clean-next (in-loop .loop .inv) (c .before .before .loop-test .taken) (clear 6 _ (lt-leb _ _ (c .if1 .left)))
 
 returns-2 : tie.Need-returns-2 Inv-loop μ-loop
 returns-2 c = clean-end (c .before .loop .inv) (c .loop-test .left)

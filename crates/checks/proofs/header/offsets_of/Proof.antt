@@ -16,25 +16,33 @@ mul-boundaries : tie.Need-mul-boundaries
 mul-boundaries c = search needs
 
 add-boundaries : tie.Need-add-boundaries
-add-boundaries c = omega (arith, total-limit (c .before .before .args .c) (c .before .before .pre))
+add-boundaries c =
+    let start = c .before .before in
+    omega (arith, total-limit (start .args .c) (start .pre))
 
 mul-observations : tie.Need-mul-observations
 mul-observations c = search needs
 
 add-observations : tie.Need-add-observations
-add-observations c = omega (arith, total-limit (c .before .before .before .args .c) (c .before .before .before .pre))
+add-observations c =
+    let start = c .before .before .before in
+    omega (arith, total-limit (start .args .c) (start .pre))
 
 mul-sources : tie.Need-mul-sources
 mul-sources c = search needs
 
 add-sources : tie.Need-add-sources
-add-sources c = omega (arith, total-limit (c .before .before .before .before .args .c) (c .before .before .before .before .pre))
+add-sources c =
+    let start = c .before .before .before .before in
+    omega (arith, total-limit (start .args .c) (start .pre))
 
 mul-total : tie.Need-mul-total
 mul-total c = search needs
 
 add-total : tie.Need-add-total
-add-total c = omega (arith, total-limit (c .before .before .before .before .before .args .c) (c .before .before .before .before .before .pre))
+add-total c =
+    let start = c .before .before .before .before .before in
+    omega (arith, total-limit (start .args .c) (start .pre))
 
 returns : tie.Need-returns
 unfolding offsetsOf

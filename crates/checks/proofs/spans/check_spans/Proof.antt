@@ -29,14 +29,29 @@ ends-fault-requires c κs = search needs
 
 returns : tie.Need-returns Inv-loop μ-loop
 unfolding spanCheck spanChecks
-returns c = clean-found (c .before .before .before .before .loop .inv) (c .before .before .before .loop-test .taken) (stop 16 _ _ (told (λ (b : Span). endsFault (c .before .before .before .before .before .before .args .width) (c .before .before .before .before .before .before .args .height) b) (c .before .before .read-span .ensures) (c .before .ends-fault .ensures) (c .if1 .taken)))
+returns c =
+    let turning = c .before .before .before in
+    let in-loop = turning .before in
+    let start = in-loop .before .before in
+    clean-found (in-loop .loop .inv) (turning .loop-test .taken)
+    (stop 16 _ _ (told (λ (b : Span). endsFault (start .args .width) (start .args .height) b) (c .before .before .read-span .ensures)
+    (c .before .ends-fault .ensures) (c .if1 .taken)))
 
 coincides-requires : tie.Need-coincides-requires Inv-loop μ-loop
 coincides-requires c κs = search needs
 
 returns-2 : tie.Need-returns-2 Inv-loop μ-loop
 unfolding spanCheck spanChecks
-returns-2 c = clean-found (c .before .before .before .before .before .before .loop .inv) (c .before .before .before .before .before .loop-test .taken) (skip 16 _ _ (told (λ (b : Span). endsFault (c .before .before .before .before .before .before .before .before .args .width) (c .before .before .before .before .before .before .before .before .args .height) b) (c .before .before .before .before .read-span .ensures) (c .before .before .before .ends-fault .ensures) (c .before .before .if1 .left)) ∙ stop 17 _ _ (told (λ (b : Span). posSame (b .a) (b .b)) (c .before .before .before .before .read-span .ensures) (c .before .coincides .ensures) (c .if2 .taken)))
+returns-2 c =
+    let after-ends-fault = c .before .before .before in
+    let after-read-span = after-ends-fault .before in
+    let turning = after-read-span .before in
+    let in-loop = turning .before in
+    let start = in-loop .before .before in
+    clean-found (in-loop .loop .inv) (turning .loop-test .taken)
+    (skip 16 _ _ (told (λ (b : Span). endsFault (start .args .width) (start .args .height) b) (after-read-span .read-span .ensures)
+    (after-ends-fault .ends-fault .ensures) (c .before .before .if1 .left))
+    ∙ stop 17 _ _ (told (λ (b : Span). posSame (b .a) (b .b)) (after-read-span .read-span .ensures) (c .before .coincides .ensures) (c .if2 .taken)))
 
 add-i : tie.Need-add-i Inv-loop μ-loop
 add-i c = search needs
@@ -46,7 +61,16 @@ loop-less c = search needs
 
 loop-again : tie.Need-loop-again Inv-loop μ-loop
 unfolding spanCheck spanChecks
-loop-again c = clean-next (c .before .before .before .before .before .before .loop .inv) (c .before .before .before .before .before .loop-test .taken) (clear-two 16 17 _ (told (λ (b : Span). endsFault (c .before .before .before .before .before .before .before .before .args .width) (c .before .before .before .before .before .before .before .before .args .height) b) (c .before .before .before .before .read-span .ensures) (c .before .before .before .ends-fault .ensures) (c .before .before .if1 .left)) (told (λ (b : Span). posSame (b .a) (b .b)) (c .before .before .before .before .read-span .ensures) (c .before .coincides .ensures) (c .if2 .left)))
+loop-again c =
+    let after-ends-fault = c .before .before .before in
+    let after-read-span = after-ends-fault .before in
+    let turning = after-read-span .before in
+    let in-loop = turning .before in
+    let start = in-loop .before .before in
+    clean-next (in-loop .loop .inv) (turning .loop-test .taken)
+    (clear-two 16 17 _ (told (λ (b : Span). endsFault (start .args .width) (start .args .height) b) (after-read-span .read-span .ensures)
+    (after-ends-fault .ends-fault .ensures) (c .before .before .if1 .left))
+    (told (λ (b : Span). posSame (b .a) (b .b)) (after-read-span .read-span .ensures) (c .before .coincides .ensures) (c .if2 .left)))
 
 returns-3 : tie.Need-returns-3 Inv-loop μ-loop
 returns-3 c = clean-end (c .before .loop .inv) (c .loop-test .left)

@@ -31,7 +31,9 @@ wide-requires : tie.Need-wide-requires Inv-loop μ-loop
 wide-requires c κs = search needs
 
 add-total : tie.Need-add-total Inv-loop μ-loop
-add-total c = omega (arith, c .before .before .before .loop .inv .small)
+add-total c =
+    let in-loop = c .before .before .before in
+    omega (arith, in-loop .loop .inv .small)
 
 add-i : tie.Need-add-i Inv-loop μ-loop
 add-i c = search needs
@@ -40,11 +42,20 @@ loop-less : tie.Need-loop-less Inv-loop μ-loop
 loop-less c = search needs
 
 loop-again : tie.Need-loop-again Inv-loop μ-loop
-loop-again c = added-next _ (c .before .before .before .loop .inv) (c .before .before .loop-test .taken) (c .wide .ensures .0 ∙ ap (λ (r : BoundaryRecord). r .sources) (c .before .read-boundary .ensures)) (c .wide .ensures .1)
+loop-again c =
+    let in-loop = c .before .before .before in
+    added-next _ (in-loop .loop .inv) (c .before .before .loop-test .taken)
+    (c .wide .ensures .0 ∙ ap (λ (r : BoundaryRecord). r .sources) (c .before .read-boundary .ensures)) (c .wide .ensures .1)
 
 returns : tie.Need-returns Inv-loop μ-loop
 unfolding boundaryRecords
-returns c = (added-end (c .before .loop .inv) (c .loop-test .left) ∙ sym (sum-field (λ (r : BoundaryRecord). r .sources) (c .before .before .before .args .n) (λ k. boundaryAt (c .before .before .before .args .job .now) (c .before .before .before .args .at + k * 40))), omega (arith, c .before .loop .inv .small, c .before .loop .inv .below))
+returns c =
+    let start = c .before .before .before in
+    let inv = c .before .loop .inv in (
+      added-end (inv) (c .loop-test .left)
+          ∙ sym (sum-field (λ (r : BoundaryRecord). r .sources) (start .args .n) (λ k. boundaryAt (start .args .job .now) (start .args .at + k * 40))),
+      omega (arith, inv .small, inv .below),
+    )
 
 pub own-total-spec : {M : Type 1} → statement M
 own-total-spec =

@@ -30,10 +30,14 @@ size-requires-2 : tie.Need-size-requires-2
 size-requires-2 c κs = search needs
 
 observation-total-requires : tie.Need-observation-total-requires
-observation-total-requires c κs = let q = sections _ _ (c .before .before .before .before .before .pre) in (omega (arith, q .boundaries-in), omega arith)
+observation-total-requires c κs =
+    let start = c .before .before .before .before .before in
+    let q = sections _ _ (start .pre) in (omega (arith, q .boundaries-in), omega arith)
 
 own-total-requires : tie.Need-own-total-requires
-own-total-requires c κs = let q = sections _ _ (c .before .before .before .before .before .before .pre) in (omega (arith, q .boundaries-in), omega arith)
+own-total-requires c κs =
+    let start = c .before .before .before .before .before .before in
+    let q = sections _ _ (start .pre) in (omega (arith, q .boundaries-in), omega arith)
 
 size-requires-3 : tie.Need-size-requires-3
 size-requires-3 c κs = search needs
@@ -42,7 +46,9 @@ size-requires-4 : tie.Need-size-requires-4
 size-requires-4 c κs = search needs
 
 source-count-requires : tie.Need-source-count-requires
-source-count-requires c κs = let q = sections _ _ (c .before .before .before .before .before .before .before .before .before .pre) in (omega (arith, q .observations-in), omega arith)
+source-count-requires c κs =
+    let start = c .before .before .before .before .before .before .before .before .before in
+    let q = sections _ _ (start .pre) in (omega (arith, q .observations-in), omega arith)
 
 add-sources : tie.Need-add-sources
 add-sources c = search needs
@@ -54,7 +60,17 @@ wide-requires-2 : tie.Need-wide-requires-2
 wide-requires-2 c κs = search needs
 
 returns : tie.Need-returns
-returns c = sums-told _ _ (c .before .before .before .before .before .before .before .before .before .before .before .before .pre) (c .before .before .before .before .before .before .before .before .size .ensures .0) (c .before .before .before .before .before .before .before .size2 .ensures .0) (c .before .before .before .before .size3 .ensures .0) (c .before .before .before .size4 .ensures .0) (c .before .before .before .before .before .before .observation-total .ensures) (c .before .before .before .before .before .own-total .ensures .0) (c .before .before .source-count .ensures .0) (c .before .wide .ensures .0) (c .wide2 .ensures .0)
+returns c =
+    let after-size4 = c .before .before .before in
+    let after-size3 = after-size4 .before in
+    let after-own-total = after-size3 .before in
+    let after-observation-total = after-own-total .before in
+    let after-size2 = after-observation-total .before in
+    let after-size = after-size2 .before in
+    let start = after-size .before .before .before .before in
+    sums-told _ _ (start .pre) (after-size .size .ensures .0) (after-size2 .size2 .ensures .0) (after-size3 .size3 .ensures .0) (after-size4 .size4 .ensures .0)
+    (after-observation-total .observation-total .ensures) (after-own-total .own-total .ensures .0) (c .before .before .source-count .ensures .0)
+    (c .before .wide .ensures .0) (c .wide2 .ensures .0)
 
 pub sums-fault-spec : {M : Type 1} → statement M
 sums-fault-spec =

@@ -4,8 +4,6 @@ use borrow.Author.Needs.{needs}
 use Rattle.chokes.proofs.Copying.{Copied, copied-start, copied-long, copied-next, copied-end}
 use Rattle.chokes.proofs.mark.copy_first.Statement.{statement}
 use Rattle.chokes.proofs.mark.copy_first.Tie as tie
-use Rattle.chokes.proofs.mark.copy_first.Reads as reads
-use Rattle.chokes.proofs.mark.copy_first.Lts as lts
 
 abbrev Inv-loop : tie.InvT-loop
 Inv-loop from n to₀ i₀ to i = Copied from n to₀ to i
@@ -20,7 +18,10 @@ element-copy-out-to : tie.Need-element-copy-out-to Inv-loop μ-loop
 element-copy-out-to c = search needs
 
 slice-write-to : tie.Need-slice-write-to Inv-loop μ-loop
-slice-write-to c = omega (arith, copied-long (c .before .before .loop .inv), c .before .before .loop .inv .room, c .before .loop-test .taken)
+slice-write-to c =
+    let in-loop = c .before .before in
+    let inv = in-loop .loop .inv in
+    omega (arith, copied-long (inv), inv .room, c .before .loop-test .taken)
 
 add-i : tie.Need-add-i Inv-loop μ-loop
 add-i c = search needs

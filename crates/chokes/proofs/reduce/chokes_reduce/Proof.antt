@@ -5,25 +5,31 @@ use Rattle.chokes.proofs.Finishing.{answerable, reduce-finished, reduce
 use borrow.Author.Needs.{needs}
 use Rattle.chokes.proofs.reduce.chokes_reduce.Statement.{statement}
 use Rattle.chokes.proofs.reduce.chokes_reduce.Tie as tie
-use Rattle.chokes.proofs.reduce.chokes_reduce.Reads as reads
-use Rattle.chokes.proofs.reduce.chokes_reduce.Lts as lts
-use Rattle.chokes.proofs.reduce.finish.Reads as finish-reads
-use Rattle.analysis.proofs.plan_reduce.Reads as plan-reduce-reads
 
 of-000-requires : tie.Need-of-000-requires
 of-000-requires c κs = search needs
 
 plan-reduce-requires : tie.Need-plan-reduce-requires
-plan-reduce-requires c κs = (few-000 (c .before .before .before .of-000 .ensures), leads-eight)
+plan-reduce-requires c κs =
+    let after-of-000 = c .before .before .before in
+    (few-000 (after-of-000 .of-000 .ensures), leads-eight)
 
 same-length : tie.Need-same-length
 same-length c = search needs
 
 returns : tie.Need-returns
-returns c = (left-000 (c .before .before .before .before .before .before .before .before .of-000 .ensures) (c .before .before .before .before .plan-reduce .ensures)) .refused (c .if1 .taken) _ ∙ reduce-as _ _ _
+returns c =
+    let after-plan-reduce = c .before .before .before .before in
+    let after-of-000 = after-plan-reduce .before .before .before .before in
+    (left-000 (after-of-000 .of-000 .ensures) (after-plan-reduce .plan-reduce .ensures)) .refused (c .if1 .taken) _ ∙ reduce-as _ _ _
 
 finish-requires : tie.Need-finish-requires
-finish-requires c κs = let z : c .before .before .before .before .before .before .before .plan-reduce .result .number ≡ 0 = omega (arith, c .before .before .before .if1 .left) in let y = (left-000 (c .before .before .before .before .before .before .before .before .before .before .before .of-000 .ensures) (c .before .before .before .before .before .before .before .plan-reduce .ensures)) .made z in answerable _ _ (reduce-job _ (y .passed)) (y .ranks)
+finish-requires c κs =
+    let if1-left = c .before .before .before in
+    let after-plan-reduce = if1-left .before .before .before .before in
+    let after-of-000 = after-plan-reduce .before .before .before .before in
+    let z : after-plan-reduce .plan-reduce .result .number ≡ 0 = omega (arith, if1-left .if1 .left) in
+    let y = (left-000 (after-of-000 .of-000 .ensures) (after-plan-reduce .plan-reduce .ensures)) .made z in answerable _ _ (reduce-job _ (y .passed)) (y .ranks)
 
 same-length-2 : tie.Need-same-length-2
 same-length-2 c = search needs
@@ -32,7 +38,12 @@ same-length-3 : tie.Need-same-length-3
 same-length-3 c = search needs
 
 returns-2 : tie.Need-returns-2
-returns-2 c = let z : c .before .before .before .before .before .before .before .before .before .before .plan-reduce .result .number ≡ 0 = omega (arith, c .before .before .before .before .before .before .if1 .left) in reduce-finished _ _ _ (c .before .before .finish .ensures) ((left-000 (c .before .before .before .before .before .before .before .before .before .before .before .before .before .before .of-000 .ensures) (c .before .before .before .before .before .before .before .before .before .before .plan-reduce .ensures)) .made z)
+returns-2 c =
+    let if1-left = c .before .before .before .before .before .before in
+    let after-plan-reduce = if1-left .before .before .before .before in
+    let after-of-000 = after-plan-reduce .before .before .before .before in
+    let z : after-plan-reduce .plan-reduce .result .number ≡ 0 = omega (arith, if1-left .if1 .left) in
+    reduce-finished _ _ _ (c .before .before .finish .ensures) ((left-000 (after-of-000 .of-000 .ensures) (after-plan-reduce .plan-reduce .ensures)) .made z)
 
 pub chokes-reduce-spec : {M : Type 1} → statement M
 chokes-reduce-spec =

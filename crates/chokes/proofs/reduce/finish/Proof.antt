@@ -4,28 +4,30 @@ use Rattle.chokes.proofs.Finishing.{finished-short, finished-whole}
 use borrow.Author.Needs.{needs}
 use Rattle.chokes.proofs.reduce.finish.Statement.{statement}
 use Rattle.chokes.proofs.reduce.finish.Tie as tie
-use Rattle.chokes.proofs.reduce.finish.Reads as reads
-use Rattle.chokes.proofs.reduce.finish.Lts as lts
-use Rattle.encoding.proofs.from_job.write_answer.Reads as write-answer-reads
-use Rattle.format.proofs.read_header.Reads as read-header-reads
 
 read-header-requires : tie.Need-read-header-requires
 read-header-requires c κs = header-there _ (c .before .before .pre .passed)
 
 write-answer-requires : tie.Need-write-answer-requires
-write-answer-requires c κs = rw (c .before .read-header .ensures) (c .before .before .before .before .pre)
+write-answer-requires c κs =
+    let start = c .before .before .before .before in
+    rw (c .before .read-header .ensures) (start .pre)
 
 same-length : tie.Need-same-length
 same-length c = search needs
 
 returns : tie.Need-returns
-returns c = finished-short (c .before .before .before .write-answer .ensures) (omega (arith, c .if1 .taken))
+returns c =
+    let after-write-answer = c .before .before .before in
+    finished-short (after-write-answer .write-answer .ensures) (omega (arith, c .if1 .taken))
 
 same-length-2 : tie.Need-same-length-2
 same-length-2 c = search needs
 
 returns-2 : tie.Need-returns-2
-returns-2 c = finished-whole (c .before .before .before .write-answer .ensures) (omega (arith, c .if1 .left))
+returns-2 c =
+    let after-write-answer = c .before .before .before in
+    finished-whole (after-write-answer .write-answer .ensures) (omega (arith, c .if1 .left))
 
 pub finish-spec : {M : Type 1} → statement M
 finish-spec =

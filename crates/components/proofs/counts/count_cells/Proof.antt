@@ -23,32 +23,49 @@ unfolding cellCount keep labelsIn rows
 loop-holds c = (omega arith, omega arith, refl)
 
 mul-read-u32 : tie.Need-mul-read-u32 Inv-loop μ-loop
-mul-read-u32 c = omega (arith, c .before .before .before .pre)
+mul-read-u32 c =
+    let start = c .before .before .before in
+    omega (arith, start .pre)
 
 read-u32-requires : tie.Need-read-u32-requires Inv-loop μ-loop
-read-u32-requires c κs = omega (arith, c .before .before .before .pre)
+read-u32-requires c κs =
+    let start = c .before .before .before in
+    omega (arith, start .pre)
 
 tally-requires : tie.Need-tally-requires Inv-loop μ-loop
 tally-requires c κs = search needs
 
 add-count : tie.Need-add-count Inv-loop μ-loop
-add-count c = omega (arith, c .before .before .before .before .before .pre, c .tally .ensures .1)
+add-count c =
+    let start = c .before .before .before .before .before in
+    omega (arith, start .pre, c .tally .ensures .1)
 
 add-i : tie.Need-add-i Inv-loop μ-loop
-add-i c = omega (arith, c .before .before .before .before .before .pre)
+add-i c =
+    let start = c .before .before .before .before .before in
+    omega (arith, start .pre)
 
 loop-less : tie.Need-loop-less Inv-loop μ-loop
 loop-less c = omega arith
 
 loop-again : tie.Need-loop-again Inv-loop μ-loop
-loop-again c = (
-  omega arith,
-  omega (arith, c .tally .ensures .1),
-  ap (λ (k : ℕ). k + c .tally .result) (c .before .before .before .loop .inv .2) ∙ (ap (λ (k : ℕ). cellCount (labelsIn (c .before .before .before .before .before .args .work .now) (c .before .before .before .loop .i)) (c .before .before .before .before .before .args .label) + k) (c .tally .ensures .0 ∙ ap (λ (k : ℕ). cond (eqb (c .before .before .before .before .before .args .label) k) 1 0) (c .before .read-u32 .ensures)) ∙ sym (count-next (c .before .before .before .before .before .args .work .now) (c .before .before .before .loop .i) (c .before .before .before .before .before .args .label))),
-)
+loop-again c =
+    let in-loop = c .before .before .before in
+    let start = in-loop .before .before in
+    let work = start .args .work .now in
+    let label = start .args .label in (
+      omega arith,
+      omega (arith, c .tally .ensures .1),
+      ap (λ (k : ℕ). k + c .tally .result) (in-loop .loop .inv .2)
+          ∙ (ap (λ (k : ℕ). cellCount (labelsIn work (in-loop .loop .i)) label + k)
+          (c .tally .ensures .0 ∙ ap (λ (k : ℕ). cond (eqb label k) 1 0) (c .before .read-u32 .ensures)) ∙ sym (count-next work (in-loop .loop .i) label)),
+    )
 
 returns : tie.Need-returns Inv-loop μ-loop
-returns c = c .before .loop .inv .2 ∙ ap (λ (k : ℕ). cellCount (labelsIn (c .before .before .before .args .work .now) k) (c .before .before .before .args .label)) (let z : c .before .loop .i ≡ c .before .before .before .args .n = omega arith in z)
+returns c =
+    let start = c .before .before .before in
+    c .before .loop .inv .2 ∙ ap (λ (k : ℕ). cellCount (labelsIn (start .args .work .now) k) (start .args .label))
+    (let z : c .before .loop .i ≡ start .args .n = omega arith in z)
 
 pub count-cells-spec : {M : Type 1} → statement M
 count-cells-spec =

@@ -27,13 +27,23 @@ loop-less : tie.Need-loop-less Inv-loop μ-loop
 loop-less c = omega arith
 
 loop-again : tie.Need-loop-again Inv-loop μ-loop
-loop-again c = (omega arith, omega arith, length-set (c .before .loop .work) (c .before .loop .i) 0 ∙ c .before .loop .inv .2, fill-next (c .before .before .args .work .now) (c .before .loop .work) (c .before .before .args .from) (c .before .loop .i) (c .before .loop .inv .0) (omega (arith, c .before .before .pre)) (c .before .loop .inv .3))
+loop-again c =
+    let start = c .before .before in
+    let inv = c .before .loop .inv in (
+      omega arith,
+      omega arith,
+      length-set (c .before .loop .work) (c .before .loop .i) 0 ∙ inv .2,
+      fill-next (start .args .work .now) (c .before .loop .work) (start .args .from) (c .before .loop .i) (inv .0) (omega (arith, start .pre)) (inv .3),
+    )
 
 same-length : tie.Need-same-length Inv-loop μ-loop
 same-length c = c .before .loop .inv .2
 
 returns : tie.Need-returns Inv-loop μ-loop
-returns c = c .before .loop .inv .3 ∙ ap (λ (k : ℕ). splice (c .before .before .args .work .now) (c .before .before .args .from) (replicate (k - c .before .before .args .from) 0)) (let z : c .before .loop .i ≡ c .before .before .args .to = omega arith in z)
+returns c =
+    let start = c .before .before in
+    c .before .loop .inv .3 ∙ ap (λ (k : ℕ). splice (start .args .work .now) (start .args .from) (replicate (k - start .args .from) 0))
+    (let z : c .before .loop .i ≡ start .args .to = omega arith in z)
 
 pub zero-fill-spec : {M : Type 1} → statement M
 zero-fill-spec =

@@ -27,11 +27,14 @@ due-of-requires c κs = search needs
 
 returns : tie.Need-returns
 returns c =
+    let at-byte-before = c .before .before .before in
+    let at-byte-at = at-byte-before .before in
+    let start = at-byte-at .before .before in
     let below = c .before .byte-at2 in
     let under = c .before .before .byte-before2 in
-    let left = c .before .before .before .byte-before in
-    let own = c .before .before .before .before .byte-at in
-    let args = c .before .before .before .before .before .before .args in
+    let left = at-byte-before .byte-before in
+    let own = at-byte-at .byte-at in
+    let args = start .args in
     due-from (part (args .work .now) (args .base) (args .n)) (args .width) (args .i)
     (own .result) (left .result) (under .result) (below .result) (c .due-of .result)
     (c .due-of .ensures) (own .ensures) (left .ensures) (under .ensures) (below .ensures)

@@ -15,35 +15,47 @@ loop-holds c = writing-start (c .before .args .work .now) (c .before .pre .1)
 
 due-any-requires : tie.Need-due-any-requires Inv-loop μ-loop
 due-any-requires c κs =
+    let start = c .before .before .before .before in
     let writing = c .before .before .loop .inv in
-    let pre = c .before .before .before .before .pre in
+    let pre = start .pre in
     (omega (arith, writing .long, pre .0), omega (arith, pre .2, pre .3))
 
 add-work : tie.Need-add-work Inv-loop μ-loop
-add-work c = omega (arith, c .before .before .before .loop .inv .long, c .before .before .before .before .before .pre .0)
+add-work c =
+    let in-loop = c .before .before .before in
+    let start = in-loop .before .before in
+    omega (arith, in-loop .loop .inv .long, start .pre .0)
 
 add-work-2 : tie.Need-add-work-2 Inv-loop μ-loop
 add-work-2 c =
-    let pre = c .before .before .before .before .before .pre in
-    omega (arith, c .before .before .before .loop .inv .long, pre .0, pre .2)
+    let in-loop = c .before .before .before in
+    let start = in-loop .before .before in
+    let pre = start .pre in
+    omega (arith, in-loop .loop .inv .long, pre .0, pre .2)
 
 slice-write-work : tie.Need-slice-write-work Inv-loop μ-loop
 slice-write-work c =
-    let pre = c .before .before .before .before .before .pre in
-    omega (arith, c .before .before .before .loop .inv .long, pre .0, pre .2)
+    let in-loop = c .before .before .before in
+    let start = in-loop .before .before in
+    let pre = start .pre in
+    omega (arith, in-loop .loop .inv .long, pre .0, pre .2)
 
 add-i : tie.Need-add-i Inv-loop μ-loop
 add-i c =
-    let pre = c .before .before .before .before .before .pre in
-    omega (arith, c .before .before .before .loop .inv .long, pre .0, pre .2)
+    let in-loop = c .before .before .before in
+    let start = in-loop .before .before in
+    let pre = start .pre in
+    omega (arith, in-loop .loop .inv .long, pre .0, pre .2)
 
 loop-less : tie.Need-loop-less Inv-loop μ-loop
 loop-less c = omega arith
 
 loop-again : tie.Need-loop-again Inv-loop μ-loop
 loop-again c =
-    let pre = c .before .before .before .before .before .pre in
-    let writing = c .before .before .before .loop .inv in
+    let in-loop = c .before .before .before in
+    let start = in-loop .before .before in
+    let pre = start .pre in
+    let writing = in-loop .loop .inv in
     writing-next (pre .0) (pre .2) writing (omega arith) (c .due-any .result) (c .due-any .ensures)
 
 same-length : tie.Need-same-length Inv-loop μ-loop

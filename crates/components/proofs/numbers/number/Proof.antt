@@ -19,23 +19,28 @@ loop-holds c =
 
 number-cell-requires : tie.Need-number-cell-requires Inv-loop μ-loop
 number-cell-requires c κs =
+    let start = c .before .before .before .before .before in
     let numbering = c .before .before .loop .inv in
-    let pre = c .before .before .before .before .before .pre in
+    let pre = start .pre in
     let room = numbering-room numbering (pre .0) (pre .1) (pre .2) (omega arith) in
     let falls = numbering-falls numbering (pre .0) (pre .1) (pre .2) (omega arith) in
     ((omega arith, omega (arith, pre .0), room, falls), (numbering .few, numbering .small))
 
 add-i : tie.Need-add-i Inv-loop μ-loop
-add-i c = omega (arith, c .before .before .before .before .before .before .before .before .pre .0)
+add-i c =
+    let start = c .before .before .before .before .before .before .before .before in
+    omega (arith, start .pre .0)
 
 loop-less : tie.Need-loop-less Inv-loop μ-loop
 loop-less c = omega arith
 
 loop-again : tie.Need-loop-again Inv-loop μ-loop
 loop-again c =
+    let in-loop = c .before .before .before .before .before in
+    let start = in-loop .before .before .before in
     let call = c .before .before .number-cell in
-    let numbering = c .before .before .before .before .before .loop .inv in
-    let pre = c .before .before .before .before .before .before .before .before .pre in
+    let numbering = in-loop .loop .inv in
+    let pre = start .pre in
     numbering-next numbering (pre .0) (pre .1) (pre .2) (omega arith) (call .last .1 .0) (call .result) (call .ensures)
 
 same-length : tie.Need-same-length Inv-loop μ-loop

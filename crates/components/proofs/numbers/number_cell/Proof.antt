@@ -53,8 +53,9 @@ same-length c = search needs
 
 returns : tie.Need-returns
 returns c =
-    let write-label = c .before .before .before .write-u322 in
-    let only = c .before .before .before .before .before in
+    let at-write-u322 = c .before .before .before in
+    let only = at-write-u322 .before .before in
+    let write-label = at-write-u322 .write-u322 in
     let read-parent = only .before .read-u322 in
     let next = only .before .before .before .before .before in
     let write-next = next .write-u32 in
@@ -73,8 +74,9 @@ same-length-2 c = search needs
 
 returns-2 : tie.Need-returns-2
 returns-2 c =
-    let write-label = c .before .before .before .write-u322 in
-    let only = c .before .before .before .before .before in
+    let at-write-u322 = c .before .before .before in
+    let only = at-write-u322 .before .before in
+    let write-label = at-write-u322 .write-u322 in
     let read-parent = only .before .read-u322 in
     let next = only .before .before .before .before .before in
     let write-next = next .write-u32 in

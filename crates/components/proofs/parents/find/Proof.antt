@@ -15,32 +15,39 @@ parent-requires c κs = c .before .before .pre .room
 
 loop-holds : tie.Need-loop-holds Inv-loop μ-loop
 loop-holds c =
-    let args = c .before .before .before .args in
+    let start = c .before .before .before in
+    let args = start .args in
     finding-start (args .i) (c .parent .result) (args .work .now) (c .parent .ensures .0)
 
 parent-requires-2 : tie.Need-parent-requires-2 Inv-loop μ-loop
 parent-requires-2 c κs =
+    let start = c .before .before .before .before .before .before in
     let loop = c .before .before .loop in
-    let pre = c .before .before .before .before .before .before .pre in
+    let pre = start .pre in
     finding-room pre (loop .inv) (loop .p) (omega (arith, finding-falls pre (loop .inv), loop .inv .below))
 
 same-length : tie.Need-same-length Inv-loop μ-loop
 same-length c =
-    let loop = c .before .before .before .before .loop in
-    let start = c .before .before .before .before .before .before .before .before in
+    let in-loop = c .before .before .before .before in
+    let start = in-loop .before .before .before .before in
+    let loop = in-loop .loop in
     loop .inv .kept (start .args .i + 1) (omega arith) .size
 
 returns : tie.Need-returns Inv-loop μ-loop
 returns c =
+    let in-loop = c .before .before .before .before in
+    let start = in-loop .before .before .before .before in
     let second = c .before .parent2 in
-    let loop = c .before .before .before .before .loop in
-    let pre = c .before .before .before .before .before .before .before .before .pre in
+    let loop = in-loop .loop in
+    let pre = start .pre in
     finding-root pre (loop .inv) (second .result) (second .ensures .0) (second .ensures .1) (c .if1 .taken)
 
 set-parent-requires : tie.Need-set-parent-requires Inv-loop μ-loop
 set-parent-requires c κs =
-    let loop = c .before .before .before .before .before .loop in
-    let pre = c .before .before .before .before .before .before .before .before .before .pre in
+    let in-loop = c .before .before .before .before .before in
+    let start = in-loop .before .before .before .before in
+    let loop = in-loop .loop in
+    let pre = start .pre in
     (finding-room pre (loop .inv) (loop .at) (loop .inv .below), c .before .before .parent2 .ensures .1)
 
 parent-requires-3 : tie.Need-parent-requires-3 Inv-loop μ-loop
@@ -56,8 +63,9 @@ parent-requires-3 c κs =
 
 loop-less : tie.Need-loop-less Inv-loop μ-loop
 loop-less c =
-    let second = c .before .before .before .before .before .before .before .parent2 in
-    let at-loop = c .before .before .before .before .before .before .before .before .before .before in
+    let at-parent2 = c .before .before .before .before .before .before .before in
+    let at-loop = at-parent2 .before .before .before in
+    let second = at-parent2 .parent2 in
     let pre = at-loop .before .before .before .before .pre in
     omega (arith, finding-second pre (at-loop .loop .inv) (second .result) (second .ensures .0) (second .ensures .1))
 
@@ -71,10 +79,14 @@ loop-again c =
     (set .set-parent .last .0) (set .set-parent .ensures) (c .parent3 .result) (c .parent3 .ensures .0)
 
 same-length-2 : tie.Need-same-length-2 Inv-loop μ-loop
-same-length-2 c = c .before .loop .inv .kept (c .before .before .before .before .before .args .i + 1) (omega arith) .size
+same-length-2 c =
+    let start = c .before .before .before .before .before in
+    c .before .loop .inv .kept (start .args .i + 1) (omega arith) .size
 
 returns-2 : tie.Need-returns-2 Inv-loop μ-loop
-returns-2 c = finding-end (c .before .before .before .before .before .pre) (c .before .loop .inv) (λ l. omega arith)
+returns-2 c =
+    let start = c .before .before .before .before .before in
+    finding-end (start .pre) (c .before .loop .inv) (λ l. omega arith)
 
 pub find-spec : {M : Type 1} → statement M
 find-spec =

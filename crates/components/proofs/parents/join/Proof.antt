@@ -12,7 +12,9 @@ same-length : tie.Need-same-length
 same-length c = search needs
 
 returns : tie.Need-returns
-returns c = joined-near (c .before .before .before .before .args .i) (c .before .before .before .before .args .j) (c .before .before .before .before .args .work .now) (eqb-true _ _ (sym (c .before .same-parent .ensures) ∙ c .if1 .taken))
+returns c =
+    let start = c .before .before .before .before in
+    joined-near (start .args .i) (start .args .j) (start .args .work .now) (eqb-true _ _ (sym (c .before .same-parent .ensures) ∙ c .if1 .taken))
 
 link-requires : tie.Need-link-requires
 link-requires c κs = search needs

@@ -8,31 +8,64 @@ find-requires : tie.Need-find-requires
 find-requires c κs = search needs
 
 find-requires-2 : tie.Need-find-requires-2
-find-requires-2 c κs = c .before .before .before .find .ensures .usable (c .before .before .before .before .before .before .args .j) (c .before .before .before .before .before .before .pre .1)
+find-requires-2 c κs =
+    let after-find = c .before .before .before in
+    let start = after-find .before .before .before in
+    after-find .find .ensures .usable (start .args .j) (start .pre .1)
 
 set-parent-requires : tie.Need-set-parent-requires
-set-parent-requires c κs = (right-room (c .before .before .before .before .before .before .before .before .before .before .before .pre .0) (c .before .before .before .before .before .before .before .before .before .before .before .pre .1) (c .before .before .before .before .before .before .before .before .find .ensures) (c .before .before .before .before .find2 .ensures), omega (arith, c .before .before .before .before .before .before .before .before .find .ensures .below, c .before .before .before .before .before .before .before .before .before .before .before .pre .0 .small))
+set-parent-requires c κs =
+    let after-find2 = c .before .before .before .before in
+    let after-find = after-find2 .before .before .before .before in
+    let start = after-find .before .before .before in (
+      right-room (start .pre .0) (start .pre .1) (after-find .find .ensures) (after-find2 .find2 .ensures),
+      omega (arith, after-find .find .ensures .below, start .pre .0 .small),
+    )
 
 same-length : tie.Need-same-length
 same-length c = search needs
 
 returns : tie.Need-returns
-returns c = joined-left (c .before .before .before .before .before .before .before .before .before .before .before .before .before .before .pre .0) (c .before .before .before .before .before .before .before .before .before .before .before .before .before .before .pre .1) (c .before .before .before .before .before .before .before .before .before .before .before .find .ensures) (c .before .before .before .before .before .before .before .find2 .ensures) (omega (arith, c .before .before .before .before .before .before .before .before .before .before .before .find .ensures .below, c .before .before .before .before .before .before .before .before .before .before .before .before .before .before .pre .0 .small)) (omega arith) (c .before .before .set-parent .last .0) (c .before .before .set-parent .ensures)
+returns c =
+    let at-set-parent = c .before .before in
+    let after-find2 = at-set-parent .before .before .before .before .before in
+    let after-find = after-find2 .before .before .before .before in
+    let start = after-find .before .before .before in
+    joined-left (start .pre .0) (start .pre .1) (after-find .find .ensures) (after-find2 .find2 .ensures)
+    (omega (arith, after-find .find .ensures .below, start .pre .0 .small)) (omega arith) (at-set-parent .set-parent .last .0)
+    (at-set-parent .set-parent .ensures)
 
 set-parent-requires-2 : tie.Need-set-parent-requires-2
-set-parent-requires-2 c κs = (left-room (c .before .before .before .before .before .before .before .before .before .before .before .before .pre .0) (c .before .before .before .before .before .before .before .before .before .before .before .before .pre .1) (c .before .before .before .before .before .before .before .before .before .find .ensures) (c .before .before .before .before .before .find2 .ensures), omega (arith, c .before .before .before .before .before .find2 .ensures .below, c .before .before .before .before .before .before .before .before .before .before .before .before .pre .1 .small))
+set-parent-requires-2 c κs =
+    let after-find2 = c .before .before .before .before .before in
+    let after-find = after-find2 .before .before .before .before in
+    let start = after-find .before .before .before in (
+      left-room (start .pre .0) (start .pre .1) (after-find .find .ensures) (after-find2 .find2 .ensures),
+      omega (arith, after-find2 .find2 .ensures .below, start .pre .1 .small),
+    )
 
 same-length-2 : tie.Need-same-length-2
 same-length-2 c = search needs
 
 returns-2 : tie.Need-returns-2
-returns-2 c = joined-right (c .before .before .before .before .before .before .before .before .before .before .before .before .before .before .before .pre .0) (c .before .before .before .before .before .before .before .before .before .before .before .before .before .before .before .pre .1) (c .before .before .before .before .before .before .before .before .before .before .before .before .find .ensures) (c .before .before .before .before .before .before .before .before .find2 .ensures) (omega (arith, c .before .before .before .before .before .before .before .before .find2 .ensures .below, c .before .before .before .before .before .before .before .before .before .before .before .before .before .before .before .pre .1 .small)) (omega arith) (c .before .before .set-parent2 .last .0) (c .before .before .set-parent2 .ensures)
+returns-2 c =
+    let at-set-parent2 = c .before .before in
+    let after-find2 = at-set-parent2 .before .before .before .before .before .before in
+    let after-find = after-find2 .before .before .before .before in
+    let start = after-find .before .before .before in
+    joined-right (start .pre .0) (start .pre .1) (after-find .find .ensures) (after-find2 .find2 .ensures)
+    (omega (arith, after-find2 .find2 .ensures .below, start .pre .1 .small)) (omega arith) (at-set-parent2 .set-parent2 .last .0)
+    (at-set-parent2 .set-parent2 .ensures)
 
 same-length-3 : tie.Need-same-length-3
 same-length-3 c = search needs
 
 returns-3 : tie.Need-returns-3
-returns-3 c = joined-same (c .before .before .before .before .before .before .before .before .before .before .before .pre .0) (c .before .before .before .before .before .before .before .before .before .before .before .pre .1) (c .before .before .before .before .before .before .before .before .find .ensures) (c .before .before .before .before .find2 .ensures) (λ l. omega arith) (λ l. omega arith)
+returns-3 c =
+    let after-find2 = c .before .before .before .before in
+    let after-find = after-find2 .before .before .before .before in
+    let start = after-find .before .before .before in
+    joined-same (start .pre .0) (start .pre .1) (after-find .find .ensures) (after-find2 .find2 .ensures) (λ l. omega arith) (λ l. omega arith)
 
 pub link-spec : {M : Type 1} → statement M
 link-spec =

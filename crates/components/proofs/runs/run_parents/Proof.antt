@@ -22,33 +22,46 @@ pick-requires c κs = search needs
 
 set-parent-requires : tie.Need-set-parent-requires Inv-loop μ-loop
 set-parent-requires c κs =
-    let pre = c .before .before .before .before .before .pre in
-    let loop = c .before .before .before .loop in
+    let in-loop = c .before .before .before in
+    let start = in-loop .before .before in
+    let pre = start .pre in
+    let loop = in-loop .loop in
     let pick = c .before .pick in
     let small = running-small (pre .0) (pre .1) (pre .2) (loop .inv) (omega arith) (pick .result) (pick .ensures) in
     (running-room (pre .0) (pre .1) (pre .2) (loop .inv) (omega arith) (pick .result) (pick .ensures), omega (arith, small, pre))
 
 add-joined : tie.Need-add-joined Inv-loop μ-loop
-add-joined c = omega (arith, c .before .before .before .before .before .before .before .before .pre)
+add-joined c =
+    let start = c .before .before .before .before .before .before .before .before in
+    omega (arith, start .pre)
 
 slice-read-joined : tie.Need-slice-read-joined Inv-loop μ-loop
 slice-read-joined c =
-    let pre = c .before .before .before .before .before .before .before .before .before .pre in
-    let loop = c .before .before .before .before .before .before .before .loop in
-    omega (arith, pre, loop .inv .kept .size, c .before .before .before .set-parent .kept .0)
+    let at-set-parent = c .before .before .before in
+    let in-loop = at-set-parent .before .before .before .before in
+    let start = in-loop .before .before in
+    let pre = start .pre in
+    let loop = in-loop .loop in
+    omega (arith, pre, loop .inv .kept .size, at-set-parent .set-parent .kept .0)
 
 add-i : tie.Need-add-i Inv-loop μ-loop
-add-i c = omega (arith, c .before .before .before .before .before .before .before .before .before .pre)
+add-i c =
+    let start = c .before .before .before .before .before .before .before .before .before in
+    omega (arith, start .pre)
 
 loop-less : tie.Need-loop-less Inv-loop μ-loop
 loop-less c = omega arith
 
 loop-again : tie.Need-loop-again Inv-loop μ-loop
 loop-again c =
-    let pre = c .before .before .before .before .before .before .before .before .before .pre in
-    let loop = c .before .before .before .before .before .before .before .loop in
-    let pick = c .before .before .before .before .before .pick in
-    let set = c .before .before .before .set-parent in
+    let at-set-parent = c .before .before .before in
+    let at-pick = at-set-parent .before .before in
+    let in-loop = at-pick .before .before in
+    let start = in-loop .before .before in
+    let pre = start .pre in
+    let loop = in-loop .loop in
+    let pick = at-pick .pick in
+    let set = at-set-parent .set-parent in
     running-next (pre .0) (pre .1) (pre .2) (loop .inv) (omega arith) (pick .result) (pick .ensures) (set .last .0) (set .ensures) _ refl
 
 same-length : tie.Need-same-length Inv-loop μ-loop

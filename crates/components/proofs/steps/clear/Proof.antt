@@ -33,8 +33,10 @@ loop-less c = omega arith
 
 loop-again : tie.Need-loop-again Inv-loop μ-loop
 loop-again c =
-    let args = c .before .before .before .before .before .args in
-    let loop = c .before .before .before .loop in
+    let in-loop = c .before .before .before in
+    let start = in-loop .before .before in
+    let args = start .args in
+    let loop = in-loop .loop in
     let larger = c .larger in
     let byte : ℕ → ℕ = λ j. getD (args .work .now) (args .at + j) 0 in
     (omega arith, most-next byte (loop .k) (loop .most) (larger .result) (loop .inv .1) (larger .ensures .0) (larger .ensures .1))

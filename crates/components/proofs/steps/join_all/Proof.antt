@@ -19,36 +19,43 @@ add-loop c = omega (arith, c .loop .inv .below, c .before .before .pre .few)
 
 join-block-requires : tie.Need-join-block-requires Inv-loop μ-loop
 join-block-requires c κs =
+    let start = c .before .before .before .before in
     let joining = c .before .before .loop .inv in
-    (joinable-kept (c .before .before .before .before .pre) (joining .kept) (joining .usable), omega arith)
+    (joinable-kept (start .pre) (joining .kept) (joining .usable), omega arith)
 
 add-i : tie.Need-add-i Inv-loop μ-loop
-add-i c = omega (arith, c .before .before .before .before .before .before .before .pre .few)
+add-i c =
+    let start = c .before .before .before .before .before .before .before in
+    omega (arith, start .pre .few)
 
 loop-less : tie.Need-loop-less Inv-loop μ-loop
 loop-less c = omega arith
 
 loop-again : tie.Need-loop-again Inv-loop μ-loop
 loop-again c =
-    let loop = c .before .before .before .before .before .loop in
-    let start = c .before .before .before .before .before .before .before in
+    let in-loop = c .before .before .before .before .before in
+    let start = in-loop .before .before in
+    let loop = in-loop .loop in
     c .before .before .join-block .ensures (start .args .work .now) (loop .inv)
 
 join-some-requires : tie.Need-join-some-requires Inv-loop μ-loop
 join-some-requires c κs =
+    let start = c .before .before .before .before in
     let joining = c .before .before .loop .inv in
-    (joinable-kept (c .before .before .before .before .pre) (joining .kept) (joining .usable), joining .below, omega arith)
+    (joinable-kept (start .pre) (joining .kept) (joining .usable), joining .below, omega arith)
 
 same-length : tie.Need-same-length Inv-loop μ-loop
 same-length c =
-    let loop = c .before .before .before .before .before .loop in
-    let start = c .before .before .before .before .before .before .before in
+    let in-loop = c .before .before .before .before .before in
+    let start = in-loop .before .before in
+    let loop = in-loop .loop in
     c .before .before .join-some .ensures (start .args .work .now) (loop .inv) .kept .size
 
 returns : tie.Need-returns Inv-loop μ-loop
 returns c =
-    let loop = c .before .before .before .before .before .loop in
-    let start = c .before .before .before .before .before .before .before in
+    let in-loop = c .before .before .before .before .before in
+    let start = in-loop .before .before in
+    let loop = in-loop .loop in
     joining-end (start .pre .room) (c .before .before .join-some .ensures (start .args .work .now) (loop .inv)) (λ l. omega arith)
 
 pub join-all-spec : {M : Type 1} → statement M

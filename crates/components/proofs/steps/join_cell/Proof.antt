@@ -5,7 +5,9 @@ use Rattle.components.proofs.steps.join_cell.Statement.{statement}
 use Rattle.components.proofs.steps.join_cell.Tie as tie
 
 returns : tie.Need-returns
-returns c = joined-zero (c .before .before .args .width) (c .before .before .args .byte) (c .before .before .args .i) (c .before .before .args .work .now) (omega arith)
+returns c =
+    let start = c .before .before in
+    joined-zero (start .args .width) (start .args .byte) (start .args .i) (start .args .work .now) (omega arith)
 
 join-bits-requires : tie.Need-join-bits-requires
 join-bits-requires c κs = search needs

@@ -15,18 +15,22 @@ loop-holds c = partly-start (c .before .pre .0) (c .before .pre .1)
 
 add-byte : tie.Need-add-byte Inv-loop μ-loop
 add-byte c =
+    let start = c .before .before .before in
     let g = c .before .loop .inv .able in
-    omega (arith, g .room, c .before .before .before .pre .2)
+    omega (arith, g .room, start .pre .2)
 
 slice-read-byte : tie.Need-slice-read-byte Inv-loop μ-loop
 slice-read-byte c =
+    let start = c .before .before .before .before in
     let g = c .before .before .loop .inv .able in
-    omega (arith, g .room, c .before .before .before .before .pre .2)
+    omega (arith, g .room, start .pre .2)
 
 join-cell-requires : tie.Need-join-cell-requires Inv-loop μ-loop
 join-cell-requires c κs =
-    let g = c .before .before .before .loop .inv .able in
-    let pre = c .before .before .before .before .before .pre in
+    let in-loop = c .before .before .before in
+    let start = in-loop .before .before in
+    let g = in-loop .loop .inv .able in
+    let pre = start .pre in
     (g .some, g .narrow, omega (arith, g .few, pre .2), joinable-ready g (omega (arith, pre .2)))
 
 add-i : tie.Need-add-i Inv-loop μ-loop

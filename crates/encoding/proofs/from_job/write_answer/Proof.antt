@@ -3,11 +3,6 @@ use native.Mathlib.Omega.{arith}
 use borrow.Author.Needs.{needs}
 use Rattle.encoding.proofs.from_job.write_answer.Statement.{statement}
 use Rattle.encoding.proofs.from_job.write_answer.Tie as tie
-use Rattle.encoding.proofs.from_job.write_answer.Reads as reads
-use Rattle.encoding.proofs.from_job.write_answer.Lts as lts
-use Rattle.encoding.proofs.from_job.write_large.Reads as write-large-reads
-use Rattle.encoding.proofs.from_job.write_small.Reads as write-small-reads
-use Rattle.wire.proofs.size.Reads as size-reads
 
 size-requires : tie.Need-size-requires
 size-requires c κs = search needs
@@ -22,7 +17,11 @@ size-requires-3 : tie.Need-size-requires-3
 size-requires-3 c κs = search needs
 
 write-small-requires : tie.Need-write-small-requires
-write-small-requires c κs = (c .before .before .before .before .before .before .before .before .before .pre, omega (arith, c .before .before .before .before .before .size .ensures .0, c .before .before .before .before .size2 .ensures .0), omega (arith, leb-true, c .before .before .size3 .ensures .0))
+write-small-requires c κs =
+    let after-size2 = c .before .before .before .before in
+    let after-size = after-size2 .before in
+    let start = after-size .before .before .before .before in
+    (start .pre, omega (arith, after-size .size .ensures .0, after-size2 .size2 .ensures .0), omega (arith, leb-true, c .before .before .size3 .ensures .0))
 
 same-length : tie.Need-same-length
 same-length c = search needs

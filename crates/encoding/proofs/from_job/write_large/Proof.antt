@@ -4,9 +4,6 @@ use native.Mathlib.Omega.{arith}
 use borrow.Author.Needs.{needs}
 use Rattle.encoding.proofs.from_job.write_large.Statement.{statement}
 use Rattle.encoding.proofs.from_job.write_large.Tie as tie
-use Rattle.encoding.proofs.from_job.write_large.Reads as reads
-use Rattle.encoding.proofs.from_job.write_large.Lts as lts
-use Rattle.encoding.proofs.from_job.write_with.Reads as write-with-reads
 
 slice-aggregate-write-with : tie.Need-slice-aggregate-write-with
 slice-aggregate-write-with c = search needs
@@ -40,8 +37,9 @@ slice-aggregate-write-with-10 c = search needs
 
 write-with-requires : tie.Need-write-with-requires
 write-with-requires c κs =
-    let w = counts-allowed (c .before .before .before .before .before .before .before .before .before .before .before .before .before .args .job .now) (c .before .before .before .before .before .before .before .before .before .before .before .before .before .pre .passed) (c .before .before .before .before .before .before .before .before .before .before .before .before .before .args .h) (c .before .before .before .before .before .before .before .before .before .before .before .before .before .pre .header) in
-    (c .before .before .before .before .before .before .before .before .before .before .before .before .before .pre, work-room 4096 1280 (omega (arith, w .sources)) (omega arith) (omega (arith, w .boundaries, w .observations)))
+    let start = c .before .before .before .before .before .before .before .before .before .before .before .before .before in
+    let w = counts-allowed (start .args .job .now) (start .pre .passed) (start .args .h) (start .pre .header) in
+    (start .pre, work-room 4096 1280 (omega (arith, w .sources)) (omega arith) (omega (arith, w .boundaries, w .observations)))
 
 same-length : tie.Need-same-length
 same-length c = search needs

@@ -2,10 +2,10 @@ use mathlib.Core.Path.{sym}
 use borrow.Author.Needs.{needs}
 use Rattle.encoding.proofs.from_job.write_placed.Statement.{statement}
 use Rattle.encoding.proofs.from_job.write_placed.Tie as tie
-use Rattle.encoding.proofs.from_job.write_placed.Reads as reads
-use Rattle.encoding.proofs.from_job.write_placed.Lts as lts
-use Rattle.encoding.proofs.whole.write_kept.Reads as write-kept-reads
-use Rattle.gathering.proofs.kept.gather_kept.Reads as gather-kept-reads
+
+-- what the function is given and asked: the places since only say that its slices have lengths
+abbrev start-of : tie.After-slice-known5 → tie.Start
+start-of c = c .before .before .before .before .before .before .before .before .before .before .before .before .before
 
 slice-aggregate-gather-kept : tie.Need-slice-aggregate-gather-kept
 slice-aggregate-gather-kept c = search needs
@@ -29,15 +29,19 @@ slice-aggregate-write-kept-3 : tie.Need-slice-aggregate-write-kept-3
 slice-aggregate-write-kept-3 c = search needs
 
 write-kept-requires : tie.Need-write-kept-requires
-write-kept-requires c κs = record {
-  n = c .before .before .before .before .before .before .before .before .before .before .before .before .before .before .before .before .before .before .before .before .before .before .before .before .before .before .before .before .before .before .before .before .before .before .before .before .before .before .args .n;
-  ks = _;
-  many = sym (c .before .before .before .before .before .before .before .before .before .before .before .before .before .before .before .before .before .gather-kept .ensures (c .before .before .before .before .before .before .before .before .before .before .before .before .before .before .before .before .before .before .before .before .before .before .before .before .before .before .before .before .before .before .before .before .before .before .before .before .before .before .pre .os) (c .before .before .before .before .before .before .before .before .before .before .before .before .before .before .before .before .before .before .before .before .before .before .before .before .before .before .before .before .before .before .before .before .before .before .before .before .before .before .pre .ss) (c .before .before .before .before .before .before .before .before .before .before .before .before .before .before .before .before .before .before .before .before .before .before .before .before .before .before .before .before .before .before .before .before .before .before .before .before .before .before .pre .placed) .1);
-  gathered = c .before .before .before .before .before .before .before .before .before .before .before .before .before .before .before .before .before .gather-kept .ensures (c .before .before .before .before .before .before .before .before .before .before .before .before .before .before .before .before .before .before .before .before .before .before .before .before .before .before .before .before .before .before .before .before .before .before .before .before .before .before .pre .os) (c .before .before .before .before .before .before .before .before .before .before .before .before .before .before .before .before .before .before .before .before .before .before .before .before .before .before .before .before .before .before .before .before .before .before .before .before .before .before .pre .ss) (c .before .before .before .before .before .before .before .before .before .before .before .before .before .before .before .before .before .before .before .before .before .before .before .before .before .before .before .before .before .before .before .before .before .before .before .before .before .before .pre .placed) .0;
-  limit = c .before .before .before .before .before .before .before .before .before .before .before .before .before .before .before .before .before .before .before .before .before .before .before .before .before .before .before .before .before .before .before .before .before .before .before .before .before .before .pre .room .few;
-  inside = c .before .before .before .before .before .before .before .before .before .before .before .before .before .before .before .before .before .before .before .before .before .before .before .before .before .before .before .before .before .before .before .before .before .before .before .before .before .before .pre .room .records-in;
-  keys-few = c .before .before .before .before .before .before .before .before .before .before .before .before .before .before .before .before .before .before .before .before .before .before .before .before .before .before .before .before .before .before .before .before .before .before .before .before .before .before .pre .keys-few;
-}
+write-kept-requires c κs =
+    let after-gather-kept =
+    c .before .before .before .before .before .before .before .before .before .before .before .before .before .before .before .before .before in
+    let start = start-of (after-gather-kept .before .before .before .before .before .before .before .before) in
+    record {
+      n = start .args .n;
+      ks = _;
+      many = sym (after-gather-kept .gather-kept .ensures (start .pre .os) (start .pre .ss) (start .pre .placed) .1);
+      gathered = after-gather-kept .gather-kept .ensures (start .pre .os) (start .pre .ss) (start .pre .placed) .0;
+      limit = start .pre .room .few;
+      inside = start .pre .room .records-in;
+      keys-few = start .pre .keys-few;
+    }
 
 same-length : tie.Need-same-length
 same-length c = search needs
@@ -55,8 +59,13 @@ same-length-5 : tie.Need-same-length-5
 same-length-5 c = search needs
 
 returns : tie.Need-returns
-returns c = λ os ss p.
-    c .before .before .write-kept .ensures (c .before .before .before .before .before .before .before .before .before .before .before .before .before .before .before .before .before .before .before .before .before .before .before .before .before .before .before .before .before .before .before .before .before .before .before .before .before .before .before .before .before .args .n) _ (sym (c .before .before .before .before .before .before .before .before .before .before .before .before .before .before .before .before .before .before .before .before .gather-kept .ensures os ss p .1)) (c .before .before .before .before .before .before .before .before .before .before .before .before .before .before .before .before .before .before .before .before .gather-kept .ensures os ss p .0)
+returns c =
+    let after-gather-kept =
+    c .before .before .before .before .before .before .before .before .before .before .before .before .before .before .before .before .before .before .before .before in
+    let start = start-of (after-gather-kept .before .before .before .before .before .before .before .before) in
+    λ os ss p.
+    c .before .before .write-kept .ensures (start .args .n) _ (sym (after-gather-kept .gather-kept .ensures os ss p .1))
+    (after-gather-kept .gather-kept .ensures os ss p .0)
 
 pub write-placed-spec : {M : Type 1} → statement M
 write-placed-spec =

@@ -3,9 +3,6 @@ use native.Mathlib.Omega.{arith}
 use borrow.Author.Needs.{needs}
 use Rattle.encoding.proofs.from_job.write_small.Statement.{statement}
 use Rattle.encoding.proofs.from_job.write_small.Tie as tie
-use Rattle.encoding.proofs.from_job.write_small.Reads as reads
-use Rattle.encoding.proofs.from_job.write_small.Lts as lts
-use Rattle.encoding.proofs.from_job.write_with.Reads as write-with-reads
 
 slice-aggregate-write-with : tie.Need-slice-aggregate-write-with
 slice-aggregate-write-with c = search needs
@@ -38,7 +35,9 @@ slice-aggregate-write-with-10 : tie.Need-slice-aggregate-write-with-10
 slice-aggregate-write-with-10 c = search needs
 
 write-with-requires : tie.Need-write-with-requires
-write-with-requires c κs = (c .before .before .before .before .before .before .before .before .before .before .before .before .before .pre .0, work-room 64 64 (omega arith) (omega arith) (omega arith))
+write-with-requires c κs =
+    let start = c .before .before .before .before .before .before .before .before .before .before .before .before .before in
+    (start .pre .0, work-room 64 64 (omega arith) (omega arith) (omega arith))
 
 same-length : tie.Need-same-length
 same-length c = search needs

@@ -4,8 +4,6 @@ use native.Mathlib.Omega.{arith}
 use borrow.Author.Needs.{needs}
 use Rattle.encoding.proofs.reads.word.Statement.{statement}
 use Rattle.encoding.proofs.reads.word.Tie as tie
-use Rattle.encoding.proofs.reads.word.Reads as reads
-use Rattle.encoding.proofs.reads.word.Lts as lts
 
 mul-result : tie.Need-mul-result
 mul-result c = search needs

@@ -7,13 +7,6 @@ use native.Mathlib.Omega.{arith}
 use borrow.Author.Needs.{needs}
 use Rattle.encoding.proofs.records.write_boundary.Statement.{statement}
 use Rattle.encoding.proofs.records.write_boundary.Tie as tie
-use Rattle.encoding.proofs.records.write_boundary.Reads as reads
-use Rattle.encoding.proofs.records.write_boundary.Lts as lts
-use Rattle.answer.proofs.writing.write_span.Reads as write-span-reads
-use Rattle.encoding.proofs.records.write_ramp.Reads as write-ramp-reads
-use Rattle.position.proofs.Span.canonical.Reads as canonical-reads
-use Rattle.wire.proofs.write_u32.Reads as write-u32-reads
-use Rattle.wire.proofs.write_u64.Reads as write-u64-reads
 
 canonical-requires : tie.Need-canonical-requires
 canonical-requires c κs = search needs
@@ -49,7 +42,18 @@ same-length : tie.Need-same-length
 same-length c = search needs
 
 returns : tie.Need-returns
-returns c = boundary-written (c .before .before .before .before .before .before .before .before .before .before .before .before .before .before .before .before .before .before .before .before .before .before .before .args .s .now) (c .before .before .before .before .before .before .before .before .before .before .before .before .before .before .before .before .before .before .before .before .before .before .before .args .at) (c .before .before .before .before .before .before .before .before .before .before .before .before .before .before .before .before .before .before .before .before .before .before .before .args .x) (c .before .before .before .before .before .before .before .before .before .before .before .before .before .before .before .before .before .before .before .before .before .before .before .args .own) (c .before .before .before .before .before .before .before .before .before .before .before .before .before .before .before .before .before .before .before .before .before .before .before .args .seen) (omega arith) (c .before .before .before .before .before .before .before .before .before .before .before .before .before .before .before .before .before .before .write-span .ensures ∙ ap (λ (e : Span). splice (c .before .before .before .before .before .before .before .before .before .before .before .before .before .before .before .before .before .before .before .before .before .before .before .args .s .now) (c .before .before .before .before .before .before .before .before .before .before .before .before .before .before .before .before .before .before .before .before .before .before .before .args .at) (spanBytes e)) (c .before .before .before .before .before .before .before .before .before .before .before .before .before .before .before .before .before .before .before .canonical .ensures)) (c .before .before .before .before .before .before .before .before .before .before .before .before .before .before .write-u64 .ensures) (c .before .before .before .before .before .before .before .before .before .before .write-u32 .ensures) (c .before .before .before .before .before .before .write-u322 .ensures) (c .before .before .write-ramp .ensures)
+returns c =
+    let after-write-u322 = c .before .before .before .before .before .before in
+    let after-write-u32 = after-write-u322 .before .before .before .before in
+    let after-write-u64 = after-write-u32 .before .before .before .before in
+    let after-write-span = after-write-u64 .before .before .before .before in
+    let after-canonical = after-write-span .before in
+    let start = after-canonical .before .before .before .before in
+    let s = start .args .s .now in
+    boundary-written s (start .args .at) (start .args .x) (start .args .own) (start .args .seen) (omega arith)
+    (after-write-span .write-span .ensures ∙ ap (λ (e : Span). splice s (start .args .at) (spanBytes e)) (after-canonical .canonical .ensures))
+    (after-write-u64 .write-u64 .ensures) (after-write-u32 .write-u32 .ensures) (after-write-u322 .write-u322 .ensures)
+    (c .before .before .write-ramp .ensures)
 
 pub write-boundary-spec : {M : Type 1} → statement M
 write-boundary-spec =

@@ -3,9 +3,6 @@ use native.Mathlib.Omega.{arith}
 use borrow.Author.Needs.{needs}
 use Rattle.encoding.proofs.records.write_header.Statement.{statement}
 use Rattle.encoding.proofs.records.write_header.Tie as tie
-use Rattle.encoding.proofs.records.write_header.Reads as reads
-use Rattle.encoding.proofs.records.write_header.Lts as lts
-use Rattle.wire.proofs.write_u32.Reads as write-u32-reads
 
 write-u32-requires : tie.Need-write-u32-requires
 write-u32-requires c κs = search needs
@@ -65,7 +62,16 @@ same-length : tie.Need-same-length
 same-length c = search needs
 
 returns : tie.Need-returns
-returns c = header-written (c .before .before .before .before .before .before .before .before .before .before .before .before .before .before .before .before .before .before .before .before .before .before .before .before .before .args .s .now) (c .before .before .before .before .before .before .before .before .before .before .before .before .before .before .before .before .before .before .before .before .before .before .before .before .before .args .b) (c .before .before .before .before .before .before .before .before .before .before .before .before .before .before .before .before .before .before .before .before .before .before .before .before .before .args .o) (c .before .before .before .before .before .before .before .before .before .before .before .before .before .before .before .before .before .before .before .before .before .before .before .before .before .args .n) (omega arith) (c .before .before .before .before .before .before .before .before .before .before .before .before .before .before .before .before .before .before .before .before .before .before .write-u32 .ensures) (c .before .before .before .before .before .before .before .before .before .before .before .before .before .before .before .before .before .before .write-u322 .ensures) (c .before .before .before .before .before .before .before .before .before .before .before .before .before .before .write-u323 .ensures) (c .before .before .before .before .before .before .before .before .before .before .write-u324 .ensures) (c .before .before .before .before .before .before .write-u325 .ensures) (c .before .before .write-u326 .ensures)
+returns c =
+    let after-write-u325 = c .before .before .before .before .before .before in
+    let after-write-u324 = after-write-u325 .before .before .before .before in
+    let after-write-u323 = after-write-u324 .before .before .before .before in
+    let after-write-u322 = after-write-u323 .before .before .before .before in
+    let after-write-u32 = after-write-u322 .before .before .before .before in
+    let start = after-write-u32 .before .before .before in
+    header-written (start .args .s .now) (start .args .b) (start .args .o) (start .args .n) (omega arith) (after-write-u32 .write-u32 .ensures)
+    (after-write-u322 .write-u322 .ensures) (after-write-u323 .write-u323 .ensures) (after-write-u324 .write-u324 .ensures)
+    (after-write-u325 .write-u325 .ensures) (c .before .before .write-u326 .ensures)
 
 pub write-header-spec : {M : Type 1} → statement M
 write-header-spec =

@@ -5,9 +5,6 @@ use native.Mathlib.Omega.{arith}
 use borrow.Author.Needs.{needs}
 use Rattle.encoding.proofs.records.write_ramp.Statement.{statement}
 use Rattle.encoding.proofs.records.write_ramp.Tie as tie
-use Rattle.encoding.proofs.records.write_ramp.Reads as reads
-use Rattle.encoding.proofs.records.write_ramp.Lts as lts
-use Rattle.wire.proofs.write_u32.Reads as write-u32-reads
 
 slice-write-s : tie.Need-slice-write-s
 slice-write-s c = search needs
@@ -40,7 +37,9 @@ same-length : tie.Need-same-length
 same-length c = simp length-set at (c .before .s .given)
 
 returns : tie.Need-returns
-returns c = ramp-written (c .before .before .before .before .before .args .s .now) (c .before .before .before .before .before .args .at) (c .before .before .before .before .before .args .r) (omega arith) refl (c .before .before .write-u32 .ensures)
+returns c =
+    let start = c .before .before .before .before .before in
+    ramp-written (start .args .s .now) (start .args .at) (start .args .r) (omega arith) refl (c .before .before .write-u32 .ensures)
 
 pub write-ramp-spec : {M : Type 1} → statement M
 write-ramp-spec =

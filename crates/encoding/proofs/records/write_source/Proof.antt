@@ -3,11 +3,6 @@ use native.Mathlib.Omega.{arith}
 use borrow.Author.Needs.{needs}
 use Rattle.encoding.proofs.records.write_source.Statement.{statement}
 use Rattle.encoding.proofs.records.write_source.Tie as tie
-use Rattle.encoding.proofs.records.write_source.Reads as reads
-use Rattle.encoding.proofs.records.write_source.Lts as lts
-use Rattle.encoding.proofs.units.high.Reads as high-reads
-use Rattle.encoding.proofs.units.low.Reads as low-reads
-use Rattle.wire.proofs.write_u32.Reads as write-u32-reads
 
 high-requires : tie.Need-high-requires
 high-requires c κs = search needs
@@ -28,7 +23,13 @@ same-length : tie.Need-same-length
 same-length c = search needs
 
 returns : tie.Need-returns
-returns c = source-written (c .before .before .before .before .before .before .before .before .before .before .before .args .s .now) (c .before .before .before .before .before .before .before .before .before .before .before .args .at) (c .before .before .before .before .before .before .before .before .before .before .before .args .key) (omega arith) (c .before .before .before .before .before .before .before .before .high .ensures) (c .before .before .before .low .ensures) (c .before .before .before .before .before .before .before .write-u32 .ensures) (c .before .before .write-u322 .ensures)
+returns c =
+    let after-low = c .before .before .before in
+    let after-write-u32 = after-low .before .before .before .before in
+    let after-high = after-write-u32 .before in
+    let start = after-high .before .before .before in
+    source-written (start .args .s .now) (start .args .at) (start .args .key) (omega arith) (after-high .high .ensures) (after-low .low .ensures)
+    (after-write-u32 .write-u32 .ensures) (c .before .before .write-u322 .ensures)
 
 pub write-source-spec : {M : Type 1} → statement M
 write-source-spec =

@@ -5,10 +5,10 @@ use native.Mathlib.Omega.{arith}
 use borrow.Author.Needs.{needs}
 use Rattle.encoding.proofs.runs.run_length.Statement.{statement}
 use Rattle.encoding.proofs.runs.run_length.Tie as tie
-use Rattle.encoding.proofs.runs.run_length.Reads as reads
-use Rattle.encoding.proofs.runs.run_length.Lts as lts
-use Rattle.encoding.proofs.reads.index.Reads as index-reads
-use Rattle.encoding.proofs.reads.word.Reads as word-reads
+
+-- what the function is given and asked: the places since only say that its slices have lengths
+abbrev start-of : tie.After-shared-slice-known3 → tie.Start
+start-of c = c .before .before .before
 
 index-requires : tie.Need-index-requires
 index-requires c κs = search needs
@@ -23,16 +23,41 @@ add-if1 : tie.Need-add-if1
 add-if1 c = search needs
 
 returns : tie.Need-returns
-returns c = c .before .before .word .ensures ∙ part-whole (c .before .before .before .before .before .before .before .args .keys .now) (getD (c .before .before .before .before .before .before .before .args .starts .now) (c .before .before .before .before .before .before .before .args .p) 0) (getD (c .before .before .before .before .before .before .before .args .counts .now) (c .before .before .before .before .before .before .before .args .p) 0) (omega (arith, c .before .before .before .index .ensures .0, c .before .index2 .ensures .0))
+returns c =
+    let after-index = c .before .before .before in
+    let start = start-of (after-index .before) in
+    c .before .before .word .ensures
+    ∙ part-whole (start .args .keys .now) (getD (start .args .starts .now) (start .args .p) 0) (getD (start .args .counts .now) (start .args .p) 0)
+    (omega (arith, after-index .index .ensures .0, c .before .index2 .ensures .0))
 
 cast-result : tie.Need-cast-result
 cast-result c = search needs
 
 returns-2 : tie.Need-returns-2
-returns-2 c = omega (arith, c .before .before .before .before .index .ensures .0, c .before .before .index2 .ensures .0, part-rest (c .before .before .before .before .before .before .before .before .args .keys .now) (getD (c .before .before .before .before .before .before .before .before .args .starts .now) (c .before .before .before .before .before .before .before .before .args .p) 0) (getD (c .before .before .before .before .before .before .before .before .args .counts .now) (c .before .before .before .before .before .before .before .before .args .p) 0) (omega (arith, c .before .before .before .before .index .ensures .0, c .before .before .index2 .ensures .0)))
+returns-2 c =
+    let after-index2 = c .before .before in
+    let after-index = after-index2 .before .before in
+    let start = start-of (after-index .before) in
+    omega (
+      arith,
+      after-index .index .ensures .0,
+      after-index2 .index2 .ensures .0,
+      part-rest (start .args .keys .now) (getD (start .args .starts .now) (start .args .p) 0) (getD (start .args .counts .now) (start .args .p) 0)
+          (omega (arith, after-index .index .ensures .0, after-index2 .index2 .ensures .0)),
+    )
 
 returns-3 : tie.Need-returns-3
-returns-3 c = omega (arith, c .before .before .before .before .index .ensures .0, c .before .before .index2 .ensures .0, part-rest (c .before .before .before .before .before .before .before .before .args .keys .now) (getD (c .before .before .before .before .before .before .before .before .args .starts .now) (c .before .before .before .before .before .before .before .before .args .p) 0) (getD (c .before .before .before .before .before .before .before .before .args .counts .now) (c .before .before .before .before .before .before .before .before .args .p) 0) (omega (arith, c .before .before .before .before .index .ensures .0, c .before .before .index2 .ensures .0)))
+returns-3 c =
+    let after-index2 = c .before .before in
+    let after-index = after-index2 .before .before in
+    let start = start-of (after-index .before) in
+    omega (
+      arith,
+      after-index .index .ensures .0,
+      after-index2 .index2 .ensures .0,
+      part-rest (start .args .keys .now) (getD (start .args .starts .now) (start .args .p) 0) (getD (start .args .counts .now) (start .args .p) 0)
+          (omega (arith, after-index .index .ensures .0, after-index2 .index2 .ensures .0)),
+    )
 
 pub run-length-spec : {M : Type 1} → statement M
 run-length-spec =

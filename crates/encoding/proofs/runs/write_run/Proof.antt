@@ -5,10 +5,6 @@ use native.Mathlib.Omega.{arith}
 use borrow.Author.Needs.{needs}
 use Rattle.encoding.proofs.runs.write_run.Statement.{statement}
 use Rattle.encoding.proofs.runs.write_run.Tie as tie
-use Rattle.encoding.proofs.runs.write_run.Reads as reads
-use Rattle.encoding.proofs.runs.write_run.Lts as lts
-use Rattle.encoding.proofs.reads.long.Reads as long-reads
-use Rattle.encoding.proofs.records.write_source.Reads as write-source-reads
 
 abbrev Inv-loop : tie.InvT-loop
 Inv-loop s₀ at keys from count i₀ s i = (i ≤ count) × Writes s₀ at (λ k. keyPiece keys (from + k)) i s
@@ -32,7 +28,9 @@ long-requires : tie.Need-long-requires Inv-loop μ-loop
 long-requires c κs = search needs
 
 write-source-requires : tie.Need-write-source-requires Inv-loop μ-loop
-write-source-requires c κs = omega (arith, c .before .before .before .loop .inv .1 .long)
+write-source-requires c κs =
+    let in-loop = c .before .before .before in
+    omega (arith, in-loop .loop .inv .1 .long)
 
 add-i : tie.Need-add-i Inv-loop μ-loop
 add-i c = search needs
@@ -41,13 +39,25 @@ loop-less : tie.Need-loop-less Inv-loop μ-loop
 loop-less c = search needs
 
 loop-again : tie.Need-loop-again Inv-loop μ-loop
-loop-again c = (omega arith, writes-next _ _ (c .before .before .before .before .before .before .loop .inv .1) (omega (arith, run-long (c .before .before .before .before .before .before .before .before .before .args .keys .now) (c .before .before .before .before .before .before .before .before .before .args .from) (c .before .before .before .before .before .before .loop .i + 1))) (omega (arith, run-long (c .before .before .before .before .before .before .before .before .before .args .keys .now) (c .before .before .before .before .before .before .before .before .before .args .from) (c .before .before .before .before .before .before .loop .i))) (c .before .before .write-source .ensures) (key-is (c .before .before .before .before .before .before .before .before .before .args .keys .now) (c .before .before .before .before .before .before .before .before .before .args .from + c .before .before .before .before .before .before .loop .i) (c .before .before .before .long .ensures)))
+loop-again c =
+    let after-long = c .before .before .before in
+    let in-loop = after-long .before .before .before in
+    let start = in-loop .before .before .before in
+    let keys = start .args .keys .now in
+    let from = start .args .from in (
+      omega arith,
+      writes-next _ _ (in-loop .loop .inv .1) (omega (arith, run-long keys from (in-loop .loop .i + 1)))
+          (omega (arith, run-long keys from (in-loop .loop .i))) (c .before .before .write-source .ensures)
+          (key-is keys (from + in-loop .loop .i) (after-long .long .ensures)),
+    )
 
 same-length : tie.Need-same-length Inv-loop μ-loop
 same-length c = c .before .loop .inv .1 .long
 
 returns : tie.Need-returns Inv-loop μ-loop
-returns c = writes-end (c .before .loop .inv .1) (c .before .loop .inv .0) (omega arith)
+returns c =
+    let inv = c .before .loop .inv in
+    writes-end (inv .1) (inv .0) (omega arith)
 
 pub write-run-spec : {M : Type 1} → statement M
 write-run-spec =

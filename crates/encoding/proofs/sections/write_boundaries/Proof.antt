@@ -6,18 +6,16 @@ use native.Mathlib.Omega.{arith}
 use borrow.Author.Needs.{needs}
 use Rattle.encoding.proofs.sections.write_boundaries.Statement.{statement}
 use Rattle.encoding.proofs.sections.write_boundaries.Tie as tie
-use Rattle.encoding.proofs.sections.write_boundaries.Reads as reads
-use Rattle.encoding.proofs.sections.write_boundaries.Lts as lts
-use Rattle.encoding.proofs.reads.index.Reads as index-reads
-use Rattle.encoding.proofs.reads.word.Reads as word-reads
-use Rattle.encoding.proofs.records.write_boundary.Reads as write-boundary-reads
-use Rattle.format.proofs.read_boundary.Reads as read-boundary-reads
 
 abbrev Inv-loop : tie.InvT-loop
 Inv-loop job at count kept owns seens s₀ to k₀ s k = (k ≤ count) × Writes s₀ to (keptPiece (boundaryRows job at) kept owns seens) k s
 
 abbrev μ-loop : tie.MeasureT-loop
 μ-loop job at count kept owns seens s₀ to k₀ s k = count - k
+
+-- what the function is given and asked: the places since only say that its slices have lengths
+abbrev start-of : tie.After-slice-known Inv-loop μ-loop → tie.Start Inv-loop μ-loop
+start-of c = c .before .before .before .before .before
 
 loop-holds : tie.Need-loop-holds Inv-loop μ-loop
 loop-holds c = (omega arith, writes-start _ _ _)
@@ -29,16 +27,24 @@ mul-read-boundary : tie.Need-mul-read-boundary Inv-loop μ-loop
 mul-read-boundary c = omega (arith, c .index .ensures .1)
 
 add-read-boundary : tie.Need-add-read-boundary Inv-loop μ-loop
-add-read-boundary c = omega (arith, c .index .ensures .0, c .before .before .before .before .before .before .before .before .pre .inside (c .before .before .loop .k) (c .before .loop-test .taken))
+add-read-boundary c =
+    let start = start-of (c .before .before .before) in
+    omega (arith, c .index .ensures .0, start .pre .inside (c .before .before .loop .k) (c .before .loop-test .taken))
 
 read-boundary-requires : tie.Need-read-boundary-requires Inv-loop μ-loop
-read-boundary-requires c κs = omega (arith, c .index .ensures .0, c .before .before .before .before .before .before .before .before .pre .inside (c .before .before .loop .k) (c .before .loop-test .taken))
+read-boundary-requires c κs =
+    let start = start-of (c .before .before .before) in
+    omega (arith, c .index .ensures .0, start .pre .inside (c .before .before .loop .k) (c .before .loop-test .taken))
 
 mul-write-boundary : tie.Need-mul-write-boundary Inv-loop μ-loop
-mul-write-boundary c = omega (arith, c .before .before .before .before .before .before .before .before .before .before .pre .limit)
+mul-write-boundary c =
+    let start = start-of (c .before .before .before .before .before) in
+    omega (arith, start .pre .limit)
 
 add-write-boundary : tie.Need-add-write-boundary Inv-loop μ-loop
-add-write-boundary c = omega (arith, c .before .before .before .before .before .before .before .before .before .before .pre .room)
+add-write-boundary c =
+    let start = start-of (c .before .before .before .before .before) in
+    omega (arith, start .pre .room)
 
 word-requires : tie.Need-word-requires Inv-loop μ-loop
 word-requires c κs = search needs
@@ -47,22 +53,47 @@ word-requires-2 : tie.Need-word-requires-2 Inv-loop μ-loop
 word-requires-2 c κs = search needs
 
 write-boundary-requires : tie.Need-write-boundary-requires Inv-loop μ-loop
-write-boundary-requires c κs = omega (arith, c .before .before .before .before .before .before .before .before .before .before .before .before .pre .room, c .before .before .before .before .before .before .loop .inv .1 .long)
+write-boundary-requires c κs =
+    let in-loop = c .before .before .before .before .before .before in
+    let start = start-of (in-loop .before) in
+    omega (arith, start .pre .room, in-loop .loop .inv .1 .long)
 
 add-k : tie.Need-add-k Inv-loop μ-loop
-add-k c = omega (arith, c .before .before .before .before .before .before .before .before .before .before .before .before .before .before .before .pre .limit)
+add-k c =
+    let start = start-of (c .before .before .before .before .before .before .before .before .before .before) in
+    omega (arith, start .pre .limit)
 
 loop-less : tie.Need-loop-less Inv-loop μ-loop
 loop-less c = search needs
 
 loop-again : tie.Need-loop-again Inv-loop μ-loop
-loop-again c = (omega arith, writes-next _ _ (c .before .before .before .before .before .before .before .before .before .loop .inv .1) (omega (arith, c .before .before .before .before .before .before .before .before .before .before .before .before .before .before .before .pre .room, kept-long (boundaryRows (c .before .before .before .before .before .before .before .before .before .before .before .before .before .before .before .args .job .now) (c .before .before .before .before .before .before .before .before .before .before .before .before .before .before .before .args .at)) (c .before .before .before .before .before .before .before .before .before .before .before .before .before .before .before .args .kept .now) (c .before .before .before .before .before .before .before .before .before .before .before .before .before .before .before .args .owns .now) (c .before .before .before .before .before .before .before .before .before .before .before .before .before .before .before .args .seens .now) (c .before .before .before .before .before .before .before .before .before .loop .k + 1))) (omega (arith, kept-long (boundaryRows (c .before .before .before .before .before .before .before .before .before .before .before .before .before .before .before .args .job .now) (c .before .before .before .before .before .before .before .before .before .before .before .before .before .before .before .args .at)) (c .before .before .before .before .before .before .before .before .before .before .before .before .before .before .before .args .kept .now) (c .before .before .before .before .before .before .before .before .before .before .before .before .before .before .before .args .owns .now) (c .before .before .before .before .before .before .before .before .before .before .before .before .before .before .before .args .seens .now) (c .before .before .before .before .before .before .before .before .before .loop .k))) (c .before .before .write-boundary .ensures) (kept-is (c .before .before .before .before .before .before .before .before .before .before .before .before .before .before .before .args .job .now) (c .before .before .before .before .before .before .before .before .before .before .before .before .before .before .before .args .at) (c .before .before .before .before .before .before .before .before .before .before .before .before .before .before .before .args .kept .now) (c .before .before .before .before .before .before .before .before .before .before .before .before .before .before .before .args .owns .now) (c .before .before .before .before .before .before .before .before .before .before .before .before .before .before .before .args .seens .now) (c .before .before .before .before .before .before .before .before .before .loop .k) (c .before .before .before .before .before .before .read-boundary .ensures) (c .before .before .before .before .before .before .before .index .ensures .0) (c .before .before .before .before .word .ensures) (c .before .before .before .word2 .ensures)))
+loop-again c =
+    let after-word2 = c .before .before .before in
+    let after-word = after-word2 .before in
+    let after-read-boundary = after-word .before .before in
+    let after-index = after-read-boundary .before in
+    let in-loop = after-index .before .before in
+    let start = start-of (in-loop .before) in
+    let seens = start .args .seens .now in
+    let kept = start .args .kept .now in
+    let owns = start .args .owns .now in
+    let job = start .args .job .now in
+    let at = start .args .at in (
+      omega arith,
+      writes-next _ _ (in-loop .loop .inv .1)
+          (omega (arith, start .pre .room, kept-long (boundaryRows job at) kept owns seens (in-loop .loop .k + 1)))
+          (omega (arith, kept-long (boundaryRows job at) kept owns seens (in-loop .loop .k))) (c .before .before .write-boundary .ensures)
+          (kept-is job at kept owns seens (in-loop .loop .k) (after-read-boundary .read-boundary .ensures) (after-index .index .ensures .0)
+          (after-word .word .ensures) (after-word2 .word2 .ensures)),
+    )
 
 same-length : tie.Need-same-length Inv-loop μ-loop
 same-length c = c .before .loop .inv .1 .long
 
 returns : tie.Need-returns Inv-loop μ-loop
-returns c = writes-end (c .before .loop .inv .1) (c .before .loop .inv .0) (omega arith)
+returns c =
+    let inv = c .before .loop .inv in
+    writes-end (inv .1) (inv .0) (omega arith)
 
 pub write-boundaries-spec : {M : Type 1} → statement M
 write-boundaries-spec =

@@ -7,16 +7,17 @@ use native.Mathlib.Omega.{arith}
 use borrow.Author.Needs.{needs}
 use Rattle.encoding.proofs.sections.write_observations.Statement.{statement}
 use Rattle.encoding.proofs.sections.write_observations.Tie as tie
-use Rattle.encoding.proofs.sections.write_observations.Reads as reads
-use Rattle.encoding.proofs.sections.write_observations.Lts as lts
-use Rattle.encoding.proofs.reads.index.Reads as index-reads
-use Rattle.encoding.proofs.sections.write_place.Reads as write-place-reads
 
 abbrev Inv-loop : tie.InvT-loop
-Inv-loop s₀ to count seen first second third starts counts keys q₀ s q = (q ≤ count) × Writes s₀ to (λ k. placePiece first second third starts counts keys (getD seen k 0)) q s
+Inv-loop s₀ to count seen first second third starts counts keys q₀ s q = (q ≤ count)
+    × Writes s₀ to (λ k. placePiece first second third starts counts keys (getD seen k 0)) q s
 
 abbrev μ-loop : tie.MeasureT-loop
 μ-loop s₀ to count seen first second third starts counts keys q₀ s q = count - q
+
+-- what the function is given and asked: the places since only say that its slices have lengths
+abbrev start-of : tie.After-shared-slice-known7 Inv-loop μ-loop → tie.Start Inv-loop μ-loop
+start-of c = c .before .before .before .before .before .before .before .before
 
 loop-holds : tie.Need-loop-holds Inv-loop μ-loop
 loop-holds c = (omega arith, writes-start _ _ _)
@@ -31,7 +32,9 @@ add-write-place : tie.Need-add-write-place Inv-loop μ-loop
 add-write-place c = search needs
 
 write-place-requires : tie.Need-write-place-requires Inv-loop μ-loop
-write-place-requires c κs = omega (arith, c .before .before .before .loop .inv .1 .long)
+write-place-requires c κs =
+    let in-loop = c .before .before .before in
+    omega (arith, in-loop .loop .inv .1 .long)
 
 add-q : tie.Need-add-q Inv-loop μ-loop
 add-q c = search needs
@@ -40,13 +43,30 @@ loop-less : tie.Need-loop-less Inv-loop μ-loop
 loop-less c = search needs
 
 loop-again : tie.Need-loop-again Inv-loop μ-loop
-loop-again c = (omega arith, writes-next _ _ (c .before .before .before .before .before .before .loop .inv .1) (omega (arith, places-long (c .before .before .before .before .before .before .before .before .before .before .before .before .before .before .before .args .first .now) (c .before .before .before .before .before .before .before .before .before .before .before .before .before .before .before .args .second .now) (c .before .before .before .before .before .before .before .before .before .before .before .before .before .before .before .args .third .now) (c .before .before .before .before .before .before .before .before .before .before .before .before .before .before .before .args .starts .now) (c .before .before .before .before .before .before .before .before .before .before .before .before .before .before .before .args .counts .now) (c .before .before .before .before .before .before .before .before .before .before .before .before .before .before .before .args .keys .now) (c .before .before .before .before .before .before .before .before .before .before .before .before .before .before .before .args .seen .now) (c .before .before .before .before .before .before .loop .q + 1))) (omega (arith, places-long (c .before .before .before .before .before .before .before .before .before .before .before .before .before .before .before .args .first .now) (c .before .before .before .before .before .before .before .before .before .before .before .before .before .before .before .args .second .now) (c .before .before .before .before .before .before .before .before .before .before .before .before .before .before .before .args .third .now) (c .before .before .before .before .before .before .before .before .before .before .before .before .before .before .before .args .starts .now) (c .before .before .before .before .before .before .before .before .before .before .before .before .before .before .before .args .counts .now) (c .before .before .before .before .before .before .before .before .before .before .before .before .before .before .before .args .keys .now) (c .before .before .before .before .before .before .before .before .before .before .before .before .before .before .before .args .seen .now) (c .before .before .before .before .before .before .loop .q))) (c .before .before .write-place .ensures) (ap (placePiece (c .before .before .before .before .before .before .before .before .before .before .before .before .before .before .before .args .first .now) (c .before .before .before .before .before .before .before .before .before .before .before .before .before .before .before .args .second .now) (c .before .before .before .before .before .before .before .before .before .before .before .before .before .before .before .args .third .now) (c .before .before .before .before .before .before .before .before .before .before .before .before .before .before .before .args .starts .now) (c .before .before .before .before .before .before .before .before .before .before .before .before .before .before .before .args .counts .now) (c .before .before .before .before .before .before .before .before .before .before .before .before .before .before .before .args .keys .now)) (c .before .before .before .before .index .ensures .0)))
+loop-again c =
+    let after-index = c .before .before .before .before in
+    let in-loop = after-index .before .before in
+    let start = start-of (in-loop .before) in
+    let second = start .args .second .now in
+    let starts = start .args .starts .now in
+    let counts = start .args .counts .now in
+    let first = start .args .first .now in
+    let third = start .args .third .now in
+    let keys = start .args .keys .now in
+    let seen = start .args .seen .now in (
+      omega arith,
+      writes-next _ _ (in-loop .loop .inv .1) (omega (arith, places-long first second third starts counts keys seen (in-loop .loop .q + 1)))
+          (omega (arith, places-long first second third starts counts keys seen (in-loop .loop .q))) (c .before .before .write-place .ensures)
+          (ap (placePiece first second third starts counts keys) (after-index .index .ensures .0)),
+    )
 
 same-length : tie.Need-same-length Inv-loop μ-loop
 same-length c = c .before .loop .inv .1 .long
 
 returns : tie.Need-returns Inv-loop μ-loop
-returns c = writes-end (c .before .loop .inv .1) (c .before .loop .inv .0) (omega arith)
+returns c =
+    let inv = c .before .loop .inv in
+    writes-end (inv .1) (inv .0) (omega arith)
 
 pub write-observations-spec : {M : Type 1} → statement M
 write-observations-spec =

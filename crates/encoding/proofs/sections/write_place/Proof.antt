@@ -4,13 +4,10 @@ use mathlib.Core.Path.{_∙_, ap}
 use borrow.Author.Needs.{needs}
 use Rattle.encoding.proofs.sections.write_place.Statement.{statement}
 use Rattle.encoding.proofs.sections.write_place.Tie as tie
-use Rattle.encoding.proofs.sections.write_place.Reads as reads
-use Rattle.encoding.proofs.sections.write_place.Lts as lts
-use Rattle.answer.proofs.writing.write_observation.Reads as write-observation-reads
-use Rattle.encoding.proofs.reads.long.Reads as long-reads
-use Rattle.encoding.proofs.runs.run_length.Reads as run-length-reads
-use Rattle.encoding.proofs.units.bits_of.Reads as bits-of-reads
-use Rattle.encoding.proofs.units.span_of.Reads as span-of-reads
+
+-- what the function is given and asked: the places since only say that its slices have lengths
+abbrev start-of : tie.After-shared-slice-known6 → tie.Start
+start-of c = c .before .before .before .before .before .before .before
 
 long-requires : tie.Need-long-requires
 long-requires c κs = search needs
@@ -37,7 +34,19 @@ same-length : tie.Need-same-length
 same-length c = search needs
 
 returns : tie.Need-returns
-returns c = c .before .before .write-observation .ensures ∙ ap (splice (c .before .before .before .before .before .before .before .before .before .before .before .before .before .before .before .before .before .args .s .now) (c .before .before .before .before .before .before .before .before .before .before .before .before .before .before .before .before .before .args .at)) (place-is (c .before .before .before .before .before .before .before .before .before .before .before .before .before .before .before .before .before .args .first .now) (c .before .before .before .before .before .before .before .before .before .before .before .before .before .before .before .before .before .args .second .now) (c .before .before .before .before .before .before .before .before .before .before .before .before .before .before .before .before .before .args .third .now) (c .before .before .before .before .before .before .before .before .before .before .before .before .before .before .before .before .before .args .starts .now) (c .before .before .before .before .before .before .before .before .before .before .before .before .before .before .before .before .before .args .counts .now) (c .before .before .before .before .before .before .before .before .before .before .before .before .before .before .before .before .before .args .keys .now) (c .before .before .before .before .before .before .before .before .before .before .before .before .before .before .before .before .before .args .p) (c .before .before .before .before .before .before .before .before .before .long .ensures) (c .before .before .before .before .before .before .before .before .long2 .ensures) (c .before .before .before .before .before .before .long3 .ensures) (c .before .before .before .before .before .before .before .span-of .ensures) (c .before .before .before .before .before .bits-of .ensures) (c .before .before .before .run-length .ensures))
+returns c =
+    let after-run-length = c .before .before .before in
+    let after-bits-of = after-run-length .before .before in
+    let after-long3 = after-bits-of .before in
+    let after-span-of = after-long3 .before in
+    let after-long2 = after-span-of .before in
+    let after-long = after-long2 .before in
+    let start = start-of (after-long .before) in
+    c .before .before .write-observation .ensures
+    ∙ ap (splice (start .args .s .now) (start .args .at))
+    (place-is (start .args .first .now) (start .args .second .now) (start .args .third .now) (start .args .starts .now) (start .args .counts .now)
+    (start .args .keys .now) (start .args .p) (after-long .long .ensures) (after-long2 .long2 .ensures) (after-long3 .long3 .ensures)
+    (after-span-of .span-of .ensures) (after-bits-of .bits-of .ensures) (after-run-length .run-length .ensures))
 
 pub write-place-spec : {M : Type 1} → statement M
 write-place-spec =

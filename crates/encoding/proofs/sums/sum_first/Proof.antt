@@ -5,9 +5,6 @@ use native.Mathlib.Omega.{arith}
 use borrow.Author.Needs.{needs}
 use Rattle.encoding.proofs.sums.sum_first.Statement.{statement}
 use Rattle.encoding.proofs.sums.sum_first.Tie as tie
-use Rattle.encoding.proofs.sums.sum_first.Reads as reads
-use Rattle.encoding.proofs.sums.sum_first.Lts as lts
-use Rattle.encoding.proofs.reads.index.Reads as index-reads
 
 abbrev Inv-loop : tie.InvT-loop
 Inv-loop xs n t₀ i₀ t i = Added (elements xs) n i t

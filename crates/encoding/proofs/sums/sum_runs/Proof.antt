@@ -4,16 +4,16 @@ use native.Mathlib.Omega.{arith}
 use borrow.Author.Needs.{needs}
 use Rattle.encoding.proofs.sums.sum_runs.Statement.{statement}
 use Rattle.encoding.proofs.sums.sum_runs.Tie as tie
-use Rattle.encoding.proofs.sums.sum_runs.Reads as reads
-use Rattle.encoding.proofs.sums.sum_runs.Lts as lts
-use Rattle.encoding.proofs.reads.index.Reads as index-reads
-use Rattle.encoding.proofs.runs.run_length.Reads as run-length-reads
 
 abbrev Inv-loop : tie.InvT-loop
 Inv-loop seen n starts counts keys t₀ i₀ t i = Cited seen starts counts keys n i t
 
 abbrev μ-loop : tie.MeasureT-loop
 μ-loop seen n starts counts keys t₀ i₀ t i = n - i
+
+-- what the function is given and asked: the places since only say that its slices have lengths
+abbrev start-of : tie.After-shared-slice-known4 Inv-loop μ-loop → tie.Start Inv-loop μ-loop
+start-of c = c .before .before .before .before
 
 loop-holds : tie.Need-loop-holds Inv-loop μ-loop
 loop-holds c = cited-start _ _ _ _ _
@@ -28,7 +28,9 @@ cast-t : tie.Need-cast-t Inv-loop μ-loop
 cast-t c = search needs
 
 add-t : tie.Need-add-t Inv-loop μ-loop
-add-t c = omega (arith, c .before .before .before .loop .inv .small)
+add-t c =
+    let in-loop = c .before .before .before in
+    omega (arith, in-loop .loop .inv .small)
 
 add-i : tie.Need-add-i Inv-loop μ-loop
 add-i c = search needs
@@ -37,10 +39,16 @@ loop-less : tie.Need-loop-less Inv-loop μ-loop
 loop-less c = search needs
 
 loop-again : tie.Need-loop-again Inv-loop μ-loop
-loop-again c = cited-next (c .before .before .before .before .before .before .before .before .args .seen .now) (c .before .before .before .before .before .before .before .before .args .starts .now) (c .before .before .before .before .before .before .before .before .args .counts .now) (c .before .before .before .before .before .before .before .before .args .keys .now) (c .before .index .result) (c .run-length .result) (omega arith) (c .before .before .before .loop .inv) (c .before .before .loop-test .taken) (c .before .index .ensures .0) (c .run-length .ensures)
+loop-again c =
+    let in-loop = c .before .before .before in
+    let start = start-of (in-loop .before) in
+    cited-next (start .args .seen .now) (start .args .starts .now) (start .args .counts .now) (start .args .keys .now) (c .before .index .result)
+    (c .run-length .result) (omega arith) (in-loop .loop .inv) (c .before .before .loop-test .taken) (c .before .index .ensures .0) (c .run-length .ensures)
 
 returns : tie.Need-returns Inv-loop μ-loop
-returns c = cited-end (c .before .before .before .before .before .before .args .seen .now) (c .before .before .before .before .before .before .args .starts .now) (c .before .before .before .before .before .before .args .counts .now) (c .before .before .before .before .before .before .args .keys .now) (c .before .loop .inv) (omega arith)
+returns c =
+    let start = start-of (c .before .before) in
+    cited-end (start .args .seen .now) (start .args .starts .now) (start .args .counts .now) (start .args .keys .now) (c .before .loop .inv) (omega arith)
 
 pub sum-runs-spec : {M : Type 1} → statement M
 sum-runs-spec =

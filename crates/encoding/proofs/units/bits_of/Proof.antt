@@ -4,8 +4,6 @@ use native.Mathlib.Omega.{arith}
 use borrow.Author.Needs.{needs}
 use Rattle.encoding.proofs.units.bits_of.Statement.{statement}
 use Rattle.encoding.proofs.units.bits_of.Tie as tie
-use Rattle.encoding.proofs.units.bits_of.Reads as reads
-use Rattle.encoding.proofs.units.bits_of.Lts as lts
 
 sub-result : tie.Need-sub-result
 sub-result c = search needs

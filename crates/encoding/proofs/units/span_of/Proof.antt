@@ -2,10 +2,6 @@ use Rattle.encoding.specs.Pieces.{keySpan}
 use borrow.Author.Needs.{needs}
 use Rattle.encoding.proofs.units.span_of.Statement.{statement}
 use Rattle.encoding.proofs.units.span_of.Tie as tie
-use Rattle.encoding.proofs.units.span_of.Reads as reads
-use Rattle.encoding.proofs.units.span_of.Lts as lts
-use Rattle.encoding.proofs.units.high.Reads as high-reads
-use Rattle.encoding.proofs.units.low.Reads as low-reads
 
 high-requires : tie.Need-high-requires
 high-requires c κs = search needs
@@ -21,7 +17,9 @@ low-requires-2 c κs = search needs
 
 returns : tie.Need-returns
 unfolding keySpan
-returns c = cc (c .before .before .before .high .ensures, c .before .before .low .ensures, c .before .high2 .ensures, c .low2 .ensures)
+returns c =
+    let after-high = c .before .before .before in
+    cc (after-high .high .ensures, c .before .before .low .ensures, c .before .high2 .ensures, c .low2 .ensures)
 
 pub span-of-spec : {M : Type 1} → statement M
 span-of-spec =

@@ -38,7 +38,18 @@ read-u32-requires-6 c κs = search needs
 
 returns : tie.Need-returns
 unfolding offsetsAt
-returns c = simp (c .read-u326 .ensures, c .before .read-u325 .ensures, c .before .before .read-u324 .ensures, c .before .before .before .read-u323 .ensures, c .before .before .before .before .read-u322 .ensures, c .before .before .before .before .before .read-u32 .ensures)
+returns c =
+    let after-read-u323 = c .before .before .before in
+    let after-read-u322 = after-read-u323 .before in
+    let after-read-u32 = after-read-u322 .before in
+    simp (
+      c .read-u326 .ensures,
+      c .before .read-u325 .ensures,
+      c .before .before .read-u324 .ensures,
+      after-read-u323 .read-u323 .ensures,
+      after-read-u322 .read-u322 .ensures,
+      after-read-u32 .read-u32 .ensures,
+    )
 
 pub read-offsets-spec : {M : Type 1} → statement M
 read-offsets-spec =

@@ -32,7 +32,16 @@ read-ramp-requires c κs = search needs
 
 returns : tie.Need-returns
 unfolding boundaryAt
-returns c = simp (c .read-ramp .ensures, c .before .read-u322 .ensures, c .before .before .read-u32 .ensures, c .before .before .before .read-u64 .ensures, c .before .before .before .before .read-span .ensures)
+returns c =
+    let after-read-u64 = c .before .before .before in
+    let after-read-span = after-read-u64 .before in
+    simp (
+      c .read-ramp .ensures,
+      c .before .read-u322 .ensures,
+      c .before .before .read-u32 .ensures,
+      after-read-u64 .read-u64 .ensures,
+      after-read-span .read-span .ensures,
+    )
 
 pub read-boundary-spec : {M : Type 1} → statement M
 read-boundary-spec =

@@ -3,9 +3,6 @@ use Rattle.gathering.proofs.Sights.{counted-one, counted-none}
 use borrow.Author.Needs.{needs}
 use Rattle.gathering.proofs.casts.counted.Statement.{statement}
 use Rattle.gathering.proofs.casts.counted.Tie as tie
-use Rattle.gathering.proofs.casts.counted.Reads as reads
-use Rattle.gathering.proofs.casts.counted.Lts as lts
-use Rattle.wire.proofs.size.Reads as size-reads
 
 size-requires : tie.Need-size-requires
 size-requires c κs = search needs

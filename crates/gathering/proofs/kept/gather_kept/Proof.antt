@@ -3,16 +3,20 @@ use Rattle.gathering.proofs.Answered.{gathered}
 use borrow.Author.Needs.{needs}
 use Rattle.gathering.proofs.kept.gather_kept.Statement.{statement}
 use Rattle.gathering.proofs.kept.gather_kept.Tie as tie
-use Rattle.gathering.proofs.kept.gather_kept.Reads as reads
-use Rattle.gathering.proofs.kept.gather_kept.Lts as lts
-use Rattle.gathering.proofs.own.gather_owns.Reads as gather-owns-reads
-use Rattle.gathering.proofs.seen.gather_seens.Reads as gather-seens-reads
+
+-- what the function is given and asked: the places since only say that its slices have lengths
+abbrev start-of : tie.After-slice-known7 → tie.Start
+start-of c = c .before .before .before .before .before .before .before .before .before .before .before .before .before .before .before
 
 gather-seens-requires : tie.Need-gather-seens-requires
-gather-seens-requires c κs = seens-room (c .before .before .before .before .before .before .before .before .before .before .before .before .before .before .before .before .before .before .pre)
+gather-seens-requires c κs =
+    let start = start-of (c .before .before .before) in
+    seens-room (start .pre)
 
 gather-owns-requires : tie.Need-gather-owns-requires
-gather-owns-requires c κs = owns-room (c .before .before .before .before .before .before .before .before .before .before .before .before .before .before .before .before .before .before .before .before .before .before .before .before .before .before .before .before .before .pre)
+gather-owns-requires c κs =
+    let start = start-of (c .before .before .before .before .before .before .before .before .before .before .before .before .before .before) in
+    owns-room (start .pre)
 
 same-length : tie.Need-same-length
 same-length c = search needs
@@ -36,7 +40,12 @@ same-length-7 : tie.Need-same-length-7
 same-length-7 c = search needs
 
 returns : tie.Need-returns
-returns c = λ os ss p. gathered p (c .before .before .before .before .before .before .before .before .before .before .before .before .before .before .before .before .before .before .before .before .before .before .before .before .before .before .before .before .before .before .before .before .before .before .before .before .before .before .args .order .now) (c .before .before .before .before .before .before .before .before .before .before .before .before .before .before .before .before .before .before .before .before .before .before .before .before .before .before .before .before .before .before .before .before .before .before .before .before .before .before .args .plan .now) (order-inside (c .before .before .before .before .before .before .before .before .before .before .before .before .before .before .before .before .before .before .before .before .before .before .before .before .before .before .before .before .before .before .before .before .before .before .before .before .before .before .args .order .now) (c .before .before .before .before .before .before .before .before .before .before .before .before .before .before .before .before .before .before .before .before .before .before .before .before .before .before .before .before .before .before .before .before .before .before .before .before .before .before .args .n) (c .before .before .before .before .before .before .before .before .before .before .before .before .before .before .before .before .before .before .before .before .before .before .before .before .before .before .before .before .before .before .before .before .before .before .before .before .before .before .pre .ordered)) (c .before .before .before .before .before .before .before .before .gather-owns .ensures) (c .before .before .before .before .before .before .before .before .before .before .before .before .before .before .before .before .before .before .before .gather-seens .ensures) (owns-room (c .before .before .before .before .before .before .before .before .before .before .before .before .before .before .before .before .before .before .before .before .before .before .before .before .before .before .before .before .before .before .before .before .before .before .before .before .before .before .pre) .small) (seens-room (c .before .before .before .before .before .before .before .before .before .before .before .before .before .before .before .before .before .before .before .before .before .before .before .before .before .before .before .before .before .before .before .before .before .before .before .before .before .before .pre) .small)
+returns c =
+    let after-gather-owns = c .before .before .before .before .before .before .before .before in
+    let after-gather-seens = after-gather-owns .before .before .before .before .before .before .before .before .before .before .before in
+    let start = start-of (after-gather-seens .before .before .before .before) in
+    λ os ss p. gathered p (start .args .order .now) (start .args .plan .now) (order-inside (start .args .order .now) (start .args .n) (start .pre .ordered))
+    (after-gather-owns .gather-owns .ensures) (after-gather-seens .gather-seens .ensures) (owns-room (start .pre) .small) (seens-room (start .pre) .small)
 
 pub gather-kept-spec : {M : Type 1} → statement M
 gather-kept-spec =

@@ -6,10 +6,10 @@ use lib.ListN.{length}
 use borrow.Author.Needs.{needs}
 use Rattle.gathering.proofs.own.add_own.Statement.{statement}
 use Rattle.gathering.proofs.own.add_own.Tie as tie
-use Rattle.gathering.proofs.own.add_own.Reads as reads
-use Rattle.gathering.proofs.own.add_own.Lts as lts
-use Rattle.gathering.proofs.runs.append_keys.Reads as append-keys-reads
-use Rattle.wire.proofs.size.Reads as size-reads
+
+-- what the function is given and asked: the places since only say that its slices have lengths
+abbrev start-of : tie.After-slice-known → tie.Start
+start-of c = c .before .before .before .before
 
 mul-size : tie.Need-mul-size
 mul-size c = search needs
@@ -39,7 +39,9 @@ mul-size-3 : tie.Need-mul-size-3
 mul-size-3 c = search needs
 
 shared-slice-read-size : tie.Need-shared-slice-read-size
-shared-slice-read-size c = omega (arith, c .before .before .before .before .before .before .before .before .before .before .pre .0 .starts-room, c .before .size2 .ensures .0, c .before .before .before .before .before .before .before .before .before .before .pre .0 .order-in _ (c .before .before .before .before .before .before .before .before .before .before .pre .1), c .before .before .before .before .before .before .before .before .before .before .pre .0 .few)
+shared-slice-read-size c =
+    let start = start-of (c .before .before .before .before .before .before) in
+    omega (arith, start .pre .0 .starts-room, c .before .size2 .ensures .0, start .pre .0 .order-in _ (start .pre .1), start .pre .0 .few)
 
 size-requires-3 : tie.Need-size-requires-3
 size-requires-3 c κs = search needs
@@ -48,19 +50,40 @@ mul-size-4 : tie.Need-mul-size-4
 mul-size-4 c = search needs
 
 shared-slice-read-size-2 : tie.Need-shared-slice-read-size-2
-shared-slice-read-size-2 c = omega (arith, c .before .before .before .before .before .before .before .before .before .before .before .before .pre .0 .counts-room, c .before .before .before .size2 .ensures .0, c .before .before .before .before .before .before .before .before .before .before .before .before .pre .0 .order-in _ (c .before .before .before .before .before .before .before .before .before .before .before .before .pre .1), c .before .before .before .before .before .before .before .before .before .before .before .before .pre .0 .few)
+shared-slice-read-size-2 c =
+    let after-size2 = c .before .before .before in
+    let start = start-of (after-size2 .before .before .before .before .before) in
+    omega (arith, start .pre .0 .counts-room, after-size2 .size2 .ensures .0, start .pre .0 .order-in _ (start .pre .1), start .pre .0 .few)
 
 size-requires-4 : tie.Need-size-requires-4
 size-requires-4 c κs = search needs
 
 append-keys-requires : tie.Need-append-keys-requires
-append-keys-requires c κs = (own-inside (c .before .before .before .before .before .before .before .before .before .before .before .before .before .before .pre .0) (c .before .before .before .before .before .before .before .before .before .before .before .before .before .before .pre .1) (c .before .before .before .before .before .size2 .ensures .0) (c .before .before .before .size3 .ensures .0) (c .before .size4 .ensures .0), own-room (c .before .before .before .before .before .before .before .before .before .before .before .before .before .before .pre .0) (c .before .before .before .before .before .before .before .before .before .before .before .before .before .before .pre .1) (c .before .before .before .before .before .size2 .ensures .0) (c .before .before .before .size3 .ensures .0) (c .before .size4 .ensures .0) (c .before .before .before .before .before .before .before .before .before .before .before .before .before .before .args .plan .now) (c .before .before .before .before .before .before .before .before .before .before .before .before .before .before .args .to) (length (c .before .before .before .before .before .before .before .before .before .before .before .before .before .before .args .owned .now)) (c .before .before .before .before .before .before .before .before .size .ensures .0) (c .before .before .before .before .before .before .before .if1 .left) (c .before .before .before .before .before .before .before .before .before .before .before .before .before .before .pre .2))
+append-keys-requires c κs =
+    let after-size3 = c .before .before .before in
+    let after-size2 = after-size3 .before .before in
+    let if1-left = after-size2 .before .before in
+    let after-size = if1-left .before in
+    let start = start-of (after-size .before .before) in (
+      own-inside (start .pre .0) (start .pre .1) (after-size2 .size2 .ensures .0) (after-size3 .size3 .ensures .0) (c .before .size4 .ensures .0),
+      own-room (start .pre .0) (start .pre .1) (after-size2 .size2 .ensures .0) (after-size3 .size3 .ensures .0) (c .before .size4 .ensures .0)
+          (start .args .plan .now) (start .args .to) (length (start .args .owned .now)) (after-size .size .ensures .0) (if1-left .if1 .left) (start .pre .2),
+    )
 
 same-length : tie.Need-same-length
 same-length c = search needs
 
 returns-2 : tie.Need-returns-2
-returns-2 c = there (c .before .before .before .before .before .before .before .before .before .before .before .size .ensures .0) (c .before .before .before .before .before .before .before .before .before .before .if1 .left) (added-is (c .before .before .append-keys .ensures) refl (own-part (c .before .before .before .before .before .before .before .before .before .before .before .before .before .before .before .before .before .pre .0) (c .before .before .before .before .before .before .before .before .before .before .before .before .before .before .before .before .before .pre .1) (c .before .before .before .before .before .before .before .before .size2 .ensures .0) (c .before .before .before .before .before .before .size3 .ensures .0) (c .before .before .before .before .size4 .ensures .0)))
+returns-2 c =
+    let after-size4 = c .before .before .before .before in
+    let after-size3 = after-size4 .before .before in
+    let after-size2 = after-size3 .before .before in
+    let if1-left = after-size2 .before .before in
+    let after-size = if1-left .before in
+    let start = start-of (after-size .before .before) in
+    there (after-size .size .ensures .0) (if1-left .if1 .left)
+    (added-is (c .before .before .append-keys .ensures) refl
+    (own-part (start .pre .0) (start .pre .1) (after-size2 .size2 .ensures .0) (after-size3 .size3 .ensures .0) (after-size4 .size4 .ensures .0)))
 
 pub add-own-spec : {M : Type 1} → statement M
 add-own-spec =

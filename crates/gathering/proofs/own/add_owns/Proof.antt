@@ -7,21 +7,45 @@ use native.Mathlib.Omega.{arith}
 use borrow.Author.Needs.{needs}
 use Rattle.gathering.proofs.own.add_owns.Statement.{statement}
 use Rattle.gathering.proofs.own.add_owns.Tie as tie
-use Rattle.gathering.proofs.own.add_owns.Reads as reads
-use Rattle.gathering.proofs.own.add_owns.Lts as lts
-use Rattle.gathering.proofs.own.add_own.Reads as add-own-reads
 
 abbrev Inv-loop : tie.InvT-loop
-Inv-loop order plan n i base starts counts keys owned₀ from to₀ j₀ owned to j = (j ≤ n) × Added owned₀ from (gather (ownAt base order starts counts keys) (going plan j i)) owned to × (to ≤ from + below (into plan (ownWeight base order counts) i) j)
+Inv-loop order plan n i base starts counts keys owned₀ from to₀ j₀ owned to j = (j ≤ n)
+    × Added owned₀ from (gather (ownAt base order starts counts keys) (going plan j i)) owned to
+    × (to ≤ from + below (into plan (ownWeight base order counts) i) j)
 
 abbrev μ-loop : tie.MeasureT-loop
 μ-loop order plan n i base starts counts keys owned₀ from to₀ j₀ owned to j = n - j
 
+-- what the function is given and asked: the places since only say that its slices have lengths
+abbrev start-of : tie.After-slice-known Inv-loop μ-loop → tie.Start Inv-loop μ-loop
+start-of c = c .before .before .before .before
+
 loop-holds : tie.Need-loop-holds Inv-loop μ-loop
-loop-holds c = (omega arith, runs-start (ownAt (c .before .before .before .before .args .base) (c .before .before .before .before .args .order .now) (c .before .before .before .before .args .starts .now) (c .before .before .before .before .args .counts .now) (c .before .before .before .before .args .keys .now)) (c .before .before .before .before .args .plan .now) (c .before .before .before .before .args .i) _ _, omega arith)
+loop-holds c =
+    let start = start-of c in (
+      omega arith,
+      runs-start
+          (ownAt (start .args .base) (start .args .order .now) (start .args .starts .now) (start .args .counts .now) (start .args .keys .now))
+          (start .args .plan .now) (start .args .i) _ _,
+      omega arith,
+    )
 
 add-own-requires : tie.Need-add-own-requires Inv-loop μ-loop
-add-own-requires c κs = (c .before .before .before .before .before .before .before .pre .0, c .before .loop-test .taken, omega (arith, c .before .before .loop .inv .2, into-part (c .before .before .before .before .before .before .before .args .plan .now) (ownWeight (c .before .before .before .before .before .before .before .args .base) (c .before .before .before .before .before .before .before .args .order .now) (c .before .before .before .before .before .before .before .args .counts .now)) (c .before .before .before .before .before .before .before .args .i) (c .before .before .loop .j) (c .before .before .before .before .before .before .before .args .n) (c .before .loop-test .taken), c .before .before .before .before .before .before .before .pre .1, c .before .before .loop .inv .1 .long))
+add-own-requires c κs =
+    let in-loop = c .before .before in
+    let start = start-of (in-loop .before) in
+    let inv = in-loop .loop .inv in (
+      start .pre .0,
+      c .before .loop-test .taken,
+      omega (
+        arith,
+        inv .2,
+        into-part (start .args .plan .now) (ownWeight (start .args .base) (start .args .order .now) (start .args .counts .now))
+            (start .args .i) (in-loop .loop .j) (start .args .n) (c .before .loop-test .taken),
+        start .pre .1,
+        inv .1 .long,
+      ),
+    )
 
 add-j : tie.Need-add-j Inv-loop μ-loop
 add-j c = search needs
@@ -30,13 +54,34 @@ loop-less : tie.Need-loop-less Inv-loop μ-loop
 loop-less c = search needs
 
 loop-again : tie.Need-loop-again Inv-loop μ-loop
-loop-again c = (omega arith, runs-next (ownAt (c .before .before .before .before .before .before .before .before .before .before .args .base) (c .before .before .before .before .before .before .before .before .before .before .args .order .now) (c .before .before .before .before .before .before .before .before .before .before .args .starts .now) (c .before .before .before .before .before .before .before .before .before .before .args .counts .now) (c .before .before .before .before .before .before .before .before .before .before .args .keys .now)) (c .before .before .before .before .before .before .before .before .before .before .args .plan .now) (c .before .before .before .before .before .loop .j) (c .before .before .before .before .before .before .before .before .before .before .args .i) (c .before .before .before .before .before .loop .inv .1) (c .before .before .add-own .ensures), weight-next (ownAt (c .before .before .before .before .before .before .before .before .before .before .args .base) (c .before .before .before .before .before .before .before .before .before .before .args .order .now) (c .before .before .before .before .before .before .before .before .before .before .args .starts .now) (c .before .before .before .before .before .before .before .before .before .before .args .counts .now) (c .before .before .before .before .before .before .before .before .before .before .args .keys .now)) (c .before .before .before .before .before .before .before .before .before .before .args .plan .now) (c .before .before .before .before .before .loop .j) (c .before .before .before .before .before .before .before .before .before .before .args .i) (c .before .before .before .before .before .loop .inv .1) (c .before .before .add-own .ensures) (ownWeight (c .before .before .before .before .before .before .before .before .before .before .args .base) (c .before .before .before .before .before .before .before .before .before .before .args .order .now) (c .before .before .before .before .before .before .before .before .before .before .args .counts .now)) (own-long (c .before .before .before .before .before .before .before .before .before .before .pre .0) (c .before .before .before .before .before .loop .j) (c .before .before .before .before .loop-test .taken)) (c .before .before .before .before .before .loop .inv .2))
+loop-again c =
+    let after-add-own = c .before .before in
+    let turning = after-add-own .before .before in
+    let in-loop = turning .before in
+    let start = start-of (in-loop .before) in
+    let inv = in-loop .loop .inv in
+    let counts = start .args .counts .now in
+    let order = start .args .order .now in
+    let keys = start .args .keys .now in
+    let plan = start .args .plan .now in
+    let base = start .args .base in (
+      omega arith,
+      runs-next (ownAt base order (start .args .starts .now) counts keys) plan (in-loop .loop .j) (start .args .i) (inv .1)
+          (after-add-own .add-own .ensures),
+      weight-next (ownAt base order (start .args .starts .now) counts keys) plan (in-loop .loop .j) (start .args .i) (inv .1)
+          (after-add-own .add-own .ensures) (ownWeight base order counts) (own-long (start .pre .0) (in-loop .loop .j) (turning .loop-test .taken)) (inv .2),
+    )
 
 same-length : tie.Need-same-length Inv-loop μ-loop
 same-length c = c .before .loop .inv .1 .long
 
 returns : tie.Need-returns Inv-loop μ-loop
-returns c = runs-end (ownAt (c .before .before .before .before .before .before .args .base) (c .before .before .before .before .before .before .args .order .now) (c .before .before .before .before .before .before .args .starts .now) (c .before .before .before .before .before .before .args .counts .now) (c .before .before .before .before .before .before .args .keys .now)) (ownWeight (c .before .before .before .before .before .before .args .base) (c .before .before .before .before .before .before .args .order .now) (c .before .before .before .before .before .before .args .counts .now)) (c .before .before .before .before .before .before .args .plan .now) (c .before .before .before .before .before .before .args .i) (c .before .loop .j) (c .before .before .before .before .before .before .args .n) (c .before .loop .inv .1) (c .before .loop .inv .2) (c .before .loop .inv .0) (omega arith)
+returns c =
+    let start = start-of (c .before .before) in
+    let inv = c .before .loop .inv in
+    runs-end (ownAt (start .args .base) (start .args .order .now) (start .args .starts .now) (start .args .counts .now) (start .args .keys .now))
+    (ownWeight (start .args .base) (start .args .order .now) (start .args .counts .now)) (start .args .plan .now) (start .args .i) (c .before .loop .j)
+    (start .args .n) (inv .1) (inv .2) (inv .0) (omega arith)
 
 pub add-owns-spec : {M : Type 1} → statement M
 add-owns-spec =

@@ -3,16 +3,22 @@ use Rattle.gathering.proofs.Goings.{own-gathered}
 use borrow.Author.Needs.{needs}
 use Rattle.gathering.proofs.own.gather_own.Statement.{statement}
 use Rattle.gathering.proofs.own.gather_own.Tie as tie
-use Rattle.gathering.proofs.own.gather_own.Reads as reads
-use Rattle.gathering.proofs.own.gather_own.Lts as lts
-use Rattle.gathering.proofs.own.add_owns.Reads as add-owns-reads
-use Rattle.sorting.proofs.numbers.sort_unique.Reads as sort-unique-reads
+
+-- what the function is given and asked: the places since only say that its slices have lengths
+abbrev start-of : tie.After-slice-known2 → tie.Start
+start-of c = c .before .before .before .before .before
 
 add-owns-requires : tie.Need-add-owns-requires
 add-owns-requires c κs = search needs
 
 sort-unique-requires : tie.Need-sort-unique-requires
-sort-unique-requires c κs = (omega (arith, c .before .before .before .before .add-owns .ensures .0 .ends), omega (arith, c .before .before .before .before .add-owns .ensures .1, c .before .before .before .before .before .before .before .before .before .before .before .pre .1, c .before .before .before .before .add-owns .ensures .0 .long), omega (arith, c .before .before .before .before .add-owns .ensures .1, c .before .before .before .before .before .before .before .before .before .before .before .pre .2))
+sort-unique-requires c κs =
+    let after-add-owns = c .before .before .before .before in
+    let start = start-of (after-add-owns .before .before) in (
+      omega (arith, after-add-owns .add-owns .ensures .0 .ends),
+      omega (arith, after-add-owns .add-owns .ensures .1, start .pre .1, after-add-owns .add-owns .ensures .0 .long),
+      omega (arith, after-add-owns .add-owns .ensures .1, start .pre .2),
+    )
 
 same-length : tie.Need-same-length
 same-length c = search needs
@@ -21,7 +27,15 @@ same-length-2 : tie.Need-same-length-2
 same-length-2 c = search needs
 
 returns : tie.Need-returns
-returns c = (own-gathered (c .before .before .before .before .before .before .before .before .before .before .before .before .before .before .before .before .args .base) (c .before .before .before .before .before .before .before .before .before .before .before .before .before .before .before .before .args .order .now) (c .before .before .before .before .before .before .before .before .before .before .before .before .before .before .before .before .args .plan .now) (c .before .before .before .before .before .before .before .before .before .before .before .before .before .before .before .before .args .starts .now) (c .before .before .before .before .before .before .before .before .before .before .before .before .before .before .before .before .args .counts .now) (c .before .before .before .before .before .before .before .before .before .before .before .before .before .before .before .before .args .keys .now) (c .before .before .before .before .before .before .before .before .before .before .before .before .before .before .before .before .args .n) (c .before .before .before .before .before .before .before .before .before .before .before .before .before .before .before .before .args .i) (c .before .before .before .before .before .before .before .before .before .add-owns .ensures .0) (omega (arith, c .before .before .before .before .before .before .before .before .before .before .before .before .before .before .before .before .pre .1)) (c .before .before .before .before .sort-unique .ensures) (omega arith), omega (arith, c .before .before .before .before .before .before .before .before .before .add-owns .ensures .1, c .before .before .before .before .sort-unique .ensures .within))
+returns c =
+    let after-sort-unique = c .before .before .before .before in
+    let after-add-owns = after-sort-unique .before .before .before .before .before in
+    let start = start-of (after-add-owns .before .before) in (
+      own-gathered (start .args .base) (start .args .order .now) (start .args .plan .now) (start .args .starts .now) (start .args .counts .now)
+          (start .args .keys .now) (start .args .n) (start .args .i) (after-add-owns .add-owns .ensures .0) (omega (arith, start .pre .1))
+          (after-sort-unique .sort-unique .ensures) (omega arith),
+      omega (arith, after-add-owns .add-owns .ensures .1, after-sort-unique .sort-unique .ensures .within),
+    )
 
 pub gather-own-spec : {M : Type 1} → statement M
 gather-own-spec =

@@ -8,22 +8,38 @@ use Rattle.gathering.proofs.Weights.{owns-room-same}
 use Rattle.gathering.proofs.Kepts.{owns-start, owns-counted, owns-end}
 use Rattle.gathering.proofs.own.gather_owns.Statement.{statement}
 use Rattle.gathering.proofs.own.gather_owns.Tie as tie
-use Rattle.gathering.proofs.own.gather_owns.Reads as reads
-use Rattle.gathering.proofs.own.gather_owns.Lts as lts
-use Rattle.gathering.proofs.casts.counted.Reads as counted-reads
-use Rattle.gathering.proofs.own.own_rank.Reads as own-rank-reads
 
 abbrev Inv-loop : tie.InvT-loop
-Inv-loop order plan n base starts counts keys spare₀ kept₀ owns₀ owned₀ k₀ a₀ i₀ spare kept owns owned k a i = (i ≤ n) × OwnsBy base order plan starts counts keys n i k a kept owns owned × (length spare ≡ length spare₀) × (length kept ≡ length kept₀) × (length owns ≡ length owns₀) × (length owned ≡ length owned₀)
+Inv-loop order plan n base starts counts keys spare₀ kept₀ owns₀ owned₀ k₀ a₀ i₀ spare kept owns owned k a i = (i ≤ n)
+    × OwnsBy base order plan starts counts keys n i k a kept owns owned × (length spare ≡ length spare₀) × (length kept ≡ length kept₀)
+    × (length owns ≡ length owns₀) × (length owned ≡ length owned₀)
 
 abbrev μ-loop : tie.MeasureT-loop
 μ-loop order plan n base starts counts keys spare₀ kept₀ owns₀ owned₀ k₀ a₀ i₀ spare kept owns owned k a i = n - i
 
+-- what the function is given and asked: the places since only say that its slices have lengths
+abbrev start-of : tie.After-slice-known4 Inv-loop μ-loop → tie.Start Inv-loop μ-loop
+start-of c = c .before .before .before .before .before .before .before
+
 loop-holds : tie.Need-loop-holds Inv-loop μ-loop
-loop-holds c = (omega arith, owns-start (c .before .before .before .before .before .before .before .args .base) (c .before .before .before .before .before .before .before .args .order .now) (c .before .before .before .before .before .before .before .args .plan .now) (c .before .before .before .before .before .before .before .args .starts .now) (c .before .before .before .before .before .before .before .args .counts .now) (c .before .before .before .before .before .before .before .args .keys .now) (c .before .before .before .before .before .before .before .args .n) _ _ _, refl, refl, refl, refl)
+loop-holds c =
+    let start = start-of c in (
+      omega arith,
+      owns-start (start .args .base) (start .args .order .now) (start .args .plan .now) (start .args .starts .now) (start .args .counts .now)
+          (start .args .keys .now) (start .args .n) _ _ _,
+      refl,
+      refl,
+      refl,
+      refl,
+    )
 
 own-rank-requires : tie.Need-own-rank-requires Inv-loop μ-loop
-own-rank-requires c κs = (owns-room-same (c .before .before .before .before .before .before .before .before .before .before .before .before .before .pre) (c .before .before .before .before .before .loop .inv .2) (c .before .before .before .before .before .loop .inv .3) (c .before .before .before .before .before .loop .inv .4) (c .before .before .before .before .before .loop .inv .5), c .before .before .before .before .loop-test .taken, c .before .before .before .before .before .loop .inv .1)
+own-rank-requires c κs =
+    let turning = c .before .before .before .before in
+    let in-loop = turning .before in
+    let start = start-of (in-loop .before) in
+    let inv = in-loop .loop .inv in
+    (owns-room-same (start .pre) (inv .2) (inv .3) (inv .4) (inv .5), turning .loop-test .taken, inv .1)
 
 mul-counted : tie.Need-mul-counted Inv-loop μ-loop
 mul-counted c = search needs
@@ -35,7 +51,10 @@ counted-requires : tie.Need-counted-requires Inv-loop μ-loop
 counted-requires c κs = search needs
 
 add-k : tie.Need-add-k Inv-loop μ-loop
-add-k c = omega (arith, c .counted .ensures .1, c .before .before .before .before .before .before .before .before .before .before .before .before .before .before .before .before .loop .inv .1 .few, c .before .before .before .before .before .before .before .before .before .before .before .before .before .before .before .before .before .before .before .before .before .before .before .before .pre .own .few)
+add-k c =
+    let in-loop = c .before .before .before .before .before .before .before .before .before .before .before .before .before .before .before .before in
+    let start = start-of (in-loop .before) in
+    omega (arith, c .counted .ensures .1, in-loop .loop .inv .1 .few, start .pre .own .few)
 
 add-i : tie.Need-add-i Inv-loop μ-loop
 add-i c = search needs
@@ -44,7 +63,17 @@ loop-less : tie.Need-loop-less Inv-loop μ-loop
 loop-less c = search needs
 
 loop-again : tie.Need-loop-again Inv-loop μ-loop
-loop-again c = (omega arith, owns-counted (c .before .before .before .before .before .before .before .before .before .before .before .before .before .before .before .before .loop .k) (c .counted .ensures .0) (c .before .before .before .before .before .before .before .before .before .before .own-rank .ensures), omega (arith, c .before .before .before .before .before .before .before .before .before .before .before .before .before .before .before .before .loop .inv .2), omega (arith, c .before .before .before .before .before .before .before .before .before .before .before .before .before .before .before .before .loop .inv .3), omega (arith, c .before .before .before .before .before .before .before .before .before .before .before .before .before .before .before .before .loop .inv .4), omega (arith, c .before .before .before .before .before .before .before .before .before .before .before .before .before .before .before .before .loop .inv .5))
+loop-again c =
+    let after-own-rank = c .before .before .before .before .before .before .before .before .before .before in
+    let in-loop = after-own-rank .before .before .before .before .before .before in
+    let inv = in-loop .loop .inv in (
+      omega arith,
+      owns-counted (in-loop .loop .k) (c .counted .ensures .0) (after-own-rank .own-rank .ensures),
+      omega (arith, inv .2),
+      omega (arith, inv .3),
+      omega (arith, inv .4),
+      omega (arith, inv .5),
+    )
 
 same-length : tie.Need-same-length Inv-loop μ-loop
 same-length c = c .before .loop .inv .2
@@ -59,7 +88,11 @@ same-length-4 : tie.Need-same-length-4 Inv-loop μ-loop
 same-length-4 c = c .before .loop .inv .5
 
 returns : tie.Need-returns Inv-loop μ-loop
-returns c = owns-end (c .before .before .before .before .before .before .before .before .before .args .base) (c .before .before .before .before .before .before .before .before .before .args .order .now) (c .before .before .before .before .before .before .before .before .before .args .plan .now) (c .before .before .before .before .before .before .before .before .before .args .starts .now) (c .before .before .before .before .before .before .before .before .before .args .counts .now) (c .before .before .before .before .before .before .before .before .before .args .keys .now) (c .before .before .before .before .before .before .before .before .before .args .n) (c .before .loop .inv .1) (c .before .loop .inv .0) (omega arith)
+returns c =
+    let start = start-of (c .before .before) in
+    let inv = c .before .loop .inv in
+    owns-end (start .args .base) (start .args .order .now) (start .args .plan .now) (start .args .starts .now) (start .args .counts .now)
+    (start .args .keys .now) (start .args .n) (inv .1) (inv .0) (omega arith)
 
 pub gather-owns-spec : {M : Type 1} → statement M
 gather-owns-spec =

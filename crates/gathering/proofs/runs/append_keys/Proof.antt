@@ -7,8 +7,6 @@ use native.Mathlib.Omega.{arith}
 use borrow.Author.Needs.{needs}
 use Rattle.gathering.proofs.runs.append_keys.Statement.{statement}
 use Rattle.gathering.proofs.runs.append_keys.Tie as tie
-use Rattle.gathering.proofs.runs.append_keys.Reads as reads
-use Rattle.gathering.proofs.runs.append_keys.Lts as lts
 
 abbrev Inv-loop : tie.InvT-loop
 Inv-loop keys a m owned₀ to k₀ owned k = (k ≤ m) × Added owned₀ to (part keys a k) owned (to + k)
@@ -53,7 +51,9 @@ same-length : tie.Need-same-length Inv-loop μ-loop
 same-length c = c .before .loop .inv .1 .long
 
 returns : tie.Need-returns Inv-loop μ-loop
-returns c = run-end (part _ _) _ _ (c .before .loop .inv .1) refl (c .before .loop .inv .0) (omega arith)
+returns c =
+    let inv = c .before .loop .inv in
+    run-end (part _ _) _ _ (inv .1) refl (inv .0) (omega arith)
 
 pub append-keys-spec : {M : Type 1} → statement M
 append-keys-spec =

@@ -7,8 +7,6 @@ use native.Mathlib.Omega.{arith}
 use borrow.Author.Needs.{needs}
 use Rattle.gathering.proofs.runs.append_places.Statement.{statement}
 use Rattle.gathering.proofs.runs.append_places.Tie as tie
-use Rattle.gathering.proofs.runs.append_places.Reads as reads
-use Rattle.gathering.proofs.runs.append_places.Lts as lts
 
 abbrev Inv-loop : tie.InvT-loop
 Inv-loop p m seen₀ to k₀ seen k = (k ≤ m) × Added seen₀ to (upFrom p k) seen (to + k)
@@ -50,7 +48,9 @@ same-length : tie.Need-same-length Inv-loop μ-loop
 same-length c = c .before .loop .inv .1 .long
 
 returns : tie.Need-returns Inv-loop μ-loop
-returns c = run-end (upFrom _) _ _ (c .before .loop .inv .1) refl (c .before .loop .inv .0) (omega arith)
+returns c =
+    let inv = c .before .loop .inv in
+    run-end (upFrom _) _ _ (inv .1) refl (inv .0) (omega arith)
 
 pub append-places-spec : {M : Type 1} → statement M
 append-places-spec =

@@ -8,11 +8,10 @@ use Rattle.gathering.proofs.Sights.{own-place, place-small, places-insi
 use borrow.Author.Needs.{needs}
 use Rattle.gathering.proofs.seen.add_seen.Statement.{statement}
 use Rattle.gathering.proofs.seen.add_seen.Tie as tie
-use Rattle.gathering.proofs.seen.add_seen.Reads as reads
-use Rattle.gathering.proofs.seen.add_seen.Lts as lts
-use Rattle.format.proofs.read_boundary.Reads as read-boundary-reads
-use Rattle.gathering.proofs.seen.add_places.Reads as add-places-reads
-use Rattle.wire.proofs.size.Reads as size-reads
+
+-- what the function is given and asked: the places since only say that its slices have lengths
+abbrev start-of : tie.After-slice-known → tie.Start
+start-of c = c .before .before .before
 
 mul-size : tie.Need-mul-size
 mul-size c = search needs
@@ -42,13 +41,17 @@ add-read-boundary : tie.Need-add-read-boundary
 add-read-boundary c = search needs
 
 read-boundary-requires : tie.Need-read-boundary-requires
-read-boundary-requires c κs = omega (arith, c .before .before .before .before .before .before .before .before .pre .0 .records-in, place-small (c .before .before .before .before .before .before .before .before .pre .0) (c .before .before .before .before .before .before .before .before .pre .1) (c .size2 .ensures .0))
+read-boundary-requires c κs =
+    let start = start-of (c .before .before .before .before .before) in
+    omega (arith, start .pre .0 .records-in, place-small (start .pre .0) (start .pre .1) (c .size2 .ensures .0))
 
 mul-size-3 : tie.Need-mul-size-3
 mul-size-3 c = search needs
 
 shared-slice-read-size : tie.Need-shared-slice-read-size
-shared-slice-read-size c = omega (arith, c .before .before .before .before .before .before .before .before .before .before .pre .0 .firsts-room, c .before .before .before .before .before .before .before .before .before .before .pre .0 .few, place-small (c .before .before .before .before .before .before .before .before .before .before .pre .0) (c .before .before .before .before .before .before .before .before .before .before .pre .1) (c .before .before .size2 .ensures .0))
+shared-slice-read-size c =
+    let start = start-of (c .before .before .before .before .before .before .before) in
+    omega (arith, start .pre .0 .firsts-room, start .pre .0 .few, place-small (start .pre .0) (start .pre .1) (c .before .before .size2 .ensures .0))
 
 size-requires-3 : tie.Need-size-requires-3
 size-requires-3 c κs = search needs
@@ -57,13 +60,38 @@ size-requires-4 : tie.Need-size-requires-4
 size-requires-4 c κs = search needs
 
 add-places-requires : tie.Need-add-places-requires
-add-places-requires c κs = (own-place (c .before .before .before .before .before .before .before .before .before .before .before .before .before .pre .0) (c .before .before .before .before .before .before .before .before .before .before .before .before .before .pre .1) (c .before .before .before .before .before .size2 .ensures .0), places-inside (c .before .before .before .before .before .before .before .before .before .before .before .before .before .pre .0) (c .before .before .before .before .before .before .before .before .before .before .before .before .before .pre .1) (c .before .before .before .before .before .size2 .ensures .0) (c .before .before .size3 .ensures .0) (c .before .size4 .ensures .0 ∙ ap (λ (r : BoundaryRecord). r .observations) (c .before .before .before .before .read-boundary .ensures)), seen-room (c .before .before .before .before .before .before .before .before .before .before .before .before .before .pre .0) (c .before .before .before .before .before .before .before .before .before .before .before .before .before .pre .1) (c .before .before .before .before .before .size2 .ensures .0) (c .before .before .before .before .before .before .before .before .before .before .before .before .before .args .plan .now) (c .before .before .before .before .before .before .before .before .before .before .before .before .before .args .to) (length (c .before .before .before .before .before .before .before .before .before .before .before .before .before .args .seen .now)) (c .before .size4 .result) (c .before .size4 .ensures .0 ∙ ap (λ (r : BoundaryRecord). r .observations) (c .before .before .before .before .read-boundary .ensures)) (c .before .before .before .before .before .before .before .before .size .ensures .0) (c .before .before .before .before .before .before .before .if1 .left) (c .before .before .before .before .before .before .before .before .before .before .before .before .before .pre .2))
+add-places-requires c κs =
+    let after-read-boundary = c .before .before .before .before in
+    let after-size2 = after-read-boundary .before in
+    let if1-left = after-size2 .before .before in
+    let after-size = if1-left .before in
+    let start = start-of (after-size .before .before) in (
+      own-place (start .pre .0) (start .pre .1) (after-size2 .size2 .ensures .0),
+      places-inside (start .pre .0) (start .pre .1) (after-size2 .size2 .ensures .0) (c .before .before .size3 .ensures .0)
+          (c .before .size4 .ensures .0 ∙ ap (λ (r : BoundaryRecord). r .observations) (after-read-boundary .read-boundary .ensures)),
+      seen-room (start .pre .0) (start .pre .1) (after-size2 .size2 .ensures .0) (start .args .plan .now) (start .args .to)
+          (length (start .args .seen .now)) (c .before .size4 .result)
+          (c .before .size4 .ensures .0 ∙ ap (λ (r : BoundaryRecord). r .observations) (after-read-boundary .read-boundary .ensures))
+          (after-size .size .ensures .0) (if1-left .if1 .left) (start .pre .2),
+    )
 
 same-length : tie.Need-same-length
 same-length c = search needs
 
 returns-2 : tie.Need-returns-2
-returns-2 c = there (c .before .before .before .before .before .before .before .before .before .before .before .size .ensures .0) (c .before .before .before .before .before .before .before .before .before .before .if1 .left) (places-there (c .before .before .before .before .before .before .before .before .before .before .before .before .before .before .before .before .pre .0) (c .before .before .before .before .before .before .before .before .before .before .before .before .before .before .before .before .pre .1) (c .before .before .before .before .before .before .before .before .size2 .ensures .0) (c .before .before .before .before .before .before .before .before .before .before .before .before .before .before .before .before .args .among) (c .before .before .add-places .ensures (c .before .before .before .before .before .before .before .before .before .before .before .before .before .before .before .before .args .firsts .now) (seenCount (c .before .before .before .before .before .before .before .before .before .before .before .before .before .before .before .before .args .job .now) (c .before .before .before .before .before .before .before .before .before .before .before .before .before .before .before .before .args .at)) (sym (c .before .before .before .before .before .size3 .ensures .0)) (sym (c .before .before .before .before .size4 .ensures .0 ∙ ap (λ (r : BoundaryRecord). r .observations) (c .before .before .before .before .before .before .before .read-boundary .ensures)))))
+returns-2 c =
+    let after-size4 = c .before .before .before .before in
+    let after-size3 = after-size4 .before in
+    let after-read-boundary = after-size3 .before .before in
+    let after-size2 = after-read-boundary .before in
+    let if1-left = after-size2 .before .before in
+    let after-size = if1-left .before in
+    let start = start-of (after-size .before .before) in
+    there (after-size .size .ensures .0) (if1-left .if1 .left)
+    (places-there (start .pre .0) (start .pre .1) (after-size2 .size2 .ensures .0) (start .args .among)
+    (c .before .before .add-places .ensures (start .args .firsts .now) (seenCount (start .args .job .now) (start .args .at))
+    (sym (after-size3 .size3 .ensures .0))
+    (sym (after-size4 .size4 .ensures .0 ∙ ap (λ (r : BoundaryRecord). r .observations) (after-read-boundary .read-boundary .ensures)))))
 
 pub add-seen-spec : {M : Type 1} → statement M
 add-seen-spec =

@@ -8,21 +8,45 @@ use native.Mathlib.Omega.{arith}
 use borrow.Author.Needs.{needs}
 use Rattle.gathering.proofs.seen.add_seens.Statement.{statement}
 use Rattle.gathering.proofs.seen.add_seens.Tie as tie
-use Rattle.gathering.proofs.seen.add_seens.Reads as reads
-use Rattle.gathering.proofs.seen.add_seens.Lts as lts
-use Rattle.gathering.proofs.seen.add_seen.Reads as add-seen-reads
 
 abbrev Inv-loop : tie.InvT-loop
-Inv-loop job at order plan n i base firsts among seen₀ from to₀ j₀ seen to j = (j ≤ n) × Added seen₀ from (gather (placesAt base order firsts (seenCount job at) among) (going plan j i)) seen to × (to ≤ from + below (into plan (seenWeight order (seenCount job at)) i) j)
+Inv-loop job at order plan n i base firsts among seen₀ from to₀ j₀ seen to j = (j ≤ n)
+    × Added seen₀ from (gather (placesAt base order firsts (seenCount job at) among) (going plan j i)) seen to
+    × (to ≤ from + below (into plan (seenWeight order (seenCount job at)) i) j)
 
 abbrev μ-loop : tie.MeasureT-loop
 μ-loop job at order plan n i base firsts among seen₀ from to₀ j₀ seen to j = n - j
 
+-- what the function is given and asked: the places since only say that its slices have lengths
+abbrev start-of : tie.After-slice-known Inv-loop μ-loop → tie.Start Inv-loop μ-loop
+start-of c = c .before .before .before
+
 loop-holds : tie.Need-loop-holds Inv-loop μ-loop
-loop-holds c = (omega arith, runs-start (placesAt (c .before .before .before .args .base) (c .before .before .before .args .order .now) (c .before .before .before .args .firsts .now) (seenCount (c .before .before .before .args .job .now) (c .before .before .before .args .at)) (c .before .before .before .args .among)) (c .before .before .before .args .plan .now) (c .before .before .before .args .i) _ _, omega arith)
+loop-holds c =
+    let start = start-of c in (
+      omega arith,
+      runs-start
+          (placesAt (start .args .base) (start .args .order .now) (start .args .firsts .now) (seenCount (start .args .job .now) (start .args .at))
+          (start .args .among)) (start .args .plan .now) (start .args .i) _ _,
+      omega arith,
+    )
 
 add-seen-requires : tie.Need-add-seen-requires Inv-loop μ-loop
-add-seen-requires c κs = (c .before .before .before .before .before .before .pre .0, c .before .loop-test .taken, omega (arith, c .before .before .loop .inv .2, into-part (c .before .before .before .before .before .before .args .plan .now) (seenWeight (c .before .before .before .before .before .before .args .order .now) (seenCount (c .before .before .before .before .before .before .args .job .now) (c .before .before .before .before .before .before .args .at))) (c .before .before .before .before .before .before .args .i) (c .before .before .loop .j) (c .before .before .before .before .before .before .args .n) (c .before .loop-test .taken), c .before .before .before .before .before .before .pre .1, c .before .before .loop .inv .1 .long))
+add-seen-requires c κs =
+    let in-loop = c .before .before in
+    let start = start-of (in-loop .before) in
+    let inv = in-loop .loop .inv in (
+      start .pre .0,
+      c .before .loop-test .taken,
+      omega (
+        arith,
+        inv .2,
+        into-part (start .args .plan .now) (seenWeight (start .args .order .now) (seenCount (start .args .job .now) (start .args .at)))
+            (start .args .i) (in-loop .loop .j) (start .args .n) (c .before .loop-test .taken),
+        start .pre .1,
+        inv .1 .long,
+      ),
+    )
 
 add-j : tie.Need-add-j Inv-loop μ-loop
 add-j c = search needs
@@ -31,13 +55,37 @@ loop-less : tie.Need-loop-less Inv-loop μ-loop
 loop-less c = search needs
 
 loop-again : tie.Need-loop-again Inv-loop μ-loop
-loop-again c = (omega arith, runs-next (placesAt (c .before .before .before .before .before .before .before .before .before .args .base) (c .before .before .before .before .before .before .before .before .before .args .order .now) (c .before .before .before .before .before .before .before .before .before .args .firsts .now) (seenCount (c .before .before .before .before .before .before .before .before .before .args .job .now) (c .before .before .before .before .before .before .before .before .before .args .at)) (c .before .before .before .before .before .before .before .before .before .args .among)) (c .before .before .before .before .before .before .before .before .before .args .plan .now) (c .before .before .before .before .before .loop .j) (c .before .before .before .before .before .before .before .before .before .args .i) (c .before .before .before .before .before .loop .inv .1) (c .before .before .add-seen .ensures), weight-next (placesAt (c .before .before .before .before .before .before .before .before .before .args .base) (c .before .before .before .before .before .before .before .before .before .args .order .now) (c .before .before .before .before .before .before .before .before .before .args .firsts .now) (seenCount (c .before .before .before .before .before .before .before .before .before .args .job .now) (c .before .before .before .before .before .before .before .before .before .args .at)) (c .before .before .before .before .before .before .before .before .before .args .among)) (c .before .before .before .before .before .before .before .before .before .args .plan .now) (c .before .before .before .before .before .loop .j) (c .before .before .before .before .before .before .before .before .before .args .i) (c .before .before .before .before .before .loop .inv .1) (c .before .before .add-seen .ensures) (seenWeight (c .before .before .before .before .before .before .before .before .before .args .order .now) (seenCount (c .before .before .before .before .before .before .before .before .before .args .job .now) (c .before .before .before .before .before .before .before .before .before .args .at))) (places-long (c .before .before .before .before .before .before .before .before .before .args .base) (c .before .before .before .before .before .before .before .before .before .args .order .now) (c .before .before .before .before .before .before .before .before .before .args .firsts .now) (seenCount (c .before .before .before .before .before .before .before .before .before .args .job .now) (c .before .before .before .before .before .before .before .before .before .args .at)) (c .before .before .before .before .before .before .before .before .before .args .among) (c .before .before .before .before .before .loop .j)) (c .before .before .before .before .before .loop .inv .2))
+loop-again c =
+    let after-add-seen = c .before .before in
+    let in-loop = after-add-seen .before .before .before in
+    let start = start-of (in-loop .before) in
+    let inv = in-loop .loop .inv in
+    let firsts = start .args .firsts .now in
+    let order = start .args .order .now in
+    let plan = start .args .plan .now in
+    let job = start .args .job .now in
+    let among = start .args .among in
+    let base = start .args .base in
+    let at = start .args .at in (
+      omega arith,
+      runs-next (placesAt base order firsts (seenCount job at) among) plan (in-loop .loop .j) (start .args .i) (inv .1)
+          (after-add-seen .add-seen .ensures),
+      weight-next (placesAt base order firsts (seenCount job at) among) plan (in-loop .loop .j) (start .args .i) (inv .1)
+          (after-add-seen .add-seen .ensures) (seenWeight order (seenCount job at)) (places-long base order firsts (seenCount job at) among (in-loop .loop .j))
+          (inv .2),
+    )
 
 same-length : tie.Need-same-length Inv-loop μ-loop
 same-length c = c .before .loop .inv .1 .long
 
 returns : tie.Need-returns Inv-loop μ-loop
-returns c = runs-end (placesAt (c .before .before .before .before .before .args .base) (c .before .before .before .before .before .args .order .now) (c .before .before .before .before .before .args .firsts .now) (seenCount (c .before .before .before .before .before .args .job .now) (c .before .before .before .before .before .args .at)) (c .before .before .before .before .before .args .among)) (seenWeight (c .before .before .before .before .before .args .order .now) (seenCount (c .before .before .before .before .before .args .job .now) (c .before .before .before .before .before .args .at))) (c .before .before .before .before .before .args .plan .now) (c .before .before .before .before .before .args .i) (c .before .loop .j) (c .before .before .before .before .before .args .n) (c .before .loop .inv .1) (c .before .loop .inv .2) (c .before .loop .inv .0) (omega arith)
+returns c =
+    let start = start-of (c .before .before) in
+    let inv = c .before .loop .inv in
+    let job = start .args .job .now in
+    runs-end (placesAt (start .args .base) (start .args .order .now) (start .args .firsts .now) (seenCount job (start .args .at)) (start .args .among))
+    (seenWeight (start .args .order .now) (seenCount job (start .args .at))) (start .args .plan .now) (start .args .i) (c .before .loop .j) (start .args .n)
+    (inv .1) (inv .2) (inv .0) (omega arith)
 
 pub add-seens-spec : {M : Type 1} → statement M
 add-seens-spec =

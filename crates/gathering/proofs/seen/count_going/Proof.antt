@@ -7,9 +7,6 @@ use lib.ListN.{length}
 use borrow.Author.Needs.{needs}
 use Rattle.gathering.proofs.seen.count_going.Statement.{statement}
 use Rattle.gathering.proofs.seen.count_going.Tie as tie
-use Rattle.gathering.proofs.seen.count_going.Reads as reads
-use Rattle.gathering.proofs.seen.count_going.Lts as lts
-use Rattle.gathering.proofs.casts.counted.Reads as counted-reads
 
 abbrev Inv-loop : tie.InvT-loop
 Inv-loop plan n i count₀ j₀ count j = (j ≤ n) × (count ≡ length (going plan j i)) × (count ≤ j)
@@ -39,10 +36,20 @@ loop-less : tie.Need-loop-less Inv-loop μ-loop
 loop-less c = search needs
 
 loop-again : tie.Need-loop-again Inv-loop μ-loop
-loop-again c = (omega arith, count-next (c .before .before .before .before .args .plan .now) (c .before .before .before .before .args .i) (c .before .before .before .loop .j) (c .before .before .before .loop .inv .1) (c .counted .ensures .0), omega (arith, c .counted .ensures .1, c .before .before .before .loop .inv .2))
+loop-again c =
+    let in-loop = c .before .before .before in
+    let start = in-loop .before in
+    let inv = in-loop .loop .inv in (
+      omega arith,
+      count-next (start .args .plan .now) (start .args .i) (in-loop .loop .j) (inv .1) (c .counted .ensures .0),
+      omega (arith, c .counted .ensures .1, inv .2),
+    )
 
 returns : tie.Need-returns Inv-loop μ-loop
-returns c = count-end (c .before .before .args .plan .now) (c .before .before .args .i) (c .before .loop .j) (c .before .before .args .n) (c .before .loop .inv .1) (c .before .loop .inv .0) (omega arith)
+returns c =
+    let start = c .before .before in
+    let inv = c .before .loop .inv in
+    count-end (start .args .plan .now) (start .args .i) (c .before .loop .j) (start .args .n) (inv .1) (inv .0) (omega arith)
 
 pub count-going-spec : {M : Type 1} → statement M
 count-going-spec =

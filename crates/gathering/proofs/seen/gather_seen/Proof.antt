@@ -4,11 +4,10 @@ use Rattle.gathering.proofs.Sights.{seen-gathered}
 use borrow.Author.Needs.{needs}
 use Rattle.gathering.proofs.seen.gather_seen.Statement.{statement}
 use Rattle.gathering.proofs.seen.gather_seen.Tie as tie
-use Rattle.gathering.proofs.seen.gather_seen.Reads as reads
-use Rattle.gathering.proofs.seen.gather_seen.Lts as lts
-use Rattle.gathering.proofs.seen.add_seens.Reads as add-seens-reads
-use Rattle.gathering.proofs.seen.count_going.Reads as count-going-reads
-use Rattle.places.proofs.places.sort_places.Reads as sort-places-reads
+
+-- what the function is given and asked: the places since only say that its slices have lengths
+abbrev start-of : tie.After-slice-known2 → tie.Start
+start-of c = c .before .before .before .before .before .before .before .before .before .before
 
 count-going-requires : tie.Need-count-going-requires
 count-going-requires c κs = search needs
@@ -17,7 +16,13 @@ add-seens-requires : tie.Need-add-seens-requires
 add-seens-requires c κs = search needs
 
 sort-places-requires : tie.Need-sort-places-requires
-sort-places-requires c κs = (omega (arith, c .before .before .before .before .add-seens .ensures .0 .ends), omega (arith, c .before .before .before .before .add-seens .ensures .1, c .before .before .before .before .before .before .before .before .before .before .before .before .before .before .before .before .before .pre .1, c .before .before .before .before .add-seens .ensures .0 .long), omega (arith, c .before .before .before .before .add-seens .ensures .1, c .before .before .before .before .before .before .before .before .before .before .before .before .before .before .before .before .before .pre .2))
+sort-places-requires c κs =
+    let after-add-seens = c .before .before .before .before in
+    let start = start-of (after-add-seens .before .before .before) in (
+      omega (arith, after-add-seens .add-seens .ensures .0 .ends),
+      omega (arith, after-add-seens .add-seens .ensures .1, start .pre .1, after-add-seens .add-seens .ensures .0 .long),
+      omega (arith, after-add-seens .add-seens .ensures .1, start .pre .2),
+    )
 
 same-length : tie.Need-same-length
 same-length c = search needs
@@ -26,7 +31,19 @@ same-length-2 : tie.Need-same-length-2
 same-length-2 c = search needs
 
 returns : tie.Need-returns
-returns c = (seen-gathered (c .before .before .before .before .before .before .before .before .before .before .before .before .before .before .before .before .before .before .before .before .before .before .args .base) (c .before .before .before .before .before .before .before .before .before .before .before .before .before .before .before .before .before .before .before .before .before .before .args .order .now) (c .before .before .before .before .before .before .before .before .before .before .before .before .before .before .before .before .before .before .before .before .before .before .args .plan .now) (c .before .before .before .before .before .before .before .before .before .before .before .before .before .before .before .before .before .before .before .before .before .before .args .firsts .now) (c .before .before .before .before .before .before .before .before .before .before .before .before .before .before .before .before .before .before .before .before .before .before .args .first .now) (c .before .before .before .before .before .before .before .before .before .before .before .before .before .before .before .before .before .before .before .before .before .before .args .second .now) (c .before .before .before .before .before .before .before .before .before .before .before .before .before .before .before .before .before .before .before .before .before .before .args .third .now) (c .before .before .before .before .before .before .before .before .before .before .before .before .before .before .before .before .before .before .before .before .before .before .args .starts .now) (c .before .before .before .before .before .before .before .before .before .before .before .before .before .before .before .before .before .before .before .before .before .before .args .counts .now) (c .before .before .before .before .before .before .before .before .before .before .before .before .before .before .before .before .before .before .before .before .before .before .args .keys .now) (seenCount (c .before .before .before .before .before .before .before .before .before .before .before .before .before .before .before .before .before .before .before .before .before .before .args .job .now) (c .before .before .before .before .before .before .before .before .before .before .before .before .before .before .before .before .before .before .before .before .before .before .args .at)) (c .before .before .before .before .before .before .before .before .before .before .before .before .before .before .before .before .before .before .before .before .before .before .args .n) (c .before .before .before .before .before .before .before .before .before .before .before .before .before .before .before .before .before .before .before .before .before .before .args .i) (c .before .before .before .before .before .before .before .before .before .before .before .count-going .ensures) (c .before .before .before .before .before .before .before .before .before .add-seens .ensures .0) (omega (arith, c .before .before .before .before .before .before .before .before .before .before .before .before .before .before .before .before .before .before .before .before .before .before .pre .1)) (omega (arith, c .before .before .before .before .before .before .before .before .before .add-seens .ensures .1, c .before .before .before .before .before .before .before .before .before .before .before .before .before .before .before .before .before .before .before .before .before .before .pre .1, c .before .before .before .before .before .before .before .before .before .add-seens .ensures .0 .long)) (c .before .before .before .before .sort-places .ensures), c .before .before .before .before .before .before .before .before .before .add-seens .ensures .1)
+returns c =
+    let after-sort-places = c .before .before .before .before in
+    let after-add-seens = after-sort-places .before .before .before .before .before in
+    let after-count-going = after-add-seens .before .before in
+    let start = start-of (after-count-going .before) in (
+      seen-gathered (start .args .base) (start .args .order .now) (start .args .plan .now) (start .args .firsts .now) (start .args .first .now)
+          (start .args .second .now) (start .args .third .now) (start .args .starts .now) (start .args .counts .now) (start .args .keys .now)
+          (seenCount (start .args .job .now) (start .args .at)) (start .args .n) (start .args .i) (after-count-going .count-going .ensures)
+          (after-add-seens .add-seens .ensures .0) (omega (arith, start .pre .1))
+          (omega (arith, after-add-seens .add-seens .ensures .1, start .pre .1, after-add-seens .add-seens .ensures .0 .long))
+          (after-sort-places .sort-places .ensures),
+      after-add-seens .add-seens .ensures .1,
+    )
 
 pub gather-seen-spec : {M : Type 1} → statement M
 gather-seen-spec =

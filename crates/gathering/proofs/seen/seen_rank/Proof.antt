@@ -8,10 +8,10 @@ use Rattle.gathering.proofs.Kepts.{seens-skip, seens-keep}
 use borrow.Author.Needs.{needs}
 use Rattle.gathering.proofs.seen.seen_rank.Statement.{statement}
 use Rattle.gathering.proofs.seen.seen_rank.Tie as tie
-use Rattle.gathering.proofs.seen.seen_rank.Reads as reads
-use Rattle.gathering.proofs.seen.seen_rank.Lts as lts
-use Rattle.gathering.proofs.seen.gather_seen.Reads as gather-seen-reads
-use Rattle.wire.proofs.size.Reads as size-reads
+
+-- what the function is given and asked: the places since only say that its slices have lengths
+abbrev start-of : tie.After-slice-known3 → tie.Start
+start-of c = c .before .before .before .before .before .before .before .before .before .before .before
 
 mul-size : tie.Need-mul-size
 mul-size c = search needs
@@ -23,22 +23,67 @@ size-requires : tie.Need-size-requires
 size-requires c κs = search needs
 
 returns : tie.Need-returns
-returns c = seens-skip (c .before .before .before .before .before .before .before .before .before .before .before .before .before .before .args .base) (c .before .before .before .before .before .before .before .before .before .before .before .before .before .before .args .order .now) (c .before .before .before .before .before .before .before .before .before .before .before .before .before .before .args .plan .now) (c .before .before .before .before .before .before .before .before .before .before .before .before .before .before .args .firsts .now) (c .before .before .before .before .before .before .before .before .before .before .before .before .before .before .args .first .now) (c .before .before .before .before .before .before .before .before .before .before .before .before .before .before .args .second .now) (c .before .before .before .before .before .before .before .before .before .before .before .before .before .before .args .third .now) (c .before .before .before .before .before .before .before .before .before .before .before .before .before .before .args .starts .now) (c .before .before .before .before .before .before .before .before .before .before .before .before .before .before .args .counts .now) (c .before .before .before .before .before .before .before .before .before .before .before .before .before .before .args .keys .now) (seenCount (c .before .before .before .before .before .before .before .before .before .before .before .before .before .before .args .job .now) (c .before .before .before .before .before .before .before .before .before .before .before .before .before .before .args .at)) (c .before .before .before .before .before .before .before .before .before .before .before .before .before .before .args .n) (c .before .before .before .before .before .before .before .before .before .before .before .before .before .before .pre .2) (c .before .size .ensures .0) (c .if1 .taken)
+returns c =
+    let start = start-of (c .before .before .before) in
+    seens-skip (start .args .base) (start .args .order .now) (start .args .plan .now) (start .args .firsts .now) (start .args .first .now)
+    (start .args .second .now) (start .args .third .now) (start .args .starts .now) (start .args .counts .now) (start .args .keys .now)
+    (seenCount (start .args .job .now) (start .args .at)) (start .args .n) (start .pre .2) (c .before .size .ensures .0) (c .if1 .taken)
 
 gather-seen-requires : tie.Need-gather-seen-requires
-gather-seen-requires c κs = (c .before .before .before .before .before .before .before .before .before .before .before .before .before .before .before .before .pre .0 .own, omega (arith, c .before .before .before .before .before .before .before .before .before .before .before .before .before .before .before .before .pre .2 .room, lower-next (c .before .before .before .before .before .before .before .before .before .before .before .before .before .before .before .before .args .plan .now) (seenWeight (c .before .before .before .before .before .before .before .before .before .before .before .before .before .before .before .before .args .order .now) (seenCount (c .before .before .before .before .before .before .before .before .before .before .before .before .before .before .before .before .args .job .now) (c .before .before .before .before .before .before .before .before .before .before .before .before .before .before .before .before .args .at))) (c .before .before .before .before .before .before .before .before .before .before .before .before .before .before .before .before .args .i) (c .before .before .before .before .before .before .before .before .before .before .before .before .before .before .before .before .args .n), lower-all (c .before .before .before .before .before .before .before .before .before .before .before .before .before .before .before .before .args .plan .now) (seenWeight (c .before .before .before .before .before .before .before .before .before .before .before .before .before .before .before .before .args .order .now) (seenCount (c .before .before .before .before .before .before .before .before .before .before .before .before .before .before .before .before .args .job .now) (c .before .before .before .before .before .before .before .before .before .before .before .before .before .before .before .before .args .at))) (c .before .before .before .before .before .before .before .before .before .before .before .before .before .before .before .before .args .i + 1) (c .before .before .before .before .before .before .before .before .before .before .before .before .before .before .before .before .args .n), c .before .before .before .before .before .before .before .before .before .before .before .before .before .before .before .before .pre .0 .small, c .before .before .before .before .before .before .before .before .before .before .before .before .before .before .before .before .pre .0 .seen-room), omega (arith, c .before .before .before .before .before .before .before .before .before .before .before .before .before .before .before .before .pre .2 .room, lower-next (c .before .before .before .before .before .before .before .before .before .before .before .before .before .before .before .before .args .plan .now) (seenWeight (c .before .before .before .before .before .before .before .before .before .before .before .before .before .before .before .before .args .order .now) (seenCount (c .before .before .before .before .before .before .before .before .before .before .before .before .before .before .before .before .args .job .now) (c .before .before .before .before .before .before .before .before .before .before .before .before .before .before .before .before .args .at))) (c .before .before .before .before .before .before .before .before .before .before .before .before .before .before .before .before .args .i) (c .before .before .before .before .before .before .before .before .before .before .before .before .before .before .before .before .args .n), lower-all (c .before .before .before .before .before .before .before .before .before .before .before .before .before .before .before .before .args .plan .now) (seenWeight (c .before .before .before .before .before .before .before .before .before .before .before .before .before .before .before .before .args .order .now) (seenCount (c .before .before .before .before .before .before .before .before .before .before .before .before .before .before .before .before .args .job .now) (c .before .before .before .before .before .before .before .before .before .before .before .before .before .before .before .before .args .at))) (c .before .before .before .before .before .before .before .before .before .before .before .before .before .before .before .before .args .i + 1) (c .before .before .before .before .before .before .before .before .before .before .before .before .before .before .before .before .args .n), c .before .before .before .before .before .before .before .before .before .before .before .before .before .before .before .before .pre .0 .small, c .before .before .before .before .before .before .before .before .before .before .before .before .before .before .before .before .pre .0 .spare-room))
+gather-seen-requires c κs =
+    let start = start-of (c .before .before .before .before .before) in
+    let order = start .args .order .now in
+    let plan = start .args .plan .now in
+    let job = start .args .job .now in
+    let at = start .args .at in
+    let i = start .args .i in
+    let n = start .args .n in (
+      start .pre .0 .own,
+      omega (
+        arith,
+        start .pre .2 .room,
+        lower-next plan (seenWeight order (seenCount job at)) i n,
+        lower-all plan (seenWeight order (seenCount job at)) (i + 1) n,
+        start .pre .0 .small,
+        start .pre .0 .seen-room,
+      ),
+      omega (
+        arith,
+        start .pre .2 .room,
+        lower-next plan (seenWeight order (seenCount job at)) i n,
+        lower-all plan (seenWeight order (seenCount job at)) (i + 1) n,
+        start .pre .0 .small,
+        start .pre .0 .spare-room,
+      ),
+    )
 
 sub-seens : tie.Need-sub-seens
-sub-seens c = omega (arith, c .before .before .before .before .gather-seen .ensures .0 .ends)
+sub-seens c =
+    let after-gather-seen = c .before .before .before .before in
+    omega (arith, after-gather-seen .gather-seen .ensures .0 .ends)
 
 cast-seens : tie.Need-cast-seens
-cast-seens c = omega (arith, c .before .before .before .before .gather-seen .ensures .1, c .before .before .before .before .before .before .before .before .before .before .before .before .before .before .before .before .before .before .before .before .before .pre .2 .room, lower-next (c .before .before .before .before .before .before .before .before .before .before .before .before .before .before .before .before .before .before .before .before .before .args .plan .now) (seenWeight (c .before .before .before .before .before .before .before .before .before .before .before .before .before .before .before .before .before .before .before .before .before .args .order .now) (seenCount (c .before .before .before .before .before .before .before .before .before .before .before .before .before .before .before .before .before .before .before .before .before .args .job .now) (c .before .before .before .before .before .before .before .before .before .before .before .before .before .before .before .before .before .before .before .before .before .args .at))) (c .before .before .before .before .before .before .before .before .before .before .before .before .before .before .before .before .before .before .before .before .before .args .i) (c .before .before .before .before .before .before .before .before .before .before .before .before .before .before .before .before .before .before .before .before .before .args .n), lower-all (c .before .before .before .before .before .before .before .before .before .before .before .before .before .before .before .before .before .before .before .before .before .args .plan .now) (seenWeight (c .before .before .before .before .before .before .before .before .before .before .before .before .before .before .before .before .before .before .before .before .before .args .order .now) (seenCount (c .before .before .before .before .before .before .before .before .before .before .before .before .before .before .before .before .before .before .before .before .before .args .job .now) (c .before .before .before .before .before .before .before .before .before .before .before .before .before .before .before .before .before .before .before .before .before .args .at))) (c .before .before .before .before .before .before .before .before .before .before .before .before .before .before .before .before .before .before .before .before .before .args .i + 1) (c .before .before .before .before .before .before .before .before .before .before .before .before .before .before .before .before .before .before .before .before .before .args .n), c .before .before .before .before .before .before .before .before .before .before .before .before .before .before .before .before .before .before .before .before .before .pre .0 .small)
+cast-seens c =
+    let after-gather-seen = c .before .before .before .before in
+    let start = start-of (after-gather-seen .before .before .before .before .before .before) in
+    let plan = start .args .plan .now in
+    let job = start .args .job .now in
+    omega (
+      arith,
+      after-gather-seen .gather-seen .ensures .1,
+      start .pre .2 .room,
+      lower-next plan (seenWeight (start .args .order .now) (seenCount job (start .args .at))) (start .args .i) (start .args .n),
+      lower-all plan (seenWeight (start .args .order .now) (seenCount job (start .args .at))) (start .args .i + 1) (start .args .n),
+      start .pre .0 .small,
+    )
 
 mul-seens : tie.Need-mul-seens
 mul-seens c = search needs
 
 slice-write-seens : tie.Need-slice-write-seens
-slice-write-seens c = omega (arith, c .before .before .before .before .before .before .before .before .before .before .before .before .before .before .before .before .before .before .before .before .before .pre .2 .few, c .before .before .before .before .before .before .before .before .before .before .before .before .before .before .before .before .before .before .before .before .before .pre .1, c .before .before .before .before .before .before .before .before .before .before .before .before .before .before .before .before .before .before .before .before .before .pre .0 .own .few, c .before .before .before .before .before .before .before .before .before .before .before .before .before .before .before .before .before .before .before .before .before .pre .0 .seens-room)
+slice-write-seens c =
+    let start = start-of (c .before .before .before .before .before .before .before .before .before .before) in
+    omega (arith, start .pre .2 .few, start .pre .1, start .pre .0 .own .few, start .pre .0 .seens-room)
 
 same-length : tie.Need-same-length
 same-length c = search needs
@@ -50,7 +95,16 @@ same-length-3 : tie.Need-same-length-3
 same-length-3 c = search needs
 
 returns-2 : tie.Need-returns-2
-returns-2 c = seens-keep (c .before .before .before .before .before .before .before .before .before .before .before .before .before .before .before .before .before .before .before .before .before .args .base) (c .before .before .before .before .before .before .before .before .before .before .before .before .before .before .before .before .before .before .before .before .before .args .order .now) (c .before .before .before .before .before .before .before .before .before .before .before .before .before .before .before .before .before .before .before .before .before .args .plan .now) (c .before .before .before .before .before .before .before .before .before .before .before .before .before .before .before .before .before .before .before .before .before .args .firsts .now) (c .before .before .before .before .before .before .before .before .before .before .before .before .before .before .before .before .before .before .before .before .before .args .first .now) (c .before .before .before .before .before .before .before .before .before .before .before .before .before .before .before .before .before .before .before .before .before .args .second .now) (c .before .before .before .before .before .before .before .before .before .before .before .before .before .before .before .before .before .before .before .before .before .args .third .now) (c .before .before .before .before .before .before .before .before .before .before .before .before .before .before .before .before .before .before .before .before .before .args .starts .now) (c .before .before .before .before .before .before .before .before .before .before .before .before .before .before .before .before .before .before .before .before .before .args .counts .now) (c .before .before .before .before .before .before .before .before .before .before .before .before .before .before .before .before .before .before .before .before .before .args .keys .now) (seenCount (c .before .before .before .before .before .before .before .before .before .before .before .before .before .before .before .before .before .before .before .before .before .args .job .now) (c .before .before .before .before .before .before .before .before .before .before .before .before .before .before .before .before .before .before .before .before .before .args .at)) (c .before .before .before .before .before .before .before .before .before .before .before .before .before .before .before .before .before .before .before .before .before .args .n) (c .before .before .before .before .before .before .before .before .before .before .before .before .before .before .before .before .before .before .before .before .before .pre .2) (c .before .before .before .before .before .before .before .before .size .ensures .0) (c .before .before .before .before .before .before .before .if1 .left) (c .before .before .before .before .gather-seen .ensures .0) (c .before .before .before .before .gather-seen .ensures .1) (omega (arith, c .before .before .before .before .before .before .before .before .before .before .before .before .before .before .before .before .before .before .before .before .before .pre .2 .few, c .before .before .before .before .before .before .before .before .before .before .before .before .before .before .before .before .before .before .before .before .before .pre .1, c .before .before .before .before .before .before .before .before .before .before .before .before .before .before .before .before .before .before .before .before .before .pre .0 .own .few, c .before .before .before .before .before .before .before .before .before .before .before .before .before .before .before .before .before .before .before .before .before .pre .0 .seens-room)) refl
+returns-2 c =
+    let after-gather-seen = c .before .before .before .before in
+    let if1-left = after-gather-seen .before .before .before in
+    let after-size = if1-left .before in
+    let start = start-of (after-size .before .before) in
+    seens-keep (start .args .base) (start .args .order .now) (start .args .plan .now) (start .args .firsts .now) (start .args .first .now)
+    (start .args .second .now) (start .args .third .now) (start .args .starts .now) (start .args .counts .now) (start .args .keys .now)
+    (seenCount (start .args .job .now) (start .args .at)) (start .args .n) (start .pre .2) (after-size .size .ensures .0) (if1-left .if1 .left)
+    (after-gather-seen .gather-seen .ensures .0) (after-gather-seen .gather-seen .ensures .1)
+    (omega (arith, start .pre .2 .few, start .pre .1, start .pre .0 .own .few, start .pre .0 .seens-room)) refl
 
 pub seen-rank-spec : {M : Type 1} → statement M
 seen-rank-spec =

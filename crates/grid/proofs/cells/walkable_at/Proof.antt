@@ -9,7 +9,9 @@ is-walkable-requires : tie.Need-is-walkable-requires
 is-walkable-requires c κs = search needs
 
 returns : tie.Need-returns
-returns c = λ g e. c .is-walkable .ensures g (c .before .before .before .args .i) (rw e)
+returns c =
+    let start = c .before .before .before in
+    λ g e. c .is-walkable .ensures g (start .args .i) (rw e)
 
 pub walkable-at-spec : {M : Type 1} → statement M
 walkable-at-spec = tie.close (tie.spec shared-slice-read-is-walkable is-walkable-requires returns)

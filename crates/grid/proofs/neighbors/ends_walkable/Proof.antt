@@ -32,15 +32,17 @@ walkable-at-requires-2 c κs =
     let start = c .before .before .before .before in
     let g = gridOf (start .args .width) (start .args .height) (start .args .cells .now) in
     let i = start .args .position .y * start .args .width + start .args .position .x in
-    rw (c .neighbor .ensures g i refl (place-column (start .pre .0)) (place-row (start .pre .0))) (neighbour-on g (start .pre .0 .whole) i (start .args .d) (place-on (start .pre .0)) (start .pre .2))
+    rw (c .neighbor .ensures g i refl (place-column (start .pre .0)) (place-row (start .pre .0)))
+    (neighbour-on g (start .pre .0 .whole) i (start .args .d) (place-on (start .pre .0)) (start .pre .2))
 
 returns : tie.Need-returns
 returns c =
-    let start = c .before .before .before .before .before in
+    let after-index = c .before .before .before in
+    let start = after-index .before .before in
     let g = gridOf (start .args .width) (start .args .height) (start .args .cells .now) in
     let i = start .args .position .y * start .args .width + start .args .position .x in
     λ k j e f.
-    rw (e, f) (ap₂ _&&_ (c .before .before .walkable-at .ensures g refl ∙ ap (walkable g) (c .before .before .before .index .ensures g refl))
+    rw (e, f) (ap₂ _&&_ (c .before .before .walkable-at .ensures g refl ∙ ap (walkable g) (after-index .index .ensures g refl))
     (c .walkable-at2 .ensures g refl ∙ ap (walkable g) (c .before .neighbor .ensures g i refl (place-column (start .pre .0)) (place-row (start .pre .0)))))
 
 pub ends-walkable-spec : {M : Type 1} → statement M

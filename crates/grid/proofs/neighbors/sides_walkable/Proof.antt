@@ -21,7 +21,8 @@ walkable-at-requires c κs =
     let start = c .before .before in
     let g = gridOf (start .args .width) (start .args .height) (start .args .cells .now) in
     let i = start .args .position .y * start .args .width + start .args .position .x in
-    rw (c .beside .ensures g i refl (place-column (start .pre .0)) (place-row (start .pre .0))) (beside-on g (start .pre .0 .whole) i (start .args .d) (place-on (start .pre .0)) (start .pre .2))
+    rw (c .beside .ensures g i refl (place-column (start .pre .0)) (place-row (start .pre .0)))
+    (beside-on g (start .pre .0 .whole) i (start .args .d) (place-on (start .pre .0)) (start .pre .2))
 
 across-requires : tie.Need-across-requires
 across-requires c κs =
@@ -36,15 +37,18 @@ walkable-at-requires-2 c κs =
     let start = c .before .before .before .before in
     let g = gridOf (start .args .width) (start .args .height) (start .args .cells .now) in
     let i = start .args .position .y * start .args .width + start .args .position .x in
-    rw (c .across .ensures g i refl (place-column (start .pre .0)) (place-row (start .pre .0))) (across-on g (start .pre .0 .whole) i (start .args .d) (place-on (start .pre .0)) (start .pre .2))
+    rw (c .across .ensures g i refl (place-column (start .pre .0)) (place-row (start .pre .0)))
+    (across-on g (start .pre .0 .whole) i (start .args .d) (place-on (start .pre .0)) (start .pre .2))
 
 returns : tie.Need-returns
 returns c =
-    let start = c .before .before .before .before .before in
+    let after-beside = c .before .before .before in
+    let start = after-beside .before .before in
     let g = gridOf (start .args .width) (start .args .height) (start .args .cells .now) in
     let i = start .args .position .y * start .args .width + start .args .position .x in
     λ k j e f.
-    rw (e, f) (ap₂ _&&_ (c .before .before .walkable-at .ensures g refl ∙ ap (walkable g) (c .before .before .before .beside .ensures g i refl (place-column (start .pre .0)) (place-row (start .pre .0))))
+    rw (e, f) (ap₂ _&&_ (c .before .before .walkable-at .ensures g refl
+    ∙ ap (walkable g) (after-beside .beside .ensures g i refl (place-column (start .pre .0)) (place-row (start .pre .0))))
     (c .walkable-at2 .ensures g refl ∙ ap (walkable g) (c .before .across .ensures g i refl (place-column (start .pre .0)) (place-row (start .pre .0)))))
 
 pub sides-walkable-spec : {M : Type 1} → statement M

@@ -19,10 +19,14 @@ passed-requires c κs = search needs
 
 returns : tie.Need-returns
 unfolding boundaryChecks
-returns c = stopped (jobChecks (c .before .before .before .before .args .job .now)) _ (c .before .before .check-job .ensures) (c .before .passed .ensures) (c .if1 .taken)
+returns c =
+    let start = c .before .before .before .before in
+    stopped (jobChecks (start .args .job .now)) _ (c .before .before .check-job .ensures) (c .before .passed .ensures) (c .if1 .taken)
 
 read-header-requires : tie.Need-read-header-requires
-read-header-requires c κs = job-passed _ (went-on (jobChecks (c .before .before .before .before .args .job .now)) (c .before .before .check-job .ensures) (c .before .passed .ensures) (c .if1 .left)) .0
+read-header-requires c κs =
+    let start = c .before .before .before .before in
+    job-passed _ (went-on (jobChecks (start .args .job .now)) (c .before .before .check-job .ensures) (c .before .passed .ensures) (c .if1 .left)) .0
 
 size-requires : tie.Need-size-requires
 size-requires c κs = search needs
@@ -32,20 +36,34 @@ size-requires-2 c κs = search needs
 
 check-ends-requires : tie.Need-check-ends-requires
 check-ends-requires c κs =
-    let l = laid-read _ _ (c .before .before .before .before .read-header .ensures) (job-passed _ (went-on (jobChecks (c .before .before .before .before .before .before .before .before .before .args .job .now)) (c .before .before .before .before .before .before .before .check-job .ensures) (c .before .before .before .before .before .before .passed .ensures) (c .before .before .before .before .before .if1 .left)) .1) in
+    let after-read-header = c .before .before .before .before in
+    let if1-left = after-read-header .before in
+    let after-passed = if1-left .before in
+    let after-check-job = after-passed .before in
+    let start = after-check-job .before .before in
+    let l = laid-read _ _ (after-read-header .read-header .ensures)
+    (job-passed _ (went-on (jobChecks (start .args .job .now)) (after-check-job .check-job .ensures) (after-passed .passed .ensures)
+    (if1-left .if1 .left)) .1) in
     let q = sections _ _ l in
     (omega (arith, q .boundaries-in), omega arith, omega arith)
 
 returns-2 : tie.Need-returns-2
 unfolding boundaryChecks endsChecks
 returns-2 c =
-    let s = c .before .before .before .before .before .before .before .before .before .before .args .job .now in
-    let distinct = c .before .before .before .before .before .before .before .before .before .before .args .distinct in
-    let h = c .before .before .before .before .before .read-header .result in
-    let n = went-on (jobChecks (c .before .before .before .before .before .before .before .before .before .before .args .job .now)) (c .before .before .before .before .before .before .before .before .check-job .ensures) (c .before .before .before .before .before .before .before .passed .ensures) (c .before .before .before .before .before .before .if1 .left) in
-    let q = sections s h (laid-read s h (c .before .before .before .before .before .read-header .ensures) (job-passed s n .1)) in
-    moved (endsCheck distinct s (h .counts .width) (h .counts .height)) (c .check-ends .ensures) (c .before .before .size .ensures .0 ∙ q .boundaries-at) (c .before .size2 .ensures .0)
-    ∙ ap (λ (h : Header). firstRefusal (endsChecks distinct s (h .counts))) (c .before .before .before .before .before .read-header .ensures)
+    let after-read-header = c .before .before .before .before .before in
+    let if1-left = after-read-header .before in
+    let after-passed = if1-left .before in
+    let after-check-job = after-passed .before in
+    let start = after-check-job .before .before in
+    let job = start .args .job .now in
+    let s = job in
+    let distinct = start .args .distinct in
+    let h = after-read-header .read-header .result in
+    let n = went-on (jobChecks job) (after-check-job .check-job .ensures) (after-passed .passed .ensures) (if1-left .if1 .left) in
+    let q = sections s h (laid-read s h (after-read-header .read-header .ensures) (job-passed s n .1)) in
+    moved (endsCheck distinct s (h .counts .width) (h .counts .height)) (c .check-ends .ensures) (c .before .before .size .ensures .0 ∙ q .boundaries-at)
+    (c .before .size2 .ensures .0)
+    ∙ ap (λ (h : Header). firstRefusal (endsChecks distinct s (h .counts))) (after-read-header .read-header .ensures)
     ∙ sym (append-none (jobChecks s) _ n)
 
 pub check-boundaries-spec : {M : Type 1} → statement M

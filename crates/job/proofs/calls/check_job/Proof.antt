@@ -16,17 +16,33 @@ passed-requires c κs = search needs
 
 returns : tie.Need-returns
 unfolding jobChecks
-returns c = stopped (layoutChecks (c .before .before .before .before .args .job .now)) _ (c .before .before .check-layout .ensures) (c .before .passed .ensures) (c .if1 .taken)
+returns c =
+    let start = c .before .before .before .before in
+    stopped (layoutChecks (start .args .job .now)) _ (c .before .before .check-layout .ensures) (c .before .passed .ensures) (c .if1 .taken)
 
 read-header-requires : tie.Need-read-header-requires
-read-header-requires c κs = layout-passed _ (went-on (layoutChecks (c .before .before .before .before .args .job .now)) (c .before .before .check-layout .ensures) (c .before .passed .ensures) (c .if1 .left)) .0
+read-header-requires c κs =
+    let start = c .before .before .before .before in
+    layout-passed _ (went-on (layoutChecks (start .args .job .now)) (c .before .before .check-layout .ensures) (c .before .passed .ensures) (c .if1 .left)) .0
 
 check-records-requires : tie.Need-check-records-requires
-check-records-requires c κs = laid-read _ _ (c .read-header .ensures) (layout-passed _ (went-on (layoutChecks (c .before .before .before .before .before .args .job .now)) (c .before .before .before .check-layout .ensures) (c .before .before .passed .ensures) (c .before .if1 .left)) .1)
+check-records-requires c κs =
+    let after-check-layout = c .before .before .before in
+    let start = after-check-layout .before .before in
+    laid-read _ _ (c .read-header .ensures)
+    (layout-passed _ (went-on (layoutChecks (start .args .job .now)) (after-check-layout .check-layout .ensures) (c .before .before .passed .ensures)
+    (c .before .if1 .left)) .1)
 
 returns-2 : tie.Need-returns-2
 unfolding jobChecks
-returns-2 c = c .check-records .ensures ∙ ap (λ (h : Header). firstRefusal (recordChecks (c .before .before .before .before .before .before .args .job .now) (h .counts))) (c .before .read-header .ensures) ∙ sym (append-none (layoutChecks (c .before .before .before .before .before .before .args .job .now)) _ (went-on (layoutChecks (c .before .before .before .before .before .before .args .job .now)) (c .before .before .before .before .check-layout .ensures) (c .before .before .before .passed .ensures) (c .before .before .if1 .left)))
+returns-2 c =
+    let after-passed = c .before .before .before in
+    let after-check-layout = after-passed .before in
+    let start = after-check-layout .before .before in
+    let job = start .args .job .now in
+    c .check-records .ensures ∙ ap (λ (h : Header). firstRefusal (recordChecks job (h .counts))) (c .before .read-header .ensures)
+    ∙ sym (append-none (layoutChecks job) _
+    (went-on (layoutChecks job) (after-check-layout .check-layout .ensures) (after-passed .passed .ensures) (c .before .before .if1 .left)))
 
 pub check-job-spec : {M : Type 1} → statement M
 check-job-spec =

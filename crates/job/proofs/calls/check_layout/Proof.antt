@@ -30,18 +30,52 @@ passed-requires c κs = search needs
 
 returns-2 : tie.Need-returns-2
 unfolding layoutChecks
-returns-2 c = stopped (headerChecks (headerAt (c .before .before .before .before .before .before .args .job .now))) _ (c .before .before .check-header .ensures ∙ ap (λ (h : Header). firstRefusal (headerChecks h)) (c .before .before .before .read-header .ensures)) (c .before .passed .ensures) (c .if2 .taken) ∙ sym (skip 1 0 _ (le-ltb _ _ (c .before .before .before .before .if1 .left)))
+returns-2 c =
+    let after-read-header = c .before .before .before in
+    let if1-left = after-read-header .before in
+    let start = if1-left .before .before in
+    stopped (headerChecks (headerAt (start .args .job .now))) _
+    (c .before .before .check-header .ensures ∙ ap (λ (h : Header). firstRefusal (headerChecks h)) (after-read-header .read-header .ensures))
+    (c .before .passed .ensures) (c .if2 .taken) ∙ sym (skip 1 0 _ (le-ltb _ _ (if1-left .if1 .left)))
 
 size-requires : tie.Need-size-requires
 size-requires c κs = search needs
 
 returns-3 : tie.Need-returns-3
 unfolding layoutChecks
-returns-3 c = sym (skip 1 0 _ (le-ltb _ _ (c .before .before .before .before .before .before .before .if1 .left)) ∙ append-none (headerChecks (headerAt (c .before .before .before .before .before .before .before .before .before .args .job .now))) _ (went-on (headerChecks (headerAt (c .before .before .before .before .before .before .before .before .before .args .job .now))) (c .before .before .before .before .before .check-header .ensures ∙ ap (λ (h : Header). firstRefusal (headerChecks h)) (c .before .before .before .before .before .before .read-header .ensures)) (c .before .before .before .before .passed .ensures) (c .before .before .before .if2 .left)) ∙ stop 5 0 _ (told (λ (h : Header). not (eqb (length (c .before .before .before .before .before .before .before .before .before .args .job .now)) (h .offsets .total))) (c .before .before .before .before .before .before .read-header .ensures) (ap (λ (n : ℕ). not (eqb (length (c .before .before .before .before .before .before .before .before .before .args .job .now)) n)) (c .before .size .ensures .0)) (c .if3 .taken)))
+returns-3 c =
+    let if2-left = c .before .before .before in
+    let after-passed = if2-left .before in
+    let after-check-header = after-passed .before in
+    let after-read-header = after-check-header .before in
+    let if1-left = after-read-header .before in
+    let start = if1-left .before .before in
+    let job = start .args .job .now in
+    sym (skip 1 0 _ (le-ltb _ _ (if1-left .if1 .left))
+    ∙ append-none (headerChecks (headerAt job)) _
+    (went-on (headerChecks (headerAt job))
+    (after-check-header .check-header .ensures ∙ ap (λ (h : Header). firstRefusal (headerChecks h)) (after-read-header .read-header .ensures))
+    (after-passed .passed .ensures) (if2-left .if2 .left))
+    ∙ stop 5 0 _ (told (λ (h : Header). not (eqb (length job) (h .offsets .total))) (after-read-header .read-header .ensures)
+    (ap (λ (n : ℕ). not (eqb (length job) n)) (c .before .size .ensures .0)) (c .if3 .taken)))
 
 returns-4 : tie.Need-returns-4
 unfolding layoutChecks
-returns-4 c = sym (skip 1 0 _ (le-ltb _ _ (c .before .before .before .before .before .before .before .if1 .left)) ∙ append-none (headerChecks (headerAt (c .before .before .before .before .before .before .before .before .before .args .job .now))) _ (went-on (headerChecks (headerAt (c .before .before .before .before .before .before .before .before .before .args .job .now))) (c .before .before .before .before .before .check-header .ensures ∙ ap (λ (h : Header). firstRefusal (headerChecks h)) (c .before .before .before .before .before .before .read-header .ensures)) (c .before .before .before .before .passed .ensures) (c .before .before .before .if2 .left)) ∙ clear 5 0 (told (λ (h : Header). not (eqb (length (c .before .before .before .before .before .before .before .before .before .args .job .now)) (h .offsets .total))) (c .before .before .before .before .before .before .read-header .ensures) (ap (λ (n : ℕ). not (eqb (length (c .before .before .before .before .before .before .before .before .before .args .job .now)) n)) (c .before .size .ensures .0)) (c .if3 .left)))
+returns-4 c =
+    let if2-left = c .before .before .before in
+    let after-passed = if2-left .before in
+    let after-check-header = after-passed .before in
+    let after-read-header = after-check-header .before in
+    let if1-left = after-read-header .before in
+    let start = if1-left .before .before in
+    let job = start .args .job .now in
+    sym (skip 1 0 _ (le-ltb _ _ (if1-left .if1 .left))
+    ∙ append-none (headerChecks (headerAt job)) _
+    (went-on (headerChecks (headerAt job))
+    (after-check-header .check-header .ensures ∙ ap (λ (h : Header). firstRefusal (headerChecks h)) (after-read-header .read-header .ensures))
+    (after-passed .passed .ensures) (if2-left .if2 .left))
+    ∙ clear 5 0 (told (λ (h : Header). not (eqb (length job) (h .offsets .total))) (after-read-header .read-header .ensures)
+    (ap (λ (n : ℕ). not (eqb (length job) n)) (c .before .size .ensures .0)) (c .if3 .left)))
 
 pub check-layout-spec : {M : Type 1} → statement M
 check-layout-spec =

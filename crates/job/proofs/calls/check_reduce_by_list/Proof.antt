@@ -19,21 +19,38 @@ passed-requires c κs = search needs
 
 returns : tie.Need-returns
 unfolding byListChecks
-returns c = stopped (boundaryChecks false (c .before .before .before .before .before .args .job .now)) _ (c .before .before .check-boundaries .ensures) (c .before .passed .ensures) (c .if1 .taken)
+returns c =
+    let start = c .before .before .before .before .before in
+    stopped (boundaryChecks false (start .args .job .now)) _ (c .before .before .check-boundaries .ensures) (c .before .passed .ensures) (c .if1 .taken)
 
 read-header-requires : tie.Need-read-header-requires
-read-header-requires c κs = boundaries-passed false _ (went-on (boundaryChecks false (c .before .before .before .before .before .args .job .now)) (c .before .before .check-boundaries .ensures) (c .before .passed .ensures) (c .if1 .left)) .0
+read-header-requires c κs =
+    let start = c .before .before .before .before .before in
+    boundaries-passed false _
+    (went-on (boundaryChecks false (start .args .job .now)) (c .before .before .check-boundaries .ensures) (c .before .passed .ensures) (c .if1 .left)) .0
 
 check-list-requires : tie.Need-check-list-requires
-check-list-requires c κs = let l = laid-read _ _ (c .before .read-header .ensures) (boundaries-passed false _ (went-on (boundaryChecks false (c .before .before .before .before .before .before .before .args .job .now)) (c .before .before .before .before .check-boundaries .ensures) (c .before .before .before .passed .ensures) (c .before .before .if1 .left)) .1) in (omega arith, omega arith)
+check-list-requires c κs =
+    let after-passed = c .before .before .before in
+    let after-check-boundaries = after-passed .before in
+    let start = after-check-boundaries .before .before .before in
+    let l = laid-read _ _ (c .before .read-header .ensures)
+    (boundaries-passed false _
+    (went-on (boundaryChecks false (start .args .job .now)) (after-check-boundaries .check-boundaries .ensures) (after-passed .passed .ensures)
+    (c .before .before .if1 .left)) .1) in (omega arith, omega arith)
 
 returns-2 : tie.Need-returns-2
 unfolding byListChecks
 returns-2 c =
-    let s = c .before .before .before .before .before .before .before .before .args .job .now in
-    let n = went-on (boundaryChecks false (c .before .before .before .before .before .before .before .before .args .job .now)) (c .before .before .before .before .before .check-boundaries .ensures) (c .before .before .before .before .passed .ensures) (c .before .before .before .if1 .left) in
+    let if1-left = c .before .before .before in
+    let after-passed = if1-left .before in
+    let after-check-boundaries = after-passed .before in
+    let start = after-check-boundaries .before .before .before in
+    let job = start .args .job .now in
+    let s = job in
+    let n = went-on (boundaryChecks false job) (after-check-boundaries .check-boundaries .ensures) (after-passed .passed .ensures) (if1-left .if1 .left) in
     c .check-list .ensures
-    ∙ ap (λ (h : Header). firstRefusal (listChecks (c .before .before .before .before .before .before .before .before .args .list .now) (h .counts .width) (h .counts .height))) (c .before .before .read-header .ensures)
+    ∙ ap (λ (h : Header). firstRefusal (listChecks (start .args .list .now) (h .counts .width) (h .counts .height))) (c .before .before .read-header .ensures)
     ∙ sym (append-none (boundaryChecks false s) _ n)
 
 pub check-reduce-by-list-spec : {M : Type 1} → statement M

@@ -14,13 +14,23 @@ returns : tie.Need-returns
 returns c = simp (declined (c .before .before .check-reduce .ensures) (c .before .passed .ensures) (c .if1 .taken))
 
 read-header-requires : tie.Need-read-header-requires
-read-header-requires c κs = reduce-passed _ (went-on (reduceChecks (c .before .before .before .before .args .job .now)) (c .before .before .check-reduce .ensures) (c .before .passed .ensures) (c .if1 .left)) .0
+read-header-requires c κs =
+    let start = c .before .before .before .before in
+    reduce-passed _ (went-on (reduceChecks (start .args .job .now)) (c .before .before .check-reduce .ensures) (c .before .passed .ensures) (c .if1 .left)) .0
 
 size-requires : tie.Need-size-requires
 size-requires c κs = search needs
 
 returns-2 : tie.Need-returns-2
-returns-2 c = simp (accepted (c .before .before .before .before .before .check-reduce .ensures) (c .before .before .before .before .passed .ensures) (c .before .before .before .if1 .left), c .size .ensures .0, c .before .before .read-header .ensures)
+returns-2 c =
+    let if1-left = c .before .before .before in
+    let after-passed = if1-left .before in
+    let after-check-reduce = after-passed .before in
+    simp (
+      accepted (after-check-reduce .check-reduce .ensures) (after-passed .passed .ensures) (if1-left .if1 .left),
+      c .size .ensures .0,
+      c .before .before .read-header .ensures,
+    )
 
 pub job-has-spec : {M : Type 1} → statement M
 job-has-spec =

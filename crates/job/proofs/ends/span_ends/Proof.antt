@@ -96,18 +96,21 @@ part-result-start c = search needs
 
 part-result-end : tie.Need-part-result-end
 part-result-end c =
-    let j = job-part _ _ (sym (c .before .before .before .before .job-has .ensures) ∙ c .before .before .before .if2 .taken) in
+    let if2-taken = c .before .before .before in
+    let after-job-has = if2-taken .before in
+    let j = job-part _ _ (sym (after-job-has .job-has .ensures) ∙ if2-taken .if2 .taken) in
     let e = c .size2 .ensures .0 ∙ ap (λ (h : Header). h .offsets .boundaries) (c .before .before .read-header .ensures) in
     omega (arith, j .inside, e)
 
 returns : tie.Need-returns
 returns c =
     let at-read-header = c .before .before .before in
+    let if1-taken = at-read-header .before .before .before in
     let at-if2 = at-read-header .before in
     let at-job-has = at-if2 .before in
     let at-size = at-job-has .before .before in
     let start = at-size .before .before .before in
-    let w = c .before .before .before .before .before .before .if1 .taken in
+    let w = if1-taken .if1 .taken in
     record {
       bytes-are = of-job _ _ w (at-size .size .ensures .0) (c .before .size2 .ensures .0
           ∙ ap (λ (h : Header). h .offsets .boundaries) (at-read-header .read-header .ensures)) (sym (at-job-has .job-has .ensures) ∙ at-if2 .if2 .taken);
@@ -130,13 +133,16 @@ part-result-end-2 c = search needs
 
 returns-2 : tie.Need-returns-2
 returns-2 c =
-    let at-size = c .before .before .before .before in
-    let w = c .before .before .before .if1 .taken in
+    let after-job-has = c .before .before in
+    let if1-taken = after-job-has .before in
+    let at-size = if1-taken .before in
+    let start = at-size .before .before .before in
+    let w = if1-taken .if1 .taken in
     record {
-      bytes-are = not-job _ _ w (at-size .size .ensures .0) (sym (c .before .before .job-has .ensures) ∙ c .before .if2 .left);
+      bytes-are = not-job _ _ w (at-size .size .ensures .0) (sym (after-job-has .job-has .ensures) ∙ c .before .if2 .left);
       job-block = λ _. refl;
-      job-place = λ _. at-no-job _ [] (c .before .before .before .before .before .before .before .args .job .ptr .1) (at-size .size .ensures .0)
-          (sym (c .before .before .job-has .ensures) ∙ c .before .if2 .left);
+      job-place = λ _. at-no-job _ [] (start .args .job .ptr .1) (at-size .size .ensures .0)
+          (sym (after-job-has .job-has .ensures) ∙ c .before .if2 .left);
       list-block = λ no. absurd (no w);
       list-place = λ no. absurd (no w);
     }
@@ -161,15 +167,18 @@ part-result-end-3 c = omega (arith, list-part _ _ _ (sym (c .before .list-has .e
 
 returns-3 : tie.Need-returns-3
 returns-3 c =
-    let at-size = c .before .before .before .before in
-    let w = c .before .before .before .if1 .left in
+    let after-list-has = c .before .before in
+    let if1-left = after-list-has .before in
+    let at-size = if1-left .before in
+    let start = at-size .before .before .before in
+    let w = if1-left .if1 .left in
     record {
-      bytes-are = of-list _ _ w (at-size .size .ensures .0) (sym (c .before .before .list-has .ensures) ∙ c .before .if3 .taken);
+      bytes-are = of-list _ _ w (at-size .size .ensures .0) (sym (after-list-has .list-has .ensures) ∙ c .before .if3 .taken);
       job-block = λ is. absurd (w is);
       job-place = λ is. absurd (w is);
       list-block = λ _. refl;
-      list-place = λ _. at-list _ _ (c .before .before .before .before .before .before .before .args .list .ptr .1) (at-size .size .ensures .0)
-          (sym (c .before .before .list-has .ensures) ∙ c .before .if3 .taken);
+      list-place = λ _. at-list _ _ (start .args .list .ptr .1) (at-size .size .ensures .0)
+          (sym (after-list-has .list-has .ensures) ∙ c .before .if3 .taken);
     }
 
 sub-result-4 : tie.Need-sub-result-4
@@ -183,15 +192,18 @@ part-result-end-4 c = search needs
 
 returns-4 : tie.Need-returns-4
 returns-4 c =
-    let at-size = c .before .before .before .before in
-    let w = c .before .before .before .if1 .left in
+    let after-list-has = c .before .before in
+    let if1-left = after-list-has .before in
+    let at-size = if1-left .before in
+    let start = at-size .before .before .before in
+    let w = if1-left .if1 .left in
     record {
-      bytes-are = not-list _ _ w (at-size .size .ensures .0) (sym (c .before .before .list-has .ensures) ∙ c .before .if3 .left);
+      bytes-are = not-list _ _ w (at-size .size .ensures .0) (sym (after-list-has .list-has .ensures) ∙ c .before .if3 .left);
       job-block = λ is. absurd (w is);
       job-place = λ is. absurd (w is);
       list-block = λ _. refl;
-      list-place = λ _. at-no-list _ _ (c .before .before .before .before .before .before .before .args .list .ptr .1) (at-size .size .ensures .0)
-          (sym (c .before .before .list-has .ensures) ∙ c .before .if3 .left);
+      list-place = λ _. at-no-list _ _ (start .args .list .ptr .1) (at-size .size .ensures .0)
+          (sym (after-list-has .list-has .ensures) ∙ c .before .if3 .left);
     }
 
 pub span-ends-spec : {M : Type 1} → statement M

@@ -1,10 +1,6 @@
 use borrow.Author.Needs.{needs}
 use Rattle.links.proofs.geometry.centre_distance.Statement.{statement}
 use Rattle.links.proofs.geometry.centre_distance.Tie as tie
-use Rattle.links.proofs.geometry.centre_distance.Reads as reads
-use Rattle.links.proofs.geometry.centre_distance.Lts as lts
-use Rattle.links.proofs.geometry.centre_squares.Reads as centre-squares-reads
-use Rattle.links.proofs.geometry.distance.Reads as distance-reads
 
 centre-squares-requires : tie.Need-centre-squares-requires
 centre-squares-requires c κs = search needs

@@ -1,9 +1,6 @@
 use borrow.Author.Needs.{needs}
 use Rattle.links.proofs.geometry.centres_differ.Statement.{statement}
 use Rattle.links.proofs.geometry.centres_differ.Tie as tie
-use Rattle.links.proofs.geometry.centres_differ.Reads as reads
-use Rattle.links.proofs.geometry.centres_differ.Lts as lts
-use Rattle.links.proofs.geometry.centre_squares.Reads as centre-squares-reads
 
 centre-squares-requires : tie.Need-centre-squares-requires
 centre-squares-requires c κs = search needs

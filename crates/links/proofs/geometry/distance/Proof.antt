@@ -3,9 +3,6 @@ use Rattle.length.specs.declared.Length.{Length}
 use borrow.Author.Needs.{needs}
 use Rattle.links.proofs.geometry.distance.Statement.{statement}
 use Rattle.links.proofs.geometry.distance.Tie as tie
-use Rattle.links.proofs.geometry.distance.Reads as reads
-use Rattle.links.proofs.geometry.distance.Lts as lts
-use Rattle.length.proofs.length_of.Reads as length-of-reads
 
 length-of-requires : tie.Need-length-of-requires
 length-of-requires c κs = search needs

@@ -1,12 +1,6 @@
 use borrow.Author.Needs.{needs}
 use Rattle.links.proofs.geometry.link_direction.Statement.{statement}
 use Rattle.links.proofs.geometry.link_direction.Tie as tie
-use Rattle.links.proofs.geometry.link_direction.Reads as reads
-use Rattle.links.proofs.geometry.link_direction.Lts as lts
-use Rattle.links.proofs.geometry.Point.scaled.Reads as scaled-reads
-use Rattle.links.proofs.geometry.Point.towards.Reads as towards-reads
-use Rattle.links.proofs.geometry.centre_distance.Reads as centre-distance-reads
-use Rattle.links.proofs.geometry.centre_of.Reads as centre-of-reads
 
 centre-distance-requires : tie.Need-centre-distance-requires
 centre-distance-requires c κs = search needs
@@ -24,7 +18,16 @@ scaled-requires : tie.Need-scaled-requires
 scaled-requires c κs = search needs
 
 returns : tie.Need-returns
-returns c = simp (c .scaled .ensures, c .before .towards .ensures, c .before .before .centre-of2 .ensures, c .before .before .before .centre-of .ensures, c .before .before .before .before .centre-distance .ensures)
+returns c =
+    let after-centre-of = c .before .before .before in
+    let after-centre-distance = after-centre-of .before in
+    simp (
+      c .scaled .ensures,
+      c .before .towards .ensures,
+      c .before .before .centre-of2 .ensures,
+      after-centre-of .centre-of .ensures,
+      after-centre-distance .centre-distance .ensures,
+    )
 
 pub link-direction-spec : {M : Type 1} → statement M
 link-direction-spec =

@@ -1,10 +1,6 @@
 use borrow.Author.Needs.{needs}
 use Rattle.links.proofs.geometry.point_distance.Statement.{statement}
 use Rattle.links.proofs.geometry.point_distance.Tie as tie
-use Rattle.links.proofs.geometry.point_distance.Reads as reads
-use Rattle.links.proofs.geometry.point_distance.Lts as lts
-use Rattle.links.proofs.geometry.distance.Reads as distance-reads
-use Rattle.links.proofs.geometry.squares.Reads as squares-reads
 
 mul-squares : tie.Need-mul-squares
 mul-squares c = search needs

@@ -2,13 +2,6 @@ use Rattle.links.proofs.Spans.{canonical-bounded, bounded-as}
 use borrow.Author.Needs.{needs}
 use Rattle.links.proofs.geometry.span_direction.Statement.{statement}
 use Rattle.links.proofs.geometry.span_direction.Tie as tie
-use Rattle.links.proofs.geometry.span_direction.Reads as reads
-use Rattle.links.proofs.geometry.span_direction.Lts as lts
-use Rattle.links.proofs.geometry.Point.scaled.Reads as scaled-reads
-use Rattle.links.proofs.geometry.Point.towards.Reads as towards-reads
-use Rattle.links.proofs.geometry.point_distance.Reads as point-distance-reads
-use Rattle.links.proofs.geometry.point_of.Reads as point-of-reads
-use Rattle.position.proofs.Span.canonical.Reads as canonical-reads
 
 canonical-requires : tie.Need-canonical-requires
 canonical-requires c κs = search needs
@@ -29,7 +22,18 @@ scaled-requires : tie.Need-scaled-requires
 scaled-requires c κs = search needs
 
 returns : tie.Need-returns
-returns c = simp (c .scaled .ensures, c .before .towards .ensures, c .before .before .point-of2 .ensures, c .before .before .before .point-of .ensures, c .before .before .before .before .point-distance .ensures, c .before .before .before .before .before .canonical .ensures)
+returns c =
+    let after-point-of = c .before .before .before in
+    let after-point-distance = after-point-of .before in
+    let after-canonical = after-point-distance .before in
+    simp (
+      c .scaled .ensures,
+      c .before .towards .ensures,
+      c .before .before .point-of2 .ensures,
+      after-point-of .point-of .ensures,
+      after-point-distance .point-distance .ensures,
+      after-canonical .canonical .ensures,
+    )
 
 pub span-direction-spec : {M : Type 1} → statement M
 span-direction-spec =

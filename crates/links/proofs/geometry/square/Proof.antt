@@ -3,8 +3,6 @@ use native.Mathlib.Omega.{arith}
 use Rattle.links.proofs.Squares.{square-most}
 use Rattle.links.proofs.geometry.square.Statement.{statement}
 use Rattle.links.proofs.geometry.square.Tie as tie
-use Rattle.links.proofs.geometry.square.Reads as reads
-use Rattle.links.proofs.geometry.square.Lts as lts
 
 mul-result : tie.Need-mul-result
 mul-result c = omega (arith, square-most (c .pre))

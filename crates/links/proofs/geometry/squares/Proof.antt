@@ -3,10 +3,6 @@ use Rattle.links.specs.Geometry.{squares}
 use borrow.Author.Needs.{needs}
 use Rattle.links.proofs.geometry.squares.Statement.{statement}
 use Rattle.links.proofs.geometry.squares.Tie as tie
-use Rattle.links.proofs.geometry.squares.Reads as reads
-use Rattle.links.proofs.geometry.squares.Lts as lts
-use Rattle.links.proofs.geometry.apart.Reads as apart-reads
-use Rattle.links.proofs.geometry.square.Reads as square-reads
 
 apart-requires : tie.Need-apart-requires
 apart-requires c κs = search needs
@@ -25,7 +21,9 @@ add-result c = search needs
 
 returns : tie.Need-returns
 unfolding squares
-returns c = (simp (c .before .before .before .apart .ensures .0, c .before .before .square .ensures .0, c .before .apart2 .ensures .0, c .square2 .ensures .0), omega arith)
+returns c =
+    let after-apart = c .before .before .before in
+    (simp (after-apart .apart .ensures .0, c .before .before .square .ensures .0, c .before .apart2 .ensures .0, c .square2 .ensures .0), omega arith)
 
 pub squares-spec : {M : Type 1} → statement M
 squares-spec =

@@ -2,8 +2,6 @@ use Rattle.links.proofs.Widths.{no-nan}
 use borrow.Author.Needs.{needs}
 use Rattle.links.proofs.geometry.width_of.Statement.{statement}
 use Rattle.links.proofs.geometry.width_of.Tie as tie
-use Rattle.links.proofs.geometry.width_of.Reads as reads
-use Rattle.links.proofs.geometry.width_of.Lts as lts
 
 float-from-bits-result : tie.Need-float-from-bits-result
 float-from-bits-result c = no-nan _ (c .pre)

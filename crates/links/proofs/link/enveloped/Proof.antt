@@ -1,9 +1,6 @@
 use borrow.Author.Needs.{needs}
 use Rattle.links.proofs.link.enveloped.Statement.{statement}
 use Rattle.links.proofs.link.enveloped.Tie as tie
-use Rattle.links.proofs.link.enveloped.Reads as reads
-use Rattle.links.proofs.link.enveloped.Lts as lts
-use Rattle.links.proofs.geometry.Point.reach.Reads as reach-reads
 
 reach-requires : tie.Need-reach-requires
 reach-requires c κs = search needs

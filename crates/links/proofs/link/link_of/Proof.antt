@@ -2,17 +2,6 @@ use Rattle.links.specs.Link.{linkOf}
 use borrow.Author.Needs.{needs}
 use Rattle.links.proofs.link.link_of.Statement.{statement}
 use Rattle.links.proofs.link.link_of.Tie as tie
-use Rattle.links.proofs.link.link_of.Reads as reads
-use Rattle.links.proofs.link.link_of.Lts as lts
-use Rattle.length.proofs.floats.min.Reads as min-reads
-use Rattle.links.proofs.geometry.Point.turned.Reads as turned-reads
-use Rattle.links.proofs.geometry.Range.none.Reads as none-reads
-use Rattle.links.proofs.geometry.centre_distance.Reads as centre-distance-reads
-use Rattle.links.proofs.geometry.centre_of.Reads as centre-of-reads
-use Rattle.links.proofs.geometry.end_bounds.Reads as end-bounds-reads
-use Rattle.links.proofs.geometry.link_direction.Reads as link-direction-reads
-use Rattle.links.proofs.geometry.span_direction.Reads as span-direction-reads
-use Rattle.links.proofs.geometry.width_of.Reads as width-of-reads
 
 centre-of-requires : tie.Need-centre-of-requires
 centre-of-requires c κs = search needs
@@ -52,7 +41,30 @@ min-requires c κs = search needs
 
 returns : tie.Need-returns
 unfolding linkOf
-returns c = simp (c .min .ensures, c .before .width-of2 .ensures, c .before .before .width-of .ensures, c .before .before .before .centre-distance .ensures, c .before .before .before .before .none .ensures, c .before .before .before .before .before .end-bounds2 .ensures, c .before .before .before .before .before .before .end-bounds .ensures, c .before .before .before .before .before .before .before .turned2 .ensures, c .before .before .before .before .before .before .before .before .span-direction .ensures, c .before .before .before .before .before .before .before .before .before .turned .ensures, c .before .before .before .before .before .before .before .before .before .before .link-direction .ensures, c .before .before .before .before .before .before .before .before .before .before .before .centre-of .ensures)
+returns c =
+    let after-centre-distance = c .before .before .before in
+    let after-none = after-centre-distance .before in
+    let after-end-bounds2 = after-none .before in
+    let after-end-bounds = after-end-bounds2 .before in
+    let after-turned2 = after-end-bounds .before in
+    let after-span-direction = after-turned2 .before in
+    let after-turned = after-span-direction .before in
+    let after-link-direction = after-turned .before in
+    let after-centre-of = after-link-direction .before in
+    simp (
+      c .min .ensures,
+      c .before .width-of2 .ensures,
+      c .before .before .width-of .ensures,
+      after-centre-distance .centre-distance .ensures,
+      after-none .none .ensures,
+      after-end-bounds2 .end-bounds2 .ensures,
+      after-end-bounds .end-bounds .ensures,
+      after-turned2 .turned2 .ensures,
+      after-span-direction .span-direction .ensures,
+      after-turned .turned .ensures,
+      after-link-direction .link-direction .ensures,
+      after-centre-of .centre-of .ensures,
+    )
 
 pub link-of-spec : {M : Type 1} → statement M
 link-of-spec =

@@ -1,7 +1,5 @@
 use Rattle.links.proofs.parallel.facing.Statement.{statement}
 use Rattle.links.proofs.parallel.facing.Tie as tie
-use Rattle.links.proofs.parallel.facing.Reads as reads
-use Rattle.links.proofs.parallel.facing.Lts as lts
 
 returns : tie.Need-returns
 returns c = simp (c .if1 .taken)

@@ -1,10 +1,6 @@
 use borrow.Author.Needs.{needs}
 use Rattle.links.proofs.parallel.span_vector.Statement.{statement}
 use Rattle.links.proofs.parallel.span_vector.Tie as tie
-use Rattle.links.proofs.parallel.span_vector.Reads as reads
-use Rattle.links.proofs.parallel.span_vector.Lts as lts
-use Rattle.links.proofs.geometry.Point.towards.Reads as towards-reads
-use Rattle.links.proofs.geometry.point_of.Reads as point-of-reads
 
 point-of-requires : tie.Need-point-of-requires
 point-of-requires c κs = search needs

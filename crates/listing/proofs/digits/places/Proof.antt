@@ -2,8 +2,6 @@ use native.Mathlib.Omega.{arith}
 use Rattle.listing.proofs.Spelling.{Counted, counted-start, counted-next, counted-end}
 use Rattle.listing.proofs.digits.places.Statement.{statement}
 use Rattle.listing.proofs.digits.places.Tie as tie
-use Rattle.listing.proofs.digits.places.Reads as reads
-use Rattle.listing.proofs.digits.places.Lts as lts
 
 abbrev Inv-loop : tie.InvT-loop
 Inv-loop v k₀ rest₀ k rest = Counted v k rest

@@ -3,9 +3,6 @@ use Rattle.listing.proofs.Spelling.{remainder-small, Spelt, spelt-start
 use borrow.Author.Needs.{needs}
 use Rattle.listing.proofs.digits.write_digits.Statement.{statement}
 use Rattle.listing.proofs.digits.write_digits.Tie as tie
-use Rattle.listing.proofs.digits.write_digits.Reads as reads
-use Rattle.listing.proofs.digits.write_digits.Lts as lts
-use Rattle.listing.proofs.digits.glyph.Reads as glyph-reads
 
 abbrev Inv-loop : tie.InvT-loop
 Inv-loop v base k out₀ at i₀ rest₀ out i rest = Spelt base k v out₀ at out i rest
@@ -20,19 +17,28 @@ sub-i : tie.Need-sub-i Inv-loop μ-loop
 sub-i c = search needs
 
 rem-glyph : tie.Need-rem-glyph Inv-loop μ-loop
-rem-glyph c = omega (arith, c .before .before .before .pre .0)
+rem-glyph c =
+    let start = c .before .before .before in
+    omega (arith, start .pre .0)
 
 glyph-requires : tie.Need-glyph-requires Inv-loop μ-loop
-glyph-requires c κs = remainder-small _ (c .before .before .before .pre .0) (c .before .before .before .pre .1)
+glyph-requires c κs =
+    let start = c .before .before .before in
+    remainder-small _ (start .pre .0) (start .pre .1)
 
 add-out : tie.Need-add-out Inv-loop μ-loop
 add-out c = search needs
 
 slice-write-out : tie.Need-slice-write-out Inv-loop μ-loop
-slice-write-out c = omega (arith, c .before .before .loop .inv .size, c .before .before .loop .inv .fits, spelt-long (c .before .before .loop .inv), c .before .loop-test .taken)
+slice-write-out c =
+    let in-loop = c .before .before in
+    let inv = in-loop .loop .inv in
+    omega (arith, inv .size, inv .fits, spelt-long (inv), c .before .loop-test .taken)
 
 div-rest : tie.Need-div-rest Inv-loop μ-loop
-div-rest c = omega (arith, c .before .before .before .before .pre .0)
+div-rest c =
+    let start = c .before .before .before .before in
+    omega (arith, start .pre .0)
 
 loop-less : tie.Need-loop-less Inv-loop μ-loop
 loop-less c = omega (arith, c .before .loop-test .taken)

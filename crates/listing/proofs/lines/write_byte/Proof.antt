@@ -3,8 +3,6 @@ use Rattle.listing.proofs.Writing.{byte-writes}
 use borrow.Author.Needs.{needs}
 use Rattle.listing.proofs.lines.write_byte.Statement.{statement}
 use Rattle.listing.proofs.lines.write_byte.Tie as tie
-use Rattle.listing.proofs.lines.write_byte.Reads as reads
-use Rattle.listing.proofs.lines.write_byte.Lts as lts
 
 slice-write-out : tie.Need-slice-write-out
 slice-write-out c = search needs

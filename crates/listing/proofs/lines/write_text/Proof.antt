@@ -6,8 +6,6 @@ use Rattle.listing.proofs.Writing.{Copied, as-long, copied-start, copie
 use borrow.Author.Needs.{needs}
 use Rattle.listing.proofs.lines.write_text.Statement.{statement}
 use Rattle.listing.proofs.lines.write_text.Tie as tie
-use Rattle.listing.proofs.lines.write_text.Reads as reads
-use Rattle.listing.proofs.lines.write_text.Lts as lts
 
 abbrev Inv-loop : tie.InvT-loop
 Inv-loop text out₀ at n i₀ out i = Copied text out₀ at out i × (i ≤ n) × (n ≡ length text)
@@ -22,10 +20,16 @@ shared-slice-read-out : tie.Need-shared-slice-read-out Inv-loop μ-loop
 shared-slice-read-out c = search needs
 
 add-out : tie.Need-add-out Inv-loop μ-loop
-add-out c = omega (arith, c .before .before .before .pre, c .before .before .loop .inv .2, c .before .loop-test .taken)
+add-out c =
+    let start = c .before .before .before in
+    omega (arith, start .pre, c .before .before .loop .inv .2, c .before .loop-test .taken)
 
 slice-write-out : tie.Need-slice-write-out Inv-loop μ-loop
-slice-write-out c = omega (arith, as-long (c .before .before .loop .inv .0), c .before .before .before .pre, c .before .before .loop .inv .2, c .before .loop-test .taken)
+slice-write-out c =
+    let in-loop = c .before .before in
+    let start = in-loop .before in
+    let inv = in-loop .loop .inv in
+    omega (arith, as-long (inv .0), start .pre, inv .2, c .before .loop-test .taken)
 
 add-i : tie.Need-add-i Inv-loop μ-loop
 add-i c = omega (arith, c .before .loop-test .taken)
@@ -34,7 +38,10 @@ loop-less : tie.Need-loop-less Inv-loop μ-loop
 loop-less c = omega (arith, c .before .loop-test .taken)
 
 loop-again : tie.Need-loop-again Inv-loop μ-loop
-loop-again c = (copied-next _ _ _ _ _ (omega (arith, c .before .before .loop .inv .2, c .before .loop-test .taken)) (c .before .before .loop .inv .0), omega (arith, c .before .loop-test .taken), c .before .before .loop .inv .2)
+loop-again c =
+    let in-loop = c .before .before in
+    let inv = in-loop .loop .inv in
+    (copied-next _ _ _ _ _ (omega (arith, inv .2, c .before .loop-test .taken)) (inv .0), omega (arith, c .before .loop-test .taken), inv .2)
 
 add-result : tie.Need-add-result Inv-loop μ-loop
 add-result c = search needs
@@ -43,7 +50,9 @@ same-length : tie.Need-same-length Inv-loop μ-loop
 same-length c = as-long (c .before .loop .inv .0)
 
 returns : tie.Need-returns Inv-loop μ-loop
-returns c = copied-end _ _ _ _ _ _ (c .before .loop .inv .2) (c .loop-test .left) (c .before .loop .inv .1) (c .before .loop .inv .0)
+returns c =
+    let inv = c .before .loop .inv in
+    copied-end _ _ _ _ _ _ (inv .2) (c .loop-test .left) (inv .1) (inv .0)
 
 pub write-text-spec : {M : Type 1} → statement M
 write-text-spec =

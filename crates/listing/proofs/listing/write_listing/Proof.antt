@@ -5,12 +5,6 @@ use Rattle.listing.proofs.Sizing.{no-header, no-records, no-room, listi
 use borrow.Author.Needs.{needs}
 use Rattle.listing.proofs.listing.write_listing.Statement.{statement}
 use Rattle.listing.proofs.listing.write_listing.Tie as tie
-use Rattle.listing.proofs.listing.write_listing.Reads as reads
-use Rattle.listing.proofs.listing.write_listing.Lts as lts
-use Rattle.listing.proofs.listing.write_kept.Reads as write-kept-reads
-use Rattle.listing.proofs.walk.write_boundaries.Reads as write-boundaries-reads
-use Rattle.wire.proofs.read_u32.Reads as read-u32-reads
-use Rattle.wire.proofs.size.Reads as size-reads
 
 returns : tie.Need-returns
 returns c = (no-header _ _ (c .if1 .taken), omega arith)
@@ -52,25 +46,106 @@ add-total : tie.Need-add-total
 add-total c = search needs
 
 returns-2 : tie.Need-returns-2
-returns-2 c = (no-records _ _ (omega (arith, c .if2 .taken, c .before .size3 .ensures .0, c .before .before .read-u323 .ensures, c .before .before .before .size2 .ensures .0, c .before .before .before .before .read-u322 .ensures, c .before .before .before .before .before .size .ensures .0, c .before .before .before .before .before .before .read-u32 .ensures)), omega arith)
+returns-2 c =
+    let after-size2 = c .before .before .before in
+    let after-read-u322 = after-size2 .before in
+    let after-size = after-read-u322 .before in
+    let after-read-u32 = after-size .before in (
+      no-records _ _ (omega (
+        arith,
+        c .if2 .taken,
+        c .before .size3 .ensures .0,
+        c .before .before .read-u323 .ensures,
+        after-size2 .size2 .ensures .0,
+        after-read-u322 .read-u322 .ensures,
+        after-size .size .ensures .0,
+        after-read-u32 .read-u32 .ensures,
+      )),
+      omega arith,
+    )
 
 mul-if3 : tie.Need-mul-if3
 mul-if3 c = search needs
 
 returns-3 : tie.Need-returns-3
-returns-3 c = (no-room _ _ (omega (arith, c .if3 .taken, c .before .before .size3 .ensures .0, c .before .before .before .read-u323 .ensures, c .before .before .before .before .size2 .ensures .0, c .before .before .before .before .before .read-u322 .ensures, c .before .before .before .before .before .before .size .ensures .0, c .before .before .before .before .before .before .before .read-u32 .ensures)), omega arith)
+returns-3 c =
+    let after-read-u323 = c .before .before .before in
+    let after-size2 = after-read-u323 .before in
+    let after-read-u322 = after-size2 .before in
+    let after-size = after-read-u322 .before in
+    let after-read-u32 = after-size .before in (
+      no-room _ _ (omega (
+        arith,
+        c .if3 .taken,
+        c .before .before .size3 .ensures .0,
+        after-read-u323 .read-u323 .ensures,
+        after-size2 .size2 .ensures .0,
+        after-read-u322 .read-u322 .ensures,
+        after-size .size .ensures .0,
+        after-read-u32 .read-u32 .ensures,
+      )),
+      omega arith,
+    )
 
 write-kept-requires : tie.Need-write-kept-requires
-write-kept-requires c κs = room (listing-start (c .before .before .before .before .before .before .before .before .before .before .before .before .args .answer .now) (c .before .before .before .before .before .before .before .before .before .before .before .before .args .out .now) (λ i. c .before .before .before .before .before .before .before .before .before .before .before .shared-slice-known .given i .fits) _ _ _ (c .before .before .before .before .before .before .before .size .ensures .0 ∙ c .before .before .before .before .before .before .before .before .read-u32 .ensures) (c .before .before .before .before .before .size2 .ensures .0 ∙ c .before .before .before .before .before .before .read-u322 .ensures) (c .before .before .before .size3 .ensures .0 ∙ c .before .before .before .before .read-u323 .ensures) (c .before .before .before .before .before .before .before .size .ensures .1) (c .before .before .before .before .before .size2 .ensures .1) (c .before .before .before .size3 .ensures .1) (omega (arith, c .before .before .if2 .left)) (omega (arith, c .before .if3 .left)) _ (sym (c .before .before .before .before .before .before .before .size .ensures .0)))
+write-kept-requires c κs =
+    let after-size3 = c .before .before .before in
+    let after-read-u323 = after-size3 .before in
+    let after-size2 = after-read-u323 .before in
+    let after-read-u322 = after-size2 .before in
+    let after-size = after-read-u322 .before in
+    let after-read-u32 = after-size .before in
+    let lent-shared-slice-known = after-read-u32 .before .before .before in
+    let start = lent-shared-slice-known .before in
+    room (listing-start (start .args .answer .now) (start .args .out .now) (λ i. lent-shared-slice-known .shared-slice-known .given i .fits) _ _ _
+    (after-size .size .ensures .0 ∙ after-read-u32 .read-u32 .ensures) (after-size2 .size2 .ensures .0 ∙ after-read-u322 .read-u322 .ensures)
+    (after-size3 .size3 .ensures .0 ∙ after-read-u323 .read-u323 .ensures) (after-size .size .ensures .1) (after-size2 .size2 .ensures .1)
+    (after-size3 .size3 .ensures .1) (omega (arith, c .before .before .if2 .left)) (omega (arith, c .before .if3 .left)) _
+    (sym (after-size .size .ensures .0)))
 
 write-boundaries-requires : tie.Need-write-boundaries-requires
-write-boundaries-requires c κs = (record { observations = omega (arith, c .before .before .before .before .before .before .if2 .left); sources = omega (arith, c .before .before .before .before .before .before .if2 .left) }, omega (arith, c .before .before .before .before .before .before .if2 .left), room (next (listing-start (c .before .before .before .before .before .before .before .before .before .before .before .before .before .before .before .before .args .answer .now) (c .before .before .before .before .before .before .before .before .before .before .before .before .before .before .before .before .args .out .now) (λ i. c .before .before .before .before .before .before .before .before .before .before .before .before .before .before .before .shared-slice-known .given i .fits) _ _ _ (c .before .before .before .before .before .before .before .before .before .before .before .size .ensures .0 ∙ c .before .before .before .before .before .before .before .before .before .before .before .before .read-u32 .ensures) (c .before .before .before .before .before .before .before .before .before .size2 .ensures .0 ∙ c .before .before .before .before .before .before .before .before .before .before .read-u322 .ensures) (c .before .before .before .before .before .before .before .size3 .ensures .0 ∙ c .before .before .before .before .before .before .before .before .read-u323 .ensures) (c .before .before .before .before .before .before .before .before .before .before .before .size .ensures .1) (c .before .before .before .before .before .before .before .before .before .size2 .ensures .1) (c .before .before .before .before .before .before .before .size3 .ensures .1) (omega (arith, c .before .before .before .before .before .before .if2 .left)) (omega (arith, c .before .before .before .before .before .if3 .left)) _ (sym (c .before .before .before .before .before .before .before .before .before .before .before .size .ensures .0))) (c .before .before .before .write-kept .ensures)))
+write-boundaries-requires c κs =
+    let after-write-kept = c .before .before .before in
+    let if3-left = after-write-kept .before .before in
+    let if2-left = if3-left .before in
+    let after-size3 = if2-left .before in
+    let after-read-u323 = after-size3 .before in
+    let after-size2 = after-read-u323 .before in
+    let after-read-u322 = after-size2 .before in
+    let after-size = after-read-u322 .before in
+    let after-read-u32 = after-size .before in
+    let lent-shared-slice-known = after-read-u32 .before .before .before in
+    let start = lent-shared-slice-known .before in (
+      record { observations = omega (arith, if2-left .if2 .left); sources = omega (arith, if2-left .if2 .left) },
+      omega (arith, if2-left .if2 .left),
+      room (next (listing-start (start .args .answer .now) (start .args .out .now) (λ i. lent-shared-slice-known .shared-slice-known .given i .fits) _ _ _
+          (after-size .size .ensures .0 ∙ after-read-u32 .read-u32 .ensures) (after-size2 .size2 .ensures .0 ∙ after-read-u322 .read-u322 .ensures)
+          (after-size3 .size3 .ensures .0 ∙ after-read-u323 .read-u323 .ensures) (after-size .size .ensures .1) (after-size2 .size2 .ensures .1)
+          (after-size3 .size3 .ensures .1) (omega (arith, if2-left .if2 .left)) (omega (arith, if3-left .if3 .left)) _ (sym (after-size .size .ensures .0)))
+          (after-write-kept .write-kept .ensures)),
+    )
 
 same-length : tie.Need-same-length
 same-length c = search needs
 
 returns-4 : tie.Need-returns-4
-returns-4 c = let l = next (next (listing-start (c .before .before .before .before .before .before .before .before .before .before .before .before .before .before .before .before .before .before .before .args .answer .now) (c .before .before .before .before .before .before .before .before .before .before .before .before .before .before .before .before .before .before .before .args .out .now) (λ i. c .before .before .before .before .before .before .before .before .before .before .before .before .before .before .before .before .before .before .shared-slice-known .given i .fits) _ _ _ (c .before .before .before .before .before .before .before .before .before .before .before .before .before .before .size .ensures .0 ∙ c .before .before .before .before .before .before .before .before .before .before .before .before .before .before .before .read-u32 .ensures) (c .before .before .before .before .before .before .before .before .before .before .before .before .size2 .ensures .0 ∙ c .before .before .before .before .before .before .before .before .before .before .before .before .before .read-u322 .ensures) (c .before .before .before .before .before .before .before .before .before .before .size3 .ensures .0 ∙ c .before .before .before .before .before .before .before .before .before .before .before .read-u323 .ensures) (c .before .before .before .before .before .before .before .before .before .before .before .before .before .before .size .ensures .1) (c .before .before .before .before .before .before .before .before .before .before .before .before .size2 .ensures .1) (c .before .before .before .before .before .before .before .before .before .before .size3 .ensures .1) (omega (arith, c .before .before .before .before .before .before .before .before .before .if2 .left)) (omega (arith, c .before .before .before .before .before .before .before .before .if3 .left)) _ (sym (c .before .before .before .before .before .before .before .before .before .before .before .before .before .before .size .ensures .0))) (c .before .before .before .before .before .before .write-kept .ensures)) (c .before .before .write-boundaries .ensures) in (done l, omega (arith, l .fits, as-long l, done l .end))
+returns-4 c =
+    let after-write-kept = c .before .before .before .before .before .before in
+    let if3-left = after-write-kept .before .before in
+    let if2-left = if3-left .before in
+    let after-size3 = if2-left .before in
+    let after-read-u323 = after-size3 .before in
+    let after-size2 = after-read-u323 .before in
+    let after-read-u322 = after-size2 .before in
+    let after-size = after-read-u322 .before in
+    let after-read-u32 = after-size .before in
+    let lent-shared-slice-known = after-read-u32 .before .before .before in
+    let start = lent-shared-slice-known .before in
+    let l = next (next (listing-start (start .args .answer .now) (start .args .out .now) (λ i. lent-shared-slice-known .shared-slice-known .given i .fits) _ _ _
+    (after-size .size .ensures .0 ∙ after-read-u32 .read-u32 .ensures) (after-size2 .size2 .ensures .0 ∙ after-read-u322 .read-u322 .ensures)
+    (after-size3 .size3 .ensures .0 ∙ after-read-u323 .read-u323 .ensures) (after-size .size .ensures .1) (after-size2 .size2 .ensures .1)
+    (after-size3 .size3 .ensures .1) (omega (arith, if2-left .if2 .left)) (omega (arith, if3-left .if3 .left)) _ (sym (after-size .size .ensures .0)))
+    (after-write-kept .write-kept .ensures)) (c .before .before .write-boundaries .ensures) in (done l, omega (arith, l .fits, as-long l, done l .end))
 
 pub write-listing-spec : {M : Type 1} → statement M
 write-listing-spec =

@@ -3,13 +3,6 @@ use Rattle.listing.proofs.Steps.{whole-start, own-inside, rest-inside, 
 use borrow.Author.Needs.{needs}
 use Rattle.listing.proofs.walk.write_boundary.Statement.{statement}
 use Rattle.listing.proofs.walk.write_boundary.Tie as tie
-use Rattle.listing.proofs.walk.write_boundary.Reads as reads
-use Rattle.listing.proofs.walk.write_boundary.Lts as lts
-use Rattle.format.proofs.read_boundary.Reads as read-boundary-reads
-use Rattle.listing.proofs.lines.write_boundary_line.Reads as write-boundary-line-reads
-use Rattle.listing.proofs.walk.least.Reads as least-reads
-use Rattle.listing.proofs.walk.write_observations.Reads as write-observations-reads
-use Rattle.listing.proofs.walk.write_sources.Reads as write-sources-reads
 
 read-boundary-requires : tie.Need-read-boundary-requires
 read-boundary-requires c κs = search needs
@@ -21,10 +14,25 @@ least-requires-2 : tie.Need-least-requires-2
 least-requires-2 c κs = search needs
 
 write-boundary-line-requires : tie.Need-write-boundary-line-requires
-write-boundary-line-requires c κs = room (whole-start (c .before .before .before .before .before .before .args .answer .now) (c .before .before .before .before .before .before .args .place) (c .before .before .before .before .before .before .args .c) _ _ _ (c .before .before .before .read-boundary .ensures) (c .before .before .least .ensures) (c .before .least2 .ensures) (c .before .before .before .before .before .before .args .out .now) (c .before .before .before .before .before .before .pre .2))
+write-boundary-line-requires c κs =
+    let after-read-boundary = c .before .before .before in
+    let start = after-read-boundary .before .before .before in
+    room (whole-start (start .args .answer .now) (start .args .place) (start .args .c) _ _ _ (after-read-boundary .read-boundary .ensures)
+    (c .before .before .least .ensures) (c .before .least2 .ensures) (start .args .out .now) (start .pre .2))
 
 write-sources-requires : tie.Need-write-sources-requires
-write-sources-requires c κs = (own-inside (c .before .before .before .before .before .before .before .before .before .before .args .answer .now) (c .before .before .before .before .before .before .before .before .before .before .args .place) (c .before .before .before .before .before .before .before .before .before .before .args .c) _ _ _ (c .before .before .before .before .before .before .before .read-boundary .ensures) (c .before .before .before .before .before .before .least .ensures) (c .before .before .before .before .before .least2 .ensures) (c .before .before .before .before .before .before .before .before .before .before .pre .0), room (next (whole-start (c .before .before .before .before .before .before .before .before .before .before .args .answer .now) (c .before .before .before .before .before .before .before .before .before .before .args .place) (c .before .before .before .before .before .before .before .before .before .before .args .c) _ _ _ (c .before .before .before .before .before .before .before .read-boundary .ensures) (c .before .before .before .before .before .before .least .ensures) (c .before .before .before .before .before .least2 .ensures) (c .before .before .before .before .before .before .before .before .before .before .args .out .now) (c .before .before .before .before .before .before .before .before .before .before .pre .2)) (c .before .before .before .write-boundary-line .ensures)))
+write-sources-requires c κs =
+    let after-write-boundary-line = c .before .before .before in
+    let after-least2 = after-write-boundary-line .before .before in
+    let after-least = after-least2 .before in
+    let after-read-boundary = after-least .before in
+    let start = after-read-boundary .before .before .before in (
+      own-inside (start .args .answer .now) (start .args .place) (start .args .c) _ _ _ (after-read-boundary .read-boundary .ensures)
+          (after-least .least .ensures) (after-least2 .least2 .ensures) (start .pre .0),
+      room (next (whole-start (start .args .answer .now) (start .args .place) (start .args .c) _ _ _ (after-read-boundary .read-boundary .ensures)
+          (after-least .least .ensures) (after-least2 .least2 .ensures) (start .args .out .now) (start .pre .2))
+          (after-write-boundary-line .write-boundary-line .ensures)),
+    )
 
 mul-t17 : tie.Need-mul-t17
 mul-t17 c = search needs
@@ -36,13 +44,44 @@ sub-t19 : tie.Need-sub-t19
 sub-t19 c = search needs
 
 write-observations-requires : tie.Need-write-observations-requires
-write-observations-requires c κs = (rest-inside (c .before .before .before .before .before .before .before .before .before .before .before .before .before .before .args .answer .now) (c .before .before .before .before .before .before .before .before .before .before .before .before .before .before .args .place) (c .before .before .before .before .before .before .before .before .before .before .before .before .before .before .args .c) _ _ _ (c .before .before .before .before .before .before .before .before .before .before .before .read-boundary .ensures) (c .before .before .before .before .before .before .before .before .before .before .least .ensures) (c .before .before .before .before .before .before .before .before .before .least2 .ensures) (c .before .before .before .before .before .before .before .before .before .before .before .before .before .before .pre .0) _, seen-few (c .before .before .before .before .before .before .before .before .before .before .before .before .before .before .args .answer .now) (c .before .before .before .before .before .before .before .before .before .before .before .before .before .before .args .place) (c .before .before .before .before .before .before .before .before .before .before .before .before .before .before .args .c) _ _ _ (c .before .before .before .before .before .before .before .before .before .before .before .read-boundary .ensures) (c .before .before .before .before .before .before .before .before .before .before .least .ensures) (c .before .before .before .before .before .before .before .before .before .least2 .ensures), room (next (next (whole-start (c .before .before .before .before .before .before .before .before .before .before .before .before .before .before .args .answer .now) (c .before .before .before .before .before .before .before .before .before .before .before .before .before .before .args .place) (c .before .before .before .before .before .before .before .before .before .before .before .before .before .before .args .c) _ _ _ (c .before .before .before .before .before .before .before .before .before .before .before .read-boundary .ensures) (c .before .before .before .before .before .before .before .before .before .before .least .ensures) (c .before .before .before .before .before .before .before .before .before .least2 .ensures) (c .before .before .before .before .before .before .before .before .before .before .before .before .before .before .args .out .now) (c .before .before .before .before .before .before .before .before .before .before .before .before .before .before .pre .2)) (c .before .before .before .before .before .before .before .write-boundary-line .ensures)) (c .before .before .before .write-sources .ensures)))
+write-observations-requires c κs =
+    let after-write-sources = c .before .before .before in
+    let after-write-boundary-line = after-write-sources .before .before .before .before in
+    let after-least2 = after-write-boundary-line .before .before in
+    let after-least = after-least2 .before in
+    let after-read-boundary = after-least .before in
+    let start = after-read-boundary .before .before .before in
+    let answer = start .args .answer .now in
+    let place = start .args .place in
+    let c-arg = start .args .c in (
+      rest-inside answer place c-arg _ _ _ (after-read-boundary .read-boundary .ensures) (after-least .least .ensures) (after-least2 .least2 .ensures)
+          (start .pre .0) _,
+      seen-few answer place c-arg _ _ _ (after-read-boundary .read-boundary .ensures) (after-least .least .ensures)
+          (after-least2 .least2 .ensures),
+      room (next (next (whole-start answer place c-arg _ _ _ (after-read-boundary .read-boundary .ensures) (after-least .least .ensures)
+          (after-least2 .least2 .ensures) (start .args .out .now) (start .pre .2)) (after-write-boundary-line .write-boundary-line .ensures))
+          (after-write-sources .write-sources .ensures)),
+    )
 
 same-length : tie.Need-same-length
 same-length c = search needs
 
 returns : tie.Need-returns
-returns c = (done (next (next (next (whole-start (c .before .before .before .before .before .before .before .before .before .before .before .before .before .before .before .before .before .args .answer .now) (c .before .before .before .before .before .before .before .before .before .before .before .before .before .before .before .before .before .args .place) (c .before .before .before .before .before .before .before .before .before .before .before .before .before .before .before .before .before .args .c) _ _ _ (c .before .before .before .before .before .before .before .before .before .before .before .before .before .before .read-boundary .ensures) (c .before .before .before .before .before .before .before .before .before .before .before .before .before .least .ensures) (c .before .before .before .before .before .before .before .before .before .before .before .before .least2 .ensures) (c .before .before .before .before .before .before .before .before .before .before .before .before .before .before .before .before .before .args .out .now) (c .before .before .before .before .before .before .before .before .before .before .before .before .before .before .before .before .before .pre .2)) (c .before .before .before .before .before .before .before .before .before .before .write-boundary-line .ensures)) (c .before .before .before .before .before .before .write-sources .ensures)) (c .before .before .write-observations .ensures .0)), whole-moved (c .before .before .before .before .before .before .before .before .before .before .before .before .before .before .before .before .before .args .answer .now) (c .before .before .before .before .before .before .before .before .before .before .before .before .before .before .before .before .before .args .place) (c .before .before .before .before .before .before .before .before .before .before .before .before .before .before .before .before .before .args .c) _ _ _ (c .before .before .before .before .before .before .before .before .before .before .before .before .before .before .read-boundary .ensures) (c .before .before .before .before .before .before .before .before .before .before .before .before .before .least .ensures) (c .before .before .before .before .before .before .before .before .before .before .before .before .least2 .ensures) _ _ (c .before .before .write-observations .ensures .1))
+returns c =
+    let after-write-observations = c .before .before in
+    let after-write-sources = after-write-observations .before .before .before .before in
+    let after-write-boundary-line = after-write-sources .before .before .before .before in
+    let after-least2 = after-write-boundary-line .before .before in
+    let after-least = after-least2 .before in
+    let after-read-boundary = after-least .before in
+    let start = after-read-boundary .before .before .before in (
+      done (next (next (next (whole-start (start .args .answer .now) (start .args .place) (start .args .c) _ _ _ (after-read-boundary .read-boundary .ensures)
+          (after-least .least .ensures) (after-least2 .least2 .ensures) (start .args .out .now) (start .pre .2))
+          (after-write-boundary-line .write-boundary-line .ensures)) (after-write-sources .write-sources .ensures))
+          (after-write-observations .write-observations .ensures .0)),
+      whole-moved (start .args .answer .now) (start .args .place) (start .args .c) _ _ _ (after-read-boundary .read-boundary .ensures)
+          (after-least .least .ensures) (after-least2 .least2 .ensures) _ _ (after-write-observations .write-observations .ensures .1),
+    )
 
 pub write-boundary-spec : {M : Type 1} → statement M
 write-boundary-spec =

@@ -3,12 +3,6 @@ use Rattle.listing.proofs.Steps.{here-start, here-sources, here-moved}
 use borrow.Author.Needs.{needs}
 use Rattle.listing.proofs.walk.write_observation.Statement.{statement}
 use Rattle.listing.proofs.walk.write_observation.Tie as tie
-use Rattle.listing.proofs.walk.write_observation.Reads as reads
-use Rattle.listing.proofs.walk.write_observation.Lts as lts
-use Rattle.format.proofs.read_observation.Reads as read-observation-reads
-use Rattle.listing.proofs.lines.write_observation_line.Reads as write-observation-line-reads
-use Rattle.listing.proofs.walk.least.Reads as least-reads
-use Rattle.listing.proofs.walk.write_sources.Reads as write-sources-reads
 
 read-observation-requires : tie.Need-read-observation-requires
 read-observation-requires c κs = search needs
@@ -17,10 +11,23 @@ least-requires : tie.Need-least-requires
 least-requires c κs = search needs
 
 write-observation-line-requires : tie.Need-write-observation-line-requires
-write-observation-line-requires c κs = room (here-start (c .before .before .before .before .before .args .answer .now) (c .before .before .before .before .before .args .c) _ _ (c .before .before .read-observation .ensures) (c .before .least .ensures) (c .before .before .before .before .before .args .out .now) (c .before .before .before .before .before .pre .2))
+write-observation-line-requires c κs =
+    let start = c .before .before .before .before .before in
+    room (here-start (start .args .answer .now) (start .args .c) _ _ (c .before .before .read-observation .ensures) (c .before .least .ensures)
+    (start .args .out .now) (start .pre .2))
 
 write-sources-requires : tie.Need-write-sources-requires
-write-sources-requires c κs = (here-sources (c .before .before .before .before .before .before .before .before .before .args .answer .now) (c .before .before .before .before .before .before .before .before .before .args .c) _ _ (c .before .before .before .before .before .before .read-observation .ensures) (c .before .before .before .before .before .least .ensures) (c .before .before .before .before .before .before .before .before .before .pre .0), room (next (here-start (c .before .before .before .before .before .before .before .before .before .args .answer .now) (c .before .before .before .before .before .before .before .before .before .args .c) _ _ (c .before .before .before .before .before .before .read-observation .ensures) (c .before .before .before .before .before .least .ensures) (c .before .before .before .before .before .before .before .before .before .args .out .now) (c .before .before .before .before .before .before .before .before .before .pre .2)) (c .before .before .before .write-observation-line .ensures)))
+write-sources-requires c κs =
+    let after-write-observation-line = c .before .before .before in
+    let after-least = after-write-observation-line .before .before in
+    let after-read-observation = after-least .before in
+    let start = after-read-observation .before .before .before in (
+      here-sources (start .args .answer .now) (start .args .c) _ _ (after-read-observation .read-observation .ensures) (after-least .least .ensures)
+          (start .pre .0),
+      room (next
+          (here-start (start .args .answer .now) (start .args .c) _ _ (after-read-observation .read-observation .ensures) (after-least .least .ensures)
+          (start .args .out .now) (start .pre .2)) (after-write-observation-line .write-observation-line .ensures)),
+    )
 
 add-t15 : tie.Need-add-t15
 add-t15 c = search needs
@@ -41,7 +48,18 @@ same-length : tie.Need-same-length
 same-length c = search needs
 
 returns : tie.Need-returns
-returns c = (done (next (next (here-start (c .before .before .before .before .before .before .before .before .before .before .before .before .before .args .answer .now) (c .before .before .before .before .before .before .before .before .before .before .before .before .before .args .c) _ _ (c .before .before .before .before .before .before .before .before .before .before .read-observation .ensures) (c .before .before .before .before .before .before .before .before .before .least .ensures) (c .before .before .before .before .before .before .before .before .before .before .before .before .before .args .out .now) (c .before .before .before .before .before .before .before .before .before .before .before .before .before .pre .2)) (c .before .before .before .before .before .before .before .write-observation-line .ensures)) (c .before .before .before .write-sources .ensures)), here-moved (c .before .before .before .before .before .before .before .before .before .before .before .before .before .args .answer .now) (c .before .before .before .before .before .before .before .before .before .before .before .before .before .args .c) _ _ (c .before .before .before .before .before .before .before .before .before .before .read-observation .ensures) (c .before .before .before .before .before .before .before .before .before .least .ensures) (c .before .before .before .before .before .before .before .before .before .before .before .before .before .pre .0) (c .before .before .before .before .before .before .before .before .before .before .before .before .before .pre .1) _)
+returns c =
+    let after-write-sources = c .before .before .before in
+    let after-write-observation-line = after-write-sources .before .before .before .before in
+    let after-least = after-write-observation-line .before .before in
+    let after-read-observation = after-least .before in
+    let start = after-read-observation .before .before .before in (
+      done (next (next (here-start (start .args .answer .now) (start .args .c) _ _ (after-read-observation .read-observation .ensures)
+          (after-least .least .ensures) (start .args .out .now) (start .pre .2)) (after-write-observation-line .write-observation-line .ensures))
+          (after-write-sources .write-sources .ensures)),
+      here-moved (start .args .answer .now) (start .args .c) _ _ (after-read-observation .read-observation .ensures) (after-least .least .ensures)
+          (start .pre .0) (start .pre .1) _,
+    )
 
 pub write-observation-spec : {M : Type 1} → statement M
 write-observation-spec =

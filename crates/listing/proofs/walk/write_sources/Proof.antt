@@ -4,10 +4,6 @@ use Rattle.listing.proofs.Writing.{as-long}
 use Rattle.listing.proofs.Steps.{SourcesLeft, sources-start, source-room, sources-next, sources-end}
 use Rattle.listing.proofs.walk.write_sources.Statement.{statement}
 use Rattle.listing.proofs.walk.write_sources.Tie as tie
-use Rattle.listing.proofs.walk.write_sources.Reads as reads
-use Rattle.listing.proofs.walk.write_sources.Lts as lts
-use Rattle.format.proofs.read_source.Reads as read-source-reads
-use Rattle.listing.proofs.lines.write_source.Reads as write-source-reads
 
 abbrev Inv-loop : tie.InvT-loop
 Inv-loop answer from n out₀ at i₀ end₀ out i end = SourcesLeft answer from n out₀ at out i end
@@ -19,25 +15,42 @@ loop-holds : tie.Need-loop-holds Inv-loop μ-loop
 loop-holds c = sources-start _ _ _ _ _ (c .before .before .pre .1)
 
 mul-read-source : tie.Need-mul-read-source Inv-loop μ-loop
-mul-read-source c = omega (arith, c .before .before .before .before .pre .0, c .loop-test .taken)
+mul-read-source c =
+    let start = c .before .before .before .before in
+    omega (arith, start .pre .0, c .loop-test .taken)
 
 add-read-source : tie.Need-add-read-source Inv-loop μ-loop
-add-read-source c = omega (arith, c .before .before .before .before .pre .0, c .loop-test .taken)
+add-read-source c =
+    let start = c .before .before .before .before in
+    omega (arith, start .pre .0, c .loop-test .taken)
 
 read-source-requires : tie.Need-read-source-requires Inv-loop μ-loop
-read-source-requires c κs = omega (arith, c .before .before .before .before .pre .0, c .loop-test .taken)
+read-source-requires c κs =
+    let start = c .before .before .before .before in
+    omega (arith, start .pre .0, c .loop-test .taken)
 
 write-source-requires : tie.Need-write-source-requires Inv-loop μ-loop
-write-source-requires c κs = source-room _ _ _ _ _ _ (c .before .read-source .ensures) (c .before .before .loop-test .taken) (c .before .before .before .loop .inv)
+write-source-requires c κs =
+    let in-loop = c .before .before .before in
+    source-room _ _ _ _ _ _ (c .before .read-source .ensures) (c .before .before .loop-test .taken) (in-loop .loop .inv)
 
 add-i : tie.Need-add-i Inv-loop μ-loop
-add-i c = omega (arith, c .before .before .before .before .before .loop-test .taken)
+add-i c =
+    let turning = c .before .before .before .before .before in
+    omega (arith, turning .loop-test .taken)
 
 loop-less : tie.Need-loop-less Inv-loop μ-loop
-loop-less c = omega (arith, c .before .before .before .before .before .loop-test .taken)
+loop-less c =
+    let turning = c .before .before .before .before .before in
+    omega (arith, turning .loop-test .taken)
 
 loop-again : tie.Need-loop-again Inv-loop μ-loop
-loop-again c = sources-next _ _ _ _ _ _ (c .before .before .before .before .read-source .ensures) (c .before .before .before .before .before .loop-test .taken) (c .before .before .before .before .before .before .loop .inv) (c .before .before .write-source .ensures)
+loop-again c =
+    let after-read-source = c .before .before .before .before in
+    let turning = after-read-source .before in
+    let in-loop = turning .before in
+    sources-next _ _ _ _ _ _ (after-read-source .read-source .ensures) (turning .loop-test .taken) (in-loop .loop .inv)
+    (c .before .before .write-source .ensures)
 
 same-length : tie.Need-same-length Inv-loop μ-loop
 same-length c = as-long (c .before .loop .inv)

@@ -38,13 +38,16 @@ add-result-3 c = search needs
 
 returns : tie.Need-returns
 returns c =
-    let start = c .before .before .before .before in
+    let after-keep-bit2 = c .before .before in
+    let after-keep-bit = after-keep-bit2 .before in
+    let start = after-keep-bit .before in
     λ g dirs ss i m e f eb.
     let s = start .args .span in
     let b = bits (start .args .byte) (isOpen dirs g ss i 0) (isOpen dirs g ss i 1) (isOpen dirs g ss i 2) (isOpen dirs g ss i 3) (eb ∙ byte-is dirs g ss i) in
-    byte-from dirs g (ss ++ (s ∷ [])) i (c .before .before .before .keep-bit .result) (c .before .before .keep-bit2 .result) (c .before .keep-bit3 .result) (c .keep-bit4 .result)
-    (c .before .before .before .keep-bit .ensures .0 g i (isOpen dirs g ss i 0) m e f (open-leads dirs g ss s i 0) (b .0) ∙ ap bitOf (sym (open-last dirs g ss s i 0)))
-    (c .before .before .keep-bit2 .ensures .0 g i (isOpen dirs g ss i 1) m e f (open-leads dirs g ss s i 1) (b .1) ∙ ap bitOf (sym (open-last dirs g ss s i 1)))
+    byte-from dirs g (ss ++ (s ∷ [])) i (after-keep-bit .keep-bit .result) (after-keep-bit2 .keep-bit2 .result) (c .before .keep-bit3 .result)
+    (c .keep-bit4 .result)
+    (after-keep-bit .keep-bit .ensures .0 g i (isOpen dirs g ss i 0) m e f (open-leads dirs g ss s i 0) (b .0) ∙ ap bitOf (sym (open-last dirs g ss s i 0)))
+    (after-keep-bit2 .keep-bit2 .ensures .0 g i (isOpen dirs g ss i 1) m e f (open-leads dirs g ss s i 1) (b .1) ∙ ap bitOf (sym (open-last dirs g ss s i 1)))
     (c .before .keep-bit3 .ensures .0 g i (isOpen dirs g ss i 2) m e f (open-leads dirs g ss s i 2) (b .2) ∙ ap bitOf (sym (open-last dirs g ss s i 2)))
     (c .keep-bit4 .ensures .0 g i (isOpen dirs g ss i 3) m e f (open-leads dirs g ss s i 3) (b .3) ∙ ap bitOf (sym (open-last dirs g ss s i 3)))
 

@@ -38,7 +38,9 @@ same-length c = search needs
 
 returns : tie.Need-returns
 returns c =
-    let start = c .before .before .before .before in
+    let after-byte-of = c .before .before in
+    let start = after-byte-of .before .before in
+    let work = start .args .work .now in
     let p = start .args .position in
     let w = start .args .width in
     let s = start .args .span in
@@ -49,9 +51,9 @@ returns c =
     let on = map-on m (p .x) (p .y) (start .pre .3) (start .pre .4) in
     let r = rank-at g s i col row in
     let size = map-size m in
-    let at = c .before .before .byte-of .ensures in
-    let b : getD (start .args .work .now) (c .before .before .byte-of .result) 0 ≡ openByte dirs g ss i = ap (λ (k : ℕ). getD (start .args .work .now) k 0) at ∙ hf .left i on (omega arith) in
-    subst (λ (k : ℕ). Half (start .args .base) g dirs ss s (rankAt s (p .x) (p .y) + 1) before (set (start .args .work .now) k (c .close-byte .result))) (sym at)
+    let at = after-byte-of .byte-of .ensures in
+    let b : getD work (after-byte-of .byte-of .result) 0 ≡ openByte dirs g ss i = ap (λ (k : ℕ). getD work k 0) at ∙ hf .left i on (omega arith) in
+    subst (λ (k : ℕ). Half (start .args .base) g dirs ss s (rankAt s (p .x) (p .y) + 1) before (set work k (c .close-byte .result))) (sym at)
     (half-set g (m .whole) (sides-of m (start .pre .0)) s i (c .close-byte .result) on (omega arith) r (c .close-byte .ensures g dirs ss i m col row b) hf)
 
 pub close-cell-spec : {M : Type 1} → statement M

@@ -16,7 +16,9 @@ use Rattle.marking.proofs.closing.close_cut.Statement.{statement}
 use Rattle.marking.proofs.closing.close_cut.Tie as tie
 
 abbrev Inv-loop : tie.InvT-loop
-Inv-loop span width height work₀ base last c₀ work c = (c₀ ≤ c) × (length work ≡ length work₀) × ((g : Grid) (dirs : List ℕ) (ss : List Span) (before : List ℕ) → MapOf width height g → Held base (size g) (openByte dirs g ss) before work₀ → Half base g dirs ss span (c * 1024) before work)
+Inv-loop span width height work₀ base last c₀ work c = (c₀ ≤ c) × (length work ≡ length work₀)
+    × ((g : Grid) (dirs : List ℕ) (ss : List Span) (before : List ℕ) → MapOf width height g → Held base (size g) (openByte dirs g ss) before work₀
+    → Half base g dirs ss span (c * 1024) before work)
 
 abbrev μ-loop : tie.MeasureT-loop
 μ-loop span width height work₀ base last c₀ work c = last + 1 - c
@@ -37,24 +39,36 @@ loop-holds c =
 
 close-line-requires : tie.Need-close-line-requires Inv-loop μ-loop
 close-line-requires c κs =
-    let start = c .before .before .before .before .before in
-    let e = ap (λ (r : CellRange). r .last) (c .before .before .before .strip-axis .ensures) in
+    let after-strip-axis = c .before .before .before in
+    let start = after-strip-axis .before .before in
+    let e = ap (λ (r : CellRange). r .last) (after-strip-axis .strip-axis .ensures) in
     let on = axis-on (start .pre .0) (start .args .span) in
     (start .pre .0, start .pre .1, omega (arith, c .before .before .loop .inv .1), omega (arith, c .before .loop-test .taken))
 
 add-c : tie.Need-add-c Inv-loop μ-loop
 add-c c =
-    let start = c .before .before .before .before .before .before .before .before in
-    let e = ap (λ (r : CellRange). r .last) (c .before .before .before .before .before .before .strip-axis .ensures) in
+    let turning = c .before .before .before .before in
+    let after-strip-axis = turning .before .before in
+    let start = after-strip-axis .before .before in
+    let e = ap (λ (r : CellRange). r .last) (after-strip-axis .strip-axis .ensures) in
     let on = axis-on (start .pre .0) (start .args .span) in
     let q = limit-small (start .pre .0) (tall (start .args .span)) in
-    omega (arith, c .before .before .before .before .loop-test .taken)
+    omega (arith, turning .loop-test .taken)
 
 loop-less : tie.Need-loop-less Inv-loop μ-loop
-loop-less c = omega (arith, c .before .before .before .before .loop-test .taken)
+loop-less c =
+    let turning = c .before .before .before .before in
+    omega (arith, turning .loop-test .taken)
 
 loop-again : tie.Need-loop-again Inv-loop μ-loop
-loop-again c = (omega arith, c .before .before .close-line .kept .1 .1 .1 .1 .0 ∙ c .before .before .before .before .before .loop .inv .1, λ g dirs ss b m hf. c .before .before .close-line .ensures g dirs ss b m (c .before .before .before .before .before .loop .inv .2 g dirs ss b m hf))
+loop-again c =
+    let at-close-line = c .before .before in
+    let in-loop = at-close-line .before .before .before in
+    let inv = in-loop .loop .inv in (
+      omega arith,
+      at-close-line .close-line .kept .1 .1 .1 .1 .0 ∙ inv .1,
+      λ g dirs ss b m hf. at-close-line .close-line .ensures g dirs ss b m (inv .2 g dirs ss b m hf),
+    )
 
 same-length : tie.Need-same-length Inv-loop μ-loop
 same-length c = c .before .loop .inv .1

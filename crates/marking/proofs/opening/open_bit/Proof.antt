@@ -25,19 +25,23 @@ step-at-requires c κs = search needs
 
 returns-2 : tie.Need-returns-2
 returns-2 c =
-    let start = c .before .before .before .before .before in
+    let after-has-direction = c .before .before .before in
+    let start = after-has-direction .before .before in
     let g = gridOf (start .args .width) (start .args .height) (start .args .cells .now) in
     let i = start .args .position .y * start .args .width + start .args .position .x in
-    let e : has (start .args .d) (directionsOf (start .args .directions)) ≡ true = sym (c .before .before .before .has-direction .ensures) ∙ not-false _ (c .before .before .if1 .left) in
+    let e : has (start .args .d) (directionsOf (start .args .directions)) ≡ true = sym (after-has-direction .has-direction .ensures)
+    ∙ not-false _ (c .before .before .if1 .left) in
     let f : hasStep g i (start .args .d) ≡ false = sym (c .before .step-at .ensures) ∙ not-true _ (c .if2 .taken) in
     (rw (e, f), omega arith)
 
 returns-3 : tie.Need-returns-3
 returns-3 c =
-    let start = c .before .before .before .before .before in
+    let after-has-direction = c .before .before .before in
+    let start = after-has-direction .before .before in
     let g = gridOf (start .args .width) (start .args .height) (start .args .cells .now) in
     let i = start .args .position .y * start .args .width + start .args .position .x in
-    let e : has (start .args .d) (directionsOf (start .args .directions)) ≡ true = sym (c .before .before .before .has-direction .ensures) ∙ not-false _ (c .before .before .if1 .left) in
+    let e : has (start .args .d) (directionsOf (start .args .directions)) ≡ true = sym (after-has-direction .has-direction .ensures)
+    ∙ not-false _ (c .before .before .if1 .left) in
     let f : hasStep g i (start .args .d) ≡ true = sym (c .before .step-at .ensures) ∙ not-false _ (c .if2 .left) in
     (rw (e, f), omega arith)
 

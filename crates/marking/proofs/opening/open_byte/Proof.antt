@@ -41,12 +41,14 @@ add-result-3 c = search needs
 
 returns : tie.Need-returns
 returns c =
-    let start = c .before .before .before .before .before in
+    let after-open-bit2 = c .before .before in
+    let after-open-bit = after-open-bit2 .before in
+    let start = after-open-bit .before .before in
     let g = gridOf (start .args .width) (start .args .height) (start .args .cells .now) in
     let i = start .args .position .y * start .args .width + start .args .position .x in
     let dirs = directionsOf (start .args .directions) in
-    byte-from dirs g [] i (c .before .before .before .open-bit .result) (c .before .before .open-bit2 .result) (c .before .open-bit3 .result) (c .open-bit4 .result)
-    (c .before .before .before .open-bit .ensures .0 ∙ ap bitOf (open-none dirs g i 0)) (c .before .before .open-bit2 .ensures .0 ∙ ap bitOf (open-none dirs g i 1))
+    byte-from dirs g [] i (after-open-bit .open-bit .result) (after-open-bit2 .open-bit2 .result) (c .before .open-bit3 .result) (c .open-bit4 .result)
+    (after-open-bit .open-bit .ensures .0 ∙ ap bitOf (open-none dirs g i 0)) (after-open-bit2 .open-bit2 .ensures .0 ∙ ap bitOf (open-none dirs g i 1))
     (c .before .open-bit3 .ensures .0 ∙ ap bitOf (open-none dirs g i 2)) (c .open-bit4 .ensures .0 ∙ ap bitOf (open-none dirs g i 3))
 
 pub open-byte-spec : {M : Type 1} → statement M

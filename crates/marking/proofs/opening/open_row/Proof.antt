@@ -13,7 +13,9 @@ use Rattle.marking.proofs.opening.open_row.Statement.{statement}
 use Rattle.marking.proofs.opening.open_row.Tie as tie
 
 abbrev Inv-loop : tie.InvT-loop
-Inv-loop cells width height directions y work₀ base x₀ work x = (x ≤ width) × (length work ≡ length work₀) × ((before : List ℕ) → Held base (y * width) (openByte (directionsOf directions) (gridOf width height cells) []) before work₀ → Held base (y * width + x) (openByte (directionsOf directions) (gridOf width height cells) []) before work)
+Inv-loop cells width height directions y work₀ base x₀ work x = (x ≤ width) × (length work ≡ length work₀)
+    × ((before : List ℕ) → Held base (y * width) (openByte (directionsOf directions) (gridOf width height cells) []) before work₀
+    → Held base (y * width + x) (openByte (directionsOf directions) (gridOf width height cells) []) before work)
 
 abbrev μ-loop : tie.MeasureT-loop
 μ-loop cells width height directions y work₀ base x₀ work x = width - x
@@ -30,13 +32,16 @@ byte-of-requires c κs =
     omega (arith, c .before .loop .inv .1)
 
 open-byte-requires : tie.Need-open-byte-requires Inv-loop μ-loop
-open-byte-requires c κs = record { wide = omega arith; high = omega arith; whole = c .before .before .before .before .before .pre .1; column = c .before .loop-test .taken; row = c .before .before .before .before .before .pre .3 }
+open-byte-requires c κs =
+    let start = c .before .before .before .before .before in
+    record { wide = omega arith; high = omega arith; whole = start .pre .1; column = c .before .loop-test .taken; row = start .pre .3 }
 
 slice-write-work : tie.Need-slice-write-work Inv-loop μ-loop
 slice-write-work c =
-    let start = c .before .before .before .before .before .before in
-    let on = place-in (start .args .width) (start .args .height) (c .before .before .before .loop .x) (start .args .y) (c .before .before .loop-test .taken) (start .pre .3) in
-    omega (arith, c .before .before .before .loop .inv .1, c .before .byte-of .ensures)
+    let in-loop = c .before .before .before in
+    let start = in-loop .before .before .before in
+    let on = place-in (start .args .width) (start .args .height) (in-loop .loop .x) (start .args .y) (c .before .before .loop-test .taken) (start .pre .3) in
+    omega (arith, in-loop .loop .inv .1, c .before .byte-of .ensures)
 
 add-x : tie.Need-add-x Inv-loop μ-loop
 add-x c = omega arith
@@ -46,20 +51,22 @@ loop-less c = omega arith
 
 loop-again : tie.Need-loop-again Inv-loop μ-loop
 loop-again c =
-    let start = c .before .before .before .before .before .before in
-    let x = c .before .before .before .loop .x in
+    let in-loop = c .before .before .before in
+    let start = in-loop .before .before .before in
+    let inv = in-loop .loop .inv in
+    let x = in-loop .loop .x in
     let w = start .args .width in
     let y = start .args .y in
-    let work = c .before .before .before .loop .work in
+    let work = in-loop .loop .work in
     let v = c .open-byte .result in
     let f = openByte (directionsOf (start .args .directions)) (gridOf w (start .args .height) (start .args .cells .now)) [] in
     let on = place-in w (start .args .height) x y (c .before .before .loop-test .taken) (start .pre .3) in
-    let same = c .before .before .before .loop .inv .1 in (
+    let same = inv .1 in (
       omega arith,
       length-set work (c .before .byte-of .result) v ∙ same,
       λ b h.
           subst (λ (k : ℕ). Held (start .args .base) (y * w + (x + 1)) f b (set work k v)) (sym (c .before .byte-of .ensures))
-          (held-count (y * w + (x + 1)) (omega arith) (held-next v (omega arith) (c .open-byte .ensures) (c .before .before .before .loop .inv .2 b h))),
+          (held-count (y * w + (x + 1)) (omega arith) (held-next v (omega arith) (c .open-byte .ensures) (inv .2 b h))),
     )
 
 same-length : tie.Need-same-length Inv-loop μ-loop
@@ -68,8 +75,10 @@ same-length c = c .before .loop .inv .1
 returns : tie.Need-returns Inv-loop μ-loop
 returns c =
     let start = c .before .before .before .before in
-    let z = c .before .loop .inv .0 in
-    λ b h. held-count ((start .args .y + 1) * start .args .width) (let e : c .before .loop .x ≡ start .args .width = omega (arith, z, c .loop-test .left) in omega arith) (c .before .loop .inv .2 b h)
+    let inv = c .before .loop .inv in
+    let z = inv .0 in
+    λ b h. held-count ((start .args .y + 1) * start .args .width)
+    (let e : c .before .loop .x ≡ start .args .width = omega (arith, z, c .loop-test .left) in omega arith) (inv .2 b h)
 
 pub open-row-spec : {M : Type 1} → statement M
 open-row-spec =

@@ -13,7 +13,8 @@ use Rattle.marking.proofs.opening.open_steps.Statement.{statement}
 use Rattle.marking.proofs.opening.open_steps.Tie as tie
 
 abbrev Inv-loop : tie.InvT-loop
-Inv-loop cells width height directions work₀ base y₀ work y = (y ≤ height) × (length work ≡ length work₀) × Held base (y * width) (openByte (directionsOf directions) (gridOf width height cells) []) work₀ work
+Inv-loop cells width height directions work₀ base y₀ work y = (y ≤ height) × (length work ≡ length work₀)
+    × Held base (y * width) (openByte (directionsOf directions) (gridOf width height cells) []) work₀ work
 
 abbrev μ-loop : tie.MeasureT-loop
 μ-loop cells width height directions work₀ base y₀ work y = height - y
@@ -21,7 +22,13 @@ abbrev μ-loop : tie.MeasureT-loop
 loop-holds : tie.Need-loop-holds Inv-loop μ-loop
 loop-holds c =
     let start = c .before .before in
-    (omega arith, refl, held-count (0 * start .args .width) (sym (zero-mul (start .args .width))) (held-none (start .args .base) (openByte (directionsOf (start .args .directions)) (gridOf (start .args .width) (start .args .height) (start .args .cells .now)) []) (start .args .work .now)))
+    let width = start .args .width in (
+      omega arith,
+      refl,
+      held-count (0 * width) (sym (zero-mul width))
+          (held-none (start .args .base) (openByte (directionsOf (start .args .directions)) (gridOf width (start .args .height) (start .args .cells .now)) [])
+          (start .args .work .now)),
+    )
 
 open-row-requires : tie.Need-open-row-requires Inv-loop μ-loop
 open-row-requires c κs =
@@ -35,7 +42,16 @@ loop-less : tie.Need-loop-less Inv-loop μ-loop
 loop-less c = omega arith
 
 loop-again : tie.Need-loop-again Inv-loop μ-loop
-loop-again c = (omega (arith, c .before .before .before .before .loop-test .taken), c .before .before .open-row .kept .1 .1 .1 .1 .1 .0 ∙ c .before .before .before .before .before .loop .inv .1, c .before .before .open-row .ensures (c .before .before .before .before .before .before .before .before .args .work .now) (c .before .before .before .before .before .loop .inv .2))
+loop-again c =
+    let at-open-row = c .before .before in
+    let turning = at-open-row .before .before in
+    let in-loop = turning .before in
+    let start = in-loop .before .before .before in
+    let inv = in-loop .loop .inv in (
+      omega (arith, turning .loop-test .taken),
+      at-open-row .open-row .kept .1 .1 .1 .1 .1 .0 ∙ inv .1,
+      at-open-row .open-row .ensures (start .args .work .now) (inv .2),
+    )
 
 same-length : tie.Need-same-length Inv-loop μ-loop
 same-length c = c .before .loop .inv .1
@@ -43,13 +59,15 @@ same-length c = c .before .loop .inv .1
 returns : tie.Need-returns Inv-loop μ-loop
 returns c =
     let start = c .before .before .before .before in
+    let inv = c .before .loop .inv in
     let w = start .args .width in
     let h = start .args .height in
     let cs = start .args .cells .now in
-    let z = c .before .loop .inv .0 in
+    let z = inv .0 in
     let e : c .before .loop .y ≡ h = omega (arith, z, c .loop-test .left) in
     let n : c .before .loop .y * w ≡ length cs = ap (λ (k : ℕ). k * w) e ∙ mul-comm h w ∙ sym (start .pre .1) in
-    held-splice (start .args .work .now) (start .args .base) (length cs) (openByte (directionsOf (start .args .directions)) (gridOf w h cs) []) (omega (arith, start .pre .1)) (held-count (length cs) n (c .before .loop .inv .2))
+    held-splice (start .args .work .now) (start .args .base) (length cs) (openByte (directionsOf (start .args .directions)) (gridOf w h cs) [])
+    (omega (arith, start .pre .1)) (held-count (length cs) n (inv .2))
 
 pub open-steps-spec : {M : Type 1} → statement M
 open-steps-spec =

@@ -14,7 +14,9 @@ use Rattle.marking.proofs.spans.mark_spans.Statement.{statement}
 use Rattle.marking.proofs.spans.mark_spans.Tie as tie
 
 abbrev Inv-loop : tie.InvT-loop
-Inv-loop cells width height directions ends count work₀ base k₀ work k = (k ≤ count) × (length work ≡ length work₀) × ((before : List ℕ) → Held base (length cells) (openByte (directionsOf directions) (gridOf width height cells) []) before work₀ → Held base (length cells) (openByte (directionsOf directions) (gridOf width height cells) (spansIn ends k)) before work)
+Inv-loop cells width height directions ends count work₀ base k₀ work k = (k ≤ count) × (length work ≡ length work₀)
+    × ((before : List ℕ) → Held base (length cells) (openByte (directionsOf directions) (gridOf width height cells) []) before work₀
+    → Held base (length cells) (openByte (directionsOf directions) (gridOf width height cells) (spansIn ends k)) before work)
 
 abbrev μ-loop : tie.MeasureT-loop
 μ-loop cells width height directions ends count work₀ base k₀ work k = count - k
@@ -36,42 +38,62 @@ loop-holds c =
     (omega arith, refl, λ b hd. held-as dirs g (spans-none ends) hd)
 
 span-at-requires : tie.Need-span-at-requires Inv-loop μ-loop
-span-at-requires c κs = omega (arith, c .before .before .before .before .before .before .before .before .pre .3, c .loop-test .taken)
+span-at-requires c κs =
+    let start = c .before .before .before .before .before .before .before .before in
+    omega (arith, start .pre .3, c .loop-test .taken)
 
 close-cut-requires : tie.Need-close-cut-requires Inv-loop μ-loop
 close-cut-requires c κs =
-    let start = c .before .before .before .before .before .before .before .before .before .before in
-    let fits : SpanFits (start .args .width) (start .args .height) (c .before .span-at .result) = rw (c .before .span-at .ensures) (start .pre .4 .each (c .before .before .before .loop .k) (c .before .before .loop-test .taken)) in
-    (start .pre .0, fits, omega (arith, c .before .before .before .loop .inv .1, c .before .before .before .before .before .before .open-steps .kept .1 .1 .1 .1 .0, start .pre .2))
+    let in-loop = c .before .before .before in
+    let at-open-steps = in-loop .before .before .before in
+    let start = at-open-steps .before .before .before .before in
+    let fits : SpanFits (start .args .width) (start .args .height) (c .before .span-at .result) =
+    rw (c .before .span-at .ensures) (start .pre .4 .each (in-loop .loop .k) (c .before .before .loop-test .taken)) in
+    (start .pre .0, fits, omega (arith, in-loop .loop .inv .1, at-open-steps .open-steps .kept .1 .1 .1 .1 .0, start .pre .2))
 
 add-k : tie.Need-add-k Inv-loop μ-loop
-add-k c = omega (arith, c .before .before .before .before .before .loop-test .taken, c .before .before .before .before .before .before .before .before .before .before .before .before .before .pre .3)
+add-k c =
+    let turning = c .before .before .before .before .before in
+    let start = turning .before .before .before .before .before .before .before .before in
+    omega (arith, turning .loop-test .taken, start .pre .3)
 
 loop-less : tie.Need-loop-less Inv-loop μ-loop
-loop-less c = omega (arith, c .before .before .before .before .before .loop-test .taken)
+loop-less c =
+    let turning = c .before .before .before .before .before in
+    omega (arith, turning .loop-test .taken)
 
 loop-again : tie.Need-loop-again Inv-loop μ-loop
 loop-again c =
-    let start = c .before .before .before .before .before .before .before .before .before .before .before .before .before in
+    let at-close-cut = c .before .before in
+    let after-span-at = at-close-cut .before .before in
+    let turning = after-span-at .before in
+    let in-loop = turning .before in
+    let start = in-loop .before .before .before .before .before .before .before in
+    let inv = in-loop .loop .inv in
     let w = start .args .width in
     let h = start .args .height in
     let cs = start .args .cells .now in
     let g = gridOf w h cs in
     let dirs = directionsOf (start .args .directions) in
     let ends = start .args .ends .now in
-    let k = c .before .before .before .before .before .before .loop .k in (
-      omega (arith, c .before .before .before .before .before .loop-test .taken),
-      c .before .before .close-cut .kept .1 .1 .1 .0 ∙ c .before .before .before .before .before .before .loop .inv .1,
+    let k = in-loop .loop .k in (
+      omega (arith, turning .loop-test .taken),
+      at-close-cut .close-cut .kept .1 .1 .1 .0 ∙ inv .1,
       λ b hd.
-          held-as dirs g (spans-last ends k (c .before .before .before .before .span-at .ensures)) (c .before .before .close-cut .ensures g dirs (spansIn ends k) b (record { columns = refl; rows = refl; whole = start .pre .1 }) (c .before .before .before .before .before .before .loop .inv .2 b hd)),
+          held-as dirs g (spans-last ends k (after-span-at .span-at .ensures))
+          (at-close-cut .close-cut .ensures g dirs (spansIn ends k) b (record { columns = refl; rows = refl; whole = start .pre .1 }) (inv .2 b hd)),
     )
 
 same-length : tie.Need-same-length Inv-loop μ-loop
-same-length c = c .before .loop .inv .1 ∙ c .before .before .before .before .open-steps .kept .1 .1 .1 .1 .0
+same-length c =
+    let at-open-steps = c .before .before .before .before in
+    c .before .loop .inv .1 ∙ at-open-steps .open-steps .kept .1 .1 .1 .1 .0
 
 returns : tie.Need-returns Inv-loop μ-loop
 returns c =
-    let start = c .before .before .before .before .before .before .before .before in
+    let after-open-steps = c .before .before .before .before in
+    let start = after-open-steps .before .before .before .before in
+    let inv = c .before .loop .inv in
     let w = start .args .width in
     let h = start .args .height in
     let cs = start .args .cells .now in
@@ -82,9 +104,10 @@ returns c =
     let entry = start .args .work .now in
     let n = length cs in
     let room : base + n ≤ length entry = omega (arith, start .pre .1, start .pre .2) in
-    let e : c .before .loop .k ≡ start .args .count = omega (arith, c .before .loop .inv .0, c .loop-test .left) in
-    let opened = subst (λ (l : List ℕ). Held base n (openByte dirs g []) entry l) (sym (c .before .before .before .before .open-steps .ensures)) (splice-held entry base n (openByte dirs g []) room) in
-    held-splice entry base n (openByte dirs g (spansIn ends (start .args .count))) room (held-as dirs g (ap (spansIn ends) e) (c .before .loop .inv .2 entry opened))
+    let e : c .before .loop .k ≡ start .args .count = omega (arith, inv .0, c .loop-test .left) in
+    let opened = subst (λ (l : List ℕ). Held base n (openByte dirs g []) entry l) (sym (after-open-steps .open-steps .ensures))
+    (splice-held entry base n (openByte dirs g []) room) in
+    held-splice entry base n (openByte dirs g (spansIn ends (start .args .count))) room (held-as dirs g (ap (spansIn ends) e) (inv .2 entry opened))
 
 pub mark-spans-spec : {M : Type 1} → statement M
 mark-spans-spec =

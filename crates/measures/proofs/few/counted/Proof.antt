@@ -22,8 +22,11 @@ at-requires c κs = search needs
 
 returns-2 : tie.Need-returns-2
 returns-2 c =
-    let a = c .before .before .before .before .args in
-    put-in (a .inside) (withCell (limitsOf (a .limits)) (a .link)) (a .link) (a .i % a .width) (a .i / a .width) (c .before .before .before .if1 .left) (c .at .ensures) (c .before .before .column-of .ensures .0) (c .before .row-of .ensures .0)
+    let if1-left = c .before .before .before in
+    let start = if1-left .before in
+    let a = start .args in
+    put-in (a .inside) (withCell (limitsOf (a .limits)) (a .link)) (a .link) (a .i % a .width) (a .i / a .width) (if1-left .if1 .left) (c .at .ensures)
+    (c .before .before .column-of .ensures .0) (c .before .row-of .ensures .0)
 
 pub counted-spec : {M : Type 1} → statement M
 counted-spec =

@@ -34,9 +34,14 @@ loop-less c = search needs
 
 loop-again : tie.Need-loop-again Inv-loop μ-loop
 loop-again c =
-    let a = c .before .before .before .before .before .args in
-    let l = c .before .before .before .loop in
-    (omega (arith, c .before .before .loop-test .taken), one-next _ _ (a .labels .now) (a .n) (a .region) (l .inv .1) (c .before .before .loop-test .taken) (c .before .read-u32 .ensures) (c .counted .ensures))
+    let turning = c .before .before in
+    let in-loop = turning .before in
+    let start = in-loop .before .before in
+    let a = start .args in
+    let l = in-loop .loop in (
+      omega (arith, turning .loop-test .taken),
+      one-next _ _ (a .labels .now) (a .n) (a .region) (l .inv .1) (turning .loop-test .taken) (c .before .read-u32 .ensures) (c .counted .ensures),
+    )
 
 returns : tie.Need-returns Inv-loop μ-loop
 returns c =

@@ -4,10 +4,6 @@ use Rattle.plan.proofs.AcceptLaws.{flat-no, flat-yes}
 use borrow.Author.Needs.{needs}
 use Rattle.plan.proofs.accept.accepts_flat.Statement.{statement}
 use Rattle.plan.proofs.accept.accepts_flat.Tie as tie
-use Rattle.plan.proofs.accept.accepts_flat.Reads as reads
-use Rattle.plan.proofs.accept.accepts_flat.Lts as lts
-use Rattle.plan.proofs.alike.all_alike.Reads as all-alike-reads
-use Rattle.plan.proofs.path.group_is_simple_path.Reads as group-is-simple-path-reads
 
 group-is-simple-path-requires : tie.Need-group-is-simple-path-requires
 group-is-simple-path-requires c κs = (c .pre .0, c .pre .1, λ j. c .pre .2 j .below, λ j. c .pre .3 j .below)
@@ -16,7 +12,8 @@ returns : tie.Need-returns
 returns c =
     let start = c .before .before in
     flat-no (limitsOf (start .args .limits)) (start .args .own .now) (start .args .lowers .now) (start .args .highers .now) (start .args .regions .now)
-    (start .args .firsts .now) (start .args .seconds .now) (listed (start .args .ranks)) (listed (start .args .links)) (c .before .group-is-simple-path .ensures)
+    (start .args .firsts .now) (start .args .seconds .now) (listed (start .args .ranks)) (listed (start .args .links))
+    (c .before .group-is-simple-path .ensures)
     (c .if1 .taken)
 
 all-alike-requires : tie.Need-all-alike-requires

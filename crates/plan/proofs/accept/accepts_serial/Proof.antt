@@ -13,15 +13,6 @@ use Rattle.plan.proofs.AcceptLaws.{ends-slots, path-sizes, serial-no, s
 use borrow.Author.Needs.{needs}
 use Rattle.plan.proofs.accept.accepts_serial.Statement.{statement}
 use Rattle.plan.proofs.accept.accepts_serial.Tie as tie
-use Rattle.plan.proofs.accept.accepts_serial.Reads as reads
-use Rattle.plan.proofs.accept.accepts_serial.Lts as lts
-use Rattle.links.proofs.limits.Chain.short.Reads as short-reads
-use Rattle.plan.proofs.chain.chain_sum.Reads as chain-sum-reads
-use Rattle.plan.proofs.chain.rank_distance.Reads as rank-distance-reads
-use Rattle.plan.proofs.few.Few.index.Reads as index-reads
-use Rattle.plan.proofs.path.all_on.Reads as all-on-reads
-use Rattle.plan.proofs.path.group_end_nodes.Reads as group-end-nodes-reads
-use Rattle.plan.proofs.path.group_is_simple_path.Reads as group-is-simple-path-reads
 
 all-on-requires : tie.Need-all-on-requires
 all-on-requires c κs = λ j. c .pre .4 j .below
@@ -38,7 +29,9 @@ returns c =
     (at-all-on .all-on .ensures) (c .before .group-is-simple-path .ensures) (c .if1 .taken)
 
 group-end-nodes-requires : tie.Need-group-end-nodes-requires
-group-end-nodes-requires c κs = (c .before .before .before .pre .1, c .before .before .before .pre .2, λ j. c .before .before .before .pre .4 j .below)
+group-end-nodes-requires c κs =
+    let start = c .before .before .before in
+    (start .pre .1, start .pre .2, λ j. start .pre .4 j .below)
 
 chain-sum-requires : tie.Need-chain-sum-requires
 chain-sum-requires c κs =

@@ -12,10 +12,6 @@ use Rattle.plan.proofs.ShapeLaws.{Each, each-start, each-next}
 use Rattle.plan.proofs.ValueLaws.{all-alike-whole}
 use Rattle.plan.proofs.alike.all_alike.Statement.{statement}
 use Rattle.plan.proofs.alike.all_alike.Tie as tie
-use Rattle.plan.proofs.alike.all_alike.Reads as reads
-use Rattle.plan.proofs.alike.all_alike.Lts as lts
-use Rattle.plan.proofs.alike.alike_to_all.Reads as alike-to-all-reads
-use Rattle.plan.proofs.few.Few.index.Reads as index-reads
 
 abbrev Inv-loop : tie.InvT-loop
 Inv-loop limits own ranks all₀ j₀ all j =

@@ -26,7 +26,9 @@ size-requires : tie.Need-size-requires Inv-loop μ-loop
 size-requires c κs = search needs
 
 index-requires : tie.Need-index-requires Inv-loop μ-loop
-index-requires c κs = let at-loop = c .before .before .before in at-loop .before .pre .1 (at-loop .loop .j) .below
+index-requires c κs =
+    let at-loop = c .before .before .before in
+    at-loop .before .pre .1 (at-loop .loop .j) .below
 
 gap-requires : tie.Need-gap-requires Inv-loop μ-loop
 gap-requires c κs =
@@ -37,7 +39,8 @@ gap-requires c κs =
 
 float-to-bits-gaps : tie.Need-float-to-bits-gaps Inv-loop μ-loop
 float-to-bits-gaps c =
-    let start = c .before .before .before .before .before .before .args in
+    let start-2 = c .before .before .before .before .before .before in
+    let start = start-2 .args in
     gap-number (start .firsts .now) (start .seconds .now) (start .own .now) (c .before .index .result) (c .gap .ensures)
 
 mul-gaps : tie.Need-mul-gaps Inv-loop μ-loop
@@ -70,8 +73,9 @@ loop-again c =
 returns : tie.Need-returns Inv-loop μ-loop
 returns c =
     let at-loop = c .before .before in
+    let inv = at-loop .loop .inv in
     let start = at-loop .before .args in
-    written-end (gapIn (start .firsts .now) (start .seconds .now) (start .own .now)) (start .links) (at-loop .loop .inv .1) (at-loop .loop .inv .0)
+    written-end (gapIn (start .firsts .now) (start .seconds .now) (start .own .now)) (start .links) (inv .1) (inv .0)
     (c .if1 .left)
 
 pub fill-gaps-spec : {M : Type 1} → statement M

@@ -8,10 +8,6 @@ use Rattle.plan.proofs.ValueLaws.{both}
 use borrow.Author.Needs.{needs}
 use Rattle.plan.proofs.chain.gap.Statement.{statement}
 use Rattle.plan.proofs.chain.gap.Tie as tie
-use Rattle.plan.proofs.chain.gap.Reads as reads
-use Rattle.plan.proofs.chain.gap.Lts as lts
-use Rattle.plan.proofs.chain.rank_distance.Reads as rank-distance-reads
-use Rattle.wire.proofs.size.Reads as size-reads
 
 mul-size : tie.Need-mul-size
 mul-size c = search needs
@@ -32,10 +28,19 @@ size-requires-2 : tie.Need-size-requires-2
 size-requires-2 c κs = search needs
 
 rank-distance-requires : tie.Need-rank-distance-requires
-rank-distance-requires c κs = (subst (RankFits (c .before .before .before .before .args .own .now)) (sym (c .before .before .size .ensures .0)) (c .before .before .before .before .pre .first), subst (RankFits (c .before .before .before .before .args .own .now)) (sym (c .size2 .ensures .0)) (c .before .before .before .before .pre .second))
+rank-distance-requires c κs =
+    let start = c .before .before .before .before in
+    let own = start .args .own .now in (
+      subst (RankFits own) (sym (c .before .before .size .ensures .0)) (start .pre .first),
+      subst (RankFits own) (sym (c .size2 .ensures .0)) (start .pre .second),
+    )
 
 returns : tie.Need-returns
-returns c = c .rank-distance .ensures ∙ both (λ (i j : ℕ). centreDistance (spanIn (c .before .before .before .before .before .args .own .now) i) (spanIn (c .before .before .before .before .before .args .own .now) j)) (c .before .before .before .size .ensures .0) (c .before .size2 .ensures .0)
+returns c =
+    let after-size = c .before .before .before in
+    let start = after-size .before .before in
+    let own = start .args .own .now in
+    c .rank-distance .ensures ∙ both (λ (i j : ℕ). centreDistance (spanIn own i) (spanIn own j)) (after-size .size .ensures .0) (c .before .size2 .ensures .0)
 
 pub gap-spec : {M : Type 1} → statement M
 gap-spec =

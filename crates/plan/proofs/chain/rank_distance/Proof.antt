@@ -4,10 +4,6 @@ use Rattle.plan.proofs.ValueLaws.{both, span-fits}
 use borrow.Author.Needs.{needs}
 use Rattle.plan.proofs.chain.rank_distance.Statement.{statement}
 use Rattle.plan.proofs.chain.rank_distance.Tie as tie
-use Rattle.plan.proofs.chain.rank_distance.Reads as reads
-use Rattle.plan.proofs.chain.rank_distance.Lts as lts
-use Rattle.links.proofs.geometry.centre_distance.Reads as centre-distance-reads
-use Rattle.marking.proofs.spans.span_at.Reads as span-at-reads
 
 span-at-requires : tie.Need-span-at-requires
 span-at-requires c κs = search needs
@@ -16,7 +12,9 @@ span-at-requires-2 : tie.Need-span-at-requires-2
 span-at-requires-2 c κs = search needs
 
 centre-distance-requires : tie.Need-centre-distance-requires
-centre-distance-requires c κs = (span-fits (c .before .before .pre .0) refl (c .before .span-at .ensures), span-fits (c .before .before .pre .1) refl (c .span-at2 .ensures))
+centre-distance-requires c κs =
+    let start = c .before .before in
+    (span-fits (start .pre .0) refl (c .before .span-at .ensures), span-fits (start .pre .1) refl (c .span-at2 .ensures))
 
 returns : tie.Need-returns
 returns c = c .centre-distance .ensures ∙ both centreDistance (c .before .before .span-at .ensures) (c .before .span-at2 .ensures)

@@ -9,13 +9,6 @@ use Rattle.plan.specs.Arrays.{linkIn}
 use Rattle.plan.proofs.FewLaws.{Picked, picked-start, picked-room, picked-next, picked-whole}
 use Rattle.plan.proofs.gather.links_of.Statement.{statement}
 use Rattle.plan.proofs.gather.links_of.Tie as tie
-use Rattle.plan.proofs.gather.links_of.Reads as reads
-use Rattle.plan.proofs.gather.links_of.Lts as lts
-use Rattle.plan.proofs.few.Few.none.Reads as none-reads
-use Rattle.plan.proofs.few.Few.with.Reads as with-reads
-use Rattle.plan.proofs.gather.in_part.Reads as in-part-reads
-use Rattle.plan.proofs.gather.number.Reads as number-reads
-use Rattle.plan.proofs.gather.part_at.Reads as part-at-reads
 
 abbrev Inv-loop : tie.InvT-loop
 Inv-loop links chosen firsts seconds parts c found₀ k₀ found k = (k ≤ links) × Picked (linkIn chosen firsts parts c) (λ j. j) links k found
@@ -38,7 +31,9 @@ sub-k : tie.Need-sub-k Inv-loop μ-loop
 sub-k c = search needs
 
 number-requires : tie.Need-number-requires Inv-loop μ-loop
-number-requires c κs = omega (arith, c .before .loop .inv .0, c .loop-test .taken, c .before .before .before .pre .few)
+number-requires c κs =
+    let start = c .before .before .before in
+    omega (arith, c .before .loop .inv .0, c .loop-test .taken, start .pre .few)
 
 element-copy-out-in-part : tie.Need-element-copy-out-in-part Inv-loop μ-loop
 element-copy-out-in-part c = search needs

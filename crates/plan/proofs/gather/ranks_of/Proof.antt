@@ -5,12 +5,6 @@ use Rattle.plan.specs.Arrays.{inPart}
 use Rattle.plan.proofs.FewLaws.{Picked, picked-start, picked-room, picked-next, picked-whole}
 use Rattle.plan.proofs.gather.ranks_of.Statement.{statement}
 use Rattle.plan.proofs.gather.ranks_of.Tie as tie
-use Rattle.plan.proofs.gather.ranks_of.Reads as reads
-use Rattle.plan.proofs.gather.ranks_of.Lts as lts
-use Rattle.plan.proofs.few.Few.none.Reads as none-reads
-use Rattle.plan.proofs.few.Few.with.Reads as with-reads
-use Rattle.plan.proofs.gather.in_part.Reads as in-part-reads
-use Rattle.plan.proofs.gather.number.Reads as number-reads
 
 abbrev Inv-loop : tie.InvT-loop
 Inv-loop n joined parts c found₀ i₀ found i = (i ≤ n) × Picked (inPart joined parts c) (λ j. j) n i found
@@ -65,7 +59,8 @@ loop-again c =
     let start = at-loop .before .before in (
       omega (arith, at-loop .loop .inv .0),
       picked-next (inPart (start .args .joined .now) (start .args .parts .now) (start .args .c)) (λ j. j) (start .args .n) (c .before .in-part .result)
-          (at-number .number .result) (at-loop .loop .inv .1) (turning .loop-test .taken) (at-loop .loop .inv .0) (c .with .ensures) (c .before .in-part .ensures)
+          (at-number .number .result) (at-loop .loop .inv .1) (turning .loop-test .taken) (at-loop .loop .inv .0) (c .with .ensures)
+          (c .before .in-part .ensures)
           (at-number .number .ensures),
     )
 

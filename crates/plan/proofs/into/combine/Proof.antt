@@ -7,9 +7,6 @@ use Rattle.plan.specs.Into.{goesTo}
 use Rattle.plan.proofs.ArrayLaws.{filled-none, filled-next, filled-upto}
 use Rattle.plan.proofs.into.combine.Statement.{statement}
 use Rattle.plan.proofs.into.combine.Tie as tie
-use Rattle.plan.proofs.into.combine.Reads as reads
-use Rattle.plan.proofs.into.combine.Lts as lts
-use Rattle.plan.proofs.into.goes_to.Reads as goes-to-reads
 
 abbrev Inv-loop : tie.InvT-loop
 Inv-loop n serial flat plan₀ i₀ plan i = (i ≤ n) × Filled (λ j. goesTo (at serial j) (at flat j) j) i plan
@@ -51,7 +48,13 @@ loop-less : tie.Need-loop-less Inv-loop μ-loop
 loop-less c = search needs
 
 loop-again : tie.Need-loop-again Inv-loop μ-loop
-loop-again c = (omega (arith, c .before .before .before .loop-test .taken), filled-next (c .goes-to .result) (c .before .before .before .before .loop .inv .1) (omega (arith, c .before .before .before .loop-test .taken, c .before .before .before .before .before .pre .0)) (c .goes-to .ensures))
+loop-again c =
+    let turning = c .before .before .before in
+    let in-loop = turning .before in
+    let start = in-loop .before in (
+      omega (arith, turning .loop-test .taken),
+      filled-next (c .goes-to .result) (in-loop .loop .inv .1) (omega (arith, turning .loop-test .taken, start .pre .0)) (c .goes-to .ensures),
+    )
 
 returns : tie.Need-returns Inv-loop μ-loop
 returns c = filled-upto (c .before .loop .inv .1) (c .loop-test .left)

@@ -1,8 +1,6 @@
 use Rattle.plan.proofs.IntoLaws.{goes-serial, goes-flat, goes-self}
 use Rattle.plan.proofs.into.goes_to.Statement.{statement}
 use Rattle.plan.proofs.into.goes_to.Tie as tie
-use Rattle.plan.proofs.into.goes_to.Reads as reads
-use Rattle.plan.proofs.into.goes_to.Lts as lts
 
 returns : tie.Need-returns
 returns c = goes-serial (c .before .args .s) (c .before .args .f) (c .before .args .i) (c .if1 .taken)

@@ -7,9 +7,6 @@ use Rattle.plan.specs.Into.{flatInto}
 use Rattle.plan.proofs.ArrayLaws.{filled-none, filled-next, filled-upto}
 use Rattle.plan.proofs.into.into_flat.Statement.{statement}
 use Rattle.plan.proofs.into.into_flat.Tie as tie
-use Rattle.plan.proofs.into.into_flat.Reads as reads
-use Rattle.plan.proofs.into.into_flat.Lts as lts
-use Rattle.plan.proofs.into.one_flat.Reads as one-flat-reads
 
 abbrev Inv-loop : tie.InvT-loop
 Inv-loop limits n own bits lowers highers regions firsts seconds links chosen joined parts into₀ i₀ into i =

@@ -7,9 +7,6 @@ use Rattle.plan.specs.Into.{serialInto}
 use Rattle.plan.proofs.ArrayLaws.{filled-none, filled-next, filled-upto}
 use Rattle.plan.proofs.into.into_serial.Statement.{statement}
 use Rattle.plan.proofs.into.into_serial.Tie as tie
-use Rattle.plan.proofs.into.into_serial.Reads as reads
-use Rattle.plan.proofs.into.into_serial.Lts as lts
-use Rattle.plan.proofs.into.one_serial.Reads as one-serial-reads
 
 abbrev Inv-loop : tie.InvT-loop
 Inv-loop limits n own bits lowers highers regions firsts seconds links passing chosen joined parts into₀ i₀ into i =

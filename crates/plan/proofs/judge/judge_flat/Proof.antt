@@ -6,12 +6,6 @@ use Rattle.plan.specs.Told.{flatIn}
 use Rattle.plan.proofs.JudgeLaws.{judged-sizes, judged-no, judged-yes, flat-small, zero-fits, ranks-fit, widths-fit, links-fit, wider-ranked, few-kept}
 use Rattle.plan.proofs.judge.judge_flat.Statement.{statement}
 use Rattle.plan.proofs.judge.judge_flat.Tie as tie
-use Rattle.plan.proofs.judge.judge_flat.Reads as reads
-use Rattle.plan.proofs.judge.judge_flat.Lts as lts
-use Rattle.plan.proofs.accept.accepts_flat.Reads as accepts-flat-reads
-use Rattle.plan.proofs.gather.links_of.Reads as links-of-reads
-use Rattle.plan.proofs.gather.ranks_of.Reads as ranks-of-reads
-use Rattle.plan.proofs.retain.representative.Reads as representative-reads
 
 ranks-of-requires : tie.Need-ranks-of-requires
 ranks-of-requires c κs = c .pre .1 .fit .few
@@ -103,7 +97,8 @@ returns-2 c =
           (flat-small (limitsOf limits) own lowers highers regions firsts seconds (start .pre .0))
           (ranksIn (start .args .n) (start .args .joined .now) parts whole-part)
           (numbersIn (start .args .links) (start .args .chosen .now) firsts parts whole-part) (at-ranks-of .ranks-of .ensures) (at-links-of .links-of .ensures)
-          (retainedIn (limitsOf limits) own (start .args .bits .now)) (at-accepts-flat .accepts-flat .ensures) (c .before .if1 .left) (c .representative .ensures .0),
+          (retainedIn (limitsOf limits) own (start .args .bits .now)) (at-accepts-flat .accepts-flat .ensures) (c .before .if1 .left)
+          (c .representative .ensures .0),
       omega (arith, c .representative .ensures .1),
     )
 

@@ -6,12 +6,6 @@ use Rattle.plan.specs.Told.{serialIn}
 use Rattle.plan.proofs.JudgeLaws.{judged-sizes, judged-no, judged-yes, serial-small, zero-fits, ranks-fit, widths-fit, links-fit, wider-ranked, few-kept}
 use Rattle.plan.proofs.judge.judge_serial.Statement.{statement}
 use Rattle.plan.proofs.judge.judge_serial.Tie as tie
-use Rattle.plan.proofs.judge.judge_serial.Reads as reads
-use Rattle.plan.proofs.judge.judge_serial.Lts as lts
-use Rattle.plan.proofs.accept.accepts_serial.Reads as accepts-serial-reads
-use Rattle.plan.proofs.gather.links_of.Reads as links-of-reads
-use Rattle.plan.proofs.gather.ranks_of.Reads as ranks-of-reads
-use Rattle.plan.proofs.retain.representative.Reads as representative-reads
 
 ranks-of-requires : tie.Need-ranks-of-requires
 ranks-of-requires c κs = c .pre .1 .fit .few
@@ -55,7 +49,8 @@ returns c =
       judged-no (serialIn (limitsOf limits) own lowers highers regions firsts seconds passing)
           (serial-small (limitsOf limits) own lowers highers regions firsts seconds passing (start .pre .0)) (ranksIn n joined parts whole-part)
           (numbersIn (start .args .links) (start .args .chosen .now) firsts parts whole-part) (at-ranks-of .ranks-of .ensures) (at-links-of .links-of .ensures)
-          ((retainedIn (limitsOf limits) own (start .args .bits .now)) (ranksIn n joined parts whole-part)) (c .before .accepts-serial .ensures) (c .if1 .taken),
+          ((retainedIn (limitsOf limits) own (start .args .bits .now)) (ranksIn n joined parts whole-part)) (c .before .accepts-serial .ensures)
+          (c .if1 .taken),
       omega arith,
     )
 

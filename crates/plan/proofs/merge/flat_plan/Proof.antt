@@ -3,17 +3,14 @@ use Rattle.plan.proofs.JudgeLaws.{wider-ranked, link-fits}
 use borrow.Author.Needs.{needs}
 use Rattle.plan.proofs.merge.flat_plan.Statement.{statement}
 use Rattle.plan.proofs.merge.flat_plan.Tie as tie
-use Rattle.plan.proofs.merge.flat_plan.Reads as reads
-use Rattle.plan.proofs.merge.flat_plan.Lts as lts
-use Rattle.plan.proofs.into.into_flat.Reads as into-flat-reads
-use Rattle.plan.proofs.merge.join_chosen.Reads as join-chosen-reads
-use Rattle.plan.proofs.select.select_flat.Reads as select-flat-reads
 
 select-flat-requires : tie.Need-select-flat-requires
 select-flat-requires c κs = (refl, c .before .pre .1 .fit .ranked .few, link-fits (c .before .pre .1))
 
 join-chosen-requires : tie.Need-join-chosen-requires
-join-chosen-requires c κs = (wider-ranked (c .before .before .before .before .before .pre .1), refl, refl)
+join-chosen-requires c κs =
+    let start = c .before .before .before .before .before in
+    (wider-ranked (start .pre .1), refl, refl)
 
 into-flat-requires : tie.Need-into-flat-requires
 into-flat-requires c κs = search needs

@@ -2,11 +2,6 @@ use Rattle.plan.proofs.PlanLaws.{plan-of}
 use borrow.Author.Needs.{needs}
 use Rattle.plan.proofs.merge.linked_plan.Statement.{statement}
 use Rattle.plan.proofs.merge.linked_plan.Tie as tie
-use Rattle.plan.proofs.merge.linked_plan.Reads as reads
-use Rattle.plan.proofs.merge.linked_plan.Lts as lts
-use Rattle.plan.proofs.into.combine.Reads as combine-reads
-use Rattle.plan.proofs.merge.flat_plan.Reads as flat-plan-reads
-use Rattle.plan.proofs.merge.serial_plan.Reads as serial-plan-reads
 
 serial-plan-requires : tie.Need-serial-plan-requires
 serial-plan-requires c κs = search needs

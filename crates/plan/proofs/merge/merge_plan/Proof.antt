@@ -3,10 +3,6 @@ use Rattle.plan.proofs.PlanLaws.{plan-none, plan-unlinked}
 use borrow.Author.Needs.{needs}
 use Rattle.plan.proofs.merge.merge_plan.Statement.{statement}
 use Rattle.plan.proofs.merge.merge_plan.Tie as tie
-use Rattle.plan.proofs.merge.merge_plan.Reads as reads
-use Rattle.plan.proofs.merge.merge_plan.Lts as lts
-use Rattle.plan.proofs.merge.linked_plan.Reads as linked-plan-reads
-use Rattle.plan.proofs.parts.start.Reads as start-reads
 
 start-requires : tie.Need-start-requires
 start-requires c κs = search needs
@@ -18,7 +14,9 @@ start-requires-2 : tie.Need-start-requires-2
 start-requires-2 c κs = search needs
 
 returns-2 : tie.Need-returns-2
-returns-2 c = plan-unlinked (c .start2 .ensures) (c .before .before .before .before .pre .1 .few) (c .before .before .if2 .taken)
+returns-2 c =
+    let start = c .before .before .before .before in
+    plan-unlinked (c .start2 .ensures) (start .pre .1 .few) (c .before .before .if2 .taken)
 
 linked-plan-requires : tie.Need-linked-plan-requires
 linked-plan-requires c κs =

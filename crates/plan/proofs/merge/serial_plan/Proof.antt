@@ -3,17 +3,14 @@ use Rattle.plan.proofs.JudgeLaws.{wider-ranked}
 use borrow.Author.Needs.{needs}
 use Rattle.plan.proofs.merge.serial_plan.Statement.{statement}
 use Rattle.plan.proofs.merge.serial_plan.Tie as tie
-use Rattle.plan.proofs.merge.serial_plan.Reads as reads
-use Rattle.plan.proofs.merge.serial_plan.Lts as lts
-use Rattle.plan.proofs.into.into_serial.Reads as into-serial-reads
-use Rattle.plan.proofs.merge.join_chosen.Reads as join-chosen-reads
-use Rattle.plan.proofs.select.select_serial.Reads as select-serial-reads
 
 select-serial-requires : tie.Need-select-serial-requires
 select-serial-requires c κs = (refl, wider-ranked (c .before .pre .1))
 
 join-chosen-requires : tie.Need-join-chosen-requires
-join-chosen-requires c κs = (wider-ranked (c .before .before .before .before .before .pre .1), refl, refl)
+join-chosen-requires c κs =
+    let start = c .before .before .before .before .before in
+    (wider-ranked (start .pre .1), refl, refl)
 
 into-serial-requires : tie.Need-into-serial-requires
 into-serial-requires c κs = search needs

@@ -5,11 +5,6 @@ use borrow.Author.Needs.{needs}
 use Rattle.plan.proofs.ArrayLaws.{Mapped, mapped-none, mapped-next, mapped-all, join-as}
 use Rattle.plan.proofs.parts.join_parts.Statement.{statement}
 use Rattle.plan.proofs.parts.join_parts.Tie as tie
-use Rattle.plan.proofs.parts.join_parts.Reads as reads
-use Rattle.plan.proofs.parts.join_parts.Lts as lts
-use Rattle.plan.proofs.parts.larger.Reads as larger-reads
-use Rattle.plan.proofs.parts.moved.Reads as moved-reads
-use Rattle.plan.proofs.parts.smaller.Reads as smaller-reads
 
 abbrev Inv-loop : tie.InvT-loop
 Inv-loop parts₀ a b low high i₀ parts i = Mapped (λ (x : ℕ). cond (eqb x high) low x) i parts₀ parts
@@ -48,10 +43,17 @@ loop-less : tie.Need-loop-less Inv-loop μ-loop
 loop-less c = search needs
 
 loop-again : tie.Need-loop-again Inv-loop μ-loop
-loop-again c = mapped-next (c .moved .result) (c .before .before .before .loop .inv) (c .before .before .loop-test .taken) (c .moved .ensures)
+loop-again c =
+    let in-loop = c .before .before .before in
+    mapped-next (c .moved .result) (in-loop .loop .inv) (c .before .before .loop-test .taken) (c .moved .ensures)
 
 returns : tie.Need-returns Inv-loop μ-loop
-returns c = join-as (c .before .before .before .before .args .a) (c .before .before .before .before .args .b) (c .before .before .before .smaller .result) (c .before .before .larger .result) (c .before .before .before .before .args .parts .now) (c .before .before .before .smaller .ensures) (c .before .before .larger .ensures) (mapped-all (c .before .loop .inv) (c .loop-test .left))
+returns c =
+    let after-larger = c .before .before in
+    let after-smaller = after-larger .before in
+    let start = after-smaller .before in
+    join-as (start .args .a) (start .args .b) (after-smaller .smaller .result) (after-larger .larger .result) (start .args .parts .now)
+    (after-smaller .smaller .ensures) (after-larger .larger .ensures) (mapped-all (c .before .loop .inv) (c .loop-test .left))
 
 pub join-parts-spec : {M : Type 1} → statement M
 join-parts-spec =

@@ -21,25 +21,42 @@ sub-k : tie.Need-sub-k Inv-loop μ-loop
 sub-k c = search needs
 
 element-copy-out-mark-link : tie.Need-element-copy-out-mark-link Inv-loop μ-loop
-element-copy-out-mark-link c = omega (arith, c .before .before .loop .inv .0, c .before .before .before .before .pre .few)
+element-copy-out-mark-link c =
+    let start = c .before .before .before .before in
+    omega (arith, c .before .before .loop .inv .0, start .pre .few)
 
 mul-mark-link : tie.Need-mul-mark-link Inv-loop μ-loop
-mul-mark-link c = omega (arith, c .before .before .before .loop .inv .0, c .before .before .before .before .before .pre .few)
+mul-mark-link c =
+    let in-loop = c .before .before .before in
+    let start = in-loop .before .before in
+    omega (arith, in-loop .loop .inv .0, start .pre .few)
 
 element-copy-out-mark-link-2 : tie.Need-element-copy-out-mark-link-2 Inv-loop μ-loop
-element-copy-out-mark-link-2 c = omega (arith, c .before .before .before .loop .inv .0, c .before .before .before .before .before .pre .few)
+element-copy-out-mark-link-2 c =
+    let in-loop = c .before .before .before in
+    let start = in-loop .before .before in
+    omega (arith, in-loop .loop .inv .0, start .pre .few)
 
 mul-mark-link-2 : tie.Need-mul-mark-link-2 Inv-loop μ-loop
-mul-mark-link-2 c = omega (arith, c .before .before .before .before .loop .inv .0, c .before .before .before .before .before .before .pre .few)
+mul-mark-link-2 c =
+    let in-loop = c .before .before .before .before in
+    let start = in-loop .before .before in
+    omega (arith, in-loop .loop .inv .0, start .pre .few)
 
 element-copy-out-mark-link-3 : tie.Need-element-copy-out-mark-link-3 Inv-loop μ-loop
-element-copy-out-mark-link-3 c = omega (arith, c .before .before .before .before .loop .inv .0, c .before .before .before .before .before .before .pre .few)
+element-copy-out-mark-link-3 c =
+    let in-loop = c .before .before .before .before in
+    let start = in-loop .before .before in
+    omega (arith, in-loop .loop .inv .0, start .pre .few)
 
 mark-link-requires : tie.Need-mark-link-requires Inv-loop μ-loop
 mark-link-requires c κs =
-    let l = c .before .before .before .before .before .loop in
-    let p = c .before .before .before .before .before .before .before .pre in
-    let on : l .k - 1 < c .before .before .before .before .before .before .before .args .links = omega (arith, l .inv .0, c .before .before .before .before .loop-test .taken) in
+    let turning = c .before .before .before .before in
+    let in-loop = turning .before in
+    let start = in-loop .before .before in
+    let l = in-loop .loop in
+    let p = start .pre in
+    let on : l .k - 1 < start .args .links = omega (arith, l .inv .0, turning .loop-test .taken) in
     (l .inv .1 .size, p .first-in (l .k - 1) on, p .second-in (l .k - 1) on)
 
 loop-less : tie.Need-loop-less Inv-loop μ-loop
@@ -47,13 +64,20 @@ loop-less c = search needs
 
 loop-again : tie.Need-loop-again Inv-loop μ-loop
 loop-again c =
-    let l = c .before .before .before .before .before .before .loop in
-    let a = c .before .before .before .before .before .before .before .before .args in
-    (omega (arith, l .inv .0), marks-next (a .chosen .now) (a .firsts .now) (a .seconds .now) (a .links) (c .before .before .before .before .before .loop-test .taken) (l .inv .0) (l .inv .1) (c .mark-link .ensures))
+    let turning = c .before .before .before .before .before in
+    let in-loop = turning .before in
+    let start = in-loop .before .before in
+    let l = in-loop .loop in
+    let a = start .args in (
+      omega (arith, l .inv .0),
+      marks-next (a .chosen .now) (a .firsts .now) (a .seconds .now) (a .links) (turning .loop-test .taken) (l .inv .0) (l .inv .1)
+          (c .mark-link .ensures),
+    )
 
 returns : tie.Need-returns Inv-loop μ-loop
 returns c =
-    let a = c .before .before .before .args in
+    let start = c .before .before .before in
+    let a = start .args in
     marks-end (a .chosen .now) (a .firsts .now) (a .seconds .now) (a .links) (c .before .loop .inv .1) (omega (arith, c .loop-test .left))
 
 pub mark-joined-spec : {M : Type 1} → statement M

@@ -24,7 +24,8 @@ returns-2 : tie.Need-returns-2
 returns-2 c =
     let e = c .before .before .before in
     let a = e .args in
-    mark-yes (a .on) (a .first) (a .second) (a .joined .now) (c .before .before .if1 .left) (c .before .size .ensures .0) (c .size2 .ensures .0) (e .pre .0) (e .pre .1) (e .pre .2)
+    mark-yes (a .on) (a .first) (a .second) (a .joined .now) (c .before .before .if1 .left) (c .before .size .ensures .0) (c .size2 .ensures .0) (e .pre .0)
+    (e .pre .1) (e .pre .2)
 
 pub mark-link-spec : {M : Type 1} → statement M
 mark-link-spec =

@@ -1,8 +1,6 @@
 use Rattle.plan.proofs.ArrayLaws.{pick-yes, pick-no}
 use Rattle.plan.proofs.parts.moved.Statement.{statement}
 use Rattle.plan.proofs.parts.moved.Tie as tie
-use Rattle.plan.proofs.parts.moved.Reads as reads
-use Rattle.plan.proofs.parts.moved.Lts as lts
 
 returns : tie.Need-returns
 returns c = pick-yes (c .before .args .c) (c .before .args .high) (c .before .args .low) (c .if1 .taken)

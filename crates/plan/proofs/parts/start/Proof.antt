@@ -5,8 +5,6 @@ use Rattle.plan.specs.Arrays.{Filled}
 use Rattle.plan.proofs.ArrayLaws.{filled-none, filled-next, filled-all}
 use Rattle.plan.proofs.parts.start.Statement.{statement}
 use Rattle.plan.proofs.parts.start.Tie as tie
-use Rattle.plan.proofs.parts.start.Reads as reads
-use Rattle.plan.proofs.parts.start.Lts as lts
 
 abbrev Inv-loop : tie.InvT-loop
 Inv-loop parts₀ i₀ parts i = Filled (λ j. j) i parts

@@ -7,9 +7,6 @@ use Rattle.plan.specs.Few.{slot}
 use Rattle.plan.proofs.ShapeLaws.{Each, each-start, each-next, each-listed}
 use Rattle.plan.proofs.path.all_on.Statement.{statement}
 use Rattle.plan.proofs.path.all_on.Tie as tie
-use Rattle.plan.proofs.path.all_on.Reads as reads
-use Rattle.plan.proofs.path.all_on.Lts as lts
-use Rattle.plan.proofs.few.Few.index.Reads as index-reads
 
 abbrev Inv-loop : tie.InvT-loop
 Inv-loop marks links all₀ j₀ all j = (j ≤ links .count) × Each (isOn marks) (slot links) (links .count) j all

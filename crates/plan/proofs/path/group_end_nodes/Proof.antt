@@ -10,12 +10,6 @@ use Rattle.plan.proofs.FewLaws.{Picked, picked-start, picked-room, pick
 use Rattle.plan.proofs.ValueLaws.{ends-whole}
 use Rattle.plan.proofs.path.group_end_nodes.Statement.{statement}
 use Rattle.plan.proofs.path.group_end_nodes.Tie as tie
-use Rattle.plan.proofs.path.group_end_nodes.Reads as reads
-use Rattle.plan.proofs.path.group_end_nodes.Lts as lts
-use Rattle.plan.proofs.few.Few.get.Reads as get-reads
-use Rattle.plan.proofs.few.Few.none.Reads as none-reads
-use Rattle.plan.proofs.few.Few.with.Reads as with-reads
-use Rattle.plan.proofs.path.links_at.Reads as links-at-reads
 
 abbrev Inv-loop : tie.InvT-loop
 Inv-loop firsts seconds ranks links found₀ j₀ found j =
@@ -43,7 +37,9 @@ get-requires : tie.Need-get-requires Inv-loop μ-loop
 get-requires c κs = search needs
 
 links-at-requires : tie.Need-links-at-requires Inv-loop μ-loop
-links-at-requires c κs = (c .before .before .before .before .pre .1, c .before .before .before .before .pre .2)
+links-at-requires c κs =
+    let start = c .before .before .before .before in
+    (start .pre .1, start .pre .2)
 
 with-requires : tie.Need-with-requires Inv-loop μ-loop
 with-requires c κs =

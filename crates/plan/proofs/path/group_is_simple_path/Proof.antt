@@ -8,13 +8,6 @@ use Rattle.plan.proofs.AcceptLaws.{ends-slots, path-as}
 use borrow.Author.Needs.{needs}
 use Rattle.plan.proofs.path.group_is_simple_path.Statement.{statement}
 use Rattle.plan.proofs.path.group_is_simple_path.Tie as tie
-use Rattle.plan.proofs.path.group_is_simple_path.Reads as reads
-use Rattle.plan.proofs.path.group_is_simple_path.Lts as lts
-use Rattle.links.proofs.limits.GroupSize.allowed.Reads as allowed-reads
-use Rattle.plan.proofs.few.Few.get.Reads as get-reads
-use Rattle.plan.proofs.path.group_end_nodes.Reads as group-end-nodes-reads
-use Rattle.plan.proofs.path.outer.Reads as outer-reads
-use Rattle.plan.proofs.path.regular.Reads as regular-reads
 
 group-end-nodes-requires : tie.Need-group-end-nodes-requires
 group-end-nodes-requires c κs = search needs

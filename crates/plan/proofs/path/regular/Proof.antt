@@ -11,10 +11,6 @@ use Rattle.plan.proofs.ShapeLaws.{Each, each-start, each-next}
 use Rattle.plan.proofs.ValueLaws.{regular-whole}
 use Rattle.plan.proofs.path.regular.Statement.{statement}
 use Rattle.plan.proofs.path.regular.Tie as tie
-use Rattle.plan.proofs.path.regular.Reads as reads
-use Rattle.plan.proofs.path.regular.Lts as lts
-use Rattle.plan.proofs.few.Few.get.Reads as get-reads
-use Rattle.plan.proofs.path.links_at.Reads as links-at-reads
 
 abbrev Inv-loop : tie.InvT-loop
 Inv-loop firsts seconds ranks links all₀ j₀ all j =
@@ -42,7 +38,9 @@ get-requires : tie.Need-get-requires Inv-loop μ-loop
 get-requires c κs = search needs
 
 links-at-requires : tie.Need-links-at-requires Inv-loop μ-loop
-links-at-requires c κs = (c .before .before .before .pre .0, c .before .before .before .pre .1)
+links-at-requires c κs =
+    let start = c .before .before .before in
+    (start .pre .0, start .pre .1)
 
 loop-less : tie.Need-loop-less Inv-loop μ-loop
 loop-less c = search needs

@@ -11,13 +11,6 @@ use Rattle.plan.proofs.FewLaws.{Picked, picked-start, picked-room, pick
 use Rattle.plan.proofs.ShapeLaws.{picked-listed}
 use Rattle.plan.proofs.retain.eligible.Statement.{statement}
 use Rattle.plan.proofs.retain.eligible.Tie as tie
-use Rattle.plan.proofs.retain.eligible.Reads as reads
-use Rattle.plan.proofs.retain.eligible.Lts as lts
-use Rattle.plan.proofs.few.Few.get.Reads as get-reads
-use Rattle.plan.proofs.few.Few.index.Reads as index-reads
-use Rattle.plan.proofs.few.Few.none.Reads as none-reads
-use Rattle.plan.proofs.few.Few.with.Reads as with-reads
-use Rattle.plan.proofs.retain.is_eligible.Reads as is-eligible-reads
 
 abbrev Inv-loop : tie.InvT-loop
 Inv-loop limits bits least ranks found₀ j₀ found j = (j ≤ ranks .count) × Picked (fineIn (limitsOf limits) bits least) (slot ranks) (ranks .count) j found
@@ -44,7 +37,9 @@ get-requires : tie.Need-get-requires Inv-loop μ-loop
 get-requires c κs = search needs
 
 index-requires : tie.Need-index-requires Inv-loop μ-loop
-index-requires c κs = c .before .before .before .before .pre .1 (c .before .before .loop .j - 1) .below
+index-requires c κs =
+    let start = c .before .before .before .before in
+    start .pre .1 (c .before .before .loop .j - 1) .below
 
 is-eligible-requires : tie.Need-is-eligible-requires Inv-loop μ-loop
 is-eligible-requires c κs =

@@ -5,10 +5,6 @@ use Rattle.links.specs.HeldLimits.{limitsOf}
 use borrow.Author.Needs.{needs}
 use Rattle.plan.proofs.retain.is_eligible.Statement.{statement}
 use Rattle.plan.proofs.retain.is_eligible.Tie as tie
-use Rattle.plan.proofs.retain.is_eligible.Reads as reads
-use Rattle.plan.proofs.retain.is_eligible.Lts as lts
-use Rattle.links.proofs.geometry.width_of.Reads as width-of-reads
-use Rattle.links.proofs.limits.Member.eligible.Reads as eligible-reads
 
 mul-width-of : tie.Need-mul-width-of
 mul-width-of c = search needs
@@ -23,7 +19,9 @@ eligible-requires : tie.Need-eligible-requires
 eligible-requires c κs = search needs
 
 returns : tie.Need-returns
-returns c = c .eligible .ensures ∙ ap (λ (w : Float). le w (c .before .before .before .args .least ⊕ limitsOf (c .before .before .before .args .limits) .width)) (c .before .width-of .ensures)
+returns c =
+    let start = c .before .before .before in
+    c .eligible .ensures ∙ ap (λ (w : Float). le w (start .args .least ⊕ limitsOf (start .args .limits) .width)) (c .before .width-of .ensures)
 
 pub is-eligible-spec : {M : Type 1} → statement M
 is-eligible-spec =

@@ -10,10 +10,6 @@ use Rattle.plan.proofs.ShapeLaws.{First, first-start, first-next}
 use Rattle.plan.proofs.ValueLaws.{least-listed}
 use Rattle.plan.proofs.retain.least_bits.Statement.{statement}
 use Rattle.plan.proofs.retain.least_bits.Tie as tie
-use Rattle.plan.proofs.retain.least_bits.Reads as reads
-use Rattle.plan.proofs.retain.least_bits.Lts as lts
-use Rattle.plan.proofs.few.Few.index.Reads as index-reads
-use Rattle.plan.proofs.retain.lesser.Reads as lesser-reads
 
 abbrev Inv-loop : tie.InvT-loop
 Inv-loop bits ranks j₀ least₀ j least = First totalLe (λ i. at bits (slot ranks i)) (ranks .count) j least × (least ≤ 0x40D0_0000_0000_0000)
@@ -47,7 +43,9 @@ sub-j-2 : tie.Need-sub-j-2 Inv-loop μ-loop
 sub-j-2 c = search needs
 
 index-requires-2 : tie.Need-index-requires-2 Inv-loop μ-loop
-index-requires-2 c κs = c .before .before .before .before .before .pre .1 (c .before .loop .j - 1) .below
+index-requires-2 c κs =
+    let start = c .before .before .before .before .before in
+    start .pre .1 (c .before .loop .j - 1) .below
 
 mul-lesser : tie.Need-mul-lesser Inv-loop μ-loop
 mul-lesser c = search needs
@@ -83,7 +81,8 @@ loop-again c =
 returns : tie.Need-returns Inv-loop μ-loop
 returns c =
     let start = c .before .before .before .before .before in
-    (least-listed (start .args .bits .now) (start .args .ranks) (c .before .loop .inv .0) (omega (arith, c .loop-test .left)), c .before .loop .inv .1)
+    let inv = c .before .loop .inv in
+    (least-listed (start .args .bits .now) (start .args .ranks) (inv .0) (omega (arith, c .loop-test .left)), inv .1)
 
 pub least-bits-spec : {M : Type 1} → statement M
 least-bits-spec =

@@ -4,10 +4,6 @@ use Rattle.plan.proofs.ValueLaws.{choose-yes, choose-no, nearer-as}
 use borrow.Author.Needs.{needs}
 use Rattle.plan.proofs.retain.nearer.Statement.{statement}
 use Rattle.plan.proofs.retain.nearer.Tie as tie
-use Rattle.plan.proofs.retain.nearer.Reads as reads
-use Rattle.plan.proofs.retain.nearer.Lts as lts
-use Rattle.links.proofs.sums.no_later.Reads as no-later-reads
-use Rattle.plan.proofs.retain.sum_from.Reads as sum-from-reads
 
 sum-from-requires : tie.Need-sum-from-requires
 sum-from-requires c κs = search needs

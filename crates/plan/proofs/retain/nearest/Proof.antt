@@ -10,10 +10,6 @@ use Rattle.plan.proofs.ShapeLaws.{First, first-start, first-next}
 use Rattle.plan.proofs.ValueLaws.{first-listed}
 use Rattle.plan.proofs.retain.nearest.Statement.{statement}
 use Rattle.plan.proofs.retain.nearest.Tie as tie
-use Rattle.plan.proofs.retain.nearest.Reads as reads
-use Rattle.plan.proofs.retain.nearest.Lts as lts
-use Rattle.plan.proofs.few.Few.index.Reads as index-reads
-use Rattle.plan.proofs.retain.nearer.Reads as nearer-reads
 
 abbrev Inv-loop : tie.InvT-loop
 Inv-loop own ranks among j₀ best₀ j best = First (nearerIn own (listed ranks)) (slot among) (among .count) j best × RankFits own best
@@ -41,7 +37,9 @@ sub-j-2 : tie.Need-sub-j-2 Inv-loop μ-loop
 sub-j-2 c = search needs
 
 index-requires-2 : tie.Need-index-requires-2 Inv-loop μ-loop
-index-requires-2 c κs = c .before .before .before .before .pre .3 (c .before .loop .j - 1) .below
+index-requires-2 c κs =
+    let start = c .before .before .before .before in
+    start .pre .3 (c .before .loop .j - 1) .below
 
 nearer-requires : tie.Need-nearer-requires Inv-loop μ-loop
 nearer-requires c κs =
@@ -69,10 +67,11 @@ loop-again c =
 
 returns : tie.Need-returns Inv-loop μ-loop
 returns c =
-    let start = c .before .before .before .before in (
-      first-listed (nearerIn (start .args .own .now) (listed (start .args .ranks))) (start .args .among) (c .before .loop .inv .0)
+    let start = c .before .before .before .before in
+    let inv = c .before .loop .inv in (
+      first-listed (nearerIn (start .args .own .now) (listed (start .args .ranks))) (start .args .among) (inv .0)
           (omega (arith, c .loop-test .left)),
-      c .before .loop .inv .1 .below,
+      inv .1 .below,
     )
 
 pub nearest-spec : {M : Type 1} → statement M

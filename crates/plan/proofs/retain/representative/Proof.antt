@@ -7,13 +7,6 @@ use Rattle.plan.proofs.ValueLaws.{eligible-as, retained-none, retained-
 use borrow.Author.Needs.{needs}
 use Rattle.plan.proofs.retain.representative.Statement.{statement}
 use Rattle.plan.proofs.retain.representative.Tie as tie
-use Rattle.plan.proofs.retain.representative.Reads as reads
-use Rattle.plan.proofs.retain.representative.Lts as lts
-use Rattle.links.proofs.geometry.width_of.Reads as width-of-reads
-use Rattle.plan.proofs.few.Few.index.Reads as index-reads
-use Rattle.plan.proofs.retain.eligible.Reads as eligible-reads
-use Rattle.plan.proofs.retain.least_bits.Reads as least-bits-reads
-use Rattle.plan.proofs.retain.nearest.Reads as nearest-reads
 
 least-bits-requires : tie.Need-least-bits-requires
 least-bits-requires c κs = search needs
@@ -25,7 +18,9 @@ eligible-requires : tie.Need-eligible-requires
 eligible-requires c κs = search needs
 
 index-requires : tie.Need-index-requires
-index-requires c κs = c .before .before .before .before .before .pre .2 0 .below
+index-requires c κs =
+    let start = c .before .before .before .before .before in
+    start .pre .2 0 .below
 
 returns : tie.Need-returns
 returns c =

@@ -29,7 +29,9 @@ loop-holds c =
     (c .rank-distance .ensures ∙ ap (λ (k : ℕ). centreDistance (spanIn own (start .args .i)) (spanIn own k)) (c .before .index .ensures .0))
 
 index-requires-2 : tie.Need-index-requires-2 Inv-loop μ-loop
-index-requires-2 c κs = let at-loop = c .before .before in at-loop .before .before .before .pre .1 (at-loop .loop .j) .below
+index-requires-2 c κs =
+    let at-loop = c .before .before in
+    at-loop .before .before .before .pre .1 (at-loop .loop .j) .below
 
 rank-distance-requires-2 : tie.Need-rank-distance-requires-2 Inv-loop μ-loop
 rank-distance-requires-2 c κs =

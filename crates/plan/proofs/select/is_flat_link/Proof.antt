@@ -5,10 +5,6 @@ use Rattle.plan.proofs.ValueLaws.{both}
 use borrow.Author.Needs.{needs}
 use Rattle.plan.proofs.select.is_flat_link.Statement.{statement}
 use Rattle.plan.proofs.select.is_flat_link.Tie as tie
-use Rattle.plan.proofs.select.is_flat_link.Reads as reads
-use Rattle.plan.proofs.select.is_flat_link.Lts as lts
-use Rattle.plan.proofs.alike.alike.Reads as alike-reads
-use Rattle.plan.proofs.select.is_free.Reads as is-free-reads
 
 is-free-requires : tie.Need-is-free-requires
 is-free-requires c κs = search needs
@@ -20,7 +16,10 @@ alike-requires : tie.Need-alike-requires
 alike-requires c κs = search needs
 
 returns : tie.Need-returns
-returns c = ap (λ (t : Bool). eqb (c .before .before .before .args .flat) 1 && t) (both _&&_ (both _&&_ (c .before .before .is-free .ensures) (c .before .is-free2 .ensures)) (c .alike .ensures))
+returns c =
+    let start = c .before .before .before in
+    ap (λ (t : Bool). eqb (start .args .flat) 1 && t)
+    (both _&&_ (both _&&_ (c .before .before .is-free .ensures) (c .before .is-free2 .ensures)) (c .alike .ensures))
 
 pub is-flat-link-spec : {M : Type 1} → statement M
 is-flat-link-spec = tie.close (tie.spec is-free-requires is-free-requires-2 alike-requires returns)

@@ -13,14 +13,10 @@ use Rattle.plan.proofs.ArrayLaws.{filled-none, filled-next, filled-upto
 use Rattle.plan.proofs.ValueLaws.{both}
 use Rattle.plan.proofs.select.select_flat.Statement.{statement}
 use Rattle.plan.proofs.select.select_flat.Tie as tie
-use Rattle.plan.proofs.select.select_flat.Reads as reads
-use Rattle.plan.proofs.select.select_flat.Lts as lts
-use Rattle.plan.proofs.select.is_flat_link.Reads as is-flat-link-reads
-use Rattle.plan.proofs.select.mark.Reads as mark-reads
-use Rattle.wire.proofs.size.Reads as size-reads
 
 abbrev Inv-loop : tie.InvT-loop
-Inv-loop limits own flat into firsts seconds links chosen₀ k₀ chosen k = (k ≤ links) × Filled (λ j. cond (flatLinkIn (limitsOf limits) own into (at flat j) (at firsts j) (at seconds j)) 1 0) k chosen
+Inv-loop limits own flat into firsts seconds links chosen₀ k₀ chosen k = (k ≤ links)
+    × Filled (λ j. cond (flatLinkIn (limitsOf limits) own into (at flat j) (at firsts j) (at seconds j)) 1 0) k chosen
 
 abbrev μ-loop : tie.MeasureT-loop
 μ-loop limits own flat into firsts seconds links chosen₀ k₀ chosen k = links - k
@@ -50,7 +46,14 @@ size-requires-2 : tie.Need-size-requires-2 Inv-loop μ-loop
 size-requires-2 c κs = search needs
 
 is-flat-link-requires : tie.Need-is-flat-link-requires Inv-loop μ-loop
-is-flat-link-requires c κs = (subst (RankFits (c .before .before .before .before .before .before .before .args .own .now)) (sym (c .before .before .size .ensures .0)) (c .before .before .before .before .before .before .before .pre .2 (c .before .before .before .before .before .before .loop .k) (c .before .before .before .before .before .loop-test .taken) .first), subst (RankFits (c .before .before .before .before .before .before .before .args .own .now)) (sym (c .size2 .ensures .0)) (c .before .before .before .before .before .before .before .pre .2 (c .before .before .before .before .before .before .loop .k) (c .before .before .before .before .before .loop-test .taken) .second))
+is-flat-link-requires c κs =
+    let turning = c .before .before .before .before .before in
+    let in-loop = turning .before in
+    let start = in-loop .before in
+    let own = start .args .own .now in (
+      subst (RankFits own) (sym (c .before .before .size .ensures .0)) (start .pre .2 (in-loop .loop .k) (turning .loop-test .taken) .first),
+      subst (RankFits own) (sym (c .size2 .ensures .0)) (start .pre .2 (in-loop .loop .k) (turning .loop-test .taken) .second),
+    )
 
 mark-requires : tie.Need-mark-requires Inv-loop μ-loop
 mark-requires c κs = search needs
@@ -65,7 +68,18 @@ loop-less : tie.Need-loop-less Inv-loop μ-loop
 loop-less c = search needs
 
 loop-again : tie.Need-loop-again Inv-loop μ-loop
-loop-again c = (omega (arith, c .before .before .before .before .before .before .before .loop-test .taken), filled-next (c .mark .result) (c .before .before .before .before .before .before .before .before .loop .inv .1) (omega (arith, c .before .before .before .before .before .before .before .loop-test .taken, c .before .before .before .before .before .before .before .before .before .pre .1)) (c .mark .ensures ∙ ap (λ (t : Bool). cond t 1 0) (c .before .is-flat-link .ensures ∙ both (flatLinkIn (limitsOf (c .before .before .before .before .before .before .before .before .before .args .limits)) (c .before .before .before .before .before .before .before .before .before .args .own .now) (c .before .before .before .before .before .before .before .before .before .args .into .now) (at (c .before .before .before .before .before .before .before .before .before .args .flat .now) (c .before .before .before .before .before .before .before .before .loop .k))) (c .before .before .before .before .size .ensures .0) (c .before .before .size2 .ensures .0))))
+loop-again c =
+    let after-size = c .before .before .before .before in
+    let turning = after-size .before .before .before in
+    let in-loop = turning .before in
+    let start = in-loop .before in (
+      omega (arith, turning .loop-test .taken),
+      filled-next (c .mark .result) (in-loop .loop .inv .1) (omega (arith, turning .loop-test .taken, start .pre .1))
+          (c .mark .ensures ∙ ap (λ (t : Bool). cond t 1 0)
+          (c .before .is-flat-link .ensures
+          ∙ both (flatLinkIn (limitsOf (start .args .limits)) (start .args .own .now) (start .args .into .now)
+          (at (start .args .flat .now) (in-loop .loop .k))) (after-size .size .ensures .0) (c .before .before .size2 .ensures .0))),
+    )
 
 returns : tie.Need-returns Inv-loop μ-loop
 returns c = filled-upto (c .before .loop .inv .1) (c .loop-test .left)

@@ -11,11 +11,6 @@ use Rattle.plan.proofs.ArrayLaws.{filled-none, filled-next, filled-upto
 use Rattle.plan.proofs.ValueLaws.{both}
 use Rattle.plan.proofs.select.select_serial.Statement.{statement}
 use Rattle.plan.proofs.select.select_serial.Tie as tie
-use Rattle.plan.proofs.select.select_serial.Reads as reads
-use Rattle.plan.proofs.select.select_serial.Lts as lts
-use Rattle.plan.proofs.select.both_on.Reads as both-on-reads
-use Rattle.plan.proofs.select.mark.Reads as mark-reads
-use Rattle.wire.proofs.size.Reads as size-reads
 
 abbrev Inv-loop : tie.InvT-loop
 Inv-loop marks firsts seconds links chosen₀ k₀ chosen k = (k ≤ links) × Filled (λ j. cond (bothOn marks (at firsts j) (at seconds j)) 1 0) k chosen
@@ -45,7 +40,13 @@ size-requires-2 : tie.Need-size-requires-2 Inv-loop μ-loop
 size-requires-2 c κs = search needs
 
 both-on-requires : tie.Need-both-on-requires Inv-loop μ-loop
-both-on-requires c κs = (subst (λ (i : ℕ). i < 256) (sym (c .before .before .size .ensures .0)) (c .before .before .before .before .before .before .pre .1 .first-in (c .before .before .before .before .before .loop .k) (c .before .before .before .before .loop-test .taken)), subst (λ (i : ℕ). i < 256) (sym (c .size2 .ensures .0)) (c .before .before .before .before .before .before .pre .1 .second-in (c .before .before .before .before .before .loop .k) (c .before .before .before .before .loop-test .taken)))
+both-on-requires c κs =
+    let turning = c .before .before .before .before in
+    let in-loop = turning .before in
+    let start = in-loop .before in (
+      subst (λ (i : ℕ). i < 256) (sym (c .before .before .size .ensures .0)) (start .pre .1 .first-in (in-loop .loop .k) (turning .loop-test .taken)),
+      subst (λ (i : ℕ). i < 256) (sym (c .size2 .ensures .0)) (start .pre .1 .second-in (in-loop .loop .k) (turning .loop-test .taken)),
+    )
 
 mark-requires : tie.Need-mark-requires Inv-loop μ-loop
 mark-requires c κs = search needs
@@ -60,7 +61,16 @@ loop-less : tie.Need-loop-less Inv-loop μ-loop
 loop-less c = search needs
 
 loop-again : tie.Need-loop-again Inv-loop μ-loop
-loop-again c = (omega (arith, c .before .before .before .before .before .before .loop-test .taken), filled-next (c .mark .result) (c .before .before .before .before .before .before .before .loop .inv .1) (omega (arith, c .before .before .before .before .before .before .loop-test .taken, c .before .before .before .before .before .before .before .before .pre .1 .few)) (c .mark .ensures ∙ ap (λ (t : Bool). cond t 1 0) (c .before .both-on .ensures ∙ both (bothOn (c .before .before .before .before .before .before .before .before .args .marks .now)) (c .before .before .before .before .size .ensures .0) (c .before .before .size2 .ensures .0))))
+loop-again c =
+    let after-size = c .before .before .before .before in
+    let turning = after-size .before .before in
+    let in-loop = turning .before in
+    let start = in-loop .before in (
+      omega (arith, turning .loop-test .taken),
+      filled-next (c .mark .result) (in-loop .loop .inv .1) (omega (arith, turning .loop-test .taken, start .pre .1 .few))
+          (c .mark .ensures ∙ ap (λ (t : Bool). cond t 1 0)
+          (c .before .both-on .ensures ∙ both (bothOn (start .args .marks .now)) (after-size .size .ensures .0) (c .before .before .size2 .ensures .0))),
+    )
 
 returns : tie.Need-returns Inv-loop μ-loop
 returns c = filled-upto (c .before .loop .inv .1) (c .loop-test .left)

@@ -5,11 +5,6 @@ use Rattle.printing.proofs.Printing.{refused-text, left-by, detail-fits
 use borrow.Author.Needs.{needs}
 use Rattle.printing.proofs.print.print_list.Statement.{statement}
 use Rattle.printing.proofs.print.print_list.Tie as tie
-use Rattle.printing.proofs.print.print_list.Reads as reads
-use Rattle.printing.proofs.print.print_list.Lts as lts
-use Rattle.listing.proofs.write_listing.Reads as write-listing-reads
-use Rattle.listing.proofs.write_refused.Reads as write-refused-reads
-use Rattle.chokes.proofs.chokes_reduce.Reads as chokes-reduce-reads
 
 chokes-reduce-requires : tie.Need-chokes-reduce-requires
 chokes-reduce-requires c κs = search needs

@@ -4,10 +4,6 @@ use Rattle.printing.proofs.Printing.{same-text}
 use Rattle.printing.proofs.Reading.{over-limit, within-limit}
 use Rattle.printing.proofs.program.choke_list.Statement.{statement}
 use Rattle.printing.proofs.program.choke_list.Tie as tie
-use Rattle.printing.proofs.program.choke_list.Reads as reads
-use Rattle.printing.proofs.program.choke_list.Lts as lts
-use Rattle.listing.proofs.write_text.Reads as write-text-reads
-use Rattle.printing.proofs.print.print_list.Reads as print-list-reads
 
 slice-aggregate-write-text : tie.Need-slice-aggregate-write-text
 slice-aggregate-write-text c = search needs
@@ -17,9 +13,10 @@ write-text-requires c κs = search needs
 
 returns : tie.Need-returns
 returns c =
-    let start = c .before .before .before .before .before in
+    let if1-taken = c .before .before .before in
+    let start = if1-taken .before .before in
     let w = c .write-text in
-    (same-text (over-limit (start .args .input .now) (omega (arith, c .before .before .before .if1 .taken))) (w .ensures), omega (arith, w .ensures .end))
+    (same-text (over-limit (start .args .input .now) (omega (arith, if1-taken .if1 .taken))) (w .ensures), omega (arith, w .ensures .end))
 
 slice-aggregate-print-list : tie.Need-slice-aggregate-print-list
 slice-aggregate-print-list c = search needs

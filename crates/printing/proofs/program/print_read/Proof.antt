@@ -5,9 +5,6 @@ use Rattle.printing.proofs.Printing.{same-text}
 use Rattle.printing.proofs.Reading.{read-enough}
 use Rattle.printing.proofs.program.print_read.Statement.{statement}
 use Rattle.printing.proofs.program.print_read.Tie as tie
-use Rattle.printing.proofs.program.print_read.Reads as reads
-use Rattle.printing.proofs.program.print_read.Lts as lts
-use Rattle.printing.proofs.program.choke_list.Reads as choke-list-reads
 
 slice-aggregate-choke-list : tie.Need-slice-aggregate-choke-list
 slice-aggregate-choke-list c = sym (length-take-le _ _ (c .before .before .pre .0))

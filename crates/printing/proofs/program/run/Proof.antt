@@ -3,11 +3,6 @@ use lib.Seq.{length-take-le}
 use borrow.Author.Needs.{needs}
 use Rattle.printing.proofs.program.run.Statement.{statement}
 use Rattle.printing.proofs.program.run.Tie as tie
-use Rattle.printing.proofs.program.run.Reads as reads
-use Rattle.printing.proofs.program.run.Lts as lts
-use Rattle.io.proofs.read_full.Reads as read-full-reads
-use Rattle.io.proofs.write_all.Reads as write-all-reads
-use Rattle.printing.proofs.program.print_read.Reads as print-read-reads
 
 slice-aggregate-read-full : tie.Need-slice-aggregate-read-full
 slice-aggregate-read-full c = search needs

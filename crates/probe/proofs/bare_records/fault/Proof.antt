@@ -7,9 +7,6 @@ use native.Mathlib.Omega.{arith}
 use borrow.Author.Needs.{needs}
 use Rattle.probe.proofs.bare_records.fault.Statement.{statement}
 use Rattle.probe.proofs.bare_records.fault.Tie as tie
-use Rattle.probe.proofs.bare_records.fault.Reads as reads
-use Rattle.probe.proofs.bare_records.fault.Lts as lts
-use Rattle.probe.proofs.bare_records.record_fits.Reads as record-fits-reads
 
 abbrev Inv-loop : tie.InvT-loop
 Inv-loop records n regions k₀ k = (k ≤ n) × AllFit records regions k
@@ -24,7 +21,9 @@ record-fits-requires : tie.Need-record-fits-requires Inv-loop μ-loop
 record-fits-requires c κs = search needs
 
 returns : tie.Need-returns Inv-loop μ-loop
-returns c = (omega arith, c .before .before .before .loop .inv .1, λ h. sym (c .before .record-fits .ensures) ∙ not-true _ (c .if1 .taken))
+returns c =
+    let in-loop = c .before .before .before in
+    (omega arith, in-loop .loop .inv .1, λ h. sym (c .before .record-fits .ensures) ∙ not-true _ (c .if1 .taken))
 
 add-k : tie.Need-add-k Inv-loop μ-loop
 add-k c = search needs
@@ -33,7 +32,13 @@ loop-less : tie.Need-loop-less Inv-loop μ-loop
 loop-less c = search needs
 
 loop-again : tie.Need-loop-again Inv-loop μ-loop
-loop-again c = (omega arith, fit-next (c .before .before .before .before .before .args .records .now) (c .before .before .before .before .before .args .regions) (c .before .before .before .loop .k) (c .before .before .before .loop .inv .1) (sym (c .before .record-fits .ensures) ∙ not-false _ (c .if1 .left)))
+loop-again c =
+    let in-loop = c .before .before .before in
+    let start = in-loop .before .before in (
+      omega arith,
+      fit-next (start .args .records .now) (start .args .regions) (in-loop .loop .k) (in-loop .loop .inv .1)
+          (sym (c .before .record-fits .ensures) ∙ not-false _ (c .if1 .left)),
+    )
 
 returns-2 : tie.Need-returns-2 Inv-loop μ-loop
 returns-2 c = (omega arith, λ k h. c .before .loop .inv .1 k (omega (arith, h, c .loop-test .left)), λ h. absurd (omega arith))

@@ -8,9 +8,6 @@ use lib.ListN.{length}
 use borrow.Author.Needs.{needs}
 use Rattle.probe.proofs.bare_records.load.Statement.{statement}
 use Rattle.probe.proofs.bare_records.load.Tie as tie
-use Rattle.probe.proofs.bare_records.load.Reads as reads
-use Rattle.probe.proofs.bare_records.load.Lts as lts
-use Rattle.wire.proofs.read_u32.Reads as read-u32-reads
 
 abbrev Inv-loop : tie.InvT-loop
 Inv-loop records n owners₀ lefts₀ rights₀ k₀ owners lefts rights k = (k ≤ n) × (n ≤ 4096) × (12 * n ≤ length records) × Loaded records k owners lefts rights
@@ -18,8 +15,19 @@ Inv-loop records n owners₀ lefts₀ rights₀ k₀ owners lefts rights k = (k 
 abbrev μ-loop : tie.MeasureT-loop
 μ-loop records n owners₀ lefts₀ rights₀ k₀ owners lefts rights k = n - k
 
+-- what the function is given and asked: the places since only say that its slices have lengths
+abbrev start-of : tie.After-slice-known3 Inv-loop μ-loop → tie.Start Inv-loop μ-loop
+start-of c = c .before .before .before .before
+
 loop-holds : tie.Need-loop-holds Inv-loop μ-loop
-loop-holds c = (omega arith, c .before .before .before .before .pre .0, c .before .before .before .before .pre .1, loaded-start (c .before .before .before .before .args .records .now) (c .before .before .before .before .args .owners .now) (c .before .before .before .before .args .lefts .now) (c .before .before .before .before .args .rights .now) (c .before .before .before .before .pre .2) (c .before .before .before .before .pre .3) (c .before .before .before .before .pre .4))
+loop-holds c =
+    let start = start-of c in (
+      omega arith,
+      start .pre .0,
+      start .pre .1,
+      loaded-start (start .args .records .now) (start .args .owners .now) (start .args .lefts .now) (start .args .rights .now) (start .pre .2)
+          (start .pre .3) (start .pre .4),
+    )
 
 mul-at : tie.Need-mul-at Inv-loop μ-loop
 mul-at c = search needs
@@ -43,19 +51,25 @@ mul-owners : tie.Need-mul-owners Inv-loop μ-loop
 mul-owners c = search needs
 
 slice-write-owners : tie.Need-slice-write-owners Inv-loop μ-loop
-slice-write-owners c = omega (arith, c .before .before .before .before .loop .inv .3 .owners-are)
+slice-write-owners c =
+    let in-loop = c .before .before .before .before in
+    omega (arith, in-loop .loop .inv .3 .owners-are)
 
 mul-lefts : tie.Need-mul-lefts Inv-loop μ-loop
 mul-lefts c = search needs
 
 slice-write-lefts : tie.Need-slice-write-lefts Inv-loop μ-loop
-slice-write-lefts c = omega (arith, c .before .before .before .before .loop .inv .3 .lefts-are)
+slice-write-lefts c =
+    let in-loop = c .before .before .before .before in
+    omega (arith, in-loop .loop .inv .3 .lefts-are)
 
 mul-rights : tie.Need-mul-rights Inv-loop μ-loop
 mul-rights c = search needs
 
 slice-write-rights : tie.Need-slice-write-rights Inv-loop μ-loop
-slice-write-rights c = omega (arith, c .before .before .before .before .loop .inv .3 .rights-are)
+slice-write-rights c =
+    let in-loop = c .before .before .before .before in
+    omega (arith, in-loop .loop .inv .3 .rights-are)
 
 add-k : tie.Need-add-k Inv-loop μ-loop
 add-k c = search needs
@@ -64,19 +78,37 @@ loop-less : tie.Need-loop-less Inv-loop μ-loop
 loop-less c = search needs
 
 loop-again : tie.Need-loop-again Inv-loop μ-loop
-loop-again c = (omega arith, c .before .before .before .before .loop .inv .1, c .before .before .before .before .loop .inv .2, loaded-next (c .before .before .before .before .loop .inv .3) (omega (arith, c .before .before .before .before .loop .inv .1)) (c .before .before .read-u32 .ensures) (c .before .read-u322 .ensures) (c .read-u323 .ensures))
+loop-again c =
+    let in-loop = c .before .before .before .before in
+    let inv = in-loop .loop .inv in (
+      omega arith,
+      inv .1,
+      inv .2,
+      loaded-next (inv .3) (omega (arith, inv .1)) (c .before .before .read-u32 .ensures) (c .before .read-u322 .ensures)
+          (c .read-u323 .ensures),
+    )
 
 same-length : tie.Need-same-length Inv-loop μ-loop
-same-length c = c .before .loop .inv .3 .owners-are ∙ sym (c .before .before .before .before .before .before .pre .2)
+same-length c =
+    let start = start-of (c .before .before) in
+    c .before .loop .inv .3 .owners-are ∙ sym (start .pre .2)
 
 same-length-2 : tie.Need-same-length-2 Inv-loop μ-loop
-same-length-2 c = c .before .loop .inv .3 .lefts-are ∙ sym (c .before .before .before .before .before .before .pre .3)
+same-length-2 c =
+    let start = start-of (c .before .before) in
+    c .before .loop .inv .3 .lefts-are ∙ sym (start .pre .3)
 
 same-length-3 : tie.Need-same-length-3 Inv-loop μ-loop
-same-length-3 c = c .before .loop .inv .3 .rights-are ∙ sym (c .before .before .before .before .before .before .pre .4)
+same-length-3 c =
+    let start = start-of (c .before .before) in
+    c .before .loop .inv .3 .rights-are ∙ sym (start .pre .4)
 
 returns : tie.Need-returns Inv-loop μ-loop
-returns c = let z : c .before .loop .k ≡ c .before .before .before .before .before .before .args .n = omega arith in subst (λ (j : ℕ). Loaded (c .before .before .before .before .before .before .args .records .now) j (c .before .loop .owners) (c .before .loop .lefts) (c .before .loop .rights)) z (c .before .loop .inv .3)
+returns c =
+    let start = start-of (c .before .before) in
+    let z : c .before .loop .k ≡ start .args .n = omega arith in
+    subst (λ (j : ℕ). Loaded (start .args .records .now) j (c .before .loop .owners) (c .before .loop .lefts) (c .before .loop .rights)) z
+    (c .before .loop .inv .3)
 
 pub load-spec : {M : Type 1} → statement M
 load-spec =

@@ -3,12 +3,10 @@ use native.Mathlib.Omega.{arith}
 use borrow.Author.Needs.{needs}
 use Rattle.probe.proofs.bare_records.mark_records.Statement.{statement}
 use Rattle.probe.proofs.bare_records.mark_records.Tie as tie
-use Rattle.probe.proofs.bare_records.mark_records.Reads as reads
-use Rattle.probe.proofs.bare_records.mark_records.Lts as lts
-use Rattle.bridges.proofs.bridge_boundary_indices.Reads as bridge-boundary-indices-reads
-use Rattle.components.proofs.zero_fill.Reads as zero-fill-reads
-use Rattle.probe.proofs.bare_records.load.Reads as load-reads
-use Rattle.probe.proofs.copy.Reads as copy-reads
+
+-- what the function is given and asked: the places since only say that its slices have lengths
+abbrev start-of : tie.After-slice-known2 → tie.Start
+start-of c = c .before .before .before
 
 slice-aggregate-load : tie.Need-slice-aggregate-load
 slice-aggregate-load c = search needs
@@ -39,15 +37,25 @@ slice-aggregate-bridge-boundary-indices-3 c = search needs
 
 bridge-boundary-indices-requires : tie.Need-bridge-boundary-indices-requires
 bridge-boundary-indices-requires c κs =
-    let w = c .before .before .before .before .before .before .before .before .before .before .before .before .before .before .before .before .before .before .before .args .work .now in
-    let regions = c .before .before .before .before .before .before .before .before .before .before .before .before .before .before .before .before .before .before .before .args .regions in
-    let p = c .before .before .before .before .before .before .before .before .before .before .before .before .before .before .before .before .before .before .before .pre in
-    let l = c .before .before .before .before .before .before .before .before .before .before .before .before .load .ensures in
-    let z = c .before .before .before .before .before .before .before .zero-fill .ensures in
-    (loaded-owners regions l (p .2), omega (arith, l .owners-are, p .0), loaded-labels l (p .0) (p .2), zero-room w regions z (p .3), zero-table w regions z (p .3))
+    let after-zero-fill = c .before .before .before .before .before .before .before in
+    let after-load = after-zero-fill .before .before .before .before .before in
+    let start = start-of (after-load .before .before .before .before) in
+    let w = start .args .work .now in
+    let regions = start .args .regions in
+    let p = start .pre in
+    let l = after-load .load .ensures in
+    let z = after-zero-fill .zero-fill .ensures in (
+      loaded-owners regions l (p .2),
+      omega (arith, l .owners-are, p .0),
+      loaded-labels l (p .0) (p .2),
+      zero-room w regions z (p .3),
+      zero-table w regions z (p .3),
+    )
 
 slice-aggregate-copy : tie.Need-slice-aggregate-copy
-slice-aggregate-copy c = found-length _ (c .before .before .before .before .bridge-boundary-indices .ensures .0)
+slice-aggregate-copy c =
+    let after-bridge-boundary-indices = c .before .before .before .before in
+    found-length _ (after-bridge-boundary-indices .bridge-boundary-indices .ensures .0)
 
 copy-requires : tie.Need-copy-requires
 copy-requires c κs = search needs
@@ -60,9 +68,15 @@ same-length-2 c = search needs
 
 returns : tie.Need-returns
 returns c =
-    let a = c .before .before .before .before .before .before .before .before .before .before .before .before .before .before .before .before .before .before .before .before .before .before .before .before .before .before .before .args in
-    let b = c .before .before .before .before .before .before .before .bridge-boundary-indices .ensures in
-    (zero-end (a .work .now) (a .regions) (b .1) (c .before .before .before .before .before .before .before .before .before .before .before .before .before .before .before .zero-fill .ensures), marks-end (a .marks .now) (c .before .before .before .before .before .before .before .before .before .before .before .before .before .before .before .before .before .before .before .before .load .ensures) (b .0) (c .before .before .before .before .before .before .before .before .before .before .before .before .before .before .before .before .before .before .before .before .before .before .before .before .before .before .before .pre .4) (c .before .before .copy .ensures .1))
+    let after-bridge-boundary-indices = c .before .before .before .before .before .before .before in
+    let after-zero-fill = after-bridge-boundary-indices .before .before .before .before .before .before .before .before in
+    let after-load = after-zero-fill .before .before .before .before .before in
+    let start = start-of (after-load .before .before .before .before) in
+    let a = start .args in
+    let b = after-bridge-boundary-indices .bridge-boundary-indices .ensures in (
+      zero-end (a .work .now) (a .regions) (b .1) (after-zero-fill .zero-fill .ensures),
+      marks-end (a .marks .now) (after-load .load .ensures) (b .0) (start .pre .4) (c .before .before .copy .ensures .1),
+    )
 
 pub mark-records-spec : {M : Type 1} → statement M
 mark-records-spec =

@@ -2,11 +2,6 @@ use Rattle.probe.specs.Records.{fitsAt}
 use borrow.Author.Needs.{needs}
 use Rattle.probe.proofs.bare_records.record_fits.Statement.{statement}
 use Rattle.probe.proofs.bare_records.record_fits.Tie as tie
-use Rattle.probe.proofs.bare_records.record_fits.Reads as reads
-use Rattle.probe.proofs.bare_records.record_fits.Lts as lts
-use Rattle.probe.proofs.bare_records.fits.Reads as fits-reads
-use Rattle.wire.proofs.read_u32.Reads as read-u32-reads
-use Rattle.wire.proofs.size.Reads as size-reads
 
 mul-at : tie.Need-mul-at
 mul-at c = search needs

@@ -3,8 +3,6 @@ use Rattle.probe.specs.Links.{bitsOf}
 use Rattle.probe.proofs.LinkLaws.{eq-number}
 use Rattle.probe.proofs.own_links.bits_of.Statement.{statement}
 use Rattle.probe.proofs.own_links.bits_of.Tie as tie
-use Rattle.probe.proofs.own_links.bits_of.Reads as reads
-use Rattle.probe.proofs.own_links.bits_of.Lts as lts
 
 float-to-bits-result : tie.Need-float-to-bits-result
 float-to-bits-result c = eq-number _ (c .if1 .taken)

@@ -1,17 +1,8 @@
-use mathlib.Core.Path.{_≡_, _∙_, ap}
-use Rattle.links.specs.Link.{Side, linkOf}
-use Rattle.links.specs.HeldLink.{noCell}
-use Rattle.probe.specs.Links.{sideOf}
+use mathlib.Core.Path.{_∙_}
 use Rattle.probe.proofs.LinkLaws.{record-there, ends-bounded, bits-bounded, linked}
 use borrow.Author.Needs.{needs}
 use Rattle.probe.proofs.own_links.link_between.Statement.{statement}
 use Rattle.probe.proofs.own_links.link_between.Tie as tie
-use Rattle.probe.proofs.own_links.link_between.Reads as reads
-use Rattle.probe.proofs.own_links.link_between.Lts as lts
-use Rattle.format.proofs.read_boundary.Reads as read-boundary-reads
-use Rattle.links.proofs.link.link_of.Reads as link-of-reads
-use Rattle.position.proofs.Span.canonical.Reads as canonical-reads
-use Rattle.wire.proofs.size.Reads as size-reads
 
 size-requires : tie.Need-size-requires
 size-requires c κs = search needs
@@ -46,11 +37,14 @@ canonical-requires-2 c κs = search needs
 
 link-of-requires : tie.Need-link-of-requires
 link-of-requires c κs =
-    let start = c .before .before .before .before .before .before .before .before .before in
+    let after-read-boundary2 = c .before .before .before .before in
+    let after-read-boundary = after-read-boundary2 .before in
+    let after-size = after-read-boundary .before in
+    let start = after-size .before .before .before in
     let pre = start .pre in
-    let at = c .before .before .before .before .before .before .size .ensures .0 in
-    let a = c .before .before .before .before .before .read-boundary .ensures in
-    let b = c .before .before .before .before .read-boundary2 .ensures in (
+    let at = after-size .size .ensures .0 in
+    let a = after-read-boundary .read-boundary .ensures in
+    let b = after-read-boundary2 .read-boundary2 .ensures in (
       ends-bounded (pre .0) _ _ at (pre .1) a (c .before .canonical .ensures),
       ends-bounded (pre .0) _ _ at (pre .2) b (c .canonical2 .ensures),
       bits-bounded
@@ -60,11 +54,14 @@ link-of-requires c κs =
 
 returns : tie.Need-returns
 returns c =
-    let start = c .before .before .before .before .before .before .before .before .before .before in
+    let after-read-boundary2 = c .before .before .before .before .before in
+    let after-read-boundary = after-read-boundary2 .before in
+    let after-size = after-read-boundary .before in
+    let start = after-size .before .before .before in
     let pre = start .pre in
-    let at = c .before .before .before .before .before .before .before .size .ensures .0 in
-    c .link-of .ensures ∙ linked (pre .0) _ _ _ at (pre .1) (pre .2) (c .before .before .before .before .before .before .read-boundary .ensures)
-    (c .before .before .before .before .before .read-boundary2 .ensures) (c .before .before .canonical .ensures) (c .before .canonical2 .ensures)
+    let at = after-size .size .ensures .0 in
+    c .link-of .ensures ∙ linked (pre .0) _ _ _ at (pre .1) (pre .2) (after-read-boundary .read-boundary .ensures)
+    (after-read-boundary2 .read-boundary2 .ensures) (c .before .before .canonical .ensures) (c .before .canonical2 .ensures)
 
 pub link-between-spec : {M : Type 1} → statement M
 link-between-spec =

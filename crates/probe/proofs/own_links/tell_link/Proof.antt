@@ -9,8 +9,14 @@ use borrow.Author.Needs.{needs}
 use Rattle.probe.proofs.own_links.tell_link.Statement.{statement}
 use Rattle.probe.proofs.own_links.tell_link.Tie as tie
 
+-- what the function is given and asked: the places since only say that its slices have lengths
+abbrev start-of : tie.After-slice-known → tie.Start
+start-of c = c .before .before .before
+
 mul-size : tie.Need-mul-size
-mul-size c = omega (arith, headed-cells (c .before .before .before .before .before .pre .0))
+mul-size c =
+    let start = start-of (c .before .before) in
+    omega (arith, headed-cells (start .pre .0))
 
 size-requires : tie.Need-size-requires
 size-requires c κs = search needs
@@ -23,7 +29,7 @@ link-between-requires c κs = search needs
 
 measure-one-requires : tie.Need-measure-one-requires
 measure-one-requires c κs =
-    let start = c .before .before .before .before .before .before .before .before in
+    let start = start-of (c .before .before .before .before .before) in
     let pre = start .pre in
     let n = c .before .before .size .ensures .0 in
     (omega (arith, headed-laid (pre .0) .within .width-some), omega (arith, n, headed-cells (pre .0)), omega (arith, n, headed-work (pre .0), pre .3))
@@ -51,7 +57,7 @@ flag-requires c κs = search needs
 
 write-link-requires : tie.Need-write-link-requires
 write-link-requires c κs =
-    let start = c .before .before .before .before .before .before .before .before .before .before .before .before .before .before .before .before .before in
+    let start = start-of (c .before .before .before .before .before .before .before .before .before .before .before .before .before .before) in
     omega (arith, start .pre .4)
 
 same-length : tie.Need-same-length
@@ -59,7 +65,11 @@ same-length c = search needs
 
 returns : tie.Need-returns
 returns c =
-    let at-transverse-of = c .before .before .before .before .before .before .before .before in
+    let after-flag = c .before .before .before .before in
+    let after-bits-of2 = after-flag .before in
+    let after-longitudinal-of = after-bits-of2 .before in
+    let after-bits-of = after-longitudinal-of .before in
+    let at-transverse-of = after-bits-of .before in
     let at-kind-of = at-transverse-of .before in
     let p10 = at-kind-of .before in
     let measured = p10 in
@@ -72,9 +82,9 @@ returns c =
     (given .second) _
     (measured .before .before .before .of-000 .ensures) (measured .before .before .link-between .ensures) (measured .before .measure-one .ensures) m
     (at-kind-of .kind-of .ensures)
-    (c .before .before .before .before .before .before .before .bits-of .ensures ∙ ap bitsOf (at-transverse-of .transverse-of .ensures))
-    (c .before .before .before .before .before .bits-of2 .ensures
-    ∙ ap bitsOf (c .before .before .before .before .before .before .longitudinal-of .ensures)) (c .before .before .before .before .flag .ensures))
+    (after-bits-of .bits-of .ensures ∙ ap bitsOf (at-transverse-of .transverse-of .ensures))
+    (after-bits-of2 .bits-of2 .ensures
+    ∙ ap bitsOf (after-longitudinal-of .longitudinal-of .ensures)) (after-flag .flag .ensures))
 
 pub tell-link-spec : {M : Type 1} → statement M
 tell-link-spec =

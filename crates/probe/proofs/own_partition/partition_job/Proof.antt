@@ -6,21 +6,27 @@ use Rattle.probe.proofs.PartingLaws.{taken-few, taken-count, taken-insi
 use borrow.Author.Needs.{needs}
 use Rattle.probe.proofs.own_partition.partition_job.Statement.{statement}
 use Rattle.probe.proofs.own_partition.partition_job.Tie as tie
-use Rattle.probe.proofs.own_partition.partition_job.Reads as reads
-use Rattle.probe.proofs.own_partition.partition_job.Lts as lts
-use Rattle.partition.proofs.partition_by_spans.Reads as partition-by-spans-reads
-use Rattle.probe.proofs.own_partition.own_spans.Reads as own-spans-reads
-use Rattle.probe.proofs.own_partition.write_partition.Reads as write-partition-reads
-use Rattle.wire.proofs.size.Reads as size-reads
+
+-- what the function is given and asked: the places since only say that its slices have lengths
+abbrev start-of : tie.After-slice-known2 → tie.Start
+start-of c = c .before .before .before
 
 mul-size : tie.Need-mul-size
-mul-size c = omega (arith, taken-few (c .before .before .before .pre))
+mul-size c =
+    let start = start-of c in
+    omega (arith, taken-few (start .pre))
 
 size-requires : tie.Need-size-requires
 size-requires c κs = search needs
 
 own-spans-requires : tie.Need-own-spans-requires
-own-spans-requires c κs = (taken-count (c .before .before .before .before .before .pre) (λ i. omega (arith, c .before .before .before .before .shared-slice-known .given i)), taken-inside (c .before .before .before .before .before .pre) (λ i. omega (arith, c .before .before .before .before .shared-slice-known .given i)), refl)
+own-spans-requires c κs =
+    let lent-shared-slice-known = c .before .before .before .before in
+    let start = lent-shared-slice-known .before in (
+      taken-count (start .pre) (λ i. omega (arith, lent-shared-slice-known .shared-slice-known .given i)),
+      taken-inside (start .pre) (λ i. omega (arith, lent-shared-slice-known .shared-slice-known .given i)),
+      refl,
+    )
 
 add-partition-by-spans : tie.Need-add-partition-by-spans
 add-partition-by-spans c = search needs
@@ -32,7 +38,10 @@ part-partition-by-spans-start : tie.Need-part-partition-by-spans-start
 part-partition-by-spans-start c = search needs
 
 part-partition-by-spans-end : tie.Need-part-partition-by-spans-end
-part-partition-by-spans-end c = omega (arith, taken-map (c .before .before .before .before .before .before .pre) (λ i. omega (arith, c .before .before .before .before .before .shared-slice-known .given i)), c .before .before .size .ensures .0)
+part-partition-by-spans-end c =
+    let lent-shared-slice-known = c .before .before .before .before .before in
+    let start = lent-shared-slice-known .before in
+    omega (arith, taken-map (start .pre) (λ i. omega (arith, lent-shared-slice-known .shared-slice-known .given i)), c .before .before .size .ensures .0)
 
 slice-aggregate-partition-by-spans : tie.Need-slice-aggregate-partition-by-spans
 slice-aggregate-partition-by-spans c = search needs
@@ -50,10 +59,22 @@ slice-aggregate-partition-by-spans-5 : tie.Need-slice-aggregate-partition-by-spa
 slice-aggregate-partition-by-spans-5 c = search needs
 
 partition-by-spans-requires : tie.Need-partition-by-spans-requires
-partition-by-spans-requires c κs = (taken-partitionable (c .before .before .before .before .before .before .before .before .before .before .before .before .before .before .pre) (λ i. omega (arith, c .before .before .before .before .before .before .before .before .before .before .before .before .before .shared-slice-known .given i)) (c .before .before .before .before .before .before .before .before .own-spans .ensures) (48 + c .before .before .before .before .before .before .before .before .before .before .size .result - 48) (omega (arith, c .before .before .before .before .before .before .before .before .before .before .size .ensures .0)), zero-arrays 4096 (omega arith))
+partition-by-spans-requires c κs =
+    let after-own-spans = c .before .before .before .before .before .before .before .before in
+    let after-size = after-own-spans .before .before in
+    let lent-shared-slice-known = after-size .before .before .before in
+    let start = lent-shared-slice-known .before in (
+      taken-partitionable (start .pre) (λ i. omega (arith, lent-shared-slice-known .shared-slice-known .given i)) (after-own-spans .own-spans .ensures)
+          (48 + after-size .size .result - 48) (omega (arith, after-size .size .ensures .0)),
+      zero-arrays 4096 (omega arith),
+    )
 
 write-partition-requires : tie.Need-write-partition-requires
-write-partition-requires c κs = taken-count (c .before .before .before .before .before .before .before .before .before .before .before .before .before .before .before .before .before .before .before .before .before .before .before .before .before .before .before .before .pre) (λ i. omega (arith, c .before .before .before .before .before .before .before .before .before .before .before .before .before .before .before .before .before .before .before .before .before .before .before .before .before .before .before .shared-slice-known .given i))
+write-partition-requires c κs =
+    let lent-shared-slice-known =
+    c .before .before .before .before .before .before .before .before .before .before .before .before .before .before .before .before .before .before .before .before .before .before .before .before .before .before .before in
+    let start = lent-shared-slice-known .before in
+    taken-count (start .pre) (λ i. omega (arith, lent-shared-slice-known .shared-slice-known .given i))
 
 same-length : tie.Need-same-length
 same-length c = search needs
@@ -62,7 +83,16 @@ same-length-2 : tie.Need-same-length-2
 same-length-2 c = search needs
 
 returns : tie.Need-returns
-returns c = all-parted (c .before .before .before .before .before .before .before .before .before .before .before .before .before .before .before .before .before .before .before .before .before .before .before .before .before .before .before .before .before .before .before .pre) (λ i. omega (arith, c .before .before .before .before .before .before .before .before .before .before .before .before .before .before .before .before .before .before .before .before .before .before .before .before .before .before .before .before .before .before .shared-slice-known .given i)) (c .before .before .before .before .before .before .before .before .before .before .before .before .before .before .before .before .before .before .before .before .before .before .before .before .before .own-spans .ensures) (48 + c .before .before .before .before .before .before .before .before .before .before .before .before .before .before .before .before .before .before .before .before .before .before .before .before .before .before .before .size .result - 48) (omega (arith, c .before .before .before .before .before .before .before .before .before .before .before .before .before .before .before .before .before .before .before .before .before .before .before .before .before .before .before .size .ensures .0)) (c .before .before .before .before .before .before .before .before .before .before .before .before .before .before .before .before .partition-by-spans .ensures) (c .before .before .write-partition .ensures)
+returns c =
+    let after-partition-by-spans =
+    c .before .before .before .before .before .before .before .before .before .before .before .before .before .before .before .before in
+    let after-own-spans = after-partition-by-spans .before .before .before .before .before .before .before .before .before in
+    let after-size = after-own-spans .before .before in
+    let lent-shared-slice-known = after-size .before .before .before in
+    let start = lent-shared-slice-known .before in
+    all-parted (start .pre) (λ i. omega (arith, lent-shared-slice-known .shared-slice-known .given i)) (after-own-spans .own-spans .ensures)
+    (48 + after-size .size .result - 48) (omega (arith, after-size .size .ensures .0)) (after-partition-by-spans .partition-by-spans .ensures)
+    (c .before .before .write-partition .ensures)
 
 pub partition-job-spec : {M : Type 1} → statement M
 partition-job-spec =

@@ -7,9 +7,6 @@ use Rattle.probe.proofs.WritingLaws.{length-two, after-two, Filled, fil
 use borrow.Author.Needs.{needs}
 use Rattle.probe.proofs.own_partition.write_counts.Statement.{statement}
 use Rattle.probe.proofs.own_partition.write_counts.Tie as tie
-use Rattle.probe.proofs.own_partition.write_counts.Reads as reads
-use Rattle.probe.proofs.own_partition.write_counts.Lts as lts
-use Rattle.wire.proofs.write_u32.Reads as write-u32-reads
 
 abbrev Inv-loop : tie.InvT-loop
 Inv-loop removed separated count out₀ i₀ out i =
@@ -48,8 +45,9 @@ element-copy-out-write-u32-2 c = search needs
 
 write-u32-requires-2 : tie.Need-write-u32-requires-2 Inv-loop μ-loop
 write-u32-requires-2 c κs =
-    let at-loop = c .before .before .before .before .before .before .before .before in
-    omega (arith, c .before .before .before .before .write-u32 .kept .0, at-loop .loop .inv .3 .long)
+    let at-write-u32 = c .before .before .before .before in
+    let at-loop = at-write-u32 .before .before .before .before in
+    omega (arith, at-write-u32 .write-u32 .kept .0, at-loop .loop .inv .3 .long)
 
 add-i : tie.Need-add-i Inv-loop μ-loop
 add-i c = search needs
@@ -59,14 +57,15 @@ loop-less c = search needs
 
 loop-again : tie.Need-loop-again Inv-loop μ-loop
 loop-again c =
-    let at-loop = c .before .before .before .before .before .before .before .before .before .before .before in
+    let after-write-u32 = c .before .before .before .before .before .before .before in
+    let at-loop = after-write-u32 .before .before .before .before in
     let turn = at-loop .loop in
     let room : 8 + 8 * turn .i + 8 ≤ length (turn .out) = omega (arith, turn .inv .3 .long) in (
       omega arith,
       turn .inv .1,
       turn .inv .2,
       filled-next 8 _ _ (8 + 8 * turn .i) (turn .inv .3) (omega arith) refl
-          (after-two (turn .out) (8 + 8 * turn .i) _ _ room (c .before .before .before .before .before .before .before .write-u32 .ensures)
+          (after-two (turn .out) (8 + 8 * turn .i) _ _ room (after-write-u32 .write-u32 .ensures)
           (c .before .before .write-u322 .ensures)),
     )
 
@@ -74,7 +73,9 @@ same-length : tie.Need-same-length Inv-loop μ-loop
 same-length c = c .before .loop .inv .3 .long
 
 returns : tie.Need-returns Inv-loop μ-loop
-returns c = let e : c .before .loop .i ≡ c .before .before .before .args .count = omega arith in rw (← e) (c .before .loop .inv .3 .is)
+returns c =
+    let start = c .before .before .before in
+    let e : c .before .loop .i ≡ start .args .count = omega arith in rw (← e) (c .before .loop .inv .3 .is)
 
 pub write-counts-spec : {M : Type 1} → statement M
 write-counts-spec =

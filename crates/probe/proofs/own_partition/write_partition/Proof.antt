@@ -7,11 +7,6 @@ use Rattle.probe.specs.Parting.{many, short, written}
 use borrow.Author.Needs.{needs}
 use Rattle.probe.proofs.own_partition.write_partition.Statement.{statement}
 use Rattle.probe.proofs.own_partition.write_partition.Tie as tie
-use Rattle.probe.proofs.own_partition.write_partition.Reads as reads
-use Rattle.probe.proofs.own_partition.write_partition.Lts as lts
-use Rattle.probe.proofs.own_partition.write_counts.Reads as write-counts-reads
-use Rattle.probe.proofs.own_partition.write_records.Reads as write-records-reads
-use Rattle.wire.proofs.write_u32.Reads as write-u32-reads
 
 returns : tie.Need-returns
 returns c = many (c .if1 .taken) refl refl refl
@@ -51,7 +46,8 @@ same-length c = search needs
 
 returns-3 : tie.Need-returns-3
 returns-3 c =
-    let at-write-u322 = c .before .before .before .before .before .before .before .before .before .before in
+    let after-write-counts = c .before .before .before .before .before .before in
+    let at-write-u322 = after-write-counts .before .before .before .before in
     let at-write-u32 = at-write-u322 .before .before .before .before in
     let at-if2 = at-write-u32 .before .before in
     let at-if1 = at-if2 .before in
@@ -62,7 +58,7 @@ returns-3 c =
     let room = at-if2 .if2 .left in
     written (omega (arith, few)) (omega (arith, room)) refl refl
     (after-head (given .out .now) (given .areas) (given .pairs) _ _ long (omega (arith, room)) (at-write-u32 .write-u32 .ensures)
-    (at-write-u322 .write-u322 .ensures) (c .before .before .before .before .before .before .write-counts .ensures)
+    (at-write-u322 .write-u322 .ensures) (after-write-counts .write-counts .ensures)
     (c .before .before .write-records .ensures))
 
 pub write-partition-spec : {M : Type 1} → statement M

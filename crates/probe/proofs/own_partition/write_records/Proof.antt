@@ -8,9 +8,6 @@ use Rattle.probe.proofs.WritingLaws.{length-three, after-three, Filled,
 use borrow.Author.Needs.{needs}
 use Rattle.probe.proofs.own_partition.write_records.Statement.{statement}
 use Rattle.probe.proofs.own_partition.write_records.Tie as tie
-use Rattle.probe.proofs.own_partition.write_records.Reads as reads
-use Rattle.probe.proofs.own_partition.write_records.Lts as lts
-use Rattle.wire.proofs.write_u32.Reads as write-u32-reads
 
 abbrev Inv-loop : tie.InvT-loop
 Inv-loop owners lefts rights pairs at out₀ k₀ out k =
@@ -49,8 +46,9 @@ element-copy-out-write-u32-2 c = search needs
 
 write-u32-requires-2 : tie.Need-write-u32-requires-2 Inv-loop μ-loop
 write-u32-requires-2 c κs =
-    let at-loop = c .before .before .before .before .before .before .before .before in
-    omega (arith, c .before .before .before .before .write-u32 .kept .0, at-loop .loop .inv .4 .long)
+    let at-write-u32 = c .before .before .before .before in
+    let at-loop = at-write-u32 .before .before .before .before in
+    omega (arith, at-write-u32 .write-u32 .kept .0, at-loop .loop .inv .4 .long)
 
 add-write-u32-2 : tie.Need-add-write-u32-2 Inv-loop μ-loop
 add-write-u32-2 c = search needs
@@ -63,9 +61,10 @@ element-copy-out-write-u32-3 c = search needs
 
 write-u32-requires-3 : tie.Need-write-u32-requires-3 Inv-loop μ-loop
 write-u32-requires-3 c κs =
-    let at-write-u32 = c .before .before .before .before .before .before .before .before .before in
+    let at-write-u322 = c .before .before .before .before in
+    let at-write-u32 = at-write-u322 .before .before .before .before .before in
     let at-loop = at-write-u32 .before .before .before .before in
-    omega (arith, c .before .before .before .before .write-u322 .kept .0, at-write-u32 .write-u32 .kept .0, at-loop .loop .inv .4 .long)
+    omega (arith, at-write-u322 .write-u322 .kept .0, at-write-u32 .write-u32 .kept .0, at-loop .loop .inv .4 .long)
 
 add-k : tie.Need-add-k Inv-loop μ-loop
 add-k c = search needs
@@ -75,7 +74,8 @@ loop-less c = search needs
 
 loop-again : tie.Need-loop-again Inv-loop μ-loop
 loop-again c =
-    let at-write-u32 = c .before .before .before .before .before .before .before .before .before .before .before .before in
+    let after-write-u322 = c .before .before .before .before .before .before .before in
+    let at-write-u32 = after-write-u322 .before .before .before .before .before in
     let at-loop = at-write-u32 .before .before .before .before in
     let start = at-loop .before .before in
     let turn = at-loop .loop in
@@ -87,14 +87,16 @@ loop-again c =
       turn .inv .3,
       filled-next 12 _ _ place (turn .inv .4) (omega arith) refl
           (after-three (turn .out) place _ _ _ room (at-write-u32 .write-u32 .ensures)
-          (c .before .before .before .before .before .before .before .write-u322 .ensures) (c .before .before .write-u323 .ensures)),
+          (after-write-u322 .write-u322 .ensures) (c .before .before .write-u323 .ensures)),
     )
 
 same-length : tie.Need-same-length Inv-loop μ-loop
 same-length c = c .before .loop .inv .4 .long
 
 returns : tie.Need-returns Inv-loop μ-loop
-returns c = let e : c .before .loop .k ≡ c .before .before .before .args .pairs = omega arith in rw (← e) (c .before .loop .inv .4 .is)
+returns c =
+    let start = c .before .before .before in
+    let e : c .before .loop .k ≡ start .args .pairs = omega arith in rw (← e) (c .before .loop .inv .4 .is)
 
 pub write-records-spec : {M : Type 1} → statement M
 write-records-spec =

@@ -5,10 +5,6 @@ use Rattle.format.specs.declared.header.Header.{Header}
 use borrow.Author.Needs.{needs}
 use Rattle.probe.proofs.own_plan.count_of.Statement.{statement}
 use Rattle.probe.proofs.own_plan.count_of.Tie as tie
-use Rattle.probe.proofs.own_plan.count_of.Reads as reads
-use Rattle.probe.proofs.own_plan.count_of.Lts as lts
-use Rattle.format.proofs.read_header.Reads as read-header-reads
-use Rattle.wire.proofs.size.Reads as size-reads
 
 returns : tie.Need-returns
 returns c = search needs
@@ -22,6 +18,7 @@ size-requires c κs = search needs
 returns-2 : tie.Need-returns-2
 unfolding headerAt
 returns-2 c =
+    let after-read-header = c .before .before .before in
     record {
       few = omega arith;
       is = λ l f. absurd (omega (
@@ -29,17 +26,18 @@ returns-2 c =
         c .if2 .taken,
         c .before .size .ensures .0,
         ap (λ (x : Header). x .counts .boundaries)
-            (c .before .before .before .read-header .ensures),
+            (after-read-header .read-header .ensures),
       ));
     }
 
 returns-3 : tie.Need-returns-3
 unfolding headerAt
 returns-3 c =
+    let after-read-header = c .before .before .before in
     record {
       few = omega arith;
       is = λ l f. c .before .size .ensures .0
-          ∙ ap (λ (x : Header). x .counts .boundaries) (c .before .before .before .read-header .ensures);
+          ∙ ap (λ (x : Header). x .counts .boundaries) (after-read-header .read-header .ensures);
     }
 
 pub count-of-spec : {M : Type 1} → statement M

@@ -10,7 +10,9 @@ same-length : tie.Need-same-length
 same-length c = search needs
 
 returns : tie.Need-returns
-returns c = plan-own _ _ _ _ _ (c .before .before .before .before .before .before .if1 .taken) (c .before .before .plan-reduce .ensures)
+returns c =
+    let if1-taken = c .before .before .before .before .before .before in
+    plan-own _ _ _ _ _ (if1-taken .if1 .taken) (c .before .before .plan-reduce .ensures)
 
 plan-reduce-by-list-requires : tie.Need-plan-reduce-by-list-requires
 plan-reduce-by-list-requires c κs = search needs
@@ -19,7 +21,9 @@ same-length-2 : tie.Need-same-length-2
 same-length-2 c = search needs
 
 returns-2 : tie.Need-returns-2
-returns-2 c = plan-listed _ _ _ _ _ (c .before .before .before .before .before .before .if1 .left) (c .before .before .plan-reduce-by-list .ensures)
+returns-2 c =
+    let if1-left = c .before .before .before .before .before .before in
+    plan-listed _ _ _ _ _ (if1-left .if1 .left) (c .before .before .plan-reduce-by-list .ensures)
 
 pub plan-of-spec : {M : Type 1} → statement M
 plan-of-spec =

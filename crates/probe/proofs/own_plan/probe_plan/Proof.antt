@@ -1,4 +1,4 @@
-use mathlib.Core.Path.{_≡_, refl, ap}
+use mathlib.Core.Path.{refl, ap}
 use Prim.Native.Nat.{ℕ, _*_}
 use native.Mathlib.Omega.{arith}
 use Rattle.chokes.proofs.Finishing.{few-000, leads-eight, left-000}
@@ -7,17 +7,14 @@ use Rattle.probe.proofs.PlanningLaws.{plan-count, made-parting, made-ra
 use borrow.Author.Needs.{needs}
 use Rattle.probe.proofs.own_plan.probe_plan.Statement.{statement}
 use Rattle.probe.proofs.own_plan.probe_plan.Tie as tie
-use Rattle.probe.proofs.own_plan.probe_plan.Reads as reads
-use Rattle.probe.proofs.own_plan.probe_plan.Lts as lts
-use Rattle.probe.proofs.own_plan.count_of.Reads as count-of-reads
-use Rattle.probe.proofs.own_plan.plan_of.Reads as plan-of-reads
-use Rattle.probe.proofs.own_plan.write_plan.Reads as write-plan-reads
 
 of-000-requires : tie.Need-of-000-requires
 of-000-requires c κs = search needs
 
 plan-of-requires : tie.Need-plan-of-requires
-plan-of-requires c κs = (few-000 (c .before .before .before .of-000 .ensures), leads-eight)
+plan-of-requires c κs =
+    let after-of-000 = c .before .before .before in
+    (few-000 (after-of-000 .of-000 .ensures), leads-eight)
 
 same-length : tie.Need-same-length
 same-length c = search needs
@@ -52,17 +49,19 @@ returns-2 c =
 
 write-plan-requires : tie.Need-write-plan-requires
 write-plan-requires c κs =
-    let at-count-of = c .before .before .before .before in
+    let if2-left = c .before .before .before in
+    let at-count-of = if2-left .before in
+    let if1-left = at-count-of .before in
     let after-plan-of = at-count-of .before .before .before .before .before in
     let after-of-000 = after-plan-of .before .before .before .before in
     let at-shared-slice-known = after-of-000 .before .before .before .before in
     let start = at-shared-slice-known .before in
     let given = start .args in
     let left = left-000 (after-of-000 .of-000 .ensures) (after-plan-of .plan-of .ensures) in
-    let made = left .made (omega (arith, c .before .before .before .before .before .if1 .left)) in
+    let made = left .made (omega (arith, if1-left .if1 .left)) in
     let k = plan-count (given .which) (given .job .now) (given .list .now) (λ i. at-shared-slice-known .shared-slice-known .given i .fits) (made .passed)
     (at-count-of .count-of .ensures) in
-    (at-count-of .count-of .ensures .few, made-ranked made k, made-inside made k, c .before .before .before .if2 .left)
+    (at-count-of .count-of .ensures .few, made-ranked made k, made-inside made k, if2-left .if2 .left)
 
 same-length-3 : tie.Need-same-length-3
 same-length-3 c = search needs
@@ -72,7 +71,9 @@ same-length-4 c = search needs
 
 returns-3 : tie.Need-returns-3
 returns-3 c =
-    let at-if1 = c .before .before .before .before .before .before .before .before in
+    let if2-left = c .before .before .before .before .before .before in
+    let after-count-of = if2-left .before in
+    let at-if1 = after-count-of .before in
     let after-plan-of = at-if1 .before .before .before .before in
     let after-of-000 = after-plan-of .before .before .before .before in
     let at-shared-slice-known = after-of-000 .before .before .before .before in
@@ -81,8 +82,8 @@ returns-3 c =
     let left = left-000 (after-of-000 .of-000 .ensures) (after-plan-of .plan-of .ensures) in
     let made = left .made (omega (arith, at-if1 .if1 .left)) in
     let k = plan-count (given .which) (given .job .now) (given .list .now) (λ i. at-shared-slice-known .shared-slice-known .given i .fits) (made .passed)
-    (c .before .before .before .before .before .before .before .count-of .ensures) in
-    planned (made-parting made) (omega (arith, c .before .before .before .before .before .before .if2 .left, k)) refl (ap (λ (x : ℕ). 4 * x) k)
+    (after-count-of .count-of .ensures) in
+    planned (made-parting made) (omega (arith, if2-left .if2 .left, k)) refl (ap (λ (x : ℕ). 4 * x) k)
     (made-placed made k (c .before .before .write-plan .ensures))
 
 pub probe-plan-spec : {M : Type 1} → statement M

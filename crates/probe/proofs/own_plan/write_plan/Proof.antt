@@ -7,10 +7,6 @@ use Rattle.probe.specs.Planning.{Ranked, Inside, Words}
 use Rattle.probe.proofs.PlanningLaws.{words-start, words-next, words-end}
 use Rattle.probe.proofs.own_plan.write_plan.Statement.{statement}
 use Rattle.probe.proofs.own_plan.write_plan.Tie as tie
-use Rattle.probe.proofs.own_plan.write_plan.Reads as reads
-use Rattle.probe.proofs.own_plan.write_plan.Lts as lts
-use Rattle.wire.proofs.size.Reads as size-reads
-use Rattle.wire.proofs.write_u32.Reads as write-u32-reads
 
 abbrev Inv-loop : tie.InvT-loop
 Inv-loop order plan n out₀ i₀ out i =
@@ -48,12 +44,17 @@ mul-write-u32 : tie.Need-mul-write-u32 Inv-loop μ-loop
 mul-write-u32 c = search needs
 
 element-copy-out-write-u32 : tie.Need-element-copy-out-write-u32 Inv-loop μ-loop
-element-copy-out-write-u32 c = let turn = c .before .before .before .before .before .before .loop in omega
+element-copy-out-write-u32 c =
+    let in-loop = c .before .before .before .before .before .before in
+    let turn = in-loop .loop in omega
     (arith, c .before .size2 .ensures .0, turn .inv .3 .below (turn .i) (omega arith))
 
 write-u32-requires : tie.Need-write-u32-requires Inv-loop μ-loop
-write-u32-requires c κs = let turn = c .before .before .before .before .before .before .before .loop in omega
-    (arith, c .before .before .before .before .size .ensures .0, turn .inv .2 .below (turn .i) (omega arith), turn .inv .5 .long)
+write-u32-requires c κs =
+    let after-size = c .before .before .before .before in
+    let in-loop = after-size .before .before .before in
+    let turn = in-loop .loop in omega
+    (arith, after-size .size .ensures .0, turn .inv .2 .below (turn .i) (omega arith), turn .inv .5 .long)
 
 add-i : tie.Need-add-i Inv-loop μ-loop
 add-i c = search needs
@@ -63,18 +64,20 @@ loop-less c = search needs
 
 loop-again : tie.Need-loop-again Inv-loop μ-loop
 loop-again c =
-    let at-loop-test = c .before .before .before .before .before .before .before .before .before in
+    let after-size2 = c .before .before .before .before .before in
+    let after-size = after-size2 .before .before in
+    let at-loop-test = after-size .before .before in
     let at-loop = at-loop-test .before in
     let start = at-loop .before .before in
     let turn = at-loop .loop in
-    let to = c .before .before .before .before .before .size2 .ensures .0 in (
+    let to = after-size2 .size2 .ensures .0 in (
       omega arith,
       turn .inv .1,
       turn .inv .2,
       turn .inv .3,
       turn .inv .4,
       words-next _ _ (turn .inv .2) (turn .inv .5) (at-loop-test .loop-test .taken) (turn .inv .4)
-          (c .before .before .before .before .before .before .before .size .ensures .0) (ap (λ (x : ℕ). getD (start .args .order .now) x 0) to)
+          (after-size .size .ensures .0) (ap (λ (x : ℕ). getD (start .args .order .now) x 0) to)
           (c .before .before .write-u32 .ensures),
     )
 

@@ -6,11 +6,6 @@ use Rattle.probe.proofs.RegionLaws.{ready-now, ready-passed, ready-room
 use borrow.Author.Needs.{needs}
 use Rattle.probe.proofs.own_regions.probe_region.Statement.{statement}
 use Rattle.probe.proofs.own_regions.probe_region.Tie as tie
-use Rattle.probe.proofs.own_regions.probe_region.Reads as reads
-use Rattle.probe.proofs.own_regions.probe_region.Lts as lts
-use Rattle.format.proofs.read_header.Reads as read-header-reads
-use Rattle.probe.proofs.own_regions.tell_region.Reads as tell-region-reads
-use Rattle.probe.proofs.own_regions.unready.Reads as unready-reads
 
 unready-requires : tie.Need-unready-requires
 unready-requires c κs = search needs
@@ -19,10 +14,14 @@ returns : tie.Need-returns
 returns c = declined (c .if1 .taken) (c .before .before .unready .ensures) refl
 
 returns-2 : tie.Need-returns-2
-returns-2 c = short (ready-now (c .before .before .before .unready .ensures) (omega (arith, c .before .if1 .left))) (c .if2 .taken) refl refl refl
+returns-2 c =
+    let after-unready = c .before .before .before in
+    short (ready-now (after-unready .unready .ensures) (omega (arith, c .before .if1 .left))) (c .if2 .taken) refl refl refl
 
 read-header-requires : tie.Need-read-header-requires
-read-header-requires c κs = header-there _ (reduce-job _ (ready-passed (c .before .before .before .unready .ensures) (omega (arith, c .before .if1 .left))))
+read-header-requires c κs =
+    let after-unready = c .before .before .before in
+    header-there _ (reduce-job _ (ready-passed (after-unready .unready .ensures) (omega (arith, c .before .if1 .left))))
 
 tell-region-requires : tie.Need-tell-region-requires
 tell-region-requires c κs =
@@ -41,9 +40,11 @@ same-length c = search needs
 
 returns-3 : tie.Need-returns-3
 returns-3 c =
-    let at-unready = c .before .before .before .before .before .before .before .before in
-    told (ready-now (at-unready .unready .ensures) (omega (arith, c .before .before .before .before .before .before .if1 .left)))
-    (omega (arith, c .before .before .before .before .before .if2 .left)) refl refl (c .before .before .tell-region .ensures)
+    let if2-left = c .before .before .before .before .before in
+    let if1-left = if2-left .before in
+    let at-unready = if1-left .before .before in
+    told (ready-now (at-unready .unready .ensures) (omega (arith, if1-left .if1 .left)))
+    (omega (arith, if2-left .if2 .left)) refl refl (c .before .before .tell-region .ensures)
 
 pub probe-region-spec : {M : Type 1} → statement M
 probe-region-spec =

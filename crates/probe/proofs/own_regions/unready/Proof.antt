@@ -9,14 +9,6 @@ use Rattle.probe.specs.Regions.{refused, cramped, ready}
 use borrow.Author.Needs.{needs}
 use Rattle.probe.proofs.own_regions.unready.Statement.{statement}
 use Rattle.probe.proofs.own_regions.unready.Tie as tie
-use Rattle.probe.proofs.own_regions.unready.Reads as reads
-use Rattle.probe.proofs.own_regions.unready.Lts as lts
-use Rattle.checks.proofs.verdict.Verdict.detail.Reads as detail-reads
-use Rattle.checks.proofs.verdict.Verdict.number.Reads as number-reads
-use Rattle.checks.proofs.verdict.Verdict.passed.Reads as passed-reads
-use Rattle.format.proofs.read_header.Reads as read-header-reads
-use Rattle.job.proofs.check_reduce.Reads as check-reduce-reads
-use Rattle.wire.proofs.size.Reads as size-reads
 
 check-reduce-requires : tie.Need-check-reduce-requires
 check-reduce-requires c κs = search needs
@@ -32,10 +24,12 @@ detail-requires c κs = search needs
 
 returns : tie.Need-returns
 returns c =
-    let at-passed = c .before .before .before in
-    let v = c .before .before .before .before .check-reduce in
-    let no = declined {o = meaning (v .result)} refl (at-passed .passed .ensures) (c .before .before .if1 .taken) in
-    refused (declined (v .ensures) (at-passed .passed .ensures) (c .before .before .if1 .taken))
+    let if1-taken = c .before .before in
+    let at-passed = if1-taken .before in
+    let at-check-reduce = at-passed .before in
+    let v = at-check-reduce .check-reduce in
+    let no = declined {o = meaning (v .result)} refl (at-passed .passed .ensures) (if1-taken .if1 .taken) in
+    refused (declined (v .ensures) (at-passed .passed .ensures) (if1-taken .if1 .taken))
     (omega (arith, numbered (v .result) no, c .before .number .ensures))
     (c .before .number .ensures ∙ ap numberOf (v .ensures)) (c .detail .ensures ∙ ap detailOf (v .ensures))
 
@@ -44,11 +38,15 @@ read-header-requires c κs = header-there _ (reduce-job _ (went-on _ (c .before 
 
 mul-size : tie.Need-mul-size
 mul-size c =
-    let e = went-on _ (c .before .before .before .before .before .check-reduce .ensures) (c .before .before .before .before .passed .ensures)
-    (c .before .before .before .if1 .left) in
+    let if1-left = c .before .before .before in
+    let after-passed = if1-left .before in
+    let after-check-reduce = after-passed .before in
+    let lent-shared-slice-known = after-check-reduce .before .before in
+    let e = went-on _ (after-check-reduce .check-reduce .ensures) (after-passed .passed .ensures)
+    (if1-left .if1 .left) in
     omega (
       arith,
-      headed-cells (reduce-headed (λ i. c .before .before .before .before .before .before .before .shared-slice-known .given i .fits) e
+      headed-cells (reduce-headed (λ i. lent-shared-slice-known .shared-slice-known .given i .fits) e
           (c .before .before .read-header .ensures)),
     )
 
@@ -60,18 +58,26 @@ mul-if2 c = search needs
 
 returns-2 : tie.Need-returns-2
 returns-2 c =
-    let at-shared-slice-known = c .before .before .before .before .before .before .before .before .before in
-    let e = went-on _ (c .before .before .before .before .before .before .before .check-reduce .ensures)
-    (c .before .before .before .before .before .before .passed .ensures) (c .before .before .before .before .before .if1 .left) in
-    let d = reduce-headed (λ i. at-shared-slice-known .shared-slice-known .given i .fits) e (c .before .before .before .before .read-header .ensures) in
+    let after-read-header = c .before .before .before .before in
+    let if1-left = after-read-header .before in
+    let after-passed = if1-left .before in
+    let after-check-reduce = after-passed .before in
+    let at-shared-slice-known = after-check-reduce .before .before in
+    let e = went-on _ (after-check-reduce .check-reduce .ensures)
+    (after-passed .passed .ensures) (if1-left .if1 .left) in
+    let d = reduce-headed (λ i. at-shared-slice-known .shared-slice-known .given i .fits) e (after-read-header .read-header .ensures) in
     cramped e (omega (arith, c .if2 .taken, c .before .size .ensures .0, headed-work d)) refl refl
 
 returns-3 : tie.Need-returns-3
 returns-3 c =
-    let at-shared-slice-known = c .before .before .before .before .before .before .before .before .before in
-    let e = went-on _ (c .before .before .before .before .before .before .before .check-reduce .ensures)
-    (c .before .before .before .before .before .before .passed .ensures) (c .before .before .before .before .before .if1 .left) in
-    let d = reduce-headed (λ i. at-shared-slice-known .shared-slice-known .given i .fits) e (c .before .before .before .before .read-header .ensures) in
+    let after-read-header = c .before .before .before .before in
+    let if1-left = after-read-header .before in
+    let after-passed = if1-left .before in
+    let after-check-reduce = after-passed .before in
+    let at-shared-slice-known = after-check-reduce .before .before in
+    let e = went-on _ (after-check-reduce .check-reduce .ensures)
+    (after-passed .passed .ensures) (if1-left .if1 .left) in
+    let d = reduce-headed (λ i. at-shared-slice-known .shared-slice-known .given i .fits) e (after-read-header .read-header .ensures) in
     ready e (omega (arith, c .if2 .left, c .before .size .ensures .0, headed-work d)) refl refl
 
 pub unready-spec : {M : Type 1} → statement M

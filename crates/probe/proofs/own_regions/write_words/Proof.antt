@@ -7,9 +7,6 @@ use Rattle.wire.proofs.Numbers.{length-bytes}
 use Rattle.probe.proofs.WritingLaws.{Filled, filled-start, filled-next, filled-words}
 use Rattle.probe.proofs.own_regions.write_words.Statement.{statement}
 use Rattle.probe.proofs.own_regions.write_words.Tie as tie
-use Rattle.probe.proofs.own_regions.write_words.Reads as reads
-use Rattle.probe.proofs.own_regions.write_words.Lts as lts
-use Rattle.wire.proofs.write_u32.Reads as write-u32-reads
 
 abbrev Inv-loop : tie.InvT-loop
 Inv-loop ws out₀ n i₀ out i =
@@ -20,7 +17,9 @@ abbrev μ-loop : tie.MeasureT-loop
 μ-loop ws out₀ n i₀ out i = length ws - i
 
 loop-holds : tie.Need-loop-holds Inv-loop μ-loop
-loop-holds c = (omega arith, c .before .before .pre .0, c .before .before .pre .1, filled-start 4 _ _ _ 0)
+loop-holds c =
+    let start = c .before .before in
+    (omega arith, start .pre .0, start .pre .1, filled-start 4 _ _ _ 0)
 
 mul-write-u32 : tie.Need-mul-write-u32 Inv-loop μ-loop
 mul-write-u32 c = search needs
@@ -32,7 +31,9 @@ shared-slice-read-write-u32 : tie.Need-shared-slice-read-write-u32 Inv-loop μ-l
 shared-slice-read-write-u32 c = search needs
 
 write-u32-requires : tie.Need-write-u32-requires Inv-loop μ-loop
-write-u32-requires c κs = omega (arith, c .before .before .before .loop .inv .3 .long)
+write-u32-requires c κs =
+    let in-loop = c .before .before .before in
+    omega (arith, in-loop .loop .inv .3 .long)
 
 add-i : tie.Need-add-i Inv-loop μ-loop
 add-i c = search needs
@@ -42,7 +43,8 @@ loop-less c = search needs
 
 loop-again : tie.Need-loop-again Inv-loop μ-loop
 loop-again c =
-    let turn = c .before .before .before .before .before .before .loop in (
+    let in-loop = c .before .before .before .before .before .before in
+    let turn = in-loop .loop in (
       omega arith,
       turn .inv .1,
       turn .inv .2,
@@ -54,7 +56,9 @@ same-length : tie.Need-same-length Inv-loop μ-loop
 same-length c = c .before .loop .inv .3 .long
 
 returns : tie.Need-returns Inv-loop μ-loop
-returns c = filled-words (c .before .before .before .before .args .ws .now) (c .before .loop .inv .3) (omega arith)
+returns c =
+    let start = c .before .before .before .before in
+    filled-words (start .args .ws .now) (c .before .loop .inv .3) (omega arith)
 
 pub write-words-spec : {M : Type 1} → statement M
 write-words-spec =

@@ -2,13 +2,6 @@ use native.Mathlib.Omega.{arith}
 use borrow.Author.Needs.{needs}
 use Rattle.replay.proofs.calls.run.Statement.{statement}
 use Rattle.replay.proofs.calls.run.Tie as tie
-use Rattle.replay.proofs.calls.run.Reads as reads
-use Rattle.replay.proofs.calls.run.Lts as lts
-use Rattle.replay.proofs.calls.make.Reads as make-reads
-use Rattle.replay.proofs.calls.prepare.Reads as prepare-reads
-use Rattle.replay.proofs.compare.difference.Reads as difference-reads
-use Rattle.wire.proofs.read_u32.Reads as read-u32-reads
-use Rattle.wire.proofs.read_u64.Reads as read-u64-reads
 
 -- src/calls.rt:94:16
 shared-slice-read-kind : tie.Need-shared-slice-read-kind

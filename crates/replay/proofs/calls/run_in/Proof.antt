@@ -3,10 +3,6 @@ use lib.ListN.{length-take}
 use borrow.Author.Needs.{needs}
 use Rattle.replay.proofs.calls.run_in.Statement.{statement}
 use Rattle.replay.proofs.calls.run_in.Tie as tie
-use Rattle.replay.proofs.calls.run_in.Reads as reads
-use Rattle.replay.proofs.calls.run_in.Lts as lts
-use Rattle.io.proofs.large_buffer.Reads as large-buffer-reads
-use Rattle.replay.proofs.calls.run.Reads as run-reads
 
 -- src/calls.rt:117:20
 large-buffer-requires : tie.Need-large-buffer-requires

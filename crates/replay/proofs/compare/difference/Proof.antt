@@ -5,9 +5,6 @@ use native.Mathlib.Omega.{arith}
 use borrow.Author.Needs.{needs}
 use Rattle.replay.proofs.compare.difference.Statement.{statement}
 use Rattle.replay.proofs.compare.difference.Tie as tie
-use Rattle.replay.proofs.compare.difference.Reads as reads
-use Rattle.replay.proofs.compare.difference.Lts as lts
-use Rattle.check.proofs.same.Reads as same-reads
 
 -- src/compare.rt:26:9
 returns : tie.Need-returns
@@ -23,7 +20,11 @@ same-requires c κs = search needs
 
 -- src/compare.rt:32:9
 returns-3 : tie.Need-returns-3
-returns-3 c = (λ h. absurd (omega (arith, h)), λ s. let z : _≡_ {A = ℕ} 0 1 = cc (not-true (c .before .same .result) (c .if3 .taken), c .before .same .ensures .1 (s .same-work)) in absurd (omega arith))
+returns-3 c = (
+  λ h. absurd (omega (arith, h)),
+  λ s. let z : _≡_ {A = ℕ} 0 1 = cc (not-true (c .before .same .result) (c .if3 .taken), c .before .same .ensures .1 (s .same-work)) in
+      absurd (omega arith),
+)
 
 -- src/compare.rt:34:9
 same-requires-2 : tie.Need-same-requires-2
@@ -31,11 +32,26 @@ same-requires-2 c κs = search needs
 
 -- src/compare.rt:35:9
 returns-4 : tie.Need-returns-4
-returns-4 c = (λ h. absurd (omega (arith, h)), λ s. let z : _≡_ {A = ℕ} 0 1 = cc (not-true (c .before .same2 .result) (c .if4 .taken), c .before .same2 .ensures .1 (s .same-out)) in absurd (omega arith))
+returns-4 c = (
+  λ h. absurd (omega (arith, h)),
+  λ s. let z : _≡_ {A = ℕ} 0 1 = cc (not-true (c .before .same2 .result) (c .if4 .taken), c .before .same2 .ensures .1 (s .same-out)) in
+      absurd (omega arith),
+)
 
 -- src/compare.rt:13:1
 returns-5 : tie.Need-returns-5
-returns-5 c = (λ h. record { same-number = c .before .before .before .before .before .if1 .left; same-detail = c .before .before .before .before .if2 .left; same-work = c .before .before .before .same .ensures .0 (not-false _ (c .before .before .if3 .left)); same-out = c .before .same2 .ensures .0 (not-false _ (c .if4 .left)) }, λ s. refl)
+returns-5 c =
+    let after-same = c .before .before .before in
+    let if2-left = after-same .before in
+    let if1-left = if2-left .before in (
+      λ h. record {
+        same-number = if1-left .if1 .left;
+        same-detail = if2-left .if2 .left;
+        same-work = after-same .same .ensures .0 (not-false _ (c .before .before .if3 .left));
+        same-out = c .before .same2 .ensures .0 (not-false _ (c .if4 .left));
+      },
+      λ s. refl,
+    )
 
 pub difference-spec : {M : Type 1} → statement M
 difference-spec =

@@ -4,10 +4,6 @@ use borrow.Author.Needs.{needs}
 use lib.ListN.{length}
 use Rattle.replay.proofs.pieces.expand.Statement.{statement}
 use Rattle.replay.proofs.pieces.expand.Tie as tie
-use Rattle.replay.proofs.pieces.expand.Reads as reads
-use Rattle.replay.proofs.pieces.expand.Lts as lts
-use Rattle.replay.proofs.pieces.piece_at.Reads as piece-at-reads
-use Rattle.replay.proofs.pieces.repeat.Reads as repeat-reads
 
 abbrev Inv-loop : tie.InvT-loop
 Inv-loop item at bytes₀ n from₀ done₀ bytes from done = (from ≤ length item) × (done ≤ n) × (length bytes ≡ length bytes₀)

@@ -5,8 +5,6 @@ use borrow.Author.Needs.{needs}
 use lib.ListN.{length, length-set}
 use Rattle.replay.proofs.pieces.fill.Statement.{statement}
 use Rattle.replay.proofs.pieces.fill.Tie as tie
-use Rattle.replay.proofs.pieces.fill.Reads as reads
-use Rattle.replay.proofs.pieces.fill.Lts as lts
 
 abbrev Inv-loop : tie.InvT-loop
 Inv-loop bytes₀ byte i₀ bytes i = (i ≤ length bytes) × (length bytes ≡ length bytes₀)

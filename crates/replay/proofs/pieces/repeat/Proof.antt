@@ -6,8 +6,6 @@ use borrow.Author.Needs.{needs}
 use lib.ListN.{length, length-set}
 use Rattle.replay.proofs.pieces.repeat.Statement.{statement}
 use Rattle.replay.proofs.pieces.repeat.Tie as tie
-use Rattle.replay.proofs.pieces.repeat.Reads as reads
-use Rattle.replay.proofs.pieces.repeat.Lts as lts
 
 abbrev Inv-loop : tie.InvT-loop
 Inv-loop item from n bytes₀ to count i₀ bytes i = (i ≤ count) × (length bytes ≡ length bytes₀)
@@ -29,7 +27,9 @@ add-bytes c = omega (arith, mod-lt (c .before .loop .i) (c .before .before .pre 
 
 -- src/pieces.rt:56:25
 shared-slice-read-bytes : tie.Need-shared-slice-read-bytes Inv-loop μ-loop
-shared-slice-read-bytes c = omega (arith, mod-lt (c .before .before .loop .i) (c .before .before .before .pre .0))
+shared-slice-read-bytes c =
+    let start = c .before .before .before in
+    omega (arith, mod-lt (c .before .before .loop .i) (start .pre .0))
 
 -- src/pieces.rt:56:15
 add-bytes-2 : tie.Need-add-bytes-2 Inv-loop μ-loop

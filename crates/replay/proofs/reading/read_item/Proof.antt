@@ -3,12 +3,6 @@ use lib.ListN.{length-take}
 use borrow.Author.Needs.{needs}
 use Rattle.replay.proofs.reading.read_item.Statement.{statement}
 use Rattle.replay.proofs.reading.read_item.Tie as tie
-use Rattle.replay.proofs.reading.read_item.Reads as reads
-use Rattle.replay.proofs.reading.read_item.Lts as lts
-use Rattle.io.proofs.read_full.Reads as read-full-reads
-use Rattle.replay.proofs.reading.failed.Reads as failed-reads
-use Rattle.wire.proofs.read_u32.Reads as read-u32-reads
-use Rattle.wire.proofs.size.Reads as size-reads
 
 -- src/reading.rt:41:43
 slice-aggregate-read-full : tie.Need-slice-aggregate-read-full

@@ -3,11 +3,6 @@ use borrow.Author.Needs.{needs}
 use lib.ListN.{length}
 use Rattle.replay.proofs.summary.print.Statement.{statement}
 use Rattle.replay.proofs.summary.print.Tie as tie
-use Rattle.replay.proofs.summary.print.Reads as reads
-use Rattle.replay.proofs.summary.print.Lts as lts
-use Rattle.io.proofs.print_decimal.Reads as print-decimal-reads
-use Rattle.io.proofs.write_all.Reads as write-all-reads
-use Rattle.replay.proofs.summary.print_count.Reads as print-count-reads
 
 abbrev Inv-loop : tie.InvT-loop
 Inv-loop counts calls i₀ t4 t5 i = i ≤ length counts

@@ -4,13 +4,11 @@ use native.Mathlib.Omega.{arith}
 use borrow.Author.Needs.{needs}
 use Rattle.topology.proofs.anchored.anchor_in.Statement.{statement}
 use Rattle.topology.proofs.anchored.anchor_in.Tie as tie
-use Rattle.topology.proofs.anchored.anchor_in.Reads as reads
-use Rattle.topology.proofs.anchored.anchor_in.Lts as lts
-use Rattle.wire.proofs.read_u32.Reads as read-u32-reads
-use Rattle.wire.proofs.size.Reads as size-reads
 
 returns : tie.Need-returns
-returns c = not-hit (labelsIn (c .before .before .args .labels .now) (c .before .before .args .n)) (c .before .before .args .width) (c .before .before .args .p) (c .before .before .args .region) (c .if1 .taken)
+returns c =
+    let start = c .before .before in
+    not-hit (labelsIn (start .args .labels .now) (start .args .n)) (start .args .width) (start .args .p) (start .args .region) (c .if1 .taken)
 
 size-requires : tie.Need-size-requires
 size-requires c κs = search needs
@@ -19,22 +17,44 @@ size-requires-2 : tie.Need-size-requires-2
 size-requires-2 c κs = search needs
 
 mul-i : tie.Need-mul-i
-mul-i c = omega (arith, mul-as (c .before .size .ensures .0) (c .size2 .ensures .0), c .before .before .before .before .pre .2 .on (c .before .before .if1 .left))
+mul-i c =
+    let start = c .before .before .before .before in
+    omega (arith, mul-as (c .before .size .ensures .0) (c .size2 .ensures .0), start .pre .2 .on (c .before .before .if1 .left))
 
 size-requires-3 : tie.Need-size-requires-3
 size-requires-3 c κs = search needs
 
 add-i : tie.Need-add-i
-add-i c = omega (arith, c .size3 .ensures .0, mul-as (c .before .before .size .ensures .0) (c .before .size2 .ensures .0), c .before .before .before .before .before .pre .2 .on (c .before .before .before .if1 .left))
+add-i c =
+    let if1-left = c .before .before .before in
+    let start = if1-left .before .before in
+    omega (arith, c .size3 .ensures .0, mul-as (c .before .before .size .ensures .0) (c .before .size2 .ensures .0), start .pre .2 .on (if1-left .if1 .left))
 
 mul-read-u32 : tie.Need-mul-read-u32
-mul-read-u32 c = omega (arith, c .size3 .ensures .0, mul-as (c .before .before .size .ensures .0) (c .before .size2 .ensures .0), c .before .before .before .before .before .pre .2 .on (c .before .before .before .if1 .left))
+mul-read-u32 c =
+    let if1-left = c .before .before .before in
+    let start = if1-left .before .before in
+    omega (arith, c .size3 .ensures .0, mul-as (c .before .before .size .ensures .0) (c .before .size2 .ensures .0), start .pre .2 .on (if1-left .if1 .left))
 
 read-u32-requires : tie.Need-read-u32-requires
-read-u32-requires c κs = omega (arith, c .size3 .ensures .0, mul-as (c .before .before .size .ensures .0) (c .before .size2 .ensures .0), c .before .before .before .before .before .pre .2 .on (c .before .before .before .if1 .left), c .before .before .before .before .before .pre .1)
+read-u32-requires c κs =
+    let if1-left = c .before .before .before in
+    let start = if1-left .before .before in
+    omega (
+      arith,
+      c .size3 .ensures .0,
+      mul-as (c .before .before .size .ensures .0) (c .before .size2 .ensures .0),
+      start .pre .2 .on (if1-left .if1 .left),
+      start .pre .1,
+    )
 
 returns-2 : tie.Need-returns-2
-returns-2 c = hit _ _ _ _ _ (c .before .before .before .before .if1 .left) (c .before .before .before .before .before .before .pre .2 .on (c .before .before .before .before .if1 .left)) (c .read-u32 .ensures) (omega (arith, c .before .size3 .ensures .0, mul-as (c .before .before .before .size .ensures .0) (c .before .before .size2 .ensures .0)))
+returns-2 c =
+    let after-size = c .before .before .before in
+    let if1-left = after-size .before in
+    let start = if1-left .before .before in
+    hit _ _ _ _ _ (if1-left .if1 .left) (start .pre .2 .on (if1-left .if1 .left)) (c .read-u32 .ensures)
+    (omega (arith, c .before .size3 .ensures .0, mul-as (after-size .size .ensures .0) (c .before .before .size2 .ensures .0)))
 
 pub anchor-in-spec : {M : Type 1} → statement M
 anchor-in-spec =

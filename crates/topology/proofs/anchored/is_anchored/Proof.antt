@@ -7,10 +7,6 @@ use Rattle.topology.specs.AnchorLoop.{anchoredBy}
 use Rattle.topology.proofs.Bases.{base-next, hit-as, at-end}
 use Rattle.topology.proofs.anchored.is_anchored.Statement.{statement}
 use Rattle.topology.proofs.anchored.is_anchored.Tie as tie
-use Rattle.topology.proofs.anchored.is_anchored.Reads as reads
-use Rattle.topology.proofs.anchored.is_anchored.Lts as lts
-use Rattle.format.proofs.read_base.Reads as read-base-reads
-use Rattle.topology.proofs.anchored.anchor_in.Reads as anchor-in-reads
 
 abbrev Inv-loop : tie.InvT-loop
 Inv-loop job at count width labels n region found₀ i₀ found i = (i ≤ count) × (found ≡ anchoredBy job at i width (labelsIn labels n) region)
@@ -32,7 +28,9 @@ read-base-requires : tie.Need-read-base-requires Inv-loop μ-loop
 read-base-requires c κs = search needs
 
 anchor-in-requires : tie.Need-anchor-in-requires Inv-loop μ-loop
-anchor-in-requires c κs = (c .before .before .before .before .before .pre .1, c .before .before .before .before .before .pre .2, hit-as (c .read-base .ensures) (c .before .before .before .before .before .pre .3 .each (c .before .before .loop .i) (c .before .loop-test .taken)))
+anchor-in-requires c κs =
+    let start = c .before .before .before .before .before in
+    (start .pre .1, start .pre .2, hit-as (c .read-base .ensures) (start .pre .3 .each (c .before .before .loop .i) (c .before .loop-test .taken)))
 
 add-i : tie.Need-add-i Inv-loop μ-loop
 add-i c = search needs
@@ -41,10 +39,14 @@ loop-less : tie.Need-loop-less Inv-loop μ-loop
 loop-less c = search needs
 
 loop-again : tie.Need-loop-again Inv-loop μ-loop
-loop-again c = (omega arith, base-next _ _ _ _ _ _ (c .before .read-base .ensures) (c .anchor-in .ensures) (c .before .before .before .loop .inv .1))
+loop-again c =
+    let in-loop = c .before .before .before in
+    (omega arith, base-next _ _ _ _ _ _ (c .before .read-base .ensures) (c .anchor-in .ensures) (in-loop .loop .inv .1))
 
 returns : tie.Need-returns Inv-loop μ-loop
-returns c = at-end _ _ _ _ _ {i = c .before .loop .i} {count = c .before .before .before .before .args .count} (omega arith) (c .before .loop .inv .1)
+returns c =
+    let start = c .before .before .before .before in
+    at-end _ _ _ _ _ {i = c .before .loop .i} {count = start .args .count} (omega arith) (c .before .loop .inv .1)
 
 pub is-anchored-spec : {M : Type 1} → statement M
 is-anchored-spec =

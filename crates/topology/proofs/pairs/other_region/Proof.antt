@@ -2,8 +2,6 @@ use Rattle.topology.specs.FullPair.{otherRegion}
 use borrow.Author.Tests.{eq-eqb, ne-eqb}
 use Rattle.topology.proofs.pairs.other_region.Statement.{statement}
 use Rattle.topology.proofs.pairs.other_region.Tie as tie
-use Rattle.topology.proofs.pairs.other_region.Reads as reads
-use Rattle.topology.proofs.pairs.other_region.Lts as lts
 
 returns : tie.Need-returns
 unfolding otherRegion

@@ -3,8 +3,6 @@ use Rattle.topology.proofs.CountLoop.{column-small}
 use borrow.Author.Needs.{needs}
 use Rattle.topology.proofs.stats.column_of.Statement.{statement}
 use Rattle.topology.proofs.stats.column_of.Tie as tie
-use Rattle.topology.proofs.stats.column_of.Reads as reads
-use Rattle.topology.proofs.stats.column_of.Lts as lts
 
 cast-result : tie.Need-cast-result
 cast-result c = search needs

@@ -4,11 +4,6 @@ use Rattle.topology.proofs.CountLoop.{left-out, put-in}
 use borrow.Author.Needs.{needs}
 use Rattle.topology.proofs.stats.counted.Statement.{statement}
 use Rattle.topology.proofs.stats.counted.Tie as tie
-use Rattle.topology.proofs.stats.counted.Reads as reads
-use Rattle.topology.proofs.stats.counted.Lts as lts
-use Rattle.topology.proofs.stats.RegionStats.with.Reads as with-reads
-use Rattle.topology.proofs.stats.column_of.Reads as column-of-reads
-use Rattle.topology.proofs.stats.row_of.Reads as row-of-reads
 
 returns : tie.Need-returns
 returns c = let a = c .before .args in left-out (a .inside) (withCell (a .stats) (a .i % a .width) (a .i / a .width) (a .cell)) (c .if1 .taken)
@@ -23,7 +18,11 @@ with-requires : tie.Need-with-requires
 with-requires c κs = search needs
 
 returns-2 : tie.Need-returns-2
-returns-2 c = let a = c .before .before .before .before .args in put-in (a .inside) (λ x y. withCell (a .stats) x y (a .cell)) (a .stats) (a .i % a .width) (a .i / a .width) (c .before .before .before .if1 .left) (c .with .ensures) (c .before .before .column-of .ensures .0) (c .before .row-of .ensures .0)
+returns-2 c =
+    let if1-left = c .before .before .before in
+    let start = if1-left .before in
+    let a = start .args in put-in (a .inside) (λ x y. withCell (a .stats) x y (a .cell)) (a .stats) (a .i % a .width) (a .i / a .width) (if1-left .if1 .left)
+    (c .with .ensures) (c .before .before .column-of .ensures .0) (c .before .row-of .ensures .0)
 
 pub counted-spec : {M : Type 1} → statement M
 counted-spec =

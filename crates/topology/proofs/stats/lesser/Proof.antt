@@ -1,8 +1,6 @@
 use Rattle.topology.proofs.Counting.{lesser-first, lesser-low, lesser-high}
 use Rattle.topology.proofs.stats.lesser.Statement.{statement}
 use Rattle.topology.proofs.stats.lesser.Tie as tie
-use Rattle.topology.proofs.stats.lesser.Reads as reads
-use Rattle.topology.proofs.stats.lesser.Lts as lts
 
 returns : tie.Need-returns
 returns c = lesser-first _ (c .if1 .taken)

@@ -8,14 +8,10 @@ use Rattle.topology.specs.Held.{statsAfter, firstCells}
 use Rattle.topology.proofs.CountLoop.{count-start, count-room, count-next, count-end}
 use Rattle.topology.proofs.stats.region_stats.Statement.{statement}
 use Rattle.topology.proofs.stats.region_stats.Tie as tie
-use Rattle.topology.proofs.stats.region_stats.Reads as reads
-use Rattle.topology.proofs.stats.region_stats.Lts as lts
-use Rattle.topology.proofs.stats.RegionStats.none.Reads as none-reads
-use Rattle.topology.proofs.stats.counted.Reads as counted-reads
-use Rattle.wire.proofs.read_u32.Reads as read-u32-reads
 
 abbrev Inv-loop : tie.InvT-loop
-Inv-loop cells width labels region n stats₀ i₀ stats i = (i ≤ length cells) × ((height : ℕ) → stats ≡ statsAfter (record { width = width; height = height; cells = cells }) (firstCells (labelsIn labels (length cells)) region i))
+Inv-loop cells width labels region n stats₀ i₀ stats i = (i ≤ length cells)
+    × ((height : ℕ) → stats ≡ statsAfter (record { width = width; height = height; cells = cells }) (firstCells (labelsIn labels (length cells)) region i))
 
 abbrev μ-loop : tie.MeasureT-loop
 μ-loop cells width labels region n stats₀ i₀ stats i = length cells - i
@@ -24,7 +20,12 @@ none-requires : tie.Need-none-requires Inv-loop μ-loop
 none-requires c κs = search needs
 
 loop-holds : tie.Need-loop-holds Inv-loop μ-loop
-loop-holds c = (omega arith, λ height. count-start (c .none .ensures) (record { width = c .before .before .before .args .width; height = height; cells = c .before .before .before .args .cells .now }) (labelsIn (c .before .before .before .args .labels .now) (length (c .before .before .before .args .cells .now))) (c .before .before .before .args .region))
+loop-holds c =
+    let start = c .before .before .before in (
+      omega arith,
+      λ height. count-start (c .none .ensures) (record { width = start .args .width; height = height; cells = start .args .cells .now })
+          (labelsIn (start .args .labels .now) (length (start .args .cells .now))) (start .args .region),
+    )
 
 mul-read-u32 : tie.Need-mul-read-u32 Inv-loop μ-loop
 mul-read-u32 c = search needs
@@ -36,7 +37,15 @@ shared-slice-read-counted : tie.Need-shared-slice-read-counted Inv-loop μ-loop
 shared-slice-read-counted c = search needs
 
 counted-requires : tie.Need-counted-requires Inv-loop μ-loop
-counted-requires c κs = let l : c .before .before .before .loop .i < 1048576 = omega (arith, c .before .before .loop-test .taken, c .before .before .before .before .before .before .before .pre .1) in (count-room (record { width = c .before .before .before .before .before .before .before .args .width; height = 0; cells = c .before .before .before .before .before .before .before .args .cells .now }) (c .before .before .before .before .before .before .before .args .labels .now) (length (c .before .before .before .before .before .before .before .args .cells .now)) (c .before .before .before .before .before .before .before .args .region) (c .before .before .before .loop .inv .1 0) l, l, c .before .before .before .before .before .before .before .pre .0)
+counted-requires c κs =
+    let in-loop = c .before .before .before in
+    let start = in-loop .before .before .before .before in
+    let l : in-loop .loop .i < 1048576 = omega (arith, c .before .before .loop-test .taken, start .pre .1) in (
+      count-room (record { width = start .args .width; height = 0; cells = start .args .cells .now }) (start .args .labels .now)
+          (length (start .args .cells .now)) (start .args .region) (in-loop .loop .inv .1 0) l,
+      l,
+      start .pre .0,
+    )
 
 add-i : tie.Need-add-i Inv-loop μ-loop
 add-i c = search needs
@@ -45,10 +54,22 @@ loop-less : tie.Need-loop-less Inv-loop μ-loop
 loop-less c = search needs
 
 loop-again : tie.Need-loop-again Inv-loop μ-loop
-loop-again c = (omega (arith, c .before .before .before .loop-test .taken), λ height. count-next (record { width = c .before .before .before .before .before .before .before .before .args .width; height = height; cells = c .before .before .before .before .before .before .before .before .args .cells .now }) (c .before .before .before .before .before .before .before .before .args .labels .now) (length (c .before .before .before .before .before .before .before .before .args .cells .now)) (c .before .before .before .before .before .before .before .before .args .region) (c .before .before .before .before .loop .inv .1 height) (c .before .before .before .loop-test .taken) (c .before .before .read-u32 .ensures) (c .counted .ensures))
+loop-again c =
+    let turning = c .before .before .before in
+    let in-loop = turning .before in
+    let start = in-loop .before .before .before .before in (
+      omega (arith, turning .loop-test .taken),
+      λ height. count-next (record { width = start .args .width; height = height; cells = start .args .cells .now }) (start .args .labels .now)
+          (length (start .args .cells .now)) (start .args .region) (in-loop .loop .inv .1 height) (turning .loop-test .taken)
+          (c .before .before .read-u32 .ensures) (c .counted .ensures),
+    )
 
 returns : tie.Need-returns Inv-loop μ-loop
-returns c = λ height. count-end (record { width = c .before .before .before .before .before .args .width; height = height; cells = c .before .before .before .before .before .args .cells .now }) (c .before .before .before .before .before .args .labels .now) (length (c .before .before .before .before .before .args .cells .now)) (c .before .before .before .before .before .args .region) (c .before .loop .inv .1 height) (omega (arith, c .before .loop .inv .0, c .loop-test .left))
+returns c =
+    let start = c .before .before .before .before .before in
+    let inv = c .before .loop .inv in
+    λ height. count-end (record { width = start .args .width; height = height; cells = start .args .cells .now }) (start .args .labels .now)
+    (length (start .args .cells .now)) (start .args .region) (inv .1 height) (omega (arith, inv .0, c .loop-test .left))
 
 pub region-stats-spec : {M : Type 1} → statement M
 region-stats-spec =

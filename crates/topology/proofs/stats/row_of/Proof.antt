@@ -3,8 +3,6 @@ use Rattle.topology.proofs.CountLoop.{row-small}
 use borrow.Author.Needs.{needs}
 use Rattle.topology.proofs.stats.row_of.Statement.{statement}
 use Rattle.topology.proofs.stats.row_of.Tie as tie
-use Rattle.topology.proofs.stats.row_of.Reads as reads
-use Rattle.topology.proofs.stats.row_of.Lts as lts
 
 cast-result : tie.Need-cast-result
 cast-result c = search needs

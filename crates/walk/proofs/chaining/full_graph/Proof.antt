@@ -6,44 +6,69 @@ use Rattle.walk.specs.Slices.{Linked}
 use Rattle.walk.proofs.Chains.{linked-one, linked-as}
 use Rattle.walk.proofs.chaining.full_graph.Statement.{statement}
 use Rattle.walk.proofs.chaining.full_graph.Tie as tie
-use Rattle.walk.proofs.chaining.full_graph.Reads as reads
-use Rattle.walk.proofs.chaining.full_graph.Lts as lts
-use Rattle.walk.proofs.chaining.link_record.Reads as link-record-reads
 use lib.ListN.{length}
 
 abbrev Inv-loop : tie.InvT-loop
-Inv-loop lefts rights count heads₀ left-nexts₀ right-nexts₀ k₀ heads left-nexts right-nexts k = (k ≤ count) × (length left-nexts ≡ length left-nexts₀) × (length right-nexts ≡ length right-nexts₀) × Linked count (length heads₀) lefts rights heads left-nexts right-nexts k
+Inv-loop lefts rights count heads₀ left-nexts₀ right-nexts₀ k₀ heads left-nexts right-nexts k = (k ≤ count) × (length left-nexts ≡ length left-nexts₀)
+    × (length right-nexts ≡ length right-nexts₀) × Linked count (length heads₀) lefts rights heads left-nexts right-nexts k
 
 abbrev μ-loop : tie.MeasureT-loop
 μ-loop lefts rights count heads₀ left-nexts₀ right-nexts₀ k₀ heads left-nexts right-nexts k = k
 
+-- what the function is given and asked: the places since only say that its slices have lengths
+abbrev start-of : tie.After-slice-known3 Inv-loop μ-loop → tie.Start Inv-loop μ-loop
+start-of c = c .before .before .before .before .before
+
 loop-holds : tie.Need-loop-holds Inv-loop μ-loop
-loop-holds c = (omega arith, refl, refl, c .before .before .before .before .before .pre .1)
+loop-holds c =
+    let start = start-of c in
+    (omega arith, refl, refl, start .pre .1)
 
 sub-k : tie.Need-sub-k Inv-loop μ-loop
 sub-k c = search needs
 
 link-record-requires : tie.Need-link-record-requires Inv-loop μ-loop
 link-record-requires c κs =
-    let k = c .before .before .before .before .loop .k in
-    let l : k - 1 < c .before .before .before .before .before .before .before .before .before .before .args .count = omega (arith, c .before .before .before .before .loop .inv .0, c .before .before .before .loop-test .taken) in
-    let G = c .before .before .before .before .before .before .before .before .before .before .pre .0 in
-    let N = c .before .before .before .before .loop .inv .3 in
-    (omega (arith, G .lefts-are), omega (arith, G .rights-are), omega (arith, N .lefts-are), omega (arith, N .rights-are), omega (arith, G .left-in (k - 1) l, N .heads-are), omega (arith, G .right-in (k - 1) l, N .heads-are))
+    let turning = c .before .before .before in
+    let in-loop = turning .before in
+    let start = start-of (in-loop .before) in
+    let inv = in-loop .loop .inv in
+    let k = in-loop .loop .k in
+    let l : k - 1 < start .args .count = omega (arith, inv .0, turning .loop-test .taken) in
+    let G = start .pre .0 in
+    let N = inv .3 in (
+      omega (arith, G .lefts-are),
+      omega (arith, G .rights-are),
+      omega (arith, N .lefts-are),
+      omega (arith, N .rights-are),
+      omega (arith, G .left-in (k - 1) l, N .heads-are),
+      omega (arith, G .right-in (k - 1) l, N .heads-are),
+    )
 
 loop-less : tie.Need-loop-less Inv-loop μ-loop
 loop-less c = search needs
 
 loop-again : tie.Need-loop-again Inv-loop μ-loop
 loop-again c =
-    let k = c .before .before .before .before .before .before .before .before .before .before .before .loop .k in
-    let l : k - 1 < c .before .before .before .before .before .before .before .before .before .before .before .before .before .before .before .before .before .args .count = omega (arith, c .before .before .before .before .before .before .before .before .before .before .before .loop .inv .0, c .before .before .before .before .before .before .before .before .before .before .loop-test .taken) in
-    let a = c .before .before .before .before .before .before .before .before .before .before .before .before .before .before .before .before .before .args in
-    let m = c .before .before .before .before .before .before .before .before .before .before .before .loop in
-    let e = c .before .before .before .before .before .before .link-record .ensures in
+    let at-link-record = c .before .before .before .before .before .before in
+    let turning = at-link-record .before .before .before .before in
+    let in-loop = turning .before in
+    let start = start-of (in-loop .before) in
+    let k = in-loop .loop .k in
+    let l : k - 1 < start .args .count = omega (arith, in-loop .loop .inv .0, turning .loop-test .taken) in
+    let a = start .args in
+    let m = in-loop .loop in
+    let e = at-link-record .link-record .ensures in
     let n : Linked (a .count) (length (a .heads .now)) (a .lefts .now) (a .rights .now) (m .heads) (m .left-nexts) (m .right-nexts) (k - 1 + 1)
-    = subst (Linked (a .count) (length (a .heads .now)) (a .lefts .now) (a .rights .now) (m .heads) (m .left-nexts) (m .right-nexts)) (let z : k ≡ k - 1 + 1 = omega (arith, c .before .before .before .before .before .before .before .before .before .before .loop-test .taken) in z) (m .inv .3) in
-    (omega arith, omega (arith, c .before .before .before .before .before .before .link-record .kept, m .inv .1), omega (arith, c .before .before .before .before .before .before .link-record .kept, m .inv .2), linked-as _ _ _ _ _ _ _ _ _ _ _ (e .0) (e .1 .0) (e .1 .1) (linked-one (a .count) (length (a .heads .now)) (a .lefts .now) (a .rights .now) (m .heads) (m .left-nexts) (m .right-nexts) (k - 1) (c .before .before .before .before .before .before .before .before .before .before .before .before .before .before .before .before .before .pre .0) n l))
+    = subst (Linked (a .count) (length (a .heads .now)) (a .lefts .now) (a .rights .now) (m .heads) (m .left-nexts) (m .right-nexts))
+    (let z : k ≡ k - 1 + 1 = omega (arith, turning .loop-test .taken) in z) (m .inv .3) in (
+      omega arith,
+      omega (arith, at-link-record .link-record .kept, m .inv .1),
+      omega (arith, at-link-record .link-record .kept, m .inv .2),
+      linked-as _ _ _ _ _ _ _ _ _ _ _ (e .0) (e .1 .0) (e .1 .1)
+          (linked-one (a .count) (length (a .heads .now)) (a .lefts .now) (a .rights .now) (m .heads) (m .left-nexts) (m .right-nexts) (k - 1) (start .pre .0) n
+          l),
+    )
 
 same-length : tie.Need-same-length Inv-loop μ-loop
 same-length c = c .before .loop .inv .3 .heads-are
@@ -56,7 +81,9 @@ same-length-3 c = c .before .loop .inv .2
 
 returns : tie.Need-returns Inv-loop μ-loop
 returns c =
-    subst (Linked (c .before .before .before .before .before .before .before .args .count) (length (c .before .before .before .before .before .before .before .args .heads .now)) (c .before .before .before .before .before .before .before .args .lefts .now) (c .before .before .before .before .before .before .before .args .rights .now) (c .before .loop .heads) (c .before .loop .left-nexts) (c .before .loop .right-nexts))
+    let start = start-of (c .before .before) in
+    subst (Linked (start .args .count) (length (start .args .heads .now)) (start .args .lefts .now) (start .args .rights .now) (c .before .loop .heads)
+    (c .before .loop .left-nexts) (c .before .loop .right-nexts))
     (let z : c .before .loop .k ≡ 0 = omega (arith, c .loop-test .left) in z) (c .before .loop .inv .3)
 
 pub full-graph-spec : {M : Type 1} → statement M

@@ -4,10 +4,11 @@ use borrow.Author.Needs.{needs}
 use Rattle.lists.specs.Rows.{at}
 use Rattle.walk.proofs.chaining.link_record.Statement.{statement}
 use Rattle.walk.proofs.chaining.link_record.Tie as tie
-use Rattle.walk.proofs.chaining.link_record.Reads as reads
-use Rattle.walk.proofs.chaining.link_record.Lts as lts
-use Rattle.wire.proofs.size.Reads as size-reads
 use lib.ListN.{length-set}
+
+-- what the function is given and asked: the places since only say that its slices have lengths
+abbrev start-of : tie.After-slice-known3 → tie.Start
+start-of c = c .before .before .before .before .before
 
 size-requires : tie.Need-size-requires
 size-requires c κs = search needs
@@ -34,7 +35,11 @@ mul-left-nexts : tie.Need-mul-left-nexts
 mul-left-nexts c = search needs
 
 slice-read-left-nexts : tie.Need-slice-read-left-nexts
-slice-read-left-nexts c = omega (arith, c .before .before .before .size2 .ensures .0, ap (at (c .before .before .before .before .before .before .before .before .before .before .before .args .lefts .now)) (c .before .before .before .before .before .size .ensures .0), c .before .before .before .before .before .before .before .before .before .before .before .pre .4)
+slice-read-left-nexts c =
+    let after-size2 = c .before .before .before in
+    let after-size = after-size2 .before .before in
+    let start = start-of (after-size .before) in
+    omega (arith, after-size2 .size2 .ensures .0, ap (at (start .args .lefts .now)) (after-size .size .ensures .0), start .pre .4)
 
 mul-left-nexts-2 : tie.Need-mul-left-nexts-2
 mul-left-nexts-2 c = search needs
@@ -46,7 +51,10 @@ mul-right-nexts : tie.Need-mul-right-nexts
 mul-right-nexts c = search needs
 
 slice-read-right-nexts : tie.Need-slice-read-right-nexts
-slice-read-right-nexts c = omega (arith, c .before .before .size3 .ensures .0, ap (at (c .before .before .before .before .before .before .before .before .before .before .before .before .args .rights .now)) (c .before .before .before .before .before .before .size .ensures .0), c .before .before .before .before .before .before .before .before .before .before .before .before .pre .5)
+slice-read-right-nexts c =
+    let after-size = c .before .before .before .before .before .before in
+    let start = start-of (after-size .before) in
+    omega (arith, c .before .before .size3 .ensures .0, ap (at (start .args .rights .now)) (after-size .size .ensures .0), start .pre .5)
 
 mul-right-nexts-2 : tie.Need-mul-right-nexts-2
 mul-right-nexts-2 c = search needs
@@ -58,13 +66,20 @@ mul-heads : tie.Need-mul-heads
 mul-heads c = search needs
 
 slice-write-heads : tie.Need-slice-write-heads
-slice-write-heads c = omega (arith, c .before .before .before .before .size2 .ensures .0, ap (at (c .before .before .before .before .before .before .before .before .before .before .before .before .args .lefts .now)) (c .before .before .before .before .before .before .size .ensures .0), c .before .before .before .before .before .before .before .before .before .before .before .before .pre .4)
+slice-write-heads c =
+    let after-size2 = c .before .before .before .before in
+    let after-size = after-size2 .before .before in
+    let start = start-of (after-size .before) in
+    omega (arith, after-size2 .size2 .ensures .0, ap (at (start .args .lefts .now)) (after-size .size .ensures .0), start .pre .4)
 
 mul-heads-2 : tie.Need-mul-heads-2
 mul-heads-2 c = search needs
 
 slice-write-heads-2 : tie.Need-slice-write-heads-2
-slice-write-heads-2 c = simp length-set (omega (arith, c .before .before .size3 .ensures .0, ap (at (c .before .before .before .before .before .before .before .before .before .before .before .before .args .rights .now)) (c .before .before .before .before .before .before .size .ensures .0), c .before .before .before .before .before .before .before .before .before .before .before .before .pre .5))
+slice-write-heads-2 c =
+    let after-size = c .before .before .before .before .before .before in
+    let start = start-of (after-size .before) in
+    simp length-set (omega (arith, c .before .before .size3 .ensures .0, ap (at (start .args .rights .now)) (after-size .size .ensures .0), start .pre .5))
 
 same-length : tie.Need-same-length
 same-length c = simp length-set
@@ -77,8 +92,10 @@ same-length-3 c = search needs
 
 returns : tie.Need-returns
 returns c =
-    let e = c .before .before .before .before .before .before .size .ensures .0 in
-    let l = c .before .before .before .before .size2 .ensures .0 in
+    let after-size2 = c .before .before .before .before in
+    let after-size = after-size2 .before .before in
+    let e = after-size .size .ensures .0 in
+    let l = after-size2 .size2 .ensures .0 in
     let r = c .before .before .size3 .ensures .0 in
     (rw (l, e), (rw (r, e), rw (l, r, e)))
 

@@ -1,13 +1,7 @@
-use mathlib.Core.Path.{_≡_, refl, _∙_}
+use mathlib.Core.Path.{_∙_}
 use borrow.Author.Needs.{needs}
 use Rattle.walk.proofs.frame.opened.Statement.{statement}
 use Rattle.walk.proofs.frame.opened.Tie as tie
-use Rattle.walk.proofs.frame.opened.Reads as reads
-use Rattle.walk.proofs.frame.opened.Lts as lts
-use Rattle.wire.proofs.size.Reads as size-reads
-use Rattle.walk.proofs.frame.Frame.at_region.Reads as at-region-reads
-use Rattle.walk.proofs.frame.Frame.parent_record.Reads as parent-record-reads
-use Rattle.walk.proofs.frame.Frame.next_record.Reads as next-record-reads
 
 size-requires : tie.Need-size-requires
 size-requires c κs = search needs
@@ -29,10 +23,11 @@ next-record-requires c κs = search needs
 
 returns : tie.Need-returns
 returns c =
+    let after-size = c .before .before .before .before in
     let m = c .next-record .ensures in
     let p = c .before .parent-record .ensures in
     let r = c .before .before .at-region .ensures in
-    (m .0 ∙ p .0 ∙ r .0, m .1 ∙ p .1, m .2 ∙ rw (c .before .before .before .before .size .ensures .0), m .3 ∙ p .3 ∙ r .3)
+    (m .0 ∙ p .0 ∙ r .0, m .1 ∙ p .1, m .2 ∙ rw (after-size .size .ensures .0), m .3 ∙ p .3 ∙ r .3)
 
 pub opened-spec : {M : Type 1} → statement M
 opened-spec = tie.close (tie.spec size-requires mul-next shared-slice-read-next at-region-requires parent-record-requires next-record-requires returns)

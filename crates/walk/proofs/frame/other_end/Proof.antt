@@ -5,9 +5,6 @@ use Rattle.walk.specs.Walk.{forth, back}
 use borrow.Author.Needs.{needs}
 use Rattle.walk.proofs.frame.other_end.Statement.{statement}
 use Rattle.walk.proofs.frame.other_end.Tie as tie
-use Rattle.walk.proofs.frame.other_end.Reads as reads
-use Rattle.walk.proofs.frame.other_end.Lts as lts
-use Rattle.wire.proofs.size.Reads as size-reads
 
 size-requires : tie.Need-size-requires
 size-requires c κs = search needs
@@ -26,8 +23,10 @@ shared-slice-read-result c = search needs
 
 returns : tie.Need-returns
 returns c =
-    let e = c .before .before .before .before .size .ensures .0 in
-    forth (ap (at (c .before .before .before .before .before .before .before .args .lefts .now)) (sym e) ∙ c .before .if1 .taken) (ap (at (c .before .before .before .before .before .before .before .args .rights .now)) (sym e))
+    let after-size = c .before .before .before .before in
+    let start = after-size .before .before .before in
+    let e = after-size .size .ensures .0 in
+    forth (ap (at (start .args .lefts .now)) (sym e) ∙ c .before .if1 .taken) (ap (at (start .args .rights .now)) (sym e))
 
 mul-result-2 : tie.Need-mul-result-2
 mul-result-2 c = search needs
@@ -37,9 +36,11 @@ shared-slice-read-result-2 c = search needs
 
 returns-2 : tie.Need-returns-2
 returns-2 c =
-    let e = c .before .before .before .before .size .ensures .0 in
-    back (ap (at (c .before .before .before .before .before .before .before .args .lefts .now)) (sym e))
-    (⊎-elim (λ z. absurd (c .before .if1 .left (ap (at (c .before .before .before .before .before .before .before .args .lefts .now)) e ∙ z))) (λ z. z) (c .before .before .before .before .before .before .before .pre .2))
+    let after-size = c .before .before .before .before in
+    let start = after-size .before .before .before in
+    let e = after-size .size .ensures .0 in
+    back (ap (at (start .args .lefts .now)) (sym e))
+    (⊎-elim (λ z. absurd (c .before .if1 .left (ap (at (start .args .lefts .now)) e ∙ z))) (λ z. z) (start .pre .2))
 
 pub other-end-spec : {M : Type 1} → statement M
 other-end-spec =

@@ -2,9 +2,6 @@ use mathlib.Core.Path.{refl}
 use borrow.Author.Needs.{needs}
 use Rattle.walk.proofs.stack.enter.Statement.{statement}
 use Rattle.walk.proofs.stack.enter.Tie as tie
-use Rattle.walk.proofs.stack.enter.Reads as reads
-use Rattle.walk.proofs.stack.enter.Lts as lts
-use Rattle.wire.proofs.size.Reads as size-reads
 
 size-requires : tie.Need-size-requires
 size-requires c κs = search needs

@@ -7,11 +7,10 @@ use Rattle.walk.proofs.Leaving.{mark-set, mark-kept}
 use borrow.Author.Needs.{needs}
 use Rattle.walk.proofs.stack.leave.Statement.{statement}
 use Rattle.walk.proofs.stack.leave.Tie as tie
-use Rattle.walk.proofs.stack.leave.Reads as reads
-use Rattle.walk.proofs.stack.leave.Lts as lts
-use Rattle.walk.proofs.stack.least.Reads as least-reads
-use Rattle.walk.proofs.stack.time_of.Reads as time-of-reads
-use Rattle.wire.proofs.size.Reads as size-reads
+
+-- what the function is given and asked: the places since only say that its slices have lengths
+abbrev start-of : tie.After-shared-slice-known3 → tie.Start
+start-of c = c .before .before .before .before
 
 mul-least : tie.Need-mul-least
 mul-least c = search needs
@@ -50,24 +49,39 @@ size-requires-2 : tie.Need-size-requires-2
 size-requires-2 c κs = search needs
 
 element-write-marks : tie.Need-element-write-marks
-element-write-marks c = omega (arith, c .size2 .ensures .0, ap (at (c .before .before .before .before .before .before .before .before .before .before .before .before .args .owners .now)) (c .before .before .size .ensures .0), c .before .before .before .before .before .before .before .before .before .before .before .before .pre .4)
+element-write-marks c =
+    let start = start-of (c .before .before .before .before .before .before .before .before) in
+    omega (arith, c .size2 .ensures .0, ap (at (start .args .owners .now)) (c .before .before .size .ensures .0), start .pre .4)
 
 same-length : tie.Need-same-length
 same-length c = search needs
 
 returns : tie.Need-returns
 returns c =
-    let a = c .before .before .before .before .before .before .before .before .before .before .before .before .args in
-    let o = c .size2 .ensures .0 ∙ ap (at (a .owners .now)) (c .before .before .size .ensures .0) in
-    (rw (c .before .before .before .before .before .before .least .ensures), ap (λ (x : ℕ). set (a .marks .now) x 1) o ∙ mark-set (at (a .disc .now) (at (a .stack .now) (a .up))) (a .f .low) (a .marks .now) (at (a .owners .now) (a .f .parent)) (omega (arith, c .before .before .before .if1 .taken, c .before .before .before .before .time-of .ensures)))
+    let if1-taken = c .before .before .before in
+    let after-time-of = if1-taken .before in
+    let after-least = after-time-of .before .before in
+    let start = start-of (after-least .before .before) in
+    let a = start .args in
+    let o = c .size2 .ensures .0 ∙ ap (at (a .owners .now)) (c .before .before .size .ensures .0) in (
+      rw (after-least .least .ensures),
+      ap (λ (x : ℕ). set (a .marks .now) x 1) o
+          ∙ mark-set (at (a .disc .now) (at (a .stack .now) (a .up))) (a .f .low) (a .marks .now) (at (a .owners .now) (a .f .parent))
+          (omega (arith, if1-taken .if1 .taken, after-time-of .time-of .ensures)),
+    )
 
 same-length-2 : tie.Need-same-length-2
 same-length-2 c = search needs
 
 returns-2 : tie.Need-returns-2
 returns-2 c =
-    let a = c .before .before .before .before .before .before .before .before .before .args in
-    (rw (c .before .before .before .least .ensures), mark-kept (at (a .disc .now) (at (a .stack .now) (a .up))) (a .f .low) (a .marks .now) (at (a .owners .now) (a .f .parent)) (omega (arith, c .if1 .left, c .before .time-of .ensures)))
+    let after-least = c .before .before .before in
+    let start = start-of (after-least .before .before) in
+    let a = start .args in (
+      rw (after-least .least .ensures),
+      mark-kept (at (a .disc .now) (at (a .stack .now) (a .up))) (a .f .low) (a .marks .now) (at (a .owners .now) (a .f .parent))
+          (omega (arith, c .if1 .left, c .before .time-of .ensures)),
+    )
 
 pub leave-spec : {M : Type 1} → statement M
 leave-spec =

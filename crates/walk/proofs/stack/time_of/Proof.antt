@@ -1,9 +1,6 @@
 use borrow.Author.Needs.{needs}
 use Rattle.walk.proofs.stack.time_of.Statement.{statement}
 use Rattle.walk.proofs.stack.time_of.Tie as tie
-use Rattle.walk.proofs.stack.time_of.Reads as reads
-use Rattle.walk.proofs.stack.time_of.Lts as lts
-use Rattle.wire.proofs.size.Reads as size-reads
 
 size-requires : tie.Need-size-requires
 size-requires c κs = search needs

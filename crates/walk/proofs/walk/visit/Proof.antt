@@ -4,10 +4,10 @@ use Rattle.walk.proofs.Roots.{passed}
 use borrow.Author.Needs.{needs}
 use Rattle.walk.proofs.walk.visit.Statement.{statement}
 use Rattle.walk.proofs.walk.visit.Tie as tie
-use Rattle.walk.proofs.walk.visit.Reads as reads
-use Rattle.walk.proofs.walk.visit.Lts as lts
-use Rattle.walk.proofs.stack.time_of.Reads as time-of-reads
-use Rattle.walk.proofs.walk.walk.Reads as walk-reads
+
+-- what the function is given and asked: the places since only say that its slices have lengths
+abbrev start-of : tie.After-slice-known5 → tie.Start
+start-of c = c .before .before .before .before .before .before .before .before .before .before .before
 
 mul-root : tie.Need-mul-root
 mul-root c = search needs
@@ -16,18 +16,25 @@ shared-slice-read-root : tie.Need-shared-slice-read-root
 shared-slice-read-root c = search needs
 
 time-of-requires : tie.Need-time-of-requires
-time-of-requires c κs = omega (arith, c .before .before .before .before .before .before .before .before .before .before .before .before .before .pre .0 .graph .left-in _ (c .before .before .before .before .before .before .before .before .before .before .before .before .before .pre .2), c .before .before .before .before .before .before .before .before .before .before .before .before .before .pre .0 .sized .disc-are)
+time-of-requires c κs =
+    let start = start-of (c .before .before) in
+    omega (arith, start .pre .0 .graph .left-in _ (start .pre .2), start .pre .0 .sized .disc-are)
 
 same-length : tie.Need-same-length
 same-length c = search needs
 
 returns : tie.Need-returns
-returns c = passed (c .before .before .before .before .before .before .before .before .before .before .before .before .before .before .before .pre .0) (λ z. c .if1 .taken (c .before .time-of .ensures ∙ z))
+returns c =
+    let start = start-of (c .before .before .before .before) in
+    passed (start .pre .0) (λ z. c .if1 .taken (c .before .time-of .ensures ∙ z))
 
 walk-requires : tie.Need-walk-requires
 walk-requires c κs =
-    let p = c .before .before .before .before .before .before .before .before .before .before .before .before .before .before .before .before .before .before .before .before .before .pre in
-    (p .0, p .1, p .0 .graph .left-in _ (p .2), omega (arith, c .before .before .before .before .before .before .if1 .left, c .before .before .before .before .before .before .before .time-of .ensures), refl)
+    let if1-left = c .before .before .before .before .before .before in
+    let after-time-of = if1-left .before in
+    let start = start-of (after-time-of .before .before .before) in
+    let p = start .pre in
+    (p .0, p .1, p .0 .graph .left-in _ (p .2), omega (arith, if1-left .if1 .left, after-time-of .time-of .ensures), refl)
 
 same-length-2 : tie.Need-same-length-2
 same-length-2 c = search needs

@@ -1,9 +1,6 @@
 use borrow.Author.Needs.{needs}
 use Rattle.candidates.proofs.touching.Touching.after.Statement.{statement}
 use Rattle.candidates.proofs.touching.Touching.after.Tie as tie
-use Rattle.candidates.proofs.touching.Touching.after.Reads as reads
-use Rattle.candidates.proofs.touching.Touching.after.Lts as lts
-use Rattle.candidates.proofs.touching.Touching.with.Reads as with-reads
 
 with-requires : tie.Need-with-requires
 with-requires c κs = search needs

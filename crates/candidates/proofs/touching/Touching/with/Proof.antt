@@ -1,9 +1,6 @@
 use borrow.Author.Needs.{needs}
 use Rattle.candidates.proofs.touching.Touching.with.Statement.{statement}
 use Rattle.candidates.proofs.touching.Touching.with.Tie as tie
-use Rattle.candidates.proofs.touching.Touching.with.Reads as reads
-use Rattle.candidates.proofs.touching.Touching.with.Lts as lts
-use Rattle.candidates.proofs.touching.pick.Reads as pick-reads
 
 add-t6 : tie.Need-add-t6
 add-t6 c = search needs

@@ -3,7 +3,9 @@ use Prim.Native.Nat.{ℕ}
 use lib.Dec.{eqb}
 use Rattle.checks.specs.Verdict.{meaning, numberOf, passes}
 use Rattle.checks.specs.declared.verdict.Verdict.{Verdict}
-use Rattle.checks.specs.declared.verdict.Verdict.the-variants.{Passed, ShortHeader, MapSize, TooMany, TooManyBoundaries, Layout, CellBits, AnchorOffMap, CountsDiffer, RampForm, WidthRange, EndOffMap, EndsCoincide, ListLength, TooManySpans, SpanOffMap, SpanCoincides}
+use Rattle.checks.specs.declared.verdict.Verdict.the-variants.{Passed, ShortHeader, MapSize, TooMany, TooManyBoundaries, Layout, CellBits, AnchorOffMap}
+use Rattle.checks.specs.declared.verdict.Verdict.the-variants.{CountsDiffer, RampForm, WidthRange, EndOffMap, EndsCoincide, ListLength, TooManySpans}
+use Rattle.checks.specs.declared.verdict.Verdict.the-variants.{SpanOffMap, SpanCoincides}
 use borrow.Author.Needs.{needs}
 use Rattle.checks.proofs.verdict.Verdict.passed.Statement.{statement}
 use Rattle.checks.proofs.verdict.Verdict.passed.Tie as tie

@@ -12,8 +12,9 @@ byte-of-requires : tie.Need-byte-of-requires
 byte-of-requires c κs = search needs
 
 returns : tie.Need-returns
-returns c = λ g w h e.
+returns c =
     let start = c .before .before .before in
+    λ g w h e.
     c .byte-of .ensures ∙ byte-on g (start .args .position) (start .args .cells .now) (indexIn (c .before .index .result)) e (c .before .index .ensures g w h)
 
 pub cell-spec : {M : Type 1} → statement M

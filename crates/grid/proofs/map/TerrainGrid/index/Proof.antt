@@ -1,4 +1,4 @@
-use mathlib.Core.Path.{_≡_, sym, _∙_, ap}
+use mathlib.Core.Path.{_≡_, sym, _∙_}
 use mathlib.Core.Option.{some}
 use Prim.Native.Nat.{_+_, _*_, _≤_}
 use native.Mathlib.Omega.{arith}
@@ -31,18 +31,21 @@ wide-requires-3 c κs = search needs
 
 add-t12 : tie.Need-add-t12
 add-t12 c =
-    let y : c .before .before .wide .result ≤ 4294967295 = omega (arith, c .before .before .wide .ensures .1) in
+    let after-wide = c .before .before in
+    let y : after-wide .wide .result ≤ 4294967295 = omega (arith, after-wide .wide .ensures .1) in
     let w : c .before .wide2 .result ≤ 4294967295 = omega (arith, c .before .wide2 .ensures .1) in
     omega (arith, mul-le-mul y w, c .wide3 .ensures .1)
 
 returns-3 : tie.Need-returns-3
-returns-3 c = λ g e f.
-    let start = c .before .before .before .before .before in
+returns-3 c =
+    let after-wide = c .before .before in
+    let start = after-wide .before .before .before in
+    λ g e f.
     let p = start .args .position in
     let x = c .wide3 .ensures .0 in
     let w = c .before .wide2 .ensures .0 ∙ sym e in
-    let y = c .before .before .wide .ensures .0 in
-    let z : some (c .before .before .wide .result * c .before .wide2 .result + c .wide3 .result) ≡ some (p .y * g .width + p .x) = rw (x, w, y) in
+    let y = after-wide .wide .ensures .0 in
+    let z : some (after-wide .wide .result * c .before .wide2 .result + c .wide3 .result) ≡ some (p .y * g .width + p .x) = rw (x, w, y) in
     z ∙ on-map g p (omega arith) (omega arith)
 
 pub index-spec : {M : Type 1} → statement M

@@ -1,9 +1,6 @@
 use borrow.Author.Needs.{needs}
 use Rattle.links.proofs.geometry.Point.reach.Statement.{statement}
 use Rattle.links.proofs.geometry.Point.reach.Tie as tie
-use Rattle.links.proofs.geometry.Point.reach.Reads as reads
-use Rattle.links.proofs.geometry.Point.reach.Lts as lts
-use Rattle.length.proofs.floats.abs.Reads as abs-reads
 
 abs-requires : tie.Need-abs-requires
 abs-requires c κs = search needs

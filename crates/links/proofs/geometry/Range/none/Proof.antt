@@ -2,8 +2,6 @@ use lib.Ieee.{ofBits, nanBits}
 use mathlib.Core.Path.{refl}
 use Rattle.links.proofs.geometry.Range.none.Statement.{statement}
 use Rattle.links.proofs.geometry.Range.none.Tie as tie
-use Rattle.links.proofs.geometry.Range.none.Reads as reads
-use Rattle.links.proofs.geometry.Range.none.Lts as lts
 
 float-from-bits-t1 : tie.Need-float-from-bits-t1
 unfolding nanBits

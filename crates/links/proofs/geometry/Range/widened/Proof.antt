@@ -1,10 +1,6 @@
 use borrow.Author.Needs.{needs}
 use Rattle.links.proofs.geometry.Range.widened.Statement.{statement}
 use Rattle.links.proofs.geometry.Range.widened.Tie as tie
-use Rattle.links.proofs.geometry.Range.widened.Reads as reads
-use Rattle.links.proofs.geometry.Range.widened.Lts as lts
-use Rattle.length.proofs.floats.max.Reads as max-reads
-use Rattle.length.proofs.floats.min.Reads as min-reads
 
 min-requires : tie.Need-min-requires
 min-requires c κs = search needs

@@ -1,11 +1,6 @@
 use borrow.Author.Needs.{needs}
 use Rattle.links.proofs.geometry.Range.with_ends.Statement.{statement}
 use Rattle.links.proofs.geometry.Range.with_ends.Tie as tie
-use Rattle.links.proofs.geometry.Range.with_ends.Reads as reads
-use Rattle.links.proofs.geometry.Range.with_ends.Lts as lts
-use Rattle.links.proofs.geometry.Point.dot.Reads as dot-reads
-use Rattle.links.proofs.geometry.Range.widened.Reads as widened-reads
-use Rattle.links.proofs.geometry.point_of.Reads as point-of-reads
 
 point-of-requires : tie.Need-point-of-requires
 point-of-requires c κs = search needs
@@ -26,7 +21,18 @@ widened-requires-2 : tie.Need-widened-requires-2
 widened-requires-2 c κs = search needs
 
 returns : tie.Need-returns
-returns c = simp (c .widened2 .ensures, c .before .dot2 .ensures, c .before .before .widened .ensures, c .before .before .before .dot .ensures, c .before .before .before .before .point-of2 .ensures, c .before .before .before .before .before .point-of .ensures)
+returns c =
+    let after-dot = c .before .before .before in
+    let after-point-of2 = after-dot .before in
+    let after-point-of = after-point-of2 .before in
+    simp (
+      c .widened2 .ensures,
+      c .before .dot2 .ensures,
+      c .before .before .widened .ensures,
+      after-dot .dot .ensures,
+      after-point-of2 .point-of2 .ensures,
+      after-point-of .point-of .ensures,
+    )
 
 pub with-ends-spec : {M : Type 1} → statement M
 with-ends-spec =

@@ -2,14 +2,6 @@ use Rattle.links.specs.HeldLink.{withCell}
 use borrow.Author.Needs.{needs}
 use Rattle.links.proofs.link.Link.at.Statement.{statement}
 use Rattle.links.proofs.link.Link.at.Tie as tie
-use Rattle.links.proofs.link.Link.at.Reads as reads
-use Rattle.links.proofs.link.Link.at.Lts as lts
-use Rattle.length.proofs.floats.max.Reads as max-reads
-use Rattle.length.proofs.floats.min.Reads as min-reads
-use Rattle.links.proofs.geometry.Point.dot.Reads as dot-reads
-use Rattle.links.proofs.geometry.Point.towards.Reads as towards-reads
-use Rattle.links.proofs.geometry.cell_centre.Reads as cell-centre-reads
-use Rattle.links.proofs.link.Link.still.Reads as still-reads
 
 cell-centre-requires : tie.Need-cell-centre-requires
 cell-centre-requires c κs = search needs
@@ -40,7 +32,24 @@ max-requires-2 c κs = search needs
 
 returns : tie.Need-returns
 unfolding withCell
-returns c = simp (c .max2 .ensures, c .before .min2 .ensures, c .before .before .max .ensures, c .before .before .before .min .ensures, c .before .before .before .before .still .ensures, c .before .before .before .before .before .dot2 .ensures, c .before .before .before .before .before .before .dot .ensures, c .before .before .before .before .before .before .before .towards .ensures, c .before .before .before .before .before .before .before .before .cell-centre .ensures)
+returns c =
+    let after-min = c .before .before .before in
+    let after-still = after-min .before in
+    let after-dot2 = after-still .before in
+    let after-dot = after-dot2 .before in
+    let after-towards = after-dot .before in
+    let after-cell-centre = after-towards .before in
+    simp (
+      c .max2 .ensures,
+      c .before .min2 .ensures,
+      c .before .before .max .ensures,
+      after-min .min .ensures,
+      after-still .still .ensures,
+      after-dot2 .dot2 .ensures,
+      after-dot .dot .ensures,
+      after-towards .towards .ensures,
+      after-cell-centre .cell-centre .ensures,
+    )
 
 pub at-spec : {M : Type 1} → statement M
 at-spec =

@@ -1,10 +1,6 @@
 use borrow.Author.Needs.{needs}
 use Rattle.links.proofs.link.Link.stays.Statement.{statement}
 use Rattle.links.proofs.link.Link.stays.Tie as tie
-use Rattle.links.proofs.link.Link.stays.Reads as reads
-use Rattle.links.proofs.link.Link.stays.Lts as lts
-use Rattle.length.proofs.floats.max.Reads as max-reads
-use Rattle.links.proofs.link.inside_on.Reads as inside-on-reads
 
 max-requires : tie.Need-max-requires
 max-requires c κs = search needs

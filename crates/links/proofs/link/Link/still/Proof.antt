@@ -2,9 +2,6 @@ use Rattle.links.proofs.Flags.{and-taken, and-left}
 use borrow.Author.Needs.{needs}
 use Rattle.links.proofs.link.Link.still.Statement.{statement}
 use Rattle.links.proofs.link.Link.still.Tie as tie
-use Rattle.links.proofs.link.Link.still.Reads as reads
-use Rattle.links.proofs.link.Link.still.Lts as lts
-use Rattle.links.proofs.link.Link.stays.Reads as stays-reads
 
 stays-requires : tie.Need-stays-requires
 stays-requires c κs = search needs

@@ -3,15 +3,6 @@ use Rattle.links.proofs.Spans.{canonical-bounded, bounded-as}
 use borrow.Author.Needs.{needs}
 use Rattle.links.proofs.parallel.SpanPair.nearby_parallel.Statement.{statement}
 use Rattle.links.proofs.parallel.SpanPair.nearby_parallel.Tie as tie
-use Rattle.links.proofs.parallel.SpanPair.nearby_parallel.Reads as reads
-use Rattle.links.proofs.parallel.SpanPair.nearby_parallel.Lts as lts
-use Rattle.length.proofs.floats.abs.Reads as abs-reads
-use Rattle.links.proofs.geometry.Point.dot.Reads as dot-reads
-use Rattle.links.proofs.parallel.facing.Reads as facing-reads
-use Rattle.links.proofs.parallel.near_ends.Reads as near-ends-reads
-use Rattle.links.proofs.parallel.span_length.Reads as span-length-reads
-use Rattle.links.proofs.parallel.span_vector.Reads as span-vector-reads
-use Rattle.position.proofs.Span.canonical.Reads as canonical-reads
 
 canonical-requires : tie.Need-canonical-requires
 canonical-requires c κs = search needs
@@ -32,22 +23,80 @@ abs-requires : tie.Need-abs-requires
 abs-requires c κs = search needs
 
 span-length-requires : tie.Need-span-length-requires
-span-length-requires c κs = bounded-as (c .before .before .before .before .before .canonical .ensures) (canonical-bounded (c .before .before .before .before .before .before .pre .0))
+span-length-requires c κs =
+    let after-canonical = c .before .before .before .before .before in
+    let start = after-canonical .before in
+    bounded-as (after-canonical .canonical .ensures) (canonical-bounded (start .pre .0))
 
 span-length-requires-2 : tie.Need-span-length-requires-2
-span-length-requires-2 c κs = bounded-as (c .before .before .before .before .before .canonical2 .ensures) (canonical-bounded (c .before .before .before .before .before .before .before .pre .1))
+span-length-requires-2 c κs =
+    let after-canonical2 = c .before .before .before .before .before in
+    let start = after-canonical2 .before .before in
+    bounded-as (after-canonical2 .canonical2 .ensures) (canonical-bounded (start .pre .1))
 
 returns : tie.Need-returns
-returns c = at-an-angle _ _ _ (c .if1 .taken) (simp (c .before .before .span-length2 .ensures, c .before .before .before .span-length .ensures, c .before .before .before .before .abs .ensures, c .before .before .before .before .before .dot .ensures, c .before .before .before .before .before .before .span-vector2 .ensures, c .before .before .before .before .before .before .before .span-vector .ensures, c .before .before .before .before .before .before .before .before .canonical2 .ensures, c .before .before .before .before .before .before .before .before .before .canonical .ensures))
+returns c =
+    let after-span-length = c .before .before .before in
+    let after-abs = after-span-length .before in
+    let after-dot = after-abs .before in
+    let after-span-vector2 = after-dot .before in
+    let after-span-vector = after-span-vector2 .before in
+    let after-canonical2 = after-span-vector .before in
+    let after-canonical = after-canonical2 .before in
+    at-an-angle _ _ _ (c .if1 .taken)
+    (simp (
+      c .before .before .span-length2 .ensures,
+      after-span-length .span-length .ensures,
+      after-abs .abs .ensures,
+      after-dot .dot .ensures,
+      after-span-vector2 .span-vector2 .ensures,
+      after-span-vector .span-vector .ensures,
+      after-canonical2 .canonical2 .ensures,
+      after-canonical .canonical .ensures,
+    ))
 
 facing-requires : tie.Need-facing-requires
 facing-requires c κs = search needs
 
 near-ends-requires : tie.Need-near-ends-requires
-near-ends-requires c κs = (bounded-as (c .before .before .before .before .before .before .before .before .before .before .canonical .ensures) (canonical-bounded (c .before .before .before .before .before .before .before .before .before .before .before .pre .0)), bounded-as (c .facing .ensures) (facing-bounded _ (bounded-as (c .before .before .before .before .before .before .before .before .before .canonical2 .ensures) (canonical-bounded (c .before .before .before .before .before .before .before .before .before .before .before .pre .1)))))
+near-ends-requires c κs =
+    let after-canonical2 = c .before .before .before .before .before .before .before .before .before in
+    let after-canonical = after-canonical2 .before in
+    let start = after-canonical .before in (
+      bounded-as (after-canonical .canonical .ensures) (canonical-bounded (start .pre .0)),
+      bounded-as (c .facing .ensures) (facing-bounded _ (bounded-as (after-canonical2 .canonical2 .ensures) (canonical-bounded (start .pre .1)))),
+    )
 
 returns-2 : tie.Need-returns-2
-returns-2 c = alike _ _ _ (c .before .before .if1 .left) (simp (c .before .before .before .before .span-length2 .ensures, c .before .before .before .before .before .span-length .ensures, c .before .before .before .before .before .before .abs .ensures, c .before .before .before .before .before .before .before .dot .ensures, c .before .before .before .before .before .before .before .before .span-vector2 .ensures, c .before .before .before .before .before .before .before .before .before .span-vector .ensures, c .before .before .before .before .before .before .before .before .before .before .canonical2 .ensures, c .before .before .before .before .before .before .before .before .before .before .before .canonical .ensures)) (simp (c .near-ends .ensures, c .before .facing .ensures, c .before .before .before .before .before .before .before .dot .ensures, c .before .before .before .before .before .before .before .before .span-vector2 .ensures, c .before .before .before .before .before .before .before .before .before .span-vector .ensures, c .before .before .before .before .before .before .before .before .before .before .canonical2 .ensures, c .before .before .before .before .before .before .before .before .before .before .before .canonical .ensures))
+returns-2 c =
+    let after-span-length2 = c .before .before .before .before in
+    let after-span-length = after-span-length2 .before in
+    let after-abs = after-span-length .before in
+    let after-dot = after-abs .before in
+    let after-span-vector2 = after-dot .before in
+    let after-span-vector = after-span-vector2 .before in
+    let after-canonical2 = after-span-vector .before in
+    let after-canonical = after-canonical2 .before in
+    alike _ _ _ (c .before .before .if1 .left)
+    (simp (
+      after-span-length2 .span-length2 .ensures,
+      after-span-length .span-length .ensures,
+      after-abs .abs .ensures,
+      after-dot .dot .ensures,
+      after-span-vector2 .span-vector2 .ensures,
+      after-span-vector .span-vector .ensures,
+      after-canonical2 .canonical2 .ensures,
+      after-canonical .canonical .ensures,
+    ))
+    (simp (
+      c .near-ends .ensures,
+      c .before .facing .ensures,
+      after-dot .dot .ensures,
+      after-span-vector2 .span-vector2 .ensures,
+      after-span-vector .span-vector .ensures,
+      after-canonical2 .canonical2 .ensures,
+      after-canonical .canonical .ensures,
+    ))
 
 pub nearby-parallel-spec : {M : Type 1} → statement M
 nearby-parallel-spec =

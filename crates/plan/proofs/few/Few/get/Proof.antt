@@ -13,7 +13,9 @@ element-copy-out-result : tie.Need-element-copy-out-result
 element-copy-out-result c = search needs
 
 returns-2 : tie.Need-returns-2
-returns-2 c = slot-in (c .before .before .args .t1) (c .before .before .args .j) (c .before .if1 .left)
+returns-2 c =
+    let start = c .before .before in
+    slot-in (start .args .t1) (start .args .j) (c .before .if1 .left)
 
 pub get-spec : {M : Type 1} → statement M
 get-spec = tie.close (tie.spec returns mul-result element-copy-out-result returns-2)

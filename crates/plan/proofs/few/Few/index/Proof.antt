@@ -2,9 +2,6 @@ use native.Mathlib.Omega.{arith}
 use borrow.Author.Needs.{needs}
 use Rattle.plan.proofs.few.Few.index.Statement.{statement}
 use Rattle.plan.proofs.few.Few.index.Tie as tie
-use Rattle.plan.proofs.few.Few.index.Reads as reads
-use Rattle.plan.proofs.few.Few.index.Lts as lts
-use Rattle.plan.proofs.few.Few.get.Reads as get-reads
 
 get-requires : tie.Need-get-requires
 get-requires c κs = search needs

@@ -57,7 +57,9 @@ array-read-t51 c = search needs
 
 returns-2 : tie.Need-returns-2
 unfolding pushed
-returns-2 c = rw (not-false (c .before .before .before .args .on) (c .before .before .if1 .left))
+returns-2 c =
+    let start = c .before .before .before in
+    rw (not-false (start .args .on) (c .before .before .if1 .left))
 
 pub with-spec : {M : Type 1} → statement M
 with-spec =

@@ -3,9 +3,6 @@ use Rattle.topology.specs.RegionStats.{elevationKinds}
 use borrow.Author.Needs.{needs}
 use Rattle.topology.proofs.stats.RegionStats.elevation_kinds.Statement.{statement}
 use Rattle.topology.proofs.stats.RegionStats.elevation_kinds.Tie as tie
-use Rattle.topology.proofs.stats.RegionStats.elevation_kinds.Reads as reads
-use Rattle.topology.proofs.stats.RegionStats.elevation_kinds.Lts as lts
-use Rattle.topology.proofs.stats.one.Reads as one-reads
 
 one-requires : tie.Need-one-requires
 one-requires c κs = search needs
@@ -30,7 +27,13 @@ add-result-3 c = search needs
 
 returns : tie.Need-returns
 unfolding elevationKinds
-returns c = simp (c .one4 .ensures .0, c .before .before .one3 .ensures .0, c .before .before .before .before .one2 .ensures .0, c .before .before .before .before .before .before .one .ensures .0) (four-levels (c .before .before .before .before .before .before .before .before .args .self .«level_0») (c .before .before .before .before .before .before .before .before .args .self .«level_1») (c .before .before .before .before .before .before .before .before .args .self .«level_2») (c .before .before .before .before .before .before .before .before .args .self .«level_3»))
+returns c =
+    let after-one2 = c .before .before .before .before in
+    let after-one = after-one2 .before .before in
+    let start = after-one .before .before in
+    let self = start .args .self in
+    simp (c .one4 .ensures .0, c .before .before .one3 .ensures .0, after-one2 .one2 .ensures .0, after-one .one .ensures .0)
+    (four-levels (self .«level_0») (self .«level_1») (self .«level_2») (self .«level_3»))
 
 pub elevation-kinds-spec : {M : Type 1} → statement M
 elevation-kinds-spec =

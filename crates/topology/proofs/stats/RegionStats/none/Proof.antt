@@ -2,8 +2,6 @@ use Rattle.topology.specs.Held.{statsAfter}
 use mathlib.Core.Path.{refl}
 use Rattle.topology.proofs.stats.RegionStats.none.Statement.{statement}
 use Rattle.topology.proofs.stats.RegionStats.none.Tie as tie
-use Rattle.topology.proofs.stats.RegionStats.none.Reads as reads
-use Rattle.topology.proofs.stats.RegionStats.none.Lts as lts
 
 returns : tie.Need-returns
 unfolding statsAfter

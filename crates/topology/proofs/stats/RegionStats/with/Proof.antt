@@ -3,11 +3,6 @@ use native.Mathlib.Omega.{arith}
 use borrow.Author.Needs.{needs}
 use Rattle.topology.proofs.stats.RegionStats.with.Statement.{statement}
 use Rattle.topology.proofs.stats.RegionStats.with.Tie as tie
-use Rattle.topology.proofs.stats.RegionStats.with.Reads as reads
-use Rattle.topology.proofs.stats.RegionStats.with.Lts as lts
-use Rattle.topology.proofs.stats.greater.Reads as greater-reads
-use Rattle.topology.proofs.stats.lesser.Reads as lesser-reads
-use Rattle.topology.proofs.stats.one.Reads as one-reads
 
 add-t7 : tie.Need-add-t7
 add-t7 c = search needs
@@ -64,11 +59,30 @@ one-requires-4 : tie.Need-one-requires-4
 one-requires-4 c κs = search needs
 
 add-t32 : tie.Need-add-t32
-add-t32 c = omega (arith, c .before .before .before .before .before .before .before .before .before .before .before .before .before .before .pre .0 .fourth, c .before .one4 .ensures .1)
+add-t32 c =
+    let start = c .before .before .before .before .before .before .before .before .before .before .before .before .before .before in
+    omega (arith, start .pre .0 .fourth, c .before .one4 .ensures .1)
 
 returns : tie.Need-returns
 unfolding withCell
-returns c = simp (c .before .one4 .ensures .0, c .before .before .before .one3 .ensures .0, c .before .before .before .before .before .one2 .ensures .0, c .before .before .before .before .before .before .before .one .ensures .0, c .before .before .before .before .before .before .before .before .before .greater2 .ensures, c .before .before .before .before .before .before .before .before .before .before .greater .ensures, c .before .before .before .before .before .before .before .before .before .before .before .lesser2 .ensures, c .before .before .before .before .before .before .before .before .before .before .before .before .lesser .ensures)
+returns c =
+    let after-one3 = c .before .before .before in
+    let after-one2 = after-one3 .before .before in
+    let after-one = after-one2 .before .before in
+    let after-greater2 = after-one .before .before in
+    let after-greater = after-greater2 .before in
+    let after-lesser2 = after-greater .before in
+    let after-lesser = after-lesser2 .before in
+    simp (
+      c .before .one4 .ensures .0,
+      after-one3 .one3 .ensures .0,
+      after-one2 .one2 .ensures .0,
+      after-one .one .ensures .0,
+      after-greater2 .greater2 .ensures,
+      after-greater .greater .ensures,
+      after-lesser2 .lesser2 .ensures,
+      after-lesser .lesser .ensures,
+    )
 
 pub with-spec : {M : Type 1} → statement M
 with-spec =
