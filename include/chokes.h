@@ -1,7 +1,8 @@
 /* The choke analyser: three calls on byte slices.
  *
- * Link with libchokes.a (./library builds it). The forms of a job, a span list and an answer are
- * those of document 01; every field is little-endian.
+ * Link with libchokes.a (./library builds it). docs/FORMAT.md has the forms of a job, a span list, an
+ * answer, marks and work byte by byte, and every refusal with an example; every field is
+ * little-endian. CHANGELOG.md has what an engine has to change from version to version.
  *
  * A slice is passed as its start and its length in bytes. It need not be aligned. Any slice may be
  * empty: with length 0 its start is not looked at and may be NULL. The slices that a call is lent may
@@ -21,6 +22,22 @@
 #ifdef __cplusplus
 extern "C" {
 #endif
+
+/* The version. MAJOR goes up where an engine has to change something, MINOR where there is more to use,
+ * PATCH otherwise. #if can read all of them, so that an engine can stop a build with another header:
+ *
+ *   #if CHOKES_VERSION_MAJOR != 1 || CHOKES_VERSION < CHOKES_VERSION_NUMBER(1, 0, 0)
+ *   #error "this engine is written for version 1.0.0 of chokes"
+ *   #endif
+ *
+ * The library itself can't be asked: use the header that ./library left beside it. */
+#define CHOKES_VERSION_MAJOR 1
+#define CHOKES_VERSION_MINOR 0
+#define CHOKES_VERSION_PATCH 0
+#define CHOKES_VERSION_NUMBER(major, minor, patch)                                             \
+    ((major) * 1000000L + (minor) * 1000L + (patch))
+#define CHOKES_VERSION                                                                         \
+    CHOKES_VERSION_NUMBER(CHOKES_VERSION_MAJOR, CHOKES_VERSION_MINOR, CHOKES_VERSION_PATCH)
 
 /* bench/run measures less than 389,000 on x86-64. */
 #define CHOKES_STACK_BYTES 409600
@@ -76,21 +93,53 @@ struct chokes_result {
 #define CHOKES_SPAN_BYTES 16u
 #define CHOKES_ANSWER_HEADER_BYTES 24u
 
-/* Bytes of work to lend for a map: ten for each cell. After a success, or refusals 13, 22 and 23, it
- * holds a u32 label for each cell in row order, 0 for a blocked one and else its region's number
- * from 1, then zeros; bytes past this number are unchanged. */
+/* Bits of a cell; bits 3 and 4 are its elevation, 0 to 3. */
+#define CHOKES_CELL_WALKABLE 1u
+#define CHOKES_CELL_BUILDABLE 2u
+#define CHOKES_CELL_RAMP 4u
+#define CHOKES_CELL_ELEVATION(cell) ((unsigned)(cell) >> 3 & 3u)
+
+/* Column and row of a base without an anchor. */
+#define CHOKES_NO_ANCHOR 4294967295u
+
+/* The most that a job or list may have: cells on a side, records of each kind, spans, region pairs. */
+#define CHOKES_MOST_SIDE 1024u
+#define CHOKES_MOST_BASES 256u
+#define CHOKES_MOST_BOUNDARIES 256u
+#define CHOKES_MOST_OBSERVATIONS 1024u
+#define CHOKES_MOST_SOURCES 4096u
+#define CHOKES_MOST_SPANS 256u
+#define CHOKES_MOST_PAIRS 4096u
+
+/* Bytes of a job with these counts, each within its limit above. */
+#define CHOKES_JOB_BYTES(width, height, bases, boundaries, observations, sources)              \
+    ((size_t)CHOKES_JOB_HEADER_BYTES + (size_t)(width) * (size_t)(height) +                    \
+     (size_t)CHOKES_BASE_BYTES * (size_t)(bases) +                                             \
+     (size_t)CHOKES_BOUNDARY_BYTES * (size_t)(boundaries) +                                    \
+     (size_t)CHOKES_OBSERVATION_BYTES * (size_t)(observations) +                               \
+     (size_t)CHOKES_SOURCE_BYTES * (size_t)(sources))
+
+/* Bytes of work to lend for a map whose sides are within the limit: ten for each cell. After a success,
+ * or refusals 13, 22 and 23, it holds a u32 label for each cell in row order, 0 for a blocked one and
+ * else its region's number from 1, then zeros; bytes past this number are unchanged. */
 #define CHOKES_WORK_BYTES(width, height) ((size_t)10 * (size_t)(width) * (size_t)(height))
 
-/* Bytes of an answer that are enough for a job with these counts, merged or not. Merging gives each
- * boundary at most one more observation, and each source at most one more place. The tests hold every
- * answer to it; it is not proved. */
+/* Bytes of an answer that are enough for a job with these counts, merged or not, each within its limit.
+ * Merging gives each boundary at most one more observation, and each source at most one more place.
+ * The tests hold every answer to it; it is not proved. */
 #define CHOKES_ANSWER_BYTES(boundaries, observations, sources)                                 \
-    ((size_t)CHOKES_ANSWER_HEADER_BYTES + (size_t)CHOKES_BOUNDARY_BYTES * (boundaries) +       \
-     (size_t)CHOKES_OBSERVATION_BYTES * ((size_t)(observations) + (boundaries)) +              \
+    ((size_t)CHOKES_ANSWER_HEADER_BYTES +                                                      \
+     (size_t)CHOKES_BOUNDARY_BYTES * (size_t)(boundaries) +                                    \
+     (size_t)CHOKES_OBSERVATION_BYTES * ((size_t)(observations) + (size_t)(boundaries)) +      \
      (size_t)CHOKES_SOURCE_BYTES * 2 * (size_t)(sources))
 
 /* Enough for any job. */
-#define CHOKES_MOST_ANSWER_BYTES CHOKES_ANSWER_BYTES(256u, 1024u, 4096u)
+#define CHOKES_MOST_JOB_BYTES                                                                  \
+    CHOKES_JOB_BYTES(CHOKES_MOST_SIDE, CHOKES_MOST_SIDE, CHOKES_MOST_BASES,                    \
+                     CHOKES_MOST_BOUNDARIES, CHOKES_MOST_OBSERVATIONS, CHOKES_MOST_SOURCES)
+#define CHOKES_MOST_WORK_BYTES CHOKES_WORK_BYTES(CHOKES_MOST_SIDE, CHOKES_MOST_SIDE)
+#define CHOKES_MOST_ANSWER_BYTES                                                               \
+    CHOKES_ANSWER_BYTES(CHOKES_MOST_BOUNDARIES, CHOKES_MOST_OBSERVATIONS, CHOKES_MOST_SOURCES)
 
 /* Mark: a byte for each boundary of the job, 1 if it is a bridge, else 0. The map is parted by the
  * boundaries' own ends. Bytes of the slice past the last boundary's are unchanged. */
