@@ -1,0 +1,479 @@
+/* Holds docs/FORMAT.md to the library: the dumps of the corridor to the job file and to what the calls write, every line of its examples of refusals to what
+ * the call gives back and leaves, and its table of refusals to chokes.h.
+ *
+ *   format FORMAT.md JOB */
+#include "chokes.h"
+#include "words.h"
+
+#include <ctype.h>
+#include <stdio.h>
+#include <stdlib.h>
+#include <string.h>
+
+#define ROOM 8192 /* for each slice; the longest is a list of 257 spans */
+#define LINE 512
+#define UNTOUCHED 0xA5
+
+static unsigned long line_number;
+static const char *document;
+
+static void fail(const char *what)
+{
+    printf("%s:%lu: %s\n", document, line_number, what);
+    exit(1);
+}
+
+struct bytes {
+    size_t length;
+    uint8_t at[ROOM];
+};
+
+/* The five dumps, by the word after 'hex'. */
+enum { JOB, ANSWER, WORK, MARKS, LIST, DUMPS };
+static const char *const dump_names[DUMPS] = {"job", "answer", "work", "marks", "list"};
+static struct bytes dumps[DUMPS];
+static int dump_seen[DUMPS];
+
+/* The refusals of chokes.h. */
+static const struct {
+    uint32_t number;
+    const char *name;
+} refusals[] = {
+#define REFUSAL(name) {name, #name}
+    REFUSAL(CHOKES_JOB_TOO_SHORT),     REFUSAL(CHOKES_BAD_SIDES),
+    REFUSAL(CHOKES_TOO_MANY_RECORDS),  REFUSAL(CHOKES_TOO_MANY_BOUNDARIES),
+    REFUSAL(CHOKES_BAD_LAYOUT),        REFUSAL(CHOKES_BAD_CELL),
+    REFUSAL(CHOKES_ANCHOR_OFF_MAP),    REFUSAL(CHOKES_BAD_SUMS),
+    REFUSAL(CHOKES_BAD_RAMP),          REFUSAL(CHOKES_BAD_WIDTH),
+    REFUSAL(CHOKES_END_OFF_MAP),       REFUSAL(CHOKES_ENDS_COINCIDE),
+    REFUSAL(CHOKES_TOO_MANY_PAIRS),    REFUSAL(CHOKES_BAD_LIST_LENGTH),
+    REFUSAL(CHOKES_TOO_MANY_SPANS),    REFUSAL(CHOKES_SPAN_OFF_MAP),
+    REFUSAL(CHOKES_SPAN_ENDS_COINCIDE), REFUSAL(CHOKES_WORK_TOO_SHORT),
+    REFUSAL(CHOKES_ANSWER_TOO_SHORT),  REFUSAL(CHOKES_MARKS_TOO_SHORT)};
+#define REFUSALS (sizeof refusals / sizeof refusals[0])
+static int row_seen[REFUSALS];
+
+enum { MARK, REDUCE, BY_LIST, CALLS };
+static const char *const call_names[CALLS] = {"mark", "reduce", "by-list"};
+/* Which numbers each call gave in the trials. */
+static unsigned long given[CALLS][24];
+static unsigned long trials;
+
+static int hex_digit(char c)
+{
+    return c >= '0' && c <= '9' ? c - '0' : c >= 'a' && c <= 'f' ? c - 'a' + 10 : -1;
+}
+
+/* Two lower-case hexadecimal digits; -1 if there are none. */
+static int hex_byte(const char *text)
+{
+    const int high = hex_digit(text[0]), low = high < 0 ? -1 : hex_digit(text[1]);
+    return low < 0 ? -1 : 16 * high + low;
+}
+
+static void add(struct bytes *bytes, int byte)
+{
+    if (bytes->length == ROOM) {
+        fail("too many bytes");
+    }
+    bytes->at[bytes->length++] = (uint8_t)byte;
+}
+
+/* A decimal number at the text, which moves past it. */
+static unsigned long number(char **text)
+{
+    char *end;
+    unsigned long value;
+    if (!isdigit((unsigned char)**text)) {
+        fail("a number is missing");
+    }
+    value = strtoul(*text, &end, 10);
+    *text = end;
+    return value;
+}
+
+/* One line of a dump: the offset, two spaces, the bytes with one space between, and after two more what they are. */
+static void dump_line(char *line, struct bytes *dump)
+{
+    const size_t before = dump->length;
+    line += strspn(line, " ");
+    if (number(&line) != dump->length) {
+        fail("the offset is not that of the next byte");
+    }
+    if (strncmp(line, "  ", 2) != 0) {
+        fail("two spaces are missing after the offset");
+    }
+    line++;
+    while (line[0] == ' ' && hex_byte(line + 1) >= 0 && (line[3] == ' ' || line[3] == '\0')) {
+        add(dump, hex_byte(line + 1));
+        line += 3;
+    }
+    if (dump->length == before || (*line != '\0' && strncmp(line, "  ", 2) != 0)) {
+        fail("no line of a dump");
+    }
+}
+
+/* Rows of the table of refusals: | number | `name` | ... */
+static void table_row(char *line)
+{
+    unsigned long value;
+    char *text = line + 2;
+    size_t i, length;
+    if (strncmp(line, "| ", 2) != 0 || !isdigit((unsigned char)*text)) {
+        return;
+    }
+    value = number(&text);
+    if (strncmp(text, " | `CHOKES_", 11) != 0) {
+        return;
+    }
+    text += 4;
+    length = strcspn(text, "`");
+    for (i = 0; i < REFUSALS; i++) {
+        if (strlen(refusals[i].name) == length && strncmp(refusals[i].name, text, length) == 0) {
+            if (refusals[i].number != value) {
+                fail("chokes.h has another number for this name");
+            }
+            row_seen[i]++;
+            return;
+        }
+    }
+    fail("chokes.h has no refusal of this name");
+}
+
+/* The slices of a trial: those that are read, and the lengths of those that are written. */
+struct trial {
+    struct bytes job, list;
+    unsigned long work, answer, marks;
+};
+
+static void set_length(struct bytes *bytes, unsigned long length)
+{
+    if (length > ROOM) {
+        fail("too long");
+    }
+    if (length > bytes->length) {
+        memset(bytes->at + bytes->length, 0, length - bytes->length);
+    }
+    bytes->length = length;
+}
+
+/* The bytes after 'job[N]' or 'list[N]' go there; after 'job[N]+' they are put in before it. */
+static char *change(struct bytes *bytes, char *text)
+{
+    size_t at = number(&text);
+    int insert, any = 0;
+    if (*text++ != ']') {
+        fail("no ]");
+    }
+    insert = *text == '+';
+    text += insert;
+    while (*text == ' ' && hex_byte(text + 1) >= 0) {
+        if (at >= bytes->length + (insert ? 1u : 0u) || bytes->length == ROOM) {
+            fail("past the end");
+        }
+        if (insert) {
+            memmove(bytes->at + at + 1, bytes->at + at, bytes->length - at);
+            bytes->length++;
+        }
+        bytes->at[at++] = (uint8_t)hex_byte(text + 1);
+        text += 3;
+        any = 1;
+    }
+    if (!any) {
+        fail("no bytes");
+    }
+    return text;
+}
+
+/* Reads the words of a line up to the arrow. */
+static char *read_changes(char *text, struct trial *trial)
+{
+    for (;;) {
+        struct bytes *bytes = NULL;
+        unsigned long *length = NULL;
+        text += strspn(text, " ");
+        if (strncmp(text, "-> ", 3) == 0) {
+            return text + 3;
+        }
+        if (strncmp(text, "job", 3) == 0) {
+            bytes = &trial->job;
+            text += 3;
+        } else if (strncmp(text, "list", 4) == 0) {
+            bytes = &trial->list;
+            text += 4;
+        } else if (strncmp(text, "work", 4) == 0) {
+            length = &trial->work;
+            text += 4;
+        } else if (strncmp(text, "answer", 6) == 0) {
+            length = &trial->answer;
+            text += 6;
+        } else if (strncmp(text, "marks", 5) == 0) {
+            length = &trial->marks;
+            text += 5;
+        } else {
+            fail("no line of a trial");
+        }
+        if (bytes != NULL && *text == '[') {
+            text = change(bytes, text + 1);
+        } else if (strncmp(text, ".length ", 8) == 0) {
+            text += 8;
+            if (bytes != NULL) {
+                set_length(bytes, number(&text));
+            } else {
+                *length = number(&text);
+                if (*length > ROOM - 8) {
+                    fail("too long");
+                }
+            }
+        } else {
+            fail("neither [ nor .length");
+        }
+    }
+}
+
+/* That bytes from..to are as they were. */
+static void untouched(const uint8_t *bytes, size_t from, size_t to, const char *what)
+{
+    for (; from < to; from++) {
+        if (bytes[from] != UNTOUCHED) {
+            fail(what);
+        }
+    }
+}
+
+/* That work holds a label for each cell, 0 just for the blocked ones, and then zeros. */
+static void labelled(const uint8_t *work, const uint8_t *job, size_t cells)
+{
+    size_t i;
+    for (i = 0; i < cells; i++) {
+        const int walkable = job[CHOKES_JOB_HEADER_BYTES + i] & CHOKES_CELL_WALKABLE;
+        if ((word(work, 4 * i) != 0) != (walkable != 0) || word(work, 4 * i) > cells) {
+            fail("work has no labels");
+        }
+    }
+    for (i = 4 * cells; i < 10 * cells; i++) {
+        if (work[i] != 0) {
+            fail("work has no zeros after the labels");
+        }
+    }
+}
+
+/* One call of a trial: what it gives back, and what it may write then. */
+static void run(int call, const struct trial *trial, unsigned long expected, unsigned long detail)
+{
+    static uint8_t work[ROOM], out[ROOM];
+    const size_t out_length = call == MARK ? trial->marks : trial->answer;
+    struct chokes_result said;
+    memset(work, UNTOUCHED, sizeof work);
+    memset(out, UNTOUCHED, sizeof out);
+    if (call == MARK) {
+        said = chokes_mark(trial->job.at, trial->job.length, work, trial->work, out, out_length);
+    } else if (call == REDUCE) {
+        said = chokes_reduce(trial->job.at, trial->job.length, work, trial->work, out, out_length);
+    } else {
+        said = chokes_reduce_by_list(trial->job.at, trial->job.length, trial->list.at, trial->list.length, work,
+                                     trial->work, out, out_length);
+    }
+    if (said.number != expected || said.detail != detail) {
+        printf("%s gives %lu %lu; ", call_names[call], (unsigned long)said.number, (unsigned long)said.detail);
+        fail("another number or detail");
+    }
+    if (said.number == CHOKES_OK || said.number == CHOKES_ANSWER_TOO_SHORT || said.number == CHOKES_MARKS_TOO_SHORT) {
+        const size_t cells = (size_t)word(trial->job.at, 0) * word(trial->job.at, 4);
+        labelled(work, trial->job.at, cells);
+        untouched(work, 10 * cells, sizeof work, "work past ten bytes a cell is changed");
+    } else {
+        untouched(work, 0, sizeof work, "work is changed");
+    }
+    untouched(out, said.number == CHOKES_OK ? (size_t)said.detail : 0, sizeof out, "answer or marks are changed");
+    if (said.number < 24) {
+        given[call][said.number]++;
+    }
+    trials++;
+}
+
+static void trial_line(char *line)
+{
+    static struct trial trial;
+    const size_t length = strcspn(line, " ");
+    unsigned long expected, detail;
+    char *text;
+    int call, ran = 0;
+    trial.job = dumps[JOB];
+    trial.list = dumps[LIST];
+    trial.work = (unsigned long)CHOKES_WORK_BYTES(4, 1);
+    trial.answer = (unsigned long)dumps[ANSWER].length;
+    trial.marks = (unsigned long)dumps[MARKS].length;
+    text = read_changes(line + length, &trial);
+    expected = number(&text);
+    if (*text++ != ' ') {
+        fail("no detail");
+    }
+    detail = number(&text);
+    if (*text != '\0') {
+        fail("more after the detail");
+    }
+    for (call = 0; call < CALLS; call++) {
+        if ((length == 3 && strncmp(line, "all", 3) == 0) ||
+            (strlen(call_names[call]) == length && strncmp(line, call_names[call], length) == 0)) {
+            run(call, &trial, expected, detail);
+            ran = 1;
+        }
+    }
+    if (!ran) {
+        fail("no such call");
+    }
+}
+
+/* Goes through the document; trials are carried out where asked, since the dumps that they start from come after them. */
+static void read_document(int carry_out)
+{
+    static char line[LINE * 4];
+    struct bytes *dump = NULL;
+    int fenced = 0, in_trials = 0;
+    FILE *file = fopen(document, "r");
+    line_number = 0;
+    if (file == NULL) {
+        fail("can't be read");
+    }
+    while (fgets(line, sizeof line, file) != NULL) {
+        const size_t length = strcspn(line, "\n");
+        line_number++;
+        if (line[length] != '\n') {
+            fail("a line that is too long, or has no end");
+        }
+        line[length] = '\0';
+        if (strncmp(line, "```", 3) == 0) {
+            int i;
+            dump = NULL;
+            in_trials = !fenced && strcmp(line, "```trials") == 0;
+            for (i = 0; i < DUMPS && !fenced && !carry_out; i++) {
+                if (strncmp(line, "```hex ", 7) == 0 && strcmp(line + 7, dump_names[i]) == 0) {
+                    dump = &dumps[i];
+                    dump_seen[i]++;
+                }
+            }
+            if (!fenced && !carry_out && strncmp(line, "```hex", 6) == 0 && dump == NULL) {
+                fail("a dump of something else");
+            }
+            fenced = !fenced;
+        } else if (dump != NULL) {
+            dump_line(line, dump);
+        } else if (in_trials && carry_out) {
+            trial_line(line);
+        } else if (!fenced && !carry_out) {
+            table_row(line);
+        }
+    }
+    if (ferror(file) || fenced) {
+        fail("can't be read to its end");
+    }
+    fclose(file);
+}
+
+static void same(const char *what, const uint8_t *bytes, size_t length, int dump)
+{
+    size_t i;
+    line_number = 0;
+    for (i = 0; i < length && i < dumps[dump].length; i++) {
+        if (bytes[i] != dumps[dump].at[i]) {
+            printf("byte %lu of %s is %02x, and in the dump %02x; ", (unsigned long)i, what, bytes[i], dumps[dump].at[i]);
+            fail("another byte");
+        }
+    }
+    if (length != dumps[dump].length) {
+        printf("%s has %lu bytes, its dump %lu; ", what, (unsigned long)length, (unsigned long)dumps[dump].length);
+        fail("another length");
+    }
+}
+
+/* The dumps against the file and the calls. */
+static void compare(const char *name)
+{
+    static uint8_t bytes[ROOM], work[ROOM], marks[ROOM];
+    struct chokes_result said;
+    FILE *file = fopen(name, "rb");
+    size_t length;
+    if (file == NULL) {
+        printf("%s can't be read\n", name);
+        exit(1);
+    }
+    length = fread(bytes, 1, sizeof bytes, file);
+    fclose(file);
+    same(name, bytes, length, JOB);
+    said = chokes_reduce(dumps[JOB].at, dumps[JOB].length, work, CHOKES_WORK_BYTES(4, 1), bytes, sizeof bytes);
+    if (said.number != CHOKES_OK) {
+        fail("Reduce refuses the job of the dump");
+    }
+    same("Reduce's answer", bytes, (size_t)said.detail, ANSWER);
+    same("Reduce's work", work, CHOKES_WORK_BYTES(4, 1), WORK);
+    memset(bytes, UNTOUCHED, sizeof bytes);
+    memset(work, UNTOUCHED, sizeof work);
+    said = chokes_reduce_by_list(dumps[JOB].at, dumps[JOB].length, dumps[LIST].at, dumps[LIST].length, work,
+                                 CHOKES_WORK_BYTES(4, 1), bytes, sizeof bytes);
+    if (said.number != CHOKES_OK) {
+        fail("Reduce by list refuses the job or the list of the dumps");
+    }
+    same("Reduce by list's answer", bytes, (size_t)said.detail, ANSWER);
+    same("Reduce by list's work", work, CHOKES_WORK_BYTES(4, 1), WORK);
+    memset(work, UNTOUCHED, sizeof work);
+    said = chokes_mark(dumps[JOB].at, dumps[JOB].length, work, CHOKES_WORK_BYTES(4, 1), marks, sizeof marks);
+    if (said.number != CHOKES_OK) {
+        fail("Mark refuses the job of the dump");
+    }
+    same("Mark's marks", marks, (size_t)said.detail, MARKS);
+    same("Mark's work", work, CHOKES_WORK_BYTES(4, 1), WORK);
+}
+
+/* That every number of each call was given by a trial, but for 13, which the corridor can't give. */
+static void all_given(void)
+{
+    size_t i;
+    int call;
+    line_number = 0;
+    for (i = 0; i < REFUSALS; i++) {
+        for (call = 0; call < CALLS; call++) {
+            const uint32_t n = refusals[i].number;
+            const int made = n == 12 ? call != BY_LIST
+                             : n >= 14 && n <= 17 ? call == BY_LIST
+                             : n == 22            ? call != MARK
+                             : n == 23            ? call == MARK
+                                                  : n != 13;
+            if ((given[call][n] != 0) != made) {
+                printf("%s, %s: ", call_names[call], refusals[i].name);
+                fail(made ? "no example" : "an example of what the call never gives");
+            }
+        }
+    }
+}
+
+int main(int argc, char **argv)
+{
+    size_t i;
+    if (argc != 3) {
+        fprintf(stderr, "usage: format FORMAT.md JOB\n");
+        return 2;
+    }
+    document = argv[1];
+    read_document(0);
+    line_number = 0;
+    for (i = 0; i < DUMPS; i++) {
+        if (dump_seen[i] != 1 || dumps[i].length == 0) {
+            printf("hex %s: ", dump_names[i]);
+            fail("not one dump");
+        }
+    }
+    for (i = 0; i < REFUSALS; i++) {
+        if (row_seen[i] != 1) {
+            printf("%s: ", refusals[i].name);
+            fail("not one row in the table of refusals");
+        }
+    }
+    compare(argv[2]);
+    read_document(1);
+    all_given();
+    printf("docs/FORMAT.md: %lu bytes of dumps, %lu calls of its examples and %lu refusals are as it says\n",
+           (unsigned long)(dumps[JOB].length + dumps[ANSWER].length + dumps[WORK].length + dumps[MARKS].length + dumps[LIST].length),
+           trials, (unsigned long)REFUSALS);
+    return 0;
+}
