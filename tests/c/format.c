@@ -387,6 +387,14 @@ static void same(const char *what, const uint8_t *bytes, size_t length, int dump
     }
 }
 
+/* The ends of the corridor's two boundaries, as a list. */
+static void own_ends(uint8_t *list)
+{
+    const size_t first = word(dumps[JOB].at, 32);
+    memcpy(list, dumps[JOB].at + first, CHOKES_SPAN_BYTES);
+    memcpy(list + CHOKES_SPAN_BYTES, dumps[JOB].at + first + CHOKES_BOUNDARY_BYTES, CHOKES_SPAN_BYTES);
+}
+
 /* The dumps against the file and the calls. */
 static void compare(const char *name)
 {
@@ -401,6 +409,8 @@ static void compare(const char *name)
     length = fread(bytes, 1, sizeof bytes, file);
     fclose(file);
     same(name, bytes, length, JOB);
+    own_ends(bytes);
+    same("the list of the boundaries' own ends", bytes, CHOKES_SPAN_BYTES * 2, LIST);
     said = chokes_reduce(dumps[JOB].at, dumps[JOB].length, work, CHOKES_WORK_BYTES(4, 1), bytes, sizeof bytes);
     if (said.number != CHOKES_OK) {
         fail("Reduce refuses the job of the dump");
@@ -472,7 +482,7 @@ int main(int argc, char **argv)
     compare(argv[2]);
     read_document(1);
     all_given();
-    printf("docs/FORMAT.md: %lu bytes of dumps, %lu calls of its examples and %lu refusals are as it says\n",
+    printf("%s: %lu bytes of dumps, %lu calls of its examples and %lu refusals are as it says\n", document,
            (unsigned long)(dumps[JOB].length + dumps[ANSWER].length + dumps[WORK].length + dumps[MARKS].length + dumps[LIST].length),
            trials, (unsigned long)REFUSALS);
     return 0;
