@@ -2,14 +2,22 @@
  *
  *   engine [JOB]
  *
- * Without a file it builds document 01's corridor in memory. It lends too small an answer slice
- * first, and more when a call says how much it needs; then it prints the kept list, the marks, and
- * whether Reduce by list with the boundaries' own ends gives the same answer. */
+ * Without a file it builds the corridor of docs/FORMAT.md in memory. There are two ways to lend an
+ * answer slice, and it shows both: Reduce gets a short one, and a longer one when refusal 22 says how
+ * long; Reduce by list gets one that is always enough, by CHOKES_ANSWER_BYTES. It prints the kept
+ * list, the marks, and whether Reduce by list with the boundaries' own ends gives the same answer. */
 #include "chokes.h"
 
+#include <inttypes.h>
 #include <stdio.h>
 #include <stdlib.h>
 #include <string.h>
+
+#if CHOKES_VERSION_MAJOR != 1 || CHOKES_VERSION < CHOKES_VERSION_NUMBER(1, 0, 0)
+#error "this engine is written for version 1.0.0 of chokes"
+#endif
+
+#define FIRST_ANSWER_BYTES 64
 
 static uint32_t word(const uint8_t *bytes, size_t at)
 {
@@ -39,13 +47,15 @@ static void *room(size_t size)
 static uint8_t *corridor(size_t *length)
 {
     static const uint32_t header[12] = {4, 1, 0, 2, 0, 2, 48, 52, 52, 132, 132, 148};
-    uint8_t *job = room(148);
+    uint8_t *job;
     uint32_t i;
-    memset(job, 0, 148);
+    *length = CHOKES_JOB_BYTES(4, 1, 0, 2, 0, 2);
+    job = room(*length);
+    memset(job, 0, *length);
     for (i = 0; i < 12; i++) {
         put(job, 4 * i, header[i]);
     }
-    memset(job + 48, 1, 4);
+    memset(job + 48, CHOKES_CELL_WALKABLE, 4);
     for (i = 0; i < 2; i++) {
         uint8_t *boundary = job + 52 + CHOKES_BOUNDARY_BYTES * i;
         put(boundary, 0, 8 * (i + 1)); /* ends (8, 0) and (8, 8), then (16, 0) and (16, 8) */
@@ -53,41 +63,49 @@ static uint8_t *corridor(size_t *length)
         put(boundary, 12, 8);
         put(boundary, 20, 0x40200000); /* the upper half of the bits of 8.0 */
         put(boundary, 24, 1);          /* one source of its own: 1 2, then 2 1 */
-        put(job, 132 + 8 * i, 1 + i);
-        put(job, 136 + 8 * i, 2 - i);
+        put(job, 132 + CHOKES_SOURCE_BYTES * i, 1 + i);
+        put(job, 136 + CHOKES_SOURCE_BYTES * i, 2 - i);
     }
-    *length = 148;
     return job;
 }
 
+/* A file's bytes. Of one that is longer than any job one byte more than that is enough to have it
+ * refused as the whole would be. */
 static uint8_t *from_file(const char *name, size_t *length)
 {
     FILE *file = fopen(name, "rb");
-    size_t size = 1 << 16, got;
-    uint8_t *job = room(size);
-    *length = 0;
+    uint8_t *job = room(CHOKES_MOST_JOB_BYTES + 1);
     if (file == NULL) {
-        fprintf(stderr, "engine: %s can't be read\n", name);
+        fprintf(stderr, "engine: %s can't be opened\n", name);
         exit(1);
     }
-    while ((got = fread(job + *length, 1, size - *length, file)) > 0) {
-        *length += got;
-        if (*length == size) {
-            size *= 2;
-            job = realloc(job, size);
-            if (job == NULL) {
-                exit(1);
-            }
-        }
+    *length = fread(job, 1, CHOKES_MOST_JOB_BYTES + 1, file);
+    if (ferror(file)) {
+        fprintf(stderr, "engine: %s can't be read\n", name);
+        exit(1);
     }
     fclose(file);
     return job;
 }
 
-static void refused(const char *call, struct chokes_result result)
+/* How much to lend for a job. Its header may say anything, so nothing is worked out from counts that the
+ * calls refuse: they do that before they look at what is lent. */
+static void lengths(const uint8_t *job, size_t length, size_t *work, size_t *answer)
+{
+    *work = *answer = 0;
+    if (length >= CHOKES_JOB_HEADER_BYTES && word(job, 0) <= CHOKES_MOST_SIDE &&
+        word(job, 4) <= CHOKES_MOST_SIDE && word(job, 12) <= CHOKES_MOST_BOUNDARIES &&
+        word(job, 16) <= CHOKES_MOST_OBSERVATIONS && word(job, 20) <= CHOKES_MOST_SOURCES) {
+        *work = CHOKES_WORK_BYTES(word(job, 0), word(job, 4));
+        *answer = CHOKES_ANSWER_BYTES(word(job, 12), word(job, 16), word(job, 20));
+    }
+}
+
+/* Ends where a call was refused. */
+static void accepted(const char *call, struct chokes_result result)
 {
     if (result.number != CHOKES_OK) {
-        printf("%s refused %u %lu\n", call, (unsigned)result.number, (unsigned long)result.detail);
+        printf("%s refused %" PRIu32 " %" PRIu64 "\n", call, result.number, result.detail);
         exit(1);
     }
 }
@@ -108,7 +126,9 @@ static const uint8_t *print_sources(const uint8_t *source, uint32_t count)
     return source;
 }
 
-/* The list as the program choke-list prints it. */
+/* Reads an answer, and prints it as the program choke-list does. Boundaries, observations and sources
+ * stand in three sections; each boundary takes the next of the observations and sources, as many as it
+ * says, its own sources before those of its observations. */
 static void print_answer(const uint8_t *answer)
 {
     const uint8_t *boundary = answer + CHOKES_ANSWER_HEADER_BYTES;
@@ -144,17 +164,16 @@ static uint8_t *own_spans(const uint8_t *job, uint32_t boundaries)
 
 int main(int argc, char **argv)
 {
-    size_t length, work_length, answer_length = 64;
+    size_t length, work_length, enough, answer_length = FIRST_ANSWER_BYTES, list_length;
     uint8_t *job = argc > 1 ? from_file(argv[1], &length) : corridor(&length);
     uint8_t *work, *answer, *again, *marks, *list;
-    struct chokes_result result;
+    struct chokes_result result, listed;
     uint32_t boundaries, i;
 
-    /* Ten bytes of work a cell; a header that is refused needs none. */
-    work_length = length < CHOKES_JOB_HEADER_BYTES || word(job, 0) > 1024 || word(job, 4) > 1024
-                      ? 0
-                      : CHOKES_WORK_BYTES(word(job, 0), word(job, 4));
+    lengths(job, length, &work_length, &enough);
     work = room(work_length);
+
+    /* Reduce. Where the slice is too short nothing is written to it, and the detail is the length. */
     answer = room(answer_length);
     result = chokes_reduce(job, length, work, work_length, answer, answer_length);
     if (result.number == CHOKES_ANSWER_TOO_SHORT) {
@@ -163,26 +182,29 @@ int main(int argc, char **argv)
         answer = room(answer_length);
         result = chokes_reduce(job, length, work, work_length, answer, answer_length);
     }
-    refused("Reduce", result);
+    accepted("Reduce", result);
     print_answer(answer);
 
-    /* The job was accepted, so its counts and offsets can be relied on. */
+    /* Mark. The job was accepted, so its counts and offsets can be relied on. */
     boundaries = word(job, 12);
     marks = room(boundaries);
-    refused("Mark", chokes_mark(job, length, work, work_length, marks, boundaries));
+    accepted("Mark", chokes_mark(job, length, work, work_length, marks, boundaries));
     printf("marks");
     for (i = 0; i < boundaries; i++) {
         printf(" %u", marks[i]);
     }
     printf("\n");
 
+    /* Reduce by list, with a slice that no answer of the job outgrows: 22 can't come. */
     list = own_spans(job, boundaries);
-    again = room(answer_length);
-    result = chokes_reduce_by_list(job, length, list, CHOKES_SPAN_BYTES * (size_t)boundaries, work,
-                                   work_length, again, answer_length);
-    refused("Reduce by list", result);
+    list_length = CHOKES_SPAN_BYTES * (size_t)boundaries;
+    again = room(enough);
+    listed = chokes_reduce_by_list(job, length, list, list_length, work, work_length, again, enough);
+    accepted("Reduce by list", listed);
     printf("by list: %s\n",
-           memcmp(answer, again, (size_t)result.detail) == 0 ? "the same answer" : "another answer");
+           listed.detail == result.detail && memcmp(answer, again, (size_t)result.detail) == 0
+               ? "the same answer"
+               : "another answer");
     free(again);
     free(list);
     free(marks);
