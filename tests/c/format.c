@@ -1,5 +1,5 @@
-/* Holds docs/FORMAT.md to the library: the dumps of the corridor to the job file and to what the calls write, every line of its examples of refusals to what
- * the call gives back and leaves, and its table of refusals to chokes.h.
+/* Holds docs/FORMAT.md to the library: the dumps of the corridor to the job file and to what the calls write; every line of its examples of refusals, and
+ * any two lines of its list of single faults together, to what the call gives back and leaves; its table of refusals to chokes.h and to those calls.
  *
  *   format FORMAT.md JOB */
 #include "chokes.h"
@@ -54,10 +54,18 @@ static const struct {
 static int row_seen[REFUSALS];
 
 enum { MARK, REDUCE, BY_LIST, CALLS };
+/* What the table has for each refusal: the place in the order of each call, 0 if there is none, and whether work holds labels then. */
+static unsigned long places[REFUSALS][CALLS];
+static int labels_then[REFUSALS];
 static const char *const call_names[CALLS] = {"mark", "reduce", "by-list"};
 /* Which numbers each call gave in the trials. */
 static unsigned long given[CALLS][24];
-static unsigned long trials;
+static unsigned long trials, pairs;
+
+/* Lines of single faults. */
+#define FAULTS 64
+static char faults[FAULTS][LINE];
+static size_t fault_count;
 
 static int hex_digit(char c)
 {
@@ -113,7 +121,66 @@ static void dump_line(char *line, struct bytes *dump)
     }
 }
 
-/* Rows of the table of refusals: | number | `name` | ... */
+/* The place of a number in the list of refusals. */
+static size_t refusal(unsigned long number)
+{
+    size_t i;
+    for (i = 0; i < REFUSALS; i++) {
+        if (refusals[i].number == number) {
+            return i;
+        }
+    }
+    fail("no refusal of this number");
+    return 0;
+}
+
+/* The text of a row's column, from 1, without the spaces about it. */
+static void column(const char *row, int which, char *text, size_t size)
+{
+    size_t length;
+    for (; which > 0 && row != NULL; which--) {
+        row = strchr(row, '|');
+        row = row == NULL ? NULL : row + 1;
+    }
+    if (row == NULL || strchr(row, '|') == NULL) {
+        fail("a column is missing");
+        return;
+    }
+    row += strspn(row, " ");
+    length = strcspn(row, "|");
+    while (length > 0 && row[length - 1] == ' ') {
+        length--;
+    }
+    if (length >= size) {
+        fail("a column is too long");
+    }
+    memcpy(text, row, length);
+    text[length] = '\0';
+}
+
+/* The columns of a row that say where the test is made and what it leaves. */
+static void row_columns(const char *row, size_t i)
+{
+    char text[16], *end;
+    int call;
+    for (call = 0; call < CALLS; call++) {
+        column(row, 5 + call, text, sizeof text);
+        if (strcmp(text, "\xe2\x80\x93") != 0) { /* a dash */
+            end = text;
+            places[i][call] = number(&end);
+            if (*end != '\0' || places[i][call] == 0) {
+                fail("no place in the order");
+            }
+        }
+    }
+    column(row, 8, text, sizeof text);
+    labels_then[i] = strcmp(text, "labels") == 0;
+    if (!labels_then[i] && strcmp(text, "unchanged") != 0) {
+        fail("neither labels nor unchanged");
+    }
+}
+
+/* Rows of the table of refusals: | number | `name` | condition | detail | places | work | */
 static void table_row(char *line)
 {
     unsigned long value;
@@ -134,6 +201,7 @@ static void table_row(char *line)
                 fail("chokes.h has another number for this name");
             }
             row_seen[i]++;
+            row_columns(line, i);
             return;
         }
     }
@@ -278,7 +346,7 @@ static void run(int call, const struct trial *trial, unsigned long expected, uns
         printf("%s gives %lu %lu; ", call_names[call], (unsigned long)said.number, (unsigned long)said.detail);
         fail("another number or detail");
     }
-    if (said.number == CHOKES_OK || said.number == CHOKES_ANSWER_TOO_SHORT || said.number == CHOKES_MARKS_TOO_SHORT) {
+    if (said.number == CHOKES_OK || labels_then[refusal(said.number)]) {
         const size_t cells = (size_t)word(trial->job.at, 0) * word(trial->job.at, 4);
         labelled(work, trial->job.at, cells);
         untouched(work, 10 * cells, sizeof work, "work past ten bytes a cell is changed");
@@ -289,34 +357,50 @@ static void run(int call, const struct trial *trial, unsigned long expected, uns
     if (said.number < 24) {
         given[call][said.number]++;
     }
-    trials++;
+}
+
+/* The corridor, and enough of everything. */
+static void start(struct trial *trial)
+{
+    trial->job = dumps[JOB];
+    trial->list = dumps[LIST];
+    trial->work = (unsigned long)CHOKES_WORK_BYTES(4, 1);
+    trial->answer = (unsigned long)dumps[ANSWER].length;
+    trial->marks = (unsigned long)dumps[MARKS].length;
+}
+
+/* Whether a line is for the call. */
+static int is_for(const char *line, int call)
+{
+    const size_t length = strcspn(line, " ");
+    return (length == 3 && strncmp(line, "all", 3) == 0) ||
+           (strlen(call_names[call]) == length && strncmp(line, call_names[call], length) == 0);
+}
+
+/* The number and the detail after an arrow, which end the line. */
+static void outcome(char *text, unsigned long *expected, unsigned long *detail)
+{
+    *expected = number(&text);
+    if (*text++ != ' ') {
+        fail("no detail");
+    }
+    *detail = number(&text);
+    if (*text != '\0') {
+        fail("more after the detail");
+    }
 }
 
 static void trial_line(char *line)
 {
     static struct trial trial;
-    const size_t length = strcspn(line, " ");
     unsigned long expected, detail;
-    char *text;
     int call, ran = 0;
-    trial.job = dumps[JOB];
-    trial.list = dumps[LIST];
-    trial.work = (unsigned long)CHOKES_WORK_BYTES(4, 1);
-    trial.answer = (unsigned long)dumps[ANSWER].length;
-    trial.marks = (unsigned long)dumps[MARKS].length;
-    text = read_changes(line + length, &trial);
-    expected = number(&text);
-    if (*text++ != ' ') {
-        fail("no detail");
-    }
-    detail = number(&text);
-    if (*text != '\0') {
-        fail("more after the detail");
-    }
+    start(&trial);
+    outcome(read_changes(line + strcspn(line, " "), &trial), &expected, &detail);
     for (call = 0; call < CALLS; call++) {
-        if ((length == 3 && strncmp(line, "all", 3) == 0) ||
-            (strlen(call_names[call]) == length && strncmp(line, call_names[call], length) == 0)) {
+        if (is_for(line, call)) {
             run(call, &trial, expected, detail);
+            trials++;
             ran = 1;
         }
     }
@@ -325,12 +409,77 @@ static void trial_line(char *line)
     }
 }
 
+static void fault_line(const char *line)
+{
+    if (fault_count == FAULTS || strlen(line) >= LINE) {
+        fail("too many faults, or a line that is too long");
+    }
+    strcpy(faults[fault_count++], line);
+}
+
+/* Whether a line changes a length: such a line goes last, and two of one length can't go together. */
+static const char *length_of(const char *line)
+{
+    const char *dot = strstr(line, ".length ");
+    while (dot != NULL && dot > line && dot[-1] != ' ') {
+        dot--;
+    }
+    return dot;
+}
+
+/* Two single faults in one trial: the one whose place is earlier is given. */
+static void pair(char *first, char *second, int call)
+{
+    static struct trial trial;
+    unsigned long numbers[2], details[2], at[2];
+    const char *const lengths[2] = {length_of(first), length_of(second)};
+    int i;
+    if (lengths[0] != NULL && lengths[1] != NULL && strncmp(lengths[0], lengths[1], strcspn(lengths[0], ".") + 1) == 0) {
+        return;
+    }
+    if (lengths[0] != NULL && lengths[1] == NULL) {
+        char *other = first;
+        first = second;
+        second = other;
+    }
+    start(&trial);
+    outcome(read_changes(first + strcspn(first, " "), &trial), &numbers[0], &details[0]);
+    outcome(read_changes(second + strcspn(second, " "), &trial), &numbers[1], &details[1]);
+    for (i = 0; i < 2; i++) {
+        at[i] = places[refusal(numbers[i])][call];
+    }
+    if (at[0] != at[1]) {
+        i = at[0] < at[1] ? 0 : 1;
+        run(call, &trial, numbers[i], details[i]);
+        pairs++;
+    }
+}
+
+static void all_pairs(void)
+{
+    size_t i, j;
+    int call;
+    line_number = 0;
+    for (i = 0; i < fault_count; i++) {
+        for (j = 0; j < i; j++) {
+            for (call = 0; call < CALLS; call++) {
+                if (is_for(faults[i], call) && is_for(faults[j], call)) {
+                    pair(faults[i], faults[j], call);
+                }
+            }
+        }
+    }
+    if (pairs == 0) {
+        fail("no two faults");
+    }
+}
+
 /* Goes through the document; trials are carried out where asked, since the dumps that they start from come after them. */
 static void read_document(int carry_out)
 {
     static char line[LINE * 4];
     struct bytes *dump = NULL;
-    int fenced = 0, in_trials = 0;
+    int fenced = 0, in_trials = 0, in_faults = 0;
     FILE *file = fopen(document, "r");
     line_number = 0;
     if (file == NULL) {
@@ -346,7 +495,8 @@ static void read_document(int carry_out)
         if (strncmp(line, "```", 3) == 0) {
             int i;
             dump = NULL;
-            in_trials = !fenced && strcmp(line, "```trials") == 0;
+            in_faults = !fenced && strcmp(line, "```faults") == 0;
+            in_trials = in_faults || (!fenced && strcmp(line, "```trials") == 0);
             for (i = 0; i < DUMPS && !fenced && !carry_out; i++) {
                 if (strncmp(line, "```hex ", 7) == 0 && strcmp(line + 7, dump_names[i]) == 0) {
                     dump = &dumps[i];
@@ -361,6 +511,9 @@ static void read_document(int carry_out)
             dump_line(line, dump);
         } else if (in_trials && carry_out) {
             trial_line(line);
+            if (in_faults) {
+                fault_line(line);
+            }
         } else if (!fenced && !carry_out) {
             table_row(line);
         }
@@ -435,7 +588,7 @@ static void compare(const char *name)
     same("Mark's work", work, CHOKES_WORK_BYTES(4, 1), WORK);
 }
 
-/* That every number of each call was given by a trial, but for 13, which the corridor can't give. */
+/* That every number that the table has for a call was given by an example of it, and no other; but for 13, which the corridor can't give. */
 static void all_given(void)
 {
     size_t i;
@@ -444,14 +597,10 @@ static void all_given(void)
     for (i = 0; i < REFUSALS; i++) {
         for (call = 0; call < CALLS; call++) {
             const uint32_t n = refusals[i].number;
-            const int made = n == 12 ? call != BY_LIST
-                             : n >= 14 && n <= 17 ? call == BY_LIST
-                             : n == 22            ? call != MARK
-                             : n == 23            ? call == MARK
-                                                  : n != 13;
-            if ((given[call][n] != 0) != made) {
+            const int made = places[i][call] != 0;
+            if (n != CHOKES_TOO_MANY_PAIRS && (given[call][n] != 0) != made) {
                 printf("%s, %s: ", call_names[call], refusals[i].name);
-                fail(made ? "no example" : "an example of what the call never gives");
+                fail(made ? "no example" : "an example of what the table does not have");
             }
         }
     }
@@ -482,8 +631,9 @@ int main(int argc, char **argv)
     compare(argv[2]);
     read_document(1);
     all_given();
-    printf("%s: %lu bytes of dumps, %lu calls of its examples and %lu refusals are as it says\n", document,
+    all_pairs();
+    printf("%s: %lu bytes of dumps, %lu calls of its examples, %lu of two faults, and %lu refusals are as it says\n", document,
            (unsigned long)(dumps[JOB].length + dumps[ANSWER].length + dumps[WORK].length + dumps[MARKS].length + dumps[LIST].length),
-           trials, (unsigned long)REFUSALS);
+           trials, pairs, (unsigned long)REFUSALS);
     return 0;
 }

@@ -204,6 +204,17 @@ static void too_many_pairs(void)
         expect_bytes("labels after 13, zeros, and work past them", work, expected, sizeof expected);
         expect_bytes("answer and marks after 13", out, untouched, sizeof out);
     }
+    /* 13 comes after 21, and before 22 and 23. */
+    expect("13 before 23", chokes_mark(job, sizeof job, work, sizeof work, out, 0), CHOKES_TOO_MANY_PAIRS, 0);
+    expect("13 before 22", chokes_reduce(job, sizeof job, work, sizeof work, out, 0), CHOKES_TOO_MANY_PAIRS, 0);
+    expect("13 before 22, by list",
+           chokes_reduce_by_list(job, sizeof job, list, sizeof list, work, sizeof work, out, 0), CHOKES_TOO_MANY_PAIRS, 0);
+    expect("21 before 13", chokes_mark(job, sizeof job, work, sizeof work - 4, out, sizeof out), CHOKES_WORK_TOO_SHORT, 0);
+    expect("21 before 13 in Reduce", chokes_reduce(job, sizeof job, work, sizeof work - 4, out, sizeof out),
+           CHOKES_WORK_TOO_SHORT, 0);
+    expect("21 before 13, by list",
+           chokes_reduce_by_list(job, sizeof job, list, sizeof list, work, sizeof work - 4, out, sizeof out),
+           CHOKES_WORK_TOO_SHORT, 0);
 }
 
 int main(void)
@@ -294,7 +305,7 @@ int main(void)
     too_many_pairs();
 
     if (failures == 0) {
-        printf("the C calls are as document 01 has them\n");
+        printf("the C calls are as docs/FORMAT.md has them\n");
     }
     return failures != 0;
 }
