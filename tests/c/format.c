@@ -1,5 +1,6 @@
-/* Holds docs/FORMAT.md to the library: the dumps of the corridor to the job file and to what the calls write; every line of its examples of refusals, and
- * any two lines of its list of single faults together, to what the call gives back and leaves; its table of refusals to chokes.h and to those calls.
+/* Holds docs/FORMAT.md to the library: the dumps of the corridor to the job file and to what the calls write; every line
+ * of its examples of refusals, and any two lines of its list of single faults together, to what the call gives back and
+ * leaves; its table of refusals to chokes.h and to those calls.
  *
  *   format FORMAT.md JOB */
 #include "chokes.h"
@@ -54,7 +55,8 @@ static const struct {
 static int row_seen[REFUSALS];
 
 enum { MARK, REDUCE, BY_LIST, CALLS };
-/* What the table has for each refusal: the place in the order of each call, 0 if there is none, and whether work holds labels then. */
+/* What the table has for each refusal: the place in the order of each call, 0 if there is none, and whether work then
+ * holds labels. */
 static unsigned long places[REFUSALS][CALLS];
 static int labels_then[REFUSALS];
 static const char *const call_names[CALLS] = {"mark", "reduce", "by-list"};
@@ -474,12 +476,55 @@ static void all_pairs(void)
     }
 }
 
-/* Goes through the document; trials are carried out where asked, since the dumps that they start from come after them. */
+/* What the lines of the document are. */
+enum { TEXT, CODE, DUMP, TRIALS, SINGLE };
+
+/* What follows a line that begins a block: one of the dumps, trials, or something else. */
+static int block(const char *line, struct bytes **dump)
+{
+    size_t i;
+    if (strcmp(line, "```trials") == 0) {
+        return TRIALS;
+    }
+    if (strcmp(line, "```faults") == 0) {
+        return SINGLE;
+    }
+    if (strncmp(line, "```hex", 6) != 0) {
+        return CODE;
+    }
+    for (i = 0; i < DUMPS; i++) {
+        if (line[6] == ' ' && strcmp(line + 7, dump_names[i]) == 0) {
+            *dump = &dumps[i];
+            dump_seen[i]++;
+            return DUMP;
+        }
+    }
+    fail("a dump of something else");
+    return CODE;
+}
+
+/* Lines that are read for the dumps and the table, or, once those are known, for the trials. */
+static void document_line(char *line, int kind, struct bytes *dump, int carry_out)
+{
+    if (kind == DUMP && !carry_out) {
+        dump_line(line, dump);
+    } else if (kind == TEXT && !carry_out) {
+        table_row(line);
+    } else if ((kind == TRIALS || kind == SINGLE) && carry_out) {
+        trial_line(line);
+        if (kind == SINGLE) {
+            fault_line(line);
+        }
+    }
+}
+
+/* Goes through the document; the trials are carried out in a second pass, since the dumps that they start from come after
+ * them. */
 static void read_document(int carry_out)
 {
     static char line[LINE * 4];
     struct bytes *dump = NULL;
-    int fenced = 0, in_trials = 0, in_faults = 0;
+    int kind = TEXT;
     FILE *file = fopen(document, "r");
     line_number = 0;
     if (file == NULL) {
@@ -492,33 +537,13 @@ static void read_document(int carry_out)
             fail("a line that is too long, or has no end");
         }
         line[length] = '\0';
-        if (strncmp(line, "```", 3) == 0) {
-            int i;
-            dump = NULL;
-            in_faults = !fenced && strcmp(line, "```faults") == 0;
-            in_trials = in_faults || (!fenced && strcmp(line, "```trials") == 0);
-            for (i = 0; i < DUMPS && !fenced && !carry_out; i++) {
-                if (strncmp(line, "```hex ", 7) == 0 && strcmp(line + 7, dump_names[i]) == 0) {
-                    dump = &dumps[i];
-                    dump_seen[i]++;
-                }
-            }
-            if (!fenced && !carry_out && strncmp(line, "```hex", 6) == 0 && dump == NULL) {
-                fail("a dump of something else");
-            }
-            fenced = !fenced;
-        } else if (dump != NULL) {
-            dump_line(line, dump);
-        } else if (in_trials && carry_out) {
-            trial_line(line);
-            if (in_faults) {
-                fault_line(line);
-            }
-        } else if (!fenced && !carry_out) {
-            table_row(line);
+        if (strncmp(line, "```", 3) != 0) {
+            document_line(line, kind, dump, carry_out);
+        } else {
+            kind = kind == TEXT ? block(line, &dump) : TEXT;
         }
     }
-    if (ferror(file) || fenced) {
+    if (ferror(file) || kind != TEXT) {
         fail("can't be read to its end");
     }
     fclose(file);
@@ -588,7 +613,8 @@ static void compare(const char *name)
     same("Mark's work", work, CHOKES_WORK_BYTES(4, 1), WORK);
 }
 
-/* That every number that the table has for a call was given by an example of it, and no other; but for 13, which the corridor can't give. */
+/* That every number that the table has for a call was given by an example of it, and no other; but for 13, which the
+ * corridor can't give. */
 static void all_given(void)
 {
     size_t i;
@@ -608,7 +634,7 @@ static void all_given(void)
 
 int main(int argc, char **argv)
 {
-    size_t i;
+    size_t i, bytes = 0;
     if (argc != 3) {
         fprintf(stderr, "usage: format FORMAT.md JOB\n");
         return 2;
@@ -621,6 +647,7 @@ int main(int argc, char **argv)
             printf("hex %s: ", dump_names[i]);
             fail("not one dump");
         }
+        bytes += dumps[i].length;
     }
     for (i = 0; i < REFUSALS; i++) {
         if (row_seen[i] != 1) {
@@ -632,8 +659,7 @@ int main(int argc, char **argv)
     read_document(1);
     all_given();
     all_pairs();
-    printf("%s: %lu bytes of dumps, %lu calls of its examples, %lu of two faults, and %lu refusals are as it says\n", document,
-           (unsigned long)(dumps[JOB].length + dumps[ANSWER].length + dumps[WORK].length + dumps[MARKS].length + dumps[LIST].length),
-           trials, pairs, (unsigned long)REFUSALS);
+    printf("%s: %lu bytes of dumps, %lu calls of its examples, %lu of two faults, and %lu refusals are as it says\n",
+           document, (unsigned long)bytes, trials, pairs, (unsigned long)REFUSALS);
     return 0;
 }

@@ -1,4 +1,4 @@
-// chokes.h from C++: the constants at compile time, and the three calls on the corridor of docs/FORMAT.md, which the program reads.
+// chokes.h from C++: the constants at compile time, and the three calls on the corridor, which the program reads.
 #include "chokes.h"
 
 #include <cstdio>
@@ -27,18 +27,21 @@ int main(int argc, char **argv)
         std::printf("%s is not the corridor\n", argv[1]);
         return 1;
     }
-    std::vector<std::uint8_t> work(CHOKES_WORK_BYTES(4, 1)), answer(CHOKES_ANSWER_BYTES(2, 0, 2)), again(answer.size()), marks(2);
+    std::vector<std::uint8_t> work(CHOKES_WORK_BYTES(4, 1)), marks(2);
+    std::vector<std::uint8_t> answer(CHOKES_ANSWER_BYTES(2, 0, 2)), again(answer.size());
     std::vector<std::uint8_t> list(job.begin() + 52, job.begin() + 52 + CHOKES_SPAN_BYTES);
     list.insert(list.end(), job.begin() + 92, job.begin() + 92 + CHOKES_SPAN_BYTES);
 
-    const chokes_result reduced = chokes_reduce(job.data(), job.size(), work.data(), work.size(), answer.data(), answer.size());
-    const chokes_result listed = chokes_reduce_by_list(job.data(), job.size(), list.data(), list.size(), work.data(), work.size(),
-                                                       again.data(), again.size());
-    const chokes_result marked = chokes_mark(job.data(), job.size(), work.data(), work.size(), marks.data(), marks.size());
+    const chokes_result reduced =
+        chokes_reduce(job.data(), job.size(), work.data(), work.size(), answer.data(), answer.size());
+    const chokes_result listed = chokes_reduce_by_list(job.data(), job.size(), list.data(), list.size(), work.data(),
+                                                       work.size(), again.data(), again.size());
+    const chokes_result marked =
+        chokes_mark(job.data(), job.size(), work.data(), work.size(), marks.data(), marks.size());
     const chokes_result refused = chokes_reduce(job.data(), job.size(), work.data(), work.size(), nullptr, 0);
-    if (reduced.number != CHOKES_OK || reduced.detail != 152 || answer[0] != 1 || listed.number != CHOKES_OK || again != answer ||
-        marked.number != CHOKES_OK || marked.detail != 2 || marks != std::vector<std::uint8_t>{1, 1} ||
-        refused.number != CHOKES_ANSWER_TOO_SHORT || refused.detail != 152) {
+    if (reduced.number != CHOKES_OK || reduced.detail != 152 || answer[0] != 1 || listed.number != CHOKES_OK ||
+        again != answer || marked.number != CHOKES_OK || marked.detail != 2 ||
+        marks != std::vector<std::uint8_t>{1, 1} || refused.number != CHOKES_ANSWER_TOO_SHORT || refused.detail != 152) {
         std::printf("other results from C++\n");
         return 1;
     }
