@@ -169,6 +169,18 @@ static void one(unsigned long number, size_t length, int by_list, uint32_t spans
     gained_sources += word(answer, 8) > drawn.sources;
 }
 
+/* That the macro is 24 + 40 B + 28 (O + B) + 16 S, as docs/FORMAT.md and tests/driver/whole.rs have it: with none, and with
+ * one of each. */
+static void as_written(void)
+{
+    if (CHOKES_ANSWER_BYTES(0, 0, 0) != 24 || CHOKES_ANSWER_BYTES(1, 0, 0) != 24 + 40 + 28 ||
+        CHOKES_ANSWER_BYTES(0, 1, 0) != 24 + 28 || CHOKES_ANSWER_BYTES(0, 0, 1) != 24 + 16 ||
+        CHOKES_MOST_ANSWER_BYTES != 111640 || CHOKES_MOST_WORK_BYTES != 10485760 || CHOKES_MOST_JOB_BYTES != 1123376) {
+        printf("lengths: a macro of chokes.h gives another length than docs/FORMAT.md\n");
+        exit(1);
+    }
+}
+
 int main(int argc, char **argv)
 {
     const unsigned long jobs = argc > 1 ? strtoul(argv[1], NULL, 10) : 2000;
@@ -181,6 +193,7 @@ int main(int argc, char **argv)
         printf("lengths: no memory\n");
         return 1;
     }
+    as_written();
     for (number = 0; number < jobs; number++) {
         size_t length;
         draw(number % 16 == 0 ? CHOKES_MOST_BOUNDARIES : below(12));
