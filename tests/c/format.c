@@ -59,6 +59,7 @@ enum { MARK, REDUCE, BY_LIST, CALLS };
  * holds labels. */
 static unsigned long places[REFUSALS][CALLS];
 static int labels_then[REFUSALS];
+static int order_seen[CALLS];
 static const char *const call_names[CALLS] = {"mark", "reduce", "by-list"};
 /* Which numbers each call gave in the trials. */
 static unsigned long given[CALLS][24];
@@ -208,6 +209,40 @@ static void table_row(char *line)
         }
     }
     fail("chokes.h has no refusal of this name");
+}
+
+/* Rows of the order of tests: | call | numbers |, those in brackets at one place. They are those of the table. */
+static void order_row(char *line)
+{
+    static const char *const rows[CALLS] = {"| Mark | 1 ", "| Reduce | 1 ", "| Reduce by list | 1 "};
+    unsigned long place = 0, tests = 0;
+    size_t i;
+    int call = 0, bracket = 0;
+    while (call < CALLS && strncmp(line, rows[call], strlen(rows[call])) != 0) {
+        call++;
+    }
+    if (call == CALLS) {
+        return;
+    }
+    line += strlen(rows[call]) - 2;
+    for (; *line != '|'; line += strspn(line, " ")) {
+        bracket = bracket || *line == '(';
+        place += bracket && *line != '(' ? 0 : 1;
+        line += *line == '(';
+        if (places[refusal(number(&line))][call] != place) {
+            fail("another place than in the table");
+        }
+        tests++;
+        bracket = bracket && *line != ')';
+        line += *line == ')';
+    }
+    for (i = 0; i < REFUSALS; i++) {
+        tests -= places[i][call] != 0;
+    }
+    if (tests != 0) {
+        fail("other tests than in the table");
+    }
+    order_seen[call]++;
 }
 
 /* The slices of a trial: those that are read, and the lengths of those that are written. */
@@ -510,6 +545,7 @@ static void document_line(char *line, int kind, struct bytes *dump, int carry_ou
         dump_line(line, dump);
     } else if (kind == TEXT && !carry_out) {
         table_row(line);
+        order_row(line);
     } else if ((kind == TRIALS || kind == SINGLE) && carry_out) {
         trial_line(line);
         if (kind == SINGLE) {
@@ -632,15 +668,10 @@ static void all_given(void)
     }
 }
 
-int main(int argc, char **argv)
+/* That the document has each dump, each refusal and each order once; the bytes of the dumps. */
+static size_t all_there(void)
 {
     size_t i, bytes = 0;
-    if (argc != 3) {
-        fprintf(stderr, "usage: format FORMAT.md JOB\n");
-        return 2;
-    }
-    document = argv[1];
-    read_document(0);
     line_number = 0;
     for (i = 0; i < DUMPS; i++) {
         if (dump_seen[i] != 1 || dumps[i].length == 0) {
@@ -655,6 +686,25 @@ int main(int argc, char **argv)
             fail("not one row in the table of refusals");
         }
     }
+    for (i = 0; i < CALLS; i++) {
+        if (order_seen[i] != 1) {
+            printf("%s: ", call_names[i]);
+            fail("not one row in the order of tests");
+        }
+    }
+    return bytes;
+}
+
+int main(int argc, char **argv)
+{
+    size_t bytes;
+    if (argc != 3) {
+        fprintf(stderr, "usage: format FORMAT.md JOB\n");
+        return 2;
+    }
+    document = argv[1];
+    read_document(0);
+    bytes = all_there();
     compare(argv[2]);
     read_document(1);
     all_given();
