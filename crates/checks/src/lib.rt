@@ -18,5 +18,8 @@ pub use header::check_header;
 pub use header::offsets_of;
 pub use spans::check_list;
 pub use spans::ends_fault;
+pub use sums::observation_total;
+pub use sums::own_total;
+pub use sums::source_count;
 pub use sums::sums_fault;
 pub use verdict::Verdict;

@@ -30,11 +30,8 @@ only-passed (TooManySpans d) = refl
 only-passed (SpanOffMap d) = refl
 only-passed (SpanCoincides d) = refl
 
-number-requires : tie.Need-number-requires
-number-requires c κs = search needs
-
 returns : tie.Need-returns
 returns c = ap (λ (n : ℕ). eqb n 0) (c .number .ensures) ∙ only-passed (c .before .args .self)
 
 pub passed-spec : {M : Type 1} → statement M
-passed-spec = tie.close (tie.spec number-requires returns)
+passed-spec = tie.close (tie.spec (λ c κs. search needs) returns)
