@@ -6,18 +6,6 @@ use Rattle.length.proofs.Doubling.{left-less, half-most, square-most, s
 use Rattle.length.proofs.doubled.Statement.{statement}
 use Rattle.length.proofs.doubled.Tie as tie
 
-mul-twice : tie.Need-mul-twice
-mul-twice c = search needs
-
-mul-over : tie.Need-mul-over
-mul-over c = search needs
-
-div-half : tie.Need-div-half
-div-half c = search needs
-
-mul-root : tie.Need-mul-root
-mul-root c = search needs
-
 add-root : tie.Need-add-root
 add-root c =
     let e = c .before .before .before in
@@ -25,9 +13,6 @@ add-root c =
     let q = e .args .r .rem in
     let p = e .pre in
     omega (arith, half-most r q (p .0) (p .1) (p .2))
-
-rem-rem : tie.Need-rem-rem
-rem-rem c = search needs
 
 mul-rem : tie.Need-mul-rem
 mul-rem c =
@@ -45,9 +30,6 @@ mul-square c =
     let p = e .pre in
     omega (arith, square-most r q (p .0) (p .1) (p .2))
 
-sub-t12 : tie.Need-sub-t12
-sub-t12 c = search needs
-
 mul-t13 : tie.Need-mul-t13
 mul-t13 c =
     let e = c .before .before .before .before in
@@ -55,9 +37,6 @@ mul-t13 c =
     let q = e .args .r .rem in
     let p = e .pre in
     omega (arith, half-most r q (p .0) (p .1) (p .2))
-
-sub-t14 : tie.Need-sub-t14
-sub-t14 c = search needs
 
 add-t15 : tie.Need-add-t15
 add-t15 c =
@@ -94,20 +73,5 @@ returns-2 c =
 
 pub doubled-spec : {M : Type 1} → statement M
 doubled-spec =
-    tie.close
-    (tie.spec
-    mul-twice
-    mul-over
-    div-half
-    mul-root
-    add-root
-    rem-rem
-    mul-rem
-    mul-square
-    sub-t12
-    mul-t13
-    sub-t14
-    add-t15
-    sub-t16
-    returns
-    returns-2)
+    tie.close (tie.spec (λ c. search needs) (λ c. search needs) (λ c. search needs) (λ c. search needs) add-root (λ c. search needs) mul-rem
+    mul-square (λ c. search needs) mul-t13 (λ c. search needs) add-t15 sub-t16 returns returns-2)

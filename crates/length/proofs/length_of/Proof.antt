@@ -23,9 +23,6 @@ returns : tie.Need-returns Inv-loop μ-loop
 unfolding isSquare
 returns c = rw (c .if1 .taken) (is-length 0 _ (omega arith) zero-nearest refl)
 
-root-of-requires : tie.Need-root-of-requires Inv-loop μ-loop
-root-of-requires c κs = omega arith
-
 int-to-float-t8 : tie.Need-int-to-float-t8 Inv-loop μ-loop
 int-to-float-t8 c =
     let after-root-of = c .before .before .before in
@@ -56,12 +53,6 @@ loop-holds c =
     let w = rooted (entry .args .d) r (after-root-of .root-of .ensures) in
     (start (entry .args .d) (r .root) (r .rem) (omega (arith, if1-left .if1 .left)) (entry .pre) w, root-lt {a = r .root} {b = 2 ^ 27} (omega (arith, w .sum)))
 
-digit-requires : tie.Need-digit-requires Inv-loop μ-loop
-digit-requires c κs = omega arith
-
-mul-p : tie.Need-mul-p Inv-loop μ-loop
-mul-p c = omega arith
-
 loop-less : tie.Need-loop-less Inv-loop μ-loop
 loop-less c =
     let in-loop = c .before .before .before in
@@ -75,9 +66,6 @@ loop-again c =
       turn _ (l .r .root) (l .r .rem) (l .p) (c .digit .result .root) (c .digit .result .rem) (l .inv .0) (omega arith) (c .digit .ensures),
       omega (arith, c .digit .ensures .most),
     )
-
-doubled-requires : tie.Need-doubled-requires Inv-loop μ-loop
-doubled-requires c κs = omega arith
 
 mul-p-2 : tie.Need-mul-p-2 Inv-loop μ-loop
 mul-p-2 c =
@@ -122,22 +110,5 @@ returns-3 c =
 
 pub length-of-spec : {M : Type 1} → statement M
 length-of-spec =
-    tie.close
-    (tie.spec
-    Inv-loop
-    μ-loop
-    returns
-    root-of-requires
-    int-to-float-t8
-    returns-2
-    loop-holds
-    digit-requires
-    mul-p
-    loop-less
-    loop-again
-    doubled-requires
-    mul-p-2
-    add-m
-    int-to-float-value
-    int-to-float-value-2
-    returns-3)
+    tie.close (tie.spec Inv-loop μ-loop returns (λ c κs. omega arith) int-to-float-t8 returns-2 loop-holds (λ c κs. omega arith) (λ c. omega arith)
+    loop-less loop-again (λ c κs. omega arith) mul-p-2 add-m int-to-float-value int-to-float-value-2 returns-3)
