@@ -3,6 +3,7 @@ mod bases;
 mod boundaries;
 mod cells;
 mod header;
+pub mod refusals;
 mod spans;
 mod sums;
 mod verdict;
