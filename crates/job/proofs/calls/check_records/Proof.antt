@@ -75,7 +75,9 @@ boundaries-at : (c : tie.After-size5) → c .before .size4 .result ≡ boundarie
 boundaries-at c = c .before .size4 .ensures .0 ∙ sections _ _ (start-of (size-at c) .pre) .boundaries-at
 
 ramps-told : (c : tie.After-check-ramps) → meaning (c .check-ramps .result) ≡ firstRefusal (over (size-at (c .before)) ramps)
-ramps-told c = moved (rampCheck (start-of (size-at (c .before)) .args .job .now)) (c .check-ramps .ensures) (boundaries-at (c .before)) (c .before .size5 .ensures .0)
+ramps-told c =
+    let sizes = c .before in
+    moved (rampCheck (start-of (size-at sizes) .args .job .now)) (c .check-ramps .ensures) (boundaries-at sizes) (sizes .size5 .ensures .0)
 
 mul-size : tie.Need-mul-size
 mul-size c = omega (arith, cells-limit _ (c .before .before .before .before .pre .within))
