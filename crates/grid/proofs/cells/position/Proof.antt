@@ -6,4 +6,4 @@ returns : tie.Need-returns
 returns c = λ g e. (rw e, rw e)
 
 pub position-spec : {M : Type 1} → statement M
-position-spec = tie.close (tie.spec (λ c. search needs) (λ c. search needs) returns)
+position-spec = tie.close (tie.spec (search needs) (search needs) returns)

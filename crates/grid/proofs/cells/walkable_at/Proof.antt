@@ -8,4 +8,4 @@ returns c =
     λ g e. c .is-walkable .ensures g (start .args .i) (rw e)
 
 pub walkable-at-spec : {M : Type 1} → statement M
-walkable-at-spec = tie.close (tie.spec (λ c. search needs) (λ c κs. search needs) returns)
+walkable-at-spec = tie.close (tie.spec (search needs) (search needs) returns)

@@ -13,4 +13,4 @@ returns-2 c =
     byte-in (start .args .cells .now) (start .args .i) (omega arith)
 
 pub byte-at-spec : {M : Type 1} → statement M
-byte-at-spec = tie.close (tie.spec returns (λ c. search needs) returns-2)
+byte-at-spec = tie.close (tie.spec returns (search needs) returns-2)

@@ -11,4 +11,4 @@ returns c =
     c .byte-at .ensures ∙ sym (ap (λ (o : CellIndex). byteOf (start .args .cells .now) (indexIn o)) (c .before .before .found .given .1))
 
 pub byte-of-spec : {M : Type 1} → statement M
-byte-of-spec = tie.close (tie.spec (λ c. search needs) (λ c κs. search needs) (λ c. search needs) returns (λ c. search needs))
+byte-of-spec = tie.close (tie.spec (search needs) (search needs) (search needs) returns (λ c. search needs))

@@ -45,4 +45,4 @@ returns c =
     (c .walkable-at2 .ensures g refl ∙ ap (walkable g) (beyond (c .before))))
 
 pub ends-walkable-spec : {M : Type 1} → statement M
-ends-walkable-spec = tie.close (tie.spec (λ c κs. search needs) walkable-at-requires neighbor-requires walkable-at-requires-2 returns)
+ends-walkable-spec = tie.close (tie.spec (search needs) walkable-at-requires neighbor-requires walkable-at-requires-2 returns)

@@ -7,4 +7,4 @@ returns : tie.Need-returns
 returns c = has-bit (c .args .directions) (c .args .d) (c .pre)
 
 pub has-direction-spec : {M : Type 1} → statement M
-has-direction-spec = tie.close (tie.spec (λ c. search needs) returns)
+has-direction-spec = tie.close (tie.spec (search needs) returns)

@@ -8,4 +8,4 @@ unfolding leadsOn
 returns c = λ g i e f h k. rw (h, k, e, f)
 
 pub leads-on-spec : {M : Type 1} → statement M
-leads-on-spec = tie.close (tie.spec (λ c. search needs) (λ c. search needs) returns)
+leads-on-spec = tie.close (tie.spec (search needs) (search needs) returns)

@@ -53,6 +53,4 @@ returns-4 c =
     (sym (c .before .before .is-diagonal .ensures) ∙ not-false _ (c .before .if3 .left)) (c .sides-walkable .ensures _ _ refl refl)
 
 pub step-at-spec : {M : Type 1} → statement M
-step-at-spec =
-    tie.close (tie.spec (λ c κs. search needs) returns ends-walkable-requires returns-2 (λ c κs. search needs) returns-3 sides-walkable-requires
-    returns-4)
+step-at-spec = tie.close (tie.spec (search needs) returns ends-walkable-requires returns-2 (search needs) returns-3 sides-walkable-requires returns-4)

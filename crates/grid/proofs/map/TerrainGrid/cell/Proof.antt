@@ -12,4 +12,4 @@ returns c =
     c .byte-of .ensures ∙ byte-on g (start .args .position) (start .args .cells .now) (indexIn (c .before .index .result)) e (c .before .index .ensures g w h)
 
 pub cell-spec : {M : Type 1} → statement M
-cell-spec = tie.close (tie.spec (λ c κs. search needs) (λ c κs. search needs) returns)
+cell-spec = tie.close (tie.spec (search needs) (search needs) returns)

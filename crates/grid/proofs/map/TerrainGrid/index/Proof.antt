@@ -40,4 +40,4 @@ returns-3 c =
     z ∙ on-map g p (omega arith) (omega arith)
 
 pub index-spec : {M : Type 1} → statement M
-index-spec = tie.close (tie.spec returns returns-2 (λ c κs. search needs) (λ c κs. search needs) mul-t10 (λ c κs. search needs) add-t12 returns-3)
+index-spec = tie.close (tie.spec returns returns-2 (search needs) (search needs) mul-t10 (search needs) add-t12 returns-3)
