@@ -1,3 +1,4 @@
+use Rattle.areas.specs.Strip.{tall}
 use mathlib.Core.List.{List}
 use mathlib.Core.Path.{_≡_, refl, _∙_, ap}
 use Prim.Native.Nat.{ℕ, _+_, _-_, _*_, _≤_}
@@ -5,7 +6,6 @@ use native.Mathlib.Omega.{arith}
 use lib.ListN.{length}
 use Rattle.areas.proofs.StripCells.{axis-on}
 use Rattle.areas.specs.Open.{openByte}
-use Rattle.areas.specs.Strip.{tall}
 use Rattle.areas.specs.declared.candidates.CellRange.{CellRange}
 use Rattle.grid.specs.Cells.{Grid, size}
 use Rattle.position.specs.declared.Span.{Span}
@@ -22,9 +22,6 @@ Inv-loop span width height work₀ base last c₀ work c = (c₀ ≤ c) × (leng
 
 abbrev μ-loop : tie.MeasureT-loop
 μ-loop span width height work₀ base last c₀ work c = last + 1 - c
-
-strip-axis-requires : tie.Need-strip-axis-requires Inv-loop μ-loop
-strip-axis-requires c κs = search needs
 
 loop-holds : tie.Need-loop-holds Inv-loop μ-loop
 loop-holds c =
@@ -55,11 +52,6 @@ add-c c =
     let q = limit-small (start .pre .0) (tall (start .args .span)) in
     omega (arith, turning .loop-test .taken)
 
-loop-less : tie.Need-loop-less Inv-loop μ-loop
-loop-less c =
-    let turning = c .before .before .before .before in
-    omega (arith, turning .loop-test .taken)
-
 loop-again : tie.Need-loop-again Inv-loop μ-loop
 loop-again c =
     let at-close-line = c .before .before in
@@ -69,9 +61,6 @@ loop-again c =
       at-close-line .close-line .kept .1 .1 .1 .1 .0 ∙ inv .1,
       λ g dirs ss b m hf. at-close-line .close-line .ensures g dirs ss b m (inv .2 g dirs ss b m hf),
     )
-
-same-length : tie.Need-same-length Inv-loop μ-loop
-same-length c = c .before .loop .inv .1
 
 returns : tie.Need-returns Inv-loop μ-loop
 returns c =
@@ -84,15 +73,5 @@ returns c =
 
 pub close-cut-spec : {M : Type 1} → statement M
 close-cut-spec =
-    tie.close
-    (tie.spec
-    Inv-loop
-    μ-loop
-    strip-axis-requires
-    loop-holds
-    close-line-requires
-    add-c
-    loop-less
-    loop-again
-    same-length
+    tie.close (tie.spec Inv-loop μ-loop (λ c κs. search needs) loop-holds close-line-requires add-c (search needs) loop-again (λ c. search needs)
     returns)

@@ -19,9 +19,6 @@ Inv-loop span width height c work₀ base tall last cm₀ work cm = (cm₀ ≤ c
 abbrev μ-loop : tie.MeasureT-loop
 μ-loop span width height c work₀ base tall last cm₀ work cm = last + 1 - cm
 
-is-tall-requires : tie.Need-is-tall-requires Inv-loop μ-loop
-is-tall-requires c κs = search needs
-
 strip-minor-requires : tie.Need-strip-minor-requires Inv-loop μ-loop
 strip-minor-requires c κs =
     let start = c .before .before in
@@ -39,9 +36,6 @@ loop-holds c =
           (start .args .c * 1024 + min (c .strip-minor .result .first) 1024) (omega arith)
           (λ i l q r z. before-minor m (start .pre .0) (start .args .span) (start .args .c) i l q (omega arith) z) hf,
     )
-
-place-at-requires : tie.Need-place-at-requires Inv-loop μ-loop
-place-at-requires c κs = search needs
 
 close-cell-requires : tie.Need-close-cell-requires Inv-loop μ-loop
 close-cell-requires c κs =
@@ -66,11 +60,6 @@ add-cm c =
     let e = ap (λ (r : CellRange). r .last) (after-strip-minor .strip-minor .ensures) in
     let on = minor-on (start .pre .0) (start .args .span) (start .args .c) in
     let q = limit-small (start .pre .0) (tall (start .args .span)) in
-    omega (arith, turning .loop-test .taken)
-
-loop-less : tie.Need-loop-less Inv-loop μ-loop
-loop-less c =
-    let turning = c .before .before .before .before .before in
     omega (arith, turning .loop-test .taken)
 
 loop-again : tie.Need-loop-again Inv-loop μ-loop
@@ -100,9 +89,6 @@ loop-again c =
           (half-at (rankAt s (after-place-at .place-at .result .x) (after-place-at .place-at .result .y)) (omega arith) (inv .2 g dirs ss b m hf))),
     )
 
-same-length : tie.Need-same-length Inv-loop μ-loop
-same-length c = c .before .loop .inv .1
-
 returns : tie.Need-returns Inv-loop μ-loop
 returns c =
     let start = c .before .before .before .before .before in
@@ -115,17 +101,5 @@ returns c =
 
 pub close-line-spec : {M : Type 1} → statement M
 close-line-spec =
-    tie.close
-    (tie.spec
-    Inv-loop
-    μ-loop
-    is-tall-requires
-    strip-minor-requires
-    loop-holds
-    place-at-requires
-    close-cell-requires
-    add-cm
-    loop-less
-    loop-again
-    same-length
-    returns)
+    tie.close (tie.spec Inv-loop μ-loop (λ c κs. search needs) strip-minor-requires loop-holds (λ c κs. search needs) close-cell-requires add-cm
+    (search needs) loop-again (λ c. search needs) returns)
