@@ -13,16 +13,10 @@ use Rattle.assessments.proofs.steps.assess_step.Tie as tie
 abbrev start-of : tie.After-slice-known2 → tie.Start
 start-of c = c .before .before .before .before
 
-has-direction-requires : tie.Need-has-direction-requires
-has-direction-requires c κs = search needs
-
 returns : tie.Need-returns
 returns c =
     let start = start-of (c .before .before) in
     (grown-none 1 (start .pre .4), advance-none _ (not-among _ _ _ _ _ (sym (c .before .has-direction .ensures) ∙ not-true _ (c .if1 .taken))))
-
-step-at-requires : tie.Need-step-at-requires
-step-at-requires c κs = search needs
 
 returns-2 : tie.Need-returns-2
 returns-2 c =
@@ -59,12 +53,6 @@ returns-3 c =
           (after-place-to .place-to .ensures .0) (c .before .cut-by .ensures)) ∙ not-true _ (c .if3 .taken))),
     )
 
-index-requires : tie.Need-index-requires
-index-requires c κs = search needs
-
-index-requires-2 : tie.Need-index-requires-2
-index-requires-2 c κs = search needs
-
 count-step-requires : tie.Need-count-step-requires
 count-step-requires c κs =
     let after-index = c .before .before .before in
@@ -83,12 +71,6 @@ count-step-requires c κs =
           (there-on position (start .pre .0) (start .pre .1) (start .pre .2) (start .args .d) t) j,
       p .4,
     )
-
-same-length : tie.Need-same-length
-same-length c = search needs
-
-same-length-2 : tie.Need-same-length-2
-same-length-2 c = search needs
 
 returns-4 : tie.Need-returns-4
 returns-4 c =
@@ -120,18 +102,5 @@ returns-4 c =
 
 pub assess-step-spec : {M : Type 1} → statement M
 assess-step-spec =
-    tie.close
-    (tie.spec
-    has-direction-requires
-    returns
-    step-at-requires
-    returns-2
-    place-to-requires
-    cut-by-requires
-    returns-3
-    index-requires
-    index-requires-2
-    count-step-requires
-    same-length
-    same-length-2
-    returns-4)
+    tie.close (tie.spec (λ c κs. search needs) returns (λ c κs. search needs) returns-2 place-to-requires cut-by-requires returns-3
+    (λ c κs. search needs) (λ c κs. search needs) count-step-requires (λ c. search needs) (λ c. search needs) returns-4)
