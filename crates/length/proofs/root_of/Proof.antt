@@ -33,5 +33,5 @@ returns c =
 
 pub root-of-spec : {M : Type 1} → statement M
 root-of-spec =
-    tie.close (tie.spec Inv-loop μ-loop (λ c. omega arith) (λ c. search needs) (λ c. omega arith) (λ c. omega arith) (λ c. omega arith) digit-requires
-    (λ c. search needs) loop-again returns)
+    tie.close (tie.spec Inv-loop μ-loop (search needs) (search needs) (search needs) (search needs) (search needs) digit-requires (search needs)
+    loop-again returns)

@@ -14,4 +14,4 @@ unfolding totalKey
 returns-2 c = simp (le-ltb _ _ (c .if1 .left), lt-ltb (c .before .args .bits) 0x1_0000_0000_0000_0000 (omega arith))
 
 pub total-key-spec : {M : Type 1} → statement M
-total-key-spec = tie.close (tie.spec (λ c. search needs) (λ c. search needs) returns returns-2)
+total-key-spec = tie.close (tie.spec (search needs) (search needs) returns returns-2)
