@@ -13,41 +13,41 @@ join-if-requires c κs =
 
 join-if-requires-2 : tie.Need-join-if-requires-2
 join-if-requires-2 c κs =
-    let after-join-if = c .before .before .before in
-    let start = after-join-if .before .before .before in
-    asked _ _ _ (start .pre .3) (λ m u. after-join-if .join-if .ensures .usable m u) 1 (omega arith) refl
+    let first = c .before .before .before in
+    let start = first .before .before .before in
+    asked _ _ _ (start .pre .3) (λ m u. first .join-if .ensures .usable m u) 1 (omega arith) refl
     (to-left _ _ (start .pre .0))
 
 join-if-requires-3 : tie.Need-join-if-requires-3
 join-if-requires-3 c κs =
-    let after-join-if2 = c .before .before .before in
-    let after-join-if = after-join-if2 .before .before .before .before in
-    let start = after-join-if .before .before .before in
+    let second = c .before .before .before in
+    let first = second .before .before .before .before in
+    let start = first .before .before .before in
     asked _ _ _ (start .pre .3)
-    (λ m u. after-join-if2 .join-if2 .ensures .usable m (after-join-if .join-if .ensures .usable m u)) 2 (omega arith) refl
+    (λ m u. second .join-if2 .ensures .usable m (first .join-if .ensures .usable m u)) 2 (omega arith) refl
     (to-below _ _)
 
 join-if-requires-4 : tie.Need-join-if-requires-4
 join-if-requires-4 c κs =
-    let after-join-if3 = c .before .before .before in
-    let after-join-if2 = after-join-if3 .before .before .before .before in
-    let after-join-if = after-join-if2 .before .before .before .before in
-    let start = after-join-if .before .before .before in
+    let third = c .before .before .before in
+    let second = third .before .before .before .before in
+    let first = second .before .before .before .before in
+    let start = first .before .before .before in
     asked _ _ _ (start .pre .3)
-    (λ m u. after-join-if3 .join-if3 .ensures .usable m (after-join-if2 .join-if2 .ensures .usable m (after-join-if .join-if .ensures .usable m u))) 3
+    (λ m u. third .join-if3 .ensures .usable m (second .join-if2 .ensures .usable m (first .join-if .ensures .usable m u))) 3
     (omega arith) refl (to-last _ _)
 
 returns : tie.Need-returns
 returns c =
-    let after-join-if3 = c .before .before .before .before .before .before in
-    let after-join-if2 = after-join-if3 .before .before .before .before in
-    let after-join-if = after-join-if2 .before .before .before .before in
-    let start = after-join-if .before .before .before in
+    let third = c .before .before .before .before .before .before in
+    let second = third .before .before .before .before in
+    let first = second .before .before .before .before in
+    let start = first .before .before .before in
     let byte = start .args .byte in
     joined-from _ _ _
-    (as-bit _ byte _ 0 (first-bit byte) (to-right _ _) (after-join-if .join-if .ensures))
-    (as-bit _ byte _ 1 refl (to-left _ _ (start .pre .0)) (after-join-if2 .join-if2 .ensures))
-    (as-bit _ byte _ 2 refl (to-below _ _) (after-join-if3 .join-if3 .ensures))
+    (as-bit _ byte _ 0 (first-bit byte) (to-right _ _) (first .join-if .ensures))
+    (as-bit _ byte _ 1 refl (to-left _ _ (start .pre .0)) (second .join-if2 .ensures))
+    (as-bit _ byte _ 2 refl (to-below _ _) (third .join-if3 .ensures))
     (as-bit _ byte _ 3 refl (to-last _ _) (c .before .before .join-if4 .ensures))
 
 pub join-bits-spec : {M : Type 1} → statement M
