@@ -1,10 +1,12 @@
 -- The records are the pairs of each span, the span's place being the owner.
-use mathlib.Core.Path.{_≡_, sym, subst}
+use mathlib.Core.Path.{_≡_, sym, ap, subst}
 use mathlib.Core.Logic.{_↔_, ⊎-elim}
 use mathlib.Core.List.{List, [], _∷_, map, List·Memᴰ, List·Memᴰ·not-nil, List·Memᴰ·append-cases, Memᴰ·append-left, Memᴰ·append-right, Memᴰ·map, Memᴰ·of-map}
-use Prim.Native.Nat.{ℕ, zero, suc, _+_, _<_}
+use Prim.Native.Nat.{ℕ, zero, suc, _+_, _≤_, _<_}
 use native.Mathlib.Omega.{arith}
 use lib.ListN.{length, getD, length-map, List·getD-map}
+use Rattle.order.specs.Pairs.{Pairs, none}
+use Rattle.order.proofs.Pairs.{pairs-all, pairs-append, pairs-map}
 use Rattle.position.specs.declared.Span.{Span}
 use Rattle.graph.specs.Records.{Record}
 use Rattle.grid.specs.Cells.{Grid}
@@ -38,6 +40,21 @@ module _ (d : List RegionPair) where
       let e : r .owner ≡ i = omega arith in
       Memᴰ·append-left (owned (suc i) rest) (subst (λ (k : ℕ). List·Memᴰ r (map (recordOf k) ps)) e (Memᴰ·map (recordOf (r .owner)) m))
   own-owned i (ps ∷ rest) (suc k) r l o m = Memᴰ·append-right (map (recordOf i) ps) (own-owned (suc i) rest k r (omega arith) (omega arith) m)
+
+-- they stand in the order of their owners
+owned-rising : (i : ℕ) (pss : List (List RegionPair)) → Pairs (λ (r s : Record). r .owner ≤ s .owner) (owned i pss)
+unfolding owned
+owned-rising i [] = none
+owned-rising i (ps ∷ rest) =
+    pairs-append (pairs-map (recordOf i) {R = λ p q. i ≤ i} (λ p q l. l) (pairs-all (λ p q. omega arith) ps)) (owned-rising (suc i) rest)
+    (λ r s m n.
+    let own : r .owner ≡ i = ap (λ (x : Record). x .owner) (sym (Memᴰ·of-map (recordOf i) ps m .2)) in
+    let later = owned-own [] (suc i) rest n in
+    omega (arith, own, later .owner))
+
+pub records-rising : (dirs : List ℕ) (g : Grid) (ss : List Span) → Pairs (λ (r s : Record). r .owner ≤ s .owner) (records dirs g ss)
+unfolding records
+records-rising dirs g ss = owned-rising 0 (map (λ s. assess dirs g ss s .pairs) ss)
 
 module _ (dirs : List ℕ) (g : Grid) (ss : List Span) (d : Span) where
   pairsOf : Span → List RegionPair

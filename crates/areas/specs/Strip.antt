@@ -2,8 +2,10 @@
 -- whose centres are at most 8 pixels past its ends; on the other axis, those whose centres are at most 16 pixels from the line. 002 looks
 -- to a margin of 16 pixels past the ends, and 3 cells to either side of the line: the strip lies within that (`axis-stated`, `minor-stated`).
 use mathlib.Core.Bool.{Bool, cond}
+use mathlib.Core.List.{List}
 use Prim.Native.Nat.{ℕ, _+_, _*_, _-_, _/_, _≤_, _<_, min, max}
 use lib.Dec.{leb, ltb}
+use Rattle.order.specs.Lists.{upFrom}
 use Rattle.position.specs.declared.Span.{Span}
 use Rattle.grid.specs.Cells.{Grid, indexOf, columnOf, rowOf}
 use Rattle.areas.specs.declared.candidates.CellRange.{CellRange}
@@ -41,6 +43,10 @@ axisRange minimum maximum limit = centred (minimum - reach) (maximum + reach) li
 -- the rows or columns about a pixel
 unfoldable pub minorRange : ℕ → ℕ → CellRange
 minorRange reference limit = centred (reference - spread) (reference + spread) limit
+
+-- the numbers of a range, in order
+abbrev pub numbersOf : CellRange → List ℕ
+numbersOf r = upFrom (r .first) (r .last + 1 - r .first)
 
 abbrev pub InRange : CellRange → ℕ → Type 0
 InRange r k = (r .first ≤ k) × (k ≤ r .last)

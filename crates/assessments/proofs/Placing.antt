@@ -13,12 +13,12 @@ use Rattle.grid.specs.Cells.{Grid}
 use Rattle.areas.specs.Assessments.{Assessment, assessment}
 use Rattle.areas.specs.Spans.{Sides}
 use Rattle.areas.specs.declared.candidates.CellRange.{CellRange}
-use Rattle.areas.specs.Strip.{tall, cellOf, stripAxis, stripMinor}
+use Rattle.areas.specs.Strip.{numbersOf, tall, cellOf, stripAxis, stripMinor}
 use Rattle.areas.proofs.StripCells.{axis-on, minor-on}
 use Rattle.marking.proofs.Halves.{place-fits}
 use Rattle.assessments.specs.declared.steps.Assessed.{Assessed}
 use Rattle.assessments.specs.Holding.{pairsIn, Holds, Room}
-use Rattle.assessments.specs.Visits.{mapOf, within, cutFrom, cutBeside, cutAlong}
+use Rattle.assessments.specs.Visits.{mapOf, cutFrom, cutBeside, cutAlong}
 
 pub limit-small : {w h : ℕ} → Sides w h → (s : Span) {c : ℕ} → c < cond (tall s) h w → c < 1024
 limit-small {w} {h} d s {c} l = go (tall s) l
@@ -75,12 +75,12 @@ lower h l = omega arith
 pub beside-is : (dirs : List ℕ) (g : Grid) (s : Span) (c : ℕ) (r : CellRange) → r ≡ stripMinor (g .width) (g .height) s c →
     cutBeside dirs g s c ≡ gather (λ cm. cutFrom dirs g s (cellOf g s c cm)) (upFrom (r .first) (r .last + 1 - r .first))
 unfolding cutBeside
-beside-is dirs g s c r e = ap (λ (z : CellRange). gather (λ cm. cutFrom dirs g s (cellOf g s c cm)) (within z)) (sym e)
+beside-is dirs g s c r e = ap (λ (z : CellRange). gather (λ cm. cutFrom dirs g s (cellOf g s c cm)) (numbersOf z)) (sym e)
 
 pub along-is : (dirs : List ℕ) (g : Grid) (s : Span) (r : CellRange) → r ≡ stripAxis (g .width) (g .height) s →
     cutAlong dirs g s ≡ gather (cutBeside dirs g s) (upFrom (r .first) (r .last + 1 - r .first))
 unfolding cutAlong
-along-is dirs g s r e = ap (λ (z : CellRange). gather (cutBeside dirs g s) (within z)) (sym e)
+along-is dirs g s r e = ap (λ (z : CellRange). gather (cutBeside dirs g s) (numbersOf z)) (sym e)
 
 pub holds-as : {most : ℕ} {a b : Assessment} {lefts₀ rights₀ lefts rights : List ℕ} {start : ℕ} {s : Assessed} → a ≡ b
     → Holds most a lefts₀ rights₀ start lefts rights s → Holds most b lefts₀ rights₀ start lefts rights s

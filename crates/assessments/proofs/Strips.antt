@@ -23,18 +23,18 @@ use Rattle.position.specs.declared.Span.{Span}
 use Rattle.graph.specs.Path.{Edge}
 use Rattle.grid.specs.Cells.{Grid, Whole, columnOf, rowOf}
 use Rattle.grid.specs.Directions.{right, directionsOf}
-use Rattle.grid.specs.Steps.{neighbour, columnTo, rowTo, hasStep, Step, StepBy, stepOf, steps}
+use Rattle.grid.specs.Steps.{neighbour, columnTo, rowTo, hasStep, Step, StepBy, stepOf}
 use Rattle.grid.proofs.Index.{index-split, column-in, walkable-on}
 use Rattle.grid.proofs.Steps.{Leads, leads-means, has-step, step-has, neighbour-one}
 use Rattle.grid.proofs.StepList.{steps-iff, steps-distinct}
 use Rattle.areas.specs.Cuts.{cutBy, cutSteps}
 use Rattle.areas.specs.Spans.{Sides}
-use Rattle.areas.specs.Strip.{tall, stripAxis, stripMinor, majorOf, minorOf, cellOf}
+use Rattle.areas.specs.Strip.{numbersOf, tall, stripAxis, stripMinor, majorOf, minorOf, cellOf}
 use Rattle.areas.specs.Assessments.{isSeparated, labelPair, assessment}
 use Rattle.areas.proofs.Assessments.{pair-order}
 use Rattle.areas.proofs.Cuts.{cut-steps-iff}
 use Rattle.areas.proofs.StripCells.{axis-on, minor-on, in-within, cut-in, cell-major}
-use Rattle.assessments.specs.Visits.{within, isCutIn, cutIn, cutFrom, cutBeside, cutAlong}
+use Rattle.assessments.specs.Visits.{isCutIn, cutIn, cutFrom, cutBeside, cutAlong}
 
 -- an assessment does not depend on the order of the steps
 perm-length : {A : Type 0} {l m : List A} → List·Permᴰ l m → length l ≡ length m
@@ -139,18 +139,18 @@ module _ (dirs : List ℕ) (g : Grid) (s : Span) where
           omega arith
 
   -- from the cells of the strip at c
-  beside-mem : (c : ℕ) {e : Edge} → List·Memᴰ e (cutBeside dirs g s c) → (cm : ℕ) × List·Memᴰ cm (within (stripMinor (g .width) (g .height) s c))
+  beside-mem : (c : ℕ) {e : Edge} → List·Memᴰ e (cutBeside dirs g s c) → (cm : ℕ) × List·Memᴰ cm (numbersOf (stripMinor (g .width) (g .height) s c))
       × List·Memᴰ e (cutFrom dirs g s (cellOf g s c cm))
   unfolding cutBeside
-  beside-mem c m = gather-mem (λ cm. cutFrom dirs g s (cellOf g s c cm)) (within (stripMinor (g .width) (g .height) s c)) m
+  beside-mem c m = gather-mem (λ cm. cutFrom dirs g s (cellOf g s c cm)) (numbersOf (stripMinor (g .width) (g .height) s c)) m
 
-  along-mem : {e : Edge} → List·Memᴰ e (cutAlong dirs g s) → (c : ℕ) × List·Memᴰ c (within (stripAxis (g .width) (g .height) s))
+  along-mem : {e : Edge} → List·Memᴰ e (cutAlong dirs g s) → (c : ℕ) × List·Memᴰ c (numbersOf (stripAxis (g .width) (g .height) s))
       × List·Memᴰ e (cutBeside dirs g s c)
   unfolding cutAlong
-  along-mem m = gather-mem (cutBeside dirs g s) (within (stripAxis (g .width) (g .height) s)) m
+  along-mem m = gather-mem (cutBeside dirs g s) (numbersOf (stripAxis (g .width) (g .height) s)) m
 
-  mem-along : (c cm : ℕ) {e : Edge} → List·Memᴰ c (within (stripAxis (g .width) (g .height) s))
-      → List·Memᴰ cm (within (stripMinor (g .width) (g .height) s c)) →
+  mem-along : (c cm : ℕ) {e : Edge} → List·Memᴰ c (numbersOf (stripAxis (g .width) (g .height) s))
+      → List·Memᴰ cm (numbersOf (stripMinor (g .width) (g .height) s c)) →
       List·Memᴰ e (cutFrom dirs g s (cellOf g s c cm)) → List·Memᴰ e (cutAlong dirs g s)
   unfolding cutAlong cutBeside
   mem-along c cm a b m = mem-gather (cutBeside dirs g s) a (mem-gather (λ cm. cutFrom dirs g s (cellOf g s c cm)) b m)
@@ -183,7 +183,8 @@ module _ (dirs : List ℕ) (g : Grid) (whole : Whole g) (sides : Sides (g .width
           (sym (from-left dirs g s (cellOf g s c m) p) ∙ (ap (λ (x : Edge). x .left) e ∙ from-left dirs g s (cellOf g s c n) q))
 
   -- where a step of the strip at c starts
-  beside-major : (c : ℕ) {e : Edge} → List·Memᴰ c (within (stripAxis (g .width) (g .height) s)) → List·Memᴰ e (cutBeside dirs g s c) → majorOf g s (e .left) ≡ c
+  beside-major : (c : ℕ) {e : Edge} → List·Memᴰ c (numbersOf (stripAxis (g .width) (g .height) s)) → List·Memᴰ e (cutBeside dirs g s c)
+      → majorOf g s (e .left) ≡ c
   beside-major c {e} a m =
       let w = beside-mem dirs g s c m in
       let x = up-mem _ _ a in
@@ -200,7 +201,8 @@ module _ (dirs : List ℕ) (g : Grid) (whole : Whole g) (sides : Sides (g .width
       (up-strict (stripAxis (g .width) (g .height) s .first)
       (stripAxis (g .width) (g .height) s .last + 1 - stripAxis (g .width) (g .height) s .first))))
     where
-      across : (m n : ℕ) → (m < n) × List·Memᴰ m (within (stripAxis (g .width) (g .height) s)) × List·Memᴰ n (within (stripAxis (g .width) (g .height) s)) →
+      across : (m n : ℕ)
+          → (m < n) × List·Memᴰ m (numbersOf (stripAxis (g .width) (g .height) s)) × List·Memᴰ n (numbersOf (stripAxis (g .width) (g .height) s)) →
           (b d : Edge) → List·Memᴰ b (cutBeside dirs g s m) → List·Memᴰ d (cutBeside dirs g s n) → b ≡ d → ⊥
       across m n (l, u, v) b d p q e =
           let f = beside-major m u p in

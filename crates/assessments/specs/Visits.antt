@@ -2,17 +2,16 @@
 use mathlib.Core.Path.{_≡_}
 use mathlib.Core.Bool.{Bool, cond, _&&_}
 use mathlib.Core.List.{List, [], _∷_}
-use Prim.Native.Nat.{ℕ, _+_, _*_, _-_}
+use Prim.Native.Nat.{ℕ, _*_}
 use lib.ListN.{length}
 use Rattle.order.specs.Lists.{gather, upFrom, has}
 use Rattle.position.specs.declared.Span.{Span}
 use Rattle.graph.specs.Path.{Edge}
 use Rattle.grid.specs.Cells.{Grid}
 use Rattle.grid.specs.Steps.{hasStep, neighbour, stepOf}
-use Rattle.areas.specs.declared.candidates.CellRange.{CellRange}
 use Rattle.areas.specs.Spans.{SpanFits, Sides}
 use Rattle.areas.specs.Cuts.{cutBy}
-use Rattle.areas.specs.Strip.{stripAxis, stripMinor, cellOf}
+use Rattle.areas.specs.Strip.{numbersOf, stripAxis, stripMinor, cellOf}
 
 abbrev pub mapOf : ℕ → ℕ → List ℕ → Grid
 mapOf width height cs = record { width = width; height = height; cells = cs }
@@ -23,10 +22,6 @@ pub record OnMap (width height : ℕ) (cs labels : List ℕ) (s : Span) : Type 0
   pub whole : length cs ≡ width * height
   pub labelled : length labels ≡ 4 * (width * height)
   pub span : SpanFits width height s
-
--- the numbers of a range
-abbrev pub within : CellRange → List ℕ
-within r = upFrom (r .first) (r .last + 1 - r .first)
 
 module _ (dirs : List ℕ) (g : Grid) (s : Span) where
   -- the direction is in the set, and the span cuts the step from the cell in it
@@ -47,9 +42,9 @@ module _ (dirs : List ℕ) (g : Grid) (s : Span) where
   -- from the cells of the strip at one column, or row, along the span
   unfoldable pub cutBeside : ℕ → List Edge
   unfolding cutFrom gather upFrom stripMinor cellOf
-  cutBeside c = gather (λ cm. cutFrom (cellOf g s c cm)) (within (stripMinor (g .width) (g .height) s c))
+  cutBeside c = gather (λ cm. cutFrom (cellOf g s c cm)) (numbersOf (stripMinor (g .width) (g .height) s c))
 
   -- from all cells of the strip
   unfoldable pub cutAlong : List Edge
   unfolding cutBeside gather upFrom stripAxis
-  cutAlong = gather cutBeside (within (stripAxis (g .width) (g .height) s))
+  cutAlong = gather cutBeside (numbersOf (stripAxis (g .width) (g .height) s))

@@ -6,7 +6,7 @@ ghost use Rattle.grid.specs.Directions.{directionsOf};
 ghost use Rattle.assessments.specs.Visits.{mapOf};
 ghost use Rattle.assessments.specs.Recording.{Recorded, SpansOnMap, Arrays, Filled};
 use super::strip::assess_span;
-use marking::spans::span_at;
+use areas::spans::span_at;
 
 // Puts v at the places from start to end.
 fn fill(numbers: &mut [u32], start: usize, end: usize, v: u32)

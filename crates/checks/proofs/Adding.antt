@@ -1,5 +1,5 @@
 -- Sums over rows, as a loop adds them up.
-use mathlib.Core.Path.{_≡_, refl, _∙_, ap}
+use mathlib.Core.Path.{_≡_, refl, sym, _∙_, ap}
 use mathlib.Core.List.{map}
 use Prim.Native.Nat.{ℕ, _+_, _*_, _≤_, _<_}
 use native.Mathlib.Numerals.{add-one}
@@ -30,3 +30,6 @@ added-end {f} {n} {i} {t} a h =
 -- A field's sum over the rows of records.
 pub sum-field : {A : Type 0} (g : A → ℕ) (n : ℕ) (f : ℕ → A) → sum (map g (rows n f)) ≡ sum (rows n (λ i. g (f i)))
 sum-field g n f = ap sum (map-rows g n f)
+
+pub added-all : {A : Type 0} (g : A → ℕ) {r : ℕ → A} {n i t : ℕ} → Added (λ k. g (r k)) n i t → n ≤ i → t ≡ sum (map g (rows n r))
+added-all g {r} {n} a h = added-end a h ∙ sym (sum-field g n r)

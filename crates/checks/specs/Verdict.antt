@@ -3,32 +3,34 @@ use Prim.Native.Nat.{ℕ}
 use mathlib.Core.Bool.{Bool, true, false}
 use mathlib.Core.Option.{Option, none, some}
 use Rattle.checks.specs.Checks.{Refusal}
+use Rattle.checks.specs.Numbers.{jobTooShort, badSides, tooManyRecords, tooManyBoundaries, badLayout, badCell, anchorOffMap, badSums, badRamp}
+use Rattle.checks.specs.Numbers.{badWidth, endOffMap, endsCoincide, badListLength, tooManySpans, spanOffMap, spanEndsCoincide}
 use Rattle.checks.specs.declared.verdict.Verdict.{Verdict}
-use Rattle.checks.specs.declared.verdict.Verdict.the-variants.{Passed, ShortHeader, MapSize, TooMany, TooManyBoundaries, Layout, CellBits, AnchorOffMap}
-use Rattle.checks.specs.declared.verdict.Verdict.the-variants.{CountsDiffer, RampForm, WidthRange, EndOffMap, EndsCoincide, ListLength, TooManySpans}
-use Rattle.checks.specs.declared.verdict.Verdict.the-variants.{SpanOffMap, SpanCoincides}
+use Rattle.checks.specs.declared.verdict.Verdict.the-variants.{Passed, JobTooShort, BadSides, TooManyRecords, TooManyBoundaries, BadLayout, BadCell}
+use Rattle.checks.specs.declared.verdict.Verdict.the-variants.{AnchorOffMap, BadSums, BadRamp, BadWidth, EndOffMap, EndsCoincide, BadListLength}
+use Rattle.checks.specs.declared.verdict.Verdict.the-variants.{TooManySpans, SpanOffMap, SpanEndsCoincide}
 
 abbrev refused : ℕ → ℕ → Option Refusal
 refused n d = some (record { number = n; detail = d })
 
 abbrev pub meaning : Verdict → Option Refusal
 meaning Passed = none
-meaning ShortHeader = refused 1 0
-meaning MapSize = refused 2 0
-meaning TooMany = refused 3 0
-meaning (TooManyBoundaries n) = refused 4 n
-meaning Layout = refused 5 0
-meaning (CellBits i) = refused 6 i
-meaning (AnchorOffMap i) = refused 7 i
-meaning CountsDiffer = refused 8 0
-meaning (RampForm i) = refused 9 i
-meaning (WidthRange i) = refused 10 i
-meaning (EndOffMap i) = refused 11 i
-meaning (EndsCoincide i) = refused 12 i
-meaning ListLength = refused 14 0
-meaning (TooManySpans n) = refused 15 n
-meaning (SpanOffMap i) = refused 16 i
-meaning (SpanCoincides i) = refused 17 i
+meaning JobTooShort = refused jobTooShort 0
+meaning BadSides = refused badSides 0
+meaning TooManyRecords = refused tooManyRecords 0
+meaning (TooManyBoundaries n) = refused tooManyBoundaries n
+meaning BadLayout = refused badLayout 0
+meaning (BadCell i) = refused badCell i
+meaning (AnchorOffMap i) = refused anchorOffMap i
+meaning BadSums = refused badSums 0
+meaning (BadRamp i) = refused badRamp i
+meaning (BadWidth i) = refused badWidth i
+meaning (EndOffMap i) = refused endOffMap i
+meaning (EndsCoincide i) = refused endsCoincide i
+meaning BadListLength = refused badListLength 0
+meaning (TooManySpans n) = refused tooManySpans n
+meaning (SpanOffMap i) = refused spanOffMap i
+meaning (SpanEndsCoincide i) = refused spanEndsCoincide i
 
 abbrev pub passes : Option Refusal → Bool
 passes none = true

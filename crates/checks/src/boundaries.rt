@@ -36,7 +36,7 @@ pub fn check_ramps(job: &[u8], at: usize, n: usize) -> Verdict
     while i < n {
         let b = read_boundary(job, at + i * BOUNDARY_SIZE);
         if ramp_fault(b.ramp) {
-            return Verdict::RampForm(i);
+            return Verdict::BadRamp(i);
         }
         i += 1;
     }
@@ -51,7 +51,7 @@ pub fn check_widths(job: &[u8], at: usize, n: usize) -> Verdict
     while i < n {
         let b = read_boundary(job, at + i * BOUNDARY_SIZE);
         if width_fault(b.bits) {
-            return Verdict::WidthRange(i);
+            return Verdict::BadWidth(i);
         }
         i += 1;
     }

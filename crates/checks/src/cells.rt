@@ -17,7 +17,7 @@ pub fn check_cells(job: &[u8], n: usize) -> Verdict
     let mut i: usize = 0;
     while i < n {
         if CELL_LIMIT <= job[HEADER_SIZE + i] {
-            return Verdict::CellBits(i);
+            return Verdict::BadCell(i);
         }
         i += 1;
     }

@@ -76,16 +76,16 @@ pub fn check_header(h: Header) -> Verdict
     let c = h.counts;
     let o = h.offsets;
     if size_fault(c) {
-        return Verdict::MapSize;
+        return Verdict::BadSides;
     }
     if count_fault(c) {
-        return Verdict::TooMany;
+        return Verdict::TooManyRecords;
     }
     if boundary_count_fault(c) {
         return Verdict::TooManyBoundaries(c.boundaries as usize);
     }
     if !same_offsets(o, offsets_of(c)) {
-        return Verdict::Layout;
+        return Verdict::BadLayout;
     }
     Verdict::Passed
 }

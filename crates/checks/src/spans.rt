@@ -41,7 +41,7 @@ fn check_spans(list: &[u8], n: usize, width: u32, height: u32) -> Verdict
             return Verdict::SpanOffMap(i);
         }
         if e.coincides() {
-            return Verdict::SpanCoincides(i);
+            return Verdict::SpanEndsCoincide(i);
         }
         i += 1;
     }
@@ -53,7 +53,7 @@ pub fn check_list(list: &[u8], width: u32, height: u32) -> Verdict
     ensures { λ r. ⌜ meaning r ≡ firstRefusal (listChecks (now (list .entry)) width height) ⌝ }
 {
     if !(list.len() % SPAN_SIZE == 0) {
-        return Verdict::ListLength;
+        return Verdict::BadListLength;
     }
     let n = list.len() / SPAN_SIZE;
     if MAX_SPANS < n {

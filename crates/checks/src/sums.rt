@@ -15,7 +15,8 @@ use format::read_observation;
 use wire::size;
 use wire::wide;
 
-fn observation_total(job: &[u8], at: usize, n: usize) -> u64
+// The observations that the boundaries name.
+pub fn observation_total(job: &[u8], at: usize, n: usize) -> u64
     requires { ⌜ (at + n * boundarySize ≤ length (now job)) × (n ≤ maxBoundaries) ⌝ }
     ensures { λ r. ⌜ r ≡ observationTotal (boundaryRecords (now (job .entry)) at n) ⌝ }
 {
@@ -29,7 +30,8 @@ fn observation_total(job: &[u8], at: usize, n: usize) -> u64
     total
 }
 
-fn own_total(job: &[u8], at: usize, n: usize) -> u64
+// The sources that the boundaries name as their own.
+pub fn own_total(job: &[u8], at: usize, n: usize) -> u64
     requires { ⌜ (at + n * boundarySize ≤ length (now job)) × (n ≤ maxBoundaries) ⌝ }
     ensures { λ r. ⌜ (r ≡ ownTotal (boundaryRecords (now (job .entry)) at n)) × (r ≤ n * 0xFFFF_FFFF) ⌝ }
 {
@@ -43,7 +45,8 @@ fn own_total(job: &[u8], at: usize, n: usize) -> u64
     total
 }
 
-fn source_count(job: &[u8], at: usize, n: usize) -> u64
+// The sources of the observations.
+pub fn source_count(job: &[u8], at: usize, n: usize) -> u64
     requires { ⌜ (at + n * observationSize ≤ length (now job)) × (n ≤ maxObservations) ⌝ }
     ensures { λ r. ⌜ (r ≡ sourceCount (observationRecords (now (job .entry)) at n)) × (r ≤ n * 0xFFFF_FFFF) ⌝ }
 {

@@ -1,25 +1,41 @@
 // What the checks answer.
 ghost use mathlib.Core.Path.{_≡_};
 ghost use Rattle.checks.specs.Verdict.{meaning, passes, numberOf, detailOf};
+use crate::refusals::ANCHOR_OFF_MAP;
+use crate::refusals::BAD_CELL;
+use crate::refusals::BAD_LAYOUT;
+use crate::refusals::BAD_LIST_LENGTH;
+use crate::refusals::BAD_RAMP;
+use crate::refusals::BAD_SIDES;
+use crate::refusals::BAD_SUMS;
+use crate::refusals::BAD_WIDTH;
+use crate::refusals::END_OFF_MAP;
+use crate::refusals::ENDS_COINCIDE;
+use crate::refusals::JOB_TOO_SHORT;
+use crate::refusals::SPAN_ENDS_COINCIDE;
+use crate::refusals::SPAN_OFF_MAP;
+use crate::refusals::TOO_MANY_BOUNDARIES;
+use crate::refusals::TOO_MANY_RECORDS;
+use crate::refusals::TOO_MANY_SPANS;
 
 pub enum Verdict {
     Passed,
-    ShortHeader,
-    MapSize,
-    TooMany,
+    JobTooShort,
+    BadSides,
+    TooManyRecords,
     TooManyBoundaries(usize),
-    Layout,
-    CellBits(usize),
+    BadLayout,
+    BadCell(usize),
     AnchorOffMap(usize),
-    CountsDiffer,
-    RampForm(usize),
-    WidthRange(usize),
+    BadSums,
+    BadRamp(usize),
+    BadWidth(usize),
     EndOffMap(usize),
     EndsCoincide(usize),
-    ListLength,
+    BadListLength,
     TooManySpans(usize),
     SpanOffMap(usize),
-    SpanCoincides(usize),
+    SpanEndsCoincide(usize),
 }
 
 impl Verdict {
@@ -35,22 +51,22 @@ impl Verdict {
     {
         match self {
             Verdict::Passed => 0,
-            Verdict::ShortHeader => 1,
-            Verdict::MapSize => 2,
-            Verdict::TooMany => 3,
-            Verdict::TooManyBoundaries(_) => 4,
-            Verdict::Layout => 5,
-            Verdict::CellBits(_) => 6,
-            Verdict::AnchorOffMap(_) => 7,
-            Verdict::CountsDiffer => 8,
-            Verdict::RampForm(_) => 9,
-            Verdict::WidthRange(_) => 10,
-            Verdict::EndOffMap(_) => 11,
-            Verdict::EndsCoincide(_) => 12,
-            Verdict::ListLength => 14,
-            Verdict::TooManySpans(_) => 15,
-            Verdict::SpanOffMap(_) => 16,
-            Verdict::SpanCoincides(_) => 17,
+            Verdict::JobTooShort => JOB_TOO_SHORT,
+            Verdict::BadSides => BAD_SIDES,
+            Verdict::TooManyRecords => TOO_MANY_RECORDS,
+            Verdict::TooManyBoundaries(_) => TOO_MANY_BOUNDARIES,
+            Verdict::BadLayout => BAD_LAYOUT,
+            Verdict::BadCell(_) => BAD_CELL,
+            Verdict::AnchorOffMap(_) => ANCHOR_OFF_MAP,
+            Verdict::BadSums => BAD_SUMS,
+            Verdict::BadRamp(_) => BAD_RAMP,
+            Verdict::BadWidth(_) => BAD_WIDTH,
+            Verdict::EndOffMap(_) => END_OFF_MAP,
+            Verdict::EndsCoincide(_) => ENDS_COINCIDE,
+            Verdict::BadListLength => BAD_LIST_LENGTH,
+            Verdict::TooManySpans(_) => TOO_MANY_SPANS,
+            Verdict::SpanOffMap(_) => SPAN_OFF_MAP,
+            Verdict::SpanEndsCoincide(_) => SPAN_ENDS_COINCIDE,
         }
     }
 
@@ -59,22 +75,22 @@ impl Verdict {
     {
         match self {
             Verdict::Passed => 0,
-            Verdict::ShortHeader => 0,
-            Verdict::MapSize => 0,
-            Verdict::TooMany => 0,
+            Verdict::JobTooShort => 0,
+            Verdict::BadSides => 0,
+            Verdict::TooManyRecords => 0,
             Verdict::TooManyBoundaries(n) => n as u64,
-            Verdict::Layout => 0,
-            Verdict::CellBits(i) => i as u64,
+            Verdict::BadLayout => 0,
+            Verdict::BadCell(i) => i as u64,
             Verdict::AnchorOffMap(i) => i as u64,
-            Verdict::CountsDiffer => 0,
-            Verdict::RampForm(i) => i as u64,
-            Verdict::WidthRange(i) => i as u64,
+            Verdict::BadSums => 0,
+            Verdict::BadRamp(i) => i as u64,
+            Verdict::BadWidth(i) => i as u64,
             Verdict::EndOffMap(i) => i as u64,
             Verdict::EndsCoincide(i) => i as u64,
-            Verdict::ListLength => 0,
+            Verdict::BadListLength => 0,
             Verdict::TooManySpans(n) => n as u64,
             Verdict::SpanOffMap(i) => i as u64,
-            Verdict::SpanCoincides(i) => i as u64,
+            Verdict::SpanEndsCoincide(i) => i as u64,
         }
     }
 }

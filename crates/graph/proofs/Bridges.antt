@@ -40,23 +40,37 @@ parted-iff gone rs r = (
   λ h. rw (other-part (edges (without gone rs)) (r .left) (r .right) .1 h),
 )
 
-pub bridge-iff : (rs : List Record) (b : ℕ) → (isBridge rs b ≡ true) ↔ Bridge rs b
-unfolding isBridge
-bridge-iff rs b = (to, from)
+-- some record of the boundary has two regions that are unconnected without what is then gone, which may depend on the record's place
+record Some (gone : ℕ → ℕ → Record → Bool) (rs : List Record) (b : ℕ) : Type 0 where
+  place : ℕ
+  inside : place < length rs
+  owned : at rs place .owner ≡ b
+  parted : Path (edges (without (gone place) rs)) (at rs place .left) (at rs place .right) → ⊥
+
+some-iff : (gone : ℕ → ℕ → Record → Bool) (rs : List Record) (b : ℕ)
+    → (someRecord (λ k r. ofOwner b k r && isParted (gone k) rs r) rs ≡ true) ↔ Some gone rs b
+some-iff gone rs b = (to, from)
   where
     test : ℕ → Record → Bool
-    test k r = ofOwner b k r && isParted (only k) rs r
+    test k r = ofOwner b k r && isParted (gone k) rs r
 
-    to : isBridge rs b ≡ true → Bridge rs b
+    to : someRecord test rs ≡ true → Some gone rs b
     to h =
         let w = some-record test rs h in
-        let p = and-parts (ofOwner b (w .0) (at rs (w .0))) (isParted (only (w .0)) rs (at rs (w .0))) (w .2) in
-        record { place = w .0; inside = w .1; owned = eqb-true (at rs (w .0) .owner) b (p .0); parted = parted-iff (only (w .0)) rs (at rs (w .0)) .0 (p .1) }
+        let p = and-parts (ofOwner b (w .0) (at rs (w .0))) (isParted (gone (w .0)) rs (at rs (w .0))) (w .2) in
+        record { place = w .0; inside = w .1; owned = eqb-true (at rs (w .0) .owner) b (p .0); parted = parted-iff (gone (w .0)) rs (at rs (w .0)) .0 (p .1) }
 
-    from : Bridge rs b → isBridge rs b ≡ true
+    from : Some gone rs b → someRecord test rs ≡ true
     from w =
         record-some test rs (w .place) (w .inside)
-        (and-both (eq-eqb (at rs (w .place) .owner) b (w .owned)) (parted-iff (only (w .place)) rs (at rs (w .place)) .1 (w .parted)))
+        (and-both (eq-eqb (at rs (w .place) .owner) b (w .owned)) (parted-iff (gone (w .place)) rs (at rs (w .place)) .1 (w .parted)))
+
+pub bridge-iff : (rs : List Record) (b : ℕ) → (isBridge rs b ≡ true) ↔ Bridge rs b
+unfolding isBridge
+bridge-iff rs b = (
+  λ h. let w = some-iff only rs b .0 h in record { place = w .place; inside = w .inside; owned = w .owned; parted = w .parted },
+  λ w. some-iff only rs b .1 (record { place = w .place; inside = w .inside; owned = w .owned; parted = w .parted }),
+)
 
 -- choke marks are the bridges
 pub mark-iff : (rs : List Record) (b : ℕ) → (markOf rs b ≡ true) ↔ Bridge rs b

@@ -9,6 +9,7 @@ use Rattle.format.specs.Sizes.{headerSize}
 use Rattle.format.specs.Header.{headerAt, cellCount, basesStart, boundariesStart}
 use Rattle.format.specs.declared.header.Counts.{Counts}
 use Rattle.checks.specs.Checks.{Check, check, each}
+use Rattle.checks.specs.Numbers.{jobTooShort, badLayout, badSums}
 use Rattle.checks.specs.Single.{headerChecks, cellCheck, baseCheck, sumsFault, rampCheck, widthCheck, endsCheck, listChecks}
 
 -- 6 to 10, each over the whole job before the next.
@@ -16,16 +17,16 @@ unfoldable pub recordChecks : List ℕ → Counts → List Check
 recordChecks s c =
     each (cellCount c) (cellCheck s)
     ++ (each (c .bases) (baseCheck s (c .width) (c .height) (basesStart c))
-    ++ (check (sumsFault s c) 8 0
+    ++ (check (sumsFault s c) badSums 0
     ∷ (each (c .boundaries) (rampCheck s (boundariesStart c))
     ++ each (c .boundaries) (widthCheck s (boundariesStart c)))))
 
 -- 1 to 5. The length of the slice is checked apart from the words.
 unfoldable pub layoutChecks : List ℕ → List Check
 layoutChecks s =
-    check (ltb (length s) headerSize) 1 0
+    check (ltb (length s) headerSize) jobTooShort 0
     ∷ (headerChecks (headerAt s)
-    ++ (check (not (eqb (length s) (headerAt s .offsets .total))) 5 0
+    ++ (check (not (eqb (length s) (headerAt s .offsets .total))) badLayout 0
     ∷ []))
 
 -- 1 to 10.

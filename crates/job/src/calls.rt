@@ -23,7 +23,7 @@ fn check_layout(job: &[u8]) -> Verdict
     ensures { λ r. ⌜ meaning r ≡ firstRefusal (layoutChecks (now (job .entry))) ⌝ }
 {
     if job.len() < HEADER_SIZE {
-        return Verdict::ShortHeader;
+        return Verdict::JobTooShort;
     }
     let h = read_header(job);
     let v = check_header(h);
@@ -32,7 +32,7 @@ fn check_layout(job: &[u8]) -> Verdict
     }
     let o = h.offsets;
     if !(job.len() == size(o.total)) {
-        return Verdict::Layout;
+        return Verdict::BadLayout;
     }
     Verdict::Passed
 }
@@ -53,7 +53,7 @@ fn check_records(job: &[u8], h: Header) -> Verdict
         return v;
     }
     if sums_fault(job, h) {
-        return Verdict::CountsDiffer;
+        return Verdict::BadSums;
     }
     let at = size(o.boundaries);
     let n = size(c.boundaries);

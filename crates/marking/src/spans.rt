@@ -1,33 +1,15 @@
 // The steps that no span of a list cuts, in a byte a cell.
 ghost use mathlib.Core.Path.{_≡_};
-ghost use Prim.Native.Nat.{_+_, _*_, _<_, _≤_};
+ghost use Prim.Native.Nat.{_+_, _*_, _≤_};
 ghost use lib.ListN.{length};
 ghost use Rattle.lists.specs.Rows.{rows};
 ghost use Rattle.wire.specs.Bytes.{splice};
 ghost use Rattle.grid.specs.Directions.{directionsOf};
 ghost use Rattle.areas.specs.Open.{openByte};
-ghost use Rattle.areas.specs.Spans.{Sides, SpansFit, spanIn, spansIn};
+ghost use Rattle.areas.specs.Spans.{Sides, SpansFit, spansIn};
 use super::closing::close_cut;
 use super::opening::open_steps;
-use position::PixelPosition;
-use position::Span;
-
-// Span i of an array that has four numbers a span.
-pub fn span_at(ends: &[u32; 1024], i: usize) -> Span
-    requires { ⌜ i < 256 ⌝ }
-    ensures { λ r. ⌜ r ≡ spanIn (now (ends .entry)) i ⌝ }
-{
-    let at = 4 * i;
-    let a = PixelPosition {
-        x: ends[at],
-        y: ends[at + 1],
-    };
-    let b = PixelPosition {
-        x: ends[at + 2],
-        y: ends[at + 3],
-    };
-    Span { a, b }
-}
+pub use areas::spans::span_at;
 
 // Writes the bytes of all the cells from base on.
 pub fn mark_spans(

@@ -1,8 +1,8 @@
 -- What a map and spans must be to be partitioned, and what the partition leaves in lent bytes and arrays.
 use mathlib.Core.Path.{_≡_}
-use mathlib.Core.List.{List, _++_, flatMap, List·Memᴰ}
+use mathlib.Core.List.{List, flatMap, List·Memᴰ}
 use Prim.Native.Nat.{ℕ, _+_, _*_, _≤_, _<_}
-use lib.ListN.{length, getD, take, drop, replicate}
+use lib.ListN.{length, getD, take, drop}
 use Rattle.wire.specs.Bytes.{u32Bytes}
 use Rattle.position.specs.declared.Span.{Span}
 use Rattle.graph.specs.Records.{recordsIn}
@@ -11,12 +11,8 @@ use Rattle.grid.specs.Directions.{IsDirection, directionsOf}
 use Rattle.areas.specs.Areas.{areaLabels, areaCount, labelAt}
 use Rattle.areas.specs.Assessments.{assess, records}
 use Rattle.areas.specs.Spans.{Sides, SpansFit, spanIn, spansIn}
+unfoldable pub use Rattle.areas.specs.Words.{labelled}
 use Rattle.partition.specs.declared.Partition.{Partition}
-
--- "a u32 label per cell first, then zeros to ten times the cells; later bytes are unchanged"
-unfoldable pub labelled : List ℕ → List ℕ → List ℕ
-unfolding flatMap
-labelled labels work = flatMap u32Bytes labels ++ (replicate (6 * length labels) 0 ++ drop (10 * length labels) work)
 
 -- a map of sides that can be analysed, a set of directions, spans on the map, and ten bytes a cell
 pub record Partitionable (width height : ℕ) (cells : List ℕ) (directions : ℕ) (ends : List ℕ) (count : ℕ) (work : List ℕ) : Type 0 where

@@ -5,19 +5,13 @@ use borrow.Author.Needs.{needs}
 use Rattle.components.proofs.components.Statement.{statement}
 use Rattle.components.proofs.components.Tie as tie
 
-run-parents-requires : tie.Need-run-parents-requires
-run-parents-requires c κs = search needs
-
-add-join-all : tie.Need-add-join-all
-add-join-all c = search needs
-
 join-all-requires : tie.Need-join-all-requires
 join-all-requires c κs =
     let at-run-parents = c .before .before .before in
     let start = at-run-parents .before .before .before .before in
     let runs = at-run-parents .run-parents in
     let pre = start .pre in
-    due-joinable (start .args .work .now) refl (pre .0 .1) (pre .0 .2) (pre .0 .3) (pre .1 .0) (pre .1 .1) (runs .ensures .0) (runs .ensures .1)
+    due-joinable _ refl (pre .0 .1) (pre .0 .2) (pre .0 .3) (pre .1 .0) (pre .1 .1) (runs .ensures .0) (runs .ensures .1)
     (omega arith) (pre .0 .0)
 
 number-requires : tie.Need-number-requires
@@ -28,12 +22,9 @@ number-requires c κs =
     let join = at-join-all .join-all in
     let runs = at-run-parents .run-parents in
     let pre = start .pre in
-    let forest = joined (start .args .work .now) refl (pre .0 .1) (pre .0 .2) (pre .0 .3) (pre .1 .0) (pre .1 .1) (runs .ensures .0) (runs .ensures .1)
+    let forest = joined _ refl (pre .0 .1) (pre .0 .2) (pre .0 .3) (pre .1 .0) (pre .1 .1) (runs .ensures .0) (runs .ensures .1)
     (join .ensures) in
     (pre .0 .0, omega (arith, pre .0, runs .ensures .0 .size, join .ensures .kept .size), forest .falls)
-
-same-length : tie.Need-same-length
-same-length c = search needs
 
 returns : tie.Need-returns
 returns c =
@@ -44,16 +35,8 @@ returns c =
     let join = at-join-all .join-all in
     let runs = at-run-parents .run-parents in
     let pre = start .pre in
-    whole (start .args .work .now) refl (pre .0 .1) (pre .0 .2) (pre .0 .3) (pre .1 .0) (pre .1 .1) (runs .ensures .0) (runs .ensures .1)
+    whole _ refl (pre .0 .1) (pre .0 .2) (pre .0 .3) (pre .1 .0) (pre .1 .1) (runs .ensures .0) (runs .ensures .1)
     (join .ensures) (number .ensures)
 
 pub components-spec : {M : Type 1} → statement M
-components-spec =
-    tie.close
-    (tie.spec
-    run-parents-requires
-    add-join-all
-    join-all-requires
-    number-requires
-    same-length
-    returns)
+components-spec = tie.close (tie.spec (λ c κs. search needs) (search needs) join-all-requires number-requires (λ c. search needs) returns)

@@ -6,66 +6,30 @@ use Rattle.length.proofs.Doubling.{left-less, half-most, square-most, s
 use Rattle.length.proofs.doubled.Statement.{statement}
 use Rattle.length.proofs.doubled.Tie as tie
 
-mul-twice : tie.Need-mul-twice
-mul-twice c = search needs
-
-mul-over : tie.Need-mul-over
-mul-over c = search needs
-
-div-half : tie.Need-div-half
-div-half c = search needs
-
-mul-root : tie.Need-mul-root
-mul-root c = search needs
-
 add-root : tie.Need-add-root
 add-root c =
-    let e = c .before .before .before in
-    let r = e .args .r .root in
-    let q = e .args .r .rem in
-    let p = e .pre in
-    omega (arith, half-most r q (p .0) (p .1) (p .2))
-
-rem-rem : tie.Need-rem-rem
-rem-rem c = search needs
+    let p = c .before .before .before .pre in
+    omega (arith, half-most _ _ (p .0) (p .1) (p .2))
 
 mul-rem : tie.Need-mul-rem
 mul-rem c =
-    let e = c .before .before .before in
-    let r = e .args .r .root in
-    let q = e .args .r .rem in
-    let p = e .pre in
-    omega (arith, left-less r q (p .0) (p .1) (p .2))
+    let p = c .before .before .before .pre in
+    omega (arith, left-less _ _ (p .0) (p .1) (p .2))
 
 mul-square : tie.Need-mul-square
 mul-square c =
-    let e = c .before .before .before in
-    let r = e .args .r .root in
-    let q = e .args .r .rem in
-    let p = e .pre in
-    omega (arith, square-most r q (p .0) (p .1) (p .2))
-
-sub-t12 : tie.Need-sub-t12
-sub-t12 c = search needs
+    let p = c .before .before .before .pre in
+    omega (arith, square-most _ _ (p .0) (p .1) (p .2))
 
 mul-t13 : tie.Need-mul-t13
 mul-t13 c =
-    let e = c .before .before .before .before in
-    let r = e .args .r .root in
-    let q = e .args .r .rem in
-    let p = e .pre in
-    omega (arith, half-most r q (p .0) (p .1) (p .2))
-
-sub-t14 : tie.Need-sub-t14
-sub-t14 c = search needs
+    let p = c .before .before .before .before .pre in
+    omega (arith, half-most _ _ (p .0) (p .1) (p .2))
 
 add-t15 : tie.Need-add-t15
 add-t15 c =
-    let e = c .before .before .before .before in
-    let r = e .args .r .root in
-    let q = e .args .r .rem in
-    let p = e .pre in
-    omega (arith, half-most r q (p .0) (p .1) (p .2), left-less r q (p .0) (p .1) (p .2))
+    let p = c .before .before .before .before .pre in
+    omega (arith, half-most _ _ (p .0) (p .1) (p .2), left-less _ _ (p .0) (p .1) (p .2))
 
 sub-t16 : tie.Need-sub-t16
 sub-t16 c =
@@ -74,40 +38,19 @@ sub-t16 c =
     let q = e .args .r .rem in
     let p = e .pre in
     let l : q * 0x800_0000 % (r * 2) * 0x800_0000 < q * 0x800_0000 / (r * 2) * (q * 0x800_0000 / (r * 2)) = omega arith in
-    omega (arith, square-most r q (p .0) (p .1) (p .2), some r q (p .0) (p .1) (p .2) l)
+    omega (arith, square-most _ _ (p .0) (p .1) (p .2), some _ _ (p .0) (p .1) (p .2) l)
 
 returns : tie.Need-returns
 returns c =
-    let e = c .before .before .before .before in
-    let r = e .args .r .root in
-    let q = e .args .r .rem in
-    let p = e .pre in
-    enough r q (p .0) (p .1) (p .2) (omega arith)
+    let p = c .before .before .before .before .pre in
+    enough _ _ (p .0) (p .1) (p .2) (omega arith)
 
 returns-2 : tie.Need-returns-2
 returns-2 c =
-    let e = c .before .before .before .before in
-    let r = e .args .r .root in
-    let q = e .args .r .rem in
-    let p = e .pre in
-    one-less r q (p .0) (p .1) (p .2) (omega arith)
+    let p = c .before .before .before .before .pre in
+    one-less _ _ (p .0) (p .1) (p .2) (omega arith)
 
 pub doubled-spec : {M : Type 1} → statement M
 doubled-spec =
-    tie.close
-    (tie.spec
-    mul-twice
-    mul-over
-    div-half
-    mul-root
-    add-root
-    rem-rem
-    mul-rem
-    mul-square
-    sub-t12
-    mul-t13
-    sub-t14
-    add-t15
-    sub-t16
-    returns
-    returns-2)
+    tie.close (tie.spec (search needs) (search needs) (search needs) (search needs) add-root (search needs) mul-rem mul-square (search needs) mul-t13
+    (search needs) add-t15 sub-t16 returns returns-2)

@@ -10,6 +10,7 @@ use Rattle.length.proofs.Roots.{rooted, root-pos}
 use Rattle.length.proofs.Squares.{le-square, root-lt}
 use Rattle.length.proofs.Loop.{small-casts, Going, start, turn, grows, lengthen, root-casts, power-casts, finish}
 use Rattle.length.proofs.Lengths.{zero-nearest, root-halved, is-length}
+use borrow.Author.Needs.{needs}
 use Rattle.length.proofs.length_of.Statement.{statement}
 use Rattle.length.proofs.length_of.Tie as tie
 
@@ -22,9 +23,6 @@ abbrev μ-loop : tie.MeasureT-loop
 returns : tie.Need-returns Inv-loop μ-loop
 unfolding isSquare
 returns c = rw (c .if1 .taken) (is-length 0 _ (omega arith) zero-nearest refl)
-
-root-of-requires : tie.Need-root-of-requires Inv-loop μ-loop
-root-of-requires c κs = omega arith
 
 int-to-float-t8 : tie.Need-int-to-float-t8 Inv-loop μ-loop
 int-to-float-t8 c =
@@ -56,36 +54,17 @@ loop-holds c =
     let w = rooted (entry .args .d) r (after-root-of .root-of .ensures) in
     (start (entry .args .d) (r .root) (r .rem) (omega (arith, if1-left .if1 .left)) (entry .pre) w, root-lt {a = r .root} {b = 2 ^ 27} (omega (arith, w .sum)))
 
-digit-requires : tie.Need-digit-requires Inv-loop μ-loop
-digit-requires c κs = omega arith
-
-mul-p : tie.Need-mul-p Inv-loop μ-loop
-mul-p c = omega arith
-
 loop-less : tie.Need-loop-less Inv-loop μ-loop
 loop-less c =
-    let in-loop = c .before .before .before in
-    let l = in-loop .loop in
-    omega (arith, grows _ (l .r .root) (l .r .rem) (l .p) (c .digit .result .root) (c .digit .result .rem) (l .inv .0) (c .digit .ensures))
+    let l = c .before .before .before .loop in
+    omega (arith, grows _ _ _ _ _ _ (l .inv .0) (c .digit .ensures))
 
 loop-again : tie.Need-loop-again Inv-loop μ-loop
 loop-again c =
-    let in-loop = c .before .before .before in
-    let l = in-loop .loop in (
-      turn _ (l .r .root) (l .r .rem) (l .p) (c .digit .result .root) (c .digit .result .rem) (l .inv .0) (omega arith) (c .digit .ensures),
+    let l = c .before .before .before .loop in (
+      turn _ _ _ _ _ _ (l .inv .0) (omega arith) (c .digit .ensures),
       omega (arith, c .digit .ensures .most),
     )
-
-doubled-requires : tie.Need-doubled-requires Inv-loop μ-loop
-doubled-requires c κs = omega arith
-
-mul-p-2 : tie.Need-mul-p-2 Inv-loop μ-loop
-mul-p-2 c =
-    omega arith
-
-add-m : tie.Need-add-m Inv-loop μ-loop
-add-m c =
-    omega arith
 
 int-to-float-value : tie.Need-int-to-float-value Inv-loop μ-loop
 int-to-float-value c =
@@ -93,8 +72,8 @@ int-to-float-value c =
     let in-loop = at-doubled .before .before .before in
     let l = in-loop .loop in
     let f = at-doubled .doubled in
-    let g = lengthen _ (l .r .root) (l .r .rem) (l .p) (f .result .root) (f .result .rem) (l .inv .0) (l .inv .1) (f .ensures) in
-    root-casts _ (f .result .root) (f .result .rem) (l .p * 0x800_0000) _ g (omega (arith, f .ensures .least)) (omega arith) (omega arith)
+    let g = lengthen _ _ _ _ _ _ (l .inv .0) (l .inv .1) (f .ensures) in
+    root-casts _ _ _ _ _ g (omega (arith, f .ensures .least)) (omega arith) (omega arith)
 
 int-to-float-value-2 : tie.Need-int-to-float-value-2 Inv-loop μ-loop
 int-to-float-value-2 c =
@@ -102,8 +81,8 @@ int-to-float-value-2 c =
     let in-loop = at-doubled .before .before .before in
     let l = in-loop .loop in
     let f = at-doubled .doubled in
-    let g = lengthen _ (l .r .root) (l .r .rem) (l .p) (f .result .root) (f .result .rem) (l .inv .0) (l .inv .1) (f .ensures) in
-    power-casts _ (f .result .root) (f .result .rem) (l .p * 0x800_0000) g
+    let g = lengthen _ _ _ _ _ _ (l .inv .0) (l .inv .1) (f .ensures) in
+    power-casts _ _ _ _ g
 
 returns-3 : tie.Need-returns-3 Inv-loop μ-loop
 unfolding isSquare
@@ -112,32 +91,15 @@ returns-3 c =
     let at-loop = at-doubled .before .before .before in
     let l = at-loop .loop in
     let f = at-doubled .doubled in
-    let g = lengthen _ (l .r .root) (l .r .rem) (l .p) (f .result .root) (f .result .rem) (l .inv .0) (l .inv .1) (f .ensures) in
+    let g = lengthen _ _ _ _ _ _ (l .inv .0) (l .inv .1) (f .ensures) in
     let entry = at-loop .before .before .before .before .before in
     let found = at-loop .before .before .before .root-of in
     is-length (entry .args .d) _ (entry .pre)
-    (finish (entry .args .d) (f .result .root) (f .result .rem) (l .p * 0x800_0000) _ g (omega (arith, f .ensures .least)) (omega arith) (omega arith)
+    (finish _ _ _ _ _ g (omega (arith, f .ensures .least)) (omega arith) (omega arith)
     (entry .pre))
     (sym (ne-eqb (found .result .rem) 0 (at-loop .before .if2 .left)) ∙ ap (λ (x : Root). eqb (x .rem) 0) (found .ensures))
 
 pub length-of-spec : {M : Type 1} → statement M
 length-of-spec =
-    tie.close
-    (tie.spec
-    Inv-loop
-    μ-loop
-    returns
-    root-of-requires
-    int-to-float-t8
-    returns-2
-    loop-holds
-    digit-requires
-    mul-p
-    loop-less
-    loop-again
-    doubled-requires
-    mul-p-2
-    add-m
-    int-to-float-value
-    int-to-float-value-2
-    returns-3)
+    tie.close (tie.spec Inv-loop μ-loop returns (λ c κs. omega arith) int-to-float-t8 returns-2 loop-holds (λ c κs. omega arith) (search needs)
+    loop-less loop-again (λ c κs. omega arith) (λ c. omega arith) (λ c. omega arith) int-to-float-value int-to-float-value-2 returns-3)

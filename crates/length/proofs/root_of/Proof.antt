@@ -14,30 +14,12 @@ Inv-loop n r₀ i₀ r i = (i ≤ 18) × (r .root * r .root + r .rem ≡ n / 2 ^
 abbrev μ-loop : tie.MeasureT-loop
 μ-loop n r₀ i₀ r i = i
 
-loop-holds : tie.Need-loop-holds Inv-loop μ-loop
-loop-holds c = omega arith
-
-sub-i : tie.Need-sub-i Inv-loop μ-loop
-sub-i c = search needs
-
-mul-digit : tie.Need-mul-digit Inv-loop μ-loop
-mul-digit c = omega arith
-
-cast-digit : tie.Need-cast-digit Inv-loop μ-loop
-cast-digit c = omega arith
-
-shr-digit : tie.Need-shr-digit Inv-loop μ-loop
-shr-digit c = omega arith
-
 digit-requires : tie.Need-digit-requires Inv-loop μ-loop
 digit-requires c κs =
     let at-loop = c .before in
     let fits = small-root (at-loop .before .args .n) (2 ^ (2 * at-loop .loop .i)) (at-loop .loop .r .root) (at-loop .loop .r .rem) (at-loop .before .pre)
     (at-loop .loop .inv .1) in
     omega arith
-
-loop-less : tie.Need-loop-less Inv-loop μ-loop
-loop-less c = search needs
 
 loop-again : tie.Need-loop-again Inv-loop μ-loop
 loop-again c =
@@ -51,16 +33,5 @@ returns c =
 
 pub root-of-spec : {M : Type 1} → statement M
 root-of-spec =
-    tie.close
-    (tie.spec
-    Inv-loop
-    μ-loop
-    loop-holds
-    sub-i
-    mul-digit
-    cast-digit
-    shr-digit
-    digit-requires
-    loop-less
-    loop-again
-    returns)
+    tie.close (tie.spec Inv-loop μ-loop (search needs) (search needs) (search needs) (search needs) (search needs) digit-requires (search needs)
+    loop-again returns)

@@ -3,15 +3,9 @@ use borrow.Author.Needs.{needs}
 use Rattle.areas.proofs.candidates.is_tall.Statement.{statement}
 use Rattle.areas.proofs.candidates.is_tall.Tie as tie
 
-gap-requires : tie.Need-gap-requires
-gap-requires c κs = search needs
-
-gap-requires-2 : tie.Need-gap-requires-2
-gap-requires-2 c κs = search needs
-
 returns : tie.Need-returns
 unfolding tall
 returns c = simp (c .before .gap .ensures, c .gap2 .ensures)
 
 pub is-tall-spec : {M : Type 1} → statement M
-is-tall-spec = tie.close (tie.spec gap-requires gap-requires-2 returns)
+is-tall-spec = tie.close (tie.spec (search needs) (search needs) returns)

@@ -7,15 +7,6 @@ use borrow.Author.Needs.{needs}
 use Rattle.areas.proofs.geometry.cut_by.Statement.{statement}
 use Rattle.areas.proofs.geometry.cut_by.Tie as tie
 
-cell-center-requires : tie.Need-cell-center-requires
-cell-center-requires c κs = search needs
-
-cell-center-requires-2 : tie.Need-cell-center-requires-2
-cell-center-requires-2 c κs = search needs
-
-cuts-requires : tie.Need-cuts-requires
-cuts-requires c κs = search needs
-
 returns : tie.Need-returns
 unfolding cutBy
 returns c =
@@ -26,5 +17,4 @@ returns c =
     ∙ ap (λ (s : Span). cuts s (centre g i) (centre g j)) (sym (ordered (start .args .span) (start .pre .2)))
 
 pub cut-by-spec : {M : Type 1} → statement M
-cut-by-spec =
-    tie.close (tie.spec cell-center-requires cell-center-requires-2 cuts-requires returns)
+cut-by-spec = tie.close (tie.spec (search needs) (search needs) (search needs) returns)

@@ -1,7 +1,6 @@
 use mathlib.Core.Path.{_≡_, refl, _∙_}
 use mathlib.Core.Bool.{Bool, xor, Bool·beq, true, false, _&&_}
 use Rattle.order.proofs.Bools.{clash}
-use Rattle.areas.specs.Segments.{meets}
 use Rattle.areas.specs.Cuts.{cuts}
 use borrow.Author.Needs.{needs}
 use Rattle.areas.proofs.geometry.cuts.Statement.{statement}
@@ -29,31 +28,14 @@ module _ {p q s t : Bool} (h : p ≡ s) (k : q ≡ t) (m : Bool) where
   apart : Bool·beq p q ≡ false → {r : Bool} → r ≡ m → r ≡ xor s t && m
   apart e z = rw (← h, ← k) (z ∙ unlike p q m e)
 
-side-requires : tie.Need-side-requires
-side-requires c κs = search needs
-
-side-requires-2 : tie.Need-side-requires-2
-side-requires-2 c κs = search needs
-
 returns : tie.Need-returns
 unfolding cuts
-returns c =
-    let start = c .before .before .before .before .before in
-    let meet = meets (start .args .span .a) (start .args .span .b) (start .args .from) (start .args .to) in
-    same (c .before .before .side .ensures) (c .before .side2 .ensures) meet (c .if1 .taken)
-
-segments-intersect-requires : tie.Need-segments-intersect-requires
-segments-intersect-requires c κs = search needs
+returns c = same (c .before .before .side .ensures) (c .before .side2 .ensures) _ (c .if1 .taken)
 
 returns-2 : tie.Need-returns-2
 unfolding cuts
 returns-2 c =
-    let after-side = c .before .before .before in
-    let start = after-side .before .before .before in
-    let meet = meets (start .args .span .a) (start .args .span .b) (start .args .from) (start .args .to) in
-    apart (after-side .side .ensures) (c .before .before .side2 .ensures) meet (c .before .if1 .left) (c .segments-intersect .ensures)
+    apart (c .before .before .before .side .ensures) (c .before .before .side2 .ensures) _ (c .before .if1 .left) (c .segments-intersect .ensures)
 
 pub cuts-spec : {M : Type 1} → statement M
-cuts-spec =
-    tie.close
-    (tie.spec side-requires side-requires-2 returns segments-intersect-requires returns-2)
+cuts-spec = tie.close (tie.spec (search needs) (search needs) returns (search needs) returns-2)

@@ -3,24 +3,6 @@ use borrow.Author.Needs.{needs}
 use Rattle.areas.proofs.geometry.on_segment.Statement.{statement}
 use Rattle.areas.proofs.geometry.on_segment.Tie as tie
 
-cross-plus-requires : tie.Need-cross-plus-requires
-cross-plus-requires c κs = search needs
-
-cross-minus-requires : tie.Need-cross-minus-requires
-cross-minus-requires c κs = search needs
-
-min-requires : tie.Need-min-requires
-min-requires c κs = search needs
-
-max-requires : tie.Need-max-requires
-max-requires c κs = search needs
-
-min-requires-2 : tie.Need-min-requires-2
-min-requires-2 c κs = search needs
-
-max-requires-2 : tie.Need-max-requires-2
-max-requires-2 c κs = search needs
-
 returns : tie.Need-returns
 unfolding onSegment
 returns c =
@@ -37,13 +19,4 @@ returns c =
     )
 
 pub on-segment-spec : {M : Type 1} → statement M
-on-segment-spec =
-    tie.close
-    (tie.spec
-    cross-plus-requires
-    cross-minus-requires
-    min-requires
-    max-requires
-    min-requires-2
-    max-requires-2
-    returns)
+on-segment-spec = tie.close (tie.spec (search needs) (search needs) (search needs) (search needs) (search needs) (search needs) returns)

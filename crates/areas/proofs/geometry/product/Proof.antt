@@ -1,5 +1,5 @@
-use native.Mathlib.Omega.{arith}
 use native.Mathlib.Nat.{mul-le-mul}
+use native.Mathlib.Omega.{arith}
 use Rattle.areas.proofs.geometry.product.Statement.{statement}
 use Rattle.areas.proofs.geometry.product.Tie as tie
 

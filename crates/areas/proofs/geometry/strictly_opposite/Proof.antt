@@ -5,18 +5,6 @@ use borrow.Author.Needs.{needs}
 use Rattle.areas.proofs.geometry.strictly_opposite.Statement.{statement}
 use Rattle.areas.proofs.geometry.strictly_opposite.Tie as tie
 
-below-requires : tie.Need-below-requires
-below-requires c κs = search needs
-
-above-requires : tie.Need-above-requires
-above-requires c κs = search needs
-
-above-requires-2 : tie.Need-above-requires-2
-above-requires-2 c κs = search needs
-
-below-requires-2 : tie.Need-below-requires-2
-below-requires-2 c κs = search needs
-
 returns : tie.Need-returns
 unfolding opposite
 returns c =
@@ -25,5 +13,4 @@ returns c =
     (ap₂ _&&_ (c .before .above2 .ensures) (c .below2 .ensures))
 
 pub strictly-opposite-spec : {M : Type 1} → statement M
-strictly-opposite-spec =
-    tie.close (tie.spec below-requires above-requires above-requires-2 below-requires-2 returns)
+strictly-opposite-spec = tie.close (tie.spec (search needs) (search needs) (search needs) (search needs) returns)

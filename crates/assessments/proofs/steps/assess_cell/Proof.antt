@@ -5,6 +5,7 @@ use Rattle.areas.specs.Words.{labelsIn}
 use Rattle.grid.specs.Directions.{directionsOf}
 use Rattle.assessments.specs.Visits.{mapOf, cutIn, cutFrom}
 use Rattle.assessments.proofs.Advancing.{Going, going-start, going-room, going-next, going-end, grown-more}
+use borrow.Author.Needs.{needs}
 use Rattle.assessments.proofs.steps.assess_cell.Statement.{statement}
 use Rattle.assessments.proofs.steps.assess_cell.Tie as tie
 
@@ -32,12 +33,6 @@ assess-step-requires c κs =
     let start = start-of (in-loop .before) in
     let p = start .pre in (p .0, p .1, p .2, omega arith, going-room _ _ (in-loop .loop .inv .1) 4 1 (p .3) (omega arith))
 
-add-d : tie.Need-add-d Inv-loop μ-loop
-add-d c = omega arith
-
-loop-less : tie.Need-loop-less Inv-loop μ-loop
-loop-less c = omega arith
-
 loop-again : tie.Need-loop-again Inv-loop μ-loop
 loop-again c =
     let at-assess-step = c .before .before .before .before in
@@ -62,15 +57,4 @@ returns c =
 
 pub assess-cell-spec : {M : Type 1} → statement M
 assess-cell-spec =
-    tie.close
-    (tie.spec
-    Inv-loop
-    μ-loop
-    loop-holds
-    assess-step-requires
-    add-d
-    loop-less
-    loop-again
-    same-length
-    same-length-2
-    returns)
+    tie.close (tie.spec Inv-loop μ-loop loop-holds assess-step-requires (search needs) (search needs) loop-again same-length same-length-2 returns)

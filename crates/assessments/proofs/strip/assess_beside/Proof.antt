@@ -25,9 +25,6 @@ abbrev μ-loop : tie.MeasureT-loop
 abbrev start-of : tie.After-slice-known2 Inv-loop μ-loop → tie.Start Inv-loop μ-loop
 start-of c = c .before .before .before .before
 
-is-tall-requires : tie.Need-is-tall-requires Inv-loop μ-loop
-is-tall-requires c κs = search needs
-
 strip-minor-requires : tie.Need-strip-minor-requires Inv-loop μ-loop
 strip-minor-requires c κs =
     let start = start-of (c .before) in
@@ -37,9 +34,6 @@ loop-holds : tie.Need-loop-holds Inv-loop μ-loop
 loop-holds c =
     let start = start-of (c .before .before) in
     (omega arith, going-start _ _ _ 4096 (start .pre .2))
-
-place-of-requires : tie.Need-place-of-requires Inv-loop μ-loop
-place-of-requires c κs = search needs
 
 assess-cell-requires : tie.Need-assess-cell-requires Inv-loop μ-loop
 assess-cell-requires c κs =
@@ -112,18 +106,5 @@ returns c =
 
 pub assess-beside-spec : {M : Type 1} → statement M
 assess-beside-spec =
-    tie.close
-    (tie.spec
-    Inv-loop
-    μ-loop
-    is-tall-requires
-    strip-minor-requires
-    loop-holds
-    place-of-requires
-    assess-cell-requires
-    add-cm
-    loop-less
-    loop-again
-    same-length
-    same-length-2
-    returns)
+    tie.close (tie.spec Inv-loop μ-loop (λ c κs. search needs) strip-minor-requires loop-holds (λ c κs. search needs) assess-cell-requires add-cm
+    loop-less loop-again same-length same-length-2 returns)

@@ -93,16 +93,5 @@ returns c =
 
 pub assess-span-spec : {M : Type 1} → statement M
 assess-span-spec =
-    tie.close
-    (tie.spec
-    Inv-loop
-    μ-loop
-    strip-axis-requires
-    loop-holds
-    assess-beside-requires
-    add-c
-    loop-less
-    loop-again
-    same-length
-    same-length-2
+    tie.close (tie.spec Inv-loop μ-loop strip-axis-requires loop-holds assess-beside-requires add-c loop-less loop-again same-length same-length-2
     returns)

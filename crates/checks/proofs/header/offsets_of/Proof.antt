@@ -7,42 +7,22 @@ use Rattle.checks.proofs.header.offsets_of.Statement.{statement}
 use Rattle.checks.proofs.header.offsets_of.Tie as tie
 
 mul-bases : tie.Need-mul-bases
-mul-bases c = omega (arith, total-limit (c .before .args .c) (c .before .pre))
+mul-bases c = omega (arith, total-limit _ (c .before .pre))
 
 add-bases : tie.Need-add-bases
-add-bases c = omega (arith, total-limit (c .before .args .c) (c .before .pre))
-
-mul-boundaries : tie.Need-mul-boundaries
-mul-boundaries c = search needs
+add-bases c = omega (arith, total-limit _ (c .before .pre))
 
 add-boundaries : tie.Need-add-boundaries
-add-boundaries c =
-    let start = c .before .before in
-    omega (arith, total-limit (start .args .c) (start .pre))
-
-mul-observations : tie.Need-mul-observations
-mul-observations c = search needs
+add-boundaries c = omega (arith, total-limit _ (c .before .before .pre))
 
 add-observations : tie.Need-add-observations
-add-observations c =
-    let start = c .before .before .before in
-    omega (arith, total-limit (start .args .c) (start .pre))
-
-mul-sources : tie.Need-mul-sources
-mul-sources c = search needs
+add-observations c = omega (arith, total-limit _ (c .before .before .before .pre))
 
 add-sources : tie.Need-add-sources
-add-sources c =
-    let start = c .before .before .before .before in
-    omega (arith, total-limit (start .args .c) (start .pre))
-
-mul-total : tie.Need-mul-total
-mul-total c = search needs
+add-sources c = omega (arith, total-limit _ (c .before .before .before .before .pre))
 
 add-total : tie.Need-add-total
-add-total c =
-    let start = c .before .before .before .before .before in
-    omega (arith, total-limit (start .args .c) (start .pre))
+add-total c = omega (arith, total-limit _ (c .before .before .before .before .before .pre))
 
 returns : tie.Need-returns
 unfolding offsetsOf
@@ -50,16 +30,5 @@ returns c = refl
 
 pub offsets-of-spec : {M : Type 1} → statement M
 offsets-of-spec =
-    tie.close
-    (tie.spec
-    mul-bases
-    add-bases
-    mul-boundaries
-    add-boundaries
-    mul-observations
-    add-observations
-    mul-sources
-    add-sources
-    mul-total
-    add-total
-    returns)
+    tie.close (tie.spec mul-bases add-bases (λ c. search needs) add-boundaries (λ c. search needs) add-observations (λ c. search needs) add-sources
+    (λ c. search needs) add-total returns)

@@ -23,12 +23,6 @@ sums-told : (s : List ℕ) (h : Header) → Laid s h
 unfolding sumsFault
 sums-told s h l a b c d e f g i j = let q = sections s h l in cc (q .boundaries-at, q .observations-at)
 
-size-requires : tie.Need-size-requires
-size-requires c κs = search needs
-
-size-requires-2 : tie.Need-size-requires-2
-size-requires-2 c κs = search needs
-
 observation-total-requires : tie.Need-observation-total-requires
 observation-total-requires c κs =
     let start = c .before .before .before .before .before in
@@ -39,25 +33,10 @@ own-total-requires c κs =
     let start = c .before .before .before .before .before .before in
     let q = sections _ _ (start .pre) in (omega (arith, q .boundaries-in), omega arith)
 
-size-requires-3 : tie.Need-size-requires-3
-size-requires-3 c κs = search needs
-
-size-requires-4 : tie.Need-size-requires-4
-size-requires-4 c κs = search needs
-
 source-count-requires : tie.Need-source-count-requires
 source-count-requires c κs =
     let start = c .before .before .before .before .before .before .before .before .before in
     let q = sections _ _ (start .pre) in (omega (arith, q .observations-in), omega arith)
-
-add-sources : tie.Need-add-sources
-add-sources c = search needs
-
-wide-requires : tie.Need-wide-requires
-wide-requires c κs = search needs
-
-wide-requires-2 : tie.Need-wide-requires-2
-wide-requires-2 c κs = search needs
 
 returns : tie.Need-returns
 returns c =
@@ -74,16 +53,5 @@ returns c =
 
 pub sums-fault-spec : {M : Type 1} → statement M
 sums-fault-spec =
-    tie.close
-    (tie.spec
-    size-requires
-    size-requires-2
-    observation-total-requires
-    own-total-requires
-    size-requires-3
-    size-requires-4
-    source-count-requires
-    add-sources
-    wide-requires
-    wide-requires-2
-    returns)
+    tie.close (tie.spec (λ c κs. search needs) (λ c κs. search needs) observation-total-requires own-total-requires (λ c κs. search needs)
+    (λ c κs. search needs) source-count-requires (λ c. search needs) (λ c κs. search needs) (λ c κs. search needs) returns)

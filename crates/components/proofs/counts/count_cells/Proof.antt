@@ -22,32 +22,6 @@ loop-holds : tie.Need-loop-holds Inv-loop μ-loop
 unfolding cellCount keep labelsIn rows
 loop-holds c = (omega arith, omega arith, refl)
 
-mul-read-u32 : tie.Need-mul-read-u32 Inv-loop μ-loop
-mul-read-u32 c =
-    let start = c .before .before .before in
-    omega (arith, start .pre)
-
-read-u32-requires : tie.Need-read-u32-requires Inv-loop μ-loop
-read-u32-requires c κs =
-    let start = c .before .before .before in
-    omega (arith, start .pre)
-
-tally-requires : tie.Need-tally-requires Inv-loop μ-loop
-tally-requires c κs = search needs
-
-add-count : tie.Need-add-count Inv-loop μ-loop
-add-count c =
-    let start = c .before .before .before .before .before in
-    omega (arith, start .pre, c .tally .ensures .1)
-
-add-i : tie.Need-add-i Inv-loop μ-loop
-add-i c =
-    let start = c .before .before .before .before .before in
-    omega (arith, start .pre)
-
-loop-less : tie.Need-loop-less Inv-loop μ-loop
-loop-less c = omega arith
-
 loop-again : tie.Need-loop-again Inv-loop μ-loop
 loop-again c =
     let in-loop = c .before .before .before in
@@ -69,16 +43,5 @@ returns c =
 
 pub count-cells-spec : {M : Type 1} → statement M
 count-cells-spec =
-    tie.close
-    (tie.spec
-    Inv-loop
-    μ-loop
-    loop-holds
-    mul-read-u32
-    read-u32-requires
-    tally-requires
-    add-count
-    add-i
-    loop-less
-    loop-again
-    returns)
+    tie.close (tie.spec Inv-loop μ-loop loop-holds (search needs) (λ c κs. search needs) (λ c κs. search needs) (search needs) (search needs)
+    (search needs) loop-again returns)

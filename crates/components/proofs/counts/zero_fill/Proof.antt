@@ -5,6 +5,7 @@ use lib.ListN.{length, length-set}
 use lib.ListN.{replicate}
 use Rattle.wire.specs.Bytes.{splice}
 use Rattle.components.proofs.CountLaws.{fill-start, fill-next}
+use borrow.Author.Needs.{needs}
 use Rattle.components.proofs.counts.zero_fill.Statement.{statement}
 use Rattle.components.proofs.counts.zero_fill.Tie as tie
 
@@ -15,16 +16,7 @@ abbrev μ-loop : tie.MeasureT-loop
 μ-loop work₀ from to i₀ work i = to - i
 
 loop-holds : tie.Need-loop-holds Inv-loop μ-loop
-loop-holds c = (omega arith, c .pre .0, refl, fill-start (c .args .work .now) (c .args .from))
-
-slice-write-work : tie.Need-slice-write-work Inv-loop μ-loop
-slice-write-work c = omega (arith, c .before .before .pre)
-
-add-i : tie.Need-add-i Inv-loop μ-loop
-add-i c = omega (arith, c .before .before .pre)
-
-loop-less : tie.Need-loop-less Inv-loop μ-loop
-loop-less c = omega arith
+loop-holds c = (omega arith, c .pre .0, refl, fill-start _ _)
 
 loop-again : tie.Need-loop-again Inv-loop μ-loop
 loop-again c =
@@ -33,11 +25,8 @@ loop-again c =
       omega arith,
       omega arith,
       length-set (c .before .loop .work) (c .before .loop .i) 0 ∙ inv .2,
-      fill-next (start .args .work .now) (c .before .loop .work) (start .args .from) (c .before .loop .i) (inv .0) (omega (arith, start .pre)) (inv .3),
+      fill-next _ _ _ _ (inv .0) (omega (arith, start .pre)) (inv .3),
     )
-
-same-length : tie.Need-same-length Inv-loop μ-loop
-same-length c = c .before .loop .inv .2
 
 returns : tie.Need-returns Inv-loop μ-loop
 returns c =
@@ -46,15 +35,4 @@ returns c =
     (let z : c .before .loop .i ≡ start .args .to = omega arith in z)
 
 pub zero-fill-spec : {M : Type 1} → statement M
-zero-fill-spec =
-    tie.close
-    (tie.spec
-    Inv-loop
-    μ-loop
-    loop-holds
-    slice-write-work
-    add-i
-    loop-less
-    loop-again
-    same-length
-    returns)
+zero-fill-spec = tie.close (tie.spec Inv-loop μ-loop loop-holds (search needs) (search needs) (search needs) loop-again (λ c. search needs) returns)

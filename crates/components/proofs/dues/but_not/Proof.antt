@@ -6,9 +6,6 @@ use borrow.Author.Needs.{needs}
 use Rattle.components.proofs.dues.but_not.Statement.{statement}
 use Rattle.components.proofs.dues.but_not.Tie as tie
 
-sub-result : tie.Need-sub-result
-sub-result c = search needs
-
 mul-result : tie.Need-mul-result
 mul-result c =
     let most : 1 - c .args .b ≤ 1 = omega arith in
@@ -21,4 +18,4 @@ returns c =
     (but-is (c .args .a) (c .args .b), omega arith)
 
 pub but-not-spec : {M : Type 1} → statement M
-but-not-spec = tie.close (tie.spec sub-result mul-result returns)
+but-not-spec = tie.close (tie.spec (search needs) mul-result returns)

@@ -3,12 +3,6 @@ use borrow.Author.Needs.{needs}
 use Rattle.components.proofs.dues.byte_at.Statement.{statement}
 use Rattle.components.proofs.dues.byte_at.Tie as tie
 
-add-result : tie.Need-add-result
-add-result c = search needs
-
-shared-slice-read-result : tie.Need-shared-slice-read-result
-shared-slice-read-result c = search needs
-
 returns : tie.Need-returns
 returns c =
     let start = c .before .before in
@@ -20,4 +14,4 @@ returns-2 c =
     at-past (start .args .work .now) (start .args .base) (start .args .n) (start .pre) (start .args .k) (c .if1 .left)
 
 pub byte-at-spec : {M : Type 1} → statement M
-byte-at-spec = tie.close (tie.spec add-result shared-slice-read-result returns returns-2)
+byte-at-spec = tie.close (tie.spec (search needs) (search needs) returns returns-2)

@@ -5,66 +5,6 @@ use borrow.Author.Needs.{needs}
 use Rattle.components.proofs.dues.due_of.Statement.{statement}
 use Rattle.components.proofs.dues.due_of.Tie as tie
 
-bit-requires : tie.Need-bit-requires
-bit-requires c κs = search needs
-
-bit-requires-2 : tie.Need-bit-requires-2
-bit-requires-2 c κs = search needs
-
-bit-requires-3 : tie.Need-bit-requires-3
-bit-requires-3 c κs = search needs
-
-bit-requires-4 : tie.Need-bit-requires-4
-bit-requires-4 c κs = search needs
-
-both-requires : tie.Need-both-requires
-both-requires c κs = search needs
-
-bit-requires-5 : tie.Need-bit-requires-5
-bit-requires-5 c κs = search needs
-
-but-not-requires : tie.Need-but-not-requires
-but-not-requires c κs = search needs
-
-both-requires-2 : tie.Need-both-requires-2
-both-requires-2 c κs = search needs
-
-but-not-requires-2 : tie.Need-but-not-requires-2
-but-not-requires-2 c κs = search needs
-
-both-requires-3 : tie.Need-both-requires-3
-both-requires-3 c κs = search needs
-
-but-not-requires-3 : tie.Need-but-not-requires-3
-but-not-requires-3 c κs = search needs
-
-bit-requires-6 : tie.Need-bit-requires-6
-bit-requires-6 c κs = search needs
-
-bit-requires-7 : tie.Need-bit-requires-7
-bit-requires-7 c κs = search needs
-
-both-requires-4 : tie.Need-both-requires-4
-both-requires-4 c κs = search needs
-
-but-not-requires-4 : tie.Need-but-not-requires-4
-but-not-requires-4 c κs = search needs
-
-mul-result : tie.Need-mul-result
-mul-result c = search needs
-
-mul-result-2 : tie.Need-mul-result-2
-mul-result-2 c = search needs
-
-add-result : tie.Need-add-result
-add-result c = search needs
-
-mul-result-3 : tie.Need-mul-result-3
-mul-result-3 c = search needs
-
-add-result-2 : tie.Need-add-result-2
-add-result-2 c = search needs
-
 returns : tie.Need-returns
 returns c =
     let at-both4 = c .before in
@@ -101,26 +41,7 @@ returns c =
 
 pub due-of-spec : {M : Type 1} → statement M
 due-of-spec =
-    tie.close
-    (tie.spec
-    bit-requires
-    bit-requires-2
-    bit-requires-3
-    bit-requires-4
-    both-requires
-    bit-requires-5
-    but-not-requires
-    both-requires-2
-    but-not-requires-2
-    both-requires-3
-    but-not-requires-3
-    bit-requires-6
-    bit-requires-7
-    both-requires-4
-    but-not-requires-4
-    mul-result
-    mul-result-2
-    add-result
-    mul-result-3
-    add-result-2
-    returns)
+    tie.close (tie.spec (λ c κs. search needs) (λ c κs. search needs) (λ c κs. search needs) (λ c κs. search needs) (λ c κs. search needs)
+    (λ c κs. search needs) (λ c κs. search needs) (λ c κs. search needs) (λ c κs. search needs) (λ c κs. search needs) (λ c κs. search needs)
+    (λ c κs. search needs) (λ c κs. search needs) (λ c κs. search needs) (λ c κs. search needs) (search needs) (search needs) (search needs)
+    (search needs) (search needs) returns)

@@ -3,6 +3,7 @@ use native.Mathlib.Omega.{arith}
 use lib.ListN.{length}
 use Rattle.components.specs.Numbered.{walks}
 use Rattle.components.proofs.NumberLaws.{Numbering, numbering-start, numbering-room, numbering-falls, numbering-next, numbering-end}
+use borrow.Author.Needs.{needs}
 use Rattle.components.proofs.numbers.number.Statement.{statement}
 use Rattle.components.proofs.numbers.number.Tie as tie
 
@@ -13,9 +14,7 @@ abbrev μ-loop : tie.MeasureT-loop
 μ-loop cells work₀ count₀ i₀ work count i = length cells - i
 
 loop-holds : tie.Need-loop-holds Inv-loop μ-loop
-loop-holds c =
-    let args = c .before .before .args in
-    numbering-start (length (args .cells .now)) (walks (args .cells .now)) (args .work .now)
+loop-holds c = numbering-start _ _ _
 
 number-cell-requires : tie.Need-number-cell-requires Inv-loop μ-loop
 number-cell-requires c κs =
@@ -26,14 +25,6 @@ number-cell-requires c κs =
     let falls = numbering-falls numbering (pre .0) (pre .1) (pre .2) (omega arith) in
     ((omega arith, omega (arith, pre .0), room, falls), (numbering .few, numbering .small))
 
-add-i : tie.Need-add-i Inv-loop μ-loop
-add-i c =
-    let start = c .before .before .before .before .before .before .before .before in
-    omega (arith, start .pre .0)
-
-loop-less : tie.Need-loop-less Inv-loop μ-loop
-loop-less c = omega arith
-
 loop-again : tie.Need-loop-again Inv-loop μ-loop
 loop-again c =
     let in-loop = c .before .before .before .before .before in
@@ -41,24 +32,11 @@ loop-again c =
     let call = c .before .before .number-cell in
     let numbering = in-loop .loop .inv in
     let pre = start .pre in
-    numbering-next numbering (pre .0) (pre .1) (pre .2) (omega arith) (call .last .1 .0) (call .result) (call .ensures)
-
-same-length : tie.Need-same-length Inv-loop μ-loop
-same-length c = c .before .loop .inv .kept .size
+    numbering-next numbering (pre .0) (pre .1) (pre .2) (omega arith) _ _ (call .ensures)
 
 returns : tie.Need-returns Inv-loop μ-loop
 returns c = λ es f a. numbering-end (c .before .loop .inv) (λ l. omega arith) es f a
 
 pub number-spec : {M : Type 1} → statement M
 number-spec =
-    tie.close
-    (tie.spec
-    Inv-loop
-    μ-loop
-    loop-holds
-    number-cell-requires
-    add-i
-    loop-less
-    loop-again
-    same-length
-    returns)
+    tie.close (tie.spec Inv-loop μ-loop loop-holds number-cell-requires (search needs) (search needs) loop-again (λ c. search needs) returns)

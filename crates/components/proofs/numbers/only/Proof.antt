@@ -1,5 +1,5 @@
-use native.Mathlib.Omega.{arith}
 use native.Mathlib.Nat.{mul-le-mul-left}
+use native.Mathlib.Omega.{arith}
 use Rattle.components.proofs.NumberLaws.{only-is}
 use Rattle.components.proofs.numbers.only.Statement.{statement}
 use Rattle.components.proofs.numbers.only.Tie as tie

@@ -1,6 +1,6 @@
 use Prim.Native.Nat.{_+_}
 use native.Mathlib.Omega.{arith}
-use Rattle.components.proofs.FindLaws.{Finding, finding-start, finding-falls, finding-room, finding-second, finding-root, finding-next, finding-end}
+use Rattle.components.proofs.FindLaws.{Finding, finding-start, finding-falls, finding-room, finding-root, finding-next, finding-end, finding-second}
 use Rattle.components.proofs.parents.find.Statement.{statement}
 use Rattle.components.proofs.parents.find.Tie as tie
 
@@ -14,10 +14,7 @@ parent-requires : tie.Need-parent-requires Inv-loop μ-loop
 parent-requires c κs = c .before .before .pre .room
 
 loop-holds : tie.Need-loop-holds Inv-loop μ-loop
-loop-holds c =
-    let start = c .before .before .before in
-    let args = start .args in
-    finding-start (args .i) (c .parent .result) (args .work .now) (c .parent .ensures .0)
+loop-holds c = finding-start _ _ _ (c .parent .ensures .0)
 
 parent-requires-2 : tie.Need-parent-requires-2 Inv-loop μ-loop
 parent-requires-2 c κs =
@@ -40,7 +37,7 @@ returns c =
     let second = c .before .parent2 in
     let loop = in-loop .loop in
     let pre = start .pre in
-    finding-root pre (loop .inv) (second .result) (second .ensures .0) (second .ensures .1) (c .if1 .taken)
+    finding-root pre (loop .inv) _ (second .ensures .0) (second .ensures .1) (c .if1 .taken)
 
 set-parent-requires : tie.Need-set-parent-requires Inv-loop μ-loop
 set-parent-requires c κs =
@@ -75,8 +72,8 @@ loop-again c =
     let second = set .before .before .before .parent2 in
     let at-loop = set .before .before .before .before .before .before in
     let pre = at-loop .before .before .before .before .pre in
-    finding-next pre (at-loop .loop .inv) (second .result) (second .ensures .0) (second .ensures .1)
-    (set .set-parent .last .0) (set .set-parent .ensures) (c .parent3 .result) (c .parent3 .ensures .0)
+    finding-next pre (at-loop .loop .inv) _ (second .ensures .0) (second .ensures .1)
+    _ (set .set-parent .ensures) _ (c .parent3 .ensures .0)
 
 same-length-2 : tie.Need-same-length-2 Inv-loop μ-loop
 same-length-2 c =
@@ -90,18 +87,5 @@ returns-2 c =
 
 pub find-spec : {M : Type 1} → statement M
 find-spec =
-    tie.close
-    (tie.spec
-    Inv-loop
-    μ-loop
-    parent-requires
-    loop-holds
-    parent-requires-2
-    same-length
-    returns
-    set-parent-requires
-    parent-requires-3
-    loop-less
-    loop-again
-    same-length-2
-    returns-2)
+    tie.close (tie.spec Inv-loop μ-loop parent-requires loop-holds parent-requires-2 same-length returns set-parent-requires parent-requires-3
+    loop-less loop-again same-length-2 returns-2)

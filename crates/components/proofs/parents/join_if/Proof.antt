@@ -9,9 +9,6 @@ join-requires c κs =
     let start = c .before .before .before in
     (start .pre .0, start .pre .1 (c .before .if1 .taken))
 
-same-length : tie.Need-same-length
-same-length c = search needs
-
 returns : tie.Need-returns
 returns c =
     let if1-taken = c .before .before .before .before in
@@ -19,8 +16,7 @@ returns c =
 
 returns-2 : tie.Need-returns-2
 returns-2 c =
-    let start = c .before .before in
-    joined-off (c .if1 .left) (joined-none (start .args .i) (start .args .j) (start .args .work .now))
+    joined-off (c .if1 .left) (joined-none _ _ _)
 
 pub join-if-spec : {M : Type 1} → statement M
-join-if-spec = tie.close (tie.spec join-requires same-length returns returns-2)
+join-if-spec = tie.close (tie.spec join-requires (λ c. search needs) returns returns-2)

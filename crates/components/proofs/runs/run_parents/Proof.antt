@@ -13,12 +13,7 @@ abbrev μ-loop : tie.MeasureT-loop
 μ-loop work₀ base n first₀ joined₀ i₀ work first joined i = n - i
 
 loop-holds : tie.Need-loop-holds Inv-loop μ-loop
-loop-holds c =
-    let args = c .before .args in
-    running-start (args .n) (args .base) (args .work .now)
-
-pick-requires : tie.Need-pick-requires Inv-loop μ-loop
-pick-requires c κs = search needs
+loop-holds c = running-start _ _ _
 
 set-parent-requires : tie.Need-set-parent-requires Inv-loop μ-loop
 set-parent-requires c κs =
@@ -27,30 +22,8 @@ set-parent-requires c κs =
     let pre = start .pre in
     let loop = in-loop .loop in
     let pick = c .before .pick in
-    let small = running-small (pre .0) (pre .1) (pre .2) (loop .inv) (omega arith) (pick .result) (pick .ensures) in
-    (running-room (pre .0) (pre .1) (pre .2) (loop .inv) (omega arith) (pick .result) (pick .ensures), omega (arith, small, pre))
-
-add-joined : tie.Need-add-joined Inv-loop μ-loop
-add-joined c =
-    let start = c .before .before .before .before .before .before .before .before in
-    omega (arith, start .pre)
-
-slice-read-joined : tie.Need-slice-read-joined Inv-loop μ-loop
-slice-read-joined c =
-    let at-set-parent = c .before .before .before in
-    let in-loop = at-set-parent .before .before .before .before in
-    let start = in-loop .before .before in
-    let pre = start .pre in
-    let loop = in-loop .loop in
-    omega (arith, pre, loop .inv .kept .size, at-set-parent .set-parent .kept .0)
-
-add-i : tie.Need-add-i Inv-loop μ-loop
-add-i c =
-    let start = c .before .before .before .before .before .before .before .before .before in
-    omega (arith, start .pre)
-
-loop-less : tie.Need-loop-less Inv-loop μ-loop
-loop-less c = omega arith
+    let small = running-small (pre .0) (pre .1) (pre .2) (loop .inv) (omega arith) _ (pick .ensures) in
+    (running-room (pre .0) (pre .1) (pre .2) (loop .inv) (omega arith) _ (pick .ensures), omega (arith, small, pre))
 
 loop-again : tie.Need-loop-again Inv-loop μ-loop
 loop-again c =
@@ -62,27 +35,12 @@ loop-again c =
     let loop = in-loop .loop in
     let pick = at-pick .pick in
     let set = at-set-parent .set-parent in
-    running-next (pre .0) (pre .1) (pre .2) (loop .inv) (omega arith) (pick .result) (pick .ensures) (set .last .0) (set .ensures) _ refl
-
-same-length : tie.Need-same-length Inv-loop μ-loop
-same-length c = c .before .loop .inv .kept .size
+    running-next (pre .0) (pre .1) (pre .2) (loop .inv) (omega arith) _ (pick .ensures) _ (set .ensures) _ refl
 
 returns : tie.Need-returns Inv-loop μ-loop
 returns c = running-end (c .before .loop .inv) (λ l. omega arith)
 
 pub run-parents-spec : {M : Type 1} → statement M
 run-parents-spec =
-    tie.close
-    (tie.spec
-    Inv-loop
-    μ-loop
-    loop-holds
-    pick-requires
-    set-parent-requires
-    add-joined
-    slice-read-joined
-    add-i
-    loop-less
-    loop-again
-    same-length
-    returns)
+    tie.close (tie.spec Inv-loop μ-loop loop-holds (λ c κs. search needs) set-parent-requires (search needs) (search needs) (search needs)
+    (search needs) loop-again (λ c. search needs) returns)

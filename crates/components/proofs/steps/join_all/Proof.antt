@@ -2,6 +2,7 @@ use Prim.Native.Nat.{_-_}
 use native.Mathlib.Omega.{arith}
 use Rattle.components.specs.Joining.{Joining}
 use Rattle.components.proofs.StepLaws.{joining-start, joinable-kept, joining-end}
+use borrow.Author.Needs.{needs}
 use Rattle.components.proofs.steps.join_all.Statement.{statement}
 use Rattle.components.proofs.steps.join_all.Tie as tie
 
@@ -14,22 +15,11 @@ abbrev μ-loop : tie.MeasureT-loop
 loop-holds : tie.Need-loop-holds Inv-loop μ-loop
 loop-holds c = joining-start (c .before .pre)
 
-add-loop : tie.Need-add-loop Inv-loop μ-loop
-add-loop c = omega (arith, c .loop .inv .below, c .before .before .pre .few)
-
 join-block-requires : tie.Need-join-block-requires Inv-loop μ-loop
 join-block-requires c κs =
     let start = c .before .before .before .before in
     let joining = c .before .before .loop .inv in
     (joinable-kept (start .pre) (joining .kept) (joining .usable), omega arith)
-
-add-i : tie.Need-add-i Inv-loop μ-loop
-add-i c =
-    let start = c .before .before .before .before .before .before .before in
-    omega (arith, start .pre .few)
-
-loop-less : tie.Need-loop-less Inv-loop μ-loop
-loop-less c = omega arith
 
 loop-again : tie.Need-loop-again Inv-loop μ-loop
 loop-again c =
@@ -60,16 +50,5 @@ returns c =
 
 pub join-all-spec : {M : Type 1} → statement M
 join-all-spec =
-    tie.close
-    (tie.spec
-    Inv-loop
-    μ-loop
-    loop-holds
-    add-loop
-    join-block-requires
-    add-i
-    loop-less
-    loop-again
-    join-some-requires
-    same-length
-    returns)
+    tie.close (tie.spec Inv-loop μ-loop loop-holds (search needs) join-block-requires (search needs) (search needs) loop-again join-some-requires
+    same-length returns)

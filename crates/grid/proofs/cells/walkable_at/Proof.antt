@@ -2,16 +2,10 @@ use borrow.Author.Needs.{needs}
 use Rattle.grid.proofs.cells.walkable_at.Statement.{statement}
 use Rattle.grid.proofs.cells.walkable_at.Tie as tie
 
-shared-slice-read-is-walkable : tie.Need-shared-slice-read-is-walkable
-shared-slice-read-is-walkable c = search needs
-
-is-walkable-requires : tie.Need-is-walkable-requires
-is-walkable-requires c κs = search needs
-
 returns : tie.Need-returns
 returns c =
     let start = c .before .before .before in
     λ g e. c .is-walkable .ensures g (start .args .i) (rw e)
 
 pub walkable-at-spec : {M : Type 1} → statement M
-walkable-at-spec = tie.close (tie.spec shared-slice-read-is-walkable is-walkable-requires returns)
+walkable-at-spec = tie.close (tie.spec (search needs) (search needs) returns)

@@ -7,13 +7,10 @@ use Rattle.grid.proofs.map.byte_at.Tie as tie
 returns : tie.Need-returns
 returns c = byte-past (c .before .args .cells .now) (c .before .args .i) (omega arith)
 
-shared-slice-read-t6 : tie.Need-shared-slice-read-t6
-shared-slice-read-t6 c = search needs
-
 returns-2 : tie.Need-returns-2
 returns-2 c =
     let start = c .before .before in
     byte-in (start .args .cells .now) (start .args .i) (omega arith)
 
 pub byte-at-spec : {M : Type 1} → statement M
-byte-at-spec = tie.close (tie.spec returns shared-slice-read-t6 returns-2)
+byte-at-spec = tie.close (tie.spec returns (search needs) returns-2)

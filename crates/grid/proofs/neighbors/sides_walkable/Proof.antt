@@ -1,57 +1,59 @@
 use mathlib.Core.Bool.{_&&_}
-use mathlib.Core.Path.{refl, _∙_, ap, ap₂}
-use Prim.Native.Nat.{_+_, _*_}
+use mathlib.Core.Path.{_≡_, refl, _∙_, ap, ap₂}
+use Prim.Native.Nat.{ℕ, _+_, _*_}
 use native.Mathlib.Omega.{arith}
 use Rattle.grid.proofs.Reach.{gridOf, beside-on, across-on, place-column, place-row, place-on}
-use Rattle.grid.proofs.Steps.{leads-means}
-use Rattle.grid.specs.Cells.{walkable}
+use Rattle.grid.proofs.Steps.{Leads, leads-means}
+use Rattle.grid.specs.Cells.{Grid, walkable}
+use Rattle.grid.specs.Steps.{beside, across}
 use Rattle.grid.proofs.neighbors.sides_walkable.Statement.{statement}
 use Rattle.grid.proofs.neighbors.sides_walkable.Tie as tie
 
+-- the map, and the cell in hand
+abbrev grid-of : tie.Start → Grid
+grid-of c = gridOf (c .args .width) (c .args .height) (c .args .cells .now)
+
+abbrev cell-of : tie.Start → ℕ
+cell-of c = c .args .position .y * c .args .width + c .args .position .x
+
+-- a direction that leads to a cell keeps to the map
+keeps : (c : tie.Start) → Leads (grid-of c) (cell-of c) (c .args .d)
+keeps c = leads-means _ _ _ (c .pre .2)
+
 beside-requires : tie.Need-beside-requires
 beside-requires c κs =
-    let start = c .before in
-    let g = gridOf (start .args .width) (start .args .height) (start .args .cells .now) in
-    let i = start .args .position .y * start .args .width + start .args .position .x in
-    let m = leads-means g i (start .args .d) (start .pre .2) in
-    omega (arith, place-column (start .pre .0), place-row (start .pre .0))
+    let m = keeps (c .before) in
+    let p = c .before .pre .0 in omega (arith, place-column p, place-row p)
+
+beside-is : (c : tie.After-beside) → let s = c .before .before in c .beside .result ≡ beside (grid-of s) (cell-of s) (s .args .d)
+beside-is c =
+    let p = c .before .before .pre .0 in
+    c .beside .ensures (grid-of (c .before .before)) (cell-of (c .before .before)) refl (place-column p) (place-row p)
 
 walkable-at-requires : tie.Need-walkable-at-requires
 walkable-at-requires c κs =
-    let start = c .before .before in
-    let g = gridOf (start .args .width) (start .args .height) (start .args .cells .now) in
-    let i = start .args .position .y * start .args .width + start .args .position .x in
-    rw (c .beside .ensures g i refl (place-column (start .pre .0)) (place-row (start .pre .0)))
-    (beside-on g (start .pre .0 .whole) i (start .args .d) (place-on (start .pre .0)) (start .pre .2))
+    let p = c .before .before .pre in rw (beside-is c) (beside-on _ (p .0 .whole) _ _ (place-on (p .0)) (p .2))
 
 across-requires : tie.Need-across-requires
 across-requires c κs =
-    let start = c .before .before .before in
-    let g = gridOf (start .args .width) (start .args .height) (start .args .cells .now) in
-    let i = start .args .position .y * start .args .width + start .args .position .x in
-    let m = leads-means g i (start .args .d) (start .pre .2) in
-    omega (arith, place-column (start .pre .0), place-row (start .pre .0))
+    let m = keeps (c .before .before .before) in
+    let p = c .before .before .before .pre .0 in omega (arith, place-column p, place-row p)
+
+across-is : (c : tie.After-across) → let s = c .before .before .before .before in c .across .result ≡ across (grid-of s) (cell-of s) (s .args .d)
+across-is c =
+    let start = c .before .before .before .before in
+    c .across .ensures (grid-of start) (cell-of start) refl (place-column (start .pre .0)) (place-row (start .pre .0))
 
 walkable-at-requires-2 : tie.Need-walkable-at-requires-2
 walkable-at-requires-2 c κs =
-    let start = c .before .before .before .before in
-    let g = gridOf (start .args .width) (start .args .height) (start .args .cells .now) in
-    let i = start .args .position .y * start .args .width + start .args .position .x in
-    rw (c .across .ensures g i refl (place-column (start .pre .0)) (place-row (start .pre .0)))
-    (across-on g (start .pre .0 .whole) i (start .args .d) (place-on (start .pre .0)) (start .pre .2))
+    let p = c .before .before .before .before .pre in rw (across-is c) (across-on _ (p .0 .whole) _ _ (place-on (p .0)) (p .2))
 
 returns : tie.Need-returns
 returns c =
-    let after-beside = c .before .before .before in
-    let start = after-beside .before .before in
-    let g = gridOf (start .args .width) (start .args .height) (start .args .cells .now) in
-    let i = start .args .position .y * start .args .width + start .args .position .x in
+    let g = grid-of (c .before .before .before .before .before) in
     λ k j e f.
-    rw (e, f) (ap₂ _&&_ (c .before .before .walkable-at .ensures g refl
-    ∙ ap (walkable g) (after-beside .beside .ensures g i refl (place-column (start .pre .0)) (place-row (start .pre .0))))
-    (c .walkable-at2 .ensures g refl ∙ ap (walkable g) (c .before .across .ensures g i refl (place-column (start .pre .0)) (place-row (start .pre .0)))))
+    rw (e, f) (ap₂ _&&_ (c .before .before .walkable-at .ensures g refl ∙ ap (walkable g) (beside-is (c .before .before .before)))
+    (c .walkable-at2 .ensures g refl ∙ ap (walkable g) (across-is (c .before))))
 
 pub sides-walkable-spec : {M : Type 1} → statement M
-sides-walkable-spec =
-    tie.close
-    (tie.spec beside-requires walkable-at-requires across-requires walkable-at-requires-2 returns)
+sides-walkable-spec = tie.close (tie.spec beside-requires walkable-at-requires across-requires walkable-at-requires-2 returns)

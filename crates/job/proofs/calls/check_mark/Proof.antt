@@ -3,12 +3,9 @@ use borrow.Author.Needs.{needs}
 use Rattle.job.proofs.calls.check_mark.Statement.{statement}
 use Rattle.job.proofs.calls.check_mark.Tie as tie
 
-check-boundaries-requires : tie.Need-check-boundaries-requires
-check-boundaries-requires c κs = search needs
-
 returns : tie.Need-returns
 unfolding markChecks
 returns c = c .check-boundaries .ensures
 
 pub check-mark-spec : {M : Type 1} → statement M
-check-mark-spec = tie.close (tie.spec check-boundaries-requires returns)
+check-mark-spec = tie.close (tie.spec (λ c κs. search needs) returns)

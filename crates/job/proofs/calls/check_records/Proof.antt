@@ -1,9 +1,12 @@
-use mathlib.Core.Path.{sym, _∙_, ap}
+use mathlib.Core.Path.{_≡_, sym, _∙_, ap}
+use mathlib.Core.List.{List, _∷_, _++_}
 use Prim.Native.Nat.{ℕ}
 use native.Mathlib.Omega.{arith}
 use Rattle.format.specs.Header.{cellCount, basesStart, boundariesStart}
-use Rattle.checks.specs.Checks.{firstRefusal, each}
-use Rattle.checks.specs.Single.{cellCheck, baseCheck, rampCheck, widthCheck}
+use Rattle.format.specs.declared.header.Counts.{Counts}
+use Rattle.checks.specs.Checks.{Check, check, firstRefusal, each}
+use Rattle.checks.specs.Single.{cellCheck, baseCheck, sumsFault, rampCheck, widthCheck}
+use Rattle.checks.specs.Verdict.{meaning}
 use Rattle.job.specs.Refusals.{recordChecks}
 use Rattle.checks.proofs.Firsts.{skip, stop, append-none}
 use Rattle.checks.proofs.Limits.{cells-limit, sections}
@@ -12,204 +15,106 @@ use borrow.Author.Needs.{needs}
 use Rattle.job.proofs.calls.check_records.Statement.{statement}
 use Rattle.job.proofs.calls.check_records.Tie as tie
 
+-- the five checks, and what follows each
+module _ (s : List ℕ) (c : Counts) where
+  abbrev cells : List Check
+  cells = each (cellCount c) (cellCheck s)
+
+  abbrev bases : List Check
+  bases = each (c .bases) (baseCheck s (c .width) (c .height) (basesStart c))
+
+  abbrev ramps : List Check
+  ramps = each (c .boundaries) (rampCheck s (boundariesStart c))
+
+  abbrev widths : List Check
+  widths = each (c .boundaries) (widthCheck s (boundariesStart c))
+
+  abbrev after-bases : List Check
+  after-bases = check (sumsFault s c) 8 0 ∷ (ramps ++ widths)
+
+abbrev start-of : tie.After-size → tie.Start
+start-of c = c .before .before .before .before .before
+
+abbrev over : tie.After-size → (List ℕ → Counts → List Check) → List Check
+over c checks = checks (start-of c .args .job .now) (start-of c .args .h .counts)
+
+abbrev size-of : tie.Else1 → tie.After-size
+size-of c = c .before .before .before
+
+-- what each loop answers, of the place and the number that the header gives
+cells-told : (c : tie.After-check-cells) → meaning (c .check-cells .result) ≡ firstRefusal (over (c .before) cells)
+cells-told c = c .check-cells .ensures ∙ ap (λ (n : ℕ). firstRefusal (each n (cellCheck (start-of (c .before) .args .job .now)))) (c .before .size .ensures .0)
+
+-- past the cells, the bases, the sums and the ramps
+past-cells : (c : tie.Else1) → firstRefusal (over (size-of c) recordChecks) ≡ firstRefusal (over (size-of c) bases ++ over (size-of c) after-bases)
+unfolding recordChecks
+past-cells c = append-none _ _ (went-on _ (cells-told (c .before .before)) (c .before .passed .ensures) (c .if1 .left))
+
+bases-told : (c : tie.After-check-bases) → meaning (c .check-bases .result) ≡ firstRefusal (over (size-of (c .before .before .before)) bases)
+bases-told c =
+    let start = start-of (size-of (c .before .before .before)) in
+    let k = start .args .h .counts in
+    moved (baseCheck (start .args .job .now) (k .width) (k .height)) (c .check-bases .ensures)
+    (c .before .before .size2 .ensures .0 ∙ sections _ _ (start .pre) .bases-at) (c .before .size3 .ensures .0)
+
+abbrev else1 : tie.Else2 → tie.Else1
+else1 c = c .before .before .before .before .before
+
+past-bases : (c : tie.Else2) → firstRefusal (over (size-of (else1 c)) recordChecks) ≡ firstRefusal (over (size-of (else1 c)) after-bases)
+past-bases c =
+    past-cells (else1 c) ∙ append-none _ _ (went-on _ (bases-told (c .before .before)) (c .before .passed2 .ensures) (c .if2 .left))
+
+past-sums : (c : tie.Else3) → firstRefusal (over (size-of (else1 (c .before .before))) recordChecks)
+    ≡ firstRefusal (over (size-of (else1 (c .before .before))) ramps ++ over (size-of (else1 (c .before .before))) widths)
+past-sums c = past-bases (c .before .before) ∙ skip 8 0 _ (sym (c .before .sums-fault .ensures) ∙ c .if3 .left)
+
+abbrev size-at : tie.After-size5 → tie.After-size
+size-at c = size-of (else1 (c .before .before .before .before))
+
+boundaries-at : (c : tie.After-size5) → c .before .size4 .result ≡ boundariesStart (start-of (size-at c) .args .h .counts)
+boundaries-at c = c .before .size4 .ensures .0 ∙ sections _ _ (start-of (size-at c) .pre) .boundaries-at
+
+ramps-told : (c : tie.After-check-ramps) → meaning (c .check-ramps .result) ≡ firstRefusal (over (size-at (c .before)) ramps)
+ramps-told c =
+    let sizes = c .before in
+    moved (rampCheck (start-of (size-at sizes) .args .job .now)) (c .check-ramps .ensures) (boundaries-at sizes) (sizes .size5 .ensures .0)
+
 mul-size : tie.Need-mul-size
-mul-size c =
-    let start = c .before .before .before .before in
-    omega (arith, cells-limit (start .args .h .counts) (start .pre .within))
-
-size-requires : tie.Need-size-requires
-size-requires c κs = search needs
-
-check-cells-requires : tie.Need-check-cells-requires
-check-cells-requires c κs = search needs
-
-passed-requires : tie.Need-passed-requires
-passed-requires c κs = search needs
+mul-size c = omega (arith, cells-limit _ (c .before .before .before .before .pre .within))
 
 returns : tie.Need-returns
 unfolding recordChecks
-returns c =
-    let after-size = c .before .before .before in
-    let start = after-size .before .before .before .before .before in
-    let s = start .args .job .now in
-    let h = start .args .h in
-    let q = sections s h (start .pre) in
-    let cells = each (cellCount (h .counts)) (cellCheck s) in
-    let e1 = c .before .before .check-cells .ensures ∙ ap (λ (n : ℕ). firstRefusal (each n (cellCheck s))) (after-size .size .ensures .0) in
-    stopped cells _ e1 (c .before .passed .ensures) (c .if1 .taken)
-
-size-requires-2 : tie.Need-size-requires-2
-size-requires-2 c κs = search needs
-
-size-requires-3 : tie.Need-size-requires-3
-size-requires-3 c κs = search needs
+returns c = stopped _ _ (cells-told (c .before .before)) (c .before .passed .ensures) (c .if1 .taken)
 
 check-bases-requires : tie.Need-check-bases-requires
-check-bases-requires c κs =
-    let start = c .before .before .before .before .before .before .before .before .before .before in
-    let q = sections _ _ (start .pre) in omega (arith, q .bases-in)
-
-passed-requires-2 : tie.Need-passed-requires-2
-passed-requires-2 c κs = search needs
+check-bases-requires c κs = omega (arith, sections _ _ (start-of (size-of (c .before .before)) .pre) .bases-in)
 
 returns-2 : tie.Need-returns-2
-unfolding recordChecks
 returns-2 c =
-    let after-size3 = c .before .before .before in
-    let after-size2 = after-size3 .before in
-    let if1-left = after-size2 .before in
-    let after-passed = if1-left .before in
-    let after-check-cells = after-passed .before in
-    let after-size = after-check-cells .before in
-    let start = after-size .before .before .before .before .before in
-    let s = start .args .job .now in
-    let h = start .args .h in
-    let q = sections s h (start .pre) in
-    let cells = each (cellCount (h .counts)) (cellCheck s) in
-    let e1 = after-check-cells .check-cells .ensures ∙ ap (λ (n : ℕ). firstRefusal (each n (cellCheck s))) (after-size .size .ensures .0) in
-    let n1 = went-on cells e1 (after-passed .passed .ensures) (if1-left .if1 .left) in
-    let bases = each (h .counts .bases) (baseCheck s (h .counts .width) (h .counts .height) (basesStart (h .counts))) in
-    let e2 = moved (baseCheck s (h .counts .width) (h .counts .height)) (c .before .before .check-bases .ensures) (after-size2 .size2 .ensures .0 ∙ q .bases-at)
-    (after-size3 .size3 .ensures .0) in
-    stopped bases _ e2 (c .before .passed2 .ensures) (c .if2 .taken) ∙ sym (append-none cells _ n1)
-
-sums-fault-requires : tie.Need-sums-fault-requires
-sums-fault-requires c κs = search needs
+    stopped _ _ (bases-told (c .before .before)) (c .before .passed2 .ensures) (c .if2 .taken) ∙ sym (past-cells (c .before .before .before .before .before))
 
 returns-3 : tie.Need-returns-3
-unfolding recordChecks
-returns-3 c =
-    let after-passed2 = c .before .before .before in
-    let after-check-bases = after-passed2 .before in
-    let after-size3 = after-check-bases .before in
-    let after-size2 = after-size3 .before in
-    let if1-left = after-size2 .before in
-    let after-passed = if1-left .before in
-    let after-check-cells = after-passed .before in
-    let after-size = after-check-cells .before in
-    let start = after-size .before .before .before .before .before in
-    let s = start .args .job .now in
-    let h = start .args .h in
-    let q = sections s h (start .pre) in
-    let cells = each (cellCount (h .counts)) (cellCheck s) in
-    let e1 = after-check-cells .check-cells .ensures ∙ ap (λ (n : ℕ). firstRefusal (each n (cellCheck s))) (after-size .size .ensures .0) in
-    let n1 = went-on cells e1 (after-passed .passed .ensures) (if1-left .if1 .left) in
-    let bases = each (h .counts .bases) (baseCheck s (h .counts .width) (h .counts .height) (basesStart (h .counts))) in
-    let e2 = moved (baseCheck s (h .counts .width) (h .counts .height)) (after-check-bases .check-bases .ensures) (after-size2 .size2 .ensures .0 ∙ q .bases-at)
-    (after-size3 .size3 .ensures .0) in
-    let n2 = went-on bases e2 (after-passed2 .passed2 .ensures) (c .before .before .if2 .left) in
-    let e3 = sym (c .before .sums-fault .ensures) ∙ c .if3 .taken in
-    sym (append-none cells _ n1 ∙ append-none bases _ n2 ∙ stop 8 0 _ e3)
-
-size-requires-4 : tie.Need-size-requires-4
-size-requires-4 c κs = search needs
-
-size-requires-5 : tie.Need-size-requires-5
-size-requires-5 c κs = search needs
+returns-3 c = sym (past-bases (c .before .before) ∙ stop 8 0 _ (sym (c .before .sums-fault .ensures) ∙ c .if3 .taken))
 
 check-ramps-requires : tie.Need-check-ramps-requires
-check-ramps-requires c κs =
-    let start = c .before .before .before .before .before .before .before .before .before .before .before .before .before .before .before .before .before in
-    let q = sections _ _ (start .pre) in omega (arith, q .boundaries-in)
-
-passed-requires-3 : tie.Need-passed-requires-3
-passed-requires-3 c κs = search needs
+check-ramps-requires c κs = omega (arith, sections _ _ (start-of (size-at c) .pre) .boundaries-in)
 
 returns-4 : tie.Need-returns-4
-unfolding recordChecks
 returns-4 c =
-    let after-size5 = c .before .before .before in
-    let after-size4 = after-size5 .before in
-    let if3-left = after-size4 .before in
-    let after-sums-fault = if3-left .before in
-    let if2-left = after-sums-fault .before in
-    let after-passed2 = if2-left .before in
-    let after-check-bases = after-passed2 .before in
-    let after-size3 = after-check-bases .before in
-    let after-size2 = after-size3 .before in
-    let if1-left = after-size2 .before in
-    let after-passed = if1-left .before in
-    let after-check-cells = after-passed .before in
-    let after-size = after-check-cells .before in
-    let start = after-size .before .before .before .before .before in
-    let s = start .args .job .now in
-    let h = start .args .h in
-    let q = sections s h (start .pre) in
-    let cells = each (cellCount (h .counts)) (cellCheck s) in
-    let e1 = after-check-cells .check-cells .ensures ∙ ap (λ (n : ℕ). firstRefusal (each n (cellCheck s))) (after-size .size .ensures .0) in
-    let n1 = went-on cells e1 (after-passed .passed .ensures) (if1-left .if1 .left) in
-    let bases = each (h .counts .bases) (baseCheck s (h .counts .width) (h .counts .height) (basesStart (h .counts))) in
-    let e2 = moved (baseCheck s (h .counts .width) (h .counts .height)) (after-check-bases .check-bases .ensures) (after-size2 .size2 .ensures .0 ∙ q .bases-at)
-    (after-size3 .size3 .ensures .0) in
-    let n2 = went-on bases e2 (after-passed2 .passed2 .ensures) (if2-left .if2 .left) in
-    let e3 = sym (after-sums-fault .sums-fault .ensures) ∙ if3-left .if3 .left in
-    let at = after-size4 .size4 .ensures .0 ∙ q .boundaries-at in
-    let ramps = each (h .counts .boundaries) (rampCheck s (boundariesStart (h .counts))) in
-    let e4 = moved (rampCheck s) (c .before .before .check-ramps .ensures) at (after-size5 .size5 .ensures .0) in
-    stopped ramps _ e4 (c .before .passed3 .ensures) (c .if4 .taken) ∙ sym (append-none cells _ n1 ∙ append-none bases _ n2 ∙ skip 8 0 _ e3)
+    stopped _ _ (ramps-told (c .before .before)) (c .before .passed3 .ensures) (c .if4 .taken) ∙ sym (past-sums (c .before .before .before .before .before))
 
 check-widths-requires : tie.Need-check-widths-requires
-check-widths-requires c κs =
-    let start =
-    c .before .before .before .before .before .before .before .before .before .before .before .before .before .before .before .before .before .before .before .before in
-    let q = sections _ _ (start .pre) in omega (arith, q .boundaries-in)
+check-widths-requires c κs = omega (arith, sections _ _ (start-of (size-at (c .before .before .before)) .pre) .boundaries-in)
 
 returns-5 : tie.Need-returns-5
-unfolding recordChecks
 returns-5 c =
-    let after-check-ramps = c .before .before .before in
-    let after-size5 = after-check-ramps .before in
-    let after-size4 = after-size5 .before in
-    let if3-left = after-size4 .before in
-    let after-sums-fault = if3-left .before in
-    let if2-left = after-sums-fault .before in
-    let after-passed2 = if2-left .before in
-    let after-check-bases = after-passed2 .before in
-    let after-size3 = after-check-bases .before in
-    let after-size2 = after-size3 .before in
-    let if1-left = after-size2 .before in
-    let after-passed = if1-left .before in
-    let after-check-cells = after-passed .before in
-    let after-size = after-check-cells .before in
-    let start = after-size .before .before .before .before .before in
-    let s = start .args .job .now in
-    let h = start .args .h in
-    let q = sections s h (start .pre) in
-    let cells = each (cellCount (h .counts)) (cellCheck s) in
-    let e1 = after-check-cells .check-cells .ensures ∙ ap (λ (n : ℕ). firstRefusal (each n (cellCheck s))) (after-size .size .ensures .0) in
-    let n1 = went-on cells e1 (after-passed .passed .ensures) (if1-left .if1 .left) in
-    let bases = each (h .counts .bases) (baseCheck s (h .counts .width) (h .counts .height) (basesStart (h .counts))) in
-    let e2 = moved (baseCheck s (h .counts .width) (h .counts .height)) (after-check-bases .check-bases .ensures) (after-size2 .size2 .ensures .0 ∙ q .bases-at)
-    (after-size3 .size3 .ensures .0) in
-    let n2 = went-on bases e2 (after-passed2 .passed2 .ensures) (if2-left .if2 .left) in
-    let e3 = sym (after-sums-fault .sums-fault .ensures) ∙ if3-left .if3 .left in
-    let at = after-size4 .size4 .ensures .0 ∙ q .boundaries-at in
-    let ramps = each (h .counts .boundaries) (rampCheck s (boundariesStart (h .counts))) in
-    let e4 = moved (rampCheck s) (after-check-ramps .check-ramps .ensures) at (after-size5 .size5 .ensures .0) in
-    let n4 = went-on ramps e4 (c .before .before .passed3 .ensures) (c .before .if4 .left) in
-    let e5 = moved (widthCheck s) (c .check-widths .ensures) at (after-size5 .size5 .ensures .0) in
-    e5 ∙ sym (append-none cells _ n1 ∙ append-none bases _ n2 ∙ skip 8 0 _ e3 ∙ append-none ramps _ n4)
+    let passed = c .before .before in
+    let sizes = passed .before .before in
+    moved (widthCheck (start-of (size-at sizes) .args .job .now)) (c .check-widths .ensures) (boundaries-at sizes) (sizes .size5 .ensures .0)
+    ∙ sym (past-sums (sizes .before .before) ∙ append-none _ _ (went-on _ (ramps-told (passed .before)) (passed .passed3 .ensures) (c .before .if4 .left)))
 
 pub check-records-spec : {M : Type 1} → statement M
 check-records-spec =
-    tie.close
-    (tie.spec
-    mul-size
-    size-requires
-    check-cells-requires
-    passed-requires
-    returns
-    size-requires-2
-    size-requires-3
-    check-bases-requires
-    passed-requires-2
-    returns-2
-    sums-fault-requires
-    returns-3
-    size-requires-4
-    size-requires-5
-    check-ramps-requires
-    passed-requires-3
-    returns-4
-    check-widths-requires
-    returns-5)
+    tie.close (tie.spec mul-size (λ c κs. search needs) (λ c κs. search needs) (λ c κs. search needs) returns (λ c κs. search needs)
+    (λ c κs. search needs) check-bases-requires (λ c κs. search needs) returns-2 (λ c κs. search needs) returns-3 (λ c κs. search needs)
+    (λ c κs. search needs) check-ramps-requires (λ c κs. search needs) returns-4 check-widths-requires returns-5)

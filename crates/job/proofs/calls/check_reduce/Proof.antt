@@ -3,12 +3,9 @@ use borrow.Author.Needs.{needs}
 use Rattle.job.proofs.calls.check_reduce.Statement.{statement}
 use Rattle.job.proofs.calls.check_reduce.Tie as tie
 
-check-boundaries-requires : tie.Need-check-boundaries-requires
-check-boundaries-requires c κs = search needs
-
 returns : tie.Need-returns
 unfolding reduceChecks
 returns c = c .check-boundaries .ensures
 
 pub check-reduce-spec : {M : Type 1} → statement M
-check-reduce-spec = tie.close (tie.spec check-boundaries-requires returns)
+check-reduce-spec = tie.close (tie.spec (λ c κs. search needs) returns)

@@ -1,25 +1,13 @@
-use Rattle.job.specs.Refusals.{reduceChecks}
 use Rattle.job.proofs.Passing.{went-on, declined, accepted, reduce-passed}
 use borrow.Author.Needs.{needs}
 use Rattle.job.proofs.ends.job_has.Statement.{statement}
 use Rattle.job.proofs.ends.job_has.Tie as tie
 
-check-reduce-requires : tie.Need-check-reduce-requires
-check-reduce-requires c κs = search needs
-
-passed-requires : tie.Need-passed-requires
-passed-requires c κs = search needs
-
 returns : tie.Need-returns
 returns c = simp (declined (c .before .before .check-reduce .ensures) (c .before .passed .ensures) (c .if1 .taken))
 
 read-header-requires : tie.Need-read-header-requires
-read-header-requires c κs =
-    let start = c .before .before .before .before in
-    reduce-passed _ (went-on (reduceChecks (start .args .job .now)) (c .before .before .check-reduce .ensures) (c .before .passed .ensures) (c .if1 .left)) .0
-
-size-requires : tie.Need-size-requires
-size-requires c κs = search needs
+read-header-requires c κs = reduce-passed _ (went-on _ (c .before .before .check-reduce .ensures) (c .before .passed .ensures) (c .if1 .left)) .0
 
 returns-2 : tie.Need-returns-2
 returns-2 c =
@@ -33,12 +21,4 @@ returns-2 c =
     )
 
 pub job-has-spec : {M : Type 1} → statement M
-job-has-spec =
-    tie.close
-    (tie.spec
-    check-reduce-requires
-    passed-requires
-    returns
-    read-header-requires
-    size-requires
-    returns-2)
+job-has-spec = tie.close (tie.spec (λ c κs. search needs) (λ c κs. search needs) returns read-header-requires (λ c κs. search needs) returns-2)

@@ -3,12 +3,6 @@ use borrow.Author.Needs.{needs}
 use Rattle.job.proofs.ends.list_has.Statement.{statement}
 use Rattle.job.proofs.ends.list_has.Tie as tie
 
-check-reduce-by-list-requires : tie.Need-check-reduce-by-list-requires
-check-reduce-by-list-requires c κs = search needs
-
-passed-requires : tie.Need-passed-requires
-passed-requires c κs = search needs
-
 returns : tie.Need-returns
 returns c = simp (declined (c .before .before .check-reduce-by-list .ensures) (c .before .passed .ensures) (c .if1 .taken))
 
@@ -16,5 +10,4 @@ returns-2 : tie.Need-returns-2
 returns-2 c = simp (accepted (c .before .before .check-reduce-by-list .ensures) (c .before .passed .ensures) (c .if1 .left))
 
 pub list-has-spec : {M : Type 1} → statement M
-list-has-spec =
-    tie.close (tie.spec check-reduce-by-list-requires passed-requires returns returns-2)
+list-has-spec = tie.close (tie.spec (λ c κs. search needs) (λ c κs. search needs) returns returns-2)

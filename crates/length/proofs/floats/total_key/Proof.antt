@@ -5,12 +5,6 @@ use Rattle.length.specs.Total.{totalKey}
 use Rattle.length.proofs.floats.total_key.Statement.{statement}
 use Rattle.length.proofs.floats.total_key.Tie as tie
 
-add-result : tie.Need-add-result
-add-result c = search needs
-
-sub-result : tie.Need-sub-result
-sub-result c = search needs
-
 returns : tie.Need-returns
 unfolding totalKey
 returns c = simp (lt-ltb _ _ (c .if1 .taken))
@@ -20,4 +14,4 @@ unfolding totalKey
 returns-2 c = simp (le-ltb _ _ (c .if1 .left), lt-ltb (c .before .args .bits) 0x1_0000_0000_0000_0000 (omega arith))
 
 pub total-key-spec : {M : Type 1} → statement M
-total-key-spec = tie.close (tie.spec add-result sub-result returns returns-2)
+total-key-spec = tie.close (tie.spec (search needs) (search needs) returns returns-2)

@@ -4,12 +4,6 @@ use Rattle.length.specs.Total.{totalLe}
 use Rattle.length.proofs.floats.total_le.Statement.{statement}
 use Rattle.length.proofs.floats.total_le.Tie as tie
 
-total-key-requires : tie.Need-total-key-requires
-total-key-requires c κs = search needs
-
-total-key-requires-2 : tie.Need-total-key-requires-2
-total-key-requires-2 c κs = search needs
-
 returns : tie.Need-returns
 unfolding totalLe
 returns c =
@@ -18,4 +12,4 @@ returns c =
     λ i. leb (x i) (y i)
 
 pub total-le-spec : {M : Type 1} → statement M
-total-le-spec = tie.close (tie.spec total-key-requires total-key-requires-2 returns)
+total-le-spec = tie.close (tie.spec (λ c κs. search needs) (λ c κs. search needs) returns)

@@ -9,6 +9,7 @@ use Rattle.grid.specs.Directions.{directionsOf}
 use Rattle.marking.proofs.Filled.{held-next, held-count}
 use Rattle.marking.proofs.Halves.{place-in}
 use Rattle.marking.specs.Marks.{Held}
+use borrow.Author.Needs.{needs}
 use Rattle.marking.proofs.opening.open_row.Statement.{statement}
 use Rattle.marking.proofs.opening.open_row.Tie as tie
 
@@ -43,12 +44,6 @@ slice-write-work c =
     let on = place-in (start .args .width) (start .args .height) (in-loop .loop .x) (start .args .y) (c .before .before .loop-test .taken) (start .pre .3) in
     omega (arith, in-loop .loop .inv .1, c .before .byte-of .ensures)
 
-add-x : tie.Need-add-x Inv-loop μ-loop
-add-x c = omega arith
-
-loop-less : tie.Need-loop-less Inv-loop μ-loop
-loop-less c = omega arith
-
 loop-again : tie.Need-loop-again Inv-loop μ-loop
 loop-again c =
     let in-loop = c .before .before .before in
@@ -69,9 +64,6 @@ loop-again c =
           (held-count (y * w + (x + 1)) (omega arith) (held-next v (omega arith) (c .open-byte .ensures) (inv .2 b h))),
     )
 
-same-length : tie.Need-same-length Inv-loop μ-loop
-same-length c = c .before .loop .inv .1
-
 returns : tie.Need-returns Inv-loop μ-loop
 returns c =
     let start = c .before .before .before .before in
@@ -82,16 +74,5 @@ returns c =
 
 pub open-row-spec : {M : Type 1} → statement M
 open-row-spec =
-    tie.close
-    (tie.spec
-    Inv-loop
-    μ-loop
-    loop-holds
-    byte-of-requires
-    open-byte-requires
-    slice-write-work
-    add-x
-    loop-less
-    loop-again
-    same-length
-    returns)
+    tie.close (tie.spec Inv-loop μ-loop loop-holds byte-of-requires open-byte-requires slice-write-work (search needs) (search needs) loop-again
+    (λ c. search needs) returns)

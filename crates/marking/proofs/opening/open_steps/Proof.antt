@@ -9,6 +9,7 @@ use Rattle.grid.proofs.Reach.{gridOf}
 use Rattle.grid.specs.Directions.{directionsOf}
 use Rattle.marking.proofs.Filled.{held-none, held-count, held-splice}
 use Rattle.marking.specs.Marks.{Held}
+use borrow.Author.Needs.{needs}
 use Rattle.marking.proofs.opening.open_steps.Statement.{statement}
 use Rattle.marking.proofs.opening.open_steps.Tie as tie
 
@@ -20,26 +21,12 @@ abbrev μ-loop : tie.MeasureT-loop
 μ-loop cells width height directions work₀ base y₀ work y = height - y
 
 loop-holds : tie.Need-loop-holds Inv-loop μ-loop
-loop-holds c =
-    let start = c .before .before in
-    let width = start .args .width in (
-      omega arith,
-      refl,
-      held-count (0 * width) (sym (zero-mul width))
-          (held-none (start .args .base) (openByte (directionsOf (start .args .directions)) (gridOf width (start .args .height) (start .args .cells .now)) [])
-          (start .args .work .now)),
-    )
+loop-holds c = (omega arith, refl, held-count _ (sym (zero-mul (c .before .before .args .width))) (held-none _ _ _))
 
 open-row-requires : tie.Need-open-row-requires Inv-loop μ-loop
 open-row-requires c κs =
     let start = c .before .before .before .before .before in
     (start .pre .0, start .pre .1, omega (arith, c .before .before .loop .inv .1), c .before .loop-test .taken)
-
-add-y : tie.Need-add-y Inv-loop μ-loop
-add-y c = omega arith
-
-loop-less : tie.Need-loop-less Inv-loop μ-loop
-loop-less c = omega arith
 
 loop-again : tie.Need-loop-again Inv-loop μ-loop
 loop-again c =
@@ -53,9 +40,6 @@ loop-again c =
       at-open-row .open-row .ensures (start .args .work .now) (inv .2),
     )
 
-same-length : tie.Need-same-length Inv-loop μ-loop
-same-length c = c .before .loop .inv .1
-
 returns : tie.Need-returns Inv-loop μ-loop
 returns c =
     let start = c .before .before .before .before in
@@ -66,19 +50,8 @@ returns c =
     let z = inv .0 in
     let e : c .before .loop .y ≡ h = omega (arith, z, c .loop-test .left) in
     let n : c .before .loop .y * w ≡ length cs = ap (λ (k : ℕ). k * w) e ∙ mul-comm h w ∙ sym (start .pre .1) in
-    held-splice (start .args .work .now) (start .args .base) (length cs) (openByte (directionsOf (start .args .directions)) (gridOf w h cs) [])
-    (omega (arith, start .pre .1)) (held-count (length cs) n (inv .2))
+    held-splice _ _ _ _ (omega (arith, start .pre .1)) (held-count _ n (inv .2))
 
 pub open-steps-spec : {M : Type 1} → statement M
 open-steps-spec =
-    tie.close
-    (tie.spec
-    Inv-loop
-    μ-loop
-    loop-holds
-    open-row-requires
-    add-y
-    loop-less
-    loop-again
-    same-length
-    returns)
+    tie.close (tie.spec Inv-loop μ-loop loop-holds open-row-requires (search needs) (search needs) loop-again (λ c. search needs) returns)

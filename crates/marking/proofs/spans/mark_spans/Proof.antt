@@ -10,6 +10,7 @@ use Rattle.grid.specs.Directions.{directionsOf}
 use Rattle.marking.proofs.Filled.{splice-held, held-splice}
 use Rattle.marking.proofs.Listed.{spans-none, spans-last, held-as}
 use Rattle.marking.specs.Marks.{Held}
+use borrow.Author.Needs.{needs}
 use Rattle.marking.proofs.spans.mark_spans.Statement.{statement}
 use Rattle.marking.proofs.spans.mark_spans.Tie as tie
 
@@ -29,18 +30,7 @@ open-steps-requires c κs =
 loop-holds : tie.Need-loop-holds Inv-loop μ-loop
 loop-holds c =
     let start = c .before .before .before .before .before .before in
-    let w = start .args .width in
-    let h = start .args .height in
-    let cs = start .args .cells .now in
-    let g = gridOf w h cs in
-    let dirs = directionsOf (start .args .directions) in
-    let ends = start .args .ends .now in
-    (omega arith, refl, λ b hd. held-as dirs g (spans-none ends) hd)
-
-span-at-requires : tie.Need-span-at-requires Inv-loop μ-loop
-span-at-requires c κs =
-    let start = c .before .before .before .before .before .before .before .before in
-    omega (arith, start .pre .3, c .loop-test .taken)
+    (omega arith, refl, λ b hd. held-as _ _ (spans-none (start .args .ends .now)) hd)
 
 close-cut-requires : tie.Need-close-cut-requires Inv-loop μ-loop
 close-cut-requires c κs =
@@ -51,17 +41,6 @@ close-cut-requires c κs =
     rw (c .before .span-at .ensures) (start .pre .4 .each (in-loop .loop .k) (c .before .before .loop-test .taken)) in
     (start .pre .0, fits, omega (arith, in-loop .loop .inv .1, at-open-steps .open-steps .kept .1 .1 .1 .1 .0, start .pre .2))
 
-add-k : tie.Need-add-k Inv-loop μ-loop
-add-k c =
-    let turning = c .before .before .before .before .before in
-    let start = turning .before .before .before .before .before .before .before .before in
-    omega (arith, turning .loop-test .taken, start .pre .3)
-
-loop-less : tie.Need-loop-less Inv-loop μ-loop
-loop-less c =
-    let turning = c .before .before .before .before .before in
-    omega (arith, turning .loop-test .taken)
-
 loop-again : tie.Need-loop-again Inv-loop μ-loop
 loop-again c =
     let at-close-cut = c .before .before in
@@ -70,18 +49,13 @@ loop-again c =
     let in-loop = turning .before in
     let start = in-loop .before .before .before .before .before .before .before in
     let inv = in-loop .loop .inv in
-    let w = start .args .width in
-    let h = start .args .height in
-    let cs = start .args .cells .now in
-    let g = gridOf w h cs in
-    let dirs = directionsOf (start .args .directions) in
     let ends = start .args .ends .now in
     let k = in-loop .loop .k in (
       omega (arith, turning .loop-test .taken),
       at-close-cut .close-cut .kept .1 .1 .1 .0 ∙ inv .1,
       λ b hd.
-          held-as dirs g (spans-last ends k (after-span-at .span-at .ensures))
-          (at-close-cut .close-cut .ensures g dirs (spansIn ends k) b (record { columns = refl; rows = refl; whole = start .pre .1 }) (inv .2 b hd)),
+          held-as _ _ (spans-last ends k (after-span-at .span-at .ensures))
+          (at-close-cut .close-cut .ensures _ _ (spansIn ends k) b (record { columns = refl; rows = refl; whole = start .pre .1 }) (inv .2 b hd)),
     )
 
 same-length : tie.Need-same-length Inv-loop μ-loop
@@ -111,16 +85,5 @@ returns c =
 
 pub mark-spans-spec : {M : Type 1} → statement M
 mark-spans-spec =
-    tie.close
-    (tie.spec
-    Inv-loop
-    μ-loop
-    open-steps-requires
-    loop-holds
-    span-at-requires
-    close-cut-requires
-    add-k
-    loop-less
-    loop-again
-    same-length
-    returns)
+    tie.close (tie.spec Inv-loop μ-loop open-steps-requires loop-holds (λ c κs. search needs) close-cut-requires (search needs) (search needs)
+    loop-again same-length returns)

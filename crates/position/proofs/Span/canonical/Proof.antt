@@ -4,9 +4,6 @@ use borrow.Author.Needs.{needs}
 use Rattle.position.proofs.Span.canonical.Statement.{statement}
 use Rattle.position.proofs.Span.canonical.Tie as tie
 
-le-requires : tie.Need-le-requires
-le-requires c κs = search needs
-
 returns : tie.Need-returns
 unfolding canonical
 returns c = simp (sym (c .before .le .ensures), c .if1 .taken)
@@ -16,4 +13,4 @@ unfolding canonical
 returns-2 c = simp (sym (c .before .le .ensures), c .if1 .left)
 
 pub canonical-spec : {M : Type 1} → statement M
-canonical-spec = tie.close (tie.spec le-requires returns returns-2)
+canonical-spec = tie.close (tie.spec (λ c κs. search needs) returns returns-2)

@@ -5,12 +5,6 @@ use Rattle.grid.proofs.OnMap.{byte-on}
 use Rattle.grid.proofs.map.TerrainGrid.cell.Statement.{statement}
 use Rattle.grid.proofs.map.TerrainGrid.cell.Tie as tie
 
-index-requires : tie.Need-index-requires
-index-requires c κs = search needs
-
-byte-of-requires : tie.Need-byte-of-requires
-byte-of-requires c κs = search needs
-
 returns : tie.Need-returns
 returns c =
     let start = c .before .before .before in
@@ -18,4 +12,4 @@ returns c =
     c .byte-of .ensures ∙ byte-on g (start .args .position) (start .args .cells .now) (indexIn (c .before .index .result)) e (c .before .index .ensures g w h)
 
 pub cell-spec : {M : Type 1} → statement M
-cell-spec = tie.close (tie.spec index-requires byte-of-requires returns)
+cell-spec = tie.close (tie.spec (search needs) (search needs) returns)

@@ -14,20 +14,11 @@ returns c = λ g e f. past-columns g (c .before .args .position) (omega arith)
 returns-2 : tie.Need-returns-2
 returns-2 c = λ g e f. past-rows g (c .before .before .args .position) (omega arith)
 
-wide-requires : tie.Need-wide-requires
-wide-requires c κs = search needs
-
-wide-requires-2 : tie.Need-wide-requires-2
-wide-requires-2 c κs = search needs
-
 mul-t10 : tie.Need-mul-t10
 mul-t10 c =
     let y : c .before .wide .result ≤ 4294967295 = omega (arith, c .before .wide .ensures .1) in
     let w : c .wide2 .result ≤ 4294967295 = omega (arith, c .wide2 .ensures .1) in
     omega (arith, mul-le-mul y w)
-
-wide-requires-3 : tie.Need-wide-requires-3
-wide-requires-3 c κs = search needs
 
 add-t12 : tie.Need-add-t12
 add-t12 c =
@@ -49,4 +40,4 @@ returns-3 c =
     z ∙ on-map g p (omega arith) (omega arith)
 
 pub index-spec : {M : Type 1} → statement M
-index-spec = tie.close (tie.spec returns returns-2 wide-requires wide-requires-2 mul-t10 wide-requires-3 add-t12 returns-3)
+index-spec = tie.close (tie.spec returns returns-2 (search needs) (search needs) mul-t10 (search needs) add-t12 returns-3)
