@@ -6,24 +6,6 @@ use borrow.Author.Needs.{needs}
 use Rattle.bridges.proofs.numbering.forget.Statement.{statement}
 use Rattle.bridges.proofs.numbering.forget.Tie as tie
 
-sub-size : tie.Need-sub-size
-sub-size c = search needs
-
-size-requires : tie.Need-size-requires
-size-requires c κs = search needs
-
-mul-write-u32 : tie.Need-mul-write-u32
-mul-write-u32 c = search needs
-
-add-write-u32 : tie.Need-add-write-u32
-add-write-u32 c = search needs
-
-write-u32-requires : tie.Need-write-u32-requires
-write-u32-requires c κs = search needs
-
-same-length : tie.Need-same-length
-same-length c = search needs
-
 returns : tie.Need-returns
 returns c =
     let after-size = c .before .before .before in
@@ -36,10 +18,10 @@ pub forget-spec : {M : Type 1} → statement M
 forget-spec =
     tie.close
     (tie.spec
-    sub-size
-    size-requires
-    mul-write-u32
-    add-write-u32
-    write-u32-requires
-    same-length
+    (λ c. search needs)
+    (λ c κs. search needs)
+    (λ c. search needs)
+    (λ c. search needs)
+    (λ c κs. search needs)
+    (λ c. search needs)
     returns)

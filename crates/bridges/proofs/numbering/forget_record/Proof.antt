@@ -10,15 +10,6 @@ use Rattle.bridges.proofs.numbering.forget_record.Tie as tie
 abbrev start-of : tie.After-slice-known → tie.Start
 start-of c = c .before .before .before
 
-size-requires : tie.Need-size-requires
-size-requires c κs = search needs
-
-mul-forget : tie.Need-mul-forget
-mul-forget c = search needs
-
-shared-slice-read-forget : tie.Need-shared-slice-read-forget
-shared-slice-read-forget c = search needs
-
 forget-requires : tie.Need-forget-requires
 forget-requires c κs =
     let start = start-of (c .before .before .before) in
@@ -26,12 +17,6 @@ forget-requires c κs =
     let k = start .args .k in
     let t = ap (at (start .args .lefts .now)) (c .before .before .size .ensures .0) in
     (omega (arith, t, p .1 .left-from k (p .0)), omega (arith, t, p .1 .left-to k (p .0), p .2))
-
-mul-forget-2 : tie.Need-mul-forget-2
-mul-forget-2 c = search needs
-
-shared-slice-read-forget-2 : tie.Need-shared-slice-read-forget-2
-shared-slice-read-forget-2 c = search needs
 
 forget-requires-2 : tie.Need-forget-requires-2
 forget-requires-2 c κs =
@@ -42,9 +27,6 @@ forget-requires-2 c κs =
     let k = start .args .k in
     let t = ap (at (start .args .rights .now)) (after-size .size .ensures .0) in
     (omega (arith, t, p .1 .right-from k (p .0)), omega (arith, t, p .1 .right-to k (p .0), p .2, at-forget .forget .kept .0))
-
-same-length : tie.Need-same-length
-same-length c = search needs
 
 returns : tie.Need-returns
 returns c =
@@ -58,12 +40,12 @@ pub forget-record-spec : {M : Type 1} → statement M
 forget-record-spec =
     tie.close
     (tie.spec
-    size-requires
-    mul-forget
-    shared-slice-read-forget
+    (λ c κs. search needs)
+    (λ c. search needs)
+    (λ c. search needs)
     forget-requires
-    mul-forget-2
-    shared-slice-read-forget-2
+    (λ c. search needs)
+    (λ c. search needs)
     forget-requires-2
-    same-length
+    (λ c. search needs)
     returns)

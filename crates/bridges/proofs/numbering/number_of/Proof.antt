@@ -6,27 +6,6 @@ use borrow.Author.Needs.{needs}
 use Rattle.bridges.proofs.numbering.number_of.Statement.{statement}
 use Rattle.bridges.proofs.numbering.number_of.Tie as tie
 
-sub-size : tie.Need-sub-size
-sub-size c = search needs
-
-size-requires : tie.Need-size-requires
-size-requires c κs = search needs
-
-mul-at : tie.Need-mul-at
-mul-at c = search needs
-
-add-at : tie.Need-add-at
-add-at c = search needs
-
-read-u32-requires : tie.Need-read-u32-requires
-read-u32-requires c κs = search needs
-
-sub-result : tie.Need-sub-result
-sub-result c = search needs
-
-same-length : tie.Need-same-length
-same-length c = search needs
-
 returns : tie.Need-returns
 returns c =
     let after-size = c .before .before .before in
@@ -37,15 +16,6 @@ returns c =
     ∙ sym (c .before .read-u32 .ensures) in
     let t : c .before .read-u32 .result ≡ c .before .read-u32 .result - 1 + 1 = omega (arith, c .if1 .taken) in
     (λ n. (q ∙ t, refl), λ z. absurd (c .if1 .taken (sym q ∙ z)))
-
-add-write-u32 : tie.Need-add-write-u32
-add-write-u32 c = search needs
-
-write-u32-requires : tie.Need-write-u32-requires
-write-u32-requires c κs = search needs
-
-same-length-2 : tie.Need-same-length-2
-same-length-2 c = search needs
 
 returns-2 : tie.Need-returns-2
 returns-2 c =
@@ -64,15 +34,15 @@ pub number-of-spec : {M : Type 1} → statement M
 number-of-spec =
     tie.close
     (tie.spec
-    sub-size
-    size-requires
-    mul-at
-    add-at
-    read-u32-requires
-    sub-result
-    same-length
+    (λ c. search needs)
+    (λ c κs. search needs)
+    (λ c. search needs)
+    (λ c. search needs)
+    (λ c κs. search needs)
+    (λ c. search needs)
+    (λ c. search needs)
     returns
-    add-write-u32
-    write-u32-requires
-    same-length-2
+    (λ c. search needs)
+    (λ c κs. search needs)
+    (λ c. search needs)
     returns-2)

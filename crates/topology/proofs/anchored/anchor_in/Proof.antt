@@ -10,19 +10,10 @@ returns c =
     let start = c .before .before in
     not-hit (labelsIn (start .args .labels .now) (start .args .n)) (start .args .width) (start .args .p) (start .args .region) (c .if1 .taken)
 
-size-requires : tie.Need-size-requires
-size-requires c κs = search needs
-
-size-requires-2 : tie.Need-size-requires-2
-size-requires-2 c κs = search needs
-
 mul-i : tie.Need-mul-i
 mul-i c =
     let start = c .before .before .before .before in
     omega (arith, mul-as (c .before .size .ensures .0) (c .size2 .ensures .0), start .pre .2 .on (c .before .before .if1 .left))
-
-size-requires-3 : tie.Need-size-requires-3
-size-requires-3 c κs = search needs
 
 add-i : tie.Need-add-i
 add-i c =
@@ -61,10 +52,10 @@ anchor-in-spec =
     tie.close
     (tie.spec
     returns
-    size-requires
-    size-requires-2
+    (λ c κs. search needs)
+    (λ c κs. search needs)
     mul-i
-    size-requires-3
+    (λ c κs. search needs)
     add-i
     mul-read-u32
     read-u32-requires

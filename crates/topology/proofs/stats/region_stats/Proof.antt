@@ -16,9 +16,6 @@ Inv-loop cells width labels region n stats₀ i₀ stats i = (i ≤ length cells
 abbrev μ-loop : tie.MeasureT-loop
 μ-loop cells width labels region n stats₀ i₀ stats i = length cells - i
 
-none-requires : tie.Need-none-requires Inv-loop μ-loop
-none-requires c κs = search needs
-
 loop-holds : tie.Need-loop-holds Inv-loop μ-loop
 loop-holds c =
     let start = c .before .before .before in (
@@ -26,15 +23,6 @@ loop-holds c =
       λ height. count-start (c .none .ensures) (record { width = start .args .width; height = height; cells = start .args .cells .now })
           (labelsIn (start .args .labels .now) (length (start .args .cells .now))) (start .args .region),
     )
-
-mul-read-u32 : tie.Need-mul-read-u32 Inv-loop μ-loop
-mul-read-u32 c = search needs
-
-read-u32-requires : tie.Need-read-u32-requires Inv-loop μ-loop
-read-u32-requires c κs = search needs
-
-shared-slice-read-counted : tie.Need-shared-slice-read-counted Inv-loop μ-loop
-shared-slice-read-counted c = search needs
 
 counted-requires : tie.Need-counted-requires Inv-loop μ-loop
 counted-requires c κs =
@@ -46,12 +34,6 @@ counted-requires c κs =
       l,
       start .pre .0,
     )
-
-add-i : tie.Need-add-i Inv-loop μ-loop
-add-i c = search needs
-
-loop-less : tie.Need-loop-less Inv-loop μ-loop
-loop-less c = search needs
 
 loop-again : tie.Need-loop-again Inv-loop μ-loop
 loop-again c =
@@ -77,13 +59,13 @@ region-stats-spec =
     (tie.spec
     Inv-loop
     μ-loop
-    none-requires
+    (λ c κs. search needs)
     loop-holds
-    mul-read-u32
-    read-u32-requires
-    shared-slice-read-counted
+    (λ c. search needs)
+    (λ c κs. search needs)
+    (λ c. search needs)
     counted-requires
-    add-i
-    loop-less
+    (λ c. search needs)
+    (λ c. search needs)
     loop-again
     returns)

@@ -21,9 +21,6 @@ abbrev μ-loop : tie.MeasureT-loop
 abbrev start-of : tie.After-slice-known5 Inv-loop μ-loop → tie.Start Inv-loop μ-loop
 start-of c = c .before .before .before .before .before .before .before .before .before .before .before
 
-size-requires : tie.Need-size-requires Inv-loop μ-loop
-size-requires c κs = search needs
-
 loop-holds : tie.Need-loop-holds Inv-loop μ-loop
 loop-holds c =
     let start = start-of (c .before .before) in
@@ -93,7 +90,7 @@ walk-all-spec =
     (tie.spec
     Inv-loop
     μ-loop
-    size-requires
+    (λ c κs. search needs)
     loop-holds
     visit-requires
     add-r
