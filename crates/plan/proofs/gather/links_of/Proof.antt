@@ -16,9 +16,6 @@ Inv-loop links chosen firsts seconds parts c found₀ k₀ found k = (k ≤ link
 abbrev μ-loop : tie.MeasureT-loop
 μ-loop links chosen firsts seconds parts c found₀ k₀ found k = k
 
-none-requires : tie.Need-none-requires Inv-loop μ-loop
-none-requires c κs = search needs
-
 loop-holds : tie.Need-loop-holds Inv-loop μ-loop
 loop-holds c =
     let start = c .before in (
@@ -27,22 +24,10 @@ loop-holds c =
           (c .none .result) (c .none .ensures),
     )
 
-sub-k : tie.Need-sub-k Inv-loop μ-loop
-sub-k c = search needs
-
 number-requires : tie.Need-number-requires Inv-loop μ-loop
 number-requires c κs =
     let start = c .before .before .before in
     omega (arith, c .before .loop .inv .0, c .loop-test .taken, start .pre .few)
-
-element-copy-out-in-part : tie.Need-element-copy-out-in-part Inv-loop μ-loop
-element-copy-out-in-part c = search needs
-
-mul-part-at : tie.Need-mul-part-at Inv-loop μ-loop
-mul-part-at c = search needs
-
-element-copy-out-part-at : tie.Need-element-copy-out-part-at Inv-loop μ-loop
-element-copy-out-part-at c = search needs
 
 part-at-requires : tie.Need-part-at-requires Inv-loop μ-loop
 part-at-requires c κs =
@@ -51,18 +36,12 @@ part-at-requires c κs =
     let start = at-loop .before .before in
     start .pre .first-in (at-loop .loop .k - 1) (omega (arith, at-loop .loop .inv .0, turning .loop-test .taken))
 
-in-part-requires : tie.Need-in-part-requires Inv-loop μ-loop
-in-part-requires c κs = search needs
-
 with-requires : tie.Need-with-requires Inv-loop μ-loop
 with-requires c κs =
     let at-loop = c .before .before .before .before .before .before in
     let start = at-loop .before .before in
     picked-room (linkIn (start .args .chosen .now) (start .args .firsts .now) (start .args .parts .now) (start .args .c)) (λ j. j) (start .args .links)
     (at-loop .loop .inv .1) (start .pre .few)
-
-loop-less : tie.Need-loop-less Inv-loop μ-loop
-loop-less c = search needs
 
 loop-again : tie.Need-loop-again Inv-loop μ-loop
 loop-again c =
@@ -92,16 +71,16 @@ links-of-spec =
     (tie.spec
     Inv-loop
     μ-loop
-    none-requires
+    (λ c κs. search needs)
     loop-holds
-    sub-k
+    (λ c. search needs)
     number-requires
-    element-copy-out-in-part
-    mul-part-at
-    element-copy-out-part-at
+    (λ c. search needs)
+    (λ c. search needs)
+    (λ c. search needs)
     part-at-requires
-    in-part-requires
+    (λ c κs. search needs)
     with-requires
-    loop-less
+    (λ c. search needs)
     loop-again
     returns)

@@ -12,9 +12,6 @@ Inv-loop n joined parts c found₀ i₀ found i = (i ≤ n) × Picked (inPart jo
 abbrev μ-loop : tie.MeasureT-loop
 μ-loop n joined parts c found₀ i₀ found i = i
 
-none-requires : tie.Need-none-requires Inv-loop μ-loop
-none-requires c κs = search needs
-
 loop-holds : tie.Need-loop-holds Inv-loop μ-loop
 loop-holds c =
     let start = c .before in (
@@ -23,33 +20,12 @@ loop-holds c =
           (c .none .ensures),
     )
 
-sub-i : tie.Need-sub-i Inv-loop μ-loop
-sub-i c = search needs
-
-number-requires : tie.Need-number-requires Inv-loop μ-loop
-number-requires c κs = search needs
-
-element-copy-out-in-part : tie.Need-element-copy-out-in-part Inv-loop μ-loop
-element-copy-out-in-part c = search needs
-
-mul-in-part : tie.Need-mul-in-part Inv-loop μ-loop
-mul-in-part c = search needs
-
-element-copy-out-in-part-2 : tie.Need-element-copy-out-in-part-2 Inv-loop μ-loop
-element-copy-out-in-part-2 c = search needs
-
-in-part-requires : tie.Need-in-part-requires Inv-loop μ-loop
-in-part-requires c κs = search needs
-
 with-requires : tie.Need-with-requires Inv-loop μ-loop
 with-requires c κs =
     let at-loop = c .before .before .before .before .before in
     let start = at-loop .before .before in
     picked-room (inPart (start .args .joined .now) (start .args .parts .now) (start .args .c)) (λ j. j) (start .args .n) (at-loop .loop .inv .1)
     (start .pre)
-
-loop-less : tie.Need-loop-less Inv-loop μ-loop
-loop-less c = search needs
 
 loop-again : tie.Need-loop-again Inv-loop μ-loop
 loop-again c =
@@ -76,15 +52,15 @@ ranks-of-spec =
     (tie.spec
     Inv-loop
     μ-loop
-    none-requires
+    (λ c κs. search needs)
     loop-holds
-    sub-i
-    number-requires
-    element-copy-out-in-part
-    mul-in-part
-    element-copy-out-in-part-2
-    in-part-requires
+    (λ c. search needs)
+    (λ c κs. search needs)
+    (λ c. search needs)
+    (λ c. search needs)
+    (λ c. search needs)
+    (λ c κs. search needs)
     with-requires
-    loop-less
+    (λ c. search needs)
     loop-again
     returns)

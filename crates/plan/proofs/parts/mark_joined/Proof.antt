@@ -17,9 +17,6 @@ abbrev μ-loop : tie.MeasureT-loop
 loop-holds : tie.Need-loop-holds Inv-loop μ-loop
 loop-holds c = (omega arith, marks-start (c .before .args .chosen .now) (c .before .args .firsts .now) (c .before .args .seconds .now) (c .before .args .links))
 
-sub-k : tie.Need-sub-k Inv-loop μ-loop
-sub-k c = search needs
-
 element-copy-out-mark-link : tie.Need-element-copy-out-mark-link Inv-loop μ-loop
 element-copy-out-mark-link c =
     let start = c .before .before .before .before in
@@ -59,9 +56,6 @@ mark-link-requires c κs =
     let on : l .k - 1 < start .args .links = omega (arith, l .inv .0, turning .loop-test .taken) in
     (l .inv .1 .size, p .first-in (l .k - 1) on, p .second-in (l .k - 1) on)
 
-loop-less : tie.Need-loop-less Inv-loop μ-loop
-loop-less c = search needs
-
 loop-again : tie.Need-loop-again Inv-loop μ-loop
 loop-again c =
     let turning = c .before .before .before .before .before in
@@ -87,13 +81,13 @@ mark-joined-spec =
     Inv-loop
     μ-loop
     loop-holds
-    sub-k
+    (λ c. search needs)
     element-copy-out-mark-link
     mul-mark-link
     element-copy-out-mark-link-2
     mul-mark-link-2
     element-copy-out-mark-link-3
     mark-link-requires
-    loop-less
+    (λ c. search needs)
     loop-again
     returns)

@@ -18,9 +18,6 @@ Inv-loop firsts seconds ranks links found₀ j₀ found j =
 abbrev μ-loop : tie.MeasureT-loop
 μ-loop firsts seconds ranks links found₀ j₀ found j = j
 
-none-requires : tie.Need-none-requires Inv-loop μ-loop
-none-requires c κs = search needs
-
 loop-holds : tie.Need-loop-holds Inv-loop μ-loop
 loop-holds c =
     let start = c .before in
@@ -29,12 +26,6 @@ loop-holds c =
       picked-start (λ (i : ℕ). eqb (degreeIn (start .args .firsts .now) (start .args .seconds .now) (listed (start .args .links)) i) 1) (slot ranks)
           (ranks .count) (c .none .result) (c .none .ensures),
     )
-
-sub-j : tie.Need-sub-j Inv-loop μ-loop
-sub-j c = search needs
-
-get-requires : tie.Need-get-requires Inv-loop μ-loop
-get-requires c κs = search needs
 
 links-at-requires : tie.Need-links-at-requires Inv-loop μ-loop
 links-at-requires c κs =
@@ -48,9 +39,6 @@ with-requires c κs =
     let ranks = start .args .ranks in
     picked-room (λ (i : ℕ). eqb (degreeIn (start .args .firsts .now) (start .args .seconds .now) (listed (start .args .links)) i) 1) (slot ranks)
     (ranks .count) (at-loop .loop .inv .1) (start .pre .0)
-
-loop-less : tie.Need-loop-less Inv-loop μ-loop
-loop-less c = search needs
 
 loop-again : tie.Need-loop-again Inv-loop μ-loop
 loop-again c =
@@ -82,12 +70,12 @@ group-end-nodes-spec =
     (tie.spec
     Inv-loop
     μ-loop
-    none-requires
+    (λ c κs. search needs)
     loop-holds
-    sub-j
-    get-requires
+    (λ c. search needs)
+    (λ c κs. search needs)
     links-at-requires
     with-requires
-    loop-less
+    (λ c. search needs)
     loop-again
     returns)

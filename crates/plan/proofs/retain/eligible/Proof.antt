@@ -18,9 +18,6 @@ Inv-loop limits bits least ranks found₀ j₀ found j = (j ≤ ranks .count) ×
 abbrev μ-loop : tie.MeasureT-loop
 μ-loop limits bits least ranks found₀ j₀ found j = j
 
-none-requires : tie.Need-none-requires Inv-loop μ-loop
-none-requires c κs = search needs
-
 loop-holds : tie.Need-loop-holds Inv-loop μ-loop
 loop-holds c =
     let start = c .before in
@@ -29,12 +26,6 @@ loop-holds c =
       picked-start (fineIn (limitsOf (start .args .limits)) (start .args .bits .now) (start .args .least)) (slot ranks) (ranks .count) (c .none .result)
           (c .none .ensures),
     )
-
-sub-j : tie.Need-sub-j Inv-loop μ-loop
-sub-j c = search needs
-
-get-requires : tie.Need-get-requires Inv-loop μ-loop
-get-requires c κs = search needs
 
 index-requires : tie.Need-index-requires Inv-loop μ-loop
 index-requires c κs =
@@ -54,9 +45,6 @@ with-requires c κs =
     let ranks = start .args .ranks in
     picked-room (fineIn (limitsOf (start .args .limits)) (start .args .bits .now) (start .args .least)) (slot ranks) (ranks .count) (at-loop .loop .inv .1)
     (start .pre .0)
-
-loop-less : tie.Need-loop-less Inv-loop μ-loop
-loop-less c = search needs
 
 loop-again : tie.Need-loop-again Inv-loop μ-loop
 loop-again c =
@@ -87,13 +75,13 @@ eligible-spec =
     (tie.spec
     Inv-loop
     μ-loop
-    none-requires
+    (λ c κs. search needs)
     loop-holds
-    sub-j
-    get-requires
+    (λ c. search needs)
+    (λ c κs. search needs)
     index-requires
     is-eligible-requires
     with-requires
-    loop-less
+    (λ c. search needs)
     loop-again
     returns)
