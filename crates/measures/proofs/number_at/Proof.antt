@@ -7,35 +7,11 @@ use Rattle.measures.proofs.Reading.{number-zero, number-word}
 use Rattle.measures.proofs.number_at.Statement.{statement}
 use Rattle.measures.proofs.number_at.Tie as tie
 
-mul-read-u32 : tie.Need-mul-read-u32
-mul-read-u32 c = search needs
-
-read-u32-requires : tie.Need-read-u32-requires
-read-u32-requires c κs = search needs
-
 returns : tie.Need-returns
 returns c =
     let start = c .before .before .before in
     number-zero (start .args .work .now) (start .args .n)
     (let t : c .before .read-u32 .result ≡ 0 = omega (arith, c .if1 .taken) in sym (c .before .read-u32 .ensures) ∙ t)
-
-mul-read-u32-2 : tie.Need-mul-read-u32-2
-mul-read-u32-2 c = search needs
-
-sub-size : tie.Need-sub-size
-sub-size c = search needs
-
-size-requires : tie.Need-size-requires
-size-requires c κs = search needs
-
-mul-read-u32-3 : tie.Need-mul-read-u32-3
-mul-read-u32-3 c = search needs
-
-add-read-u32 : tie.Need-add-read-u32
-add-read-u32 c = search needs
-
-read-u32-requires-2 : tie.Need-read-u32-requires-2
-read-u32-requires-2 c κs = search needs
 
 returns-2 : tie.Need-returns-2
 returns-2 c =
@@ -51,13 +27,13 @@ pub number-at-spec : {M : Type 1} → statement M
 number-at-spec =
     tie.close
     (tie.spec
-    mul-read-u32
-    read-u32-requires
+    (λ c. search needs)
+    (λ c κs. search needs)
     returns
-    mul-read-u32-2
-    sub-size
-    size-requires
-    mul-read-u32-3
-    add-read-u32
-    read-u32-requires-2
+    (λ c. search needs)
+    (λ c. search needs)
+    (λ c κs. search needs)
+    (λ c. search needs)
+    (λ c. search needs)
+    (λ c κs. search needs)
     returns-2)

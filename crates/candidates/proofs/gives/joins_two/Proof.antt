@@ -4,15 +4,6 @@ use borrow.Author.Needs.{needs}
 use Rattle.candidates.proofs.gives.joins_two.Statement.{statement}
 use Rattle.candidates.proofs.gives.joins_two.Tie as tie
 
-returns : tie.Need-returns
-returns c = not-joined _ _ _ _ _ _ _ (c .if1 .taken)
-
-size-requires : tie.Need-size-requires
-size-requires c κs = search needs
-
-size-requires-2 : tie.Need-size-requires-2
-size-requires-2 c κs = search needs
-
 has-region-requires : tie.Need-has-region-requires
 has-region-requires c κs =
     let start = c .before .before .before in
@@ -63,9 +54,9 @@ pub joins-two-spec : {M : Type 1} → statement M
 joins-two-spec =
     tie.close
     (tie.spec
-    returns
-    size-requires
-    size-requires-2
+    (λ c. not-joined _ _ _ _ _ _ _ (c .if1 .taken))
+    (λ c κs. search needs)
+    (λ c κs. search needs)
     has-region-requires
     has-region-requires-2
     span-at-requires

@@ -6,4 +6,9 @@ returns : tie.Need-returns
 returns c = goes-serial (c .before .args .s) (c .before .args .f) (c .before .args .i) (c .if1 .taken)
 
 pub goes-to-spec : {M : Type 1} → statement M
-goes-to-spec = tie.close (tie.spec returns (λ c. goes-flat _ _ _ (c .before .if1 .left) (c .if2 .taken)) (λ c. goes-self _ _ _ (c .before .if1 .left) (c .if2 .left)))
+goes-to-spec =
+    tie.close
+    (tie.spec
+    returns
+    (λ c. goes-flat _ _ _ (c .before .if1 .left) (c .if2 .taken))
+    (λ c. goes-self _ _ _ (c .before .if1 .left) (c .if2 .left)))

@@ -19,4 +19,10 @@ linked-plan-requires c κs =
 pub merge-plan-spec : {M : Type 1} → statement M
 merge-plan-spec =
     tie.close
-    (tie.spec (λ c κs. search needs) (λ c. plan-none (c .start .ensures) (c .before .before .if1 .taken)) (λ c κs. search needs) returns-2 linked-plan-requires (λ c. search needs))
+    (tie.spec
+    (λ c κs. search needs)
+    (λ c. plan-none (c .start .ensures) (c .before .before .if1 .taken))
+    (λ c κs. search needs)
+    returns-2
+    linked-plan-requires
+    (λ c. search needs))

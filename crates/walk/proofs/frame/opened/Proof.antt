@@ -12,4 +12,13 @@ returns c =
     (m .0 ∙ p .0 ∙ r .0, m .1 ∙ p .1, m .2 ∙ rw (after-size .size .ensures .0), m .3 ∙ p .3 ∙ r .3)
 
 pub opened-spec : {M : Type 1} → statement M
-opened-spec = tie.close (tie.spec (λ c κs. search needs) (λ c. search needs) (λ c. search needs) (λ c κs. search needs) (λ c κs. search needs) (λ c κs. search needs) returns)
+opened-spec =
+    tie.close
+    (tie.spec
+    (λ c κs. search needs)
+    (λ c. search needs)
+    (λ c. search needs)
+    (λ c κs. search needs)
+    (λ c κs. search needs)
+    (λ c κs. search needs)
+    returns)
