@@ -16,14 +16,6 @@ Inv-loop links chosen firsts seconds parts c found₀ k₀ found k = (k ≤ link
 abbrev μ-loop : tie.MeasureT-loop
 μ-loop links chosen firsts seconds parts c found₀ k₀ found k = k
 
-loop-holds : tie.Need-loop-holds Inv-loop μ-loop
-loop-holds c =
-    let start = c .before in (
-      omega arith,
-      picked-start (linkIn (start .args .chosen .now) (start .args .firsts .now) (start .args .parts .now) (start .args .c)) (λ j. j) (start .args .links)
-          (c .none .result) (c .none .ensures),
-    )
-
 number-requires : tie.Need-number-requires Inv-loop μ-loop
 number-requires c κs =
     let start = c .before .before .before in
@@ -39,31 +31,23 @@ part-at-requires c κs =
 with-requires : tie.Need-with-requires Inv-loop μ-loop
 with-requires c κs =
     let at-loop = c .before .before .before .before .before .before in
-    let start = at-loop .before .before in
-    picked-room (linkIn (start .args .chosen .now) (start .args .firsts .now) (start .args .parts .now) (start .args .c)) (λ j. j) (start .args .links)
-    (at-loop .loop .inv .1) (start .pre .few)
+    picked-room (at-loop .loop .inv .1) (at-loop .before .before .pre .few)
 
 loop-again : tie.Need-loop-again Inv-loop μ-loop
 loop-again c =
-    let at-part-at = c .before .before in
-    let at-number = at-part-at .before .before .before in
-    let turning = at-number .before in
-    let at-loop = turning .before in
-    let start = at-loop .before .before in
-    let chosen = start .args .chosen .now in
-    let whole-part = start .args .c in (
-      omega (arith, at-loop .loop .inv .0),
-      picked-next (linkIn chosen (start .args .firsts .now) (start .args .parts .now) whole-part) (λ j. j) (start .args .links) (c .before .in-part .result)
-          (at-number .number .result) (at-loop .loop .inv .1) (turning .loop-test .taken) (at-loop .loop .inv .0) (c .with .ensures)
-          (c .before .in-part .ensures ∙ ap (λ (x : ℕ). eqb (getD chosen (at-loop .loop .k - 1) 0) 1 && eqb x whole-part) (at-part-at .part-at .ensures))
-          (at-number .number .ensures),
+    let part = c .before .before in
+    let number = part .before .before .before in
+    let turning = number .before in
+    let l = turning .before .loop in
+    let a = turning .before .before .before .args in (
+      omega (arith, l .inv .0),
+      picked-next (l .inv .1) (turning .loop-test .taken) (l .inv .0) (c .with .ensures)
+          (c .before .in-part .ensures ∙ ap (λ (x : ℕ). eqb (getD (a .chosen .now) (l .k - 1) 0) 1 && eqb x (a .c)) (part .part-at .ensures))
+          (number .number .ensures),
     )
 
 returns : tie.Need-returns Inv-loop μ-loop
-returns c =
-    let start = c .before .before .before in
-    picked-whole (linkIn (start .args .chosen .now) (start .args .firsts .now) (start .args .parts .now) (start .args .c)) (start .args .links)
-    (c .before .loop .inv .1) (omega (arith, c .loop-test .left))
+returns c = picked-whole (c .before .loop .inv .1) (omega (arith, c .loop-test .left))
 
 pub links-of-spec : {M : Type 1} → statement M
 links-of-spec =
@@ -72,7 +56,7 @@ links-of-spec =
     Inv-loop
     μ-loop
     (λ c κs. search needs)
-    loop-holds
+    (λ c. (omega arith, picked-start (c .none .ensures)))
     (λ c. search needs)
     number-requires
     (λ c. search needs)

@@ -1,5 +1,6 @@
 use Rattle.areas.specs.Words.{labelsIn}
 use Rattle.topology.proofs.Bases.{mul-as, hit, not-hit}
+use Prim.Native.Nat.{_+_, _*_, _<_}
 use native.Mathlib.Omega.{arith}
 use borrow.Author.Needs.{needs}
 use Rattle.topology.proofs.anchored.anchor_in.Statement.{statement}
@@ -15,29 +16,12 @@ mul-i c =
     let start = c .before .before .before .before in
     omega (arith, mul-as (c .before .size .ensures .0) (c .size2 .ensures .0), start .pre .2 .on (c .before .before .if1 .left))
 
-add-i : tie.Need-add-i
-add-i c =
-    let if1-left = c .before .before .before in
-    let start = if1-left .before .before in
-    omega (arith, c .size3 .ensures .0, mul-as (c .before .before .size .ensures .0) (c .before .size2 .ensures .0), start .pre .2 .on (if1-left .if1 .left))
-
-mul-read-u32 : tie.Need-mul-read-u32
-mul-read-u32 c =
-    let if1-left = c .before .before .before in
-    let start = if1-left .before .before in
-    omega (arith, c .size3 .ensures .0, mul-as (c .before .before .size .ensures .0) (c .before .size2 .ensures .0), start .pre .2 .on (if1-left .if1 .left))
-
-read-u32-requires : tie.Need-read-u32-requires
-read-u32-requires c κs =
-    let if1-left = c .before .before .before in
-    let start = if1-left .before .before in
-    omega (
-      arith,
-      c .size3 .ensures .0,
-      mul-as (c .before .before .size .ensures .0) (c .before .size2 .ensures .0),
-      start .pre .2 .on (if1-left .if1 .left),
-      start .pre .1,
-    )
+-- the anchor's cell is one of the map's
+on : (c : tie.After-size3) → c .before .before .size .result * c .before .size2 .result + c .size3 .result < c .before .before .before .before .before .args .n
+on c =
+    let inside = c .before .before .before in
+    let p = inside .before .before .pre in
+    omega (arith, c .size3 .ensures .0, mul-as (c .before .before .size .ensures .0) (c .before .size2 .ensures .0), p .2 .on (inside .if1 .left))
 
 returns-2 : tie.Need-returns-2
 returns-2 c =
@@ -56,7 +40,7 @@ anchor-in-spec =
     (λ c κs. search needs)
     mul-i
     (λ c κs. search needs)
-    add-i
-    mul-read-u32
-    read-u32-requires
+    (λ c. omega (arith, on c))
+    (λ c. omega (arith, on c))
+    (λ c κs. omega (arith, on c, c .before .before .before .before .before .pre .1))
     returns-2)
