@@ -4,6 +4,9 @@ use borrow.Author.Needs.{needs}
 use Rattle.candidates.proofs.gives.joins_two.Statement.{statement}
 use Rattle.candidates.proofs.gives.joins_two.Tie as tie
 
+returns : tie.Need-returns
+returns c = not-joined _ _ _ _ _ _ _ (c .if1 .taken)
+
 has-region-requires : tie.Need-has-region-requires
 has-region-requires c κs =
     let start = c .before .before .before in
@@ -54,7 +57,7 @@ pub joins-two-spec : {M : Type 1} → statement M
 joins-two-spec =
     tie.close
     (tie.spec
-    (λ c. not-joined _ _ _ _ _ _ _ (c .if1 .taken))
+    returns
     (λ c κs. search needs)
     (λ c κs. search needs)
     has-region-requires

@@ -1,5 +1,8 @@
 use Rattle.links.proofs.parallel.facing.Statement.{statement}
 use Rattle.links.proofs.parallel.facing.Tie as tie
 
+returns : tie.Need-returns
+returns c = simp (c .if1 .taken)
+
 pub facing-spec : {M : Type 1} → statement M
-facing-spec = tie.close (tie.spec (λ c. simp (c .if1 .taken)) (λ c. simp (c .if1 .left)))
+facing-spec = tie.close (tie.spec returns (λ c. simp (c .if1 .left)))

@@ -8,8 +8,8 @@ use Rattle.topology.proofs.anchored.anchor_in.Tie as tie
 
 returns : tie.Need-returns
 returns c =
-    let start = c .before .before in
-    not-hit (labelsIn (start .args .labels .now) (start .args .n)) (start .args .width) (start .args .p) (start .args .region) (c .if1 .taken)
+    let a = c .before .before .args in
+    not-hit (labelsIn (a .labels .now) (a .n)) (a .width) (a .p) (a .region) (c .if1 .taken)
 
 mul-i : tie.Need-mul-i
 mul-i c =

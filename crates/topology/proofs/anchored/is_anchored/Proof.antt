@@ -24,14 +24,10 @@ anchor-in-requires c κs =
     (start .pre .1, start .pre .2, hit-as (c .read-base .ensures) (start .pre .3 .each (c .before .before .loop .i) (c .before .loop-test .taken)))
 
 loop-again : tie.Need-loop-again Inv-loop μ-loop
-loop-again c =
-    let in-loop = c .before .before .before in
-    (omega arith, base-next _ _ _ _ _ _ (c .before .read-base .ensures) (c .anchor-in .ensures) (in-loop .loop .inv .1))
+loop-again c = (omega arith, base-next _ _ _ _ _ _ (c .before .read-base .ensures) (c .anchor-in .ensures) (c .before .before .before .loop .inv .1))
 
 returns : tie.Need-returns Inv-loop μ-loop
-returns c =
-    let start = c .before .before .before .before in
-    at-end _ _ _ _ _ {i = c .before .loop .i} {count = start .args .count} (omega arith) (c .before .loop .inv .1)
+returns c = at-end _ _ _ _ _ {i = c .before .loop .i} {count = c .before .before .before .before .args .count} (omega arith) (c .before .loop .inv .1)
 
 pub is-anchored-spec : {M : Type 1} → statement M
 is-anchored-spec =

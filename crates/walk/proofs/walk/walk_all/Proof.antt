@@ -45,7 +45,9 @@ add-r c =
     omega (arith, turn-of c .loop-test .taken, at-loop .loop .inv .1, asked at-loop .pre .0 .few)
 
 loop-again : tie.Need-loop-again Inv-loop μ-loop
-loop-again c = (omega (arith, turn-of c .loop-test .taken), turn-of c .before .loop .inv .1, c .before .before .before .before .before .before .before .before .before .before .visit .ensures)
+loop-again c =
+    let visited = c .before .before .before .before .before .before .before .before .before .before in
+    (omega (arith, turn-of c .loop-test .taken), turn-of c .before .loop .inv .1, visited .visit .ensures)
 
 returns : tie.Need-returns Inv-loop μ-loop
 returns c =
