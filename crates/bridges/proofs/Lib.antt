@@ -1,5 +1,4 @@
 pub mod Lent
-pub mod Table
 pub mod Names
 pub mod Small
 pub mod Unmarked

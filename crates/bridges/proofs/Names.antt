@@ -10,9 +10,10 @@ use lib.Seq.{getD-set-same, getD-set-other}
 use Rattle.lists.specs.Rows.{at}
 use Rattle.wire.specs.Bytes.{splice, u32At, u32Bytes}
 use Rattle.walk.specs.Slices.{put}
-use Rattle.bridges.specs.Names.{Labelled, Table, Stands, Named, Numbered, Forgotten}
+use Rattle.label_table.specs.Table.{Table, OnlyOf}
+use Rattle.bridges.specs.Names.{Labelled, Stands, Named, Numbered, Forgotten}
 use Rattle.walk.proofs.Puts.{put-at, put-off}
-use Rattle.bridges.proofs.Table.{table-set, table-own, table-clear}
+use Rattle.label_table.proofs.Table.{table-set, table-blank, word-cleared, all-cleared}
 
 -- one more label has a word: it had one, or gets the one of its place
 pub record Next (K : ℕ) (lefts rights : List ℕ) (regions base : ℕ) (start work : List ℕ) (f : ℕ → ℕ) (x v : ℕ) : Type 0 where
@@ -89,45 +90,25 @@ pub forgotten-one : {K : ℕ} {lefts rights : List ℕ} {regions base : ℕ} {st
     Labelled K lefts rights regions → base + 4 * regions ≤ length work → k < K → {work₁ work₂ : List ℕ}
     → work₁ ≡ splice work (base + 4 * (at lefts k - 1)) (u32Bytes 0) →
     work₂ ≡ splice work₁ (base + 4 * (at rights k - 1)) (u32Bytes 0) → Forgotten K lefts rights regions base start work₂ (k + 1)
-forgotten-one {K} {lefts} {rights} {regions} {base} {start} {work} {k} F L fits b {work₁} {work₂} e₁ e₂ = record {
-  words = put (put f a 0) c 0;
-  table = subst (Table start regions base (put (put f a 0) c 0)) (sym e₂)
-      (table-set T₁ room c 0 (omega (arith, L .right-from k b, L .right-to k b)) (omega arith));
-  left-over = left-over;
-}
+forgotten-one {K} {lefts} {rights} {regions} {base} {start} {k = k} F L fits b {work₁} e₁ e₂ =
+    word-cleared F₁ (omega (arith, F₁ .table .as-long, F .table .as-long)) (omega (arith, L .right-from k b, L .right-to k b)) later e₂
   where
-    f : ℕ → ℕ
-    f = F .words
+    -- all but the left end's
+    F₁ : OnlyOf (λ x. (x ≡ at lefts k - 1 → ⊥) × Stands K lefts rights k x) start regions base work₁
+    F₁ = word-cleared F fits (omega (arith, L .left-from k b, L .left-to k b)) (λ x d s. (d, s)) e₁
 
-    a : ℕ
-    a = at lefts k - 1
-
-    c : ℕ
-    c = at rights k - 1
-
-    room : base + 4 * regions ≤ length start
-    room = omega (arith, F .table .as-long)
-
-    T₁ : Table start regions base (put f a 0) work₁
-    T₁ = subst (Table start regions base (put f a 0)) (sym e₁) (table-set (F .table) room a 0 (omega (arith, L .left-from k b, L .left-to k b)) (omega arith))
-
-    left-over : (x : ℕ) → 0 < put (put f a 0) c 0 x → Stands K lefts rights (k + 1) x
-    left-over x h =
-        by-cases (ℕ-discrete x c) (λ e. absurd (omega (arith, ap (put (put f a 0) c 0) e, put-at (put f a 0) c 0))) λ e.
-        by-cases (ℕ-discrete x a) (λ d. absurd (omega (arith, put-off (put f a 0) c 0 x e, ap (put f a 0) d, put-at f a 0))) λ d. later e d
-      where
-        later : (x ≡ c → ⊥) → (x ≡ a → ⊥) → Stands K lefts rights (k + 1) x
-        later e d =
-            let s = F .left-over x (omega (arith, put-off (put f a 0) c 0 x e, put-off f a 0 x d)) in
-            record {
-              place = s .place;
-              from =
-                  by-cases (ℕ-discrete (s .place) k)
-                  (λ z. absurd (⊎-elim (λ u. d (omega (arith, u, ap (at lefts) z))) (λ u. e (omega (arith, u, ap (at rights) z))) (s .end)))
-                  (λ z. omega (arith, s .from));
-              inside = s .inside;
-              end = s .end;
-            }
+    later : (x : ℕ) → (x ≡ at rights k - 1 → ⊥) → (x ≡ at lefts k - 1 → ⊥) × Stands K lefts rights k x → Stands K lefts rights (k + 1) x
+    later x e t =
+        let s = t .1 in
+        record {
+          place = s .place;
+          from =
+              by-cases (ℕ-discrete (s .place) k)
+              (λ z. absurd (⊎-elim (λ u. t .0 (omega (arith, u, ap (at lefts) z))) (λ u. e (omega (arith, u, ap (at rights) z))) (s .end)))
+              (λ z. omega (arith, s .from));
+          inside = s .inside;
+          end = s .end;
+        }
 
 -- no label has a number
 pub unnumbered : {K : ℕ} {lefts rights : List ℕ} {regions base : ℕ} (start : List ℕ) {smallLefts smallRights : List ℕ}
@@ -135,7 +116,7 @@ pub unnumbered : {K : ℕ} {lefts rights : List ℕ} {regions base : ℕ} (start
     K ≤ length smallLefts → K ≤ length smallRights → Numbered K lefts rights regions base start start smallLefts smallRights 0
 unnumbered {regions = regions} {base} start z a b = record {
   words = λ x. 0;
-  table = record { as-long = refl; word = z; before = λ i l. refl; behind = λ i l. refl };
+  table = table-blank z;
   named = λ x h. absurd (omega arith);
   lefts-are = a;
   rights-are = b;
@@ -158,12 +139,7 @@ remembered N = record {
 pub restored : {K : ℕ} {lefts rights : List ℕ} {regions base : ℕ} {start work : List ℕ} → Forgotten K lefts rights regions base start work K
     → base + 4 * regions ≤ length start →
     ((x : ℕ) → x < regions → u32At start (base + 4 * x) ≡ 0) → work ≡ start
-restored {K} {lefts} {rights} {regions} {base} {start} {work} F fits z =
-    table-clear start regions base (F .words) (λ x. u32At start (base + 4 * x)) work fits (F .table) (table-own start regions base) none z
-  where
-    none : (x : ℕ) → x < regions → F .words x ≡ 0
-    none x l =
-        by-cases (ℕ-discrete (F .words x) 0) (λ e. e) λ e. let s = F .left-over x (omega arith) in absurd (omega (arith, s .from, s .inside))
+restored F fits z = all-cleared F fits z (λ x s. omega (arith, s .from, s .inside))
 
 -- a label's word after number_of: that it had, or that of place p
 pub next-step : {K : ℕ} {lefts rights : List ℕ} {regions base : ℕ} {start work work′ : List ℕ} {f : ℕ → ℕ} → Table start regions base f work →

@@ -4,9 +4,9 @@ use mathlib.Core.Path.{_≡_}
 use mathlib.Core.Logic.{_⊎_}
 use mathlib.Core.List.{List}
 use Prim.Native.Nat.{ℕ, _+_, _*_, _-_, _≤_, _<_}
-use lib.ListN.{length, getD}
+use lib.ListN.{length}
 use Rattle.lists.specs.Rows.{at}
-use Rattle.wire.specs.Bytes.{u32At}
+use Rattle.label_table.specs.Table.{Table, OnlyOf}
 
 -- there are at most 4,096 records, and their ends are labels from 1 to `regions`
 pub record Labelled (K : ℕ) (lefts rights : List ℕ) (regions : ℕ) : Type 0 where
@@ -17,13 +17,6 @@ pub record Labelled (K : ℕ) (lefts rights : List ℕ) (regions : ℕ) : Type 0
   pub left-to : (k : ℕ) → k < K → at lefts k ≤ regions
   pub right-from : (k : ℕ) → k < K → 0 < at rights k
   pub right-to : (k : ℕ) → k < K → at rights k ≤ regions
-
--- the table has the words f 0, f 1, …, and beside it all is as in `start`
-pub record Table (start : List ℕ) (regions base : ℕ) (f : ℕ → ℕ) (work : List ℕ) : Type 0 where
-  pub as-long : length work ≡ length start
-  pub word : (x : ℕ) → x < regions → u32At work (base + 4 * x) ≡ f x
-  pub before : (i : ℕ) → i < base → getD work i 0 ≡ getD start i 0
-  pub behind : (i : ℕ) → base + 4 * regions ≤ i → getD work i 0 ≡ getD start i 0
 
 -- label x + 1 stands at one end of a record from k on
 pub record Stands (K : ℕ) (lefts rights : List ℕ) (k x : ℕ) : Type 0 where
@@ -49,7 +42,5 @@ pub record Numbered (K : ℕ) (lefts rights : List ℕ) (regions base : ℕ) (st
   pub right : (i : ℕ) → i < k → words (at rights i - 1) ≡ at smallRights i + 1
 
 -- the words of the labels before record k are 0 again
-pub record Forgotten (K : ℕ) (lefts rights : List ℕ) (regions base : ℕ) (start work : List ℕ) (k : ℕ) : Type 0 where
-  pub words : ℕ → ℕ
-  pub table : Table start regions base words work
-  pub left-over : (x : ℕ) → 0 < words x → Stands K lefts rights k x
+abbrev pub Forgotten : ℕ → List ℕ → List ℕ → ℕ → ℕ → List ℕ → List ℕ → ℕ → Type 0
+Forgotten K lefts rights regions base start work k = OnlyOf (Stands K lefts rights k) start regions base work

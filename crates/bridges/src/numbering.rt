@@ -5,9 +5,9 @@ ghost use Prim.Native.Nat.{ℕ, _+_, _*_, _-_, _≤_, _<_};
 ghost use lib.ListN.{length};
 ghost use Rattle.wire.specs.Bytes.{splice, u32At, u32Bytes};
 ghost use Rattle.bridges.specs.Names.{Labelled, Numbered, Forgotten};
-use wire::read_u32;
+use label_table::put_word;
+use label_table::word_of;
 use wire::size;
-use wire::write_u32;
 
 // The number of a label that stands at a place: the one that it has, or that of the place.
 fn number_of(work: &mut [u8], base: usize, label: u32, place: u32) -> u32
@@ -17,12 +17,11 @@ fn number_of(work: &mut [u8], base: usize, label: u32, place: u32) -> u32
     ensures new { λ r. ⌜ (u32At (now (work .entry)) (base + 4 * (label - 1)) ≡ 0 → (r ≡ place)
         × (now (work .exit) ≡ splice (now (work .entry)) (base + 4 * (label - 1)) (u32Bytes (place + 1)))) ⌝ }
 {
-    let at = base + size(label - 1) * 4;
-    let found = read_u32(work, at);
+    let found = word_of(work, base, label);
     if found != 0 {
         return found - 1;
     }
-    write_u32(work, at, place + 1);
+    put_word(work, base, label, place + 1);
     place
 }
 
@@ -84,14 +83,6 @@ pub fn number_all(
     }
 }
 
-// Takes the word of a label back to 0.
-fn forget(work: &mut [u8], base: usize, label: u32)
-    requires { ⌜ (0 < label) × (base + 4 * label ≤ length (now work)) ⌝ }
-    ensures { λ _. ⌜ now (work .exit) ≡ splice (now (work .entry)) (base + 4 * (label - 1)) (u32Bytes 0) ⌝ }
-{
-    write_u32(work, base + size(label - 1) * 4, 0);
-}
-
 // Takes the words of the ends of record k back to 0.
 fn forget_record(
     lefts: &[u32],
@@ -107,8 +98,8 @@ fn forget_record(
         → Forgotten count (now (lefts .entry)) (now (rights .entry)) regions base start (now (work .exit)) (k + 1)) ⌝ }
 {
     let at = size(k);
-    forget(work, base, lefts[at]);
-    forget(work, base, rights[at]);
+    put_word(work, base, lefts[at], 0);
+    put_word(work, base, rights[at], 0);
 }
 
 // Takes the words of every record's ends back to 0.

@@ -209,7 +209,7 @@ links-more rs fs ss c r a b h k m =
         → _≡_ {A = LinkAt} (record { region = x; first = y; second = z }) (record { region = u; first = v; second = w })
     same-at e f g = rw (e, f, g)
 
-module _ (d : Given) (n : ℕ) (below : OwnersBelow (d .owners) (d .count) n) where
+module _ {d : Given} {n : ℕ} (below : OwnersBelow (d .owners) (d .count) n) where
   -- one region more
   pub collected-next : {after count r count′ : ℕ} {rs fs ss rs′ fs′ ss′ : List ℕ} → n ≤ 256 → Collected d n after count rs fs ss
       → r ≡ nextAfter (d .marks) (d .lowers) (d .highers) after n → 0 < r
@@ -276,16 +276,16 @@ gives-found d r e g = g ∙ ap
     (λ (t : Touching). not (anchoredBy (d .job) (d .start) (d .bases) (d .width) (d .labels) r) && joinsTwo (d .own) (d .marks) (d .lowers) (d .highers) r
     (t .count) (t .first) (t .second)) e
 
-pub added-one : (d : Given) (r count : ℕ) (rs fs ss : List ℕ) {t : Touching} → t ≡ seen d r → found d r ≡ true
+pub added-one : {d : Given} {r count : ℕ} {rs fs ss : List ℕ} {t : Touching} → t ≡ seen d r → found d r ≡ true
     → Added d r count rs fs ss (count + 1) (set rs count r) (set fs count (t .first)) (set ss count (t .second))
-added-one d r count rs fs ss e h =
+added-one {d} {r} {count} {rs} {fs} {ss} e h =
     record {
       more = λ q. (refl, refl, ap (λ (t : Touching). set fs count (t .first)) e, ap (λ (t : Touching). set ss count (t .second)) e);
       same = λ q. clash h q;
     }
 
-pub added-none : (d : Given) (r count : ℕ) (rs fs ss : List ℕ) → found d r ≡ false → Added d r count rs fs ss count rs fs ss
-added-none d r count rs fs ss h = record { more = λ q. clash q h; same = λ q. (refl, refl, refl, refl) }
+pub added-none : {d : Given} {r count : ℕ} {rs fs ss : List ℕ} → found d r ≡ false → Added d r count rs fs ss count rs fs ss
+added-none h = record { more = λ q. clash q h; same = λ q. (refl, refl, refl, refl) }
 
 -- what is left of the numbers of regions
 abbrev pub left : ℕ → ℕ

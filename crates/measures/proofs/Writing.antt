@@ -1,5 +1,5 @@
 -- The table of the links' numbers: written link by link, read, and cleared.
-use mathlib.Core.Path.{_≡_, refl, sym, _∙_, ap, subst}
+use mathlib.Core.Path.{_≡_, sym, _∙_, ap, subst}
 use mathlib.Core.Logic.{by-cases}
 use mathlib.Core.List.{List}
 use Prim.Native.Nat.{ℕ, _+_, _*_, _-_, _≤_, _<_}
@@ -12,17 +12,14 @@ use Rattle.areas.proofs.Words.{labels-same}
 use Rattle.lists.specs.Rows.{at}
 use Rattle.wire.specs.Bytes.{u32Bytes, splice}
 use Rattle.wire.proofs.Words.{four-bytes}
-use Rattle.bridges.specs.Names.{Table}
 use Rattle.walk.specs.Slices.{put}
 use Rattle.walk.proofs.Puts.{put-at, put-off}
-use Rattle.bridges.proofs.Table.{table-set, table-clear}
+use Rattle.label_table.proofs.Table.{table-set, table-blank, word-cleared, all-cleared}
 use Rattle.measures.specs.Tables.{Regions, Labels, Written, Later, Cleared, numberOf, Numbered}
 
-blank : {start : List ℕ} {n : ℕ} → Labels start n → Table start n (4 * n) (λ x. 0) start
-blank L = record { as-long = refl; word = λ x l. L .clear x l; before = λ i l. refl; behind = λ i l. refl }
-
 pub write-start : {start : List ℕ} {n : ℕ} (regions : List ℕ) → Labels start n → Written start start n regions 0
-write-start regions L = record { words = λ x. 0; table = blank L; own = λ j l. absurd (omega arith); named = λ x p. absurd (omega arith) }
+write-start regions L =
+    record { words = λ x. 0; table = table-blank (L .clear); own = λ j l. absurd (omega arith); named = λ x p. absurd (omega arith) }
 
 -- the place of a link's word
 abbrev spot : List ℕ → ℕ → ℕ
@@ -31,15 +28,26 @@ spot regions k = at regions k - 1
 below : {regions : List ℕ} {links k n : ℕ} → Regions regions links n → k < links → spot regions k < n
 below {regions} {links} {k} R inside = omega (arith, R .from k inside, R .to k inside)
 
-module _ {start work : List ℕ} {n : ℕ} {regions : List ℕ} {links k : ℕ} (R : Regions regions links n) (room : 8 * n ≤ length start) (inside : k < links) where
-  pub write-next : Written start work n regions k → {next : List ℕ} → next ≡ splice work (4 * n + 4 * (at regions k - 1)) (u32Bytes (k + 1))
+-- the word of link k is there; j is k as an index
+pub word-there : {regions : List ℕ} {links n k j : ℕ} → Regions regions links n → k < links → j ≡ k → (work : List ℕ) → 8 * n ≤ length work
+    → (0 < at regions j) × (4 * n + 4 * at regions j ≤ length work)
+word-there {regions} {k = k} R inside e work room =
+    let t = ap (at regions) e in
+    (omega (arith, t, R .from k inside), omega (arith, t, R .to k inside))
+
+module _ {start work : List ℕ} {n : ℕ} {regions : List ℕ} {links k j : ℕ} (R : Regions regions links n) (room : 8 * n ≤ length start) (inside : k < links)
+    (index : j ≡ k) where
+  pub write-next : Written start work n regions k → {next : List ℕ} → next ≡ splice work (4 * n + 4 * (at regions j - 1)) (u32Bytes (k + 1))
       → Written start next n regions (k + 1)
-  write-next W {next} e = subst (λ (z : List ℕ). Written start z n regions (k + 1)) (sym e) (record {
-    words = put (W .words) (spot regions k) (k + 1);
-    table = table-set (W .table) (omega arith) (spot regions k) (k + 1) (below R inside) (omega (arith, R .few));
-    own = own;
-    named = named;
-  })
+  write-next W {next} q =
+      let e : next ≡ splice work (4 * n + 4 * (at regions k - 1)) (u32Bytes (k + 1)) =
+      q ∙ ap (λ (z : ℕ). splice work (4 * n + 4 * (at regions z - 1)) (u32Bytes (k + 1))) index in
+      subst (λ (z : List ℕ). Written start z n regions (k + 1)) (sym e) (record {
+        words = put (W .words) (spot regions k) (k + 1);
+        table = table-set (W .table) (omega arith) (spot regions k) (k + 1) (below R inside) (omega (arith, R .few));
+        own = own;
+        named = named;
+      })
     where
       own : (j : ℕ) → j < k + 1 → put (W .words) (spot regions k) (k + 1) (at regions j - 1) ≡ j + 1
       own j l =
@@ -66,29 +74,20 @@ module _ {start work : List ℕ} {n : ℕ} {regions : List ℕ} {links k : ℕ} 
           let o = W .named y (omega (arith, v, p)) in
           (omega (arith, v, o .0), ap (λ (z : ℕ). at regions (z - 1)) v ∙ o .1))
 
-  pub clear-next : Cleared start work n regions links k → {next : List ℕ} → next ≡ splice work (4 * n + 4 * (at regions k - 1)) (u32Bytes 0)
+  pub clear-next : Cleared start work n regions links k → {next : List ℕ} → next ≡ splice work (4 * n + 4 * (at regions j - 1)) (u32Bytes 0)
       → Cleared start next n regions links (k + 1)
-  clear-next C {next} e = subst (λ (z : List ℕ). Cleared start z n regions links (k + 1)) (sym e) (record {
-    words = put (C .words) (spot regions k) 0;
-    table = table-set (C .table) (omega arith) (spot regions k) 0 (below R inside) (omega arith);
-    left-over = left-over;
-  })
+  clear-next C q =
+      word-cleared C (omega (arith, C .table .as-long)) (below R inside) later
+      (q ∙ ap (λ (z : ℕ). splice work (4 * n + 4 * (at regions z - 1)) (u32Bytes 0)) index)
     where
-      left-over : (y : ℕ) → 0 < put (C .words) (spot regions k) 0 y → Later regions links (k + 1) y
-      left-over y p =
-          by-cases (ℕ-discrete y (spot regions k))
-          (λ q. let v : put (C .words) (spot regions k) 0 y ≡ 0 = ap (put (C .words) (spot regions k) 0) q ∙ put-at (C .words) (spot regions k) 0 in
-          absurd (omega (arith, v, p)))
-          (λ q.
-          let v : put (C .words) (spot regions k) 0 y ≡ C .words y = put-off (C .words) (spot regions k) 0 y q in
-          let o = C .left-over y (omega (arith, v, p)) in
-          record {
-            link = o .link;
-            from = by-cases (ℕ-discrete (o .link) k) (λ s. let t : at regions k ≡ y + 1 = sym (ap (at regions) s) ∙ o .is in absurd (q (omega (arith, t))))
-                (λ s. omega (arith, o .from, s));
-            inside = o .inside;
-            is = o .is;
-          })
+      later : (y : ℕ) → (y ≡ spot regions k → ⊥) → Later regions links k y → Later regions links (k + 1) y
+      later y d o = record {
+        link = o .link;
+        from = by-cases (ℕ-discrete (o .link) k) (λ s. let t : at regions k ≡ y + 1 = sym (ap (at regions) s) ∙ o .is in absurd (d (omega (arith, t))))
+            (λ s. omega (arith, o .from, s));
+        inside = o .inside;
+        is = o .is;
+      }
 
 pub clear-start : {start work : List ℕ} {n : ℕ} {regions : List ℕ} {links : ℕ} → Written start work n regions links → Cleared start work n regions links 0
 clear-start W = record {
@@ -98,10 +97,7 @@ clear-start W = record {
 }
 
 pub clear-end : {start work : List ℕ} {n : ℕ} {regions : List ℕ} {links : ℕ} → Labels start n → Cleared start work n regions links links → work ≡ start
-clear-end {start} {work} {n} L C =
-    table-clear start n (4 * n) (C .words) (λ x. 0) work (omega (arith, L .room)) (C .table) (blank L)
-    (λ x l. by-cases (ℕ-discrete (C .words x) 0) (λ e. e) (λ e. let o = C .left-over x (omega (arith, e)) in absurd (omega (arith, o .from, o .inside))))
-    (λ x l. refl)
+clear-end L C = all-cleared C (omega (arith, L .room)) (L .clear) (λ x o. omega (arith, o .from, o .inside))
 
 module _ {start work : List ℕ} {n : ℕ} {regions : List ℕ} {links : ℕ} (L : Labels start n) (W : Written start work n regions links) where
   same-label : (i : ℕ) → i < n → word work i ≡ word start i

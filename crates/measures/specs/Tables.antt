@@ -8,7 +8,7 @@ use lib.ListN.{length}
 use Rattle.lists.specs.Rows.{at}
 use Rattle.wire.specs.Bytes.{u32At}
 use Rattle.areas.specs.Words.{word}
-use Rattle.bridges.specs.Names.{Table}
+use Rattle.label_table.specs.Table.{Table, OnlyOf}
 
 -- the regions of the links are different labels from 1 to n
 pub record Regions (regions : List ℕ) (links n : ℕ) : Type 0 where
@@ -38,10 +38,8 @@ pub record Later (regions : List ℕ) (links k x : ℕ) : Type 0 where
   pub is : at regions link ≡ x + 1
 
 -- the words of the links before k are 0 again
-pub record Cleared (start work : List ℕ) (n : ℕ) (regions : List ℕ) (links k : ℕ) : Type 0 where
-  pub words : ℕ → ℕ
-  pub table : Table start n (4 * n) words work
-  pub left-over : (x : ℕ) → 0 < words x → Later regions links k x
+abbrev pub Cleared : List ℕ → List ℕ → ℕ → List ℕ → ℕ → ℕ → Type 0
+Cleared start work n regions links k = OnlyOf (Later regions links k) start n (4 * n) work
 
 -- what the table says of a label
 abbrev pub numberOf : List ℕ → ℕ → ℕ → ℕ

@@ -4,9 +4,8 @@ pub mod few; // each link by a pass of its own
 ghost use mathlib.Core.Path.{_≡_};
 ghost use mathlib.Core.Bool.{cond};
 ghost use mathlib.Core.List.{List};
-ghost use Prim.Native.Nat.{ℕ, _+_, _*_, _-_, _<_, _≤_};
+ghost use Prim.Native.Nat.{ℕ, _+_, _*_, _<_, _≤_};
 ghost use lib.ListN.{length};
-ghost use Rattle.wire.specs.Bytes.{u32Bytes, splice};
 ghost use Rattle.areas.specs.Spans.{Sides};
 ghost use Rattle.areas.specs.Words.{word, labelsIn};
 ghost use Rattle.links.specs.HeldLimits.{limitsOf};
@@ -15,6 +14,8 @@ ghost use Rattle.links.specs.Measure.{passing};
 ghost use Rattle.measures.specs.Tables.{Regions, Labels, Written, Numbered, numberOf};
 ghost use Rattle.measures.specs.Judging.{Plain, Ranks, valueIn, flatIn, Judged, Measured};
 use few::measure_few;
+use label_table::put_word;
+use label_table::word_of;
 use links::limits::Limits;
 use links::link::Link;
 use links::link::link_of;
@@ -22,7 +23,6 @@ use marking::spans::span_at;
 use topology::stats::RegionStats;
 use wire::read_u32;
 use wire::size;
-use wire::write_u32;
 
 fn flag(t: bool) -> u8
     ensures { λ r. ⌜ r ≡ cond t 1 0 ⌝ }
@@ -30,22 +30,15 @@ fn flag(t: bool) -> u8
     if t { 1 } else { 0 }
 }
 
-// Writes the word of a label.
-fn put_word(work: &mut [u8], n: usize, label: u32, v: u32)
-    requires { ⌜ (0 < label) × (label ≤ n) × (n ≤ 0x10_0000) × (8 * n ≤ length (now work)) ⌝ }
-    ensures { λ _. ⌜ now (work .exit) ≡ splice (now (work .entry)) (4 * n + 4 * (label - 1)) (u32Bytes v) ⌝ }
-{
-    write_u32(work, 4 * n + 4 * size(label - 1), v);
-}
-
 // Gives the region of each link its number in the table.
 fn number_all(work: &mut [u8], n: usize, regions: &[u32; 256], links: u32)
     requires { ⌜ (n ≤ 0x10_0000) × Labels (now work) n × Regions (now regions) links n ⌝ }
     ensures { λ _. ⌜ Written (now (work .entry)) (now (work .exit)) n (now (regions .entry)) links ⌝ }
 {
+    let base = 4 * n;
     let mut k: u32 = 0;
     while k < links {
-        put_word(work, n, regions[size(k)], k + 1);
+        put_word(work, base, regions[size(k)], k + 1);
         k += 1;
     }
 }
@@ -55,9 +48,10 @@ fn clear_all(work: &mut [u8], n: usize, regions: &[u32; 256], links: u32)
     requires { ⌜ (n ≤ 0x10_0000) × (8 * n ≤ length (now work)) × Regions (now regions) links n ⌝ }
     ensures { λ _. ⌜ ((start : List ℕ) → Labels start n → Written start (now (work .entry)) n (now (regions .entry)) links → now (work .exit) ≡ start) ⌝ }
 {
+    let base = 4 * n;
     let mut k: u32 = 0;
     while k < links {
-        put_word(work, n, regions[size(k)], 0);
+        put_word(work, base, regions[size(k)], 0);
         k += 1;
     }
 }
@@ -71,7 +65,7 @@ fn number_at(work: &[u8], n: usize, i: usize) -> u32
     if label == 0 {
         return 0;
     }
-    read_u32(work, 4 * n + 4 * size(label - 1))
+    word_of(work, 4 * n, label)
 }
 
 // The link of two ranks, without a cell.

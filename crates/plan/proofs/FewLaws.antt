@@ -109,40 +109,41 @@ module _ (t : ℕ → Bool) (v : ℕ → ℕ) (n : ℕ) where
   abbrev pub Picked : ℕ → Few → Type 0
   Picked k f = Gathered held t v n k f
 
-  pub picked-start : (f : Few) → f ≡ held [] → Picked n f
-  picked-start = gathered-start held t v n
+  -- as their number and the first of them
+  abbrev pub Noted : ℕ → Near → Type 0
+  Noted k f = Gathered near t v n k f
 
-  pub picked-room : {k : ℕ} {f : Few} → Picked k f → n ≤ 256 → f .count < 4294967295
+module _ {t : ℕ → Bool} {v : ℕ → ℕ} {n : ℕ} where
+  pub picked-start : {f : Few} → f ≡ held [] → Picked t v n n f
+  picked-start {f} = gathered-start held t v n f
+
+  pub picked-room : {k : ℕ} {f : Few} → Picked t v n k f → n ≤ 256 → f .count < 4294967295
   unfolding held
   picked-room {k} {f} p l =
       let e : f .count ≡ length (keep t (map v (upFrom k (n - k)))) = ap (λ (g : Few). g .count) (p .is) in
       omega (arith, gathered-few held t v n k l)
 
-  pub picked-next : {k : ℕ} {f g : Few} (b : Bool) (x : ℕ) → Picked k f → 0 < k → k ≤ n → g ≡ cond b (pushed f x) f → b ≡ t (v (k - 1)) → x ≡ v (k - 1)
-      → Picked (k - 1) g
-  picked-next = gathered-next held t v n pushed pushed-held
+  pub picked-next : {k : ℕ} {f g : Few} {b : Bool} {x : ℕ} → Picked t v n k f → 0 < k → k ≤ n → g ≡ cond b (pushed f x) f → b ≡ t (v (k - 1))
+      → x ≡ v (k - 1) → Picked t v n (k - 1) g
+  picked-next {b = b} {x} = gathered-next held t v n pushed pushed-held b x
 
-  pub picked-end : {k : ℕ} {f : Few} → Picked k f → k ≡ 0 → f ≡ held (keep t (map v (upFrom 0 n)))
+  pub picked-end : {k : ℕ} {f : Few} → Picked t v n k f → k ≡ 0 → f ≡ held (keep t (map v (upFrom 0 n)))
   picked-end = gathered-end held t v n
 
-  -- as their number and the first of them
-  abbrev pub Noted : ℕ → Near → Type 0
-  Noted k f = Gathered near t v n k f
+  pub noted-start : {f : Near} → f ≡ near [] → Noted t v n n f
+  noted-start {f} = gathered-start near t v n f
 
-  pub noted-start : (f : Near) → f ≡ near [] → Noted n f
-  noted-start = gathered-start near t v n
-
-  pub noted-room : {k : ℕ} {f : Near} → Noted k f → n ≤ 256 → f .count < 4294967295
+  pub noted-room : {k : ℕ} {f : Near} → Noted t v n k f → n ≤ 256 → f .count < 4294967295
   noted-room {k} {f} p l =
       let e : f .count ≡ length (keep t (map v (upFrom k (n - k)))) = ap (λ (g : Near). g .count) (p .is) in
       omega (arith, gathered-few near t v n k l)
 
-  pub noted-next : {k : ℕ} {f g : Near} (b : Bool) (x : ℕ) → Noted k f → 0 < k → k ≤ n → g ≡ cond b (nearer f x) f → b ≡ t (v (k - 1)) → x ≡ v (k - 1)
-      → Noted (k - 1) g
-  noted-next = gathered-next near t v n nearer nearer-near
+  pub noted-next : {k : ℕ} {f g : Near} {b : Bool} {x : ℕ} → Noted t v n k f → 0 < k → k ≤ n → g ≡ cond b (nearer f x) f → b ≡ t (v (k - 1))
+      → x ≡ v (k - 1) → Noted t v n (k - 1) g
+  noted-next {b = b} {x} = gathered-next near t v n nearer nearer-near b x
 
-  pub noted-end : {k : ℕ} {f : Near} → Noted k f → k ≡ 0 → f ≡ near (keep t (map v (upFrom 0 n)))
+  pub noted-end : {k : ℕ} {f : Near} → Noted t v n k f → k ≡ 0 → f ≡ near (keep t (map v (upFrom 0 n)))
   noted-end = gathered-end near t v n
 
-pub picked-whole : (t : ℕ → Bool) (n : ℕ) {k : ℕ} {f : Few} → Picked t (λ i. i) n k f → k ≡ 0 → f ≡ held (keep t (upFrom 0 n))
-picked-whole t n p e = picked-end t (λ i. i) n p e ∙ ap (λ (l : List ℕ). held (keep t l)) (map-id (upFrom 0 n))
+pub picked-whole : {t : ℕ → Bool} {n k : ℕ} {f : Few} → Picked t (λ i. i) n k f → k ≡ 0 → f ≡ held (keep t (upFrom 0 n))
+picked-whole {t} {n} p e = picked-end p e ∙ ap (λ (l : List ℕ). held (keep t l)) (map-id (upFrom 0 n))

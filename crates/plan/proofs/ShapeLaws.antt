@@ -16,13 +16,13 @@ use Rattle.plan.specs.declared.path.Near.{Near}
 use Rattle.plan.specs.Few.{firstOf, held, slot, listed, near}
 use Rattle.plan.proofs.FewLaws.{up-down, up-none, slot-held, Picked, picked-end, Noted, noted-end}
 
-pub picked-listed : (t : ℕ → Bool) (f : Few) {k : ℕ} {g : Few} → Picked t (slot f) (f .count) k g → k ≡ 0 → g ≡ held (keep t (listed f))
+pub picked-listed : {t : ℕ → Bool} (f : Few) {k : ℕ} {g : Few} → Picked t (slot f) (f .count) k g → k ≡ 0 → g ≡ held (keep t (listed f))
 unfolding listed
-picked-listed t f p e = picked-end t (slot f) (f .count) p e
+picked-listed f p e = picked-end p e
 
-pub noted-listed : (t : ℕ → Bool) (f : Few) {k : ℕ} {g : Near} → Noted t (slot f) (f .count) k g → k ≡ 0 → g ≡ near (keep t (listed f))
+pub noted-listed : {t : ℕ → Bool} (f : Few) {k : ℕ} {g : Near} → Noted t (slot f) (f .count) k g → k ≡ 0 → g ≡ near (keep t (listed f))
 unfolding listed
-noted-listed t f p e = noted-end t (slot f) (f .count) p e
+noted-listed f p e = noted-end p e
 
 pub listed-length : (f : Few) → length (listed f) ≡ f .count
 unfolding listed

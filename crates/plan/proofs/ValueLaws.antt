@@ -66,7 +66,7 @@ all-alike-whole limits own f p e = each-listed (λ i. every (alikeIn limits own 
 pub ends-whole : (firsts seconds js : List ℕ) (f : Few) {k : ℕ} {h : Few} → Picked (λ i. eqb (degreeIn firsts seconds js i) 1) (slot f) (f .count) k h → k ≡ 0
     → h ≡ held (endsIn firsts seconds (listed f) js)
 unfolding endsIn
-ends-whole firsts seconds js f p e = picked-listed (λ i. eqb (degreeIn firsts seconds js i) 1) f p e
+ends-whole firsts seconds js f p e = picked-listed f p e
 
 pub regular-whole : (firsts seconds js : List ℕ) (f : Few) {k : ℕ} {b : Bool}
     → Each (λ i. leb 1 (degreeIn firsts seconds js i) && leb (degreeIn firsts seconds js i) 2) (slot f) (f .count) k b → k ≡ 0

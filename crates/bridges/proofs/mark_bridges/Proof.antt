@@ -12,29 +12,35 @@ use Rattle.bridges.proofs.Small.{small-graph, small-marks}
 abbrev start-of : tie.After-slice-known11 → tie.Start
 start-of c = c .before .before .before .before .before .before .before .before .before .before .before .before .before .before
 
-number-all-requires : tie.Need-number-all-requires
-number-all-requires c κs = search needs
+-- back from the end to each call, and to the start
+abbrev walked : tie.After-slice-known23 → tie.After-walk-all
+walked c = c .before .before .before .before .before .before .before .before .before .before .before .before .before .before
+
+abbrev linked : tie.After-walk-all → tie.After-full-graph
+linked c = c .before .before .before .before .before .before .before .before .before .before .before .before .before .before .before .before .before .before
+
+abbrev numbered : tie.After-full-graph → tie.After-number-all
+numbered c = c .before .before .before .before .before .before .before .before .before .before .before .before
+
+abbrev asked : tie.After-number-all → tie.Start
+asked c = start-of (c .before .before .before .before)
 
 full-graph-requires : tie.Need-full-graph-requires
 full-graph-requires c κs =
-    let after-number-all = c .before .before .before .before .before .before .before .before .before .before .before in
-    let start = start-of (after-number-all .before .before .before .before) in
-    let l = start .pre .5 in (
-      small-graph (start .pre .2) (after-number-all .number-all .ensures) _ (l .enough) (l .near),
-      unlinked (l .heads-are) (l .left-nexts-are) (l .right-nexts-are) (l .unchained),
-    )
+    let numbers = c .before .before .before .before .before .before .before .before .before .before .before in
+    let p = asked numbers .pre in
+    let l = p .5 in
+    (small-graph (p .2) (numbers .number-all .ensures) _ (l .enough) (l .near), unlinked (l .heads-are) (l .left-nexts-are) (l .right-nexts-are) (l .unchained))
 
 walk-all-requires : tie.Need-walk-all-requires
 walk-all-requires c κs =
-    let after-full-graph =
-    c .before .before .before .before .before .before .before .before .before .before .before .before .before .before .before .before .before in
-    let after-number-all = after-full-graph .before .before .before .before .before .before .before .before .before .before .before .before in
-    let start = start-of (after-number-all .before .before .before .before) in
-    let p = start .pre in
+    let chains = c .before .before .before .before .before .before .before .before .before .before .before .before .before .before .before .before .before in
+    let numbers = numbered chains in
+    let p = asked numbers .pre in
     let l = p .5 in
-    let N = after-full-graph .full-graph .ensures in
+    let N = chains .full-graph .ensures in
     let e = N .heads-are in (
-      small-graph (p .2) (after-number-all .number-all .ensures) _ (omega (arith, l .enough, e)) (omega (arith, l .near, e)),
+      small-graph (p .2) (numbers .number-all .ensures) _ (omega (arith, l .enough, e)) (omega (arith, l .near, e)),
       p .0,
       p .1,
       linked-here N,
@@ -44,81 +50,17 @@ walk-all-requires c κs =
 
 forget-all-requires : tie.Need-forget-all-requires
 forget-all-requires c κs =
-    let at-number-all =
-    c .before .before .before .before .before .before .before .before .before .before .before .before .before .before .before .before .before .before .before .before .before .before .before .before .before .before .before .before .before .before .before .before .before .before .before .before .before .before .before .before .before in
-    let start = start-of (at-number-all .before .before .before .before) in
-    (start .pre .2, omega (arith, start .pre .3, at-number-all .number-all .kept))
-
-same-length : tie.Need-same-length
-same-length c =
-    let at-number-all =
-    c .before .before .before .before .before .before .before .before .before .before .before .before .before .before .before .before .before .before .before .before .before .before .before .before .before .before .before .before .before .before .before .before .before .before .before .before .before .before .before .before .before .before .before .before in
-    omega (arith, at-number-all .number-all .kept, c .before .before .forget-all .kept)
-
-same-length-2 : tie.Need-same-length-2
-same-length-2 c =
-    let at-number-all =
-    c .before .before .before .before .before .before .before .before .before .before .before .before .before .before .before .before .before .before .before .before .before .before .before .before .before .before .before .before .before .before .before .before .before .before .before .before .before .before .before .before .before .before .before .before in
-    omega (arith, at-number-all .number-all .kept)
-
-same-length-3 : tie.Need-same-length-3
-same-length-3 c =
-    let at-number-all =
-    c .before .before .before .before .before .before .before .before .before .before .before .before .before .before .before .before .before .before .before .before .before .before .before .before .before .before .before .before .before .before .before .before .before .before .before .before .before .before .before .before .before .before .before .before in
-    omega (arith, at-number-all .number-all .kept)
-
-same-length-4 : tie.Need-same-length-4
-same-length-4 c =
-    let at-full-graph =
-    c .before .before .before .before .before .before .before .before .before .before .before .before .before .before .before .before .before .before .before .before .before .before .before .before .before .before .before .before .before .before .before .before in
-    at-full-graph .full-graph .kept .1 .1 .1 .0
-
-same-length-5 : tie.Need-same-length-5
-same-length-5 c =
-    let at-full-graph =
-    c .before .before .before .before .before .before .before .before .before .before .before .before .before .before .before .before .before .before .before .before .before .before .before .before .before .before .before .before .before .before .before .before in
-    at-full-graph .full-graph .kept .1 .1 .1 .1 .0
-
-same-length-6 : tie.Need-same-length-6
-same-length-6 c =
-    let at-full-graph =
-    c .before .before .before .before .before .before .before .before .before .before .before .before .before .before .before .before .before .before .before .before .before .before .before .before .before .before .before .before .before .before .before .before in
-    at-full-graph .full-graph .kept .1 .1 .1 .1 .1 .0
-
-same-length-7 : tie.Need-same-length-7
-same-length-7 c =
-    let at-walk-all = c .before .before .before .before .before .before .before .before .before .before .before .before .before .before in
-    at-walk-all .walk-all .kept .1 .1 .1 .1 .1 .1 .1 .0
-
-same-length-8 : tie.Need-same-length-8
-same-length-8 c =
-    let at-walk-all = c .before .before .before .before .before .before .before .before .before .before .before .before .before .before in
-    at-walk-all .walk-all .kept .1 .1 .1 .1 .1 .1 .1 .1 .0
-
-same-length-9 : tie.Need-same-length-9
-same-length-9 c =
-    let at-walk-all = c .before .before .before .before .before .before .before .before .before .before .before .before .before .before in
-    at-walk-all .walk-all .kept .1 .1 .1 .1 .1 .1 .1 .1 .1 .0
-
-same-length-10 : tie.Need-same-length-10
-same-length-10 c =
-    let at-walk-all = c .before .before .before .before .before .before .before .before .before .before .before .before .before .before in
-    at-walk-all .walk-all .kept .1 .1 .1 .1 .1 .1 .1 .1 .1 .1 .0
-
-same-length-11 : tie.Need-same-length-11
-same-length-11 c =
-    let at-walk-all = c .before .before .before .before .before .before .before .before .before .before .before .before .before .before in
-    at-walk-all .walk-all .kept .1 .1 .1 .1 .1 .1 .1 .1 .1 .1 .1 .0
+    let numbers = numbered (linked (c .before .before .before .before .before .before .before .before .before .before .before)) in
+    let p = asked numbers .pre in
+    (p .2, omega (arith, p .3, numbers .number-all .kept))
 
 returns : tie.Need-returns
 returns c =
-    let after-walk-all = c .before .before .before .before .before .before .before .before .before .before .before .before .before .before in
-    let after-number-all =
-    after-walk-all .before .before .before .before .before .before .before .before .before .before .before .before .before .before .before .before .before .before .before .before .before .before .before .before .before .before .before .before .before .before in
-    let start = start-of (after-number-all .before .before .before .before) in
+    let numbers = numbered (linked (walked c)) in
+    let start = asked numbers in
     let p = start .pre in
-    let n = after-number-all .number-all .ensures in (
-      after-walk-all .walk-all .ensures ∙ small-marks (p .2) n (start .args .owners .now) 256,
+    let n = numbers .number-all .ensures in (
+      walked c .walk-all .ensures ∙ small-marks (p .2) n (start .args .owners .now) 256,
       restored (c .before .before .forget-all .ensures (start .args .work .now) (remembered n)) (p .3) (p .4),
     )
 
@@ -126,19 +68,19 @@ pub mark-bridges-spec : {M : Type 1} → statement M
 mark-bridges-spec =
     tie.close
     (tie.spec
-    number-all-requires
+    (λ c κs. search needs)
     full-graph-requires
     walk-all-requires
     forget-all-requires
-    same-length
-    same-length-2
-    same-length-3
-    same-length-4
-    same-length-5
-    same-length-6
-    same-length-7
-    same-length-8
-    same-length-9
-    same-length-10
-    same-length-11
+    (λ c. omega (arith, numbered (linked (walked c)) .number-all .kept, c .before .before .forget-all .kept))
+    (λ c. omega (arith, numbered (linked (walked c)) .number-all .kept))
+    (λ c. omega (arith, numbered (linked (walked c)) .number-all .kept))
+    (λ c. linked (walked c) .full-graph .kept .1 .1 .1 .0)
+    (λ c. linked (walked c) .full-graph .kept .1 .1 .1 .1 .0)
+    (λ c. linked (walked c) .full-graph .kept .1 .1 .1 .1 .1 .0)
+    (λ c. walked c .walk-all .kept .1 .1 .1 .1 .1 .1 .1 .0)
+    (λ c. walked c .walk-all .kept .1 .1 .1 .1 .1 .1 .1 .1 .0)
+    (λ c. walked c .walk-all .kept .1 .1 .1 .1 .1 .1 .1 .1 .1 .0)
+    (λ c. walked c .walk-all .kept .1 .1 .1 .1 .1 .1 .1 .1 .1 .1 .0)
+    (λ c. walked c .walk-all .kept .1 .1 .1 .1 .1 .1 .1 .1 .1 .1 .1 .0)
     returns)

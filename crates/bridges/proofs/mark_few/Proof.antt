@@ -8,36 +8,6 @@ use Rattle.bridges.proofs.Lent.{cleared}
 abbrev start-of : tie.After-slice-known → tie.Start
 start-of c = c .before .before .before .before
 
-slice-aggregate-mark-bridges : tie.Need-slice-aggregate-mark-bridges
-slice-aggregate-mark-bridges c = search needs
-
-slice-aggregate-mark-bridges-2 : tie.Need-slice-aggregate-mark-bridges-2
-slice-aggregate-mark-bridges-2 c = search needs
-
-slice-aggregate-mark-bridges-3 : tie.Need-slice-aggregate-mark-bridges-3
-slice-aggregate-mark-bridges-3 c = search needs
-
-slice-aggregate-mark-bridges-4 : tie.Need-slice-aggregate-mark-bridges-4
-slice-aggregate-mark-bridges-4 c = search needs
-
-slice-aggregate-mark-bridges-5 : tie.Need-slice-aggregate-mark-bridges-5
-slice-aggregate-mark-bridges-5 c = search needs
-
-slice-aggregate-mark-bridges-6 : tie.Need-slice-aggregate-mark-bridges-6
-slice-aggregate-mark-bridges-6 c = search needs
-
-slice-aggregate-mark-bridges-7 : tie.Need-slice-aggregate-mark-bridges-7
-slice-aggregate-mark-bridges-7 c = search needs
-
-slice-aggregate-mark-bridges-8 : tie.Need-slice-aggregate-mark-bridges-8
-slice-aggregate-mark-bridges-8 c = search needs
-
-slice-aggregate-mark-bridges-9 : tie.Need-slice-aggregate-mark-bridges-9
-slice-aggregate-mark-bridges-9 c = search needs
-
-slice-aggregate-mark-bridges-10 : tie.Need-slice-aggregate-mark-bridges-10
-slice-aggregate-mark-bridges-10 c = search needs
-
 mark-bridges-requires : tie.Need-mark-bridges-requires
 mark-bridges-requires c κs =
     let start = start-of (c .before .before .before .before .before .before .before .before .before .before .before .before) in
@@ -50,26 +20,20 @@ mark-bridges-requires c κs =
       cleared (start .args .count) 64 128 4096 (omega (arith, p .5)) (omega (arith, p .5)) (omega arith) (omega (arith, p .2 .few)),
     )
 
-same-length : tie.Need-same-length
-same-length c = search needs
-
-returns : tie.Need-returns
-returns c = search needs
-
 pub mark-few-spec : {M : Type 1} → statement M
 mark-few-spec =
     tie.close
     (tie.spec
-    slice-aggregate-mark-bridges
-    slice-aggregate-mark-bridges-2
-    slice-aggregate-mark-bridges-3
-    slice-aggregate-mark-bridges-4
-    slice-aggregate-mark-bridges-5
-    slice-aggregate-mark-bridges-6
-    slice-aggregate-mark-bridges-7
-    slice-aggregate-mark-bridges-8
-    slice-aggregate-mark-bridges-9
-    slice-aggregate-mark-bridges-10
+    (λ c. search needs)
+    (λ c. search needs)
+    (λ c. search needs)
+    (λ c. search needs)
+    (λ c. search needs)
+    (λ c. search needs)
+    (λ c. search needs)
+    (λ c. search needs)
+    (λ c. search needs)
+    (λ c. search needs)
     mark-bridges-requires
-    same-length
-    returns)
+    (λ c. search needs)
+    (λ c. search needs))

@@ -12,12 +12,6 @@ first-pairs-requires c κs =
     let start = start-of (c .before .before .before) in
     let p = start .pre in (p .3, below-all (p .1) (p .4))
 
-find-linkables-requires : tie.Need-find-linkables-requires
-find-linkables-requires c κs = search needs
-
-collect-requires : tie.Need-collect-requires
-collect-requires c κs = search needs
-
 returns : tie.Need-returns
 returns c =
     let after-find-linkables = c .before .before .before .before .before .before .before in
@@ -29,4 +23,4 @@ returns c =
 
 pub candidate-links-spec : {M : Type 1} → statement M
 candidate-links-spec =
-    tie.close (tie.spec first-pairs-requires find-linkables-requires collect-requires returns)
+    tie.close (tie.spec first-pairs-requires (λ c κs. search needs) (λ c κs. search needs) returns)

@@ -5,30 +5,6 @@ use Rattle.measures.proofs.Reading.{span-bounded, same-value}
 use Rattle.measures.proofs.link_at.Statement.{statement}
 use Rattle.measures.proofs.link_at.Tie as tie
 
-size-requires : tie.Need-size-requires
-size-requires c κs = search needs
-
-size-requires-2 : tie.Need-size-requires-2
-size-requires-2 c κs = search needs
-
-span-at-requires : tie.Need-span-at-requires
-span-at-requires c κs = search needs
-
-mul-link-of : tie.Need-mul-link-of
-mul-link-of c = search needs
-
-element-copy-out-link-of : tie.Need-element-copy-out-link-of
-element-copy-out-link-of c = search needs
-
-span-at-requires-2 : tie.Need-span-at-requires-2
-span-at-requires-2 c κs = search needs
-
-mul-link-of-2 : tie.Need-mul-link-of-2
-mul-link-of-2 c = search needs
-
-element-copy-out-link-of-2 : tie.Need-element-copy-out-link-of-2
-element-copy-out-link-of-2 c = search needs
-
 link-of-requires : tie.Need-link-of-requires
 link-of-requires c κs =
     let after-span-at = c .before .before .before in
@@ -56,13 +32,13 @@ pub link-at-spec : {M : Type 1} → statement M
 link-at-spec =
     tie.close
     (tie.spec
-    size-requires
-    size-requires-2
-    span-at-requires
-    mul-link-of
-    element-copy-out-link-of
-    span-at-requires-2
-    mul-link-of-2
-    element-copy-out-link-of-2
+    (λ c κs. search needs)
+    (λ c κs. search needs)
+    (λ c κs. search needs)
+    (λ c. search needs)
+    (λ c. search needs)
+    (λ c κs. search needs)
+    (λ c. search needs)
+    (λ c. search needs)
     link-of-requires
     returns)

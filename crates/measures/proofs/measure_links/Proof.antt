@@ -10,29 +10,17 @@ use borrow.Author.Needs.{needs}
 use Rattle.measures.proofs.measure_links.Statement.{statement}
 use Rattle.measures.proofs.measure_links.Tie as tie
 
-returns : tie.Need-returns
-returns c = (refl, none-measured (c .if1 .taken))
-
 mul-if2 : tie.Need-mul-if2
 mul-if2 c =
     let start = c .before .before .before in
     let p = start .pre in
     omega (arith, p .3 .few, mul-le-mul (p .3 .few) (area (p .0 .wide) (p .0 .high) (p .1)))
 
-measure-few-requires : tie.Need-measure-few-requires
-measure-few-requires c κs = search needs
-
-same-length : tie.Need-same-length
-same-length c = search needs
-
 returns-2 : tie.Need-returns-2
 returns-2 c =
     let start = c .before .before .before .before .before .before .before .before in
     let a = start .args in
     (refl, judged-measured (labels-many (a .work .now) (length (a .cells .now))) (c .measure-few .ensures))
-
-cast-count : tie.Need-cast-count
-cast-count c = search needs
 
 number-all-requires : tie.Need-number-all-requires
 number-all-requires c κs =
@@ -54,9 +42,6 @@ clear-all-requires c κs =
     let p = start .pre in
     (area (p .0 .wide) (p .0 .high) (p .1), omega (arith, p .2 .room, after-number-all .number-all .ensures .table .as-long), p .3)
 
-same-length-2 : tie.Need-same-length-2
-same-length-2 c = search needs
-
 returns-3 : tie.Need-returns-3
 returns-3 c =
     let after-measure-all = c .before .before .before .before in
@@ -73,14 +58,14 @@ pub measure-links-spec : {M : Type 1} → statement M
 measure-links-spec =
     tie.close
     (tie.spec
-    returns
+    (λ c. (refl, none-measured (c .if1 .taken)))
     mul-if2
-    measure-few-requires
-    same-length
+    (λ c κs. search needs)
+    (λ c. search needs)
     returns-2
-    cast-count
+    (λ c. search needs)
     number-all-requires
     measure-all-requires
     clear-all-requires
-    same-length-2
+    (λ c. search needs)
     returns-3)

@@ -1,5 +1,5 @@
 use mathlib.Core.Path.{_≡_, sym, _∙_, ap}
-use Prim.Native.Nat.{_+_, _*_, _-_}
+use Prim.Native.Nat.{ℕ, _+_, _*_, _-_}
 use native.Mathlib.Omega.{arith}
 use borrow.Author.Needs.{needs}
 use Rattle.wire.specs.Bytes.{u32At}
@@ -7,57 +7,32 @@ use Rattle.measures.proofs.Reading.{number-zero, number-word}
 use Rattle.measures.proofs.number_at.Statement.{statement}
 use Rattle.measures.proofs.number_at.Tie as tie
 
-mul-read-u32 : tie.Need-mul-read-u32
-mul-read-u32 c = search needs
-
-read-u32-requires : tie.Need-read-u32-requires
-read-u32-requires c κs = search needs
-
 returns : tie.Need-returns
 returns c =
-    let start = c .before .before .before in
-    number-zero (start .args .work .now) (start .args .n)
-    (let t : c .before .read-u32 .result ≡ 0 = omega (arith, c .if1 .taken) in sym (c .before .read-u32 .ensures) ∙ t)
+    let a = c .before .before .before .args in
+    let zero : c .before .read-u32 .result ≡ 0 = omega (arith, c .if1 .taken) in
+    number-zero (a .work .now) (a .n) (sym (c .before .read-u32 .ensures) ∙ zero)
 
-mul-read-u32-2 : tie.Need-mul-read-u32-2
-mul-read-u32-2 c = search needs
-
-sub-size : tie.Need-sub-size
-sub-size c = search needs
-
-size-requires : tie.Need-size-requires
-size-requires c κs = search needs
-
-mul-read-u32-3 : tie.Need-mul-read-u32-3
-mul-read-u32-3 c = search needs
-
-add-read-u32 : tie.Need-add-read-u32
-add-read-u32 c = search needs
-
-read-u32-requires-2 : tie.Need-read-u32-requires-2
-read-u32-requires-2 c κs = search needs
+word-of-requires : tie.Need-word-of-requires
+word-of-requires c κs =
+    let p = c .before .before .before .pre in
+    (omega (arith, c .if1 .left), omega (arith, c .before .read-u32 .ensures, p .2, p .3))
 
 returns-2 : tie.Need-returns-2
 returns-2 c =
-    let after-read-u32 = c .before .before .before in
-    let start = after-read-u32 .before .before in
-    let work = start .args .work .now in
-    let n = start .args .n in
-    let q = after-read-u32 .read-u32 .ensures in
-    let s : 4 * n + 4 * c .before .size .result ≡ 4 * n + 4 * (u32At work (4 * start .args .i) - 1) = omega (arith, c .before .size .ensures .0, q) in
-    c .read-u322 .ensures ∙ (ap (u32At work) s ∙ number-word work n (λ e. omega (arith, e, q, c .before .before .if1 .left)))
+    let read = c .before .before in
+    let a = read .before .before .args in
+    let q = read .read-u32 .ensures in
+    c .word-of .ensures
+    ∙ (ap (λ (z : ℕ). u32At (a .work .now) (4 * a .n + 4 * (z - 1))) q ∙ number-word (a .work .now) (a .n) (λ e. omega (arith, e, q, c .before .if1 .left)))
 
 pub number-at-spec : {M : Type 1} → statement M
 number-at-spec =
     tie.close
     (tie.spec
-    mul-read-u32
-    read-u32-requires
+    (λ c. search needs)
+    (λ c κs. search needs)
     returns
-    mul-read-u32-2
-    sub-size
-    size-requires
-    mul-read-u32-3
-    add-read-u32
-    read-u32-requires-2
+    (λ c. search needs)
+    word-of-requires
     returns-2)

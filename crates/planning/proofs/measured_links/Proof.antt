@@ -7,18 +7,6 @@ use Rattle.planning.proofs.measured_links.Tie as tie
 abbrev start-of : tie.After-shared-slice-known5 → tie.Start
 start-of c = c .before .before .before .before .before .before
 
-mul-candidate-links : tie.Need-mul-candidate-links
-mul-candidate-links c = search needs
-
-sub-candidate-links : tie.Need-sub-candidate-links
-sub-candidate-links c = search needs
-
-part-candidate-links-start : tie.Need-part-candidate-links-start
-part-candidate-links-start c = search needs
-
-part-candidate-links-end : tie.Need-part-candidate-links-end
-part-candidate-links-end c = search needs
-
 candidate-links-requires : tie.Need-candidate-links-requires
 candidate-links-requires c κs =
     let start = start-of (c .before .before .before .before .before .before .before .before) in
@@ -29,9 +17,6 @@ measure-links-requires c κs =
     let after-candidate-links = c .before .before .before .before .before .before in
     let start = start-of (after-candidate-links .before .before .before .before .before .before .before .before .before) in
     measurable (start .pre) (after-candidate-links .candidate-links .ensures)
-
-same-length : tie.Need-same-length
-same-length c = search needs
 
 returns : tie.Need-returns
 returns c =
@@ -46,11 +31,11 @@ pub measured-links-spec : {M : Type 1} → statement M
 measured-links-spec =
     tie.close
     (tie.spec
-    mul-candidate-links
-    sub-candidate-links
-    part-candidate-links-start
-    part-candidate-links-end
+    (λ c. search needs)
+    (λ c. search needs)
+    (λ c. search needs)
+    (λ c. search needs)
     candidate-links-requires
     measure-links-requires
-    same-length
+    (λ c. search needs)
     returns)

@@ -13,24 +13,6 @@ Inv-loop order₀ i₀ order i = (length order ≡ 256) × ((k : ℕ) → k < i 
 abbrev μ-loop : tie.MeasureT-loop
 μ-loop order₀ i₀ order i = 256 - i
 
-loop-holds : tie.Need-loop-holds Inv-loop μ-loop
-loop-holds c = search needs
-
-cast-order : tie.Need-cast-order Inv-loop μ-loop
-cast-order c = search needs
-
-mul-order : tie.Need-mul-order Inv-loop μ-loop
-mul-order c = search needs
-
-element-write-order : tie.Need-element-write-order Inv-loop μ-loop
-element-write-order c = search needs
-
-add-i : tie.Need-add-i Inv-loop μ-loop
-add-i c = search needs
-
-loop-less : tie.Need-loop-less Inv-loop μ-loop
-loop-less c = search needs
-
 loop-again : tie.Need-loop-again Inv-loop μ-loop
 loop-again c =
     let inv = c .before .loop .inv in (
@@ -50,11 +32,11 @@ fill-identity-spec =
     (tie.spec
     Inv-loop
     μ-loop
-    loop-holds
-    cast-order
-    mul-order
-    element-write-order
-    add-i
-    loop-less
+    (λ c. search needs)
+    (λ c. search needs)
+    (λ c. search needs)
+    (λ c. search needs)
+    (λ c. search needs)
+    (λ c. search needs)
     loop-again
     returns)

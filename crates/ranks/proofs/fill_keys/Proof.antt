@@ -17,42 +17,6 @@ abbrev μ-loop : tie.MeasureT-loop
 loop-holds : tie.Need-loop-holds Inv-loop μ-loop
 loop-holds c = (keys-start (c .before .pre .2) (c .before .pre .3), omega arith)
 
-mul-read-span : tie.Need-mul-read-span Inv-loop μ-loop
-mul-read-span c = search needs
-
-add-read-span : tie.Need-add-read-span Inv-loop μ-loop
-add-read-span c = search needs
-
-read-span-requires : tie.Need-read-span-requires Inv-loop μ-loop
-read-span-requires c κs = search needs
-
-canonical-requires : tie.Need-canonical-requires Inv-loop μ-loop
-canonical-requires c κs = search needs
-
-pack-requires : tie.Need-pack-requires Inv-loop μ-loop
-pack-requires c κs = search needs
-
-mul-first : tie.Need-mul-first Inv-loop μ-loop
-mul-first c = search needs
-
-element-write-first : tie.Need-element-write-first Inv-loop μ-loop
-element-write-first c = search needs
-
-pack-requires-2 : tie.Need-pack-requires-2 Inv-loop μ-loop
-pack-requires-2 c κs = search needs
-
-mul-second : tie.Need-mul-second Inv-loop μ-loop
-mul-second c = search needs
-
-element-write-second : tie.Need-element-write-second Inv-loop μ-loop
-element-write-second c = search needs
-
-add-i : tie.Need-add-i Inv-loop μ-loop
-add-i c = search needs
-
-loop-less : tie.Need-loop-less Inv-loop μ-loop
-loop-less c = search needs
-
 loop-again : tie.Need-loop-again Inv-loop μ-loop
 loop-again c =
     let after-read-span = c .before .before .before in
@@ -77,17 +41,17 @@ fill-keys-spec =
     Inv-loop
     μ-loop
     loop-holds
-    mul-read-span
-    add-read-span
-    read-span-requires
-    canonical-requires
-    pack-requires
-    mul-first
-    element-write-first
-    pack-requires-2
-    mul-second
-    element-write-second
-    add-i
-    loop-less
+    (λ c. search needs)
+    (λ c. search needs)
+    (λ c κs. search needs)
+    (λ c κs. search needs)
+    (λ c κs. search needs)
+    (λ c. search needs)
+    (λ c. search needs)
+    (λ c κs. search needs)
+    (λ c. search needs)
+    (λ c. search needs)
+    (λ c. search needs)
+    (λ c. search needs)
     loop-again
     returns)

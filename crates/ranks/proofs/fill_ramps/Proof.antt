@@ -13,27 +13,6 @@ Inv-loop s at order n ramps₀ i₀ ramps i = RampsOf s at order i ramps × (i �
 abbrev μ-loop : tie.MeasureT-loop
 μ-loop s at order n ramps₀ i₀ ramps i = n - i
 
-loop-holds : tie.Need-loop-holds Inv-loop μ-loop
-loop-holds c = (ramps-start (c .before .pre .1), omega arith)
-
-record-place-requires : tie.Need-record-place-requires Inv-loop μ-loop
-record-place-requires c κs = search needs
-
-add-ramps : tie.Need-add-ramps Inv-loop μ-loop
-add-ramps c = search needs
-
-shared-slice-read-ramps : tie.Need-shared-slice-read-ramps Inv-loop μ-loop
-shared-slice-read-ramps c = search needs
-
-element-write-ramps : tie.Need-element-write-ramps Inv-loop μ-loop
-element-write-ramps c = search needs
-
-add-i : tie.Need-add-i Inv-loop μ-loop
-add-i c = search needs
-
-loop-less : tie.Need-loop-less Inv-loop μ-loop
-loop-less c = search needs
-
 loop-again : tie.Need-loop-again Inv-loop μ-loop
 loop-again c =
     let turning = c .before .before in
@@ -55,12 +34,12 @@ fill-ramps-spec =
     (tie.spec
     Inv-loop
     μ-loop
-    loop-holds
-    record-place-requires
-    add-ramps
-    shared-slice-read-ramps
-    element-write-ramps
-    add-i
-    loop-less
+    (λ c. (ramps-start (c .before .pre .1), omega arith))
+    (λ c κs. search needs)
+    (λ c. search needs)
+    (λ c. search needs)
+    (λ c. search needs)
+    (λ c. search needs)
+    (λ c. search needs)
     loop-again
     returns)

@@ -14,27 +14,6 @@ Inv-loop s at stride order n ends₀ i₀ ends i = SpansOf s at stride order i e
 abbrev μ-loop : tie.MeasureT-loop
 μ-loop s at stride order n ends₀ i₀ ends i = n - i
 
-loop-holds : tie.Need-loop-holds Inv-loop μ-loop
-loop-holds c = (spans-start, omega arith)
-
-record-place-requires : tie.Need-record-place-requires Inv-loop μ-loop
-record-place-requires c κs = search needs
-
-read-span-requires : tie.Need-read-span-requires Inv-loop μ-loop
-read-span-requires c κs = search needs
-
-canonical-requires : tie.Need-canonical-requires Inv-loop μ-loop
-canonical-requires c κs = search needs
-
-put-span-requires : tie.Need-put-span-requires Inv-loop μ-loop
-put-span-requires c κs = search needs
-
-add-i : tie.Need-add-i Inv-loop μ-loop
-add-i c = search needs
-
-loop-less : tie.Need-loop-less Inv-loop μ-loop
-loop-less c = search needs
-
 loop-again : tie.Need-loop-again Inv-loop μ-loop
 loop-again c =
     let after-record-place = c .before .before .before .before in
@@ -59,12 +38,12 @@ fill-spans-spec =
     (tie.spec
     Inv-loop
     μ-loop
-    loop-holds
-    record-place-requires
-    read-span-requires
-    canonical-requires
-    put-span-requires
-    add-i
-    loop-less
+    (λ c. (spans-start, omega arith))
+    (λ c κs. search needs)
+    (λ c κs. search needs)
+    (λ c κs. search needs)
+    (λ c κs. search needs)
+    (λ c. search needs)
+    (λ c. search needs)
     loop-again
     returns)

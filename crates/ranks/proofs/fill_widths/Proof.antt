@@ -13,30 +13,6 @@ Inv-loop s at order n bits₀ i₀ bits i = WidthsOf s at order i bits × (i ≤
 abbrev μ-loop : tie.MeasureT-loop
 μ-loop s at order n bits₀ i₀ bits i = n - i
 
-loop-holds : tie.Need-loop-holds Inv-loop μ-loop
-loop-holds c = (widths-start, omega arith)
-
-record-place-requires : tie.Need-record-place-requires Inv-loop μ-loop
-record-place-requires c κs = search needs
-
-add-read-u64 : tie.Need-add-read-u64 Inv-loop μ-loop
-add-read-u64 c = search needs
-
-read-u64-requires : tie.Need-read-u64-requires Inv-loop μ-loop
-read-u64-requires c κs = search needs
-
-mul-bits : tie.Need-mul-bits Inv-loop μ-loop
-mul-bits c = search needs
-
-element-write-bits : tie.Need-element-write-bits Inv-loop μ-loop
-element-write-bits c = search needs
-
-add-i : tie.Need-add-i Inv-loop μ-loop
-add-i c = search needs
-
-loop-less : tie.Need-loop-less Inv-loop μ-loop
-loop-less c = search needs
-
 loop-again : tie.Need-loop-again Inv-loop μ-loop
 loop-again c =
     let turning = c .before .before in
@@ -59,13 +35,13 @@ fill-widths-spec =
     (tie.spec
     Inv-loop
     μ-loop
-    loop-holds
-    record-place-requires
-    add-read-u64
-    read-u64-requires
-    mul-bits
-    element-write-bits
-    add-i
-    loop-less
+    (λ c. (widths-start, omega arith))
+    (λ c κs. search needs)
+    (λ c. search needs)
+    (λ c κs. search needs)
+    (λ c. search needs)
+    (λ c. search needs)
+    (λ c. search needs)
+    (λ c. search needs)
     loop-again
     returns)

@@ -5,15 +5,6 @@ use Rattle.ranks.proofs.Laws.{placed}
 use Rattle.ranks.proofs.record_place.Statement.{statement}
 use Rattle.ranks.proofs.record_place.Tie as tie
 
-mul-size : tie.Need-mul-size
-mul-size c = search needs
-
-element-copy-out-size : tie.Need-element-copy-out-size
-element-copy-out-size c = search needs
-
-size-requires : tie.Need-size-requires
-size-requires c κs = search needs
-
 mul-result : tie.Need-mul-result
 mul-result c =
     let start = c .before .before .before in
@@ -31,4 +22,4 @@ returns c =
 
 pub record-place-spec : {M : Type 1} → statement M
 record-place-spec =
-    tie.close (tie.spec mul-size element-copy-out-size size-requires mul-result add-result returns)
+    tie.close (tie.spec (λ c. search needs) (λ c. search needs) (λ c κs. search needs) mul-result add-result returns)

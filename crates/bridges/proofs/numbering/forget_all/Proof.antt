@@ -18,9 +18,6 @@ abbrev μ-loop : tie.MeasureT-loop
 abbrev start-of : tie.After-slice-known Inv-loop μ-loop → tie.Start Inv-loop μ-loop
 start-of c = c .before .before .before
 
-loop-holds : tie.Need-loop-holds Inv-loop μ-loop
-loop-holds c = (omega arith, refl, λ s f. f)
-
 forget-record-requires : tie.Need-forget-record-requires Inv-loop μ-loop
 forget-record-requires c κs =
     let start = start-of (c .before .before .before) in
@@ -48,9 +45,6 @@ loop-again c =
       λ s f. at-forget-record .forget-record .ensures s (inv .2 s f),
     )
 
-same-length : tie.Need-same-length Inv-loop μ-loop
-same-length c = c .before .loop .inv .1
-
 returns : tie.Need-returns Inv-loop μ-loop
 returns c =
     let start = start-of (c .before .before) in
@@ -63,10 +57,10 @@ forget-all-spec =
     (tie.spec
     Inv-loop
     μ-loop
-    loop-holds
+    (λ c. (omega arith, refl, λ s f. f))
     forget-record-requires
     add-k
     loop-less
     loop-again
-    same-length
+    (λ c. c .before .loop .inv .1)
     returns)

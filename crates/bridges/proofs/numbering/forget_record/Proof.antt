@@ -10,60 +10,42 @@ use Rattle.bridges.proofs.numbering.forget_record.Tie as tie
 abbrev start-of : tie.After-slice-known → tie.Start
 start-of c = c .before .before .before
 
-size-requires : tie.Need-size-requires
-size-requires c κs = search needs
-
-mul-forget : tie.Need-mul-forget
-mul-forget c = search needs
-
-shared-slice-read-forget : tie.Need-shared-slice-read-forget
-shared-slice-read-forget c = search needs
-
-forget-requires : tie.Need-forget-requires
-forget-requires c κs =
+put-word-requires : tie.Need-put-word-requires
+put-word-requires c κs =
     let start = start-of (c .before .before .before) in
     let p = start .pre in
     let k = start .args .k in
     let t = ap (at (start .args .lefts .now)) (c .before .before .size .ensures .0) in
     (omega (arith, t, p .1 .left-from k (p .0)), omega (arith, t, p .1 .left-to k (p .0), p .2))
 
-mul-forget-2 : tie.Need-mul-forget-2
-mul-forget-2 c = search needs
-
-shared-slice-read-forget-2 : tie.Need-shared-slice-read-forget-2
-shared-slice-read-forget-2 c = search needs
-
-forget-requires-2 : tie.Need-forget-requires-2
-forget-requires-2 c κs =
-    let at-forget = c .before .before .before .before in
-    let after-size = at-forget .before .before .before in
+put-word-requires-2 : tie.Need-put-word-requires-2
+put-word-requires-2 c κs =
+    let at-put-word = c .before .before .before .before in
+    let after-size = at-put-word .before .before .before in
     let start = start-of (after-size .before) in
     let p = start .pre in
     let k = start .args .k in
     let t = ap (at (start .args .rights .now)) (after-size .size .ensures .0) in
-    (omega (arith, t, p .1 .right-from k (p .0)), omega (arith, t, p .1 .right-to k (p .0), p .2, at-forget .forget .kept .0))
-
-same-length : tie.Need-same-length
-same-length c = search needs
+    (omega (arith, t, p .1 .right-from k (p .0)), omega (arith, t, p .1 .right-to k (p .0), p .2, at-put-word .put-word .kept .0))
 
 returns : tie.Need-returns
 returns c =
-    let after-forget = c .before .before .before .before .before .before .before in
-    let after-size = after-forget .before .before .before in
+    let after-put-word = c .before .before .before .before .before .before .before in
+    let after-size = after-put-word .before .before .before in
     let start-2 = start-of (after-size .before) in
     let p = start-2 .pre in
-    λ start f. forgotten-at (after-size .size .ensures .0) (p .0) (p .1) (p .2) f (after-forget .forget .ensures) (c .before .before .forget2 .ensures)
+    λ start f. forgotten-at (after-size .size .ensures .0) (p .0) (p .1) (p .2) f (after-put-word .put-word .ensures) (c .before .before .put-word2 .ensures)
 
 pub forget-record-spec : {M : Type 1} → statement M
 forget-record-spec =
     tie.close
     (tie.spec
-    size-requires
-    mul-forget
-    shared-slice-read-forget
-    forget-requires
-    mul-forget-2
-    shared-slice-read-forget-2
-    forget-requires-2
-    same-length
+    (λ c κs. search needs)
+    (λ c. search needs)
+    (λ c. search needs)
+    put-word-requires
+    (λ c. search needs)
+    (λ c. search needs)
+    put-word-requires-2
+    (λ c. search needs)
     returns)

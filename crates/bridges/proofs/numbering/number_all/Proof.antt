@@ -55,15 +55,6 @@ loop-again c =
       at-number-record .number-record .ensures _ (inv .3),
     )
 
-same-length : tie.Need-same-length Inv-loop μ-loop
-same-length c = c .before .loop .inv .3 .table .as-long
-
-same-length-2 : tie.Need-same-length-2 Inv-loop μ-loop
-same-length-2 c = c .before .loop .inv .1
-
-same-length-3 : tie.Need-same-length-3 Inv-loop μ-loop
-same-length-3 c = c .before .loop .inv .2
-
 returns : tie.Need-returns Inv-loop μ-loop
 returns c =
     let start = start-of (c .before .before) in
@@ -81,7 +72,7 @@ number-all-spec =
     add-k
     loop-less
     loop-again
-    same-length
-    same-length-2
-    same-length-3
+    (λ c. c .before .loop .inv .3 .table .as-long)
+    (λ c. c .before .loop .inv .1)
+    (λ c. c .before .loop .inv .2)
     returns)

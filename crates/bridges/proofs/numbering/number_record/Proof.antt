@@ -10,18 +10,6 @@ use Rattle.bridges.proofs.numbering.number_record.Tie as tie
 abbrev start-of : tie.After-slice-known3 → tie.Start
 start-of c = c .before .before .before .before .before
 
-size-requires : tie.Need-size-requires
-size-requires c κs = search needs
-
-mul-number-of : tie.Need-mul-number-of
-mul-number-of c = search needs
-
-shared-slice-read-number-of : tie.Need-shared-slice-read-number-of
-shared-slice-read-number-of c = search needs
-
-mul-number-of-2 : tie.Need-mul-number-of-2
-mul-number-of-2 c = search needs
-
 number-of-requires : tie.Need-number-of-requires
 number-of-requires c κs =
     let start = start-of (c .before .before .before) in
@@ -29,24 +17,6 @@ number-of-requires c κs =
     let k = start .args .k in
     let t = ap (at (start .args .lefts .now)) (c .before .before .size .ensures .0) in
     (omega (arith, t, p .1 .left-from k (p .0)), omega (arith, t, p .1 .left-to k (p .0), p .2), omega (arith, p .1 .few, p .0))
-
-mul-small-lefts : tie.Need-mul-small-lefts
-mul-small-lefts c = search needs
-
-slice-write-small-lefts : tie.Need-slice-write-small-lefts
-slice-write-small-lefts c = search needs
-
-mul-number-of-3 : tie.Need-mul-number-of-3
-mul-number-of-3 c = search needs
-
-shared-slice-read-number-of-2 : tie.Need-shared-slice-read-number-of-2
-shared-slice-read-number-of-2 c = search needs
-
-mul-number-of-4 : tie.Need-mul-number-of-4
-mul-number-of-4 c = search needs
-
-add-number-of : tie.Need-add-number-of
-add-number-of c = search needs
 
 number-of-requires-2 : tie.Need-number-of-requires-2
 number-of-requires-2 c κs =
@@ -60,21 +30,6 @@ number-of-requires-2 c κs =
       omega (arith, t, p .1 .right-to k (p .0), p .2, at-number-of .number-of .kept .0),
       omega (arith, p .1 .few, p .0),
     )
-
-mul-small-rights : tie.Need-mul-small-rights
-mul-small-rights c = search needs
-
-slice-write-small-rights : tie.Need-slice-write-small-rights
-slice-write-small-rights c = search needs
-
-same-length : tie.Need-same-length
-same-length c = search needs
-
-same-length-2 : tie.Need-same-length-2
-same-length-2 c = search needs
-
-same-length-3 : tie.Need-same-length-3
-same-length-3 c = search needs
 
 returns : tie.Need-returns
 returns c =
@@ -90,21 +45,21 @@ pub number-record-spec : {M : Type 1} → statement M
 number-record-spec =
     tie.close
     (tie.spec
-    size-requires
-    mul-number-of
-    shared-slice-read-number-of
-    mul-number-of-2
+    (λ c κs. search needs)
+    (λ c. search needs)
+    (λ c. search needs)
+    (λ c. search needs)
     number-of-requires
-    mul-small-lefts
-    slice-write-small-lefts
-    mul-number-of-3
-    shared-slice-read-number-of-2
-    mul-number-of-4
-    add-number-of
+    (λ c. search needs)
+    (λ c. search needs)
+    (λ c. search needs)
+    (λ c. search needs)
+    (λ c. search needs)
+    (λ c. search needs)
     number-of-requires-2
-    mul-small-rights
-    slice-write-small-rights
-    same-length
-    same-length-2
-    same-length-3
+    (λ c. search needs)
+    (λ c. search needs)
+    (λ c. search needs)
+    (λ c. search needs)
+    (λ c. search needs)
     returns)

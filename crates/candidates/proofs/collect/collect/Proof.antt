@@ -23,60 +23,54 @@ abbrev μ-loop : tie.MeasureT-loop
 abbrev start-of : tie.After-shared-slice-known5 Inv-loop μ-loop → tie.Start Inv-loop μ-loop
 start-of c = c .before .before .before .before .before
 
-next-region-requires : tie.Need-next-region-requires Inv-loop μ-loop
-next-region-requires c κs = search needs
+-- what links are found from
+abbrev facts : tie.Start Inv-loop μ-loop → Given
+facts start = let a = start .args in
+    given (a .job .now) (a .bases-at) (a .bases) (a .width) (labelsIn (a .labels .now) (a .cells)) (a .own .now) (a .linkables .now) (a .lowers .now)
+    (a .highers .now) (a .owners .now) (a .lefts .now) (a .rights .now) (a .records)
+
+-- the start, from the loop
+abbrev asked : tie.At-loop Inv-loop μ-loop → tie.Start Inv-loop μ-loop
+asked c = start-of (c .before .before .before .before .before)
 
 loop-holds : tie.Need-loop-holds Inv-loop μ-loop
 loop-holds c =
     let start = start-of (c .before .before .before .before) in
-    let a = start .args in let d : Given =
-    given (a .job .now) (a .bases-at) (a .bases) (a .width) (labelsIn (a .labels .now) (a .cells)) (a .own .now) (a .linkables .now) (a .lowers .now)
-    (a .highers .now) (a .owners .now) (a .lefts .now) (a .rights .now) (a .records) in
-    (c .next-region .ensures .0, c .next-region .ensures .1, collected-start d (a .n) (start .pre .4) 256 refl)
+    (c .next-region .ensures .0, c .next-region .ensures .1, collected-start (facts start) (start .args .n) (start .pre .4) 256 refl)
 
 consider-requires : tie.Need-consider-requires Inv-loop μ-loop
 consider-requires c κs =
     let turning = c .before .before .before in
-    let in-loop = turning .before in
-    let start = start-of (in-loop .before .before .before .before .before) in
-    let a = start .args in let d : Given =
-    given (a .job .now) (a .bases-at) (a .bases) (a .width) (labelsIn (a .labels .now) (a .cells)) (a .own .now) (a .linkables .now) (a .lowers .now)
-    (a .highers .now) (a .owners .now) (a .lefts .now) (a .rights .now) (a .records) in let p = start .pre in let m = in-loop .loop in
-    (p .0, p .1, p .2, p .3, p .4, has-room d (a .n) (p .4) (p .1) (m .inv .2) (m .region) (above d (a .n) (m .inv .0) (turning .loop-test .taken)))
-
-next-region-requires-2 : tie.Need-next-region-requires-2 Inv-loop μ-loop
-next-region-requires-2 c κs = search needs
+    let at-loop = turning .before in
+    let m = at-loop .loop in
+    let start = asked at-loop in
+    let p = start .pre in
+    let later = above (facts start) (start .args .n) (m .inv .0) (turning .loop-test .taken) in
+    (p .0, p .1, p .2, p .3, p .4, has-room (facts start) (start .args .n) (p .4) (p .1) (m .inv .2) (m .region) later)
 
 loop-less : tie.Need-loop-less Inv-loop μ-loop
 loop-less c =
     let turning = c .before .before .before .before .before in
-    let in-loop = turning .before in
-    let start = start-of (in-loop .before .before .before .before .before) in
-    let a = start .args in let d : Given =
-    given (a .job .now) (a .bases-at) (a .bases) (a .width) (labelsIn (a .labels .now) (a .cells)) (a .own .now) (a .linkables .now) (a .lowers .now)
-    (a .highers .now) (a .owners .now) (a .lefts .now) (a .rights .now) (a .records) in
-    less-left d (a .n) (turning .loop-test .taken) (in-loop .loop .inv .1) (c .next-region2 .ensures .0)
+    let start = asked (turning .before) in
+    less-left (facts start) (start .args .n) (turning .loop-test .taken) (turning .before .loop .inv .1) (c .next-region2 .ensures .0)
 
 loop-again : tie.Need-loop-again Inv-loop μ-loop
 loop-again c =
     let turning = c .before .before .before .before .before in
-    let in-loop = turning .before in
-    let start = start-of (in-loop .before .before .before .before .before) in
-    let a = start .args in let d : Given =
-    given (a .job .now) (a .bases-at) (a .bases) (a .width) (labelsIn (a .labels .now) (a .cells)) (a .own .now) (a .linkables .now) (a .lowers .now)
-    (a .highers .now) (a .owners .now) (a .lefts .now) (a .rights .now) (a .records) in let p = start .pre in let m = in-loop .loop in (
+    let at-loop = turning .before in
+    let inv = at-loop .loop .inv in
+    let p = asked at-loop .pre in (
       c .next-region2 .ensures .0,
       c .next-region2 .ensures .1,
-      collected-next d (a .n) (p .4) (p .1) (m .inv .2) (m .inv .0) (omega (arith, turning .loop-test .taken)) (c .before .consider .ensures),
+      collected-next (p .4) (p .1) (inv .2) (inv .0) (omega (arith, turning .loop-test .taken)) (c .before .consider .ensures),
     )
 
 returns : tie.Need-returns Inv-loop μ-loop
 returns c =
-    let start = start-of (c .before .before .before .before .before .before) in
-    let a = start .args in let d : Given =
-    given (a .job .now) (a .bases-at) (a .bases) (a .width) (labelsIn (a .labels .now) (a .cells)) (a .own .now) (a .linkables .now) (a .lowers .now)
-    (a .highers .now) (a .owners .now) (a .lefts .now) (a .rights .now) (a .records) in let p = start .pre in let m = c .before .loop in
-    collected-all d (a .n) (p .4) (p .1) (m .inv .2) (sym (m .inv .0) ∙ (let z : m .region ≡ 0 = omega (arith, c .loop-test .left) in z))
+    let p = asked (c .before) .pre in
+    let m = c .before .loop in
+    let none : m .region ≡ 0 = omega (arith, c .loop-test .left) in
+    collected-all (p .4) (p .1) (m .inv .2) (sym (m .inv .0) ∙ none)
 
 pub collect-spec : {M : Type 1} → statement M
 collect-spec =
@@ -84,10 +78,10 @@ collect-spec =
     (tie.spec
     Inv-loop
     μ-loop
-    next-region-requires
+    (λ c κs. search needs)
     loop-holds
     consider-requires
-    next-region-requires-2
+    (λ c κs. search needs)
     loop-less
     loop-again
     returns)

@@ -7,12 +7,6 @@ use Rattle.candidates.proofs.gives.joins_two.Tie as tie
 returns : tie.Need-returns
 returns c = not-joined _ _ _ _ _ _ _ (c .if1 .taken)
 
-size-requires : tie.Need-size-requires
-size-requires c κs = search needs
-
-size-requires-2 : tie.Need-size-requires-2
-size-requires-2 c κs = search needs
-
 has-region-requires : tie.Need-has-region-requires
 has-region-requires c κs =
     let start = c .before .before .before in
@@ -64,8 +58,8 @@ joins-two-spec =
     tie.close
     (tie.spec
     returns
-    size-requires
-    size-requires-2
+    (λ c κs. search needs)
+    (λ c κs. search needs)
     has-region-requires
     has-region-requires-2
     span-at-requires

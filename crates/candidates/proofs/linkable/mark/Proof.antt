@@ -5,36 +5,6 @@ use borrow.Author.Needs.{needs}
 use Rattle.candidates.proofs.linkable.mark.Statement.{statement}
 use Rattle.candidates.proofs.linkable.mark.Tie as tie
 
-span-at-requires : tie.Need-span-at-requires
-span-at-requires c κs = search needs
-
-coincides-requires : tie.Need-coincides-requires
-coincides-requires c κs = search needs
-
-element-copy-out-plain : tie.Need-element-copy-out-plain
-element-copy-out-plain c = search needs
-
-mul-has-full-pair : tie.Need-mul-has-full-pair
-mul-has-full-pair c = search needs
-
-element-copy-out-has-full-pair : tie.Need-element-copy-out-has-full-pair
-element-copy-out-has-full-pair c = search needs
-
-mul-has-full-pair-2 : tie.Need-mul-has-full-pair-2
-mul-has-full-pair-2 c = search needs
-
-element-copy-out-has-full-pair-2 : tie.Need-element-copy-out-has-full-pair-2
-element-copy-out-has-full-pair-2 c = search needs
-
-mul-has-full-pair-3 : tie.Need-mul-has-full-pair-3
-mul-has-full-pair-3 c = search needs
-
-element-copy-out-has-full-pair-3 : tie.Need-element-copy-out-has-full-pair-3
-element-copy-out-has-full-pair-3 c = search needs
-
-has-full-pair-requires : tie.Need-has-full-pair-requires
-has-full-pair-requires c κs = search needs
-
 returns : tie.Need-returns
 returns c =
     let after-coincides = c .before .before .before .before .before .before in
@@ -55,15 +25,15 @@ pub mark-spec : {M : Type 1} → statement M
 mark-spec =
     tie.close
     (tie.spec
-    span-at-requires
-    coincides-requires
-    element-copy-out-plain
-    mul-has-full-pair
-    element-copy-out-has-full-pair
-    mul-has-full-pair-2
-    element-copy-out-has-full-pair-2
-    mul-has-full-pair-3
-    element-copy-out-has-full-pair-3
-    has-full-pair-requires
+    (λ c κs. search needs)
+    (λ c κs. search needs)
+    (λ c. search needs)
+    (λ c. search needs)
+    (λ c. search needs)
+    (λ c. search needs)
+    (λ c. search needs)
+    (λ c. search needs)
+    (λ c. search needs)
+    (λ c κs. search needs)
     returns
     returns-2)

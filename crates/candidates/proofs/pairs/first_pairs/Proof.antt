@@ -17,31 +17,10 @@ abbrev μ-loop : tie.MeasureT-loop
 abbrev start-of : tie.After-shared-slice-known3 Inv-loop μ-loop → tie.Start Inv-loop μ-loop
 start-of c = c .before .before .before
 
-loop-holds : tie.Need-loop-holds Inv-loop μ-loop
-loop-holds c = (omega arith, firsts-start _ _ _ 256 refl)
-
 mul-size : tie.Need-mul-size Inv-loop μ-loop
 mul-size c =
     let start = start-of (c .before .before .before .before .before) in
     omega (arith, start .pre .0 .few, c .loop-test .taken)
-
-shared-slice-read-size : tie.Need-shared-slice-read-size Inv-loop μ-loop
-shared-slice-read-size c = search needs
-
-size-requires : tie.Need-size-requires Inv-loop μ-loop
-size-requires c κs = search needs
-
-mul-add-pair : tie.Need-mul-add-pair Inv-loop μ-loop
-mul-add-pair c = search needs
-
-shared-slice-read-add-pair : tie.Need-shared-slice-read-add-pair Inv-loop μ-loop
-shared-slice-read-add-pair c = search needs
-
-mul-add-pair-2 : tie.Need-mul-add-pair-2 Inv-loop μ-loop
-mul-add-pair-2 c = search needs
-
-shared-slice-read-add-pair-2 : tie.Need-shared-slice-read-add-pair-2 Inv-loop μ-loop
-shared-slice-read-add-pair-2 c = search needs
 
 add-pair-requires : tie.Need-add-pair-requires Inv-loop μ-loop
 add-pair-requires c κs =
@@ -52,12 +31,6 @@ add-pair-requires c κs =
     let inv = in-loop .loop .inv in
     let k = in-loop .loop .k in let p = start .pre in let m = p .1 .each k (turning .loop-test .taken) in let e = after-size .size .ensures .0 in
     let few = count-few (inv .1) (omega (arith, inv .0, p .0 .few)) (after-size .size .result) (omega (arith, e, m)) in (omega (arith, e, m), few)
-
-add-k : tie.Need-add-k Inv-loop μ-loop
-add-k c = search needs
-
-loop-less : tie.Need-loop-less Inv-loop μ-loop
-loop-less c = search needs
 
 loop-again : tie.Need-loop-again Inv-loop μ-loop
 loop-again c =
@@ -82,16 +55,16 @@ first-pairs-spec =
     (tie.spec
     Inv-loop
     μ-loop
-    loop-holds
+    (λ c. (omega arith, firsts-start _ _ _ 256 refl))
     mul-size
-    shared-slice-read-size
-    size-requires
-    mul-add-pair
-    shared-slice-read-add-pair
-    mul-add-pair-2
-    shared-slice-read-add-pair-2
+    (λ c. search needs)
+    (λ c κs. search needs)
+    (λ c. search needs)
+    (λ c. search needs)
+    (λ c. search needs)
+    (λ c. search needs)
     add-pair-requires
-    add-k
-    loop-less
+    (λ c. search needs)
+    (λ c. search needs)
     loop-again
     returns)

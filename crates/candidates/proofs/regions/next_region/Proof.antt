@@ -17,30 +17,6 @@ loop-holds : tie.Need-loop-holds Inv-loop μ-loop
 unfolding nextAfter
 loop-holds c = (omega arith, refl, omega arith)
 
-element-copy-out-considered : tie.Need-element-copy-out-considered Inv-loop μ-loop
-element-copy-out-considered c = search needs
-
-mul-considered : tie.Need-mul-considered Inv-loop μ-loop
-mul-considered c = search needs
-
-element-copy-out-considered-2 : tie.Need-element-copy-out-considered-2 Inv-loop μ-loop
-element-copy-out-considered-2 c = search needs
-
-mul-considered-2 : tie.Need-mul-considered-2 Inv-loop μ-loop
-mul-considered-2 c = search needs
-
-element-copy-out-considered-3 : tie.Need-element-copy-out-considered-3 Inv-loop μ-loop
-element-copy-out-considered-3 c = search needs
-
-considered-requires : tie.Need-considered-requires Inv-loop μ-loop
-considered-requires c κs = search needs
-
-add-i : tie.Need-add-i Inv-loop μ-loop
-add-i c = search needs
-
-loop-less : tie.Need-loop-less Inv-loop μ-loop
-loop-less c = search needs
-
 loop-again : tie.Need-loop-again Inv-loop μ-loop
 loop-again c =
     let turning = c .before .before .before .before in
@@ -59,13 +35,13 @@ next-region-spec =
     Inv-loop
     μ-loop
     loop-holds
-    element-copy-out-considered
-    mul-considered
-    element-copy-out-considered-2
-    mul-considered-2
-    element-copy-out-considered-3
-    considered-requires
-    add-i
-    loop-less
+    (λ c. search needs)
+    (λ c. search needs)
+    (λ c. search needs)
+    (λ c. search needs)
+    (λ c. search needs)
+    (λ c κs. search needs)
+    (λ c. search needs)
+    (λ c. search needs)
     loop-again
     returns)

@@ -22,36 +22,12 @@ loop-holds : tie.Need-loop-holds Inv-loop μ-loop
 unfolding touchingAfter
 loop-holds c = (omega arith, refl, omega arith)
 
-mul-after : tie.Need-mul-after Inv-loop μ-loop
-mul-after c = search needs
-
-shared-slice-read-after : tie.Need-shared-slice-read-after Inv-loop μ-loop
-shared-slice-read-after c = search needs
-
-mul-after-2 : tie.Need-mul-after-2 Inv-loop μ-loop
-mul-after-2 c = search needs
-
-shared-slice-read-after-2 : tie.Need-shared-slice-read-after-2 Inv-loop μ-loop
-shared-slice-read-after-2 c = search needs
-
-mul-after-3 : tie.Need-mul-after-3 Inv-loop μ-loop
-mul-after-3 c = search needs
-
-shared-slice-read-after-3 : tie.Need-shared-slice-read-after-3 Inv-loop μ-loop
-shared-slice-read-after-3 c = search needs
-
 after-requires : tie.Need-after-requires Inv-loop μ-loop
 after-requires c κs =
     let in-loop = c .before .before .before .before in
     let start = start-of (in-loop .before) in
     let inv = in-loop .loop .inv in
     omega (arith, inv .2, inv .0, start .pre .few)
-
-add-k : tie.Need-add-k Inv-loop μ-loop
-add-k c = search needs
-
-loop-less : tie.Need-loop-less Inv-loop μ-loop
-loop-less c = search needs
 
 loop-again : tie.Need-loop-again Inv-loop μ-loop
 loop-again c =
@@ -77,14 +53,14 @@ touching-of-spec =
     Inv-loop
     μ-loop
     loop-holds
-    mul-after
-    shared-slice-read-after
-    mul-after-2
-    shared-slice-read-after-2
-    mul-after-3
-    shared-slice-read-after-3
+    (λ c. search needs)
+    (λ c. search needs)
+    (λ c. search needs)
+    (λ c. search needs)
+    (λ c. search needs)
+    (λ c. search needs)
     after-requires
-    add-k
-    loop-less
+    (λ c. search needs)
+    (λ c. search needs)
     loop-again
     returns)

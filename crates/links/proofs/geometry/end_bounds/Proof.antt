@@ -3,21 +3,6 @@ use borrow.Author.Needs.{needs}
 use Rattle.links.proofs.geometry.end_bounds.Statement.{statement}
 use Rattle.links.proofs.geometry.end_bounds.Tie as tie
 
-canonical-requires : tie.Need-canonical-requires
-canonical-requires c κs = search needs
-
-canonical-requires-2 : tie.Need-canonical-requires-2
-canonical-requires-2 c κs = search needs
-
-none-requires : tie.Need-none-requires
-none-requires c κs = search needs
-
-with-ends-requires : tie.Need-with-ends-requires
-with-ends-requires c κs = search needs
-
-with-ends-requires-2 : tie.Need-with-ends-requires-2
-with-ends-requires-2 c κs = search needs
-
 returns : tie.Need-returns
 unfolding widenedBy
 returns c =
@@ -35,9 +20,9 @@ pub end-bounds-spec : {M : Type 1} → statement M
 end-bounds-spec =
     tie.close
     (tie.spec
-    canonical-requires
-    canonical-requires-2
-    none-requires
-    with-ends-requires
-    with-ends-requires-2
+    (λ c κs. search needs)
+    (λ c κs. search needs)
+    (λ c κs. search needs)
+    (λ c κs. search needs)
+    (λ c κs. search needs)
     returns)

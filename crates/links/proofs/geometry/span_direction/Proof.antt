@@ -3,23 +3,8 @@ use borrow.Author.Needs.{needs}
 use Rattle.links.proofs.geometry.span_direction.Statement.{statement}
 use Rattle.links.proofs.geometry.span_direction.Tie as tie
 
-canonical-requires : tie.Need-canonical-requires
-canonical-requires c κs = search needs
-
 point-distance-requires : tie.Need-point-distance-requires
 point-distance-requires c κs = let h = bounded-as (c .canonical .ensures) (canonical-bounded (c .before .pre)) in (h .first, h .second)
-
-point-of-requires : tie.Need-point-of-requires
-point-of-requires c κs = search needs
-
-point-of-requires-2 : tie.Need-point-of-requires-2
-point-of-requires-2 c κs = search needs
-
-towards-requires : tie.Need-towards-requires
-towards-requires c κs = search needs
-
-scaled-requires : tie.Need-scaled-requires
-scaled-requires c κs = search needs
 
 returns : tie.Need-returns
 returns c =
@@ -39,10 +24,10 @@ pub span-direction-spec : {M : Type 1} → statement M
 span-direction-spec =
     tie.close
     (tie.spec
-    canonical-requires
+    (λ c κs. search needs)
     point-distance-requires
-    point-of-requires
-    point-of-requires-2
-    towards-requires
-    scaled-requires
+    (λ c κs. search needs)
+    (λ c κs. search needs)
+    (λ c κs. search needs)
+    (λ c κs. search needs)
     returns)

@@ -2,16 +2,10 @@ use borrow.Author.Needs.{needs}
 use Rattle.links.proofs.link.inside_on.Statement.{statement}
 use Rattle.links.proofs.link.inside_on.Tie as tie
 
-dot-requires : tie.Need-dot-requires
-dot-requires c κs = search needs
-
-reach-requires : tie.Need-reach-requires
-reach-requires c κs = search needs
-
 returns : tie.Need-returns
 returns c =
     let after-dot = c .before .before .before in
     simp (after-dot .dot .ensures, c .before .before .reach .ensures)
 
 pub inside-on-spec : {M : Type 1} → statement M
-inside-on-spec = tie.close (tie.spec dot-requires reach-requires returns)
+inside-on-spec = tie.close (tie.spec (λ c κs. search needs) (λ c κs. search needs) returns)

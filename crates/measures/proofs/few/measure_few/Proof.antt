@@ -1,5 +1,5 @@
 use mathlib.Core.Path.{_≡_}
-use Prim.Native.Nat.{_-_, _≤_}
+use Prim.Native.Nat.{_-_, _*_, _≤_, _<_}
 use native.Mathlib.Omega.{arith}
 use lib.ListN.{length}
 use borrow.Author.Needs.{needs}
@@ -22,109 +22,45 @@ abbrev μ-loop : tie.MeasureT-loop
 μ-loop cells width height work regions firsts seconds links own bits limits passing₀ flat₀ n k₀ passing flat k =
     links - k
 
-loop-holds : tie.Need-loop-holds Inv-loop μ-loop
-loop-holds c = (omega arith, judge-start _)
+-- the start, from a turn
+abbrev asked : tie.At-loop Inv-loop μ-loop → tie.Start Inv-loop μ-loop
+asked c = c .before .before .before .before .before
 
-mul-region : tie.Need-mul-region Inv-loop μ-loop
-mul-region c =
-    let start = c .before .before .before .before .before .before in
-    omega (arith, c .loop-test .taken, start .pre .4)
+-- the turn's link is one of the arrays
+small : (c : tie.In-loop Inv-loop μ-loop) → c .before .loop .k < 256
+small c = omega (arith, c .loop-test .taken, asked (c .before) .pre .4)
 
-element-copy-out-region : tie.Need-element-copy-out-region Inv-loop μ-loop
-element-copy-out-region c =
-    let start = c .before .before .before .before .before .before in
-    omega (arith, c .loop-test .taken, start .pre .4)
-
-mul-link-at : tie.Need-mul-link-at Inv-loop μ-loop
-mul-link-at c =
-    let start = c .before .before .before .before .before .before .before in
-    omega (arith, c .before .loop-test .taken, start .pre .4)
-
-element-copy-out-link-at : tie.Need-element-copy-out-link-at Inv-loop μ-loop
-element-copy-out-link-at c =
-    let start = c .before .before .before .before .before .before .before in
-    omega (arith, c .before .loop-test .taken, start .pre .4)
-
-mul-link-at-2 : tie.Need-mul-link-at-2 Inv-loop μ-loop
-mul-link-at-2 c =
-    let start = c .before .before .before .before .before .before .before .before in
-    omega (arith, c .before .before .loop-test .taken, start .pre .4)
-
-element-copy-out-link-at-2 : tie.Need-element-copy-out-link-at-2 Inv-loop μ-loop
-element-copy-out-link-at-2 c =
-    let start = c .before .before .before .before .before .before .before .before in
-    omega (arith, c .before .before .loop-test .taken, start .pre .4)
+-- the labels of all cells are there
+labels-there : (s : tie.Start Inv-loop μ-loop) →
+    (0 < s .args .width) × (length (s .args .cells .now) ≤ 1048576) × (length (s .args .cells .now) * 4 ≤ length (s .args .work .now))
+labels-there s = let p = s .pre in (p .0 .columns, area (p .0 .wide) (p .0 .high) (p .1), p .5)
 
 link-at-requires : tie.Need-link-at-requires Inv-loop μ-loop
 link-at-requires c κs =
     let turning = c .before .before .before in
-    let in-loop = turning .before in
-    let start = in-loop .before .before .before .before .before in
-    let p = start .pre in
-    (p .2, p .3 .first (in-loop .loop .k) (turning .loop-test .taken), p .3 .second (in-loop .loop .k) (turning .loop-test .taken))
-
-measure-one-requires : tie.Need-measure-one-requires Inv-loop μ-loop
-measure-one-requires c κs =
-    let start = c .before .before .before .before .before .before .before .before .before .before in
-    let p = start .pre in
-    (p .0 .columns, area (p .0 .wide) (p .0 .high) (p .1), p .5)
-
-region-stats-requires : tie.Need-region-stats-requires Inv-loop μ-loop
-region-stats-requires c κs =
-    let start = c .before .before .before .before .before .before .before .before .before .before .before in
-    let p = start .pre in
-    (p .0 .columns, area (p .0 .wide) (p .0 .high) (p .1), p .5)
-
-passing-mark-requires : tie.Need-passing-mark-requires Inv-loop μ-loop
-passing-mark-requires c κs = search needs
-
-element-write-passing : tie.Need-element-write-passing Inv-loop μ-loop
-element-write-passing c =
-    let turning = c .before .before .before .before .before .before .before in
-    let start = turning .before .before .before .before .before .before in
-    omega (arith, turning .loop-test .taken, start .pre .4)
-
-flat-mark-requires : tie.Need-flat-mark-requires Inv-loop μ-loop
-flat-mark-requires c κs = search needs
-
-element-write-flat : tie.Need-element-write-flat Inv-loop μ-loop
-element-write-flat c =
-    let turning = c .before .before .before .before .before .before .before .before in
-    let start = turning .before .before .before .before .before .before in
-    omega (arith, turning .loop-test .taken, start .pre .4)
-
-add-k : tie.Need-add-k Inv-loop μ-loop
-add-k c =
-    let turning = c .before .before .before .before .before .before .before .before in
-    let start = turning .before .before .before .before .before .before in
-    omega (arith, turning .loop-test .taken, start .pre .4)
-
-loop-less : tie.Need-loop-less Inv-loop μ-loop
-loop-less c =
-    let turning = c .before .before .before .before .before .before .before .before in
-    omega (arith, turning .loop-test .taken)
+    let k = turning .before .loop .k in
+    let p = asked (turning .before) .pre in
+    (p .2, p .3 .first k (turning .loop-test .taken), p .3 .second k (turning .loop-test .taken))
 
 loop-again : tie.Need-loop-again Inv-loop μ-loop
 loop-again c =
-    let after-measure-one = c .before .before .before in
-    let after-link-at = after-measure-one .before in
-    let turning = after-link-at .before .before .before .before in
-    let in-loop = turning .before in
-    let start = in-loop .before .before .before .before .before in
-    let a = start .args in
-    let l = in-loop .loop in (
+    let measured = c .before .before .before in
+    let begun = measured .before in
+    let turning = begun .before .before .before .before in
+    let a = asked (turning .before) .args in
+    let l = turning .before .loop in (
       omega (arith, turning .loop-test .taken),
-      judge-one (labels-many (a .work .now) (length (a .cells .now))) (omega (arith, turning .loop-test .taken, start .pre .4)) (l .inv .1)
-          (after-measure-one .measure-one .ensures (valueIn (a .own .now) (a .bits .now) (at (a .firsts .now) (l .k)) (at (a .seconds .now) (l .k)))
-          (after-link-at .link-at .ensures))
+      judge-one (labels-many (a .work .now) (length (a .cells .now))) (small turning) (l .inv .1)
+          (measured .measure-one .ensures (valueIn (a .own .now) (a .bits .now) (at (a .firsts .now) (l .k)) (at (a .seconds .now) (l .k)))
+          (begun .link-at .ensures))
           (c .before .before .region-stats .ensures (a .height)) (c .before .passing-mark .ensures) (c .flat-mark .ensures),
     )
 
 returns : tie.Need-returns Inv-loop μ-loop
 returns c =
-    let start = c .before .before .before .before .before .before in
-    let inv = c .before .loop .inv in
-    judge-end (let z : c .before .loop .k ≡ start .args .links = omega (arith, inv .0, c .loop-test .left) in z) (inv .1)
+    let l = c .before .loop in
+    let all : l .k ≡ asked (c .before) .args .links = omega (arith, l .inv .0, c .loop-test .left) in
+    judge-end all (l .inv .1)
 
 pub measure-few-spec : {M : Type 1} → statement M
 measure-few-spec =
@@ -132,21 +68,21 @@ measure-few-spec =
     (tie.spec
     Inv-loop
     μ-loop
-    loop-holds
-    mul-region
-    element-copy-out-region
-    mul-link-at
-    element-copy-out-link-at
-    mul-link-at-2
-    element-copy-out-link-at-2
+    (λ c. (omega arith, judge-start _))
+    (λ c. omega (arith, small c))
+    (λ c. omega (arith, small c))
+    (λ c. omega (arith, small (c .before)))
+    (λ c. omega (arith, small (c .before)))
+    (λ c. omega (arith, small (c .before .before)))
+    (λ c. omega (arith, small (c .before .before)))
     link-at-requires
-    measure-one-requires
-    region-stats-requires
-    passing-mark-requires
-    element-write-passing
-    flat-mark-requires
-    element-write-flat
-    add-k
-    loop-less
+    (λ c κs. labels-there (asked (c .before .before .before .before .before)))
+    (λ c κs. labels-there (asked (c .before .before .before .before .before .before)))
+    (λ c κs. search needs)
+    (λ c. omega (arith, small (c .before .before .before .before .before .before .before)))
+    (λ c κs. search needs)
+    (λ c. omega (arith, small (c .before .before .before .before .before .before .before .before)))
+    (λ c. omega (arith, small (c .before .before .before .before .before .before .before .before)))
+    (λ c. omega (arith, c .before .before .before .before .before .before .before .before .loop-test .taken))
     loop-again
     returns)

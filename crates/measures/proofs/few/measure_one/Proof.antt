@@ -14,24 +14,6 @@ Inv-loop n width labels region limits link₀ i₀ link i = (i ≤ n) × AllCell
 abbrev μ-loop : tie.MeasureT-loop
 μ-loop n width labels region limits link₀ i₀ link i = n - i
 
-loop-holds : tie.Need-loop-holds Inv-loop μ-loop
-loop-holds c = (omega arith, one-start _ _ _ _ _)
-
-mul-read-u32 : tie.Need-mul-read-u32 Inv-loop μ-loop
-mul-read-u32 c = search needs
-
-read-u32-requires : tie.Need-read-u32-requires Inv-loop μ-loop
-read-u32-requires c κs = search needs
-
-counted-requires : tie.Need-counted-requires Inv-loop μ-loop
-counted-requires c κs = search needs
-
-add-i : tie.Need-add-i Inv-loop μ-loop
-add-i c = search needs
-
-loop-less : tie.Need-loop-less Inv-loop μ-loop
-loop-less c = search needs
-
 loop-again : tie.Need-loop-again Inv-loop μ-loop
 loop-again c =
     let turning = c .before .before in
@@ -54,11 +36,11 @@ measure-one-spec =
     (tie.spec
     Inv-loop
     μ-loop
-    loop-holds
-    mul-read-u32
-    read-u32-requires
-    counted-requires
-    add-i
-    loop-less
+    (λ c. (omega arith, one-start _ _ _ _ _))
+    (λ c. search needs)
+    (λ c κs. search needs)
+    (λ c κs. search needs)
+    (λ c. search needs)
+    (λ c. search needs)
     loop-again
     returns)

@@ -1,12 +1,11 @@
-use mathlib.Core.Path.{sym, _∙_}
+use mathlib.Core.Path.{sym, _∙_, subst}
 use Prim.Native.Nat.{ℕ}
 use native.Mathlib.Omega.{arith}
-use mathlib.Core.Path.{subst}
 use Rattle.areas.specs.Spans.{spanIn}
 use Rattle.links.specs.Geometry.{centreDistance}
 use Rattle.links.specs.HeldLimits.{limitsOf}
 use Rattle.plan.specs.Fitting.{RankFits}
-use Rattle.plan.specs.Few.{listed}
+use Rattle.plan.specs.Few.{slot, listed}
 use Rattle.plan.proofs.ShapeLaws.{listed-length, held-first, held-second}
 use Rattle.plan.proofs.ValueLaws.{both}
 use Rattle.plan.proofs.AcceptLaws.{ends-slots, path-sizes, serial-no, serial-path, serial-yes}
@@ -14,105 +13,75 @@ use borrow.Author.Needs.{needs}
 use Rattle.plan.proofs.accept.accepts_serial.Statement.{statement}
 use Rattle.plan.proofs.accept.accepts_serial.Tie as tie
 
-all-on-requires : tie.Need-all-on-requires
-all-on-requires c κs = λ j. c .pre .4 j .below
+-- the start, from where the path is judged; that place, from where the ends are held
+abbrev asked : tie.After-group-is-simple-path → tie.Start
+asked c = c .before .before
 
-group-is-simple-path-requires : tie.Need-group-is-simple-path-requires
-group-is-simple-path-requires c κs = (c .before .pre .1, c .before .pre .2, λ j. c .before .pre .3 j .below, λ j. c .before .pre .4 j .below)
+abbrev path-of : tie.After-group-end-nodes → tie.After-group-is-simple-path
+path-of c = c .before .before
+
+-- both ends are ranks that fit
+ends-fit : (c : tie.After-group-end-nodes) (j : ℕ) → RankFits (asked (path-of c) .args .own .now) (slot (c .group-end-nodes .result) j)
+ends-fit c =
+    let start = asked (path-of c) in
+    let a = start .args in
+    ends-slots (RankFits (a .own .now)) (a .firsts .now) (a .seconds .now) (listed (a .links)) (a .ranks) (c .group-end-nodes .ensures) (start .pre .3)
+    (start .pre .5)
 
 returns : tie.Need-returns
 returns c =
-    let at-all-on = c .before .before in
-    let start = at-all-on .before in
-    serial-no (limitsOf (start .args .limits)) (start .args .own .now) (start .args .lowers .now) (start .args .highers .now) (start .args .regions .now)
-    (start .args .firsts .now) (start .args .seconds .now) (start .args .passing .now) (listed (start .args .ranks)) (listed (start .args .links))
-    (at-all-on .all-on .ensures) (c .before .group-is-simple-path .ensures) (c .if1 .taken)
-
-group-end-nodes-requires : tie.Need-group-end-nodes-requires
-group-end-nodes-requires c κs =
-    let start = c .before .before .before in
-    (start .pre .1, start .pre .2, λ j. start .pre .4 j .below)
+    let a = asked (c .before) .args in
+    serial-no (limitsOf (a .limits)) (a .own .now) (a .lowers .now) (a .highers .now) (a .regions .now) (a .firsts .now) (a .seconds .now) (a .passing .now)
+    (listed (a .ranks)) (listed (a .links)) (c .before .before .all-on .ensures) (c .before .group-is-simple-path .ensures) (c .if1 .taken)
 
 chain-sum-requires : tie.Need-chain-sum-requires
 chain-sum-requires c κs =
-    let at-simple-path = c .before .before in
-    let at-all-on = at-simple-path .before in
-    let start = at-all-on .before in
-    let seconds = start .args .seconds .now in
-    let regions = start .args .regions .now in
-    let highers = start .args .highers .now in
-    let firsts = start .args .firsts .now in
-    let lowers = start .args .lowers .now in
-    let links = start .args .links in
-    let ranks = start .args .ranks in
-    let s =
-    path-sizes lowers highers regions firsts seconds (limitsOf (start .args .limits) .leastSpans) (limitsOf (start .args .limits) .mostSpans)
-    (listed ranks) (listed links)
-    (serial-path (limitsOf (start .args .limits)) (start .args .own .now) lowers highers regions firsts seconds (at-all-on .all-on .result)
-    (listed ranks) (listed links) (at-simple-path .group-is-simple-path .ensures) (c .before .if1 .left))
+    let path = path-of c in
+    let start = asked path in
+    let a = start .args in
+    let l = limitsOf (a .limits) in
+    let so =
+    serial-path l (a .own .now) (a .lowers .now) (a .highers .now) (a .regions .now) (a .firsts .now) (a .seconds .now) (path .before .all-on .result)
+    (listed (a .ranks)) (listed (a .links)) (path .group-is-simple-path .ensures) (c .before .if1 .left)
     in
-    (omega (arith, s .0, s .2, listed-length links), omega (arith, s .1, s .2, start .pre .0, listed-length links), start .pre .4)
-
-index-requires : tie.Need-index-requires
-index-requires c κs =
-    let start = c .before .before .before .before .before in
-    (ends-slots (RankFits (start .args .own .now)) (start .args .firsts .now) (start .args .seconds .now) (listed (start .args .links)) (start .args .ranks)
-    (c .before .group-end-nodes .ensures) (start .pre .3) (start .pre .5) 0) .below
-
-index-requires-2 : tie.Need-index-requires-2
-index-requires-2 c κs =
-    let at-ends = c .before .before in
-    let start = at-ends .before .before .before .before in
-    (ends-slots (RankFits (start .args .own .now)) (start .args .firsts .now) (start .args .seconds .now) (listed (start .args .links)) (start .args .ranks)
-    (at-ends .group-end-nodes .ensures) (start .pre .3) (start .pre .5) 1) .below
+    let s =
+    path-sizes (a .lowers .now) (a .highers .now) (a .regions .now) (a .firsts .now) (a .seconds .now) (l .leastSpans) (l .mostSpans) (listed (a .ranks))
+    (listed (a .links)) so
+    in
+    (omega (arith, s .0, s .2, listed-length (a .links)), omega (arith, s .1, s .2, start .pre .0, listed-length (a .links)), start .pre .4)
 
 rank-distance-requires : tie.Need-rank-distance-requires
 rank-distance-requires c κs =
-    let at-ends = c .before .before .before in
-    let start = at-ends .before .before .before .before in
-    let seconds = start .args .seconds .now in
-    let firsts = start .args .firsts .now in
-    let own = start .args .own .now in
-    let links = start .args .links in
-    let ranks = start .args .ranks in (
-      subst (RankFits own) (sym (c .before .index .ensures .0))
-          (ends-slots (RankFits own) firsts seconds (listed links) ranks (at-ends .group-end-nodes .ensures) (start .pre .3) (start .pre .5) 0),
-      subst (RankFits own) (sym (c .index2 .ensures .0))
-          (ends-slots (RankFits own) firsts seconds (listed links) ranks (at-ends .group-end-nodes .ensures) (start .pre .3) (start .pre .5) 1),
-    )
-
-short-requires : tie.Need-short-requires
-short-requires c κs = search needs
+    let two = c .before .before .before in
+    let own = asked (path-of two) .args .own .now in
+    (subst (RankFits own) (sym (c .before .index .ensures .0)) (ends-fit two 0), subst (RankFits own) (sym (c .index2 .ensures .0)) (ends-fit two 1))
 
 returns-2 : tie.Need-returns-2
 returns-2 c =
-    let at-index2 = c .before .before in
-    let at-index = at-index2 .before in
-    let at-chain-sum = at-index .before in
-    let at-ends = at-chain-sum .before in
-    let tested = at-ends .before in
-    let at-simple-path = tested .before in
-    let at-all-on = at-simple-path .before in
-    let start = at-all-on .before in
-    let own = start .args .own .now in
-    serial-yes (limitsOf (start .args .limits)) own (start .args .lowers .now) (start .args .highers .now) (start .args .regions .now)
-    (start .args .firsts .now) (start .args .seconds .now) (start .args .passing .now) (listed (start .args .ranks)) (listed (start .args .links))
-    (at-all-on .all-on .ensures) (at-simple-path .group-is-simple-path .ensures) (tested .if1 .left) (c .short .ensures) (at-chain-sum .chain-sum .ensures)
+    let second = c .before .before in
+    let first = second .before in
+    let sum = first .before in
+    let two = sum .before in
+    let path = path-of two in
+    let a = asked path .args in
+    serial-yes (limitsOf (a .limits)) (a .own .now) (a .lowers .now) (a .highers .now) (a .regions .now) (a .firsts .now) (a .seconds .now) (a .passing .now)
+    (listed (a .ranks)) (listed (a .links)) (path .before .all-on .ensures) (path .group-is-simple-path .ensures) (two .before .if1 .left) (c .short .ensures)
+    (sum .chain-sum .ensures)
     (c .before .rank-distance .ensures
-    ∙ both (λ (i j : ℕ). centreDistance (spanIn own i) (spanIn own j)) (at-index .index .ensures .0 ∙ held-first _ (at-ends .group-end-nodes .ensures))
-    (at-index2 .index2 .ensures .0 ∙ held-second _ (at-ends .group-end-nodes .ensures)))
+    ∙ both (λ (i j : ℕ). centreDistance (spanIn (a .own .now) i) (spanIn (a .own .now) j))
+    (first .index .ensures .0 ∙ held-first _ (two .group-end-nodes .ensures)) (second .index2 .ensures .0 ∙ held-second _ (two .group-end-nodes .ensures)))
 
 pub accepts-serial-spec : {M : Type 1} → statement M
 accepts-serial-spec =
     tie.close
     (tie.spec
-    all-on-requires
-    group-is-simple-path-requires
+    (λ c κs. λ j. c .pre .4 j .below)
+    (λ c κs. let p = c .before .pre in (p .1, p .2, λ j. p .3 j .below, λ j. p .4 j .below))
     returns
-    group-end-nodes-requires
+    (λ c κs. let p = asked (c .before) .pre in (p .1, p .2, λ j. p .4 j .below))
     chain-sum-requires
-    index-requires
-    index-requires-2
+    (λ c κs. ends-fit (c .before) 0 .below)
+    (λ c κs. ends-fit (c .before .before) 1 .below)
     rank-distance-requires
-    short-requires
+    (λ c κs. search needs)
     returns-2)

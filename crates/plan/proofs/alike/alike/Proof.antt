@@ -6,12 +6,6 @@ use borrow.Author.Needs.{needs}
 use Rattle.plan.proofs.alike.alike.Statement.{statement}
 use Rattle.plan.proofs.alike.alike.Tie as tie
 
-span-at-requires : tie.Need-span-at-requires
-span-at-requires c κs = search needs
-
-span-at-requires-2 : tie.Need-span-at-requires-2
-span-at-requires-2 c κs = search needs
-
 nearby-parallel-requires : tie.Need-nearby-parallel-requires
 nearby-parallel-requires c κs =
     let start = c .before .before in
@@ -24,4 +18,4 @@ returns c =
 
 pub alike-spec : {M : Type 1} → statement M
 alike-spec =
-    tie.close (tie.spec span-at-requires span-at-requires-2 nearby-parallel-requires returns)
+    tie.close (tie.spec (λ c κs. search needs) (λ c κs. search needs) nearby-parallel-requires returns)

@@ -20,20 +20,11 @@ abbrev μ-loop : tie.MeasureT-loop
 loop-holds : tie.Need-loop-holds Inv-loop μ-loop
 loop-holds c = (omega arith, each-start (alikeIn (limitsOf (c .args .limits)) (c .args .own .now) (c .args .i)) (slot (c .args .ranks)) (c .args .ranks .count))
 
-sub-j : tie.Need-sub-j Inv-loop μ-loop
-sub-j c = search needs
-
-index-requires : tie.Need-index-requires Inv-loop μ-loop
-index-requires c κs = c .before .before .pre .1 (c .before .loop .j - 1) .below
-
 alike-requires : tie.Need-alike-requires Inv-loop μ-loop
 alike-requires c κs =
     let at-loop = c .before .before in
     let start = at-loop .before in
     (start .pre .0, subst (RankFits (start .args .own .now)) (sym (c .index .ensures .0)) (start .pre .1 (at-loop .loop .j - 1)))
-
-loop-less : tie.Need-loop-less Inv-loop μ-loop
-loop-less c = search needs
 
 loop-again : tie.Need-loop-again Inv-loop μ-loop
 loop-again c =
@@ -62,9 +53,9 @@ alike-to-all-spec =
     Inv-loop
     μ-loop
     loop-holds
-    sub-j
-    index-requires
+    (λ c. search needs)
+    (λ c κs. c .before .before .pre .1 (c .before .loop .j - 1) .below)
     alike-requires
-    loop-less
+    (λ c. search needs)
     loop-again
     returns)

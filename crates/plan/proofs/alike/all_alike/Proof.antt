@@ -25,20 +25,11 @@ loop-holds c =
     let ranks = c .args .ranks in
     (omega arith, each-start (λ i. every (alikeIn (limitsOf (c .args .limits)) (c .args .own .now) i) (listed ranks)) (slot ranks) (ranks .count))
 
-sub-j : tie.Need-sub-j Inv-loop μ-loop
-sub-j c = search needs
-
-index-requires : tie.Need-index-requires Inv-loop μ-loop
-index-requires c κs = c .before .before .pre (c .before .loop .j - 1) .below
-
 alike-to-all-requires : tie.Need-alike-to-all-requires Inv-loop μ-loop
 alike-to-all-requires c κs =
     let at-loop = c .before .before in
     let start = at-loop .before in
     (subst (RankFits (start .args .own .now)) (sym (c .index .ensures .0)) (start .pre (at-loop .loop .j - 1)), start .pre)
-
-loop-less : tie.Need-loop-less Inv-loop μ-loop
-loop-less c = search needs
 
 loop-again : tie.Need-loop-again Inv-loop μ-loop
 loop-again c =
@@ -67,9 +58,9 @@ all-alike-spec =
     Inv-loop
     μ-loop
     loop-holds
-    sub-j
-    index-requires
+    (λ c. search needs)
+    (λ c κs. c .before .before .pre (c .before .loop .j - 1) .below)
     alike-to-all-requires
-    loop-less
+    (λ c. search needs)
     loop-again
     returns)

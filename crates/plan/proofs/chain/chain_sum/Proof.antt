@@ -4,24 +4,6 @@ use Rattle.plan.proofs.SumLaws.{chain-size, chain-patterns, chain-added
 use Rattle.plan.proofs.chain.chain_sum.Statement.{statement}
 use Rattle.plan.proofs.chain.chain_sum.Tie as tie
 
-fill-gaps-requires : tie.Need-fill-gaps-requires
-fill-gaps-requires c κs = search needs
-
-size-requires : tie.Need-size-requires
-size-requires c κs = search needs
-
-slice-aggregate-sort-keys : tie.Need-slice-aggregate-sort-keys
-slice-aggregate-sort-keys c = search needs
-
-slice-aggregate-sort-keys-2 : tie.Need-slice-aggregate-sort-keys-2
-slice-aggregate-sort-keys-2 c = search needs
-
-sort-keys-requires : tie.Need-sort-keys-requires
-sort-keys-requires c κs = search needs
-
-slice-aggregate-sum-of-bits : tie.Need-slice-aggregate-sum-of-bits
-slice-aggregate-sum-of-bits c = search needs
-
 sum-of-bits-requires : tie.Need-sum-of-bits-requires
 sum-of-bits-requires c κs =
     let at-sort = c .before .before .before in
@@ -52,11 +34,11 @@ pub chain-sum-spec : {M : Type 1} → statement M
 chain-sum-spec =
     tie.close
     (tie.spec
-    fill-gaps-requires
-    size-requires
-    slice-aggregate-sort-keys
-    slice-aggregate-sort-keys-2
-    sort-keys-requires
-    slice-aggregate-sum-of-bits
+    (λ c κs. search needs)
+    (λ c κs. search needs)
+    (λ c. search needs)
+    (λ c. search needs)
+    (λ c κs. search needs)
+    (λ c. search needs)
     sum-of-bits-requires
     returns)

@@ -22,9 +22,6 @@ loop-holds c =
     let start = c .args in
     (omega arith, written-start (gapIn (start .firsts .now) (start .seconds .now) (start .own .now)) (slot (start .links)) (c .pre .2))
 
-size-requires : tie.Need-size-requires Inv-loop μ-loop
-size-requires c κs = search needs
-
 index-requires : tie.Need-index-requires Inv-loop μ-loop
 index-requires c κs =
     let at-loop = c .before .before .before in
@@ -43,20 +40,11 @@ float-to-bits-gaps c =
     let start = start-2 .args in
     gap-number (start .firsts .now) (start .seconds .now) (start .own .now) (c .before .index .result) (c .gap .ensures)
 
-mul-gaps : tie.Need-mul-gaps Inv-loop μ-loop
-mul-gaps c = search needs
-
 element-write-gaps : tie.Need-element-write-gaps Inv-loop μ-loop
 element-write-gaps c =
     let at-size = c .before .before in
     let at-loop = at-size .before .before .before in
     omega (arith, at-size .size .ensures .0, at-size .before .if1 .taken, at-loop .before .pre .0, at-loop .loop .inv .1 .size)
-
-add-j : tie.Need-add-j Inv-loop μ-loop
-add-j c = search needs
-
-loop-less : tie.Need-loop-less Inv-loop μ-loop
-loop-less c = search needs
 
 loop-again : tie.Need-loop-again Inv-loop μ-loop
 loop-again c =
@@ -85,13 +73,13 @@ fill-gaps-spec =
     Inv-loop
     μ-loop
     loop-holds
-    size-requires
+    (λ c κs. search needs)
     index-requires
     gap-requires
     float-to-bits-gaps
-    mul-gaps
+    (λ c. search needs)
     element-write-gaps
-    add-j
-    loop-less
+    (λ c. search needs)
+    (λ c. search needs)
     loop-again
     returns)

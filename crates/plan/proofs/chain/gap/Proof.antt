@@ -9,24 +9,6 @@ use borrow.Author.Needs.{needs}
 use Rattle.plan.proofs.chain.gap.Statement.{statement}
 use Rattle.plan.proofs.chain.gap.Tie as tie
 
-mul-size : tie.Need-mul-size
-mul-size c = search needs
-
-element-copy-out-size : tie.Need-element-copy-out-size
-element-copy-out-size c = search needs
-
-size-requires : tie.Need-size-requires
-size-requires c κs = search needs
-
-mul-size-2 : tie.Need-mul-size-2
-mul-size-2 c = search needs
-
-element-copy-out-size-2 : tie.Need-element-copy-out-size-2
-element-copy-out-size-2 c = search needs
-
-size-requires-2 : tie.Need-size-requires-2
-size-requires-2 c κs = search needs
-
 rank-distance-requires : tie.Need-rank-distance-requires
 rank-distance-requires c κs =
     let start = c .before .before .before .before in
@@ -46,11 +28,11 @@ pub gap-spec : {M : Type 1} → statement M
 gap-spec =
     tie.close
     (tie.spec
-    mul-size
-    element-copy-out-size
-    size-requires
-    mul-size-2
-    element-copy-out-size-2
-    size-requires-2
+    (λ c. search needs)
+    (λ c. search needs)
+    (λ c κs. search needs)
+    (λ c. search needs)
+    (λ c. search needs)
+    (λ c κs. search needs)
     rank-distance-requires
     returns)

@@ -5,12 +5,6 @@ use borrow.Author.Needs.{needs}
 use Rattle.plan.proofs.chain.rank_distance.Statement.{statement}
 use Rattle.plan.proofs.chain.rank_distance.Tie as tie
 
-span-at-requires : tie.Need-span-at-requires
-span-at-requires c κs = search needs
-
-span-at-requires-2 : tie.Need-span-at-requires-2
-span-at-requires-2 c κs = search needs
-
 centre-distance-requires : tie.Need-centre-distance-requires
 centre-distance-requires c κs =
     let start = c .before .before in
@@ -21,4 +15,4 @@ returns c = c .centre-distance .ensures ∙ both centreDistance (c .before .befo
 
 pub rank-distance-spec : {M : Type 1} → statement M
 rank-distance-spec =
-    tie.close (tie.spec span-at-requires span-at-requires-2 centre-distance-requires returns)
+    tie.close (tie.spec (λ c κs. search needs) (λ c κs. search needs) centre-distance-requires returns)

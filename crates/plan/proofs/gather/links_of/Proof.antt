@@ -16,33 +16,10 @@ Inv-loop links chosen firsts seconds parts c found₀ k₀ found k = (k ≤ link
 abbrev μ-loop : tie.MeasureT-loop
 μ-loop links chosen firsts seconds parts c found₀ k₀ found k = k
 
-none-requires : tie.Need-none-requires Inv-loop μ-loop
-none-requires c κs = search needs
-
-loop-holds : tie.Need-loop-holds Inv-loop μ-loop
-loop-holds c =
-    let start = c .before in (
-      omega arith,
-      picked-start (linkIn (start .args .chosen .now) (start .args .firsts .now) (start .args .parts .now) (start .args .c)) (λ j. j) (start .args .links)
-          (c .none .result) (c .none .ensures),
-    )
-
-sub-k : tie.Need-sub-k Inv-loop μ-loop
-sub-k c = search needs
-
 number-requires : tie.Need-number-requires Inv-loop μ-loop
 number-requires c κs =
     let start = c .before .before .before in
     omega (arith, c .before .loop .inv .0, c .loop-test .taken, start .pre .few)
-
-element-copy-out-in-part : tie.Need-element-copy-out-in-part Inv-loop μ-loop
-element-copy-out-in-part c = search needs
-
-mul-part-at : tie.Need-mul-part-at Inv-loop μ-loop
-mul-part-at c = search needs
-
-element-copy-out-part-at : tie.Need-element-copy-out-part-at Inv-loop μ-loop
-element-copy-out-part-at c = search needs
 
 part-at-requires : tie.Need-part-at-requires Inv-loop μ-loop
 part-at-requires c κs =
@@ -51,40 +28,26 @@ part-at-requires c κs =
     let start = at-loop .before .before in
     start .pre .first-in (at-loop .loop .k - 1) (omega (arith, at-loop .loop .inv .0, turning .loop-test .taken))
 
-in-part-requires : tie.Need-in-part-requires Inv-loop μ-loop
-in-part-requires c κs = search needs
-
 with-requires : tie.Need-with-requires Inv-loop μ-loop
 with-requires c κs =
     let at-loop = c .before .before .before .before .before .before in
-    let start = at-loop .before .before in
-    picked-room (linkIn (start .args .chosen .now) (start .args .firsts .now) (start .args .parts .now) (start .args .c)) (λ j. j) (start .args .links)
-    (at-loop .loop .inv .1) (start .pre .few)
-
-loop-less : tie.Need-loop-less Inv-loop μ-loop
-loop-less c = search needs
+    picked-room (at-loop .loop .inv .1) (at-loop .before .before .pre .few)
 
 loop-again : tie.Need-loop-again Inv-loop μ-loop
 loop-again c =
-    let at-part-at = c .before .before in
-    let at-number = at-part-at .before .before .before in
-    let turning = at-number .before in
-    let at-loop = turning .before in
-    let start = at-loop .before .before in
-    let chosen = start .args .chosen .now in
-    let whole-part = start .args .c in (
-      omega (arith, at-loop .loop .inv .0),
-      picked-next (linkIn chosen (start .args .firsts .now) (start .args .parts .now) whole-part) (λ j. j) (start .args .links) (c .before .in-part .result)
-          (at-number .number .result) (at-loop .loop .inv .1) (turning .loop-test .taken) (at-loop .loop .inv .0) (c .with .ensures)
-          (c .before .in-part .ensures ∙ ap (λ (x : ℕ). eqb (getD chosen (at-loop .loop .k - 1) 0) 1 && eqb x whole-part) (at-part-at .part-at .ensures))
-          (at-number .number .ensures),
+    let part = c .before .before in
+    let number = part .before .before .before in
+    let turning = number .before in
+    let l = turning .before .loop in
+    let a = turning .before .before .before .args in (
+      omega (arith, l .inv .0),
+      picked-next (l .inv .1) (turning .loop-test .taken) (l .inv .0) (c .with .ensures)
+          (c .before .in-part .ensures ∙ ap (λ (x : ℕ). eqb (getD (a .chosen .now) (l .k - 1) 0) 1 && eqb x (a .c)) (part .part-at .ensures))
+          (number .number .ensures),
     )
 
 returns : tie.Need-returns Inv-loop μ-loop
-returns c =
-    let start = c .before .before .before in
-    picked-whole (linkIn (start .args .chosen .now) (start .args .firsts .now) (start .args .parts .now) (start .args .c)) (start .args .links)
-    (c .before .loop .inv .1) (omega (arith, c .loop-test .left))
+returns c = picked-whole (c .before .loop .inv .1) (omega (arith, c .loop-test .left))
 
 pub links-of-spec : {M : Type 1} → statement M
 links-of-spec =
@@ -92,16 +55,16 @@ links-of-spec =
     (tie.spec
     Inv-loop
     μ-loop
-    none-requires
-    loop-holds
-    sub-k
+    (λ c κs. search needs)
+    (λ c. (omega arith, picked-start (c .none .ensures)))
+    (λ c. search needs)
     number-requires
-    element-copy-out-in-part
-    mul-part-at
-    element-copy-out-part-at
+    (λ c. search needs)
+    (λ c. search needs)
+    (λ c. search needs)
     part-at-requires
-    in-part-requires
+    (λ c κs. search needs)
     with-requires
-    loop-less
+    (λ c. search needs)
     loop-again
     returns)

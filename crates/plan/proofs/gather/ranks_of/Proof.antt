@@ -12,63 +12,22 @@ Inv-loop n joined parts c found₀ i₀ found i = (i ≤ n) × Picked (inPart jo
 abbrev μ-loop : tie.MeasureT-loop
 μ-loop n joined parts c found₀ i₀ found i = i
 
-none-requires : tie.Need-none-requires Inv-loop μ-loop
-none-requires c κs = search needs
-
-loop-holds : tie.Need-loop-holds Inv-loop μ-loop
-loop-holds c =
-    let start = c .before in (
-      omega arith,
-      picked-start (inPart (start .args .joined .now) (start .args .parts .now) (start .args .c)) (λ j. j) (start .args .n) (c .none .result)
-          (c .none .ensures),
-    )
-
-sub-i : tie.Need-sub-i Inv-loop μ-loop
-sub-i c = search needs
-
-number-requires : tie.Need-number-requires Inv-loop μ-loop
-number-requires c κs = search needs
-
-element-copy-out-in-part : tie.Need-element-copy-out-in-part Inv-loop μ-loop
-element-copy-out-in-part c = search needs
-
-mul-in-part : tie.Need-mul-in-part Inv-loop μ-loop
-mul-in-part c = search needs
-
-element-copy-out-in-part-2 : tie.Need-element-copy-out-in-part-2 Inv-loop μ-loop
-element-copy-out-in-part-2 c = search needs
-
-in-part-requires : tie.Need-in-part-requires Inv-loop μ-loop
-in-part-requires c κs = search needs
-
 with-requires : tie.Need-with-requires Inv-loop μ-loop
 with-requires c κs =
     let at-loop = c .before .before .before .before .before in
-    let start = at-loop .before .before in
-    picked-room (inPart (start .args .joined .now) (start .args .parts .now) (start .args .c)) (λ j. j) (start .args .n) (at-loop .loop .inv .1)
-    (start .pre)
-
-loop-less : tie.Need-loop-less Inv-loop μ-loop
-loop-less c = search needs
+    picked-room (at-loop .loop .inv .1) (at-loop .before .before .pre)
 
 loop-again : tie.Need-loop-again Inv-loop μ-loop
 loop-again c =
-    let at-number = c .before .before .before .before in
-    let turning = at-number .before in
-    let at-loop = turning .before in
-    let start = at-loop .before .before in (
-      omega (arith, at-loop .loop .inv .0),
-      picked-next (inPart (start .args .joined .now) (start .args .parts .now) (start .args .c)) (λ j. j) (start .args .n) (c .before .in-part .result)
-          (at-number .number .result) (at-loop .loop .inv .1) (turning .loop-test .taken) (at-loop .loop .inv .0) (c .with .ensures)
-          (c .before .in-part .ensures)
-          (at-number .number .ensures),
+    let number = c .before .before .before .before in
+    let turning = number .before in
+    let inv = turning .before .loop .inv in (
+      omega (arith, inv .0),
+      picked-next (inv .1) (turning .loop-test .taken) (inv .0) (c .with .ensures) (c .before .in-part .ensures) (number .number .ensures),
     )
 
 returns : tie.Need-returns Inv-loop μ-loop
-returns c =
-    let start = c .before .before .before in
-    picked-whole (inPart (start .args .joined .now) (start .args .parts .now) (start .args .c)) (start .args .n) (c .before .loop .inv .1)
-    (omega (arith, c .loop-test .left))
+returns c = picked-whole (c .before .loop .inv .1) (omega (arith, c .loop-test .left))
 
 pub ranks-of-spec : {M : Type 1} → statement M
 ranks-of-spec =
@@ -76,15 +35,15 @@ ranks-of-spec =
     (tie.spec
     Inv-loop
     μ-loop
-    none-requires
-    loop-holds
-    sub-i
-    number-requires
-    element-copy-out-in-part
-    mul-in-part
-    element-copy-out-in-part-2
-    in-part-requires
+    (λ c κs. search needs)
+    (λ c. (omega arith, picked-start (c .none .ensures)))
+    (λ c. search needs)
+    (λ c κs. search needs)
+    (λ c. search needs)
+    (λ c. search needs)
+    (λ c. search needs)
+    (λ c κs. search needs)
     with-requires
-    loop-less
+    (λ c. search needs)
     loop-again
     returns)

@@ -14,39 +14,6 @@ Inv-loop n serial flat plan₀ i₀ plan i = (i ≤ n) × Filled (λ j. goesTo (
 abbrev μ-loop : tie.MeasureT-loop
 μ-loop n serial flat plan₀ i₀ plan i = n - i
 
-loop-holds : tie.Need-loop-holds Inv-loop μ-loop
-loop-holds c = (omega arith, filled-none (c .pre .1))
-
-mul-goes-to : tie.Need-mul-goes-to Inv-loop μ-loop
-mul-goes-to c = search needs
-
-element-copy-out-goes-to : tie.Need-element-copy-out-goes-to Inv-loop μ-loop
-element-copy-out-goes-to c = search needs
-
-mul-goes-to-2 : tie.Need-mul-goes-to-2 Inv-loop μ-loop
-mul-goes-to-2 c = search needs
-
-element-copy-out-goes-to-2 : tie.Need-element-copy-out-goes-to-2 Inv-loop μ-loop
-element-copy-out-goes-to-2 c = search needs
-
-cast-goes-to : tie.Need-cast-goes-to Inv-loop μ-loop
-cast-goes-to c = search needs
-
-goes-to-requires : tie.Need-goes-to-requires Inv-loop μ-loop
-goes-to-requires c κs = search needs
-
-mul-plan : tie.Need-mul-plan Inv-loop μ-loop
-mul-plan c = search needs
-
-element-write-plan : tie.Need-element-write-plan Inv-loop μ-loop
-element-write-plan c = search needs
-
-add-i : tie.Need-add-i Inv-loop μ-loop
-add-i c = search needs
-
-loop-less : tie.Need-loop-less Inv-loop μ-loop
-loop-less c = search needs
-
 loop-again : tie.Need-loop-again Inv-loop μ-loop
 loop-again c =
     let turning = c .before .before .before in
@@ -56,25 +23,22 @@ loop-again c =
       filled-next (c .goes-to .result) (in-loop .loop .inv .1) (omega (arith, turning .loop-test .taken, start .pre .0)) (c .goes-to .ensures),
     )
 
-returns : tie.Need-returns Inv-loop μ-loop
-returns c = filled-upto (c .before .loop .inv .1) (c .loop-test .left)
-
 pub combine-spec : {M : Type 1} → statement M
 combine-spec =
     tie.close
     (tie.spec
     Inv-loop
     μ-loop
-    loop-holds
-    mul-goes-to
-    element-copy-out-goes-to
-    mul-goes-to-2
-    element-copy-out-goes-to-2
-    cast-goes-to
-    goes-to-requires
-    mul-plan
-    element-write-plan
-    add-i
-    loop-less
+    (λ c. (omega arith, filled-none (c .pre .1)))
+    (λ c. search needs)
+    (λ c. search needs)
+    (λ c. search needs)
+    (λ c. search needs)
+    (λ c. search needs)
+    (λ c κs. search needs)
+    (λ c. search needs)
+    (λ c. search needs)
+    (λ c. search needs)
+    (λ c. search needs)
     loop-again
-    returns)
+    (λ c. filled-upto (c .before .loop .inv .1) (c .loop-test .left)))

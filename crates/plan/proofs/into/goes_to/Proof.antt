@@ -5,11 +5,10 @@ use Rattle.plan.proofs.into.goes_to.Tie as tie
 returns : tie.Need-returns
 returns c = goes-serial (c .before .args .s) (c .before .args .f) (c .before .args .i) (c .if1 .taken)
 
-returns-2 : tie.Need-returns-2
-returns-2 c = goes-flat _ _ _ (c .before .if1 .left) (c .if2 .taken)
-
-returns-3 : tie.Need-returns-3
-returns-3 c = goes-self _ _ _ (c .before .if1 .left) (c .if2 .left)
-
 pub goes-to-spec : {M : Type 1} → statement M
-goes-to-spec = tie.close (tie.spec returns returns-2 returns-3)
+goes-to-spec =
+    tie.close
+    (tie.spec
+    returns
+    (λ c. goes-flat _ _ _ (c .before .if1 .left) (c .if2 .taken))
+    (λ c. goes-self _ _ _ (c .before .if1 .left) (c .if2 .left)))

@@ -12,12 +12,6 @@ join-chosen-requires c κs =
     let start = c .before .before .before .before .before in
     (wider-ranked (start .pre .1), refl, refl)
 
-into-flat-requires : tie.Need-into-flat-requires
-into-flat-requires c κs = search needs
-
-returns : tie.Need-returns
-returns c = search needs
-
 pub flat-plan-spec : {M : Type 1} → statement M
 flat-plan-spec =
-    tie.close (tie.spec select-flat-requires join-chosen-requires into-flat-requires returns)
+    tie.close (tie.spec select-flat-requires join-chosen-requires (λ c κs. search needs) (λ c. search needs))

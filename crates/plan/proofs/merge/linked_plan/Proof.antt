@@ -3,15 +3,6 @@ use borrow.Author.Needs.{needs}
 use Rattle.plan.proofs.merge.linked_plan.Statement.{statement}
 use Rattle.plan.proofs.merge.linked_plan.Tie as tie
 
-serial-plan-requires : tie.Need-serial-plan-requires
-serial-plan-requires c κs = search needs
-
-flat-plan-requires : tie.Need-flat-plan-requires
-flat-plan-requires c κs = search needs
-
-combine-requires : tie.Need-combine-requires
-combine-requires c κs = search needs
-
 returns : tie.Need-returns
 returns c =
     let at-flat-plan = c .before .before .before .before in
@@ -22,4 +13,4 @@ returns c =
 
 pub linked-plan-spec : {M : Type 1} → statement M
 linked-plan-spec =
-    tie.close (tie.spec serial-plan-requires flat-plan-requires combine-requires returns)
+    tie.close (tie.spec (λ c κs. search needs) (λ c κs. search needs) (λ c κs. search needs) returns)

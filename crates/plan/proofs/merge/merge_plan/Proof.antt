@@ -4,15 +4,6 @@ use borrow.Author.Needs.{needs}
 use Rattle.plan.proofs.merge.merge_plan.Statement.{statement}
 use Rattle.plan.proofs.merge.merge_plan.Tie as tie
 
-start-requires : tie.Need-start-requires
-start-requires c κs = search needs
-
-returns : tie.Need-returns
-returns c = plan-none (c .start .ensures) (c .before .before .if1 .taken)
-
-start-requires-2 : tie.Need-start-requires-2
-start-requires-2 c κs = search needs
-
 returns-2 : tie.Need-returns-2
 returns-2 c =
     let start = c .before .before .before .before in
@@ -25,10 +16,13 @@ linked-plan-requires c κs =
     let p = start-3 .pre in
     (p .0, record { some = omega (arith, tested .if1 .left); linked = omega (arith, c .before .if2 .left); fit = p .1 }, p .2)
 
-returns-3 : tie.Need-returns-3
-returns-3 c = search needs
-
 pub merge-plan-spec : {M : Type 1} → statement M
 merge-plan-spec =
     tie.close
-    (tie.spec start-requires returns start-requires-2 returns-2 linked-plan-requires returns-3)
+    (tie.spec
+    (λ c κs. search needs)
+    (λ c. plan-none (c .start .ensures) (c .before .before .if1 .taken))
+    (λ c κs. search needs)
+    returns-2
+    linked-plan-requires
+    (λ c. search needs))

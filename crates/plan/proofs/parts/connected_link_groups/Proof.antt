@@ -12,31 +12,10 @@ Inv-loop chosen firsts seconds links parts₀ k₀ parts k = (k ≤ links) × Fi
 abbrev μ-loop : tie.MeasureT-loop
 μ-loop chosen firsts seconds links parts₀ k₀ parts k = k
 
-start-requires : tie.Need-start-requires Inv-loop μ-loop
-start-requires c κs = c .before .pre .0
-
 loop-holds : tie.Need-loop-holds Inv-loop μ-loop
 loop-holds c =
     let start = c .before .before in
     (omega arith, parts-start (start .args .chosen .now) (start .args .firsts .now) (start .args .seconds .now) (start .args .links) (c .start .ensures))
-
-sub-k : tie.Need-sub-k Inv-loop μ-loop
-sub-k c = search needs
-
-element-copy-out-join-link : tie.Need-element-copy-out-join-link Inv-loop μ-loop
-element-copy-out-join-link c = search needs
-
-mul-join-link : tie.Need-mul-join-link Inv-loop μ-loop
-mul-join-link c = search needs
-
-element-copy-out-join-link-2 : tie.Need-element-copy-out-join-link-2 Inv-loop μ-loop
-element-copy-out-join-link-2 c = search needs
-
-mul-join-link-2 : tie.Need-mul-join-link-2 Inv-loop μ-loop
-mul-join-link-2 c = search needs
-
-element-copy-out-join-link-3 : tie.Need-element-copy-out-join-link-3 Inv-loop μ-loop
-element-copy-out-join-link-3 c = search needs
 
 join-link-requires : tie.Need-join-link-requires Inv-loop μ-loop
 join-link-requires c κs =
@@ -46,9 +25,6 @@ join-link-requires c κs =
     let inv = in-loop .loop .inv in
     let l : in-loop .loop .k - 1 < start .args .links = omega (arith, inv .0, turning .loop-test .taken) in
     (inv .1 .size, start .pre .1 .first-in (in-loop .loop .k - 1) l, start .pre .1 .second-in (in-loop .loop .k - 1) l)
-
-loop-less : tie.Need-loop-less Inv-loop μ-loop
-loop-less c = search needs
 
 loop-again : tie.Need-loop-again Inv-loop μ-loop
 loop-again c =
@@ -75,15 +51,15 @@ connected-link-groups-spec =
     (tie.spec
     Inv-loop
     μ-loop
-    start-requires
+    (λ c κs. c .before .pre .0)
     loop-holds
-    sub-k
-    element-copy-out-join-link
-    mul-join-link
-    element-copy-out-join-link-2
-    mul-join-link-2
-    element-copy-out-join-link-3
+    (λ c. search needs)
+    (λ c. search needs)
+    (λ c. search needs)
+    (λ c. search needs)
+    (λ c. search needs)
+    (λ c. search needs)
     join-link-requires
-    loop-less
+    (λ c. search needs)
     loop-again
     returns)

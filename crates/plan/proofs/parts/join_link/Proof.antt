@@ -6,27 +6,6 @@ use Rattle.plan.proofs.parts.join_link.Tie as tie
 returns : tie.Need-returns
 returns c = link-no (c .before .args .on) (c .before .args .first) (c .before .args .second) (c .before .args .parts .now) (c .if1 .taken) (c .before .pre .0)
 
-size-requires : tie.Need-size-requires
-size-requires c κs = search needs
-
-mul-a : tie.Need-mul-a
-mul-a c = search needs
-
-element-copy-out-a : tie.Need-element-copy-out-a
-element-copy-out-a c = search needs
-
-size-requires-2 : tie.Need-size-requires-2
-size-requires-2 c κs = search needs
-
-mul-b : tie.Need-mul-b
-mul-b c = search needs
-
-element-copy-out-b : tie.Need-element-copy-out-b
-element-copy-out-b c = search needs
-
-join-parts-requires : tie.Need-join-parts-requires
-join-parts-requires c κs = search needs
-
 returns-2 : tie.Need-returns-2
 returns-2 c =
     let after-size2 = c .before .before .before in
@@ -41,11 +20,11 @@ join-link-spec =
     tie.close
     (tie.spec
     returns
-    size-requires
-    mul-a
-    element-copy-out-a
-    size-requires-2
-    mul-b
-    element-copy-out-b
-    join-parts-requires
+    (λ c κs. search needs)
+    (λ c. search needs)
+    (λ c. search needs)
+    (λ c κs. search needs)
+    (λ c. search needs)
+    (λ c. search needs)
+    (λ c κs. search needs)
     returns-2)

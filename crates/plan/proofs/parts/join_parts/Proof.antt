@@ -12,36 +12,6 @@ Inv-loop parts₀ a b low high i₀ parts i = Mapped (λ (x : ℕ). cond (eqb x 
 abbrev μ-loop : tie.MeasureT-loop
 μ-loop parts₀ a b low high i₀ parts i = 256 - i
 
-smaller-requires : tie.Need-smaller-requires Inv-loop μ-loop
-smaller-requires c κs = search needs
-
-larger-requires : tie.Need-larger-requires Inv-loop μ-loop
-larger-requires c κs = search needs
-
-loop-holds : tie.Need-loop-holds Inv-loop μ-loop
-loop-holds c = mapped-none (c .before .before .pre)
-
-mul-moved : tie.Need-mul-moved Inv-loop μ-loop
-mul-moved c = search needs
-
-element-copy-out-moved : tie.Need-element-copy-out-moved Inv-loop μ-loop
-element-copy-out-moved c = search needs
-
-moved-requires : tie.Need-moved-requires Inv-loop μ-loop
-moved-requires c κs = search needs
-
-mul-parts : tie.Need-mul-parts Inv-loop μ-loop
-mul-parts c = search needs
-
-element-write-parts : tie.Need-element-write-parts Inv-loop μ-loop
-element-write-parts c = search needs
-
-add-i : tie.Need-add-i Inv-loop μ-loop
-add-i c = search needs
-
-loop-less : tie.Need-loop-less Inv-loop μ-loop
-loop-less c = search needs
-
 loop-again : tie.Need-loop-again Inv-loop μ-loop
 loop-again c =
     let in-loop = c .before .before .before in
@@ -61,15 +31,15 @@ join-parts-spec =
     (tie.spec
     Inv-loop
     μ-loop
-    smaller-requires
-    larger-requires
-    loop-holds
-    mul-moved
-    element-copy-out-moved
-    moved-requires
-    mul-parts
-    element-write-parts
-    add-i
-    loop-less
+    (λ c κs. search needs)
+    (λ c κs. search needs)
+    (λ c. mapped-none (c .before .before .pre))
+    (λ c. search needs)
+    (λ c. search needs)
+    (λ c κs. search needs)
+    (λ c. search needs)
+    (λ c. search needs)
+    (λ c. search needs)
+    (λ c. search needs)
     loop-again
     returns)

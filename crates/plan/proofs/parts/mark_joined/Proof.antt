@@ -17,37 +17,9 @@ abbrev μ-loop : tie.MeasureT-loop
 loop-holds : tie.Need-loop-holds Inv-loop μ-loop
 loop-holds c = (omega arith, marks-start (c .before .args .chosen .now) (c .before .args .firsts .now) (c .before .args .seconds .now) (c .before .args .links))
 
-sub-k : tie.Need-sub-k Inv-loop μ-loop
-sub-k c = search needs
-
-element-copy-out-mark-link : tie.Need-element-copy-out-mark-link Inv-loop μ-loop
-element-copy-out-mark-link c =
-    let start = c .before .before .before .before in
-    omega (arith, c .before .before .loop .inv .0, start .pre .few)
-
-mul-mark-link : tie.Need-mul-mark-link Inv-loop μ-loop
-mul-mark-link c =
-    let in-loop = c .before .before .before in
-    let start = in-loop .before .before in
-    omega (arith, in-loop .loop .inv .0, start .pre .few)
-
-element-copy-out-mark-link-2 : tie.Need-element-copy-out-mark-link-2 Inv-loop μ-loop
-element-copy-out-mark-link-2 c =
-    let in-loop = c .before .before .before in
-    let start = in-loop .before .before in
-    omega (arith, in-loop .loop .inv .0, start .pre .few)
-
-mul-mark-link-2 : tie.Need-mul-mark-link-2 Inv-loop μ-loop
-mul-mark-link-2 c =
-    let in-loop = c .before .before .before .before in
-    let start = in-loop .before .before in
-    omega (arith, in-loop .loop .inv .0, start .pre .few)
-
-element-copy-out-mark-link-3 : tie.Need-element-copy-out-mark-link-3 Inv-loop μ-loop
-element-copy-out-mark-link-3 c =
-    let in-loop = c .before .before .before .before in
-    let start = in-loop .before .before in
-    omega (arith, in-loop .loop .inv .0, start .pre .few)
+-- a turn's number of links left
+few : (c : tie.At-loop Inv-loop μ-loop) → c .loop .k ≤ 256
+few c = omega (arith, c .loop .inv .0, c .before .before .pre .few)
 
 mark-link-requires : tie.Need-mark-link-requires Inv-loop μ-loop
 mark-link-requires c κs =
@@ -58,9 +30,6 @@ mark-link-requires c κs =
     let p = start .pre in
     let on : l .k - 1 < start .args .links = omega (arith, l .inv .0, turning .loop-test .taken) in
     (l .inv .1 .size, p .first-in (l .k - 1) on, p .second-in (l .k - 1) on)
-
-loop-less : tie.Need-loop-less Inv-loop μ-loop
-loop-less c = search needs
 
 loop-again : tie.Need-loop-again Inv-loop μ-loop
 loop-again c =
@@ -87,13 +56,13 @@ mark-joined-spec =
     Inv-loop
     μ-loop
     loop-holds
-    sub-k
-    element-copy-out-mark-link
-    mul-mark-link
-    element-copy-out-mark-link-2
-    mul-mark-link-2
-    element-copy-out-mark-link-3
+    (λ c. search needs)
+    (λ c. omega (arith, few (c .before .before)))
+    (λ c. omega (arith, few (c .before .before .before)))
+    (λ c. omega (arith, few (c .before .before .before)))
+    (λ c. omega (arith, few (c .before .before .before .before)))
+    (λ c. omega (arith, few (c .before .before .before .before)))
     mark-link-requires
-    loop-less
+    (λ c. search needs)
     loop-again
     returns)

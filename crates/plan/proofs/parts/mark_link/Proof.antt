@@ -8,18 +8,6 @@ returns c =
     let a = c .before .args in
     mark-no (a .on) (a .first) (a .second) (a .joined .now) (c .if1 .taken) (c .before .pre .0)
 
-size-requires : tie.Need-size-requires
-size-requires c κs = search needs
-
-element-write-joined : tie.Need-element-write-joined
-element-write-joined c = search needs
-
-size-requires-2 : tie.Need-size-requires-2
-size-requires-2 c κs = search needs
-
-element-write-joined-2 : tie.Need-element-write-joined-2
-element-write-joined-2 c = search needs
-
 returns-2 : tie.Need-returns-2
 returns-2 c =
     let e = c .before .before .before in
@@ -32,8 +20,8 @@ mark-link-spec =
     tie.close
     (tie.spec
     returns
-    size-requires
-    element-write-joined
-    size-requires-2
-    element-write-joined-2
+    (λ c κs. search needs)
+    (λ c. search needs)
+    (λ c κs. search needs)
+    (λ c. search needs)
     returns-2)

@@ -17,18 +17,6 @@ abbrev μ-loop : tie.MeasureT-loop
 loop-holds : tie.Need-loop-holds Inv-loop μ-loop
 loop-holds c = (omega arith, each-start (isOn (c .args .marks .now)) (slot (c .args .links)) (c .args .links .count))
 
-sub-j : tie.Need-sub-j Inv-loop μ-loop
-sub-j c = search needs
-
-index-requires : tie.Need-index-requires Inv-loop μ-loop
-index-requires c κs = c .before .before .pre (c .before .loop .j - 1)
-
-element-copy-out-all : tie.Need-element-copy-out-all Inv-loop μ-loop
-element-copy-out-all c = search needs
-
-loop-less : tie.Need-loop-less Inv-loop μ-loop
-loop-less c = search needs
-
 loop-again : tie.Need-loop-again Inv-loop μ-loop
 loop-again c =
     let turning = c .before .before in
@@ -53,9 +41,9 @@ all-on-spec =
     Inv-loop
     μ-loop
     loop-holds
-    sub-j
-    index-requires
-    element-copy-out-all
-    loop-less
+    (λ c. search needs)
+    (λ c κs. c .before .before .pre (c .before .loop .j - 1))
+    (λ c. search needs)
+    (λ c. search needs)
     loop-again
     returns)

@@ -18,24 +18,6 @@ Inv-loop firsts seconds ranks links found₀ j₀ found j =
 abbrev μ-loop : tie.MeasureT-loop
 μ-loop firsts seconds ranks links found₀ j₀ found j = j
 
-none-requires : tie.Need-none-requires Inv-loop μ-loop
-none-requires c κs = search needs
-
-loop-holds : tie.Need-loop-holds Inv-loop μ-loop
-loop-holds c =
-    let start = c .before in
-    let ranks = start .args .ranks in (
-      omega arith,
-      picked-start (λ (i : ℕ). eqb (degreeIn (start .args .firsts .now) (start .args .seconds .now) (listed (start .args .links)) i) 1) (slot ranks)
-          (ranks .count) (c .none .result) (c .none .ensures),
-    )
-
-sub-j : tie.Need-sub-j Inv-loop μ-loop
-sub-j c = search needs
-
-get-requires : tie.Need-get-requires Inv-loop μ-loop
-get-requires c κs = search needs
-
 links-at-requires : tie.Need-links-at-requires Inv-loop μ-loop
 links-at-requires c κs =
     let start = c .before .before .before .before in
@@ -44,30 +26,19 @@ links-at-requires c κs =
 with-requires : tie.Need-with-requires Inv-loop μ-loop
 with-requires c κs =
     let at-loop = c .before .before .before .before in
-    let start = at-loop .before .before in
-    let ranks = start .args .ranks in
-    picked-room (λ (i : ℕ). eqb (degreeIn (start .args .firsts .now) (start .args .seconds .now) (listed (start .args .links)) i) 1) (slot ranks)
-    (ranks .count) (at-loop .loop .inv .1) (start .pre .0)
-
-loop-less : tie.Need-loop-less Inv-loop μ-loop
-loop-less c = search needs
+    picked-room (at-loop .loop .inv .1) (at-loop .before .before .pre .0)
 
 loop-again : tie.Need-loop-again Inv-loop μ-loop
 loop-again c =
-    let at-links-at = c .before .before in
-    let at-get = at-links-at .before in
-    let turning = at-get .before in
-    let at-loop = turning .before in
-    let start = at-loop .before .before in
-    let seconds = start .args .seconds .now in
-    let firsts = start .args .firsts .now in
-    let ranks = start .args .ranks in
-    let links = start .args .links in (
-      omega (arith, at-loop .loop .inv .0),
-      picked-next (λ (i : ℕ). eqb (degreeIn firsts seconds (listed links) i) 1) (slot ranks) (ranks .count) (eqb (at-links-at .links-at .result .count) 1)
-          (at-get .get .result) (at-loop .loop .inv .1) (turning .loop-test .taken) (at-loop .loop .inv .0) (c .with .ensures)
-          (ap (λ (d : ℕ). eqb d 1) (ap (λ (n : Near). n .count) (at-links-at .links-at .ensures))
-          ∙ ap (λ (i : ℕ). eqb (degreeIn firsts seconds (listed links) i) 1) (at-get .get .ensures)) (at-get .get .ensures),
+    let near = c .before .before in
+    let got = near .before in
+    let turning = got .before in
+    let inv = turning .before .loop .inv in
+    let a = turning .before .before .before .args in (
+      omega (arith, inv .0),
+      picked-next (inv .1) (turning .loop-test .taken) (inv .0) (c .with .ensures)
+          (ap (λ (d : ℕ). eqb d 1) (ap (λ (n : Near). n .count) (near .links-at .ensures))
+          ∙ ap (λ (i : ℕ). eqb (degreeIn (a .firsts .now) (a .seconds .now) (listed (a .links)) i) 1) (got .get .ensures)) (got .get .ensures),
     )
 
 returns : tie.Need-returns Inv-loop μ-loop
@@ -82,12 +53,12 @@ group-end-nodes-spec =
     (tie.spec
     Inv-loop
     μ-loop
-    none-requires
-    loop-holds
-    sub-j
-    get-requires
+    (λ c κs. search needs)
+    (λ c. (omega arith, picked-start (c .none .ensures)))
+    (λ c. search needs)
+    (λ c κs. search needs)
     links-at-requires
     with-requires
-    loop-less
+    (λ c. search needs)
     loop-again
     returns)

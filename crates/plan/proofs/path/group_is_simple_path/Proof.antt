@@ -9,12 +9,6 @@ use borrow.Author.Needs.{needs}
 use Rattle.plan.proofs.path.group_is_simple_path.Statement.{statement}
 use Rattle.plan.proofs.path.group_is_simple_path.Tie as tie
 
-group-end-nodes-requires : tie.Need-group-end-nodes-requires
-group-end-nodes-requires c κs = search needs
-
-get-requires : tie.Need-get-requires
-get-requires c κs = search needs
-
 outer-requires : tie.Need-outer-requires
 outer-requires c κs =
     let start = c .before .before in (
@@ -24,9 +18,6 @@ outer-requires c κs =
           (ends-slots (λ x. x < 256) (start .args .firsts .now) (start .args .seconds .now) (listed (start .args .links)) (start .args .ranks)
           (c .before .group-end-nodes .ensures) (start .pre .2) (omega arith) 0),
     )
-
-get-requires-2 : tie.Need-get-requires-2
-get-requires-2 c κs = search needs
 
 outer-requires-2 : tie.Need-outer-requires-2
 outer-requires-2 c κs =
@@ -38,15 +29,6 @@ outer-requires-2 c κs =
           (ends-slots (λ x. x < 256) (start .args .firsts .now) (start .args .seconds .now) (listed (start .args .links)) (start .args .ranks)
           (at-ends .group-end-nodes .ensures) (start .pre .2) (omega arith) 1),
     )
-
-regular-requires : tie.Need-regular-requires
-regular-requires c κs = search needs
-
-add-path : tie.Need-add-path
-add-path c = search needs
-
-allowed-requires : tie.Need-allowed-requires
-allowed-requires c κs = search needs
 
 returns : tie.Need-returns
 returns c =
@@ -66,12 +48,12 @@ pub group-is-simple-path-spec : {M : Type 1} → statement M
 group-is-simple-path-spec =
     tie.close
     (tie.spec
-    group-end-nodes-requires
-    get-requires
+    (λ c κs. search needs)
+    (λ c κs. search needs)
     outer-requires
-    get-requires-2
+    (λ c κs. search needs)
     outer-requires-2
-    regular-requires
-    add-path
-    allowed-requires
+    (λ c κs. search needs)
+    (λ c. search needs)
+    (λ c κs. search needs)
     returns)

@@ -15,45 +15,10 @@ Inv-loop firsts seconds links i found₀ j₀ found j = (j ≤ links .count) × 
 abbrev μ-loop : tie.MeasureT-loop
 μ-loop firsts seconds links i found₀ j₀ found j = j
 
-loop-holds : tie.Need-loop-holds Inv-loop μ-loop
-loop-holds c =
-    let start = c .args in
-    (omega arith, noted-start (joinsAt (start .firsts .now) (start .seconds .now) (start .i)) (slot (start .links)) (start .links .count) _ refl)
-
-sub-j : tie.Need-sub-j Inv-loop μ-loop
-sub-j c = search needs
-
-index-requires : tie.Need-index-requires Inv-loop μ-loop
-index-requires c κs = c .before .before .pre .1 (c .before .loop .j - 1)
-
-get-requires : tie.Need-get-requires Inv-loop μ-loop
-get-requires c κs = search needs
-
-mul-joins : tie.Need-mul-joins Inv-loop μ-loop
-mul-joins c = search needs
-
-element-copy-out-joins : tie.Need-element-copy-out-joins Inv-loop μ-loop
-element-copy-out-joins c = search needs
-
-mul-joins-2 : tie.Need-mul-joins-2 Inv-loop μ-loop
-mul-joins-2 c = search needs
-
-element-copy-out-joins-2 : tie.Need-element-copy-out-joins-2 Inv-loop μ-loop
-element-copy-out-joins-2 c = search needs
-
-joins-requires : tie.Need-joins-requires Inv-loop μ-loop
-joins-requires c κs = search needs
-
 with-requires : tie.Need-with-requires Inv-loop μ-loop
 with-requires c κs =
     let at-loop = c .before .before .before .before .before .before in
-    let start = at-loop .before in
-    let links = start .args .links in
-    noted-room (joinsAt (start .args .firsts .now) (start .args .seconds .now) (start .args .i)) (slot links) (links .count) (at-loop .loop .inv .1)
-    (start .pre .0)
-
-loop-less : tie.Need-loop-less Inv-loop μ-loop
-loop-less c = search needs
+    noted-room (at-loop .loop .inv .1) (at-loop .before .pre .0)
 
 loop-again : tie.Need-loop-again Inv-loop μ-loop
 loop-again c =
@@ -62,15 +27,14 @@ loop-again c =
     let start = at-loop .before .args in
     let joining = joinsAt (start .firsts .now) (start .seconds .now) (start .i) in (
       omega (arith, at-loop .loop .inv .0),
-      noted-next joining (slot (start .links)) (start .links .count) (c .before .joins .result) (got .get .result) (at-loop .loop .inv .1)
-          (got .before .before .loop-test .taken) (at-loop .loop .inv .0) (c .with .ensures)
+      noted-next (at-loop .loop .inv .1) (got .before .before .loop-test .taken) (at-loop .loop .inv .0) (c .with .ensures)
           (c .before .joins .ensures ∙ ap joining (got .before .index .ensures .0)) (got .get .ensures),
     )
 
 returns : tie.Need-returns Inv-loop μ-loop
 returns c =
     let start = c .before .before .args in
-    noted-listed (joinsAt (start .firsts .now) (start .seconds .now) (start .i)) (start .links) (c .before .loop .inv .1) (omega (arith, c .loop-test .left))
+    noted-listed (start .links) (c .before .loop .inv .1) (omega (arith, c .loop-test .left))
 
 pub links-at-spec : {M : Type 1} → statement M
 links-at-spec =
@@ -78,16 +42,16 @@ links-at-spec =
     (tie.spec
     Inv-loop
     μ-loop
-    loop-holds
-    sub-j
-    index-requires
-    get-requires
-    mul-joins
-    element-copy-out-joins
-    mul-joins-2
-    element-copy-out-joins-2
-    joins-requires
+    (λ c. (omega arith, noted-start refl))
+    (λ c. search needs)
+    (λ c κs. c .before .before .pre .1 (c .before .loop .j - 1))
+    (λ c κs. search needs)
+    (λ c. search needs)
+    (λ c. search needs)
+    (λ c. search needs)
+    (λ c. search needs)
+    (λ c κs. search needs)
     with-requires
-    loop-less
+    (λ c. search needs)
     loop-again
     returns)

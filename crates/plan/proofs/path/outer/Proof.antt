@@ -10,36 +10,12 @@ use borrow.Author.Needs.{needs}
 use Rattle.plan.proofs.path.outer.Statement.{statement}
 use Rattle.plan.proofs.path.outer.Tie as tie
 
-links-at-requires : tie.Need-links-at-requires
-links-at-requires c κs = search needs
-
-mul-other-region : tie.Need-mul-other-region
-mul-other-region c = search needs
-
-element-copy-out-other-region : tie.Need-element-copy-out-other-region
-element-copy-out-other-region c = search needs
-
-mul-other-region-2 : tie.Need-mul-other-region-2
-mul-other-region-2 c = search needs
-
-element-copy-out-other-region-2 : tie.Need-element-copy-out-other-region-2
-element-copy-out-other-region-2 c = search needs
-
-size-requires : tie.Need-size-requires
-size-requires c κs = search needs
-
-mul-other-region-3 : tie.Need-mul-other-region-3
-mul-other-region-3 c = search needs
-
 element-copy-out-other-region-3 : tie.Need-element-copy-out-other-region-3
 element-copy-out-other-region-3 c =
     let noted = c .before .before .before in
     let start = noted .before in
     let joining = joinsAt (start .args .firsts .now) (start .args .seconds .now) (start .args .i) in
     omega (arith, c .size .ensures .0, kept-first (λ x. x < 256) joining (start .args .links) (noted .links-at .ensures) (start .pre .1) (omega arith))
-
-other-region-requires : tie.Need-other-region-requires
-other-region-requires c κs = search needs
 
 returns : tie.Need-returns
 returns c =
@@ -52,13 +28,13 @@ pub outer-spec : {M : Type 1} → statement M
 outer-spec =
     tie.close
     (tie.spec
-    links-at-requires
-    mul-other-region
-    element-copy-out-other-region
-    mul-other-region-2
-    element-copy-out-other-region-2
-    size-requires
-    mul-other-region-3
+    (λ c κs. search needs)
+    (λ c. search needs)
+    (λ c. search needs)
+    (λ c. search needs)
+    (λ c. search needs)
+    (λ c κs. search needs)
+    (λ c. search needs)
     element-copy-out-other-region-3
-    other-region-requires
+    (λ c κs. search needs)
     returns)

@@ -31,19 +31,10 @@ loop-holds c =
           (ranks .count),
     )
 
-sub-j : tie.Need-sub-j Inv-loop μ-loop
-sub-j c = search needs
-
-get-requires : tie.Need-get-requires Inv-loop μ-loop
-get-requires c κs = search needs
-
 links-at-requires : tie.Need-links-at-requires Inv-loop μ-loop
 links-at-requires c κs =
     let start = c .before .before .before in
     (start .pre .0, start .pre .1)
-
-loop-less : tie.Need-loop-less Inv-loop μ-loop
-loop-less c = search needs
 
 loop-again : tie.Need-loop-again Inv-loop μ-loop
 loop-again c =
@@ -77,9 +68,9 @@ regular-spec =
     Inv-loop
     μ-loop
     loop-holds
-    sub-j
-    get-requires
+    (λ c. search needs)
+    (λ c κs. search needs)
     links-at-requires
-    loop-less
+    (λ c. search needs)
     loop-again
     returns)

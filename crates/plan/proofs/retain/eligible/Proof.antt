@@ -18,24 +18,6 @@ Inv-loop limits bits least ranks found₀ j₀ found j = (j ≤ ranks .count) ×
 abbrev μ-loop : tie.MeasureT-loop
 μ-loop limits bits least ranks found₀ j₀ found j = j
 
-none-requires : tie.Need-none-requires Inv-loop μ-loop
-none-requires c κs = search needs
-
-loop-holds : tie.Need-loop-holds Inv-loop μ-loop
-loop-holds c =
-    let start = c .before in
-    let ranks = start .args .ranks in (
-      omega arith,
-      picked-start (fineIn (limitsOf (start .args .limits)) (start .args .bits .now) (start .args .least)) (slot ranks) (ranks .count) (c .none .result)
-          (c .none .ensures),
-    )
-
-sub-j : tie.Need-sub-j Inv-loop μ-loop
-sub-j c = search needs
-
-get-requires : tie.Need-get-requires Inv-loop μ-loop
-get-requires c κs = search needs
-
 index-requires : tie.Need-index-requires Inv-loop μ-loop
 index-requires c κs =
     let start = c .before .before .before .before in
@@ -50,36 +32,22 @@ is-eligible-requires c κs =
 with-requires : tie.Need-with-requires Inv-loop μ-loop
 with-requires c κs =
     let at-loop = c .before .before .before .before in
-    let start = at-loop .before .before in
-    let ranks = start .args .ranks in
-    picked-room (fineIn (limitsOf (start .args .limits)) (start .args .bits .now) (start .args .least)) (slot ranks) (ranks .count) (at-loop .loop .inv .1)
-    (start .pre .0)
-
-loop-less : tie.Need-loop-less Inv-loop μ-loop
-loop-less c = search needs
+    picked-room (at-loop .loop .inv .1) (at-loop .before .before .pre .0)
 
 loop-again : tie.Need-loop-again Inv-loop μ-loop
 loop-again c =
-    let at-index = c .before .before in
-    let at-get = at-index .before in
-    let turning = at-get .before in
-    let at-loop = turning .before in
-    let start = at-loop .before .before in
-    let bits = start .args .bits .now in
-    let limits = start .args .limits in
-    let ranks = start .args .ranks in
-    let least = start .args .least in (
-      omega (arith, at-loop .loop .inv .0),
-      picked-next (fineIn (limitsOf limits) bits least) (slot ranks) (ranks .count) (c .before .is-eligible .result) (at-get .get .result)
-          (at-loop .loop .inv .1) (turning .loop-test .taken) (at-loop .loop .inv .0) (c .with .ensures)
-          (c .before .is-eligible .ensures ∙ ap (fineIn (limitsOf limits) bits least) (at-index .index .ensures .0)) (at-get .get .ensures),
+    let index = c .before .before in
+    let got = index .before in
+    let turning = got .before in
+    let inv = turning .before .loop .inv in
+    let a = turning .before .before .before .args in (
+      omega (arith, inv .0),
+      picked-next (inv .1) (turning .loop-test .taken) (inv .0) (c .with .ensures)
+          (c .before .is-eligible .ensures ∙ ap (fineIn (limitsOf (a .limits)) (a .bits .now) (a .least)) (index .index .ensures .0)) (got .get .ensures),
     )
 
 returns : tie.Need-returns Inv-loop μ-loop
-returns c =
-    let start = c .before .before .before in
-    picked-listed (fineIn (limitsOf (start .args .limits)) (start .args .bits .now) (start .args .least)) (start .args .ranks) (c .before .loop .inv .1)
-    (omega (arith, c .loop-test .left))
+returns c = picked-listed (c .before .before .before .args .ranks) (c .before .loop .inv .1) (omega (arith, c .loop-test .left))
 
 pub eligible-spec : {M : Type 1} → statement M
 eligible-spec =
@@ -87,13 +55,13 @@ eligible-spec =
     (tie.spec
     Inv-loop
     μ-loop
-    none-requires
-    loop-holds
-    sub-j
-    get-requires
+    (λ c κs. search needs)
+    (λ c. (omega arith, picked-start (c .none .ensures)))
+    (λ c. search needs)
+    (λ c κs. search needs)
     index-requires
     is-eligible-requires
     with-requires
-    loop-less
+    (λ c. search needs)
     loop-again
     returns)

@@ -6,18 +6,6 @@ use borrow.Author.Needs.{needs}
 use Rattle.plan.proofs.retain.is_eligible.Statement.{statement}
 use Rattle.plan.proofs.retain.is_eligible.Tie as tie
 
-mul-width-of : tie.Need-mul-width-of
-mul-width-of c = search needs
-
-element-copy-out-width-of : tie.Need-element-copy-out-width-of
-element-copy-out-width-of c = search needs
-
-width-of-requires : tie.Need-width-of-requires
-width-of-requires c κs = c .before .pre .fits
-
-eligible-requires : tie.Need-eligible-requires
-eligible-requires c κs = search needs
-
 returns : tie.Need-returns
 returns c =
     let start = c .before .before .before in
@@ -26,4 +14,4 @@ returns c =
 pub is-eligible-spec : {M : Type 1} → statement M
 is-eligible-spec =
     tie.close
-    (tie.spec mul-width-of element-copy-out-width-of width-of-requires eligible-requires returns)
+    (tie.spec (λ c. search needs) (λ c. search needs) (λ c κs. c .before .pre .fits) (λ c κs. search needs) returns)

@@ -17,18 +17,6 @@ Inv-loop bits ranks j₀ least₀ j least = First totalLe (λ i. at bits (slot r
 abbrev μ-loop : tie.MeasureT-loop
 μ-loop bits ranks j₀ least₀ j least = j
 
-sub-j : tie.Need-sub-j Inv-loop μ-loop
-sub-j c = search needs
-
-index-requires : tie.Need-index-requires Inv-loop μ-loop
-index-requires c κs = c .before .pre .1 (c .before .args .ranks .count - 1) .below
-
-mul-least : tie.Need-mul-least Inv-loop μ-loop
-mul-least c = search needs
-
-element-copy-out-least : tie.Need-element-copy-out-least Inv-loop μ-loop
-element-copy-out-least c = search needs
-
 loop-holds : tie.Need-loop-holds Inv-loop μ-loop
 loop-holds c =
     let start = c .before .before .before in
@@ -39,19 +27,10 @@ loop-holds c =
       subst (λ (i : ℕ). at bits i ≤ 0x40D0_0000_0000_0000) (sym (c .before .index .ensures .0)) (start .pre .1 (ranks .count - 1) .fits),
     )
 
-sub-j-2 : tie.Need-sub-j-2 Inv-loop μ-loop
-sub-j-2 c = search needs
-
 index-requires-2 : tie.Need-index-requires-2 Inv-loop μ-loop
 index-requires-2 c κs =
     let start = c .before .before .before .before .before in
     start .pre .1 (c .before .loop .j - 1) .below
-
-mul-lesser : tie.Need-mul-lesser Inv-loop μ-loop
-mul-lesser c = search needs
-
-element-copy-out-lesser : tie.Need-element-copy-out-lesser Inv-loop μ-loop
-element-copy-out-lesser c = search needs
 
 lesser-requires : tie.Need-lesser-requires Inv-loop μ-loop
 lesser-requires c κs =
@@ -61,9 +40,6 @@ lesser-requires c κs =
           (start .pre .1 (at-loop .loop .j - 1) .fits),
       at-loop .loop .inv .1,
     )
-
-loop-less : tie.Need-loop-less Inv-loop μ-loop
-loop-less c = search needs
 
 loop-again : tie.Need-loop-again Inv-loop μ-loop
 loop-again c =
@@ -90,16 +66,16 @@ least-bits-spec =
     (tie.spec
     Inv-loop
     μ-loop
-    sub-j
-    index-requires
-    mul-least
-    element-copy-out-least
+    (λ c. search needs)
+    (λ c κs. c .before .pre .1 (c .before .args .ranks .count - 1) .below)
+    (λ c. search needs)
+    (λ c. search needs)
     loop-holds
-    sub-j-2
+    (λ c. search needs)
     index-requires-2
-    mul-lesser
-    element-copy-out-lesser
+    (λ c. search needs)
+    (λ c. search needs)
     lesser-requires
-    loop-less
+    (λ c. search needs)
     loop-again
     returns)

@@ -4,9 +4,6 @@ use borrow.Author.Needs.{needs}
 use Rattle.plan.proofs.retain.lesser.Statement.{statement}
 use Rattle.plan.proofs.retain.lesser.Tie as tie
 
-total-le-requires : tie.Need-total-le-requires
-total-le-requires c κs = search needs
-
 returns : tie.Need-returns
 returns c =
     let start = c .before .before in
@@ -18,4 +15,4 @@ returns-2 c =
     (choose-no (start .args .a) (start .args .b) (sym (c .before .total-le .ensures) ∙ c .if1 .left), start .pre .1)
 
 pub lesser-spec : {M : Type 1} → statement M
-lesser-spec = tie.close (tie.spec total-le-requires returns returns-2)
+lesser-spec = tie.close (tie.spec (λ c κs. search needs) returns returns-2)

@@ -5,15 +5,6 @@ use borrow.Author.Needs.{needs}
 use Rattle.plan.proofs.retain.nearer.Statement.{statement}
 use Rattle.plan.proofs.retain.nearer.Tie as tie
 
-sum-from-requires : tie.Need-sum-from-requires
-sum-from-requires c κs = search needs
-
-sum-from-requires-2 : tie.Need-sum-from-requires-2
-sum-from-requires-2 c κs = search needs
-
-no-later-requires : tie.Need-no-later-requires
-no-later-requires c κs = search needs
-
 returns : tie.Need-returns
 returns c =
     let at-sum-from2 = c .before .before in
@@ -46,4 +37,4 @@ returns-2 c =
 
 pub nearer-spec : {M : Type 1} → statement M
 nearer-spec =
-    tie.close (tie.spec sum-from-requires sum-from-requires-2 no-later-requires returns returns-2)
+    tie.close (tie.spec (λ c κs. search needs) (λ c κs. search needs) (λ c κs. search needs) returns returns-2)

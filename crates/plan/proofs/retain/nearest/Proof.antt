@@ -17,12 +17,6 @@ Inv-loop own ranks among j₀ best₀ j best = First (nearerIn own (listed ranks
 abbrev μ-loop : tie.MeasureT-loop
 μ-loop own ranks among j₀ best₀ j best = j
 
-sub-j : tie.Need-sub-j Inv-loop μ-loop
-sub-j c = search needs
-
-index-requires : tie.Need-index-requires Inv-loop μ-loop
-index-requires c κs = c .before .pre .3 (c .before .args .among .count - 1) .below
-
 loop-holds : tie.Need-loop-holds Inv-loop μ-loop
 loop-holds c =
     let start = c .before .before in
@@ -32,9 +26,6 @@ loop-holds c =
           (c .index .ensures .0),
       subst (RankFits own) (sym (c .index .ensures .0)) (start .pre .3 (among .count - 1)),
     )
-
-sub-j-2 : tie.Need-sub-j-2 Inv-loop μ-loop
-sub-j-2 c = search needs
 
 index-requires-2 : tie.Need-index-requires-2 Inv-loop μ-loop
 index-requires-2 c κs =
@@ -50,9 +41,6 @@ nearer-requires c κs =
       subst (RankFits (start .args .own .now)) (sym (c .index2 .ensures .0)) (start .pre .3 (at-loop .loop .j - 1)),
       at-loop .loop .inv .1,
     )
-
-loop-less : tie.Need-loop-less Inv-loop μ-loop
-loop-less c = search needs
 
 loop-again : tie.Need-loop-again Inv-loop μ-loop
 loop-again c =
@@ -80,12 +68,12 @@ nearest-spec =
     (tie.spec
     Inv-loop
     μ-loop
-    sub-j
-    index-requires
+    (λ c. search needs)
+    (λ c κs. c .before .pre .3 (c .before .args .among .count - 1) .below)
     loop-holds
-    sub-j-2
+    (λ c. search needs)
     index-requires-2
     nearer-requires
-    loop-less
+    (λ c. search needs)
     loop-again
     returns)

@@ -8,15 +8,6 @@ use borrow.Author.Needs.{needs}
 use Rattle.plan.proofs.retain.representative.Statement.{statement}
 use Rattle.plan.proofs.retain.representative.Tie as tie
 
-least-bits-requires : tie.Need-least-bits-requires
-least-bits-requires c κs = search needs
-
-width-of-requires : tie.Need-width-of-requires
-width-of-requires c κs = search needs
-
-eligible-requires : tie.Need-eligible-requires
-eligible-requires c κs = search needs
-
 index-requires : tie.Need-index-requires
 index-requires c κs =
     let start = c .before .before .before .before .before in
@@ -68,9 +59,9 @@ pub representative-spec : {M : Type 1} → statement M
 representative-spec =
     tie.close
     (tie.spec
-    least-bits-requires
-    width-of-requires
-    eligible-requires
+    (λ c κs. search needs)
+    (λ c κs. search needs)
+    (λ c κs. search needs)
     index-requires
     returns
     nearest-requires

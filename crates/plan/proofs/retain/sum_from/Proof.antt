@@ -15,9 +15,6 @@ Inv-loop own ranks i total₀ j₀ total j = Summed (distanceAt own i ranks) (ra
 abbrev μ-loop : tie.MeasureT-loop
 μ-loop own ranks i total₀ j₀ total j = ranks .count - j
 
-index-requires : tie.Need-index-requires Inv-loop μ-loop
-index-requires c κs = c .pre .1 0 .below
-
 rank-distance-requires : tie.Need-rank-distance-requires Inv-loop μ-loop
 rank-distance-requires c κs = (c .before .pre .2, subst (RankFits (c .before .args .own .now)) (sym (c .index .ensures .0)) (c .before .pre .1 0))
 
@@ -38,12 +35,6 @@ rank-distance-requires-2 c κs =
     let at-loop = c .before .before .before in
     let start = at-loop .before .before .before in
     (start .pre .2, subst (RankFits (start .args .own .now)) (sym (c .index2 .ensures .0)) (start .pre .1 (at-loop .loop .j)))
-
-add-j : tie.Need-add-j Inv-loop μ-loop
-add-j c = search needs
-
-loop-less : tie.Need-loop-less Inv-loop μ-loop
-loop-less c = search needs
 
 loop-again : tie.Need-loop-again Inv-loop μ-loop
 loop-again c =
@@ -66,12 +57,12 @@ sum-from-spec =
     (tie.spec
     Inv-loop
     μ-loop
-    index-requires
+    (λ c κs. c .pre .1 0 .below)
     rank-distance-requires
     loop-holds
     index-requires-2
     rank-distance-requires-2
-    add-j
-    loop-less
+    (λ c. search needs)
+    (λ c. search needs)
     loop-again
     returns)

@@ -6,15 +6,6 @@ use borrow.Author.Needs.{needs}
 use Rattle.plan.proofs.select.is_flat_link.Statement.{statement}
 use Rattle.plan.proofs.select.is_flat_link.Tie as tie
 
-is-free-requires : tie.Need-is-free-requires
-is-free-requires c κs = search needs
-
-is-free-requires-2 : tie.Need-is-free-requires-2
-is-free-requires-2 c κs = search needs
-
-alike-requires : tie.Need-alike-requires
-alike-requires c κs = search needs
-
 returns : tie.Need-returns
 returns c =
     let start = c .before .before .before in
@@ -22,4 +13,4 @@ returns c =
     (both _&&_ (both _&&_ (c .before .before .is-free .ensures) (c .before .is-free2 .ensures)) (c .alike .ensures))
 
 pub is-flat-link-spec : {M : Type 1} → statement M
-is-flat-link-spec = tie.close (tie.spec is-free-requires is-free-requires-2 alike-requires returns)
+is-flat-link-spec = tie.close (tie.spec (λ c κs. search needs) (λ c κs. search needs) (λ c κs. search needs) returns)

@@ -1,5 +1,6 @@
 use Rattle.areas.specs.Words.{labelsIn}
 use Rattle.topology.proofs.Bases.{mul-as, hit, not-hit}
+use Prim.Native.Nat.{_+_, _*_, _<_}
 use native.Mathlib.Omega.{arith}
 use borrow.Author.Needs.{needs}
 use Rattle.topology.proofs.anchored.anchor_in.Statement.{statement}
@@ -7,46 +8,20 @@ use Rattle.topology.proofs.anchored.anchor_in.Tie as tie
 
 returns : tie.Need-returns
 returns c =
-    let start = c .before .before in
-    not-hit (labelsIn (start .args .labels .now) (start .args .n)) (start .args .width) (start .args .p) (start .args .region) (c .if1 .taken)
-
-size-requires : tie.Need-size-requires
-size-requires c κs = search needs
-
-size-requires-2 : tie.Need-size-requires-2
-size-requires-2 c κs = search needs
+    let a = c .before .before .args in
+    not-hit (labelsIn (a .labels .now) (a .n)) (a .width) (a .p) (a .region) (c .if1 .taken)
 
 mul-i : tie.Need-mul-i
 mul-i c =
     let start = c .before .before .before .before in
     omega (arith, mul-as (c .before .size .ensures .0) (c .size2 .ensures .0), start .pre .2 .on (c .before .before .if1 .left))
 
-size-requires-3 : tie.Need-size-requires-3
-size-requires-3 c κs = search needs
-
-add-i : tie.Need-add-i
-add-i c =
-    let if1-left = c .before .before .before in
-    let start = if1-left .before .before in
-    omega (arith, c .size3 .ensures .0, mul-as (c .before .before .size .ensures .0) (c .before .size2 .ensures .0), start .pre .2 .on (if1-left .if1 .left))
-
-mul-read-u32 : tie.Need-mul-read-u32
-mul-read-u32 c =
-    let if1-left = c .before .before .before in
-    let start = if1-left .before .before in
-    omega (arith, c .size3 .ensures .0, mul-as (c .before .before .size .ensures .0) (c .before .size2 .ensures .0), start .pre .2 .on (if1-left .if1 .left))
-
-read-u32-requires : tie.Need-read-u32-requires
-read-u32-requires c κs =
-    let if1-left = c .before .before .before in
-    let start = if1-left .before .before in
-    omega (
-      arith,
-      c .size3 .ensures .0,
-      mul-as (c .before .before .size .ensures .0) (c .before .size2 .ensures .0),
-      start .pre .2 .on (if1-left .if1 .left),
-      start .pre .1,
-    )
+-- the anchor's cell is one of the map's
+on : (c : tie.After-size3) → c .before .before .size .result * c .before .size2 .result + c .size3 .result < c .before .before .before .before .before .args .n
+on c =
+    let inside = c .before .before .before in
+    let p = inside .before .before .pre in
+    omega (arith, c .size3 .ensures .0, mul-as (c .before .before .size .ensures .0) (c .before .size2 .ensures .0), p .2 .on (inside .if1 .left))
 
 returns-2 : tie.Need-returns-2
 returns-2 c =
@@ -61,11 +36,11 @@ anchor-in-spec =
     tie.close
     (tie.spec
     returns
-    size-requires
-    size-requires-2
+    (λ c κs. search needs)
+    (λ c κs. search needs)
     mul-i
-    size-requires-3
-    add-i
-    mul-read-u32
-    read-u32-requires
+    (λ c κs. search needs)
+    (λ c. omega (arith, on c))
+    (λ c. omega (arith, on c))
+    (λ c κs. omega (arith, on c, c .before .before .before .before .before .pre .1))
     returns-2)

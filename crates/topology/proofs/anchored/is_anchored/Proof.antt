@@ -18,35 +18,16 @@ loop-holds : tie.Need-loop-holds Inv-loop μ-loop
 unfolding anchoredBy
 loop-holds c = (omega arith, refl)
 
-mul-read-base : tie.Need-mul-read-base Inv-loop μ-loop
-mul-read-base c = search needs
-
-add-read-base : tie.Need-add-read-base Inv-loop μ-loop
-add-read-base c = search needs
-
-read-base-requires : tie.Need-read-base-requires Inv-loop μ-loop
-read-base-requires c κs = search needs
-
 anchor-in-requires : tie.Need-anchor-in-requires Inv-loop μ-loop
 anchor-in-requires c κs =
     let start = c .before .before .before .before .before in
     (start .pre .1, start .pre .2, hit-as (c .read-base .ensures) (start .pre .3 .each (c .before .before .loop .i) (c .before .loop-test .taken)))
 
-add-i : tie.Need-add-i Inv-loop μ-loop
-add-i c = search needs
-
-loop-less : tie.Need-loop-less Inv-loop μ-loop
-loop-less c = search needs
-
 loop-again : tie.Need-loop-again Inv-loop μ-loop
-loop-again c =
-    let in-loop = c .before .before .before in
-    (omega arith, base-next _ _ _ _ _ _ (c .before .read-base .ensures) (c .anchor-in .ensures) (in-loop .loop .inv .1))
+loop-again c = (omega arith, base-next _ _ _ _ _ _ (c .before .read-base .ensures) (c .anchor-in .ensures) (c .before .before .before .loop .inv .1))
 
 returns : tie.Need-returns Inv-loop μ-loop
-returns c =
-    let start = c .before .before .before .before in
-    at-end _ _ _ _ _ {i = c .before .loop .i} {count = start .args .count} (omega arith) (c .before .loop .inv .1)
+returns c = at-end _ _ _ _ _ {i = c .before .loop .i} {count = c .before .before .before .before .args .count} (omega arith) (c .before .loop .inv .1)
 
 pub is-anchored-spec : {M : Type 1} → statement M
 is-anchored-spec =
@@ -55,11 +36,11 @@ is-anchored-spec =
     Inv-loop
     μ-loop
     loop-holds
-    mul-read-base
-    add-read-base
-    read-base-requires
+    (λ c. search needs)
+    (λ c. search needs)
+    (λ c κs. search needs)
     anchor-in-requires
-    add-i
-    loop-less
+    (λ c. search needs)
+    (λ c. search needs)
     loop-again
     returns)

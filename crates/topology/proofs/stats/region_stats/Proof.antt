@@ -3,6 +3,7 @@ use Prim.Native.Nat.{ℕ, _-_, _≤_, _<_}
 use native.Mathlib.Omega.{arith}
 use lib.ListN.{length}
 use borrow.Author.Needs.{needs}
+use Rattle.grid.specs.Cells.{Grid}
 use Rattle.areas.specs.Words.{labelsIn}
 use Rattle.topology.specs.Held.{statsAfter, firstCells}
 use Rattle.topology.proofs.CountLoop.{count-start, count-room, count-next, count-end}
@@ -16,42 +17,28 @@ Inv-loop cells width labels region n stats₀ i₀ stats i = (i ≤ length cells
 abbrev μ-loop : tie.MeasureT-loop
 μ-loop cells width labels region n stats₀ i₀ stats i = length cells - i
 
-none-requires : tie.Need-none-requires Inv-loop μ-loop
-none-requires c κs = search needs
+-- the map, of any height
+abbrev map-of : tie.Start Inv-loop μ-loop → ℕ → Grid
+map-of s height = record { width = s .args .width; height = height; cells = s .args .cells .now }
 
 loop-holds : tie.Need-loop-holds Inv-loop μ-loop
 loop-holds c =
     let start = c .before .before .before in (
       omega arith,
-      λ height. count-start (c .none .ensures) (record { width = start .args .width; height = height; cells = start .args .cells .now })
+      λ height. count-start (c .none .ensures) (map-of start height)
           (labelsIn (start .args .labels .now) (length (start .args .cells .now))) (start .args .region),
     )
-
-mul-read-u32 : tie.Need-mul-read-u32 Inv-loop μ-loop
-mul-read-u32 c = search needs
-
-read-u32-requires : tie.Need-read-u32-requires Inv-loop μ-loop
-read-u32-requires c κs = search needs
-
-shared-slice-read-counted : tie.Need-shared-slice-read-counted Inv-loop μ-loop
-shared-slice-read-counted c = search needs
 
 counted-requires : tie.Need-counted-requires Inv-loop μ-loop
 counted-requires c κs =
     let in-loop = c .before .before .before in
     let start = in-loop .before .before .before .before in
     let l : in-loop .loop .i < 1048576 = omega (arith, c .before .before .loop-test .taken, start .pre .1) in (
-      count-room (record { width = start .args .width; height = 0; cells = start .args .cells .now }) (start .args .labels .now)
+      count-room (map-of start 0) (start .args .labels .now)
           (length (start .args .cells .now)) (start .args .region) (in-loop .loop .inv .1 0) l,
       l,
       start .pre .0,
     )
-
-add-i : tie.Need-add-i Inv-loop μ-loop
-add-i c = search needs
-
-loop-less : tie.Need-loop-less Inv-loop μ-loop
-loop-less c = search needs
 
 loop-again : tie.Need-loop-again Inv-loop μ-loop
 loop-again c =
@@ -59,7 +46,7 @@ loop-again c =
     let in-loop = turning .before in
     let start = in-loop .before .before .before .before in (
       omega (arith, turning .loop-test .taken),
-      λ height. count-next (record { width = start .args .width; height = height; cells = start .args .cells .now }) (start .args .labels .now)
+      λ height. count-next (map-of start height) (start .args .labels .now)
           (length (start .args .cells .now)) (start .args .region) (in-loop .loop .inv .1 height) (turning .loop-test .taken)
           (c .before .before .read-u32 .ensures) (c .counted .ensures),
     )
@@ -68,7 +55,7 @@ returns : tie.Need-returns Inv-loop μ-loop
 returns c =
     let start = c .before .before .before .before .before in
     let inv = c .before .loop .inv in
-    λ height. count-end (record { width = start .args .width; height = height; cells = start .args .cells .now }) (start .args .labels .now)
+    λ height. count-end (map-of start height) (start .args .labels .now)
     (length (start .args .cells .now)) (start .args .region) (inv .1 height) (omega (arith, inv .0, c .loop-test .left))
 
 pub region-stats-spec : {M : Type 1} → statement M
@@ -77,13 +64,13 @@ region-stats-spec =
     (tie.spec
     Inv-loop
     μ-loop
-    none-requires
+    (λ c κs. search needs)
     loop-holds
-    mul-read-u32
-    read-u32-requires
-    shared-slice-read-counted
+    (λ c. search needs)
+    (λ c κs. search needs)
+    (λ c. search needs)
     counted-requires
-    add-i
-    loop-less
+    (λ c. search needs)
+    (λ c. search needs)
     loop-again
     returns)

@@ -24,9 +24,6 @@ loop-holds c =
     let start = start-of c in
     (omega arith, refl, refl, start .pre .1)
 
-sub-k : tie.Need-sub-k Inv-loop μ-loop
-sub-k c = search needs
-
 link-record-requires : tie.Need-link-record-requires Inv-loop μ-loop
 link-record-requires c κs =
     let turning = c .before .before .before in
@@ -44,9 +41,6 @@ link-record-requires c κs =
       omega (arith, G .left-in (k - 1) l, N .heads-are),
       omega (arith, G .right-in (k - 1) l, N .heads-are),
     )
-
-loop-less : tie.Need-loop-less Inv-loop μ-loop
-loop-less c = search needs
 
 loop-again : tie.Need-loop-again Inv-loop μ-loop
 loop-again c =
@@ -70,15 +64,6 @@ loop-again c =
           l),
     )
 
-same-length : tie.Need-same-length Inv-loop μ-loop
-same-length c = c .before .loop .inv .3 .heads-are
-
-same-length-2 : tie.Need-same-length-2 Inv-loop μ-loop
-same-length-2 c = c .before .loop .inv .1
-
-same-length-3 : tie.Need-same-length-3 Inv-loop μ-loop
-same-length-3 c = c .before .loop .inv .2
-
 returns : tie.Need-returns Inv-loop μ-loop
 returns c =
     let start = start-of (c .before .before) in
@@ -93,11 +78,11 @@ full-graph-spec =
     Inv-loop
     μ-loop
     loop-holds
-    sub-k
+    (λ c. search needs)
     link-record-requires
-    loop-less
+    (λ c. search needs)
     loop-again
-    same-length
-    same-length-2
-    same-length-3
+    (λ c. c .before .loop .inv .3 .heads-are)
+    (λ c. c .before .loop .inv .1)
+    (λ c. c .before .loop .inv .2)
     returns)

@@ -3,24 +3,6 @@ use borrow.Author.Needs.{needs}
 use Rattle.walk.proofs.frame.opened.Statement.{statement}
 use Rattle.walk.proofs.frame.opened.Tie as tie
 
-size-requires : tie.Need-size-requires
-size-requires c κs = search needs
-
-mul-next : tie.Need-mul-next
-mul-next c = search needs
-
-shared-slice-read-next : tie.Need-shared-slice-read-next
-shared-slice-read-next c = search needs
-
-at-region-requires : tie.Need-at-region-requires
-at-region-requires c κs = search needs
-
-parent-record-requires : tie.Need-parent-record-requires
-parent-record-requires c κs = search needs
-
-next-record-requires : tie.Need-next-record-requires
-next-record-requires c κs = search needs
-
 returns : tie.Need-returns
 returns c =
     let after-size = c .before .before .before .before in
@@ -30,4 +12,13 @@ returns c =
     (m .0 ∙ p .0 ∙ r .0, m .1 ∙ p .1, m .2 ∙ rw (after-size .size .ensures .0), m .3 ∙ p .3 ∙ r .3)
 
 pub opened-spec : {M : Type 1} → statement M
-opened-spec = tie.close (tie.spec size-requires mul-next shared-slice-read-next at-region-requires parent-record-requires next-record-requires returns)
+opened-spec =
+    tie.close
+    (tie.spec
+    (λ c κs. search needs)
+    (λ c. search needs)
+    (λ c. search needs)
+    (λ c κs. search needs)
+    (λ c κs. search needs)
+    (λ c κs. search needs)
+    returns)

@@ -12,49 +12,10 @@ use Rattle.walk.proofs.stack.leave.Tie as tie
 abbrev start-of : tie.After-shared-slice-known3 → tie.Start
 start-of c = c .before .before .before .before
 
-mul-least : tie.Need-mul-least
-mul-least c = search needs
-
-slice-read-least : tie.Need-slice-read-least
-slice-read-least c = search needs
-
-least-requires : tie.Need-least-requires
-least-requires c κs = search needs
-
-mul-lows : tie.Need-mul-lows
-mul-lows c = search needs
-
-slice-write-lows : tie.Need-slice-write-lows
-slice-write-lows c = search needs
-
-mul-time-of : tie.Need-mul-time-of
-mul-time-of c = search needs
-
-shared-slice-read-time-of : tie.Need-shared-slice-read-time-of
-shared-slice-read-time-of c = search needs
-
-time-of-requires : tie.Need-time-of-requires
-time-of-requires c κs = search needs
-
-size-requires : tie.Need-size-requires
-size-requires c κs = search needs
-
-mul-size : tie.Need-mul-size
-mul-size c = search needs
-
-shared-slice-read-size : tie.Need-shared-slice-read-size
-shared-slice-read-size c = search needs
-
-size-requires-2 : tie.Need-size-requires-2
-size-requires-2 c κs = search needs
-
 element-write-marks : tie.Need-element-write-marks
 element-write-marks c =
     let start = start-of (c .before .before .before .before .before .before .before .before) in
     omega (arith, c .size2 .ensures .0, ap (at (start .args .owners .now)) (c .before .before .size .ensures .0), start .pre .4)
-
-same-length : tie.Need-same-length
-same-length c = search needs
 
 returns : tie.Need-returns
 returns c =
@@ -70,9 +31,6 @@ returns c =
           (omega (arith, if1-taken .if1 .taken, after-time-of .time-of .ensures)),
     )
 
-same-length-2 : tie.Need-same-length-2
-same-length-2 c = search needs
-
 returns-2 : tie.Need-returns-2
 returns-2 c =
     let after-least = c .before .before .before in
@@ -87,20 +45,20 @@ pub leave-spec : {M : Type 1} → statement M
 leave-spec =
     tie.close
     (tie.spec
-    mul-least
-    slice-read-least
-    least-requires
-    mul-lows
-    slice-write-lows
-    mul-time-of
-    shared-slice-read-time-of
-    time-of-requires
-    size-requires
-    mul-size
-    shared-slice-read-size
-    size-requires-2
+    (λ c. search needs)
+    (λ c. search needs)
+    (λ c κs. search needs)
+    (λ c. search needs)
+    (λ c. search needs)
+    (λ c. search needs)
+    (λ c. search needs)
+    (λ c κs. search needs)
+    (λ c κs. search needs)
+    (λ c. search needs)
+    (λ c. search needs)
+    (λ c κs. search needs)
     element-write-marks
-    same-length
+    (λ c. search needs)
     returns
-    same-length-2
+    (λ c. search needs)
     returns-2)

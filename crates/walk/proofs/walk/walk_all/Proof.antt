@@ -21,66 +21,33 @@ abbrev μ-loop : tie.MeasureT-loop
 abbrev start-of : tie.After-slice-known5 Inv-loop μ-loop → tie.Start Inv-loop μ-loop
 start-of c = c .before .before .before .before .before .before .before .before .before .before .before
 
-size-requires : tie.Need-size-requires Inv-loop μ-loop
-size-requires c κs = search needs
+-- the start, from a turn; the turn, from its end
+abbrev asked : tie.At-loop Inv-loop μ-loop → tie.Start Inv-loop μ-loop
+asked c = start-of (c .before .before .before)
+
+abbrev turn-of : tie.After-slice-known10 Inv-loop μ-loop → tie.In-loop Inv-loop μ-loop
+turn-of c = c .before .before .before .before .before .before .before .before .before .before .before .before .before .before .before .before .before
 
 loop-holds : tie.Need-loop-holds Inv-loop μ-loop
 loop-holds c =
-    let start = start-of (c .before .before) in
-    let p = start .pre in
+    let p = start-of (c .before .before) .pre in
     (omega arith, c .size .ensures .0, started (p .0) (p .1) (p .2) (p .4) (p .5) 256 refl)
 
 visit-requires : tie.Need-visit-requires Inv-loop μ-loop
 visit-requires c κs =
-    let turning = c .before .before .before .before .before .before in
-    let in-loop = turning .before in
-    let start = start-of (in-loop .before .before .before) in
-    let inv = in-loop .loop .inv in
-    (inv .2, start .pre .3, omega (arith, inv .1, turning .loop-test .taken))
+    let turn = c .before .before .before .before .before .before in
+    let inv = turn .before .loop .inv in
+    (inv .2, asked (turn .before) .pre .3, omega (arith, inv .1, turn .loop-test .taken))
 
 add-r : tie.Need-add-r Inv-loop μ-loop
 add-r c =
-    let turning = c .before .before .before .before .before .before .before .before .before .before .before .before .before .before .before .before .before in
-    let in-loop = turning .before in
-    let start = start-of (in-loop .before .before .before) in
-    omega (arith, turning .loop-test .taken, in-loop .loop .inv .1, start .pre .0 .few)
-
-loop-less : tie.Need-loop-less Inv-loop μ-loop
-loop-less c =
-    let turning = c .before .before .before .before .before .before .before .before .before .before .before .before .before .before .before .before .before in
-    omega (arith, turning .loop-test .taken)
+    let at-loop = turn-of c .before in
+    omega (arith, turn-of c .loop-test .taken, at-loop .loop .inv .1, asked at-loop .pre .0 .few)
 
 loop-again : tie.Need-loop-again Inv-loop μ-loop
 loop-again c =
-    let after-visit = c .before .before .before .before .before .before .before .before .before .before in
-    let turning = after-visit .before .before .before .before .before .before .before in
-    let in-loop = turning .before in
-    (omega (arith, turning .loop-test .taken), in-loop .loop .inv .1, after-visit .visit .ensures)
-
-same-length : tie.Need-same-length Inv-loop μ-loop
-same-length c =
-    let start = start-of (c .before .before .before .before) in
-    c .before .loop .inv .2 .sized .disc-are ∙ sym (start .pre .4 .disc-are)
-
-same-length-2 : tie.Need-same-length-2 Inv-loop μ-loop
-same-length-2 c =
-    let start = start-of (c .before .before .before .before) in
-    c .before .loop .inv .2 .sized .stack-are ∙ sym (start .pre .4 .stack-are)
-
-same-length-3 : tie.Need-same-length-3 Inv-loop μ-loop
-same-length-3 c =
-    let start = start-of (c .before .before .before .before) in
-    c .before .loop .inv .2 .sized .parents-are ∙ sym (start .pre .4 .parents-are)
-
-same-length-4 : tie.Need-same-length-4 Inv-loop μ-loop
-same-length-4 c =
-    let start = start-of (c .before .before .before .before) in
-    c .before .loop .inv .2 .sized .nexts-are ∙ sym (start .pre .4 .nexts-are)
-
-same-length-5 : tie.Need-same-length-5 Inv-loop μ-loop
-same-length-5 c =
-    let start = start-of (c .before .before .before .before) in
-    c .before .loop .inv .2 .sized .lows-are ∙ sym (start .pre .4 .lows-are)
+    let visited = c .before .before .before .before .before .before .before .before .before .before in
+    (omega (arith, turn-of c .loop-test .taken), turn-of c .before .loop .inv .1, visited .visit .ensures)
 
 returns : tie.Need-returns Inv-loop μ-loop
 returns c =
@@ -93,15 +60,15 @@ walk-all-spec =
     (tie.spec
     Inv-loop
     μ-loop
-    size-requires
+    (λ c κs. search needs)
     loop-holds
     visit-requires
     add-r
-    loop-less
+    (λ c. omega (arith, turn-of c .loop-test .taken))
     loop-again
-    same-length
-    same-length-2
-    same-length-3
-    same-length-4
-    same-length-5
+    (λ c. c .before .loop .inv .2 .sized .disc-are ∙ sym (asked (c .before) .pre .4 .disc-are))
+    (λ c. c .before .loop .inv .2 .sized .stack-are ∙ sym (asked (c .before) .pre .4 .stack-are))
+    (λ c. c .before .loop .inv .2 .sized .parents-are ∙ sym (asked (c .before) .pre .4 .parents-are))
+    (λ c. c .before .loop .inv .2 .sized .nexts-are ∙ sym (asked (c .before) .pre .4 .nexts-are))
+    (λ c. c .before .loop .inv .2 .sized .lows-are ∙ sym (asked (c .before) .pre .4 .lows-are))
     returns)

@@ -2,24 +2,6 @@ use borrow.Author.Needs.{needs}
 use Rattle.links.proofs.geometry.Range.with_ends.Statement.{statement}
 use Rattle.links.proofs.geometry.Range.with_ends.Tie as tie
 
-point-of-requires : tie.Need-point-of-requires
-point-of-requires c κs = search needs
-
-point-of-requires-2 : tie.Need-point-of-requires-2
-point-of-requires-2 c κs = search needs
-
-dot-requires : tie.Need-dot-requires
-dot-requires c κs = search needs
-
-widened-requires : tie.Need-widened-requires
-widened-requires c κs = search needs
-
-dot-requires-2 : tie.Need-dot-requires-2
-dot-requires-2 c κs = search needs
-
-widened-requires-2 : tie.Need-widened-requires-2
-widened-requires-2 c κs = search needs
-
 returns : tie.Need-returns
 returns c =
     let after-dot = c .before .before .before in
@@ -38,10 +20,10 @@ pub with-ends-spec : {M : Type 1} → statement M
 with-ends-spec =
     tie.close
     (tie.spec
-    point-of-requires
-    point-of-requires-2
-    dot-requires
-    widened-requires
-    dot-requires-2
-    widened-requires-2
+    (λ c κs. search needs)
+    (λ c κs. search needs)
+    (λ c κs. search needs)
+    (λ c κs. search needs)
+    (λ c κs. search needs)
+    (λ c κs. search needs)
     returns)

@@ -4,15 +4,6 @@ use borrow.Author.Needs.{needs}
 use Rattle.links.proofs.link.Link.measured.Statement.{statement}
 use Rattle.links.proofs.link.Link.measured.Tie as tie
 
-returns : tie.Need-returns
-returns c = no-cell _ _ (not-true _ (c .if1 .taken))
-
-transverse-envelope-requires : tie.Need-transverse-envelope-requires
-transverse-envelope-requires c κs = search needs
-
-longitudinal-envelope-requires : tie.Need-longitudinal-envelope-requires
-longitudinal-envelope-requires c κs = search needs
-
 returns-2 : tie.Need-returns-2
 returns-2 c =
     let after-longitudinal-envelope = c .before .before .before .before in
@@ -33,8 +24,8 @@ pub measured-spec : {M : Type 1} → statement M
 measured-spec =
     tie.close
     (tie.spec
-    returns
-    transverse-envelope-requires
-    longitudinal-envelope-requires
+    (λ c. no-cell _ _ (not-true _ (c .if1 .taken)))
+    (λ c κs. search needs)
+    (λ c κs. search needs)
     returns-2
     returns-3)

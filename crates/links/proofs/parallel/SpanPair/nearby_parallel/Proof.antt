@@ -4,24 +4,6 @@ use borrow.Author.Needs.{needs}
 use Rattle.links.proofs.parallel.SpanPair.nearby_parallel.Statement.{statement}
 use Rattle.links.proofs.parallel.SpanPair.nearby_parallel.Tie as tie
 
-canonical-requires : tie.Need-canonical-requires
-canonical-requires c κs = search needs
-
-canonical-requires-2 : tie.Need-canonical-requires-2
-canonical-requires-2 c κs = search needs
-
-span-vector-requires : tie.Need-span-vector-requires
-span-vector-requires c κs = search needs
-
-span-vector-requires-2 : tie.Need-span-vector-requires-2
-span-vector-requires-2 c κs = search needs
-
-dot-requires : tie.Need-dot-requires
-dot-requires c κs = search needs
-
-abs-requires : tie.Need-abs-requires
-abs-requires c κs = search needs
-
 span-length-requires : tie.Need-span-length-requires
 span-length-requires c κs =
     let after-canonical = c .before .before .before .before .before in
@@ -54,9 +36,6 @@ returns c =
       after-canonical2 .canonical2 .ensures,
       after-canonical .canonical .ensures,
     ))
-
-facing-requires : tie.Need-facing-requires
-facing-requires c κs = search needs
 
 near-ends-requires : tie.Need-near-ends-requires
 near-ends-requires c κs =
@@ -102,15 +81,15 @@ pub nearby-parallel-spec : {M : Type 1} → statement M
 nearby-parallel-spec =
     tie.close
     (tie.spec
-    canonical-requires
-    canonical-requires-2
-    span-vector-requires
-    span-vector-requires-2
-    dot-requires
-    abs-requires
+    (λ c κs. search needs)
+    (λ c κs. search needs)
+    (λ c κs. search needs)
+    (λ c κs. search needs)
+    (λ c κs. search needs)
+    (λ c κs. search needs)
     span-length-requires
     span-length-requires-2
     returns
-    facing-requires
+    (λ c κs. search needs)
     near-ends-requires
     returns-2)

@@ -6,16 +6,10 @@ use Rattle.plan.proofs.few.Few.get.Tie as tie
 returns : tie.Need-returns
 returns c = slot-past (c .before .args .t1) (c .before .args .j) (c .if1 .taken)
 
-mul-result : tie.Need-mul-result
-mul-result c = search needs
-
-element-copy-out-result : tie.Need-element-copy-out-result
-element-copy-out-result c = search needs
-
 returns-2 : tie.Need-returns-2
 returns-2 c =
     let start = c .before .before in
     slot-in (start .args .t1) (start .args .j) (c .before .if1 .left)
 
 pub get-spec : {M : Type 1} → statement M
-get-spec = tie.close (tie.spec returns mul-result element-copy-out-result returns-2)
+get-spec = tie.close (tie.spec returns (λ c. search needs) (λ c. search needs) returns-2)

@@ -4,27 +4,6 @@ use borrow.Author.Needs.{needs}
 use Rattle.topology.proofs.stats.RegionStats.elevation_kinds.Statement.{statement}
 use Rattle.topology.proofs.stats.RegionStats.elevation_kinds.Tie as tie
 
-one-requires : tie.Need-one-requires
-one-requires c κs = search needs
-
-one-requires-2 : tie.Need-one-requires-2
-one-requires-2 c κs = search needs
-
-add-result : tie.Need-add-result
-add-result c = search needs
-
-one-requires-3 : tie.Need-one-requires-3
-one-requires-3 c κs = search needs
-
-add-result-2 : tie.Need-add-result-2
-add-result-2 c = search needs
-
-one-requires-4 : tie.Need-one-requires-4
-one-requires-4 c κs = search needs
-
-add-result-3 : tie.Need-add-result-3
-add-result-3 c = search needs
-
 returns : tie.Need-returns
 unfolding elevationKinds
 returns c =
@@ -39,11 +18,11 @@ pub elevation-kinds-spec : {M : Type 1} → statement M
 elevation-kinds-spec =
     tie.close
     (tie.spec
-    one-requires
-    one-requires-2
-    add-result
-    one-requires-3
-    add-result-2
-    one-requires-4
-    add-result-3
+    (λ c κs. search needs)
+    (λ c κs. search needs)
+    (λ c. search needs)
+    (λ c κs. search needs)
+    (λ c. search needs)
+    (λ c κs. search needs)
+    (λ c. search needs)
     returns)

@@ -1,5 +1,5 @@
--- A table of words in a byte list, after a write of a word.
-use mathlib.Core.Path.{_≡_, refl, sym, _∙_, ap}
+-- A table of words for labels: a word is written, words are cleared, and a table of zeros is the one at the start.
+use mathlib.Core.Path.{_≡_, refl, sym, _∙_, ap, subst}
 use mathlib.Core.Logic.{by-cases}
 use mathlib.Core.List.{List, [], _∷_}
 use Prim.Native.Nat.{ℕ, suc, _+_, _*_, _-_, _/_, _≤_, _<_}
@@ -11,7 +11,7 @@ use Rattle.wire.proofs.Parts.{length-splice, splice-before, splice-after, part-
 use Rattle.wire.proofs.Numbers.{length-bytes}
 use Rattle.wire.proofs.Words.{read-same, read-before, read-after, four-bytes}
 use Rattle.walk.specs.Slices.{put}
-use Rattle.bridges.specs.Names.{Table}
+use Rattle.label_table.specs.Table.{Table, OnlyOf}
 use Rattle.walk.proofs.Puts.{put-at, put-off}
 
 module _ {start : List ℕ} {regions base : ℕ} {f : ℕ → ℕ} {work : List ℕ} (T : Table start regions base f work) (fits : base + 4 * regions ≤ length start)
@@ -65,7 +65,7 @@ same-list (x ∷ a) (y ∷ b) l h =
     ap (λ (z : ℕ). z ∷ a) e ∙ ap (λ (z : List ℕ). y ∷ z) t
 
 -- a table of zeros is that of the start, where that is one too
-pub table-clear : (start : List ℕ) (regions base : ℕ) (f g : ℕ → ℕ) (work : List ℕ) → base + 4 * regions ≤ length start → Table start regions base f work →
+table-clear : (start : List ℕ) (regions base : ℕ) (f g : ℕ → ℕ) (work : List ℕ) → base + 4 * regions ≤ length start → Table start regions base f work →
     Table start regions base g start → ((x : ℕ) → x < regions → f x ≡ 0) → ((x : ℕ) → x < regions → g x ≡ 0) → work ≡ start
 table-clear start regions base f g work fits T S z y = same-list work start (T .as-long) each
   where
@@ -95,6 +95,25 @@ table-clear start regions base f g work fits T S z y = same-list work start (T .
             ∙ sym (zero-byte start ((i - base) / 4) (i - base - 4 * ((i - base) / 4)) fits k (S .word ((i - base) / 4) k ∙ y ((i - base) / 4) k) rl)
             ∙ ap (λ (j : ℕ). getD start j 0) s
 
--- a list has the table of its own words
-pub table-own : (start : List ℕ) (regions base : ℕ) → Table start regions base (λ x. u32At start (base + 4 * x)) start
-table-own start regions base = record { as-long = refl; word = λ x l. refl; before = λ i l. refl; behind = λ i l. refl }
+-- a list whose words are 0
+pub table-blank : {start : List ℕ} {regions base : ℕ} → ((x : ℕ) → x < regions → u32At start (base + 4 * x) ≡ 0) → Table start regions base (λ x. 0) start
+table-blank z = record { as-long = refl; word = z; before = λ i l. refl; behind = λ i l. refl }
+
+-- the word of label x + 1 is cleared: what held of the others
+pub word-cleared : {P Q : ℕ → Type 0} {start : List ℕ} {regions base : ℕ} {work next : List ℕ} → OnlyOf P start regions base work
+    → base + 4 * regions ≤ length work → {x : ℕ} → x < regions → ((y : ℕ) → (y ≡ x → ⊥) → P y → Q y) → next ≡ splice work (base + 4 * x) (u32Bytes 0)
+    → OnlyOf Q start regions base next
+word-cleared {start = start} {regions} {base} O fits {x} l still e = record {
+  words = put (O .words) x 0;
+  table = subst (Table start regions base (put (O .words) x 0)) (sym e) (table-set (O .table) (omega (arith, O .table .as-long)) x 0 l (omega arith));
+  left-over = λ y h.
+      by-cases (ℕ-discrete y x) (λ s. absurd (omega (arith, h, ap (put (O .words) x 0) s, put-at (O .words) x 0)))
+      (λ s. still y s (O .left-over y (omega (arith, h, put-off (O .words) x 0 y s))));
+}
+
+-- where no label has a word any more, all is as it was
+pub all-cleared : {P : ℕ → Type 0} {start : List ℕ} {regions base : ℕ} {work : List ℕ} → OnlyOf P start regions base work → base + 4 * regions ≤ length start
+    → ((x : ℕ) → x < regions → u32At start (base + 4 * x) ≡ 0) → ((x : ℕ) → P x → ⊥) → work ≡ start
+all-cleared {start = start} {regions} {base} {work} O fits z none =
+    table-clear start regions base (O .words) (λ x. 0) work fits (O .table) (table-blank z)
+    (λ x l. by-cases (ℕ-discrete (O .words x) 0) (λ e. e) (λ e. absurd (none x (O .left-over x (omega arith))))) (λ x l. refl)
