@@ -145,25 +145,24 @@ module _ {s : List ℕ} {at n ats base : ℕ} (g : Countable s at n ats base) {f
           (λ d. cited-kept (below seen c + k) (earlier c k (omega arith) j) .1 ∙ l .laid .cited-count c k (omega arith) j);
     }
 
-    pub layout-next : Layout own seen cited base n (set firsts b p) starts′ counts′ (b + 1) (p + w) r
-    layout-next = record {
-      place = omega (arith, below-next seen b, l .place, y);
-      running = omega (arith, t .end, l .running, below-next own b, x);
-      laid = laid-next;
-      clear = t .clear;
-      firsts-room = simp length-set (l .firsts-room);
-      starts-room = rw (t .starts-long) (simp length-set (l .starts-room));
-      counts-room = rw (t .counts-long) (simp length-set (l .counts-room));
-    }
-
-    pub firsts-long : {m : ℕ} → length firsts ≡ m → length (set firsts b p) ≡ m
-    firsts-long e = length-set firsts b p ∙ e
-
-    pub starts-long : {m : ℕ} → length starts ≡ m → length starts′ ≡ m
-    starts-long e = t .starts-long ∙ length-set starts (base + b) run ∙ e
-
-    pub counts-long : {m : ℕ} → length counts ≡ m → length counts′ ≡ m
-    counts-long e = t .counts-long ∙ length-set counts (base + b) v ∙ e
+    -- the layout of one more, in lists that are as long
+    pub layout-next : {f i j : ℕ} → length firsts ≡ f → length starts ≡ i → length counts ≡ j
+        → Layout own seen cited base n (set firsts b p) starts′ counts′ (b + 1) (p + w) r × (length (set firsts b p) ≡ f) × (length starts′ ≡ i)
+        × (length counts′ ≡ j)
+    layout-next d e f = (
+      record {
+        place = omega (arith, below-next seen b, l .place, y);
+        running = omega (arith, t .end, l .running, below-next own b, x);
+        laid = laid-next;
+        clear = t .clear;
+        firsts-room = simp length-set (l .firsts-room);
+        starts-room = rw (t .starts-long) (simp length-set (l .starts-room));
+        counts-room = rw (t .counts-long) (simp length-set (l .counts-room));
+      },
+      length-set firsts b p ∙ d,
+      t .starts-long ∙ length-set starts (base + b) run ∙ e,
+      t .counts-long ∙ length-set counts (base + b) v ∙ f,
+    )
 
 pub apart-wider : {starts counts : List ℕ} {r t : ℕ} → Apart starts counts r → r ≤ t → Apart starts counts t
 apart-wider a h = record { ends = λ q. omega (arith, a .ends q); apart = a .apart }
