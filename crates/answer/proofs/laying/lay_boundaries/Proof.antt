@@ -31,7 +31,7 @@ at-loop c = c .before .before .before
 few : (c : tie.After-size Inv-loop μ-loop) → (given c .args .base + at-loop c .loop .b < 1280) × (at-loop c .loop .p ≤ 1024)
     × (at-loop c .loop .b < length (at-loop c .loop .firsts))
     × (given c .args .base + at-loop c .loop .b < length (at-loop c .loop .starts))
-        × (given c .args .base + at-loop c .loop .b < length (at-loop c .loop .counts))
+    × (given c .args .base + at-loop c .loop .b < length (at-loop c .loop .counts))
 few c =
     let g = given c .pre .0 in
     let l = at-loop c .loop .inv .1 in

@@ -14,7 +14,7 @@ use Rattle.answer.proofs.ranking.rank_boundaries.Tie as tie
 abbrev Inv-loop : tie.InvT-loop
 Inv-loop job at n base first₀ second₀ third₀ p₀ first second third p = (p ≤ n)
     × Ranked (λ k. boundaryAt job (at + k * boundarySize) .ends) (λ k. boundaryAt job (at + k * boundarySize) .bits) base p first₀ second₀ third₀ first second
-        third
+    third
 
 abbrev μ-loop : tie.MeasureT-loop
 μ-loop job at n base first₀ second₀ third₀ p₀ first second third p = n - p

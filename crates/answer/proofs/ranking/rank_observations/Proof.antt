@@ -14,7 +14,7 @@ use Rattle.answer.proofs.ranking.rank_observations.Tie as tie
 abbrev Inv-loop : tie.InvT-loop
 Inv-loop job at n first₀ second₀ third₀ p₀ first second third p = (p ≤ n)
     × Ranked (λ k. observationAt job (at + k * observationSize) .ends) (λ k. observationAt job (at + k * observationSize) .bits) 0 p first₀ second₀ third₀ first
-        second third
+    second third
 
 abbrev μ-loop : tie.MeasureT-loop
 μ-loop job at n first₀ second₀ third₀ p₀ first second third p = n - p
