@@ -38,7 +38,7 @@ same-length c = simp length-set at (c .before .s .given)
 
 returns : tie.Need-returns
 returns c =
-    let start = c .before .before .before .before .before in
+    let start : tie.Start = search in
     ramp-written (start .args .s .now) (start .args .at) (start .args .r) (omega arith) refl (c .before .before .write-u32 .ensures)
 
 pub write-ramp-spec : {M : Type 1} → statement M
