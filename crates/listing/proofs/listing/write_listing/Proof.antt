@@ -6,6 +6,10 @@ use borrow.Author.Needs.{needs}
 use Rattle.listing.proofs.listing.write_listing.Statement.{statement}
 use Rattle.listing.proofs.listing.write_listing.Tie as tie
 
+-- earlier places, each found by what it is
+abbrev lent-shared-slice-known-of : tie.After-read-u32 → tie.After-shared-slice-known
+lent-shared-slice-known-of c = search
+
 returns : tie.Need-returns
 returns c = (no-header _ _ (c .if1 .taken), omega arith)
 
@@ -47,7 +51,7 @@ add-total c = search needs
 
 returns-2 : tie.Need-returns-2
 returns-2 c =
-    let after-size2 = c .before .before .before in
+    let after-size2 : tie.After-size2 = search in
     let after-read-u322 = after-size2 .before in
     let after-size = after-read-u322 .before in
     let after-read-u32 = after-size .before in (
@@ -69,7 +73,7 @@ mul-if3 c = search needs
 
 returns-3 : tie.Need-returns-3
 returns-3 c =
-    let after-read-u323 = c .before .before .before in
+    let after-read-u323 : tie.After-read-u323 = search in
     let after-size2 = after-read-u323 .before in
     let after-read-u322 = after-size2 .before in
     let after-size = after-read-u322 .before in
@@ -89,13 +93,13 @@ returns-3 c =
 
 write-kept-requires : tie.Need-write-kept-requires
 write-kept-requires c κs =
-    let after-size3 = c .before .before .before in
+    let after-size3 : tie.After-size3 = search in
     let after-read-u323 = after-size3 .before in
     let after-size2 = after-read-u323 .before in
     let after-read-u322 = after-size2 .before in
     let after-size = after-read-u322 .before in
     let after-read-u32 = after-size .before in
-    let lent-shared-slice-known = after-read-u32 .before .before .before in
+    let lent-shared-slice-known = lent-shared-slice-known-of after-read-u32 in
     let start = lent-shared-slice-known .before in
     room (listing-start (start .args .answer .now) (start .args .out .now) (λ i. lent-shared-slice-known .shared-slice-known .given i .fits) _ _ _
     (after-size .size .ensures .0 ∙ after-read-u32 .read-u32 .ensures) (after-size2 .size2 .ensures .0 ∙ after-read-u322 .read-u322 .ensures)
@@ -105,7 +109,7 @@ write-kept-requires c κs =
 
 write-boundaries-requires : tie.Need-write-boundaries-requires
 write-boundaries-requires c κs =
-    let after-write-kept = c .before .before .before in
+    let after-write-kept : tie.After-write-kept = search in
     let if3-left = after-write-kept .before .before in
     let if2-left = if3-left .before in
     let after-size3 = if2-left .before in
@@ -114,7 +118,7 @@ write-boundaries-requires c κs =
     let after-read-u322 = after-size2 .before in
     let after-size = after-read-u322 .before in
     let after-read-u32 = after-size .before in
-    let lent-shared-slice-known = after-read-u32 .before .before .before in
+    let lent-shared-slice-known = lent-shared-slice-known-of after-read-u32 in
     let start = lent-shared-slice-known .before in (
       record { observations = omega (arith, if2-left .if2 .left); sources = omega (arith, if2-left .if2 .left) },
       omega (arith, if2-left .if2 .left),
@@ -130,7 +134,7 @@ same-length c = search needs
 
 returns-4 : tie.Need-returns-4
 returns-4 c =
-    let after-write-kept = c .before .before .before .before .before .before in
+    let after-write-kept : tie.After-write-kept = search in
     let if3-left = after-write-kept .before .before in
     let if2-left = if3-left .before in
     let after-size3 = if2-left .before in
@@ -139,7 +143,7 @@ returns-4 c =
     let after-read-u322 = after-size2 .before in
     let after-size = after-read-u322 .before in
     let after-read-u32 = after-size .before in
-    let lent-shared-slice-known = after-read-u32 .before .before .before in
+    let lent-shared-slice-known = lent-shared-slice-known-of after-read-u32 in
     let start = lent-shared-slice-known .before in
     let l = next (next (listing-start (start .args .answer .now) (start .args .out .now) (λ i. lent-shared-slice-known .shared-slice-known .given i .fits) _ _ _
     (after-size .size .ensures .0 ∙ after-read-u32 .read-u32 .ensures) (after-size2 .size2 .ensures .0 ∙ after-read-u322 .read-u322 .ensures)
