@@ -1,14 +1,14 @@
 -- The parts of one boundary more.
 use mathlib.Core.Path.{_≡_, refl, sym, _∙_, ap, subst}
-use mathlib.Core.Logic.{_≢_, by-cases}
+use mathlib.Core.Logic.{_≢_, by-cases, inl}
 use mathlib.Core.List.{List}
 use Prim.Native.Nat.{ℕ, suc, _+_, _*_, _≤_, _<_}
 use native.Mathlib.Decide.{ℕ-discrete}
 use native.Mathlib.Omega.{arith}
-use lib.ListN.{length, getD, set, length-set}
+use lib.ListN.{length, getD, set, length-set, replicate}
 use lib.Seq.{getD-set-same, getD-set-other}
 use Rattle.lists.specs.Rows.{rows, sum}
-use Rattle.lists.proofs.Rows.{sum-last, sum-prefix}
+use Rattle.lists.proofs.Rows.{sum-last, sum-prefix, zero-at}
 use Rattle.answer.specs.Laying.{below, Apart, Lays, LayRoom, LaidOut, Layout, LaidAll, Countable, PlanRoom, ownCount, seenCount, citedCount}
 use Rattle.answer.proofs.Lays.{below-next, apart-next}
 
@@ -177,3 +177,10 @@ layout-end {s} {at} {n} {ats} {base} g {firsts} {starts} {counts} {b} {p} {run} 
       laid = subst (λ (z : ℕ). LaidOut (ownCount s at) (seenCount s at) (citedCount s ats) base z firsts starts counts) e (l .laid);
       clear = apart-wider (l .clear) (omega (arith, d));
     }
+
+-- Nothing is laid yet.
+pub apart-none : (n k : ℕ) → Apart (replicate n 0) (replicate k 0) 0
+apart-none n k = record {
+  ends = λ q. omega (arith, zero-at n q, zero-at k q);
+  apart = λ q w d. inl (omega (arith, zero-at n q, zero-at k q));
+}

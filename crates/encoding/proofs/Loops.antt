@@ -10,7 +10,7 @@ use Rattle.format.specs.declared.records.BoundaryRecord.{BoundaryRecord}
 use Rattle.format.proofs.RecordTrips.{source-trip, boundary-trip, observation-trip}
 use Rattle.answer.specs.Laying.{below}
 use Rattle.answer.specs.Placed.{boundaryRows}
-use Rattle.answer.specs.Written.{observationWords}
+use Rattle.format.specs.Records.{observationWords}
 use Rattle.position.specs.declared.Span.{Span}
 use Rattle.answer.proofs.Lays.{below-next}
 use Rattle.lists.specs.Rows.{sum, rows}
@@ -20,7 +20,7 @@ use Rattle.encoding.specs.Pieces.{runsFrom, elements, groupPiece, citedT
 use Rattle.encoding.specs.Answered.{RunsWritten, SourceRoom}
 use Rattle.encoding.proofs.Writing.{pieces-none, length-next, piece-written, length-written, length-even, length-fewer}
 use Rattle.encoding.proofs.Lengths.{part-short}
-use Rattle.answer.proofs.Writes.{then-write}
+use Rattle.format.proofs.Writes.{then-write}
 
 -- The first i pieces stand from `at` on.
 pub record Writes (before : List ℕ) (at : ℕ) (f : ℕ → List ℕ) (i : ℕ) (after : List ℕ) : Type 0 where

@@ -18,7 +18,7 @@ use Rattle.encoding.specs.Pieces.{pieces, keptPiece, placePiece, element
 use Rattle.encoding.specs.Answered.{Answered, Writable}
 use Rattle.encoding.proofs.Loops.{kept-long, places-long}
 use Rattle.encoding.proofs.GatheredBytes.{seen-sum, own-sum, sources-sum, source-bytes, answer-bytes}
-use Rattle.answer.proofs.Writes.{then-write}
+use Rattle.format.proofs.Writes.{then-write}
 
 module _ {s : List ℕ} {at count : ℕ} {kept owns seens owned seen first second third starts counts keys : List ℕ}
     (w : Writable s at count kept owns seens owned seen first second third starts counts keys) where

@@ -62,12 +62,12 @@ append-keys-requires : tie.Need-append-keys-requires
 append-keys-requires c κs =
     let after-size3 : tie.After-size3 = search in
     let after-size2 = after-size3 .before .before in
-    let if1-left = after-size2 .before .before in
-    let after-size = if1-left .before in
+    let goes = after-size2 .before .before in
+    let after-size = goes .before in
     let start = start-of after-size in (
       own-inside (start .pre .0) (start .pre .1) (after-size2 .size2 .ensures .0) (after-size3 .size3 .ensures .0) (c .before .size4 .ensures .0),
       own-room (start .pre .0) (start .pre .1) (after-size2 .size2 .ensures .0) (after-size3 .size3 .ensures .0) (c .before .size4 .ensures .0)
-          (start .args .plan .now) (start .args .to) (length (start .args .owned .now)) (after-size .size .ensures .0) (if1-left .if1 .left) (start .pre .2),
+          (start .args .plan .now) (start .args .to) (length (start .args .owned .now)) (after-size .size .ensures .0) (goes .if1 .left) (start .pre .2),
     )
 
 same-length : tie.Need-same-length
@@ -78,10 +78,10 @@ returns-2 c =
     let after-size4 : tie.After-size4 = search in
     let after-size3 = after-size4 .before .before in
     let after-size2 = after-size3 .before .before in
-    let if1-left = after-size2 .before .before in
-    let after-size = if1-left .before in
+    let goes = after-size2 .before .before in
+    let after-size = goes .before in
     let start = start-of after-size in
-    there (after-size .size .ensures .0) (if1-left .if1 .left)
+    there (after-size .size .ensures .0) (goes .if1 .left)
     (added-is (c .before .before .append-keys .ensures) refl
     (own-part (start .pre .0) (start .pre .1) (after-size2 .size2 .ensures .0) (after-size3 .size3 .ensures .0) (after-size4 .size4 .ensures .0)))
 

@@ -63,8 +63,8 @@ add-places-requires : tie.Need-add-places-requires
 add-places-requires c κs =
     let after-read-boundary : tie.After-read-boundary = search in
     let after-size2 = after-read-boundary .before in
-    let if1-left = after-size2 .before .before in
-    let after-size = if1-left .before in
+    let goes = after-size2 .before .before in
+    let after-size = goes .before in
     let start = start-of after-size in (
       own-place (start .pre .0) (start .pre .1) (after-size2 .size2 .ensures .0),
       places-inside (start .pre .0) (start .pre .1) (after-size2 .size2 .ensures .0) (c .before .before .size3 .ensures .0)
@@ -72,7 +72,7 @@ add-places-requires c κs =
       seen-room (start .pre .0) (start .pre .1) (after-size2 .size2 .ensures .0) (start .args .plan .now) (start .args .to)
           (length (start .args .seen .now)) (c .before .size4 .result)
           (c .before .size4 .ensures .0 ∙ ap (λ (r : BoundaryRecord). r .observations) (after-read-boundary .read-boundary .ensures))
-          (after-size .size .ensures .0) (if1-left .if1 .left) (start .pre .2),
+          (after-size .size .ensures .0) (goes .if1 .left) (start .pre .2),
     )
 
 same-length : tie.Need-same-length
@@ -84,10 +84,10 @@ returns-2 c =
     let after-size3 = after-size4 .before in
     let after-read-boundary = after-size3 .before .before in
     let after-size2 = after-read-boundary .before in
-    let if1-left = after-size2 .before .before in
-    let after-size = if1-left .before in
+    let goes = after-size2 .before .before in
+    let after-size = goes .before in
     let start = start-of after-size in
-    there (after-size .size .ensures .0) (if1-left .if1 .left)
+    there (after-size .size .ensures .0) (goes .if1 .left)
     (places-there (start .pre .0) (start .pre .1) (after-size2 .size2 .ensures .0) (start .args .among)
     (c .before .before .add-places .ensures (start .args .firsts .now) (seenCount (start .args .job .now) (start .args .at))
     (sym (after-size3 .size3 .ensures .0))

@@ -113,7 +113,7 @@ returns c =
     let a = start .args in
     done (next (next (next (next
     (next (next (next (boundary-start (a .out .now) (a .at) (a .b) (a .n) (a .m) (start .pre)) (past-byte .write-byte .ensures))
-            (past-ends .write-ends .ensures))
+    (past-ends .write-ends .ensures))
     (past-bits .write-bits .ensures)) (past-count .write-count .ensures)) (past-count2 .write-count2 .ensures))
     (past-ramp .write-ramp .ensures)) (c .before .before .write-byte2 .ensures))
 

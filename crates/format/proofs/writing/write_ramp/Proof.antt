@@ -1,10 +1,10 @@
-use Rattle.encoding.proofs.RecordLaws.{ramp-written}
+use Rattle.format.proofs.Writes.{ramp-written}
 use lib.ListN.{length-set}
 use mathlib.Core.Path.{refl}
 use native.Mathlib.Omega.{arith}
 use borrow.Author.Needs.{needs}
-use Rattle.encoding.proofs.records.write_ramp.Statement.{statement}
-use Rattle.encoding.proofs.records.write_ramp.Tie as tie
+use Rattle.format.proofs.writing.write_ramp.Statement.{statement}
+use Rattle.format.proofs.writing.write_ramp.Tie as tie
 
 slice-write-s : tie.Need-slice-write-s
 slice-write-s c = search needs
