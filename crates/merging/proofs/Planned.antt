@@ -181,7 +181,7 @@ keeps-all false b l = (refl, refl, refl)
 -- What goes into a rank has the ends, the width and the ramp of the copy there.
 pub merged-keeps : (copies : List Boundary) (js : List ℕ) (i : ℕ)
     → (merged copies js i .ends ≡ copyAt copies i .ends) × (merged copies js i .bits ≡ copyAt copies i .bits)
-        × (merged copies js i .ramp ≡ copyAt copies i .ramp)
+    × (merged copies js i .ramp ≡ copyAt copies i .ramp)
 unfolding merged
 merged-keeps copies js i = keeps-all (eqb (length js) 1) (copyAt copies i) (map (copyAt copies) js)
 
