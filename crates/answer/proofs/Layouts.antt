@@ -1,14 +1,14 @@
 -- The parts of one boundary more.
 use mathlib.Core.Path.{_≡_, refl, sym, _∙_, ap, subst}
-use mathlib.Core.Logic.{_≢_, by-cases}
+use mathlib.Core.Logic.{_≢_, by-cases, inl}
 use mathlib.Core.List.{List}
 use Prim.Native.Nat.{ℕ, suc, _+_, _*_, _≤_, _<_}
 use native.Mathlib.Decide.{ℕ-discrete}
 use native.Mathlib.Omega.{arith}
-use lib.ListN.{length, getD, set, length-set}
+use lib.ListN.{length, getD, set, length-set, replicate}
 use lib.Seq.{getD-set-same, getD-set-other}
 use Rattle.lists.specs.Rows.{rows, sum}
-use Rattle.lists.proofs.Rows.{sum-last, sum-prefix}
+use Rattle.lists.proofs.Rows.{sum-last, sum-prefix, zero-at}
 use Rattle.answer.specs.Laying.{below, Apart, Lays, LayRoom, LaidOut, Layout, LaidAll, Countable, PlanRoom, ownCount, seenCount, citedCount}
 use Rattle.answer.proofs.Lays.{below-next, apart-next}
 
@@ -145,25 +145,24 @@ module _ {s : List ℕ} {at n ats base : ℕ} (g : Countable s at n ats base) {f
           (λ d. cited-kept (below seen c + k) (earlier c k (omega arith) j) .1 ∙ l .laid .cited-count c k (omega arith) j);
     }
 
-    pub layout-next : Layout own seen cited base n (set firsts b p) starts′ counts′ (b + 1) (p + w) r
-    layout-next = record {
-      place = omega (arith, below-next seen b, l .place, y);
-      running = omega (arith, t .end, l .running, below-next own b, x);
-      laid = laid-next;
-      clear = t .clear;
-      firsts-room = simp length-set (l .firsts-room);
-      starts-room = rw (t .starts-long) (simp length-set (l .starts-room));
-      counts-room = rw (t .counts-long) (simp length-set (l .counts-room));
-    }
-
-    pub firsts-long : {m : ℕ} → length firsts ≡ m → length (set firsts b p) ≡ m
-    firsts-long e = length-set firsts b p ∙ e
-
-    pub starts-long : {m : ℕ} → length starts ≡ m → length starts′ ≡ m
-    starts-long e = t .starts-long ∙ length-set starts (base + b) run ∙ e
-
-    pub counts-long : {m : ℕ} → length counts ≡ m → length counts′ ≡ m
-    counts-long e = t .counts-long ∙ length-set counts (base + b) v ∙ e
+    -- the layout of one more, in lists that are as long
+    pub layout-next : {f i j : ℕ} → length firsts ≡ f → length starts ≡ i → length counts ≡ j
+        → Layout own seen cited base n (set firsts b p) starts′ counts′ (b + 1) (p + w) r × (length (set firsts b p) ≡ f) × (length starts′ ≡ i)
+        × (length counts′ ≡ j)
+    layout-next d e f = (
+      record {
+        place = omega (arith, below-next seen b, l .place, y);
+        running = omega (arith, t .end, l .running, below-next own b, x);
+        laid = laid-next;
+        clear = t .clear;
+        firsts-room = simp length-set (l .firsts-room);
+        starts-room = rw (t .starts-long) (simp length-set (l .starts-room));
+        counts-room = rw (t .counts-long) (simp length-set (l .counts-room));
+      },
+      length-set firsts b p ∙ d,
+      t .starts-long ∙ length-set starts (base + b) run ∙ e,
+      t .counts-long ∙ length-set counts (base + b) v ∙ f,
+    )
 
 pub apart-wider : {starts counts : List ℕ} {r t : ℕ} → Apart starts counts r → r ≤ t → Apart starts counts t
 apart-wider a h = record { ends = λ q. omega (arith, a .ends q); apart = a .apart }
@@ -178,3 +177,10 @@ layout-end {s} {at} {n} {ats} {base} g {firsts} {starts} {counts} {b} {p} {run} 
       laid = subst (λ (z : ℕ). LaidOut (ownCount s at) (seenCount s at) (citedCount s ats) base z firsts starts counts) e (l .laid);
       clear = apart-wider (l .clear) (omega (arith, d));
     }
+
+-- Nothing is laid yet.
+pub apart-none : (n k : ℕ) → Apart (replicate n 0) (replicate k 0) 0
+apart-none n k = record {
+  ends = λ q. omega (arith, zero-at n q, zero-at k q);
+  apart = λ q w d. inl (omega (arith, zero-at n q, zero-at k q));
+}

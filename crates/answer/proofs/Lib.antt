@@ -6,6 +6,5 @@ pub mod Ranked
 pub mod Packs
 pub mod Decoded
 pub mod Together
-pub mod Writes
 pub mod Matched
 pub mod Merged

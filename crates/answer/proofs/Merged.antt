@@ -37,6 +37,7 @@ use Rattle.merging.specs.Sources.{ownSources}
 use Rattle.order.proofs.Gather.{gather-last}
 use Rattle.merging.proofs.Copies.{source-order, observation-order}
 use Rattle.merging.proofs.Packed.{sources-fit}
+use Rattle.merging.proofs.Planned.{merged-keeps}
 use Rattle.merging.specs.Keys.{observationKey}
 use Rattle.answer.specs.Packed.{sourcePack, packed}
 use Rattle.answer.specs.Squeezed.{partOf}
@@ -122,33 +123,16 @@ module _ (bs : ℕ → BoundaryRecord) (os : ℕ → ObservationRecord) (ss : Li
     copies-are = map-ext (copyAt (copiesBy bs os ss order n)) copyOf (members plan n i) (λ j m. copy-at n j (member-below plan n i j m))
 
     pub merged-ends : merged (copiesBy bs os ss order n) (members plan n i) i .ends ≡ canonical (bs (getD order i 0) .ends)
-    unfolding merged consolidate canon boundaryOf
-    merged-ends = go (eqb (length (members plan n i)) 1)
-      where
-        go : (t : Bool) → cond t (copyAt (copiesBy bs os ss order n) i)
-            (consolidate (copyAt (copiesBy bs os ss order n) i) (map (copyAt (copiesBy bs os ss order n)) (members plan n i))) .ends ≡ canonical
-            (bs (getD order i 0) .ends)
-        go true = ap (λ (b : Boundary). b .ends) (copy-at n i h)
-        go false = ap (λ (b : Boundary). b .ends) (copy-at n i h)
+    unfolding canon boundaryOf
+    merged-ends = merged-keeps (copiesBy bs os ss order n) (members plan n i) i .0 ∙ ap (λ (b : Boundary). b .ends) (copy-at n i h)
 
     pub merged-bits : merged (copiesBy bs os ss order n) (members plan n i) i .bits ≡ bs (getD order i 0) .bits
-    unfolding merged consolidate canon boundaryOf
-    merged-bits = go (eqb (length (members plan n i)) 1)
-      where
-        go : (t : Bool) → cond t (copyAt (copiesBy bs os ss order n) i)
-            (consolidate (copyAt (copiesBy bs os ss order n) i) (map (copyAt (copiesBy bs os ss order n)) (members plan n i))) .bits ≡ bs (getD order i 0) .bits
-        go true = ap (λ (b : Boundary). b .bits) (copy-at n i h)
-        go false = ap (λ (b : Boundary). b .bits) (copy-at n i h)
+    unfolding canon boundaryOf
+    merged-bits = merged-keeps (copiesBy bs os ss order n) (members plan n i) i .1 ∙ ap (λ (b : Boundary). b .bits) (copy-at n i h)
 
     pub merged-ramp : merged (copiesBy bs os ss order n) (members plan n i) i .ramp ≡ rampOf (bs (getD order i 0) .ramp)
-    unfolding merged consolidate canon boundaryOf
-    merged-ramp = go (eqb (length (members plan n i)) 1)
-      where
-        go : (t : Bool) → cond t (copyAt (copiesBy bs os ss order n) i)
-            (consolidate (copyAt (copiesBy bs os ss order n) i) (map (copyAt (copiesBy bs os ss order n)) (members plan n i))) .ramp ≡ rampOf
-            (bs (getD order i 0) .ramp)
-        go true = ap (λ (b : Boundary). b .ramp) (copy-at n i h)
-        go false = ap (λ (b : Boundary). b .ramp) (copy-at n i h)
+    unfolding canon boundaryOf
+    merged-ramp = merged-keeps (copiesBy bs os ss order n) (members plan n i) i .2 ∙ ap (λ (b : Boundary). b .ramp) (copy-at n i h)
 
     -- a copy's own sources are sorted already
     one-sorted : copyOf i .sources ≡ sortedSources (gather own (map copyOf (i ∷ [])))

@@ -1,6 +1,6 @@
 -- The ends and the width of one record more.
-use mathlib.Core.Path.{_≡_, refl, _∙_, ap, subst}
-use mathlib.Core.Logic.{_≢_, by-cases}
+use mathlib.Core.Path.{_≡_, refl, sym, _∙_, ap, subst}
+use mathlib.Core.Logic.{by-cases}
 use mathlib.Core.List.{List}
 use Prim.Native.Nat.{ℕ, _+_, _≤_, _<_}
 use native.Mathlib.Decide.{ℕ-discrete}
@@ -12,7 +12,7 @@ use Rattle.position.specs.declared.Span.{Span}
 use Rattle.length.specs.Total.{totalKey}
 use Rattle.order.specs.Keys.{pack}
 use Rattle.answer.specs.Packed.{KeyAt}
-use Rattle.answer.specs.Ranked.{Ranked}
+use Rattle.answer.specs.Ranked.{RankRoom, Ranked}
 
 pub ranked-start : (ends : ℕ → Span) (bits : ℕ → ℕ) (from : ℕ) (first second third : List ℕ) → Ranked ends bits from 0 first second third first second third
 ranked-start ends bits from first second third = record {
@@ -25,42 +25,66 @@ ranked-start ends bits from first second third = record {
   third-before = λ q h. refl;
 }
 
+pub ranks-room : {f g h : List ℕ} {n k : ℕ} → RankRoom f g h n → k ≤ n → RankRoom f g h k
+ranks-room r l = record { first-room = omega (arith, r .first-room); second-room = omega (arith, r .second-room); third-room = omega (arith, r .third-room) }
+
+-- One record, at place q.
+pub ranked-one : (ends : Span) (bits : ℕ) {f g h : List ℕ} {q x y z : ℕ} (e : Span) → RankRoom f g h (q + 1) → e ≡ canonical ends
+    → x ≡ pack (e .a .x) (e .a .y) → y ≡ pack (e .b .x) (e .b .y) → z ≡ totalKey bits → e .a .y < 0x1_0000_0000 → e .b .y < 0x1_0000_0000
+    → Ranked (λ k. ends) (λ k. bits) q 1 f g h (set f q x) (set g q y) (set h q z)
+ranked-one ends bits {f} {g} {h} {q} {x} {y} {z} e room u v w t m n =
+    let this : KeyAt (set f q x) (set g q y) (set h q z) q (canonical ends) bits
+    = record {
+      first-is = getD-set-same f q x 0 (omega (arith, room .first-room)) ∙ v ∙ ap (λ (s : Span). pack (s .a .x) (s .a .y)) u;
+      second-is = getD-set-same g q y 0 (omega (arith, room .second-room)) ∙ w ∙ ap (λ (s : Span). pack (s .b .x) (s .b .y)) u;
+      third-is = getD-set-same h q z 0 (omega (arith, room .third-room)) ∙ t;
+      first-fits = subst (λ (s : Span). s .a .y < 0x1_0000_0000) u m;
+      second-fits = subst (λ (s : Span). s .b .y < 0x1_0000_0000) u n;
+    } in
+    record {
+      first-long = length-set f q x;
+      second-long = length-set g q y;
+      third-long = length-set h q z;
+      there = λ k l. let i : q ≡ q + k = omega arith in subst (λ (p : ℕ). KeyAt (set f q x) (set g q y) (set h q z) p (canonical ends) bits) i this;
+      first-before = λ p l. getD-set-other f q p x 0 (λ d. omega arith);
+      second-before = λ p l. getD-set-other g q p y 0 (λ d. omega arith);
+      third-before = λ p l. getD-set-other h q p z 0 (λ d. omega arith);
+    }
+
+key-as : {f g h : List ℕ} {q p : ℕ} {e d : Span} {b c : ℕ} → KeyAt f g h q e b → q ≡ p → e ≡ d → b ≡ c → KeyAt f g h p d c
+key-as k i j l = rw (← i, ← j, ← l) k
+
 module _ {ends : ℕ → Span} {bits : ℕ → ℕ} {from i : ℕ} {f₀ g₀ h₀ f g h : List ℕ} (r : Ranked ends bits from i f₀ g₀ h₀ f g h) where
-  pub ranked-next : {at x y z : ℕ} (e : Span) → at ≡ from + i → at < length f → at < length g → at < length h → e ≡ canonical (ends i)
-      → x ≡ pack (e .a .x) (e .a .y) → y ≡ pack (e .b .x) (e .b .y) → z ≡ totalKey (bits i) → e .a .y < 0x1_0000_0000 → e .b .y < 0x1_0000_0000
-      → Ranked ends bits from (i + 1) f₀ g₀ h₀ (set f at x) (set g at y) (set h at z)
-  ranked-next {at} {x} {y} {z} e p a b c u v w t m n =
-      let old : (q : ℕ) → q ≢ at → (getD (set f at x) q 0 ≡ getD f q 0) × (getD (set g at y) q 0 ≡ getD g q 0) × (getD (set h at z) q 0 ≡ getD h q 0)
-      = λ q d. (getD-set-other f at q x 0 d, getD-set-other g at q y 0 d, getD-set-other h at q z 0 d) in
-      let this : KeyAt (set f at x) (set g at y) (set h at z) at (canonical (ends i)) (bits i)
-      = record {
-        first-is = getD-set-same f at x 0 a ∙ v ∙ ap (λ (s : Span). pack (s .a .x) (s .a .y)) u;
-        second-is = getD-set-same g at y 0 b ∙ w ∙ ap (λ (s : Span). pack (s .b .x) (s .b .y)) u;
-        third-is = getD-set-same h at z 0 c ∙ t;
-        first-fits = subst (λ (s : Span). s .a .y < 0x1_0000_0000) u m;
-        second-fits = subst (λ (s : Span). s .b .y < 0x1_0000_0000) u n;
-      } in
-      record {
-        first-long = length-set f at x ∙ r .first-long;
-        second-long = length-set g at y ∙ r .second-long;
-        third-long = length-set h at z ∙ r .third-long;
-        there = λ k l.
-            by-cases (ℕ-discrete k i)
-            (λ d. rw (d, ← p) this)
-            (λ n.
-            let o = old (from + k) (λ d. n (omega arith)) in
-            let s = r .there k (omega arith) in
-            record {
-              first-is = o .0 ∙ s .first-is;
-              second-is = o .1 ∙ s .second-is;
-              third-is = o .2 ∙ s .third-is;
-              first-fits = s .first-fits;
-              second-fits = s .second-fits;
-            });
-        first-before = λ q l. old q (λ d. omega arith) .0 ∙ r .first-before q l;
-        second-before = λ q l. old q (λ d. omega arith) .1 ∙ r .second-before q l;
-        third-before = λ q l. old q (λ d. omega arith) .2 ∙ r .third-before q l;
-      }
+  pub ranks-after : {n : ℕ} → RankRoom f₀ g₀ h₀ n → RankRoom f g h n
+  ranks-after o = record {
+    first-room = omega (arith, o .first-room, r .first-long);
+    second-room = omega (arith, o .second-room, r .second-long);
+    third-room = omega (arith, o .third-room, r .third-long);
+  }
+
+  pub ranked-next : {q b : ℕ} {e : Span} {f′ g′ h′ : List ℕ} → Ranked (λ k. e) (λ k. b) q 1 f g h f′ g′ h′ → q ≡ from + i → e ≡ ends i → b ≡ bits i
+      → Ranked ends bits from (i + 1) f₀ g₀ h₀ f′ g′ h′
+  ranked-next {q} t p x y = record {
+    first-long = t .first-long ∙ r .first-long;
+    second-long = t .second-long ∙ r .second-long;
+    third-long = t .third-long ∙ r .third-long;
+    there = λ k l.
+        by-cases (ℕ-discrete k i)
+        (λ d. key-as (t .there 0 (omega arith)) (omega arith) (ap canonical (x ∙ ap ends (sym d))) (y ∙ ap bits (sym d)))
+        (λ n.
+        let o : from + k < q = omega arith in
+        let s = r .there k (omega arith) in
+        record {
+          first-is = t .first-before (from + k) o ∙ s .first-is;
+          second-is = t .second-before (from + k) o ∙ s .second-is;
+          third-is = t .third-before (from + k) o ∙ s .third-is;
+          first-fits = s .first-fits;
+          second-fits = s .second-fits;
+        });
+    first-before = λ w l. t .first-before w (omega arith) ∙ r .first-before w l;
+    second-before = λ w l. t .second-before w (omega arith) ∙ r .second-before w l;
+    third-before = λ w l. t .third-before w (omega arith) ∙ r .third-before w l;
+  }
 
   pub ranked-end : {n : ℕ} → i ≤ n → n ≤ i → Ranked ends bits from n f₀ g₀ h₀ f g h
   ranked-end {n} a b = let e : i ≡ n = omega arith in subst (λ (k : ℕ). Ranked ends bits from k f₀ g₀ h₀ f g h) e r

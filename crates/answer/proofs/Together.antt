@@ -26,7 +26,7 @@ use Rattle.order.specs.Keys.{pack}
 use Rattle.answer.specs.Packed.{sourcePack, packed, KeysRead, KeyAt}
 use Rattle.answer.specs.Laying.{below, ownCount, seenCount, citedCount, ownStart, LaidAll}
 use Rattle.answer.specs.Squeezed.{partOf, PartsRoom, Squeezed}
-use Rattle.answer.specs.Ranked.{RankRoom, Ranked}
+use Rattle.answer.specs.Ranked.{Ranked}
 use Rattle.answer.specs.Placed.{observationFrom, boundaryOf, itself, Holds, Placed, PlacedInside, JobPlaces, PlaceRoom, boundaryRows, observationRows}
 use Rattle.answer.proofs.Lays.{below-next}
 use Rattle.answer.proofs.Layouts.{below-none, apart-wider}
@@ -57,17 +57,6 @@ part-packed ss keys n a m e h =
     ∙ ap (λ (l : List ℕ). take m (drop a l)) e
     ∙ ap (take m) (drop-map sourcePack a ss)
     ∙ take-map sourcePack m (drop a ss)
-
-pub ranks-room : {f g h : List ℕ} {n k : ℕ} → RankRoom f g h n → k ≤ n → RankRoom f g h k
-ranks-room r l = record { first-room = omega (arith, r .first-room); second-room = omega (arith, r .second-room); third-room = omega (arith, r .third-room) }
-
-pub ranks-after : {ends : ℕ → Span} {bits : ℕ → ℕ} {from i n : ℕ} {f₀ g₀ h₀ f g h : List ℕ} → RankRoom f₀ g₀ h₀ n → Ranked ends bits from i f₀ g₀ h₀ f g h
-    → RankRoom f g h n
-ranks-after r t = record {
-  first-room = omega (arith, r .first-room, t .first-long);
-  second-room = omega (arith, r .second-room, t .second-long);
-  third-room = omega (arith, r .third-room, t .third-long);
-}
 
 module _ {s : List ℕ} {at n ats m from count : ℕ} (j : JobPlaces s at n ats m from count) where
   total : below (ownCount s at) n + below (citedCount s ats) (below (seenCount s at) n) ≡ count

@@ -3,5 +3,4 @@ pub mod Laying
 pub mod Squeezed
 pub mod Ranked
 pub mod Placed
-pub mod Written
 pub mod Gathered

@@ -1,8 +1,7 @@
-// What an answer is worked out from, a job's canonical copies by place, and the records that it is written as.
+// What an answer is worked out from, a job's canonical copies by place.
 mod casts;
 pub mod keys; // all sources as numbers
 pub mod laying; // where each one's sources stand
 pub mod parts; // each one's sources in order
 pub mod ranking; // ends and widths
 pub mod placing; // all of these
-pub mod writing; // records of the answer

@@ -10,6 +10,28 @@ use format::OBSERVATION_SIZE;
 use format::read_boundary;
 use format::read_observation;
 use length::floats::total_key;
+use position::Span;
+
+// One record's canonical ends and width, at place q.
+fn rank_one(
+    ends: Span,
+    bits: u64,
+    q: usize,
+    first: &mut [u64],
+    second: &mut [u64],
+    third: &mut [u64],
+)
+    requires { ⌜ RankRoom (now first) (now second) (now third) (q + 1) ⌝ }
+    ensures { λ _. ⌜ Ranked (λ k. ends) (λ k. bits) q 1 (now (first .entry)) (now (second .entry)) (now (third .entry)) (now (first .exit))
+        (now (second .exit)) (now (third .exit)) ⌝ }
+{
+    let e = ends.canonical();
+    let a = e.a;
+    let b = e.b;
+    first[q] = packed(a.x, a.y);
+    second[q] = packed(b.x, b.y);
+    third[q] = total_key(bits);
+}
 
 // The n observations from `at` on, each at its place.
 pub fn rank_observations(
@@ -28,13 +50,8 @@ pub fn rank_observations(
     let mut p: usize = 0;
     while p < n {
         let o = read_observation(job, at + p * OBSERVATION_SIZE);
-        let e = o.ends;
-        let f = e.canonical();
-        let a = f.a;
-        let b = f.b;
-        first[p] = packed(a.x, a.y);
-        second[p] = packed(b.x, b.y);
-        third[p] = total_key(o.bits);
+        let ends = o.ends;
+        rank_one(ends, o.bits, p, first, second, third);
         p += 1;
     }
 }
@@ -57,13 +74,8 @@ pub fn rank_boundaries(
     let mut p: usize = 0;
     while p < n {
         let x = read_boundary(job, at + p * BOUNDARY_SIZE);
-        let e = x.ends;
-        let f = e.canonical();
-        let a = f.a;
-        let b = f.b;
-        first[base + p] = packed(a.x, a.y);
-        second[base + p] = packed(b.x, b.y);
-        third[base + p] = total_key(x.bits);
+        let ends = x.ends;
+        rank_one(ends, x.bits, base + p, first, second, third);
         p += 1;
     }
 }

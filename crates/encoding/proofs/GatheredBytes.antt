@@ -29,7 +29,7 @@ use Rattle.merging.specs.Sources.{ownSources}
 use Rattle.merging.proofs.Lists.{flat-gather}
 use Rattle.answer.specs.Laying.{below}
 use Rattle.answer.specs.Packed.{sourcePack, packed}
-use Rattle.answer.specs.Written.{observationWords}
+use Rattle.format.specs.Records.{observationWords}
 use Rattle.answer.specs.Placed.{Holds}
 use Rattle.answer.specs.Gathered.{noObservation, Gathered}
 use Rattle.encoding.specs.Pieces.{pieces, keySource, keySpan, keyBits, keptRecord, keptPiece, keyPiece, runFrom, runLength, placeRun, placePiece}

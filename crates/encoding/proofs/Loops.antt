@@ -10,7 +10,7 @@ use Rattle.format.specs.declared.records.BoundaryRecord.{BoundaryRecord}
 use Rattle.format.proofs.RecordTrips.{source-trip, boundary-trip, observation-trip}
 use Rattle.answer.specs.Laying.{below}
 use Rattle.answer.specs.Placed.{boundaryRows}
-use Rattle.answer.specs.Written.{observationWords}
+use Rattle.format.specs.Records.{observationWords}
 use Rattle.position.specs.declared.Span.{Span}
 use Rattle.answer.proofs.Lays.{below-next}
 use Rattle.lists.specs.Rows.{sum, rows}
@@ -20,7 +20,7 @@ use Rattle.encoding.specs.Pieces.{runsFrom, elements, groupPiece, citedT
 use Rattle.encoding.specs.Answered.{RunsWritten, SourceRoom}
 use Rattle.encoding.proofs.Writing.{pieces-none, length-next, piece-written, length-written, length-even, length-fewer}
 use Rattle.encoding.proofs.Lengths.{part-short}
-use Rattle.answer.proofs.Writes.{then-write}
+use Rattle.format.proofs.Writes.{then-write}
 
 -- The first i pieces stand from `at` on.
 pub record Writes (before : List ℕ) (at : ℕ) (f : ℕ → List ℕ) (i : ℕ) (after : List ℕ) : Type 0 where
@@ -105,28 +105,32 @@ module _ (seen starts counts keys : List ℕ) (from : ℕ) where
   unfolding pieces
   running-start s at n = record { below-count = omega arith; writes = writes-start s at runAt; place = omega arith }
 
-  module _ {s t : List ℕ} {at i n to : ℕ} (r : Running s at i n t to) (h : at + length (runsFrom seen starts counts keys from n) ≤ length s) (l : i < n) where
-    run-fits : at + length (pieces (i + 1) runAt) ≤ length s
-    run-fits = omega (arith, length-fewer runAt (i + 1) n (omega arith))
+-- One observation more.
+module _ {seen starts counts keys : List ℕ} {from : ℕ} where
+  module _ {s t : List ℕ} {at i n to : ℕ} (r : Running seen starts counts keys from s at i n t to)
+      (h : at + length (runsFrom seen starts counts keys from n) ≤ length s) (l : i < n) where
+    run-fits : at + length (pieces (i + 1) (runAt seen starts counts keys from)) ≤ length s
+    run-fits = omega (arith, length-fewer (runAt seen starts counts keys from) (i + 1) n (omega arith))
 
-    module _ (p a c : ℕ) (e : p ≡ getD seen (from + i) 0) (f : a ≡ getD starts p 0) (g : c ≡ runLength starts counts keys p) where
-      next-long : length (pieces (i + 1) runAt) ≡ length (pieces i runAt) + c * 8
-      next-long = omega (arith, length-next i runAt, ap length (run-is i e f g), run-long keys a c)
+    module _ {p a c : ℕ} (e : p ≡ getD seen (from + i) 0) (f : a ≡ getD starts p 0) (g : c ≡ runLength starts counts keys p) where
+      next-long : length (pieces (i + 1) (runAt seen starts counts keys from)) ≡ length (pieces i (runAt seen starts counts keys from)) + c * 8
+      next-long = omega (arith, length-next i (runAt seen starts counts keys from), ap length (run-is seen starts counts keys from i e f g), run-long keys a c)
 
       pub run-room : to + c * 8 ≤ length t
       run-room = omega (arith, run-fits, next-long, r .place, r .writes .long)
 
-      pub running-next : {u : List ℕ} → u ≡ splice t to (runFrom keys a c) → Running s at (i + 1) n u (to + c * 8)
+      pub running-next : {u : List ℕ} → u ≡ splice t to (runFrom keys a c) → Running seen starts counts keys from s at (i + 1) n u (to + c * 8)
       running-next q = record {
         below-count = omega arith;
-        writes = writes-next to (runFrom keys a c) (r .writes) run-fits (r .place) q (run-is i e f g);
+        writes = writes-next to (runFrom keys a c) (r .writes) run-fits (r .place) q (run-is seen starts counts keys from i e f g);
         place = omega (arith, next-long, r .place);
       }
 
-  pub running-end : {s t : List ℕ} {at i n to : ℕ} → Running s at i n t to → n ≤ i → RunsWritten s at (runsFrom seen starts counts keys from n) t to
+  pub running-end : {s t : List ℕ} {at i n to : ℕ} → Running seen starts counts keys from s at i n t to → n ≤ i
+      → RunsWritten s at (runsFrom seen starts counts keys from n) t to
   running-end {at} {i} {n} r l = let e : i ≡ n = omega (arith, r .below-count) in record {
     wrote = writes-end (r .writes) (r .below-count) l;
-    end = r .place ∙ ap (λ (k : ℕ). at + length (pieces k runAt)) e;
+    end = r .place ∙ ap (λ (k : ℕ). at + length (pieces k (runAt seen starts counts keys from))) e;
   }
 
 -- The sources of the first observations.
@@ -170,8 +174,11 @@ module _ (owns seens owned seen starts counts keys : List ℕ) where
   unfolding pieces sum rows
   grouping-start s at n = record { below-count = omega arith; writes = writes-start s at groupAt; place = omega arith; owns-are = refl; seens-are = refl }
 
-  module _ {s t : List ℕ} {at k n to a q : ℕ} (r : Grouping s at k n t to a q) (h : SourceRoom n owns seens owned seen starts counts keys at s) (l : k < n)
-      (own m : ℕ) (e : own ≡ getD owns k 0) (f : m ≡ getD seens k 0) where
+-- One boundary more.
+module _ {owns seens owned seen starts counts keys : List ℕ} where
+  module _ {s t : List ℕ} {at k n to a q : ℕ} (r : Grouping owns seens owned seen starts counts keys s at k n t to a q)
+      (h : SourceRoom n owns seens owned seen starts counts keys at s) (l : k < n)
+      {own m : ℕ} (e : own ≡ getD owns k 0) (f : m ≡ getD seens k 0) where
     pub own-sum : a + own ≡ below (elements owns) (k + 1)
     own-sum = omega (arith, r .owns-are, below-next (elements owns) k)
 
@@ -184,7 +191,7 @@ module _ (owns seens owned seen starts counts keys : List ℕ) where
     pub seen-few : q + m ≤ 1280
     seen-few = omega (arith, seen-sum, sum-prefix (k + 1) n (elements seens) (omega arith), h .seen-limit)
 
-    group-is : runFrom owned a own ++ runsFrom seen starts counts keys q m ≡ groupAt k
+    group-is : runFrom owned a own ++ runsFrom seen starts counts keys q m ≡ groupPiece owns seens owned seen starts counts keys k
     unfolding groupPiece
     group-is =
         ap (λ (z : ℕ). runFrom owned z own ++ runsFrom seen starts counts keys q m) (r .owns-are)
@@ -192,17 +199,18 @@ module _ (owns seens owned seen starts counts keys : List ℕ) where
         ∙ ap (λ (z : ℕ). runFrom owned (below (elements owns) k) (getD owns k 0) ++ runsFrom seen starts counts keys z m) (r .seens-are)
         ∙ ap (λ (z : ℕ). runFrom owned (below (elements owns) k) (getD owns k 0) ++ runsFrom seen starts counts keys (below (elements seens) k) z) f
 
-    group-long : length (pieces (k + 1) groupAt) ≡ length (pieces k groupAt) + (own * 8 + length (runsFrom seen starts counts keys q m))
+    group-long : length (pieces (k + 1) (groupPiece owns seens owned seen starts counts keys)) ≡ length
+        (pieces k (groupPiece owns seens owned seen starts counts keys)) + (own * 8 + length (runsFrom seen starts counts keys q m))
     group-long = omega (
       arith,
-      length-next k groupAt,
+      length-next k (groupPiece owns seens owned seen starts counts keys),
       ap length group-is,
       length-append (runFrom owned a own) (runsFrom seen starts counts keys q m),
       run-long owned a own,
     )
 
-    group-fits : at + length (pieces (k + 1) groupAt) ≤ length s
-    group-fits = omega (arith, length-fewer groupAt (k + 1) n (omega arith), h .room)
+    group-fits : at + length (pieces (k + 1) (groupPiece owns seens owned seen starts counts keys)) ≤ length s
+    group-fits = omega (arith, length-fewer (groupPiece owns seens owned seen starts counts keys) (k + 1) n (omega arith), h .room)
 
     pub own-room : to + own * 8 ≤ length t
     own-room = omega (arith, group-fits, group-long, r .place, r .writes .long)
@@ -215,7 +223,7 @@ module _ (owns seens owned seen starts counts keys : List ℕ) where
       seen-room = omega (arith, own-kept, group-fits, group-long, r .place, r .writes .long)
 
       pub grouping-next : {v : List ℕ} {end : ℕ} → RunsWritten u (to + own * 8) (runsFrom seen starts counts keys q m) v end
-          → Grouping s at (k + 1) n v end (a + own) (q + m)
+          → Grouping owns seens owned seen starts counts keys s at (k + 1) n v end (a + own) (q + m)
       grouping-next x = record {
         below-count = omega arith;
         writes = writes-next to (runFrom owned a own ++ runsFrom seen starts counts keys q m) (r .writes) group-fits (r .place)
@@ -227,5 +235,6 @@ module _ (owns seens owned seen starts counts keys : List ℕ) where
         seens-are = seen-sum;
       }
 
-  pub grouping-end : {s t : List ℕ} {at k n to a q : ℕ} → Grouping s at k n t to a q → n ≤ k → t ≡ splice s at (pieces n groupAt)
+  pub grouping-end : {s t : List ℕ} {at k n to a q : ℕ} → Grouping owns seens owned seen starts counts keys s at k n t to a q → n ≤ k
+      → t ≡ splice s at (pieces n (groupPiece owns seens owned seen starts counts keys))
   grouping-end r l = writes-end (r .writes) (r .below-count) l

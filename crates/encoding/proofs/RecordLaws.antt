@@ -1,21 +1,19 @@
 -- Each record's fields written side by side are the record.
 use mathlib.Core.Path.{_≡_, _∙_, ap}
-use mathlib.Core.List.{List, [], _∷_, _++_, append-assoc, append-nil, flatMap}
-use Prim.Native.Nat.{ℕ, suc, _+_, _*_, _/_, _%_, _≤_}
+use mathlib.Core.List.{List, [], _++_, append-assoc, append-nil, flatMap}
+use Prim.Native.Nat.{ℕ, _+_, _*_, _/_, _%_, _≤_}
 use native.Mathlib.Omega.{arith}
-use lib.ListN.{length, set, take, drop, length-append}
-use lib.Seq.{sets-eq}
+use lib.ListN.{length, length-append}
 use Rattle.wire.specs.Bytes.{splice, u32Bytes, u64Bytes}
 use Rattle.wire.proofs.Numbers.{length-bytes}
 use Rattle.position.specs.Order.{canonical}
 use Rattle.format.specs.Records.{spanBytes, sourceBytes, rampBytes, boundaryBytes}
 use Rattle.format.specs.Decode.{rampOf}
 use Rattle.format.specs.Encode.{rampRecord, answerWords}
-use Rattle.format.specs.declared.records.RampRecord.{RampRecord}
 use Rattle.format.specs.declared.records.BoundaryRecord.{BoundaryRecord}
 use Rattle.format.proofs.RecordTrips.{span-trip}
 use Rattle.encoding.specs.Pieces.{keySource, keptRecord}
-use Rattle.answer.proofs.Writes.{then-write}
+use Rattle.format.proofs.Writes.{then-write}
 
 pub source-written : (s : List ℕ) (i v : ℕ) {x y : ℕ} {t u : List ℕ} → i + 8 ≤ length s → x ≡ v / 0x1_0000_0000 → y ≡ v % 0x1_0000_0000
     → t ≡ splice s i (u32Bytes x) → u ≡ splice t (i + 4) (u32Bytes y) → u ≡ splice s i (sourceBytes (keySource v))
@@ -25,22 +23,6 @@ source-written s i v {x} {y} h e f a b =
     then-write s i (u32Bytes x) (u32Bytes y) (omega arith) (omega arith) a b
     ∙ ap (λ (z : ℕ). splice s i (u32Bytes z ++ u32Bytes y)) e
     ∙ ap (λ (z : ℕ). splice s i (u32Bytes (v / 0x1_0000_0000) ++ u32Bytes z)) f
-
-four-set : (s : List ℕ) (i a b c d : ℕ) → i + 4 ≤ length s → set (set (set (set s i a) (i + 1) b) (i + 2) c) (i + 3) d ≡ splice s i (a ∷ b ∷ c ∷ d ∷ [])
-unfolding splice
-four-set s i a b c d h =
-    let e1 : i + 1 ≡ suc i = omega arith in
-    let e2 : i + 2 ≡ suc (suc i) = omega arith in
-    let e3 : i + 3 ≡ suc (suc (suc i)) = omega arith in
-    rw (e1, e2, e3) (sets-eq (a ∷ b ∷ c ∷ d ∷ []) s i h ∙ append-assoc (take i s) (a ∷ b ∷ c ∷ d ∷ []) (drop (i + 4) s))
-
-pub ramp-written : (s : List ℕ) (i : ℕ) (r : RampRecord) {t u : List ℕ} → i + 8 ≤ length s
-    → t ≡ set (set (set (set s i (r .end)) (i + 1) (r .lower)) (i + 2) (r .upper)) (i + 3) 0 → u ≡ splice t (i + 4) (u32Bytes (r .id))
-    → u ≡ splice s i (rampBytes (rampRecord (rampOf r)))
-unfolding rampBytes rampRecord rampOf
-ramp-written s i r h a b =
-    then-write s i (r .end ∷ r .lower ∷ r .upper ∷ 0 ∷ []) (u32Bytes (r .id)) (omega arith) (omega arith)
-    (a ∙ four-set s i (r .end) (r .lower) (r .upper) 0 (omega arith)) b
 
 pub boundary-written : (s : List ℕ) (i : ℕ) (x : BoundaryRecord) (own seen : ℕ) {t u v w y : List ℕ} → i + 40 ≤ length s
     → t ≡ splice s i (spanBytes (canonical (x .ends))) → u ≡ splice t (i + 16) (u64Bytes (x .bits)) → v ≡ splice u (i + 24) (u32Bytes own)

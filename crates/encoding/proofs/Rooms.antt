@@ -10,7 +10,7 @@ use Rattle.format.specs.declared.records.Source.{Source}
 use Rattle.format.specs.declared.records.ObservationRecord.{ObservationRecord}
 use Rattle.answer.specs.Placed.{PlaceRoom, PlacedInside, JobPlaces, boundaryRows}
 use Rattle.answer.specs.Gathered.{Ordered}
-use Rattle.answer.proofs.Writes.{apart-none}
+use Rattle.answer.proofs.Layouts.{apart-none}
 use Rattle.gathering.specs.Room.{GatherRoom}
 use Rattle.encoding.specs.Answered.{Answered, WorkRoom}
 

@@ -18,7 +18,7 @@ use Rattle.encoding.specs.Pieces.{pieces, keptPiece, placePiece, element
 use Rattle.encoding.specs.Answered.{Answered, Writable}
 use Rattle.encoding.proofs.Loops.{kept-long, places-long}
 use Rattle.encoding.proofs.GatheredBytes.{seen-sum, own-sum, sources-sum, source-bytes, answer-bytes}
-use Rattle.answer.proofs.Writes.{then-write}
+use Rattle.format.proofs.Writes.{then-write}
 
 module _ {s : List ℕ} {at count : ℕ} {kept owns seens owned seen first second third starts counts keys : List ℕ}
     (w : Writable s at count kept owns seens owned seen first second third starts counts keys) where
@@ -37,7 +37,7 @@ module _ {s : List ℕ} {at count : ℕ} {kept owns seens owned seen first secon
   abbrev all : List ℕ
   all = answerBytes (boundaryRows s at) count kept owns seens owned seen first second third starts counts keys
 
-  module _ (o own c : ℕ) (eo : o ≡ below (elements seens) count) (ew : own ≡ below (elements owns) count) (ec : c ≡ citedTotal seen starts counts keys o) where
+  module _ {o own c : ℕ} (eo : o ≡ below (elements seens) count) (ew : own ≡ below (elements owns) count) (ec : c ≡ citedTotal seen starts counts keys o) where
     observation-count : o ≡ length (observationsOf (w .ks))
     observation-count = eo ∙ ap (below (elements seens)) (sym (w .many)) ∙ seen-sum (w .gathered)
 
@@ -84,7 +84,7 @@ module _ {s : List ℕ} {at count : ℕ} {kept owns seens owned seen first secon
         ++ (b2 ++ (pieces (eo i) (λ k. placePiece first second third starts counts keys (getD seen k 0)) ++ b4)))
 
     -- The answer of any boundaries that were gathered so.
-    module _ (total : ℕ) (t : total ≡ 24 + count * 40 + o * 28 + (own + c) * 8) (n : ℕ) (ks : List Boundary) (e : length ks ≡ count)
+    module _ {total : ℕ} (t : total ≡ 24 + count * 40 + o * 28 + (own + c) * 8) {n : ℕ} {ks : List Boundary} (e : length ks ≡ count)
         (g : Gathered (boundaryRows s at) n ks kept owns seens owned seen first second third starts counts keys) where
       same : all ≡ encodeAnswer ks
       same = answer-bytes g count e

@@ -10,7 +10,7 @@ use lib.ListN.{length, take, drop, length-append, take-append-drop}
 use Rattle.wire.specs.Bytes.{splice}
 use Rattle.wire.proofs.Parts.{length-splice}
 use Rattle.encoding.specs.Pieces.{pieces}
-use Rattle.answer.proofs.Writes.{then-write}
+use Rattle.format.proofs.Writes.{then-write}
 
 -- A write beside a write is one.
 -- Nothing written.

@@ -15,7 +15,7 @@ use Rattle.format.specs.declared.records.Source.{Source}
 use Rattle.format.specs.declared.records.BoundaryRecord.{BoundaryRecord}
 use Rattle.answer.specs.Laying.{below}
 use Rattle.answer.specs.Squeezed.{partOf}
-use Rattle.answer.specs.Written.{observationWords}
+use Rattle.format.specs.Records.{observationWords}
 
 -- n pieces, one after another.
 unfoldable pub pieces : ℕ → (ℕ → List ℕ) → List ℕ

@@ -3,12 +3,14 @@ ghost use mathlib.Core.Path.{_≡_};
 ghost use Prim.Native.Nat.{_+_, _*_, _≤_};
 ghost use lib.ListN.{length};
 ghost use Rattle.wire.specs.Bytes.{splice};
+ghost use Rattle.format.specs.Sizes.{sourceSize};
 ghost use Rattle.encoding.specs.Pieces.{runFrom, runLength, runsFrom};
 ghost use Rattle.encoding.specs.Answered.{RunsWritten};
 use crate::reads::index;
 use crate::reads::long;
 use crate::reads::word;
 use crate::records::write_source;
+use format::SOURCE_SIZE;
 
 // How many sources the observation at place p has: as many of its numbers as there are.
 pub fn run_length(starts: &[u32], counts: &[u32], keys: &[u64], p: usize) -> u32
@@ -29,12 +31,12 @@ pub fn run_length(starts: &[u32], counts: &[u32], keys: &[u64], p: usize) -> u32
 
 // The sources of `count` numbers from `from` on.
 pub fn write_run(s: &mut [u8], at: usize, keys: &[u64], from: usize, count: usize)
-    requires { ⌜ (at + count * 8 ≤ length (now s)) × (from ≤ 0x1_0000_0000) × (count ≤ 0x1_0000_0000) ⌝ }
+    requires { ⌜ (at + count * sourceSize ≤ length (now s)) × (from ≤ 0x1_0000_0000) × (count ≤ 0x1_0000_0000) ⌝ }
     ensures { λ _. ⌜ now (s .exit) ≡ splice (now (s .entry)) at (runFrom (now (keys .entry)) from count) ⌝ }
 {
     let mut i: usize = 0;
     while i < count {
-        write_source(s, at + i * 8, long(keys, from + i));
+        write_source(s, at + i * SOURCE_SIZE, long(keys, from + i));
         i += 1;
     }
 }
@@ -60,7 +62,7 @@ pub fn write_runs(
         let p = index(seen, from + i);
         let count = run_length(starts, counts, keys, p) as usize;
         write_run(s, to, keys, index(starts, p), count);
-        to += count * 8;
+        to += count * SOURCE_SIZE;
         i += 1;
     }
     to

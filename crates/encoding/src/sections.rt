@@ -3,6 +3,7 @@ ghost use mathlib.Core.Path.{_≡_};
 ghost use Prim.Native.Nat.{_+_, _*_, _≤_};
 ghost use lib.ListN.{length, getD};
 ghost use Rattle.wire.specs.Bytes.{splice};
+ghost use Rattle.format.specs.Sizes.{observationSize};
 ghost use Rattle.answer.specs.Placed.{boundaryRows};
 ghost use Rattle.encoding.specs.Pieces.{pieces, keptPiece, placePiece, groupPiece};
 ghost use Rattle.encoding.specs.Answered.{BoundaryRoom, SourceRoom};
@@ -15,10 +16,12 @@ use crate::runs::write_run;
 use crate::runs::write_runs;
 use crate::units::bits_of;
 use crate::units::span_of;
-use answer::writing::write_observation;
+use format::ANSWER_BOUNDARY_SIZE;
 use format::BOUNDARY_SIZE;
 use format::OBSERVATION_SIZE;
+use format::SOURCE_SIZE;
 use format::read_boundary;
+use format::write_observation;
 
 pub fn write_boundaries(
     job: &[u8],
@@ -37,7 +40,13 @@ pub fn write_boundaries(
     let mut k: usize = 0;
     while k < count {
         let x = read_boundary(job, at + index(kept, k) * BOUNDARY_SIZE);
-        write_boundary(s, to + k * BOUNDARY_SIZE, x, word(owns, k), word(seens, k));
+        write_boundary(
+            s,
+            to + k * ANSWER_BOUNDARY_SIZE,
+            x,
+            word(owns, k),
+            word(seens, k),
+        );
         k += 1;
     }
 }
@@ -54,7 +63,7 @@ pub fn write_place(
     counts: &[u32],
     keys: &[u64],
 )
-    requires { ⌜ at + 28 ≤ length (now s) ⌝ }
+    requires { ⌜ at + observationSize ≤ length (now s) ⌝ }
     ensures { λ _. ⌜ now (s .exit) ≡ splice (now (s .entry)) at
         (placePiece (now (first .entry)) (now (second .entry)) (now (third .entry)) (now (starts .entry)) (now (counts .entry)) (now (keys .entry)) p) ⌝ }
 {
@@ -75,7 +84,7 @@ pub fn write_observations(
     counts: &[u32],
     keys: &[u64],
 )
-    requires { ⌜ (to + count * 28 ≤ length (now s)) × (count ≤ 1280) ⌝ }
+    requires { ⌜ (to + count * observationSize ≤ length (now s)) × (count ≤ 1280) ⌝ }
     ensures { λ _. ⌜ now (s .exit) ≡ splice (now (s .entry)) to
         (pieces count (λ q. placePiece (now (first .entry)) (now (second .entry)) (now (third .entry)) (now (starts .entry)) (now (counts .entry))
         (now (keys .entry)) (getD (now (seen .entry)) q 0))) ⌝ }
@@ -124,7 +133,7 @@ pub fn write_sources(
         let own = index(owns, k);
         let n = index(seens, k);
         write_run(s, to, owned, a, own);
-        to = write_runs(s, to + own * 8, seen, q, n, starts, counts, keys);
+        to = write_runs(s, to + own * SOURCE_SIZE, seen, q, n, starts, counts, keys);
         a += own;
         q += n;
         k += 1;

@@ -14,6 +14,10 @@ use crate::sections::write_observations;
 use crate::sections::write_sources;
 use crate::sums::sum_first;
 use crate::sums::sum_runs;
+use format::ANSWER_BOUNDARY_SIZE;
+use format::ANSWER_HEADER_SIZE;
+use format::OBSERVATION_SIZE;
+use format::SOURCE_SIZE;
 
 // The answer's length; the answer itself where it fits. Every length is known before a byte is written.
 pub fn write_kept(
@@ -42,14 +46,23 @@ pub fn write_kept(
 {
     let observations = sum_first(seens, count);
     let sources = sum_first(owns, count) + sum_runs(seen, observations, starts, counts, keys);
-    let places = 24 + count * 40;
-    let runs = places + observations * 28;
-    let total = runs + sources * 8;
+    let places = ANSWER_HEADER_SIZE + count * ANSWER_BOUNDARY_SIZE;
+    let runs = places + observations * OBSERVATION_SIZE;
+    let total = runs + sources * SOURCE_SIZE;
     if answer.len() < total {
         return total;
     }
     write_header(answer, count as u32, observations as u32, sources as u32);
-    write_boundaries(job, at, count, kept, owns, seens, answer, 24);
+    write_boundaries(
+        job,
+        at,
+        count,
+        kept,
+        owns,
+        seens,
+        answer,
+        ANSWER_HEADER_SIZE,
+    );
     write_observations(
         answer,
         places,

@@ -1,6 +1,7 @@
 pub mod Sections
 pub mod Trip
 pub mod RecordTrips
+pub mod Writes
 pub mod RowTrips
 pub mod ListTrip
 pub mod Distribution

@@ -6,7 +6,7 @@ use lib.ListN.{length}
 use Rattle.position.specs.declared.WalkPosition.{WalkPosition}
 use Rattle.position.specs.declared.Span.{Span}
 use Rattle.wire.specs.Bytes.{u32Bytes}
-use Rattle.format.specs.Sizes.{noAnchor, answerHeaderSize, boundarySize, observationSize, sourceSize}
+use Rattle.format.specs.Sizes.{noAnchor, answerHeaderSize, answerBoundarySize, observationSize, sourceSize}
 use Rattle.format.specs.Values.{Base, Ramp, Observation, Boundary, Job}
 use Rattle.format.specs.Records.{spanBytes, sourceBytes, baseBytes, boundaryBytes, observationBytes}
 use Rattle.format.specs.Header.{countsBytes, offsetsBytes, offsetsOf}
@@ -93,9 +93,9 @@ encodeList ss = flatMap spanBytes ss
 unfoldable pub answerWords : ℕ → ℕ → ℕ → List ℕ
 answerWords b o s =
     b ∷ o ∷ s
-    ∷ (answerHeaderSize + b * boundarySize)
-    ∷ (answerHeaderSize + b * boundarySize + o * observationSize)
-    ∷ (answerHeaderSize + b * boundarySize + o * observationSize + s * sourceSize)
+    ∷ (answerHeaderSize + b * answerBoundarySize)
+    ∷ (answerHeaderSize + b * answerBoundarySize + o * observationSize)
+    ∷ (answerHeaderSize + b * answerBoundarySize + o * observationSize + s * sourceSize)
     ∷ []
 
 unfoldable pub encodeAnswer : List Boundary → List ℕ

@@ -9,7 +9,7 @@ use Rattle.lists.specs.Rows.{All}
 use Rattle.position.specs.declared.PixelPosition.{PixelPosition}
 use Rattle.position.specs.declared.WalkPosition.{WalkPosition}
 use Rattle.position.specs.declared.Span.{Span}
-use Rattle.format.specs.Sizes.{noAnchor, headerSize, boundarySize}
+use Rattle.format.specs.Sizes.{noAnchor, headerSize, boundarySize, countsSize}
 use Rattle.format.specs.Bounds.{maxSide, maxBases, maxBoundaries, maxObservations, maxSources}
 use Rattle.format.specs.Values.{Base, Ramp, Observation, Boundary, Job}
 use Rattle.format.specs.Records.{boundaryAt}
@@ -142,7 +142,7 @@ pub record AnswerFits (bs : List Boundary) : Type 0 where
 -- Bytes whose sections stand where the counts c put them, whose counts add up and whose zero bytes are zero.
 pub record FormedWith (c : Counts) (s : List ℕ) : Type 0 where
   pub header : headerSize ≤ length s
-  pub offsets : offsetsAt s 24 ≡ offsetsOf c
+  pub offsets : offsetsAt s countsSize ≡ offsetsOf c
   pub total : length s ≡ totalLength c
   pub observations : observationTotal (boundaryRecords s (boundariesStart c) (c .boundaries)) ≡ c .observations
   pub sources : ownTotal (boundaryRecords s (boundariesStart c) (c .boundaries)) + sourceCount

@@ -3,7 +3,7 @@
 use Prim.Native.Nat.{ℕ, _+_, _*_}
 use mathlib.Core.List.{List, _++_}
 use Rattle.wire.specs.Bytes.{u32At, u32Bytes}
-use Rattle.format.specs.Sizes.{headerSize, baseSize, boundarySize, observationSize, sourceSize}
+use Rattle.format.specs.Sizes.{headerSize, baseSize, boundarySize, observationSize, sourceSize, countsSize}
 use Rattle.format.specs.declared.header.Counts.{Counts}
 use Rattle.format.specs.declared.header.Offsets.{Offsets}
 use Rattle.format.specs.declared.header.Header.{Header}
@@ -38,7 +38,7 @@ offsetsBytes o = u32Bytes (o .cells)
 
 unfoldable pub headerAt : List ℕ → Header
 unfolding countsAt offsetsAt
-headerAt s = record { counts = countsAt s 0; offsets = offsetsAt s 24 }
+headerAt s = record { counts = countsAt s 0; offsets = offsetsAt s countsSize }
 
 abbrev pub cellCount : Counts → ℕ
 cellCount c = c .width * c .height

@@ -65,3 +65,7 @@ observationAt s i = record { ends = spanAt s i; bits = u64At s (i + 16); sources
 unfoldable pub observationBytes : ObservationRecord → List ℕ
 unfolding spanBytes
 observationBytes r = spanBytes (r .ends) ++ (u64Bytes (r .bits) ++ u32Bytes (r .sources))
+
+-- An observation's record of its parts.
+unfoldable pub observationWords : Span → ℕ → ℕ → ObservationRecord
+observationWords e b n = record { ends = e; bits = b; sources = n }

@@ -2,7 +2,9 @@
 ghost use mathlib.Core.Path.{_≡_};
 ghost use Prim.Native.Nat.{_+_, _≤_};
 ghost use lib.ListN.{length};
+ghost use Rattle.format.specs.Sizes.{headerSize, countsSize};
 ghost use Rattle.format.specs.Header.{countsAt, offsetsAt, headerAt};
+use crate::COUNTS_SIZE;
 use wire::read_u32;
 
 pub struct Counts {
@@ -30,7 +32,7 @@ pub struct Header {
 }
 
 pub fn read_counts(s: &[u8], at: usize) -> Counts
-    requires { ⌜ at + 24 ≤ length (now s) ⌝ }
+    requires { ⌜ at + countsSize ≤ length (now s) ⌝ }
     ensures { λ r. ⌜ r ≡ countsAt (now (s .entry)) at ⌝ }
 {
     Counts {
@@ -44,7 +46,7 @@ pub fn read_counts(s: &[u8], at: usize) -> Counts
 }
 
 pub fn read_offsets(s: &[u8], at: usize) -> Offsets
-    requires { ⌜ at + 24 ≤ length (now s) ⌝ }
+    requires { ⌜ at + countsSize ≤ length (now s) ⌝ }
     ensures { λ r. ⌜ r ≡ offsetsAt (now (s .entry)) at ⌝ }
 {
     Offsets {
@@ -58,11 +60,11 @@ pub fn read_offsets(s: &[u8], at: usize) -> Offsets
 }
 
 pub fn read_header(s: &[u8]) -> Header
-    requires { ⌜ 48 ≤ length (now s) ⌝ }
+    requires { ⌜ headerSize ≤ length (now s) ⌝ }
     ensures { λ r. ⌜ r ≡ headerAt (now (s .entry)) ⌝ }
 {
     Header {
         counts: read_counts(s, 0),
-        offsets: read_offsets(s, 24),
+        offsets: read_offsets(s, COUNTS_SIZE),
     }
 }

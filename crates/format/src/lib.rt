@@ -1,7 +1,8 @@
-// The records of jobs, lists and answers (document 01, 'The three calls'; values of source document 003), and their readers.
+// The records of jobs, lists and answers (document 01, 'The three calls'; values of source document 003), their readers and writers.
 mod header;
 mod ramps;
 mod records;
+mod writing;
 
 // Bytes of the header and of each record.
 pub const HEADER_SIZE: usize = 48;
@@ -15,6 +16,14 @@ pub const OBSERVATION_SIZE: usize = 28;
 pub const SOURCE_SIZE: usize = 8;
 
 pub const SPAN_SIZE: usize = 16;
+
+pub const ANSWER_HEADER_SIZE: usize = 24;
+
+// A boundary's record in an answer.
+pub const ANSWER_BOUNDARY_SIZE: usize = 40;
+
+// Bytes of the counts that a header starts with, and of the offsets after them.
+pub const COUNTS_SIZE: usize = 24;
 
 // What both halves of a missing anchor are.
 pub const NO_ANCHOR: u32 = 4_294_967_295;
@@ -60,3 +69,6 @@ pub use records::read_position;
 pub use records::read_ramp;
 pub use records::read_source;
 pub use records::read_span;
+pub use writing::write_observation;
+pub use writing::write_ramp;
+pub use writing::write_span;

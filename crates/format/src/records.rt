@@ -2,6 +2,7 @@
 ghost use mathlib.Core.Path.{_≡_};
 ghost use Prim.Native.Nat.{_+_, _≤_};
 ghost use lib.ListN.{length};
+ghost use Rattle.format.specs.Sizes.{spanSize, sourceSize, baseSize, boundarySize, observationSize};
 ghost use Rattle.format.specs.Records.{positionAt, spanAt, sourceAt, baseAt, rampAt, boundaryAt, observationAt};
 use position::PixelPosition;
 use position::Span;
@@ -15,7 +16,7 @@ pub struct Source {
     pub to: u32,
 }
 
-// 12 bytes. An anchor of twice 4,294,967,295 means that there is none.
+// BASE_SIZE bytes. An anchor of twice 4,294,967,295 means that there is none.
 pub struct BaseRecord {
     pub id: u32,
     pub anchor: WalkPosition,
@@ -30,7 +31,7 @@ pub struct RampRecord {
     pub id: u32,
 }
 
-// 40 bytes, with the counts of its own sources and of its observations.
+// BOUNDARY_SIZE bytes, with the counts of its own sources and of its observations.
 pub struct BoundaryRecord {
     pub ends: Span,
     pub bits: u64,
@@ -39,7 +40,7 @@ pub struct BoundaryRecord {
     pub ramp: RampRecord,
 }
 
-// 28 bytes, with the count of its sources.
+// OBSERVATION_SIZE bytes, with the count of its sources.
 pub struct ObservationRecord {
     pub ends: Span,
     pub bits: u64,
@@ -57,7 +58,7 @@ pub fn read_position(s: &[u8], at: usize) -> PixelPosition
 }
 
 pub fn read_span(s: &[u8], at: usize) -> Span
-    requires { ⌜ at + 16 ≤ length (now s) ⌝ }
+    requires { ⌜ at + spanSize ≤ length (now s) ⌝ }
     ensures { λ r. ⌜ r ≡ spanAt (now (s .entry)) at ⌝ }
 {
     Span {
@@ -67,7 +68,7 @@ pub fn read_span(s: &[u8], at: usize) -> Span
 }
 
 pub fn read_source(s: &[u8], at: usize) -> Source
-    requires { ⌜ at + 8 ≤ length (now s) ⌝ }
+    requires { ⌜ at + sourceSize ≤ length (now s) ⌝ }
     ensures { λ r. ⌜ r ≡ sourceAt (now (s .entry)) at ⌝ }
 {
     Source {
@@ -77,7 +78,7 @@ pub fn read_source(s: &[u8], at: usize) -> Source
 }
 
 pub fn read_base(s: &[u8], at: usize) -> BaseRecord
-    requires { ⌜ at + 12 ≤ length (now s) ⌝ }
+    requires { ⌜ at + baseSize ≤ length (now s) ⌝ }
     ensures { λ r. ⌜ r ≡ baseAt (now (s .entry)) at ⌝ }
 {
     BaseRecord {
@@ -103,7 +104,7 @@ pub fn read_ramp(s: &[u8], at: usize) -> RampRecord
 }
 
 pub fn read_boundary(s: &[u8], at: usize) -> BoundaryRecord
-    requires { ⌜ at + 40 ≤ length (now s) ⌝ }
+    requires { ⌜ at + boundarySize ≤ length (now s) ⌝ }
     ensures { λ r. ⌜ r ≡ boundaryAt (now (s .entry)) at ⌝ }
 {
     BoundaryRecord {
@@ -116,7 +117,7 @@ pub fn read_boundary(s: &[u8], at: usize) -> BoundaryRecord
 }
 
 pub fn read_observation(s: &[u8], at: usize) -> ObservationRecord
-    requires { ⌜ at + 28 ≤ length (now s) ⌝ }
+    requires { ⌜ at + observationSize ≤ length (now s) ⌝ }
     ensures { λ r. ⌜ r ≡ observationAt (now (s .entry)) at ⌝ }
 {
     ObservationRecord {

@@ -12,7 +12,7 @@ use Rattle.answer.specs.Laying.{below}
 use Rattle.gathering.specs.Runs.{Filled, Added, keptRanks, ownRun, seenRun, ownWeight, seenWeight, into, OwnsBy, SeensBy, ownTotal, seenTotal}
 use Rattle.gathering.proofs.Fills.{filled-start, filled-is, filled-put, filled-then}
 use Rattle.gathering.proofs.Goings.{keep-last}
-use Rattle.gathering.proofs.Weights.{lower-next}
+use Rattle.gathering.proofs.Weights.{lower-next, lower-all}
 use Rattle.order.proofs.Gather.{gather-last}
 
 ranks-none : (plan : List ℕ) → keptRanks plan 0 ≡ []
@@ -99,6 +99,13 @@ module _ (base : ℕ) (order plan starts counts keys : List ℕ) (n : ℕ) where
       let d : a ≡ ownTotal base order plan starts counts keys n = s .owned-there .many ∙ ap (λ (y : ℕ). length (gather run (keptRanks plan y))) e in
       subst (λ (y : ℕ). state n k y kept owns owned) d (subst (λ (y : ℕ). state y k a kept owns owned) e s)
 
+-- What goes into rank i still fits.
+pub owns-fit : {base : ℕ} {order plan starts counts keys kept owns owned : List ℕ} {n i k a : ℕ}
+    → OwnsBy base order plan starts counts keys n i k a kept owns owned
+    → a + below (into plan (ownWeight base order counts) i) n ≤ below (ownWeight base order counts) n
+owns-fit {base} {order} {plan} {counts = counts} {n = n} {i = i} s =
+    omega (arith, s .room, lower-next plan (ownWeight base order counts) i n, lower-all plan (ownWeight base order counts) (i + 1) n)
+
 pub owns-counted : {base : ℕ} {order plan starts counts keys kept owns owned : List ℕ} {n i v w a : ℕ} (k : ℕ) → w ≡ v
     → OwnsBy base order plan starts counts keys n i (k + v) a kept owns owned → OwnsBy base order plan starts counts keys n i (k + w) a kept owns owned
 owns-counted k e s = rw e s
@@ -144,6 +151,12 @@ module _ (base : ℕ) (order plan firsts first second third starts counts keys :
       let d : a ≡ seenTotal base order plan firsts first second third starts counts keys count n = s .seen-there .many
       ∙ ap (λ (y : ℕ). length (gather sights (keptRanks plan y))) e in
       subst (λ (y : ℕ). seenState n k y seens seen) d (subst (λ (y : ℕ). seenState y k a seens seen) e s)
+
+pub seens-fit : {base : ℕ} {order plan firsts first second third starts counts keys seens seen : List ℕ} {count : ℕ → ℕ} {n i k a : ℕ}
+    → SeensBy base order plan firsts first second third starts counts keys count n i k a seens seen
+    → a + below (into plan (seenWeight order count) i) n ≤ below (seenWeight order count) n
+seens-fit {order = order} {plan = plan} {count = count} {n = n} {i = i} s =
+    omega (arith, s .room, lower-next plan (seenWeight order count) i n, lower-all plan (seenWeight order count) (i + 1) n)
 
 pub seens-counted : {base : ℕ} {order plan firsts first second third starts counts keys seens seen : List ℕ} {count : ℕ → ℕ} {n i v w a : ℕ} (k : ℕ) → w ≡ v
     → SeensBy base order plan firsts first second third starts counts keys count n i (k + v) a seens seen

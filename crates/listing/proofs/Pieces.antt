@@ -5,8 +5,9 @@ use Prim.Native.Nat.{ℕ, suc, _+_, _≤_, _<_, _^_}
 use native.Mathlib.Omega.{arith}
 use lib.ListN.{length, length-append}
 use Rattle.position.specs.declared.Span.{Span}
-use Rattle.format.specs.Values.{Ramp}
 use Rattle.format.specs.Decode.{rampOf}
+use Rattle.format.specs.declared.records.BoundaryRecord.{BoundaryRecord}
+use Rattle.format.specs.declared.records.ObservationRecord.{ObservationRecord}
 use Rattle.format.specs.declared.records.RampRecord.{RampRecord}
 use Rattle.format.specs.declared.records.Source.{Source}
 use Rattle.listing.specs.Digits.{digits, hexDigits}
@@ -41,15 +42,17 @@ module _ (out : List ℕ) (at : ℕ) where
   unfolding sourceLine
   source-start s h = start _ refl h
 
-  pub observation-start : (e : Span) (bits n : ℕ) → Room (observationFields e bits n) out at
-      → Left (observationFields e bits n) out at ((111 ∷ []) ∷ endsText e ∷ bitsText bits ∷ fieldText n ∷ newline ∷ []) out at
+  pub observation-start : (o : ObservationRecord) (n : ℕ) → Room (observationFields (o .ends) (o .bits) n) out at
+      → Left (observationFields (o .ends) (o .bits) n) out at
+      ((111 ∷ []) ∷ endsText (o .ends) ∷ bitsText (o .bits) ∷ fieldText n ∷ newline ∷ []) out at
   unfolding observationFields
-  observation-start e bits n h = start _ refl h
+  observation-start o n h = start _ refl h
 
-  pub boundary-start : (e : Span) (bits n m : ℕ) (r : Ramp) → Room (boundaryFields e bits n m r) out at
-      → Left (boundaryFields e bits n m r) out at ((98 ∷ []) ∷ endsText e ∷ bitsText bits ∷ fieldText n ∷ fieldText m ∷ rampText r ∷ newline ∷ []) out at
+  pub boundary-start : (b : BoundaryRecord) (n m : ℕ) → Room (boundaryFields (b .ends) (b .bits) n m (rampOf (b .ramp))) out at
+      → Left (boundaryFields (b .ends) (b .bits) n m (rampOf (b .ramp))) out at
+      ((98 ∷ []) ∷ endsText (b .ends) ∷ bitsText (b .bits) ∷ fieldText n ∷ fieldText m ∷ rampText (rampOf (b .ramp)) ∷ newline ∷ []) out at
   unfolding boundaryFields
-  boundary-start e bits n m r h = start _ refl h
+  boundary-start b n m h = start _ refl h
 
   pub kept-start : (n : ℕ) → Room (keptLine n) out at → Left (keptLine n) out at ((107 ∷ 101 ∷ 112 ∷ 116 ∷ []) ∷ fieldText n ∷ newline ∷ []) out at
   unfolding keptLine

@@ -6,7 +6,7 @@ use mathlib.Core.List.{List, []}
 use lib.Dec.{leb}
 use lib.ListN.{length, take, drop}
 use Rattle.wire.specs.Bytes.{splice, u32At}
-use Rattle.format.specs.Sizes.{answerHeaderSize, boundarySize, observationSize, sourceSize}
+use Rattle.format.specs.Sizes.{answerHeaderSize, answerBoundarySize, observationSize, sourceSize}
 use Rattle.format.specs.Records.{observationAt}
 use Rattle.format.specs.Values.{Observation}
 use Rattle.format.specs.Decode.{observationRecords, sourceRecords, decodeAnswer}
@@ -52,7 +52,7 @@ pub record Moved (s : List ℕ) (c d : Cursor) (n m : ℕ) : Type 0 where
 
 -- The length that an answer's counts give it.
 abbrev pub answerLength : List ℕ → ℕ
-answerLength s = answerHeaderSize + u32At s 0 * boundarySize + u32At s 4 * observationSize + u32At s 8 * sourceSize
+answerLength s = answerHeaderSize + u32At s 0 * answerBoundarySize + u32At s 4 * observationSize + u32At s 8 * sourceSize
 
 -- An answer that is there whole, and room for its listing: thrice its length always suffices.
 unfoldable pub whole : List ℕ → ℕ → Bool

@@ -9,6 +9,10 @@ use crate::lines::write_text;
 use crate::lines::write_word;
 use crate::walk::Cursor;
 use crate::walk::write_boundaries;
+use format::ANSWER_BOUNDARY_SIZE;
+use format::ANSWER_HEADER_SIZE;
+use format::OBSERVATION_SIZE;
+use format::SOURCE_SIZE;
 use wire::read_u32;
 use wire::size;
 
@@ -28,16 +32,16 @@ pub fn write_listing(answer: &[u8], out: &mut [u8]) -> usize
     ensures fits { λ r. ⌜ r ≤ length (now (out .exit)) ⌝ }
 {
     let n = answer.len();
-    if n < 24 {
+    if n < ANSWER_HEADER_SIZE {
         return 0;
     }
     let kept = read_u32(answer, 0);
     let b = size(kept);
     let o = size(read_u32(answer, 4));
     let s = size(read_u32(answer, 8));
-    let observation = 24 + b * 40;
-    let source = observation + o * 28;
-    let total = source + s * 8;
+    let observation = ANSWER_HEADER_SIZE + b * ANSWER_BOUNDARY_SIZE;
+    let source = observation + o * OBSERVATION_SIZE;
+    let total = source + s * SOURCE_SIZE;
     if n < total {
         return 0;
     }
@@ -52,7 +56,7 @@ pub fn write_listing(answer: &[u8], out: &mut [u8]) -> usize
         source: source,
         sources: s,
     };
-    write_boundaries(answer, 24, b, c, out)
+    write_boundaries(answer, ANSWER_HEADER_SIZE, b, c, out)
 }
 
 // A refusal's line, written at the start of out; gives its length.

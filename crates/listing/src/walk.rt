@@ -2,6 +2,7 @@
 ghost use mathlib.Core.Path.{_≡_};
 ghost use Prim.Native.Nat.{_+_, _*_, _≤_, _<_, min};
 ghost use lib.ListN.{length, take};
+ghost use Rattle.format.specs.Sizes.{answerBoundarySize, sourceSize};
 ghost use Rattle.format.specs.Records.{boundaryAt, observationAt};
 ghost use Rattle.format.specs.Decode.{sourceRecords, boundaryRecords, observationsWith, boundaryWith, boundariesWith, sourceCount};
 ghost use Rattle.listing.specs.Lines.{sourceLines, observationText, observationTexts, boundaryText, boundaryTexts};
@@ -9,6 +10,9 @@ ghost use Rattle.listing.specs.Answer.{Room, Writes, observationsAt, sou
 use crate::lines::write_boundary_line;
 use crate::lines::write_observation_line;
 use crate::lines::write_source;
+use format::ANSWER_BOUNDARY_SIZE;
+use format::OBSERVATION_SIZE;
+use format::SOURCE_SIZE;
 use format::read_boundary;
 use format::read_observation;
 use format::read_source;
@@ -32,13 +36,13 @@ fn least(n: u32, left: usize) -> usize
 
 // The s lines of n sources from a place of the answer on.
 fn write_sources(answer: &[u8], from: usize, n: usize, out: &mut [u8], at: usize) -> usize
-    requires { ⌜ (from + n * 8 ≤ length (now answer)) × Room (sourceLines (sourceRecords (now answer) from n)) (now out) at ⌝ }
+    requires { ⌜ (from + n * sourceSize ≤ length (now answer)) × Room (sourceLines (sourceRecords (now answer) from n)) (now out) at ⌝ }
     ensures { λ r. ⌜ Writes (sourceLines (sourceRecords (now (answer .entry)) from n)) (now (out .entry)) at (now (out .exit)) r ⌝ }
 {
     let mut i = 0;
     let mut end = at;
     while i < n {
-        let s = read_source(answer, from + i * 8);
+        let s = read_source(answer, from + i * SOURCE_SIZE);
         end = write_source(s, out, end);
         i += 1;
     }
@@ -60,9 +64,9 @@ fn write_observation(answer: &[u8], c: Cursor, out: &mut [u8]) -> Cursor
     let last = write_sources(answer, source, n, out, end);
     Cursor {
         at: last,
-        observation: place + 28,
+        observation: place + OBSERVATION_SIZE,
         observations: c.observations - 1,
-        source: source + n * 8,
+        source: source + n * SOURCE_SIZE,
         sources: left - n,
     }
 }
@@ -86,7 +90,7 @@ fn write_observations(answer: &[u8], n: usize, c: Cursor, out: &mut [u8]) -> Cur
 
 // The boundary at a place of the answer, with its own sources and its observations.
 fn write_boundary(answer: &[u8], place: usize, c: Cursor, out: &mut [u8]) -> Cursor
-    requires { ⌜ Inside (now answer) c × (place + 40 ≤ length (now answer))
+    requires { ⌜ Inside (now answer) c × (place + answerBoundarySize ≤ length (now answer))
         × Room (boundaryText (boundaryWith (boundaryAt (now answer) place)
         (take (boundaryAt (now answer) place .observations) (observationsAt (now answer) c)) (sourcesAt (now answer) c))) (now out) (c .at) ⌝ }
     ensures text { λ r. ⌜ Writes
@@ -108,7 +112,7 @@ fn write_boundary(answer: &[u8], place: usize, c: Cursor, out: &mut [u8]) -> Cur
         at: last,
         observation: c.observation,
         observations: c.observations,
-        source: source + n * 8,
+        source: source + n * SOURCE_SIZE,
         sources: left - n,
     };
     write_observations(answer, m, d, out)
@@ -116,7 +120,7 @@ fn write_boundary(answer: &[u8], place: usize, c: Cursor, out: &mut [u8]) -> Cur
 
 // The n boundaries from a place of the answer on.
 pub fn write_boundaries(answer: &[u8], place: usize, n: usize, c: Cursor, out: &mut [u8]) -> usize
-    requires { ⌜ Inside (now answer) c × (place + n * 40 ≤ length (now answer))
+    requires { ⌜ Inside (now answer) c × (place + n * answerBoundarySize ≤ length (now answer))
         × Room (boundaryTexts (boundariesWith (boundaryRecords (now answer) place n) (observationsAt (now answer) c) (sourcesAt (now answer) c))) (now out)
         (c .at) ⌝ }
     ensures { λ r. ⌜ Writes (boundaryTexts
@@ -126,7 +130,7 @@ pub fn write_boundaries(answer: &[u8], place: usize, n: usize, c: Cursor, out: &
     let mut i = 0;
     let mut d = c;
     while i < n {
-        d = write_boundary(answer, place + i * 40, d, out);
+        d = write_boundary(answer, place + i * ANSWER_BOUNDARY_SIZE, d, out);
         i += 1;
     }
     d.at

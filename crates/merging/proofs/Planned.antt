@@ -6,16 +6,17 @@ use Prim.Native.Nat.{ℕ, _<_, _≤_}
 use native.Mathlib.Omega.{arith}
 use borrow.Author.Tests.{eqb-true, eq-eqb, ne-eqb}
 use lib.Dec.{eqb}
-use lib.ListN.{length}
+use lib.ListN.{length, getD}
 use Rattle.order.specs.Lists.{keep, gather, upFrom, has}
 use Rattle.order.specs.Pairs.{Pairs, none, more}
 use Rattle.order.proofs.Bools.{clash, is-false, by-test, or-parts, or-right}
 use Rattle.order.proofs.Keep.{keep-ext, keep-mem, mem-keep, keep-pairs}
 use Rattle.order.proofs.Pairs.{pairs-ext}
-use Rattle.order.proofs.Numbers.{up-mem, mem-up, up-strict, has-mem, mem-has}
+use Rattle.order.proofs.Numbers.{up-mem, mem-up, up-strict, has-mem, mem-has, map-at}
 use Rattle.format.specs.Values.{Boundary}
+use Rattle.merging.specs.Consolidation.{consolidate}
 use Rattle.merging.specs.Groups.{Group, inAny, Disjoint, WellGrouped}
-use Rattle.merging.specs.Kept.{copyAt, membersOf, consolidated, slot, kept}
+use Rattle.merging.specs.Kept.{noBoundary, copyAt, membersOf, consolidated, slot, kept}
 use Rattle.merging.specs.Planned.{goes, members, merged, planned}
 use Rattle.merging.proofs.Groups.{any-group, ranks-are}
 
@@ -170,3 +171,28 @@ planned-ext copies p q h =
         (λ i. merged copies (keep (λ j. eqb (q j) i) (upFrom 0 (length copies))) i) l
     go [] = refl
     go (i ∷ is) = rw (keep-ext (λ j. eqb (p j) i) (λ j. eqb (q j) i) (upFrom 0 (length copies)) (λ j m. ap (λ k. eqb k i) (agree m)), go is) refl
+
+keeps-all : (alone : Bool) (b : Boundary) (l : List Boundary)
+    → (cond alone b (consolidate b l) .ends ≡ b .ends) × (cond alone b (consolidate b l) .bits ≡ b .bits) × (cond alone b (consolidate b l) .ramp ≡ b .ramp)
+unfolding consolidate
+keeps-all true b l = (refl, refl, refl)
+keeps-all false b l = (refl, refl, refl)
+
+-- What goes into a rank has the ends, the width and the ramp of the copy there.
+pub merged-keeps : (copies : List Boundary) (js : List ℕ) (i : ℕ)
+    → (merged copies js i .ends ≡ copyAt copies i .ends) × (merged copies js i .bits ≡ copyAt copies i .bits)
+    × (merged copies js i .ramp ≡ copyAt copies i .ramp)
+unfolding merged
+merged-keeps copies js i = keeps-all (eqb (length js) 1) (copyAt copies i) (map (copyAt copies) js)
+
+-- The k-th boundary that a plan keeps is what goes into the k-th rank that stays, and has the ends of the copy there.
+module _ (copies : List Boundary) (plan : ℕ → ℕ) (k : ℕ) {i : ℕ} (h : k < length (keep (λ j. eqb (plan j) j) (upFrom 0 (length copies))))
+    (e : getD (keep (λ j. eqb (plan j) j) (upFrom 0 (length copies))) k 0 ≡ i) where
+  pub planned-at : getD (planned copies plan) k noBoundary ≡ merged copies (members plan (length copies) i) i
+  unfolding planned
+  planned-at =
+      map-at (λ j. merged copies (members plan (length copies) j) j) (keep (λ j. eqb (plan j) j) (upFrom 0 (length copies))) k 0 noBoundary h
+      ∙ ap (λ (j : ℕ). merged copies (members plan (length copies) j) j) e
+
+  pub planned-ends : getD (planned copies plan) k noBoundary .ends ≡ copyAt copies i .ends
+  planned-ends = ap (λ (b : Boundary). b .ends) planned-at ∙ merged-keeps copies (members plan (length copies) i) i .0

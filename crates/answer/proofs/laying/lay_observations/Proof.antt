@@ -14,67 +14,50 @@ Inv-loop job at p n run starts₀ counts₀ r₀ i₀ starts counts r i = (i ≤
 abbrev μ-loop : tie.MeasureT-loop
 μ-loop job at p n run starts₀ counts₀ r₀ i₀ starts counts r i = n - i
 
--- what the function is given and asked: the places since only say that its slices have lengths
-abbrev start-of : tie.After-slice-known2 Inv-loop μ-loop → tie.Start Inv-loop μ-loop
-start-of c = c .before .before .before
+-- what the function is given and asked
+abbrev given : tie.In-loop Inv-loop μ-loop → tie.Start Inv-loop μ-loop
+given c = search
 
 loop-holds : tie.Need-loop-holds Inv-loop μ-loop
 loop-holds c =
-    let start = start-of c in
+    let start : tie.Start Inv-loop μ-loop = search in
     (omega arith, lays-start (start .pre))
 
 add-read-observation : tie.Need-add-read-observation Inv-loop μ-loop
-add-read-observation c =
-    let start = start-of (c .before .before) in
-    omega (arith, start .pre .inside)
+add-read-observation c = omega (arith, given c .pre .inside)
 
 mul-read-observation : tie.Need-mul-read-observation Inv-loop μ-loop
-mul-read-observation c =
-    let start = start-of (c .before .before) in
-    omega (arith, start .pre .inside)
+mul-read-observation c = omega (arith, given c .pre .inside)
 
 add-read-observation-2 : tie.Need-add-read-observation-2 Inv-loop μ-loop
-add-read-observation-2 c =
-    let start = start-of (c .before .before) in
-    omega (arith, start .pre .inside)
+add-read-observation-2 c = omega (arith, given c .pre .inside)
 
 read-observation-requires : tie.Need-read-observation-requires Inv-loop μ-loop
-read-observation-requires c κs =
-    let start = start-of (c .before .before) in
-    omega (arith, start .pre .inside)
+read-observation-requires c κs = omega (arith, given c .pre .inside)
 
 add-starts : tie.Need-add-starts Inv-loop μ-loop
-add-starts c =
-    let start = start-of (c .before .before .before) in
-    omega (arith, start .pre .inside)
+add-starts c = omega (arith, given (c .before) .pre .inside)
 
 mul-starts : tie.Need-mul-starts Inv-loop μ-loop
 mul-starts c = search needs
 
 slice-write-starts : tie.Need-slice-write-starts Inv-loop μ-loop
-slice-write-starts c =
-    let start = start-of (c .before .before .before) in
-    omega (arith, start .pre .starts-room, c .before .before .loop .inv .1 .starts-long)
+slice-write-starts c = omega (arith, given (c .before) .pre .starts-room, c .before .before .loop .inv .1 .starts-long)
 
 add-counts : tie.Need-add-counts Inv-loop μ-loop
-add-counts c =
-    let start = start-of (c .before .before .before) in
-    omega (arith, start .pre .inside)
+add-counts c = omega (arith, given (c .before) .pre .inside)
 
 mul-counts : tie.Need-mul-counts Inv-loop μ-loop
 mul-counts c = search needs
 
 slice-write-counts : tie.Need-slice-write-counts Inv-loop μ-loop
-slice-write-counts c =
-    let start = start-of (c .before .before .before) in
-    omega (arith, start .pre .counts-room, c .before .before .loop .inv .1 .counts-long)
+slice-write-counts c = omega (arith, given (c .before) .pre .counts-room, c .before .before .loop .inv .1 .counts-long)
 
 add-r : tie.Need-add-r Inv-loop μ-loop
 add-r c =
-    let start = start-of (c .before .before .before) in
     omega (
       arith,
-      lays-small (start .pre) (c .before .before .loop .inv .1) (c .before .loop-test .taken),
+      lays-small (given (c .before) .pre) (c .before .before .loop .inv .1) (c .before .loop-test .taken),
       ap (λ (o : ObservationRecord). o .sources) (c .read-observation .ensures),
     )
 
@@ -86,12 +69,10 @@ loop-less c = search needs
 
 loop-again : tie.Need-loop-again Inv-loop μ-loop
 loop-again c =
-    let in-loop = c .before .before in
-    let start = start-of (in-loop .before) in
-    let inv = in-loop .loop .inv in (
+    let inv = c .before .before .loop .inv in (
       omega arith,
-      lays-next _ (inv .1) (omega (arith, start .pre .starts-room, inv .1 .starts-long))
-          (omega (arith, start .pre .counts-room, inv .1 .counts-long)) (ap (λ (o : ObservationRecord). o .sources) (c .read-observation .ensures)),
+      lays-next _ (inv .1) (omega (arith, given (c .before) .pre .starts-room, inv .1 .starts-long))
+          (omega (arith, given (c .before) .pre .counts-room, inv .1 .counts-long)) (ap (λ (o : ObservationRecord). o .sources) (c .read-observation .ensures)),
     )
 
 same-length : tie.Need-same-length Inv-loop μ-loop

@@ -14,9 +14,19 @@ Inv-loop keys₀ spare₀ starts counts₀ n q₀ keys spare counts q = (q ≤ n
 abbrev μ-loop : tie.MeasureT-loop
 μ-loop keys₀ spare₀ starts counts₀ n q₀ keys spare counts q = n - q
 
--- what the function is given and asked: the places since only say that its slices have lengths
-abbrev start-of : tie.After-slice-known3 Inv-loop μ-loop → tie.Start Inv-loop μ-loop
-start-of c = c .before .before .before .before
+-- what the function is given and asked
+abbrev given : tie.In-loop Inv-loop μ-loop → tie.Start Inv-loop μ-loop
+given c = search
+
+-- where the loop turned, once a part's start is known and once it is sorted
+abbrev turning : tie.After-size Inv-loop μ-loop → tie.In-loop Inv-loop μ-loop
+turning c = search
+
+abbrev started : tie.After-size2 Inv-loop μ-loop → tie.After-size Inv-loop μ-loop
+started c = search
+
+abbrev sorted : tie.After-slice-known6 Inv-loop μ-loop → tie.After-sort-unique Inv-loop μ-loop
+sorted c = search
 
 loop-holds : tie.Need-loop-holds Inv-loop μ-loop
 loop-holds c = (omega arith, squeezed-start _ _ _, refl)
@@ -25,9 +35,7 @@ mul-size : tie.Need-mul-size Inv-loop μ-loop
 mul-size c = search needs
 
 shared-slice-read-size : tie.Need-shared-slice-read-size Inv-loop μ-loop
-shared-slice-read-size c =
-    let start = start-of (c .before .before .before) in
-    omega (arith, start .pre .starts-room)
+shared-slice-read-size c = omega (arith, given (c .before) .pre .starts-room)
 
 size-requires : tie.Need-size-requires Inv-loop μ-loop
 size-requires c κs = search needs
@@ -37,9 +45,8 @@ mul-size-2 c = search needs
 
 slice-read-size : tie.Need-slice-read-size Inv-loop μ-loop
 slice-read-size c =
-    let in-loop = c .before .before .before .before .before .before in
-    let start = start-of (in-loop .before) in
-    omega (arith, start .pre .counts-room, (in-loop .loop .inv .1) .counts-long)
+    let turns : tie.In-loop Inv-loop μ-loop = search in
+    omega (arith, turns .loop-test .taken, given turns .pre .counts-room, (turns .before .loop .inv .1) .counts-long)
 
 size-requires-2 : tie.Need-size-requires-2 Inv-loop μ-loop
 size-requires-2 c κs = search needs
@@ -49,41 +56,34 @@ add-sort-unique c = search needs
 
 sort-unique-requires : tie.Need-sort-unique-requires Inv-loop μ-loop
 sort-unique-requires c κs =
-    let after-size = c .before .before .before .before in
-    let in-loop = after-size .before .before .before in
-    let start = start-of (in-loop .before) in
-    let inv = in-loop .loop .inv in (
+    let after-size = started c in
+    let pre = given (turning after-size) .pre in
+    let inv = turning after-size .before .loop .inv in (
       omega arith,
-      omega (arith, part-within (start .pre .clear) (inv .1), after-size .size .ensures .0, c .size2 .ensures .0, (inv .1) .keys-long),
+      omega (arith, part-within (pre .clear) (inv .1), after-size .size .ensures .0, c .size2 .ensures .0, (inv .1) .keys-long),
       omega (
         arith,
-        same (start .pre .clear) (inv .1),
+        same (pre .clear) (inv .1),
         after-size .size .ensures .0,
         c .size2 .ensures .0,
-        start .pre .spare-room (in-loop .loop .q),
+        pre .spare-room (turning after-size .before .loop .q),
         inv .2,
       ),
     )
 
 sub-counts : tie.Need-sub-counts Inv-loop μ-loop
-sub-counts c =
-    let after-sort-unique = c .before .before .before .before in
-    omega (arith, after-sort-unique .sort-unique .ensures .ends)
+sub-counts c = omega (arith, sorted c .sort-unique .ensures .ends)
 
 cast-counts : tie.Need-cast-counts Inv-loop μ-loop
-cast-counts c =
-    let after-sort-unique = c .before .before .before .before in
-    let after-size2 = after-sort-unique .before in
-    omega (arith, after-sort-unique .sort-unique .ensures .within, after-size2 .size2 .ensures .1)
+cast-counts c = omega (arith, sorted c .sort-unique .ensures .within, sorted c .before .size2 .ensures .1)
 
 mul-counts : tie.Need-mul-counts Inv-loop μ-loop
 mul-counts c = search needs
 
 slice-write-counts : tie.Need-slice-write-counts Inv-loop μ-loop
 slice-write-counts c =
-    let in-loop = c .before .before .before .before .before .before .before .before .before .before .before .before in
-    let start = start-of (in-loop .before) in
-    omega (arith, start .pre .counts-room, (in-loop .loop .inv .1) .counts-long)
+    let turns = turning (started (sorted c .before)) in
+    omega (arith, turns .loop-test .taken, given turns .pre .counts-room, (turns .before .loop .inv .1) .counts-long)
 
 add-q : tie.Need-add-q Inv-loop μ-loop
 add-q c = search needs
@@ -93,14 +93,14 @@ loop-less c = search needs
 
 loop-again : tie.Need-loop-again Inv-loop μ-loop
 loop-again c =
-    let after-sort-unique = c .before .before .before .before in
+    let after-sort-unique = sorted c in
     let after-size2 = after-sort-unique .before in
-    let after-size = after-size2 .before .before .before .before in
-    let in-loop = after-size .before .before .before in
-    let start = start-of (in-loop .before) in
-    let inv = in-loop .loop .inv in (
-      omega arith,
-      squeezed-next (start .pre .clear) (inv .1) (omega (arith, start .pre .counts-room, (inv .1) .counts-long)) (after-size .size .ensures .0)
+    let after-size = started after-size2 in
+    let turns = turning after-size in
+    let pre = given turns .pre in
+    let inv = turns .before .loop .inv in (
+      omega (arith, turns .loop-test .taken),
+      squeezed-next (pre .clear) (inv .1) (omega (arith, turns .loop-test .taken, pre .counts-room, (inv .1) .counts-long)) (after-size .size .ensures .0)
           (omega (arith, after-size2 .size2 .ensures .0)) (after-sort-unique .sort-unique .ensures) refl (omega arith),
       omega (arith, inv .2),
     )

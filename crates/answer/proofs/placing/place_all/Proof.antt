@@ -1,55 +1,57 @@
 use native.Mathlib.Omega.{arith}
-use Rattle.answer.proofs.Together.{placed, placed-inside, ranks-room, ranks-after, parts-room, places-few, observations-inside}
+use Rattle.answer.proofs.Together.{placed, placed-inside, parts-room, places-few, observations-inside}
+use Rattle.answer.proofs.Ranked.{ranks-room, ranks-after}
 use borrow.Author.Needs.{needs}
 use Rattle.answer.proofs.placing.place_all.Statement.{statement}
 use Rattle.answer.proofs.placing.place_all.Tie as tie
 
--- what the function is given and asked: the places since only say that its slices have lengths
-abbrev start-of : tie.After-slice-known8 → tie.Start
-start-of c = c .before .before .before .before .before .before .before .before .before
+-- the places that the facts come from, each from a later one
+abbrev given : tie.After-read-keys → tie.Start
+given c = search
+
+abbrev keys-read : tie.After-lay-boundaries → tie.After-read-keys
+keys-read c = search
+
+abbrev laid : tie.After-sort-parts-arg4 → tie.After-lay-boundaries
+laid c = search
+
+abbrev sorted : tie.After-rank-observations-arg3 → tie.After-sort-parts
+sorted c = search
+
+abbrev first-ranked : tie.After-rank-boundaries-arg3 → tie.After-rank-observations
+first-ranked c = search
 
 read-keys-requires : tie.Need-read-keys-requires
 read-keys-requires c κs =
-    let start = start-of (c .before) in
+    let start : tie.Start = search in
     (start .pre .0 .sources-in, start .pre .1 .keys-room)
 
 lay-boundaries-requires : tie.Need-lay-boundaries-requires
 lay-boundaries-requires c κs = search needs
 
 add-sort-parts : tie.Need-add-sort-parts
-add-sort-parts c =
-    let start =
-    start-of
-    (c .before .before .before .before .before .before .before .before .before .before .before .before .before .before .before .before .before .before) in
-    omega (arith, places-few (start .pre .0))
+add-sort-parts c = omega (arith, places-few (given (keys-read (laid c)) .pre .0))
 
 sort-parts-requires : tie.Need-sort-parts-requires
-sort-parts-requires c κs = parts-room
-    (start-of
-    (c .before .before .before .before .before .before .before .before .before .before .before .before .before .before .before .before .before .before) .pre .0) (start-of (c .before .before .before .before .before .before .before .before .before .before .before .before .before .before .before .before .before .before) .pre .1) (c .before .before .before .before .before .before .before .before .before .before .before .before .before .before .before .before .read-keys .ensures) (c .before .before .before .before .before .before .before .before .before .before .lay-boundaries .ensures) (omega arith) (omega arith)
+sort-parts-requires c κs =
+    parts-room (given (keys-read (laid c)) .pre .0) (given (keys-read (laid c)) .pre .1) (keys-read (laid c) .read-keys .ensures)
+    (laid c .lay-boundaries .ensures) (omega arith) (omega arith)
 
 rank-observations-requires : tie.Need-rank-observations-requires
 rank-observations-requires c κs =
-    let start =
-    start-of
-    (c .before .before .before .before .before .before .before .before .before .before .before .before .before .before .before .before .before .before .before .before .before .before .before .before .before .before .before .before) in
+    let start = given (keys-read (laid (sorted c .before))) in
     (observations-inside (start .pre .0), ranks-room (start .pre .1 .ranks) (omega arith))
 
 rank-boundaries-requires : tie.Need-rank-boundaries-requires
 rank-boundaries-requires c κs =
-    let after-rank-observations = c .before .before .before .before .before .before .before .before .before in
-    let start =
-    start-of
-    (after-rank-observations .before .before .before .before .before .before .before .before .before .before .before .before .before .before .before .before .before .before .before .before .before .before .before .before .before .before .before .before .before) in
-    (start .pre .0 .countable .boundaries-in, ranks-after (start .pre .1 .ranks) (after-rank-observations .rank-observations .ensures))
+    let start = given (keys-read (laid (sorted (first-ranked c .before) .before))) in
+    (start .pre .0 .countable .boundaries-in, ranks-after (first-ranked c .rank-observations .ensures) (start .pre .1 .ranks))
 
 same-length : tie.Need-same-length
 same-length c =
-    let after-sort-parts =
-    c .before .before .before .before .before .before .before .before .before .before .before .before .before .before .before .before .before .before .before .before .before .before .before .before .before .before in
-    let after-read-keys =
-    after-sort-parts .before .before .before .before .before .before .before .before .before .before .before .before .before .before .before .before .before in
-    omega (arith, after-sort-parts .sort-parts .ensures .keys-long, after-read-keys .read-keys .ensures .long)
+    let after-rank-boundaries : tie.After-rank-boundaries = search in
+    let after-sort-parts = sorted (first-ranked (after-rank-boundaries .before) .before) in
+    omega (arith, after-sort-parts .sort-parts .ensures .keys-long, keys-read (laid (after-sort-parts .before)) .read-keys .ensures .long)
 
 same-length-2 : tie.Need-same-length-2
 same-length-2 c = search needs
@@ -74,12 +76,12 @@ same-length-8 c = search needs
 
 returns : tie.Need-returns
 returns c =
-    let after-rank-boundaries = c .before .before .before .before .before .before in
-    let after-rank-observations = after-rank-boundaries .before .before .before .before .before .before .before .before .before .before in
-    let after-sort-parts = after-rank-observations .before .before .before .before .before .before .before .before .before .before in
-    let after-lay-boundaries = after-sort-parts .before .before .before .before .before .before .before .before .before .before .before in
-    let after-read-keys = after-lay-boundaries .before .before .before .before .before .before in
-    let start = start-of (after-read-keys .before .before) in (
+    let after-rank-boundaries : tie.After-rank-boundaries = search in
+    let after-rank-observations = first-ranked (after-rank-boundaries .before) in
+    let after-sort-parts = sorted (after-rank-observations .before) in
+    let after-lay-boundaries = laid (after-sort-parts .before) in
+    let after-read-keys = keys-read after-lay-boundaries in
+    let start = given after-read-keys in (
       placed (start .pre .0) (after-read-keys .read-keys .ensures) (after-lay-boundaries .lay-boundaries .ensures) (after-sort-parts .sort-parts .ensures)
           (after-rank-observations .rank-observations .ensures) (after-rank-boundaries .rank-boundaries .ensures),
       placed-inside (start .pre .0) (after-lay-boundaries .lay-boundaries .ensures) (after-sort-parts .sort-parts .ensures),

@@ -18,7 +18,7 @@ size-requires-3 c κs = search needs
 
 write-small-requires : tie.Need-write-small-requires
 write-small-requires c κs =
-    let after-size2 = c .before .before .before .before in
+    let after-size2 : tie.After-size2 = search in
     let after-size = after-size2 .before in
     let start = after-size .before .before .before .before in
     (start .pre, omega (arith, after-size .size .ensures .0, after-size2 .size2 .ensures .0), omega (arith, leb-true, c .before .before .size3 .ensures .0))

@@ -37,7 +37,7 @@ slice-aggregate-write-with-10 c = search needs
 
 write-with-requires : tie.Need-write-with-requires
 write-with-requires c κs =
-    let start = c .before .before .before .before .before .before .before .before .before .before .before .before .before in
+    let start : tie.Start = search in
     let w = counts-allowed (start .args .job .now) (start .pre .passed) (start .args .h) (start .pre .header) in
     (start .pre, work-room 4096 1280 (omega (arith, w .sources)) (omega arith) (omega (arith, w .boundaries, w .observations)))
 

@@ -3,9 +3,9 @@ use borrow.Author.Needs.{needs}
 use Rattle.encoding.proofs.from_job.write_placed.Statement.{statement}
 use Rattle.encoding.proofs.from_job.write_placed.Tie as tie
 
--- what the function is given and asked: the places since only say that its slices have lengths
-abbrev start-of : tie.After-slice-known5 → tie.Start
-start-of c = c .before .before .before .before .before .before .before .before .before .before .before .before .before
+-- earlier places, each found by what it is
+abbrev start-of : tie.After-gather-kept → tie.Start
+start-of c = search
 
 slice-aggregate-gather-kept : tie.Need-slice-aggregate-gather-kept
 slice-aggregate-gather-kept c = search needs
@@ -30,9 +30,8 @@ slice-aggregate-write-kept-3 c = search needs
 
 write-kept-requires : tie.Need-write-kept-requires
 write-kept-requires c κs =
-    let after-gather-kept =
-    c .before .before .before .before .before .before .before .before .before .before .before .before .before .before .before .before .before in
-    let start = start-of (after-gather-kept .before .before .before .before .before .before .before .before) in
+    let after-gather-kept : tie.After-gather-kept = search in
+    let start = start-of after-gather-kept in
     record {
       n = start .args .n;
       ks = _;
@@ -60,9 +59,8 @@ same-length-5 c = search needs
 
 returns : tie.Need-returns
 returns c =
-    let after-gather-kept =
-    c .before .before .before .before .before .before .before .before .before .before .before .before .before .before .before .before .before .before .before .before in
-    let start = start-of (after-gather-kept .before .before .before .before .before .before .before .before) in
+    let after-gather-kept : tie.After-gather-kept = search in
+    let start = start-of after-gather-kept in
     λ os ss p.
     c .before .before .write-kept .ensures (start .args .n) _ (sym (after-gather-kept .gather-kept .ensures os ss p .1))
     (after-gather-kept .gather-kept .ensures os ss p .0)

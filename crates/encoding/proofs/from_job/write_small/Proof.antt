@@ -36,7 +36,7 @@ slice-aggregate-write-with-10 c = search needs
 
 write-with-requires : tie.Need-write-with-requires
 write-with-requires c κs =
-    let start = c .before .before .before .before .before .before .before .before .before .before .before .before .before in
+    let start : tie.Start = search in
     (start .pre .0, work-room 64 64 (omega arith) (omega arith) (omega arith))
 
 same-length : tie.Need-same-length

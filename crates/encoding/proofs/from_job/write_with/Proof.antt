@@ -1,4 +1,4 @@
-use Rattle.encoding.proofs.Jobs.{words-read, job-places, kept-is}
+use Rattle.encoding.proofs.Jobs.{Words, words-read, job-places, kept-is}
 use Rattle.encoding.proofs.Rooms.{place-room, gather-room, work-same, answered-same}
 use Rattle.answer.specs.Gathered.{Ordered}
 use Prim.Native.Nat.{ℕ}
@@ -8,9 +8,35 @@ use borrow.Author.Needs.{needs}
 use Rattle.encoding.proofs.from_job.write_with.Statement.{statement}
 use Rattle.encoding.proofs.from_job.write_with.Tie as tie
 
--- what the function is given and asked: the places since only say that its slices have lengths
-abbrev start-of : tie.After-slice-known11 → tie.Start
-start-of c = c .before .before .before .before .before .before .before .before .before .before .before .before
+-- the places that the facts come from, each from a later one
+abbrev given : tie.After-size6 → tie.Start
+given c = search
+
+abbrev read : tie.After-place-all → tie.After-size6
+read c = search
+
+abbrev placed : tie.After-counts → tie.After-place-all
+placed c = search
+
+abbrev lent : tie.After-write-placed-arg11 → tie.After-counts
+lent c = search
+
+abbrev answered : tie.After-slice-known23 → tie.After-write-placed
+answered c = search
+
+-- the header's words, once all are read
+words : (c : tie.After-size6)
+    → Words (given c .args .job .now) (given c .pre .0 .passed) (c .before .before .before .before .before .size .result)
+    (c .before .before .before .before .size2 .result) (c .before .before .size4 .result) (c .before .before .before .size3 .result)
+    (c .before .size5 .result) (c .size6 .result)
+words c =
+    let three = c .before .before .before in
+    words-read (given c .args .job .now) (given c .pre .0 .passed) (given c .args .h) (given c .pre .0 .header) (three .before .before .size .ensures .0)
+    (three .before .size2 .ensures .0) (c .before .before .size4 .ensures .0) (three .size3 .ensures .0) (c .before .size5 .ensures .0) (c .size6 .ensures .0)
+
+ordered : (c : tie.After-size6) → Ordered (given c .args .order .now) (c .before .before .before .before .size2 .result)
+ordered c =
+    subst (λ (k : ℕ). Ordered (given c .args .order .now) k) (sym (c .before .before .before .before .size2 .ensures .0)) (given c .pre .0 .ordered)
 
 size-requires : tie.Need-size-requires
 size-requires c κs = search needs
@@ -35,59 +61,37 @@ slice-aggregate-place-all c = search needs
 
 place-all-requires : tie.Need-place-all-requires
 place-all-requires c κs =
-    let after-size6 = c .before .before .before .before .before .before .before .before in
-    let after-size5 = after-size6 .before in
-    let after-size4 = after-size5 .before in
-    let after-size3 = after-size4 .before in
-    let after-size2 = after-size3 .before in
-    let after-size = after-size2 .before in
-    let start = start-of (after-size .before .before .before) in
-    let job = start .args .job .now in
-    let j = job-places job (start .pre .0 .passed)
-    (words-read job (start .pre .0 .passed) (start .args .h) (start .pre .0 .header) (after-size .size .ensures .0) (after-size2 .size2 .ensures .0)
-    (after-size4 .size4 .ensures .0) (after-size3 .size3 .ensures .0) (after-size5 .size5 .ensures .0) (after-size6 .size6 .ensures .0)) in
-    (j, place-room j (work-same (after-size2 .size2 .ensures .0) (after-size3 .size3 .ensures .0) (after-size6 .size6 .ensures .0) (start .pre .1)))
+    let sized : tie.After-size6 = search in
+    let three = sized .before .before .before in
+    let j = job-places _ _ (words sized) in
+    (j, place-room j (work-same (three .before .size2 .ensures .0) (three .size3 .ensures .0) (sized .size6 .ensures .0) (given sized .pre .1)))
 
 slice-aggregate-write-placed : tie.Need-slice-aggregate-write-placed
 slice-aggregate-write-placed c = search needs
 
 write-placed-requires : tie.Need-write-placed-requires
 write-placed-requires c κs =
-    let lent-counts =
-    c .before .before .before .before .before .before .before .before .before .before .before .before .before .before .before .before .before .before .before in
+    let lent-counts = lent c in
     let lent-starts = lent-counts .before .before in
-    let lent-firsts2 = lent-starts .before in
-    let lent-spare = lent-firsts2 .before .before in
+    let lent-firsts = lent-starts .before in
+    let lent-spare = lent-firsts .before .before in
     let lent-keys = lent-spare .before .before in
     let after-place-all = lent-keys .before in
-    let after-size6 = after-place-all .before .before .before .before .before .before .before .before .before in
-    let after-size5 = after-size6 .before in
-    let after-size4 = after-size5 .before in
-    let after-size3 = after-size4 .before in
-    let after-size2 = after-size3 .before in
-    let after-size = after-size2 .before in
-    let start = start-of (after-size .before .before .before) in
-    let job = start .args .job .now in
-    let j = job-places job (start .pre .0 .passed)
-    (words-read job (start .pre .0 .passed) (start .args .h) (start .pre .0 .header) (after-size .size .ensures .0) (after-size2 .size2 .ensures .0)
-    (after-size4 .size4 .ensures .0) (after-size3 .size3 .ensures .0) (after-size5 .size5 .ensures .0) (after-size6 .size6 .ensures .0)) in
+    let sized = read after-place-all in
+    let three = sized .before .before .before in
+    let j = job-places _ _ (words sized) in
     record {
       os = _;
       ss = _;
       placed = after-place-all .place-all .ensures .0;
-      room = gather-room j (work-same (after-size2 .size2 .ensures .0) (after-size3 .size3 .ensures .0) (after-size6 .size6 .ensures .0) (start .pre .1))
-          (after-place-all .place-all .ensures .1)
-          (subst (λ (k : ℕ). Ordered (start .args .order .now) k) (sym (after-size2 .size2 .ensures .0)) (start .pre .0 .ordered))
-          (omega (arith, lent-firsts2 .firsts2 .given, j .countable .boundary-limit)) (lent-starts .starts .given) (lent-counts .counts .given)
-          (lent-keys .keys .given) (lent-spare .spare .given);
-      keys-few = omega (arith, start .pre .1 .keys-few, lent-keys .keys .given);
+      room = gather-room j (work-same (three .before .size2 .ensures .0) (three .size3 .ensures .0) (sized .size6 .ensures .0) (given sized .pre .1))
+          (after-place-all .place-all .ensures .1) (ordered sized) (omega (arith, lent-firsts .firsts2 .given, j .countable .boundary-limit))
+          (lent-starts .starts .given) (lent-counts .counts .given) (lent-keys .keys .given) (lent-spare .spare .given);
+      keys-few = omega (arith, given sized .pre .1 .keys-few, lent-keys .keys .given);
     }
 
 same-length : tie.Need-same-length
-same-length c =
-    let lent-keys =
-    c .before .before .before .before .before .before .before .before .before .before .before .before .before .before .before .before .before .before .before .before .before .before .before .before .before .before .before .before .before .before .before .before .before .before .before .before .before in
-    omega (arith, lent-keys .keys .given)
+same-length c = omega (arith, lent (answered c .before) .before .before .before .before .before .before .before .keys .given)
 
 same-length-2 : tie.Need-same-length-2
 same-length-2 c = search needs
@@ -121,23 +125,10 @@ same-length-11 c = search needs
 
 returns : tie.Need-returns
 returns c =
-    let after-write-placed = c .before .before .before .before .before .before .before .before .before .before in
-    let after-place-all =
-    after-write-placed .before .before .before .before .before .before .before .before .before .before .before .before .before .before .before .before .before .before .before .before .before .before .before .before .before .before .before .before in
-    let after-size6 = after-place-all .before .before .before .before .before .before .before .before .before in
-    let after-size5 = after-size6 .before in
-    let after-size4 = after-size5 .before in
-    let after-size3 = after-size4 .before in
-    let after-size2 = after-size3 .before in
-    let after-size = after-size2 .before in
-    let start = start-of (after-size .before .before .before) in
-    let job = start .args .job .now in
-    answered-same (kept-is job (start .pre .0 .passed)
-    (words-read job (start .pre .0 .passed) (start .args .h) (start .pre .0 .header) (after-size .size .ensures .0) (after-size2 .size2 .ensures .0)
-    (after-size4 .size4 .ensures .0) (after-size3 .size3 .ensures .0) (after-size5 .size5 .ensures .0) (after-size6 .size6 .ensures .0))
-    (start .args .order .now) (start .args .plan .now)
-    (subst (λ (k : ℕ). Ordered (start .args .order .now) k) (sym (after-size2 .size2 .ensures .0)) (start .pre .0 .ordered)))
-    (after-write-placed .write-placed .ensures _ _ (after-place-all .place-all .ensures .0))
+    let after-place-all = placed (lent (answered c .before)) in
+    let sized = read after-place-all in
+    answered-same (kept-is _ _ (words sized) (given sized .args .order .now) (given sized .args .plan .now) (ordered sized))
+    (answered c .write-placed .ensures _ _ (after-place-all .place-all .ensures .0))
 
 pub write-with-spec : {M : Type 1} → statement M
 write-with-spec =

@@ -43,7 +43,7 @@ same-length c = search needs
 
 returns : tie.Need-returns
 returns c =
-    let after-write-u322 = c .before .before .before .before .before .before in
+    let after-write-u322 : tie.After-write-u322 = search in
     let after-write-u32 = after-write-u322 .before .before .before .before in
     let after-write-u64 = after-write-u32 .before .before .before .before in
     let after-write-span = after-write-u64 .before .before .before .before in

@@ -63,7 +63,7 @@ same-length c = search needs
 
 returns : tie.Need-returns
 returns c =
-    let after-write-u325 = c .before .before .before .before .before .before in
+    let after-write-u325 : tie.After-write-u325 = search in
     let after-write-u324 = after-write-u325 .before .before .before .before in
     let after-write-u323 = after-write-u324 .before .before .before .before in
     let after-write-u322 = after-write-u323 .before .before .before .before in

@@ -24,7 +24,7 @@ same-length c = search needs
 
 returns : tie.Need-returns
 returns c =
-    let after-low = c .before .before .before in
+    let after-low : tie.After-low = search in
     let after-write-u32 = after-low .before .before .before .before in
     let after-high = after-write-u32 .before in
     let start = after-high .before .before .before in

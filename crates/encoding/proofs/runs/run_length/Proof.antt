@@ -6,9 +6,9 @@ use borrow.Author.Needs.{needs}
 use Rattle.encoding.proofs.runs.run_length.Statement.{statement}
 use Rattle.encoding.proofs.runs.run_length.Tie as tie
 
--- what the function is given and asked: the places since only say that its slices have lengths
-abbrev start-of : tie.After-shared-slice-known3 → tie.Start
-start-of c = c .before .before .before
+-- earlier places, each found by what it is
+abbrev start-of : tie.After-index → tie.Start
+start-of c = search
 
 index-requires : tie.Need-index-requires
 index-requires c κs = search needs
@@ -24,8 +24,8 @@ add-if1 c = search needs
 
 returns : tie.Need-returns
 returns c =
-    let after-index = c .before .before .before in
-    let start = start-of (after-index .before) in
+    let after-index : tie.After-index = search in
+    let start = start-of after-index in
     c .before .before .word .ensures
     ∙ part-whole (start .args .keys .now) (getD (start .args .starts .now) (start .args .p) 0) (getD (start .args .counts .now) (start .args .p) 0)
     (omega (arith, after-index .index .ensures .0, c .before .index2 .ensures .0))
@@ -37,7 +37,7 @@ returns-2 : tie.Need-returns-2
 returns-2 c =
     let after-index2 = c .before .before in
     let after-index = after-index2 .before .before in
-    let start = start-of (after-index .before) in
+    let start = start-of after-index in
     omega (
       arith,
       after-index .index .ensures .0,
@@ -50,7 +50,7 @@ returns-3 : tie.Need-returns-3
 returns-3 c =
     let after-index2 = c .before .before in
     let after-index = after-index2 .before .before in
-    let start = start-of (after-index .before) in
+    let start = start-of after-index in
     omega (
       arith,
       after-index .index .ensures .0,

@@ -29,7 +29,7 @@ long-requires c κs = search needs
 
 write-source-requires : tie.Need-write-source-requires Inv-loop μ-loop
 write-source-requires c κs =
-    let in-loop = c .before .before .before in
+    let in-loop : tie.At-loop Inv-loop μ-loop = search in
     omega (arith, in-loop .loop .inv .1 .long)
 
 add-i : tie.Need-add-i Inv-loop μ-loop
@@ -40,7 +40,7 @@ loop-less c = search needs
 
 loop-again : tie.Need-loop-again Inv-loop μ-loop
 loop-again c =
-    let after-long = c .before .before .before in
+    let after-long : tie.After-long Inv-loop μ-loop = search in
     let in-loop = after-long .before .before .before in
     let start = in-loop .before .before .before in
     let keys = start .args .keys .now in

@@ -13,9 +13,9 @@ Inv-loop job at count kept owns seens s₀ to k₀ s k = (k ≤ count) × Writes
 abbrev μ-loop : tie.MeasureT-loop
 μ-loop job at count kept owns seens s₀ to k₀ s k = count - k
 
--- what the function is given and asked: the places since only say that its slices have lengths
-abbrev start-of : tie.After-slice-known Inv-loop μ-loop → tie.Start Inv-loop μ-loop
-start-of c = c .before .before .before .before .before
+-- earlier places, each found by what it is
+abbrev start-of : tie.At-loop Inv-loop μ-loop → tie.Start Inv-loop μ-loop
+start-of c = search
 
 loop-holds : tie.Need-loop-holds Inv-loop μ-loop
 loop-holds c = (omega arith, writes-start _ _ _)
@@ -28,22 +28,22 @@ mul-read-boundary c = omega (arith, c .index .ensures .1)
 
 add-read-boundary : tie.Need-add-read-boundary Inv-loop μ-loop
 add-read-boundary c =
-    let start = start-of (c .before .before .before) in
+    let start : tie.Start Inv-loop μ-loop = search in
     omega (arith, c .index .ensures .0, start .pre .inside (c .before .before .loop .k) (c .before .loop-test .taken))
 
 read-boundary-requires : tie.Need-read-boundary-requires Inv-loop μ-loop
 read-boundary-requires c κs =
-    let start = start-of (c .before .before .before) in
+    let start : tie.Start Inv-loop μ-loop = search in
     omega (arith, c .index .ensures .0, start .pre .inside (c .before .before .loop .k) (c .before .loop-test .taken))
 
 mul-write-boundary : tie.Need-mul-write-boundary Inv-loop μ-loop
 mul-write-boundary c =
-    let start = start-of (c .before .before .before .before .before) in
+    let start : tie.Start Inv-loop μ-loop = search in
     omega (arith, start .pre .limit)
 
 add-write-boundary : tie.Need-add-write-boundary Inv-loop μ-loop
 add-write-boundary c =
-    let start = start-of (c .before .before .before .before .before) in
+    let start : tie.Start Inv-loop μ-loop = search in
     omega (arith, start .pre .room)
 
 word-requires : tie.Need-word-requires Inv-loop μ-loop
@@ -54,13 +54,13 @@ word-requires-2 c κs = search needs
 
 write-boundary-requires : tie.Need-write-boundary-requires Inv-loop μ-loop
 write-boundary-requires c κs =
-    let in-loop = c .before .before .before .before .before .before in
-    let start = start-of (in-loop .before) in
+    let in-loop : tie.At-loop Inv-loop μ-loop = search in
+    let start = start-of in-loop in
     omega (arith, start .pre .room, in-loop .loop .inv .1 .long)
 
 add-k : tie.Need-add-k Inv-loop μ-loop
 add-k c =
-    let start = start-of (c .before .before .before .before .before .before .before .before .before .before) in
+    let start : tie.Start Inv-loop μ-loop = search in
     omega (arith, start .pre .limit)
 
 loop-less : tie.Need-loop-less Inv-loop μ-loop
@@ -68,12 +68,12 @@ loop-less c = search needs
 
 loop-again : tie.Need-loop-again Inv-loop μ-loop
 loop-again c =
-    let after-word2 = c .before .before .before in
+    let after-word2 : tie.After-word2 Inv-loop μ-loop = search in
     let after-word = after-word2 .before in
     let after-read-boundary = after-word .before .before in
     let after-index = after-read-boundary .before in
     let in-loop = after-index .before .before in
-    let start = start-of (in-loop .before) in
+    let start = start-of in-loop in
     let seens = start .args .seens .now in
     let kept = start .args .kept .now in
     let owns = start .args .owns .now in

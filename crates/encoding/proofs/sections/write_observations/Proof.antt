@@ -33,7 +33,7 @@ add-write-place c = search needs
 
 write-place-requires : tie.Need-write-place-requires Inv-loop μ-loop
 write-place-requires c κs =
-    let in-loop = c .before .before .before in
+    let in-loop : tie.At-loop Inv-loop μ-loop = search in
     omega (arith, in-loop .loop .inv .1 .long)
 
 add-q : tie.Need-add-q Inv-loop μ-loop
@@ -44,7 +44,7 @@ loop-less c = search needs
 
 loop-again : tie.Need-loop-again Inv-loop μ-loop
 loop-again c =
-    let after-index = c .before .before .before .before in
+    let after-index : tie.After-index Inv-loop μ-loop = search in
     let in-loop = after-index .before .before in
     let start = start-of (in-loop .before) in
     let second = start .args .second .now in

@@ -35,7 +35,7 @@ same-length c = search needs
 
 returns : tie.Need-returns
 returns c =
-    let after-run-length = c .before .before .before in
+    let after-run-length : tie.After-run-length = search in
     let after-bits-of = after-run-length .before .before in
     let after-long3 = after-bits-of .before in
     let after-span-of = after-long3 .before in

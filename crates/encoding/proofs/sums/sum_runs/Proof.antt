@@ -29,7 +29,7 @@ cast-t c = search needs
 
 add-t : tie.Need-add-t Inv-loop μ-loop
 add-t c =
-    let in-loop = c .before .before .before in
+    let in-loop : tie.At-loop Inv-loop μ-loop = search in
     omega (arith, in-loop .loop .inv .small)
 
 add-i : tie.Need-add-i Inv-loop μ-loop
@@ -40,14 +40,14 @@ loop-less c = search needs
 
 loop-again : tie.Need-loop-again Inv-loop μ-loop
 loop-again c =
-    let in-loop = c .before .before .before in
+    let in-loop : tie.At-loop Inv-loop μ-loop = search in
     let start = start-of (in-loop .before) in
     cited-next (start .args .seen .now) (start .args .starts .now) (start .args .counts .now) (start .args .keys .now) (c .before .index .result)
     (c .run-length .result) (omega arith) (in-loop .loop .inv) (c .before .before .loop-test .taken) (c .before .index .ensures .0) (c .run-length .ensures)
 
 returns : tie.Need-returns Inv-loop μ-loop
 returns c =
-    let start = start-of (c .before .before) in
+    let start : tie.Start Inv-loop μ-loop = search in
     cited-end (start .args .seen .now) (start .args .starts .now) (start .args .counts .now) (start .args .keys .now) (c .before .loop .inv) (omega arith)
 
 pub sum-runs-spec : {M : Type 1} → statement M

@@ -10,12 +10,12 @@ start-of c = c .before .before .before .before .before .before .before .before .
 
 gather-seens-requires : tie.Need-gather-seens-requires
 gather-seens-requires c κs =
-    let start = start-of (c .before .before .before) in
+    let start : tie.Start = search in
     seens-room (start .pre)
 
 gather-owns-requires : tie.Need-gather-owns-requires
 gather-owns-requires c κs =
-    let start = start-of (c .before .before .before .before .before .before .before .before .before .before .before .before .before .before) in
+    let start : tie.Start = search in
     owns-room (start .pre)
 
 same-length : tie.Need-same-length
@@ -41,7 +41,7 @@ same-length-7 c = search needs
 
 returns : tie.Need-returns
 returns c =
-    let after-gather-owns = c .before .before .before .before .before .before .before .before in
+    let after-gather-owns : tie.After-gather-owns = search in
     let after-gather-seens = after-gather-owns .before .before .before .before .before .before .before .before .before .before .before in
     let start = start-of (after-gather-seens .before .before .before .before) in
     λ os ss p. gathered p (start .args .order .now) (start .args .plan .now) (order-inside (start .args .order .now) (start .args .n) (start .pre .ordered))

@@ -7,9 +7,9 @@ use borrow.Author.Needs.{needs}
 use Rattle.gathering.proofs.own.add_own.Statement.{statement}
 use Rattle.gathering.proofs.own.add_own.Tie as tie
 
--- what the function is given and asked: the places since only say that its slices have lengths
-abbrev start-of : tie.After-slice-known → tie.Start
-start-of c = c .before .before .before .before
+-- earlier places, each found by what it is
+abbrev start-of : tie.After-size → tie.Start
+start-of c = search
 
 mul-size : tie.Need-mul-size
 mul-size c = search needs
@@ -40,7 +40,7 @@ mul-size-3 c = search needs
 
 shared-slice-read-size : tie.Need-shared-slice-read-size
 shared-slice-read-size c =
-    let start = start-of (c .before .before .before .before .before .before) in
+    let start : tie.Start = search in
     omega (arith, start .pre .0 .starts-room, c .before .size2 .ensures .0, start .pre .0 .order-in _ (start .pre .1), start .pre .0 .few)
 
 size-requires-3 : tie.Need-size-requires-3
@@ -51,8 +51,8 @@ mul-size-4 c = search needs
 
 shared-slice-read-size-2 : tie.Need-shared-slice-read-size-2
 shared-slice-read-size-2 c =
-    let after-size2 = c .before .before .before in
-    let start = start-of (after-size2 .before .before .before .before .before) in
+    let after-size2 : tie.After-size2 = search in
+    let start = start-of (after-size2 .before .before .before) in
     omega (arith, start .pre .0 .counts-room, after-size2 .size2 .ensures .0, start .pre .0 .order-in _ (start .pre .1), start .pre .0 .few)
 
 size-requires-4 : tie.Need-size-requires-4
@@ -60,14 +60,14 @@ size-requires-4 c κs = search needs
 
 append-keys-requires : tie.Need-append-keys-requires
 append-keys-requires c κs =
-    let after-size3 = c .before .before .before in
+    let after-size3 : tie.After-size3 = search in
     let after-size2 = after-size3 .before .before in
-    let if1-left = after-size2 .before .before in
-    let after-size = if1-left .before in
-    let start = start-of (after-size .before .before) in (
+    let goes = after-size2 .before .before in
+    let after-size = goes .before in
+    let start = start-of after-size in (
       own-inside (start .pre .0) (start .pre .1) (after-size2 .size2 .ensures .0) (after-size3 .size3 .ensures .0) (c .before .size4 .ensures .0),
       own-room (start .pre .0) (start .pre .1) (after-size2 .size2 .ensures .0) (after-size3 .size3 .ensures .0) (c .before .size4 .ensures .0)
-          (start .args .plan .now) (start .args .to) (length (start .args .owned .now)) (after-size .size .ensures .0) (if1-left .if1 .left) (start .pre .2),
+          (start .args .plan .now) (start .args .to) (length (start .args .owned .now)) (after-size .size .ensures .0) (goes .if1 .left) (start .pre .2),
     )
 
 same-length : tie.Need-same-length
@@ -75,13 +75,13 @@ same-length c = search needs
 
 returns-2 : tie.Need-returns-2
 returns-2 c =
-    let after-size4 = c .before .before .before .before in
+    let after-size4 : tie.After-size4 = search in
     let after-size3 = after-size4 .before .before in
     let after-size2 = after-size3 .before .before in
-    let if1-left = after-size2 .before .before in
-    let after-size = if1-left .before in
-    let start = start-of (after-size .before .before) in
-    there (after-size .size .ensures .0) (if1-left .if1 .left)
+    let goes = after-size2 .before .before in
+    let after-size = goes .before in
+    let start = start-of after-size in
+    there (after-size .size .ensures .0) (goes .if1 .left)
     (added-is (c .before .before .append-keys .ensures) refl
     (own-part (start .pre .0) (start .pre .1) (after-size2 .size2 .ensures .0) (after-size3 .size3 .ensures .0) (after-size4 .size4 .ensures .0)))
 

@@ -16,13 +16,13 @@ Inv-loop order plan n i base starts counts keys owned₀ from to₀ j₀ owned t
 abbrev μ-loop : tie.MeasureT-loop
 μ-loop order plan n i base starts counts keys owned₀ from to₀ j₀ owned to j = n - j
 
--- what the function is given and asked: the places since only say that its slices have lengths
-abbrev start-of : tie.After-slice-known Inv-loop μ-loop → tie.Start Inv-loop μ-loop
-start-of c = c .before .before .before .before
+-- earlier places, each found by what it is
+abbrev start-of : tie.At-loop Inv-loop μ-loop → tie.Start Inv-loop μ-loop
+start-of c = search
 
 loop-holds : tie.Need-loop-holds Inv-loop μ-loop
 loop-holds c =
-    let start = start-of c in (
+    let start : tie.Start Inv-loop μ-loop = search in (
       omega arith,
       runs-start
           (ownAt (start .args .base) (start .args .order .now) (start .args .starts .now) (start .args .counts .now) (start .args .keys .now))
@@ -33,7 +33,7 @@ loop-holds c =
 add-own-requires : tie.Need-add-own-requires Inv-loop μ-loop
 add-own-requires c κs =
     let in-loop = c .before .before in
-    let start = start-of (in-loop .before) in
+    let start = start-of in-loop in
     let inv = in-loop .loop .inv in (
       start .pre .0,
       c .before .loop-test .taken,
@@ -58,7 +58,7 @@ loop-again c =
     let after-add-own = c .before .before in
     let turning = after-add-own .before .before in
     let in-loop = turning .before in
-    let start = start-of (in-loop .before) in
+    let start = start-of in-loop in
     let inv = in-loop .loop .inv in
     let counts = start .args .counts .now in
     let order = start .args .order .now in
@@ -77,7 +77,7 @@ same-length c = c .before .loop .inv .1 .long
 
 returns : tie.Need-returns Inv-loop μ-loop
 returns c =
-    let start = start-of (c .before .before) in
+    let start : tie.Start Inv-loop μ-loop = search in
     let inv = c .before .loop .inv in
     runs-end (ownAt (start .args .base) (start .args .order .now) (start .args .starts .now) (start .args .counts .now) (start .args .keys .now))
     (ownWeight (start .args .base) (start .args .order .now) (start .args .counts .now)) (start .args .plan .now) (start .args .i) (c .before .loop .j)

@@ -4,17 +4,17 @@ use borrow.Author.Needs.{needs}
 use Rattle.gathering.proofs.own.gather_own.Statement.{statement}
 use Rattle.gathering.proofs.own.gather_own.Tie as tie
 
--- what the function is given and asked: the places since only say that its slices have lengths
-abbrev start-of : tie.After-slice-known2 → tie.Start
-start-of c = c .before .before .before .before .before
+-- earlier places, each found by what it is
+abbrev start-of : tie.After-add-owns → tie.Start
+start-of c = search
 
 add-owns-requires : tie.Need-add-owns-requires
 add-owns-requires c κs = search needs
 
 sort-unique-requires : tie.Need-sort-unique-requires
 sort-unique-requires c κs =
-    let after-add-owns = c .before .before .before .before in
-    let start = start-of (after-add-owns .before .before) in (
+    let after-add-owns : tie.After-add-owns = search in
+    let start = start-of after-add-owns in (
       omega (arith, after-add-owns .add-owns .ensures .0 .ends),
       omega (arith, after-add-owns .add-owns .ensures .1, start .pre .1, after-add-owns .add-owns .ensures .0 .long),
       omega (arith, after-add-owns .add-owns .ensures .1, start .pre .2),
@@ -28,9 +28,9 @@ same-length-2 c = search needs
 
 returns : tie.Need-returns
 returns c =
-    let after-sort-unique = c .before .before .before .before in
+    let after-sort-unique : tie.After-sort-unique = search in
     let after-add-owns = after-sort-unique .before .before .before .before .before in
-    let start = start-of (after-add-owns .before .before) in (
+    let start = start-of after-add-owns in (
       own-gathered (start .args .base) (start .args .order .now) (start .args .plan .now) (start .args .starts .now) (start .args .counts .now)
           (start .args .keys .now) (start .args .n) (start .args .i) (after-add-owns .add-owns .ensures .0) (omega (arith, start .pre .1))
           (after-sort-unique .sort-unique .ensures) (omega arith),

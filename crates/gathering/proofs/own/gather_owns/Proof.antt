@@ -17,27 +17,18 @@ Inv-loop order plan n base starts counts keys spare₀ kept₀ owns₀ owned₀ 
 abbrev μ-loop : tie.MeasureT-loop
 μ-loop order plan n base starts counts keys spare₀ kept₀ owns₀ owned₀ k₀ a₀ i₀ spare kept owns owned k a i = n - i
 
--- what the function is given and asked: the places since only say that its slices have lengths
-abbrev start-of : tie.After-slice-known4 Inv-loop μ-loop → tie.Start Inv-loop μ-loop
-start-of c = c .before .before .before .before .before .before .before
+-- earlier places, each found by what it is
+abbrev start-of : tie.At-loop Inv-loop μ-loop → tie.Start Inv-loop μ-loop
+start-of c = search
 
 loop-holds : tie.Need-loop-holds Inv-loop μ-loop
-loop-holds c =
-    let start = start-of c in (
-      omega arith,
-      owns-start (start .args .base) (start .args .order .now) (start .args .plan .now) (start .args .starts .now) (start .args .counts .now)
-          (start .args .keys .now) (start .args .n) _ _ _,
-      refl,
-      refl,
-      refl,
-      refl,
-    )
+loop-holds c = (omega arith, owns-start _ _ _ _ _ _ _ _ _ _, refl, refl, refl, refl)
 
 own-rank-requires : tie.Need-own-rank-requires Inv-loop μ-loop
 own-rank-requires c κs =
-    let turning = c .before .before .before .before in
+    let turning : tie.In-loop Inv-loop μ-loop = search in
     let in-loop = turning .before in
-    let start = start-of (in-loop .before) in
+    let start = start-of in-loop in
     let inv = in-loop .loop .inv in
     (owns-room-same (start .pre) (inv .2) (inv .3) (inv .4) (inv .5), turning .loop-test .taken, inv .1)
 
@@ -52,8 +43,8 @@ counted-requires c κs = search needs
 
 add-k : tie.Need-add-k Inv-loop μ-loop
 add-k c =
-    let in-loop = c .before .before .before .before .before .before .before .before .before .before .before .before .before .before .before .before in
-    let start = start-of (in-loop .before) in
+    let in-loop : tie.At-loop Inv-loop μ-loop = search in
+    let start = start-of in-loop in
     omega (arith, c .counted .ensures .1, in-loop .loop .inv .1 .few, start .pre .own .few)
 
 add-i : tie.Need-add-i Inv-loop μ-loop
@@ -64,7 +55,7 @@ loop-less c = search needs
 
 loop-again : tie.Need-loop-again Inv-loop μ-loop
 loop-again c =
-    let after-own-rank = c .before .before .before .before .before .before .before .before .before .before in
+    let after-own-rank : tie.After-own-rank Inv-loop μ-loop = search in
     let in-loop = after-own-rank .before .before .before .before .before .before in
     let inv = in-loop .loop .inv in (
       omega arith,
@@ -89,10 +80,8 @@ same-length-4 c = c .before .loop .inv .5
 
 returns : tie.Need-returns Inv-loop μ-loop
 returns c =
-    let start = start-of (c .before .before) in
     let inv = c .before .loop .inv in
-    owns-end (start .args .base) (start .args .order .now) (start .args .plan .now) (start .args .starts .now) (start .args .counts .now)
-    (start .args .keys .now) (start .args .n) (inv .1) (inv .0) (omega arith)
+    owns-end _ _ _ _ _ _ _ (inv .1) (inv .0) (omega arith)
 
 pub gather-owns-spec : {M : Type 1} → statement M
 gather-owns-spec =

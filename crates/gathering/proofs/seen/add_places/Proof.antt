@@ -11,7 +11,7 @@ same-length c = search needs
 
 returns : tie.Need-returns
 returns c =
-    let if1-taken = c .before .before .before .before in
+    let if1-taken : tie.Then1 = search in
     let start = if1-taken .before .before in
     λ firsts count e f. places-some _ (start .args .among) firsts count e f (if1-taken .if1 .taken) (c .before .before .append-places .ensures)
 
@@ -29,9 +29,9 @@ same-length-2 c = search needs
 
 returns-3 : tie.Need-returns-3
 returns-3 c =
-    let if2-left = c .before .before .before .before in
-    let if1-left = if2-left .before in
-    λ firsts count e f. places-itself _ _ firsts count e f (if1-left .if1 .left) (if2-left .if2 .left) (c .before .before .append-places2 .ensures)
+    let not-alone : tie.Else2 = search in
+    let none-seen = not-alone .before in
+    λ firsts count e f. places-itself _ _ firsts count e f (none-seen .if1 .left) (not-alone .if2 .left) (c .before .before .append-places2 .ensures)
 
 pub add-places-spec : {M : Type 1} → statement M
 add-places-spec =

@@ -9,9 +9,9 @@ use borrow.Author.Needs.{needs}
 use Rattle.gathering.proofs.seen.add_seen.Statement.{statement}
 use Rattle.gathering.proofs.seen.add_seen.Tie as tie
 
--- what the function is given and asked: the places since only say that its slices have lengths
-abbrev start-of : tie.After-slice-known → tie.Start
-start-of c = c .before .before .before
+-- earlier places, each found by what it is
+abbrev start-of : tie.After-size → tie.Start
+start-of c = search
 
 mul-size : tie.Need-mul-size
 mul-size c = search needs
@@ -42,7 +42,7 @@ add-read-boundary c = search needs
 
 read-boundary-requires : tie.Need-read-boundary-requires
 read-boundary-requires c κs =
-    let start = start-of (c .before .before .before .before .before) in
+    let start : tie.Start = search in
     omega (arith, start .pre .0 .records-in, place-small (start .pre .0) (start .pre .1) (c .size2 .ensures .0))
 
 mul-size-3 : tie.Need-mul-size-3
@@ -50,7 +50,7 @@ mul-size-3 c = search needs
 
 shared-slice-read-size : tie.Need-shared-slice-read-size
 shared-slice-read-size c =
-    let start = start-of (c .before .before .before .before .before .before .before) in
+    let start : tie.Start = search in
     omega (arith, start .pre .0 .firsts-room, start .pre .0 .few, place-small (start .pre .0) (start .pre .1) (c .before .before .size2 .ensures .0))
 
 size-requires-3 : tie.Need-size-requires-3
@@ -61,18 +61,18 @@ size-requires-4 c κs = search needs
 
 add-places-requires : tie.Need-add-places-requires
 add-places-requires c κs =
-    let after-read-boundary = c .before .before .before .before in
+    let after-read-boundary : tie.After-read-boundary = search in
     let after-size2 = after-read-boundary .before in
-    let if1-left = after-size2 .before .before in
-    let after-size = if1-left .before in
-    let start = start-of (after-size .before .before) in (
+    let goes = after-size2 .before .before in
+    let after-size = goes .before in
+    let start = start-of after-size in (
       own-place (start .pre .0) (start .pre .1) (after-size2 .size2 .ensures .0),
       places-inside (start .pre .0) (start .pre .1) (after-size2 .size2 .ensures .0) (c .before .before .size3 .ensures .0)
           (c .before .size4 .ensures .0 ∙ ap (λ (r : BoundaryRecord). r .observations) (after-read-boundary .read-boundary .ensures)),
       seen-room (start .pre .0) (start .pre .1) (after-size2 .size2 .ensures .0) (start .args .plan .now) (start .args .to)
           (length (start .args .seen .now)) (c .before .size4 .result)
           (c .before .size4 .ensures .0 ∙ ap (λ (r : BoundaryRecord). r .observations) (after-read-boundary .read-boundary .ensures))
-          (after-size .size .ensures .0) (if1-left .if1 .left) (start .pre .2),
+          (after-size .size .ensures .0) (goes .if1 .left) (start .pre .2),
     )
 
 same-length : tie.Need-same-length
@@ -80,14 +80,14 @@ same-length c = search needs
 
 returns-2 : tie.Need-returns-2
 returns-2 c =
-    let after-size4 = c .before .before .before .before in
+    let after-size4 : tie.After-size4 = search in
     let after-size3 = after-size4 .before in
     let after-read-boundary = after-size3 .before .before in
     let after-size2 = after-read-boundary .before in
-    let if1-left = after-size2 .before .before in
-    let after-size = if1-left .before in
-    let start = start-of (after-size .before .before) in
-    there (after-size .size .ensures .0) (if1-left .if1 .left)
+    let goes = after-size2 .before .before in
+    let after-size = goes .before in
+    let start = start-of after-size in
+    there (after-size .size .ensures .0) (goes .if1 .left)
     (places-there (start .pre .0) (start .pre .1) (after-size2 .size2 .ensures .0) (start .args .among)
     (c .before .before .add-places .ensures (start .args .firsts .now) (seenCount (start .args .job .now) (start .args .at))
     (sym (after-size3 .size3 .ensures .0))

@@ -17,13 +17,13 @@ Inv-loop job at order plan n i base firsts among seen₀ from to₀ j₀ seen to
 abbrev μ-loop : tie.MeasureT-loop
 μ-loop job at order plan n i base firsts among seen₀ from to₀ j₀ seen to j = n - j
 
--- what the function is given and asked: the places since only say that its slices have lengths
-abbrev start-of : tie.After-slice-known Inv-loop μ-loop → tie.Start Inv-loop μ-loop
-start-of c = c .before .before .before
+-- earlier places, each found by what it is
+abbrev start-of : tie.At-loop Inv-loop μ-loop → tie.Start Inv-loop μ-loop
+start-of c = search
 
 loop-holds : tie.Need-loop-holds Inv-loop μ-loop
 loop-holds c =
-    let start = start-of c in (
+    let start : tie.Start Inv-loop μ-loop = search in (
       omega arith,
       runs-start
           (placesAt (start .args .base) (start .args .order .now) (start .args .firsts .now) (seenCount (start .args .job .now) (start .args .at))
@@ -34,7 +34,7 @@ loop-holds c =
 add-seen-requires : tie.Need-add-seen-requires Inv-loop μ-loop
 add-seen-requires c κs =
     let in-loop = c .before .before in
-    let start = start-of (in-loop .before) in
+    let start = start-of in-loop in
     let inv = in-loop .loop .inv in (
       start .pre .0,
       c .before .loop-test .taken,
@@ -58,7 +58,7 @@ loop-again : tie.Need-loop-again Inv-loop μ-loop
 loop-again c =
     let after-add-seen = c .before .before in
     let in-loop = after-add-seen .before .before .before in
-    let start = start-of (in-loop .before) in
+    let start = start-of in-loop in
     let inv = in-loop .loop .inv in
     let firsts = start .args .firsts .now in
     let order = start .args .order .now in
@@ -80,7 +80,7 @@ same-length c = c .before .loop .inv .1 .long
 
 returns : tie.Need-returns Inv-loop μ-loop
 returns c =
-    let start = start-of (c .before .before) in
+    let start : tie.Start Inv-loop μ-loop = search in
     let inv = c .before .loop .inv in
     let job = start .args .job .now in
     runs-end (placesAt (start .args .base) (start .args .order .now) (start .args .firsts .now) (seenCount job (start .args .at)) (start .args .among))

@@ -37,7 +37,7 @@ loop-less c = search needs
 
 loop-again : tie.Need-loop-again Inv-loop μ-loop
 loop-again c =
-    let in-loop = c .before .before .before in
+    let in-loop : tie.At-loop Inv-loop μ-loop = search in
     let start = in-loop .before in
     let inv = in-loop .loop .inv in (
       omega arith,

@@ -17,7 +17,7 @@ add-seens-requires c κs = search needs
 
 sort-places-requires : tie.Need-sort-places-requires
 sort-places-requires c κs =
-    let after-add-seens = c .before .before .before .before in
+    let after-add-seens : tie.After-add-seens = search in
     let start = start-of (after-add-seens .before .before .before) in (
       omega (arith, after-add-seens .add-seens .ensures .0 .ends),
       omega (arith, after-add-seens .add-seens .ensures .1, start .pre .1, after-add-seens .add-seens .ensures .0 .long),
@@ -32,7 +32,7 @@ same-length-2 c = search needs
 
 returns : tie.Need-returns
 returns c =
-    let after-sort-places = c .before .before .before .before in
+    let after-sort-places : tie.After-sort-places = search in
     let after-add-seens = after-sort-places .before .before .before .before .before in
     let after-count-going = after-add-seens .before .before in
     let start = start-of (after-count-going .before) in (

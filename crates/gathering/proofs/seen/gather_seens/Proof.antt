@@ -18,27 +18,18 @@ Inv-loop job at order plan n base firsts first second third starts counts keys s
 abbrev μ-loop : tie.MeasureT-loop
 μ-loop job at order plan n base firsts first second third starts counts keys seens₀ seen₀ spare₀ k₀ a₀ i₀ seens seen spare k a i = n - i
 
--- what the function is given and asked: the places since only say that its slices have lengths
-abbrev start-of : tie.After-slice-known3 Inv-loop μ-loop → tie.Start Inv-loop μ-loop
-start-of c = c .before .before .before .before .before .before .before .before .before .before .before
+-- earlier places, each found by what it is
+abbrev start-of : tie.At-loop Inv-loop μ-loop → tie.Start Inv-loop μ-loop
+start-of c = search
 
 loop-holds : tie.Need-loop-holds Inv-loop μ-loop
-loop-holds c =
-    let start = start-of c in (
-      omega arith,
-      seens-start (start .args .base) (start .args .order .now) (start .args .plan .now) (start .args .firsts .now) (start .args .first .now)
-          (start .args .second .now) (start .args .third .now) (start .args .starts .now) (start .args .counts .now) (start .args .keys .now)
-          (seenCount (start .args .job .now) (start .args .at)) (start .args .n) _ _,
-      refl,
-      refl,
-      refl,
-    )
+loop-holds c = (omega arith, seens-start _ _ _ _ _ _ _ _ _ _ _ _ _ _, refl, refl, refl)
 
 seen-rank-requires : tie.Need-seen-rank-requires Inv-loop μ-loop
 seen-rank-requires c κs =
-    let turning = c .before .before .before in
+    let turning : tie.In-loop Inv-loop μ-loop = search in
     let in-loop = turning .before in
-    let start = start-of (in-loop .before) in
+    let start = start-of in-loop in
     let inv = in-loop .loop .inv in
     (seens-room-same (start .pre) (inv .2) (inv .3) (inv .4), turning .loop-test .taken, inv .1)
 
@@ -53,14 +44,14 @@ counted-requires c κs = search needs
 
 add-k : tie.Need-add-k Inv-loop μ-loop
 add-k c =
-    let in-loop = c .before .before .before .before .before .before .before .before .before .before .before .before .before in
-    let start = start-of (in-loop .before) in
+    let in-loop : tie.At-loop Inv-loop μ-loop = search in
+    let start = start-of in-loop in
     omega (arith, c .counted .ensures .1, in-loop .loop .inv .1 .few, start .pre .own .few)
 
 add-i : tie.Need-add-i Inv-loop μ-loop
 add-i c =
-    let turning = c .before .before .before .before .before .before .before .before .before .before .before .before in
-    let start = start-of (turning .before .before) in
+    let turning : tie.In-loop Inv-loop μ-loop = search in
+    let start = start-of (turning .before) in
     omega (arith, turning .loop-test .taken, start .pre .own .few)
 
 loop-less : tie.Need-loop-less Inv-loop μ-loop
@@ -68,7 +59,7 @@ loop-less c = search needs
 
 loop-again : tie.Need-loop-again Inv-loop μ-loop
 loop-again c =
-    let after-seen-rank = c .before .before .before .before .before .before .before .before in
+    let after-seen-rank : tie.After-seen-rank Inv-loop μ-loop = search in
     let in-loop = after-seen-rank .before .before .before .before .before in
     let inv = in-loop .loop .inv in (
       omega arith,
@@ -89,11 +80,8 @@ same-length-3 c = c .before .loop .inv .4
 
 returns : tie.Need-returns Inv-loop μ-loop
 returns c =
-    let start = start-of (c .before .before) in
     let inv = c .before .loop .inv in
-    seens-end (start .args .base) (start .args .order .now) (start .args .plan .now) (start .args .firsts .now) (start .args .first .now)
-    (start .args .second .now) (start .args .third .now) (start .args .starts .now) (start .args .counts .now) (start .args .keys .now)
-    (seenCount (start .args .job .now) (start .args .at)) (start .args .n) (inv .1) (inv .0) (omega arith)
+    seens-end _ _ _ _ _ _ _ _ _ _ _ _ (inv .1) (inv .0) (omega arith)
 
 pub gather-seens-spec : {M : Type 1} → statement M
 gather-seens-spec =

@@ -9,12 +9,12 @@ places-requires c κs = search needs
 
 write-digits-requires : tie.Need-write-digits-requires
 write-digits-requires c κs =
-    let start = c .before .before .before in
+    let start : tie.Start = search in
     (omega arith, omega arith, omega (arith, start .pre, length-digits (start .args .v), c .before .places .ensures))
 
 add-result : tie.Need-add-result
 add-result c =
-    let after-places = c .before .before .before .before in
+    let after-places : tie.After-places = search in
     let start = after-places .before .before in
     omega (arith, start .pre, length-digits (start .args .v), after-places .places .ensures)
 
@@ -23,7 +23,7 @@ same-length c = search needs
 
 returns : tie.Need-returns
 returns c =
-    let after-places = c .before .before .before .before in
+    let after-places : tie.After-places = search in
     let start = after-places .before .before in
     decimal-writes (start .args .v) (after-places .places .ensures) (c .before .before .write-digits .ensures)
 

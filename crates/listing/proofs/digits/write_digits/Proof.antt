@@ -18,12 +18,12 @@ sub-i c = search needs
 
 rem-glyph : tie.Need-rem-glyph Inv-loop μ-loop
 rem-glyph c =
-    let start = c .before .before .before in
+    let start : tie.Start Inv-loop μ-loop = search in
     omega (arith, start .pre .0)
 
 glyph-requires : tie.Need-glyph-requires Inv-loop μ-loop
 glyph-requires c κs =
-    let start = c .before .before .before in
+    let start : tie.Start Inv-loop μ-loop = search in
     remainder-small _ (start .pre .0) (start .pre .1)
 
 add-out : tie.Need-add-out Inv-loop μ-loop
@@ -37,7 +37,7 @@ slice-write-out c =
 
 div-rest : tie.Need-div-rest Inv-loop μ-loop
 div-rest c =
-    let start = c .before .before .before .before in
+    let start : tie.Start Inv-loop μ-loop = search in
     omega (arith, start .pre .0)
 
 loop-less : tie.Need-loop-less Inv-loop μ-loop

@@ -17,7 +17,7 @@ same-length c = search needs
 
 returns : tie.Need-returns
 returns c =
-    let start = c .before .before .before .before .before in
+    let start : tie.Start = search in
     hex-writes (start .args .v) (c .before .before .write-digits .ensures)
 
 pub write-hex-spec : {M : Type 1} → statement M

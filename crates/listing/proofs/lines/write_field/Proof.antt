@@ -4,6 +4,10 @@ use borrow.Author.Needs.{needs}
 use Rattle.listing.proofs.lines.write_field.Statement.{statement}
 use Rattle.listing.proofs.lines.write_field.Tie as tie
 
+-- earlier places, each found by what it is
+abbrev start-of : tie.After-write-byte → tie.Start
+start-of c = search
+
 write-byte-requires : tie.Need-write-byte-requires
 write-byte-requires c κs =
     let start = c .before .before in
@@ -11,18 +15,18 @@ write-byte-requires c κs =
 
 write-decimal-requires : tie.Need-write-decimal-requires
 write-decimal-requires c κs =
-    let after-write-byte = c .before .before .before in
-    let start = after-write-byte .before .before .before in
-    room (next (field-start (start .args .out .now) (start .args .at) (start .args .v) (start .pre)) (after-write-byte .write-byte .ensures))
+    let past-byte : tie.After-write-byte = search in
+    let start = start-of past-byte in
+    room (next (field-start (start .args .out .now) (start .args .at) (start .args .v) (start .pre)) (past-byte .write-byte .ensures))
 
 same-length : tie.Need-same-length
 same-length c = search needs
 
 returns : tie.Need-returns
 returns c =
-    let after-write-byte = c .before .before .before .before .before .before in
-    let start = after-write-byte .before .before .before in
-    done (next (next (field-start (start .args .out .now) (start .args .at) (start .args .v) (start .pre)) (after-write-byte .write-byte .ensures))
+    let past-byte : tie.After-write-byte = search in
+    let start = start-of past-byte in
+    done (next (next (field-start (start .args .out .now) (start .args .at) (start .args .v) (start .pre)) (past-byte .write-byte .ensures))
     (c .before .before .write-decimal .ensures))
 
 pub write-field-spec : {M : Type 1} → statement M

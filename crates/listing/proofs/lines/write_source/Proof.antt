@@ -4,6 +4,16 @@ use borrow.Author.Needs.{needs}
 use Rattle.listing.proofs.lines.write_source.Statement.{statement}
 use Rattle.listing.proofs.lines.write_source.Tie as tie
 
+-- earlier places, each found by what it is
+abbrev start-of : tie.After-write-byte → tie.Start
+start-of c = search
+
+abbrev past-byte-of : tie.After-write-word → tie.After-write-byte
+past-byte-of c = search
+
+abbrev past-word-of : tie.After-write-word2 → tie.After-write-word
+past-word-of c = search
+
 write-byte-requires : tie.Need-write-byte-requires
 write-byte-requires c κs =
     let start = c .before .before in
@@ -11,38 +21,38 @@ write-byte-requires c κs =
 
 write-word-requires : tie.Need-write-word-requires
 write-word-requires c κs =
-    let after-write-byte = c .before .before .before in
-    let start = after-write-byte .before .before .before in
-    room (next (source-start (start .args .out .now) (start .args .at) (start .args .s) (start .pre)) (after-write-byte .write-byte .ensures))
+    let past-byte : tie.After-write-byte = search in
+    let start = start-of past-byte in
+    room (next (source-start (start .args .out .now) (start .args .at) (start .args .s) (start .pre)) (past-byte .write-byte .ensures))
 
 write-word-requires-2 : tie.Need-write-word-requires-2
 write-word-requires-2 c κs =
-    let after-write-word = c .before .before .before in
-    let after-write-byte = after-write-word .before .before .before .before in
-    let start = after-write-byte .before .before .before in
-    room (next (next (source-start (start .args .out .now) (start .args .at) (start .args .s) (start .pre)) (after-write-byte .write-byte .ensures))
-    (after-write-word .write-word .ensures))
+    let past-word : tie.After-write-word = search in
+    let past-byte = past-byte-of past-word in
+    let start = start-of past-byte in
+    room (next (next (source-start (start .args .out .now) (start .args .at) (start .args .s) (start .pre)) (past-byte .write-byte .ensures))
+    (past-word .write-word .ensures))
 
 write-byte-requires-2 : tie.Need-write-byte-requires-2
 write-byte-requires-2 c κs =
-    let after-write-word2 = c .before .before .before in
-    let after-write-word = after-write-word2 .before .before .before .before in
-    let after-write-byte = after-write-word .before .before .before .before in
-    let start = after-write-byte .before .before .before in
-    room (next (next (next (source-start (start .args .out .now) (start .args .at) (start .args .s) (start .pre)) (after-write-byte .write-byte .ensures))
-    (after-write-word .write-word .ensures)) (after-write-word2 .write-word2 .ensures))
+    let past-word2 : tie.After-write-word2 = search in
+    let past-word = past-word-of past-word2 in
+    let past-byte = past-byte-of past-word in
+    let start = start-of past-byte in
+    room (next (next (next (source-start (start .args .out .now) (start .args .at) (start .args .s) (start .pre)) (past-byte .write-byte .ensures))
+    (past-word .write-word .ensures)) (past-word2 .write-word2 .ensures))
 
 same-length : tie.Need-same-length
 same-length c = search needs
 
 returns : tie.Need-returns
 returns c =
-    let after-write-word2 = c .before .before .before .before .before .before in
-    let after-write-word = after-write-word2 .before .before .before .before in
-    let after-write-byte = after-write-word .before .before .before .before in
-    let start = after-write-byte .before .before .before in
-    done (next (next (next (next (source-start (start .args .out .now) (start .args .at) (start .args .s) (start .pre)) (after-write-byte .write-byte .ensures))
-    (after-write-word .write-word .ensures)) (after-write-word2 .write-word2 .ensures)) (c .before .before .write-byte2 .ensures))
+    let past-word2 : tie.After-write-word2 = search in
+    let past-word = past-word-of past-word2 in
+    let past-byte = past-byte-of past-word in
+    let start = start-of past-byte in
+    done (next (next (next (next (source-start (start .args .out .now) (start .args .at) (start .args .s) (start .pre)) (past-byte .write-byte .ensures))
+    (past-word .write-word .ensures)) (past-word2 .write-word2 .ensures)) (c .before .before .write-byte2 .ensures))
 
 pub write-source-spec : {M : Type 1} → statement M
 write-source-spec =

@@ -21,7 +21,7 @@ shared-slice-read-out c = search needs
 
 add-out : tie.Need-add-out Inv-loop μ-loop
 add-out c =
-    let start = c .before .before .before in
+    let start : tie.Start Inv-loop μ-loop = search in
     omega (arith, start .pre, c .before .before .loop .inv .2, c .before .loop-test .taken)
 
 slice-write-out : tie.Need-slice-write-out Inv-loop μ-loop

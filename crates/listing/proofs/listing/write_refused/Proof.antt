@@ -5,62 +5,72 @@ use borrow.Author.Needs.{needs}
 use Rattle.listing.proofs.listing.write_refused.Statement.{statement}
 use Rattle.listing.proofs.listing.write_refused.Tie as tie
 
+-- earlier places, each found by what it is
+abbrev start-of : tie.After-write-text → tie.Start
+start-of c = search
+
+abbrev past-text-of : tie.After-write-word → tie.After-write-text
+past-text-of c = search
+
+abbrev past-word-of : tie.After-write-field → tie.After-write-word
+past-word-of c = search
+
 slice-aggregate-write-text : tie.Need-slice-aggregate-write-text
 slice-aggregate-write-text c = search needs
 
 write-text-requires : tie.Need-write-text-requires
 write-text-requires c κs =
-    let start = c .before .before .before in
+    let start : tie.Start = search in
     let out = start .args .out .now in
     room (refused-start out 0 (start .args .number) (start .args .detail)
     (refused-room (start .args .number) (start .args .detail) out (start .fits .number .fits) (start .fits .detail .fits) (start .pre)))
 
 write-word-requires : tie.Need-write-word-requires
 write-word-requires c κs =
-    let after-write-text = c .before .before .before in
-    let start = after-write-text .before .before .before .before in
+    let past-text : tie.After-write-text = search in
+    let start = start-of past-text in
     let out = start .args .out .now in
     room (next (refused-start out 0 (start .args .number) (start .args .detail)
     (refused-room (start .args .number) (start .args .detail) out (start .fits .number .fits) (start .fits .detail .fits) (start .pre)))
-    (after-write-text .write-text .ensures))
+    (past-text .write-text .ensures))
 
 write-field-requires : tie.Need-write-field-requires
 write-field-requires c κs =
-    let after-write-word = c .before .before .before in
-    let after-write-text = after-write-word .before .before .before .before in
-    let start = after-write-text .before .before .before .before in
+    let past-word : tie.After-write-word = search in
+    let past-text = past-text-of past-word in
+    let start = start-of past-text in
     let out = start .args .out .now in
     room (next (next (refused-start out 0 (start .args .number) (start .args .detail)
     (refused-room (start .args .number) (start .args .detail) out (start .fits .number .fits) (start .fits .detail .fits) (start .pre)))
-    (after-write-text .write-text .ensures)) (after-write-word .write-word .ensures))
+    (past-text .write-text .ensures)) (past-word .write-word .ensures))
 
 write-byte-requires : tie.Need-write-byte-requires
 write-byte-requires c κs =
-    let after-write-field = c .before .before .before in
-    let after-write-word = after-write-field .before .before .before .before in
-    let after-write-text = after-write-word .before .before .before .before in
-    let start = after-write-text .before .before .before .before in
+    let past-field : tie.After-write-field = search in
+    let past-word = past-word-of past-field in
+    let past-text = past-text-of past-word in
+    let start = start-of past-text in
     let out = start .args .out .now in
     room (next (next (next (refused-start out 0 (start .args .number) (start .args .detail)
     (refused-room (start .args .number) (start .args .detail) out (start .fits .number .fits) (start .fits .detail .fits) (start .pre)))
-    (after-write-text .write-text .ensures)) (after-write-word .write-word .ensures)) (after-write-field .write-field .ensures))
+    (past-text .write-text .ensures)) (past-word .write-word .ensures)) (past-field .write-field .ensures))
 
 same-length : tie.Need-same-length
 same-length c = search needs
 
 returns : tie.Need-returns
 returns c =
-    let after-write-field = c .before .before .before .before .before .before in
-    let after-write-word = after-write-field .before .before .before .before in
-    let after-write-text = after-write-word .before .before .before .before in
-    let start = after-write-text .before .before .before .before in
+    let past-field : tie.After-write-field = search in
+    let past-word = past-word-of past-field in
+    let past-text = past-text-of past-word in
+    let start = start-of past-text in
     let out = start .args .out .now in
     let number = start .args .number in
     let detail = start .args .detail in
     let w = done (next (next
     (next (next (refused-start out 0 number detail
     (refused-room number detail out (start .fits .number .fits) (start .fits .detail .fits) (start .pre)))
-    (after-write-text .write-text .ensures)) (after-write-word .write-word .ensures)) (after-write-field .write-field .ensures))
+    (past-text .write-text .ensures)) (past-word .write-word .ensures)) (past-field .write-field .ensures))
     (c .before .before .write-byte .ensures)) in
     (w, omega (arith, w .end, refused-length number detail (start .fits .number .fits) (start .fits .detail .fits)))
 

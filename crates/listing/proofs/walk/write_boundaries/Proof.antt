@@ -18,12 +18,12 @@ loop-holds c =
 
 mul-write-boundary : tie.Need-mul-write-boundary Inv-loop μ-loop
 mul-write-boundary c =
-    let start = c .before .before .before .before in
+    let start : tie.Start Inv-loop μ-loop = search in
     omega (arith, start .pre .1, c .loop-test .taken)
 
 add-write-boundary : tie.Need-add-write-boundary Inv-loop μ-loop
 add-write-boundary c =
-    let start = c .before .before .before .before in
+    let start : tie.Start Inv-loop μ-loop = search in
     omega (arith, start .pre .1, c .loop-test .taken)
 
 write-boundary-requires : tie.Need-write-boundary-requires Inv-loop μ-loop
@@ -35,12 +35,12 @@ write-boundary-requires c κs =
 
 add-i : tie.Need-add-i Inv-loop μ-loop
 add-i c =
-    let turning = c .before .before .before .before in
+    let turning : tie.In-loop Inv-loop μ-loop = search in
     omega (arith, turning .loop-test .taken)
 
 loop-less : tie.Need-loop-less Inv-loop μ-loop
 loop-less c =
-    let turning = c .before .before .before .before in
+    let turning : tie.In-loop Inv-loop μ-loop = search in
     omega (arith, turning .loop-test .taken)
 
 loop-again : tie.Need-loop-again Inv-loop μ-loop

@@ -4,6 +4,10 @@ use borrow.Author.Needs.{needs}
 use Rattle.listing.proofs.walk.write_observation.Statement.{statement}
 use Rattle.listing.proofs.walk.write_observation.Tie as tie
 
+-- earlier places, each found by what it is
+abbrev start-of : tie.After-read-observation → tie.Start
+start-of c = search
+
 read-observation-requires : tie.Need-read-observation-requires
 read-observation-requires c κs = search needs
 
@@ -12,16 +16,16 @@ least-requires c κs = search needs
 
 write-observation-line-requires : tie.Need-write-observation-line-requires
 write-observation-line-requires c κs =
-    let start = c .before .before .before .before .before in
+    let start : tie.Start = search in
     room (here-start (start .args .answer .now) (start .args .c) _ _ (c .before .before .read-observation .ensures) (c .before .least .ensures)
     (start .args .out .now) (start .pre .2))
 
 write-sources-requires : tie.Need-write-sources-requires
 write-sources-requires c κs =
-    let after-write-observation-line = c .before .before .before in
+    let after-write-observation-line : tie.After-write-observation-line = search in
     let after-least = after-write-observation-line .before .before in
     let after-read-observation = after-least .before in
-    let start = after-read-observation .before .before .before in (
+    let start = start-of after-read-observation in (
       here-sources (start .args .answer .now) (start .args .c) _ _ (after-read-observation .read-observation .ensures) (after-least .least .ensures)
           (start .pre .0),
       room (next
@@ -49,11 +53,11 @@ same-length c = search needs
 
 returns : tie.Need-returns
 returns c =
-    let after-write-sources = c .before .before .before in
+    let after-write-sources : tie.After-write-sources = search in
     let after-write-observation-line = after-write-sources .before .before .before .before in
     let after-least = after-write-observation-line .before .before in
     let after-read-observation = after-least .before in
-    let start = after-read-observation .before .before .before in (
+    let start = start-of after-read-observation in (
       done (next (next (here-start (start .args .answer .now) (start .args .c) _ _ (after-read-observation .read-observation .ensures)
           (after-least .least .ensures) (start .args .out .now) (start .pre .2)) (after-write-observation-line .write-observation-line .ensures))
           (after-write-sources .write-sources .ensures)),

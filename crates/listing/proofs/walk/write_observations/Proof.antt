@@ -25,12 +25,12 @@ write-observation-requires c κs =
 
 add-i : tie.Need-add-i Inv-loop μ-loop
 add-i c =
-    let turning = c .before .before .before .before in
+    let turning : tie.In-loop Inv-loop μ-loop = search in
     omega (arith, turning .loop-test .taken)
 
 loop-less : tie.Need-loop-less Inv-loop μ-loop
 loop-less c =
-    let turning = c .before .before .before .before in
+    let turning : tie.In-loop Inv-loop μ-loop = search in
     omega (arith, turning .loop-test .taken)
 
 loop-again : tie.Need-loop-again Inv-loop μ-loop

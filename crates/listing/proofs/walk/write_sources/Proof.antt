@@ -16,37 +16,37 @@ loop-holds c = sources-start _ _ _ _ _ (c .before .before .pre .1)
 
 mul-read-source : tie.Need-mul-read-source Inv-loop μ-loop
 mul-read-source c =
-    let start = c .before .before .before .before in
+    let start : tie.Start Inv-loop μ-loop = search in
     omega (arith, start .pre .0, c .loop-test .taken)
 
 add-read-source : tie.Need-add-read-source Inv-loop μ-loop
 add-read-source c =
-    let start = c .before .before .before .before in
+    let start : tie.Start Inv-loop μ-loop = search in
     omega (arith, start .pre .0, c .loop-test .taken)
 
 read-source-requires : tie.Need-read-source-requires Inv-loop μ-loop
 read-source-requires c κs =
-    let start = c .before .before .before .before in
+    let start : tie.Start Inv-loop μ-loop = search in
     omega (arith, start .pre .0, c .loop-test .taken)
 
 write-source-requires : tie.Need-write-source-requires Inv-loop μ-loop
 write-source-requires c κs =
-    let in-loop = c .before .before .before in
+    let in-loop : tie.At-loop Inv-loop μ-loop = search in
     source-room _ _ _ _ _ _ (c .before .read-source .ensures) (c .before .before .loop-test .taken) (in-loop .loop .inv)
 
 add-i : tie.Need-add-i Inv-loop μ-loop
 add-i c =
-    let turning = c .before .before .before .before .before in
+    let turning : tie.In-loop Inv-loop μ-loop = search in
     omega (arith, turning .loop-test .taken)
 
 loop-less : tie.Need-loop-less Inv-loop μ-loop
 loop-less c =
-    let turning = c .before .before .before .before .before in
+    let turning : tie.In-loop Inv-loop μ-loop = search in
     omega (arith, turning .loop-test .taken)
 
 loop-again : tie.Need-loop-again Inv-loop μ-loop
 loop-again c =
-    let after-read-source = c .before .before .before .before in
+    let after-read-source : tie.After-read-source Inv-loop μ-loop = search in
     let turning = after-read-source .before in
     let in-loop = turning .before in
     sources-next _ _ _ _ _ _ (after-read-source .read-source .ensures) (turning .loop-test .taken) (in-loop .loop .inv)

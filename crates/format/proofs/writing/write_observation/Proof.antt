@@ -1,8 +1,8 @@
 use native.Mathlib.Omega.{arith}
-use Rattle.answer.proofs.Writes.{observation-written}
+use Rattle.format.proofs.Writes.{observation-written}
 use borrow.Author.Needs.{needs}
-use Rattle.answer.proofs.writing.write_observation.Statement.{statement}
-use Rattle.answer.proofs.writing.write_observation.Tie as tie
+use Rattle.format.proofs.writing.write_observation.Statement.{statement}
+use Rattle.format.proofs.writing.write_observation.Tie as tie
 
 write-span-requires : tie.Need-write-span-requires
 write-span-requires c κs = search needs

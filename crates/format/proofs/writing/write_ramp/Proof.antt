@@ -1,10 +1,10 @@
-use Rattle.encoding.proofs.RecordLaws.{ramp-written}
+use Rattle.format.proofs.Writes.{ramp-written}
 use lib.ListN.{length-set}
 use mathlib.Core.Path.{refl}
 use native.Mathlib.Omega.{arith}
 use borrow.Author.Needs.{needs}
-use Rattle.encoding.proofs.records.write_ramp.Statement.{statement}
-use Rattle.encoding.proofs.records.write_ramp.Tie as tie
+use Rattle.format.proofs.writing.write_ramp.Statement.{statement}
+use Rattle.format.proofs.writing.write_ramp.Tie as tie
 
 slice-write-s : tie.Need-slice-write-s
 slice-write-s c = search needs
@@ -38,7 +38,7 @@ same-length c = simp length-set at (c .before .s .given)
 
 returns : tie.Need-returns
 returns c =
-    let start = c .before .before .before .before .before in
+    let start : tie.Start = search in
     ramp-written (start .args .s .now) (start .args .at) (start .args .r) (omega arith) refl (c .before .before .write-u32 .ensures)
 
 pub write-ramp-spec : {M : Type 1} → statement M

@@ -1,8 +1,8 @@
 use native.Mathlib.Omega.{arith}
-use Rattle.answer.proofs.Writes.{span-written}
+use Rattle.format.proofs.Writes.{span-written}
 use borrow.Author.Needs.{needs}
-use Rattle.answer.proofs.writing.write_span.Statement.{statement}
-use Rattle.answer.proofs.writing.write_span.Tie as tie
+use Rattle.format.proofs.writing.write_span.Statement.{statement}
+use Rattle.format.proofs.writing.write_span.Tie as tie
 
 write-u32-requires : tie.Need-write-u32-requires
 write-u32-requires c κs = search needs
