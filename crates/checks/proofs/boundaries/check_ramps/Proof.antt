@@ -29,5 +29,5 @@ returns-2 c = clean-end (c .before .loop .inv) (c .loop-test .left)
 
 pub check-ramps-spec : {M : Type 1} → statement M
 check-ramps-spec =
-    tie.close (tie.spec Inv-loop μ-loop loop-holds (λ c. search needs) (λ c. search needs) (λ c κs. search needs) (λ c κs. search needs) returns
-    (λ c. search needs) (λ c. search needs) loop-again returns-2)
+    tie.close (tie.spec Inv-loop μ-loop loop-holds (search needs) (search needs) (λ c κs. search needs) (λ c κs. search needs) returns (search needs)
+    (search needs) loop-again returns-2)

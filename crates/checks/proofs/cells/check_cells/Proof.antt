@@ -34,5 +34,4 @@ returns-2 c = clean-end (c .before .loop .inv) (c .loop-test .left)
 
 pub check-cells-spec : {M : Type 1} → statement M
 check-cells-spec =
-    tie.close (tie.spec Inv-loop μ-loop loop-holds (λ c. search needs) (λ c. search needs) returns (λ c. search needs) (λ c. search needs) loop-again
-    returns-2)
+    tie.close (tie.spec Inv-loop μ-loop loop-holds (search needs) (search needs) returns (search needs) (search needs) loop-again returns-2)

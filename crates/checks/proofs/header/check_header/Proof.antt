@@ -31,5 +31,5 @@ returns-5 c = sym (skip 2 0 _ (cc) ∙ skip 3 0 _ (cc) ∙ skip 4 _ _ (cc) ∙ c
 
 pub check-header-spec : {M : Type 1} → statement M
 check-header-spec =
-    tie.close (tie.spec (λ c κs. search needs) returns (λ c κs. search needs) returns-2 (λ c κs. search needs) (λ c. search needs) returns-3
+    tie.close (tie.spec (λ c κs. search needs) returns (λ c κs. search needs) returns-2 (λ c κs. search needs) (search needs) returns-3
     offsets-of-requires (λ c κs. search needs) returns-4 returns-5)

@@ -30,5 +30,5 @@ returns c = refl
 
 pub offsets-of-spec : {M : Type 1} → statement M
 offsets-of-spec =
-    tie.close (tie.spec mul-bases add-bases (λ c. search needs) add-boundaries (λ c. search needs) add-observations (λ c. search needs) add-sources
-    (λ c. search needs) add-total returns)
+    tie.close (tie.spec mul-bases add-bases (search needs) add-boundaries (search needs) add-observations (search needs) add-sources (search needs)
+    add-total returns)

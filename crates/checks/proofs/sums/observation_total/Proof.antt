@@ -29,5 +29,5 @@ returns c = added-all (λ (r : BoundaryRecord). r .observations) (c .before .loo
 
 pub observation-total-spec : {M : Type 1} → statement M
 observation-total-spec =
-    tie.close (tie.spec Inv-loop μ-loop loop-holds (λ c. search needs) (λ c. search needs) (λ c κs. search needs) (λ c κs. search needs) add-total
-    (λ c. search needs) (λ c. search needs) loop-again returns)
+    tie.close (tie.spec Inv-loop μ-loop loop-holds (search needs) (search needs) (λ c κs. search needs) (λ c κs. search needs) add-total
+    (search needs) (search needs) loop-again returns)

@@ -30,5 +30,5 @@ returns c =
 
 pub source-count-spec : {M : Type 1} → statement M
 source-count-spec =
-    tie.close (tie.spec Inv-loop μ-loop loop-holds (λ c. search needs) (λ c. search needs) (λ c κs. search needs) (λ c κs. search needs) add-total
-    (λ c. search needs) (λ c. search needs) loop-again returns)
+    tie.close (tie.spec Inv-loop μ-loop loop-holds (search needs) (search needs) (λ c κs. search needs) (λ c κs. search needs) add-total
+    (search needs) (search needs) loop-again returns)

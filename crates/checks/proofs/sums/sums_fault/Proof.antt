@@ -54,4 +54,4 @@ returns c =
 pub sums-fault-spec : {M : Type 1} → statement M
 sums-fault-spec =
     tie.close (tie.spec (λ c κs. search needs) (λ c κs. search needs) observation-total-requires own-total-requires (λ c κs. search needs)
-    (λ c κs. search needs) source-count-requires (λ c. search needs) (λ c κs. search needs) (λ c κs. search needs) returns)
+    (λ c κs. search needs) source-count-requires (search needs) (λ c κs. search needs) (λ c κs. search needs) returns)

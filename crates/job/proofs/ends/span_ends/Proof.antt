@@ -106,7 +106,6 @@ returns-4 c =
 
 pub span-ends-spec : {M : Type 1} → statement M
 span-ends-spec =
-    tie.close (tie.spec (λ c κs. search needs) (λ c κs. search needs) read-header-requires (λ c κs. search needs) (λ c. search needs)
-    (λ c. search needs) (λ c. search needs) (λ c. search needs) (λ c. search needs) part-result-end returns (λ c. search needs) (λ c. search needs)
-    (λ c. search needs) returns-2 (λ c κs. search needs) (λ c. search needs) (λ c. search needs) (λ c. search needs) (λ c. search needs)
-    part-result-end-3 returns-3 (λ c. search needs) (λ c. search needs) (λ c. search needs) returns-4)
+    tie.close (tie.spec (λ c κs. search needs) (λ c κs. search needs) read-header-requires (λ c κs. search needs) (search needs) (search needs)
+    (search needs) (search needs) (search needs) part-result-end returns (search needs) (search needs) (search needs) returns-2 (λ c κs. search needs)
+    (search needs) (search needs) (search needs) (search needs) part-result-end-3 returns-3 (search needs) (search needs) (search needs) returns-4)
