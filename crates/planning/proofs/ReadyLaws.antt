@@ -91,8 +91,8 @@ module _ {job : List ℕ} {start bases : ℕ} {cells : List ℕ} {width height n
         × Ranks firsts seconds r × Plain own bits
     measurable = (R .sides, R .whole, R .labels, regions-are own-links (R .listed .labelled) (R .labels), ranks-are few ranked-found, R .plain)
 
-    module _ {limits : Limits} {passing flat : List ℕ}
-        (M : Measured limits own bits regions firsts seconds (mapOf width height cells) (labelsIn work (length cells)) r passing flat) where
+    module _ {limits : Limits} {passing flat inside-marks : List ℕ}
+        (M : Measured limits own bits regions firsts seconds (mapOf width height cells) (labelsIn work (length cells)) r passing flat inside-marks) where
       pub links-found : LinksFrom limits job start bases (mapOf width height cells) n own bits ramps (labelsIn work (length cells)) removed separated owners
           lefts rights records lowers highers regions firsts seconds passing flat r
       links-found = record {

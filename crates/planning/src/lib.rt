@@ -49,6 +49,7 @@ fn measured_links(
 {
     let m = cells.len();
     let mut counts = [0u32; 256];
+    let mut inside = [0u8; 256];
     let links = candidate_links(
         job,
         bases_at,
@@ -86,6 +87,7 @@ fn measured_links(
         limits,
         passing,
         flat,
+        &mut inside,
     );
     links
 }

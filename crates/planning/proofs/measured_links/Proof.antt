@@ -14,14 +14,14 @@ candidate-links-requires c κs =
 
 measure-links-requires : tie.Need-measure-links-requires
 measure-links-requires c κs =
-    let after-candidate-links = c .before .before .before .before .before .before in
+    let after-candidate-links = c .before .before .before .before .before .before .before in
     let start = start-of (after-candidate-links .before .before .before .before .before .before .before .before .before) in
     measurable (start .pre) (after-candidate-links .candidate-links .ensures)
 
 returns : tie.Need-returns
 returns c =
     let after-measure-links = c .before .before in
-    let after-candidate-links = after-measure-links .before .before .before .before .before .before .before in
+    let after-candidate-links = after-measure-links .before .before .before .before .before .before .before .before in
     let start = start-of (after-candidate-links .before .before .before .before .before .before .before .before .before) in (
       after-measure-links .measure-links .ensures .0,
       links-found (start .pre) (after-candidate-links .candidate-links .ensures) (after-measure-links .measure-links .ensures .1),
