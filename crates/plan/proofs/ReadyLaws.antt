@@ -20,13 +20,13 @@ use Rattle.candidates.specs.Top.{Answer}
 use Rattle.measures.specs.Tables.{Labels, Regions}
 use Rattle.measures.specs.Judging.{Plain, Ranks, Measured}
 use Rattle.measures.proofs.Reading.{span-bounded, area}
 use Rattle.plan.specs.Arrays.{Ranked}
 use Rattle.plan.specs.Fitting.{Plannable}
 use Rattle.plan.specs.Planning.{PlanOf}
 use Rattle.plan.proofs.FromTables.{told, plannable, ranked, passed, flat-inside}
-use Rattle.planning.specs.Listed.{mapOf, Listed, Ready}
-use Rattle.planning.specs.Planned.{anchorsIn, LinksFrom, PlanFrom}
-use Rattle.planning.proofs.LinkLaws.{regions-are, ranks-are, owners-are}
+use Rattle.plan.specs.Listed.{mapOf, Listed, Ready}
+use Rattle.plan.specs.Planned.{anchorsIn, LinksFrom, PlanFrom}
+use Rattle.plan.proofs.LinkLaws.{regions-are, ranks-are, owners-are}
 
 -- the first bytes, as they are lent
 abbrev pub lent : List ℕ → ℕ → List ℕ

@@ -1,7 +1,7 @@
 use borrow.Author.Needs.{needs}
-use Rattle.planning.proofs.ReadyLaws.{findable, measurable, links-found}
-use Rattle.planning.proofs.measured_links.Statement.{statement}
-use Rattle.planning.proofs.measured_links.Tie as tie
+use Rattle.plan.proofs.ReadyLaws.{findable, measurable, links-found}
+use Rattle.plan.proofs.planning.measured_links.Statement.{statement}
+use Rattle.plan.proofs.planning.measured_links.Tie as tie
 
 -- what the function is given and asked: the places since only say that its slices have lengths
 abbrev start-of : tie.After-shared-slice-known5 → tie.Start
