@@ -64,17 +64,22 @@ module _ (limits : Limits) (own bits regions firsts seconds : List ℕ) (g : Gri
     pub stats-is : (k : ℕ) (d : StatsHeld) → k < links → getD stats k d ≡ statsNow k i
 
   -- the first k links are judged by the first n cells
-  pub record Judged (n k : ℕ) (passing-marks flat-marks : List ℕ) : Type 0 where
+  pub record Judged (n k : ℕ) (passing-marks flat-marks inside-marks : List ℕ) : Type 0 where
     pub long : length passing-marks ≡ 256
     pub flat-long : length flat-marks ≡ 256
+    pub inside-long : length inside-marks ≡ 256
     pub passing-is : (j : ℕ) → j < k → at passing-marks j ≡ cond (passing (measuredIn limits (linkNow j n))) 1 0
     pub flat-is : (j : ℕ) → j < k → at flat-marks j ≡ cond (flatIn (linkNow j n) (statsNow j n)) 1 0
+    pub inside-is : (j : ℕ) → j < k → at inside-marks j ≡ cond (linkNow j n .inside) 1 0
 
-  -- where the arrays are those of a listing, and the labels those of its regions: which links pass, and which are flat
-  pub record Measured (links : ℕ) (passing-marks flat-marks : List ℕ) : Type 0 where
+  -- where the arrays are those of a listing, and the labels those of its regions: which links pass, which are flat, and which stay inside
+  pub record Measured (links : ℕ) (passing-marks flat-marks inside-marks : List ℕ) : Type 0 where
     pub passing-is : (dirs : List ℕ) (l : List Item) (ramps : List ℕ) → Boundaries l own bits ramps → ls ≡ regionLabels dirs g l → (k : ℕ) → k < links
         → at firsts k < length l → at seconds k < length l
         → at passing-marks k ≡ cond (passes limits dirs g l (linkRow regions firsts seconds k)) 1 0
     pub flat-is : (dirs : List ℕ) (l : List Item) (ramps : List ℕ) → Boundaries l own bits ramps → ls ≡ regionLabels dirs g l → (k : ℕ) → k < links
         → at firsts k < length l → at seconds k < length l
         → at flat-marks k ≡ cond (staysInside limits dirs g l (linkRow regions firsts seconds k) && isFlat dirs g l (at regions k)) 1 0
+    pub inside-is : (dirs : List ℕ) (l : List Item) (ramps : List ℕ) → Boundaries l own bits ramps → ls ≡ regionLabels dirs g l → (k : ℕ) → k < links
+        → at firsts k < length l → at seconds k < length l
+        → at inside-marks k ≡ cond (staysInside limits dirs g l (linkRow regions firsts seconds k)) 1 0

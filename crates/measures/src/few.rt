@@ -9,6 +9,7 @@ ghost use Rattle.links.specs.HeldLimits.{limitsOf};
 ghost use Rattle.links.specs.HeldLink.{withCell};
 ghost use Rattle.measures.specs.Judging.{Plain, Ranks, Judged, AllCells};
 use crate::flat_mark;
+use crate::inside_mark;
 use crate::link_at;
 use crate::passing_mark;
 use links::limits::Limits;
@@ -66,15 +67,17 @@ pub fn measure_few(
     limits: Limits,
     passing: &mut [u8; 256],
     flat: &mut [u8; 256],
+    inside: &mut [u8; 256],
 )
     requires { ⌜ Sides width height × (length (now cells) ≡ width * height) × Plain (now own) (now bits) × Ranks (now firsts) (now seconds) links
         × (links ≤ 256) × (length (now cells) * 4 ≤ length (now work)) ⌝ }
     ensures { λ _. ⌜ Judged (limitsOf limits) (now (own .entry)) (now (bits .entry)) (now (regions .entry)) (now (firsts .entry)) (now (seconds .entry))
         (record { width = width; height = height; cells = now (cells .entry) }) (labelsIn (now (work .entry)) (length (now (cells .entry))))
-        (length (now (cells .entry))) links (now (passing .exit)) (now (flat .exit)) ⌝ }
+        (length (now (cells .entry))) links (now (passing .exit)) (now (flat .exit)) (now (inside .exit)) ⌝ }
 {
     *passing = [0u8; 256];
     *flat = [0u8; 256];
+    *inside = [0u8; 256];
     let n = cells.len();
     let mut k: usize = 0;
     while k < links {
@@ -84,6 +87,7 @@ pub fn measure_few(
         let stats = region_stats(cells, width, work, region);
         passing[k] = passing_mark(link, limits);
         flat[k] = flat_mark(link, stats);
+        inside[k] = inside_mark(link);
         k += 1;
     }
 }

@@ -113,6 +113,13 @@ fn flat_mark(link: Link, stats: RegionStats) -> u8
     flag(link.inside & (!stats.has_ramp & (stats.elevation_kinds() == 1)))
 }
 
+// 1 for a region inside the flat envelope.
+fn inside_mark(link: Link) -> u8
+    ensures { λ r. ⌜ r ≡ cond (link .inside) 1 0 ⌝ }
+{
+    flag(link.inside)
+}
+
 // Measures the links by the cells of their regions, whose numbers are in the table.
 fn measure_all(
     cells: &[u8],
@@ -128,15 +135,17 @@ fn measure_all(
     limits: Limits,
     passing: &mut [u8; 256],
     flat: &mut [u8; 256],
+    inside: &mut [u8; 256],
 )
     requires { ⌜ Sides width height × (length (now cells) ≡ width * height) × Plain (now own) (now bits) × Ranks (now firsts) (now seconds) links
         × Numbered (now work) (length (now cells)) (now regions) links ⌝ }
     ensures { λ _. ⌜ Judged (limitsOf limits) (now (own .entry)) (now (bits .entry)) (now (regions .entry)) (now (firsts .entry)) (now (seconds .entry))
         (record { width = width; height = height; cells = now (cells .entry) }) (labelsIn (now (work .entry)) (length (now (cells .entry))))
-        (length (now (cells .entry))) links (now (passing .exit)) (now (flat .exit)) ⌝ }
+        (length (now (cells .entry))) links (now (passing .exit)) (now (flat .exit)) (now (inside .exit)) ⌝ }
 {
     *passing = [0u8; 256];
     *flat = [0u8; 256];
+    *inside = [0u8; 256];
     let n = cells.len();
     let mut table = [link_at(own, bits, 0, 0); 256];
     let mut stats = [RegionStats::none(); 256];
@@ -167,6 +176,7 @@ fn measure_all(
     while m < links {
         passing[m] = passing_mark(table[m], limits);
         flat[m] = flat_mark(table[m], stats[m]);
+        inside[m] = inside_mark(table[m]);
         m += 1;
     }
 }
@@ -174,7 +184,8 @@ fn measure_all(
 // How many cells may be passed over in all where each link is measured by itself; beyond, all are by one pass.
 const FEW: usize = 1024;
 
-// Marks each link that passes, and each one with a flat region inside its envelope, with 1, and every other with 0. The table is left as it was.
+// Marks with 1 each link that passes, each one with a flat region inside its envelope, and each one with a region inside it, and every other with 0. The
+// table is left as it was.
 pub fn measure_links(
     cells: &[u8],
     width: u32,
@@ -189,13 +200,14 @@ pub fn measure_links(
     limits: Limits,
     passing: &mut [u8; 256],
     flat: &mut [u8; 256],
+    inside: &mut [u8; 256],
 )
     requires { ⌜ Sides width height × (length (now cells) ≡ width * height) × Labels (now work) (length (now cells))
         × Regions (now regions) links (length (now cells)) × Ranks (now firsts) (now seconds) links × Plain (now own) (now bits) ⌝ }
     ensures work { λ _. ⌜ now (work .exit) ≡ now (work .entry) ⌝ }
     ensures marks { λ _. ⌜ Measured (limitsOf limits) (now (own .entry)) (now (bits .entry)) (now (regions .entry)) (now (firsts .entry)) (now (seconds .entry))
         (record { width = width; height = height; cells = now (cells .entry) }) (labelsIn (now (work .entry)) (length (now (cells .entry)))) links
-        (now (passing .exit)) (now (flat .exit)) ⌝ }
+        (now (passing .exit)) (now (flat .exit)) (now (inside .exit)) ⌝ }
 {
     if links == 0 {
         return;
@@ -216,6 +228,7 @@ pub fn measure_links(
             limits,
             passing,
             flat,
+            inside,
         );
         return;
     }
@@ -235,6 +248,7 @@ pub fn measure_links(
         limits,
         passing,
         flat,
+        inside,
     );
     clear_all(work, n, regions, count);
 }

@@ -15,3 +15,6 @@ pub mod ChosenLaws
 pub mod EndLaws
 pub mod PlanLaws
 pub mod FromTables
+pub mod LinkLaws
+pub mod ReadyLaws
+pub mod PlainLaws

@@ -5,3 +5,5 @@ pub mod Fitting
 pub mod Told
 pub mod Into
 pub mod Planning
+pub mod Listed
+pub mod Planned

@@ -11,3 +11,4 @@ pub mod select; // which links may make groups
 pub mod judge; // what becomes of the group that a part makes
 pub mod into; // which rank each rank goes into
 pub mod merge; // the merge plan of all ranks
+pub mod planning; // the merge plan from what the partition and the bridges leave

@@ -15,40 +15,42 @@ use Rattle.measures.proofs.measure_all.Statement.{statement}
 use Rattle.measures.proofs.measure_all.Tie as tie
 
 abbrev Inv-loop : tie.InvT-loop
-Inv-loop cells width height work regions firsts seconds links own bits limits passing flat n table₀ stats k₀ table k = (k ≤ links)
+Inv-loop cells width height work regions firsts seconds links own bits limits passing flat inside n table₀ stats k₀ table k = (k ≤ links)
     × Filled own bits firsts seconds k table
 
 abbrev μ-loop : tie.MeasureT-loop
-μ-loop cells width height work regions firsts seconds links own bits limits passing flat n table₀ stats k₀ table k = links - k
+μ-loop cells width height work regions firsts seconds links own bits limits passing flat inside n table₀ stats k₀ table k = links - k
 
 abbrev Inv-loop2 : tie.InvT-loop2
-Inv-loop2 cells width height work regions firsts seconds links own bits limits passing flat n table₀ stats₀ k column₀ row₀ i₀ table stats column row i =
+Inv-loop2 cells width height work regions firsts seconds links own bits limits passing flat inside n table₀ stats₀ k column₀ row₀ i₀ table stats column row i =
     (i ≤ length cells) × (row * width + column ≡ i) × (column < width)
     × Running (limitsOf limits) own bits regions firsts seconds (record { width = width; height = height; cells = cells }) (labelsIn work (length cells)) links
     i table stats
 
 abbrev μ-loop2 : tie.MeasureT-loop2
-μ-loop2 cells width height work regions firsts seconds links own bits limits passing flat n table₀ stats₀ k column₀ row₀ i₀ table stats column row i =
+μ-loop2 cells width height work regions firsts seconds links own bits limits passing flat inside n table₀ stats₀ k column₀ row₀ i₀ table stats column row i =
     length cells - i
 
 abbrev Inv-loop3 : tie.InvT-loop3
-Inv-loop3 cells width height work regions firsts seconds links own bits limits passing₀ flat₀ n table stats k column row i m₀ passing flat m = (m ≤ links)
+Inv-loop3 cells width height work regions firsts seconds links own bits limits passing₀ flat₀ inside₀ n table stats k column row i m₀ passing flat inside
+    m = (m ≤ links)
     × Running (limitsOf limits) own bits regions firsts seconds (record { width = width; height = height; cells = cells }) (labelsIn work (length cells)) links
     (length cells) table stats × Judged (limitsOf limits) own bits regions firsts seconds (record { width = width; height = height; cells = cells })
-    (labelsIn work (length cells)) (length cells) m passing flat
+    (labelsIn work (length cells)) (length cells) m passing flat inside
 
 abbrev μ-loop3 : tie.MeasureT-loop3
-μ-loop3 cells width height work regions firsts seconds links own bits limits passing₀ flat₀ n table stats k column row i m₀ passing flat m = links - m
+μ-loop3 cells width height work regions firsts seconds links own bits limits passing₀ flat₀ inside₀ n table stats k column row i m₀ passing flat inside
+    m = links - m
 
 -- the start, from a turn of each loop
 abbrev asked : tie.At-loop Inv-loop μ-loop Inv-loop2 μ-loop2 Inv-loop3 μ-loop3 → tie.Start Inv-loop μ-loop Inv-loop2 μ-loop2 Inv-loop3 μ-loop3
-asked c = c .before .before .before .before .before .before .before
+asked c = c .before .before .before .before .before .before .before .before
 
 abbrev asked2 : tie.At-loop2 Inv-loop μ-loop Inv-loop2 μ-loop2 Inv-loop3 μ-loop3 → tie.Start Inv-loop μ-loop Inv-loop2 μ-loop2 Inv-loop3 μ-loop3
-asked2 c = c .before .before .before .before .before .before .before .before .before
+asked2 c = c .before .before .before .before .before .before .before .before .before .before
 
 abbrev asked3 : tie.At-loop3 Inv-loop μ-loop Inv-loop2 μ-loop2 Inv-loop3 μ-loop3 → tie.Start Inv-loop μ-loop Inv-loop2 μ-loop2 Inv-loop3 μ-loop3
-asked3 c = c .before .before .before .before .before .before .before .before .before .before .before
+asked3 c = c .before .before .before .before .before .before .before .before .before .before .before .before
 
 -- the link of a turn is one of the arrays
 small : (c : tie.In-loop Inv-loop μ-loop Inv-loop2 μ-loop2 Inv-loop3 μ-loop3) → c .before .loop .k < 256
@@ -163,13 +165,14 @@ loop3-holds c =
 
 loop3-again : tie.Need-loop3-again Inv-loop μ-loop Inv-loop2 μ-loop2 Inv-loop3 μ-loop3
 loop3-again c =
-    let marked = c .before .before .before in
+    let flat = c .before .before in
+    let marked = flat .before .before .before in
     let turn = marked .before .before in
     let inv = turn .before .loop3 .inv in (
       omega (arith, turn .loop3-test .taken),
       inv .1,
-      judge-row _ _ _ (asked3 (turn .before) .pre .4 .few) (turn .loop3-test .taken) (inv .1) (inv .2) (marked .passing-mark .ensures)
-          (c .flat-mark .ensures),
+      judge-row _ _ _ _ (asked3 (turn .before) .pre .4 .few) (turn .loop3-test .taken) (inv .1) (inv .2) (marked .passing-mark .ensures)
+          (flat .flat-mark .ensures) (c .inside-mark .ensures),
     )
 
 returns : tie.Need-returns Inv-loop μ-loop Inv-loop2 μ-loop2 Inv-loop3 μ-loop3
@@ -188,7 +191,7 @@ measure-all-spec =
     μ-loop2
     Inv-loop3
     μ-loop3
-    (λ c κs. (c .before .before .before .before .pre .2, omega arith, omega arith))
+    (λ c κs. (c .before .before .before .before .before .pre .2, omega arith, omega arith))
     (λ c κs. search needs)
     (λ c. (omega arith, fill-start _ _ _ _ _))
     (λ c. omega (arith, small c))
@@ -235,6 +238,10 @@ measure-all-spec =
     (λ c κs. search needs)
     (λ c. omega (arith, small3 (c .before .before .before .before .before)))
     (λ c. omega (arith, small3 (c .before .before .before .before .before)))
-    (λ c. omega (arith, c .before .before .before .before .before .loop3-test .taken))
+    (λ c. omega (arith, small3 (c .before .before .before .before .before)))
+    (λ c κs. search needs)
+    (λ c. omega (arith, small3 (c .before .before .before .before .before .before .before)))
+    (λ c. omega (arith, small3 (c .before .before .before .before .before .before .before)))
+    (λ c. omega (arith, c .before .before .before .before .before .before .before .loop3-test .taken))
     loop3-again
     returns)

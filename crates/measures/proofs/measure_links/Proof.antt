@@ -18,7 +18,7 @@ mul-if2 c =
 
 returns-2 : tie.Need-returns-2
 returns-2 c =
-    let start = c .before .before .before .before .before .before .before .before in
+    let start = c .before .before .before .before .before .before .before .before .before in
     let a = start .args in
     (refl, judged-measured (labels-many (a .work .now) (length (a .cells .now))) (c .measure-few .ensures))
 
@@ -30,14 +30,14 @@ number-all-requires c κs =
 
 measure-all-requires : tie.Need-measure-all-requires
 measure-all-requires c κs =
-    let after-number-all = c .before .before .before .before .before in
+    let after-number-all = c .before .before .before .before .before .before in
     let start = after-number-all .before .before .before .before .before .before in
     let p = start .pre in
     (p .0, p .1, p .5, p .4, written-numbered (p .2) (after-number-all .number-all .ensures) (p .3))
 
 clear-all-requires : tie.Need-clear-all-requires
 clear-all-requires c κs =
-    let after-number-all = c .before .before .before .before .before .before .before in
+    let after-number-all = c .before .before .before .before .before .before .before .before in
     let start = after-number-all .before .before .before .before .before .before in
     let p = start .pre in
     (area (p .0 .wide) (p .0 .high) (p .1), omega (arith, p .2 .room, after-number-all .number-all .ensures .table .as-long), p .3)
@@ -45,7 +45,7 @@ clear-all-requires c κs =
 returns-3 : tie.Need-returns-3
 returns-3 c =
     let after-measure-all = c .before .before .before .before in
-    let after-number-all = after-measure-all .before .before .before .before .before .before in
+    let after-number-all = after-measure-all .before .before .before .before .before .before .before in
     let start = after-number-all .before .before .before .before .before .before in
     let a = start .args in
     let p = start .pre in

@@ -14,17 +14,17 @@ use Rattle.measures.proofs.few.measure_few.Statement.{statement}
 use Rattle.measures.proofs.few.measure_few.Tie as tie
 
 abbrev Inv-loop : tie.InvT-loop
-Inv-loop cells width height work regions firsts seconds links own bits limits passing₀ flat₀ n k₀ passing flat k =
+Inv-loop cells width height work regions firsts seconds links own bits limits passing₀ flat₀ inside₀ n k₀ passing flat inside k =
     (k ≤ links) × Judged (limitsOf limits) own bits regions firsts seconds (record { width = width; height = height; cells = cells })
-    (labelsIn work (length cells)) (length cells) k passing flat
+    (labelsIn work (length cells)) (length cells) k passing flat inside
 
 abbrev μ-loop : tie.MeasureT-loop
-μ-loop cells width height work regions firsts seconds links own bits limits passing₀ flat₀ n k₀ passing flat k =
+μ-loop cells width height work regions firsts seconds links own bits limits passing₀ flat₀ inside₀ n k₀ passing flat inside k =
     links - k
 
 -- the start, from a turn
 abbrev asked : tie.At-loop Inv-loop μ-loop → tie.Start Inv-loop μ-loop
-asked c = c .before .before .before .before .before
+asked c = c .before .before .before .before .before .before
 
 -- the turn's link is one of the arrays
 small : (c : tie.In-loop Inv-loop μ-loop) → c .before .loop .k < 256
@@ -44,7 +44,7 @@ link-at-requires c κs =
 
 loop-again : tie.Need-loop-again Inv-loop μ-loop
 loop-again c =
-    let measured = c .before .before .before in
+    let measured = c .before .before .before .before in
     let begun = measured .before in
     let turning = begun .before .before .before .before in
     let a = asked (turning .before) .args in
@@ -53,7 +53,8 @@ loop-again c =
       judge-one (labels-many (a .work .now) (length (a .cells .now))) (small turning) (l .inv .1)
           (measured .measure-one .ensures (valueIn (a .own .now) (a .bits .now) (at (a .firsts .now) (l .k)) (at (a .seconds .now) (l .k)))
           (begun .link-at .ensures))
-          (c .before .before .region-stats .ensures (a .height)) (c .before .passing-mark .ensures) (c .flat-mark .ensures),
+          (c .before .before .before .region-stats .ensures (a .height)) (c .before .before .passing-mark .ensures) (c .before .flat-mark .ensures)
+          (c .inside-mark .ensures),
     )
 
 returns : tie.Need-returns Inv-loop μ-loop
@@ -82,7 +83,9 @@ measure-few-spec =
     (λ c. omega (arith, small (c .before .before .before .before .before .before .before)))
     (λ c κs. search needs)
     (λ c. omega (arith, small (c .before .before .before .before .before .before .before .before)))
-    (λ c. omega (arith, small (c .before .before .before .before .before .before .before .before)))
-    (λ c. omega (arith, c .before .before .before .before .before .before .before .before .loop-test .taken))
+    (λ c κs. search needs)
+    (λ c. omega (arith, small (c .before .before .before .before .before .before .before .before .before)))
+    (λ c. omega (arith, small (c .before .before .before .before .before .before .before .before .before)))
+    (λ c. omega (arith, c .before .before .before .before .before .before .before .before .before .loop-test .taken))
     loop-again
     returns)

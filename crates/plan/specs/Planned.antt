@@ -11,9 +11,9 @@ use Rattle.topology.specs.Anchors.{anchorsOf}
 use Rattle.topology.specs.Listing.{Item}
 use Rattle.groups.specs.Plan.{mergePlan}
 use Rattle.groups.specs.Tables.{Linked}
 use Rattle.plan.specs.Arrays.{Ranked}
 use Rattle.plan.specs.Told.{Told, Passed, FlatInside}
-use Rattle.planning.specs.Listed.{Listed}
+use Rattle.plan.specs.Listed.{Listed}
 
 -- the anchors of a job's bases
 abbrev pub anchorsIn : List ℕ → ℕ → ℕ → List WalkPosition

@@ -1,7 +1,7 @@
 use borrow.Author.Needs.{needs}
-use Rattle.planning.proofs.ReadyLaws.{fit, planned}
-use Rattle.planning.proofs.plan_merges.Statement.{statement}
-use Rattle.planning.proofs.plan_merges.Tie as tie
+use Rattle.plan.proofs.ReadyLaws.{fit, planned}
+use Rattle.plan.proofs.planning.plan_merges.Statement.{statement}
+use Rattle.plan.proofs.planning.plan_merges.Tie as tie
 
 merge-plan-requires : tie.Need-merge-plan-requires
 merge-plan-requires c κs =

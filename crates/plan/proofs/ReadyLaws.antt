@@ -20,13 +20,13 @@ use Rattle.candidates.specs.Top.{Answer}
 use Rattle.measures.specs.Tables.{Labels, Regions}
 use Rattle.measures.specs.Judging.{Plain, Ranks, Measured}
 use Rattle.measures.proofs.Reading.{span-bounded, area}
 use Rattle.plan.specs.Arrays.{Ranked}
 use Rattle.plan.specs.Fitting.{Plannable}
 use Rattle.plan.specs.Planning.{PlanOf}
 use Rattle.plan.proofs.FromTables.{told, plannable, ranked, passed, flat-inside}
-use Rattle.planning.specs.Listed.{mapOf, Listed, Ready}
-use Rattle.planning.specs.Planned.{anchorsIn, LinksFrom, PlanFrom}
-use Rattle.planning.proofs.LinkLaws.{regions-are, ranks-are, owners-are}
+use Rattle.plan.specs.Listed.{mapOf, Listed, Ready}
+use Rattle.plan.specs.Planned.{anchorsIn, LinksFrom, PlanFrom}
+use Rattle.plan.proofs.LinkLaws.{regions-are, ranks-are, owners-are}
 
 -- the first bytes, as they are lent
 abbrev pub lent : List ℕ → ℕ → List ℕ
@@ -91,8 +91,8 @@ module _ {job : List ℕ} {start bases : ℕ} {cells : List ℕ} {width height n
         × Ranks firsts seconds r × Plain own bits
     measurable = (R .sides, R .whole, R .labels, regions-are own-links (R .listed .labelled) (R .labels), ranks-are few ranked-found, R .plain)
 
-    module _ {limits : Limits} {passing flat : List ℕ}
-        (M : Measured limits own bits regions firsts seconds (mapOf width height cells) (labelsIn work (length cells)) r passing flat) where
+    module _ {limits : Limits} {passing flat inside-marks : List ℕ}
+        (M : Measured limits own bits regions firsts seconds (mapOf width height cells) (labelsIn work (length cells)) r passing flat inside-marks) where
       pub links-found : LinksFrom limits job start bases (mapOf width height cells) n own bits ramps (labelsIn work (length cells)) removed separated owners
           lefts rights records lowers highers regions firsts seconds passing flat r
       links-found = record {

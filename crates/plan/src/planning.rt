@@ -4,12 +4,12 @@ ghost use Prim.Native.Nat.{_≤_};
 ghost use lib.ListN.{length};
 ghost use Rattle.areas.specs.Words.{labelsIn};
 ghost use Rattle.links.specs.HeldLimits.{limitsOf};
-ghost use Rattle.planning.specs.Listed.{mapOf, Ready};
-ghost use Rattle.planning.specs.Planned.{LinksFrom, PlanFrom};
+ghost use Rattle.plan.specs.Listed.{mapOf, Ready};
+ghost use Rattle.plan.specs.Planned.{LinksFrom, PlanFrom};
+use crate::merge::merge_plan;
 use candidates::candidate_links;
 use links::limits::Limits;
 use measures::measure_links;
-use plan::merge::merge_plan;
 
 // The links with their marks, and the first pairs of the ranks. Gives how many links there are; the table is left as it was.
 fn measured_links(
@@ -49,6 +49,7 @@ fn measured_links(
 {
     let m = cells.len();
     let mut counts = [0u32; 256];
+    let mut inside = [0u8; 256];
     let links = candidate_links(
         job,
         bases_at,
@@ -86,6 +87,7 @@ fn measured_links(
         limits,
         passing,
         flat,
+        &mut inside,
     );
     links
 }

@@ -1,7 +1,7 @@
 use borrow.Author.Needs.{needs}
-use Rattle.planning.proofs.ReadyLaws.{findable, measurable, links-found}
-use Rattle.planning.proofs.measured_links.Statement.{statement}
-use Rattle.planning.proofs.measured_links.Tie as tie
+use Rattle.plan.proofs.ReadyLaws.{findable, measurable, links-found}
+use Rattle.plan.proofs.planning.measured_links.Statement.{statement}
+use Rattle.plan.proofs.planning.measured_links.Tie as tie
 
 -- what the function is given and asked: the places since only say that its slices have lengths
 abbrev start-of : tie.After-shared-slice-known5 → tie.Start
@@ -14,14 +14,14 @@ candidate-links-requires c κs =
 
 measure-links-requires : tie.Need-measure-links-requires
 measure-links-requires c κs =
-    let after-candidate-links = c .before .before .before .before .before .before in
+    let after-candidate-links = c .before .before .before .before .before .before .before in
     let start = start-of (after-candidate-links .before .before .before .before .before .before .before .before .before) in
     measurable (start .pre) (after-candidate-links .candidate-links .ensures)
 
 returns : tie.Need-returns
 returns c =
     let after-measure-links = c .before .before in
-    let after-candidate-links = after-measure-links .before .before .before .before .before .before .before in
+    let after-candidate-links = after-measure-links .before .before .before .before .before .before .before .before in
     let start = start-of (after-candidate-links .before .before .before .before .before .before .before .before .before) in (
       after-measure-links .measure-links .ensures .0,
       links-found (start .pre) (after-candidate-links .candidate-links .ensures) (after-measure-links .measure-links .ensures .1),

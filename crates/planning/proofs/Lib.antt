@@ -1,3 +1,0 @@
-pub mod LinkLaws
-pub mod ReadyLaws
-pub mod PlainLaws
