@@ -16,3 +16,4 @@ pub mod Keys
 pub mod Cases
 pub mod Merge
 pub mod Packed
+pub mod SortedFirst
