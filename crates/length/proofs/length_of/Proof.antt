@@ -1,6 +1,6 @@
 -- The loop's invariant is `Going`, of proofs/Loop.antt, with a root below 2 ^ 27; its measure is what the root is below 2 ^ 54.
 use mathlib.Core.Path.{refl, sym, ap, _∙_}
-use Prim.Native.Nat.{_-_, _*_, _^_, _<_}
+use Prim.Native.Nat.{_-_, _^_, _<_}
 use native.Mathlib.Omega.{arith}
 use borrow.Author.Tests.{eq-eqb, ne-eqb}
 use lib.Dec.{eqb}

@@ -15,31 +15,10 @@ abbrev μ-loop : tie.MeasureT-loop
 loop-holds : tie.Need-loop-holds Inv-loop μ-loop
 loop-holds c = (omega arith, keys-start _ _ _)
 
-mul-read-source : tie.Need-mul-read-source Inv-loop μ-loop
-mul-read-source c = search needs
-
-add-read-source : tie.Need-add-read-source Inv-loop μ-loop
-add-read-source c = search needs
-
-read-source-requires : tie.Need-read-source-requires Inv-loop μ-loop
-read-source-requires c κs = search needs
-
-packed-requires : tie.Need-packed-requires Inv-loop μ-loop
-packed-requires c κs = search needs
-
-mul-keys : tie.Need-mul-keys Inv-loop μ-loop
-mul-keys c = search needs
-
 slice-write-keys : tie.Need-slice-write-keys Inv-loop μ-loop
 slice-write-keys c =
     let in-loop = c .before .before .before in
     omega (arith, in-loop .loop .inv .1 .long)
-
-add-i : tie.Need-add-i Inv-loop μ-loop
-add-i c = search needs
-
-loop-less : tie.Need-loop-less Inv-loop μ-loop
-loop-less c = search needs
 
 loop-again : tie.Need-loop-again Inv-loop μ-loop
 loop-again c =
@@ -65,14 +44,14 @@ read-keys-spec =
     Inv-loop
     μ-loop
     loop-holds
-    mul-read-source
-    add-read-source
-    read-source-requires
-    packed-requires
-    mul-keys
+    (λ c. search needs)
+    (λ c. search needs)
+    (λ c κs. search needs)
+    (λ c κs. search needs)
+    (λ c. search needs)
     slice-write-keys
-    add-i
-    loop-less
+    (λ c. search needs)
+    (λ c. search needs)
     loop-again
     same-length
     returns)

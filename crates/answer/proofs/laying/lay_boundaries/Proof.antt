@@ -52,14 +52,8 @@ add-read-boundary c = omega (arith, start-of c .pre .0 .boundaries-in)
 read-boundary-requires : tie.Need-read-boundary-requires Inv-loop μ-loop
 read-boundary-requires c κs = omega (arith, start-of c .pre .0 .boundaries-in)
 
-size-requires : tie.Need-size-requires Inv-loop μ-loop
-size-requires c κs = search needs
-
 cast-firsts : tie.Need-cast-firsts Inv-loop μ-loop
 cast-firsts c = omega (arith, few c .1)
-
-mul-firsts : tie.Need-mul-firsts Inv-loop μ-loop
-mul-firsts c = search needs
 
 slice-write-firsts : tie.Need-slice-write-firsts Inv-loop μ-loop
 slice-write-firsts c = omega (arith, few c .2)
@@ -67,17 +61,11 @@ slice-write-firsts c = omega (arith, few c .2)
 add-starts : tie.Need-add-starts Inv-loop μ-loop
 add-starts c = omega (arith, few c .0)
 
-mul-starts : tie.Need-mul-starts Inv-loop μ-loop
-mul-starts c = search needs
-
 slice-write-starts : tie.Need-slice-write-starts Inv-loop μ-loop
 slice-write-starts c = omega (arith, few c .3)
 
 add-counts : tie.Need-add-counts Inv-loop μ-loop
 add-counts c = omega (arith, few c .0)
-
-mul-counts : tie.Need-mul-counts Inv-loop μ-loop
-mul-counts c = search needs
 
 slice-write-counts : tie.Need-slice-write-counts Inv-loop μ-loop
 slice-write-counts c = omega (arith, few c .4)
@@ -105,12 +93,6 @@ add-p c =
       few after-size .1,
       after-size .size .ensures .0 ∙ ap (λ (r : BoundaryRecord). r .observations) (after-size .before .read-boundary .ensures),
     )
-
-add-b : tie.Need-add-b Inv-loop μ-loop
-add-b c = search needs
-
-loop-less : tie.Need-loop-less Inv-loop μ-loop
-loop-less c = search needs
 
 loop-again : tie.Need-loop-again Inv-loop μ-loop
 loop-again c =
@@ -148,21 +130,21 @@ lay-boundaries-spec =
     mul-read-boundary
     add-read-boundary
     read-boundary-requires
-    size-requires
+    (λ c κs. search needs)
     cast-firsts
-    mul-firsts
+    (λ c. search needs)
     slice-write-firsts
     add-starts
-    mul-starts
+    (λ c. search needs)
     slice-write-starts
     add-counts
-    mul-counts
+    (λ c. search needs)
     slice-write-counts
     add-lay-observations
     lay-observations-requires
     add-p
-    add-b
-    loop-less
+    (λ c. search needs)
+    (λ c. search needs)
     loop-again
     same-length
     same-length-2

@@ -38,17 +38,11 @@ read-observation-requires c κs = omega (arith, given c .pre .inside)
 add-starts : tie.Need-add-starts Inv-loop μ-loop
 add-starts c = omega (arith, given (c .before) .pre .inside)
 
-mul-starts : tie.Need-mul-starts Inv-loop μ-loop
-mul-starts c = search needs
-
 slice-write-starts : tie.Need-slice-write-starts Inv-loop μ-loop
 slice-write-starts c = omega (arith, given (c .before) .pre .starts-room, c .before .before .loop .inv .1 .starts-long)
 
 add-counts : tie.Need-add-counts Inv-loop μ-loop
 add-counts c = omega (arith, given (c .before) .pre .inside)
-
-mul-counts : tie.Need-mul-counts Inv-loop μ-loop
-mul-counts c = search needs
 
 slice-write-counts : tie.Need-slice-write-counts Inv-loop μ-loop
 slice-write-counts c = omega (arith, given (c .before) .pre .counts-room, c .before .before .loop .inv .1 .counts-long)
@@ -60,12 +54,6 @@ add-r c =
       lays-small (given (c .before) .pre) (c .before .before .loop .inv .1) (c .before .loop-test .taken),
       ap (λ (o : ObservationRecord). o .sources) (c .read-observation .ensures),
     )
-
-add-i : tie.Need-add-i Inv-loop μ-loop
-add-i c = search needs
-
-loop-less : tie.Need-loop-less Inv-loop μ-loop
-loop-less c = search needs
 
 loop-again : tie.Need-loop-again Inv-loop μ-loop
 loop-again c =
@@ -98,14 +86,14 @@ lay-observations-spec =
     add-read-observation-2
     read-observation-requires
     add-starts
-    mul-starts
+    (λ c. search needs)
     slice-write-starts
     add-counts
-    mul-counts
+    (λ c. search needs)
     slice-write-counts
     add-r
-    add-i
-    loop-less
+    (λ c. search needs)
+    (λ c. search needs)
     loop-again
     same-length
     same-length-2

@@ -31,28 +31,13 @@ sorted c = search
 loop-holds : tie.Need-loop-holds Inv-loop μ-loop
 loop-holds c = (omega arith, squeezed-start _ _ _, refl)
 
-mul-size : tie.Need-mul-size Inv-loop μ-loop
-mul-size c = search needs
-
 shared-slice-read-size : tie.Need-shared-slice-read-size Inv-loop μ-loop
 shared-slice-read-size c = omega (arith, given (c .before) .pre .starts-room)
-
-size-requires : tie.Need-size-requires Inv-loop μ-loop
-size-requires c κs = search needs
-
-mul-size-2 : tie.Need-mul-size-2 Inv-loop μ-loop
-mul-size-2 c = search needs
 
 slice-read-size : tie.Need-slice-read-size Inv-loop μ-loop
 slice-read-size c =
     let turns : tie.In-loop Inv-loop μ-loop = search in
     omega (arith, turns .loop-test .taken, given turns .pre .counts-room, (turns .before .loop .inv .1) .counts-long)
-
-size-requires-2 : tie.Need-size-requires-2 Inv-loop μ-loop
-size-requires-2 c κs = search needs
-
-add-sort-unique : tie.Need-add-sort-unique Inv-loop μ-loop
-add-sort-unique c = search needs
 
 sort-unique-requires : tie.Need-sort-unique-requires Inv-loop μ-loop
 sort-unique-requires c κs =
@@ -77,19 +62,10 @@ sub-counts c = omega (arith, sorted c .sort-unique .ensures .ends)
 cast-counts : tie.Need-cast-counts Inv-loop μ-loop
 cast-counts c = omega (arith, sorted c .sort-unique .ensures .within, sorted c .before .size2 .ensures .1)
 
-mul-counts : tie.Need-mul-counts Inv-loop μ-loop
-mul-counts c = search needs
-
 slice-write-counts : tie.Need-slice-write-counts Inv-loop μ-loop
 slice-write-counts c =
     let turns = turning (started (sorted c .before)) in
     omega (arith, turns .loop-test .taken, given turns .pre .counts-room, (turns .before .loop .inv .1) .counts-long)
-
-add-q : tie.Need-add-q Inv-loop μ-loop
-add-q c = search needs
-
-loop-less : tie.Need-loop-less Inv-loop μ-loop
-loop-less c = search needs
 
 loop-again : tie.Need-loop-again Inv-loop μ-loop
 loop-again c =
@@ -126,20 +102,20 @@ sort-parts-spec =
     Inv-loop
     μ-loop
     loop-holds
-    mul-size
+    (λ c. search needs)
     shared-slice-read-size
-    size-requires
-    mul-size-2
+    (λ c κs. search needs)
+    (λ c. search needs)
     slice-read-size
-    size-requires-2
-    add-sort-unique
+    (λ c κs. search needs)
+    (λ c. search needs)
     sort-unique-requires
     sub-counts
     cast-counts
-    mul-counts
+    (λ c. search needs)
     slice-write-counts
-    add-q
-    loop-less
+    (λ c. search needs)
+    (λ c. search needs)
     loop-again
     same-length
     same-length-2

@@ -26,9 +26,6 @@ read-keys-requires c κs =
     let start : tie.Start = search in
     (start .pre .0 .sources-in, start .pre .1 .keys-room)
 
-lay-boundaries-requires : tie.Need-lay-boundaries-requires
-lay-boundaries-requires c κs = search needs
-
 add-sort-parts : tie.Need-add-sort-parts
 add-sort-parts c = omega (arith, places-few (given (keys-read (laid c)) .pre .0))
 
@@ -53,27 +50,6 @@ same-length c =
     let after-sort-parts = sorted (first-ranked (after-rank-boundaries .before) .before) in
     omega (arith, after-sort-parts .sort-parts .ensures .keys-long, keys-read (laid (after-sort-parts .before)) .read-keys .ensures .long)
 
-same-length-2 : tie.Need-same-length-2
-same-length-2 c = search needs
-
-same-length-3 : tie.Need-same-length-3
-same-length-3 c = search needs
-
-same-length-4 : tie.Need-same-length-4
-same-length-4 c = search needs
-
-same-length-5 : tie.Need-same-length-5
-same-length-5 c = search needs
-
-same-length-6 : tie.Need-same-length-6
-same-length-6 c = search needs
-
-same-length-7 : tie.Need-same-length-7
-same-length-7 c = search needs
-
-same-length-8 : tie.Need-same-length-8
-same-length-8 c = search needs
-
 returns : tie.Need-returns
 returns c =
     let after-rank-boundaries : tie.After-rank-boundaries = search in
@@ -92,17 +68,17 @@ place-all-spec =
     tie.close
     (tie.spec
     read-keys-requires
-    lay-boundaries-requires
+    (λ c κs. search needs)
     add-sort-parts
     sort-parts-requires
     rank-observations-requires
     rank-boundaries-requires
     same-length
-    same-length-2
-    same-length-3
-    same-length-4
-    same-length-5
-    same-length-6
-    same-length-7
-    same-length-8
+    (λ c. search needs)
+    (λ c. search needs)
+    (λ c. search needs)
+    (λ c. search needs)
+    (λ c. search needs)
+    (λ c. search needs)
+    (λ c. search needs)
     returns)

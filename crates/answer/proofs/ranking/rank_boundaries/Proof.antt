@@ -48,12 +48,6 @@ rank-one-requires c κs =
     let turning : tie.In-loop Inv-loop μ-loop = search in
     ranks-room (ranks-after (turning .before .loop .inv .1) (given turning .pre .1)) (omega (arith, turning .loop-test .taken))
 
-add-p : tie.Need-add-p Inv-loop μ-loop
-add-p c = search needs
-
-loop-less : tie.Need-loop-less Inv-loop μ-loop
-loop-less c = search needs
-
 loop-again : tie.Need-loop-again Inv-loop μ-loop
 loop-again c =
     let turning : tie.In-loop Inv-loop μ-loop = search in
@@ -91,8 +85,8 @@ rank-boundaries-spec =
     read-boundary-requires
     add-rank-one
     rank-one-requires
-    add-p
-    loop-less
+    (λ c. search needs)
+    (λ c. search needs)
     loop-again
     same-length
     same-length-2

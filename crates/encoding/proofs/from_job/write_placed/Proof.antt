@@ -7,27 +7,6 @@ use Rattle.encoding.proofs.from_job.write_placed.Tie as tie
 abbrev start-of : tie.After-gather-kept → tie.Start
 start-of c = search
 
-slice-aggregate-gather-kept : tie.Need-slice-aggregate-gather-kept
-slice-aggregate-gather-kept c = search needs
-
-slice-aggregate-gather-kept-2 : tie.Need-slice-aggregate-gather-kept-2
-slice-aggregate-gather-kept-2 c = search needs
-
-slice-aggregate-gather-kept-3 : tie.Need-slice-aggregate-gather-kept-3
-slice-aggregate-gather-kept-3 c = search needs
-
-gather-kept-requires : tie.Need-gather-kept-requires
-gather-kept-requires c κs = search needs
-
-slice-aggregate-write-kept : tie.Need-slice-aggregate-write-kept
-slice-aggregate-write-kept c = search needs
-
-slice-aggregate-write-kept-2 : tie.Need-slice-aggregate-write-kept-2
-slice-aggregate-write-kept-2 c = search needs
-
-slice-aggregate-write-kept-3 : tie.Need-slice-aggregate-write-kept-3
-slice-aggregate-write-kept-3 c = search needs
-
 write-kept-requires : tie.Need-write-kept-requires
 write-kept-requires c κs =
     let after-gather-kept : tie.After-gather-kept = search in
@@ -42,21 +21,6 @@ write-kept-requires c κs =
       keys-few = start .pre .keys-few;
     }
 
-same-length : tie.Need-same-length
-same-length c = search needs
-
-same-length-2 : tie.Need-same-length-2
-same-length-2 c = search needs
-
-same-length-3 : tie.Need-same-length-3
-same-length-3 c = search needs
-
-same-length-4 : tie.Need-same-length-4
-same-length-4 c = search needs
-
-same-length-5 : tie.Need-same-length-5
-same-length-5 c = search needs
-
 returns : tie.Need-returns
 returns c =
     let after-gather-kept : tie.After-gather-kept = search in
@@ -69,17 +33,17 @@ pub write-placed-spec : {M : Type 1} → statement M
 write-placed-spec =
     tie.close
     (tie.spec
-    slice-aggregate-gather-kept
-    slice-aggregate-gather-kept-2
-    slice-aggregate-gather-kept-3
-    gather-kept-requires
-    slice-aggregate-write-kept
-    slice-aggregate-write-kept-2
-    slice-aggregate-write-kept-3
+    (λ c. search needs)
+    (λ c. search needs)
+    (λ c. search needs)
+    (λ c κs. search needs)
+    (λ c. search needs)
+    (λ c. search needs)
+    (λ c. search needs)
     write-kept-requires
-    same-length
-    same-length-2
-    same-length-3
-    same-length-4
-    same-length-5
+    (λ c. search needs)
+    (λ c. search needs)
+    (λ c. search needs)
+    (λ c. search needs)
+    (λ c. search needs)
     returns)

@@ -4,61 +4,25 @@ use borrow.Author.Needs.{needs}
 use Rattle.encoding.proofs.from_job.write_small.Statement.{statement}
 use Rattle.encoding.proofs.from_job.write_small.Tie as tie
 
-slice-aggregate-write-with : tie.Need-slice-aggregate-write-with
-slice-aggregate-write-with c = search needs
-
-slice-aggregate-write-with-2 : tie.Need-slice-aggregate-write-with-2
-slice-aggregate-write-with-2 c = search needs
-
-slice-aggregate-write-with-3 : tie.Need-slice-aggregate-write-with-3
-slice-aggregate-write-with-3 c = search needs
-
-slice-aggregate-write-with-4 : tie.Need-slice-aggregate-write-with-4
-slice-aggregate-write-with-4 c = search needs
-
-slice-aggregate-write-with-5 : tie.Need-slice-aggregate-write-with-5
-slice-aggregate-write-with-5 c = search needs
-
-slice-aggregate-write-with-6 : tie.Need-slice-aggregate-write-with-6
-slice-aggregate-write-with-6 c = search needs
-
-slice-aggregate-write-with-7 : tie.Need-slice-aggregate-write-with-7
-slice-aggregate-write-with-7 c = search needs
-
-slice-aggregate-write-with-8 : tie.Need-slice-aggregate-write-with-8
-slice-aggregate-write-with-8 c = search needs
-
-slice-aggregate-write-with-9 : tie.Need-slice-aggregate-write-with-9
-slice-aggregate-write-with-9 c = search needs
-
-slice-aggregate-write-with-10 : tie.Need-slice-aggregate-write-with-10
-slice-aggregate-write-with-10 c = search needs
-
 write-with-requires : tie.Need-write-with-requires
 write-with-requires c κs =
     let start : tie.Start = search in
     (start .pre .0, work-room 64 64 (omega arith) (omega arith) (omega arith))
 
-same-length : tie.Need-same-length
-same-length c = search needs
-
-returns : tie.Need-returns
-returns c = search needs
-
 pub write-small-spec : {M : Type 1} → statement M
 write-small-spec =
     tie.close
     (tie.spec
-    slice-aggregate-write-with
-    slice-aggregate-write-with-2
-    slice-aggregate-write-with-3
-    slice-aggregate-write-with-4
-    slice-aggregate-write-with-5
-    slice-aggregate-write-with-6
-    slice-aggregate-write-with-7
-    slice-aggregate-write-with-8
-    slice-aggregate-write-with-9
-    slice-aggregate-write-with-10
+    (λ c. search needs)
+    (λ c. search needs)
+    (λ c. search needs)
+    (λ c. search needs)
+    (λ c. search needs)
+    (λ c. search needs)
+    (λ c. search needs)
+    (λ c. search needs)
+    (λ c. search needs)
+    (λ c. search needs)
     write-with-requires
-    same-length
-    returns)
+    (λ c. search needs)
+    (λ c. search needs))

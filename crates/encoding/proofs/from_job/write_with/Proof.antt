@@ -38,36 +38,12 @@ ordered : (c : tie.After-size6) → Ordered (given c .args .order .now) (c .befo
 ordered c =
     subst (λ (k : ℕ). Ordered (given c .args .order .now) k) (sym (c .before .before .before .before .size2 .ensures .0)) (given c .pre .0 .ordered)
 
-size-requires : tie.Need-size-requires
-size-requires c κs = search needs
-
-size-requires-2 : tie.Need-size-requires-2
-size-requires-2 c κs = search needs
-
-size-requires-3 : tie.Need-size-requires-3
-size-requires-3 c κs = search needs
-
-size-requires-4 : tie.Need-size-requires-4
-size-requires-4 c κs = search needs
-
-size-requires-5 : tie.Need-size-requires-5
-size-requires-5 c κs = search needs
-
-size-requires-6 : tie.Need-size-requires-6
-size-requires-6 c κs = search needs
-
-slice-aggregate-place-all : tie.Need-slice-aggregate-place-all
-slice-aggregate-place-all c = search needs
-
 place-all-requires : tie.Need-place-all-requires
 place-all-requires c κs =
     let sized : tie.After-size6 = search in
     let three = sized .before .before .before in
     let j = job-places _ _ (words sized) in
     (j, place-room j (work-same (three .before .size2 .ensures .0) (three .size3 .ensures .0) (sized .size6 .ensures .0) (given sized .pre .1)))
-
-slice-aggregate-write-placed : tie.Need-slice-aggregate-write-placed
-slice-aggregate-write-placed c = search needs
 
 write-placed-requires : tie.Need-write-placed-requires
 write-placed-requires c κs =
@@ -93,36 +69,6 @@ write-placed-requires c κs =
 same-length : tie.Need-same-length
 same-length c = omega (arith, lent (answered c .before) .before .before .before .before .before .before .before .keys .given)
 
-same-length-2 : tie.Need-same-length-2
-same-length-2 c = search needs
-
-same-length-3 : tie.Need-same-length-3
-same-length-3 c = search needs
-
-same-length-4 : tie.Need-same-length-4
-same-length-4 c = search needs
-
-same-length-5 : tie.Need-same-length-5
-same-length-5 c = search needs
-
-same-length-6 : tie.Need-same-length-6
-same-length-6 c = search needs
-
-same-length-7 : tie.Need-same-length-7
-same-length-7 c = search needs
-
-same-length-8 : tie.Need-same-length-8
-same-length-8 c = search needs
-
-same-length-9 : tie.Need-same-length-9
-same-length-9 c = search needs
-
-same-length-10 : tie.Need-same-length-10
-same-length-10 c = search needs
-
-same-length-11 : tie.Need-same-length-11
-same-length-11 c = search needs
-
 returns : tie.Need-returns
 returns c =
     let after-place-all = placed (lent (answered c .before)) in
@@ -134,25 +80,25 @@ pub write-with-spec : {M : Type 1} → statement M
 write-with-spec =
     tie.close
     (tie.spec
-    size-requires
-    size-requires-2
-    size-requires-3
-    size-requires-4
-    size-requires-5
-    size-requires-6
-    slice-aggregate-place-all
+    (λ c κs. search needs)
+    (λ c κs. search needs)
+    (λ c κs. search needs)
+    (λ c κs. search needs)
+    (λ c κs. search needs)
+    (λ c κs. search needs)
+    (λ c. search needs)
     place-all-requires
-    slice-aggregate-write-placed
+    (λ c. search needs)
     write-placed-requires
     same-length
-    same-length-2
-    same-length-3
-    same-length-4
-    same-length-5
-    same-length-6
-    same-length-7
-    same-length-8
-    same-length-9
-    same-length-10
-    same-length-11
+    (λ c. search needs)
+    (λ c. search needs)
+    (λ c. search needs)
+    (λ c. search needs)
+    (λ c. search needs)
+    (λ c. search needs)
+    (λ c. search needs)
+    (λ c. search needs)
+    (λ c. search needs)
+    (λ c. search needs)
     returns)

@@ -8,39 +8,6 @@ use borrow.Author.Needs.{needs}
 use Rattle.encoding.proofs.records.write_boundary.Statement.{statement}
 use Rattle.encoding.proofs.records.write_boundary.Tie as tie
 
-canonical-requires : tie.Need-canonical-requires
-canonical-requires c κs = search needs
-
-write-span-requires : tie.Need-write-span-requires
-write-span-requires c κs = search needs
-
-add-write-u64 : tie.Need-add-write-u64
-add-write-u64 c = search needs
-
-write-u64-requires : tie.Need-write-u64-requires
-write-u64-requires c κs = search needs
-
-add-write-u32 : tie.Need-add-write-u32
-add-write-u32 c = search needs
-
-write-u32-requires : tie.Need-write-u32-requires
-write-u32-requires c κs = search needs
-
-add-write-u32-2 : tie.Need-add-write-u32-2
-add-write-u32-2 c = search needs
-
-write-u32-requires-2 : tie.Need-write-u32-requires-2
-write-u32-requires-2 c κs = search needs
-
-add-write-ramp : tie.Need-add-write-ramp
-add-write-ramp c = search needs
-
-write-ramp-requires : tie.Need-write-ramp-requires
-write-ramp-requires c κs = search needs
-
-same-length : tie.Need-same-length
-same-length c = search needs
-
 returns : tie.Need-returns
 returns c =
     let after-write-u322 : tie.After-write-u322 = search in
@@ -59,15 +26,15 @@ pub write-boundary-spec : {M : Type 1} → statement M
 write-boundary-spec =
     tie.close
     (tie.spec
-    canonical-requires
-    write-span-requires
-    add-write-u64
-    write-u64-requires
-    add-write-u32
-    write-u32-requires
-    add-write-u32-2
-    write-u32-requires-2
-    add-write-ramp
-    write-ramp-requires
-    same-length
+    (λ c κs. search needs)
+    (λ c κs. search needs)
+    (λ c. search needs)
+    (λ c κs. search needs)
+    (λ c. search needs)
+    (λ c κs. search needs)
+    (λ c. search needs)
+    (λ c κs. search needs)
+    (λ c. search needs)
+    (λ c κs. search needs)
+    (λ c. search needs)
     returns)

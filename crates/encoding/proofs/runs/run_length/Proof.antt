@@ -10,18 +10,6 @@ use Rattle.encoding.proofs.runs.run_length.Tie as tie
 abbrev start-of : tie.After-index → tie.Start
 start-of c = search
 
-index-requires : tie.Need-index-requires
-index-requires c κs = search needs
-
-word-requires : tie.Need-word-requires
-word-requires c κs = search needs
-
-index-requires-2 : tie.Need-index-requires-2
-index-requires-2 c κs = search needs
-
-add-if1 : tie.Need-add-if1
-add-if1 c = search needs
-
 returns : tie.Need-returns
 returns c =
     let after-index : tie.After-index = search in
@@ -29,9 +17,6 @@ returns c =
     c .before .before .word .ensures
     ∙ part-whole (start .args .keys .now) (getD (start .args .starts .now) (start .args .p) 0) (getD (start .args .counts .now) (start .args .p) 0)
     (omega (arith, after-index .index .ensures .0, c .before .index2 .ensures .0))
-
-cast-result : tie.Need-cast-result
-cast-result c = search needs
 
 returns-2 : tie.Need-returns-2
 returns-2 c =
@@ -63,11 +48,11 @@ pub run-length-spec : {M : Type 1} → statement M
 run-length-spec =
     tie.close
     (tie.spec
-    index-requires
-    word-requires
-    index-requires-2
-    add-if1
+    (λ c κs. search needs)
+    (λ c κs. search needs)
+    (λ c κs. search needs)
+    (λ c. search needs)
     returns
-    cast-result
+    (λ c. search needs)
     returns-2
     returns-3)

@@ -15,28 +15,10 @@ abbrev μ-loop : tie.MeasureT-loop
 loop-holds : tie.Need-loop-holds Inv-loop μ-loop
 loop-holds c = (omega arith, writes-start _ _ _)
 
-mul-write-source : tie.Need-mul-write-source Inv-loop μ-loop
-mul-write-source c = search needs
-
-add-write-source : tie.Need-add-write-source Inv-loop μ-loop
-add-write-source c = search needs
-
-add-long : tie.Need-add-long Inv-loop μ-loop
-add-long c = search needs
-
-long-requires : tie.Need-long-requires Inv-loop μ-loop
-long-requires c κs = search needs
-
 write-source-requires : tie.Need-write-source-requires Inv-loop μ-loop
 write-source-requires c κs =
     let in-loop : tie.At-loop Inv-loop μ-loop = search in
     omega (arith, in-loop .loop .inv .1 .long)
-
-add-i : tie.Need-add-i Inv-loop μ-loop
-add-i c = search needs
-
-loop-less : tie.Need-loop-less Inv-loop μ-loop
-loop-less c = search needs
 
 loop-again : tie.Need-loop-again Inv-loop μ-loop
 loop-again c =
@@ -66,13 +48,13 @@ write-run-spec =
     Inv-loop
     μ-loop
     loop-holds
-    mul-write-source
-    add-write-source
-    add-long
-    long-requires
+    (λ c. search needs)
+    (λ c. search needs)
+    (λ c. search needs)
+    (λ c κs. search needs)
     write-source-requires
-    add-i
-    loop-less
+    (λ c. search needs)
+    (λ c. search needs)
     loop-again
     same-length
     returns)

@@ -28,18 +28,6 @@ loop-holds c = running-start _ _ _ _ _ _ _ _
 add-index : tie.Need-add-index Inv-loop μ-loop
 add-index c = omega (arith, c .before .loop .inv .below-count)
 
-index-requires : tie.Need-index-requires Inv-loop μ-loop
-index-requires c κs = search needs
-
-run-length-requires : tie.Need-run-length-requires Inv-loop μ-loop
-run-length-requires c κs = search needs
-
-cast-count : tie.Need-cast-count Inv-loop μ-loop
-cast-count c = search needs
-
-index-requires-2 : tie.Need-index-requires-2 Inv-loop μ-loop
-index-requires-2 c κs = search needs
-
 write-run-requires : tie.Need-write-run-requires Inv-loop μ-loop
 write-run-requires c κs = (room c, omega (arith, c .index2 .ensures .1), omega arith)
 
@@ -48,12 +36,6 @@ mul-to c = omega arith
 
 add-to : tie.Need-add-to Inv-loop μ-loop
 add-to c = omega (arith, room (search))
-
-add-i : tie.Need-add-i Inv-loop μ-loop
-add-i c = search needs
-
-loop-less : tie.Need-loop-less Inv-loop μ-loop
-loop-less c = search needs
 
 loop-again : tie.Need-loop-again Inv-loop μ-loop
 loop-again c =
@@ -78,15 +60,15 @@ write-runs-spec =
     μ-loop
     loop-holds
     add-index
-    index-requires
-    run-length-requires
-    cast-count
-    index-requires-2
+    (λ c κs. search needs)
+    (λ c κs. search needs)
+    (λ c. search needs)
+    (λ c κs. search needs)
     write-run-requires
     mul-to
     add-to
-    add-i
-    loop-less
+    (λ c. search needs)
+    (λ c. search needs)
     loop-again
     same-length
     returns)

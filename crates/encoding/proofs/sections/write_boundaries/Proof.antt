@@ -20,9 +20,6 @@ start-of c = search
 loop-holds : tie.Need-loop-holds Inv-loop μ-loop
 loop-holds c = (omega arith, writes-start _ _ _)
 
-index-requires : tie.Need-index-requires Inv-loop μ-loop
-index-requires c κs = search needs
-
 mul-read-boundary : tie.Need-mul-read-boundary Inv-loop μ-loop
 mul-read-boundary c = omega (arith, c .index .ensures .1)
 
@@ -46,12 +43,6 @@ add-write-boundary c =
     let start : tie.Start Inv-loop μ-loop = search in
     omega (arith, start .pre .room)
 
-word-requires : tie.Need-word-requires Inv-loop μ-loop
-word-requires c κs = search needs
-
-word-requires-2 : tie.Need-word-requires-2 Inv-loop μ-loop
-word-requires-2 c κs = search needs
-
 write-boundary-requires : tie.Need-write-boundary-requires Inv-loop μ-loop
 write-boundary-requires c κs =
     let in-loop : tie.At-loop Inv-loop μ-loop = search in
@@ -62,9 +53,6 @@ add-k : tie.Need-add-k Inv-loop μ-loop
 add-k c =
     let start : tie.Start Inv-loop μ-loop = search in
     omega (arith, start .pre .limit)
-
-loop-less : tie.Need-loop-less Inv-loop μ-loop
-loop-less c = search needs
 
 loop-again : tie.Need-loop-again Inv-loop μ-loop
 loop-again c =
@@ -102,17 +90,17 @@ write-boundaries-spec =
     Inv-loop
     μ-loop
     loop-holds
-    index-requires
+    (λ c κs. search needs)
     mul-read-boundary
     add-read-boundary
     read-boundary-requires
     mul-write-boundary
     add-write-boundary
-    word-requires
-    word-requires-2
+    (λ c κs. search needs)
+    (λ c κs. search needs)
     write-boundary-requires
     add-k
-    loop-less
+    (λ c. search needs)
     loop-again
     same-length
     returns)

@@ -22,25 +22,10 @@ start-of c = c .before .before .before .before .before .before .before .before
 loop-holds : tie.Need-loop-holds Inv-loop μ-loop
 loop-holds c = (omega arith, writes-start _ _ _)
 
-index-requires : tie.Need-index-requires Inv-loop μ-loop
-index-requires c κs = search needs
-
-mul-write-place : tie.Need-mul-write-place Inv-loop μ-loop
-mul-write-place c = search needs
-
-add-write-place : tie.Need-add-write-place Inv-loop μ-loop
-add-write-place c = search needs
-
 write-place-requires : tie.Need-write-place-requires Inv-loop μ-loop
 write-place-requires c κs =
     let in-loop : tie.At-loop Inv-loop μ-loop = search in
     omega (arith, in-loop .loop .inv .1 .long)
-
-add-q : tie.Need-add-q Inv-loop μ-loop
-add-q c = search needs
-
-loop-less : tie.Need-loop-less Inv-loop μ-loop
-loop-less c = search needs
 
 loop-again : tie.Need-loop-again Inv-loop μ-loop
 loop-again c =
@@ -75,12 +60,12 @@ write-observations-spec =
     Inv-loop
     μ-loop
     loop-holds
-    index-requires
-    mul-write-place
-    add-write-place
+    (λ c κs. search needs)
+    (λ c. search needs)
+    (λ c. search needs)
     write-place-requires
-    add-q
-    loop-less
+    (λ c. search needs)
+    (λ c. search needs)
     loop-again
     same-length
     returns)

@@ -9,30 +9,6 @@ use Rattle.encoding.proofs.sections.write_place.Tie as tie
 abbrev start-of : tie.After-shared-slice-known6 → tie.Start
 start-of c = c .before .before .before .before .before .before .before
 
-long-requires : tie.Need-long-requires
-long-requires c κs = search needs
-
-long-requires-2 : tie.Need-long-requires-2
-long-requires-2 c κs = search needs
-
-span-of-requires : tie.Need-span-of-requires
-span-of-requires c κs = search needs
-
-long-requires-3 : tie.Need-long-requires-3
-long-requires-3 c κs = search needs
-
-bits-of-requires : tie.Need-bits-of-requires
-bits-of-requires c κs = search needs
-
-run-length-requires : tie.Need-run-length-requires
-run-length-requires c κs = search needs
-
-write-observation-requires : tie.Need-write-observation-requires
-write-observation-requires c κs = search needs
-
-same-length : tie.Need-same-length
-same-length c = search needs
-
 returns : tie.Need-returns
 returns c =
     let after-run-length : tie.After-run-length = search in
@@ -52,12 +28,12 @@ pub write-place-spec : {M : Type 1} → statement M
 write-place-spec =
     tie.close
     (tie.spec
-    long-requires
-    long-requires-2
-    span-of-requires
-    long-requires-3
-    bits-of-requires
-    run-length-requires
-    write-observation-requires
-    same-length
+    (λ c κs. search needs)
+    (λ c κs. search needs)
+    (λ c κs. search needs)
+    (λ c κs. search needs)
+    (λ c κs. search needs)
+    (λ c κs. search needs)
+    (λ c κs. search needs)
+    (λ c. search needs)
     returns)

@@ -27,12 +27,6 @@ few c =
 loop-holds : tie.Need-loop-holds Inv-loop μ-loop
 loop-holds c = grouping-start _ _ _ _ _ _ _ _ _ _
 
-index-requires : tie.Need-index-requires Inv-loop μ-loop
-index-requires c κs = search needs
-
-index-requires-2 : tie.Need-index-requires-2 Inv-loop μ-loop
-index-requires-2 c κs = search needs
-
 write-run-requires : tie.Need-write-run-requires Inv-loop μ-loop
 write-run-requires c κs = let w = few (search) in (w .2, omega (arith, w .0), omega (arith, w .0))
 
@@ -65,9 +59,6 @@ add-k c =
     let start : tie.Start Inv-loop μ-loop = search in
     omega (arith, start .pre .limit)
 
-loop-less : tie.Need-loop-less Inv-loop μ-loop
-loop-less c = search needs
-
 loop-again : tie.Need-loop-again Inv-loop μ-loop
 loop-again c =
     let start : tie.Start Inv-loop μ-loop = search in
@@ -90,8 +81,8 @@ write-sources-spec =
     Inv-loop
     μ-loop
     loop-holds
-    index-requires
-    index-requires-2
+    (λ c κs. search needs)
+    (λ c κs. search needs)
     write-run-requires
     mul-write-runs
     add-write-runs
@@ -99,7 +90,7 @@ write-sources-spec =
     add-a
     add-q
     add-k
-    loop-less
+    (λ c. search needs)
     loop-again
     same-length
     returns)

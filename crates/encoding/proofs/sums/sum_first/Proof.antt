@@ -15,14 +15,8 @@ abbrev μ-loop : tie.MeasureT-loop
 loop-holds : tie.Need-loop-holds Inv-loop μ-loop
 loop-holds c = added-start _ _
 
-index-requires : tie.Need-index-requires Inv-loop μ-loop
-index-requires c κs = search needs
-
 add-t : tie.Need-add-t Inv-loop μ-loop
 add-t c = omega (arith, c .before .before .loop .inv .small, c .index .ensures .1)
-
-add-i : tie.Need-add-i Inv-loop μ-loop
-add-i c = search needs
 
 loop-less : tie.Need-loop-less Inv-loop μ-loop
 loop-less c = omega arith
@@ -36,4 +30,4 @@ returns c = added-end (c .before .loop .inv) (omega arith)
 pub sum-first-spec : {M : Type 1} → statement M
 sum-first-spec =
     tie.close
-    (tie.spec Inv-loop μ-loop loop-holds index-requires add-t add-i loop-less loop-again returns)
+    (tie.spec Inv-loop μ-loop loop-holds (λ c κs. search needs) add-t (λ c. search needs) loop-less loop-again returns)

@@ -5,9 +5,6 @@ use borrow.Author.Needs.{needs}
 use Rattle.encoding.proofs.units.bits_of.Statement.{statement}
 use Rattle.encoding.proofs.units.bits_of.Tie as tie
 
-sub-result : tie.Need-sub-result
-sub-result c = search needs
-
 returns : tie.Need-returns
 unfolding keyBits
 returns c = simp (lt-ltb _ _ (c .if1 .taken))
@@ -17,4 +14,4 @@ unfolding keyBits
 returns-2 c = simp (le-ltb _ _ (c .if1 .left), lt-ltb (c .before .args .v) 0x1_0000_0000_0000_0000 (omega arith))
 
 pub bits-of-spec : {M : Type 1} → statement M
-bits-of-spec = tie.close (tie.spec sub-result returns returns-2)
+bits-of-spec = tie.close (tie.spec (λ c. search needs) returns returns-2)

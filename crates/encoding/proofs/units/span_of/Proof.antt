@@ -3,18 +3,6 @@ use borrow.Author.Needs.{needs}
 use Rattle.encoding.proofs.units.span_of.Statement.{statement}
 use Rattle.encoding.proofs.units.span_of.Tie as tie
 
-high-requires : tie.Need-high-requires
-high-requires c κs = search needs
-
-low-requires : tie.Need-low-requires
-low-requires c κs = search needs
-
-high-requires-2 : tie.Need-high-requires-2
-high-requires-2 c κs = search needs
-
-low-requires-2 : tie.Need-low-requires-2
-low-requires-2 c κs = search needs
-
 returns : tie.Need-returns
 unfolding keySpan
 returns c =
@@ -23,4 +11,4 @@ returns c =
 
 pub span-of-spec : {M : Type 1} → statement M
 span-of-spec =
-    tie.close (tie.spec high-requires low-requires high-requires-2 low-requires-2 returns)
+    tie.close (tie.spec (λ c κs. search needs) (λ c κs. search needs) (λ c κs. search needs) (λ c κs. search needs) returns)

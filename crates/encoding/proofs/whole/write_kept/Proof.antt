@@ -117,9 +117,6 @@ write-sources-requires c κs = record {
   );
 }
 
-same-length : tie.Need-same-length
-same-length c = search needs
-
 returns-2 : tie.Need-returns-2
 returns-2 c =
     let after-write-observations : tie.After-write-observations = search in
@@ -156,5 +153,5 @@ write-kept-spec =
     write-boundaries-requires
     write-observations-requires
     write-sources-requires
-    same-length
+    (λ c. search needs)
     returns-2)

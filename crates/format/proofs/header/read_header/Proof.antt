@@ -3,15 +3,9 @@ use borrow.Author.Needs.{needs}
 use Rattle.format.proofs.header.read_header.Statement.{statement}
 use Rattle.format.proofs.header.read_header.Tie as tie
 
-read-counts-requires : tie.Need-read-counts-requires
-read-counts-requires c κs = search needs
-
-read-offsets-requires : tie.Need-read-offsets-requires
-read-offsets-requires c κs = search needs
-
 returns : tie.Need-returns
 unfolding headerAt
 returns c = simp (c .read-offsets .ensures, c .before .read-counts .ensures)
 
 pub read-header-spec : {M : Type 1} → statement M
-read-header-spec = tie.close (tie.spec read-counts-requires read-offsets-requires returns)
+read-header-spec = tie.close (tie.spec (λ c κs. search needs) (λ c κs. search needs) returns)

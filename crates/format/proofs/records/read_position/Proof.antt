@@ -3,19 +3,10 @@ use borrow.Author.Needs.{needs}
 use Rattle.format.proofs.records.read_position.Statement.{statement}
 use Rattle.format.proofs.records.read_position.Tie as tie
 
-read-u32-requires : tie.Need-read-u32-requires
-read-u32-requires c κs = search needs
-
-add-read-u32 : tie.Need-add-read-u32
-add-read-u32 c = search needs
-
-read-u32-requires-2 : tie.Need-read-u32-requires-2
-read-u32-requires-2 c κs = search needs
-
 returns : tie.Need-returns
 unfolding positionAt
 returns c = simp (c .read-u322 .ensures, c .before .read-u32 .ensures)
 
 pub read-position-spec : {M : Type 1} → statement M
 read-position-spec =
-    tie.close (tie.spec read-u32-requires add-read-u32 read-u32-requires-2 returns)
+    tie.close (tie.spec (λ c κs. search needs) (λ c. search needs) (λ c κs. search needs) returns)

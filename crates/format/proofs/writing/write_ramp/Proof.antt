@@ -6,29 +6,14 @@ use borrow.Author.Needs.{needs}
 use Rattle.format.proofs.writing.write_ramp.Statement.{statement}
 use Rattle.format.proofs.writing.write_ramp.Tie as tie
 
-slice-write-s : tie.Need-slice-write-s
-slice-write-s c = search needs
-
-add-s : tie.Need-add-s
-add-s c = search needs
-
 slice-write-s-2 : tie.Need-slice-write-s-2
 slice-write-s-2 c = simp length-set (omega arith)
-
-add-s-2 : tie.Need-add-s-2
-add-s-2 c = search needs
 
 slice-write-s-3 : tie.Need-slice-write-s-3
 slice-write-s-3 c = simp length-set (omega arith)
 
-add-s-3 : tie.Need-add-s-3
-add-s-3 c = search needs
-
 slice-write-s-4 : tie.Need-slice-write-s-4
 slice-write-s-4 c = simp length-set (omega arith)
-
-add-write-u32 : tie.Need-add-write-u32
-add-write-u32 c = search needs
 
 write-u32-requires : tie.Need-write-u32-requires
 write-u32-requires c κs = simp length-set (omega arith)
@@ -45,14 +30,14 @@ pub write-ramp-spec : {M : Type 1} → statement M
 write-ramp-spec =
     tie.close
     (tie.spec
-    slice-write-s
-    add-s
+    (λ c. search needs)
+    (λ c. search needs)
     slice-write-s-2
-    add-s-2
+    (λ c. search needs)
     slice-write-s-3
-    add-s-3
+    (λ c. search needs)
     slice-write-s-4
-    add-write-u32
+    (λ c. search needs)
     write-u32-requires
     same-length
     returns)

@@ -4,9 +4,6 @@ use borrow.Author.Needs.{needs}
 use Rattle.gathering.proofs.casts.counted.Statement.{statement}
 use Rattle.gathering.proofs.casts.counted.Tie as tie
 
-size-requires : tie.Need-size-requires
-size-requires c κs = search needs
-
 returns : tie.Need-returns
 returns c = (counted-one (c .before .size .ensures .0) (c .if1 .taken), omega arith)
 
@@ -14,4 +11,4 @@ returns-2 : tie.Need-returns-2
 returns-2 c = (counted-none (c .before .size .ensures .0) (c .if1 .left), omega arith)
 
 pub counted-spec : {M : Type 1} → statement M
-counted-spec = tie.close (tie.spec size-requires returns returns-2)
+counted-spec = tie.close (tie.spec (λ c κs. search needs) returns returns-2)

@@ -11,52 +11,19 @@ use Rattle.gathering.proofs.own.add_own.Tie as tie
 abbrev start-of : tie.After-size → tie.Start
 start-of c = search
 
-mul-size : tie.Need-mul-size
-mul-size c = search needs
-
-element-copy-out-size : tie.Need-element-copy-out-size
-element-copy-out-size c = search needs
-
-size-requires : tie.Need-size-requires
-size-requires c κs = search needs
-
 returns : tie.Need-returns
 returns c = elsewhere _ _ _ (c .before .size .ensures .0) (c .if1 .taken)
-
-mul-size-2 : tie.Need-mul-size-2
-mul-size-2 c = search needs
-
-element-copy-out-size-2 : tie.Need-element-copy-out-size-2
-element-copy-out-size-2 c = search needs
-
-size-requires-2 : tie.Need-size-requires-2
-size-requires-2 c κs = search needs
-
-add-p : tie.Need-add-p
-add-p c = search needs
-
-mul-size-3 : tie.Need-mul-size-3
-mul-size-3 c = search needs
 
 shared-slice-read-size : tie.Need-shared-slice-read-size
 shared-slice-read-size c =
     let start : tie.Start = search in
     omega (arith, start .pre .0 .starts-room, c .before .size2 .ensures .0, start .pre .0 .order-in _ (start .pre .1), start .pre .0 .few)
 
-size-requires-3 : tie.Need-size-requires-3
-size-requires-3 c κs = search needs
-
-mul-size-4 : tie.Need-mul-size-4
-mul-size-4 c = search needs
-
 shared-slice-read-size-2 : tie.Need-shared-slice-read-size-2
 shared-slice-read-size-2 c =
     let after-size2 : tie.After-size2 = search in
     let start = start-of (after-size2 .before .before .before) in
     omega (arith, start .pre .0 .counts-room, after-size2 .size2 .ensures .0, start .pre .0 .order-in _ (start .pre .1), start .pre .0 .few)
-
-size-requires-4 : tie.Need-size-requires-4
-size-requires-4 c κs = search needs
 
 append-keys-requires : tie.Need-append-keys-requires
 append-keys-requires c κs =
@@ -69,9 +36,6 @@ append-keys-requires c κs =
       own-room (start .pre .0) (start .pre .1) (after-size2 .size2 .ensures .0) (after-size3 .size3 .ensures .0) (c .before .size4 .ensures .0)
           (start .args .plan .now) (start .args .to) (length (start .args .owned .now)) (after-size .size .ensures .0) (goes .if1 .left) (start .pre .2),
     )
-
-same-length : tie.Need-same-length
-same-length c = search needs
 
 returns-2 : tie.Need-returns-2
 returns-2 c =
@@ -89,20 +53,20 @@ pub add-own-spec : {M : Type 1} → statement M
 add-own-spec =
     tie.close
     (tie.spec
-    mul-size
-    element-copy-out-size
-    size-requires
+    (λ c. search needs)
+    (λ c. search needs)
+    (λ c κs. search needs)
     returns
-    mul-size-2
-    element-copy-out-size-2
-    size-requires-2
-    add-p
-    mul-size-3
+    (λ c. search needs)
+    (λ c. search needs)
+    (λ c κs. search needs)
+    (λ c. search needs)
+    (λ c. search needs)
     shared-slice-read-size
-    size-requires-3
-    mul-size-4
+    (λ c κs. search needs)
+    (λ c. search needs)
     shared-slice-read-size-2
-    size-requires-4
+    (λ c κs. search needs)
     append-keys-requires
-    same-length
+    (λ c. search needs)
     returns-2)

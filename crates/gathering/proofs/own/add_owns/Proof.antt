@@ -47,12 +47,6 @@ add-own-requires c κs =
       ),
     )
 
-add-j : tie.Need-add-j Inv-loop μ-loop
-add-j c = search needs
-
-loop-less : tie.Need-loop-less Inv-loop μ-loop
-loop-less c = search needs
-
 loop-again : tie.Need-loop-again Inv-loop μ-loop
 loop-again c =
     let after-add-own = c .before .before in
@@ -91,8 +85,8 @@ add-owns-spec =
     μ-loop
     loop-holds
     add-own-requires
-    add-j
-    loop-less
+    (λ c. search needs)
+    (λ c. search needs)
     loop-again
     same-length
     returns)

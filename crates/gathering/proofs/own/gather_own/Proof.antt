@@ -8,9 +8,6 @@ use Rattle.gathering.proofs.own.gather_own.Tie as tie
 abbrev start-of : tie.After-add-owns → tie.Start
 start-of c = search
 
-add-owns-requires : tie.Need-add-owns-requires
-add-owns-requires c κs = search needs
-
 sort-unique-requires : tie.Need-sort-unique-requires
 sort-unique-requires c κs =
     let after-add-owns : tie.After-add-owns = search in
@@ -19,12 +16,6 @@ sort-unique-requires c κs =
       omega (arith, after-add-owns .add-owns .ensures .1, start .pre .1, after-add-owns .add-owns .ensures .0 .long),
       omega (arith, after-add-owns .add-owns .ensures .1, start .pre .2),
     )
-
-same-length : tie.Need-same-length
-same-length c = search needs
-
-same-length-2 : tie.Need-same-length-2
-same-length-2 c = search needs
 
 returns : tie.Need-returns
 returns c =
@@ -39,4 +30,4 @@ returns c =
 
 pub gather-own-spec : {M : Type 1} → statement M
 gather-own-spec =
-    tie.close (tie.spec add-owns-requires sort-unique-requires same-length same-length-2 returns)
+    tie.close (tie.spec (λ c κs. search needs) sort-unique-requires (λ c. search needs) (λ c. search needs) returns)

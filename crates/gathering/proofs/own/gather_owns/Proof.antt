@@ -32,26 +32,11 @@ own-rank-requires c κs =
     let inv = in-loop .loop .inv in
     (owns-room-same (start .pre) (inv .2) (inv .3) (inv .4) (inv .5), turning .loop-test .taken, inv .1)
 
-mul-counted : tie.Need-mul-counted Inv-loop μ-loop
-mul-counted c = search needs
-
-element-copy-out-counted : tie.Need-element-copy-out-counted Inv-loop μ-loop
-element-copy-out-counted c = search needs
-
-counted-requires : tie.Need-counted-requires Inv-loop μ-loop
-counted-requires c κs = search needs
-
 add-k : tie.Need-add-k Inv-loop μ-loop
 add-k c =
     let in-loop : tie.At-loop Inv-loop μ-loop = search in
     let start = start-of in-loop in
     omega (arith, c .counted .ensures .1, in-loop .loop .inv .1 .few, start .pre .own .few)
-
-add-i : tie.Need-add-i Inv-loop μ-loop
-add-i c = search needs
-
-loop-less : tie.Need-loop-less Inv-loop μ-loop
-loop-less c = search needs
 
 loop-again : tie.Need-loop-again Inv-loop μ-loop
 loop-again c =
@@ -91,12 +76,12 @@ gather-owns-spec =
     μ-loop
     loop-holds
     own-rank-requires
-    mul-counted
-    element-copy-out-counted
-    counted-requires
+    (λ c. search needs)
+    (λ c. search needs)
+    (λ c κs. search needs)
     add-k
-    add-i
-    loop-less
+    (λ c. search needs)
+    (λ c. search needs)
     loop-again
     same-length
     same-length-2

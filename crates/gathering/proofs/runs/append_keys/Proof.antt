@@ -17,35 +17,8 @@ abbrev μ-loop : tie.MeasureT-loop
 loop-holds : tie.Need-loop-holds Inv-loop μ-loop
 loop-holds c = (omega arith, keys-start _ _ _ _)
 
-add-owned : tie.Need-add-owned Inv-loop μ-loop
-add-owned c = search needs
-
-mul-owned : tie.Need-mul-owned Inv-loop μ-loop
-mul-owned c = search needs
-
-shared-slice-read-owned : tie.Need-shared-slice-read-owned Inv-loop μ-loop
-shared-slice-read-owned c = search needs
-
-add-owned-2 : tie.Need-add-owned-2 Inv-loop μ-loop
-add-owned-2 c = search needs
-
-mul-owned-2 : tie.Need-mul-owned-2 Inv-loop μ-loop
-mul-owned-2 c = search needs
-
-slice-write-owned : tie.Need-slice-write-owned Inv-loop μ-loop
-slice-write-owned c = search needs
-
-add-k : tie.Need-add-k Inv-loop μ-loop
-add-k c = search needs
-
-loop-less : tie.Need-loop-less Inv-loop μ-loop
-loop-less c = search needs
-
 loop-again : tie.Need-loop-again Inv-loop μ-loop
 loop-again c = (omega arith, keys-next _ _ _ (c .before .before .loop .inv .1) refl (omega arith) (omega arith))
-
-add-result : tie.Need-add-result Inv-loop μ-loop
-add-result c = search needs
 
 same-length : tie.Need-same-length Inv-loop μ-loop
 same-length c = c .before .loop .inv .1 .long
@@ -62,15 +35,15 @@ append-keys-spec =
     Inv-loop
     μ-loop
     loop-holds
-    add-owned
-    mul-owned
-    shared-slice-read-owned
-    add-owned-2
-    mul-owned-2
-    slice-write-owned
-    add-k
-    loop-less
+    (λ c. search needs)
+    (λ c. search needs)
+    (λ c. search needs)
+    (λ c. search needs)
+    (λ c. search needs)
+    (λ c. search needs)
+    (λ c. search needs)
+    (λ c. search needs)
     loop-again
-    add-result
+    (λ c. search needs)
     same-length
     returns)

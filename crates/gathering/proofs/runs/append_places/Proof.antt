@@ -17,32 +17,8 @@ abbrev μ-loop : tie.MeasureT-loop
 loop-holds : tie.Need-loop-holds Inv-loop μ-loop
 loop-holds c = (omega arith, places-start _ _ _)
 
-add-seen : tie.Need-add-seen Inv-loop μ-loop
-add-seen c = search needs
-
-cast-seen : tie.Need-cast-seen Inv-loop μ-loop
-cast-seen c = search needs
-
-add-seen-2 : tie.Need-add-seen-2 Inv-loop μ-loop
-add-seen-2 c = search needs
-
-mul-seen : tie.Need-mul-seen Inv-loop μ-loop
-mul-seen c = search needs
-
-slice-write-seen : tie.Need-slice-write-seen Inv-loop μ-loop
-slice-write-seen c = search needs
-
-add-k : tie.Need-add-k Inv-loop μ-loop
-add-k c = search needs
-
-loop-less : tie.Need-loop-less Inv-loop μ-loop
-loop-less c = search needs
-
 loop-again : tie.Need-loop-again Inv-loop μ-loop
 loop-again c = (omega arith, places-next _ _ (c .before .loop .inv .1) refl (omega arith))
-
-add-result : tie.Need-add-result Inv-loop μ-loop
-add-result c = search needs
 
 same-length : tie.Need-same-length Inv-loop μ-loop
 same-length c = c .before .loop .inv .1 .long
@@ -59,14 +35,14 @@ append-places-spec =
     Inv-loop
     μ-loop
     loop-holds
-    add-seen
-    cast-seen
-    add-seen-2
-    mul-seen
-    slice-write-seen
-    add-k
-    loop-less
+    (λ c. search needs)
+    (λ c. search needs)
+    (λ c. search needs)
+    (λ c. search needs)
+    (λ c. search needs)
+    (λ c. search needs)
+    (λ c. search needs)
     loop-again
-    add-result
+    (λ c. search needs)
     same-length
     returns)

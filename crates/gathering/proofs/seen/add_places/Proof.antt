@@ -3,12 +3,6 @@ use borrow.Author.Needs.{needs}
 use Rattle.gathering.proofs.seen.add_places.Statement.{statement}
 use Rattle.gathering.proofs.seen.add_places.Tie as tie
 
-append-places-requires : tie.Need-append-places-requires
-append-places-requires c κs = search needs
-
-same-length : tie.Need-same-length
-same-length c = search needs
-
 returns : tie.Need-returns
 returns c =
     let if1-taken : tie.Then1 = search in
@@ -17,15 +11,6 @@ returns c =
 
 returns-2 : tie.Need-returns-2
 returns-2 c = λ firsts count e f. places-alone _ _ firsts count e f _ _ (c .before .if1 .left) (c .if2 .taken)
-
-add-append-places : tie.Need-add-append-places
-add-append-places c = search needs
-
-append-places-requires-2 : tie.Need-append-places-requires-2
-append-places-requires-2 c κs = search needs
-
-same-length-2 : tie.Need-same-length-2
-same-length-2 c = search needs
 
 returns-3 : tie.Need-returns-3
 returns-3 c =
@@ -37,11 +22,11 @@ pub add-places-spec : {M : Type 1} → statement M
 add-places-spec =
     tie.close
     (tie.spec
-    append-places-requires
-    same-length
+    (λ c κs. search needs)
+    (λ c. search needs)
     returns
     returns-2
-    add-append-places
-    append-places-requires-2
-    same-length-2
+    (λ c. search needs)
+    (λ c κs. search needs)
+    (λ c. search needs)
     returns-3)

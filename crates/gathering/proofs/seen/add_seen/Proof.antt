@@ -13,51 +13,18 @@ use Rattle.gathering.proofs.seen.add_seen.Tie as tie
 abbrev start-of : tie.After-size → tie.Start
 start-of c = search
 
-mul-size : tie.Need-mul-size
-mul-size c = search needs
-
-element-copy-out-size : tie.Need-element-copy-out-size
-element-copy-out-size c = search needs
-
-size-requires : tie.Need-size-requires
-size-requires c κs = search needs
-
 returns : tie.Need-returns
 returns c = elsewhere _ _ _ (c .before .size .ensures .0) (c .if1 .taken)
-
-mul-size-2 : tie.Need-mul-size-2
-mul-size-2 c = search needs
-
-element-copy-out-size-2 : tie.Need-element-copy-out-size-2
-element-copy-out-size-2 c = search needs
-
-size-requires-2 : tie.Need-size-requires-2
-size-requires-2 c κs = search needs
-
-mul-read-boundary : tie.Need-mul-read-boundary
-mul-read-boundary c = search needs
-
-add-read-boundary : tie.Need-add-read-boundary
-add-read-boundary c = search needs
 
 read-boundary-requires : tie.Need-read-boundary-requires
 read-boundary-requires c κs =
     let start : tie.Start = search in
     omega (arith, start .pre .0 .records-in, place-small (start .pre .0) (start .pre .1) (c .size2 .ensures .0))
 
-mul-size-3 : tie.Need-mul-size-3
-mul-size-3 c = search needs
-
 shared-slice-read-size : tie.Need-shared-slice-read-size
 shared-slice-read-size c =
     let start : tie.Start = search in
     omega (arith, start .pre .0 .firsts-room, start .pre .0 .few, place-small (start .pre .0) (start .pre .1) (c .before .before .size2 .ensures .0))
-
-size-requires-3 : tie.Need-size-requires-3
-size-requires-3 c κs = search needs
-
-size-requires-4 : tie.Need-size-requires-4
-size-requires-4 c κs = search needs
 
 add-places-requires : tie.Need-add-places-requires
 add-places-requires c κs =
@@ -74,9 +41,6 @@ add-places-requires c κs =
           (c .before .size4 .ensures .0 ∙ ap (λ (r : BoundaryRecord). r .observations) (after-read-boundary .read-boundary .ensures))
           (after-size .size .ensures .0) (goes .if1 .left) (start .pre .2),
     )
-
-same-length : tie.Need-same-length
-same-length c = search needs
 
 returns-2 : tie.Need-returns-2
 returns-2 c =
@@ -97,20 +61,20 @@ pub add-seen-spec : {M : Type 1} → statement M
 add-seen-spec =
     tie.close
     (tie.spec
-    mul-size
-    element-copy-out-size
-    size-requires
+    (λ c. search needs)
+    (λ c. search needs)
+    (λ c κs. search needs)
     returns
-    mul-size-2
-    element-copy-out-size-2
-    size-requires-2
-    mul-read-boundary
-    add-read-boundary
+    (λ c. search needs)
+    (λ c. search needs)
+    (λ c κs. search needs)
+    (λ c. search needs)
+    (λ c. search needs)
     read-boundary-requires
-    mul-size-3
+    (λ c. search needs)
     shared-slice-read-size
-    size-requires-3
-    size-requires-4
+    (λ c κs. search needs)
+    (λ c κs. search needs)
     add-places-requires
-    same-length
+    (λ c. search needs)
     returns-2)

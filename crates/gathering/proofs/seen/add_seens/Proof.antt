@@ -48,12 +48,6 @@ add-seen-requires c κs =
       ),
     )
 
-add-j : tie.Need-add-j Inv-loop μ-loop
-add-j c = search needs
-
-loop-less : tie.Need-loop-less Inv-loop μ-loop
-loop-less c = search needs
-
 loop-again : tie.Need-loop-again Inv-loop μ-loop
 loop-again c =
     let after-add-seen = c .before .before in
@@ -95,8 +89,8 @@ add-seens-spec =
     μ-loop
     loop-holds
     add-seen-requires
-    add-j
-    loop-less
+    (λ c. search needs)
+    (λ c. search needs)
     loop-again
     same-length
     returns)

@@ -9,12 +9,6 @@ use Rattle.gathering.proofs.seen.gather_seen.Tie as tie
 abbrev start-of : tie.After-slice-known2 → tie.Start
 start-of c = c .before .before .before .before .before .before .before .before .before .before
 
-count-going-requires : tie.Need-count-going-requires
-count-going-requires c κs = search needs
-
-add-seens-requires : tie.Need-add-seens-requires
-add-seens-requires c κs = search needs
-
 sort-places-requires : tie.Need-sort-places-requires
 sort-places-requires c κs =
     let after-add-seens : tie.After-add-seens = search in
@@ -23,12 +17,6 @@ sort-places-requires c κs =
       omega (arith, after-add-seens .add-seens .ensures .1, start .pre .1, after-add-seens .add-seens .ensures .0 .long),
       omega (arith, after-add-seens .add-seens .ensures .1, start .pre .2),
     )
-
-same-length : tie.Need-same-length
-same-length c = search needs
-
-same-length-2 : tie.Need-same-length-2
-same-length-2 c = search needs
 
 returns : tie.Need-returns
 returns c =
@@ -49,9 +37,9 @@ pub gather-seen-spec : {M : Type 1} → statement M
 gather-seen-spec =
     tie.close
     (tie.spec
-    count-going-requires
-    add-seens-requires
+    (λ c κs. search needs)
+    (λ c κs. search needs)
     sort-places-requires
-    same-length
-    same-length-2
+    (λ c. search needs)
+    (λ c. search needs)
     returns)

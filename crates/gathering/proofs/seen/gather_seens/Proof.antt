@@ -33,15 +33,6 @@ seen-rank-requires c κs =
     let inv = in-loop .loop .inv in
     (seens-room-same (start .pre) (inv .2) (inv .3) (inv .4), turning .loop-test .taken, inv .1)
 
-mul-counted : tie.Need-mul-counted Inv-loop μ-loop
-mul-counted c = search needs
-
-element-copy-out-counted : tie.Need-element-copy-out-counted Inv-loop μ-loop
-element-copy-out-counted c = search needs
-
-counted-requires : tie.Need-counted-requires Inv-loop μ-loop
-counted-requires c κs = search needs
-
 add-k : tie.Need-add-k Inv-loop μ-loop
 add-k c =
     let in-loop : tie.At-loop Inv-loop μ-loop = search in
@@ -53,9 +44,6 @@ add-i c =
     let turning : tie.In-loop Inv-loop μ-loop = search in
     let start = start-of (turning .before) in
     omega (arith, turning .loop-test .taken, start .pre .own .few)
-
-loop-less : tie.Need-loop-less Inv-loop μ-loop
-loop-less c = search needs
 
 loop-again : tie.Need-loop-again Inv-loop μ-loop
 loop-again c =
@@ -91,12 +79,12 @@ gather-seens-spec =
     μ-loop
     loop-holds
     seen-rank-requires
-    mul-counted
-    element-copy-out-counted
-    counted-requires
+    (λ c. search needs)
+    (λ c. search needs)
+    (λ c κs. search needs)
     add-k
     add-i
-    loop-less
+    (λ c. search needs)
     loop-again
     same-length
     same-length-2

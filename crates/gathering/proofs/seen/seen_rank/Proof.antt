@@ -11,15 +11,6 @@ use Rattle.gathering.proofs.seen.seen_rank.Tie as tie
 room : (c : tie.Start) → c .args .k < length (c .args .seens .now)
 room c = omega (arith, c .pre .2 .few, c .pre .1, c .pre .0 .own .few, c .pre .0 .seens-room)
 
-mul-size : tie.Need-mul-size
-mul-size c = search needs
-
-element-copy-out-size : tie.Need-element-copy-out-size
-element-copy-out-size c = search needs
-
-size-requires : tie.Need-size-requires
-size-requires c κs = search needs
-
 returns : tie.Need-returns
 returns c =
     let start : tie.Start = search in
@@ -42,20 +33,8 @@ cast-seens c =
     let gathered : tie.After-gather-seen = search in
     omega (arith, gathered .gather-seen .ensures .1, seens-fit (start .pre .2), start .pre .0 .small)
 
-mul-seens : tie.Need-mul-seens
-mul-seens c = search needs
-
 slice-write-seens : tie.Need-slice-write-seens
 slice-write-seens c = omega (arith, room (search))
-
-same-length : tie.Need-same-length
-same-length c = search needs
-
-same-length-2 : tie.Need-same-length-2
-same-length-2 c = search needs
-
-same-length-3 : tie.Need-same-length-3
-same-length-3 c = search needs
 
 returns-2 : tie.Need-returns-2
 returns-2 c =
@@ -69,16 +48,16 @@ pub seen-rank-spec : {M : Type 1} → statement M
 seen-rank-spec =
     tie.close
     (tie.spec
-    mul-size
-    element-copy-out-size
-    size-requires
+    (λ c. search needs)
+    (λ c. search needs)
+    (λ c κs. search needs)
     returns
     gather-seen-requires
     sub-seens
     cast-seens
-    mul-seens
+    (λ c. search needs)
     slice-write-seens
-    same-length
-    same-length-2
-    same-length-3
+    (λ c. search needs)
+    (λ c. search needs)
+    (λ c. search needs)
     returns-2)

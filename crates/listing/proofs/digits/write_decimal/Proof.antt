@@ -4,9 +4,6 @@ use borrow.Author.Needs.{needs}
 use Rattle.listing.proofs.digits.write_decimal.Statement.{statement}
 use Rattle.listing.proofs.digits.write_decimal.Tie as tie
 
-places-requires : tie.Need-places-requires
-places-requires c κs = search needs
-
 write-digits-requires : tie.Need-write-digits-requires
 write-digits-requires c κs =
     let start : tie.Start = search in
@@ -18,9 +15,6 @@ add-result c =
     let start = after-places .before .before in
     omega (arith, start .pre, length-digits (start .args .v), after-places .places .ensures)
 
-same-length : tie.Need-same-length
-same-length c = search needs
-
 returns : tie.Need-returns
 returns c =
     let after-places : tie.After-places = search in
@@ -29,4 +23,4 @@ returns c =
 
 pub write-decimal-spec : {M : Type 1} → statement M
 write-decimal-spec =
-    tie.close (tie.spec places-requires write-digits-requires add-result same-length returns)
+    tie.close (tie.spec (λ c κs. search needs) write-digits-requires add-result (λ c. search needs) returns)

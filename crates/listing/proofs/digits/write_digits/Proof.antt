@@ -13,9 +13,6 @@ abbrev μ-loop : tie.MeasureT-loop
 loop-holds : tie.Need-loop-holds Inv-loop μ-loop
 loop-holds c = spelt-start (c .before .pre .2)
 
-sub-i : tie.Need-sub-i Inv-loop μ-loop
-sub-i c = search needs
-
 rem-glyph : tie.Need-rem-glyph Inv-loop μ-loop
 rem-glyph c =
     let start : tie.Start Inv-loop μ-loop = search in
@@ -25,9 +22,6 @@ glyph-requires : tie.Need-glyph-requires Inv-loop μ-loop
 glyph-requires c κs =
     let start : tie.Start Inv-loop μ-loop = search in
     remainder-small _ (start .pre .0) (start .pre .1)
-
-add-out : tie.Need-add-out Inv-loop μ-loop
-add-out c = search needs
 
 slice-write-out : tie.Need-slice-write-out Inv-loop μ-loop
 slice-write-out c =
@@ -59,10 +53,10 @@ write-digits-spec =
     Inv-loop
     μ-loop
     loop-holds
-    sub-i
+    (λ c. search needs)
     rem-glyph
     glyph-requires
-    add-out
+    (λ c. search needs)
     slice-write-out
     div-rest
     loop-less

@@ -9,16 +9,10 @@ write-digits-requires c κs =
     let start = c .before .before in
     (omega arith, omega arith, omega (arith, start .pre, length-hexDigits (start .args .v)))
 
-add-result : tie.Need-add-result
-add-result c = search needs
-
-same-length : tie.Need-same-length
-same-length c = search needs
-
 returns : tie.Need-returns
 returns c =
     let start : tie.Start = search in
     hex-writes (start .args .v) (c .before .before .write-digits .ensures)
 
 pub write-hex-spec : {M : Type 1} → statement M
-write-hex-spec = tie.close (tie.spec write-digits-requires add-result same-length returns)
+write-hex-spec = tie.close (tie.spec write-digits-requires (λ c. search needs) (λ c. search needs) returns)

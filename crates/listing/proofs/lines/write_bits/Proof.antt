@@ -19,9 +19,6 @@ write-hex-requires c κs =
     let start = start-of past-byte in
     room (next (bits-start (start .args .out .now) (start .args .at) (start .args .v) (start .pre)) (past-byte .write-byte .ensures))
 
-same-length : tie.Need-same-length
-same-length c = search needs
-
 returns : tie.Need-returns
 returns c =
     let past-byte : tie.After-write-byte = search in
@@ -30,4 +27,4 @@ returns c =
     (c .before .before .write-hex .ensures))
 
 pub write-bits-spec : {M : Type 1} → statement M
-write-bits-spec = tie.close (tie.spec write-byte-requires write-hex-requires same-length returns)
+write-bits-spec = tie.close (tie.spec write-byte-requires write-hex-requires (λ c. search needs) returns)

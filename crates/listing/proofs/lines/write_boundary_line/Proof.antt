@@ -98,9 +98,6 @@ write-byte-requires-2 c κs =
     (start .pre)) (past-byte .write-byte .ensures)) (past-ends .write-ends .ensures)) (past-bits .write-bits .ensures))
     (past-count .write-count .ensures)) (past-count2 .write-count2 .ensures)) (past-ramp .write-ramp .ensures))
 
-same-length : tie.Need-same-length
-same-length c = search needs
-
 returns : tie.Need-returns
 returns c =
     let past-ramp : tie.After-write-ramp = search in
@@ -128,5 +125,5 @@ write-boundary-line-spec =
     write-count-requires-2
     write-ramp-requires
     write-byte-requires-2
-    same-length
+    (λ c. search needs)
     returns)

@@ -42,9 +42,6 @@ write-word-requires-4 c κs =
     room (next (next (next (ends-start (start .args .out .now) (start .args .at) (start .args .e) (start .pre)) (past-word .write-word .ensures))
     (past-word2 .write-word2 .ensures)) (past-word3 .write-word3 .ensures))
 
-same-length : tie.Need-same-length
-same-length c = search needs
-
 returns : tie.Need-returns
 returns c =
     let past-word3 : tie.After-write-word3 = search in
@@ -62,5 +59,5 @@ write-ends-spec =
     write-word-requires-2
     write-word-requires-3
     write-word-requires-4
-    same-length
+    (λ c. search needs)
     returns)

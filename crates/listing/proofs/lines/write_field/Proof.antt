@@ -19,9 +19,6 @@ write-decimal-requires c κs =
     let start = start-of past-byte in
     room (next (field-start (start .args .out .now) (start .args .at) (start .args .v) (start .pre)) (past-byte .write-byte .ensures))
 
-same-length : tie.Need-same-length
-same-length c = search needs
-
 returns : tie.Need-returns
 returns c =
     let past-byte : tie.After-write-byte = search in
@@ -31,4 +28,4 @@ returns c =
 
 pub write-field-spec : {M : Type 1} → statement M
 write-field-spec =
-    tie.close (tie.spec write-byte-requires write-decimal-requires same-length returns)
+    tie.close (tie.spec write-byte-requires write-decimal-requires (λ c. search needs) returns)

@@ -58,9 +58,6 @@ write-byte-requires-2 c κs =
     (past-byte .write-byte .ensures)) (past-ends .write-ends .ensures)) (past-bits .write-bits .ensures))
     (past-count .write-count .ensures))
 
-same-length : tie.Need-same-length
-same-length c = search needs
-
 returns : tie.Need-returns
 returns c =
     let past-count : tie.After-write-count = search in
@@ -82,5 +79,5 @@ write-observation-line-spec =
     write-bits-requires
     write-count-requires
     write-byte-requires-2
-    same-length
+    (λ c. search needs)
     returns)

@@ -42,9 +42,6 @@ write-word-requires c κs =
     room (next (next (next (ramp-start (start .args .out .now) (start .args .at) (start .args .r) (start .pre)) (past-small .write-small .ensures))
     (past-small2 .write-small2 .ensures)) (past-small3 .write-small3 .ensures))
 
-same-length : tie.Need-same-length
-same-length c = search needs
-
 returns : tie.Need-returns
 returns c =
     let past-small3 : tie.After-write-small3 = search in
@@ -62,5 +59,5 @@ write-ramp-spec =
     write-small-requires-2
     write-small-requires-3
     write-word-requires
-    same-length
+    (λ c. search needs)
     returns)

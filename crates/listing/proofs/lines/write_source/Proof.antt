@@ -42,9 +42,6 @@ write-byte-requires-2 c κs =
     room (next (next (next (source-start (start .args .out .now) (start .args .at) (start .args .s) (start .pre)) (past-byte .write-byte .ensures))
     (past-word .write-word .ensures)) (past-word2 .write-word2 .ensures))
 
-same-length : tie.Need-same-length
-same-length c = search needs
-
 returns : tie.Need-returns
 returns c =
     let past-word2 : tie.After-write-word2 = search in
@@ -62,5 +59,5 @@ write-source-spec =
     write-word-requires
     write-word-requires-2
     write-byte-requires-2
-    same-length
+    (λ c. search needs)
     returns)

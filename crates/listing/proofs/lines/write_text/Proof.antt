@@ -16,9 +16,6 @@ abbrev μ-loop : tie.MeasureT-loop
 loop-holds : tie.Need-loop-holds Inv-loop μ-loop
 loop-holds c = (copied-start _ _ _ (c .pre), omega arith, refl)
 
-shared-slice-read-out : tie.Need-shared-slice-read-out Inv-loop μ-loop
-shared-slice-read-out c = search needs
-
 add-out : tie.Need-add-out Inv-loop μ-loop
 add-out c =
     let start : tie.Start Inv-loop μ-loop = search in
@@ -43,9 +40,6 @@ loop-again c =
     let inv = in-loop .loop .inv in
     (copied-next _ _ _ _ _ (omega (arith, inv .2, c .before .loop-test .taken)) (inv .0), omega (arith, c .before .loop-test .taken), inv .2)
 
-add-result : tie.Need-add-result Inv-loop μ-loop
-add-result c = search needs
-
 same-length : tie.Need-same-length Inv-loop μ-loop
 same-length c = as-long (c .before .loop .inv .0)
 
@@ -61,12 +55,12 @@ write-text-spec =
     Inv-loop
     μ-loop
     loop-holds
-    shared-slice-read-out
+    (λ c. search needs)
     add-out
     slice-write-out
     add-i
     loop-less
     loop-again
-    add-result
+    (λ c. search needs)
     same-length
     returns)

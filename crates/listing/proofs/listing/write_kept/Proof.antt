@@ -11,9 +11,6 @@ start-of c = search
 abbrev past-text-of : tie.After-write-word → tie.After-write-text
 past-text-of c = search
 
-slice-aggregate-write-text : tie.Need-slice-aggregate-write-text
-slice-aggregate-write-text c = search needs
-
 write-text-requires : tie.Need-write-text-requires
 write-text-requires c κs =
     let start : tie.Start = search in
@@ -33,9 +30,6 @@ write-byte-requires c κs =
     room (next (next (kept-start (start .args .out .now) (start .args .at) (start .args .n) (start .pre)) (past-text .write-text .ensures))
     (past-word .write-word .ensures))
 
-same-length : tie.Need-same-length
-same-length c = search needs
-
 returns : tie.Need-returns
 returns c =
     let past-word : tie.After-write-word = search in
@@ -48,9 +42,9 @@ pub write-kept-spec : {M : Type 1} → statement M
 write-kept-spec =
     tie.close
     (tie.spec
-    slice-aggregate-write-text
+    (λ c. search needs)
     write-text-requires
     write-word-requires
     write-byte-requires
-    same-length
+    (λ c. search needs)
     returns)

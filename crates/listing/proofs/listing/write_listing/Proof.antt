@@ -13,42 +13,6 @@ answer-known-of c = search
 returns : tie.Need-returns
 returns c = (no-header _ _ (c .if1 .taken), omega arith)
 
-read-u32-requires : tie.Need-read-u32-requires
-read-u32-requires c κs = search needs
-
-size-requires : tie.Need-size-requires
-size-requires c κs = search needs
-
-read-u32-requires-2 : tie.Need-read-u32-requires-2
-read-u32-requires-2 c κs = search needs
-
-size-requires-2 : tie.Need-size-requires-2
-size-requires-2 c κs = search needs
-
-read-u32-requires-3 : tie.Need-read-u32-requires-3
-read-u32-requires-3 c κs = search needs
-
-size-requires-3 : tie.Need-size-requires-3
-size-requires-3 c κs = search needs
-
-mul-observation : tie.Need-mul-observation
-mul-observation c = search needs
-
-add-observation : tie.Need-add-observation
-add-observation c = search needs
-
-mul-source : tie.Need-mul-source
-mul-source c = search needs
-
-add-source : tie.Need-add-source
-add-source c = search needs
-
-mul-total : tie.Need-mul-total
-mul-total c = search needs
-
-add-total : tie.Need-add-total
-add-total c = search needs
-
 returns-2 : tie.Need-returns-2
 returns-2 c =
     let after-size2 : tie.After-size2 = search in
@@ -67,9 +31,6 @@ returns-2 c =
       )),
       omega arith,
     )
-
-mul-if3 : tie.Need-mul-if3
-mul-if3 c = search needs
 
 returns-3 : tie.Need-returns-3
 returns-3 c =
@@ -129,9 +90,6 @@ write-boundaries-requires c κs =
           (after-write-kept .write-kept .ensures)),
     )
 
-same-length : tie.Need-same-length
-same-length c = search needs
-
 returns-4 : tie.Need-returns-4
 returns-4 c =
     let after-write-kept : tie.After-write-kept = search in
@@ -156,22 +114,22 @@ write-listing-spec =
     tie.close
     (tie.spec
     returns
-    read-u32-requires
-    size-requires
-    read-u32-requires-2
-    size-requires-2
-    read-u32-requires-3
-    size-requires-3
-    mul-observation
-    add-observation
-    mul-source
-    add-source
-    mul-total
-    add-total
+    (λ c κs. search needs)
+    (λ c κs. search needs)
+    (λ c κs. search needs)
+    (λ c κs. search needs)
+    (λ c κs. search needs)
+    (λ c κs. search needs)
+    (λ c. search needs)
+    (λ c. search needs)
+    (λ c. search needs)
+    (λ c. search needs)
+    (λ c. search needs)
+    (λ c. search needs)
     returns-2
-    mul-if3
+    (λ c. search needs)
     returns-3
     write-kept-requires
     write-boundaries-requires
-    same-length
+    (λ c. search needs)
     returns-4)

@@ -15,9 +15,6 @@ past-text-of c = search
 abbrev past-word-of : tie.After-write-field → tie.After-write-word
 past-word-of c = search
 
-slice-aggregate-write-text : tie.Need-slice-aggregate-write-text
-slice-aggregate-write-text c = search needs
-
 write-text-requires : tie.Need-write-text-requires
 write-text-requires c κs =
     let start : tie.Start = search in
@@ -55,9 +52,6 @@ write-byte-requires c κs =
     (refused-room (start .args .number) (start .args .detail) out (start .fits .number .fits) (start .fits .detail .fits) (start .pre)))
     (past-text .write-text .ensures)) (past-word .write-word .ensures)) (past-field .write-field .ensures))
 
-same-length : tie.Need-same-length
-same-length c = search needs
-
 returns : tie.Need-returns
 returns c =
     let past-field : tie.After-write-field = search in
@@ -78,10 +72,10 @@ pub write-refused-spec : {M : Type 1} → statement M
 write-refused-spec =
     tie.close
     (tie.spec
-    slice-aggregate-write-text
+    (λ c. search needs)
     write-text-requires
     write-word-requires
     write-field-requires
     write-byte-requires
-    same-length
+    (λ c. search needs)
     returns)

@@ -11,15 +11,6 @@ start-of c = search
 abbrev after-write-boundary-line-of : tie.After-write-sources → tie.After-write-boundary-line
 after-write-boundary-line-of c = search
 
-read-boundary-requires : tie.Need-read-boundary-requires
-read-boundary-requires c κs = search needs
-
-least-requires : tie.Need-least-requires
-least-requires c κs = search needs
-
-least-requires-2 : tie.Need-least-requires-2
-least-requires-2 c κs = search needs
-
 write-boundary-line-requires : tie.Need-write-boundary-line-requires
 write-boundary-line-requires c κs =
     let after-read-boundary : tie.After-read-boundary = search in
@@ -41,15 +32,6 @@ write-sources-requires c κs =
           (after-write-boundary-line .write-boundary-line .ensures)),
     )
 
-mul-t17 : tie.Need-mul-t17
-mul-t17 c = search needs
-
-add-t18 : tie.Need-add-t18
-add-t18 c = search needs
-
-sub-t19 : tie.Need-sub-t19
-sub-t19 c = search needs
-
 write-observations-requires : tie.Need-write-observations-requires
 write-observations-requires c κs =
     let after-write-sources : tie.After-write-sources = search in
@@ -69,9 +51,6 @@ write-observations-requires c κs =
           (after-least2 .least2 .ensures) (start .args .out .now) (start .pre .2)) (after-write-boundary-line .write-boundary-line .ensures))
           (after-write-sources .write-sources .ensures)),
     )
-
-same-length : tie.Need-same-length
-same-length c = search needs
 
 returns : tie.Need-returns
 returns c =
@@ -94,14 +73,14 @@ pub write-boundary-spec : {M : Type 1} → statement M
 write-boundary-spec =
     tie.close
     (tie.spec
-    read-boundary-requires
-    least-requires
-    least-requires-2
+    (λ c κs. search needs)
+    (λ c κs. search needs)
+    (λ c κs. search needs)
     write-boundary-line-requires
     write-sources-requires
-    mul-t17
-    add-t18
-    sub-t19
+    (λ c. search needs)
+    (λ c. search needs)
+    (λ c. search needs)
     write-observations-requires
-    same-length
+    (λ c. search needs)
     returns)

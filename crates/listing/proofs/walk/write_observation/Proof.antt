@@ -8,12 +8,6 @@ use Rattle.listing.proofs.walk.write_observation.Tie as tie
 abbrev start-of : tie.After-read-observation → tie.Start
 start-of c = search
 
-read-observation-requires : tie.Need-read-observation-requires
-read-observation-requires c κs = search needs
-
-least-requires : tie.Need-least-requires
-least-requires c κs = search needs
-
 write-observation-line-requires : tie.Need-write-observation-line-requires
 write-observation-line-requires c κs =
     let start : tie.Start = search in
@@ -33,24 +27,6 @@ write-sources-requires c κs =
           (start .args .out .now) (start .pre .2)) (after-write-observation-line .write-observation-line .ensures)),
     )
 
-add-t15 : tie.Need-add-t15
-add-t15 c = search needs
-
-sub-t16 : tie.Need-sub-t16
-sub-t16 c = search needs
-
-mul-t17 : tie.Need-mul-t17
-mul-t17 c = search needs
-
-add-t18 : tie.Need-add-t18
-add-t18 c = search needs
-
-sub-t19 : tie.Need-sub-t19
-sub-t19 c = search needs
-
-same-length : tie.Need-same-length
-same-length c = search needs
-
 returns : tie.Need-returns
 returns c =
     let after-write-sources : tie.After-write-sources = search in
@@ -69,14 +45,14 @@ pub write-observation-spec : {M : Type 1} → statement M
 write-observation-spec =
     tie.close
     (tie.spec
-    read-observation-requires
-    least-requires
+    (λ c κs. search needs)
+    (λ c κs. search needs)
     write-observation-line-requires
     write-sources-requires
-    add-t15
-    sub-t16
-    mul-t17
-    add-t18
-    sub-t19
-    same-length
+    (λ c. search needs)
+    (λ c. search needs)
+    (λ c. search needs)
+    (λ c. search needs)
+    (λ c. search needs)
+    (λ c. search needs)
     returns)
