@@ -24,11 +24,9 @@ add-sort-parts c =
     omega (arith, places-few (start .pre .0))
 
 sort-parts-requires : tie.Need-sort-parts-requires
-sort-parts-requires c κs =
-    let after-lay-boundaries = c .before .before .before .before .before .before .before .before .before .before in
-    let after-read-keys = after-lay-boundaries .before .before .before .before .before .before in
-    let start = start-of (after-read-keys .before .before) in
-    parts-room (start .pre .0) (start .pre .1) (after-read-keys .read-keys .ensures) (after-lay-boundaries .lay-boundaries .ensures) (omega arith) (omega arith)
+sort-parts-requires c κs = parts-room
+    (start-of
+    (c .before .before .before .before .before .before .before .before .before .before .before .before .before .before .before .before .before .before) .pre .0) (start-of (c .before .before .before .before .before .before .before .before .before .before .before .before .before .before .before .before .before .before) .pre .1) (c .before .before .before .before .before .before .before .before .before .before .before .before .before .before .before .before .read-keys .ensures) (c .before .before .before .before .before .before .before .before .before .before .lay-boundaries .ensures) (omega arith) (omega arith)
 
 rank-observations-requires : tie.Need-rank-observations-requires
 rank-observations-requires c κs =

@@ -45,23 +45,23 @@ same-length-2 : tie.Need-same-length-2
 same-length-2 c = search needs
 
 returns-2 : tie.Need-returns-2
-returns-2 c =
-    let after-insert-pair = c .before .before .before .before in
-    let after-max = after-insert-pair .before in
-    let after-min = after-max .before in
-    let if1-left = after-min .before .before .before in
-    let after-read-u322 = if1-left .before in
-    let after-read-u32 = after-read-u322 .before in (
-      record {
-        from = omega (arith, after-insert-pair .insert-pair .ensures .0);
-        to = omega (arith, after-insert-pair .insert-pair .ensures .0);
-        removed = omega arith;
-        separated = omega arith;
-      },
-      λ n a b. advance-put _ _ _ (labels-apart _ a b (after-read-u32 .read-u32 .ensures) (after-read-u322 .read-u322 .ensures) (if1-left .if1 .left))
-          (label-pair _ a b (after-read-u32 .read-u32 .ensures) (after-read-u322 .read-u322 .ensures) (after-min .min .ensures) (after-max .max .ensures)) refl
-          refl (after-insert-pair .insert-pair .ensures .1 .0) (after-insert-pair .insert-pair .ensures .1 .1),
-    )
+returns-2 c = (
+  record {
+    from = omega (arith, c .before .before .before .before .insert-pair .ensures .0);
+    to = omega (arith, c .before .before .before .before .insert-pair .ensures .0);
+    removed = omega arith;
+    separated = omega arith;
+  },
+  λ n a b.
+      let placed = c .before .before .before .before in
+      let greater = placed .before in
+      let lesser = greater .before in
+      let unlike = lesser .before .before .before in
+      let right = unlike .before .read-u322 .ensures in
+      let left = unlike .before .before .read-u32 .ensures in
+      advance-put _ _ _ (labels-apart _ a b left right (unlike .if1 .left)) (label-pair _ a b left right (lesser .min .ensures) (greater .max .ensures)) refl
+      refl (placed .insert-pair .ensures .1 .0) (placed .insert-pair .ensures .1 .1),
+)
 
 pub count-step-spec : {M : Type 1} → statement M
 count-step-spec =

@@ -199,26 +199,7 @@ write-observations-requires c κs =
     (omega (arith, lent-answer .answer .given, c .before .before .answer2 .given), omega (arith, seen-few (start .pre), after-sum-first .sum-first .ensures))
 
 write-sources-requires : tie.Need-write-sources-requires
-write-sources-requires c κs =
-    let lent-answer2 = c .before .before .before .before .before .before in
-    let lent-answer = lent-answer2 .before .before .before .before in
-    let after-sum-runs = lent-answer .before .before .before .before in
-    let after-sum-first2 = after-sum-runs .before in
-    let after-sum-first = after-sum-first2 .before in
-    let start = start-of (after-sum-first .before) in
-    record {
-      limit = count-few (start .pre);
-      own-limit = own-few (start .pre);
-      seen-limit = seen-few (start .pre);
-      room = omega (
-        arith,
-        lent-answer .answer .given,
-        lent-answer2 .answer2 .given,
-        c .before .before .answer3 .given,
-        sources-long (start .pre) (after-sum-first .sum-first .result) (after-sum-first2 .sum-first2 .result) (after-sum-runs .sum-runs .result)
-            (after-sum-first .sum-first .ensures) (after-sum-first2 .sum-first2 .ensures) (after-sum-runs .sum-runs .ensures .0),
-      );
-    }
+write-sources-requires c κs = record { limit = count-few (c .before .before .before .before .before .before .before .before .before .before .before .before .before .before .before .before .before .before .before .before .before .before .before .before .before .before .before .before .before .before .pre); own-limit = own-few (c .before .before .before .before .before .before .before .before .before .before .before .before .before .before .before .before .before .before .before .before .before .before .before .before .before .before .before .before .before .before .pre); seen-limit = seen-few (c .before .before .before .before .before .before .before .before .before .before .before .before .before .before .before .before .before .before .before .before .before .before .before .before .before .before .before .before .before .before .pre); room = omega (arith, c .before .before .before .before .before .before .before .before .before .before .answer .given, c .before .before .before .before .before .before .answer2 .given, c .before .before .answer3 .given, sources-long (c .before .before .before .before .before .before .before .before .before .before .before .before .before .before .before .before .before .before .before .before .before .before .before .before .before .before .before .before .before .before .pre) (c .before .before .before .before .before .before .before .before .before .before .before .before .before .before .before .before .sum-first .result) (c .before .before .before .before .before .before .before .before .before .before .before .before .before .before .before .sum-first2 .result) (c .before .before .before .before .before .before .before .before .before .before .before .before .before .before .sum-runs .result) (c .before .before .before .before .before .before .before .before .before .before .before .before .before .before .before .before .sum-first .ensures) (c .before .before .before .before .before .before .before .before .before .before .before .before .before .before .before .sum-first2 .ensures) (c .before .before .before .before .before .before .before .before .before .before .before .before .before .before .sum-runs .ensures .0)) }
 
 same-length : tie.Need-same-length
 same-length c = search needs
