@@ -5,6 +5,7 @@ pub mod Bridging
 pub mod Within
 pub mod Mapped
 pub mod Headed
+pub mod OwnEnds
 pub mod Telling
 pub mod Merges
 pub mod Leaving

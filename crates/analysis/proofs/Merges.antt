@@ -25,9 +25,9 @@ use Rattle.measures.specs.Judging.{Plain}
 use Rattle.ranks.specs.Tables.{Records, SpansOf, WidthsOf, RampsOf}
 use Rattle.results.specs.Rules.{gridOf, listingOf}
 use Rattle.analysis.specs.Plans.{planOf, RankedJob, Told}
-use Rattle.planning.specs.Listed.{mapOf, Listed, Ready}
-use Rattle.planning.specs.Planned.{anchorsIn, PlanFrom}
-use Rattle.planning.proofs.PlainLaws.{plain-arrays}
+use Rattle.plan.specs.Listed.{mapOf, Listed, Ready}
+use Rattle.plan.specs.Planned.{anchorsIn, PlanFrom}
+use Rattle.plan.proofs.PlainLaws.{plain-arrays}
 use Rattle.analysis.proofs.Ranked.{ByRank}
 use Rattle.analysis.proofs.Checked.{boundariesAt, Checked, checked-sides}
 use Rattle.analysis.proofs.RankedTables.{job-records, listed-count, boundaries-ranked}

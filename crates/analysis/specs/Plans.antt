@@ -1,6 +1,6 @@
 -- What Reduce and Reduce by list plan: a job's boundaries by rank, and the rank that each rank goes into.
 use mathlib.Core.Path.{_≡_}
-use mathlib.Core.Bool.{Bool, cond}
+use mathlib.Core.Bool.{Bool, true, cond}
 use mathlib.Core.List.{List, map, List·Memᴰ}
 use mathlib.Core.Option.{none}
 use Prim.Native.Nat.{ℕ, _≤_, _<_}
@@ -11,7 +11,8 @@ use Rattle.wire.specs.Bytes.{AreBytes, splice}
 use Rattle.position.specs.Order.{canonical}
 use Rattle.position.specs.declared.Span.{Span}
 use Rattle.format.specs.Values.{Job}
-use Rattle.format.specs.Header.{headerAt, countsAt}
+use Rattle.format.specs.Sizes.{boundarySize}
+use Rattle.format.specs.Header.{headerAt, countsAt, boundariesStart}
 use Rattle.format.specs.Decode.{decode}
 use Rattle.format.specs.Encode.{encodeAnswer}
 use Rattle.format.specs.declared.header.Header.{Header}
@@ -30,6 +31,7 @@ use Rattle.merging.specs.Follows.{placesOf}
 use Rattle.merging.specs.Kept.{noBoundary}
 use Rattle.merging.specs.Planned.{planned}
 use Rattle.measures.specs.Tables.{Labels}
+use Rattle.ranks.specs.Tables.{Identity, SpansOf}
 use Rattle.checks.specs.Checks.{Check, firstRefusal}
 use Rattle.job.specs.Refusals.{boundaryChecks}
 use Rattle.partition.specs.Partitioned.{labelled}
@@ -56,6 +58,18 @@ pub record Headed (s : List ℕ) (h : Header) : Type 0 where
   pub bytes : AreBytes s
   pub passed : firstRefusal (boundaryChecks distinct s) ≡ none
   pub header : h ≡ headerAt s
+
+-- one past 1 to 12, and ten bytes of work a cell
+pub record OwnJob (s : List ℕ) (h : Header) (work : List ℕ) : Type 0 where
+  pub headed : Headed s h
+  pub apart : headed .distinct ≡ true
+  pub room : workSize (decode s) ≤ length work
+
+-- its boundaries' own ends in their own order, the earlier end first
+pub record OwnEnds (s ends : List ℕ) : Type 0 where
+  pub order : List ℕ
+  pub identity : Identity order
+  pub spans : SpansOf s (boundariesStart (countsAt s 0)) boundarySize order (countsAt s 0 .boundaries) ends
 
 -- with its boundaries by rank
 pub record RankedJob (s : List ℕ) (h : Header) (order : List ℕ) : Type 0 where

@@ -16,7 +16,8 @@ ghost use Rattle.checks.specs.Checks.{firstRefusal};
 ghost use Rattle.job.specs.Refusals.{reduceChecks, byListChecks};
 ghost use Rattle.results.specs.Results.{workSize, ownEnds};
 ghost use Rattle.analysis.specs.Bridging.{fewPairs, Alike};
-ghost use Rattle.analysis.specs.Plans.{planOf, Leads, RankedBy, Headed, RankedJob, Plannable, EndsBy, SomeEnds, Told, SomeTold, DrawnWithin, Drawn};
+ghost use Rattle.analysis.specs.Plans.{planOf, Leads, RankedBy, Headed, OwnEnds, RankedJob, Plannable, EndsBy, SomeEnds, Told, SomeTold, DrawnWithin};
+ghost use Rattle.analysis.specs.Plans.{Drawn};
 use crate::bridged::FEW_PAIRS;
 use crate::bridged::MAX_PAIRS;
 use crate::bridged::analyse;
@@ -28,7 +29,7 @@ use format::Header;
 use format::SPAN_SIZE;
 use links::limits::Limits;
 use places::ranks::sort_ranks;
-use planning::plan_merges;
+use plan::planning::plan_merges;
 use ranks::fill_identity;
 use ranks::fill_keys;
 use ranks::fill_ramps;
@@ -49,6 +50,20 @@ pub fn order_boundaries(job: &[u8], h: Header, order: &mut [u32; 256])
     let mut second = [0u64; 256];
     fill_keys(job, at, n, &mut first, &mut second);
     sort_ranks(order, n, &first, &second);
+}
+
+// The ends of a job's boundaries in their own order, the earlier end first.
+pub fn own_ends(job: &[u8], h: Header, ends: &mut [u32; 1024])
+    requires { ⌜ Headed (now job) h × (length (now ends) ≡ 1024) ⌝ }
+    ensures { λ _. ⌜ OwnEnds (now (job .entry)) (now (ends .exit)) ⌝ }
+{
+    let c = h.counts;
+    let o = h.offsets;
+    let n = size(c.boundaries);
+    let at = size(o.boundaries);
+    let mut order = [0u32; 256];
+    fill_identity(&mut order);
+    fill_spans(job, at, BOUNDARY_SIZE, &order, n, ends);
 }
 
 // The plan where the map is partitioned.

@@ -2,10 +2,15 @@
 mod bridged; // partition, records and bridges
 mod drawing; // the plan of a job past its checks
 mod plans; // with the checks
-mod result;
+mod result; // what a call gives back
 
-pub use bridged::MAX_PAIRS;
 pub use bridged::find_bridges;
+pub use drawing::own_ends;
 pub use plans::plan_reduce;
 pub use plans::plan_reduce_by_list;
+pub use result::ANSWER_TOO_SHORT;
 pub use result::ChokesResult;
+pub use result::MARKS_TOO_SHORT;
+pub use result::WORK_PER_CELL;
+pub use result::WORK_TOO_SHORT;
+pub use result::first_answer;

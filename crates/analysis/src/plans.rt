@@ -6,16 +6,16 @@ ghost use Rattle.links.specs.HeldLimits.{limitsOf};
 ghost use Rattle.job.specs.Refusals.{reduceChecks, byListChecks};
 ghost use Rattle.results.specs.Results.{ownEnds};
 ghost use Rattle.analysis.specs.Plans.{Leads, PlanLeft};
-use crate::bridged::MAX_PAIRS;
 use crate::drawing::order_boundaries;
 use crate::drawing::plan_by_list;
 use crate::drawing::plan_own;
 use crate::result::ChokesResult;
+use crate::result::WORK_PER_CELL;
+use crate::result::first_answer;
 use format::read_header;
 use job::check_reduce;
 use job::check_reduce_by_list;
 use links::limits::Limits;
-use wire::size;
 
 // The merges of a job by its boundaries' own ends: number 0 and the plan by rank, or a refusal. Left free: what `order` and `plan` hold
 // past the last boundary, and all that they hold after a refusal.
@@ -31,35 +31,16 @@ pub fn plan_reduce(
     ensures { λ r. ⌜ PlanLeft (limitsOf limits) (directionsOf directions) (reduceChecks (now (job .entry))) (decode (now (job .entry)))
         (ownEnds (decode (now (job .entry)))) (now (work .entry)) (now (work .exit)) (now (order .exit)) (now (plan .exit)) (r .number) (r .detail) ⌝ }
 {
-    let v = check_reduce(job);
-    if !v.passed() {
-        return ChokesResult {
-            number: v.number(),
-            detail: v.detail(),
-        };
+    let r = first_answer(check_reduce(job), job, WORK_PER_CELL, work.len());
+    if 0 < r.number {
+        return r;
     }
     let h = read_header(job);
-    let c = h.counts;
-    if work.len() < 10 * size(c.width * c.height) {
-        return ChokesResult {
-            number: 21,
-            detail: 0,
-        };
-    }
     *order = [0u32; 256];
     *plan = [0u32; 256];
     order_boundaries(job, h, order);
     let pairs = plan_own(limits, directions, job, h, order, work, plan);
-    if MAX_PAIRS < pairs {
-        return ChokesResult {
-            number: 13,
-            detail: 0,
-        };
-    }
-    ChokesResult {
-        number: 0,
-        detail: 0,
-    }
+    ChokesResult::of_pairs(pairs)
 }
 
 // The merges of a job by the spans of a list. Left free is what `plan_reduce` leaves free.
@@ -76,33 +57,19 @@ pub fn plan_reduce_by_list(
     ensures { λ r. ⌜ PlanLeft (limitsOf limits) (directionsOf directions) (byListChecks (now (job .entry)) (now (list .entry))) (decode (now (job .entry)))
         (decodeList (now (list .entry))) (now (work .entry)) (now (work .exit)) (now (order .exit)) (now (plan .exit)) (r .number) (r .detail) ⌝ }
 {
-    let v = check_reduce_by_list(job, list);
-    if !v.passed() {
-        return ChokesResult {
-            number: v.number(),
-            detail: v.detail(),
-        };
+    let r = first_answer(
+        check_reduce_by_list(job, list),
+        job,
+        WORK_PER_CELL,
+        work.len(),
+    );
+    if 0 < r.number {
+        return r;
     }
     let h = read_header(job);
-    let c = h.counts;
-    if work.len() < 10 * size(c.width * c.height) {
-        return ChokesResult {
-            number: 21,
-            detail: 0,
-        };
-    }
     *order = [0u32; 256];
     *plan = [0u32; 256];
     order_boundaries(job, h, order);
     let pairs = plan_by_list(limits, directions, job, h, list, order, work, plan);
-    if MAX_PAIRS < pairs {
-        return ChokesResult {
-            number: 13,
-            detail: 0,
-        };
-    }
-    ChokesResult {
-        number: 0,
-        detail: 0,
-    }
+    ChokesResult::of_pairs(pairs)
 }

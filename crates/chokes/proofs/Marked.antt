@@ -1,122 +1,85 @@
 -- What Mark leaves at each of its returns.
-use mathlib.Core.Path.{_≡_, refl, sym, _∙_, ap, subst}
-use mathlib.Core.Bool.{Bool, true, false, not, cond}
-use mathlib.Core.List.{List, [], _∷_, _++_}
-use mathlib.Core.Option.{Option, none, some}
-use Prim.Native.Nat.{ℕ, _*_, _≤_, _<_}
+use mathlib.Core.Path.{_≡_, sym, _∙_, ap}
+use mathlib.Core.Bool.{cond}
+use mathlib.Core.List.{List}
+use mathlib.Core.Option.{none}
+use Prim.Native.Nat.{ℕ, _+_, _*_, _-_, _≤_, _<_}
 use native.Mathlib.Omega.{arith}
-use borrow.Author.Tests.{lt-ltb, le-ltb}
-use lib.Dec.{ltb}
-use lib.ListN.{length, getD}
+use lib.ListN.{length, getD, take, drop}
 use Rattle.lists.specs.Rows.{rows}
 use Rattle.lists.proofs.Rows.{rows-at, rows-same}
 use Rattle.wire.specs.Bytes.{splice}
-use Rattle.wire.proofs.Parts.{length-part}
-use Rattle.format.specs.Header.{headerAt, countsAt, cellCount}
-use Rattle.format.specs.Decode.{decode, jobWith}
+use Rattle.format.specs.Decode.{decode}
 use Rattle.format.specs.declared.header.Header.{Header}
-use Rattle.grid.specs.Directions.{eight, directionsOf}
+use Rattle.grid.specs.Directions.{directionsOf}
 use Rattle.grid.proofs.Directions.{directions-eight}
 use Rattle.graph.specs.Records.{Record}
 use Rattle.graph.specs.Bridges.{isBridge, markOf}
 use Rattle.areas.specs.Assessments.{records}
+use Rattle.areas.specs.Spans.{spansIn}
+use Rattle.assessments.specs.Visits.{mapOf}
 use Rattle.walk.specs.Marks.{bridgeMarks}
-use Rattle.checks.specs.Checks.{Refusal, Check, check, firstRefusal}
+use Rattle.checks.specs.Checks.{firstRefusal}
 use Rattle.job.specs.Refusals.{markChecks}
-use Rattle.checks.specs.Verdict.{passes, numberOf, detailOf}
-use Rattle.checks.proofs.Firsts.{skip, stop, clear, append-none, append-some}
-use Rattle.checks.proofs.Limits.{cells-limit, sections}
 use Rattle.results.specs.Rules.{gridOf}
-use Rattle.results.specs.Results.{workSize, ownEnds, marksOf, markWith, afterWork, outcome, workCheck, pairCheck, leftBy}
+use Rattle.results.specs.Results.{workSize, maxPairs, ownEnds, marksOf, markWith, leftBy}
+use Rattle.results.specs.Returns.{PairAnswer, many, few}
 use Rattle.results.specs.Calls.{markResult}
+use Rattle.results.proofs.Own.{boundary-count}
+use Rattle.results.proofs.Results.{mark-many, mark-short, mark-success}
+use Rattle.analysis.specs.Bridging.{MarkedWithin}
+use Rattle.analysis.specs.Plans.{Headed, OwnJob, OwnEnds}
+use Rattle.analysis.proofs.Headed.{headed-laid, count-is}
+use Rattle.analysis.proofs.OwnEnds.{own-labels, own-records}
 use Rattle.analysis.proofs.Within.{parted-many, parted-few}
 use Rattle.chokes.specs.Marking.{Analysed, copied}
-use Rattle.results.proofs.Own.{boundary-count, mark-laid}
-use Rattle.results.proofs.Results.{mark-success}
 
-module _ (s : List ℕ) (e : firstRefusal (markChecks s) ≡ none) where
-  cells-number : length (decode s .cells) ≡ cellCount (headerAt s .counts)
-  unfolding decode jobWith headerAt
-  cells-number = length-part s 48 (cellCount (countsAt s 0)) (sections s (headerAt s) (mark-laid s e .1) .cells-in)
+-- a partition by the spans in the array is one by the boundaries' own ends
+pub own-analysed : {s : List ℕ} {h : Header} {work : List ℕ} (m : OwnJob s h work) {n count : ℕ} (e : n ≡ h .counts .width * h .counts .height)
+    (k : count ≡ h .counts .boundaries) {ends : List ℕ} (o : OwnEnds s ends) (dirs : List ℕ) {after marks : List ℕ} {pairs : ℕ}
+    → MarkedWithin maxPairs dirs (mapOf (h .counts .width) (h .counts .height) (take (48 + n - 48) (drop 48 s))) (spansIn ends count) marks work after pairs
+    → Analysed dirs (decode s) (ownEnds (decode s)) work after marks pairs
+own-analysed m e k o dirs r = rw (← own-records m e k o dirs, ← own-labels m e k o dirs) r
 
-  pub work-size : (h : Header) → h ≡ headerAt s → workSize (decode s) ≡ 10 * (h .counts .width * h .counts .height)
-  work-size h k = rw k (ap (λ n. 10 * n) cells-number)
+-- the boundaries
+module _ {s : List ℕ} {h : Header} (d : Headed s h) {n : ℕ} (e : n ≡ h .counts .boundaries) where
+  pub mark-few : n ≤ 256
+  mark-few = omega (arith, headed-laid d .within .boundaries)
 
-  pub mark-cells : (h : Header) → h ≡ headerAt s → h .counts .width * h .counts .height ≤ 1_048_576
-  mark-cells h k = rw k (cells-limit (headerAt s .counts) (mark-laid s e .1 .within))
+  pub mark-count : n ≡ length (decode s .boundaries)
+  mark-count = e ∙ (count-is d ∙ sym (boundary-count s))
 
-  pub mark-count : (h : Header) → h ≡ headerAt s → h .counts .boundaries ≤ 256
-  mark-count h k = rw k (mark-laid s e .1 .within .boundaries)
+module _ (dirs s work marks : List ℕ) where
+  module _ (e : firstRefusal (markChecks s) ≡ none) (w : workSize (decode s) ≤ length work) {after bridges : List ℕ} {pairs : ℕ}
+      (y : Analysed dirs (decode s) (ownEnds (decode s)) work after bridges pairs) where
+    abbrev rs : List Record
+    rs = records dirs (gridOf (decode s)) (ownEnds (decode s))
 
-  pub mark-boundaries : (h : Header) → h ≡ headerAt s → (n : ℕ) → n ≡ h .counts .boundaries → n ≡ length (decode s .boundaries)
-  unfolding headerAt
-  mark-boundaries h k n d = d ∙ (ap (λ (x : Header). x .counts .boundaries) k ∙ sym (boundary-count s))
+    -- 13
+    pub marked-many : {number detail : ℕ} → PairAnswer pairs number detail → 0 < number → leftBy number detail after marks ≡ markWith dirs s work marks
+    marked-many (many h p q) l = rw (p, q, y .work-is) (mark-many dirs s work marks e w (parted-many y h))
+    marked-many (few h p q) l = absurd (omega arith)
 
-module _ (s work marks : List ℕ) where
-  -- a refusal of the input
-  pub mark-refused : {o : Option Refusal} {t : Bool} {n d : ℕ} → o ≡ firstRefusal (markChecks s) → t ≡ passes o → not t ≡ true → n ≡ numberOf o → d ≡ detailOf o
-      → leftBy n d work marks ≡ markResult s work marks
-  unfolding markResult markWith outcome
-  mark-refused {o} {t} {n} {d} e f g p q = go o e f p q
-    where
-      go : (o : Option Refusal) → o ≡ firstRefusal (markChecks s) → t ≡ passes o → n ≡ numberOf o → d ≡ detailOf o
-          → leftBy n d work marks ≡ markResult s work marks
-      go none e f p q = let z : _≡_ {A = Bool} true false = sym g ∙ ap not f in let i : _≡_ {A = ℕ} 0 1 = cc in absurd (omega arith)
-      go (some r) e f p q =
-          let a : firstRefusal (markChecks s ++ (workCheck (decode s) work ∷ [])) ≡ some r = append-some (markChecks s) _ r (sym e) in
-          rw (a, p, q) refl
+    -- 23
+    pub mark-no-room : pairs ≤ maxPairs → length marks < length (decode s .boundaries) → leftBy 23 0 after marks ≡ markWith dirs s work marks
+    mark-no-room h l = rw (y .work-is) (sym (mark-short dirs s work marks e w (parted-few y h) l))
 
-  module _ (e : firstRefusal (markChecks s) ≡ none) where
-    -- 21
-    pub mark-short : length work < workSize (decode s) → leftBy 21 0 work marks ≡ markResult s work marks
-    unfolding markResult markWith outcome
-    mark-short l =
-        let a : firstRefusal (markChecks s ++ (workCheck (decode s) work ∷ [])) ≡ some (record { number = 21; detail = 0 })
-        = append-none (markChecks s) _ e ∙ stop 21 0 [] (lt-ltb _ _ l) in
-        rw a refl
+    marks-copied : pairs ≤ maxPairs → (n : ℕ) → n ≤ 256 → n ≡ length (decode s .boundaries) → rows n (λ k. getD bridges k 0) ≡ marksOf dirs (decode s)
+    unfolding marksOf bridgeMarks markOf
+    marks-copied h n l z =
+        rows-same n (λ k. getD bridges k 0) (λ b. cond (isBridge rs b) 1 0)
+        (λ k i. ap (λ (b : List ℕ). getD b k 0) (y .told (parted-few y h)) ∙ rows-at 256 (λ b. cond (isBridge rs b) 1 0) k 0 (omega arith))
+        ∙ ap (λ m. rows m (λ b. cond (isBridge rs b) 1 0)) z
 
-    module _ (w : workSize (decode s) ≤ length work) {after bridges : List ℕ} {pairs : ℕ}
-        (drawn : Analysed (directionsOf 495) (decode s) (ownEnds (decode s)) work after bridges pairs) where
-      y : Analysed eight (decode s) (ownEnds (decode s)) work after bridges pairs
-      y = subst (λ (dirs : List ℕ). Analysed dirs (decode s) (ownEnds (decode s)) work after bridges pairs) directions-eight drawn
+    -- success
+    pub mark-done : pairs ≤ maxPairs → {n : ℕ} → n ≤ 256 → n ≡ length (decode s .boundaries) → n ≤ length marks → {out : List ℕ} → out ≡ copied bridges n marks
+        → leftBy 0 n after out ≡ markWith dirs s work marks
+    mark-done h {n} l z m {out} o =
+        let c : out ≡ splice marks 0 (marksOf dirs (decode s)) = o ∙ ap (λ bs. splice marks 0 bs) (marks-copied h n l z) in
+        let q = mark-success dirs s work marks e w (parted-few y h) (omega (arith, z)) in
+        rw (c, z, y .work-is) (sym q)
 
-      abbrev rs : List Record
-      rs = records eight (gridOf (decode s)) (ownEnds (decode s))
-
-      abbrev shortMarks : Check
-      shortMarks = check (ltb (length marks) (length (decode s .boundaries))) 23 0
-
-      passed-on : firstRefusal (markChecks s ++ (workCheck (decode s) work ∷ [])) ≡ none
-      passed-on = append-none (markChecks s) _ e ∙ clear 21 0 (le-ltb _ _ w)
-
-      -- 13
-      pub mark-many : 4096 < pairs → leftBy 13 0 after marks ≡ markResult s work marks
-      unfolding markResult markWith outcome afterWork
-      mark-many h =
-          let b : firstRefusal (pairCheck eight (decode s) (ownEnds (decode s)) ∷ shortMarks ∷ []) ≡ some (record { number = 13; detail = 0 })
-          = stop 13 0 (shortMarks ∷ []) (lt-ltb _ _ (parted-many y h)) in
-          rw (passed-on, b, y .work-is) refl
-
-      -- 23
-      pub mark-no-room : pairs ≤ 4096 → length marks < length (decode s .boundaries) → leftBy 23 0 after marks ≡ markResult s work marks
-      unfolding markResult markWith outcome afterWork
-      mark-no-room h l =
-          let b : firstRefusal (pairCheck eight (decode s) (ownEnds (decode s)) ∷ shortMarks ∷ []) ≡ some (record { number = 23; detail = 0 })
-          = skip 13 0 (shortMarks ∷ []) (le-ltb _ _ (parted-few y h)) ∙ stop 23 0 [] (lt-ltb _ _ l) in
-          rw (passed-on, b, y .work-is) refl
-
-      marks-copied : pairs ≤ 4096 → (n : ℕ) → n ≤ 256 → n ≡ length (decode s .boundaries) → rows n (λ k. getD bridges k 0) ≡ marksOf eight (decode s)
-      unfolding marksOf bridgeMarks markOf
-      marks-copied h n l z =
-          rows-same n (λ k. getD bridges k 0) (λ b. cond (isBridge rs b) 1 0)
-          (λ k i. ap (λ (b : List ℕ). getD b k 0) (y .told (parted-few y h)) ∙ rows-at 256 (λ b. cond (isBridge rs b) 1 0) k 0 (omega arith))
-          ∙ ap (λ m. rows m (λ b. cond (isBridge rs b) 1 0)) z
-
-      -- success
-      pub mark-done : pairs ≤ 4096 → (n : ℕ) → n ≤ 256 → n ≡ length (decode s .boundaries) → n ≤ length marks → (out : List ℕ) → out ≡ copied bridges n marks
-          → leftBy 0 n after out ≡ markResult s work marks
-      unfolding markResult
-      mark-done h n l z m out o =
-          let c : out ≡ splice marks 0 (marksOf eight (decode s)) = o ∙ ap (λ bs. splice marks 0 bs) (marks-copied h n l z) in
-          let q = mark-success eight s work marks e w (parted-few y h) (omega (arith, z)) in
-          rw (c, z, y .work-is) (sym q)
+-- with the eight directions it is the call's
+pub mark-as : (s work marks : List ℕ) → markWith (directionsOf 495) s work marks ≡ markResult s work marks
+unfolding markResult
+mark-as s work marks = ap (λ (dirs : List ℕ). markWith dirs s work marks) directions-eight

@@ -4,21 +4,21 @@ ghost use Prim.Native.Nat.{_≤_, _<_};
 ghost use lib.ListN.{length};
 ghost use Rattle.format.specs.Decode.{decode};
 ghost use Rattle.grid.specs.Directions.{directionsOf};
-ghost use Rattle.analysis.specs.Plans.{Leads};
+ghost use Rattle.analysis.specs.Plans.{Leads, OwnJob};
 ghost use Rattle.results.specs.Calls.{markResult};
-ghost use Rattle.chokes.specs.Marking.{Markable, Analysed, copied};
+ghost use Rattle.chokes.specs.Marking.{Analysed, copied};
 ghost use Rattle.results.specs.Results.{ownEnds, leftBy};
 use analysis::ChokesResult;
-use analysis::MAX_PAIRS;
+use analysis::MARKS_TOO_SHORT;
+use analysis::WORK_PER_CELL;
 use analysis::find_bridges;
-use format::BOUNDARY_SIZE;
+use analysis::first_answer;
+use analysis::own_ends;
 use format::HEADER_SIZE;
 use format::Header;
 use format::read_header;
 use grid::neighbors::EIGHT;
 use job::check_mark;
-use ranks::fill_identity;
-use ranks::fill_spans;
 use wire::size;
 
 // Partitions a job by its boundaries' own ends; gives the number of region pairs.
@@ -29,25 +29,15 @@ fn analyse_boundaries(
     work: &mut [u8],
     marks: &mut [u8; 256],
 ) -> usize
-    requires { ⌜ Markable (now job) h (now work) × Leads directions ⌝ }
+    requires { ⌜ OwnJob (now job) h (now work) × Leads directions ⌝ }
     ensures { λ r. ⌜ Analysed (directionsOf directions) (decode (now (job .entry))) (ownEnds (decode (now (job .entry)))) (now (work .entry)) (now (work .exit))
         (now (marks .exit)) r ⌝ }
 {
     let c = h.counts;
-    let o = h.offsets;
     let n = size(c.width * c.height);
     let count = size(c.boundaries);
-    let mut order = [0u32; 256];
-    fill_identity(&mut order);
     let mut ends = [0u32; 1024];
-    fill_spans(
-        job,
-        size(o.boundaries),
-        BOUNDARY_SIZE,
-        &order,
-        count,
-        &mut ends,
-    );
+    own_ends(job, h, &mut ends);
     find_bridges(
         &job[HEADER_SIZE..HEADER_SIZE + n],
         c.width,
@@ -77,33 +67,22 @@ pub extern "C" fn chokes_mark(job: &[u8], work: &mut [u8], marks: &mut [u8]) -> 
     ensures { λ r. ⌜ leftBy (r .number) (r .detail) (now (work .exit)) (now (marks .exit)) ≡ markResult (now (job .entry)) (now (work .entry))
         (now (marks .entry)) ⌝ }
 {
-    let v = check_mark(job);
-    if !v.passed() {
-        return ChokesResult {
-            number: v.number(),
-            detail: v.detail(),
-        };
+    let r = first_answer(check_mark(job), job, WORK_PER_CELL, work.len());
+    if 0 < r.number {
+        return r;
     }
     let h = read_header(job);
-    let c = h.counts;
-    if work.len() < 10 * size(c.width * c.height) {
-        return ChokesResult {
-            number: 21,
-            detail: 0,
-        };
-    }
     let mut bridges = [0u8; 256];
     let pairs = analyse_boundaries(EIGHT, job, h, work, &mut bridges);
-    if MAX_PAIRS < pairs {
-        return ChokesResult {
-            number: 13,
-            detail: 0,
-        };
+    let p = ChokesResult::of_pairs(pairs);
+    if 0 < p.number {
+        return p;
     }
+    let c = h.counts;
     let n = size(c.boundaries);
     if marks.len() < n {
         return ChokesResult {
-            number: 23,
+            number: MARKS_TOO_SHORT,
             detail: 0,
         };
     }

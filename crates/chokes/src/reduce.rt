@@ -5,6 +5,7 @@ ghost use Rattle.results.specs.Calls.{reduceResult, reduceByListResult};
 ghost use Rattle.results.specs.Results.{leftBy};
 ghost use Rattle.analysis.specs.Plans.{answerBytes, Finished};
 ghost use Rattle.encoding.specs.Answered.{Answerable};
+use analysis::ANSWER_TOO_SHORT;
 use analysis::ChokesResult;
 use analysis::plan_reduce;
 use analysis::plan_reduce_by_list;
@@ -24,7 +25,7 @@ fn finish(job: &[u8], order: &[u32; 256], plan: &[u32; 256], answer: &mut [u8]) 
     let n = write_answer(job, h, order, plan, answer);
     if room < n {
         return ChokesResult {
-            number: 22,
+            number: ANSWER_TOO_SHORT,
             detail: n as u64,
         };
     }

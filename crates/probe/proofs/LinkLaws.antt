@@ -22,7 +22,7 @@ use Rattle.format.specs.declared.records.BoundaryRecord.{BoundaryRecord}
 use Rattle.areas.specs.Words.{labelsIn}
 use Rattle.topology.specs.RegionStats.{regionCells}
 use Rattle.topology.specs.Held.{one, firstCells}
-use Rattle.links.specs.Limits.{Limits, limits000}
+use Rattle.links.specs.Limits.{Limits}
 use Rattle.links.specs.Link.{Side, Link, linkOf}
 use Rattle.links.specs.Measure.{Measured, measured}
 use Rattle.links.specs.Flat.{insideFlat}
@@ -121,32 +121,31 @@ module _ {s : List ℕ} {h : Header} (d : Headed s h) {n : ℕ} (e : n ≡ h .co
       ap (λ (m : ℕ). firstCells (labelsIn labels m) region m) cells-are
       ∙ ap (λ (m : ℕ). firstCells (cellLabels s labels) region m) (sym (length-rows (length (decode s .cells)) _))
 
-  held-is : (limits : Limits) {start r : LinkHeld} → limits ≡ limits000 → start ≡ noCell link
+  held-is : (limits : Limits) {start r : LinkHeld} → start ≡ noCell link
       → AllCells limits (h .counts .width) (labelsIn labels n) region n start r
-      → r ≡ linkAfter limits000 link (countsAt s 0 .width) (regionCells (cellLabels s labels) region)
-  held-is limits {start} {r} l p f =
+      → r ≡ linkAfter limits link (countsAt s 0 .width) (regionCells (cellLabels s labels) region)
+  held-is limits {start} {r} p f =
       f link p
-      ∙ (ap (λ (x : Limits). linkAfter x link (h .counts .width) (firstCells (labelsIn labels n) region n)) l
-      ∙ (ap (λ (x : ℕ). linkAfter limits000 link x (firstCells (labelsIn labels n) region n)) (ap (λ (c : Counts). c .width) (counts-are d))
-      ∙ ap (linkAfter limits000 link (countsAt s 0 .width)) region-is))
+      ∙ (ap (λ (x : ℕ). linkAfter limits link x (firstCells (labelsIn labels n) region n)) (ap (λ (c : Counts). c .width) (counts-are d))
+      ∙ ap (linkAfter limits link (countsAt s 0 .width)) region-is)
 
-  pub link-told : (limits : Limits) {start r : LinkHeld} {m : Measured} {kind across along inside : ℕ} → limits ≡ limits000 → start ≡ noCell link
+  pub link-told : (limits : Limits) {start r : LinkHeld} {m : Measured} {kind across along inside : ℕ} → start ≡ noCell link
       → AllCells limits (h .counts .width) (labelsIn labels n) region n start r → m ≡ measuredIn limits r
       → kind ≡ kindOf m → across ≡ bitsOf (transverse m) → along ≡ bitsOf (longitudinal m) → inside ≡ one (r .inside)
-      → fourBytes kind across along inside ≡ linkBytes s labels region first second
+      → fourBytes kind across along inside ≡ linkBytes limits s labels region first second
   unfolding linkBytes linkAfter
-  link-told limits {start} {r} {m} l p f q k x y z =
+  link-told limits {start} {r} {m} p f q k x y z =
       let cs : List ℕ = regionCells (cellLabels s labels) region in
       let w : ℕ = countsAt s 0 .width in
-      let held : r ≡ linkAfter limits000 link w cs = held-is limits l p f in
-      let is : m ≡ measured limits000 link w cs
-      = q ∙ (ap (λ (t : Limits). measuredIn t r) l ∙ (ap (measuredIn limits000) held ∙ after-measured limits000 link w cs)) in
-      let flat : r .inside ≡ insideFlat limits000 link w cs = ap (λ (t : LinkHeld). t .inside) held in
+      let held : r ≡ linkAfter limits link w cs = held-is limits p f in
+      let is : m ≡ measured limits link w cs = q ∙ (ap (measuredIn limits) held ∙ after-measured limits link w cs) in
+      let flat : r .inside ≡ insideFlat limits link w cs = ap (λ (t : LinkHeld). t .inside) held in
       rw (k, x, y, z, is, flat) refl
 
--- places as the code widens them
-pub link-named : (s labels out : List ℕ) (region : ℕ) {end : List ℕ} {first second i k : ℕ} → i ≡ first → k ≡ second
-    → end ≡ splice out 0 (linkBytes s labels region i k)
-    → end ≡ splice out 0 (linkBytes s labels region first second)
-link-named s labels out region {first = first} {k = k} p q e =
-    e ∙ (ap (λ (x : ℕ). splice out 0 (linkBytes s labels region x k)) p ∙ ap (λ (x : ℕ). splice out 0 (linkBytes s labels region first x)) q)
+-- places as the code widens them, and limits as it is given them
+pub link-named : (s labels out : List ℕ) (region : ℕ) {end : List ℕ} {l limits : Limits} {first second i k : ℕ} → l ≡ limits → i ≡ first → k ≡ second
+    → end ≡ splice out 0 (linkBytes l s labels region i k)
+    → end ≡ splice out 0 (linkBytes limits s labels region first second)
+link-named s labels out region {limits = limits} {first} {i = i} {k} l p q e =
+    let n : Limits → ℕ → ℕ → List ℕ = λ x a b. splice out 0 (linkBytes x s labels region a b) in
+    e ∙ (ap (λ (x : Limits). n x i k) l ∙ (ap (λ (x : ℕ). n limits x k) p ∙ ap (λ (x : ℕ). n limits first x) q))

@@ -2,9 +2,8 @@
 use mathlib.Core.Path.{_≡_, refl, sym, _∙_, ap}
 use mathlib.Core.Bool.{Bool}
 use mathlib.Core.List.{List, [], _∷_}
-use mathlib.Core.Option.{none}
-use Prim.Native.Nat.{ℕ, _+_, _*_, _-_, _≤_, _<_}
-use native.Mathlib.Omega.{arith}
+use mathlib.Core.Option.{Option}
+use Prim.Native.Nat.{ℕ, _+_, _*_, _-_, _≤_}
 use lib.ListN.{length, take, drop}
 use Rattle.format.specs.Sizes.{baseSize}
 use Rattle.format.specs.Header.{countsAt, basesStart}
@@ -19,30 +18,19 @@ use Rattle.topology.specs.AnchorLoop.{AnchorsIn, anchoredBy}
 use Rattle.topology.specs.Held.{one, statsIn}
 use Rattle.topology.specs.declared.stats.RegionStats.{RegionStats as StatsHeld}
 use Rattle.topology.proofs.Bases.{by-bases}
-use Rattle.checks.specs.Checks.{firstRefusal}
-use Rattle.job.specs.Refusals.{reduceChecks}
+use Rattle.checks.specs.Checks.{Refusal}
 use Rattle.results.specs.Rules.{gridOf}
+use Rattle.results.specs.Returns.{FirstAnswer, ready}
+use Rattle.results.proofs.Returns.{first-passed, first-room}
 use Rattle.analysis.specs.Plans.{Headed}
 use Rattle.analysis.proofs.Headed.{headed-laid, counts-are, bases-start, bases-inside, anchors-in}
 use Rattle.analysis.proofs.Mapped.{map-cells, map-long}
-use Rattle.probe.specs.Regions.{Ready, refused, cramped, ready, statsWords, regionWords, cellLabels}
+use Rattle.probe.specs.Regions.{statsWords, regionWords, cellLabels}
 
 -- no refusal
-module _ {s labels : List ℕ} {number detail : ℕ} where
-  pub ready-now : Ready s labels number detail → number ≤ 0 → Ready s labels 0 0
-  ready-now (refused _ p _ _) h = absurd (omega arith)
-  ready-now (cramped _ _ p _) h = absurd (omega arith)
-  ready-now (ready e r _ _) h = ready e r refl refl
-
-  pub ready-passed : Ready s labels number detail → number ≤ 0 → firstRefusal (reduceChecks s) ≡ none
-  ready-passed (refused _ p _ _) h = absurd (omega arith)
-  ready-passed (cramped _ _ p _) h = absurd (omega arith)
-  ready-passed (ready e r _ _) h = e
-
-  pub ready-room : Ready s labels number detail → number ≤ 0 → 4 * length (decode s .cells) ≤ length labels
-  ready-room (refused _ p _ _) h = absurd (omega arith)
-  ready-room (cramped _ _ p _) h = absurd (omega arith)
-  ready-room (ready e r _ _) h = r
+pub ready-now : {checked : Option Refusal} {asked room number detail : ℕ} → FirstAnswer checked asked room number detail → number ≤ 0
+    → FirstAnswer checked asked room 0 0
+ready-now r h = ready (first-passed r h) (first-room r h) refl refl
 
 module _ {s : List ℕ} {h : Header} (d : Headed s h) {at count n : ℕ} (a : at ≡ h .offsets .bases) (b : count ≡ h .counts .bases)
     (e : n ≡ h .counts .width * h .counts .height) where

@@ -9,7 +9,7 @@ use Rattle.position.specs.Order.{canonical}
 use Rattle.format.specs.Sizes.{boundarySize}
 use Rattle.format.specs.Header.{countsAt, boundariesStart}
 use Rattle.format.specs.Records.{boundaryAt}
-use Rattle.links.specs.Limits.{limits000}
+use Rattle.links.specs.Limits.{Limits}
 use Rattle.links.specs.Link.{Side, linkOf}
 use Rattle.links.specs.Measure.{Measured, empty, within, beyond, measured}
 use Rattle.links.specs.Flat.{insideFlat}
@@ -48,12 +48,12 @@ unfoldable pub sideOf : List ℕ → ℕ → Side
 sideOf s i = let b = boundaryAt s (boundariesStart (countsAt s 0) + i * boundarySize) in record { span = canonical (b .ends); bits = b .bits }
 
 -- the link of the first and the second, measured by the cells that have the label, and whether these stay inside the flat envelope
-unfoldable pub linkBytes : List ℕ → List ℕ → ℕ → ℕ → ℕ → List ℕ
+unfoldable pub linkBytes : Limits → List ℕ → List ℕ → ℕ → ℕ → ℕ → List ℕ
 unfolding sideOf linkOf regionCells measured insideFlat
-linkBytes s labels region first second =
+linkBytes limits s labels region first second =
     let k = linkOf (sideOf s first) (sideOf s second) in
     let cs = regionCells (cellLabels s labels) region in
-    measuredBytes (measured limits000 k (countsAt s 0 .width) cs) (insideFlat limits000 k (countsAt s 0 .width) cs)
+    measuredBytes (measured limits k (countsAt s 0 .width) cs) (insideFlat limits k (countsAt s 0 .width) cs)
 
 -- a place that no boundary has; or what is shown, of two that have one
 pub data LinkAnswer (s labels bytes : List ℕ) (first second : ℕ) (out outEnd : List ℕ) (number detail : ℕ) : Type 0 where

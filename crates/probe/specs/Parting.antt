@@ -1,6 +1,5 @@
--- What the driver's partition function takes, and what it leaves.
+-- What the driver's partition function leaves.
 use mathlib.Core.Path.{_≡_}
-use mathlib.Core.Bool.{false}
 use mathlib.Core.List.{List, [], _∷_, _++_, flatMap}
 use mathlib.Core.Option.{none}
 use Prim.Native.Nat.{ℕ, _+_, _*_, _≤_, _<_}
@@ -9,35 +8,17 @@ use Rattle.wire.specs.Bytes.{words, splice}
 use Rattle.position.specs.declared.Span.{Span}
 use Rattle.graph.specs.Records.{Record, recordIn}
 use Rattle.grid.specs.Cells.{Grid}
-use Rattle.format.specs.Sizes.{boundarySize}
-use Rattle.format.specs.Header.{countsAt, cellCount, boundariesStart}
+use Rattle.format.specs.Header.{countsAt}
 use Rattle.format.specs.Decode.{decode}
-use Rattle.grid.specs.Directions.{eight}
-use Rattle.areas.specs.Areas.{areaLabels, areaCount}
+use Rattle.areas.specs.Areas.{areaCount}
 use Rattle.areas.specs.Assessments.{assess, records}
 use Rattle.partition.specs.Partitioned.{labelled}
-use Rattle.ranks.specs.Tables.{Identity, SpansOf}
 use Rattle.checks.specs.Checks.{firstRefusal}
 use Rattle.job.specs.Refusals.{reduceChecks}
-use Rattle.checks.specs.Verdict.{passes, numberOf, detailOf}
 use Rattle.results.specs.Rules.{gridOf}
-use Rattle.results.specs.Results.{ownEnds}
+use Rattle.results.specs.Results.{workSize, labelsOf, ownEnds}
+use Rattle.results.specs.Returns.{FirstAnswer}
 use Rattle.probe.specs.Writing.{blocks}
-
--- the spans of count records from place at on, in their own order
-pub record OwnSpans (s : List ℕ) (at count : ℕ) (ends : List ℕ) : Type 0 where
-  pub order : List ℕ
-  pub identity : Identity order
-  pub spans : SpansOf s at boundarySize order count ends
-
--- a job that Reduce takes, with what its header says, and ten bytes of work a cell
-pub record Taken (s : List ℕ) (width height at count : ℕ) (work : List ℕ) : Type 0 where
-  pub passed : firstRefusal (reduceChecks s) ≡ none
-  pub width-is : width ≡ countsAt s 0 .width
-  pub height-is : height ≡ countsAt s 0 .height
-  pub at-is : at ≡ boundariesStart (countsAt s 0)
-  pub count-is : count ≡ countsAt s 0 .boundaries
-  pub room : 10 * (width * height) ≤ length work
 
 -- two counts and a record in little-endian words
 abbrev pub countBytes : ℕ → ℕ → List ℕ
@@ -77,16 +58,14 @@ pub data Told (count pairs : ℕ) (bytes out outEnd : List ℕ) (number detail :
       → Told count pairs bytes out outEnd number detail
 
 -- the areas by the boundaries' own ends are labelled, and what the partition found is told
-pub record Parted (s work out workEnd outEnd : List ℕ) (number detail : ℕ) : Type 0 where
-  pub work-is : workEnd ≡ labelled (areaLabels eight (gridOf (decode s)) (ownEnds (decode s))) work
-  pub told : Told (countsAt s 0 .boundaries) (length (records eight (gridOf (decode s)) (ownEnds (decode s))))
-      (partitionBytes eight (gridOf (decode s)) (ownEnds (decode s))) out outEnd number detail
+pub record Parted (dirs s work out workEnd outEnd : List ℕ) (number detail : ℕ) : Type 0 where
+  pub work-is : workEnd ≡ labelled (labelsOf dirs (decode s) (ownEnds (decode s))) work
+  pub told : Told (countsAt s 0 .boundaries) (length (records dirs (gridOf (decode s)) (ownEnds (decode s))))
+      (partitionBytes dirs (gridOf (decode s)) (ownEnds (decode s))) out outEnd number detail
 
--- a refusal of the checks, with nothing written; work under ten bytes a cell; or the partition
-pub data PartitionAnswer (s work out workEnd outEnd : List ℕ) (number detail : ℕ) : Type 0 where
-  refused : passes (firstRefusal (reduceChecks s)) ≡ false → number ≡ numberOf (firstRefusal (reduceChecks s))
-      → detail ≡ detailOf (firstRefusal (reduceChecks s)) → workEnd ≡ work → outEnd ≡ out → PartitionAnswer s work out workEnd outEnd number detail
-  cramped : firstRefusal (reduceChecks s) ≡ none → length work < 10 * cellCount (countsAt s 0) → number ≡ 21 → detail ≡ 0 → workEnd ≡ work → outEnd ≡ out
-      → PartitionAnswer s work out workEnd outEnd number detail
-  parted : firstRefusal (reduceChecks s) ≡ none → 10 * cellCount (countsAt s 0) ≤ length work → Parted s work out workEnd outEnd number detail
-      → PartitionAnswer s work out workEnd outEnd number detail
+-- a refusal of the checks, or of work under ten bytes a cell, with nothing written; or the partition
+pub data PartitionAnswer (dirs s work out workEnd outEnd : List ℕ) (number detail : ℕ) : Type 0 where
+  declined : 0 < number → FirstAnswer (firstRefusal (reduceChecks s)) (workSize (decode s)) (length work) number detail → workEnd ≡ work → outEnd ≡ out
+      → PartitionAnswer dirs s work out workEnd outEnd number detail
+  parted : firstRefusal (reduceChecks s) ≡ none → workSize (decode s) ≤ length work → Parted dirs s work out workEnd outEnd number detail
+      → PartitionAnswer dirs s work out workEnd outEnd number detail

@@ -1,8 +1,7 @@
 -- What the driver's region function tells: what is known of one region, by the labels of the cells.
 use mathlib.Core.Path.{_≡_}
-use mathlib.Core.Bool.{Bool, false}
+use mathlib.Core.Bool.{Bool}
 use mathlib.Core.List.{List, [], _∷_, _++_}
-use mathlib.Core.Option.{none}
 use Prim.Native.Nat.{ℕ, _*_, _≤_, _<_}
 use lib.ListN.{length}
 use Rattle.wire.specs.Bytes.{splice}
@@ -14,17 +13,13 @@ use Rattle.topology.specs.RegionStats.{RegionStats, regionStats}
 use Rattle.topology.specs.Anchors.{anchorsOf, isAnchored}
 use Rattle.topology.specs.Held.{one}
 use Rattle.checks.specs.Checks.{firstRefusal}
-use Rattle.checks.specs.Verdict.{passes, numberOf, detailOf}
 use Rattle.job.specs.Refusals.{reduceChecks}
 use Rattle.results.specs.Rules.{gridOf}
+use Rattle.results.specs.Returns.{FirstAnswer}
 
 -- a refusal of the checks; labels under four bytes a cell; or neither
-pub data Ready (s labels : List ℕ) (number detail : ℕ) : Type 0 where
-  refused : passes (firstRefusal (reduceChecks s)) ≡ false → 0 < number → number ≡ numberOf (firstRefusal (reduceChecks s))
-      → detail ≡ detailOf (firstRefusal (reduceChecks s))
-      → Ready s labels number detail
-  cramped : firstRefusal (reduceChecks s) ≡ none → length labels < 4 * length (decode s .cells) → number ≡ 21 → detail ≡ 0 → Ready s labels number detail
-  ready : firstRefusal (reduceChecks s) ≡ none → 4 * length (decode s .cells) ≤ length labels → number ≡ 0 → detail ≡ 0 → Ready s labels number detail
+abbrev pub Ready : List ℕ → List ℕ → ℕ → ℕ → Type 0
+Ready s labels number detail = FirstAnswer (firstRefusal (reduceChecks s)) (4 * length (decode s .cells)) (length labels) number detail
 
 -- how many cells an area has; 001's `RegionStats`: cells, box, ramp, cells of each elevation; whether an anchor lies in it
 abbrev pub statsWords : ℕ → RegionStats → Bool → List ℕ

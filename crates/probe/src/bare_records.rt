@@ -7,12 +7,21 @@ ghost use lib.ListN.{length, drop, replicate};
 ghost use Rattle.wire.specs.Bytes.{splice};
 ghost use Rattle.walk.specs.Marks.{bridgeMarks};
 ghost use Rattle.probe.specs.Records.{fitting, fitsAt, recordsAt, Loaded, Answer};
-use crate::ProbeResult;
 use crate::copy;
+use analysis::ChokesResult;
 use bridges::bridge_boundary_indices;
 use components::zero_fill;
 use wire::read_u32;
 use wire::size;
+
+// The refusals: bytes that are no whole records; over 4,096 of them (their number); one that doesn't fit (its place); under 256 marks.
+const UNEVEN: u32 = 1;
+
+const TOO_MANY_RECORDS: u32 = 2;
+
+const UNFIT_RECORD: u32 = 3;
+
+const SHORT_MARKS: u32 = 4;
 
 fn fits(owner: usize, left: usize, right: usize, regions: usize) -> bool
     ensures { λ r. ⌜ r ≡ fitting owner left right regions ⌝ }
@@ -93,39 +102,39 @@ fn mark_records(records: &[u8], count: usize, regions: usize, work: &mut [u8], m
 
 // The bridges of records that are little-endian words: owner, left region, right region. The first 256 marks are the owners'.
 #[no_mangle]
-pub extern "C" fn probe_bridges(records: &[u8], work: &mut [u8], marks: &mut [u8]) -> ProbeResult
+pub extern "C" fn probe_bridges(records: &[u8], work: &mut [u8], marks: &mut [u8]) -> ChokesResult
     ensures { λ r. ⌜ Answer (now (records .entry)) (now (work .entry)) (now (marks .entry)) (now (work .exit)) (now (marks .exit)) (r .number) (r .detail) ⌝ }
 {
     let n = records.len();
     if n % 12 != 0 {
-        return ProbeResult {
-            number: 1,
+        return ChokesResult {
+            number: UNEVEN,
             detail: 0,
         };
     }
     let count = n / 12;
     if 4096 < count {
-        return ProbeResult {
-            number: 2,
+        return ChokesResult {
+            number: TOO_MANY_RECORDS,
             detail: count as u64,
         };
     }
     let regions = work.len() / 4;
     let k = fault(records, count, regions);
     if k < count {
-        return ProbeResult {
-            number: 3,
+        return ChokesResult {
+            number: UNFIT_RECORD,
             detail: k as u64,
         };
     }
     if marks.len() < 256 {
-        return ProbeResult {
-            number: 4,
+        return ChokesResult {
+            number: SHORT_MARKS,
             detail: 0,
         };
     }
     mark_records(records, count, regions, work, marks);
-    ProbeResult {
+    ChokesResult {
         number: 0,
         detail: count as u64,
     }

@@ -4,6 +4,7 @@ ghost use Rattle.probe.specs.Probe.{checked, copied};
 ghost use lib.ListN.{length};
 ghost use Rattle.job.specs.SpanEnds.{spanEnds};
 ghost use Rattle.checks.specs.Verdict.{meaning, numberOf, detailOf};
+use analysis::ChokesResult;
 use checks::Verdict;
 
 mod bare_records; // the bridges of bare lists of records
@@ -11,12 +12,6 @@ mod own_partition; // the partition alone
 mod own_plan; // the merge plan alone
 mod own_regions; // what is known of one region
 mod own_links; // what a link measures in a region
-
-#[repr(C)]
-pub struct ProbeResult {
-    pub number: u32,
-    pub detail: u64,
-}
 
 fn verdict(call: u32, job: &[u8], list: &[u8]) -> Verdict
     ensures { λ r. ⌜ meaning r ≡ checked call (now (job .entry)) (now (list .entry)) ⌝ }
@@ -32,15 +27,11 @@ fn verdict(call: u32, job: &[u8], list: &[u8]) -> Verdict
 
 // The input checks of a call: 0 Reduce, 1 Reduce by list, any other Mark.
 #[no_mangle]
-pub extern "C" fn probe_check(call: u32, job: &[u8], list: &[u8]) -> ProbeResult
+pub extern "C" fn probe_check(call: u32, job: &[u8], list: &[u8]) -> ChokesResult
     ensures { λ r. ⌜ (r .number ≡ numberOf (checked call (now (job .entry)) (now (list .entry))))
         × (r .detail ≡ detailOf (checked call (now (job .entry)) (now (list .entry)))) ⌝ }
 {
-    let v = verdict(call, job, list);
-    ProbeResult {
-        number: v.number(),
-        detail: v.detail(),
-    }
+    ChokesResult::of_verdict(verdict(call, job, list))
 }
 
 // part at the start of out where it fits; its number of bytes.

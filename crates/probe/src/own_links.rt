@@ -4,13 +4,16 @@ ghost use Prim.Native.Nat.{_*_, _<_, _≤_};
 ghost use lib.ListN.{length};
 ghost use Rattle.wire.specs.Bytes.{splice};
 ghost use Rattle.format.specs.Decode.{decode};
+ghost use Rattle.links.specs.Limits.{limits000};
+ghost use Rattle.links.specs.HeldLimits.{limitsOf};
 ghost use Rattle.links.specs.Link.{linkOf};
 ghost use Rattle.links.specs.HeldLink.{noCell, meaning};
 ghost use Rattle.analysis.specs.Plans.{Headed};
 ghost use Rattle.probe.specs.Links.{bitsOf, kindOf, transverse, longitudinal, fourBytes, sideOf, linkBytes, LinkAnswer};
-use crate::ProbeResult;
 use crate::own_regions::flag;
 use crate::own_regions::unready;
+use analysis::ANSWER_TOO_SHORT;
+use analysis::ChokesResult;
 use format::BOUNDARY_SIZE;
 use format::Header;
 use format::read_boundary;
@@ -23,6 +26,9 @@ use measures::few::measure_one;
 use wire::size;
 use wire::write_u32;
 use wire::write_u64;
+
+// No boundary has that place.
+const NO_BOUNDARY: u32 = 24;
 
 fn bits_of(x: f64) -> u64
     ensures { λ r. ⌜ r ≡ bitsOf x ⌝ }
@@ -88,6 +94,7 @@ fn write_link(kind: u32, across: u64, along: u64, inside: u32, out: &mut [u8])
 }
 
 fn tell_link(
+    limits: Limits,
     job: &[u8],
     h: Header,
     labels: &[u8],
@@ -98,12 +105,12 @@ fn tell_link(
 )
     requires { ⌜ Headed (now job) h × (first < h .counts .boundaries) × (second < h .counts .boundaries)
         × (4 * length (decode (now job) .cells) ≤ length (now labels)) × (24 ≤ length (now out)) ⌝ }
-    ensures { λ _. ⌜ now (out .exit) ≡ splice (now (out .entry)) 0 (linkBytes (now (job .entry)) (now (labels .entry)) region first second) ⌝ }
+    ensures { λ _. ⌜ now (out .exit) ≡ splice (now (out .entry)) 0
+        (linkBytes (limitsOf limits) (now (job .entry)) (now (labels .entry)) region first second) ⌝ }
 {
     let c = h.counts;
     let width = c.width;
     let n = size(width * c.height);
-    let limits = Limits::of_000();
     let start = link_between(job, h, first, second);
     let link = measure_one(start, n, width, labels, region, limits);
     let m = link.measured(limits);
@@ -123,9 +130,9 @@ pub extern "C" fn probe_link(
     first: u32,
     second: u32,
     out: &mut [u8],
-) -> ProbeResult
-    ensures { λ r. ⌜ LinkAnswer (now (job .entry)) (now (labels .entry)) (linkBytes (now (job .entry)) (now (labels .entry)) region first second) first second
-        (now (out .entry)) (now (out .exit)) (r .number) (r .detail) ⌝ }
+) -> ChokesResult
+    ensures { λ r. ⌜ LinkAnswer (now (job .entry)) (now (labels .entry)) (linkBytes limits000 (now (job .entry)) (now (labels .entry)) region first second)
+        first second (now (out .entry)) (now (out .exit)) (r .number) (r .detail) ⌝ }
 {
     let r = unready(job, labels);
     if 0 < r.number {
@@ -135,25 +142,34 @@ pub extern "C" fn probe_link(
     let c = h.counts;
     let n = c.boundaries;
     if n <= first {
-        return ProbeResult {
-            number: 24,
+        return ChokesResult {
+            number: NO_BOUNDARY,
             detail: 0,
         };
     }
     if n <= second {
-        return ProbeResult {
-            number: 24,
+        return ChokesResult {
+            number: NO_BOUNDARY,
             detail: 0,
         };
     }
     if out.len() < 24 {
-        return ProbeResult {
-            number: 22,
+        return ChokesResult {
+            number: ANSWER_TOO_SHORT,
             detail: 24,
         };
     }
-    tell_link(job, h, labels, region, size(first), size(second), out);
-    ProbeResult {
+    tell_link(
+        Limits::of_000(),
+        job,
+        h,
+        labels,
+        region,
+        size(first),
+        size(second),
+        out,
+    );
+    ChokesResult {
         number: 0,
         detail: 24,
     }

@@ -2,30 +2,23 @@
 ghost use mathlib.Core.Path.{_≡_};
 ghost use Prim.Native.Nat.{_+_, _*_, _<_, _≤_};
 ghost use lib.ListN.{length};
-ghost use Rattle.format.specs.Sizes.{boundarySize};
 ghost use Rattle.wire.specs.Bytes.{splice};
-ghost use Rattle.probe.specs.Parting.{OwnSpans, Taken, Told, Parted, PartitionAnswer, countsFrom, recordsFrom, heldBytes};
-use crate::ProbeResult;
-use format::BOUNDARY_SIZE;
+ghost use Rattle.grid.specs.Directions.{eight, directionsOf};
+ghost use Rattle.analysis.specs.Plans.{Leads, OwnJob};
+ghost use Rattle.probe.specs.Parting.{Told, Parted, PartitionAnswer, countsFrom, recordsFrom, heldBytes};
+use analysis::ANSWER_TOO_SHORT;
+use analysis::ChokesResult;
+use analysis::WORK_PER_CELL;
+use analysis::first_answer;
+use analysis::own_ends;
 use format::HEADER_SIZE;
+use format::Header;
 use format::read_header;
 use grid::neighbors::EIGHT;
 use job::check_reduce;
 use partition::partition_by_spans;
-use ranks::fill_identity;
-use ranks::fill_spans;
 use wire::size;
 use wire::write_u32;
-
-// The boundaries' own ends in their own order, the earlier end first.
-fn own_spans(job: &[u8], at: usize, count: usize, ends: &mut [u32; 1024])
-    requires { ⌜ (count ≤ 256) × (at + count * boundarySize ≤ length (now job)) × (length (now ends) ≡ 1024) ⌝ }
-    ensures { λ _. ⌜ OwnSpans (now (job .entry)) at count (now (ends .exit)) ⌝ }
-{
-    let mut order = [0u32; 256];
-    fill_identity(&mut order);
-    fill_spans(job, at, BOUNDARY_SIZE, &order, count, ends);
-}
 
 // The counts of each span, from the third word on.
 fn write_counts(removed: &[u32; 256], separated: &[u32; 256], count: usize, out: &mut [u8])
@@ -74,23 +67,21 @@ fn write_partition(
     lefts: &[u32; 4096],
     rights: &[u32; 4096],
     out: &mut [u8],
-) -> ProbeResult
+) -> ChokesResult
     requires { ⌜ count ≤ 256 ⌝ }
     ensures { λ r. ⌜ Told count pairs
         (heldBytes areas pairs count (now (removed .entry)) (now (separated .entry)) (now (owners .entry)) (now (lefts .entry)) (now (rights .entry)))
         (now (out .entry)) (now (out .exit)) (r .number) (r .detail) ⌝ }
 {
-    if 4096 < pairs {
-        return ProbeResult {
-            number: 13,
-            detail: 0,
-        };
+    let r = ChokesResult::of_pairs(pairs);
+    if 0 < r.number {
+        return r;
     }
     let start = 8 + 8 * count;
     let total = start + 12 * pairs;
     if out.len() < total {
-        return ProbeResult {
-            number: 22,
+        return ChokesResult {
+            number: ANSWER_TOO_SHORT,
             detail: total as u64,
         };
     }
@@ -98,27 +89,28 @@ fn write_partition(
     write_u32(out, 4, pairs as u32);
     write_counts(removed, separated, count, out);
     write_records(owners, lefts, rights, pairs, start, out);
-    ProbeResult {
+    ChokesResult {
         number: 0,
         detail: total as u64,
     }
 }
 
 fn partition_job(
+    directions: u32,
     job: &[u8],
-    width: u32,
-    height: u32,
-    at: usize,
-    count: usize,
+    h: Header,
     work: &mut [u8],
     out: &mut [u8],
-) -> ProbeResult
-    requires { ⌜ Taken (now job) width height at count (now work) ⌝ }
-    ensures { λ r. ⌜ Parted (now (job .entry)) (now (work .entry)) (now (out .entry)) (now (work .exit)) (now (out .exit)) (r .number) (r .detail) ⌝ }
+) -> ChokesResult
+    requires { ⌜ OwnJob (now job) h (now work) × Leads directions ⌝ }
+    ensures { λ r. ⌜ Parted (directionsOf directions) (now (job .entry)) (now (work .entry)) (now (out .entry)) (now (work .exit))
+        (now (out .exit)) (r .number) (r .detail) ⌝ }
 {
-    let n = size(width * height);
+    let c = h.counts;
+    let n = size(c.width * c.height);
+    let count = size(c.boundaries);
     let mut ends = [0u32; 1024];
-    own_spans(job, at, count, &mut ends);
+    own_ends(job, h, &mut ends);
     let mut removed = [0u32; 256];
     let mut separated = [0u32; 256];
     let mut owners = [0u32; 4096];
@@ -126,9 +118,9 @@ fn partition_job(
     let mut rights = [0u32; 4096];
     let p = partition_by_spans(
         &job[HEADER_SIZE..HEADER_SIZE + n],
-        width,
-        height,
-        EIGHT,
+        c.width,
+        c.height,
+        directions,
         &ends,
         count,
         work,
@@ -153,34 +145,13 @@ fn partition_job(
 
 // Labels the areas in work, and tells what the partition found in out.
 #[no_mangle]
-pub extern "C" fn probe_partition(job: &[u8], work: &mut [u8], out: &mut [u8]) -> ProbeResult
-    ensures { λ r. ⌜ PartitionAnswer (now (job .entry)) (now (work .entry)) (now (out .entry)) (now (work .exit)) (now (out .exit)) (r .number) (r .detail) ⌝ }
+pub extern "C" fn probe_partition(job: &[u8], work: &mut [u8], out: &mut [u8]) -> ChokesResult
+    ensures { λ r. ⌜ PartitionAnswer eight (now (job .entry)) (now (work .entry)) (now (out .entry)) (now (work .exit))
+        (now (out .exit)) (r .number) (r .detail) ⌝ }
 {
-    let v = check_reduce(job);
-    if !v.passed() {
-        return ProbeResult {
-            number: v.number(),
-            detail: v.detail(),
-        };
+    let r = first_answer(check_reduce(job), job, WORK_PER_CELL, work.len());
+    if 0 < r.number {
+        return r;
     }
-    let h = read_header(job);
-    let c = h.counts;
-    let o = h.offsets;
-    let width = c.width;
-    let height = c.height;
-    if work.len() < 10 * size(width * height) {
-        return ProbeResult {
-            number: 21,
-            detail: 0,
-        };
-    }
-    partition_job(
-        job,
-        width,
-        height,
-        size(o.boundaries),
-        size(c.boundaries),
-        work,
-        out,
-    )
+    partition_job(EIGHT, job, read_header(job), work, out)
 }

@@ -8,7 +8,7 @@ ghost use Rattle.links.specs.Limits.{limits000};
 ghost use Rattle.links.specs.HeldLimits.{limitsOf};
 ghost use Rattle.analysis.specs.Plans.{Leads, PlanLeft};
 ghost use Rattle.probe.specs.Planning.{checksOf, spansOf, CountOf, Ranked, Inside, Words, PlanAnswer};
-use crate::ProbeResult;
+use analysis::ANSWER_TOO_SHORT;
 use analysis::ChokesResult;
 use analysis::plan_reduce;
 use analysis::plan_reduce_by_list;
@@ -78,7 +78,7 @@ pub extern "C" fn probe_plan(
     which: u32,
     work: &mut [u8],
     out: &mut [u8],
-) -> ProbeResult
+) -> ChokesResult
     ensures { λ r. ⌜ PlanAnswer limits000 eight (checksOf which (now (job .entry)) (now (list .entry))) (decode (now (job .entry)))
         (spansOf which (now (job .entry)) (now (list .entry)))
         (now (work .entry)) (now (out .entry)) (now (work .exit)) (now (out .exit)) (r .number) (r .detail) ⌝ }
@@ -96,21 +96,18 @@ pub extern "C" fn probe_plan(
         &mut plan,
     );
     if 0 < r.number {
-        return ProbeResult {
-            number: r.number,
-            detail: r.detail,
-        };
+        return r;
     }
     let n = count_of(job);
     let total = 4 * n;
     if out.len() < total {
-        return ProbeResult {
-            number: 22,
+        return ChokesResult {
+            number: ANSWER_TOO_SHORT,
             detail: total as u64,
         };
     }
     write_plan(&order, &plan, n, out);
-    ProbeResult {
+    ChokesResult {
         number: 0,
         detail: total as u64,
     }

@@ -7,7 +7,9 @@ ghost use Rattle.format.specs.Decode.{decode};
 ghost use Rattle.topology.specs.Held.{one};
 ghost use Rattle.analysis.specs.Plans.{Headed};
 ghost use Rattle.probe.specs.Regions.{Ready, regionWords, cellLabels, Shown};
-use crate::ProbeResult;
+use analysis::ANSWER_TOO_SHORT;
+use analysis::ChokesResult;
+use analysis::first_answer;
 use components::count_cells;
 use format::HEADER_SIZE;
 use format::Header;
@@ -19,28 +21,10 @@ use wire::size;
 use wire::write_u32;
 
 // The refusal of a job, or of labels under four bytes a cell.
-pub fn unready(job: &[u8], labels: &[u8]) -> ProbeResult
+pub fn unready(job: &[u8], labels: &[u8]) -> ChokesResult
     ensures { λ r. ⌜ Ready (now (job .entry)) (now (labels .entry)) (r .number) (r .detail) ⌝ }
 {
-    let v = check_reduce(job);
-    if !v.passed() {
-        return ProbeResult {
-            number: v.number(),
-            detail: v.detail(),
-        };
-    }
-    let h = read_header(job);
-    let c = h.counts;
-    if labels.len() < 4 * size(c.width * c.height) {
-        return ProbeResult {
-            number: 21,
-            detail: 0,
-        };
-    }
-    ProbeResult {
-        number: 0,
-        detail: 0,
-    }
+    first_answer(check_reduce(job), job, 4, labels.len())
 }
 
 pub fn flag(t: bool) -> u32
@@ -99,7 +83,7 @@ pub extern "C" fn probe_region(
     labels: &[u8],
     region: u32,
     out: &mut [u8],
-) -> ProbeResult
+) -> ChokesResult
     ensures { λ r. ⌜ Shown (now (job .entry)) (now (labels .entry))
         (words (regionWords (decode (now (job .entry))) (cellLabels (now (job .entry)) (now (labels .entry))) region)) 48
         (now (out .entry)) (now (out .exit)) (r .number) (r .detail) ⌝ }
@@ -109,13 +93,13 @@ pub extern "C" fn probe_region(
         return r;
     }
     if out.len() < 48 {
-        return ProbeResult {
-            number: 22,
+        return ChokesResult {
+            number: ANSWER_TOO_SHORT,
             detail: 48,
         };
     }
     tell_region(job, read_header(job), labels, region, out);
-    ProbeResult {
+    ChokesResult {
         number: 0,
         detail: 48,
     }

@@ -1,6 +1,7 @@
 pub mod Rules
 pub mod AcceptedGroups
 pub mod Planned
+pub mod Returns
 pub mod Results
 pub mod Cases
 pub mod Own

@@ -16,7 +16,7 @@ use Rattle.format.specs.Header.{headerAt, offsetsOf}
 use Rattle.format.specs.Values.{Job}
 use Rattle.format.specs.Decode.{decode, decodeList, boundaryRecords, observationRecords, sourceCount}
 use Rattle.grid.specs.Directions.{eight}
-use Rattle.links.specs.Limits.{limits000}
+use Rattle.links.specs.Limits.{Limits, limits000}
 use Rattle.position.specs.declared.Span.{Span}
 use Rattle.checks.specs.Checks.{Refusal, Check, check, firstRefusal, each}
 use Rattle.checks.specs.Single.{headerChecks, cellCheck, sumsFault, rampCheck}
@@ -63,22 +63,22 @@ module _ (n : ℕ) (some-number : 0 < n) (work labels out written : List ℕ) (s
   outcome-without (some r) e f = found-without n es e f
 
 -- Up to 256 boundaries: a call does not give 4.
-reduced-without : (checks : List Check) (j : Job) (ss : List Span) (work answer : List ℕ) → All (Without 4) checks
-    → reduced limits000 eight checks j ss work answer .number ≡ 4 → ⊥
+reduced-without : (limits : Limits) (dirs : List ℕ) (checks : List Check) (j : Job) (ss : List Span) (work answer : List ℕ) → All (Without 4) checks
+    → reduced limits dirs checks j ss work answer .number ≡ 4 → ⊥
 unfolding reduced
-reduced-without checks j ss work answer h =
-    let written = answerOf limits000 eight j ss in
-    let later : List Check = pairCheck eight j ss ∷ check (ltb (length answer) (length written)) 22 (length written) ∷ [] in
-    outcome-without 4 (omega arith) work (labelsOf eight j ss) answer written (length written) (checks ++ (workCheck j work ∷ [])) later
+reduced-without limits dirs checks j ss work answer h =
+    let written = answerOf limits dirs j ss in
+    let later : List Check = pairCheck dirs j ss ∷ check (ltb (length answer) (length written)) 22 (length written) ∷ [] in
+    outcome-without 4 (omega arith) work (labelsOf dirs j ss) answer written (length written) (checks ++ (workCheck j work ∷ [])) later
     (all-append h (at 21 refl all-none)) (at 13 refl (at 22 refl all-none)) (firstRefusal (checks ++ (workCheck j work ∷ []))) refl
 
-mark-without : (s work marks : List ℕ) → All (Without 4) (markChecks s) → markWith eight s work marks .number ≡ 4 → ⊥
+mark-without : (dirs s work marks : List ℕ) → All (Without 4) (markChecks s) → markWith dirs s work marks .number ≡ 4 → ⊥
 unfolding markWith
-mark-without s work marks h =
+mark-without dirs s work marks h =
     let j = decode s in
-    let later : List Check = pairCheck eight j (ownEnds j) ∷ check (ltb (length marks) (length (j .boundaries))) 23 0 ∷ [] in
+    let later : List Check = pairCheck dirs j (ownEnds j) ∷ check (ltb (length marks) (length (j .boundaries))) 23 0 ∷ [] in
     let earlier : List Check = markChecks s ++ (workCheck j work ∷ []) in
-    outcome-without 4 (omega arith) work (labelsOf eight j (ownEnds j)) marks (marksOf eight j) (length (j .boundaries)) earlier later
+    outcome-without 4 (omega arith) work (labelsOf dirs j (ownEnds j)) marks (marksOf dirs j) (length (j .boundaries)) earlier later
     (all-append h (at 21 refl all-none)) (at 13 refl (at 23 refl all-none)) (firstRefusal earlier) refl
 
 count-calls : (s : List ℕ) → headerAt s .counts .boundaries ≡ 256 → NoCallGives s 4
@@ -86,9 +86,9 @@ unfolding reduceResult reduceByListResult markResult reduceWith reduceByListWith
 count-calls s e =
     let a = count-passes s (omega arith) in
     record {
-      reduce = λ work answer. reduced-without (reduceChecks s) (decode s) (ownEnds (decode s)) work answer (a .reduce);
-      by-list = λ list work answer. reduced-without (byListChecks s list) (decode s) (decodeList list) work answer (a .by-list list);
-      mark = λ work marks. mark-without s work marks (a .mark);
+      reduce = λ work answer. reduced-without limits000 eight (reduceChecks s) (decode s) (ownEnds (decode s)) work answer (a .reduce);
+      by-list = λ list work answer. reduced-without limits000 eight (byListChecks s list) (decode s) (decodeList list) work answer (a .by-list list);
+      mark = λ work marks. mark-without eight s work marks (a .mark);
     }
 
 -- The jobs that show them.

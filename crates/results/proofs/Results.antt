@@ -1,9 +1,9 @@
--- When the calls succeed, and what they then leave.
-use mathlib.Core.Path.{_≡_, _∙_}
-use mathlib.Core.List.{List, [], _∷_, _++_}
+-- What the calls leave at each of their returns.
+use mathlib.Core.Path.{_≡_, sym}
+use mathlib.Core.List.{List, [], _∷_}
 use mathlib.Core.Option.{none}
-use Prim.Native.Nat.{ℕ, _≤_}
-use borrow.Author.Tests.{le-ltb}
+use Prim.Native.Nat.{ℕ, _≤_, _<_}
+use borrow.Author.Tests.{le-ltb, lt-ltb}
 use lib.Dec.{ltb}
 use lib.ListN.{length}
 use Rattle.position.specs.declared.Span.{Span}
@@ -14,44 +14,79 @@ use Rattle.links.specs.Limits.{Limits}
 use Rattle.format.specs.Decode.{decode}
 use Rattle.job.specs.Refusals.{markChecks}
 use Rattle.checks.specs.Checks.{Check, check, firstRefusal}
-use Rattle.checks.proofs.Firsts.{skip, clear, append-none}
+use Rattle.checks.proofs.Firsts.{stop, clear}
 use Rattle.results.specs.Rules.{gridOf}
 use Rattle.partition.specs.Partitioned.{labelled}
-use Rattle.results.specs.Results.{workSize, ownEnds, marksOf, markWith, maxPairs, afterWork, outcome, workCheck, labelsOf, pairCheck, answerOf, reduced}
+use Rattle.results.specs.Results.{workSize, ownEnds, marksOf, markWith, maxPairs, labelsOf, answerOf, reduced, leftBy}
+use Rattle.results.specs.Returns.{FirstAnswer}
+use Rattle.results.proofs.Returns.{first-return, pairs-return, last-return, success-return}
 
 module _ (limits : Limits) (dirs : List ℕ) (checks : List Check) (j : Job) (ss : List Span) (work answer : List ℕ) where
-  pub reduced-success : firstRefusal checks ≡ none → workSize j ≤ length work → length (records dirs (gridOf j) ss) ≤ maxPairs
-      → length (answerOf limits dirs j ss) ≤ length answer
-      → reduced limits dirs checks j ss work answer
-      ≡ record {
-        number = 0;
-        detail = length (answerOf limits dirs j ss);
-        work = labelled (labelsOf dirs j ss) work;
-        out = splice answer 0 (answerOf limits dirs j ss);
-      }
-  unfolding reduced outcome afterWork
-  reduced-success e w p a =
-      let before : firstRefusal (checks ++ (workCheck j work ∷ [])) ≡ none = append-none checks _ e ∙ clear 21 0 (le-ltb _ _ w) in
-      let n = length (answerOf limits dirs j ss) in
-      let later : firstRefusal (pairCheck dirs j ss ∷ check (ltb (length answer) n) 22 n ∷ []) ≡ none
-      = skip 13 0 (check (ltb (length answer) n) 22 n ∷ []) (le-ltb _ _ p) ∙ clear 22 n (le-ltb _ _ a) in
-      rw (before, later)
+  abbrev bytes : List ℕ
+  bytes = answerOf limits dirs j ss
 
-module _ (dirs : List ℕ) (s work marks : List ℕ) where
-  pub mark-success : firstRefusal (markChecks s) ≡ none → workSize (decode s) ≤ length work
-      → length (records dirs (gridOf (decode s)) (ownEnds (decode s))) ≤ maxPairs
-      → length (decode s .boundaries) ≤ length marks
-      → markWith dirs s work marks
-      ≡ record {
-        number = 0;
-        detail = length (decode s .boundaries);
-        work = labelled (labelsOf dirs (decode s) (ownEnds (decode s))) work;
-        out = splice marks 0 (marksOf dirs (decode s));
-      }
-  unfolding markWith outcome afterWork
-  mark-success e w p a =
-      let j = decode s in
-      let before : firstRefusal (markChecks s ++ (workCheck j work ∷ [])) ≡ none = append-none (markChecks s) _ e ∙ clear 21 0 (le-ltb _ _ w) in
-      let later : firstRefusal (pairCheck dirs j (ownEnds j) ∷ check (ltb (length marks) (length (j .boundaries))) 23 0 ∷ []) ≡ none
-      = skip 13 0 (check (ltb (length marks) (length (j .boundaries))) 23 0 ∷ []) (le-ltb _ _ p) ∙ clear 23 0 (le-ltb _ _ a) in
-      rw (before, later)
+  abbrev room : List Check
+  room = check (ltb (length answer) (length bytes)) 22 (length bytes) ∷ []
+
+  -- a refusal of the input, and 21
+  pub reduced-first : {number detail : ℕ} → FirstAnswer (firstRefusal checks) (workSize j) (length work) number detail → 0 < number
+      → leftBy number detail work answer ≡ reduced limits dirs checks j ss work answer
+  unfolding reduced
+  reduced-first f h = first-return dirs checks room j ss work answer bytes (length bytes) f h
+
+  module _ (e : firstRefusal checks ≡ none) (w : workSize j ≤ length work) where
+    abbrev worked : List ℕ
+    worked = labelled (labelsOf dirs j ss) work
+
+    -- 13
+    pub reduced-many : maxPairs < length (records dirs (gridOf j) ss) → leftBy 13 0 worked answer ≡ reduced limits dirs checks j ss work answer
+    unfolding reduced
+    reduced-many h = pairs-return dirs checks room j ss work answer bytes (length bytes) e w h
+
+    module _ (p : length (records dirs (gridOf j) ss) ≤ maxPairs) where
+      -- 22
+      pub reduced-short : length answer < length bytes → reduced limits dirs checks j ss work answer ≡ leftBy 22 (length bytes) worked answer
+      unfolding reduced
+      reduced-short a = sym (last-return dirs checks room j ss work answer bytes (length bytes) e w p (stop 22 (length bytes) [] (lt-ltb _ _ a)))
+
+      pub reduced-success : length bytes ≤ length answer
+          → reduced limits dirs checks j ss work answer ≡ leftBy 0 (length bytes) worked (splice answer 0 bytes)
+      unfolding reduced
+      reduced-success a = sym (success-return dirs checks room j ss work answer bytes (length bytes) e w p (clear 22 (length bytes) (le-ltb _ _ a)))
+
+module _ (dirs s work marks : List ℕ) where
+  abbrev ends : List Span
+  ends = ownEnds (decode s)
+
+  abbrev count : ℕ
+  count = length (decode s .boundaries)
+
+  abbrev few : List Check
+  few = check (ltb (length marks) count) 23 0 ∷ []
+
+  -- a refusal of the input, and 21
+  pub mark-first : {number detail : ℕ} → FirstAnswer (firstRefusal (markChecks s)) (workSize (decode s)) (length work) number detail → 0 < number
+      → leftBy number detail work marks ≡ markWith dirs s work marks
+  unfolding markWith
+  mark-first f h = first-return dirs (markChecks s) few (decode s) ends work marks (marksOf dirs (decode s)) count f h
+
+  module _ (e : firstRefusal (markChecks s) ≡ none) (w : workSize (decode s) ≤ length work) where
+    abbrev marked : List ℕ
+    marked = labelled (labelsOf dirs (decode s) ends) work
+
+    -- 13
+    pub mark-many : maxPairs < length (records dirs (gridOf (decode s)) ends) → leftBy 13 0 marked marks ≡ markWith dirs s work marks
+    unfolding markWith
+    mark-many h = pairs-return dirs (markChecks s) few (decode s) ends work marks (marksOf dirs (decode s)) count e w h
+
+    module _ (p : length (records dirs (gridOf (decode s)) ends) ≤ maxPairs) where
+      -- 23
+      pub mark-short : length marks < count → markWith dirs s work marks ≡ leftBy 23 0 marked marks
+      unfolding markWith
+      mark-short a =
+          sym (last-return dirs (markChecks s) few (decode s) ends work marks (marksOf dirs (decode s)) count e w p (stop 23 0 [] (lt-ltb _ _ a)))
+
+      pub mark-success : count ≤ length marks → markWith dirs s work marks ≡ leftBy 0 count marked (splice marks 0 (marksOf dirs (decode s)))
+      unfolding markWith
+      mark-success a =
+          sym (success-return dirs (markChecks s) few (decode s) ends work marks (marksOf dirs (decode s)) count e w p (clear 23 0 (le-ltb _ _ a)))

@@ -1,5 +1,6 @@
 pub mod Rules
 pub mod AcceptedGroups
 pub mod Results
+pub mod Returns
 pub mod Calls
 pub mod Cases

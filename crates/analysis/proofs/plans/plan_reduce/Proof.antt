@@ -1,148 +1,95 @@
-use mathlib.Core.Path.{refl}
+use mathlib.Core.Path.{_≡_, refl, sym, _∙_}
+use mathlib.Core.Option.{none}
+use Prim.Native.Nat.{_≤_}
 use native.Mathlib.Omega.{arith}
-use Rattle.job.proofs.Passing.{went-on}
-use Rattle.analysis.proofs.Headed.{headed-cells}
-use Rattle.analysis.proofs.Leaving.{left-refused, left-short, left-many, left-made}
-use Rattle.analysis.proofs.Calling.{headed-work, header-there, reduce-job, reduce-headed}
 use borrow.Author.Needs.{needs}
+use lib.ListN.{length}
+use Rattle.format.specs.Decode.{decode}
+use Rattle.checks.specs.Checks.{firstRefusal}
+use Rattle.job.specs.Refusals.{reduceChecks}
+use Rattle.results.specs.Results.{workSize}
+use Rattle.results.specs.Returns.{FirstAnswer}
+use Rattle.results.proofs.Returns.{first-of, first-passed, first-room}
+use Rattle.analysis.specs.Plans.{Headed}
+use Rattle.analysis.proofs.Leaving.{left-first, left-pairs}
+use Rattle.analysis.proofs.Calling.{header-there, reduce-job, reduce-headed}
 use Rattle.analysis.proofs.plans.plan_reduce.Statement.{statement}
 use Rattle.analysis.proofs.plans.plan_reduce.Tie as tie
+
+abbrev start-of : tie.After-first-answer → tie.Start
+start-of c = c .before .before .before .before
+
+answered : (c : tie.After-first-answer) → FirstAnswer (firstRefusal (reduceChecks (start-of c .args .job .now))) (workSize (decode (start-of c .args .job .now)))
+    (length (start-of c .args .work .now)) (c .first-answer .result .number) (c .first-answer .result .detail)
+answered c = first-of (c .before .check-reduce .ensures) (c .first-answer .ensures)
+
+-- past the checks and 21
+abbrev given : tie.Else1 → tie.Start
+given c = start-of (c .before .before)
+
+passed : (c : tie.Else1) → firstRefusal (reduceChecks (given c .args .job .now)) ≡ none
+passed c = first-passed (answered (c .before .before)) (omega (arith, c .if1 .left))
+
+room : (c : tie.Else1) → workSize (decode (given c .args .job .now)) ≤ length (given c .args .work .now)
+room c = first-room (answered (c .before .before)) (omega (arith, c .if1 .left))
+
+read : (c : tie.After-read-header) → Headed (given (c .before) .args .job .now) (c .read-header .result)
+read c = let bytes = c .before .before .before .before .before .before in
+    reduce-headed (λ i. bytes .shared-slice-known .given i .fits) (passed (c .before)) (c .read-header .ensures)
 
 check-reduce-requires : tie.Need-check-reduce-requires
 check-reduce-requires c κs = search needs
 
-passed-requires : tie.Need-passed-requires
-passed-requires c κs = search needs
-
-number-requires : tie.Need-number-requires
-number-requires c κs = search needs
-
-detail-requires : tie.Need-detail-requires
-detail-requires c κs = search needs
+first-answer-requires : tie.Need-first-answer-requires
+first-answer-requires c κs = (λ e. reduce-job _ (sym (c .check-reduce .ensures) ∙ e), omega arith)
 
 returns : tie.Need-returns
-returns c =
-    let after-passed = c .before .before .before in
-    let after-check-reduce = after-passed .before in
-    left-refused _ _ _ _ _ _ (after-check-reduce .check-reduce .result) (after-check-reduce .check-reduce .ensures) (after-passed .passed .ensures)
-    (c .before .before .if1 .taken) (c .before .number .ensures) (c .detail .ensures)
+returns c = left-first (answered (c .before .before)) (c .if1 .taken)
 
 read-header-requires : tie.Need-read-header-requires
-read-header-requires c κs = header-there _ (reduce-job _ (went-on _ (c .before .before .check-reduce .ensures) (c .before .passed .ensures) (c .if1 .left)))
-
-mul-size : tie.Need-mul-size
-mul-size c =
-    let if1-left = c .before .before .before in
-    let after-passed = if1-left .before in
-    let after-check-reduce = after-passed .before in
-    let lent-shared-slice-known = after-check-reduce .before .before in
-    let e = went-on _ (after-check-reduce .check-reduce .ensures) (after-passed .passed .ensures) (if1-left .if1 .left) in
-    omega (arith, headed-cells (reduce-headed (λ i. lent-shared-slice-known .shared-slice-known .given i .fits) e (c .before .before .read-header .ensures)))
-
-size-requires : tie.Need-size-requires
-size-requires c κs = search needs
-
-mul-if2 : tie.Need-mul-if2
-mul-if2 c = search needs
-
-returns-2 : tie.Need-returns-2
-returns-2 c =
-    let after-read-header = c .before .before .before .before in
-    let if1-left = after-read-header .before in
-    let after-passed = if1-left .before in
-    let after-check-reduce = after-passed .before in
-    let lent-shared-slice-known = after-check-reduce .before .before in
-    let e = went-on _ (after-check-reduce .check-reduce .ensures) (after-passed .passed .ensures) (if1-left .if1 .left) in
-    let d = reduce-headed (λ i. lent-shared-slice-known .shared-slice-known .given i .fits) e (after-read-header .read-header .ensures) in
-    left-short _ _ _ _ _ _ e (omega (arith, c .if2 .taken, c .before .size .ensures .0, headed-work d))
+read-header-requires c κs = header-there _ (reduce-job _ (passed c))
 
 order-boundaries-requires : tie.Need-order-boundaries-requires
-order-boundaries-requires c κs =
-    let after-read-header = c .before .before .before .before .before .before .before in
-    let if1-left = after-read-header .before in
-    let after-passed = if1-left .before in
-    let after-check-reduce = after-passed .before in
-    let lent-shared-slice-known = after-check-reduce .before .before in
-    let e = went-on _ (after-check-reduce .check-reduce .ensures) (after-passed .passed .ensures) (if1-left .if1 .left) in
-    (reduce-headed (λ i. lent-shared-slice-known .shared-slice-known .given i .fits) e (after-read-header .read-header .ensures), refl)
+order-boundaries-requires c κs = (read (c .before .before .before), refl)
 
 plan-own-requires : tie.Need-plan-own-requires
 plan-own-requires c κs =
     let after-order-boundaries = c .before .before .before in
-    let if2-left = after-order-boundaries .before .before .before .before in
-    let after-size = if2-left .before in
-    let after-read-header = after-size .before .before .before in
-    let if1-left = after-read-header .before in
-    let after-passed = if1-left .before in
-    let after-check-reduce = after-passed .before in
-    let lent-shared-slice-known = after-check-reduce .before .before in
-    let start = lent-shared-slice-known .before in
-    let e = went-on _ (after-check-reduce .check-reduce .ensures) (after-passed .passed .ensures) (if1-left .if1 .left) in
-    let d = reduce-headed (λ i. lent-shared-slice-known .shared-slice-known .given i .fits) e (after-read-header .read-header .ensures) in (
+    let after-read-header = after-order-boundaries .before .before .before .before in
+    let start = given (after-read-header .before) in (
       record {
-        job = record { headed = d; ranks = after-order-boundaries .order-boundaries .ensures };
-        room = omega (arith, if2-left .if2 .left, after-size .size .ensures .0, headed-work d);
+        job = record { headed = read after-read-header; ranks = after-order-boundaries .order-boundaries .ensures };
+        room = room (after-read-header .before);
       },
-      e,
+      passed (after-read-header .before),
       refl,
       start .pre .0,
       start .pre .1,
     )
 
+of-pairs-requires : tie.Need-of-pairs-requires
+of-pairs-requires c κs = search needs
+
 same-length : tie.Need-same-length
 same-length c = search needs
 
-returns-3 : tie.Need-returns-3
-returns-3 c =
-    let after-plan-own = c .before .before .before in
-    let if2-left = after-plan-own .before .before .before .before .before .before .before .before in
-    let after-size = if2-left .before in
-    let after-read-header = after-size .before .before .before in
-    let if1-left = after-read-header .before in
-    let after-passed = if1-left .before in
-    let after-check-reduce = after-passed .before in
-    let lent-shared-slice-known = after-check-reduce .before .before in
-    let e = went-on _ (after-check-reduce .check-reduce .ensures) (after-passed .passed .ensures) (if1-left .if1 .left) in
-    let d = reduce-headed (λ i. lent-shared-slice-known .shared-slice-known .given i .fits) e (after-read-header .read-header .ensures) in
-    left-many _ _ _ _ _ _ e (omega (arith, if2-left .if2 .left, after-size .size .ensures .0, headed-work d)) (after-plan-own .plan-own .ensures)
-    (c .if3 .taken)
-
-same-length-2 : tie.Need-same-length-2
-same-length-2 c = search needs
-
-returns-4 : tie.Need-returns-4
-returns-4 c =
+returns-2 : tie.Need-returns-2
+returns-2 c =
     let after-plan-own = c .before .before .before in
     let after-order-boundaries = after-plan-own .before .before .before .before in
-    let if2-left = after-order-boundaries .before .before .before .before in
-    let after-size = if2-left .before in
-    let after-read-header = after-size .before .before .before in
-    let if1-left = after-read-header .before in
-    let after-passed = if1-left .before in
-    let after-check-reduce = after-passed .before in
-    let lent-shared-slice-known = after-check-reduce .before .before in
-    let e = went-on _ (after-check-reduce .check-reduce .ensures) (after-passed .passed .ensures) (if1-left .if1 .left) in
-    let d = reduce-headed (λ i. lent-shared-slice-known .shared-slice-known .given i .fits) e (after-read-header .read-header .ensures) in
-    left-made _ _ _ _ _ _ e (omega (arith, if2-left .if2 .left, after-size .size .ensures .0, headed-work d)) (after-plan-own .plan-own .ensures) (c .if3 .left)
-    (after-order-boundaries .order-boundaries .ensures)
+    let went-on = after-order-boundaries .before .before .before .before .before in
+    left-pairs (passed went-on) (room went-on) (after-plan-own .plan-own .ensures) (after-order-boundaries .order-boundaries .ensures) (c .of-pairs .ensures)
 
 pub plan-reduce-spec : {M : Type 1} → statement M
 plan-reduce-spec =
     tie.close
     (tie.spec
     check-reduce-requires
-    passed-requires
-    number-requires
-    detail-requires
+    first-answer-requires
     returns
     read-header-requires
-    mul-size
-    size-requires
-    mul-if2
-    returns-2
     order-boundaries-requires
     plan-own-requires
+    of-pairs-requires
     same-length
-    returns-3
-    same-length-2
-    returns-4)
+    returns-2)

@@ -1,134 +1,100 @@
+use mathlib.Core.Path.{_≡_, refl, sym, _∙_}
+use mathlib.Core.Option.{none}
 use Prim.Native.Nat.{_≤_}
 use native.Mathlib.Omega.{arith}
+use borrow.Author.Needs.{needs}
 use lib.ListN.{length}
 use Rattle.format.specs.Decode.{decode}
-use Rattle.job.proofs.Passing.{went-on}
-use Rattle.results.specs.Results.{workSize}
-use Rattle.results.proofs.Own.{mark-laid}
-use Rattle.chokes.proofs.Marked.{work-size, mark-cells, mark-count, mark-boundaries, mark-refused, mark-short, mark-many, mark-no-room, mark-done}
-use borrow.Author.Needs.{needs}
+use Rattle.checks.specs.Checks.{firstRefusal}
+use Rattle.job.specs.Refusals.{markChecks}
+use Rattle.results.specs.Results.{workSize, maxPairs}
+use Rattle.results.specs.Returns.{FirstAnswer}
+use Rattle.results.proofs.Returns.{first-of, first-passed, first-room, pairs-few}
+use Rattle.results.proofs.Results.{mark-first}
+use Rattle.analysis.specs.Plans.{OwnJob}
+use Rattle.analysis.proofs.Calling.{header-there, mark-job, mark-own}
+use Rattle.chokes.proofs.Marked.{mark-few, mark-count, marked-many, mark-no-room, mark-done, mark-as}
 use Rattle.chokes.proofs.Finishing.{leads-eight}
 use Rattle.chokes.proofs.mark.chokes_mark.Statement.{statement}
 use Rattle.chokes.proofs.mark.chokes_mark.Tie as tie
 
--- what the function is given and asked: the places since only say that its slices have lengths
-abbrev start-of : tie.After-slice-known2 → tie.Start
-start-of c = c .before .before .before
+abbrev start-of : tie.After-first-answer → tie.Start
+start-of c = c .before .before .before .before .before
+
+answered : (c : tie.After-first-answer) → FirstAnswer (firstRefusal (markChecks (start-of c .args .job .now))) (workSize (decode (start-of c .args .job .now)))
+    (length (start-of c .args .work .now)) (c .first-answer .result .number) (c .first-answer .result .detail)
+answered c = first-of (c .before .check-mark .ensures) (c .first-answer .ensures)
+
+-- past the checks and 21
+abbrev given : tie.Else1 → tie.Start
+given c = start-of (c .before .before)
+
+passed : (c : tie.Else1) → firstRefusal (markChecks (given c .args .job .now)) ≡ none
+passed c = first-passed (answered (c .before .before)) (omega (arith, c .if1 .left))
+
+room : (c : tie.Else1) → workSize (decode (given c .args .job .now)) ≤ length (given c .args .work .now)
+room c = first-room (answered (c .before .before)) (omega (arith, c .if1 .left))
+
+read : (c : tie.After-read-header) → OwnJob (given (c .before) .args .job .now) (c .read-header .result) (given (c .before) .args .work .now)
+read c =
+    let bytes = c .before .before .before .before .before .before .before in
+    mark-own (λ i. bytes .shared-slice-known .given i .fits) (passed (c .before)) (c .read-header .ensures) (room (c .before))
+
+-- past 13
+abbrev analysed : tie.Else2 → tie.After-analyse-boundaries
+analysed c = c .before .before .before .before .before
+
+few : (c : tie.Else2) → analysed c .analyse-boundaries .result ≤ maxPairs
+few c = pairs-few (c .before .before .of-pairs .ensures) (omega (arith, c .if2 .left))
+
+abbrev header : tie.Else2 → tie.After-read-header
+header c = analysed c .before .before .before
 
 check-mark-requires : tie.Need-check-mark-requires
 check-mark-requires c κs = search needs
 
-passed-requires : tie.Need-passed-requires
-passed-requires c κs = search needs
-
-number-requires : tie.Need-number-requires
-number-requires c κs = search needs
-
-detail-requires : tie.Need-detail-requires
-detail-requires c κs = search needs
+first-answer-requires : tie.Need-first-answer-requires
+first-answer-requires c κs = (λ e. mark-job _ (sym (c .check-mark .ensures) ∙ e), omega arith)
 
 returns : tie.Need-returns
-returns c =
-    let after-passed = c .before .before .before in
-    let after-check-mark = after-passed .before in
-    let start = start-of (after-check-mark .before) in
-    mark-refused (start .args .job .now) (start .args .work .now) (start .args .marks .now) (after-check-mark .check-mark .ensures)
-    (after-passed .passed .ensures) (c .before .before .if1 .taken) (c .before .number .ensures) (c .detail .ensures)
+returns c = mark-first _ _ _ _ (answered (c .before .before)) (c .if1 .taken) ∙ mark-as _ _ _
 
 read-header-requires : tie.Need-read-header-requires
-read-header-requires c κs = let e = went-on _ (c .before .before .check-mark .ensures) (c .before .passed .ensures) (c .if1 .left) in mark-laid _ e .0
-
-mul-size : tie.Need-mul-size
-mul-size c =
-    let if1-left = c .before .before .before in
-    let after-passed = if1-left .before in
-    let after-check-mark = after-passed .before in
-    let e = went-on _ (after-check-mark .check-mark .ensures) (after-passed .passed .ensures) (if1-left .if1 .left) in
-    omega (arith, mark-cells _ e _ (c .before .before .read-header .ensures))
-
-size-requires : tie.Need-size-requires
-size-requires c κs = search needs
-
-mul-if2 : tie.Need-mul-if2
-mul-if2 c = search needs
-
-returns-2 : tie.Need-returns-2
-returns-2 c =
-    let after-read-header = c .before .before .before .before in
-    let if1-left = after-read-header .before in
-    let after-passed = if1-left .before in
-    let after-check-mark = after-passed .before in
-    let start = start-of (after-check-mark .before) in
-    let e = went-on _ (after-check-mark .check-mark .ensures) (after-passed .passed .ensures) (if1-left .if1 .left) in
-    mark-short (start .args .job .now) (start .args .work .now) (start .args .marks .now) e
-    (omega (arith, c .if2 .taken, c .before .size .ensures .0, work-size _ e _ (after-read-header .read-header .ensures)))
+read-header-requires c κs = header-there _ (mark-job _ (passed c))
 
 analyse-boundaries-requires : tie.Need-analyse-boundaries-requires
-analyse-boundaries-requires c κs =
-    let after-size = c .before .before .before in
-    let after-read-header = after-size .before .before .before in
-    let if1-left = after-read-header .before in
-    let after-passed = if1-left .before in
-    let after-check-mark = after-passed .before in
-    let start = start-of (after-check-mark .before) in
-    let e = went-on _ (after-check-mark .check-mark .ensures) (after-passed .passed .ensures) (if1-left .if1 .left) in
-    let room : workSize (decode (start .args .job .now)) ≤ length (start .args .work .now) =
-    omega (arith, c .before .before .if2 .left, after-size .size .ensures .0, work-size _ e _ (after-read-header .read-header .ensures)) in
-    (record { passed = e; header = after-read-header .read-header .ensures; room = room }, leads-eight)
+analyse-boundaries-requires c κs = (read (c .before .before), leads-eight)
+
+of-pairs-requires : tie.Need-of-pairs-requires
+of-pairs-requires c κs = search needs
 
 same-length : tie.Need-same-length
 same-length c = search needs
 
-returns-3 : tie.Need-returns-3
-returns-3 c =
-    let after-analyse-boundaries = c .before .before .before in
-    let if2-left = after-analyse-boundaries .before .before .before in
-    let after-size = if2-left .before in
-    let after-read-header = after-size .before .before .before in
-    let if1-left = after-read-header .before in
-    let after-passed = if1-left .before in
-    let after-check-mark = after-passed .before in
-    let start = start-of (after-check-mark .before) in
-    let work = start .args .work .now in
-    let job = start .args .job .now in
-    let e = went-on _ (after-check-mark .check-mark .ensures) (after-passed .passed .ensures) (if1-left .if1 .left) in
-    let room : workSize (decode job) ≤ length work =
-    omega (arith, if2-left .if2 .left, after-size .size .ensures .0, work-size _ e _ (after-read-header .read-header .ensures)) in
-    mark-many job work (start .args .marks .now) e room (after-analyse-boundaries .analyse-boundaries .ensures) (c .if3 .taken)
+returns-2 : tie.Need-returns-2
+returns-2 c =
+    let after-analyse-boundaries = c .before .before .before .before .before in
+    let went-on = after-analyse-boundaries .before .before .before .before in
+    marked-many _ _ _ _ (passed went-on) (room went-on) (after-analyse-boundaries .analyse-boundaries .ensures) (c .before .before .of-pairs .ensures)
+    (c .if2 .taken) ∙ mark-as _ _ _
 
-size-requires-2 : tie.Need-size-requires-2
-size-requires-2 c κs = search needs
+size-requires : tie.Need-size-requires
+size-requires c κs = search needs
 
 same-length-2 : tie.Need-same-length-2
 same-length-2 c = search needs
 
-returns-4 : tie.Need-returns-4
-returns-4 c =
-    let after-analyse-boundaries = c .before .before .before .before .before in
-    let if2-left = after-analyse-boundaries .before .before .before in
-    let after-size = if2-left .before in
-    let after-read-header = after-size .before .before .before in
-    let if1-left = after-read-header .before in
-    let after-passed = if1-left .before in
-    let after-check-mark = after-passed .before in
-    let start = start-of (after-check-mark .before) in
-    let work = start .args .work .now in
-    let job = start .args .job .now in
-    let e = went-on _ (after-check-mark .check-mark .ensures) (after-passed .passed .ensures) (if1-left .if1 .left) in
-    let room : workSize (decode job) ≤ length work =
-    omega (arith, if2-left .if2 .left, after-size .size .ensures .0, work-size _ e _ (after-read-header .read-header .ensures)) in
-    mark-no-room job work (start .args .marks .now) e room (after-analyse-boundaries .analyse-boundaries .ensures) (c .before .before .if3 .left)
-    (omega (arith, c .if4 .taken, mark-boundaries _ e _ (after-read-header .read-header .ensures) _ (c .before .size2 .ensures .0)))
+returns-3 : tie.Need-returns-3
+returns-3 c =
+    let few-pairs = c .before .before .before in
+    let went-on = header few-pairs .before in
+    mark-no-room _ _ _ _ (passed went-on) (room went-on) (analysed few-pairs .analyse-boundaries .ensures) (few few-pairs)
+    (omega (arith, c .if3 .taken, mark-count (read (header few-pairs) .headed) (c .before .size .ensures .0))) ∙ mark-as _ _ _
 
 copy-first-requires : tie.Need-copy-first-requires
 copy-first-requires c κs =
-    let after-size2 = c .before .before .before in
-    let after-read-header = after-size2 .before .before .before .before .before .before .before .before .before .before .before in
-    let if1-left = after-read-header .before in
-    let after-passed = if1-left .before in
-    let after-check-mark = after-passed .before in
-    let e = went-on _ (after-check-mark .check-mark .ensures) (after-passed .passed .ensures) (if1-left .if1 .left) in
-    (omega (arith, after-size2 .size2 .ensures .0, mark-count _ e _ (after-read-header .read-header .ensures)), c .before .before .if4 .left)
+    let after-size = c .before .before .before in
+    (mark-few (read (header (after-size .before .before)) .headed) (after-size .size .ensures .0), c .before .before .if3 .left)
 
 same-length-3 : tie.Need-same-length-3
 same-length-3 c = search needs
@@ -136,50 +102,33 @@ same-length-3 c = search needs
 same-length-4 : tie.Need-same-length-4
 same-length-4 c = search needs
 
-returns-5 : tie.Need-returns-5
-returns-5 c =
-    let if4-left = c .before .before .before .before .before in
-    let after-size2 = if4-left .before in
-    let if3-left = after-size2 .before in
-    let after-analyse-boundaries = if3-left .before .before .before in
-    let if2-left = after-analyse-boundaries .before .before .before in
-    let after-size = if2-left .before in
-    let after-read-header = after-size .before .before .before in
-    let if1-left = after-read-header .before in
-    let after-passed = if1-left .before in
-    let after-check-mark = after-passed .before in
-    let start = start-of (after-check-mark .before) in
-    let work = start .args .work .now in
-    let job = start .args .job .now in
-    let e = went-on _ (after-check-mark .check-mark .ensures) (after-passed .passed .ensures) (if1-left .if1 .left) in
-    let room : workSize (decode job) ≤ length work =
-    omega (arith, if2-left .if2 .left, after-size .size .ensures .0, work-size _ e _ (after-read-header .read-header .ensures)) in
-    mark-done job work (start .args .marks .now) e room (after-analyse-boundaries .analyse-boundaries .ensures) (if3-left .if3 .left) _
-    (omega (arith, after-size2 .size2 .ensures .0, mark-count _ e _ (after-read-header .read-header .ensures)))
-    (mark-boundaries _ e _ (after-read-header .read-header .ensures) _ (after-size2 .size2 .ensures .0)) (if4-left .if4 .left) _
-    (c .before .before .copy-first .ensures)
+returns-4 : tie.Need-returns-4
+returns-4 c =
+    let wide = c .before .before .before .before .before in
+    let after-size = wide .before in
+    let few-pairs = after-size .before .before in
+    let went-on = header few-pairs .before in
+    let headed = read (header few-pairs) .headed in
+    mark-done _ _ _ _ (passed went-on) (room went-on) (analysed few-pairs .analyse-boundaries .ensures) (few few-pairs)
+    (mark-few headed (after-size .size .ensures .0)) (mark-count headed (after-size .size .ensures .0)) (wide .if3 .left) (c .before .before .copy-first .ensures)
+    ∙ mark-as _ _ _
 
 pub chokes-mark-spec : {M : Type 1} → statement M
 chokes-mark-spec =
     tie.close
     (tie.spec
     check-mark-requires
-    passed-requires
-    number-requires
-    detail-requires
+    first-answer-requires
     returns
     read-header-requires
-    mul-size
-    size-requires
-    mul-if2
-    returns-2
     analyse-boundaries-requires
+    of-pairs-requires
     same-length
-    returns-3
-    size-requires-2
+    returns-2
+    size-requires
     same-length-2
-    returns-4
+    returns-3
     copy-first-requires
     same-length-3
     same-length-4
-    returns-5)
+    returns-4)

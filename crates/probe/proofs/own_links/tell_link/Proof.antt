@@ -1,11 +1,11 @@
 use mathlib.Core.Path.{_∙_, ap}
 use native.Mathlib.Omega.{arith}
+use borrow.Author.Needs.{needs}
 use Rattle.wire.specs.Bytes.{splice}
 use Rattle.analysis.proofs.Headed.{headed-laid, headed-cells}
 use Rattle.analysis.proofs.Calling.{headed-work}
 use Rattle.probe.specs.Links.{bitsOf}
 use Rattle.probe.proofs.LinkLaws.{link-told}
-use borrow.Author.Needs.{needs}
 use Rattle.probe.proofs.own_links.tell_link.Statement.{statement}
 use Rattle.probe.proofs.own_links.tell_link.Tie as tie
 
@@ -14,24 +14,18 @@ abbrev start-of : tie.After-slice-known → tie.Start
 start-of c = c .before .before .before
 
 mul-size : tie.Need-mul-size
-mul-size c =
-    let start = start-of (c .before .before) in
-    omega (arith, headed-cells (start .pre .0))
+mul-size c = omega (arith, headed-cells (start-of (c .before .before) .pre .0))
 
 size-requires : tie.Need-size-requires
 size-requires c κs = search needs
-
-of-000-requires : tie.Need-of-000-requires
-of-000-requires c κs = search needs
 
 link-between-requires : tie.Need-link-between-requires
 link-between-requires c κs = search needs
 
 measure-one-requires : tie.Need-measure-one-requires
 measure-one-requires c κs =
-    let start = start-of (c .before .before .before .before .before) in
-    let pre = start .pre in
-    let n = c .before .before .size .ensures .0 in
+    let pre = start-of (c .before .before .before .before) .pre in
+    let n = c .before .size .ensures .0 in
     (omega (arith, headed-laid (pre .0) .within .width-some), omega (arith, n, headed-cells (pre .0)), omega (arith, n, headed-work (pre .0), pre .3))
 
 measured-requires : tie.Need-measured-requires
@@ -57,8 +51,8 @@ flag-requires c κs = search needs
 
 write-link-requires : tie.Need-write-link-requires
 write-link-requires c κs =
-    let start = start-of (c .before .before .before .before .before .before .before .before .before .before .before .before .before .before) in
-    omega (arith, start .pre .4)
+    let after-measured = c .before .before .before .before .before .before .before in
+    omega (arith, start-of (after-measured .before .before .before .before .before .before) .pre .4)
 
 same-length : tie.Need-same-length
 same-length c = search needs
@@ -69,22 +63,20 @@ returns c =
     let after-bits-of2 = after-flag .before in
     let after-longitudinal-of = after-bits-of2 .before in
     let after-bits-of = after-longitudinal-of .before in
-    let at-transverse-of = after-bits-of .before in
-    let at-kind-of = at-transverse-of .before in
-    let p10 = at-kind-of .before in
-    let measured = p10 in
-    let start = measured .before .before .before .before .before .before .before .before .before .before in
+    let after-transverse-of = after-bits-of .before in
+    let after-kind-of = after-transverse-of .before in
+    let after-measured = after-kind-of .before in
+    let after-measure-one = after-measured .before in
+    let after-link-between = after-measure-one .before in
+    let after-size = after-link-between .before in
+    let start = start-of (after-size .before .before .before) in
     let given = start .args in
-    let m = measured .measured .ensures in
     c .before .before .write-link .ensures
     ∙ ap (splice (given .out .now) 0)
-    (link-told (start .pre .0) (measured .before .before .before .before .size .ensures .0) (given .labels .now) (given .region) (given .first)
-    (given .second) _
-    (measured .before .before .before .of-000 .ensures) (measured .before .before .link-between .ensures) (measured .before .measure-one .ensures) m
-    (at-kind-of .kind-of .ensures)
-    (after-bits-of .bits-of .ensures ∙ ap bitsOf (at-transverse-of .transverse-of .ensures))
-    (after-bits-of2 .bits-of2 .ensures
-    ∙ ap bitsOf (after-longitudinal-of .longitudinal-of .ensures)) (after-flag .flag .ensures))
+    (link-told (start .pre .0) (after-size .size .ensures .0) (given .labels .now) (given .region) (given .first) (given .second) _
+    (after-link-between .link-between .ensures) (after-measure-one .measure-one .ensures) (after-measured .measured .ensures) (after-kind-of .kind-of .ensures)
+    (after-bits-of .bits-of .ensures ∙ ap bitsOf (after-transverse-of .transverse-of .ensures))
+    (after-bits-of2 .bits-of2 .ensures ∙ ap bitsOf (after-longitudinal-of .longitudinal-of .ensures)) (after-flag .flag .ensures))
 
 pub tell-link-spec : {M : Type 1} → statement M
 tell-link-spec =
@@ -92,7 +84,6 @@ tell-link-spec =
     (tie.spec
     mul-size
     size-requires
-    of-000-requires
     link-between-requires
     measure-one-requires
     measured-requires

@@ -1,32 +1,29 @@
-use Prim.Native.Nat.{_+_, _-_}
 use mathlib.Core.Path.{refl}
 use native.Mathlib.Omega.{arith}
-use Rattle.assessments.proofs.Recording.{zero-arrays}
-use Rattle.probe.proofs.PartingLaws.{taken-few, taken-count, taken-inside, taken-map, taken-partitionable, all-parted}
 use borrow.Author.Needs.{needs}
+use Rattle.grid.specs.Directions.{directionsOf}
+use Rattle.assessments.proofs.Recording.{zero-arrays}
+use Rattle.analysis.proofs.Headed.{headed-laid, headed-cells}
+use Rattle.analysis.proofs.Mapped.{map-inside}
+use Rattle.analysis.proofs.OwnEnds.{own-partitionable}
+use Rattle.probe.proofs.PartingLaws.{all-parted}
 use Rattle.probe.proofs.own_partition.partition_job.Statement.{statement}
 use Rattle.probe.proofs.own_partition.partition_job.Tie as tie
 
--- what the function is given and asked: the places since only say that its slices have lengths
-abbrev start-of : tie.After-slice-known2 → tie.Start
-start-of c = c .before .before .before
+abbrev start-of : tie.After-struct-known → tie.Start
+start-of c = c .before .before .before .before .before
 
 mul-size : tie.Need-mul-size
-mul-size c =
-    let start = start-of c in
-    omega (arith, taken-few (start .pre))
+mul-size c = omega (arith, headed-cells (start-of c .pre .0 .headed))
 
 size-requires : tie.Need-size-requires
 size-requires c κs = search needs
 
-own-spans-requires : tie.Need-own-spans-requires
-own-spans-requires c κs =
-    let lent-shared-slice-known = c .before .before .before .before in
-    let start = lent-shared-slice-known .before in (
-      taken-count (start .pre) (λ i. omega (arith, lent-shared-slice-known .shared-slice-known .given i)),
-      taken-inside (start .pre) (λ i. omega (arith, lent-shared-slice-known .shared-slice-known .given i)),
-      refl,
-    )
+size-requires-2 : tie.Need-size-requires-2
+size-requires-2 c κs = search needs
+
+own-ends-requires : tie.Need-own-ends-requires
+own-ends-requires c κs = (start-of (c .before .before .before) .pre .0 .headed, refl)
 
 add-partition-by-spans : tie.Need-add-partition-by-spans
 add-partition-by-spans c = search needs
@@ -39,9 +36,9 @@ part-partition-by-spans-start c = search needs
 
 part-partition-by-spans-end : tie.Need-part-partition-by-spans-end
 part-partition-by-spans-end c =
-    let lent-shared-slice-known = c .before .before .before .before .before in
-    let start = lent-shared-slice-known .before in
-    omega (arith, taken-map (start .pre) (λ i. omega (arith, lent-shared-slice-known .shared-slice-known .given i)), c .before .before .size .ensures .0)
+    let after-size = c .before .before .before in
+    let headed = start-of (after-size .before) .pre .0 .headed in
+    omega (arith, map-inside (headed .header) (headed-laid headed) _ (after-size .size .ensures .0))
 
 slice-aggregate-partition-by-spans : tie.Need-slice-aggregate-partition-by-spans
 slice-aggregate-partition-by-spans c = search needs
@@ -60,21 +57,20 @@ slice-aggregate-partition-by-spans-5 c = search needs
 
 partition-by-spans-requires : tie.Need-partition-by-spans-requires
 partition-by-spans-requires c κs =
-    let after-own-spans = c .before .before .before .before .before .before .before .before in
-    let after-size = after-own-spans .before .before in
-    let lent-shared-slice-known = after-size .before .before .before in
-    let start = lent-shared-slice-known .before in (
-      taken-partitionable (start .pre) (λ i. omega (arith, lent-shared-slice-known .shared-slice-known .given i)) (after-own-spans .own-spans .ensures)
-          (48 + after-size .size .result - 48) (omega (arith, after-size .size .ensures .0)),
+    let after-own-ends = c .before .before .before .before .before .before .before .before in
+    let after-size2 = after-own-ends .before .before in
+    let start = start-of (after-size2 .before .before) in (
+      own-partitionable (start .pre .0) (after-size2 .before .size .ensures .0) (after-size2 .size2 .ensures .0) (after-own-ends .own-ends .ensures)
+          (start .pre .1),
       zero-arrays 4096 (omega arith),
     )
 
 write-partition-requires : tie.Need-write-partition-requires
 write-partition-requires c κs =
-    let lent-shared-slice-known =
-    c .before .before .before .before .before .before .before .before .before .before .before .before .before .before .before .before .before .before .before .before .before .before .before .before .before .before .before in
-    let start = lent-shared-slice-known .before in
-    taken-count (start .pre) (λ i. omega (arith, lent-shared-slice-known .shared-slice-known .given i))
+    let after-partition-by-spans = c .before .before .before .before .before .before .before .before .before .before .before .before .before in
+    let after-size2 = after-partition-by-spans .before .before .before .before .before .before .before .before .before .before .before in
+    let headed = start-of (after-size2 .before .before) .pre .0 .headed in
+    omega (arith, after-size2 .size2 .ensures .0, headed-laid headed .within .boundaries)
 
 same-length : tie.Need-same-length
 same-length c = search needs
@@ -84,15 +80,15 @@ same-length-2 c = search needs
 
 returns : tie.Need-returns
 returns c =
-    let after-partition-by-spans =
-    c .before .before .before .before .before .before .before .before .before .before .before .before .before .before .before .before in
-    let after-own-spans = after-partition-by-spans .before .before .before .before .before .before .before .before .before in
-    let after-size = after-own-spans .before .before in
-    let lent-shared-slice-known = after-size .before .before .before in
-    let start = lent-shared-slice-known .before in
-    all-parted (start .pre) (λ i. omega (arith, lent-shared-slice-known .shared-slice-known .given i)) (after-own-spans .own-spans .ensures)
-    (48 + after-size .size .result - 48) (omega (arith, after-size .size .ensures .0)) (after-partition-by-spans .partition-by-spans .ensures)
-    (c .before .before .write-partition .ensures)
+    let after-write-partition = c .before .before in
+    let after-work = after-write-partition .before .before .before .before .before .before .before .before .before .before .before .before .before in
+    let after-partition-by-spans = after-work .before in
+    let after-own-ends = after-partition-by-spans .before .before .before .before .before .before .before .before .before in
+    let after-size2 = after-own-ends .before .before in
+    let start = start-of (after-size2 .before .before) in
+    all-parted (start .pre .0) (after-size2 .before .size .ensures .0) (after-size2 .size2 .ensures .0) (after-own-ends .own-ends .ensures)
+    (directionsOf (start .args .directions)) (after-partition-by-spans .partition-by-spans .ensures)
+    (after-write-partition .write-partition .ensures)
 
 pub partition-job-spec : {M : Type 1} → statement M
 partition-job-spec =
@@ -100,7 +96,8 @@ partition-job-spec =
     (tie.spec
     mul-size
     size-requires
-    own-spans-requires
+    size-requires-2
+    own-ends-requires
     add-partition-by-spans
     sub-partition-by-spans
     part-partition-by-spans-start

@@ -1,15 +1,27 @@
 use mathlib.Core.Path.{refl}
+use Prim.Native.Nat.{_≤_}
 use native.Mathlib.Omega.{arith}
-use lib.ListN.{getD}
-use Rattle.probe.specs.Parting.{countBytes}
-use Rattle.probe.proofs.WritingLaws.{length-two, length-blocks, after-head}
-use Rattle.probe.specs.Parting.{many, short, written}
 use borrow.Author.Needs.{needs}
+use lib.ListN.{getD}
+use Rattle.results.proofs.Returns.{pairs-few}
+use Rattle.probe.specs.Parting.{countBytes, short, written}
+use Rattle.probe.proofs.WritingLaws.{length-two, length-blocks, after-head}
+use Rattle.probe.proofs.PartingLaws.{told-many}
 use Rattle.probe.proofs.own_partition.write_partition.Statement.{statement}
 use Rattle.probe.proofs.own_partition.write_partition.Tie as tie
 
+abbrev start-of : tie.Else1 → tie.Start
+start-of c = c .before .before .before .before
+
+-- past 13
+few : (c : tie.Else1) → start-of c .args .pairs ≤ 4096
+few c = pairs-few (c .before .before .of-pairs .ensures) (omega (arith, c .if1 .left))
+
+of-pairs-requires : tie.Need-of-pairs-requires
+of-pairs-requires c κs = search needs
+
 returns : tie.Need-returns
-returns c = many (c .if1 .taken) refl refl refl
+returns c = told-many (c .before .before .of-pairs .ensures) (c .if1 .taken)
 
 mul-start : tie.Need-mul-start
 mul-start c = search needs
@@ -18,19 +30,19 @@ add-start : tie.Need-add-start
 add-start c = search needs
 
 mul-total : tie.Need-mul-total
-mul-total c = search needs
+mul-total c = omega (arith, few c)
 
 add-total : tie.Need-add-total
-add-total c = search needs
+add-total c = omega (arith, few c)
 
 returns-2 : tie.Need-returns-2
-returns-2 c = short (omega (arith, c .before .if1 .left)) (c .if2 .taken) refl refl refl
+returns-2 c = short (few (c .before)) (c .if2 .taken) refl refl refl
 
 write-u32-requires : tie.Need-write-u32-requires
 write-u32-requires c κs = search needs
 
 cast-write-u32 : tie.Need-cast-write-u32
-cast-write-u32 c = search needs
+cast-write-u32 c = omega (arith, few (c .before .before .before .before .before .before))
 
 write-u32-requires-2 : tie.Need-write-u32-requires-2
 write-u32-requires-2 c κs = search needs
@@ -39,7 +51,9 @@ write-counts-requires : tie.Need-write-counts-requires
 write-counts-requires c κs = search needs
 
 write-records-requires : tie.Need-write-records-requires
-write-records-requires c κs = search needs
+write-records-requires c κs =
+    let few-pairs = c .before .before .before .before .before .before .before .before .before .before .before .before .before .before in
+    (few few-pairs, search needs, search needs)
 
 same-length : tie.Need-same-length
 same-length c = search needs
@@ -47,24 +61,21 @@ same-length c = search needs
 returns-3 : tie.Need-returns-3
 returns-3 c =
     let after-write-counts = c .before .before .before .before .before .before in
-    let at-write-u322 = after-write-counts .before .before .before .before in
-    let at-write-u32 = at-write-u322 .before .before .before .before in
-    let at-if2 = at-write-u32 .before .before in
-    let at-if1 = at-if2 .before in
-    let start = at-if1 .before .before in
-    let given = start .args in
+    let after-write-u322 = after-write-counts .before .before .before .before in
+    let after-write-u32 = after-write-u322 .before .before .before .before in
+    let wide = after-write-u32 .before .before in
+    let given = start-of (wide .before) .args in
     let long = length-blocks 8 (λ i. countBytes (getD (given .removed .now) i 0) (getD (given .separated .now) i 0)) (λ i. length-two _ _) (given .count) in
-    let few = at-if1 .if1 .left in
-    let room = at-if2 .if2 .left in
-    written (omega (arith, few)) (omega (arith, room)) refl refl
-    (after-head (given .out .now) (given .areas) (given .pairs) _ _ long (omega (arith, room)) (at-write-u32 .write-u32 .ensures)
-    (at-write-u322 .write-u322 .ensures) (after-write-counts .write-counts .ensures)
-    (c .before .before .write-records .ensures))
+    let room = wide .if2 .left in
+    written (few (wide .before)) (omega (arith, room)) refl refl
+    (after-head (given .out .now) (given .areas) (given .pairs) _ _ long (omega (arith, room)) (after-write-u32 .write-u32 .ensures)
+    (after-write-u322 .write-u322 .ensures) (after-write-counts .write-counts .ensures) (c .before .before .write-records .ensures))
 
 pub write-partition-spec : {M : Type 1} → statement M
 write-partition-spec =
     tie.close
     (tie.spec
+    of-pairs-requires
     returns
     mul-start
     add-start

@@ -2,7 +2,8 @@ use mathlib.Core.Path.{refl}
 use native.Mathlib.Omega.{arith}
 use Rattle.analysis.proofs.Calling.{header-there, reduce-job, reduce-headed}
 use Rattle.probe.specs.Regions.{declined, short, told}
-use Rattle.probe.proofs.RegionLaws.{ready-now, ready-passed, ready-room}
+use Rattle.results.proofs.Returns.{first-passed, first-room}
+use Rattle.probe.proofs.RegionLaws.{ready-now}
 use borrow.Author.Needs.{needs}
 use Rattle.probe.proofs.own_regions.probe_region.Statement.{statement}
 use Rattle.probe.proofs.own_regions.probe_region.Tie as tie
@@ -21,16 +22,16 @@ returns-2 c =
 read-header-requires : tie.Need-read-header-requires
 read-header-requires c κs =
     let after-unready = c .before .before .before in
-    header-there _ (reduce-job _ (ready-passed (after-unready .unready .ensures) (omega (arith, c .before .if1 .left))))
+    header-there _ (reduce-job _ (first-passed (after-unready .unready .ensures) (omega (arith, c .before .if1 .left))))
 
 tell-region-requires : tie.Need-tell-region-requires
 tell-region-requires c κs =
     let at-if1 = c .before .before .before in
     let at-unready = at-if1 .before .before in
     let at-shared-slice-known = at-unready .before .before .before in
-    let passed = ready-passed (at-unready .unready .ensures) (omega (arith, at-if1 .if1 .left)) in (
+    let passed = first-passed (at-unready .unready .ensures) (omega (arith, at-if1 .if1 .left)) in (
       reduce-headed (λ i. at-shared-slice-known .shared-slice-known .given i .fits) passed (c .before .read-header .ensures),
-      ready-room
+      first-room
           (at-unready .unready .ensures) (omega (arith, at-if1 .if1 .left)),
       omega (arith, c .before .before .if2 .left),
     )
