@@ -3,13 +3,22 @@ use borrow.Author.Needs.{needs}
 use Rattle.encoding.proofs.from_job.write_placed.Statement.{statement}
 use Rattle.encoding.proofs.from_job.write_placed.Tie as tie
 
--- earlier places, each found by what it is
+-- the places that the facts come from, each from a later one
+abbrev known : tie.After-gather-kept → tie.After-slice-known5
+known c = search
+
 abbrev start-of : tie.After-gather-kept → tie.Start
-start-of c = search
+start-of c = known c .before .before .before .before .before .before .before .before .before .before .before .before .before
+
+abbrev lent : tie.After-write-kept-arg3 → tie.After-seen
+lent c = search
+
+abbrev gathered : tie.After-write-kept-arg3 → tie.After-gather-kept
+gathered c = lent c .before .before .before .before .before .before .before .before
 
 write-kept-requires : tie.Need-write-kept-requires
 write-kept-requires c κs =
-    let after-gather-kept : tie.After-gather-kept = search in
+    let after-gather-kept = gathered c in
     let start = start-of after-gather-kept in
     record {
       n = start .args .n;
@@ -23,7 +32,7 @@ write-kept-requires c κs =
 
 returns : tie.Need-returns
 returns c =
-    let after-gather-kept : tie.After-gather-kept = search in
+    let after-gather-kept = gathered (c .before .before .before) in
     let start = start-of after-gather-kept in
     λ os ss p.
     c .before .before .write-kept .ensures (start .args .n) _ (sym (after-gather-kept .gather-kept .ensures os ss p .1))

@@ -9,8 +9,14 @@ use Rattle.encoding.proofs.from_job.write_with.Statement.{statement}
 use Rattle.encoding.proofs.from_job.write_with.Tie as tie
 
 -- the places that the facts come from, each from a later one
+abbrev known : tie.After-size6 → tie.After-slice-known11
+known c = search
+
+abbrev start-of : tie.After-slice-known11 → tie.Start
+start-of c = search
+
 abbrev given : tie.After-size6 → tie.Start
-given c = search
+given c = start-of (known c)
 
 abbrev read : tie.After-place-all → tie.After-size6
 read c = search
@@ -18,8 +24,11 @@ read c = search
 abbrev placed : tie.After-counts → tie.After-place-all
 placed c = search
 
+abbrev named : tie.After-write-placed-arg11 → tie.After-firsts3
+named c = search
+
 abbrev lent : tie.After-write-placed-arg11 → tie.After-counts
-lent c = search
+lent c = named c .before .before .before .before .before .before .before .before
 
 abbrev answered : tie.After-slice-known23 → tie.After-write-placed
 answered c = search
@@ -40,7 +49,7 @@ ordered c =
 
 place-all-requires : tie.Need-place-all-requires
 place-all-requires c κs =
-    let sized : tie.After-size6 = search in
+    let sized = c .before .before .before .before .before .before .before .before in
     let three = sized .before .before .before in
     let j = job-places _ _ (words sized) in
     (j, place-room j (work-same (three .before .size2 .ensures .0) (three .size3 .ensures .0) (sized .size6 .ensures .0) (given sized .pre .1)))
