@@ -1,4 +1,4 @@
-/* The map as one SVG: its cells, then labels, bases, spans, boundaries, and the place of a fault. */
+/* The map as one SVG: its cells, then labels, bases, spans, boundaries, and the places of faults. */
 #include "tool.h"
 
 #include <inttypes.h>
@@ -140,12 +140,17 @@ static void draw_boundary_line(struct text *text, const struct page *page, uint3
     const uint8_t *b = record(&page->run->job, BOUNDARIES, i);
     const char *colour = page->groups != NULL ? group_colour(page, page->groups->goes[i]) : "#222";
     double u = page->unit;
-    say(text, "<a href=\"#b%" PRIu32 "\">", i);
+    /* A link to its row of the table, where there is one: a tap then shows what hovering does. */
+    if (page->groups != NULL) {
+        say(text, "<a href=\"#b%" PRIu32 "\">", i);
+    } else {
+        say(text, "<g>");
+    }
     say_title(text, page, i, sources);
     draw_line(text, b, "#fff", (kept ? 7 : 3.4) * u, " stroke-opacity=\".75\" stroke-linecap=\"round\"");
     draw_line(text, b, colour, (kept ? 4.5 : 1.5) * u, kept ? " stroke-linecap=\"round\"" : "");
     draw_badge(text, page, b, i, colour);
-    say(text, "</a>\n");
+    say(text, page->groups != NULL ? "</a>\n" : "</g>\n");
 }
 
 /* Boundaries that went into another first, so that the kept ones lie above them. */
@@ -196,25 +201,40 @@ static void draw_spans(struct text *text, const struct page *page)
     say(text, "</g>\n");
 }
 
-/* A ring about the place of the first fault; ends that are off the map count as the edge. */
-static void draw_fault(struct text *text, const struct page *page, const struct fault *f)
+static void draw_ring(struct text *text, const struct page *page, double x, double y)
 {
-    double most[2], at[4], u = page->unit, reach;
-    int i;
+    double width = CELL_PIXELS * (double)page->run->job.width, height = CELL_PIXELS * (double)page->run->job.height;
+    say(text, "<circle cx=\"%.6g\" cy=\"%.6g\" r=\"%.4g\"/>", x > width ? width : x, y > height ? height : y, 12 * page->unit);
+}
+
+/* A ring about a cell or point, or the line with a ring about each end; an end that is off the map counts as on its edge. */
+static void draw_fault(struct text *text, const struct page *page, const struct fault *f, int first)
+{
     if (f->place == NOWHERE) {
         return;
     }
-    most[0] = CELL_PIXELS * (double)page->run->job.width;
-    most[1] = CELL_PIXELS * (double)page->run->job.height;
-    for (i = 0; i < 4; i++) {
-        at[i] = f->place == AT_CELL ? CELL_PIXELS * (f->at[i % 2] + .5) : (double)f->at[i];
-        at[i] = at[i] > most[i % 2] ? most[i % 2] : at[i];
-    }
-    reach = (at[2] > at[0] ? at[2] - at[0] : at[0] - at[2]) + (at[3] > at[1] ? at[3] - at[1] : at[1] - at[3]);
-    say(text, "<g class=\"fault\" stroke-width=\"%.4g\"><title>", 3 * u);
+    say(text, "<g class=\"%s\" stroke-width=\"%.4g\"><title>", first ? "fault" : "fault other", (first ? 3 : 2) * page->unit);
     say_escaped(text, f->words);
-    say(text, "</title><line x1=\"%.6g\" y1=\"%.6g\" x2=\"%.6g\" y2=\"%.6g\"/><circle cx=\"%.6g\" cy=\"%.6g\" r=\"%.5g\"/></g>\n",
-        at[0], at[1], at[2], at[3], (at[0] + at[2]) / 2, (at[1] + at[3]) / 2, reach / 2 + 14 * u);
+    say(text, "</title>");
+    if (f->place == AT_CELL) {
+        draw_ring(text, page, CELL_PIXELS * (f->at[0] + .5), CELL_PIXELS * (f->at[1] + .5));
+    } else {
+        draw_ring(text, page, f->at[0], f->at[1]);
+    }
+    if (f->place == AT_SPAN) {
+        say(text, "<line x1=\"%" PRIu32 "\" y1=\"%" PRIu32 "\" x2=\"%" PRIu32 "\" y2=\"%" PRIu32 "\"/>", f->at[0], f->at[1],
+            f->at[2], f->at[3]);
+        draw_ring(text, page, f->at[2], f->at[3]);
+    }
+    say(text, "</g>\n");
+}
+
+static void draw_faults(struct text *text, const struct page *page)
+{
+    size_t i;
+    for (i = page->faults->count; i > 0; i--) {
+        draw_fault(text, page, &page->faults->at[i - 1], i == 1);
+    }
 }
 
 void draw_map(struct text *text, const struct page *page)
@@ -224,8 +244,8 @@ void draw_map(struct text *text, const struct page *page)
     say(text, "<svg xmlns=\"http://www.w3.org/2000/svg\" viewBox=\"%.6g %.6g %.6g %.6g\" width=\"%.0f\" height=\"%.0f\">\n",
         -edge, -edge, width + 2 * edge, height + 2 * edge, (width + 2 * edge) / page->unit,
         (height + 2 * edge) / page->unit);
-    say(text, "<defs><pattern id=\"ramp\" width=\".5\" height=\".5\" patternUnits=\"userSpaceOnUse\" "
-        "patternTransform=\"rotate(45)\"><rect width=\".2\" height=\".5\" fill=\"#5b3a1a\"/></pattern></defs>\n");
+    say(text, "<defs><pattern id=\"ramp\" width=\".35\" height=\".35\" patternUnits=\"userSpaceOnUse\" "
+        "patternTransform=\"rotate(45)\"><rect width=\".13\" height=\".35\" fill=\"#5b3a1a\"/></pattern></defs>\n");
     draw_cells(text, page);
     if (page->areas != NULL) {
         draw_labels(text, page);
@@ -235,8 +255,8 @@ void draw_map(struct text *text, const struct page *page)
         draw_spans(text, page);
     }
     draw_boundaries(text, page);
-    if (page->faults != NULL && page->faults->count > 0) {
-        draw_fault(text, page, &page->faults->at[0]);
+    if (page->faults != NULL) {
+        draw_faults(text, page);
     }
     say(text, "</svg>\n");
 }

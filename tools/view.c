@@ -8,21 +8,22 @@
 /* The size on the screen that a map is fitted into, and the largest cell. */
 #define SCREEN_WIDTH 1160.0
 #define SCREEN_HEIGHT 860.0
-#define LARGEST_CELL 36.0
+#define LARGEST_CELL 60.0
 
 static const char style[] =
     "body{font:15px/1.45 system-ui,sans-serif;margin:1.5rem auto;max-width:1220px;padding:0 1rem;color:#1c2127}\n"
     "h1{font-size:1.5rem;margin:0 0 .2rem}h2{font-size:1.1rem;margin:1.4rem 0 .4rem}p{margin:.3rem 0}\n"
     "svg{max-width:100%;height:auto;display:block;margin:.8rem 0}\n"
     "svg text{text-anchor:middle;font-family:system-ui,sans-serif;pointer-events:none}\n"
-    ".label text{fill:#1c2127;fill-opacity:.62;font-weight:600}\n"
+    ".label text{fill:#1c2127;fill-opacity:.75;font-weight:600}\n"
     ".base rect{fill:#111}.base text{fill:#fff;font-weight:600}.boundary text{font-weight:600}\n"
-    ".fault line,.fault circle{stroke:#d40000;fill:none}\n"
+    ".fault line,.fault circle{stroke:#d40000;fill:none}.other line,.other circle{stroke:#e07b00}\n"
     "table{border-collapse:collapse;font-size:.9rem}th,td{text-align:left;vertical-align:top;padding:.25rem .7rem .25rem 0;"
     "border-bottom:1px solid #d8dce0}th{white-space:nowrap}tr:target{background:#fff3c4}\n"
     ".wide{overflow-x:auto}.swatch{display:inline-block;width:.8em;height:.8em;margin-right:.4em;border-radius:2px}\n"
     ".legend span{margin-right:1.1rem;white-space:nowrap}.legend svg{display:inline-block;vertical-align:middle;margin:0 .35rem 0 0}\n"
-    ".words{background:#fdecea;border-left:4px solid #d40000;padding:.6rem .9rem;white-space:pre-wrap;overflow-x:auto}\n"
+    ".words{background:#fdecea;border-left:4px solid #d40000;padding:.6rem .9rem;white-space:pre-wrap;overflow-x:auto;"
+    "font:13.5px/1.45 ui-monospace,monospace}\n"
     "summary{cursor:pointer;margin:1.2rem 0 .4rem;font-weight:600}\n";
 
 static const char *const strong[8] = {"#c2185b", "#1565c0", "#2e7d32", "#6a1b9a", "#d84315", "#00695c", "#4527a0", "#9e5b00"};
@@ -72,7 +73,7 @@ static void say_legend(struct text *text, const struct page *page)
     static const char line[] = "<span><svg width=\"26\" height=\"12\"><line x1=\"2\" y1=\"6\" x2=\"24\" y2=\"6\" stroke=\"%s\" "
                                "stroke-width=\"%s\"%s/></svg>%s</span>\n";
     static const char disc[] = "<span><svg width=\"16\" height=\"16\"><circle cx=\"8\" cy=\"8\" r=\"6\" fill=\"%s\" "
-                               "stroke=\"#20252b\" stroke-width=\"1.5\"/></svg>%s</span>\n";
+                               "stroke=\"%s\" stroke-width=\"1.5\"/></svg>%s</span>\n";
     static const char box[] = "<span><svg width=\"14\" height=\"14\"><rect width=\"14\" height=\"14\" fill=\"%s\"/>%s</svg>%s</span>\n";
     say(text, "<p class=\"legend\">\n");
     say(text, box, "#3d434b", "", "blocked");
@@ -96,25 +97,43 @@ static void say_legend(struct text *text, const struct page *page)
         say(text, line, "#000", "1.5", " stroke-dasharray=\"3 3\"", "span of the list");
     }
     if (page->marks != NULL) {
-        say(text, disc, "#20252b", "bridge");
-        say(text, disc, "#fff", "no bridge");
+        say(text, disc, "#20252b", "#20252b", "bridge");
+        say(text, disc, "#fff", "#20252b", "no bridge");
+    }
+    if (page->faults != NULL) {
+        say(text, disc, "none", "#d40000", "refused for this");
+        say(text, disc, "none", "#e07b00", "to mend as well");
     }
     say(text, "</p>\n");
+}
+
+static void say_many(struct text *text, uint32_t count, const char *one, const char *many)
+{
+    say(text, "%" PRIu32 " %s", count, count == 1 ? one : many);
 }
 
 static void say_summary(struct text *text, const struct page *page)
 {
     const struct job *job = &page->run->job;
-    uint32_t kept = word(page->run->answer.at, 0), k, groups = 0;
+    uint32_t k, groups = 0;
     for (k = 0; k < page->groups->kept; k++) {
         groups += page->groups->members[k] > 1;
     }
-    say(text, "<p>%" PRIu32 " × %" PRIu32 " cells, %" PRIu32 " areas, %" PRIu32 " bases. %" PRIu32
-        " boundaries came in, %" PRIu32 " are kept: %" PRIu32 " for merged groups, %" PRIu32 " as they came.%s</p>\n",
-        job->width, job->height, page->run->areas, job->count[BASES], job->count[BOUNDARIES], kept, groups, kept - groups,
-        !page->run->by_list ? "" : span_count(page->run) == job->count[BOUNDARIES]
-            ? " The map is parted by a list of spans, one for each boundary; marks are made without a list, so none are shown."
-            : " The map is parted by a list of spans; there are not as many as boundaries, so nothing is merged.");
+    say(text, "<p>%" PRIu32 " × %" PRIu32 " cells, ", job->width, job->height);
+    say_many(text, page->run->areas, "area", "areas");
+    say(text, ", ");
+    say_many(text, job->count[BASES], "base. ", "bases. ");
+    say_many(text, job->count[BOUNDARIES], "boundary came in, ", "boundaries came in, ");
+    say_many(text, page->groups->kept, "is kept: ", "are kept: ");
+    say_many(text, groups, "for a merged group, ", "for merged groups, ");
+    say_many(text, page->groups->kept - groups, "as it came.", "as they came.");
+    if (page->run->by_list && span_count(page->run) == job->count[BOUNDARIES]) {
+        say(text, " The map is parted by a list of spans, one for each boundary; marks are made without a list, so none are "
+            "shown.");
+    } else if (page->run->by_list) {
+        say(text, " The map is parted by a list of spans; there are not as many as boundaries, so nothing is merged.");
+    }
+    say(text, "</p>\n");
 }
 
 static void fit(struct page *page)
