@@ -4,6 +4,7 @@
  *   main jobs N JOB ...      N jobs, changed or made by a fixed seed: explain, groups, marks and pages
  *   main drawings N FOLDER MAP ...   N changed drawings: what draw makes of them is accepted but for 12 and 13
  *   main arguments N WORD ...  N command lines of these words; the tool's status is 0, 1 or 2
+ *   main page FILE           whether a page is well formed
  *   main make KIND           a job of 1,024 x 1,024 cells and 256 boundaries, noise or open, to standard output
  */
 #include "damages.h"
@@ -335,6 +336,23 @@ static int make_large(const char *kind)
     return fflush(stdout) != 0;
 }
 
+static int check_page(const char *name)
+{
+    struct bytes page;
+    const char *why;
+    if (read_input(name, &page) != 0) {
+        return 1;
+    }
+    page.at = more_room(page.at, page.length + 1);
+    page.at[page.length] = 0;
+    why = ill_formed((char *)page.at);
+    if (why != NULL) {
+        printf("%s: %s\n", name, why);
+    }
+    free(page.at);
+    return why != NULL;
+}
+
 int main(int argc, char **argv)
 {
     unsigned long count = argc > 2 ? strtoul(argv[2], NULL, 10) : 0;
@@ -349,6 +367,9 @@ int main(int argc, char **argv)
     }
     if (argc > 3 && strcmp(argv[1], "arguments") == 0) {
         return check_arguments(count, argv + 3, argc - 3);
+    }
+    if (argc == 3 && strcmp(argv[1], "page") == 0) {
+        return check_page(argv[2]);
     }
     if (argc == 3 && strcmp(argv[1], "make") == 0) {
         return make_large(argv[2]);
