@@ -5,6 +5,13 @@
 #include <stdlib.h>
 #include <string.h>
 
+/* Within the SVG, so that it can be cut from the page. */
+static const char style[] =
+    "svg text{text-anchor:middle;font-family:system-ui,sans-serif;pointer-events:none}\n"
+    ".label text{fill:#1c2127;fill-opacity:.75;font-weight:600}\n"
+    ".base rect{fill:#111}.base text{fill:#fff;font-weight:600}.boundary text{font-weight:600}\n"
+    ".fault{stroke:#d40000;fill:none}.other{stroke:#e07b00}\n";
+
 struct square {
     uint32_t side, column, row;
     uint64_t off;
@@ -222,8 +229,8 @@ static void draw_fault(struct text *text, const struct page *page, const struct 
         draw_ring(text, page, f->at[0], f->at[1]);
     }
     if (f->place == AT_SPAN) {
-        say(text, "<line x1=\"%" PRIu32 "\" y1=\"%" PRIu32 "\" x2=\"%" PRIu32 "\" y2=\"%" PRIu32 "\"/>", f->at[0], f->at[1],
-            f->at[2], f->at[3]);
+        say(text, "<line x1=\"%" PRIu32 "\" y1=\"%" PRIu32 "\" x2=\"%" PRIu32 "\" y2=\"%" PRIu32 "\" stroke-width=\"%.4g\"/>",
+            f->at[0], f->at[1], f->at[2], f->at[3], 9 * page->unit);
         draw_ring(text, page, f->at[2], f->at[3]);
     }
     say(text, "</g>\n");
@@ -244,6 +251,7 @@ void draw_map(struct text *text, const struct page *page)
     say(text, "<svg xmlns=\"http://www.w3.org/2000/svg\" viewBox=\"%.6g %.6g %.6g %.6g\" width=\"%.0f\" height=\"%.0f\">\n",
         -edge, -edge, width + 2 * edge, height + 2 * edge, (width + 2 * edge) / page->unit,
         (height + 2 * edge) / page->unit);
+    say(text, "<style>\n%s</style>\n", style);
     say(text, "<defs><pattern id=\"ramp\" width=\".35\" height=\".35\" patternUnits=\"userSpaceOnUse\" "
         "patternTransform=\"rotate(45)\"><rect width=\".13\" height=\".35\" fill=\"#5b3a1a\"/></pattern></defs>\n");
     draw_cells(text, page);
@@ -254,9 +262,9 @@ void draw_map(struct text *text, const struct page *page)
     if (page->run->by_list && (page->faults == NULL || page->run->list.length / CHOKES_SPAN_BYTES <= MOST_SPANS)) {
         draw_spans(text, page);
     }
-    draw_boundaries(text, page);
     if (page->faults != NULL) {
         draw_faults(text, page);
     }
+    draw_boundaries(text, page);
     say(text, "</svg>\n");
 }

@@ -67,7 +67,7 @@ static void note_steps(const struct run *run, const struct point *span, int64_t 
     }
 }
 
-static int by_labels(const void *first, const void *second)
+int compare_pairs(const void *first, const void *second)
 {
     const uint32_t *a = first, *b = second;
     return a[0] != b[0] ? (a[0] < b[0] ? -1 : 1) : a[1] != b[1] ? (a[1] < b[1] ? -1 : 1) : 0;
@@ -79,9 +79,9 @@ static void keep_once(struct pairs *pairs)
     if (pairs->count == 0) {
         return;
     }
-    qsort(pairs->at, pairs->count, sizeof *pairs->at, by_labels);
+    qsort(pairs->at, pairs->count, sizeof *pairs->at, compare_pairs);
     for (i = 1; i < pairs->count; i++) {
-        if (by_labels(pairs->at[kept], pairs->at[i]) != 0) {
+        if (compare_pairs(pairs->at[kept], pairs->at[i]) != 0) {
             kept++;
             pairs->at[kept][0] = pairs->at[i][0];
             pairs->at[kept][1] = pairs->at[i][1];

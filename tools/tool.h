@@ -136,6 +136,8 @@ struct pairs {
 };
 
 struct pairs pairs_of(const struct run *run, const uint8_t *span);
+/* For qsort, by the first label, then by the second. */
+int compare_pairs(const void *first, const void *second);
 
 /* groups.c: the boundaries that each kept one stands for. */
 struct groups {

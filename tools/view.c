@@ -14,10 +14,6 @@ static const char style[] =
     "body{font:15px/1.45 system-ui,sans-serif;margin:1.5rem auto;max-width:1220px;padding:0 1rem;color:#1c2127}\n"
     "h1{font-size:1.5rem;margin:0 0 .2rem}h2{font-size:1.1rem;margin:1.4rem 0 .4rem}p{margin:.3rem 0}\n"
     "svg{max-width:100%;height:auto;display:block;margin:.8rem 0}\n"
-    "svg text{text-anchor:middle;font-family:system-ui,sans-serif;pointer-events:none}\n"
-    ".label text{fill:#1c2127;fill-opacity:.75;font-weight:600}\n"
-    ".base rect{fill:#111}.base text{fill:#fff;font-weight:600}.boundary text{font-weight:600}\n"
-    ".fault line,.fault circle{stroke:#d40000;fill:none}.other line,.other circle{stroke:#e07b00}\n"
     "table{border-collapse:collapse;font-size:.9rem}th,td{text-align:left;vertical-align:top;padding:.25rem .7rem .25rem 0;"
     "border-bottom:1px solid #d8dce0}th{white-space:nowrap}tr:target{background:#fff3c4}\n"
     ".wide{overflow-x:auto}.swatch{display:inline-block;width:.8em;height:.8em;margin-right:.4em;border-radius:2px}\n"
@@ -41,30 +37,45 @@ const char *group_colour(const struct page *page, uint32_t kept)
     return strong[groups % 8];
 }
 
+/* All spans' pairs in one list, sorted. */
+static uint32_t (*sorted_pairs(const struct page *page, size_t *count))[2]
+{
+    uint32_t i, spans = span_count(page->run), (*all)[2];
+    *count = 0;
+    for (i = 0; i < spans; i++) {
+        *count += page->pairs[i].count;
+    }
+    all = room(*count * sizeof *all);
+    *count = 0;
+    for (i = 0; i < spans; i++) {
+        if (page->pairs[i].count > 0) {
+            memcpy(all + *count, page->pairs[i].at, page->pairs[i].count * sizeof *all);
+            *count += page->pairs[i].count;
+        }
+    }
+    qsort(all, *count, sizeof *all, compare_pairs);
+    return all;
+}
+
 /* A colour for each area that none of its neighbours across a span has, as far as there are enough. */
 static void choose_colours(struct page *page)
 {
-    uint32_t areas = page->run->areas, label, i, spans = span_count(page->run);
-    unsigned *taken = room(sizeof *taken * ((size_t)areas + 1));
+    uint32_t areas = page->run->areas, label;
+    uint16_t *taken = room(sizeof *taken * ((size_t)areas + 1));
+    size_t count, at = 0;
+    uint32_t(*pairs)[2] = sorted_pairs(page, &count);
     for (label = 1; label <= areas; label++) {
-        page->colours[label] = AREA_COLOURS;
-    }
-    for (label = 1; label <= areas; label++) {
-        unsigned k = 0, first = (label - 1) % AREA_COLOURS;
+        unsigned k = 0, first = (label - 1) % AREA_COLOURS, chosen;
         while (k < AREA_COLOURS - 1 && (taken[label] >> (first + k) % AREA_COLOURS & 1) != 0) {
             k++;
         }
-        page->colours[label] = (uint8_t)((first + k) % AREA_COLOURS);
-        for (i = 0; taken[label] != ~0u && i < spans; i++) {
-            size_t j;
-            for (j = 0; j < page->pairs[i].count; j++) {
-                const uint32_t *pair = page->pairs[i].at[j];
-                if (pair[0] == label) {
-                    taken[pair[1]] |= 1u << page->colours[label];
-                }
-            }
+        chosen = (first + k) % AREA_COLOURS;
+        page->colours[label] = (uint8_t)chosen;
+        for (; at < count && pairs[at][0] == label; at++) {
+            taken[pairs[at][1]] |= (uint16_t)(1u << chosen);
         }
     }
+    free(pairs);
     free(taken);
 }
 
@@ -185,6 +196,7 @@ void view(struct text *text, const struct run *run, const char *name)
     struct pairs *pairs = NULL;
     struct area *areas = NULL;
     uint8_t marks[MOST_BOUNDARIES];
+    const char *shown = strcmp(name, "-") == 0 ? "standard input" : name;
     uint32_t i;
     memset(&page, 0, sizeof page);
     memset(&faults, 0, sizeof faults);
@@ -204,9 +216,9 @@ void view(struct text *text, const struct run *run, const char *name)
     }
     say(text, "<!DOCTYPE html>\n<html lang=\"en\">\n<head>\n<meta charset=\"utf-8\"/>\n"
         "<meta name=\"viewport\" content=\"width=device-width, initial-scale=1\"/>\n<title>");
-    say_escaped(text, name);
+    say_escaped(text, shown);
     say(text, "</title>\n<style>\n%s</style>\n</head>\n<body>\n<h1>", style);
-    say_escaped(text, strcmp(name, "-") == 0 ? "standard input" : name);
+    say_escaped(text, shown);
     say(text, "</h1>\n");
     say_body(text, &page);
     say(text, "</body>\n</html>\n");

@@ -232,9 +232,21 @@ static void change_drawing(struct bytes *text)
         size_t at = below((uint32_t)text->length);
         const char *piece = pieces[below(sizeof pieces / sizeof *pieces)];
         size_t length = strlen(piece);
-        switch (below(4)) {
+        switch (below(8)) {
         case 0:
             text->at[at] = (uint8_t)next();
+            break;
+        case 2:
+        case 3:
+        case 4:
+        case 5:
+            /* Another digit, in the place of the next one: the form stays, and a number is more or less. */
+            while (at < text->length && (text->at[at] < '0' || text->at[at] > '9')) {
+                at++;
+            }
+            if (at < text->length) {
+                text->at[at] = (uint8_t)('0' + below(10));
+            }
             break;
         case 1:
             memmove(text->at + at, text->at + at + 1, text->length - at - 1);
