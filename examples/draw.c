@@ -5,6 +5,7 @@
  * How a drawing is written stands at the top of tools/drawing.c. */
 #include "../tools/bytes.c"
 #include "../tools/drawing.c"
+#include "../tools/drawn.c"
 
 int main(int argc, char **argv)
 {

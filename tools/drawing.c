@@ -10,7 +10,7 @@
  * In the map '#' is blocked, '.' walkable and buildable, ',' walkable, '/' a ramp, '1' to '3' walkable and buildable at that
  * elevation; a capital letter is a '.' that holds the anchor of a base whose id is the letter's place, from 0. A cell is 8 pixels
  * wide and high. What is wrong is told with the file, its line, what was found and what is allowed. */
-#include "tool.h"
+#include "drawing.h"
 
 #include <ctype.h>
 #include <inttypes.h>
@@ -19,31 +19,6 @@
 #include <string.h>
 
 #define FIELDS 10
-
-struct drawn_end {
-    uint32_t ends[4];
-    double width;
-    uint32_t sources;
-    uint32_t line;
-};
-
-struct drawn_boundary {
-    struct drawn_end span;
-    uint32_t observations;
-    uint32_t ramp[4];
-};
-
-struct drawing {
-    const char *name;
-    uint32_t line;
-    int failed;
-    uint8_t *cells;
-    uint32_t width, height, count[SECTIONS];
-    uint32_t bases[MOST_BASES][3];
-    struct drawn_boundary boundaries[MOST_BOUNDARIES];
-    struct drawn_end observations[MOST_OBSERVATIONS];
-    uint32_t sources[MOST_SOURCES][2];
-};
 
 /* The first fault is told; what follows it is not looked at. */
 static void fault(struct drawing *d, uint32_t line, const char *format, ...) LIKE_PRINTF(3, 4);
@@ -321,61 +296,6 @@ static void check_ends(struct drawing *d)
             }
         }
     }
-}
-
-static void put_span(uint8_t *at, const struct drawn_end *span)
-{
-    uint64_t bits;
-    size_t i;
-    for (i = 0; i < 4; i++) {
-        put_word(at, 4 * i, span->ends[i]);
-    }
-    memcpy(&bits, &span->width, sizeof bits);
-    put_word(at, 16, (uint32_t)bits);
-    put_word(at, 20, (uint32_t)(bits >> 32));
-    put_word(at, 24, span->sources);
-}
-
-static struct bytes job_of(const struct drawing *d)
-{
-    uint32_t starts[SECTIONS + 1], i, k;
-    struct bytes job;
-    starts[CELLS] = CHOKES_JOB_HEADER_BYTES;
-    for (i = 0; i < SECTIONS; i++) {
-        starts[i + 1] = starts[i] + record_bytes[i] * (i == CELLS ? d->width * d->height : d->count[i]);
-    }
-    job.length = starts[SECTIONS];
-    job.at = room(job.length);
-    put_word(job.at, 0, d->width);
-    put_word(job.at, 4, d->height);
-    for (i = BASES; i < SECTIONS; i++) {
-        put_word(job.at, 4 * (size_t)(i + 1), d->count[i]);
-    }
-    for (i = 0; i <= SECTIONS; i++) {
-        put_word(job.at, 24 + 4 * (size_t)i, starts[i]);
-    }
-    memcpy(job.at + CHOKES_JOB_HEADER_BYTES, d->cells, (size_t)d->width * d->height);
-    for (i = 0; i < d->count[BASES]; i++) {
-        for (k = 0; k < 3; k++) {
-            put_word(job.at, starts[BASES] + CHOKES_BASE_BYTES * i + 4 * k, d->bases[i][k]);
-        }
-    }
-    for (i = 0; i < d->count[BOUNDARIES]; i++) {
-        uint8_t *at = job.at + starts[BOUNDARIES] + CHOKES_BOUNDARY_BYTES * (size_t)i;
-        const struct drawn_boundary *b = &d->boundaries[i];
-        put_span(at, &b->span);
-        put_word(at, 28, b->observations);
-        put_word(at, 32, b->ramp[0] | b->ramp[1] << 8 | b->ramp[2] << 16);
-        put_word(at, 36, b->ramp[3]);
-    }
-    for (i = 0; i < d->count[OBSERVATIONS]; i++) {
-        put_span(job.at + starts[OBSERVATIONS] + CHOKES_OBSERVATION_BYTES * (size_t)i, &d->observations[i]);
-    }
-    for (i = 0; i < d->count[SOURCES]; i++) {
-        put_word(job.at, starts[SOURCES] + CHOKES_SOURCE_BYTES * i, d->sources[i][0]);
-        put_word(job.at, starts[SOURCES] + CHOKES_SOURCE_BYTES * i + 4, d->sources[i][1]);
-    }
-    return job;
 }
 
 static int write_job(const char *name, const struct bytes *job)

@@ -1,11 +1,9 @@
-/* What is wrong with a header, with where the sections stand, and with a span list; refusals 1 to 5, 13, 14 and 15. */
-#include "tool.h"
+/* What is wrong with a header and with where the sections stand; refusals 1 to 5, and 13. */
+#include "faults.h"
 
 #include <inttypes.h>
 #include <stdlib.h>
 #include <string.h>
-
-#define FILL(field, ...) snprintf(field, sizeof(field), __VA_ARGS__)
 
 struct fault *add_fault(struct faults *faults, unsigned number, uint64_t detail)
 {
@@ -21,6 +19,27 @@ struct fault *add_fault(struct faults *faults, unsigned number, uint64_t detail)
     made->detail = detail;
     made->input = "job";
     return made;
+}
+
+/* Where in its section a record stands, in words. */
+void name_record(struct fault *f, const char *kind, uint32_t i, uint64_t count)
+{
+    FILL(f->record, "%s %" PRIu32 " (of %" PRIu64 ", counted from 0)", kind, i, count);
+}
+
+void set_byte(struct fault *f, uint64_t start, unsigned size, uint32_t i, unsigned field)
+{
+    f->byte = start + (uint64_t)i * size + field;
+    f->has_byte = 1;
+}
+
+void set_span(struct fault *f, const uint8_t *ends)
+{
+    int i;
+    f->place = AT_SPAN;
+    for (i = 0; i < 4; i++) {
+        f->at[i] = word(ends, 4 * (size_t)i);
+    }
 }
 
 /* A fault of one word of the header. */
@@ -156,6 +175,8 @@ void header_faults(struct faults *faults, const struct job *job)
     if (!job->readable) {
         faults->hidden = "Cells and records can't be told until the header's counts, its offsets and the file's "
                          "length agree.";
+    } else if (!job->sides) {
+        faults->hidden = "Whether anchors and ends lie on the map can't be told until its sides are right.";
     } else if (job->length < job->start[SECTIONS]) {
         faults->hidden = "Records past the end of the file can't be told.";
     }

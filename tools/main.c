@@ -16,8 +16,18 @@ static const char help[] =
     "  chokes --help                this text\n"
     "\n"
     "JOB and SPANS are files, or - for standard input. With SPANS the map is parted by that list and not by the\n"
-    "boundaries' own ends. A refused job prints 'refused', the number and the detail; input over 67,108,864 bytes\n"
-    "'too large'. Status: 0, 1 where the input is refused, 2 for misuse, or where a file can't be read or written.\n";
+    "boundaries' own ends.\n"
+    "\n"
+    "MAP is a text: a line 'map', the map's rows ('#' blocked, '.' walkable and buildable, ',' walkable, '/' a ramp,\n"
+    "'1' to '3' an elevation, 'A' to 'Z' the anchor of base 0 to 25), an empty line, and lines\n"
+    "  boundary AX AY BX BY WIDTH [END LOWER UPPER ID]   ends in pixels, 8 a cell; a ramp's end is 1 lower, 2 upper\n"
+    "  observation AX AY BX BY WIDTH                     of the last boundary\n"
+    "  source A B                                        of the last observation, or of the boundary before any\n"
+    "  base ID                                           a base without an anchor\n"
+    "  # ...                                             a comment\n"
+    "\n"
+    "A refused job prints 'refused', the number and the detail; input over 67,108,864 bytes 'too large'.\n"
+    "Status: 0, 1 where the input is refused, 2 for misuse, or where a file can't be read or written.\n";
 
 static int misuse(const char *why, const char *what)
 {

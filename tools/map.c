@@ -81,7 +81,7 @@ static void draw_bases(struct text *text, const struct page *page)
     const uint8_t *base;
     uint32_t i;
     double u = page->unit;
-    for (i = 0; (base = record(&page->run->job, BASES, i)) != NULL; i++) {
+    for (i = 0; i < MOST_BASES && (base = record(&page->run->job, BASES, i)) != NULL; i++) {
         double x = CELL_PIXELS * (word(base, 4) + .5), y = CELL_PIXELS * (word(base, 8) + .5);
         if (word(base, 4) >= page->run->job.width || word(base, 8) >= page->run->job.height) {
             continue;
@@ -160,7 +160,7 @@ static void draw_boundary_line(struct text *text, const struct page *page, uint3
     say(text, page->groups != NULL ? "</a>\n" : "</g>\n");
 }
 
-/* Boundaries that went into another first, so that the kept ones lie above them. */
+/* Boundaries that went into another first, so that the kept ones lie above them. Where there are too many the first are drawn. */
 static void draw_boundaries(struct text *text, const struct page *page)
 {
     const struct job *job = &page->run->job;
@@ -170,7 +170,7 @@ static void draw_boundaries(struct text *text, const struct page *page)
         const uint8_t *b;
         uint64_t source = 0;
         uint32_t i, j, observation = 0;
-        for (i = 0; (b = record(job, BOUNDARIES, i)) != NULL; i++) {
+        for (i = 0; i < MOST_BOUNDARIES && (b = record(job, BOUNDARIES, i)) != NULL; i++) {
             int kept = page->groups != NULL && page->groups->retained[page->groups->goes[i]] == i;
             const uint8_t *sources = page->groups == NULL ? NULL : job->bytes + job->start[SOURCES] +
                                                                         CHOKES_SOURCE_BYTES * source;

@@ -150,13 +150,13 @@ struct groups {
 /* 0, or 1 where the answer isn't what the groups give. */
 int find_groups(const struct run *run, struct groups *groups);
 
-/* faults.c, records.c: what is wrong with an input, in the order of the checks. */
+/* faults.c, records.c, spans.c: what is wrong with an input, in the order of the checks. */
 enum place { NOWHERE, AT_CELL, AT_SPAN, AT_POINT };
 
 struct fault {
     unsigned number;
     uint64_t detail;
-    char words[200], record[96], field[64], found[128], allowed[160];
+    char words[320], record[96], field[64], found[128], allowed[160];
     const char *input; /* "job" or "span list" */
     uint64_t byte;
     int has_byte;
@@ -174,11 +174,6 @@ struct faults {
     const char *hidden; /* what can't be told until these are mended, or NULL */
 };
 
-/* A fault to fill in, or NULL where enough of its number are told. */
-struct fault *add_fault(struct faults *faults, unsigned number, uint64_t detail);
-void header_faults(struct faults *faults, const struct job *job);
-void record_faults(struct faults *faults, const struct job *job, int by_list);
-void list_faults(struct faults *faults, const struct job *job, const struct bytes *list);
 /* All of them, with 13 where the call said so. */
 void find_faults(struct faults *faults, const struct run *run);
 
@@ -208,7 +203,7 @@ const char *group_colour(const struct page *page, uint32_t kept);
 extern const char *const area_colours[];
 #define AREA_COLOURS 10
 
-/* drawing.c */
+/* drawing.c, drawn.c */
 int draw(const char *drawing, const char *job);
 
 #endif

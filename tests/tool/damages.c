@@ -208,7 +208,27 @@ static int wrong_pairs(int by_list)
     return wrong;
 }
 
-/* Four faults at once, and a list that has two: all are told, in the order of the checks. */
+/* Explains the run and ends it; 0 where these words come in this order. */
+static int wrong_words_of(struct run *run, const char *const *words, size_t count)
+{
+    struct text text = {NULL, 0, 0};
+    const char *at;
+    size_t i;
+    make_run(run);
+    explain(&text, run);
+    at = text.at;
+    for (i = 0; at != NULL && i < count; i++) {
+        at = strstr(at, words[i]);
+    }
+    if (at == NULL) {
+        printf("'%s' isn't told in its place in:\n%s\n", words[i - 1], text.at);
+    }
+    end_run(run);
+    free(text.at);
+    return at == NULL;
+}
+
+/* Five faults at once, and a list that has two: all are told, in the order of the checks. */
 static int wrong_order(void)
 {
     static const char *const words[] = {"The cell in column 1, row 1", "6 more to mend", "Base 0 (id 5) has its anchor off", "(7)",
@@ -217,9 +237,6 @@ static int wrong_order(void)
                                         "Span 1 has no length", "(17)"};
     static const struct damage list = {"", "", "", "", "", 0, 0, {{0, 0, 0}}, 0, 33, {28, 4, 0}};
     struct run run;
-    struct text text = {NULL, 0, 0};
-    const char *at;
-    size_t i;
     memset(&run, 0, sizeof run);
     run.input = whole_job();
     run.input.at[55] = 64;
@@ -228,25 +245,52 @@ static int wrong_order(void)
     put_word(run.input.at, 156, 0x7ff80000u);
     put_word(run.input.at, 176, 1000);
     make_list(&run, &list);
-    make_run(&run);
-    explain(&text, &run);
-    at = text.at;
-    for (i = 0; at != NULL && i < sizeof words / sizeof *words; i++) {
-        at = strstr(at, words[i]);
-    }
-    if (at == NULL) {
-        printf("'%s' isn't told in its place in:\n%s\n", words[i - 1], text.at);
-    }
-    end_run(&run);
-    free(text.at);
-    return at == NULL;
+    return wrong_words_of(&run, words, sizeof words / sizeof *words);
+}
+
+/* Every cell wrong: the first twenty are told one by one, the others counted. */
+static int wrong_many(void)
+{
+    static const char *const words[] = {"refused 6 0\n", "23 more to mend", "cell 19 (of 24", "and 4 more faults of number 6\n"};
+    struct run run;
+    memset(&run, 0, sizeof run);
+    run.input = whole_job();
+    memset(run.input.at + 48, 255, 24);
+    return wrong_words_of(&run, words, sizeof words / sizeof *words);
+}
+
+/* Sums that one record alone breaks name it; what a wrong header hides is said. */
+static int wrong_hints(void)
+{
+    static const char *const sums[] = {"refused 8 0\n", "add up to 4294967297.", "Boundary 1 alone has 4294967295, at byte 164."};
+    static const char *const sides[] = {"refused 2 0\n", "6 more to mend", "offset of the bases is 72", "(5)", "Boundary 1 has a ramp end", "(9)",
+                                        "Whether anchors and ends lie on the map can't be told until its sides are right."};
+    static const char *const laid[] = {"refused 5 0\n", "offset of the cells", "(5)", "length\n",
+                                       "Cells and records can't be told until"};
+    struct run run;
+    int wrong;
+    memset(&run, 0, sizeof run);
+    run.input = whole_job();
+    put_word(run.input.at, 164, 4294967295u);
+    wrong = wrong_words_of(&run, sums, sizeof sums / sizeof *sums);
+    run.input = whole_job();
+    run.input.at[168] = 9;
+    /* Width 0, and no cells: the records stand where the counts place them. */
+    put_word(run.input.at, 0, 0);
+    memmove(run.input.at + 48, run.input.at + 72, 240);
+    run.input.length = 288;
+    wrong += wrong_words_of(&run, sides, sizeof sides / sizeof *sides);
+    run.input = whole_job();
+    put_word(run.input.at, 24, 1);
+    run.input.length = 300;
+    return wrong + wrong_words_of(&run, laid, sizeof laid / sizeof *laid);
 }
 
 int check_damages(void)
 {
     size_t i, count = sizeof damages / sizeof *damages;
     unsigned seen = 0;
-    int wrong = wrong_pairs(0) + wrong_pairs(1) + wrong_order();
+    int wrong = wrong_pairs(0) + wrong_pairs(1) + wrong_order() + wrong_many() + wrong_hints();
     for (i = 0; i < count; i++) {
         wrong += wrong_words(&damages[i]);
         seen |= 1u << damages[i].number;
@@ -256,6 +300,6 @@ int check_damages(void)
         printf("a number isn't tried\n");
         wrong++;
     }
-    printf("explain: %lu kinds of damage, %d told wrongly\n", (unsigned long)count + 3, wrong);
+    printf("explain: %lu kinds of damage, %d told wrongly\n", (unsigned long)count + 7, wrong);
     return wrong != 0;
 }
