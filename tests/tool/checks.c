@@ -1,0 +1,213 @@
+/* What the tool finds in an answer, held to what the answer and the marks say. */
+#include "damages.h"
+
+#include <stdlib.h>
+#include <string.h>
+
+/* An observation with its sources, as numbers that tell it apart. */
+struct seen {
+    uint32_t ends[4];
+    uint64_t bits;
+    uint32_t count;
+    uint32_t sources[64][2];
+};
+
+struct sight {
+    uint32_t own[512][2], own_count;
+    struct seen *observations;
+    uint32_t observation_count;
+};
+
+static int by_words(const void *first, const void *second)
+{
+    const uint32_t *a = first, *b = second;
+    return a[0] != b[0] ? (a[0] < b[0] ? -1 : 1) : a[1] != b[1] ? (a[1] < b[1] ? -1 : 1) : 0;
+}
+
+static uint32_t sort_once(uint32_t (*sources)[2], uint32_t count)
+{
+    uint32_t i, kept = 0;
+    qsort(sources, count, sizeof *sources, by_words);
+    for (i = 0; i < count; i++) {
+        if (i == 0 || by_words(sources[i], sources[kept - 1]) != 0) {
+            memmove(sources[kept++], sources[i], sizeof *sources);
+        }
+    }
+    return kept;
+}
+
+static int by_bytes(const void *first, const void *second)
+{
+    return memcmp(first, second, sizeof(struct seen));
+}
+
+static int add_seen(struct sight *sight, const uint8_t *record, const uint8_t *sources, uint32_t count)
+{
+    struct seen *made;
+    uint32_t i;
+    if (count > 64) {
+        return 1;
+    }
+    sight->observations = more_room(sight->observations, (sight->observation_count + 1) * sizeof *made);
+    made = &sight->observations[sight->observation_count++];
+    memset(made, 0, sizeof *made);
+    canonical_ends(record, made->ends);
+    made->bits = word_pair(record, 16);
+    for (i = 0; i < count; i++) {
+        made->sources[i][0] = word(sources, 8 * (size_t)i);
+        made->sources[i][1] = word(sources, 8 * (size_t)i + 4);
+    }
+    made->count = sort_once(made->sources, count);
+    memset(made->sources[made->count], 0, (64 - made->count) * sizeof *made->sources);
+    return 0;
+}
+
+static int add_own(struct sight *sight, const uint8_t *sources, uint32_t count)
+{
+    uint32_t i;
+    for (i = 0; i < count; i++) {
+        if (sight->own_count == 512) {
+            return 1;
+        }
+        sight->own[sight->own_count][0] = word(sources, 8 * (size_t)i);
+        sight->own[sight->own_count++][1] = word(sources, 8 * (size_t)i + 4);
+    }
+    return 0;
+}
+
+/* What a kept boundary must have: its members' own sources and observations, a member of several without any giving itself. */
+static int expect(const struct run *run, const struct groups *groups, uint32_t k, struct sight *sight)
+{
+    const struct job *job = &run->job;
+    const uint8_t *source = job->bytes + job->start[SOURCES];
+    uint32_t i, j, observation = 0;
+    int too_many = 0;
+    for (i = 0; i < job->count[BOUNDARIES]; i++) {
+        const uint8_t *b = record(job, BOUNDARIES, i);
+        int member = groups->goes[i] == k;
+        if (member) {
+            too_many |= add_own(sight, source, word(b, 24));
+            if (word(b, 28) == 0 && groups->members[k] > 1) {
+                too_many |= add_seen(sight, b, source, word(b, 24));
+            }
+        }
+        source += 8 * (size_t)word(b, 24);
+        for (j = 0; j < word(b, 28); j++) {
+            const uint8_t *o = record(job, OBSERVATIONS, observation++);
+            if (member) {
+                too_many |= add_seen(sight, o, source, word(o, 24));
+            }
+            source += 8 * (size_t)word(o, 24);
+        }
+    }
+    return too_many;
+}
+
+static int found(const struct kept *kept, struct sight *sight)
+{
+    const uint8_t *source = kept->observed_sources;
+    uint32_t i;
+    int too_many = add_own(sight, kept->sources, word(kept->boundary, 24));
+    for (i = 0; i < word(kept->boundary, 28); i++) {
+        const uint8_t *o = kept->observations + CHOKES_OBSERVATION_BYTES * (size_t)i;
+        too_many |= add_seen(sight, o, source, word(o, 24));
+        source += 8 * (size_t)word(o, 24);
+    }
+    return too_many;
+}
+
+static int differ(struct sight *a, struct sight *b)
+{
+    int differs;
+    a->own_count = sort_once(a->own, a->own_count);
+    differs = a->own_count != b->own_count || a->observation_count != b->observation_count;
+    if (!differs && a->observation_count > 0) {
+        qsort(a->observations, a->observation_count, sizeof *a->observations, by_bytes);
+        qsort(b->observations, b->observation_count, sizeof *b->observations, by_bytes);
+        differs = memcmp(a->observations, b->observations, a->observation_count * sizeof *a->observations) != 0;
+    }
+    return differs || memcmp(a->own, b->own, a->own_count * sizeof *a->own) != 0;
+}
+
+int check_groups(const struct run *run)
+{
+    struct groups groups;
+    struct reader reader = read_answer(run->answer.at);
+    struct kept kept;
+    uint32_t k;
+    int wrong = find_groups(run, &groups) != 0 || groups.kept != reader.left;
+    for (k = 0; !wrong && next_kept(&reader, &kept); k++) {
+        struct sight *sights = room(2 * sizeof *sights);
+        uint32_t ends[4], i;
+        if (expect(run, &groups, k, &sights[0]) == 0 && found(&kept, &sights[1]) == 0) {
+            wrong |= differ(&sights[0], &sights[1]);
+        }
+        canonical_ends(record(&run->job, BOUNDARIES, groups.retained[k]), ends);
+        for (i = 0; i < 4; i++) {
+            wrong |= ends[i] != word(kept.boundary, 4 * (size_t)i);
+        }
+        wrong |= groups.goes[groups.retained[k]] != k || groups.members[k] < 1 || groups.members[k] > 4;
+        free(sights[0].observations);
+        free(sights[1].observations);
+        free(sights);
+    }
+    return wrong;
+}
+
+#define RECORDS 80
+#define LABELS 400
+
+struct link {
+    uint32_t boundary, ends[2];
+};
+
+static uint32_t root(const uint32_t *parent, uint32_t i)
+{
+    while (parent[i] != i) {
+        i = parent[i];
+    }
+    return i;
+}
+
+/* Taking the record away leaves its two areas apart. */
+static int parts(const struct link *links, size_t count, size_t without, uint32_t areas)
+{
+    uint32_t parent[LABELS + 1], i;
+    size_t j;
+    for (i = 0; i <= areas; i++) {
+        parent[i] = i;
+    }
+    for (j = 0; j < count; j++) {
+        if (j != without) {
+            parent[root(parent, links[j].ends[0])] = root(parent, links[j].ends[1]);
+        }
+    }
+    return root(parent, links[without].ends[0]) != root(parent, links[without].ends[1]);
+}
+
+int check_marks(const struct run *run, unsigned long *compared)
+{
+    struct link links[RECORDS];
+    uint8_t marks[MOST_BOUNDARIES], expected[MOST_BOUNDARIES] = {0};
+    size_t count = 0, j;
+    uint32_t i;
+    if (run->areas > LABELS || mark(run, marks).number != CHOKES_OK) {
+        return 0;
+    }
+    for (i = 0; i < run->job.count[BOUNDARIES]; i++) {
+        struct pairs pairs = pairs_of(run, span_at(run, i));
+        for (j = 0; j < pairs.count && count < RECORDS; j++, count++) {
+            links[count].boundary = i;
+            memcpy(links[count].ends, pairs.at[j], sizeof links[count].ends);
+        }
+        free(pairs.at);
+    }
+    if (count == RECORDS) {
+        return 0;
+    }
+    for (j = 0; j < count; j++) {
+        expected[links[j].boundary] |= (uint8_t)parts(links, count, j, run->areas);
+    }
+    *compared += run->job.count[BOUNDARIES];
+    return memcmp(marks, expected, run->job.count[BOUNDARIES]) != 0;
+}

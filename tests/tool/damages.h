@@ -1,0 +1,13 @@
+/* The parts of the test of the tool. */
+#ifndef DAMAGES_H
+#define DAMAGES_H
+
+#include "make.h"
+
+int check_damages(void);
+/* 0 where the groups are what the answer says of them. */
+int check_groups(const struct run *run);
+/* 0 where the marks are the bridges of the pairs; counts those that were compared. */
+int check_marks(const struct run *run, unsigned long *compared);
+
+#endif
