@@ -15,7 +15,8 @@ use Rattle.checks.specs.Checks.{firstRefusal}
 use Rattle.checks.specs.Passed.{Laid}
 use Rattle.checks.specs.Verdict.{meaning, passes, numberOf}
 use Rattle.checks.specs.declared.verdict.Verdict.{Verdict}
-use Rattle.checks.specs.declared.verdict.Verdict.the-variants.{Passed, JobTooShort, BadSides, TooManyRecords, TooManyBoundaries, BadLayout, BadCell, AnchorOffMap}
+use Rattle.checks.specs.declared.verdict.Verdict.the-variants.{Passed, JobTooShort, BadSides, TooManyRecords, TooManyBoundaries, BadLayout, BadCell}
+use Rattle.checks.specs.declared.verdict.Verdict.the-variants.{AnchorOffMap}
 use Rattle.checks.specs.declared.verdict.Verdict.the-variants.{BadSums, BadRamp, BadWidth, EndOffMap, EndsCoincide, BadListLength, TooManySpans}
 use Rattle.checks.specs.declared.verdict.Verdict.the-variants.{SpanOffMap, SpanEndsCoincide}
 use Rattle.job.specs.Refusals.{jobChecks, boundaryChecks, reduceChecks, byListChecks, markChecks}

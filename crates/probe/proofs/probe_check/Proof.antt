@@ -4,12 +4,6 @@ use Rattle.checks.specs.Verdict.{numberOf, detailOf}
 use Rattle.probe.proofs.probe_check.Statement.{statement}
 use Rattle.probe.proofs.probe_check.Tie as tie
 
-verdict-requires : tie.Need-verdict-requires
-verdict-requires c κs = search needs
-
-of-verdict-requires : tie.Need-of-verdict-requires
-of-verdict-requires c κs = search needs
-
 returns : tie.Need-returns
 returns c =
     let told = c .of-verdict .ensures in
@@ -17,4 +11,4 @@ returns c =
     (told .0 ∙ ap numberOf checked, told .1 ∙ ap detailOf checked)
 
 pub probe-check-spec : {M : Type 1} → statement M
-probe-check-spec = tie.close (tie.spec verdict-requires of-verdict-requires returns)
+probe-check-spec = tie.close (tie.spec (λ c κs. search needs) (λ c κs. search needs) returns)

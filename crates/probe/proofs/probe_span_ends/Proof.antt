@@ -11,15 +11,6 @@ use Rattle.probe.proofs.probe_span_ends.Tie as tie
 abbrev start-of : tie.After-slice-known → tie.Start
 start-of c = c .before .before .before
 
-span-ends-requires : tie.Need-span-ends-requires
-span-ends-requires c κs = search needs
-
-copy-requires : tie.Need-copy-requires
-copy-requires c κs = search needs
-
-same-length : tie.Need-same-length
-same-length c = search needs
-
 returns : tie.Need-returns
 returns c =
     let after-copy = c .before .before in
@@ -31,4 +22,4 @@ returns c =
     )
 
 pub probe-span-ends-spec : {M : Type 1} → statement M
-probe-span-ends-spec = tie.close (tie.spec span-ends-requires copy-requires same-length returns)
+probe-span-ends-spec = tie.close (tie.spec (λ c κs. search needs) (λ c κs. search needs) (λ c. search needs) returns)

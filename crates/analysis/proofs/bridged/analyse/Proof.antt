@@ -10,21 +10,6 @@ use Rattle.analysis.proofs.bridged.analyse.Tie as tie
 abbrev start-of : tie.After-slice-known4 → tie.Start
 start-of c = c .before .before .before .before .before
 
-partition-by-spans-requires : tie.Need-partition-by-spans-requires
-partition-by-spans-requires c κs = search needs
-
-same-length : tie.Need-same-length
-same-length c = search needs
-
-same-length-2 : tie.Need-same-length-2
-same-length-2 c = search needs
-
-same-length-3 : tie.Need-same-length-3
-same-length-3 c = search needs
-
-same-length-4 : tie.Need-same-length-4
-same-length-4 c = search needs
-
 returns : tie.Need-returns
 returns c =
     let after-partition-by-spans = c .before .before .before .before .before .before .before .before .before in
@@ -53,18 +38,6 @@ bridge-boundary-indices-requires c κs =
       zero-in r _ refl,
     )
 
-same-length-5 : tie.Need-same-length-5
-same-length-5 c = search needs
-
-same-length-6 : tie.Need-same-length-6
-same-length-6 c = search needs
-
-same-length-7 : tie.Need-same-length-7
-same-length-7 c = search needs
-
-same-length-8 : tie.Need-same-length-8
-same-length-8 c = search needs
-
 returns-2 : tie.Need-returns-2
 returns-2 c =
     let after-partition-by-spans =
@@ -76,16 +49,16 @@ pub analyse-spec : {M : Type 1} → statement M
 analyse-spec =
     tie.close
     (tie.spec
-    partition-by-spans-requires
-    same-length
-    same-length-2
-    same-length-3
-    same-length-4
+    (λ c κs. search needs)
+    (λ c. search needs)
+    (λ c. search needs)
+    (λ c. search needs)
+    (λ c. search needs)
     returns
     mul-bridge-boundary-indices
     bridge-boundary-indices-requires
-    same-length-5
-    same-length-6
-    same-length-7
-    same-length-8
+    (λ c. search needs)
+    (λ c. search needs)
+    (λ c. search needs)
+    (λ c. search needs)
     returns-2)

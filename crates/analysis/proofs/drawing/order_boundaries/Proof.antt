@@ -5,23 +5,11 @@ use borrow.Author.Needs.{needs}
 use Rattle.analysis.proofs.drawing.order_boundaries.Statement.{statement}
 use Rattle.analysis.proofs.drawing.order_boundaries.Tie as tie
 
-size-requires : tie.Need-size-requires
-size-requires c κs = search needs
-
-size-requires-2 : tie.Need-size-requires-2
-size-requires-2 c κs = search needs
-
 fill-keys-requires : tie.Need-fill-keys-requires
 fill-keys-requires c κs =
     let after-size = c .before .before .before in
     let start = after-size .before .before .before .before in
     let k = keys-in (start .pre .0) _ _ (c .before .before .size2 .ensures .0) (after-size .size .ensures .0) in (k .0, k .1, refl, refl)
-
-slice-aggregate-sort-ranks : tie.Need-slice-aggregate-sort-ranks
-slice-aggregate-sort-ranks c = search needs
-
-slice-aggregate-sort-ranks-2 : tie.Need-slice-aggregate-sort-ranks-2
-slice-aggregate-sort-ranks-2 c = search needs
 
 sort-ranks-requires : tie.Need-sort-ranks-requires
 sort-ranks-requires c κs =
@@ -45,10 +33,10 @@ pub order-boundaries-spec : {M : Type 1} → statement M
 order-boundaries-spec =
     tie.close
     (tie.spec
-    size-requires
-    size-requires-2
+    (λ c κs. search needs)
+    (λ c κs. search needs)
     fill-keys-requires
-    slice-aggregate-sort-ranks
-    slice-aggregate-sort-ranks-2
+    (λ c. search needs)
+    (λ c. search needs)
     sort-ranks-requires
     returns)

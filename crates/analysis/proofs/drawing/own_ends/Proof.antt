@@ -3,15 +3,6 @@ use Rattle.analysis.proofs.OwnEnds.{own-order, own-put}
 use Rattle.analysis.proofs.drawing.own_ends.Statement.{statement}
 use Rattle.analysis.proofs.drawing.own_ends.Tie as tie
 
-size-requires : tie.Need-size-requires
-size-requires c κs = search needs
-
-size-requires-2 : tie.Need-size-requires-2
-size-requires-2 c κs = search needs
-
-fill-identity-requires : tie.Need-fill-identity-requires
-fill-identity-requires c κs = search needs
-
 fill-spans-requires : tie.Need-fill-spans-requires
 fill-spans-requires c κs =
     let after-fill-identity = c .before .before in
@@ -30,4 +21,4 @@ returns c =
     (c .fill-spans .ensures)
 
 pub own-ends-spec : {M : Type 1} → statement M
-own-ends-spec = tie.close (tie.spec size-requires size-requires-2 fill-identity-requires fill-spans-requires returns)
+own-ends-spec = tie.close (tie.spec (λ c κs. search needs) (λ c κs. search needs) (λ c κs. search needs) fill-spans-requires returns)

@@ -9,9 +9,6 @@ use Rattle.analysis.proofs.drawing.plan_listed.Tie as tie
 abbrev start-of : tie.After-slice-known → tie.Start
 start-of c = c .before .before .before
 
-size-requires : tie.Need-size-requires
-size-requires c κs = search needs
-
 fill-spans-requires : tie.Need-fill-spans-requires
 fill-spans-requires c κs =
     let start = start-of (c .before .before .before) in
@@ -31,9 +28,6 @@ plan-matched-requires c κs =
       start .pre .5,
     )
 
-same-length : tie.Need-same-length
-same-length c = search needs
-
 returns : tie.Need-returns
 returns c =
     let after-fill-spans = c .before .before .before .before .before .before in
@@ -46,4 +40,4 @@ returns c =
 pub plan-listed-spec : {M : Type 1} → statement M
 plan-listed-spec =
     tie.close
-    (tie.spec size-requires fill-spans-requires plan-matched-requires same-length returns)
+    (tie.spec (λ c κs. search needs) fill-spans-requires plan-matched-requires (λ c. search needs) returns)

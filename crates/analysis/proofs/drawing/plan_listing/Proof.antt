@@ -16,15 +16,6 @@ mul-size c =
     let start = start-of (c .before .before .before) in
     omega (arith, headed-cells (start .pre .0 .headed))
 
-size-requires : tie.Need-size-requires
-size-requires c κs = search needs
-
-size-requires-2 : tie.Need-size-requires-2
-size-requires-2 c κs = search needs
-
-size-requires-3 : tie.Need-size-requires-3
-size-requires-3 c κs = search needs
-
 fill-spans-requires : tie.Need-fill-spans-requires
 fill-spans-requires c κs =
     let start = start-of (c .before .before .before .before .before .before .before) in
@@ -43,21 +34,6 @@ fill-ramps-requires c κs =
     let after-size2 = after-size3 .before in
     let start = start-of (after-size2 .before .before .before .before .before) in
     (plan-records (start .pre .0) _ _ (after-size3 .size3 .ensures .0) (after-size2 .size2 .ensures .0), refl)
-
-size-requires-4 : tie.Need-size-requires-4
-size-requires-4 c κs = search needs
-
-size-requires-5 : tie.Need-size-requires-5
-size-requires-5 c κs = search needs
-
-add-plan-merges : tie.Need-add-plan-merges
-add-plan-merges c = search needs
-
-sub-plan-merges : tie.Need-sub-plan-merges
-sub-plan-merges c = search needs
-
-part-plan-merges-start : tie.Need-part-plan-merges-start
-part-plan-merges-start c = search needs
 
 part-plan-merges-end : tie.Need-part-plan-merges-end
 part-plan-merges-end c =
@@ -83,9 +59,6 @@ plan-merges-requires c κs =
           (after-size5 .size5 .ensures .0) n _ (after-size .size .ensures .0) (start .pre .2),
       start .pre .3,
     )
-
-same-length : tie.Need-same-length
-same-length c = search needs
 
 returns : tie.Need-returns
 returns c =
@@ -114,18 +87,18 @@ plan-listing-spec =
     tie.close
     (tie.spec
     mul-size
-    size-requires
-    size-requires-2
-    size-requires-3
+    (λ c κs. search needs)
+    (λ c κs. search needs)
+    (λ c κs. search needs)
     fill-spans-requires
     fill-widths-requires
     fill-ramps-requires
-    size-requires-4
-    size-requires-5
-    add-plan-merges
-    sub-plan-merges
-    part-plan-merges-start
+    (λ c κs. search needs)
+    (λ c κs. search needs)
+    (λ c. search needs)
+    (λ c. search needs)
+    (λ c. search needs)
     part-plan-merges-end
     plan-merges-requires
-    same-length
+    (λ c. search needs)
     returns)

@@ -6,15 +6,6 @@ use borrow.Author.Needs.{needs}
 use Rattle.analysis.proofs.drawing.plan_many.Statement.{statement}
 use Rattle.analysis.proofs.drawing.plan_many.Tie as tie
 
-slice-aggregate-plan-with : tie.Need-slice-aggregate-plan-with
-slice-aggregate-plan-with c = search needs
-
-slice-aggregate-plan-with-2 : tie.Need-slice-aggregate-plan-with-2
-slice-aggregate-plan-with-2 c = search needs
-
-slice-aggregate-plan-with-3 : tie.Need-slice-aggregate-plan-with-3
-slice-aggregate-plan-with-3 c = search needs
-
 plan-with-requires : tie.Need-plan-with-requires
 plan-with-requires c κs =
     let start = c .before .before .before .before .before .before .before in
@@ -28,19 +19,13 @@ plan-with-requires c κs =
       p .5,
     )
 
-same-length : tie.Need-same-length
-same-length c = search needs
-
-returns : tie.Need-returns
-returns c = search needs
-
 pub plan-many-spec : {M : Type 1} → statement M
 plan-many-spec =
     tie.close
     (tie.spec
-    slice-aggregate-plan-with
-    slice-aggregate-plan-with-2
-    slice-aggregate-plan-with-3
+    (λ c. search needs)
+    (λ c. search needs)
+    (λ c. search needs)
     plan-with-requires
-    same-length
-    returns)
+    (λ c. search needs)
+    (λ c. search needs))

@@ -10,30 +10,6 @@ mul-size c =
     let start = c .before .before .before .before in
     omega (arith, headed-cells (start .pre .0 .job .headed))
 
-size-requires : tie.Need-size-requires
-size-requires c κs = search needs
-
-size-requires-2 : tie.Need-size-requires-2
-size-requires-2 c κs = search needs
-
-is-small-requires : tie.Need-is-small-requires
-is-small-requires c κs = search needs
-
-plan-many-requires : tie.Need-plan-many-requires
-plan-many-requires c κs = search needs
-
-same-length : tie.Need-same-length
-same-length c = search needs
-
-returns : tie.Need-returns
-returns c = search needs
-
-plan-few-requires : tie.Need-plan-few-requires
-plan-few-requires c κs = search needs
-
-same-length-2 : tie.Need-same-length-2
-same-length-2 c = search needs
-
 returns-2 : tie.Need-returns-2
 returns-2 c =
     let after-plan-few = c .before .before .before in
@@ -52,9 +28,6 @@ plan-many-requires-2 c κs =
       p .5,
     )
 
-same-length-3 : tie.Need-same-length-3
-same-length-3 c = search needs
-
 returns-3 : tie.Need-returns-3
 returns-3 c =
     let after-plan-few = c .before .before .before .before .before .before .before .before in
@@ -65,15 +38,15 @@ plan-matched-spec =
     tie.close
     (tie.spec
     mul-size
-    size-requires
-    size-requires-2
-    is-small-requires
-    plan-many-requires
-    same-length
-    returns
-    plan-few-requires
-    same-length-2
+    (λ c κs. search needs)
+    (λ c κs. search needs)
+    (λ c κs. search needs)
+    (λ c κs. search needs)
+    (λ c. search needs)
+    (λ c. search needs)
+    (λ c κs. search needs)
+    (λ c. search needs)
     returns-2
     plan-many-requires-2
-    same-length-3
+    (λ c. search needs)
     returns-3)

@@ -5,12 +5,6 @@ use borrow.Author.Needs.{needs}
 use Rattle.analysis.proofs.drawing.plan_own.Statement.{statement}
 use Rattle.analysis.proofs.drawing.plan_own.Tie as tie
 
-size-requires : tie.Need-size-requires
-size-requires c κs = search needs
-
-size-requires-2 : tie.Need-size-requires-2
-size-requires-2 c κs = search needs
-
 fill-spans-requires : tie.Need-fill-spans-requires
 fill-spans-requires c κs =
     let start = c .before .before .before .before .before .before .before in
@@ -31,9 +25,6 @@ plan-matched-requires c κs =
       start .pre .4,
     )
 
-same-length : tie.Need-same-length
-same-length c = search needs
-
 returns : tie.Need-returns
 returns c =
     let after-fill-spans = c .before .before .before .before .before .before in
@@ -47,9 +38,9 @@ pub plan-own-spec : {M : Type 1} → statement M
 plan-own-spec =
     tie.close
     (tie.spec
-    size-requires
-    size-requires-2
+    (λ c κs. search needs)
+    (λ c κs. search needs)
     fill-spans-requires
     plan-matched-requires
-    same-length
+    (λ c. search needs)
     returns)

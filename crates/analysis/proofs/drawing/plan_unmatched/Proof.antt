@@ -17,25 +17,10 @@ mul-size c =
     let start = start-of (c .before .before) in
     omega (arith, headed-cells (start .pre .0))
 
-size-requires : tie.Need-size-requires
-size-requires c κs = search needs
-
-fill-identity-requires : tie.Need-fill-identity-requires
-fill-identity-requires c κs = search needs
-
 fill-spans-requires : tie.Need-fill-spans-requires
 fill-spans-requires c κs =
     let start = start-of (c .before .before .before .before .before .before .before) in
     (list-unmatched-records (start .pre .0) _ (start .pre .2) _ (start .pre .3) (c .before .before .fill-identity .ensures), refl)
-
-add-find-bridges : tie.Need-add-find-bridges
-add-find-bridges c = search needs
-
-sub-find-bridges : tie.Need-sub-find-bridges
-sub-find-bridges c = search needs
-
-part-find-bridges-start : tie.Need-part-find-bridges-start
-part-find-bridges-start c = search needs
 
 part-find-bridges-end : tie.Need-part-find-bridges-end
 part-find-bridges-end c =
@@ -52,9 +37,6 @@ find-bridges-requires c κs =
     unmatched-partitionable (start .pre .0) _ (start .pre .2) _ (start .pre .3) (after-fill-identity .fill-identity .ensures)
     (after-fill-spans .fill-spans .ensures) _ (after-size .size .ensures .0) (start .pre .6) (start .pre .1)
 
-same-length : tie.Need-same-length
-same-length c = search needs
-
 returns : tie.Need-returns
 returns c =
     let after-fill-spans = c .before .before .before .before .before .before .before in
@@ -70,13 +52,13 @@ plan-unmatched-spec =
     tie.close
     (tie.spec
     mul-size
-    size-requires
-    fill-identity-requires
+    (λ c κs. search needs)
+    (λ c κs. search needs)
     fill-spans-requires
-    add-find-bridges
-    sub-find-bridges
-    part-find-bridges-start
+    (λ c. search needs)
+    (λ c. search needs)
+    (λ c. search needs)
     part-find-bridges-end
     find-bridges-requires
-    same-length
+    (λ c. search needs)
     returns)

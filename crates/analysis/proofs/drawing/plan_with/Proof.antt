@@ -17,21 +17,6 @@ mul-size c =
     let start = start-of (c .before .before) in
     omega (arith, headed-cells (start .pre .0 .job .headed))
 
-size-requires : tie.Need-size-requires
-size-requires c κs = search needs
-
-size-requires-2 : tie.Need-size-requires-2
-size-requires-2 c κs = search needs
-
-add-analyse : tie.Need-add-analyse
-add-analyse c = search needs
-
-sub-analyse : tie.Need-sub-analyse
-sub-analyse c = search needs
-
-part-analyse-start : tie.Need-part-analyse-start
-part-analyse-start c = search needs
-
 part-analyse-end : tie.Need-part-analyse-end
 part-analyse-end c =
     let start = start-of (c .before .before .before .before) in
@@ -43,18 +28,6 @@ analyse-requires c κs =
     let after-size = after-size2 .before in
     let start = start-of (after-size .before .before .before) in
     (matched-partitionable (start .pre .0) _ (after-size .size .ensures .0) _ (after-size2 .size2 .ensures .0) (start .pre .6) (start .pre .1), search needs)
-
-same-length : tie.Need-same-length
-same-length c = search needs
-
-same-length-2 : tie.Need-same-length-2
-same-length-2 c = search needs
-
-same-length-3 : tie.Need-same-length-3
-same-length-3 c = search needs
-
-same-length-4 : tie.Need-same-length-4
-same-length-4 c = search needs
 
 returns : tie.Need-returns
 returns c =
@@ -87,18 +60,6 @@ plan-listing-requires c κs =
       start .pre .5,
     )
 
-same-length-5 : tie.Need-same-length-5
-same-length-5 c = search needs
-
-same-length-6 : tie.Need-same-length-6
-same-length-6 c = search needs
-
-same-length-7 : tie.Need-same-length-7
-same-length-7 c = search needs
-
-same-length-8 : tie.Need-same-length-8
-same-length-8 c = search needs
-
 returns-2 : tie.Need-returns-2
 returns-2 c =
     let after-plan-listing = c .before .before in
@@ -107,7 +68,8 @@ returns-2 c =
     let after-size2 = after-analyse .before .before .before .before .before .before .before .before .before in
     let after-size = after-size2 .before in
     let start = start-of (after-size .before .before .before) in (
-      matched-drawn (start .pre .0) _ (after-size .size .ensures .0) _ (after-size2 .size2 .ensures .0) (after-analyse .analyse .ensures .0) (start .pre .3 .few)
+      matched-drawn (start .pre .0) _ (after-size .size .ensures .0) _ (after-size2 .size2 .ensures .0) (after-analyse .analyse .ensures .0)
+          (start .pre .3 .few)
           (after-analyse .analyse .ensures .1) (if1-left .if1 .left) (limitsOf (start .args .limits))
           (after-plan-listing .plan-listing .last .1 .1 .1 .1 .1 .1 .1 .1 .1 .1 .1 .1 .0) (after-plan-listing .plan-listing .ensures .0)
           (after-plan-listing .plan-listing .ensures .1 .0 (directionsOf (start .args .directions))),
@@ -119,21 +81,21 @@ plan-with-spec =
     tie.close
     (tie.spec
     mul-size
-    size-requires
-    size-requires-2
-    add-analyse
-    sub-analyse
-    part-analyse-start
+    (λ c κs. search needs)
+    (λ c κs. search needs)
+    (λ c. search needs)
+    (λ c. search needs)
+    (λ c. search needs)
     part-analyse-end
     analyse-requires
-    same-length
-    same-length-2
-    same-length-3
-    same-length-4
+    (λ c. search needs)
+    (λ c. search needs)
+    (λ c. search needs)
+    (λ c. search needs)
     returns
     plan-listing-requires
-    same-length-5
-    same-length-6
-    same-length-7
-    same-length-8
+    (λ c. search needs)
+    (λ c. search needs)
+    (λ c. search needs)
+    (λ c. search needs)
     returns-2)

@@ -19,7 +19,8 @@ use Rattle.analysis.proofs.plans.plan_reduce.Tie as tie
 abbrev start-of : tie.After-first-answer → tie.Start
 start-of c = c .before .before .before .before
 
-answered : (c : tie.After-first-answer) → FirstAnswer (firstRefusal (reduceChecks (start-of c .args .job .now))) (workSize (decode (start-of c .args .job .now)))
+answered : (c : tie.After-first-answer)
+    → FirstAnswer (firstRefusal (reduceChecks (start-of c .args .job .now))) (workSize (decode (start-of c .args .job .now)))
     (length (start-of c .args .work .now)) (c .first-answer .result .number) (c .first-answer .result .detail)
 answered c = first-of (c .before .check-reduce .ensures) (c .first-answer .ensures)
 
@@ -36,9 +37,6 @@ room c = first-room (answered (c .before .before)) (omega (arith, c .if1 .left))
 read : (c : tie.After-read-header) → Headed (given (c .before) .args .job .now) (c .read-header .result)
 read c = let bytes = c .before .before .before .before .before .before in
     reduce-headed (λ i. bytes .shared-slice-known .given i .fits) (passed (c .before)) (c .read-header .ensures)
-
-check-reduce-requires : tie.Need-check-reduce-requires
-check-reduce-requires c κs = search needs
 
 first-answer-requires : tie.Need-first-answer-requires
 first-answer-requires c κs = (λ e. reduce-job _ (sym (c .check-reduce .ensures) ∙ e), omega arith)
@@ -67,12 +65,6 @@ plan-own-requires c κs =
       start .pre .1,
     )
 
-of-pairs-requires : tie.Need-of-pairs-requires
-of-pairs-requires c κs = search needs
-
-same-length : tie.Need-same-length
-same-length c = search needs
-
 returns-2 : tie.Need-returns-2
 returns-2 c =
     let after-plan-own = c .before .before .before in
@@ -84,12 +76,12 @@ pub plan-reduce-spec : {M : Type 1} → statement M
 plan-reduce-spec =
     tie.close
     (tie.spec
-    check-reduce-requires
+    (λ c κs. search needs)
     first-answer-requires
     returns
     read-header-requires
     order-boundaries-requires
     plan-own-requires
-    of-pairs-requires
-    same-length
+    (λ c κs. search needs)
+    (λ c. search needs)
     returns-2)

@@ -19,7 +19,8 @@ use Rattle.analysis.proofs.plans.plan_reduce_by_list.Tie as tie
 abbrev start-of : tie.After-first-answer → tie.Start
 start-of c = c .before .before .before .before .before
 
-answered : (c : tie.After-first-answer) → FirstAnswer (firstRefusal (byListChecks (start-of c .args .job .now) (start-of c .args .list .now))) (workSize (decode (start-of c .args .job .now)))
+answered : (c : tie.After-first-answer)
+    → FirstAnswer (firstRefusal (byListChecks (start-of c .args .job .now) (start-of c .args .list .now))) (workSize (decode (start-of c .args .job .now)))
     (length (start-of c .args .work .now)) (c .first-answer .result .number) (c .first-answer .result .detail)
 answered c = first-of (c .before .check-reduce-by-list .ensures) (c .first-answer .ensures)
 
@@ -36,9 +37,6 @@ room c = first-room (answered (c .before .before)) (omega (arith, c .if1 .left))
 read : (c : tie.After-read-header) → Headed (given (c .before) .args .job .now) (c .read-header .result)
 read c = let bytes = c .before .before .before .before .before .before .before in
     by-list-headed _ _ (λ i. bytes .shared-slice-known .given i .fits) (passed (c .before)) (c .read-header .ensures)
-
-check-reduce-by-list-requires : tie.Need-check-reduce-by-list-requires
-check-reduce-by-list-requires c κs = search needs
 
 first-answer-requires : tie.Need-first-answer-requires
 first-answer-requires c κs = (λ e. by-list-job _ _ (sym (c .check-reduce-by-list .ensures) ∙ e), omega arith)
@@ -67,29 +65,24 @@ plan-by-list-requires c κs =
       start .pre .1,
     )
 
-of-pairs-requires : tie.Need-of-pairs-requires
-of-pairs-requires c κs = search needs
-
-same-length : tie.Need-same-length
-same-length c = search needs
-
 returns-2 : tie.Need-returns-2
 returns-2 c =
     let after-plan-by-list = c .before .before .before in
     let after-order-boundaries = after-plan-by-list .before .before .before .before in
     let went-on = after-order-boundaries .before .before .before .before .before in
-    left-pairs (passed went-on) (room went-on) (after-plan-by-list .plan-by-list .ensures) (after-order-boundaries .order-boundaries .ensures) (c .of-pairs .ensures)
+    left-pairs (passed went-on) (room went-on) (after-plan-by-list .plan-by-list .ensures) (after-order-boundaries .order-boundaries .ensures)
+    (c .of-pairs .ensures)
 
 pub plan-reduce-by-list-spec : {M : Type 1} → statement M
 plan-reduce-by-list-spec =
     tie.close
     (tie.spec
-    check-reduce-by-list-requires
+    (λ c κs. search needs)
     first-answer-requires
     returns
     read-header-requires
     order-boundaries-requires
     plan-by-list-requires
-    of-pairs-requires
-    same-length
+    (λ c κs. search needs)
+    (λ c. search needs)
     returns-2)

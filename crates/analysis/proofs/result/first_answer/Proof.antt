@@ -37,12 +37,6 @@ asked c =
     let read = c .before .before .before in
     ap (λ (n : ℕ). start-of (went-on c) .args .each * n) (job-long _ (job-passes (went-on c)) (read .read-header .ensures) ∙ sym (c .size .ensures .0))
 
-passed-requires : tie.Need-passed-requires
-passed-requires c κs = search needs
-
-of-verdict-requires : tie.Need-of-verdict-requires
-of-verdict-requires c κs = search needs
-
 returns : tie.Need-returns
 returns c =
     let checked = c .before .before in
@@ -56,9 +50,6 @@ read-header-requires c κs = header-there _ (job-passes c)
 
 mul-size : tie.Need-mul-size
 mul-size c = omega (arith, cells (c .before .before))
-
-size-requires : tie.Need-size-requires
-size-requires c κs = search needs
 
 mul-if2 : tie.Need-mul-if2
 mul-if2 c =
@@ -76,12 +67,12 @@ pub first-answer-spec : {M : Type 1} → statement M
 first-answer-spec =
     tie.close
     (tie.spec
-    passed-requires
-    of-verdict-requires
+    (λ c κs. search needs)
+    (λ c κs. search needs)
     returns
     read-header-requires
     mul-size
-    size-requires
+    (λ c κs. search needs)
     mul-if2
     returns-2
     returns-3)

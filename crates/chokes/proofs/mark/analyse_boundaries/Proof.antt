@@ -15,23 +15,8 @@ start-of c = c .before .before .before .before
 mul-size : tie.Need-mul-size
 mul-size c = omega (arith, headed-cells (start-of c .pre .0 .headed))
 
-size-requires : tie.Need-size-requires
-size-requires c κs = search needs
-
-size-requires-2 : tie.Need-size-requires-2
-size-requires-2 c κs = search needs
-
 own-ends-requires : tie.Need-own-ends-requires
 own-ends-requires c κs = (start-of (c .before .before .before) .pre .0 .headed, refl)
-
-add-find-bridges : tie.Need-add-find-bridges
-add-find-bridges c = search needs
-
-sub-find-bridges : tie.Need-sub-find-bridges
-sub-find-bridges c = search needs
-
-part-find-bridges-start : tie.Need-part-find-bridges-start
-part-find-bridges-start c = search needs
 
 part-find-bridges-end : tie.Need-part-find-bridges-end
 part-find-bridges-end c =
@@ -44,10 +29,8 @@ find-bridges-requires c κs =
     let after-own-ends = c .before .before .before .before in
     let after-size2 = after-own-ends .before .before in
     let start = start-of (after-size2 .before .before) in
-    own-partitionable (start .pre .0) (after-size2 .before .size .ensures .0) (after-size2 .size2 .ensures .0) (after-own-ends .own-ends .ensures) (start .pre .1)
-
-same-length : tie.Need-same-length
-same-length c = search needs
+    own-partitionable (start .pre .0) (after-size2 .before .size .ensures .0) (after-size2 .size2 .ensures .0) (after-own-ends .own-ends .ensures)
+    (start .pre .1)
 
 returns : tie.Need-returns
 returns c =
@@ -62,13 +45,13 @@ analyse-boundaries-spec =
     tie.close
     (tie.spec
     mul-size
-    size-requires
-    size-requires-2
+    (λ c κs. search needs)
+    (λ c κs. search needs)
     own-ends-requires
-    add-find-bridges
-    sub-find-bridges
-    part-find-bridges-start
+    (λ c. search needs)
+    (λ c. search needs)
+    (λ c. search needs)
     part-find-bridges-end
     find-bridges-requires
-    same-length
+    (λ c. search needs)
     returns)

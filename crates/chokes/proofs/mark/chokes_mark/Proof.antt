@@ -1,4 +1,4 @@
-use mathlib.Core.Path.{_≡_, refl, sym, _∙_}
+use mathlib.Core.Path.{_≡_, sym, _∙_}
 use mathlib.Core.Option.{none}
 use Prim.Native.Nat.{_≤_}
 use native.Mathlib.Omega.{arith}
@@ -50,9 +50,6 @@ few c = pairs-few (c .before .before .of-pairs .ensures) (omega (arith, c .if2 .
 abbrev header : tie.Else2 → tie.After-read-header
 header c = analysed c .before .before .before
 
-check-mark-requires : tie.Need-check-mark-requires
-check-mark-requires c κs = search needs
-
 first-answer-requires : tie.Need-first-answer-requires
 first-answer-requires c κs = (λ e. mark-job _ (sym (c .check-mark .ensures) ∙ e), omega arith)
 
@@ -65,24 +62,12 @@ read-header-requires c κs = header-there _ (mark-job _ (passed c))
 analyse-boundaries-requires : tie.Need-analyse-boundaries-requires
 analyse-boundaries-requires c κs = (read (c .before .before), leads-eight)
 
-of-pairs-requires : tie.Need-of-pairs-requires
-of-pairs-requires c κs = search needs
-
-same-length : tie.Need-same-length
-same-length c = search needs
-
 returns-2 : tie.Need-returns-2
 returns-2 c =
     let after-analyse-boundaries = c .before .before .before .before .before in
     let went-on = after-analyse-boundaries .before .before .before .before in
     marked-many _ _ _ _ (passed went-on) (room went-on) (after-analyse-boundaries .analyse-boundaries .ensures) (c .before .before .of-pairs .ensures)
     (c .if2 .taken) ∙ mark-as _ _ _
-
-size-requires : tie.Need-size-requires
-size-requires c κs = search needs
-
-same-length-2 : tie.Need-same-length-2
-same-length-2 c = search needs
 
 returns-3 : tie.Need-returns-3
 returns-3 c =
@@ -96,12 +81,6 @@ copy-first-requires c κs =
     let after-size = c .before .before .before in
     (mark-few (read (header (after-size .before .before)) .headed) (after-size .size .ensures .0), c .before .before .if3 .left)
 
-same-length-3 : tie.Need-same-length-3
-same-length-3 c = search needs
-
-same-length-4 : tie.Need-same-length-4
-same-length-4 c = search needs
-
 returns-4 : tie.Need-returns-4
 returns-4 c =
     let wide = c .before .before .before .before .before in
@@ -110,25 +89,26 @@ returns-4 c =
     let went-on = header few-pairs .before in
     let headed = read (header few-pairs) .headed in
     mark-done _ _ _ _ (passed went-on) (room went-on) (analysed few-pairs .analyse-boundaries .ensures) (few few-pairs)
-    (mark-few headed (after-size .size .ensures .0)) (mark-count headed (after-size .size .ensures .0)) (wide .if3 .left) (c .before .before .copy-first .ensures)
+    (mark-few headed (after-size .size .ensures .0)) (mark-count headed (after-size .size .ensures .0)) (wide .if3 .left)
+    (c .before .before .copy-first .ensures)
     ∙ mark-as _ _ _
 
 pub chokes-mark-spec : {M : Type 1} → statement M
 chokes-mark-spec =
     tie.close
     (tie.spec
-    check-mark-requires
+    (λ c κs. search needs)
     first-answer-requires
     returns
     read-header-requires
     analyse-boundaries-requires
-    of-pairs-requires
-    same-length
+    (λ c κs. search needs)
+    (λ c. search needs)
     returns-2
-    size-requires
-    same-length-2
+    (λ c κs. search needs)
+    (λ c. search needs)
     returns-3
     copy-first-requires
-    same-length-3
-    same-length-4
+    (λ c. search needs)
+    (λ c. search needs)
     returns-4)

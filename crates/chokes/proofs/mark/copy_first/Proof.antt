@@ -14,17 +14,11 @@ abbrev μ-loop : tie.MeasureT-loop
 loop-holds : tie.Need-loop-holds Inv-loop μ-loop
 loop-holds c = copied-start _ _ _ (c .pre .1)
 
-element-copy-out-to : tie.Need-element-copy-out-to Inv-loop μ-loop
-element-copy-out-to c = search needs
-
 slice-write-to : tie.Need-slice-write-to Inv-loop μ-loop
 slice-write-to c =
     let in-loop = c .before .before in
     let inv = in-loop .loop .inv in
     omega (arith, copied-long (inv), inv .room, c .before .loop-test .taken)
-
-add-i : tie.Need-add-i Inv-loop μ-loop
-add-i c = search needs
 
 loop-less : tie.Need-loop-less Inv-loop μ-loop
 loop-less c = omega (arith, c .before .before .loop .inv .below, c .before .loop-test .taken)
@@ -45,9 +39,9 @@ copy-first-spec =
     Inv-loop
     μ-loop
     loop-holds
-    element-copy-out-to
+    (λ c. search needs)
     slice-write-to
-    add-i
+    (λ c. search needs)
     loop-less
     loop-again
     same-length

@@ -6,16 +6,10 @@ use borrow.Author.Needs.{needs}
 use Rattle.chokes.proofs.reduce.chokes_reduce.Statement.{statement}
 use Rattle.chokes.proofs.reduce.chokes_reduce.Tie as tie
 
-of-000-requires : tie.Need-of-000-requires
-of-000-requires c κs = search needs
-
 plan-reduce-requires : tie.Need-plan-reduce-requires
 plan-reduce-requires c κs =
     let after-of-000 = c .before .before .before in
     (few-000 (after-of-000 .of-000 .ensures), leads-eight)
-
-same-length : tie.Need-same-length
-same-length c = search needs
 
 returns : tie.Need-returns
 returns c =
@@ -31,12 +25,6 @@ finish-requires c κs =
     let z : after-plan-reduce .plan-reduce .result .number ≡ 0 = omega (arith, if1-left .if1 .left) in
     let y = (left-000 (after-of-000 .of-000 .ensures) (after-plan-reduce .plan-reduce .ensures)) .made z in answerable _ _ (reduce-job _ (y .passed)) (y .ranks)
 
-same-length-2 : tie.Need-same-length-2
-same-length-2 c = search needs
-
-same-length-3 : tie.Need-same-length-3
-same-length-3 c = search needs
-
 returns-2 : tie.Need-returns-2
 returns-2 c =
     let if1-left = c .before .before .before .before .before .before in
@@ -49,11 +37,11 @@ pub chokes-reduce-spec : {M : Type 1} → statement M
 chokes-reduce-spec =
     tie.close
     (tie.spec
-    of-000-requires
+    (λ c κs. search needs)
     plan-reduce-requires
-    same-length
+    (λ c. search needs)
     returns
     finish-requires
-    same-length-2
-    same-length-3
+    (λ c. search needs)
+    (λ c. search needs)
     returns-2)

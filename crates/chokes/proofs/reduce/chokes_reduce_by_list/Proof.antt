@@ -6,16 +6,10 @@ use borrow.Author.Needs.{needs}
 use Rattle.chokes.proofs.reduce.chokes_reduce_by_list.Statement.{statement}
 use Rattle.chokes.proofs.reduce.chokes_reduce_by_list.Tie as tie
 
-of-000-requires : tie.Need-of-000-requires
-of-000-requires c κs = search needs
-
 plan-reduce-by-list-requires : tie.Need-plan-reduce-by-list-requires
 plan-reduce-by-list-requires c κs =
     let after-of-000 = c .before .before .before in
     (few-000 (after-of-000 .of-000 .ensures), leads-eight)
-
-same-length : tie.Need-same-length
-same-length c = search needs
 
 returns : tie.Need-returns
 returns c =
@@ -32,12 +26,6 @@ finish-requires c κs =
     let y = (left-000 (after-of-000 .of-000 .ensures) (after-plan-reduce-by-list .plan-reduce-by-list .ensures)) .made z in
     answerable _ _ (by-list-job _ _ (y .passed)) (y .ranks)
 
-same-length-2 : tie.Need-same-length-2
-same-length-2 c = search needs
-
-same-length-3 : tie.Need-same-length-3
-same-length-3 c = search needs
-
 returns-2 : tie.Need-returns-2
 returns-2 c =
     let if1-left = c .before .before .before .before .before .before in
@@ -51,11 +39,11 @@ pub chokes-reduce-by-list-spec : {M : Type 1} → statement M
 chokes-reduce-by-list-spec =
     tie.close
     (tie.spec
-    of-000-requires
+    (λ c κs. search needs)
     plan-reduce-by-list-requires
-    same-length
+    (λ c. search needs)
     returns
     finish-requires
-    same-length-2
-    same-length-3
+    (λ c. search needs)
+    (λ c. search needs)
     returns-2)

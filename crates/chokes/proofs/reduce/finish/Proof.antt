@@ -13,16 +13,10 @@ write-answer-requires c κs =
     let start = c .before .before .before .before in
     rw (c .before .read-header .ensures) (start .pre)
 
-same-length : tie.Need-same-length
-same-length c = search needs
-
 returns : tie.Need-returns
 returns c =
     let after-write-answer = c .before .before .before in
     finished-short (after-write-answer .write-answer .ensures) (omega (arith, c .if1 .taken))
-
-same-length-2 : tie.Need-same-length-2
-same-length-2 c = search needs
 
 returns-2 : tie.Need-returns-2
 returns-2 c =
@@ -35,7 +29,7 @@ finish-spec =
     (tie.spec
     read-header-requires
     write-answer-requires
-    same-length
+    (λ c. search needs)
     returns
-    same-length-2
+    (λ c. search needs)
     returns-2)

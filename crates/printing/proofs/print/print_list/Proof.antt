@@ -6,21 +6,6 @@ use borrow.Author.Needs.{needs}
 use Rattle.printing.proofs.print.print_list.Statement.{statement}
 use Rattle.printing.proofs.print.print_list.Tie as tie
 
-chokes-reduce-requires : tie.Need-chokes-reduce-requires
-chokes-reduce-requires c κs = search needs
-
-write-refused-requires : tie.Need-write-refused-requires
-write-refused-requires c κs = search needs
-
-same-length : tie.Need-same-length
-same-length c = search needs
-
-same-length-2 : tie.Need-same-length-2
-same-length-2 c = search needs
-
-same-length-3 : tie.Need-same-length-3
-same-length-3 c = search needs
-
 returns : tie.Need-returns
 returns c =
     let at-refused = c .before .before in
@@ -49,18 +34,6 @@ slice-aggregate-write-listing c =
     let fits = detail-fits (lent .job .now) (lent .work .now) (lent .answer .now) (at-reduce .chokes-reduce .ensures) (c .before .if1 .left) in
     sym (length-take-le _ _ (omega (arith, fits, at-reduce .chokes-reduce .kept .1 .1 .0)))
 
-write-listing-requires : tie.Need-write-listing-requires
-write-listing-requires c κs = search needs
-
-same-length-4 : tie.Need-same-length-4
-same-length-4 c = search needs
-
-same-length-5 : tie.Need-same-length-5
-same-length-5 c = search needs
-
-same-length-6 : tie.Need-same-length-6
-same-length-6 c = search needs
-
 returns-2 : tie.Need-returns-2
 returns-2 c =
     let at-listing = c .before .before in
@@ -79,16 +52,16 @@ pub print-list-spec : {M : Type 1} → statement M
 print-list-spec =
     tie.close
     (tie.spec
-    chokes-reduce-requires
-    write-refused-requires
-    same-length
-    same-length-2
-    same-length-3
+    (λ c κs. search needs)
+    (λ c κs. search needs)
+    (λ c. search needs)
+    (λ c. search needs)
+    (λ c. search needs)
     returns
     slice-reshare-prefix-write-listing
     slice-aggregate-write-listing
-    write-listing-requires
-    same-length-4
-    same-length-5
-    same-length-6
+    (λ c κs. search needs)
+    (λ c. search needs)
+    (λ c. search needs)
+    (λ c. search needs)
     returns-2)

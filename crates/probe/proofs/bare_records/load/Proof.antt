@@ -29,53 +29,20 @@ loop-holds c =
           (start .pre .3) (start .pre .4),
     )
 
-mul-at : tie.Need-mul-at Inv-loop μ-loop
-mul-at c = search needs
-
-read-u32-requires : tie.Need-read-u32-requires Inv-loop μ-loop
-read-u32-requires c κs = search needs
-
-add-read-u32 : tie.Need-add-read-u32 Inv-loop μ-loop
-add-read-u32 c = search needs
-
-read-u32-requires-2 : tie.Need-read-u32-requires-2 Inv-loop μ-loop
-read-u32-requires-2 c κs = search needs
-
-add-read-u32-2 : tie.Need-add-read-u32-2 Inv-loop μ-loop
-add-read-u32-2 c = search needs
-
-read-u32-requires-3 : tie.Need-read-u32-requires-3 Inv-loop μ-loop
-read-u32-requires-3 c κs = search needs
-
-mul-owners : tie.Need-mul-owners Inv-loop μ-loop
-mul-owners c = search needs
-
 slice-write-owners : tie.Need-slice-write-owners Inv-loop μ-loop
 slice-write-owners c =
     let in-loop = c .before .before .before .before in
     omega (arith, in-loop .loop .inv .3 .owners-are)
-
-mul-lefts : tie.Need-mul-lefts Inv-loop μ-loop
-mul-lefts c = search needs
 
 slice-write-lefts : tie.Need-slice-write-lefts Inv-loop μ-loop
 slice-write-lefts c =
     let in-loop = c .before .before .before .before in
     omega (arith, in-loop .loop .inv .3 .lefts-are)
 
-mul-rights : tie.Need-mul-rights Inv-loop μ-loop
-mul-rights c = search needs
-
 slice-write-rights : tie.Need-slice-write-rights Inv-loop μ-loop
 slice-write-rights c =
     let in-loop = c .before .before .before .before in
     omega (arith, in-loop .loop .inv .3 .rights-are)
-
-add-k : tie.Need-add-k Inv-loop μ-loop
-add-k c = search needs
-
-loop-less : tie.Need-loop-less Inv-loop μ-loop
-loop-less c = search needs
 
 loop-again : tie.Need-loop-again Inv-loop μ-loop
 loop-again c =
@@ -117,20 +84,20 @@ load-spec =
     Inv-loop
     μ-loop
     loop-holds
-    mul-at
-    read-u32-requires
-    add-read-u32
-    read-u32-requires-2
-    add-read-u32-2
-    read-u32-requires-3
-    mul-owners
+    (λ c. search needs)
+    (λ c κs. search needs)
+    (λ c. search needs)
+    (λ c κs. search needs)
+    (λ c. search needs)
+    (λ c κs. search needs)
+    (λ c. search needs)
     slice-write-owners
-    mul-lefts
+    (λ c. search needs)
     slice-write-lefts
-    mul-rights
+    (λ c. search needs)
     slice-write-rights
-    add-k
-    loop-less
+    (λ c. search needs)
+    (λ c. search needs)
     loop-again
     same-length
     same-length-2

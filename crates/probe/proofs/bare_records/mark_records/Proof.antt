@@ -8,33 +8,6 @@ use Rattle.probe.proofs.bare_records.mark_records.Tie as tie
 abbrev start-of : tie.After-slice-known2 → tie.Start
 start-of c = c .before .before .before
 
-slice-aggregate-load : tie.Need-slice-aggregate-load
-slice-aggregate-load c = search needs
-
-slice-aggregate-load-2 : tie.Need-slice-aggregate-load-2
-slice-aggregate-load-2 c = search needs
-
-slice-aggregate-load-3 : tie.Need-slice-aggregate-load-3
-slice-aggregate-load-3 c = search needs
-
-load-requires : tie.Need-load-requires
-load-requires c κs = search needs
-
-mul-zero-fill : tie.Need-mul-zero-fill
-mul-zero-fill c = search needs
-
-zero-fill-requires : tie.Need-zero-fill-requires
-zero-fill-requires c κs = search needs
-
-slice-aggregate-bridge-boundary-indices : tie.Need-slice-aggregate-bridge-boundary-indices
-slice-aggregate-bridge-boundary-indices c = search needs
-
-slice-aggregate-bridge-boundary-indices-2 : tie.Need-slice-aggregate-bridge-boundary-indices-2
-slice-aggregate-bridge-boundary-indices-2 c = search needs
-
-slice-aggregate-bridge-boundary-indices-3 : tie.Need-slice-aggregate-bridge-boundary-indices-3
-slice-aggregate-bridge-boundary-indices-3 c = search needs
-
 bridge-boundary-indices-requires : tie.Need-bridge-boundary-indices-requires
 bridge-boundary-indices-requires c κs =
     let after-zero-fill = c .before .before .before .before .before .before .before in
@@ -57,15 +30,6 @@ slice-aggregate-copy c =
     let after-bridge-boundary-indices = c .before .before .before .before in
     found-length _ (after-bridge-boundary-indices .bridge-boundary-indices .ensures .0)
 
-copy-requires : tie.Need-copy-requires
-copy-requires c κs = search needs
-
-same-length : tie.Need-same-length
-same-length c = search needs
-
-same-length-2 : tie.Need-same-length-2
-same-length-2 c = search needs
-
 returns : tie.Need-returns
 returns c =
     let after-bridge-boundary-indices = c .before .before .before .before .before .before .before in
@@ -82,18 +46,18 @@ pub mark-records-spec : {M : Type 1} → statement M
 mark-records-spec =
     tie.close
     (tie.spec
-    slice-aggregate-load
-    slice-aggregate-load-2
-    slice-aggregate-load-3
-    load-requires
-    mul-zero-fill
-    zero-fill-requires
-    slice-aggregate-bridge-boundary-indices
-    slice-aggregate-bridge-boundary-indices-2
-    slice-aggregate-bridge-boundary-indices-3
+    (λ c. search needs)
+    (λ c. search needs)
+    (λ c. search needs)
+    (λ c κs. search needs)
+    (λ c. search needs)
+    (λ c κs. search needs)
+    (λ c. search needs)
+    (λ c. search needs)
+    (λ c. search needs)
     bridge-boundary-indices-requires
     slice-aggregate-copy
-    copy-requires
-    same-length
-    same-length-2
+    (λ c κs. search needs)
+    (λ c. search needs)
+    (λ c. search needs)
     returns)

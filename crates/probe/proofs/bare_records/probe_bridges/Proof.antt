@@ -11,9 +11,6 @@ returns c = uneven (c .if1 .taken) (record { number-is = refl; detail-is = refl;
 returns-2 : tie.Need-returns-2
 returns-2 c = many (omega (arith, c .before .if1 .left)) (c .if2 .taken) (record { number-is = refl; detail-is = refl; work-kept = refl; marks-kept = refl })
 
-fault-requires : tie.Need-fault-requires
-fault-requires c κs = search needs
-
 returns-3 : tie.Need-returns-3
 returns-3 c =
     let if1-left = c .before .before .before in
@@ -42,12 +39,6 @@ mark-records-requires c κs =
       c .before .before .if4 .left,
     )
 
-same-length : tie.Need-same-length
-same-length c = search needs
-
-same-length-2 : tie.Need-same-length-2
-same-length-2 c = search needs
-
 returns-5 : tie.Need-returns-5
 returns-5 c =
     let after-mark-records = c .before .before .before .before in
@@ -71,10 +62,10 @@ probe-bridges-spec =
     (tie.spec
     returns
     returns-2
-    fault-requires
+    (λ c κs. search needs)
     returns-3
     returns-4
     mark-records-requires
-    same-length
-    same-length-2
+    (λ c. search needs)
+    (λ c. search needs)
     returns-5)

@@ -4,36 +4,15 @@ use borrow.Author.Needs.{needs}
 use Rattle.probe.proofs.own_links.link_between.Statement.{statement}
 use Rattle.probe.proofs.own_links.link_between.Tie as tie
 
-size-requires : tie.Need-size-requires
-size-requires c κs = search needs
-
-mul-read-boundary : tie.Need-mul-read-boundary
-mul-read-boundary c = search needs
-
-add-read-boundary : tie.Need-add-read-boundary
-add-read-boundary c = search needs
-
 read-boundary-requires : tie.Need-read-boundary-requires
 read-boundary-requires c κs =
     let start = c .before .before .before in
     record-there (start .pre .0) _ _ (c .size .ensures .0) (start .pre .1)
 
-mul-read-boundary-2 : tie.Need-mul-read-boundary-2
-mul-read-boundary-2 c = search needs
-
-add-read-boundary-2 : tie.Need-add-read-boundary-2
-add-read-boundary-2 c = search needs
-
 read-boundary-requires-2 : tie.Need-read-boundary-requires-2
 read-boundary-requires-2 c κs =
     let start = c .before .before .before .before in
     record-there (start .pre .0) _ _ (c .before .size .ensures .0) (start .pre .2)
-
-canonical-requires : tie.Need-canonical-requires
-canonical-requires c κs = search needs
-
-canonical-requires-2 : tie.Need-canonical-requires-2
-canonical-requires-2 c κs = search needs
 
 link-of-requires : tie.Need-link-of-requires
 link-of-requires c κs =
@@ -67,14 +46,14 @@ pub link-between-spec : {M : Type 1} → statement M
 link-between-spec =
     tie.close
     (tie.spec
-    size-requires
-    mul-read-boundary
-    add-read-boundary
+    (λ c κs. search needs)
+    (λ c. search needs)
+    (λ c. search needs)
     read-boundary-requires
-    mul-read-boundary-2
-    add-read-boundary-2
+    (λ c. search needs)
+    (λ c. search needs)
     read-boundary-requires-2
-    canonical-requires
-    canonical-requires-2
+    (λ c κs. search needs)
+    (λ c κs. search needs)
     link-of-requires
     returns)

@@ -30,9 +30,6 @@ read c =
     let bytes = c .before .before .before .before .before .before in
     reduce-headed (λ i. bytes .shared-slice-known .given i .fits) (passed (c .before)) (c .read-header .ensures)
 
-unready-requires : tie.Need-unready-requires
-unready-requires c κs = search needs
-
 returns : tie.Need-returns
 returns c = refused (c .if1 .taken) (c .before .before .unready .ensures) refl
 
@@ -57,15 +54,6 @@ returns-4 c =
     known (omega (arith, in-first .if2 .left, count)) (omega (arith, c .before .if3 .left, count))
     (short (ready (header .before)) (c .if4 .taken) refl refl refl)
 
-of-000-requires : tie.Need-of-000-requires
-of-000-requires c κs = search needs
-
-size-requires : tie.Need-size-requires
-size-requires c κs = search needs
-
-size-requires-2 : tie.Need-size-requires-2
-size-requires-2 c κs = search needs
-
 tell-link-requires : tie.Need-tell-link-requires
 tell-link-requires c κs =
     let wide = c .before .before .before .before in
@@ -79,9 +67,6 @@ tell-link-requires c κs =
       first-room (went-on .before .before .unready .ensures) (omega (arith, went-on .if1 .left)),
       omega (arith, wide .if4 .left),
     )
-
-same-length : tie.Need-same-length
-same-length c = search needs
 
 returns-5 : tie.Need-returns-5
 returns-5 c =
@@ -102,15 +87,15 @@ pub probe-link-spec : {M : Type 1} → statement M
 probe-link-spec =
     tie.close
     (tie.spec
-    unready-requires
+    (λ c κs. search needs)
     returns
     read-header-requires
     returns-2
     returns-3
     returns-4
-    of-000-requires
-    size-requires
-    size-requires-2
+    (λ c κs. search needs)
+    (λ c κs. search needs)
+    (λ c κs. search needs)
     tell-link-requires
-    same-length
+    (λ c. search needs)
     returns-5)

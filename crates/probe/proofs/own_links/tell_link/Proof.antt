@@ -16,46 +16,16 @@ start-of c = c .before .before .before
 mul-size : tie.Need-mul-size
 mul-size c = omega (arith, headed-cells (start-of (c .before .before) .pre .0))
 
-size-requires : tie.Need-size-requires
-size-requires c κs = search needs
-
-link-between-requires : tie.Need-link-between-requires
-link-between-requires c κs = search needs
-
 measure-one-requires : tie.Need-measure-one-requires
 measure-one-requires c κs =
     let pre = start-of (c .before .before .before .before) .pre in
     let n = c .before .size .ensures .0 in
     (omega (arith, headed-laid (pre .0) .within .width-some), omega (arith, n, headed-cells (pre .0)), omega (arith, n, headed-work (pre .0), pre .3))
 
-measured-requires : tie.Need-measured-requires
-measured-requires c κs = search needs
-
-kind-of-requires : tie.Need-kind-of-requires
-kind-of-requires c κs = search needs
-
-transverse-of-requires : tie.Need-transverse-of-requires
-transverse-of-requires c κs = search needs
-
-bits-of-requires : tie.Need-bits-of-requires
-bits-of-requires c κs = search needs
-
-longitudinal-of-requires : tie.Need-longitudinal-of-requires
-longitudinal-of-requires c κs = search needs
-
-bits-of-requires-2 : tie.Need-bits-of-requires-2
-bits-of-requires-2 c κs = search needs
-
-flag-requires : tie.Need-flag-requires
-flag-requires c κs = search needs
-
 write-link-requires : tie.Need-write-link-requires
 write-link-requires c κs =
     let after-measured = c .before .before .before .before .before .before .before in
     omega (arith, start-of (after-measured .before .before .before .before .before .before) .pre .4)
-
-same-length : tie.Need-same-length
-same-length c = search needs
 
 returns : tie.Need-returns
 returns c =
@@ -83,16 +53,16 @@ tell-link-spec =
     tie.close
     (tie.spec
     mul-size
-    size-requires
-    link-between-requires
+    (λ c κs. search needs)
+    (λ c κs. search needs)
     measure-one-requires
-    measured-requires
-    kind-of-requires
-    transverse-of-requires
-    bits-of-requires
-    longitudinal-of-requires
-    bits-of-requires-2
-    flag-requires
+    (λ c κs. search needs)
+    (λ c κs. search needs)
+    (λ c κs. search needs)
+    (λ c κs. search needs)
+    (λ c κs. search needs)
+    (λ c κs. search needs)
+    (λ c κs. search needs)
     write-link-requires
-    same-length
+    (λ c. search needs)
     returns)

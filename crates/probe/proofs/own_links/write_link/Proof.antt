@@ -3,21 +3,6 @@ use borrow.Author.Needs.{needs}
 use Rattle.probe.proofs.own_links.write_link.Statement.{statement}
 use Rattle.probe.proofs.own_links.write_link.Tie as tie
 
-write-u32-requires : tie.Need-write-u32-requires
-write-u32-requires c κs = search needs
-
-write-u64-requires : tie.Need-write-u64-requires
-write-u64-requires c κs = search needs
-
-write-u64-requires-2 : tie.Need-write-u64-requires-2
-write-u64-requires-2 c κs = search needs
-
-write-u32-requires-2 : tie.Need-write-u32-requires-2
-write-u32-requires-2 c κs = search needs
-
-same-length : tie.Need-same-length
-same-length c = search needs
-
 returns : tie.Need-returns
 returns c =
     let after-write-u642 = c .before .before .before .before .before .before in
@@ -31,9 +16,9 @@ pub write-link-spec : {M : Type 1} → statement M
 write-link-spec =
     tie.close
     (tie.spec
-    write-u32-requires
-    write-u64-requires
-    write-u64-requires-2
-    write-u32-requires-2
-    same-length
+    (λ c κs. search needs)
+    (λ c κs. search needs)
+    (λ c κs. search needs)
+    (λ c κs. search needs)
+    (λ c. search needs)
     returns)

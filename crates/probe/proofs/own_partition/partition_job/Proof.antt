@@ -16,44 +16,14 @@ start-of c = c .before .before .before .before .before
 mul-size : tie.Need-mul-size
 mul-size c = omega (arith, headed-cells (start-of c .pre .0 .headed))
 
-size-requires : tie.Need-size-requires
-size-requires c κs = search needs
-
-size-requires-2 : tie.Need-size-requires-2
-size-requires-2 c κs = search needs
-
 own-ends-requires : tie.Need-own-ends-requires
 own-ends-requires c κs = (start-of (c .before .before .before) .pre .0 .headed, refl)
-
-add-partition-by-spans : tie.Need-add-partition-by-spans
-add-partition-by-spans c = search needs
-
-sub-partition-by-spans : tie.Need-sub-partition-by-spans
-sub-partition-by-spans c = search needs
-
-part-partition-by-spans-start : tie.Need-part-partition-by-spans-start
-part-partition-by-spans-start c = search needs
 
 part-partition-by-spans-end : tie.Need-part-partition-by-spans-end
 part-partition-by-spans-end c =
     let after-size = c .before .before .before in
     let headed = start-of (after-size .before) .pre .0 .headed in
     omega (arith, map-inside (headed .header) (headed-laid headed) _ (after-size .size .ensures .0))
-
-slice-aggregate-partition-by-spans : tie.Need-slice-aggregate-partition-by-spans
-slice-aggregate-partition-by-spans c = search needs
-
-slice-aggregate-partition-by-spans-2 : tie.Need-slice-aggregate-partition-by-spans-2
-slice-aggregate-partition-by-spans-2 c = search needs
-
-slice-aggregate-partition-by-spans-3 : tie.Need-slice-aggregate-partition-by-spans-3
-slice-aggregate-partition-by-spans-3 c = search needs
-
-slice-aggregate-partition-by-spans-4 : tie.Need-slice-aggregate-partition-by-spans-4
-slice-aggregate-partition-by-spans-4 c = search needs
-
-slice-aggregate-partition-by-spans-5 : tie.Need-slice-aggregate-partition-by-spans-5
-slice-aggregate-partition-by-spans-5 c = search needs
 
 partition-by-spans-requires : tie.Need-partition-by-spans-requires
 partition-by-spans-requires c κs =
@@ -72,12 +42,6 @@ write-partition-requires c κs =
     let headed = start-of (after-size2 .before .before) .pre .0 .headed in
     omega (arith, after-size2 .size2 .ensures .0, headed-laid headed .within .boundaries)
 
-same-length : tie.Need-same-length
-same-length c = search needs
-
-same-length-2 : tie.Need-same-length-2
-same-length-2 c = search needs
-
 returns : tie.Need-returns
 returns c =
     let after-write-partition = c .before .before in
@@ -95,20 +59,20 @@ partition-job-spec =
     tie.close
     (tie.spec
     mul-size
-    size-requires
-    size-requires-2
+    (λ c κs. search needs)
+    (λ c κs. search needs)
     own-ends-requires
-    add-partition-by-spans
-    sub-partition-by-spans
-    part-partition-by-spans-start
+    (λ c. search needs)
+    (λ c. search needs)
+    (λ c. search needs)
     part-partition-by-spans-end
-    slice-aggregate-partition-by-spans
-    slice-aggregate-partition-by-spans-2
-    slice-aggregate-partition-by-spans-3
-    slice-aggregate-partition-by-spans-4
-    slice-aggregate-partition-by-spans-5
+    (λ c. search needs)
+    (λ c. search needs)
+    (λ c. search needs)
+    (λ c. search needs)
+    (λ c. search needs)
     partition-by-spans-requires
     write-partition-requires
-    same-length
-    same-length-2
+    (λ c. search needs)
+    (λ c. search needs)
     returns)

@@ -34,9 +34,6 @@ passed c = first-passed (answered (c .before .before)) (omega (arith, c .if1 .le
 room : (c : tie.Else1) → workSize (decode (given c .args .job .now)) ≤ length (given c .args .work .now)
 room c = first-room (answered (c .before .before)) (omega (arith, c .if1 .left))
 
-check-reduce-requires : tie.Need-check-reduce-requires
-check-reduce-requires c κs = search needs
-
 first-answer-requires : tie.Need-first-answer-requires
 first-answer-requires c κs = (λ e. reduce-job _ (sym (c .check-reduce .ensures) ∙ e), omega arith)
 
@@ -53,12 +50,6 @@ partition-job-requires c κs =
     let bytes = went-on .before .before .before .before .before .before in
     (reduce-own (λ i. bytes .shared-slice-known .given i .fits) (passed went-on) (after-read-header .read-header .ensures) (room went-on), leads-eight)
 
-same-length : tie.Need-same-length
-same-length c = search needs
-
-same-length-2 : tie.Need-same-length-2
-same-length-2 c = search needs
-
 returns-2 : tie.Need-returns-2
 returns-2 c =
     let after-partition-job = c .before .before .before .before in
@@ -69,11 +60,11 @@ pub probe-partition-spec : {M : Type 1} → statement M
 probe-partition-spec =
     tie.close
     (tie.spec
-    check-reduce-requires
+    (λ c κs. search needs)
     first-answer-requires
     returns
     read-header-requires
     partition-job-requires
-    same-length
-    same-length-2
+    (λ c. search needs)
+    (λ c. search needs)
     returns-2)

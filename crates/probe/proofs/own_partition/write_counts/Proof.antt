@@ -19,41 +19,11 @@ abbrev μ-loop : tie.MeasureT-loop
 loop-holds : tie.Need-loop-holds Inv-loop μ-loop
 loop-holds c = (omega arith, c .before .pre .0, c .before .pre .1, filled-start 8 _ _ _ 8)
 
-mul-place : tie.Need-mul-place Inv-loop μ-loop
-mul-place c = search needs
-
-add-place : tie.Need-add-place Inv-loop μ-loop
-add-place c = search needs
-
-mul-write-u32 : tie.Need-mul-write-u32 Inv-loop μ-loop
-mul-write-u32 c = search needs
-
-element-copy-out-write-u32 : tie.Need-element-copy-out-write-u32 Inv-loop μ-loop
-element-copy-out-write-u32 c = search needs
-
-write-u32-requires : tie.Need-write-u32-requires Inv-loop μ-loop
-write-u32-requires c κs = search needs
-
-add-write-u32 : tie.Need-add-write-u32 Inv-loop μ-loop
-add-write-u32 c = search needs
-
-mul-write-u32-2 : tie.Need-mul-write-u32-2 Inv-loop μ-loop
-mul-write-u32-2 c = search needs
-
-element-copy-out-write-u32-2 : tie.Need-element-copy-out-write-u32-2 Inv-loop μ-loop
-element-copy-out-write-u32-2 c = search needs
-
 write-u32-requires-2 : tie.Need-write-u32-requires-2 Inv-loop μ-loop
 write-u32-requires-2 c κs =
     let at-write-u32 = c .before .before .before .before in
     let at-loop = at-write-u32 .before .before .before .before in
     omega (arith, at-write-u32 .write-u32 .kept .0, at-loop .loop .inv .3 .long)
-
-add-i : tie.Need-add-i Inv-loop μ-loop
-add-i c = search needs
-
-loop-less : tie.Need-loop-less Inv-loop μ-loop
-loop-less c = search needs
 
 loop-again : tie.Need-loop-again Inv-loop μ-loop
 loop-again c =
@@ -84,17 +54,17 @@ write-counts-spec =
     Inv-loop
     μ-loop
     loop-holds
-    mul-place
-    add-place
-    mul-write-u32
-    element-copy-out-write-u32
-    write-u32-requires
-    add-write-u32
-    mul-write-u32-2
-    element-copy-out-write-u32-2
+    (λ c. search needs)
+    (λ c. search needs)
+    (λ c. search needs)
+    (λ c. search needs)
+    (λ c κs. search needs)
+    (λ c. search needs)
+    (λ c. search needs)
+    (λ c. search needs)
     write-u32-requires-2
-    add-i
-    loop-less
+    (λ c. search needs)
+    (λ c. search needs)
     loop-again
     same-length
     returns)

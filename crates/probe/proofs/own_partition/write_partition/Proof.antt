@@ -17,17 +17,8 @@ start-of c = c .before .before .before .before
 few : (c : tie.Else1) → start-of c .args .pairs ≤ 4096
 few c = pairs-few (c .before .before .of-pairs .ensures) (omega (arith, c .if1 .left))
 
-of-pairs-requires : tie.Need-of-pairs-requires
-of-pairs-requires c κs = search needs
-
 returns : tie.Need-returns
 returns c = told-many (c .before .before .of-pairs .ensures) (c .if1 .taken)
-
-mul-start : tie.Need-mul-start
-mul-start c = search needs
-
-add-start : tie.Need-add-start
-add-start c = search needs
 
 mul-total : tie.Need-mul-total
 mul-total c = omega (arith, few c)
@@ -38,25 +29,13 @@ add-total c = omega (arith, few c)
 returns-2 : tie.Need-returns-2
 returns-2 c = short (few (c .before)) (c .if2 .taken) refl refl refl
 
-write-u32-requires : tie.Need-write-u32-requires
-write-u32-requires c κs = search needs
-
 cast-write-u32 : tie.Need-cast-write-u32
 cast-write-u32 c = omega (arith, few (c .before .before .before .before .before .before))
-
-write-u32-requires-2 : tie.Need-write-u32-requires-2
-write-u32-requires-2 c κs = search needs
-
-write-counts-requires : tie.Need-write-counts-requires
-write-counts-requires c κs = search needs
 
 write-records-requires : tie.Need-write-records-requires
 write-records-requires c κs =
     let few-pairs = c .before .before .before .before .before .before .before .before .before .before .before .before .before .before in
     (few few-pairs, search needs, search needs)
-
-same-length : tie.Need-same-length
-same-length c = search needs
 
 returns-3 : tie.Need-returns-3
 returns-3 c =
@@ -75,17 +54,17 @@ pub write-partition-spec : {M : Type 1} → statement M
 write-partition-spec =
     tie.close
     (tie.spec
-    of-pairs-requires
+    (λ c κs. search needs)
     returns
-    mul-start
-    add-start
+    (λ c. search needs)
+    (λ c. search needs)
     mul-total
     add-total
     returns-2
-    write-u32-requires
+    (λ c κs. search needs)
     cast-write-u32
-    write-u32-requires-2
-    write-counts-requires
+    (λ c κs. search needs)
+    (λ c κs. search needs)
     write-records-requires
-    same-length
+    (λ c. search needs)
     returns-3)

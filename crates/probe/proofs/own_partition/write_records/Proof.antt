@@ -20,44 +20,11 @@ abbrev μ-loop : tie.MeasureT-loop
 loop-holds : tie.Need-loop-holds Inv-loop μ-loop
 loop-holds c = (omega arith, c .before .pre .0, c .before .pre .1, c .before .pre .2, filled-start 12 _ _ _ _)
 
-mul-place : tie.Need-mul-place Inv-loop μ-loop
-mul-place c = search needs
-
-add-place : tie.Need-add-place Inv-loop μ-loop
-add-place c = search needs
-
-mul-write-u32 : tie.Need-mul-write-u32 Inv-loop μ-loop
-mul-write-u32 c = search needs
-
-element-copy-out-write-u32 : tie.Need-element-copy-out-write-u32 Inv-loop μ-loop
-element-copy-out-write-u32 c = search needs
-
-write-u32-requires : tie.Need-write-u32-requires Inv-loop μ-loop
-write-u32-requires c κs = search needs
-
-add-write-u32 : tie.Need-add-write-u32 Inv-loop μ-loop
-add-write-u32 c = search needs
-
-mul-write-u32-2 : tie.Need-mul-write-u32-2 Inv-loop μ-loop
-mul-write-u32-2 c = search needs
-
-element-copy-out-write-u32-2 : tie.Need-element-copy-out-write-u32-2 Inv-loop μ-loop
-element-copy-out-write-u32-2 c = search needs
-
 write-u32-requires-2 : tie.Need-write-u32-requires-2 Inv-loop μ-loop
 write-u32-requires-2 c κs =
     let at-write-u32 = c .before .before .before .before in
     let at-loop = at-write-u32 .before .before .before .before in
     omega (arith, at-write-u32 .write-u32 .kept .0, at-loop .loop .inv .4 .long)
-
-add-write-u32-2 : tie.Need-add-write-u32-2 Inv-loop μ-loop
-add-write-u32-2 c = search needs
-
-mul-write-u32-3 : tie.Need-mul-write-u32-3 Inv-loop μ-loop
-mul-write-u32-3 c = search needs
-
-element-copy-out-write-u32-3 : tie.Need-element-copy-out-write-u32-3 Inv-loop μ-loop
-element-copy-out-write-u32-3 c = search needs
 
 write-u32-requires-3 : tie.Need-write-u32-requires-3 Inv-loop μ-loop
 write-u32-requires-3 c κs =
@@ -65,12 +32,6 @@ write-u32-requires-3 c κs =
     let at-write-u32 = at-write-u322 .before .before .before .before .before in
     let at-loop = at-write-u32 .before .before .before .before in
     omega (arith, at-write-u322 .write-u322 .kept .0, at-write-u32 .write-u32 .kept .0, at-loop .loop .inv .4 .long)
-
-add-k : tie.Need-add-k Inv-loop μ-loop
-add-k c = search needs
-
-loop-less : tie.Need-loop-less Inv-loop μ-loop
-loop-less c = search needs
 
 loop-again : tie.Need-loop-again Inv-loop μ-loop
 loop-again c =
@@ -105,21 +66,21 @@ write-records-spec =
     Inv-loop
     μ-loop
     loop-holds
-    mul-place
-    add-place
-    mul-write-u32
-    element-copy-out-write-u32
-    write-u32-requires
-    add-write-u32
-    mul-write-u32-2
-    element-copy-out-write-u32-2
+    (λ c. search needs)
+    (λ c. search needs)
+    (λ c. search needs)
+    (λ c. search needs)
+    (λ c κs. search needs)
+    (λ c. search needs)
+    (λ c. search needs)
+    (λ c. search needs)
     write-u32-requires-2
-    add-write-u32-2
-    mul-write-u32-3
-    element-copy-out-write-u32-3
+    (λ c. search needs)
+    (λ c. search needs)
+    (λ c. search needs)
     write-u32-requires-3
-    add-k
-    loop-less
+    (λ c. search needs)
+    (λ c. search needs)
     loop-again
     same-length
     returns)

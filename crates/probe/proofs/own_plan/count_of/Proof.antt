@@ -6,15 +6,6 @@ use borrow.Author.Needs.{needs}
 use Rattle.probe.proofs.own_plan.count_of.Statement.{statement}
 use Rattle.probe.proofs.own_plan.count_of.Tie as tie
 
-returns : tie.Need-returns
-returns c = search needs
-
-read-header-requires : tie.Need-read-header-requires
-read-header-requires c κs = search needs
-
-size-requires : tie.Need-size-requires
-size-requires c κs = search needs
-
 returns-2 : tie.Need-returns-2
 unfolding headerAt
 returns-2 c =
@@ -41,4 +32,4 @@ returns-3 c =
     }
 
 pub count-of-spec : {M : Type 1} → statement M
-count-of-spec = tie.close (tie.spec returns read-header-requires size-requires returns-2 returns-3)
+count-of-spec = tie.close (tie.spec (λ c. search needs) (λ c κs. search needs) (λ c κs. search needs) returns-2 returns-3)

@@ -3,22 +3,10 @@ use borrow.Author.Needs.{needs}
 use Rattle.probe.proofs.own_plan.plan_of.Statement.{statement}
 use Rattle.probe.proofs.own_plan.plan_of.Tie as tie
 
-plan-reduce-requires : tie.Need-plan-reduce-requires
-plan-reduce-requires c κs = search needs
-
-same-length : tie.Need-same-length
-same-length c = search needs
-
 returns : tie.Need-returns
 returns c =
     let if1-taken = c .before .before .before .before .before .before in
     plan-own _ _ _ _ _ (if1-taken .if1 .taken) (c .before .before .plan-reduce .ensures)
-
-plan-reduce-by-list-requires : tie.Need-plan-reduce-by-list-requires
-plan-reduce-by-list-requires c κs = search needs
-
-same-length-2 : tie.Need-same-length-2
-same-length-2 c = search needs
 
 returns-2 : tie.Need-returns-2
 returns-2 c =
@@ -29,9 +17,9 @@ pub plan-of-spec : {M : Type 1} → statement M
 plan-of-spec =
     tie.close
     (tie.spec
-    plan-reduce-requires
-    same-length
+    (λ c κs. search needs)
+    (λ c. search needs)
     returns
-    plan-reduce-by-list-requires
-    same-length-2
+    (λ c κs. search needs)
+    (λ c. search needs)
     returns-2)

@@ -8,31 +8,16 @@ use borrow.Author.Needs.{needs}
 use Rattle.probe.proofs.own_plan.probe_plan.Statement.{statement}
 use Rattle.probe.proofs.own_plan.probe_plan.Tie as tie
 
-of-000-requires : tie.Need-of-000-requires
-of-000-requires c κs = search needs
-
 plan-of-requires : tie.Need-plan-of-requires
 plan-of-requires c κs =
     let after-of-000 = c .before .before .before in
     (few-000 (after-of-000 .of-000 .ensures), leads-eight)
-
-same-length : tie.Need-same-length
-same-length c = search needs
 
 returns : tie.Need-returns
 returns c =
     let after-plan-of = c .before .before .before .before in
     let left = left-000 (after-plan-of .before .before .before .before .of-000 .ensures) (after-plan-of .plan-of .ensures) in
     refused (c .if1 .taken) (left .refused (c .if1 .taken)) refl
-
-count-of-requires : tie.Need-count-of-requires
-count-of-requires c κs = search needs
-
-mul-total : tie.Need-mul-total
-mul-total c = search needs
-
-same-length-2 : tie.Need-same-length-2
-same-length-2 c = search needs
 
 returns-2 : tie.Need-returns-2
 returns-2 c =
@@ -63,12 +48,6 @@ write-plan-requires c κs =
     (at-count-of .count-of .ensures) in
     (at-count-of .count-of .ensures .few, made-ranked made k, made-inside made k, if2-left .if2 .left)
 
-same-length-3 : tie.Need-same-length-3
-same-length-3 c = search needs
-
-same-length-4 : tie.Need-same-length-4
-same-length-4 c = search needs
-
 returns-3 : tie.Need-returns-3
 returns-3 c =
     let if2-left = c .before .before .before .before .before .before in
@@ -90,15 +69,15 @@ pub probe-plan-spec : {M : Type 1} → statement M
 probe-plan-spec =
     tie.close
     (tie.spec
-    of-000-requires
+    (λ c κs. search needs)
     plan-of-requires
-    same-length
+    (λ c. search needs)
     returns
-    count-of-requires
-    mul-total
-    same-length-2
+    (λ c κs. search needs)
+    (λ c. search needs)
+    (λ c. search needs)
     returns-2
     write-plan-requires
-    same-length-3
-    same-length-4
+    (λ c. search needs)
+    (λ c. search needs)
     returns-3)

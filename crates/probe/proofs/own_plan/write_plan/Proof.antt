@@ -19,30 +19,6 @@ abbrev μ-loop : tie.MeasureT-loop
 loop-holds : tie.Need-loop-holds Inv-loop μ-loop
 loop-holds c = (omega arith, c .before .pre .0, c .before .pre .1, c .before .pre .2, c .before .pre .3, words-start _)
 
-mul-size : tie.Need-mul-size Inv-loop μ-loop
-mul-size c = search needs
-
-element-copy-out-size : tie.Need-element-copy-out-size Inv-loop μ-loop
-element-copy-out-size c = search needs
-
-size-requires : tie.Need-size-requires Inv-loop μ-loop
-size-requires c κs = search needs
-
-mul-place : tie.Need-mul-place Inv-loop μ-loop
-mul-place c = search needs
-
-mul-size-2 : tie.Need-mul-size-2 Inv-loop μ-loop
-mul-size-2 c = search needs
-
-element-copy-out-size-2 : tie.Need-element-copy-out-size-2 Inv-loop μ-loop
-element-copy-out-size-2 c = search needs
-
-size-requires-2 : tie.Need-size-requires-2 Inv-loop μ-loop
-size-requires-2 c κs = search needs
-
-mul-write-u32 : tie.Need-mul-write-u32 Inv-loop μ-loop
-mul-write-u32 c = search needs
-
 element-copy-out-write-u32 : tie.Need-element-copy-out-write-u32 Inv-loop μ-loop
 element-copy-out-write-u32 c =
     let in-loop = c .before .before .before .before .before .before in
@@ -55,12 +31,6 @@ write-u32-requires c κs =
     let in-loop = after-size .before .before .before in
     let turn = in-loop .loop in omega
     (arith, after-size .size .ensures .0, turn .inv .2 .below (turn .i) (omega arith), turn .inv .5 .long)
-
-add-i : tie.Need-add-i Inv-loop μ-loop
-add-i c = search needs
-
-loop-less : tie.Need-loop-less Inv-loop μ-loop
-loop-less c = search needs
 
 loop-again : tie.Need-loop-again Inv-loop μ-loop
 loop-again c =
@@ -94,18 +64,18 @@ write-plan-spec =
     Inv-loop
     μ-loop
     loop-holds
-    mul-size
-    element-copy-out-size
-    size-requires
-    mul-place
-    mul-size-2
-    element-copy-out-size-2
-    size-requires-2
-    mul-write-u32
+    (λ c. search needs)
+    (λ c. search needs)
+    (λ c κs. search needs)
+    (λ c. search needs)
+    (λ c. search needs)
+    (λ c. search needs)
+    (λ c κs. search needs)
+    (λ c. search needs)
     element-copy-out-write-u32
     write-u32-requires
-    add-i
-    loop-less
+    (λ c. search needs)
+    (λ c. search needs)
     loop-again
     same-length
     returns)

@@ -8,9 +8,6 @@ use borrow.Author.Needs.{needs}
 use Rattle.probe.proofs.own_regions.probe_region.Statement.{statement}
 use Rattle.probe.proofs.own_regions.probe_region.Tie as tie
 
-unready-requires : tie.Need-unready-requires
-unready-requires c κs = search needs
-
 returns : tie.Need-returns
 returns c = declined (c .if1 .taken) (c .before .before .unready .ensures) refl
 
@@ -36,9 +33,6 @@ tell-region-requires c κs =
       omega (arith, c .before .before .if2 .left),
     )
 
-same-length : tie.Need-same-length
-same-length c = search needs
-
 returns-3 : tie.Need-returns-3
 returns-3 c =
     let if2-left = c .before .before .before .before .before in
@@ -51,10 +45,10 @@ pub probe-region-spec : {M : Type 1} → statement M
 probe-region-spec =
     tie.close
     (tie.spec
-    unready-requires
+    (λ c κs. search needs)
     returns
     returns-2
     read-header-requires
     tell-region-requires
-    same-length
+    (λ c. search needs)
     returns-3)

@@ -19,24 +19,12 @@ mul-size c =
     let start = start-of (c .before .before .before) in
     omega (arith, headed-cells (start .pre .0))
 
-size-requires : tie.Need-size-requires
-size-requires c κs = search needs
-
 count-cells-requires : tie.Need-count-cells-requires
 count-cells-requires c κs =
     let start = start-of (c .before .before .before .before) in
     let d = start .pre .0 in
     let n = c .size .ensures .0 in
     (omega (arith, n, headed-cells d), omega (arith, n, headed-work d, start .pre .1))
-
-add-region-stats : tie.Need-add-region-stats
-add-region-stats c = search needs
-
-sub-region-stats : tie.Need-sub-region-stats
-sub-region-stats c = search needs
-
-part-region-stats-start : tie.Need-part-region-stats-start
-part-region-stats-start c = search needs
 
 part-region-stats-end : tie.Need-part-region-stats-end
 part-region-stats-end c =
@@ -50,12 +38,6 @@ region-stats-requires c κs =
     let long = map-long (d .header) (headed-laid d) _ (c .before .before .size .ensures .0) in
     (omega (arith, headed-laid d .within .width-some), omega (arith, long, headed-cells d), omega (arith, long, headed-work d, start .pre .1))
 
-size-requires-2 : tie.Need-size-requires-2
-size-requires-2 c κs = search needs
-
-size-requires-3 : tie.Need-size-requires-3
-size-requires-3 c κs = search needs
-
 is-anchored-requires : tie.Need-is-anchored-requires
 is-anchored-requires c κs =
     let after-size = c .before .before .before .before .before in
@@ -65,21 +47,6 @@ is-anchored-requires c κs =
     let at = c .before .size2 .ensures .0 in
     let count = c .size3 .ensures .0 in
     (bases-there d at count n, omega (arith, n, headed-cells d), omega (arith, n, headed-work d, start .pre .1), anchors-there d at count n)
-
-flag-requires : tie.Need-flag-requires
-flag-requires c κs = search needs
-
-flag-requires-2 : tie.Need-flag-requires-2
-flag-requires-2 c κs = search needs
-
-slice-aggregate-write-words : tie.Need-slice-aggregate-write-words
-slice-aggregate-write-words c = search needs
-
-write-words-requires : tie.Need-write-words-requires
-write-words-requires c κs = search needs
-
-same-length : tie.Need-same-length
-same-length c = search needs
 
 returns : tie.Need-returns
 returns c =
@@ -105,19 +72,19 @@ tell-region-spec =
     tie.close
     (tie.spec
     mul-size
-    size-requires
+    (λ c κs. search needs)
     count-cells-requires
-    add-region-stats
-    sub-region-stats
-    part-region-stats-start
+    (λ c. search needs)
+    (λ c. search needs)
+    (λ c. search needs)
     part-region-stats-end
     region-stats-requires
-    size-requires-2
-    size-requires-3
+    (λ c κs. search needs)
+    (λ c κs. search needs)
     is-anchored-requires
-    flag-requires
-    flag-requires-2
-    slice-aggregate-write-words
-    write-words-requires
-    same-length
+    (λ c κs. search needs)
+    (λ c κs. search needs)
+    (λ c. search needs)
+    (λ c κs. search needs)
+    (λ c. search needs)
     returns)

@@ -6,9 +6,6 @@ use Rattle.analysis.proofs.Calling.{reduce-job}
 use Rattle.probe.proofs.own_regions.unready.Statement.{statement}
 use Rattle.probe.proofs.own_regions.unready.Tie as tie
 
-check-reduce-requires : tie.Need-check-reduce-requires
-check-reduce-requires c κs = search needs
-
 first-answer-requires : tie.Need-first-answer-requires
 first-answer-requires c κs = (λ e. reduce-job _ (sym (c .check-reduce .ensures) ∙ e), omega arith)
 
@@ -16,4 +13,4 @@ returns : tie.Need-returns
 returns c = first-of (c .before .check-reduce .ensures) (c .first-answer .ensures)
 
 pub unready-spec : {M : Type 1} → statement M
-unready-spec = tie.close (tie.spec check-reduce-requires first-answer-requires returns)
+unready-spec = tie.close (tie.spec (λ c κs. search needs) first-answer-requires returns)

@@ -21,25 +21,10 @@ loop-holds c =
     let start = c .before .before in
     (omega arith, start .pre .0, start .pre .1, filled-start 4 _ _ _ 0)
 
-mul-write-u32 : tie.Need-mul-write-u32 Inv-loop μ-loop
-mul-write-u32 c = search needs
-
-mul-write-u32-2 : tie.Need-mul-write-u32-2 Inv-loop μ-loop
-mul-write-u32-2 c = search needs
-
-shared-slice-read-write-u32 : tie.Need-shared-slice-read-write-u32 Inv-loop μ-loop
-shared-slice-read-write-u32 c = search needs
-
 write-u32-requires : tie.Need-write-u32-requires Inv-loop μ-loop
 write-u32-requires c κs =
     let in-loop = c .before .before .before in
     omega (arith, in-loop .loop .inv .3 .long)
-
-add-i : tie.Need-add-i Inv-loop μ-loop
-add-i c = search needs
-
-loop-less : tie.Need-loop-less Inv-loop μ-loop
-loop-less c = search needs
 
 loop-again : tie.Need-loop-again Inv-loop μ-loop
 loop-again c =
@@ -67,12 +52,12 @@ write-words-spec =
     Inv-loop
     μ-loop
     loop-holds
-    mul-write-u32
-    mul-write-u32-2
-    shared-slice-read-write-u32
+    (λ c. search needs)
+    (λ c. search needs)
+    (λ c. search needs)
     write-u32-requires
-    add-i
-    loop-less
+    (λ c. search needs)
+    (λ c. search needs)
     loop-again
     same-length
     returns)
