@@ -7,6 +7,7 @@ use native.Mathlib.Omega.{arith}
 use native.Mathlib.Decide.{decLt}
 use lib.ListN.{length, getD, drop, replicate, length-append, length-replicate, getD-replicate}
 use lib.Seq.{drop-append-seam, drop-append-add}
+use Rattle.areas.specs.Words.{labelled}
 use Rattle.lists.proofs.Flat.{length-pieces}
 use Rattle.wire.specs.Bytes.{part, number, numberAt, u32At, u32Bytes}
 use Rattle.wire.proofs.Parts.{part-left, part-right}
@@ -21,7 +22,7 @@ use Rattle.areas.proofs.Areas.{area-labels-length}
 use Rattle.walk.specs.Slices.{Owners}
 use Rattle.bridges.specs.Names.{Labelled}
 use Rattle.walk.specs.Marks.{bridgeMarks}
-use Rattle.partition.specs.Partitioned.{labelled, Partitioned}
+use Rattle.partition.specs.Partitioned.{Partitioned}
 use Rattle.partition.specs.declared.Partition.{Partition}
 use Rattle.analysis.specs.Bridging.{Bridged}
 

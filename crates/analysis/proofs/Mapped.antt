@@ -5,12 +5,12 @@ use Prim.Native.Nat.{ℕ, _+_, _*_, _-_, _≤_}
 use native.Mathlib.Omega.{arith}
 use borrow.Rule.Slice.PartMut.{mid-len}
 use lib.ListN.{length, take, drop}
+use Rattle.grid.specs.Cells.{mapOf}
 use Rattle.wire.specs.Bytes.{part}
 use Rattle.format.specs.Header.{headerAt, countsAt, cellCount}
 use Rattle.format.specs.Decode.{decode, jobWith}
 use Rattle.format.specs.declared.header.Header.{Header}
 use Rattle.areas.specs.Spans.{SpansFit}
-use Rattle.assessments.specs.Visits.{mapOf}
 use Rattle.checks.specs.Passed.{Laid}
 use Rattle.checks.proofs.Limits.{sections}
 use Rattle.partition.specs.Partitioned.{Partitionable}

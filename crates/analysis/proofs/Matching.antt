@@ -7,6 +7,7 @@ use Prim.Native.Nat.{ℕ, _+_, _*_, _-_, _/_, _≤_, _<_}
 use native.Mathlib.Omega.{arith}
 use borrow.Author.Tests.{ne-eqb}
 use lib.ListN.{length, getD, take, drop}
+use Rattle.areas.specs.Words.{labelled}
 use Rattle.position.specs.declared.Span.{Span}
 use Rattle.format.specs.Sizes.{boundarySize, spanSize}
 use Rattle.format.specs.Header.{countsAt}
@@ -14,17 +15,16 @@ use Rattle.format.specs.Decode.{decode, decodeList}
 use Rattle.format.specs.declared.header.Counts.{Counts}
 use Rattle.format.specs.declared.header.Header.{Header}
 use Rattle.format.proofs.ListTrip.{length-decodeList}
-use Rattle.grid.specs.Cells.{Grid, size}
+use Rattle.grid.specs.Cells.{Grid, size, mapOf}
 use Rattle.areas.specs.Spans.{spansIn, SpansFit}
 use Rattle.areas.specs.Assessments.{records}
-use Rattle.assessments.specs.Visits.{mapOf}
 use Rattle.topology.specs.Anchors.{anchorsOf}
 use Rattle.groups.specs.Plan.{mergePlan}
 use Rattle.links.specs.Limits.{Limits}
 use Rattle.ranks.specs.Tables.{Records, SpansOf, Identity}
 use Rattle.checks.specs.Checks.{firstRefusal}
 use Rattle.job.specs.Refusals.{reduceChecks, byListChecks}
-use Rattle.partition.specs.Partitioned.{labelled, Partitionable, Partitioned}
+use Rattle.partition.specs.Partitioned.{Partitionable, Partitioned}
 use Rattle.partition.specs.declared.Partition.{Partition}
 use Rattle.results.specs.Rules.{gridOf, listingOf}
 use Rattle.results.specs.Results.{workSize, maxPairs, ownEnds}

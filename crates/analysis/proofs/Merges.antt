@@ -13,7 +13,7 @@ use Rattle.format.specs.Header.{countsAt, basesStart}
 use Rattle.format.specs.Decode.{decode, jobWith}
 use Rattle.format.specs.declared.header.Header.{Header}
 use Rattle.format.specs.declared.header.Counts.{Counts}
-use Rattle.grid.specs.Cells.{Grid}
+use Rattle.grid.specs.Cells.{Grid, mapOf}
 use Rattle.topology.specs.Anchors.{anchorsOf}
 use Rattle.topology.specs.Listing.{Item}
 use Rattle.links.specs.HeldLimits.{limitsOf}
@@ -25,7 +25,7 @@ use Rattle.measures.specs.Judging.{Plain}
 use Rattle.ranks.specs.Tables.{Records, SpansOf, WidthsOf, RampsOf}
 use Rattle.results.specs.Rules.{gridOf, listingOf}
 use Rattle.analysis.specs.Plans.{planOf, RankedJob, Told}
-use Rattle.plan.specs.Listed.{mapOf, Listed, Ready}
+use Rattle.plan.specs.Listed.{Listed, Ready}
 use Rattle.plan.specs.Planned.{anchorsIn, PlanFrom}
 use Rattle.plan.proofs.PlainLaws.{plain-arrays}
 use Rattle.analysis.proofs.Ranked.{ByRank}

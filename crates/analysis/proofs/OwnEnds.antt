@@ -8,11 +8,10 @@ use Rattle.format.specs.Sizes.{boundarySize}
 use Rattle.format.specs.Header.{countsAt}
 use Rattle.format.specs.Decode.{decode}
 use Rattle.format.specs.declared.header.Header.{Header}
-use Rattle.grid.specs.Cells.{Grid}
+use Rattle.grid.specs.Cells.{Grid, mapOf}
 use Rattle.areas.specs.Areas.{areaLabels}
 use Rattle.areas.specs.Assessments.{records}
 use Rattle.areas.specs.Spans.{SpansFit, spansIn}
-use Rattle.assessments.specs.Visits.{mapOf}
 use Rattle.partition.specs.Partitioned.{Partitionable}
 use Rattle.ranks.specs.Tables.{Records, Identity, SpansOf}
 use Rattle.results.specs.Rules.{gridOf}

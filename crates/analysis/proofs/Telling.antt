@@ -17,7 +17,7 @@ use Rattle.areas.specs.Areas.{areaLabels, labelAt}
 use Rattle.areas.specs.Assessments.{records, assess}
 use Rattle.areas.specs.Spans.{spanIn, spansIn}
 use Rattle.areas.proofs.Areas.{area-labels-length}
-use Rattle.areas.specs.Words.{word, labelsIn}
+use Rattle.areas.specs.Words.{word, labelsIn, labelled}
 use Rattle.components.proofs.LabelWords.{word-read, labels-read}
 use Rattle.topology.specs.Listing.{Item}
 use Rattle.groups.specs.Listing as Rank
@@ -25,7 +25,7 @@ use Rattle.groups.specs.Regions.{regionLabels, assessAt, bridgeAt}
 use Rattle.groups.specs.Tables.{Counted, Paired, Bridged as BridgesOf}
 use Rattle.walk.specs.Marks.{bridgeMarks}
 use Rattle.measures.specs.Tables.{Labels}
-use Rattle.partition.specs.Partitioned.{labelled, Partitioned}
+use Rattle.partition.specs.Partitioned.{Partitioned}
 use Rattle.partition.specs.declared.Partition.{Partition}
 use Rattle.results.specs.Rules.{gridOf, listingOf}
 use Rattle.results.specs.Results.{labelsOf}

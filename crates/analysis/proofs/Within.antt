@@ -6,8 +6,8 @@ use Prim.Native.Nat.{ℕ, _≤_, _<_}
 use native.Mathlib.Decide.{decLt}
 use native.Mathlib.Omega.{arith}
 use lib.ListN.{length}
+use Rattle.areas.specs.Words.{labelled}
 use Rattle.graph.specs.Records.{Record}
-use Rattle.partition.specs.Partitioned.{labelled}
 use Rattle.analysis.specs.Bridging.{PartedWithin}
 use Rattle.analysis.proofs.Bridging.{labelled-again}
 

@@ -3,13 +3,13 @@ use mathlib.Core.Path.{_≡_}
 use mathlib.Core.List.{List}
 use Prim.Native.Nat.{ℕ, _+_, _≤_, _<_}
 use lib.ListN.{length}
+use Rattle.areas.specs.Words.{labelled}
 use Rattle.position.specs.declared.Span.{Span}
 use Rattle.graph.specs.Records.{Record}
 use Rattle.grid.specs.Cells.{Grid}
 use Rattle.areas.specs.Areas.{areaLabels}
 use Rattle.areas.specs.Assessments.{records}
 use Rattle.walk.specs.Marks.{bridgeMarks}
-use Rattle.partition.specs.Partitioned.{labelled}
 use Rattle.results.specs.Results.{maxPairs}
 
 -- the region pairs that a small map is first parted with room for

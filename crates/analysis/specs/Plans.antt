@@ -19,7 +19,7 @@ use Rattle.format.specs.declared.header.Header.{Header}
 use Rattle.grid.specs.Directions.{IsDirection, directionsOf}
 use Rattle.areas.specs.Assessments.{records}
 use Rattle.areas.specs.Spans.{spanIn}
-use Rattle.areas.specs.Words.{labelsIn}
+use Rattle.areas.specs.Words.{labelsIn, labelled}
 use Rattle.topology.specs.Anchors.{anchorsOf}
 use Rattle.links.specs.Limits.{Limits}
 use Rattle.groups.specs.Listing.{noSpan}
@@ -34,7 +34,6 @@ use Rattle.measures.specs.Tables.{Labels}
 use Rattle.ranks.specs.Tables.{Identity, SpansOf}
 use Rattle.checks.specs.Checks.{Check, firstRefusal}
 use Rattle.job.specs.Refusals.{boundaryChecks}
-use Rattle.partition.specs.Partitioned.{labelled}
 use Rattle.results.specs.Rules.{gridOf, listingOf}
 use Rattle.analysis.specs.Bridging.{PartedWithin}
 use Rattle.results.specs.Results.{workSize, maxPairs, labelsOf, reduced, leftBy}

@@ -21,6 +21,10 @@ pub record RegionPair : Type 0 where
   pub lower : ℕ
   pub higher : ℕ
 
+-- the pair of a lower and a higher label
+abbrev pub pairOf : ℕ → ℕ → RegionPair
+pairOf lower higher = record { lower = lower; higher = higher }
+
 pub record Assessment : Type 0 where
   pub removed : ℕ
   pub separated : ℕ

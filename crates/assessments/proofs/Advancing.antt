@@ -13,13 +13,13 @@ use Rattle.order.proofs.Gather.{gather-last}
 use Rattle.order.proofs.Keep.{keep-append}
 use Rattle.graph.specs.Path.{Edge}
 use Rattle.areas.specs.Areas.{labelAt}
-use Rattle.areas.specs.Assessments.{RegionPair, pairKey, isSeparated, labelPair, assessment}
+use Rattle.areas.specs.Assessments.{RegionPair, pairKey, isSeparated, labelPair, assessment, pairOf}
 use Rattle.areas.proofs.Assessments.{pair-order}
 use Rattle.areas.specs.Words.{word, labelsIn}
 use Rattle.areas.proofs.Words.{label-in}
 use Rattle.assessments.specs.declared.steps.Assessed.{Assessed}
 use Rattle.grid.specs.Steps.{stepOf}
-use Rattle.assessments.specs.Stored.{pairOf, Ordered, Inserted, Late}
+use Rattle.assessments.specs.Stored.{Ordered, Inserted, Late}
 use Rattle.assessments.specs.Holding.{Listed, Holds, Advances, Room, Grown}
 use Rattle.assessments.proofs.Including.{once-last}
 use Rattle.assessments.proofs.Listing.{listed-put}

@@ -9,7 +9,7 @@ use Rattle.lists.specs.Rows.{rows}
 use Rattle.order.specs.Lists.{keep, gather, upFrom}
 use Rattle.order.specs.Sorting.{sortOnce}
 use Rattle.position.specs.declared.Span.{Span}
-use Rattle.grid.specs.Cells.{Grid}
+use Rattle.grid.specs.Cells.{Grid, mapOf}
 use Rattle.areas.specs.Assessments.{Assessment, assessment}
 use Rattle.areas.specs.Spans.{Sides}
 use Rattle.areas.specs.declared.candidates.CellRange.{CellRange}
@@ -18,7 +18,7 @@ use Rattle.areas.proofs.StripCells.{axis-on, minor-on}
 use Rattle.marking.proofs.Halves.{place-fits}
 use Rattle.assessments.specs.declared.steps.Assessed.{Assessed}
 use Rattle.assessments.specs.Holding.{pairsIn, Holds, Room}
-use Rattle.assessments.specs.Visits.{mapOf, cutFrom, cutBeside, cutAlong}
+use Rattle.assessments.specs.Visits.{cutFrom, cutBeside, cutAlong}
 
 pub limit-small : {w h : ℕ} → Sides w h → (s : Span) {c : ℕ} → c < cond (tall s) h w → c < 1024
 limit-small {w} {h} d s {c} l = go (tall s) l

@@ -9,13 +9,13 @@ use Rattle.order.specs.Lists.{has}
 use Rattle.position.specs.declared.Span.{Span}
 use Rattle.position.specs.declared.WalkPosition.{WalkPosition}
 use Rattle.graph.specs.Path.{Edge}
-use Rattle.grid.specs.Cells.{Grid, indexOf, columnOf, rowOf}
+use Rattle.grid.specs.Cells.{Grid, indexOf, columnOf, rowOf, mapOf}
 use Rattle.grid.specs.Steps.{neighbour, columnTo, rowTo, hasStep, stepOf, Placed}
 use Rattle.grid.proofs.Index.{walkable-on}
 use Rattle.grid.proofs.Reach.{place-column, place-row, place-on}
 use Rattle.grid.proofs.Steps.{Leads, leads-means, has-step, column-to, row-to}
 use Rattle.areas.specs.Cuts.{cutBy}
-use Rattle.assessments.specs.Visits.{mapOf, OnMap, isCutIn, cutIn}
+use Rattle.assessments.specs.Visits.{OnMap, isCutIn, cutIn}
 
 module _ (dirs : List ℕ) (g : Grid) (s : Span) (i d : ℕ) where
   go-cut : (a b c : Bool) → a ≡ has d dirs → b ≡ hasStep g i d → c ≡ cutBy g s (stepOf i (neighbour g i d)) → isCutIn dirs g s i d ≡ (a && (b && c))

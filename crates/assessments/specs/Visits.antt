@@ -13,9 +13,6 @@ use Rattle.areas.specs.Spans.{SpanFits, Sides}
 use Rattle.areas.specs.Cuts.{cutBy}
 use Rattle.areas.specs.Strip.{numbersOf, stripAxis, stripMinor, cellOf}
 
-abbrev pub mapOf : ℕ → ℕ → List ℕ → Grid
-mapOf width height cs = record { width = width; height = height; cells = cs }
-
 -- the bytes of a map and of its labels, and a span on it
 pub record OnMap (width height : ℕ) (cs labels : List ℕ) (s : Span) : Type 0 where
   pub sides : Sides width height

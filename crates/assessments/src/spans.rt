@@ -1,9 +1,9 @@
 // What each span of a list does to the areas.
 ghost use Prim.Native.Nat.{_*_, _<_, _≤_};
 ghost use lib.ListN.{length};
+ghost use Rattle.grid.specs.Cells.{mapOf};
 ghost use Rattle.areas.specs.Words.{labelsIn};
 ghost use Rattle.grid.specs.Directions.{directionsOf};
-ghost use Rattle.assessments.specs.Visits.{mapOf};
 ghost use Rattle.assessments.specs.Recording.{Recorded, SpansOnMap, Arrays, Filled};
 use super::strip::assess_span;
 use areas::spans::span_at;

@@ -2,11 +2,12 @@
 ghost use mathlib.Core.List.{[], _∷_};
 ghost use Prim.Native.Nat.{ℕ, _+_, _*_, _<_, _≤_};
 ghost use lib.ListN.{length};
+ghost use Rattle.grid.specs.Cells.{mapOf};
 ghost use Rattle.areas.specs.Words.{labelsIn};
 ghost use Rattle.grid.specs.Directions.{directionsOf};
 ghost use Rattle.grid.specs.Steps.{stepOf};
 ghost use Rattle.assessments.specs.Holding.{Advances, Room, Grown};
-ghost use Rattle.assessments.specs.Visits.{mapOf, OnMap, cutIn, cutFrom};
+ghost use Rattle.assessments.specs.Visits.{OnMap, cutIn, cutFrom};
 use super::pairs::insert_pair;
 use areas::geometry::cut_by;
 use areas::geometry::max;

@@ -5,8 +5,8 @@ ghost use Prim.Native.Nat.{_<_, _≤_};
 ghost use Rattle.areas.specs.Words.{labelsIn};
 ghost use Rattle.topology.specs.AnchorLoop.{anchoredBy};
 ghost use Rattle.candidates.specs.Gives.{hasRegion, OnMap, OwnBounded, TwoBelow, joinsTwo};
+use areas::spans::span_at;
 use links::geometry::centres_differ;
-use marking::spans::span_at;
 use topology::anchored::is_anchored;
 use wire::size;
 

@@ -3,7 +3,7 @@ ghost use mathlib.Core.Path.{_≡_};
 ghost use mathlib.Core.Bool.{cond};
 ghost use Prim.Native.Nat.{_<_, _≤_};
 ghost use Rattle.candidates.specs.Linkable.{canLink, Marked};
-use marking::spans::span_at;
+use areas::spans::span_at;
 use topology::pairs::has_full_pair;
 
 // 1 if the rank has distinct ends, no ramp and a full pair, else 0.

@@ -4,6 +4,7 @@ use mathlib.Core.List.{List, []}
 use Prim.Native.Nat.{ℕ, _+_}
 use lib.ListN.{length, take, drop}
 use lib.Seq.{take-at}
+use Rattle.areas.specs.Words.{labelled}
 use Rattle.wire.specs.Bytes.{splice}
 use Rattle.format.specs.Values.{Base, Job}
 use Rattle.grid.specs.Cells.{Grid}
@@ -11,7 +12,6 @@ use Rattle.topology.specs.Anchors.{anchorsOf}
 use Rattle.topology.specs.Listing.{Item}
 use Rattle.grid.specs.Directions.{eight}
 use Rattle.links.specs.Limits.{Limits, limits000}
-use Rattle.partition.specs.Partitioned.{labelled}
 use Rattle.merging.specs.Groups.{Groups, noGroups, every}
 use Rattle.merging.specs.Runs.{rulesAnswer}
 use Rattle.merging.specs.Relisted.{Relisted, DistinctEnds}

@@ -6,6 +6,7 @@ use mathlib.Core.Option.{none}
 use Prim.Native.Nat.{ℕ, _+_, _*_, _-_, _≤_, _<_}
 use native.Mathlib.Omega.{arith}
 use lib.ListN.{length, getD, take, drop}
+use Rattle.grid.specs.Cells.{mapOf}
 use Rattle.lists.specs.Rows.{rows}
 use Rattle.lists.proofs.Rows.{rows-at, rows-same}
 use Rattle.wire.specs.Bytes.{splice}
@@ -17,7 +18,6 @@ use Rattle.graph.specs.Records.{Record}
 use Rattle.graph.specs.Bridges.{isBridge, markOf}
 use Rattle.areas.specs.Assessments.{records}
 use Rattle.areas.specs.Spans.{spansIn}
-use Rattle.assessments.specs.Visits.{mapOf}
 use Rattle.walk.specs.Marks.{bridgeMarks}
 use Rattle.checks.specs.Checks.{firstRefusal}
 use Rattle.job.specs.Refusals.{markChecks}

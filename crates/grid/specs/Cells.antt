@@ -53,3 +53,7 @@ rowOf g i = i / g .width
 -- "Cell centres are (8c + 4, 8r + 4)"
 abbrev pub centre : Grid → ℕ → PixelPosition
 centre g i = record { x = 8 * columnOf g i + 4; y = 8 * rowOf g i + 4 }
+
+-- a map of a width, a height and its cells
+abbrev pub mapOf : ℕ → ℕ → List ℕ → Grid
+mapOf width height cells = record { width = width; height = height; cells = cells }

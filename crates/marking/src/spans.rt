@@ -9,7 +9,7 @@ ghost use Rattle.areas.specs.Open.{openByte};
 ghost use Rattle.areas.specs.Spans.{Sides, SpansFit, spansIn};
 use super::closing::close_cut;
 use super::opening::open_steps;
-pub use areas::spans::span_at;
+use areas::spans::span_at;
 
 // Writes the bytes of all the cells from base on.
 pub fn mark_spans(

@@ -3,6 +3,7 @@ use mathlib.Core.Path.{_≡_}
 use mathlib.Core.List.{List, flatMap, List·Memᴰ}
 use Prim.Native.Nat.{ℕ, _+_, _*_, _≤_, _<_}
 use lib.ListN.{length, getD, take, drop}
+use Rattle.areas.specs.Words.{labelled}
 use Rattle.wire.specs.Bytes.{u32Bytes}
 use Rattle.position.specs.declared.Span.{Span}
 use Rattle.graph.specs.Records.{recordsIn}
@@ -11,7 +12,6 @@ use Rattle.grid.specs.Directions.{IsDirection, directionsOf}
 use Rattle.areas.specs.Areas.{areaLabels, areaCount, labelAt}
 use Rattle.areas.specs.Assessments.{assess, records}
 use Rattle.areas.specs.Spans.{Sides, SpansFit, spanIn, spansIn}
-unfoldable pub use Rattle.areas.specs.Words.{labelled}
 use Rattle.partition.specs.declared.Partition.{Partition}
 
 -- a map of sides that can be analysed, a set of directions, spans on the map, and ten bytes a cell

@@ -1,10 +1,10 @@
 // The areas that spans part a map into, and what each span does to them, in lent bytes.
 ghost use Prim.Native.Nat.{_*_};
 ghost use lib.ListN.{length};
+ghost use Rattle.grid.specs.Cells.{mapOf};
 ghost use Rattle.grid.specs.Directions.{directionsOf};
 ghost use Rattle.areas.specs.Spans.{spansIn};
 ghost use Rattle.assessments.specs.Recording.{Arrays};
-ghost use Rattle.assessments.specs.Visits.{mapOf};
 ghost use Rattle.partition.specs.Partitioned.{Partitionable, AreasIn, Partitioned};
 use assessments::spans::assess_spans;
 use components::components;

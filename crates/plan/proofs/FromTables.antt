@@ -6,6 +6,7 @@ use Prim.Native.Nat.{ℕ, _<_}
 use native.Mathlib.Omega.{arith}
 use lib.Dec.{eqb}
 use lib.ListN.{length, getD}
+use Rattle.areas.specs.Assessments.{pairOf}
 use Rattle.order.proofs.Members.{getD-mem}
 use Rattle.lists.specs.Rows.{at, rows}
 use Rattle.lists.proofs.Rows.{length-rows, rows-at}
@@ -14,7 +15,6 @@ use Rattle.grid.specs.Cells.{Grid}
 use Rattle.links.specs.Held.{SpanBounded}
 use Rattle.links.specs.Limits.{Limits}
 use Rattle.topology.specs.FullPair.{fullPair}
-use Rattle.topology.specs.Numbers.{pairOf}
 use Rattle.topology.specs.Listing.{Item}
 use Rattle.groups.specs.Regions.{assessAt}
 use Rattle.groups.specs.Links.{LinkAt, links, IsLink}

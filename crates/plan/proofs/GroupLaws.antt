@@ -19,9 +19,8 @@ use Rattle.length.specs.Total.{totalLe}
 use Rattle.position.specs.declared.Span.{Span}
 use Rattle.grid.specs.Cells.{Grid}
 use Rattle.areas.specs.Spans.{spanIn}
-use Rattle.areas.specs.Assessments.{RegionPair}
+use Rattle.areas.specs.Assessments.{RegionPair, pairOf}
 use Rattle.topology.specs.FullPair.{otherRegion}
-use Rattle.topology.specs.Numbers.{pairOf}
 use Rattle.topology.specs.Listing.{Item}
 use Rattle.links.specs.Limits.{Limits}
 use Rattle.links.specs.Geometry.{centreDistance}

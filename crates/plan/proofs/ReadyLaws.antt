@@ -8,7 +8,7 @@ use Rattle.wire.specs.Bytes.{part, number, numberAt}
 use Rattle.wire.proofs.Parts.{length-part, part-part}
 use Rattle.position.specs.declared.WalkPosition.{WalkPosition}
 use Rattle.links.specs.Limits.{Limits}
-use Rattle.grid.specs.Cells.{Grid}
+use Rattle.grid.specs.Cells.{Grid, mapOf}
 use Rattle.areas.specs.Spans.{Sides}
 use Rattle.areas.specs.Words.{labelsIn}
 use Rattle.areas.proofs.Words.{labels-same}
@@ -24,7 +24,7 @@ use Rattle.plan.specs.Arrays.{Ranked}
 use Rattle.plan.specs.Fitting.{Plannable}
 use Rattle.plan.specs.Planning.{PlanOf}
 use Rattle.plan.proofs.FromTables.{told, plannable, ranked, passed, flat-inside}
-use Rattle.plan.specs.Listed.{mapOf, Listed, Ready}
+use Rattle.plan.specs.Listed.{Listed, Ready}
 use Rattle.plan.specs.Planned.{anchorsIn, LinksFrom, PlanFrom}
 use Rattle.plan.proofs.LinkLaws.{regions-are, ranks-are, owners-are}
 

@@ -7,6 +7,7 @@ use native.Mathlib.Omega.{arith}
 use lib.Dec.{eqb, leb}
 use lib.Ieee.{Float, binary64, ofBits}
 use lib.ListN.{length, getD}
+use Rattle.areas.specs.Assessments.{pairOf}
 use Rattle.lists.specs.Rows.{at}
 use Rattle.order.specs.Lists.{keep, upFrom}
 use Rattle.order.specs.Sorting.{sort}
@@ -14,7 +15,6 @@ use Rattle.length.specs.Total.{totalLe}
 use Rattle.position.specs.declared.Span.{Span}
 use Rattle.areas.specs.Spans.{spanIn}
 use Rattle.topology.specs.FullPair.{otherRegion}
-use Rattle.topology.specs.Numbers.{pairOf}
 use Rattle.groups.specs.Tests.{every}
 use Rattle.order.proofs.Keep.{keep-length}
 use Rattle.links.specs.Limits.{Limits}

@@ -4,7 +4,7 @@ use mathlib.Core.List.{List}
 use Prim.Native.Nat.{ℕ, _+_, _*_, _≤_}
 use lib.ListN.{length}
 use Rattle.format.specs.Sizes.{baseSize}
-use Rattle.grid.specs.Cells.{Grid}
+use Rattle.grid.specs.Cells.{Grid, mapOf}
 use Rattle.areas.specs.Spans.{Sides}
 use Rattle.areas.specs.Words.{labelsIn}
 use Rattle.topology.specs.AnchorLoop.{AnchorsIn}
@@ -14,9 +14,6 @@ use Rattle.groups.specs.Tables.{Boundaries, Counted, Paired, Bridged}
 use Rattle.candidates.specs.Owners.{Stored}
 use Rattle.measures.specs.Tables.{Labels}
 use Rattle.measures.specs.Judging.{Plain}
-
-abbrev pub mapOf : ℕ → ℕ → List ℕ → Grid
-mapOf width height cells = record { width = width; height = height; cells = cells }
 
 -- n boundaries, the regions of the cells, what each span does to them, and which ones are bridges
 pub record Listed (dirs : List ℕ) (g : Grid) (l : List Item) (n : ℕ) (own bits ramps labels removed separated owners lefts rights : List ℕ) (records : ℕ)

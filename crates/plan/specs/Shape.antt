@@ -6,6 +6,7 @@ use Prim.Native.Nat.{ℕ, suc}
 use lib.Dec.{leb, eqb}
 use lib.Ieee.{Float, binary64, le, ofBits, toBits}
 use lib.ListN.{length, getD, take}
+use Rattle.areas.specs.Assessments.{pairOf}
 use Rattle.lists.specs.Rows.{at}
 use Rattle.order.specs.Lists.{keep}
 use Rattle.order.specs.Sorting.{sort}
@@ -13,7 +14,6 @@ use Rattle.length.specs.Floats.{_⊕_}
 use Rattle.length.specs.Total.{totalLe}
 use Rattle.areas.specs.Spans.{spanIn}
 use Rattle.topology.specs.FullPair.{otherRegion}
-use Rattle.topology.specs.Numbers.{pairOf}
 use Rattle.links.specs.Limits.{Limits}
 use Rattle.links.specs.Geometry.{squares, centreDistance}
 use Rattle.links.specs.Parallel.{nearbyParallel}

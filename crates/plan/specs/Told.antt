@@ -5,11 +5,11 @@ use mathlib.Core.List.{List, map}
 use Prim.Native.Nat.{ℕ, _<_}
 use lib.Ieee.{le}
 use lib.ListN.{length, getD}
+use Rattle.areas.specs.Assessments.{pairOf}
 use Rattle.lists.specs.Rows.{at}
 use Rattle.grid.specs.Cells.{Grid}
 use Rattle.areas.specs.Spans.{spanIn}
 use Rattle.topology.specs.FullPair.{fullPair}
-use Rattle.topology.specs.Numbers.{pairOf}
 use Rattle.topology.specs.Listing.{Item}
 use Rattle.links.specs.Limits.{Limits}
 use Rattle.links.specs.Geometry.{squares, centreDistance}

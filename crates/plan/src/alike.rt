@@ -7,9 +7,9 @@ ghost use Rattle.plan.specs.Few.{listed};
 ghost use Rattle.plan.specs.Shape.{alikeIn, allAlikeIn};
 ghost use Rattle.plan.specs.Fitting.{RankFits, Ranks};
 use crate::few::Few;
+use areas::spans::span_at;
 use links::limits::Limits;
 use links::parallel::SpanPair;
-use marking::spans::span_at;
 
 // The span of rank i with that of rank j.
 pub fn alike(limits: Limits, own: &[u32; 1024], i: usize, j: usize) -> bool

@@ -8,9 +8,9 @@ ghost use Rattle.plan.specs.Few.{listed};
 ghost use Rattle.plan.specs.Shape.{gapIn, chainIn, BitsOf};
 ghost use Rattle.plan.specs.Fitting.{RankFits, LinkFits, Links};
 use crate::few::Few;
+use areas::spans::span_at;
 use links::geometry::centre_distance;
 use links::sums::sum_of_bits;
-use marking::spans::span_at;
 use sorting::numbers::sort_keys;
 use wire::size;
 

@@ -2,9 +2,10 @@
 ghost use mathlib.Core.Path.{_≡_};
 ghost use Prim.Native.Nat.{_≤_};
 ghost use lib.ListN.{length};
+ghost use Rattle.grid.specs.Cells.{mapOf};
 ghost use Rattle.areas.specs.Words.{labelsIn};
 ghost use Rattle.links.specs.HeldLimits.{limitsOf};
-ghost use Rattle.plan.specs.Listed.{mapOf, Ready};
+ghost use Rattle.plan.specs.Listed.{Ready};
 ghost use Rattle.plan.specs.Planned.{LinksFrom, PlanFrom};
 use crate::merge::merge_plan;
 use candidates::candidate_links;

@@ -6,6 +6,7 @@ use native.Mathlib.Omega.{arith}
 use borrow.Author.Tests.{ltb-true, ltb-false}
 use lib.Dec.{ltb}
 use lib.ListN.{length, getD, take, drop}
+use Rattle.areas.specs.Words.{labelled}
 use Rattle.order.specs.Pairs.{SameMembers}
 use Rattle.order.proofs.Bools.{by-test}
 use Rattle.wire.specs.Bytes.{words}
@@ -16,7 +17,7 @@ use Rattle.format.specs.Header.{countsAt}
 use Rattle.format.specs.Decode.{decode}
 use Rattle.format.specs.declared.header.Header.{Header}
 use Rattle.graph.specs.Records.{recordIn, recordsIn}
-use Rattle.grid.specs.Cells.{Grid}
+use Rattle.grid.specs.Cells.{Grid, mapOf}
 use Rattle.grid.specs.Directions.{eight, directionsOf}
 use Rattle.grid.proofs.Directions.{directions-eight}
 use Rattle.areas.specs.Areas.{areaCount}
@@ -25,8 +26,7 @@ use Rattle.areas.specs.Spans.{spanIn, spansIn}
 use Rattle.areas.proofs.Areas.{count-depends-on-the-set}
 use Rattle.areas.proofs.Assessments.{assess-same}
 use Rattle.areas.proofs.Listed.{eq-same, records-same}
-use Rattle.assessments.specs.Visits.{mapOf}
-use Rattle.partition.specs.Partitioned.{labelled, Partitioned}
+use Rattle.partition.specs.Partitioned.{Partitioned}
 use Rattle.partition.specs.declared.Partition.{Partition}
 use Rattle.results.specs.Rules.{gridOf}
 use Rattle.results.specs.Results.{ownEnds}

@@ -4,6 +4,7 @@ use mathlib.Core.List.{List, [], _∷_, _++_, flatMap}
 use mathlib.Core.Option.{none}
 use Prim.Native.Nat.{ℕ, _+_, _*_, _≤_, _<_}
 use lib.ListN.{length, getD}
+use Rattle.areas.specs.Words.{labelled}
 use Rattle.wire.specs.Bytes.{words, splice}
 use Rattle.position.specs.declared.Span.{Span}
 use Rattle.graph.specs.Records.{Record, recordIn}
@@ -12,7 +13,6 @@ use Rattle.format.specs.Header.{countsAt}
 use Rattle.format.specs.Decode.{decode}
 use Rattle.areas.specs.Areas.{areaCount}
 use Rattle.areas.specs.Assessments.{assess, records}
-use Rattle.partition.specs.Partitioned.{labelled}
 use Rattle.checks.specs.Checks.{firstRefusal}
 use Rattle.job.specs.Refusals.{reduceChecks}
 use Rattle.results.specs.Rules.{gridOf}

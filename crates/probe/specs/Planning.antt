@@ -6,6 +6,7 @@ use mathlib.Core.Option.{none}
 use Prim.Native.Nat.{ℕ, _+_, _*_, _≤_, _<_}
 use lib.Dec.{eqb}
 use lib.ListN.{length, getD, drop}
+use Rattle.areas.specs.Words.{labelled}
 use Rattle.wire.specs.Bytes.{part, u32Bytes}
 use Rattle.position.specs.declared.Span.{Span}
 use Rattle.format.specs.Values.{Job}
@@ -14,7 +15,6 @@ use Rattle.format.specs.Header.{countsAt}
 use Rattle.format.specs.Decode.{decode, decodeList}
 use Rattle.areas.specs.Assessments.{records}
 use Rattle.links.specs.Limits.{Limits}
-use Rattle.partition.specs.Partitioned.{labelled}
 use Rattle.merging.specs.Follows.{placesOf}
 use Rattle.checks.specs.Checks.{Check, firstRefusal}
 use Rattle.job.specs.Refusals.{reduceChecks, byListChecks}

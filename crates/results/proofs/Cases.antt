@@ -9,6 +9,7 @@ use borrow.Author.Tests.{lt-leb}
 use lib.Dec.{lit≤}
 use lib.Ieee.{neg, add, sub, mul, div, lt, le, ofBits, ofInt, toBits}
 use lib.ListN.{length}
+use Rattle.areas.specs.Words.{labelled}
 use Rattle.order.specs.Lists.{gather, upFrom, has}
 use Rattle.order.specs.Sorting.{sort, insert, sortOnce, include}
 use Rattle.order.specs.Keys.{lexLe}
@@ -41,7 +42,6 @@ use Rattle.merging.specs.Groups.{Groups, noGroups, every}
 use Rattle.merging.specs.Kept.{membersOf, consolidated, slot, kept}
 use Rattle.merging.specs.Runs.{Run, reduceRun, itemsOf, canonItem, groupsOf, keptOf, rulesAnswer}
 use Rattle.results.specs.Rules.{gridOf, rulesOn, rulesOf}
-use Rattle.partition.specs.Partitioned.{labelled}
 use Rattle.results.specs.Results.{afterWork, Outcome, leftBy, workSize, ownEnds, labelsOf, answerOf, marksOf, reduced, reduceWith, reduceByListWith}
 use Rattle.results.specs.Calls.{reduceResult, reduceByListResult, markResult}
 use Rattle.results.specs.Cases.{oneCell, upright, observed as seenBytes, corridor, anchored, corridorAnswer, anchoredAnswer, leaves, Gives}

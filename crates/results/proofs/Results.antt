@@ -6,6 +6,7 @@ use Prim.Native.Nat.{ℕ, _≤_, _<_}
 use borrow.Author.Tests.{le-ltb, lt-ltb}
 use lib.Dec.{ltb}
 use lib.ListN.{length}
+use Rattle.areas.specs.Words.{labelled}
 use Rattle.position.specs.declared.Span.{Span}
 use Rattle.wire.specs.Bytes.{splice}
 use Rattle.format.specs.Values.{Job}
@@ -16,7 +17,6 @@ use Rattle.job.specs.Refusals.{markChecks}
 use Rattle.checks.specs.Checks.{Check, check, firstRefusal}
 use Rattle.checks.proofs.Firsts.{stop, clear}
 use Rattle.results.specs.Rules.{gridOf}
-use Rattle.partition.specs.Partitioned.{labelled}
 use Rattle.results.specs.Results.{workSize, ownEnds, marksOf, markWith, maxPairs, labelsOf, answerOf, reduced, leftBy}
 use Rattle.results.specs.Returns.{FirstAnswer}
 use Rattle.results.proofs.Returns.{first-return, pairs-return, last-return, success-return}

@@ -7,11 +7,11 @@ use Prim.Native.Nat.{ℕ, _≤_, _<_}
 use native.Mathlib.Omega.{arith}
 use borrow.Author.Tests.{lt-ltb, le-ltb}
 use lib.ListN.{length}
+use Rattle.areas.specs.Words.{labelled}
 use Rattle.position.specs.declared.Span.{Span}
 use Rattle.wire.specs.Bytes.{splice}
 use Rattle.format.specs.Values.{Job}
 use Rattle.areas.specs.Assessments.{records}
-use Rattle.partition.specs.Partitioned.{labelled}
 use Rattle.checks.specs.Checks.{Refusal, Check, firstRefusal}
 use Rattle.checks.specs.Verdict.{passes, numberOf, detailOf}
 use Rattle.checks.proofs.Firsts.{skip, stop, clear, append-none, append-some}

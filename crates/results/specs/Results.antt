@@ -5,6 +5,7 @@ use mathlib.Core.Option.{Option, none, some}
 use Prim.Native.Nat.{ℕ, _*_}
 use lib.Dec.{ltb}
 use lib.ListN.{length}
+use Rattle.areas.specs.Words.{labelled}
 use Rattle.lists.specs.Rows.{rows}
 use Rattle.position.specs.declared.Span.{Span}
 use Rattle.wire.specs.Bytes.{splice}
@@ -14,7 +15,6 @@ use Rattle.graph.specs.Bridges.{markOf}
 use Rattle.areas.specs.Areas.{areaLabels}
 use Rattle.areas.specs.Assessments.{records}
 use Rattle.links.specs.Limits.{Limits}
-use Rattle.partition.specs.Partitioned.{labelled}
 use Rattle.checks.specs.Checks.{Refusal, Check, check, firstRefusal}
 use Rattle.job.specs.Refusals.{reduceChecks, markChecks, byListChecks}
 use Rattle.merging.specs.Runs.{rulesAnswer}

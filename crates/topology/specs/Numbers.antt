@@ -7,6 +7,3 @@ use Rattle.areas.specs.Assessments.{RegionPair}
 -- `hasFullPair` of an assessment is this of its counts and of how many pairs it has.
 abbrev pub isFull : ℕ → ℕ → ℕ → Bool
 isFull removed separated pairs = (ltb 0 removed && eqb separated removed) && eqb pairs 1
-
-abbrev pub pairOf : ℕ → ℕ → RegionPair
-pairOf lower higher = record { lower = lower; higher = higher }

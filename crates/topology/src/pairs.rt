@@ -1,7 +1,8 @@
 // Full pairs, and a pair's other region.
 ghost use mathlib.Core.Path.{_≡_};
+ghost use Rattle.areas.specs.Assessments.{pairOf};
 ghost use Rattle.topology.specs.FullPair.{otherRegion};
-ghost use Rattle.topology.specs.Numbers.{isFull, pairOf};
+ghost use Rattle.topology.specs.Numbers.{isFull};
 
 // By how many steps a boundary removes, how many of them have different labels, and how many pairs it has.
 pub fn has_full_pair(removed: u32, separated: u32, pairs: u32) -> bool

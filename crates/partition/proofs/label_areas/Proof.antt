@@ -1,7 +1,7 @@
 use Prim.Native.Nat.{_≤_}
 use native.Mathlib.Omega.{arith}
 use lib.ListN.{length}
-use Rattle.assessments.specs.Visits.{mapOf}
+use Rattle.grid.specs.Cells.{mapOf}
 use Rattle.partition.proofs.Labelling.{few-cells, marked-open, marked-due, due-there, marked-sound, areas-in}
 use borrow.Author.Needs.{needs}
 use Rattle.partition.proofs.label_areas.Statement.{statement}

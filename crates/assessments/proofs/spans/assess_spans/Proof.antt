@@ -3,9 +3,9 @@ use Prim.Native.Nat.{_*_, _-_, _≤_}
 use native.Mathlib.Omega.{arith}
 use lib.ListN.{length}
 use borrow.Author.Needs.{needs}
+use Rattle.grid.specs.Cells.{mapOf}
 use Rattle.areas.specs.Words.{labelsIn}
 use Rattle.grid.specs.Directions.{directionsOf}
-use Rattle.assessments.specs.Visits.{mapOf}
 use Rattle.assessments.specs.Recording.{SpansOnMap, Arrays}
 use Rattle.assessments.proofs.Recording.{Recording, recording-start, recording-over, recording-next, recording-end, grows, span-on, span-holds}
 use Rattle.assessments.proofs.spans.assess_spans.Statement.{statement}

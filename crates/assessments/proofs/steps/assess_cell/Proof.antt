@@ -1,9 +1,10 @@
 use mathlib.Core.Path.{refl}
 use Prim.Native.Nat.{_+_, _*_, _-_, _≤_}
 use native.Mathlib.Omega.{arith}
+use Rattle.grid.specs.Cells.{mapOf}
 use Rattle.areas.specs.Words.{labelsIn}
 use Rattle.grid.specs.Directions.{directionsOf}
-use Rattle.assessments.specs.Visits.{mapOf, cutIn, cutFrom}
+use Rattle.assessments.specs.Visits.{cutIn, cutFrom}
 use Rattle.assessments.proofs.Advancing.{Going, going-start, going-room, going-next, going-end, grown-more}
 use borrow.Author.Needs.{needs}
 use Rattle.assessments.proofs.steps.assess_cell.Statement.{statement}

@@ -2,9 +2,10 @@ use mathlib.Core.Path.{ap}
 use Prim.Native.Nat.{_+_, _*_, _-_, _≤_, max}
 use native.Mathlib.Omega.{arith}
 use borrow.Author.Needs.{needs}
+use Rattle.grid.specs.Cells.{mapOf}
 use Rattle.grid.specs.Directions.{directionsOf}
 use Rattle.areas.specs.Strip.{cellOf}
-use Rattle.assessments.specs.Visits.{mapOf, cutFrom}
+use Rattle.assessments.specs.Visits.{cutFrom}
 use Rattle.assessments.proofs.Advancing.{Going, going-start, going-room, going-next, going-end, grown-more, advance-as}
 use Rattle.assessments.proofs.Placing.{limit-small, beside-small, place-in, place-cell, last-in, lower, beside-is}
 use Rattle.assessments.proofs.strip.assess_beside.Statement.{statement}

@@ -1,8 +1,9 @@
 use mathlib.Core.List.{[]}
 use Prim.Native.Nat.{_+_, _*_, _-_, _≤_, max}
 use native.Mathlib.Omega.{arith}
+use Rattle.grid.specs.Cells.{mapOf}
 use Rattle.grid.specs.Directions.{directionsOf}
-use Rattle.assessments.specs.Visits.{mapOf, cutBeside}
+use Rattle.assessments.specs.Visits.{cutBeside}
 use Rattle.assessments.proofs.Advancing.{Going, going-start, going-room, going-next, going-end}
 use Rattle.assessments.proofs.Placing.{limit-small, last-along, lower, along-is, holds-none, holds-as, room-start}
 use Rattle.assessments.proofs.Strips.{strip-assessed}
