@@ -15,7 +15,7 @@ use Rattle.order.specs.Lists.{keep, upFrom}
 use Rattle.graph.specs.Parts.{join, part}
 use Rattle.groups.specs.Tests.{any}
 use Rattle.plan.specs.Arrays.{isOn, edgeRow, chosenFrom, partFrom, joinsAt, joinedFrom, Filled}
-use Rattle.plan.proofs.FewLaws.{up-down}
+use Rattle.order.proofs.SortedFirst.{up-down}
 
 pub pick-yes : (c high low : ℕ) → c ≡ high → low ≡ cond (eqb c high) low c
 pick-yes c high low e = let h = eq-eqb c high e in rw h

@@ -8,6 +8,7 @@ use native.Mathlib.Numerals.{add-one}
 use borrow.Author.Tests.{ltb-true, lt-ltb, le-ltb}
 use lib.Dec.{ltb}
 use lib.ListN.{length, getD, length-map}
+use Rattle.order.proofs.SortedFirst.{up-down, up-none}
 use Rattle.order.specs.Lists.{keep, upFrom}
 use Rattle.order.proofs.Bools.{by-test}
 use Rattle.order.proofs.Numbers.{up-mem, up-length, map-up-at, map-places}
@@ -57,15 +58,6 @@ listed-held xs h =
     ∙ (map-ext (slot (held xs)) (λ j. getD xs j 0) (upFrom 0 (length xs))
     (λ j m. let l = up-mem 0 (length xs) m in let e = lt-ltb j 16 (omega (arith, l .1)) in slot-held xs j ∙ rw e)
     ∙ map-places xs 0)
-
--- the numbers from j on
-pub up-down : (j n : ℕ) → j < n → upFrom j (n - j) ≡ j ∷ upFrom (suc j) (n - suc j)
-unfolding upFrom
-up-down j n l = let e : n - j ≡ suc (n - suc j) = omega arith in ap (upFrom j) e
-
-pub up-none : (n : ℕ) → upFrom n (n - n) ≡ []
-unfolding upFrom
-up-none n = let e : n - n ≡ 0 = omega arith in ap (upFrom n) e
 
 -- what is held of the values of k, …, n - 1 that pass
 module _ {A : Type 0} (hold : List ℕ → A) (t : ℕ → Bool) (v : ℕ → ℕ) (n : ℕ) where

@@ -7,14 +7,14 @@ use native.Mathlib.Omega.{arith}
 use lib.Dec.{ltb}
 use lib.ListN.{length, getD, length-map}
 use Rattle.order.specs.Lists.{keep, upFrom}
-use Rattle.order.specs.Sorting.{insert, sort}
 use Rattle.order.proofs.Keep.{keep-mem}
 use Rattle.order.proofs.Numbers.{up-length}
 use Rattle.groups.specs.Tests.{every}
 use Rattle.plan.specs.declared.few.Few.{Few}
 use Rattle.plan.specs.declared.path.Near.{Near}
 use Rattle.plan.specs.Few.{firstOf, held, slot, listed, near}
-use Rattle.plan.proofs.FewLaws.{up-down, up-none, slot-held, Picked, picked-end, Noted, noted-end}
+use Rattle.order.proofs.SortedFirst.{up-down, up-none}
+use Rattle.plan.proofs.FewLaws.{slot-held, Picked, picked-end, Noted, noted-end}
 
 pub picked-listed : {t : ℕ → Bool} (f : Few) {k : ℕ} {g : Few} → Picked t (slot f) (f .count) k g → k ≡ 0 → g ≡ held (keep t (listed f))
 unfolding listed
@@ -91,65 +91,3 @@ module _ (t : ℕ → Bool) (v : ℕ → ℕ) (n : ℕ) where
 pub each-listed : (t : ℕ → Bool) (f : Few) {k : ℕ} {b : Bool} → Each t (slot f) (f .count) k b → k ≡ 0 → b ≡ every t (listed f)
 unfolding listed
 each-listed t f p e = each-end t (slot f) (f .count) p e
-
-module _ (le : ℕ → ℕ → Bool) where
-  insert-some : (x : ℕ) (s : List ℕ) → 0 < length (insert le x s)
-  unfolding insert
-  insert-some x [] = omega arith
-  insert-some x (y ∷ ys) = choose (le x y)
-    where
-      choose : (b : Bool) → 0 < length (cond b (x ∷ y ∷ ys) (y ∷ insert le x ys))
-      choose true = omega arith
-      choose false = omega arith
-
-  pub sort-some : (l : List ℕ) → 0 < length l → 0 < length (sort le l)
-  unfolding sort
-  sort-some [] h = absurd (omega arith)
-  sort-some (x ∷ xs) h = insert-some x (sort le xs)
-
-  first-insert : (x : ℕ) (s : List ℕ) → 0 < length s → getD (insert le x s) 0 0 ≡ cond (le x (getD s 0 0)) x (getD s 0 0)
-  unfolding insert
-  first-insert x [] l = absurd (omega arith)
-  first-insert x (y ∷ ys) l = choose (le x y)
-    where
-      choose : (b : Bool) → getD (cond b (x ∷ y ∷ ys) (y ∷ insert le x ys)) 0 0 ≡ cond b x y
-      choose true = refl
-      choose false = refl
-
-  module _ (v : ℕ → ℕ) (n : ℕ) where
-    -- the first of the values of k, …, n - 1
-    pub record First (k x : ℕ) : Type 0 where
-      pub inside : k < n
-      pub is : x ≡ getD (sort le (map v (upFrom k (n - k)))) 0 0
-
-    pub first-start : (k : ℕ) {x : ℕ} → suc k ≡ n → x ≡ v k → First k x
-    unfolding sort insert upFrom
-    first-start k e q = record {
-      inside = omega arith;
-      is = q
-          ∙ (let z : suc zero ≡ n - k = omega arith in ap (λ (m : ℕ). getD (sort le (map v (upFrom k m))) 0 0) z);
-    }
-
-    behind : (j : ℕ) → j < n → 0 < length (sort le (map v (upFrom j (n - j))))
-    unfolding sort
-    behind j l = subst (λ (xs : List ℕ). 0 < length (sort le (map v xs))) (sym (up-down j n l))
-        (insert-some (v j) (sort le (map v (upFrom (suc j) (n - suc j)))))
-
-    first-turn : (j : ℕ) {x y : ℕ} → First (suc j) x → y ≡ cond (le (v j) x) (v j) x → First j y
-    unfolding sort
-    first-turn j {x} {y} p e = record {
-      inside = omega (arith, p .inside);
-      is = e ∙ (ap (λ (z : ℕ). cond (le (v j) z) (v j) z) (p .is)
-          ∙ (sym (first-insert (v j) (sort le (map v (upFrom (suc j) (n - suc j)))) (behind (suc j) (p .inside)))
-          ∙ ap (λ (xs : List ℕ). getD (sort le (map v xs)) 0 0) (sym (up-down j n (omega (arith, p .inside))))));
-    }
-
-    pub first-next : {k x y : ℕ} (a : ℕ) → First k x → 0 < k → a ≡ v (k - 1) → y ≡ cond (le a x) a x → First (k - 1) y
-    first-next {k} {x} a p l e q =
-        let z : k ≡ suc (k - 1) = omega arith in
-        first-turn (k - 1) (subst (λ (m : ℕ). First m x) z p) (q ∙ ap (λ (w : ℕ). cond (le w x) w x) e)
-
-    pub first-end : {k x : ℕ} → First k x → k ≡ 0 → x ≡ getD (sort le (map v (upFrom 0 n))) 0 0
-    first-end {k} p e =
-        let a : upFrom k (n - k) ≡ upFrom 0 n = ap (λ (m : ℕ). upFrom m (n - m)) e ∙ (let z : n - 0 ≡ n = omega arith in ap (upFrom 0) z) in
-        p .is ∙ ap (λ (l : List ℕ). getD (sort le (map v l)) 0 0) a

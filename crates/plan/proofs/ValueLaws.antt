@@ -7,6 +7,7 @@ use native.Mathlib.Omega.{arith}
 use lib.Dec.{eqb, leb}
 use lib.Ieee.{Float, binary64, ofBits}
 use lib.ListN.{length, getD}
+use Rattle.order.proofs.SortedFirst.{SortedFirst, first-end, sort-some}
 use Rattle.areas.specs.Assessments.{pairOf}
 use Rattle.lists.specs.Rows.{at}
 use Rattle.order.specs.Lists.{keep, upFrom}
@@ -27,7 +28,7 @@ use Rattle.plan.specs.Arrays.{joinsAt}
 use Rattle.plan.specs.Shape.{degreeIn, endsIn, regularIn, outerIn, alikeIn, allAlikeIn, gapIn, leastIn, sumIn, nearerIn, fineIn, eligibleIn, retainedIn}
 use Rattle.plan.specs.Fitting.{RankFits}
 use Rattle.plan.proofs.FewLaws.{Picked, listed-held}
-use Rattle.plan.proofs.ShapeLaws.{First, first-end, listed-length, picked-listed, Each, each-listed, held-count, sort-some}
+use Rattle.plan.proofs.ShapeLaws.{listed-length, picked-listed, Each, each-listed, held-count}
 
 pub both : {A B C : Type 0} (f : A → B → C) {s u : A} {t v : B} → s ≡ u → t ≡ v → f s t ≡ f u v
 both f {s} {u} {t} {v} p q = ap (λ x. f x t) p ∙ ap (f u) q
@@ -45,12 +46,12 @@ span-fits {own} w e q = subst SpanBounded (sym (q ∙ ap (spanIn own) e)) (w .bo
 pub gap-number : (firsts seconds own : List ℕ) (k : ℕ) {x : Float} → x ≡ gapIn firsts seconds own k → Number x
 gap-number firsts seconds own k e = subst Number (sym e) (distance-number (spanIn own (at firsts k)) (spanIn own (at seconds k)))
 
-pub least-listed : (bits : List ℕ) (f : Few) {k x : ℕ} → First totalLe (λ i. at bits (slot f i)) (f .count) k x → k ≡ 0 → x ≡ leastIn bits (listed f)
+pub least-listed : (bits : List ℕ) (f : Few) {k x : ℕ} → SortedFirst totalLe (λ i. at bits (slot f i)) (f .count) k x → k ≡ 0 → x ≡ leastIn bits (listed f)
 unfolding leastIn listed
 least-listed bits f p e = first-end totalLe (λ i. at bits (slot f i)) (f .count) p e
     ∙ ap (λ (l : List ℕ). getD (sort totalLe l) 0 0) (sym (map-map (at bits) (slot f) (upFrom 0 (f .count))))
 
-pub first-listed : (le : ℕ → ℕ → Bool) (f : Few) {k x : ℕ} → First le (slot f) (f .count) k x → k ≡ 0 → x ≡ getD (sort le (listed f)) 0 0
+pub first-listed : (le : ℕ → ℕ → Bool) (f : Few) {k x : ℕ} → SortedFirst le (slot f) (f .count) k x → k ≡ 0 → x ≡ getD (sort le (listed f)) 0 0
 unfolding listed
 first-listed le f p e = first-end le (slot f) (f .count) p e
 

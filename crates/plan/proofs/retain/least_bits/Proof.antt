@@ -6,13 +6,13 @@ use mathlib.Core.Path.{subst}
 use Rattle.lists.specs.Rows.{at}
 use Rattle.length.specs.Total.{totalLe}
 use Rattle.plan.specs.Few.{slot}
-use Rattle.plan.proofs.ShapeLaws.{First, first-start, first-next}
+use Rattle.order.proofs.SortedFirst.{SortedFirst, first-start, first-next}
 use Rattle.plan.proofs.ValueLaws.{least-listed}
 use Rattle.plan.proofs.retain.least_bits.Statement.{statement}
 use Rattle.plan.proofs.retain.least_bits.Tie as tie
 
 abbrev Inv-loop : tie.InvT-loop
-Inv-loop bits ranks j₀ least₀ j least = First totalLe (λ i. at bits (slot ranks i)) (ranks .count) j least × (least ≤ 0x40D0_0000_0000_0000)
+Inv-loop bits ranks j₀ least₀ j least = SortedFirst totalLe (λ i. at bits (slot ranks i)) (ranks .count) j least × (least ≤ 0x40D0_0000_0000_0000)
 
 abbrev μ-loop : tie.MeasureT-loop
 μ-loop bits ranks j₀ least₀ j least = j

@@ -6,13 +6,13 @@ use mathlib.Core.Path.{subst}
 use Rattle.plan.specs.Shape.{nearerIn}
 use Rattle.plan.specs.Fitting.{RankFits}
 use Rattle.plan.specs.Few.{slot, listed}
-use Rattle.plan.proofs.ShapeLaws.{First, first-start, first-next}
+use Rattle.order.proofs.SortedFirst.{SortedFirst, first-start, first-next}
 use Rattle.plan.proofs.ValueLaws.{first-listed}
 use Rattle.plan.proofs.retain.nearest.Statement.{statement}
 use Rattle.plan.proofs.retain.nearest.Tie as tie
 
 abbrev Inv-loop : tie.InvT-loop
-Inv-loop own ranks among j₀ best₀ j best = First (nearerIn own (listed ranks)) (slot among) (among .count) j best × RankFits own best
+Inv-loop own ranks among j₀ best₀ j best = SortedFirst (nearerIn own (listed ranks)) (slot among) (among .count) j best × RankFits own best
 
 abbrev μ-loop : tie.MeasureT-loop
 μ-loop own ranks among j₀ best₀ j best = j
