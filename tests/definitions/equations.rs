@@ -22,7 +22,7 @@ use Rattle.format.specs.Values.{Base, Ramp, Observation, Boundary, Job}
 use Rattle.format.specs.declared.records.Source.{Source}
 use Rattle.position.specs.Order.{posLe, canonical}
 use Rattle.position.specs.declared.Span.{Span}
-use Rattle.graph.specs.Parts.{part}
+use Rattle.graph.specs.Parts.{componentOf}
 use Rattle.graph.specs.Labels.{count}
 use Rattle.grid.specs.Directions.{eight}
 use Rattle.links.specs.Limits.{limits000}
@@ -31,7 +31,7 @@ use Rattle.topology.specs.Listing.{spanKey, endsKey}
 use Rattle.merging.specs.Keys.{sourceKey, sourcesKey, observationKey}
 use Rattle.merging.specs.Copies.{canonObservation, canon, copiesOf}
 use Rattle.merging.specs.Consolidation.{orItself, observed, consolidate}
-use Rattle.merging.specs.Groups.{every}
+use Rattle.merging.specs.Groups.{allGroups}
 use Rattle.merging.specs.Kept.{membersOf, consolidated, slot, kept}
 use Rattle.merging.specs.Runs.{reduceRun, itemsOf, canonItem, groupsOf, keptOf}
 use Rattle.areas.specs.Areas.{areaLabels}
@@ -57,12 +57,12 @@ abbrev base : ℕ → ℕ → ℕ → Base
 base i x y = record { id = i; anchor = some (record { x = x; y = y }) }
 ";
 
-const LABELLING: &str = "areaLabels part count upFrom";
-const MARKING: &str = "marksOf part count upFrom";
-const KEEPING: &str = "rulesOn anchorsOf keptOf groupsOf itemsOf canonItem every kept slot \
+const LABELLING: &str = "areaLabels componentOf count upFrom";
+const MARKING: &str = "marksOf componentOf count upFrom";
+const KEEPING: &str = "rulesOn anchorsOf keptOf groupsOf itemsOf canonItem allGroups kept slot \
     consolidated consolidate membersOf observed orItself copiesOf canon canonObservation canonical \
     posLe endsKey spanKey sourceKey sourcesKey observationKey totalKey sort insert sortOnce include \
-    lexLe gather upFrom has part count lengthOf ofInt ofBits toBits neg add sub mul div lt le";
+    lexLe gather upFrom has componentOf count lengthOf ofInt ofBits toBits neg add sub mul div lt le";
 
 /// splitmix64.
 struct Rng(u64);

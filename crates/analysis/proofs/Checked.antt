@@ -17,7 +17,7 @@ use Rattle.wire.specs.Bytes.{AreBytes, u64At}
 use Rattle.format.specs.Sizes.{boundarySize, spanSize}
 use Rattle.format.specs.Bounds.{cellPixels, maxSpans, maxWidthBits}
 use Rattle.format.specs.Records.{spanAt, boundaryAt}
-use Rattle.format.specs.Header.{countsAt, headerAt, cellCount, basesStart, boundariesStart}
+use Rattle.format.specs.Header.{countsAt, headerAt, mapCells, basesStart, boundariesStart}
 use Rattle.format.specs.Decode.{decode, jobWith}
 use Rattle.format.specs.Fits.{BoundaryFits, CountsAllowed}
 use Rattle.format.specs.declared.header.Counts.{Counts}
@@ -115,7 +115,7 @@ module _ (s : List ℕ) (c : Counts) (e : firstRefusal (recordChecks s c) ≡ no
   after-ramps : firstRefusal (each (c .boundaries) (widthCheck s (boundariesStart c))) ≡ none
   unfolding recordChecks
   after-ramps =
-      let a = none-right (each (c .bases) (baseCheck s (c .width) (c .height) (basesStart c))) _ (none-right (each (cellCount c) (cellCheck s)) _ e) in
+      let a = none-right (each (c .bases) (baseCheck s (c .width) (c .height) (basesStart c))) _ (none-right (each (mapCells c) (cellCheck s)) _ e) in
       none-right (each (c .boundaries) (rampCheck s (boundariesStart c))) _ (none-head (sumsFault s c) 8 0 _ a .1)
 
   widths-right : (k : ℕ) → k < c .boundaries → u64At s (boundariesStart c + k * boundarySize + 16) ≤ maxWidthBits

@@ -16,7 +16,7 @@ use Rattle.wire.specs.Bytes.{splice}
 use Rattle.position.specs.declared.WalkPosition.{WalkPosition}
 use Rattle.format.specs.Sizes.{baseSize, boundarySize}
 use Rattle.format.specs.Records.{baseAt}
-use Rattle.format.specs.Header.{headerAt, countsAt, cellCount, basesStart}
+use Rattle.format.specs.Header.{headerAt, countsAt, mapCells, basesStart}
 use Rattle.format.specs.Decode.{decode}
 use Rattle.format.specs.declared.header.Counts.{Counts}
 use Rattle.format.specs.declared.header.Header.{Header}
@@ -42,7 +42,7 @@ module _ (s : List ℕ) (c : Counts) (e : firstRefusal (recordChecks s c) ≡ no
   anchor-right : (k : ℕ) → k < c .bases → anchorFault (c .width) (c .height) (baseAt s (basesStart c + k * baseSize) .anchor) ≡ false
   unfolding recordChecks baseCheck
   anchor-right k h =
-      let a = none-right (each (cellCount c) (cellCheck s)) _ e in
+      let a = none-right (each (mapCells c) (cellCheck s)) _ e in
       let b = none-left (each (c .bases) (baseCheck s (c .width) (c .height) (basesStart c))) _ a in
       none-head _ 7 k _ (each-none (baseCheck s (c .width) (c .height) (basesStart c)) (c .bases) k h b) .0
 

@@ -21,7 +21,7 @@ use Rattle.merging.specs.Kept.{noBoundary}
 use Rattle.merging.specs.Planned.{planned}
 use Rattle.merging.proofs.Copies.{copies-length}
 use Rattle.merging.proofs.Planned.{planned-ext}
-use Rattle.answer.specs.Gathered.{Ordered}
+use Rattle.answer.specs.Gathered.{PlacesOrder}
 use Rattle.checks.specs.Checks.{Check, firstRefusal}
 use Rattle.results.specs.Rules.{gridOf, listingOf}
 use Rattle.results.specs.Results.{workSize, answerOf, reduced, leftBy}
@@ -62,7 +62,7 @@ module _ (j : Job) (order : List ℕ) (k : RankedBy j order) where
   by-rank = record { each = k }
 
   -- each place once
-  pub ordered : Ordered order (length (j .boundaries))
+  pub ordered : PlacesOrder order (length (j .boundaries))
   ordered = rw (← places-ranked (j .boundaries) by-rank) (places-perm (j .boundaries))
 
   planned-bytes : (plan : List ℕ) (f : ℕ → ℕ) → ((i : ℕ) → i < length (j .boundaries) → getD plan i 0 ≡ f i)

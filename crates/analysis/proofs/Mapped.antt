@@ -7,7 +7,7 @@ use borrow.Rule.Slice.PartMut.{mid-len}
 use lib.ListN.{length, take, drop}
 use Rattle.grid.specs.Cells.{mapOf}
 use Rattle.wire.specs.Bytes.{part}
-use Rattle.format.specs.Header.{headerAt, countsAt, cellCount}
+use Rattle.format.specs.Header.{headerAt, countsAt, mapCells}
 use Rattle.format.specs.Decode.{decode, jobWith}
 use Rattle.format.specs.declared.header.Header.{Header}
 use Rattle.areas.specs.Spans.{SpansFit}
@@ -33,8 +33,8 @@ module _ {s : List ℕ} {h : Header} (k : h ≡ headerAt s) (l : Laid s h) where
     pub map-cells : cells ≡ decode s .cells
     unfolding decode jobWith part
     map-cells =
-        let c : h .counts .width * h .counts .height ≡ cellCount (countsAt s 0) = ap cellCount header-counts in
-        let i : 48 + n - 48 ≡ cellCount (countsAt s 0) = omega (arith, e, c) in
+        let c : h .counts .width * h .counts .height ≡ mapCells (countsAt s 0) = ap mapCells header-counts in
+        let i : 48 + n - 48 ≡ mapCells (countsAt s 0) = omega (arith, e, c) in
         ap (λ (i : ℕ). take i (drop 48 s)) i
 
     pub map-long : length cells ≡ h .counts .width * h .counts .height

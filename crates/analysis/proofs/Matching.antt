@@ -29,7 +29,7 @@ use Rattle.partition.specs.declared.Partition.{Partition}
 use Rattle.results.specs.Rules.{gridOf, listingOf}
 use Rattle.results.specs.Results.{workSize, maxPairs, ownEnds}
 use Rattle.analysis.specs.Bridging.{Bridged, MarkedWithin}
-use Rattle.analysis.specs.Plans.{planOf, Leads, Headed, RankedJob, Plannable, EndsBy, SomeEnds, Told, SomeTold, DrawnWithin, Drawn}
+use Rattle.analysis.specs.Plans.{planOf, Leads, Headed, RankedJob, Plannable, EndsBy, SomeEnds, PartitionTables, SomeTold, DrawnWithin, Drawn}
 use Rattle.analysis.proofs.Ranked.{ByRank}
 use Rattle.analysis.proofs.Checked.{boundariesAt, Checked, ListChecked, checked, by-list-checked}
 use Rattle.analysis.proofs.RankedTables.{order-in, own-ends-ranked, list-ends-ranked, own-ends-fit, list-ends-fit, own-matched, list-matched}
@@ -84,7 +84,7 @@ module _ {s : List ℕ} {h : Header} {order before : List ℕ} (p : Plannable s 
     module _ (small : most ≤ 4096) {marks : List ℕ}
         (b : Bridged most dirs (mapOf (h .counts .width) (h .counts .height) (take (48 + n - 48) (drop 48 s))) (spansIn ends count) marks)
         (l : q .pairs ≤ most) where
-      matched-told : (ss : List Span) → EndsBy s order ends ss → Told dirs s after removed separated owners lefts rights (q .pairs) marks ss
+      matched-told : (ss : List Span) → EndsBy s order ends ss → PartitionTables dirs s after removed separated owners lefts rights (q .pairs) marks ss
       matched-told ss m = told c (plan-ranks (p .job)) m standard (cells-few d n e) small l
           (on-job d n e (λ g k. Bridged most dirs g (spansIn ends k) marks) (f ∙ count-is d) b)
 
@@ -92,7 +92,8 @@ module _ {s : List ℕ} {h : Header} {order before : List ℕ} (p : Plannable s 
       some-told m = record { dirs = dirs; spans = m .spans; are = matched-told (m .spans) (m .are) }
 
       pub matched-drawn : (limits : Limits) {work : List ℕ} (plan : List ℕ) → work ≡ after
-          → ((ss : List Span) → Told dirs s after removed separated owners lefts rights (q .pairs) marks ss → (i : ℕ) → i < length (decode s .boundaries)
+          → ((ss : List Span) → PartitionTables dirs s after removed separated owners lefts rights (q .pairs) marks ss → (i : ℕ)
+          → i < length (decode s .boundaries)
           → getD plan i 0 ≡ planOf limits dirs (decode s) ss i)
           → (ss : List Span) → EndsBy s order ends ss → DrawnWithin limits dirs most (decode s) ss before work plan (q .pairs)
       matched-drawn limits plan w t ss m = record {

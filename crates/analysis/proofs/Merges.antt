@@ -21,11 +21,11 @@ use Rattle.links.specs.declared.limits.Limits.{Limits as LimitsHeld}
 use Rattle.groups.specs.Plan.{mergePlan}
 use Rattle.groups.specs.Tables.{Boundaries}
 use Rattle.candidates.specs.Owners.{Stored}
-use Rattle.measures.specs.Judging.{Plain}
+use Rattle.measures.specs.Judging.{CoordinatesBounded}
 use Rattle.ranks.specs.Tables.{Records, SpansOf, WidthsOf, RampsOf}
 use Rattle.results.specs.Rules.{gridOf, listingOf}
-use Rattle.analysis.specs.Plans.{planOf, RankedJob, Told}
-use Rattle.plan.specs.Listed.{Listed, Ready}
+use Rattle.analysis.specs.Plans.{planOf, RankedJob, PartitionTables}
+use Rattle.plan.specs.Listed.{ListingTables, PlanInput}
 use Rattle.plan.specs.Planned.{anchorsIn, PlanFrom}
 use Rattle.plan.proofs.PlainLaws.{plain-arrays}
 use Rattle.analysis.proofs.Ranked.{ByRank}
@@ -70,7 +70,7 @@ module _ {s : List ℕ} {h : Header} {order : List ℕ} (p : RankedJob s h order
   module _ {own bits ramps : List ℕ} (o : SpansOf s (boundariesAt s) boundarySize order count own) (w : WidthsOf s (boundariesAt s) order count bits)
       (v : RampsOf s (boundariesAt s) order count ramps) where
     module _ {dirs : List ℕ} {after removed separated owners lefts rights : List ℕ} {pairs : ℕ} {marks : List ℕ} {ss : List Span}
-        (t : Told dirs s after removed separated owners lefts rights pairs marks ss) where
+        (t : PartitionTables dirs s after removed separated owners lefts rights pairs marks ss) where
       abbrev l : List Item
       l = listingOf (decode s) ss
 
@@ -80,10 +80,11 @@ module _ {s : List ℕ} {h : Header} {order : List ℕ} (p : RankedJob s h order
       many : length l ≡ count
       many = listed-count c plan-ranks ss (t .matched)
 
-      plain : Plain own bits
+      plain : CoordinatesBounded own bits
       plain = plain-arrays told (λ k b. o .rest k (omega (arith, many))) (λ k b. w .rest k (omega (arith, many)))
 
-      listed : Listed dirs (gridOf (decode s)) l count own bits ramps (labelsIn after (length (decode s .cells))) removed separated owners lefts rights pairs
+      listed : ListingTables dirs (gridOf (decode s)) l count own bits ramps (labelsIn after (length (decode s .cells))) removed separated owners lefts rights
+          pairs
           marks
       listed = record {
         count = many;
@@ -99,7 +100,8 @@ module _ {s : List ℕ} {h : Header} {order : List ℕ} (p : RankedJob s h order
           ∙ (map-long (p .headed .header) (headed-laid (p .headed)) _ refl ∙ ap (λ (a : Counts). a .width * a .height) (counts-are (p .headed)))
 
       ready-here : Stored owners lefts rights pairs
-          → Ready s (basesStart (countsAt s 0)) (countsAt s 0 .bases) (decode s .cells) (countsAt s 0 .width) (countsAt s 0 .height) count own bits ramps after
+          → PlanInput s (basesStart (countsAt s 0)) (countsAt s 0 .bases) (decode s .cells) (countsAt s 0 .width) (countsAt s 0 .height) count own bits ramps
+          after
           removed separated owners lefts rights pairs
       unfolding decode jobWith
       ready-here st = record {
@@ -131,7 +133,7 @@ module _ {s : List ℕ} {h : Header} {order : List ℕ} (p : RankedJob s h order
         count-at = e₃ ∙ count-is (p .headed)
 
         pub ready : Stored owners lefts rights pairs
-            → Ready s start bases cells (h .counts .width) (h .counts .height) n own bits ramps after removed separated owners lefts rights pairs
+            → PlanInput s start bases cells (h .counts .width) (h .counts .height) n own bits ramps after removed separated owners lefts rights pairs
         ready st = rw (start-at, bases-at, count-at, map-cells (p .headed .header) (headed-laid (p .headed)) size e₄, counts-are (p .headed)) (ready-here st)
 
         -- what the plan then is
@@ -145,7 +147,8 @@ module _ {s : List ℕ} {h : Header} {order : List ℕ} (p : RankedJob s h order
             let anchors : anchorsOf (decode s .bases) ≡ anchorsIn s start bases = rw (start-at, bases-at) refl in
             let ls : labelsIn after (length cells) ≡ labelsIn after (length (decode s .cells)) =
             ap (λ (x : List ℕ). labelsIn after (length x)) (map-cells (p .headed .header) (headed-laid (p .headed)) size e₄) in
-            let here : Listed dirs (mapOf (h .counts .width) (h .counts .height) cells) l n own bits ramps (labelsIn after (length cells)) removed separated
+            let here : ListingTables dirs (mapOf (h .counts .width) (h .counts .height) cells) l n own bits ramps (labelsIn after (length cells)) removed
+            separated
             owners lefts rights pairs marks
             = rw (grid, ls, count-at) listed in
             let known = c .count in

@@ -30,7 +30,7 @@ use Rattle.partition.specs.declared.Partition.{Partition}
 use Rattle.results.specs.Rules.{gridOf, listingOf}
 use Rattle.results.specs.Results.{labelsOf}
 use Rattle.analysis.specs.Bridging.{Bridged}
-use Rattle.analysis.specs.Plans.{EndsBy, Told}
+use Rattle.analysis.specs.Plans.{EndsBy, PartitionTables}
 use Rattle.analysis.proofs.Bridging.{few-pairs, room-in, zero-in}
 use Rattle.analysis.proofs.Ranked.{ByRank}
 use Rattle.analysis.proofs.Checked.{Checked}
@@ -149,5 +149,5 @@ module _ {distinct : Bool} {s : List ℕ} (c : Checked distinct s) {order : List
             ∙ ap (λ (xs : List Span). cond (isBridge (records dirs g xs) i) 1 0) (sym spans-are));
       }
 
-      pub told : Told dirs s work removed separated owners lefts rights (p .pairs) marks ss
+      pub told : PartitionTables dirs s work removed separated owners lefts rights (p .pairs) marks ss
       told = record { matched = m .matched; labels-are = labels-are; counted = counted; paired = paired; bridged = bridged; labels = labels-there }

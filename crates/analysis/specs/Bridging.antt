@@ -21,7 +21,7 @@ abbrev pub Bridged : ℕ → List ℕ → Grid → List Span → List ℕ → Ty
 Bridged most dirs g ss marks = length (records dirs g ss) ≤ most → marks ≡ bridgeMarks (records dirs g ss) 256
 
 -- three arrays of one length, at most as many as the pairs that a call takes
-pub record Alike (owners lefts rights : List ℕ) : Type 0 where
+pub record PairArrays (owners lefts rights : List ℕ) : Type 0 where
   pub owners-are : length owners ≡ length lefts
   pub rights-are : length rights ≡ length lefts
   pub few : length lefts ≤ maxPairs

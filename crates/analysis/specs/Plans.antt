@@ -90,7 +90,7 @@ pub record SomeEnds (s order ends : List ℕ) : Type 0 where
   pub are : EndsBy s order ends spans
 
 -- what a partition by the spans and its bridges say of the listing
-pub record Told (dirs : List ℕ) (s work removed separated owners lefts rights : List ℕ) (pairs : ℕ) (marks : List ℕ) (ss : List Span) : Type 0 where
+pub record PartitionTables (dirs : List ℕ) (s work removed separated owners lefts rights : List ℕ) (pairs : ℕ) (marks : List ℕ) (ss : List Span) : Type 0 where
   pub matched : length (decode s .boundaries) ≡ length ss
   pub labels-are : labelsIn work (length (decode s .cells)) ≡ regionLabels dirs (gridOf (decode s)) (listingOf (decode s) ss)
   pub counted : Counted dirs (gridOf (decode s)) (listingOf (decode s) ss) removed separated
@@ -101,7 +101,7 @@ pub record Told (dirs : List ℕ) (s work removed separated owners lefts rights 
 pub record SomeTold (s work removed separated owners lefts rights : List ℕ) (pairs : ℕ) (marks : List ℕ) : Type 0 where
   pub dirs : List ℕ
   pub spans : List Span
-  pub are : Told dirs s work removed separated owners lefts rights pairs marks spans
+  pub are : PartitionTables dirs s work removed separated owners lefts rights pairs marks spans
 
 -- a job partitioned by the spans with room for `most` region pairs: the work, their number (one more than `most` where they are over it), and the plan
 abbrev pub DrawnWithin : Limits → List ℕ → ℕ → Job → List Span → List ℕ → List ℕ → List ℕ → ℕ → Type 0

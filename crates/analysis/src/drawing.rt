@@ -15,8 +15,9 @@ ghost use Rattle.candidates.specs.Owners.{Stored};
 ghost use Rattle.checks.specs.Checks.{firstRefusal};
 ghost use Rattle.job.specs.Refusals.{reduceChecks, byListChecks};
 ghost use Rattle.results.specs.Results.{workSize, ownEnds};
-ghost use Rattle.analysis.specs.Bridging.{fewPairs, Alike};
-ghost use Rattle.analysis.specs.Plans.{planOf, Leads, RankedBy, Headed, OwnEnds, RankedJob, Plannable, EndsBy, SomeEnds, Told, SomeTold, DrawnWithin};
+ghost use Rattle.analysis.specs.Bridging.{fewPairs, PairArrays};
+ghost use Rattle.analysis.specs.Plans.{planOf, Leads, RankedBy, Headed, OwnEnds, RankedJob, Plannable, EndsBy, SomeEnds, PartitionTables, SomeTold};
+ghost use Rattle.analysis.specs.Plans.{DrawnWithin};
 ghost use Rattle.analysis.specs.Plans.{Drawn};
 use crate::bridged::FEW_PAIRS;
 use crate::bridged::MAX_PAIRS;
@@ -87,7 +88,7 @@ fn plan_listing(
         × Stored (now owners) (now lefts) (now rights) pairs × (length (now plan) ≡ 256) × (limits .«most_spans» ≤ 16) ⌝ }
     ensures work { λ _. ⌜ now (work .exit) ≡ now (work .entry) ⌝ }
     ensures plan { λ _. ⌜ ((dirs : List ℕ) (ss : List Span)
-        → Told dirs (now (job .entry)) (now (work .entry)) (now (removed .entry)) (now (separated .entry)) (now (owners .entry)) (now (lefts .entry))
+        → PartitionTables dirs (now (job .entry)) (now (work .entry)) (now (removed .entry)) (now (separated .entry)) (now (owners .entry)) (now (lefts .entry))
         (now (rights .entry)) pairs (now (marks .entry)) ss → (i : ℕ) → i < length (decode (now (job .entry)) .boundaries)
         → getD (now (plan .exit)) i 0 ≡ planOf (limitsOf limits) dirs (decode (now (job .entry))) ss i) ⌝ }
     ensures whole { λ _. ⌜ length (now (plan .exit)) ≡ 256 ⌝ }
@@ -142,7 +143,7 @@ fn plan_with(
     plan: &mut [u32; 256],
 ) -> usize
     requires { ⌜ Plannable (now job) h (now order) (now work) × SpansFit (h .counts .width) (h .counts .height) (now ends) (h .counts .boundaries)
-        × SomeEnds (now job) (now order) (now ends) × Alike (now owners) (now lefts) (now rights) × (length (now plan) ≡ 256) × (limits .«most_spans» ≤ 16)
+        × SomeEnds (now job) (now order) (now ends) × PairArrays (now owners) (now lefts) (now rights) × (length (now plan) ≡ 256) × (limits .«most_spans» ≤ 16)
         × Leads directions ⌝ }
     ensures { λ r. ⌜ ((ss : List Span) → EndsBy (now (job .entry)) (now (order .entry)) (now (ends .entry)) ss
         → DrawnWithin (limitsOf limits) (directionsOf directions) (length (now (lefts .entry))) (decode (now (job .entry))) ss (now (work .entry))

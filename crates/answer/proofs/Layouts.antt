@@ -9,14 +9,14 @@ use lib.ListN.{length, getD, set, length-set, replicate}
 use lib.Seq.{getD-set-same, getD-set-other}
 use Rattle.lists.specs.Rows.{rows, sum}
 use Rattle.lists.proofs.Rows.{sum-last, sum-prefix, zero-at}
-use Rattle.answer.specs.Laying.{below, Apart, Lays, LayRoom, LaidOut, Layout, LaidAll, Countable, PlanRoom, ownCount, seenCount, citedCount}
+use Rattle.answer.specs.Laying.{sumBelow, Apart, Lays, LayRoom, LaidOut, Layout, LaidAll, Countable, PlanRoom, ownCount, seenCount, citedCount}
 use Rattle.answer.proofs.Lays.{below-next, apart-next}
 
-pub below-none : (f : ℕ → ℕ) → below f 0 ≡ 0
+pub below-none : (f : ℕ → ℕ) → sumBelow f 0 ≡ 0
 unfolding rows sum
 below-none f = refl
 
-below-suc : (f : ℕ → ℕ) (i : ℕ) → below f (suc i) ≡ below f i + f i
+below-suc : (f : ℕ → ℕ) (i : ℕ) → sumBelow f (suc i) ≡ sumBelow f i + f i
 below-suc f i = sum-last i f
 
 pub layout-start : (s : List ℕ) (at ats : ℕ) {base n : ℕ} {firsts starts counts : List ℕ} → PlanRoom base n firsts starts counts
@@ -50,13 +50,13 @@ module _ {s : List ℕ} {at n ats base : ℕ} (g : Countable s at n ats base) {f
       let m = sum-prefix (b + 1) n (seenCount s at) (omega arith) in
       omega (arith, below-next (seenCount s at) b, l .place, g .observations-in)
 
-  pub sources-fit : run + ownCount s at b + below (citedCount s ats) (p + seenCount s at b) ≤ 4096 + below (citedCount s ats) p
+  pub sources-fit : run + ownCount s at b + sumBelow (citedCount s ats) (p + seenCount s at b) ≤ 4096 + sumBelow (citedCount s ats) p
   sources-fit =
       let m = sum-prefix (b + 1) n (seenCount s at) (omega arith) in
       let o = sum-prefix (b + 1) n (ownCount s at) (omega arith) in
       let e = below-next (seenCount s at) b in
       let f = below-next (ownCount s at) b in
-      let q = sum-prefix (p + seenCount s at b) (below (seenCount s at) n) (citedCount s ats) (omega (arith, l .place)) in
+      let q = sum-prefix (p + seenCount s at b) (sumBelow (seenCount s at) n) (citedCount s ats) (omega (arith, l .place)) in
       omega (arith, l .running, g .source-limit)
 
   pub own-fits : run + ownCount s at b ≤ 4096
@@ -95,7 +95,7 @@ module _ {s : List ℕ} {at n ats base : ℕ} (g : Countable s at n ats base) {f
     fit : p + w ≤ base
     fit = rw y observations-below
 
-    earlier : (c k : ℕ) → c < b → k < seen c → below seen c + k < p
+    earlier : (c k : ℕ) → c < b → k < seen c → sumBelow seen c + k < p
     earlier c k i j =
         let m = sum-prefix (c + 1) b seen (omega arith) in
         omega (arith, below-next seen c, l .place)
@@ -118,7 +118,7 @@ module _ {s : List ℕ} {at n ats base : ℕ} (g : Countable s at n ats base) {f
       t .count-before q i ∙ getD-set-other counts (base + b) q v 0 (λ e. omega (arith, observations-below)),
     )
 
-    cited-new : (k : ℕ) → k < seen b → (getD starts′ (p + k) 0 ≡ below own (suc b) + below cited (p + k)) × (getD counts′ (p + k) 0 ≡ cited (p + k))
+    cited-new : (k : ℕ) → k < seen b → (getD starts′ (p + k) 0 ≡ sumBelow own (suc b) + sumBelow cited (p + k)) × (getD counts′ (p + k) 0 ≡ cited (p + k))
     cited-new k i = (omega (arith, t .start-there k (rw y i), l .running, below-suc own b, x), t .count-there k (rw y i))
 
     laid-next : LaidOut own seen cited base (b + 1) (set firsts b p) starts′ counts′
@@ -129,7 +129,7 @@ module _ {s : List ℕ} {at n ats base : ℕ} (g : Countable s at n ats base) {f
           (λ d. getD-set-other firsts b c p 0 d ∙ l .laid .first-there c (omega arith));
       own-start = λ c i.
           by-cases (ℕ-discrete c b)
-          (λ e. rw e (own-new .0 ∙ l .running ∙ ap (λ (z : ℕ). below own b + below cited z) (l .place)))
+          (λ e. rw e (own-new .0 ∙ l .running ∙ ap (λ (z : ℕ). sumBelow own b + sumBelow cited z) (l .place)))
           (λ d. own-kept c d .0 ∙ l .laid .own-start c (omega arith));
       own-count = λ c i.
           by-cases (ℕ-discrete c b)
@@ -138,11 +138,11 @@ module _ {s : List ℕ} {at n ats base : ℕ} (g : Countable s at n ats base) {f
       cited-start = λ c k i j.
           by-cases (ℕ-discrete c b)
           (λ e. rw (e, ← l .place) (cited-new k (rw (← e) j) .0))
-          (λ d. cited-kept (below seen c + k) (earlier c k (omega arith) j) .0 ∙ l .laid .cited-start c k (omega arith) j);
+          (λ d. cited-kept (sumBelow seen c + k) (earlier c k (omega arith) j) .0 ∙ l .laid .cited-start c k (omega arith) j);
       cited-count = λ c k i j.
           by-cases (ℕ-discrete c b)
           (λ e. rw (e, ← l .place) (cited-new k (rw (← e) j) .1))
-          (λ d. cited-kept (below seen c + k) (earlier c k (omega arith) j) .1 ∙ l .laid .cited-count c k (omega arith) j);
+          (λ d. cited-kept (sumBelow seen c + k) (earlier c k (omega arith) j) .1 ∙ l .laid .cited-count c k (omega arith) j);
     }
 
     -- the layout of one more, in lists that are as long
@@ -172,7 +172,7 @@ pub layout-end : {s : List ℕ} {at n ats base : ℕ} → Countable s at n ats b
     → LaidAll (ownCount s at) (seenCount s at) (citedCount s ats) base n firsts starts counts
 layout-end {s} {at} {n} {ats} {base} g {firsts} {starts} {counts} {b} {p} {run} l h k =
     let e : b ≡ n = omega arith in
-    let d : run ≡ below (ownCount s at) n + below (citedCount s ats) (below (seenCount s at) n) = rw (← e, ← l .place) (l .running) in
+    let d : run ≡ sumBelow (ownCount s at) n + sumBelow (citedCount s ats) (sumBelow (seenCount s at) n) = rw (← e, ← l .place) (l .running) in
     record {
       laid = subst (λ (z : ℕ). LaidOut (ownCount s at) (seenCount s at) (citedCount s ats) base z firsts starts counts) e (l .laid);
       clear = apart-wider (l .clear) (omega (arith, d));

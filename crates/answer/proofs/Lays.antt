@@ -9,9 +9,9 @@ use native.Mathlib.Omega.{arith}
 use lib.ListN.{length, getD, set, length-set}
 use lib.Seq.{getD-set-same, getD-set-other}
 use Rattle.lists.proofs.Rows.{sum-last, sum-prefix}
-use Rattle.answer.specs.Laying.{below, Apart, Lays, LayRoom, citedCount}
+use Rattle.answer.specs.Laying.{sumBelow, Apart, Lays, LayRoom, citedCount}
 
-pub below-next : (f : ℕ → ℕ) (i : ℕ) → below f (i + 1) ≡ below f i + f i
+pub below-next : (f : ℕ → ℕ) (i : ℕ) → sumBelow f (i + 1) ≡ sumBelow f i + f i
 below-next f i = rw add-one (sum-last i f)
 
 -- One more part, from where all the others end.

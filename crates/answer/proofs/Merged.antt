@@ -41,8 +41,8 @@ use Rattle.merging.proofs.Planned.{merged-keeps}
 use Rattle.merging.specs.Keys.{observationKey}
 use Rattle.answer.specs.Packed.{sourcePack, packed}
 use Rattle.answer.specs.Squeezed.{partOf}
-use Rattle.answer.specs.Placed.{seenOf, observationOf, boundaryOf, itself, Holds, Placed}
-use Rattle.answer.specs.Gathered.{noObservation, copiesBy, keptBy, placesFrom, Stands}
+use Rattle.answer.specs.Placed.{seenOf, observationOf, boundaryOf, itself, HoldsObservation, CopiesPlaced}
+use Rattle.answer.specs.Gathered.{noObservation, copiesBy, keptBy, placesFrom, PlacesStand}
 use Rattle.answer.specs.Laying.{firstSeen}
 use Rattle.answer.proofs.Packs.{sorted-packed}
 use Rattle.answer.proofs.Together.{holds-le}
@@ -154,7 +154,7 @@ module _ (bs : ℕ → BoundaryRecord) (os : ℕ → ObservationRecord) (ss : Li
 
 -- What the arrays hold of it.
 module _ {bs : ℕ → BoundaryRecord} {os : ℕ → ObservationRecord} {ss : List Source} {base n : ℕ} {firsts first second third starts counts keys : List ℕ}
-    (placed : Placed bs os ss base n firsts first second third starts counts keys)
+    (placed : CopiesPlaced bs os ss base n firsts first second third starts counts keys)
     (order : List ℕ) (inside : (j : ℕ) → j < n → getD order j 0 < n) (plan : ℕ → ℕ) (i : ℕ) (h : i < n) (stays : plan i ≡ i) where
   own-fit : (j : ℕ) → List·Memᴰ j (members plan n i) → All SourceFits (copyOf bs os ss order j .sources)
   unfolding itself
@@ -180,20 +180,20 @@ module _ {bs : ℕ → BoundaryRecord} {os : ℕ → ObservationRecord} {ss : Li
       own-run)
 
 module _ {first second third starts counts keys : List ℕ} where
-  stands-matched : {l : List ℕ} {m : List Observation} → Stands first second third starts counts keys l m
-      → Matched (Holds first second third starts counts keys) l m
+  stands-matched : {l : List ℕ} {m : List Observation} → PlacesStand first second third starts counts keys l m
+      → Matched (HoldsObservation first second third starts counts keys) l m
   stands-matched {l} {m} s = matched-by 0 noObservation l m (s .many) (s .each)
 
-  matched-stands : {l : List ℕ} {m : List Observation} → Matched (Holds first second third starts counts keys) l m
-      → Stands first second third starts counts keys l m
+  matched-stands : {l : List ℕ} {m : List Observation} → Matched (HoldsObservation first second third starts counts keys) l m
+      → PlacesStand first second third starts counts keys l m
   matched-stands s = record { many = matched-length s; each = λ q h. matched-at s 0 noObservation q h }
 
-  pub stands-none : Stands first second third starts counts keys [] []
+  pub stands-none : PlacesStand first second third starts counts keys [] []
   stands-none = matched-stands nil
 
   -- Joined lists stand for joined lists.
-  pub stands-append : {k l : List ℕ} {m n : List Observation} → Stands first second third starts counts keys k m
-      → Stands first second third starts counts keys l n → Stands first second third starts counts keys (k ++ l) (m ++ n)
+  pub stands-append : {k l : List ℕ} {m n : List Observation} → PlacesStand first second third starts counts keys k m
+      → PlacesStand first second third starts counts keys l n → PlacesStand first second third starts counts keys (k ++ l) (m ++ n)
   stands-append s t = matched-stands (matched-append (stands-matched s) (stands-matched t))
 
 -- Lists that are alike but for their order, gathered.
@@ -245,38 +245,42 @@ seen-alone true l m = refl
 seen-alone false l m = refl
 
 module _ {bs : ℕ → BoundaryRecord} {os : ℕ → ObservationRecord} {ss : List Source} {base n : ℕ} {firsts first second third starts counts keys : List ℕ}
-    (placed : Placed bs os ss base n firsts first second third starts counts keys) where
-  seen-holds : (b : ℕ) → b < n → (k : ℕ) → k < seenOf bs os ss b → Holds first second third starts counts keys (getD firsts b 0 + k) (seenAt bs os ss b k)
+    (placed : CopiesPlaced bs os ss base n firsts first second third starts counts keys) where
+  seen-holds : (b : ℕ) → b < n → (k : ℕ) → k < seenOf bs os ss b
+      → HoldsObservation first second third starts counts keys (getD firsts b 0 + k) (seenAt bs os ss b k)
   seen-holds b h k l = rw (placed .first-there b h) (placed .seen-there b k h l)
 
   -- of a boundary that others go into, or that goes into another
-  places-given : (b : ℕ) → b < n → Matched (Holds first second third starts counts keys) (placesFrom base firsts (seenOf bs os ss) false b) (given bs os ss b)
+  places-given : (b : ℕ) → b < n
+      → Matched (HoldsObservation first second third starts counts keys) (placesFrom base firsts (seenOf bs os ss) false b) (given bs os ss b)
   unfolding placesFrom
   places-given b h = given-matched (canon (boundaryOf bs os ss b)) (getD firsts b 0) (base + b) (seenAt bs os ss b) (placed .itself-there b h)
       (seenOf bs os ss b) (seen-holds b h)
 
   places-alone : (b : ℕ) → b < n
-      → Matched (Holds first second third starts counts keys) (placesFrom base firsts (seenOf bs os ss) true b) (rows (seenOf bs os ss b) (seenAt bs os ss b))
+      → Matched (HoldsObservation first second third starts counts keys) (placesFrom base firsts (seenOf bs os ss) true b)
+      (rows (seenOf bs os ss b) (seenAt bs os ss b))
   unfolding placesFrom
   places-alone b h = rw (seen-alone (eqb (seenOf bs os ss b) 0) ((base + b) ∷ []) (upFrom (getD firsts b 0) (seenOf bs os ss b)))
       (matched-rows (getD firsts b 0) (seenOf bs os ss b) (seenAt bs os ss b) (seen-holds b h))
 
-  sorted-matched : {l : List ℕ} {m : List Observation} → Matched (Holds first second third starts counts keys) l m
-      → Matched (Holds first second third starts counts keys) (sort (byRun first second third starts counts keys) l) (sortedObservations m)
+  sorted-matched : {l : List ℕ} {m : List Observation} → Matched (HoldsObservation first second third starts counts keys) l m
+      → Matched (HoldsObservation first second third starts counts keys) (sort (byRun first second third starts counts keys) l) (sortedObservations m)
   sorted-matched s = matched-sort (byRun first second third starts counts keys) (byKey observationKey) (λ x y a b r q. holds-le a b r q) s
 
   module _ (order : List ℕ) (inside : (j : ℕ) → j < n → getD order j 0 < n) (plan : ℕ → ℕ) (i : ℕ) (h : i < n) (stays : plan i ≡ i) where
     abbrev placesOf : Bool → List ℕ → List ℕ
     placesOf t js = gather (λ j. placesFrom base firsts (seenOf bs os ss) t (getD order j 0)) js
 
-    alone-matched : Matched (Holds first second third starts counts keys) (sort (byRun first second third starts counts keys) (placesOf true (i ∷ [])))
+    alone-matched : Matched (HoldsObservation first second third starts counts keys)
+        (sort (byRun first second third starts counts keys) (placesOf true (i ∷ [])))
         (copyAt (copiesBy bs os ss order n) i .observations)
     unfolding gather
     alone-matched =
         rw (append-nil (placesFrom base firsts (seenOf bs os ss) true (getD order i 0)), copy-at bs os ss order n i h, seen-sorted bs os ss (getD order i 0))
         (sorted-matched (places-alone (getD order i 0) (inside i h)))
 
-    all-given : Matched (Holds first second third starts counts keys) (placesOf false (members plan n i))
+    all-given : Matched (HoldsObservation first second third starts counts keys) (placesOf false (members plan n i))
         (gather (λ j. given bs os ss (getD order j 0)) (members plan n i))
     all-given = matched-gather (λ j. placesFrom base firsts (seenOf bs os ss) false (getD order j 0)) (λ j. given bs os ss (getD order j 0)) (members plan n i)
         (λ j m. places-given (getD order j 0) (inside j (member-below plan n i j m)))
@@ -291,7 +295,7 @@ module _ {bs : ℕ → BoundaryRecord} {os : ℕ → ObservationRecord} {ss : Li
         ∙ ap (λ (l : List Boundary). sortedObservations (gather observed l)) (sym (copies-are bs os ss order plan n i h stays))
 
     -- The members' places in order stand for the merged boundary's observations.
-    pub merged-seen : Stands first second third starts counts keys
+    pub merged-seen : PlacesStand first second third starts counts keys
         (sort (byRun first second third starts counts keys)
         (gather (λ j. placesFrom base firsts (seenOf bs os ss) (eqb (length (members plan n i)) 1) (getD order j 0)) (members plan n i)))
         (merged (copiesBy bs os ss order n) (members plan n i) i .observations)
@@ -299,12 +303,14 @@ module _ {bs : ℕ → BoundaryRecord} {os : ℕ → ObservationRecord} {ss : Li
     merged-seen = matched-stands (go (eqb (length (members plan n i)) 1) refl)
       where
         go : (t : Bool) → eqb (length (members plan n i)) 1 ≡ t
-            → Matched (Holds first second third starts counts keys) (sort (byRun first second third starts counts keys) (placesOf t (members plan n i)))
+            → Matched (HoldsObservation first second third starts counts keys)
+            (sort (byRun first second third starts counts keys) (placesOf t (members plan n i)))
             (cond t (copyAt (copiesBy bs os ss order n) i)
             (consolidate (copyAt (copiesBy bs os ss order n) i) (map (copyAt (copiesBy bs os ss order n)) (members plan n i))) .observations)
         go true e = rw (member-only plan n i h stays (eqb-true (length (members plan n i)) 1 e)) alone-matched
         go false e = subst (λ (l : List Observation).
-            Matched (Holds first second third starts counts keys) (sort (byRun first second third starts counts keys) (placesOf false (members plan n i))) l)
+            Matched (HoldsObservation first second third starts counts keys)
+            (sort (byRun first second third starts counts keys) (placesOf false (members plan n i))) l)
             given-observed (sorted-matched all-given)
 
 -- One boundary more.

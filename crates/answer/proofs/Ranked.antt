@@ -12,9 +12,9 @@ use Rattle.position.specs.declared.Span.{Span}
 use Rattle.length.specs.Total.{totalKey}
 use Rattle.order.specs.Keys.{pack}
 use Rattle.answer.specs.Packed.{KeyAt}
-use Rattle.answer.specs.Ranked.{RankRoom, Ranked}
+use Rattle.answer.specs.Ranked.{RankRoom, RankKeys}
 
-pub ranked-start : (ends : ℕ → Span) (bits : ℕ → ℕ) (from : ℕ) (first second third : List ℕ) → Ranked ends bits from 0 first second third first second third
+pub ranked-start : (ends : ℕ → Span) (bits : ℕ → ℕ) (from : ℕ) (first second third : List ℕ) → RankKeys ends bits from 0 first second third first second third
 ranked-start ends bits from first second third = record {
   first-long = refl;
   second-long = refl;
@@ -31,7 +31,7 @@ ranks-room r l = record { first-room = omega (arith, r .first-room); second-room
 -- One record, at place q.
 pub ranked-one : (ends : Span) (bits : ℕ) {f g h : List ℕ} {q x y z : ℕ} (e : Span) → RankRoom f g h (q + 1) → e ≡ canonical ends
     → x ≡ pack (e .a .x) (e .a .y) → y ≡ pack (e .b .x) (e .b .y) → z ≡ totalKey bits → e .a .y < 0x1_0000_0000 → e .b .y < 0x1_0000_0000
-    → Ranked (λ k. ends) (λ k. bits) q 1 f g h (set f q x) (set g q y) (set h q z)
+    → RankKeys (λ k. ends) (λ k. bits) q 1 f g h (set f q x) (set g q y) (set h q z)
 ranked-one ends bits {f} {g} {h} {q} {x} {y} {z} e room u v w t m n =
     let this : KeyAt (set f q x) (set g q y) (set h q z) q (canonical ends) bits
     = record {
@@ -54,7 +54,7 @@ ranked-one ends bits {f} {g} {h} {q} {x} {y} {z} e room u v w t m n =
 key-as : {f g h : List ℕ} {q p : ℕ} {e d : Span} {b c : ℕ} → KeyAt f g h q e b → q ≡ p → e ≡ d → b ≡ c → KeyAt f g h p d c
 key-as k i j l = rw (← i, ← j, ← l) k
 
-module _ {ends : ℕ → Span} {bits : ℕ → ℕ} {from i : ℕ} {f₀ g₀ h₀ f g h : List ℕ} (r : Ranked ends bits from i f₀ g₀ h₀ f g h) where
+module _ {ends : ℕ → Span} {bits : ℕ → ℕ} {from i : ℕ} {f₀ g₀ h₀ f g h : List ℕ} (r : RankKeys ends bits from i f₀ g₀ h₀ f g h) where
   pub ranks-after : {n : ℕ} → RankRoom f₀ g₀ h₀ n → RankRoom f g h n
   ranks-after o = record {
     first-room = omega (arith, o .first-room, r .first-long);
@@ -62,8 +62,8 @@ module _ {ends : ℕ → Span} {bits : ℕ → ℕ} {from i : ℕ} {f₀ g₀ h�
     third-room = omega (arith, o .third-room, r .third-long);
   }
 
-  pub ranked-next : {q b : ℕ} {e : Span} {f′ g′ h′ : List ℕ} → Ranked (λ k. e) (λ k. b) q 1 f g h f′ g′ h′ → q ≡ from + i → e ≡ ends i → b ≡ bits i
-      → Ranked ends bits from (i + 1) f₀ g₀ h₀ f′ g′ h′
+  pub ranked-next : {q b : ℕ} {e : Span} {f′ g′ h′ : List ℕ} → RankKeys (λ k. e) (λ k. b) q 1 f g h f′ g′ h′ → q ≡ from + i → e ≡ ends i → b ≡ bits i
+      → RankKeys ends bits from (i + 1) f₀ g₀ h₀ f′ g′ h′
   ranked-next {q} t p x y = record {
     first-long = t .first-long ∙ r .first-long;
     second-long = t .second-long ∙ r .second-long;
@@ -86,5 +86,5 @@ module _ {ends : ℕ → Span} {bits : ℕ → ℕ} {from i : ℕ} {f₀ g₀ h�
     third-before = λ w l. t .third-before w (omega arith) ∙ r .third-before w l;
   }
 
-  pub ranked-end : {n : ℕ} → i ≤ n → n ≤ i → Ranked ends bits from n f₀ g₀ h₀ f g h
-  ranked-end {n} a b = let e : i ≡ n = omega arith in subst (λ (k : ℕ). Ranked ends bits from k f₀ g₀ h₀ f g h) e r
+  pub ranked-end : {n : ℕ} → i ≤ n → n ≤ i → RankKeys ends bits from n f₀ g₀ h₀ f g h
+  ranked-end {n} a b = let e : i ≡ n = omega arith in subst (λ (k : ℕ). RankKeys ends bits from k f₀ g₀ h₀ f g h) e r

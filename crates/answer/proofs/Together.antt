@@ -24,10 +24,11 @@ use Rattle.merging.specs.Keys.{observationKey}
 use Rattle.places.specs.Orders.{restKey, placeKey, byRun}
 use Rattle.order.specs.Keys.{pack}
 use Rattle.answer.specs.Packed.{sourcePack, packed, KeysRead, KeyAt}
-use Rattle.answer.specs.Laying.{below, ownCount, seenCount, citedCount, ownStart, LaidAll}
+use Rattle.answer.specs.Laying.{sumBelow, ownCount, seenCount, citedCount, ownStart, LaidAll}
 use Rattle.answer.specs.Squeezed.{partOf, PartsRoom, Squeezed}
-use Rattle.answer.specs.Ranked.{Ranked}
-use Rattle.answer.specs.Placed.{observationFrom, boundaryOf, itself, Holds, Placed, PlacedInside, JobPlaces, PlaceRoom, boundaryRows, observationRows}
+use Rattle.answer.specs.Ranked.{RankKeys}
+use Rattle.answer.specs.Placed.{observationFrom, boundaryOf, itself, HoldsObservation, CopiesPlaced, PlacedInside, JobPlaces, PlaceRoom, boundaryRows}
+use Rattle.answer.specs.Placed.{observationRows}
 use Rattle.answer.proofs.Lays.{below-next}
 use Rattle.answer.proofs.Layouts.{below-none, apart-wider}
 use Rattle.merging.proofs.Packed.{sources-fit}
@@ -43,7 +44,7 @@ drop-map f zero l = refl
 drop-map f (suc n) [] = refl
 drop-map f (suc n) (x ∷ l) = drop-map f n l
 
-below-most : (n : ℕ) (f g : ℕ → ℕ) → ((i : ℕ) → i < n → f i ≤ g i) → below f n ≤ below g n
+below-most : (n : ℕ) (f g : ℕ → ℕ) → ((i : ℕ) → i < n → f i ≤ g i) → sumBelow f n ≤ sumBelow g n
 below-most zero f g h = omega (arith, below-none f, below-none g)
 below-most (suc n) f g h = omega (arith, sum-last n f, sum-last n g, h n (omega arith), below-most n f g (λ i l. h i (omega arith)))
 
@@ -59,7 +60,7 @@ part-packed ss keys n a m e h =
     ∙ take-map sourcePack m (drop a ss)
 
 module _ {s : List ℕ} {at n ats m from count : ℕ} (j : JobPlaces s at n ats m from count) where
-  total : below (ownCount s at) n + below (citedCount s ats) (below (seenCount s at) n) ≡ count
+  total : sumBelow (ownCount s at) n + sumBelow (citedCount s ats) (sumBelow (seenCount s at) n) ≡ count
   total = rw (j .observations-add) (j .sources-add)
 
   pub places-few : m + n ≤ 1280
@@ -84,15 +85,15 @@ module _ {s : List ℕ} {at n ats m from count : ℕ} (j : JobPlaces s at n ats 
   own-end b h =
       let x = sum-prefix (b + 1) n (ownCount s at) (omega arith) in
       let y = sum-prefix b n (seenCount s at) (omega arith) in
-      let z = sum-prefix (below (seenCount s at) b) m (citedCount s ats) (omega (arith, j .observations-add)) in
+      let z = sum-prefix (sumBelow (seenCount s at) b) m (citedCount s ats) (omega (arith, j .observations-add)) in
       omega (arith, below-next (ownCount s at) b, j .sources-add)
 
-  place-below : (b k : ℕ) → b < n → k < seenCount s at b → below (seenCount s at) b + k < m
+  place-below : (b k : ℕ) → b < n → k < seenCount s at b → sumBelow (seenCount s at) b + k < m
   place-below b k h l =
       let y = sum-prefix (b + 1) n (seenCount s at) (omega arith) in
       omega (arith, below-next (seenCount s at) b, j .observations-add)
 
-  cited-end : (b p : ℕ) → b < n → p < m → below (ownCount s at) (suc b) + below (citedCount s ats) p + citedCount s ats p ≤ count
+  cited-end : (b p : ℕ) → b < n → p < m → sumBelow (ownCount s at) (suc b) + sumBelow (citedCount s ats) p + citedCount s ats p ≤ count
   cited-end b p h l =
       let x = sum-prefix (suc b) n (ownCount s at) (omega arith) in
       let z = sum-prefix (p + 1) m (citedCount s ats) (omega arith) in
@@ -101,8 +102,8 @@ module _ {s : List ℕ} {at n ats m from count : ℕ} (j : JobPlaces s at n ats 
   module _ {keys₀ keys₁ keys₂ firsts starts counts₁ counts₂ f₀ g₀ h₀ f₁ g₁ h₁ f₂ g₂ h₂ : List ℕ}
       (k : KeysRead s from count keys₀ keys₁) (l : LaidAll (ownCount s at) (seenCount s at) (citedCount s ats) m n firsts starts counts₁)
       (q : Squeezed starts keys₁ counts₁ keys₂ counts₂ (m + n))
-      (r : Ranked (λ i. observationAt s (ats + i * 28) .ends) (λ i. observationAt s (ats + i * 28) .bits) 0 m f₀ g₀ h₀ f₁ g₁ h₁)
-      (t : Ranked (λ i. boundaryAt s (at + i * 40) .ends) (λ i. boundaryAt s (at + i * 40) .bits) m n f₁ g₁ h₁ f₂ g₂ h₂) where
+      (r : RankKeys (λ i. observationAt s (ats + i * 28) .ends) (λ i. observationAt s (ats + i * 28) .bits) 0 m f₀ g₀ h₀ f₁ g₁ h₁)
+      (t : RankKeys (λ i. boundaryAt s (at + i * 40) .ends) (λ i. boundaryAt s (at + i * 40) .bits) m n f₁ g₁ h₁ f₂ g₂ h₂) where
     all-fit : All SourceFits (sourceRecords s from count)
     unfolding sourceRecords
     all-fit = all-rows count (λ i. sourceAt s (from + i * 8)) (k .fits)
@@ -132,7 +133,8 @@ module _ {s : List ℕ} {at n ats m from count : ℕ} (j : JobPlaces s at n ats 
         }
 
     itself-holds : (b : ℕ) → b < n
-        → Holds f₂ g₂ h₂ starts counts₂ keys₂ (m + b) (itself (canon (boundaryOf (boundaryRows s at) (observationRows s ats) (sourceRecords s from count) b)))
+        → HoldsObservation f₂ g₂ h₂ starts counts₂ keys₂ (m + b)
+        (itself (canon (boundaryOf (boundaryRows s at) (observationRows s ats) (sourceRecords s from count) b)))
     unfolding itself canon boundaryOf
     itself-holds b h = record {
       key = t .there b h;
@@ -143,22 +145,22 @@ module _ {s : List ℕ} {at n ats m from count : ℕ} (j : JobPlaces s at n ats 
     }
 
     seen-holds : (b i : ℕ) → b < n → i < seenCount s at b
-        → Holds f₂ g₂ h₂ starts counts₂ keys₂ (below (seenCount s at) b + i)
-        (canonObservation (observationFrom (boundaryRows s at) (observationRows s ats) (sourceRecords s from count) (below (ownCount s at) (suc b))
-        (below (seenCount s at) b + i)))
+        → HoldsObservation f₂ g₂ h₂ starts counts₂ keys₂ (sumBelow (seenCount s at) b + i)
+        (canonObservation (observationFrom (boundaryRows s at) (observationRows s ats) (sourceRecords s from count) (sumBelow (ownCount s at) (suc b))
+        (sumBelow (seenCount s at) b + i)))
     unfolding canonObservation observationFrom
     seen-holds b i h o =
-        let p = below (seenCount s at) b + i in
+        let p = sumBelow (seenCount s at) b + i in
         let u = place-below b i h o in
         record {
           key = key-kept p _ _ u (r .there p u);
-          run = run-of p (below (ownCount s at) (suc b) + below (citedCount s ats) p) (citedCount s ats p) (omega arith) (l .laid .cited-start b i h o)
+          run = run-of p (sumBelow (ownCount s at) (suc b) + sumBelow (citedCount s ats) p) (citedCount s ats p) (omega arith) (l .laid .cited-start b i h o)
               (l .laid .cited-count b i h o) (cited-end b p h u);
-          fits = sources-fit (take (citedCount s ats p) (drop (below (ownCount s at) (suc b) + below (citedCount s ats) p) (sourceRecords s from count)))
-              (part-fit (below (ownCount s at) (suc b) + below (citedCount s ats) p) (citedCount s ats p));
+          fits = sources-fit (take (citedCount s ats p) (drop (sumBelow (ownCount s at) (suc b) + sumBelow (citedCount s ats) p) (sourceRecords s from count)))
+              (part-fit (sumBelow (ownCount s at) (suc b) + sumBelow (citedCount s ats) p) (citedCount s ats p));
         }
 
-    pub placed : Placed (boundaryRows s at) (observationRows s ats) (sourceRecords s from count) m n firsts f₂ g₂ h₂ starts counts₂ keys₂
+    pub placed : CopiesPlaced (boundaryRows s at) (observationRows s ats) (sourceRecords s from count) m n firsts f₂ g₂ h₂ starts counts₂ keys₂
     placed = record { first-there = l .laid .first-there; itself-there = itself-holds; seen-there = seen-holds }
 
   -- where they are
@@ -181,13 +183,14 @@ module _ {s : List ℕ} {at n ats m from count : ℕ} (j : JobPlaces s at n ats 
 
 -- Places that stand for observations are ordered as these are.
 module _ {first second third starts counts keys : List ℕ} where
-  key-of : {p : ℕ} (o : Observation) → Holds first second third starts counts keys p o
+  key-of : {p : ℕ} (o : Observation) → HoldsObservation first second third starts counts keys p o
       → placeKey first second third starts counts keys p ≡ pack (o .ends .a .x) (o .ends .a .y) ∷ pack (o .ends .b .x) (o .ends .b .y) ∷ totalKey
       (o .bits) ∷ packed (o .sources)
   unfolding placeKey restKey
   key-of o h = rw (h .key .first-is, h .key .second-is, h .key .third-is, h .run)
 
-  pub holds-le : {p q : ℕ} (o u : Observation) → Holds first second third starts counts keys p o → Holds first second third starts counts keys q u
+  pub holds-le : {p q : ℕ} (o u : Observation) → HoldsObservation first second third starts counts keys p o
+      → HoldsObservation first second third starts counts keys q u
       → byRun first second third starts counts keys p q ≡ byKey observationKey o u
   unfolding byRun
   holds-le o u h k =

@@ -20,15 +20,15 @@ use Rattle.merging.specs.Kept.{noBoundary}
 use Rattle.merging.specs.Planned.{planned}
 use Rattle.merging.specs.Sources.{ownSources}
 use Rattle.answer.specs.Packed.{packed}
-use Rattle.answer.specs.Placed.{boundaryOf, Holds}
+use Rattle.answer.specs.Placed.{boundaryOf, HoldsObservation}
 
 -- What `getD` gives past the last observation.
 abbrev pub noObservation : Observation
 noObservation = record { ends = record { a = record { x = 0; y = 0 }; b = record { x = 0; y = 0 } }; bits = 0; sources = [] }
 
 -- The places of n boundaries by rank: each place once.
-abbrev pub Ordered : List ℕ → ℕ → Type 0
-Ordered order n = List·Permᴰ (upFrom 0 n) (map (λ i. getD order i 0) (upFrom 0 n))
+abbrev pub PlacesOrder : List ℕ → ℕ → Type 0
+PlacesOrder order n = List·Permᴰ (upFrom 0 n) (map (λ i. getD order i 0) (upFrom 0 n))
 
 -- The canonical copies of boundaries by rank, and what a plan keeps of them.
 module _ (bs : ℕ → BoundaryRecord) (os : ℕ → ObservationRecord) (ss : List Source) where
@@ -44,9 +44,9 @@ unfolding upFrom
 placesFrom base firsts seen alone b = cond (eqb (seen b) 0 && not alone) ((base + b) ∷ []) (upFrom (getD firsts b 0) (seen b))
 
 -- Places that stand for observations.
-pub record Stands (first second third starts counts keys places : List ℕ) (l : List Observation) : Type 0 where
+pub record PlacesStand (first second third starts counts keys places : List ℕ) (l : List Observation) : Type 0 where
   pub many : length places ≡ length l
-  pub each : (q : ℕ) → q < length l → Holds first second third starts counts keys (getD places q 0) (getD l q noObservation)
+  pub each : (q : ℕ) → q < length l → HoldsObservation first second third starts counts keys (getD places q 0) (getD l q noObservation)
 
 -- The kept boundaries: the place of each one's record, how many own sources and observations each has, all own sources
 -- and the places of all observations, both in the boundaries' order.
@@ -63,4 +63,4 @@ pub record Gathered (bs : ℕ → BoundaryRecord) (n : ℕ) (ks : List Boundary)
   pub own-there : take (length (ownSources ks)) owned ≡ packed (ownSources ks)
   pub own-fits : All SourceFits (ownSources ks)
   pub seen-room : length (observationsOf ks) ≤ 1280
-  pub seen-there : Stands first second third starts counts keys (take (length (observationsOf ks)) seen) (observationsOf ks)
+  pub seen-there : PlacesStand first second third starts counts keys (take (length (observationsOf ks)) seen) (observationsOf ks)

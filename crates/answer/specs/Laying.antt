@@ -8,9 +8,9 @@ use Rattle.lists.specs.Rows.{rows, sum}
 use Rattle.format.specs.Sizes.{boundarySize, observationSize}
 use Rattle.format.specs.Records.{boundaryAt, observationAt}
 
--- The sum of f over the numbers below k.
-abbrev pub below : (ℕ → ℕ) → ℕ → ℕ
-below f k = sum (rows k f)
+-- The sum of f over the numbers sumBelow k.
+abbrev pub sumBelow : (ℕ → ℕ) → ℕ → ℕ
+sumBelow f k = sum (rows k f)
 
 -- By place: a boundary's own sources and its observations, an observation's sources, how many there are of each.
 abbrev pub ownCount : List ℕ → ℕ → ℕ → ℕ
@@ -32,33 +32,33 @@ pub record LayRoom (s : List ℕ) (at p n run : ℕ) (starts counts : List ℕ) 
   pub inside : at + (p + n) * observationSize ≤ length s
   pub starts-room : p + n ≤ length starts
   pub counts-room : p + n ≤ length counts
-  pub small : run + below (citedCount s at) (p + n) ≤ 4096 + below (citedCount s at) p
+  pub small : run + sumBelow (citedCount s at) (p + n) ≤ 4096 + sumBelow (citedCount s at) p
   pub clear : Apart starts counts run
 
 -- The parts of the n observations from p on, side by side from `run` up to `r`.
 pub record Lays (cited : ℕ → ℕ) (p n run : ℕ) (starts₀ counts₀ starts counts : List ℕ) (r : ℕ) : Type 0 where
   pub starts-long : length starts ≡ length starts₀
   pub counts-long : length counts ≡ length counts₀
-  pub start-there : (k : ℕ) → k < n → getD starts (p + k) 0 + below cited p ≡ run + below cited (p + k)
+  pub start-there : (k : ℕ) → k < n → getD starts (p + k) 0 + sumBelow cited p ≡ run + sumBelow cited (p + k)
   pub count-there : (k : ℕ) → k < n → getD counts (p + k) 0 ≡ cited (p + k)
   pub start-before : (q : ℕ) → q < p → getD starts q 0 ≡ getD starts₀ q 0
   pub count-before : (q : ℕ) → q < p → getD counts q 0 ≡ getD counts₀ q 0
   pub start-after : (q : ℕ) → p + n ≤ q → getD starts q 0 ≡ getD starts₀ q 0
   pub count-after : (q : ℕ) → p + n ≤ q → getD counts q 0 ≡ getD counts₀ q 0
-  pub end : r + below cited p ≡ run + below cited (p + n)
+  pub end : r + sumBelow cited p ≡ run + sumBelow cited (p + n)
   pub clear : Apart starts counts r
 
 -- "in boundary order": the place of a boundary's first observation.
 abbrev pub firstSeen : (ℕ → ℕ) → ℕ → ℕ
-firstSeen seen b = below seen b
+firstSeen seen b = sumBelow seen b
 
 -- "Each boundary's own, then those of its observations."
 abbrev pub ownStart : (own seen cited : ℕ → ℕ) → ℕ → ℕ
-ownStart own seen cited b = below own b + below cited (firstSeen seen b)
+ownStart own seen cited b = sumBelow own b + sumBelow cited (firstSeen seen b)
 
 -- The start of the sources of the observation at place p, which is of boundary b.
 abbrev pub citedStart : (own cited : ℕ → ℕ) → ℕ → ℕ → ℕ
-citedStart own cited b p = below own (suc b) + below cited p
+citedStart own cited b p = sumBelow own (suc b) + sumBelow cited p
 
 -- The parts of the first n boundaries and of their observations: an observation's at its place, a boundary's own at `base` and its place.
 pub record LaidOut (own seen cited : ℕ → ℕ) (base n : ℕ) (firsts starts counts : List ℕ) : Type 0 where
@@ -72,10 +72,10 @@ pub record LaidOut (own seen cited : ℕ → ℕ) (base n : ℕ) (firsts starts 
 pub record Countable (s : List ℕ) (at n ats base : ℕ) : Type 0 where
   pub boundaries-in : at + n * boundarySize ≤ length s
   pub boundary-limit : n ≤ 256
-  pub observations-in : ats + below (seenCount s at) n * observationSize ≤ length s
-  pub observations-fit : below (seenCount s at) n ≤ base
+  pub observations-in : ats + sumBelow (seenCount s at) n * observationSize ≤ length s
+  pub observations-fit : sumBelow (seenCount s at) n ≤ base
   pub observation-limit : base ≤ 1024
-  pub source-limit : below (ownCount s at) n + below (citedCount s ats) (below (seenCount s at) n) ≤ 4096
+  pub source-limit : sumBelow (ownCount s at) n + sumBelow (citedCount s ats) (sumBelow (seenCount s at) n) ≤ 4096
 
 -- Room for all the parts.
 pub record PlanRoom (base n : ℕ) (firsts starts counts : List ℕ) : Type 0 where
@@ -86,8 +86,8 @@ pub record PlanRoom (base n : ℕ) (firsts starts counts : List ℕ) : Type 0 wh
 
 -- The parts of the first b of n boundaries: their observations end at place p, their sources at `run`.
 pub record Layout (own seen cited : ℕ → ℕ) (base n : ℕ) (firsts starts counts : List ℕ) (b p run : ℕ) : Type 0 where
-  pub place : p ≡ below seen b
-  pub running : run ≡ below own b + below cited p
+  pub place : p ≡ sumBelow seen b
+  pub running : run ≡ sumBelow own b + sumBelow cited p
   pub laid : LaidOut own seen cited base b firsts starts counts
   pub clear : Apart starts counts run
   pub firsts-room : n ≤ length firsts
@@ -97,4 +97,4 @@ pub record Layout (own seen cited : ℕ → ℕ) (base n : ℕ) (firsts starts c
 -- The parts of all n boundaries, among as many numbers as there are sources.
 pub record LaidAll (own seen cited : ℕ → ℕ) (base n : ℕ) (firsts starts counts : List ℕ) : Type 0 where
   pub laid : LaidOut own seen cited base n firsts starts counts
-  pub clear : Apart starts counts (below own n + below cited (below seen n))
+  pub clear : Apart starts counts (sumBelow own n + sumBelow cited (sumBelow seen n))

@@ -13,7 +13,7 @@ pub record RankRoom (first second third : List ℕ) (n : ℕ) : Type 0 where
   pub third-room : n ≤ length third
 
 -- The canonical ends and the widths of n records, at the places from `from` on; the places before are as they were.
-pub record Ranked (ends : ℕ → Span) (bits : ℕ → ℕ) (from n : ℕ) (first₀ second₀ third₀ first second third : List ℕ) : Type 0 where
+pub record RankKeys (ends : ℕ → Span) (bits : ℕ → ℕ) (from n : ℕ) (first₀ second₀ third₀ first second third : List ℕ) : Type 0 where
   pub first-long : length first ≡ length first₀
   pub second-long : length second ≡ length second₀
   pub third-long : length third ≡ length third₀

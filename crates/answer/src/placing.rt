@@ -1,6 +1,6 @@
 // All that is worked out of a job by place: where each one's sources stand in `keys`, sorted and each once, and what observations are ordered by.
 ghost use Rattle.format.specs.Decode.{sourceRecords};
-ghost use Rattle.answer.specs.Placed.{Placed, PlacedInside, JobPlaces, PlaceRoom, boundaryRows, observationRows};
+ghost use Rattle.answer.specs.Placed.{CopiesPlaced, PlacedInside, JobPlaces, PlaceRoom, boundaryRows, observationRows};
 use crate::keys::read_keys;
 use crate::laying::lay_boundaries;
 use crate::parts::sort_parts;
@@ -26,7 +26,8 @@ pub fn place_all(
 )
     requires { ⌜ JobPlaces (now job) at n ats m from count
         × PlaceRoom n m count (now keys) (now spare) (now firsts) (now starts) (now counts) (now first) (now second) (now third) ⌝ }
-    ensures { λ _. ⌜ Placed (boundaryRows (now (job .entry)) at) (observationRows (now (job .entry)) ats) (sourceRecords (now (job .entry)) from count) m n
+    ensures { λ _. ⌜ CopiesPlaced (boundaryRows (now (job .entry)) at) (observationRows (now (job .entry)) ats) (sourceRecords (now (job .entry)) from count) m
+        n
         (now (firsts .exit)) (now (first .exit)) (now (second .exit)) (now (third .exit)) (now (starts .exit)) (now (counts .exit)) (now (keys .exit)) ⌝ }
     ensures inside { λ _. ⌜ PlacedInside (boundaryRows (now (job .entry)) at) (observationRows (now (job .entry)) ats)
         (sourceRecords (now (job .entry)) from count) m n count (now (firsts .exit)) (now (starts .exit)) (now (counts .exit)) ⌝ }

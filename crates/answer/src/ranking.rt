@@ -3,7 +3,7 @@ ghost use Prim.Native.Nat.{_+_, _*_, _≤_};
 ghost use lib.ListN.{length};
 ghost use Rattle.format.specs.Sizes.{boundarySize, observationSize};
 ghost use Rattle.format.specs.Records.{boundaryAt, observationAt};
-ghost use Rattle.answer.specs.Ranked.{RankRoom, Ranked};
+ghost use Rattle.answer.specs.Ranked.{RankRoom, RankKeys};
 use crate::casts::packed;
 use format::BOUNDARY_SIZE;
 use format::OBSERVATION_SIZE;
@@ -22,7 +22,7 @@ fn rank_one(
     third: &mut [u64],
 )
     requires { ⌜ RankRoom (now first) (now second) (now third) (q + 1) ⌝ }
-    ensures { λ _. ⌜ Ranked (λ k. ends) (λ k. bits) q 1 (now (first .entry)) (now (second .entry)) (now (third .entry)) (now (first .exit))
+    ensures { λ _. ⌜ RankKeys (λ k. ends) (λ k. bits) q 1 (now (first .entry)) (now (second .entry)) (now (third .entry)) (now (first .exit))
         (now (second .exit)) (now (third .exit)) ⌝ }
 {
     let e = ends.canonical();
@@ -43,7 +43,7 @@ pub fn rank_observations(
     third: &mut [u64],
 )
     requires { ⌜ (at + n * observationSize ≤ length (now job)) × RankRoom (now first) (now second) (now third) n ⌝ }
-    ensures { λ _. ⌜ Ranked (λ k. observationAt (now (job .entry)) (at + k * observationSize) .ends)
+    ensures { λ _. ⌜ RankKeys (λ k. observationAt (now (job .entry)) (at + k * observationSize) .ends)
         (λ k. observationAt (now (job .entry)) (at + k * observationSize) .bits) 0 n (now (first .entry)) (now (second .entry)) (now (third .entry))
         (now (first .exit)) (now (second .exit)) (now (third .exit)) ⌝ }
 {
@@ -67,7 +67,7 @@ pub fn rank_boundaries(
     third: &mut [u64],
 )
     requires { ⌜ (at + n * boundarySize ≤ length (now job)) × RankRoom (now first) (now second) (now third) (base + n) ⌝ }
-    ensures { λ _. ⌜ Ranked (λ k. boundaryAt (now (job .entry)) (at + k * boundarySize) .ends)
+    ensures { λ _. ⌜ RankKeys (λ k. boundaryAt (now (job .entry)) (at + k * boundarySize) .ends)
         (λ k. boundaryAt (now (job .entry)) (at + k * boundarySize) .bits) base n (now (first .entry)) (now (second .entry)) (now (third .entry))
         (now (first .exit)) (now (second .exit)) (now (third .exit)) ⌝ }
 {

@@ -4,7 +4,7 @@ use mathlib.Core.List.{List, [], _∷_}
 use Prim.Native.Nat.{ℕ, zero, suc, _%_}
 use Rattle.order.specs.Lists.{upFrom}
 use Rattle.position.specs.declared.Span.{Span}
-use Rattle.graph.specs.Parts.{part}
+use Rattle.graph.specs.Parts.{componentOf}
 use Rattle.graph.specs.Labels.{count}
 use Rattle.graph.specs.Records.{Record}
 use Rattle.graph.specs.Bridges.{isBridge}
@@ -41,21 +41,21 @@ module _ (m n : ℕ) (h : m % 2 ≡ 1) (k : n % 2 ≡ 1) where
   }
 
 cut-middle : Divides plain (spanOf 8 0 8 8)
-unfolding areaLabels assess records isBridge part count upFrom
+unfolding areaLabels assess records isBridge componentOf count upFrom
 cut-middle = record { labels = refl; removed = refl; separated = refl; bridge = refl }
 
 -- the first centre is on the line, and counts with what is left of it
 cut-first : Divides plain (spanOf 4 0 4 8)
-unfolding areaLabels assess records isBridge part count upFrom
+unfolding areaLabels assess records isBridge componentOf count upFrom
 cut-first = record { labels = refl; removed = refl; separated = refl; bridge = refl }
 
 cut-first-swapped : Divides plain (spanOf 4 8 4 0)
-unfolding areaLabels assess records isBridge part count upFrom
+unfolding areaLabels assess records isBridge componentOf count upFrom
 cut-first-swapped = record { labels = refl; removed = refl; separated = refl; bridge = refl }
 
 -- the second centre is on the line, and counts with the first
 spared-second : Spares plain (spanOf 12 0 12 8)
-unfolding areaLabels assess part count upFrom
+unfolding areaLabels assess componentOf count upFrom
 spared-second = record { labels = refl; removed = refl }
 
 pub cut-cases : CutCases
@@ -76,23 +76,23 @@ abbrev pair : ℕ → ℕ → RegionPair
 pair l h = record { lower = l; higher = h }
 
 columns : areaLabels eight block both ≡ 1 ∷ 2 ∷ 3 ∷ 1 ∷ 2 ∷ 3 ∷ []
-unfolding areaLabels part count upFrom
+unfolding areaLabels componentOf count upFrom
 columns = refl
 
 three-areas : (areaCount eight block both ≡ 3) × (cellCount (1 ∷ 2 ∷ 3 ∷ 1 ∷ 2 ∷ 3 ∷ []) 2 ≡ 2)
-unfolding areaCount cellCount part count
+unfolding areaCount cellCount componentOf count
 three-areas = (refl, refl)
 
 -- a span cuts two straight steps and two diagonal ones, and they are one pair
 one-pair : assess eight block both (spanOf 16 16 16 0) ≡ record { removed = 4; separated = 4; pairs = pair 2 3 ∷ [] }
-unfolding assess part count upFrom
+unfolding assess componentOf count upFrom
 one-pair = refl
 
 two-records : records eight block both ≡ recordOf 0 (pair 2 3) ∷ recordOf 1 (pair 1 2) ∷ []
-unfolding records part count upFrom
+unfolding records componentOf count upFrom
 two-records = refl
 
 -- a span that ends within the map removes steps and separates none
 bypassed : assess eight block (spanOf 8 0 8 4 ∷ []) (spanOf 8 0 8 4) ≡ record { removed = 1; separated = 0; pairs = [] }
-unfolding assess part count upFrom
+unfolding assess componentOf count upFrom
 bypassed = refl

@@ -24,7 +24,8 @@ use Rattle.areas.specs.declared.candidates.CellRange.{CellRange}
 use Rattle.areas.specs.declared.candidates.Line.{Line}
 use Rattle.areas.specs.Spans.{SpanFits, Sides}
 use Rattle.areas.specs.Cuts.{cutBy}
-use Rattle.areas.specs.Strip.{axisRange, minorRange, clamp, lineAt, gap, InStrip, tall, lineOf, stripAxis, stripMinor, majorOf, minorOf, cellOf, Within}
+use Rattle.areas.specs.Strip.{axisRange, minorRange, clamp, lineAt, gap, InStrip, tall, lineOf, stripAxis, stripMinor, majorOf, minorOf, cellOf}
+use Rattle.areas.specs.Strip.{StripHolds}
 use Rattle.areas.proofs.Covering.{cut-covers}
 
 -- what it is to be tall, in numbers
@@ -82,7 +83,7 @@ module _ {w h : ℕ} {s : Span} (d : Sides w h) (f : SpanFits w h s) where
   line-fits = line-cases (tall s) (leb (s .a .y) (s .b .y)) refl refl
 
 -- the cells in the strip are those in its ranges
-pub in-within : (g : Grid) (s : Span) (i : ℕ) → InStrip g s i → Within g s i
+pub in-within : (g : Grid) (s : Span) (i : ℕ) → InStrip g s i → StripHolds g s i
 unfolding stripAxis stripMinor majorOf minorOf lineOf
 in-within g s i (InStrip.wide m n) = let e : tall s ≡ false = means-wide s m in record { along = rw e (n .along); beside = rw e (n .beside) }
 in-within g s i (InStrip.falls m o n) =

@@ -22,8 +22,8 @@ pub record RegionPair : Type 0 where
   pub higher : ℕ
 
 -- the pair of a lower and a higher label
-abbrev pub pairOf : ℕ → ℕ → RegionPair
-pairOf lower higher = record { lower = lower; higher = higher }
+abbrev pub regionPair : ℕ → ℕ → RegionPair
+regionPair lower higher = record { lower = lower; higher = higher }
 
 pub record Assessment : Type 0 where
   pub removed : ℕ

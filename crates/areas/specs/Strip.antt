@@ -26,8 +26,8 @@ unfoldable pub statedMinor : ℕ → ℕ → CellRange
 statedMinor reference limit = record { first = reference / 8 - radius; last = min (reference / 8 + radius) (limit - 1) }
 
 -- how many pixels the centre of a cell with a cut step can be past an end of the span, and from the line
-abbrev pub reach : ℕ
-reach = 8
+abbrev pub cutReach : ℕ
+cutReach = 8
 
 abbrev pub spread : ℕ
 spread = 16
@@ -38,7 +38,7 @@ centred low high limit = record { first = (low + 3) / 8; last = min ((high - 4) 
 
 -- the columns or rows along the span
 unfoldable pub axisRange : ℕ → ℕ → ℕ → CellRange
-axisRange minimum maximum limit = centred (minimum - reach) (maximum + reach) limit
+axisRange minimum maximum limit = centred (minimum - cutReach) (maximum + cutReach) limit
 
 -- the rows or columns about a pixel
 unfoldable pub minorRange : ℕ → ℕ → CellRange
@@ -115,6 +115,6 @@ module _ (g : Grid) (s : Span) where
   cellOf c cm = cond (tall s) (indexOf g cm c) (indexOf g c cm)
 
 -- the cell is in the ranges of the strip
-pub record Within (g : Grid) (s : Span) (i : ℕ) : Type 0 where
+pub record StripHolds (g : Grid) (s : Span) (i : ℕ) : Type 0 where
   pub along : InRange (stripAxis (g .width) (g .height) s) (majorOf g s i)
   pub beside : InRange (stripMinor (g .width) (g .height) s (majorOf g s i)) (minorOf g s i)

@@ -13,14 +13,14 @@ use Rattle.order.proofs.Gather.{gather-last}
 use Rattle.order.proofs.Keep.{keep-append}
 use Rattle.graph.specs.Path.{Edge}
 use Rattle.areas.specs.Areas.{labelAt}
-use Rattle.areas.specs.Assessments.{RegionPair, pairKey, isSeparated, labelPair, assessment, pairOf}
+use Rattle.areas.specs.Assessments.{RegionPair, pairKey, isSeparated, labelPair, assessment, regionPair}
 use Rattle.areas.proofs.Assessments.{pair-order}
 use Rattle.areas.specs.Words.{word, labelsIn}
 use Rattle.areas.proofs.Words.{label-in}
 use Rattle.assessments.specs.declared.steps.Assessed.{Assessed}
 use Rattle.grid.specs.Steps.{stepOf}
-use Rattle.assessments.specs.Stored.{Ordered, Inserted, Late}
-use Rattle.assessments.specs.Holding.{Listed, Holds, Advances, Room, Grown}
+use Rattle.assessments.specs.Stored.{PairsAscending, Inserted, Late}
+use Rattle.assessments.specs.Holding.{PairsListed, HoldsAssessment, Advances, StepRoom, Grown}
 use Rattle.assessments.proofs.Including.{once-last}
 use Rattle.assessments.proofs.Listing.{listed-put}
 use Rattle.order.proofs.Numbers.{up-last}
@@ -53,7 +53,8 @@ module _ (ls : List ℕ) (ds : List Edge) (e : Edge) where
 pub advance-none : (ls : List ℕ) {es : List Edge} {most start : ℕ} {lefts rights : List ℕ} {s : Assessed} → es ≡ []
     → Advances most ls es start lefts rights s lefts rights s
 advance-none ls {es} {most} {start} {lefts} {rights} {s} h lefts₀ rights₀ ds was =
-    subst (λ (z : List Edge). Holds most (assessment ls z) lefts₀ rights₀ start lefts rights s) (sym (ap (λ (z : List Edge). ds ++ z) h ∙ append-nil ds)) was
+    subst (λ (z : List Edge). HoldsAssessment most (assessment ls z) lefts₀ rights₀ start lefts rights s)
+    (sym (ap (λ (z : List Edge). ds ++ z) h ∙ append-nil ds)) was
 
 module _ (ls : List ℕ) (e : Edge) {most start : ℕ} {lefts rights : List ℕ} {s : Assessed} where
   -- a step whose labels are equal
@@ -64,21 +65,21 @@ module _ (ls : List ℕ) (e : Edge) {most start : ℕ} {lefts rights : List ℕ}
   advance-same {s′} h er es ee lefts₀ rights₀ ds was = record {
     removed = omega (arith, er, was .removed, one-more ls ds e);
     separated = es ∙ (was .separated ∙ ap length (sym (kept-same ls ds e h)));
-    pairs = subst (λ (ps : List RegionPair). Listed most ps lefts₀ rights₀ start lefts rights (s′ .end))
+    pairs = subst (λ (ps : List RegionPair). PairsListed most ps lefts₀ rights₀ start lefts rights (s′ .end))
         (ap (λ (z : List Edge). sortOnceBy pairKey (map (labelPair ls) z)) (sym (kept-same ls ds e h)))
-        (subst (λ (k : ℕ). Listed most (assessment ls ds .pairs) lefts₀ rights₀ start lefts rights k) (sym ee) (was .pairs));
+        (subst (λ (k : ℕ). PairsListed most (assessment ls ds .pairs) lefts₀ rights₀ start lefts rights k) (sym ee) (was .pairs));
   }
 
   -- a step whose labels differ
   pub advance-put : {lefts′ rights′ : List ℕ} {s′ : Assessed} (p : RegionPair) → (labelAt ls (e .left) ≡ labelAt ls (e .right) → ⊥) → p ≡ labelPair ls e →
       s′ .removed ≡ s .removed + 1 → s′ .separated ≡ s .separated + 1 → Late most lefts rights lefts′ rights′ (s .end) (s′ .end) →
-      (s .end ≤ most → Ordered lefts rights start (s .end) → Inserted most p lefts rights lefts′ rights′ start (s .end) (s′ .end)) →
+      (s .end ≤ most → PairsAscending lefts rights start (s .end) → Inserted most p lefts rights lefts′ rights′ start (s .end) (s′ .end)) →
       Advances most ls (e ∷ []) start lefts rights s lefts′ rights′ s′
   unfolding assessment
   advance-put {lefts′} {rights′} {s′} p h ep er es late ins lefts₀ rights₀ ds was = record {
     removed = omega (arith, er, was .removed, one-more ls ds e);
     separated = omega (arith, es, was .separated, ap length (kept-more ls ds e h), length-append (keep (isSeparated ls) ds) (e ∷ []));
-    pairs = subst (λ (ps : List RegionPair). Listed most ps lefts₀ rights₀ start lefts′ rights′ (s′ .end))
+    pairs = subst (λ (ps : List RegionPair). PairsListed most ps lefts₀ rights₀ start lefts′ rights′ (s′ .end))
         (ap (λ (q : RegionPair). include (byKey pairKey) q (assessment ls ds .pairs)) ep ∙ sym (pairs-more ls ds e h))
         (listed-put (map (labelPair ls) (keep (isSeparated ls) ds)) (was .pairs) p late ins);
   }
@@ -93,7 +94,7 @@ pub record Going (ls : List ℕ) (f : ℕ → List Edge) (first start : ℕ) (le
   pub did : Advances (length lefts₀) ls (gather f (upFrom first (k - first))) start lefts₀ rights₀ s₀ lefts rights s
 
 module _ (ls : List ℕ) (f : ℕ → List Edge) {first start : ℕ} {lefts₀ rights₀ : List ℕ} {s₀ : Assessed} where
-  pub going-start : (m p : ℕ) → Room start p lefts₀ rights₀ s₀ → Going ls f first start lefts₀ rights₀ s₀ lefts₀ rights₀ s₀ first m
+  pub going-start : (m p : ℕ) → StepRoom start p lefts₀ rights₀ s₀ → Going ls f first start lefts₀ rights₀ s₀ lefts₀ rights₀ s₀ first m
   unfolding upFrom gather
   going-start m p r =
       let e : first - first ≡ 0 = omega arith in
@@ -107,7 +108,7 @@ module _ (ls : List ℕ) (f : ℕ → List Edge) {first start : ℕ} {lefts₀ r
 
   module _ {lefts rights : List ℕ} {s : Assessed} {k m : ℕ} (g : Going ls f first start lefts₀ rights₀ s₀ lefts rights s k m) where
     -- there is room for p more
-    pub going-room : (p q : ℕ) → Room start p lefts₀ rights₀ s₀ → m + q ≤ p → Room start q lefts rights s
+    pub going-room : (p q : ℕ) → StepRoom start p lefts₀ rights₀ s₀ → m + q ≤ p → StepRoom start q lefts rights s
     going-room p q r h = record {
       from = g .grown .from;
       to = omega (arith, g .grown .to, g .lefts-are);
@@ -131,7 +132,7 @@ module _ (ls : List ℕ) (f : ℕ → List Edge) {first start : ℕ} {lefts₀ r
         separated = omega (arith, grew .separated, g .grown .separated);
       };
       did = λ l r ds was.
-          subst (λ (z : List Edge). Holds (length lefts₀) (assessment ls z) l r start lefts′ rights′ s′)
+          subst (λ (z : List Edge). HoldsAssessment (length lefts₀) (assessment ls z) l r start lefts′ rights′ s′)
           (append-assoc ds (gather f (upFrom first (k - first))) (f k) ∙ ap (λ (z : List Edge). ds ++ z) joined)
           (subst (λ (z : ℕ). Advances z ls (f k) start lefts rights s lefts′ rights′ s′) (g .lefts-are) adv l r (ds ++ gather f (upFrom first (k - first)))
           (g .did l r ds was));
@@ -156,7 +157,7 @@ module _ (ls : List ℕ) (f : ℕ → List Edge) {first start : ℕ} {lefts₀ r
 pub grown-more : {most start m : ℕ} {s t : Assessed} (n : ℕ) → Grown most start m s t → m ≤ n → Grown most start n s t
 grown-more n g h = record { from = g .from; to = g .to; removed = omega (arith, g .removed); separated = omega (arith, g .separated) }
 
-pub grown-none : {start m : ℕ} {lefts rights : List ℕ} {s : Assessed} (n : ℕ) → Room start m lefts rights s → Grown (length lefts) start n s s
+pub grown-none : {start m : ℕ} {lefts rights : List ℕ} {s : Assessed} (n : ℕ) → StepRoom start m lefts rights s → Grown (length lefts) start n s s
 grown-none n r = record { from = r .from; to = r .to; removed = omega arith; separated = omega arith }
 
 -- the labels x and y of two cells
@@ -173,8 +174,8 @@ module _ (bytes : List ℕ) {n i j x y : ℕ} (a : i < n) (b : j < n) (ex : x �
   pub labels-apart : (x ≡ y → ⊥) → labelAt (labelsIn bytes n) i ≡ labelAt (labelsIn bytes n) j → ⊥
   labels-apart h e = h (left-label ∙ (e ∙ sym right-label))
 
-  pub label-pair : {lo hi : ℕ} → lo ≡ min x y → hi ≡ max x y → pairOf lo hi ≡ labelPair (labelsIn bytes n) (stepOf i j)
-  label-pair e f = ap₂ pairOf (e ∙ ap₂ min left-label right-label) (f ∙ ap₂ max left-label right-label)
+  pub label-pair : {lo hi : ℕ} → lo ≡ min x y → hi ≡ max x y → regionPair lo hi ≡ labelPair (labelsIn bytes n) (stepOf i j)
+  label-pair e f = ap₂ regionPair (e ∙ ap₂ min left-label right-label) (f ∙ ap₂ max left-label right-label)
 
 -- the same steps, told otherwise
 pub advance-as : (ls : List ℕ) {ds es : List Edge} {most start : ℕ} {lefts rights lefts′ rights′ : List ℕ} {s s′ : Assessed} → ds ≡ es →

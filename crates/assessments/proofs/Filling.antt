@@ -8,13 +8,13 @@ use native.Mathlib.Decide.{ℕ-discrete}
 use lib.ListN.{length, set, length-set}
 use lib.Seq.{getD-set-same, getD-set-other}
 use Rattle.lists.specs.Rows.{at}
-use Rattle.assessments.specs.Recording.{Filled}
+use Rattle.assessments.specs.Recording.{ConstantRun}
 
 pub record Filling (s₀ s : List ℕ) (start end v k : ℕ) : Type 0 where
   pub long : length s ≡ length s₀
   pub reached : start ≤ k
   pub til : k ≤ end
-  pub filled : Filled s₀ s start k v
+  pub filled : ConstantRun s₀ s start k v
 
 pub filling-start : {s : List ℕ} {start end v : ℕ} → start ≤ end → Filling s s start end v start
 filling-start h = record { long = refl; reached = omega arith; til = h; filled = record { below = λ j l. refl; here = λ j l k. absurd (omega arith) } }
@@ -32,5 +32,5 @@ filling-next {s₀} {s} {start} {end} {v} {k} small f h = record {
         by-cases (ℕ-discrete j k) (λ e. ap (at (set s k v)) e ∙ getD-set-same s k v 0 (omega (arith, f .long)))
         (λ e. getD-set-other s k j v 0 e ∙ f .filled .here j a (omega arith))
 
-pub filling-end : {s₀ s : List ℕ} {start end v k : ℕ} → Filling s₀ s start end v k → end ≤ k → Filled s₀ s start end v
+pub filling-end : {s₀ s : List ℕ} {start end v k : ℕ} → Filling s₀ s start end v k → end ≤ k → ConstantRun s₀ s start end v
 filling-end f h = record { below = f .filled .below; here = λ j a b. f .filled .here j a (omega arith) }

@@ -17,7 +17,7 @@ use Rattle.areas.specs.Strip.{numbersOf, tall, cellOf, stripAxis, stripMinor}
 use Rattle.areas.proofs.StripCells.{axis-on, minor-on}
 use Rattle.marking.proofs.Halves.{place-fits}
 use Rattle.assessments.specs.declared.steps.Assessed.{Assessed}
-use Rattle.assessments.specs.Holding.{pairsIn, Holds, Room}
+use Rattle.assessments.specs.Holding.{pairsIn, HoldsAssessment, StepRoom}
 use Rattle.assessments.specs.Visits.{cutFrom, cutBeside, cutAlong}
 
 pub limit-small : {w h : ℕ} → Sides w h → (s : Span) {c : ℕ} → c < cond (tall s) h w → c < 1024
@@ -49,7 +49,7 @@ module _ (w h : ℕ) (cs : List ℕ) (s : Span) (c cm : ℕ) {x y : ℕ} where
   place-cell et e f = cell-go (tall s) (e ∙ ap (λ (z : Bool). cond z cm c) et) (f ∙ ap (λ (z : Bool). cond z c cm) et)
 
 pub holds-none : (ls lefts rights : List ℕ) {most start : ℕ} → start ≤ most
-    → Holds most (assessment ls []) lefts rights start lefts rights (record { removed = 0; separated = 0; end = start })
+    → HoldsAssessment most (assessment ls []) lefts rights start lefts rights (record { removed = 0; separated = 0; end = start })
 unfolding assessment keep sortOnce pairsIn rows
 holds-none ls lefts rights h = record {
   removed = refl;
@@ -58,7 +58,7 @@ holds-none ls lefts rights h = record {
 }
 
 pub room-start : {lefts rights : List ℕ} {start : ℕ} → start ≤ length lefts → length rights ≡ length lefts → length lefts ≤ 4096 →
-    Room start 4194304 lefts rights (record { removed = 0; separated = 0; end = start })
+    StepRoom start 4194304 lefts rights (record { removed = 0; separated = 0; end = start })
 room-start h e f = record { from = omega arith; to = omega arith; removed = omega arith; separated = omega arith; alike = e; few = f }
 
 -- the last of a range
@@ -83,6 +83,6 @@ unfolding cutAlong
 along-is dirs g s r e = ap (λ (z : CellRange). gather (cutBeside dirs g s) (numbersOf z)) (sym e)
 
 pub holds-as : {most : ℕ} {a b : Assessment} {lefts₀ rights₀ lefts rights : List ℕ} {start : ℕ} {s : Assessed} → a ≡ b
-    → Holds most a lefts₀ rights₀ start lefts rights s → Holds most b lefts₀ rights₀ start lefts rights s
+    → HoldsAssessment most a lefts₀ rights₀ start lefts rights s → HoldsAssessment most b lefts₀ rights₀ start lefts rights s
 holds-as {most = most} {lefts₀ = lefts₀} {rights₀ = rights₀} {lefts = lefts} {rights = rights} {start = start} {s = s} e h =
-    subst (λ (z : Assessment). Holds most z lefts₀ rights₀ start lefts rights s) e h
+    subst (λ (z : Assessment). HoldsAssessment most z lefts₀ rights₀ start lefts rights s) e h

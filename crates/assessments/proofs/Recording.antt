@@ -19,9 +19,9 @@ use Rattle.areas.specs.Assessments.{RegionPair, assessment, recordOf, owned, as
 use Rattle.areas.specs.Spans.{spanIn, spansIn}
 use Rattle.assessments.specs.declared.steps.Assessed.{Assessed}
 use Rattle.assessments.specs.Stored.{pairAt}
-use Rattle.assessments.specs.Holding.{pairsIn, Holds}
-use Rattle.assessments.specs.Visits.{OnMap}
-use Rattle.assessments.specs.Recording.{assessed, recordsOf, Counted, Recorded, SpansOnMap, Arrays, Filled}
+use Rattle.assessments.specs.Holding.{pairsIn, HoldsAssessment}
+use Rattle.assessments.specs.Visits.{SpanOnMap}
+use Rattle.assessments.specs.Recording.{assessed, recordsOf, Counted, Recorded, SpansOnMap, Arrays, ConstantRun}
 
 -- with the areas' labels these are the records of the areas
 pub records-are : (dirs : List ℕ) (g : Grid) (ss : List Span) → recordsOf (areaLabels dirs g ss) dirs g ss ≡ records dirs g ss
@@ -76,7 +76,7 @@ module _ (ls dirs : List ℕ) (g : Grid) (ends : List ℕ) where
   recording-start a = record { arrays = a; ended = refl; few = omega arith; told = refl; counted = λ i l. absurd (omega arith) }
 
   module _ {most : ℕ} {removed separated owners lefts rights : List ℕ} {i end : ℕ} (r : Recording most removed separated owners lefts rights i end)
-      {lefts′ rights′ : List ℕ} {s : Assessed} (h : Holds most (assessed ls dirs g (spanIn ends i)) lefts rights end lefts′ rights′ s) where
+      {lefts′ rights′ : List ℕ} {s : Assessed} (h : HoldsAssessment most (assessed ls dirs g (spanIn ends i)) lefts rights end lefts′ rights′ s) where
     -- over most
     pub recording-over : (n : ℕ) → i < n → most < s .end → {removed′ separated′ owners′ : List ℕ}
         → Recorded ls dirs g most ends n removed′ separated′ owners′ lefts′ rights′ (most + 1)
@@ -102,7 +102,7 @@ module _ (ls dirs : List ℕ) (g : Grid) (ends : List ℕ) where
       pub grows : end ≤ s .end
       grows = omega (arith, new-end)
 
-      told-next : {owners′ : List ℕ} → Filled owners owners′ end (s .end) i → recordsIn owners′ lefts′ rights′ (s .end) ≡ upTo (suc i)
+      told-next : {owners′ : List ℕ} → ConstantRun owners owners′ end (s .end) i → recordsIn owners′ lefts′ rights′ (s .end) ≡ upTo (suc i)
       unfolding recordsIn pairsIn
       told-next {owners′} f =
           let ps = pairsBy (spanIn ends i) in
@@ -122,7 +122,8 @@ module _ (ls dirs : List ℕ) (g : Grid) (ends : List ℕ) where
               (λ k. recordOf i (pairAt lefts′ rights′ (end + k)))
               (λ k l. rw (f .here (end + k) (omega arith) (omega (arith, new-end))))
 
-      pub recording-next : {owners′ : List ℕ} → i < 256 → Filled owners owners′ end (s .end) i → length owners′ ≡ length owners → length lefts′ ≡ length lefts
+      pub recording-next : {owners′ : List ℕ} → i < 256 → ConstantRun owners owners′ end (s .end) i → length owners′ ≡ length owners
+          → length lefts′ ≡ length lefts
           → length rights′ ≡ length rights →
           Recording most (set removed i (s .removed)) (set separated i (s .separated)) owners′ lefts′ rights′ (i + 1) (s .end)
       recording-next {owners′} l f eo el er = record {
@@ -168,16 +169,16 @@ zero-arrays most h =
     record { removed-are = k; separated-are = k; owners-are = e; lefts-are = e; rights-are = e; few = h }
 
 -- one span of several on a map
-pub span-on : {w h : ℕ} {cs labels ends : List ℕ} {n i : ℕ} {s : Span} → SpansOnMap w h cs labels ends n → i < n → s ≡ spanIn ends i → OnMap w h cs labels s
+pub span-on : {w h : ℕ} {cs labels ends : List ℕ} {n i : ℕ} {s : Span} → SpansOnMap w h cs labels ends n → i < n → s ≡ spanIn ends i → SpanOnMap w h cs labels s
 span-on {w} {h} {cs} {labels} m l e =
-    subst (λ (z : Span). OnMap w h cs labels z) (sym e) (record { sides = m .sides; whole = m .whole; labelled = m .labelled; span = m .spans .each _ l })
+    subst (λ (z : Span). SpanOnMap w h cs labels z) (sym e) (record { sides = m .sides; whole = m .whole; labelled = m .labelled; span = m .spans .each _ l })
 
 -- what the assessment of the span in hand holds
 pub span-holds : (ls dirs : List ℕ) (g : Grid) (ends : List ℕ) (i : ℕ) (s : Span) {lefts₀ rights₀ lefts rights : List ℕ} {start most m : ℕ} {a : Assessed}
     → s ≡ spanIn ends i → m ≡ most →
-    Holds m (assessment ls (cutSteps dirs g s)) lefts₀ rights₀ start lefts rights a
-    → Holds most (assessed ls dirs g (spanIn ends i)) lefts₀ rights₀ start lefts rights a
+    HoldsAssessment m (assessment ls (cutSteps dirs g s)) lefts₀ rights₀ start lefts rights a
+    → HoldsAssessment most (assessed ls dirs g (spanIn ends i)) lefts₀ rights₀ start lefts rights a
 unfolding assessed
 span-holds ls dirs g ends i s {lefts₀} {rights₀} {lefts} {rights} {start} {most} {m} {a} e f h =
-    subst (λ (z : Span). Holds most (assessment ls (cutSteps dirs g z)) lefts₀ rights₀ start lefts rights a) e
-    (subst (λ (k : ℕ). Holds k (assessment ls (cutSteps dirs g s)) lefts₀ rights₀ start lefts rights a) f h)
+    subst (λ (z : Span). HoldsAssessment most (assessment ls (cutSteps dirs g z)) lefts₀ rights₀ start lefts rights a) e
+    (subst (λ (k : ℕ). HoldsAssessment k (assessment ls (cutSteps dirs g s)) lefts₀ rights₀ start lefts rights a) f h)

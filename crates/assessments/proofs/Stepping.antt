@@ -10,12 +10,12 @@ use Rattle.position.specs.declared.Span.{Span}
 use Rattle.position.specs.declared.WalkPosition.{WalkPosition}
 use Rattle.graph.specs.Path.{Edge}
 use Rattle.grid.specs.Cells.{Grid, indexOf, columnOf, rowOf, mapOf}
-use Rattle.grid.specs.Steps.{neighbour, columnTo, rowTo, hasStep, stepOf, Placed}
+use Rattle.grid.specs.Steps.{neighbour, columnTo, rowTo, hasStep, stepOf, CellPlace}
 use Rattle.grid.proofs.Index.{walkable-on}
 use Rattle.grid.proofs.Reach.{place-column, place-row, place-on}
 use Rattle.grid.proofs.Steps.{Leads, leads-means, has-step, column-to, row-to}
 use Rattle.areas.specs.Cuts.{cutBy}
-use Rattle.assessments.specs.Visits.{OnMap, isCutIn, cutIn}
+use Rattle.assessments.specs.Visits.{SpanOnMap, isCutIn, cutIn}
 
 module _ (dirs : List ℕ) (g : Grid) (s : Span) (i d : ℕ) where
   go-cut : (a b c : Bool) → a ≡ has d dirs → b ≡ hasStep g i d → c ≡ cutBy g s (stepOf i (neighbour g i d)) → isCutIn dirs g s i d ≡ (a && (b && c))
@@ -39,7 +39,7 @@ module _ (dirs : List ℕ) (g : Grid) (s : Span) (i d : ℕ) where
       stepOf x y ∷ [] ≡ cutIn dirs g s i d
   is-step ex ey e f h = ap (λ (z : Edge). z ∷ []) (ap₂ stepOf ex ey) ∙ sym (list-is true (go-cut true true true (sym e) (sym f) (sym h)))
 
-pub on-map : {w h : ℕ} {cs labels : List ℕ} {s : Span} {k i : ℕ} → OnMap w h cs labels s → i < length cs → k ≡ i → k < w * h
+pub on-map : {w h : ℕ} {cs labels : List ℕ} {s : Span} {k i : ℕ} → SpanOnMap w h cs labels s → i < length cs → k ≡ i → k < w * h
 on-map m l e = omega (arith, m .whole)
 
 -- where a direction leads from a place
@@ -49,8 +49,8 @@ pub record Arrives (w h : ℕ) (p : WalkPosition) (d : ℕ) : Type 0 where
   pub right : p .x + d % 3 ≤ w
   pub bottom : p .y + d / 3 ≤ h
 
-module _ {w h : ℕ} {cs labels : List ℕ} {s : Span} (p : WalkPosition) (m : OnMap w h cs labels s) (lx : p .x < w) (ly : p .y < h) where
-  pub placed : Placed w h cs p
+module _ {w h : ℕ} {cs labels : List ℕ} {s : Span} (p : WalkPosition) (m : SpanOnMap w h cs labels s) (lx : p .x < w) (ly : p .y < h) where
+  pub placed : CellPlace w h cs p
   placed = record { wide = m .sides .wide; high = m .sides .high; whole = m .whole; column = lx; row = ly }
 
   pub fits-label-at : {k i : ℕ} → i < length cs → k ≡ i → 4 * k + 4 ≤ length labels

@@ -51,6 +51,6 @@ pub record Arrays (most : ℕ) (removed separated owners lefts rights : List ℕ
   pub few : most ≤ 4096
 
 -- v stands from start to end, and what stood before start is as it was
-pub record Filled (s₀ s : List ℕ) (start end v : ℕ) : Type 0 where
+pub record ConstantRun (s₀ s : List ℕ) (start end v : ℕ) : Type 0 where
   pub below : (j : ℕ) → j < start → at s j ≡ at s₀ j
   pub here : (j : ℕ) → start ≤ j → j < end → at s j ≡ v

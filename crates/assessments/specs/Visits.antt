@@ -14,7 +14,7 @@ use Rattle.areas.specs.Cuts.{cutBy}
 use Rattle.areas.specs.Strip.{numbersOf, stripAxis, stripMinor, cellOf}
 
 -- the bytes of a map and of its labels, and a span on it
-pub record OnMap (width height : ℕ) (cs labels : List ℕ) (s : Span) : Type 0 where
+pub record SpanOnMap (width height : ℕ) (cs labels : List ℕ) (s : Span) : Type 0 where
   pub sides : Sides width height
   pub whole : length cs ≡ width * height
   pub labelled : length labels ≡ 4 * (width * height)

@@ -4,14 +4,14 @@ ghost use lib.ListN.{length};
 ghost use Rattle.grid.specs.Cells.{mapOf};
 ghost use Rattle.areas.specs.Words.{labelsIn};
 ghost use Rattle.grid.specs.Directions.{directionsOf};
-ghost use Rattle.assessments.specs.Recording.{Recorded, SpansOnMap, Arrays, Filled};
+ghost use Rattle.assessments.specs.Recording.{Recorded, SpansOnMap, Arrays, ConstantRun};
 use super::strip::assess_span;
 use areas::spans::span_at;
 
 // Puts v at the places from start to end.
 fn fill(numbers: &mut [u32], start: usize, end: usize, v: u32)
     requires { ⌜ (start ≤ end) × (end ≤ length (now numbers)) × (length (now numbers) ≤ 4096) ⌝ }
-    ensures { λ r. ⌜ Filled (now (numbers .entry)) (now (numbers .exit)) start end v ⌝ }
+    ensures { λ r. ⌜ ConstantRun (now (numbers .entry)) (now (numbers .exit)) start end v ⌝ }
 {
     let mut k = start;
     while k < end {

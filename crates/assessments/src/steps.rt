@@ -6,8 +6,8 @@ ghost use Rattle.grid.specs.Cells.{mapOf};
 ghost use Rattle.areas.specs.Words.{labelsIn};
 ghost use Rattle.grid.specs.Directions.{directionsOf};
 ghost use Rattle.grid.specs.Steps.{stepOf};
-ghost use Rattle.assessments.specs.Holding.{Advances, Room, Grown};
-ghost use Rattle.assessments.specs.Visits.{OnMap, cutIn, cutFrom};
+ghost use Rattle.assessments.specs.Holding.{Advances, StepRoom, Grown};
+ghost use Rattle.assessments.specs.Visits.{SpanOnMap, cutIn, cutFrom};
 use super::pairs::insert_pair;
 use areas::geometry::cut_by;
 use areas::geometry::max;
@@ -37,7 +37,7 @@ fn count_step(
     start: usize,
     state: Assessed,
 ) -> Assessed
-    requires { ⌜ (4 * i + 4 ≤ length (now labels)) × (4 * j + 4 ≤ length (now labels)) × Room start 1 (now lefts) (now rights) state ⌝ }
+    requires { ⌜ (4 * i + 4 ≤ length (now labels)) × (4 * j + 4 ≤ length (now labels)) × StepRoom start 1 (now lefts) (now rights) state ⌝ }
     ensures { λ r. ⌜ Grown (length (now (lefts .entry))) start 1 state r ⌝ }
     ensures { λ r. ⌜ ((n : ℕ) → i < n → j < n
         → Advances (length (now (lefts .entry))) (labelsIn (now (labels .entry)) n) (stepOf i j ∷ []) start (now (lefts .entry)) (now (rights .entry))
@@ -78,8 +78,8 @@ fn assess_step(
     start: usize,
     state: Assessed,
 ) -> Assessed
-    requires { ⌜ OnMap width height (now cells) (now labels) span × (position .x < width) × (position .y < height) × (d < 9)
-        × Room start 1 (now lefts) (now rights) state ⌝ }
+    requires { ⌜ SpanOnMap width height (now cells) (now labels) span × (position .x < width) × (position .y < height) × (d < 9)
+        × StepRoom start 1 (now lefts) (now rights) state ⌝ }
     ensures { λ r. ⌜ Grown (length (now (lefts .entry))) start 1 state r ⌝ }
     ensures { λ r. ⌜ Advances (length (now (lefts .entry))) (labelsIn (now (labels .entry)) (width * height))
         (cutIn (directionsOf directions) (mapOf width height (now (cells .entry))) span (position .y * width + position .x) d) start (now (lefts .entry))
@@ -120,8 +120,8 @@ pub fn assess_cell(
     start: usize,
     state: Assessed,
 ) -> Assessed
-    requires { ⌜ OnMap width height (now cells) (now labels) span × (position .x < width) × (position .y < height)
-        × Room start 4 (now lefts) (now rights) state ⌝ }
+    requires { ⌜ SpanOnMap width height (now cells) (now labels) span × (position .x < width) × (position .y < height)
+        × StepRoom start 4 (now lefts) (now rights) state ⌝ }
     ensures { λ r. ⌜ Grown (length (now (lefts .entry))) start 4 state r ⌝ }
     ensures { λ r. ⌜ Advances (length (now (lefts .entry))) (labelsIn (now (labels .entry)) (width * height))
         (cutFrom (directionsOf directions) (mapOf width height (now (cells .entry))) span (position .y * width + position .x)) start (now (lefts .entry))

@@ -9,8 +9,8 @@ ghost use Rattle.areas.specs.Assessments.{assessment};
 ghost use Rattle.areas.specs.Cuts.{cutSteps};
 ghost use Rattle.areas.specs.Strip.{tall};
 ghost use Rattle.areas.specs.Words.{labelsIn};
-ghost use Rattle.assessments.specs.Holding.{Holds, Advances, Room, Grown};
-ghost use Rattle.assessments.specs.Visits.{OnMap, cutBeside};
+ghost use Rattle.assessments.specs.Holding.{HoldsAssessment, Advances, StepRoom, Grown};
+ghost use Rattle.assessments.specs.Visits.{SpanOnMap, cutBeside};
 use super::steps::Assessed;
 use super::steps::assess_cell;
 use areas::candidates::is_tall;
@@ -44,7 +44,8 @@ fn assess_beside(
     start: usize,
     state: Assessed,
 ) -> Assessed
-    requires { ⌜ OnMap width height (now cells) (now labels) span × (c < cond (tall span) height width) × Room start 4096 (now lefts) (now rights) state ⌝ }
+    requires { ⌜ SpanOnMap width height (now cells) (now labels) span × (c < cond (tall span) height width)
+        × StepRoom start 4096 (now lefts) (now rights) state ⌝ }
     ensures { λ r. ⌜ Grown (length (now (lefts .entry))) start 4096 state r ⌝ }
     ensures { λ r. ⌜ Advances (length (now (lefts .entry))) (labelsIn (now (labels .entry)) (width * height))
         (cutBeside (directionsOf directions) (mapOf width height (now (cells .entry))) span c) start (now (lefts .entry)) (now (rights .entry)) state
@@ -87,9 +88,9 @@ pub fn assess_span(
     rights: &mut [u32],
     start: usize,
 ) -> Assessed
-    requires { ⌜ OnMap width height (now cells) (now labels) span × (start ≤ length (now lefts)) × (length (now rights) ≡ length (now lefts))
+    requires { ⌜ SpanOnMap width height (now cells) (now labels) span × (start ≤ length (now lefts)) × (length (now rights) ≡ length (now lefts))
         × (length (now lefts) ≤ 4096) ⌝ }
-    ensures { λ r. ⌜ Holds (length (now (lefts .entry)))
+    ensures { λ r. ⌜ HoldsAssessment (length (now (lefts .entry)))
         (assessment (labelsIn (now (labels .entry)) (width * height)) (cutSteps (directionsOf directions) (mapOf width height (now (cells .entry))) span))
         (now (lefts .entry)) (now (rights .entry)) start (now (lefts .exit)) (now (rights .exit)) r ⌝ }
 {

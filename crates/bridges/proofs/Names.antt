@@ -11,7 +11,7 @@ use Rattle.lists.specs.Rows.{at}
 use Rattle.wire.specs.Bytes.{splice, u32At, u32Bytes}
 use Rattle.walk.specs.Slices.{put}
 use Rattle.label_table.specs.Table.{Table, OnlyOf}
-use Rattle.bridges.specs.Names.{Labelled, Stands, Named, Numbered, Forgotten}
+use Rattle.bridges.specs.Names.{Labelled, LabelStands, Named, EndNumbers, Forgotten}
 use Rattle.walk.proofs.Puts.{put-at, put-off}
 use Rattle.label_table.proofs.Table.{table-set, table-blank, word-cleared, all-cleared}
 
@@ -43,10 +43,10 @@ module _ {K : ℕ} {lefts rights : List ℕ} {regions base : ℕ} {start work : 
 
 -- both ends of record k have their numbers
 pub numbered-one : {K : ℕ} {lefts rights : List ℕ} {regions base : ℕ} {start work smallLefts smallRights : List ℕ} {k : ℕ}
-    (N : Numbered K lefts rights regions base start work smallLefts smallRights k) → k < K → {work₁ work₂ : List ℕ} {v w : ℕ}
+    (N : EndNumbers K lefts rights regions base start work smallLefts smallRights k) → k < K → {work₁ work₂ : List ℕ} {v w : ℕ}
     (A : Next K lefts rights regions base start work₁ (N .words) (at lefts k - 1) v)
     → (C : Next K lefts rights regions base start work₂ (A .words) (at rights k - 1) w) →
-    Numbered K lefts rights regions base start work₂ (set smallLefts k v) (set smallRights k w) (k + 1)
+    EndNumbers K lefts rights regions base start work₂ (set smallLefts k v) (set smallRights k w) (k + 1)
 numbered-one {lefts = lefts} {rights} {smallLefts = smallLefts} {smallRights} {k} N b {v = v} {w} A C = record {
   words = C .words;
   table = C .table;
@@ -94,10 +94,10 @@ forgotten-one {K} {lefts} {rights} {regions} {base} {start} {k = k} F L fits b {
     word-cleared F₁ (omega (arith, F₁ .table .as-long, F .table .as-long)) (omega (arith, L .right-from k b, L .right-to k b)) later e₂
   where
     -- all but the left end's
-    F₁ : OnlyOf (λ x. (x ≡ at lefts k - 1 → ⊥) × Stands K lefts rights k x) start regions base work₁
+    F₁ : OnlyOf (λ x. (x ≡ at lefts k - 1 → ⊥) × LabelStands K lefts rights k x) start regions base work₁
     F₁ = word-cleared F fits (omega (arith, L .left-from k b, L .left-to k b)) (λ x d s. (d, s)) e₁
 
-    later : (x : ℕ) → (x ≡ at rights k - 1 → ⊥) → (x ≡ at lefts k - 1 → ⊥) × Stands K lefts rights k x → Stands K lefts rights (k + 1) x
+    later : (x : ℕ) → (x ≡ at rights k - 1 → ⊥) → (x ≡ at lefts k - 1 → ⊥) × LabelStands K lefts rights k x → LabelStands K lefts rights (k + 1) x
     later x e t =
         let s = t .1 in
         record {
@@ -113,7 +113,7 @@ forgotten-one {K} {lefts} {rights} {regions} {base} {start} {k = k} F L fits b {
 -- no label has a number
 pub unnumbered : {K : ℕ} {lefts rights : List ℕ} {regions base : ℕ} (start : List ℕ) {smallLefts smallRights : List ℕ}
     → ((x : ℕ) → x < regions → u32At start (base + 4 * x) ≡ 0) →
-    K ≤ length smallLefts → K ≤ length smallRights → Numbered K lefts rights regions base start start smallLefts smallRights 0
+    K ≤ length smallLefts → K ≤ length smallRights → EndNumbers K lefts rights regions base start start smallLefts smallRights 0
 unnumbered {regions = regions} {base} start z a b = record {
   words = λ x. 0;
   table = table-blank z;
@@ -126,7 +126,7 @@ unnumbered {regions = regions} {base} start z a b = record {
 
 -- where labels have numbers, none is forgotten yet
 pub remembered : {K : ℕ} {lefts rights : List ℕ} {regions base : ℕ} {start work smallLefts smallRights : List ℕ} {k : ℕ} →
-    Numbered K lefts rights regions base start work smallLefts smallRights k → Forgotten K lefts rights regions base start work 0
+    EndNumbers K lefts rights regions base start work smallLefts smallRights k → Forgotten K lefts rights regions base start work 0
 remembered N = record {
   words = N .words;
   table = N .table;
@@ -154,17 +154,17 @@ next-step {K} {lefts} {rights} {regions} {base} {start} {work} {work′} {f} T N
 
 -- record k's ends get their numbers; j is k as an index
 pub numbered-at : {K : ℕ} {lefts rights : List ℕ} {regions base : ℕ} {start work work₁ work₂ smallLefts smallRights : List ℕ} {k j v w : ℕ} → j ≡ k → k < K →
-    Labelled K lefts rights regions → base + 4 * regions ≤ length work → Numbered K lefts rights regions base start work smallLefts smallRights k →
+    Labelled K lefts rights regions → base + 4 * regions ≤ length work → EndNumbers K lefts rights regions base start work smallLefts smallRights k →
     ((u32At work (base + 4 * (at lefts j - 1)) ≡ 0 → ⊥) → (u32At work (base + 4 * (at lefts j - 1)) ≡ v + 1) × (work₁ ≡ work)) →
     (u32At work (base + 4 * (at lefts j - 1)) ≡ 0 → (v ≡ 2 * k) × (work₁ ≡ splice work (base + 4 * (at lefts j - 1)) (u32Bytes (2 * k + 1)))) →
     ((u32At work₁ (base + 4 * (at rights j - 1)) ≡ 0 → ⊥) → (u32At work₁ (base + 4 * (at rights j - 1)) ≡ w + 1) × (work₂ ≡ work₁)) →
     (u32At work₁ (base + 4 * (at rights j - 1)) ≡ 0 → (w ≡ 2 * k + 1) × (work₂ ≡ splice work₁ (base + 4 * (at rights j - 1)) (u32Bytes (2 * k + 1 + 1)))) →
-    Numbered K lefts rights regions base start work₂ (set smallLefts j v) (set smallRights j w) (k + 1)
+    EndNumbers K lefts rights regions base start work₂ (set smallLefts j v) (set smallRights j w) (k + 1)
 numbered-at {K} {lefts} {rights} {regions} {base} {start} {work} {work₁} {work₂} {smallLefts} {smallRights} {k} {j} {v} {w} e b L fits N₀ old₁ new₁ old₂ new₂ =
-    subst (λ (i : ℕ). Numbered K lefts rights regions base start work₂ (set smallLefts j v) (set smallRights j w) (i + 1)) e (numbered-one N in-range A C)
+    subst (λ (i : ℕ). EndNumbers K lefts rights regions base start work₂ (set smallLefts j v) (set smallRights j w) (i + 1)) e (numbered-one N in-range A C)
   where
-    N : Numbered K lefts rights regions base start work smallLefts smallRights j
-    N = subst (Numbered K lefts rights regions base start work smallLefts smallRights) (sym e) N₀
+    N : EndNumbers K lefts rights regions base start work smallLefts smallRights j
+    N = subst (EndNumbers K lefts rights regions base start work smallLefts smallRights) (sym e) N₀
 
     in-range : j < K
     in-range = omega arith

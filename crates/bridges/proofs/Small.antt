@@ -14,11 +14,11 @@ use Rattle.graph.proofs.Records.{records-length, records-at}
 use Rattle.graph.proofs.Renaming.{Occurs, Renaming, same-bridges}
 use Rattle.walk.specs.Slices.{Graph}
 use Rattle.walk.specs.Marks.{bridgeMarks}
-use Rattle.bridges.specs.Names.{Labelled, Named, Numbered}
+use Rattle.bridges.specs.Names.{Labelled, Named, EndNumbers}
 use Rattle.bridges.proofs.Names.{named-apart}
 
 module _ {K : ℕ} {lefts rights : List ℕ} {regions base : ℕ} {start work smallLefts smallRights : List ℕ} (L : Labelled K lefts rights regions)
-    (N : Numbered K lefts rights regions base start work smallLefts smallRights K) where
+    (N : EndNumbers K lefts rights regions base start work smallLefts smallRights K) where
   below : (x v : ℕ) → Named K lefts rights x (v + 1) → v < 2 * K
   below x v n = ⊎-elim (λ u. omega (arith, u .1, n .inside)) (λ u. omega (arith, u .1, n .inside)) (n .is)
 

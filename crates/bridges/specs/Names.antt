@@ -19,7 +19,7 @@ pub record Labelled (K : ℕ) (lefts rights : List ℕ) (regions : ℕ) : Type 0
   pub right-to : (k : ℕ) → k < K → at rights k ≤ regions
 
 -- label x + 1 stands at one end of a record from k on
-pub record Stands (K : ℕ) (lefts rights : List ℕ) (k x : ℕ) : Type 0 where
+pub record LabelStands (K : ℕ) (lefts rights : List ℕ) (k x : ℕ) : Type 0 where
   pub place : ℕ
   pub from : k ≤ place
   pub inside : place < K
@@ -32,7 +32,7 @@ pub record Named (K : ℕ) (lefts rights : List ℕ) (x v : ℕ) : Type 0 where
   pub is : ((at lefts place ≡ x + 1) × (v ≡ 2 * place + 1)) ⊎ ((at rights place ≡ x + 1) × (v ≡ 2 * place + 2))
 
 -- the ends of the first k records have their numbers
-pub record Numbered (K : ℕ) (lefts rights : List ℕ) (regions base : ℕ) (start work smallLefts smallRights : List ℕ) (k : ℕ) : Type 0 where
+pub record EndNumbers (K : ℕ) (lefts rights : List ℕ) (regions base : ℕ) (start work smallLefts smallRights : List ℕ) (k : ℕ) : Type 0 where
   pub words : ℕ → ℕ
   pub table : Table start regions base words work
   pub named : (x : ℕ) → 0 < words x → Named K lefts rights x (words x)
@@ -43,4 +43,4 @@ pub record Numbered (K : ℕ) (lefts rights : List ℕ) (regions base : ℕ) (st
 
 -- the words of the labels before record k are 0 again
 abbrev pub Forgotten : ℕ → List ℕ → List ℕ → ℕ → ℕ → List ℕ → List ℕ → ℕ → Type 0
-Forgotten K lefts rights regions base start work k = OnlyOf (Stands K lefts rights k) start regions base work
+Forgotten K lefts rights regions base start work k = OnlyOf (LabelStands K lefts rights k) start regions base work

@@ -4,7 +4,7 @@ ghost use mathlib.Core.List.{List};
 ghost use Prim.Native.Nat.{ℕ, _+_, _*_, _-_, _≤_, _<_};
 ghost use lib.ListN.{length};
 ghost use Rattle.wire.specs.Bytes.{splice, u32At, u32Bytes};
-ghost use Rattle.bridges.specs.Names.{Labelled, Numbered, Forgotten};
+ghost use Rattle.bridges.specs.Names.{Labelled, EndNumbers, Forgotten};
 use label_table::put_word;
 use label_table::word_of;
 use wire::size;
@@ -40,9 +40,9 @@ fn number_record(
     requires { ⌜ (k < count) × Labelled count (now lefts) (now rights) regions × (base + 4 * regions ≤ length (now work)) × (count ≤ length (now «small_lefts»))
         × (count ≤ length (now «small_rights»)) ⌝ }
     ensures { λ _. ⌜ ((start : List ℕ)
-        → Numbered count (now (lefts .entry)) (now (rights .entry)) regions base start (now (work .entry)) (now («small_lefts» .entry))
+        → EndNumbers count (now (lefts .entry)) (now (rights .entry)) regions base start (now (work .entry)) (now («small_lefts» .entry))
         (now («small_rights» .entry)) k
-        → Numbered count (now (lefts .entry)) (now (rights .entry)) regions base start (now (work .exit)) (now («small_lefts» .exit))
+        → EndNumbers count (now (lefts .entry)) (now (rights .entry)) regions base start (now (work .exit)) (now («small_lefts» .exit))
         (now («small_rights» .exit)) (k + 1)) ⌝ }
 {
     let at = size(k);
@@ -63,7 +63,7 @@ pub fn number_all(
 )
     requires { ⌜ Labelled count (now lefts) (now rights) regions × (base + 4 * regions ≤ length (now work))
         × ((x : ℕ) → x < regions → u32At (now work) (base + 4 * x) ≡ 0) × (count ≤ length (now «small_lefts»)) × (count ≤ length (now «small_rights»)) ⌝ }
-    ensures { λ _. ⌜ Numbered count (now (lefts .entry)) (now (rights .entry)) regions base (now (work .entry)) (now (work .exit)) (now («small_lefts» .exit))
+    ensures { λ _. ⌜ EndNumbers count (now (lefts .entry)) (now (rights .entry)) regions base (now (work .entry)) (now (work .exit)) (now («small_lefts» .exit))
         (now («small_rights» .exit)) count ⌝ }
 {
     let mut k = 0;

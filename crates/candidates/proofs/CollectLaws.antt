@@ -24,7 +24,7 @@ use Rattle.candidates.specs.Next.{nextAfter}
 use Rattle.candidates.specs.Gives.{hasRegion, TwoBelow, joinsTwo}
 use Rattle.candidates.specs.Touchers.{touchingAfter}
 use Rattle.candidates.specs.declared.touching.Touching.{Touching}
-use Rattle.candidates.specs.Found.{Given, seen, found, linkOf, upTo, Collected, Added, AllFound}
+use Rattle.candidates.specs.Found.{Given, seen, found, foundLink, upTo, Collected, LinkAdded, AllFound}
 use Rattle.candidates.proofs.NextLaws.{next-least, next-above, two-ranks}
 use Rattle.order.proofs.Numbers.{up-last}
 
@@ -213,8 +213,8 @@ module _ {d : Given} {n : ℕ} (below : OwnersBelow (d .owners) (d .count) n) wh
   -- one region more
   pub collected-next : {after count r count′ : ℕ} {rs fs ss rs′ fs′ ss′ : List ℕ} → n ≤ 256 → Collected d n after count rs fs ss
       → r ≡ nextAfter (d .marks) (d .lowers) (d .highers) after n → 0 < r
-      → Added d r count rs fs ss count′ rs′ fs′ ss′ → Collected d n r count′ rs′ fs′ ss′
-  unfolding linkOf
+      → LinkAdded d r count rs fs ss count′ rs′ fs′ ss′ → Collected d n r count′ rs′ fs′ ss′
+  unfolding foundLink
   collected-next {after} {count} {r} {count′} {rs} {fs} {ss} {rs′} {fs′} {ss′} few c e h a = go (found d r) refl
     where
       l : after < r
@@ -239,8 +239,8 @@ module _ {d : Given} {n : ℕ} (below : OwnersBelow (d .owners) (d .count) n) wh
             all = rw (e0, e1, e2, e3)
                 (links-more rs fs ss count r (seen d r .first) (seen d r .second) (omega (arith, c .regions-length)) (omega (arith, c .firsts-length))
                 (omega (arith, c .seconds-length))
-                ∙ (ap (λ (x : List LinkAt). x ++ (linkOf d r ∷ [])) (c .all)
-                ∙ (sym (map-append (linkOf d) (keep (found d) (upFrom 1 after)) (r ∷ [])) ∙ ap (map (linkOf d)) (sym (kept true q)))));
+                ∙ (ap (λ (x : List LinkAt). x ++ (foundLink d r ∷ [])) (c .all)
+                ∙ (sym (map-append (foundLink d) (keep (found d) (upFrom 1 after)) (r ∷ [])) ∙ ap (map (foundLink d)) (sym (kept true q)))));
           }
       go false q =
           let w = a .same q in
@@ -253,7 +253,7 @@ module _ {d : Given} {n : ℕ} (below : OwnersBelow (d .owners) (d .count) n) wh
             firsts-length = ap (λ (x : List ℕ). length x) e2 ∙ c .firsts-length;
             seconds-length = ap (λ (x : List ℕ). length x) e3 ∙ c .seconds-length;
             room = omega (arith, e0, c .room, up-mono (d .lowers) (d .highers) after r l n);
-            all = rw (e0, e1, e2, e3) (c .all ∙ ap (map (linkOf d)) (sym (kept false q ∙ append-nil (keep (found d) (upFrom 1 after)))));
+            all = rw (e0, e1, e2, e3) (c .all ∙ ap (map (foundLink d)) (sym (kept false q ∙ append-nil (keep (found d) (upFrom 1 after)))));
           }
 
   -- no region is left
@@ -261,7 +261,7 @@ module _ {d : Given} {n : ℕ} (below : OwnersBelow (d .owners) (d .count) n) wh
       → nextAfter (d .marks) (d .lowers) (d .highers) after n ≡ 0 → AllFound d rs fs ss count
   collected-all {after} few c e = record {
     most = omega (arith, c .room, up-most (d .lowers) (d .highers) after n);
-    all = λ top h. c .all ∙ ap (map (linkOf d)) (keep-same (found d) after top (λ y l. between d n below after y l (λ z. absurd (omega arith))) h);
+    all = λ top h. c .all ∙ ap (map (foundLink d)) (keep-same (found d) after top (λ y l. between d n below after y l (λ z. absurd (omega arith))) h);
   }
 
 pub two-below : (owners lefts rights : List ℕ) {n k : ℕ} (r : ℕ) {t : Touching} → OwnersBelow owners k n → t ≡ touchingAfter (recordIn owners lefts rights) r k
@@ -277,14 +277,14 @@ gives-found d r e g = g ∙ ap
     (t .count) (t .first) (t .second)) e
 
 pub added-one : {d : Given} {r count : ℕ} {rs fs ss : List ℕ} {t : Touching} → t ≡ seen d r → found d r ≡ true
-    → Added d r count rs fs ss (count + 1) (set rs count r) (set fs count (t .first)) (set ss count (t .second))
+    → LinkAdded d r count rs fs ss (count + 1) (set rs count r) (set fs count (t .first)) (set ss count (t .second))
 added-one {d} {r} {count} {rs} {fs} {ss} e h =
     record {
       more = λ q. (refl, refl, ap (λ (t : Touching). set fs count (t .first)) e, ap (λ (t : Touching). set ss count (t .second)) e);
       same = λ q. clash h q;
     }
 
-pub added-none : {d : Given} {r count : ℕ} {rs fs ss : List ℕ} → found d r ≡ false → Added d r count rs fs ss count rs fs ss
+pub added-none : {d : Given} {r count : ℕ} {rs fs ss : List ℕ} → found d r ≡ false → LinkAdded d r count rs fs ss count rs fs ss
 added-none h = record { more = λ q. clash q h; same = λ q. (refl, refl, refl, refl) }
 
 -- what is left of the numbers of regions

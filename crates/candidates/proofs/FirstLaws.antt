@@ -16,14 +16,14 @@ use Rattle.lists.proofs.Rows.{rows-last, length-rows}
 use Rattle.order.specs.Lists.{keep}
 use Rattle.order.proofs.Keep.{keep-append, keep-length}
 use Rattle.graph.specs.Records.{Record, recordIn, noRecord}
-use Rattle.candidates.specs.Owners.{ofOwner, Firsts}
+use Rattle.candidates.specs.Owners.{ownerRecords, Firsts}
 
 one-kept : (b : Bool) (l : List Record) (x : Record) → l ++ cond b (x ∷ []) [] ≡ cond b (l ++ (x ∷ [])) l
 one-kept true l x = refl
 one-kept false l x = append-nil l
 
-own-last : (f : ℕ → Record) (k i : ℕ) → ofOwner f (k + 1) i ≡ cond (eqb (f k .owner) i) (ofOwner f k i ++ (f k ∷ [])) (ofOwner f k i)
-unfolding ofOwner keep
+own-last : (f : ℕ → Record) (k i : ℕ) → ownerRecords f (k + 1) i ≡ cond (eqb (f k .owner) i) (ownerRecords f k i ++ (f k ∷ [])) (ownerRecords f k i)
+unfolding ownerRecords keep
 own-last f k i =
     rw add-one (ap (keep (λ (r : Record). eqb (r .owner) i)) (rows-last k f)
     ∙ (keep-append (λ (r : Record). eqb (r .owner) i) (rows k f) (f k ∷ [])
@@ -53,7 +53,7 @@ length-cond xs i v true e = length-set xs i v ∙ e
 length-cond xs i v false e = e
 
 pub firsts-start : (owners lefts rights : List ℕ) (n : ℕ) → n ≡ 256 → Firsts owners lefts rights 0 (replicate n 0) (replicate n 0) (replicate n 0)
-unfolding ofOwner keep rows
+unfolding ownerRecords keep rows
 firsts-start owners lefts rights n e = record {
   counts-length = length-replicate n 0 ∙ e;
   lowers-length = length-replicate n 0 ∙ e;
@@ -70,26 +70,27 @@ module _ (owners lefts rights : List ℕ) (k : ℕ) {counts lowers highers : Lis
   abbrev o : ℕ
   o = getD owners k 0
 
-  mine : (i : ℕ) → i ≡ o → ofOwner f (k + 1) i ≡ ofOwner f k i ++ (f k ∷ [])
-  mine i e = own-last f k i ∙ ap (λ (b : Bool). cond b (ofOwner f k i ++ (f k ∷ [])) (ofOwner f k i)) (eq-eqb o i (sym e))
+  mine : (i : ℕ) → i ≡ o → ownerRecords f (k + 1) i ≡ ownerRecords f k i ++ (f k ∷ [])
+  mine i e = own-last f k i ∙ ap (λ (b : Bool). cond b (ownerRecords f k i ++ (f k ∷ [])) (ownerRecords f k i)) (eq-eqb o i (sym e))
 
-  others : (i : ℕ) → (i ≡ o → ⊥) → ofOwner f (k + 1) i ≡ ofOwner f k i
-  others i e = own-last f k i ∙ ap (λ (b : Bool). cond b (ofOwner f k i ++ (f k ∷ [])) (ofOwner f k i)) (ne-eqb o i (λ z. e (sym z)))
+  others : (i : ℕ) → (i ≡ o → ⊥) → ownerRecords f (k + 1) i ≡ ownerRecords f k i
+  others i e = own-last f k i ∙ ap (λ (b : Bool). cond b (ownerRecords f k i ++ (f k ∷ [])) (ownerRecords f k i)) (ne-eqb o i (λ z. e (sym z)))
 
-  count-next : (i : ℕ) → i < 256 → getD (set counts o (getD counts o 0 + 1)) i 0 ≡ length (ofOwner f (k + 1) i)
+  count-next : (i : ℕ) → i < 256 → getD (set counts o (getD counts o 0 + 1)) i 0 ≡ length (ownerRecords f (k + 1) i)
   count-next i l =
       by-cases (ℕ-discrete i o)
-      (λ e. rw (mine i e, length-append (ofOwner f k i) (f k ∷ []), ← e)
+      (λ e. rw (mine i e, length-append (ownerRecords f k i) (f k ∷ []), ← e)
       (getD-set-same counts i (getD counts i 0 + 1) 0 (omega (arith, h .counts-length)) ∙ ap (λ (n : ℕ). n + 1) (h .counts-are i l)))
       (λ e. rw (others i e) (getD-set-other counts o i (getD counts o 0 + 1) 0 e ∙ h .counts-are i l))
 
-  field-is : (field : Record → ℕ) (xs : List ℕ) → length xs ≡ 256 → ((i : ℕ) → i < 256 → getD xs i 0 ≡ field (getD (ofOwner f k i) 0 noRecord)) → (i : ℕ)
+  field-is : (field : Record → ℕ) (xs : List ℕ) → length xs ≡ 256 → ((i : ℕ) → i < 256 → getD xs i 0 ≡ field (getD (ownerRecords f k i) 0 noRecord)) → (i : ℕ)
       → i < 256
-      → getD (cond (eqb (getD counts o 0) 0) (set xs o (field (f k))) xs) i 0 ≡ field (getD (ofOwner f (k + 1) i) 0 noRecord)
+      → getD (cond (eqb (getD counts o 0) 0) (set xs o (field (f k))) xs) i 0 ≡ field (getD (ownerRecords f (k + 1) i) 0 noRecord)
   field-is field xs s g i l =
       by-cases (ℕ-discrete i o)
-      (λ e. subst (λ (j : ℕ). getD (cond (eqb (getD counts j 0) 0) (set xs j (field (f k))) xs) i 0 ≡ field (getD (ofOwner f k i ++ (f k ∷ [])) 0 noRecord)) e
-      (field-next field xs i (ofOwner f k i) (f k) (omega arith) (h .counts-are i l) (g i l))
+      (λ e. subst (λ (j : ℕ). getD (cond (eqb (getD counts j 0) 0) (set xs j (field (f k))) xs) i 0 ≡ field
+      (getD (ownerRecords f k i ++ (f k ∷ [])) 0 noRecord)) e
+      (field-next field xs i (ownerRecords f k i) (f k) (omega arith) (h .counts-are i l) (g i l))
       ∙ sym (ap (λ (m : List Record). field (getD m 0 noRecord)) (mine i e)))
       (λ e. rw (others i e) (field-other xs o i (field (f k)) (eqb (getD counts o 0) 0) e ∙ g i l))
 
@@ -105,8 +106,8 @@ module _ (owners lefts rights : List ℕ) (k : ℕ) {counts lowers highers : Lis
   }
 
 -- an owner has no more records than there are
-own-few : (f : ℕ → Record) (k i : ℕ) → length (ofOwner f k i) ≤ k
-unfolding ofOwner
+own-few : (f : ℕ → Record) (k i : ℕ) → length (ownerRecords f k i) ≤ k
+unfolding ownerRecords
 own-few f k i = omega (arith, keep-length (λ (r : Record). eqb (r .owner) i) (rows k f), length-rows k f)
 
 pub count-few : {owners lefts rights : List ℕ} {k : ℕ} {counts lowers highers : List ℕ} → Firsts owners lefts rights k counts lowers highers → k ≤ 4096

@@ -29,9 +29,9 @@ use Rattle.position.specs.Order.{posSame}
 use Rattle.groups.specs.Listing.{noItem, spansOf, boundaryAt, endsAt}
 use Rattle.groups.specs.Regions.{regionLabels, regionCount, assessAt, touching}
 use Rattle.groups.specs.Links.{centresDiffer, linkable, linkAt, givesLink, links}
-use Rattle.groups.specs.Tables.{Paired, Linked}
+use Rattle.groups.specs.Tables.{Paired, LinkTable}
 use Rattle.candidates.specs.Gives.{hasRegion, joinsTwo}
-use Rattle.candidates.specs.Found.{Given, found, linkOf, AllFound}
+use Rattle.candidates.specs.Found.{Given, found, foundLink, AllFound}
 use Rattle.candidates.specs.declared.touching.Touching.{Touching}
 use Rattle.candidates.proofs.ToucherLaws.{touching-held}
 
@@ -134,8 +134,8 @@ module _ (dirs : List ℕ) (g : Grid) (anchors : List WalkPosition) (l : List It
       && ((linkable dirs g l (getD (touching dirs g l r) 0 0) && linkable dirs g l (getD (touching dirs g l r) 1 0)) && centresDiffer l
       (getD (touching dirs g l r) 0 0) (getD (touching dirs g l r) 1 0))) (anchored-is r))
 
-  link-is : (r : ℕ) → linkOf d r ≡ linkAt dirs g l r
-  unfolding linkOf linkAt
+  link-is : (r : ℕ) → foundLink d r ≡ linkAt dirs g l r
+  unfolding foundLink linkAt
   link-is r = ap (λ (t : Touching). record { region = r; first = t .first; second = t .second }) (touching-held dirs g l (w .paired) r)
 
   -- a region that a rank touches is one of the map's
@@ -161,13 +161,13 @@ module _ (dirs : List ℕ) (g : Grid) (anchors : List WalkPosition) (l : List It
           go false f false k z = clash {t = false} z refl
 
   -- the links found are the map's
-  pub linked : {rs fs ss : List ℕ} {n : ℕ} → AllFound d rs fs ss n → Linked dirs g anchors l rs fs ss n
+  pub linked : {rs fs ss : List ℕ} {n : ℕ} → AllFound d rs fs ss n → LinkTable dirs g anchors l rs fs ss n
   unfolding links
   linked a = record {
     most = a .most;
     all = a .all (regionCount dirs g l) (λ y h. none y h)
-        ∙ (ap (map (linkOf d)) (keep-ext (found d) (givesLink dirs g anchors l) (upFrom 1 (regionCount dirs g l)) (λ y m. found-is y))
-        ∙ map-ext (linkOf d) (linkAt dirs g l) (keep (givesLink dirs g anchors l) (upFrom 1 (regionCount dirs g l))) (λ y m. link-is y));
+        ∙ (ap (map (foundLink d)) (keep-ext (found d) (givesLink dirs g anchors l) (upFrom 1 (regionCount dirs g l)) (λ y m. found-is y))
+        ∙ map-ext (foundLink d) (linkAt dirs g l) (keep (givesLink dirs g anchors l) (upFrom 1 (regionCount dirs g l))) (λ y m. link-is y));
   }
     where
       none : (y : ℕ) → regionCount dirs g l < y → found d y ≡ false

@@ -14,17 +14,17 @@ use Rattle.order.proofs.Members.{getD-mem}
 use Rattle.graph.specs.Records.{Record, recordIn}
 use Rattle.candidates.specs.Owners.{inRecord, OwnersBelow}
 use Rattle.candidates.specs.Touchers.{touchingAfter, touchers}
-use Rattle.candidates.specs.Next.{nearer, nextAfter}
+use Rattle.candidates.specs.Next.{lesserAbove, nextAfter}
 use Rattle.candidates.specs.Gives.{hasRegion}
 use Rattle.candidates.proofs.ToucherLaws.{told, toucher-touches}
 
--- what is nearer: above, no more than before, and no more than the number if that is above
+-- what is lesserAbove: above, no more than before, and no more than the number if that is above
 record Nearer (after b x c : ℕ) : Type 0 where
   kept : 0 < b → (0 < c) × (c ≤ b)
   less : after < x → (0 < c) × (c ≤ x)
   above : (0 < b → after < b) → 0 < c → after < c
 
-is-nearer : (after b x : ℕ) → Nearer after b x (nearer after b x)
+is-nearer : (after b x : ℕ) → Nearer after b x (lesserAbove after b x)
 is-nearer after b x = go (ltb after x) refl (eqb b 0) refl (ltb x b) refl
   where
     go : (p : Bool) → ltb after x ≡ p → (q : Bool) → eqb b 0 ≡ q → (s : Bool) → ltb x b ≡ s → Nearer after b x (cond (p && (q || s)) x b)
@@ -44,11 +44,11 @@ module _ (marks lowers highers : List ℕ) (after : ℕ) where
   unfolding nextAfter
   kept-next k h = go (eqb (getD marks k 0) 1)
     where
-      go : (b : Bool) → (0 < cond b (nearer after (nearer after (next k) (getD lowers k 0)) (getD highers k 0)) (next k))
-          × (cond b (nearer after (nearer after (next k) (getD lowers k 0)) (getD highers k 0)) (next k) ≤ next k)
+      go : (b : Bool) → (0 < cond b (lesserAbove after (lesserAbove after (next k) (getD lowers k 0)) (getD highers k 0)) (next k))
+          × (cond b (lesserAbove after (lesserAbove after (next k) (getD lowers k 0)) (getD highers k 0)) (next k) ≤ next k)
       go true =
           let p = is-nearer after (next k) (getD lowers k 0) .kept h in
-          let q = is-nearer after (nearer after (next k) (getD lowers k 0)) (getD highers k 0) .kept (p .0) in
+          let q = is-nearer after (lesserAbove after (next k) (getD lowers k 0)) (getD highers k 0) .kept (p .0) in
           (q .0, omega (arith, p .1, q .1))
       go false = (h, omega arith)
 
@@ -64,12 +64,12 @@ module _ (marks lowers highers : List ℕ) (after : ℕ) where
       here t =
           let p = and-parts (eqb (getD marks k 0) 1) (eqb x (getD lowers k 0) || eqb x (getD highers k 0)) t in
           let one = is-nearer after (next k) (getD lowers k 0) in
-          let two = is-nearer after (nearer after (next k) (getD lowers k 0)) (getD highers k 0) in
-          let lower : eqb x (getD lowers k 0) ≡ true → (0 < nearer after (nearer after (next k) (getD lowers k 0)) (getD highers k 0))
-          × (nearer after (nearer after (next k) (getD lowers k 0)) (getD highers k 0) ≤ x)
+          let two = is-nearer after (lesserAbove after (next k) (getD lowers k 0)) (getD highers k 0) in
+          let lower : eqb x (getD lowers k 0) ≡ true → (0 < lesserAbove after (lesserAbove after (next k) (getD lowers k 0)) (getD highers k 0))
+          × (lesserAbove after (lesserAbove after (next k) (getD lowers k 0)) (getD highers k 0) ≤ x)
           = λ z. let y = eqb-true x (getD lowers k 0) z in let u = one .less (omega arith) in let v = two .kept (u .0) in (v .0, omega (arith, u .1, v .1)) in
-          let higher : eqb x (getD highers k 0) ≡ true → (0 < nearer after (nearer after (next k) (getD lowers k 0)) (getD highers k 0))
-          × (nearer after (nearer after (next k) (getD lowers k 0)) (getD highers k 0) ≤ x)
+          let higher : eqb x (getD highers k 0) ≡ true → (0 < lesserAbove after (lesserAbove after (next k) (getD lowers k 0)) (getD highers k 0))
+          × (lesserAbove after (lesserAbove after (next k) (getD lowers k 0)) (getD highers k 0) ≤ x)
           = λ z. let y = eqb-true x (getD highers k 0) z in let u = two .less (omega arith) in (u .0, omega (arith, u .1)) in
           rw (p .0) (⊎-elim lower higher (or-cases (eqb x (getD lowers k 0)) (eqb x (getD highers k 0)) (p .1)))
 
@@ -78,9 +78,11 @@ module _ (marks lowers highers : List ℕ) (after : ℕ) where
   next-above zero h = absurd (omega arith)
   next-above (suc k) h = go (eqb (getD marks k 0) 1) h (next-above k)
     where
-      go : (b : Bool) → 0 < cond b (nearer after (nearer after (next k) (getD lowers k 0)) (getD highers k 0)) (next k) → (0 < next k → after < next k)
-          → after < cond b (nearer after (nearer after (next k) (getD lowers k 0)) (getD highers k 0)) (next k)
-      go true h i = is-nearer after (nearer after (next k) (getD lowers k 0)) (getD highers k 0) .above (is-nearer after (next k) (getD lowers k 0) .above i) h
+      go : (b : Bool) → 0 < cond b (lesserAbove after (lesserAbove after (next k) (getD lowers k 0)) (getD highers k 0)) (next k)
+          → (0 < next k → after < next k)
+          → after < cond b (lesserAbove after (lesserAbove after (next k) (getD lowers k 0)) (getD highers k 0)) (next k)
+      go true h i = is-nearer after (lesserAbove after (next k) (getD lowers k 0)) (getD highers k 0) .above
+          (is-nearer after (next k) (getD lowers k 0) .above i) h
       go false h i = i h
 
 -- two owners that follow each other differ

@@ -24,7 +24,7 @@ use Rattle.groups.specs.Listing.{noItem, noSpan, spansOf}
 use Rattle.groups.specs.Regions.{assessAt}
 use Rattle.groups.specs.Links.{linkable}
 use Rattle.groups.specs.Tables.{Boundaries, Counted, Paired, FirstPairs}
-use Rattle.candidates.specs.Owners.{ofOwner, Firsts}
+use Rattle.candidates.specs.Owners.{ownerRecords, Firsts}
 use Rattle.candidates.specs.Linkable.{canLink}
 
 of-rank : (s : ℕ) (ps : List RegionPair) {r : Record} → List·Memᴰ r (map (recordOf s) ps) → r .owner ≡ s
@@ -87,8 +87,8 @@ module _ (dirs : List ℕ) (g : Grid) (l : List Item) where
   span-of i = List·getD-map (λ (x : Item). x .span) l i noItem
 
   pub owner-pairs : {owners lefts rights : List ℕ} {n : ℕ} → Paired dirs g l owners lefts rights n → (i : ℕ) → i < length l
-      → ofOwner (recordIn owners lefts rights) n i ≡ map (recordOf i) (assessAt dirs g l i .pairs)
-  unfolding ofOwner recordsIn records assessAt pairsAt
+      → ownerRecords (recordIn owners lefts rights) n i ≡ map (recordOf i) (assessAt dirs g l i .pairs)
+  unfolding ownerRecords recordsIn records assessAt pairsAt
   owner-pairs w i h =
       ap (keep (λ (r : Record). eqb (r .owner) i)) (w .all)
       ∙ (own-of (pairsAt noSpan) i i 0 (map pairsAt (spansOf l)) (omega arith)

@@ -21,7 +21,7 @@ use Rattle.topology.specs.Numbers.{isFull}
 use Rattle.links.specs.Geometry.{squares, doubledCentre}
 use Rattle.links.specs.Held.{SpanBounded}
 use Rattle.candidates.specs.Gives.{hasRegion, OwnBounded, joinsTwo}
-use Rattle.candidates.specs.Linkable.{canLink, Marked}
+use Rattle.candidates.specs.Linkable.{canLink, Flags}
 use Rattle.candidates.specs.Next.{considered, nextAfter}
 use Rattle.candidates.specs.declared.touching.Touching.{Touching}
 
@@ -51,14 +51,14 @@ pub region-end : (marks lowers highers : List ℕ) (after : ℕ) {k n b : ℕ} �
     → b ≡ nextAfter marks lowers highers after n
 region-end marks lowers highers after e h = rw (← e) h
 
-pub marked-next : (test : ℕ → Bool) (marks : List ℕ) (i v : ℕ) → i < length marks → Marked test i marks → v ≡ cond (test i) 1 0
-    → Marked test (i + 1) (set marks i v)
+pub marked-next : (test : ℕ → Bool) (marks : List ℕ) (i v : ℕ) → i < length marks → Flags test i marks → v ≡ cond (test i) 1 0
+    → Flags test (i + 1) (set marks i v)
 marked-next test marks i v r h e = record {
   marks-are = λ j l. by-cases (ℕ-discrete j i) (λ q. rw q (getD-set-same marks i v 0 r ∙ e))
       (λ q. getD-set-other marks i j v 0 q ∙ h .marks-are j (omega arith));
 }
 
-pub marked-end : {test : ℕ → Bool} {k n : ℕ} {marks : List ℕ} → k ≡ n → Marked test k marks → Marked test n marks
+pub marked-end : {test : ℕ → Bool} {k n : ℕ} {marks : List ℕ} → k ≡ n → Flags test k marks → Flags test n marks
 marked-end e h = rw (← e) h
 
 -- a rank's mark, by what is read of it

@@ -5,9 +5,9 @@ use mathlib.Core.List.{List}
 use Prim.Native.Nat.{ℕ, _≤_}
 use native.Mathlib.Omega.{arith}
 use Rattle.candidates.specs.Owners.{OwnersBelow, Firsts}
-use Rattle.candidates.specs.Linkable.{canLink, Marked}
+use Rattle.candidates.specs.Linkable.{canLink, Flags}
 use Rattle.candidates.specs.Found.{given, AllFound}
-use Rattle.candidates.specs.Top.{Answer}
+use Rattle.candidates.specs.Top.{CandidateLinks}
 use Rattle.candidates.proofs.OwnerLaws.{first-pairs-are, linkable-is}
 use Rattle.candidates.proofs.FoundLaws.{linked}
 
@@ -16,9 +16,9 @@ below-all l h = record { each = λ i m. omega (arith, h .each i m) }
 
 pub answered : (job : List ℕ) (start bases width : ℕ) (labels : List ℕ) {n : ℕ} (own : List ℕ) {ramps removed separated : List ℕ} (owners lefts rights : List ℕ)
     (records : ℕ) {counts lowers highers marks regions firsts seconds : List ℕ} {r : ℕ}
-    → Firsts owners lefts rights records counts lowers highers → Marked (canLink own ramps removed separated counts) n marks
+    → Firsts owners lefts rights records counts lowers highers → Flags (canLink own ramps removed separated counts) n marks
     → AllFound (given job start bases width labels own marks lowers highers owners lefts rights records) regions firsts seconds r
-    → Answer job start bases width labels n own ramps removed separated owners lefts rights records counts lowers highers regions firsts seconds r
+    → CandidateLinks job start bases width labels n own ramps removed separated owners lefts rights records counts lowers highers regions firsts seconds r
 answered job start bases width labels own owners lefts rights records {counts} {lowers} {highers} {marks} f m a = record {
   first-pairs = λ dirs g l bits e b p. first-pairs-are dirs g l (b .few) p f;
   linked = λ dirs g anchors l bits e b c p la wi an.

@@ -58,9 +58,9 @@ found d r = not (anchoredBy (d .job) (d .start) (d .bases) (d .width) (d .labels
     (seen d r .count) (seen d r .first) (seen d r .second)
 
 -- the link
-unfoldable pub linkOf : Given → ℕ → LinkAt
+unfoldable pub foundLink : Given → ℕ → LinkAt
 unfolding touchingAfter
-linkOf d r = record { region = r; first = seen d r .first; second = seen d r .second }
+foundLink d r = record { region = r; first = seen d r .first; second = seen d r .second }
 
 -- how many first regions of the first n ranks are no more than x
 unfoldable pub upTo : List ℕ → List ℕ → ℕ → ℕ → ℕ
@@ -73,10 +73,10 @@ pub record Collected (d : Given) (n after count : ℕ) (regions firsts seconds :
   pub firsts-length : length firsts ≡ 256
   pub seconds-length : length seconds ≡ 256
   pub room : 2 * count ≤ upTo (d .lowers) (d .highers) after n
-  pub all : linksIn regions firsts seconds count ≡ map (linkOf d) (keep (found d) (upFrom 1 after))
+  pub all : linksIn regions firsts seconds count ≡ map (foundLink d) (keep (found d) (upFrom 1 after))
 
 -- the link of a region is added if it gives one
-pub record Added (d : Given) (r count : ℕ) (regions firsts seconds : List ℕ) (count′ : ℕ) (regions′ firsts′ seconds′ : List ℕ) : Type 0 where
+pub record LinkAdded (d : Given) (r count : ℕ) (regions firsts seconds : List ℕ) (count′ : ℕ) (regions′ firsts′ seconds′ : List ℕ) : Type 0 where
   pub more : found d r ≡ true → (count′ ≡ count + 1) × (regions′ ≡ set regions count r) × (firsts′ ≡ set firsts count (seen d r .first))
       × (seconds′ ≡ set seconds count (seen d r .second))
   pub same : found d r ≡ false → (count′ ≡ count) × (regions′ ≡ regions) × (firsts′ ≡ firsts) × (seconds′ ≡ seconds)
@@ -84,4 +84,4 @@ pub record Added (d : Given) (r count : ℕ) (regions firsts seconds : List ℕ)
 -- the links of all regions that give one: of those up to any that none above gives one
 pub record AllFound (d : Given) (regions firsts seconds : List ℕ) (count : ℕ) : Type 0 where
   pub most : count ≤ 256
-  pub all : (top : ℕ) → ((y : ℕ) → top < y → found d y ≡ false) → linksIn regions firsts seconds count ≡ map (linkOf d) (keep (found d) (upFrom 1 top))
+  pub all : (top : ℕ) → ((y : ℕ) → top < y → found d y ≡ false) → linksIn regions firsts seconds count ≡ map (foundLink d) (keep (found d) (upFrom 1 top))

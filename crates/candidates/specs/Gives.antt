@@ -32,7 +32,7 @@ joinsTwo own marks lowers highers r count first second =
     (eqb (squares (doubledCentre (spanIn own first)) (doubledCentre (spanIn own second))) 0))
 
 -- the bases and labels are there, and each anchor is one of the cells
-pub record OnMap (job : List ℕ) (start bases width : ℕ) (labels : List ℕ) (cells : ℕ) : Type 0 where
+pub record AnchorsOnMap (job : List ℕ) (start bases width : ℕ) (labels : List ℕ) (cells : ℕ) : Type 0 where
   pub there : start + bases * baseSize ≤ length job
   pub few : cells ≤ 1048576
   pub labelled : cells * 4 ≤ length labels

@@ -16,5 +16,5 @@ canLink own ramps removed separated counts i =
     (not (posSame (spanIn own i .a) (spanIn own i .b)) && eqb (getD ramps i 0) 0) && isFull (getD removed i 0) (getD separated i 0) (getD counts i 0)
 
 -- 1 for each of the first n that passes, 0 for any other of them
-pub record Marked (test : ℕ → Bool) (n : ℕ) (marks : List ℕ) : Type 0 where
+pub record Flags (test : ℕ → Bool) (n : ℕ) (marks : List ℕ) : Type 0 where
   pub marks-are : (i : ℕ) → i < n → getD marks i 0 ≡ cond (test i) 1 0

@@ -6,12 +6,12 @@ use lib.Dec.{eqb, ltb}
 use lib.ListN.{getD}
 
 -- the lesser of two numbers above another, where 0 is none yet
-abbrev pub nearer : ℕ → ℕ → ℕ → ℕ
-nearer after best x = cond (ltb after x && (eqb best 0 || ltb x best)) x best
+abbrev pub lesserAbove : ℕ → ℕ → ℕ → ℕ
+lesserAbove after best x = cond (ltb after x && (eqb best 0 || ltb x best)) x best
 
 -- with the regions of one rank more, if it is marked
 abbrev pub considered : ℕ → ℕ → ℕ → ℕ → ℕ → ℕ
-considered after best mark lower higher = cond (eqb mark 1) (nearer after (nearer after best lower) higher) best
+considered after best mark lower higher = cond (eqb mark 1) (lesserAbove after (lesserAbove after best lower) higher) best
 
 -- in the pairs of the marked ones of the first k ranks
 unfoldable pub nextAfter : List ℕ → List ℕ → List ℕ → ℕ → ℕ → ℕ

@@ -14,9 +14,9 @@ abbrev pub inRecord : ℕ → Record → Bool
 inRecord r p = eqb r (p .left) || eqb r (p .right)
 
 -- of the first k records, those of an owner
-unfoldable pub ofOwner : (ℕ → Record) → ℕ → ℕ → List Record
+unfoldable pub ownerRecords : (ℕ → Record) → ℕ → ℕ → List Record
 unfolding keep rows
-ofOwner f k i = keep (λ (r : Record). eqb (r .owner) i) (rows k f)
+ownerRecords f k i = keep (λ (r : Record). eqb (r .owner) i) (rows k f)
 
 -- the arrays have room for the records, of which there are at most 4,096
 pub record Stored (owners lefts rights : List ℕ) (records : ℕ) : Type 0 where
@@ -34,6 +34,6 @@ pub record Firsts (owners lefts rights : List ℕ) (records : ℕ) (counts lower
   pub counts-length : length counts ≡ 256
   pub lowers-length : length lowers ≡ 256
   pub highers-length : length highers ≡ 256
-  pub counts-are : (i : ℕ) → i < 256 → getD counts i 0 ≡ length (ofOwner (recordIn owners lefts rights) records i)
-  pub lower-is : (i : ℕ) → i < 256 → getD lowers i 0 ≡ getD (ofOwner (recordIn owners lefts rights) records i) 0 noRecord .left
-  pub higher-is : (i : ℕ) → i < 256 → getD highers i 0 ≡ getD (ofOwner (recordIn owners lefts rights) records i) 0 noRecord .right
+  pub counts-are : (i : ℕ) → i < 256 → getD counts i 0 ≡ length (ownerRecords (recordIn owners lefts rights) records i)
+  pub lower-is : (i : ℕ) → i < 256 → getD lowers i 0 ≡ getD (ownerRecords (recordIn owners lefts rights) records i) 0 noRecord .left
+  pub higher-is : (i : ℕ) → i < 256 → getD highers i 0 ≡ getD (ownerRecords (recordIn owners lefts rights) records i) 0 noRecord .right

@@ -9,14 +9,15 @@ use Rattle.grid.specs.Cells.{Grid}
 use Rattle.topology.specs.Anchors.{anchorsOf}
 use Rattle.topology.specs.Listing.{Item}
 use Rattle.groups.specs.Regions.{regionLabels}
-use Rattle.groups.specs.Tables.{Boundaries, Counted, Paired, FirstPairs, Linked}
+use Rattle.groups.specs.Tables.{Boundaries, Counted, Paired, FirstPairs, LinkTable}
 
 -- of any listing that the arrays tell of: its links and first pairs
-pub record Answer (job : List ℕ) (start bases width : ℕ) (labels : List ℕ) (n : ℕ) (own ramps removed separated owners lefts rights : List ℕ) (records : ℕ)
+pub record CandidateLinks (job : List ℕ) (start bases width : ℕ) (labels : List ℕ) (n : ℕ) (own ramps removed separated owners lefts rights : List ℕ)
+    (records : ℕ)
     (counts lowers highers regions firsts seconds : List ℕ) (r : ℕ) : Type 0 where
   pub first-pairs : (dirs : List ℕ) (g : Grid) (l : List Item) (bits : List ℕ) → length l ≡ n → Boundaries l own bits ramps
       → Paired dirs g l owners lefts rights records → FirstPairs dirs g l counts lowers highers
   pub linked : (dirs : List ℕ) (g : Grid) (anchors : List WalkPosition) (l : List Item) (bits : List ℕ) → length l ≡ n → Boundaries l own bits ramps
       → Counted dirs g l removed separated → Paired dirs g l owners lefts rights records
       → labels ≡ regionLabels dirs g l → width ≡ g .width → anchors ≡ anchorsOf (map baseOf (baseRecords job start bases))
-      → Linked dirs g anchors l regions firsts seconds r
+      → LinkTable dirs g anchors l regions firsts seconds r

@@ -4,8 +4,8 @@ ghost use mathlib.Core.Bool.{true};
 ghost use Prim.Native.Nat.{_<_, _≤_};
 ghost use Rattle.areas.specs.Words.{labelsIn};
 ghost use Rattle.candidates.specs.Owners.{Stored, OwnersBelow};
-ghost use Rattle.candidates.specs.Gives.{OnMap, OwnBounded};
-ghost use Rattle.candidates.specs.Found.{given, found, Added, AllFound};
+ghost use Rattle.candidates.specs.Gives.{AnchorsOnMap, OwnBounded};
+ghost use Rattle.candidates.specs.Found.{given, found, LinkAdded, AllFound};
 use crate::gives::gives_link;
 use crate::regions::next_region;
 use crate::touching::touching_of;
@@ -33,11 +33,12 @@ fn consider(
     firsts: &mut [u32; 256],
     seconds: &mut [u32; 256],
 ) -> usize
-    requires { ⌜ OnMap (now job) «bases_at» bases width (now labels) cells × (n ≤ 256) × OwnBounded (now own) n
+    requires { ⌜ AnchorsOnMap (now job) «bases_at» bases width (now labels) cells × (n ≤ 256) × OwnBounded (now own) n
         × Stored (now owners) (now lefts) (now rights) records × OwnersBelow (now owners) records n
         × (found (given (now job) «bases_at» bases width (labelsIn (now labels) cells) (now own) (now linkables) (now lowers) (now highers) (now owners)
         (now lefts) (now rights) records) region ≡ true → count < 256) ⌝ }
-    ensures { λ r. ⌜ Added (given (now (job .entry)) «bases_at» bases width (labelsIn (now (labels .entry)) cells) (now (own .entry)) (now (linkables .entry))
+    ensures { λ r. ⌜ LinkAdded
+        (given (now (job .entry)) «bases_at» bases width (labelsIn (now (labels .entry)) cells) (now (own .entry)) (now (linkables .entry))
         (now (lowers .entry)) (now (highers .entry)) (now (owners .entry)) (now (lefts .entry)) (now (rights .entry)) records) region count
         (now (regions .entry)) (now (firsts .entry)) (now (seconds .entry)) r (now (regions .exit)) (now (firsts .exit)) (now (seconds .exit)) ⌝ }
 {
@@ -90,7 +91,7 @@ pub fn collect(
     firsts: &mut [u32; 256],
     seconds: &mut [u32; 256],
 ) -> usize
-    requires { ⌜ OnMap (now job) «bases_at» bases width (now labels) cells × (n ≤ 256) × OwnBounded (now own) n
+    requires { ⌜ AnchorsOnMap (now job) «bases_at» bases width (now labels) cells × (n ≤ 256) × OwnBounded (now own) n
         × Stored (now owners) (now lefts) (now rights) records × OwnersBelow (now owners) records n ⌝ }
     ensures { λ r. ⌜ AllFound
         (given (now (job .entry)) «bases_at» bases width (labelsIn (now (labels .entry)) cells) (now (own .entry)) (now (linkables .entry))

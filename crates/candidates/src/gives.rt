@@ -4,7 +4,7 @@ ghost use mathlib.Core.Bool.{not, _&&_};
 ghost use Prim.Native.Nat.{_<_, _≤_};
 ghost use Rattle.areas.specs.Words.{labelsIn};
 ghost use Rattle.topology.specs.AnchorLoop.{anchoredBy};
-ghost use Rattle.candidates.specs.Gives.{hasRegion, OnMap, OwnBounded, TwoBelow, joinsTwo};
+ghost use Rattle.candidates.specs.Gives.{hasRegion, AnchorsOnMap, OwnBounded, TwoBelow, joinsTwo};
 use areas::spans::span_at;
 use links::geometry::centres_differ;
 use topology::anchored::is_anchored;
@@ -67,7 +67,7 @@ pub fn gives_link(
     second: u32,
     region: u32,
 ) -> bool
-    requires { ⌜ OnMap (now job) «bases_at» bases width (now labels) cells × (n ≤ 256) × OwnBounded (now own) n × TwoBelow count first second n ⌝ }
+    requires { ⌜ AnchorsOnMap (now job) «bases_at» bases width (now labels) cells × (n ≤ 256) × OwnBounded (now own) n × TwoBelow count first second n ⌝ }
     ensures { λ r. ⌜ r ≡ not (anchoredBy (now (job .entry)) «bases_at» bases width (labelsIn (now (labels .entry)) cells) region) && joinsTwo (now (own .entry))
         (now (linkables .entry)) (now (lowers .entry)) (now (highers .entry)) region count first second ⌝ }
 {

@@ -2,8 +2,8 @@
 ghost use Prim.Native.Nat.{_≤_};
 ghost use Rattle.areas.specs.Words.{labelsIn};
 ghost use Rattle.candidates.specs.Owners.{Stored, OwnersBelow};
-ghost use Rattle.candidates.specs.Gives.{OnMap, OwnBounded};
-ghost use Rattle.candidates.specs.Top.{Answer};
+ghost use Rattle.candidates.specs.Gives.{AnchorsOnMap, OwnBounded};
+ghost use Rattle.candidates.specs.Top.{CandidateLinks};
 
 pub mod pairs; // how many pairs each rank has, and its first one
 pub mod touching; // the ranks that touch a region
@@ -40,9 +40,9 @@ pub fn candidate_links(
     firsts: &mut [u32; 256],
     seconds: &mut [u32; 256],
 ) -> usize
-    requires { ⌜ OnMap (now job) «bases_at» bases width (now labels) cells × (n ≤ 256) × OwnBounded (now own) n
+    requires { ⌜ AnchorsOnMap (now job) «bases_at» bases width (now labels) cells × (n ≤ 256) × OwnBounded (now own) n
         × Stored (now owners) (now lefts) (now rights) records × OwnersBelow (now owners) records n ⌝ }
-    ensures { λ r. ⌜ Answer (now (job .entry)) «bases_at» bases width (labelsIn (now (labels .entry)) cells) n (now (own .entry)) (now (ramps .entry))
+    ensures { λ r. ⌜ CandidateLinks (now (job .entry)) «bases_at» bases width (labelsIn (now (labels .entry)) cells) n (now (own .entry)) (now (ramps .entry))
         (now (removed .entry)) (now (separated .entry)) (now (owners .entry)) (now (lefts .entry)) (now (rights .entry)) records (now (counts .exit))
         (now (lowers .exit)) (now (highers .exit)) (now (regions .exit)) (now (firsts .exit)) (now (seconds .exit)) r ⌝ }
 {

@@ -2,7 +2,7 @@
 ghost use mathlib.Core.Path.{_≡_};
 ghost use mathlib.Core.Bool.{cond};
 ghost use Prim.Native.Nat.{_<_, _≤_};
-ghost use Rattle.candidates.specs.Linkable.{canLink, Marked};
+ghost use Rattle.candidates.specs.Linkable.{canLink, Flags};
 use areas::spans::span_at;
 use topology::pairs::has_full_pair;
 
@@ -37,7 +37,7 @@ pub fn find_linkables(
     linkables: &mut [u8; 256],
 )
     requires { ⌜ n ≤ 256 ⌝ }
-    ensures { λ r. ⌜ Marked (canLink (now (own .entry)) (now (ramps .entry)) (now (removed .entry)) (now (separated .entry)) (now (counts .entry))) n
+    ensures { λ r. ⌜ Flags (canLink (now (own .entry)) (now (ramps .entry)) (now (removed .entry)) (now (separated .entry)) (now (counts .entry))) n
         (now (linkables .exit)) ⌝ }
 {
     *linkables = [0u8; 256];

@@ -1,11 +1,11 @@
 // The regions of the ranks that can be linked, in order.
 ghost use mathlib.Core.Path.{_≡_};
 ghost use Prim.Native.Nat.{_≤_, _<_};
-ghost use Rattle.candidates.specs.Next.{nearer, considered, nextAfter};
+ghost use Rattle.candidates.specs.Next.{lesserAbove, considered, nextAfter};
 
 // The least number above `after` of the two, where 0 is none yet.
-fn nearer(after: u32, best: u32, x: u32) -> u32
-    ensures { λ r. ⌜ (r ≡ nearer after best x) × (r < 4294967296) ⌝ }
+fn lesserAbove(after: u32, best: u32, x: u32) -> u32
+    ensures { λ r. ⌜ (r ≡ lesserAbove after best x) × (r < 4294967296) ⌝ }
 {
     if (after < x) & ((best == 0) | (x < best)) {
         x
@@ -19,7 +19,7 @@ fn considered(after: u32, best: u32, mark: u8, lower: u32, higher: u32) -> u32
     ensures { λ r. ⌜ (r ≡ considered after best mark lower higher) × (r < 4294967296) ⌝ }
 {
     if mark == 1 {
-        return nearer(after, nearer(after, best, lower), higher);
+        return lesserAbove(after, lesserAbove(after, best, lower), higher);
     }
     best
 }

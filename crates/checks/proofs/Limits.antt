@@ -5,14 +5,14 @@ use Prim.Native.Nat.{ℕ, _≤_}
 use native.Mathlib.Nat.{mul-le-mul}
 use native.Mathlib.Omega.{arith}
 use lib.ListN.{length}
-use Rattle.format.specs.Header.{cellCount, basesStart, boundariesStart, observationsStart, sourcesStart, totalLength, offsetsOf}
+use Rattle.format.specs.Header.{mapCells, basesStart, boundariesStart, observationsStart, sourcesStart, totalLength, offsetsOf}
 use Rattle.format.specs.declared.header.Counts.{Counts}
 use Rattle.format.specs.declared.header.Offsets.{Offsets}
 use Rattle.format.specs.declared.header.Header.{Header}
 use Rattle.checks.specs.Passed.{Laid, Sections}
 use Rattle.format.specs.Fits.{CountsAllowed}
 
-pub cells-limit : (c : Counts) → CountsAllowed c → cellCount c ≤ 1_048_576
+pub cells-limit : (c : Counts) → CountsAllowed c → mapCells c ≤ 1_048_576
 cells-limit c w = mul-le-mul (w .width) (w .height)
 
 pub total-limit : (c : Counts) → CountsAllowed c → totalLength c ≤ 1_200_000

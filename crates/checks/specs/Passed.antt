@@ -4,7 +4,7 @@ use Prim.Native.Nat.{ℕ, _+_, _*_, _≤_}
 use mathlib.Core.List.{List}
 use lib.ListN.{length}
 use Rattle.format.specs.Sizes.{headerSize, baseSize, boundarySize, observationSize, sourceSize}
-use Rattle.format.specs.Header.{cellCount, basesStart, boundariesStart, observationsStart, sourcesStart, offsetsOf, totalLength}
+use Rattle.format.specs.Header.{mapCells, basesStart, boundariesStart, observationsStart, sourcesStart, offsetsOf, totalLength}
 use Rattle.format.specs.declared.header.Header.{Header}
 use Rattle.format.specs.Fits.{CountsAllowed}
 
@@ -20,7 +20,7 @@ pub record Sections (s : List ℕ) (h : Header) : Type 0 where
   pub boundaries-at : h .offsets .boundaries ≡ boundariesStart (h .counts)
   pub observations-at : h .offsets .observations ≡ observationsStart (h .counts)
   pub sources-at : h .offsets .sources ≡ sourcesStart (h .counts)
-  pub cells-in : headerSize + cellCount (h .counts) ≤ length s
+  pub cells-in : headerSize + mapCells (h .counts) ≤ length s
   pub bases-in : h .offsets .bases + h .counts .bases * baseSize ≤ length s
   pub boundaries-in : h .offsets .boundaries + h .counts .boundaries * boundarySize ≤ length s
   pub observations-in : h .offsets .observations + h .counts .observations * observationSize ≤ length s

@@ -1,4 +1,4 @@
--- One more byte copied.
+-- One more byte firstCopied.
 use mathlib.Core.Path.{_≡_, refl, sym, _∙_, ap}
 use mathlib.Core.List.{List, [], _∷_}
 use Prim.Native.Nat.{ℕ, suc, _+_, _≤_, _<_}
@@ -8,10 +8,10 @@ use Rattle.lists.specs.Rows.{rows}
 use Rattle.lists.proofs.Rows.{length-rows, rows-last}
 use Rattle.wire.specs.Bytes.{splice}
 use Rattle.wire.proofs.Parts.{set-splice, length-splice, splice-splice}
-use Rattle.chokes.specs.Marking.{copied}
+use Rattle.chokes.specs.Marking.{firstCopied}
 
 pub record Copied (from : List ℕ) (n : ℕ) (start to : List ℕ) (i : ℕ) : Type 0 where
-  pub is : to ≡ copied from i start
+  pub is : to ≡ firstCopied from i start
   pub below : i ≤ n
   pub room : n ≤ length start
 
@@ -41,5 +41,5 @@ copied-next {from} {n} {start} {to} {i} c h = record {
   room = c .room;
 }
 
-pub copied-end : {from : List ℕ} {n : ℕ} {start to : List ℕ} {i : ℕ} → Copied from n start to i → n ≤ i → to ≡ copied from n start
-copied-end {from} {n} {start} {to} {i} c h = let z : i ≡ n = omega (arith, c .below) in c .is ∙ ap (λ k. copied from k start) z
+pub copied-end : {from : List ℕ} {n : ℕ} {start to : List ℕ} {i : ℕ} → Copied from n start to i → n ≤ i → to ≡ firstCopied from n start
+copied-end {from} {n} {start} {to} {i} c h = let z : i ≡ n = omega (arith, c .below) in c .is ∙ ap (λ k. firstCopied from k start) z

@@ -12,7 +12,7 @@ use Rattle.topology.specs.Anchors.{anchorsOf}
 use Rattle.topology.specs.Listing.{Item}
 use Rattle.grid.specs.Directions.{eight}
 use Rattle.links.specs.Limits.{Limits, limits000}
-use Rattle.merging.specs.Groups.{Groups, noGroups, every}
+use Rattle.merging.specs.Groups.{Groups, noGroups, allGroups}
 use Rattle.merging.specs.Runs.{rulesAnswer}
 use Rattle.merging.specs.Relisted.{Relisted, DistinctEnds}
 use Rattle.merging.proofs.Independence.{groups-well}
@@ -39,8 +39,8 @@ pub by-list-left : (s l work answer : List ℕ) → reduceByListResult s l work 
 unfolding reduceByListResult reduceByListWith left
 by-list-left s l work answer = refl
 
-no-groups-every : every noGroups ≡ []
-unfolding every
+no-groups-every : allGroups noGroups ≡ []
+unfolding allGroups
 no-groups-every = refl
 
 module _ (limits : Limits) (dirs : List ℕ) where
@@ -71,7 +71,7 @@ module _ (limits : Limits) (dirs : List ℕ) where
       ap (λ (g : Grid). rulesOn limits dirs g (anchorsOf (a .bases))) (s .grid)
       ∙ ap (λ (bs : List Base). rulesOn limits dirs (gridOf b) (anchorsOf bs)) (s .bases)
 
-  -- Demand 3. For every run A and run B, each a Reduce or a Reduce by list that is accepted (`Made`), on one map with the same bases (`SameMap`), no two
+  -- Demand 3. For allGroups run A and run B, each a Reduce or a Reduce by list that is accepted (`Made`), on one map with the same bases (`SameMap`), no two
   -- boundaries of A with the same ends in either order (`DistinctEnds`), and B's listing another one of A's boundaries and spans (`Relisted`: any
   -- order, "its ends
   -- either way round", "an observation takes its sources along", sources and observations shuffled).
@@ -91,6 +91,6 @@ module _ (limits : Limits) (dirs : List ℕ) where
         finished = λ ms after m t. i .merges ms after m t ∙ sym w;
         merges = i;
         disjoint = groups-well rules (rules-well limits dirs (jobOf (b .call))) (runOf (b .call)) .apart;
-        no-groups = λ n. ap every (groups-unmatched limits dirs (jobOf (b .call)) (spansOf (b .call)) n) ∙ no-groups-every;
+        no-groups = λ n. ap allGroups (groups-unmatched limits dirs (jobOf (b .call)) (spansOf (b .call)) n) ∙ no-groups-every;
         turned = relisted-symmetric r;
       }

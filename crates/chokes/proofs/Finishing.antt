@@ -14,7 +14,7 @@ use Rattle.grid.proofs.Directions.{directions-eight, eight-closed}
 use Rattle.links.specs.Limits.{Limits, limits000}
 use Rattle.links.specs.HeldLimits.{limitsOf}
 use Rattle.links.specs.declared.limits.Limits.{Limits as LimitsHeld}
-use Rattle.answer.specs.Gathered.{Ordered}
+use Rattle.answer.specs.Gathered.{PlacesOrder}
 use Rattle.checks.specs.Checks.{Check, firstRefusal}
 use Rattle.job.specs.Refusals.{jobChecks, reduceChecks, byListChecks}
 use Rattle.results.specs.Results.{ownEnds, reduced, reduceWith, reduceByListWith, leftBy}
@@ -42,7 +42,7 @@ finished-whole y l = record {
 -- a plan gives an answer
 pub answerable : (s order : List ℕ) → firstRefusal (jobChecks s) ≡ none → RankedBy (decode s) order → Answerable s (headerAt s) order
 unfolding headerAt
-answerable s order e k = record { passed = e; header = refl; ordered = subst (λ (n : ℕ). Ordered order n) (boundary-count s) (ordered (decode s) order k) }
+answerable s order e k = record { passed = e; header = refl; ordered = subst (λ (n : ℕ). PlacesOrder order n) (boundary-count s) (ordered (decode s) order k) }
 
 bytes-here : (s order plan : List ℕ) → answerBytes s order plan ≡ bytesBy (decode s .boundaries) order plan
 bytes-here s order plan = rw (boundary-count s) refl

@@ -32,7 +32,7 @@ use Rattle.analysis.specs.Plans.{Headed, OwnJob, OwnEnds}
 use Rattle.analysis.proofs.Headed.{headed-laid, count-is}
 use Rattle.analysis.proofs.OwnEnds.{own-labels, own-records}
 use Rattle.analysis.proofs.Within.{parted-many, parted-few}
-use Rattle.chokes.specs.Marking.{Analysed, copied}
+use Rattle.chokes.specs.Marking.{Analysed, firstCopied}
 
 -- a partition by the spans in the array is one by the boundaries' own ends
 pub own-analysed : {s : List ℕ} {h : Header} {work : List ℕ} (m : OwnJob s h work) {n count : ℕ} (e : n ≡ h .counts .width * h .counts .height)
@@ -72,7 +72,8 @@ module _ (dirs s work marks : List ℕ) where
         ∙ ap (λ m. rows m (λ b. cond (isBridge rs b) 1 0)) z
 
     -- success
-    pub mark-done : pairs ≤ maxPairs → {n : ℕ} → n ≤ 256 → n ≡ length (decode s .boundaries) → n ≤ length marks → {out : List ℕ} → out ≡ copied bridges n marks
+    pub mark-done : pairs ≤ maxPairs → {n : ℕ} → n ≤ 256 → n ≡ length (decode s .boundaries) → n ≤ length marks → {out : List ℕ}
+        → out ≡ firstCopied bridges n marks
         → leftBy 0 n after out ≡ markWith dirs s work marks
     mark-done h {n} l z m {out} o =
         let c : out ≡ splice marks 0 (marksOf dirs (decode s)) = o ∙ ap (λ bs. splice marks 0 bs) (marks-copied h n l z) in

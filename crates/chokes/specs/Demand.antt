@@ -13,7 +13,7 @@ use Rattle.links.specs.Limits.{Limits}
 use Rattle.checks.specs.Checks.{Check, firstRefusal}
 use Rattle.job.specs.Refusals.{reduceChecks, byListChecks}
 use Rattle.order.specs.Pairs.{Pairs}
-use Rattle.merging.specs.Groups.{Group, Groups, Disjoint, every}
+use Rattle.merging.specs.Groups.{Group, Groups, Disjoint, allGroups}
 use Rattle.merging.specs.Runs.{Run, Matched, groupsOf}
 use Rattle.merging.specs.Relisted.{Relisted}
 use Rattle.merging.specs.Merging.{MergeList, finish}
@@ -92,8 +92,8 @@ module _ (limits : Limits) (dirs : List ℕ) where
     -- merges exists
     pub merges : Independent (rulesOf limits dirs (jobOf (b .call))) (runOf (a .call)) (runOf (b .call))
     -- "no boundary is in two accepted groups"
-    pub disjoint : Pairs Disjoint (every (groupsIn b))
+    pub disjoint : Pairs Disjoint (allGroups (groupsIn b))
     -- "where spans and boundaries differ in number, run B has the same spans in any order, and there are no groups"
-    pub no-groups : (Matched (runOf (b .call)) → ⊥) → every (groupsIn b) ≡ []
+    pub no-groups : (Matched (runOf (b .call)) → ⊥) → allGroups (groupsIn b) ≡ []
     -- A is a listing of B as well
     pub turned : Relisted (runOf (b .call)) (runOf (a .call))

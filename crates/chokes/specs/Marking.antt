@@ -15,5 +15,5 @@ abbrev pub Analysed : List ℕ → Job → List Span → List ℕ → List ℕ �
 Analysed dirs j ss before work marks pairs = MarkedWithin maxPairs dirs (gridOf j) ss marks before work pairs
 
 -- the first n bytes are those of another list
-abbrev pub copied : List ℕ → ℕ → List ℕ → List ℕ
-copied from n to = splice to 0 (rows n (λ k. getD from k 0))
+abbrev pub firstCopied : List ℕ → ℕ → List ℕ → List ℕ
+firstCopied from n to = splice to 0 (rows n (λ k. getD from k 0))

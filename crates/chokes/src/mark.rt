@@ -6,7 +6,7 @@ ghost use Rattle.format.specs.Decode.{decode};
 ghost use Rattle.grid.specs.Directions.{directionsOf};
 ghost use Rattle.analysis.specs.Plans.{Leads, OwnJob};
 ghost use Rattle.results.specs.Calls.{markResult};
-ghost use Rattle.chokes.specs.Marking.{Analysed, copied};
+ghost use Rattle.chokes.specs.Marking.{Analysed, firstCopied};
 ghost use Rattle.results.specs.Results.{ownEnds, leftBy};
 use analysis::ChokesResult;
 use analysis::MARKS_TOO_SHORT;
@@ -53,7 +53,7 @@ fn analyse_boundaries(
 // Copies the first n bytes.
 fn copy_first(from: &[u8; 256], n: usize, to: &mut [u8])
     requires { ⌜ (n ≤ 256) × (n ≤ length (now to)) ⌝ }
-    ensures { λ _. ⌜ now (to .exit) ≡ copied (now (from .entry)) n (now (to .entry)) ⌝ }
+    ensures { λ _. ⌜ now (to .exit) ≡ firstCopied (now (from .entry)) n (now (to .entry)) ⌝ }
 {
     let mut i: usize = 0;
     while i < n {

@@ -1,4 +1,4 @@
--- The way from a vertex to the first of its part.
+-- The way from a vertex to the first of its componentOf.
 use mathlib.Core.Path.{_≡_, refl, sym, _∙_, ap, subst}
 use mathlib.Core.List.{List}
 use Prim.Native.Nat.{ℕ, _+_, _*_, _≤_, _<_}
@@ -7,19 +7,19 @@ use lib.ListN.{length}
 use Rattle.areas.specs.Words.{word}
 use Rattle.wire.specs.Bytes.{splice, u32Bytes}
 use Rattle.graph.specs.Path.{Edge}
-use Rattle.graph.specs.Parts.{part}
+use Rattle.graph.specs.Parts.{componentOf}
 use Rattle.components.specs.Forests.{Usable, Forest, Kept, Found}
 use Rattle.components.proofs.WordLaws.{Upd, put-upd, put-kept, put-usable, kept-none, kept-trans}
 use Rattle.components.proofs.ForestLaws.{forest-halved}
 
--- at stands in the part of i and has the parent p
+-- at stands in the componentOf of i and has the parent p
 pub record Finding (i at p : ℕ) (s w : List ℕ) : Type 0 where
   pub below : at ≤ i
   pub parent : p ≡ word w at
   pub usable : (m : ℕ) → Usable m s → Usable m w
   pub kept : (n : ℕ) → i < n → Kept n s w
   pub forest : (n : ℕ) (es : List Edge) → i < n → Forest es n (word s) → Forest es n (word w)
-  pub same : (n : ℕ) (es : List Edge) → i < n → Forest es n (word s) → part es at ≡ part es i
+  pub same : (n : ℕ) (es : List Edge) → i < n → Forest es n (word s) → componentOf es at ≡ componentOf es i
 
 pub finding-start : (i p : ℕ) (s : List ℕ) → p ≡ word s i → Finding i i p s s
 finding-start i p s e = record {
@@ -53,7 +53,7 @@ module _ {i at p : ℕ} {s w : List ℕ} (u : Usable i s) (f : Finding i at p s 
       first = λ n es l k.
           let inside : at < n = omega (arith, f .below) in
           let top = f .forest n es l k .top p (omega (arith, finding-falls)) (sym eq ∙ e) in
-          sym top ∙ (ap (part es) (f .parent) ∙ (f .forest n es l k .along at inside ∙ f .same n es l k));
+          sym top ∙ (ap (componentOf es) (f .parent) ∙ (f .forest n es l k .along at inside ∙ f .same n es l k));
     }
 
     pub finding-next : (v : List ℕ) → v ≡ splice w (4 * at) (u32Bytes q) → (r : ℕ) → r ≡ word v q → Finding i q r s v
@@ -64,8 +64,8 @@ module _ {i at p : ℕ} {s w : List ℕ} (u : Usable i s) (f : Finding i at p s 
       kept = λ n l. kept-trans n (f .kept n l) (put-kept w at q room n (omega (arith, f .below)));
       forest = λ n es l k. forest-halved at (omega (arith, f .below)) (f .forest n es l k) halved;
       same = λ n es l k.
-          ap (part es) eq ∙ (f .forest n es l k .along p (omega (arith, f .below, finding-falls))
-          ∙ (ap (part es) (f .parent) ∙ (f .forest n es l k .along at (omega (arith, f .below)) ∙ f .same n es l k)));
+          ap (componentOf es) eq ∙ (f .forest n es l k .along p (omega (arith, f .below, finding-falls))
+          ∙ (ap (componentOf es) (f .parent) ∙ (f .forest n es l k .along at (omega (arith, f .below)) ∙ f .same n es l k)));
     }) er
       where
         room : 4 * at + 4 ≤ length w

@@ -8,13 +8,13 @@ use native.Mathlib.Decide.{ℕ-discrete}
 use borrow.Author.Tests.{eq-eqb, ne-eqb}
 use Rattle.order.specs.Pairs.{SameMembers}
 use Rattle.graph.specs.Path.{Edge}
-use Rattle.graph.specs.Parts.{join, part}
+use Rattle.graph.specs.Parts.{join, componentOf}
 use Rattle.graph.proofs.Parts.{part-add, part-idem, part-edges}
 use Rattle.components.specs.Forests.{Forest}
 use Rattle.components.proofs.WordLaws.{Upd}
 
 -- a forest of some parts is one of the same parts
-pub forest-ext : {es fs : List Edge} {n : ℕ} {p : ℕ → ℕ} → ((c : ℕ) → part es c ≡ part fs c) → Forest es n p → Forest fs n p
+pub forest-ext : {es fs : List Edge} {n : ℕ} {p : ℕ → ℕ} → ((c : ℕ) → componentOf es c ≡ componentOf fs c) → Forest es n p → Forest fs n p
 forest-ext {p = p} s f = record {
   falls = f .falls;
   along = λ i l. sym (s (p i)) ∙ (f .along i l ∙ s i);
@@ -30,8 +30,9 @@ forest-halved {es} {n} {p} {q} i h f u = record {
   falls = λ k l. by-cases (ℕ-discrete k i) (λ e. omega (arith, ap q e, u .at, up, upup)) (λ d. omega (arith, u .off k d, f .falls k l));
   along = λ k l.
       by-cases (ℕ-discrete k i)
-      (λ e. ap (λ (x : ℕ). part es (q x)) e ∙ (ap (part es) (u .at) ∙ (f .along (p i) (omega (arith, up)) ∙ (f .along i h ∙ ap (part es) (sym e)))))
-      (λ d. ap (part es) (u .off k d) ∙ f .along k l);
+      (λ e. ap (λ (x : ℕ). componentOf es (q x)) e
+      ∙ (ap (componentOf es) (u .at) ∙ (f .along (p i) (omega (arith, up)) ∙ (f .along i h ∙ ap (componentOf es) (sym e)))))
+      (λ d. ap (componentOf es) (u .off k d) ∙ f .along k l);
   top = λ k l t.
       by-cases (ℕ-discrete k i) (λ e. f .top k l (ap p e ∙ let z : p i ≡ k = omega (arith, ap q e, u .at, up, upup) in z))
       (λ d. f .top k l (sym (u .off k d) ∙ t));
@@ -52,35 +53,38 @@ unfolding join
 join-off a b c d = rw (ne-eqb c (max a b) d)
 
 -- the larger of the first vertices of two parts gets the smaller as its parent
-module _ (e : Edge) {es : List Edge} {n : ℕ} {p : ℕ → ℕ} (f : Forest es n p) (a b : ℕ) (left : a ≡ part es (e .left)) (right : b ≡ part es (e .right)) where
-  new : (c : ℕ) → part (e ∷ es) c ≡ join a b (part es c)
-  new c = part-add e es c ∙ (ap (λ (x : ℕ). join x (part es (e .right)) (part es c)) (sym left) ∙ ap (λ (x : ℕ). join a x (part es c)) (sym right))
+module _ (e : Edge) {es : List Edge} {n : ℕ} {p : ℕ → ℕ} (f : Forest es n p) (a b : ℕ) (left : a ≡ componentOf es (e .left))
+    (right : b ≡ componentOf es (e .right)) where
+  new : (c : ℕ) → componentOf (e ∷ es) c ≡ join a b (componentOf es c)
+  new c = part-add e es c ∙ (ap (λ (x : ℕ). join x (componentOf es (e .right)) (componentOf es c)) (sym left)
+      ∙ ap (λ (x : ℕ). join a x (componentOf es c)) (sym right))
 
-  own : (c : ℕ) → part es c ≡ c → part (e ∷ es) c ≡ join a b c
+  own : (c : ℕ) → componentOf es c ≡ c → componentOf (e ∷ es) c ≡ join a b c
   own c h = new c ∙ ap (join a b) h
 
-  a-first : part es a ≡ a
-  a-first = ap (part es) left ∙ (part-idem es (e .left) ∙ sym left)
+  a-first : componentOf es a ≡ a
+  a-first = ap (componentOf es) left ∙ (part-idem es (e .left) ∙ sym left)
 
-  b-first : part es b ≡ b
-  b-first = ap (part es) right ∙ (part-idem es (e .right) ∙ sym right)
+  b-first : componentOf es b ≡ b
+  b-first = ap (componentOf es) right ∙ (part-idem es (e .right) ∙ sym right)
 
-  forest-low : {q : ℕ → ℕ} (hi lo : ℕ) → part es hi ≡ hi → part es lo ≡ lo → hi ≡ max a b → lo ≡ min a b → lo < hi → Upd p q hi lo → Forest (e ∷ es) n q
+  forest-low : {q : ℕ → ℕ} (hi lo : ℕ) → componentOf es hi ≡ hi → componentOf es lo ≡ lo → hi ≡ max a b → lo ≡ min a b → lo < hi → Upd p q hi lo
+      → Forest (e ∷ es) n q
   forest-low {q} hi lo hf lf he le less u = record {
     falls = λ k l. by-cases (ℕ-discrete k hi) (λ m. omega (arith, ap q m, u .at)) (λ d. omega (arith, u .off k d, f .falls k l));
     along = λ k l.
         by-cases (ℕ-discrete k hi)
-        (λ m. ap (λ (x : ℕ). part (e ∷ es) (q x)) m ∙ (ap (part (e ∷ es)) (u .at) ∙ (low ∙ (sym high ∙ ap (part (e ∷ es)) (sym m)))))
-        (λ d. ap (part (e ∷ es)) (u .off k d) ∙ (new (p k) ∙ (ap (join a b) (f .along k l) ∙ sym (new k))));
+        (λ m. ap (λ (x : ℕ). componentOf (e ∷ es) (q x)) m ∙ (ap (componentOf (e ∷ es)) (u .at) ∙ (low ∙ (sym high ∙ ap (componentOf (e ∷ es)) (sym m)))))
+        (λ d. ap (componentOf (e ∷ es)) (u .off k d) ∙ (new (p k) ∙ (ap (join a b) (f .along k l) ∙ sym (new k))));
     top = λ k l t.
         by-cases (ℕ-discrete k hi) (λ m. absurd (omega (arith, ap q m, u .at)))
         (λ d. own k (f .top k l (sym (u .off k d) ∙ t)) ∙ join-off a b k (λ x. d (x ∙ sym he)));
   }
     where
-      low : part (e ∷ es) lo ≡ lo
+      low : componentOf (e ∷ es) lo ≡ lo
       low = own lo lf ∙ join-off a b lo (λ x. omega arith)
 
-      high : part (e ∷ es) hi ≡ lo
+      high : componentOf (e ∷ es) hi ≡ lo
       high = own hi hf ∙ (ap (join a b) he ∙ (join-high a b ∙ sym le))
 
   pub forest-left-low : {q : ℕ → ℕ} → a < b → Upd p q b a → Forest (e ∷ es) n q
@@ -89,10 +93,11 @@ module _ (e : Edge) {es : List Edge} {n : ℕ} {p : ℕ → ℕ} (f : Forest es 
   pub forest-right-low : {q : ℕ → ℕ} → b < a → Upd p q a b → Forest (e ∷ es) n q
   forest-right-low l u = forest-low a b a-first b-first (omega arith) (omega arith) l u
 
--- two vertices of one part
-pub forest-joined : (e : Edge) {es : List Edge} {n : ℕ} {p : ℕ → ℕ} → Forest es n p → (a b : ℕ) → a ≡ part es (e .left) → b ≡ part es (e .right) → a ≡ b
+-- two vertices of one componentOf
+pub forest-joined : (e : Edge) {es : List Edge} {n : ℕ} {p : ℕ → ℕ} → Forest es n p → (a b : ℕ) → a ≡ componentOf es (e .left) → b ≡ componentOf es (e .right)
+    → a ≡ b
     → Forest (e ∷ es) n p
-forest-joined e {es} f a b left right same = forest-ext (λ c. sym (new e f a b left right c ∙ stay (part es c))) f
+forest-joined e {es} f a b left right same = forest-ext (λ c. sym (new e f a b left right c ∙ stay (componentOf es c))) f
   where
     stay : (c : ℕ) → join a b c ≡ c
     stay c = by-cases (ℕ-discrete c (max a b)) (λ h. ap (join a b) h ∙ (join-high a b ∙ let z : min a b ≡ c = omega arith in z)) (λ d. join-off a b c d)

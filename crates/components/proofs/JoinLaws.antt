@@ -8,7 +8,7 @@ use lib.ListN.{length}
 use Rattle.areas.specs.Words.{word}
 use Rattle.wire.specs.Bytes.{splice, u32Bytes}
 use Rattle.graph.specs.Path.{Edge}
-use Rattle.graph.specs.Parts.{part}
+use Rattle.graph.specs.Parts.{componentOf}
 use Rattle.grid.specs.Steps.{stepOf}
 use Rattle.components.specs.Forests.{Usable, Forest, Kept, Found}
 use Rattle.components.specs.Joining.{Joined}
@@ -25,7 +25,7 @@ module _ {i j a b : ℕ} {s t w : List ℕ} (ui : Usable i s) (uj : Usable j s) 
   forest : (n : ℕ) (es : List Edge) → i < n → j < n → Forest es n (word s) → Forest es n (word w)
   forest n es l m f = fb .forest n es m (fa .forest n es l f)
 
-  second : (n : ℕ) (es : List Edge) → i < n → j < n → Forest es n (word s) → b ≡ part es j
+  second : (n : ℕ) (es : List Edge) → i < n → j < n → Forest es n (word s) → b ≡ componentOf es j
   second n es l m f = fb .first n es m (fa .forest n es l f)
 
   pub left-room : 4 * a + 4 ≤ length w
@@ -67,5 +67,5 @@ joined-near i j s e = record {
   usable = λ m u. u;
   kept = λ n l m. kept-none n s;
   forest = λ n es l m f.
-      forest-joined (stepOf i j) f (part es i) (part es j) refl refl (sym (f .along i l) ∙ (ap (part es) e ∙ f .along j (m refl)));
+      forest-joined (stepOf i j) f (componentOf es i) (componentOf es j) refl refl (sym (f .along i l) ∙ (ap (componentOf es) e ∙ f .along j (m refl)));
 }

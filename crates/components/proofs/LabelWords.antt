@@ -25,7 +25,7 @@ use Rattle.areas.specs.Open.{named}
 use Rattle.areas.proofs.Areas.{area-labels-length, label-at-most}
 use Rattle.areas.proofs.Words.{labels-many, label-in}
 use Rattle.areas.specs.Words.{word, labelsIn}
-use Rattle.components.specs.Joining.{Sound}
+use Rattle.components.specs.Joining.{OpenBytesSound}
 
 -- one more number
 pub map-up-last : {A : Type 0} (f : ℕ → A) (a n : ℕ) → map f (upFrom a (suc n)) ≡ map f (upFrom a n) ++ (f (a + n) ∷ [])
@@ -103,6 +103,6 @@ module _ (dirs : List ℕ) (g : Grid) (ss : List Span) (few : size g ≤ 1048576
   area-labels-read s = labels-read s (areaLabels dirs g ss) (size g) (area-labels-length dirs g ss) area-label-small
 
 -- edges between walkable cells of a map
-pub sound-of : (g : Grid) (width : ℕ) (bytes : List ℕ) → Among (walkable g) (named width bytes) → Sound (g .cells) width bytes
+pub sound-of : (g : Grid) (width : ℕ) (bytes : List ℕ) → Among (walkable g) (named width bytes) → OpenBytesSound (g .cells) width bytes
 unfolding walkable
 sound-of g width bytes among = record { ends = among }

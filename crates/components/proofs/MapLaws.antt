@@ -19,8 +19,8 @@ use Rattle.areas.proofs.Named.{names-named}
 use Rattle.areas.specs.Words.{word}
 use Rattle.components.specs.Dues.{dues, runs, runStart}
 use Rattle.components.specs.Forests.{Forest, Kept}
-use Rattle.components.specs.Joining.{Sound, Within, Joinable, JoinedAll}
-use Rattle.components.specs.Numbered.{walks, Numbered}
+use Rattle.components.specs.Joining.{OpenBytesSound, StepsWithin, Joinable, JoinedAll}
+use Rattle.components.specs.Numbered.{walks, ComponentLabels}
 use Rattle.components.proofs.WordLaws.{kept-none, kept-trans, drop-more}
 use Rattle.components.proofs.ForestLaws.{forest-ext}
 use Rattle.components.proofs.StepLaws.{kept-at}
@@ -34,8 +34,8 @@ unfolding walkable
 walks-below cells i h = walkable-on (record { width = 0; height = 0; cells = cells }) i h
 
 module _ {n width base : ℕ} {cells : List ℕ} (s : List ℕ) (e : length cells ≡ n) (apart : 4 * n ≤ base) (room : base + n ≤ length s)
-    (sound : Sound cells width (part s base n)) where
-  pub sound-within : {w : List ℕ} → Kept n s w → (i : ℕ) → i < n → Within n width (getD w (base + i) 0) i
+    (sound : OpenBytesSound cells width (part s base n)) where
+  pub sound-within : {w : List ℕ} → Kept n s w → (i : ℕ) → i < n → StepsWithin n width (getD w (base + i) 0) i
   sound-within {w} k i l =
       record { here = l; there = λ b small h. there b small (ap (λ (x : ℕ). bitAt x b) (part-at s base n i l ∙ sym (kept-at k (base + i) (omega arith))) ∙ h) }
     where
@@ -55,7 +55,8 @@ kept-splice {n} {s} {w} bs e k = ap (λ (x : List ℕ). bs ++ x) (drop-more (4 *
 
 -- the open bytes are sound, the due bytes stand after them, and t has the parents of the runs
 module _ {n width base : ℕ} {cells : List ℕ} (s : List ℕ) {t : List ℕ} (e : length cells ≡ n) (some : 0 < width) (apart : 4 * n ≤ base)
-    (room : base + 2 * n ≤ length s) (sound : Sound cells width (part s base n)) (due : part s (base + n) n ≡ dues width (part s base n)) (k : Kept n s t)
+    (room : base + 2 * n ≤ length s) (sound : OpenBytesSound cells width (part s base n)) (due : part s (base + n) n ≡ dues width (part s base n))
+    (k : Kept n s t)
     (first : (i : ℕ) → i < n → word t i ≡ runStart (part s base n) i) where
   long : length (part s base n) ≡ n
   long = length-part s base n (omega arith)
@@ -63,7 +64,7 @@ module _ {n width base : ℕ} {cells : List ℕ} (s : List ℕ) {t : List ℕ} (
   due-here : part t (base + n) n ≡ dues width (part s base n)
   due-here = kept-part n (omega arith) k ∙ due
 
-  due-within : (i : ℕ) → i < n → Within n width (getD t (base + n + i) 0) i
+  due-within : (i : ℕ) → i < n → StepsWithin n width (getD t (base + n + i) 0) i
   due-within i l = record { here = l; there = λ b small h. lead b small (ap (λ (x : ℕ). bitAt x b) (sym byte) ∙ h) }
     where
       byte : getD t (base + n + i) 0 ≡ getD (dues width (part s base n)) i 0
@@ -97,12 +98,12 @@ module _ {n width base : ℕ} {cells : List ℕ} (s : List ℕ) {t : List ℕ} (
         let f′ : Forest (enough width bytes) n (word u) = subst (λ (x : List ℕ). Forest (named width x ++ named width (runs bytes)) n (word u)) due-here f in
         forest-ext (part-ext (enough width bytes) (named width bytes) (λ a b. let p = due-enough width bytes some a b in (p .1, p .0))) f′
 
-    pub whole : {v : List ℕ} {r : ℕ} → ((es : List Edge) → Forest es n (word u) → Among (walks cells) es → Numbered n (walks cells) es u v r) →
-        (g : Grid) → g .cells ≡ cells → Numbered n (walkable g) (named width (part s base n)) s v r
+    pub whole : {v : List ℕ} {r : ℕ} → ((es : List Edge) → Forest es n (word u) → Among (walks cells) es → ComponentLabels n (walks cells) es u v r) →
+        (g : Grid) → g .cells ≡ cells → ComponentLabels n (walkable g) (named width (part s base n)) s v r
     unfolding walkable
     whole {v} {r} d g same =
         let es = named width (part s base n) in
         let m = d es joined (sound .ends) in
         let flat = flatMap u32Bytes (labels n (walks cells) es) in
-        subst (λ (cs : List ℕ). Numbered n (walks cs) es s v r) (sym same)
+        subst (λ (cs : List ℕ). ComponentLabels n (walks cs) es s v r) (sym same)
         (record { same = m .same ∙ kept-splice flat (labels-bytes n (walks cells) es) (kept-trans n k (j .kept)); total = m .total })

@@ -23,7 +23,7 @@ use Rattle.graph.proofs.Parts.{part-iff, part-le}
 use Rattle.graph.proofs.Labels.{label-max}
 use Rattle.graph.proofs.Count.{count-yes}
 use Rattle.components.specs.Forests.{Forest, Kept}
-use Rattle.components.specs.Numbered.{nextLabel, NextNumbered, Numbered}
+use Rattle.components.specs.Numbered.{nextLabel, NextNumbered, ComponentLabels}
 use Rattle.components.proofs.WordLaws.{kept-none, kept-trans, kept-more, put-kept, put-upd, put-other, put-again}
 use Rattle.components.proofs.LabelWords.{bytes-last}
 
@@ -37,13 +37,13 @@ count-step t n e = ap (count t) (add-one n) ∙ (count-yes t n e ∙ sym (add-on
 module _ (on : ℕ → Bool) (es : List Edge) (among : Among on es) {n : ℕ} {p : ℕ → ℕ} (f : Forest es n p) (i : ℕ) (l : i < n) where
   first-begins : on i ≡ true → p i ≡ i → begins on es i ≡ true
   unfolding begins
-  first-begins h e = and-both h (eq-eqb (parts.part es i) i (f .top i l e))
+  first-begins h e = and-both h (eq-eqb (parts.componentOf es i) i (f .top i l e))
 
   other-begins : p i < i → begins on es i ≡ false
   unfolding begins
   other-begins q =
       is-false (begins on es i)
-      (λ h. omega (arith, eqb-true (parts.part es i) i (and-parts (on i) (eqb (parts.part es i) i) h .1), f .along i l, part-le es (p i)))
+      (λ h. omega (arith, eqb-true (parts.componentOf es i) i (and-parts (on i) (eqb (parts.componentOf es i) i) h .1), f .along i l, part-le es (p i)))
 
   blocked-begins : on i ≡ false → begins on es i ≡ false
   unfolding begins
@@ -102,7 +102,7 @@ pub record Numbering (n i c : ℕ) (on : ℕ → Bool) (s w : List ℕ) : Type 0
   pub few : c ≤ i
   pub small : (j : ℕ) → j < i → word w j ≤ c
   pub kept : Kept i s w
-  pub done : (es : List Edge) → Forest es n (word s) → Among on es → Numbered i on es s w c
+  pub done : (es : List Edge) → Forest es n (word s) → Among on es → ComponentLabels i on es s w c
   pub at : (es : List Edge) → Forest es n (word s) → Among on es → (j : ℕ) → j < i → word w j ≡ label on es j
 
 pub numbering-start : (n : ℕ) (on : ℕ → Bool) (s : List ℕ) → Numbering n 0 0 on s s
@@ -157,8 +157,9 @@ module _ {n i c : ℕ} {on : ℕ → Bool} {s w : List ℕ} (h : Numbering n i c
   numbering-next v m k = subst (λ (x : List ℕ). Numbering n (i + 1) m on s x) (sym (k .same)) (numbering-put (nextLabel (on i) (word w) i c) refl m (k .most))
 
 pub numbering-end : {n i c : ℕ} {on : ℕ → Bool} {s w : List ℕ} → Numbering n i c on s w → (i < n → ⊥) → (es : List Edge) → Forest es n (word s) → Among on es
-    → Numbered n on es s w c
-numbering-end {n} {i} {c} {on} {s} {w} h q es f a = subst (λ (x : ℕ). Numbered x on es s w c) (let z : i ≡ n = omega (arith, h .below) in z) (h .done es f a)
+    → ComponentLabels n on es s w c
+numbering-end {n} {i} {c} {on} {s} {w} h q es f a =
+    subst (λ (x : ℕ). ComponentLabels x on es s w c) (let z : i ≡ n = omega (arith, h .below) in z) (h .done es f a)
 
 -- a number times 0 or 1
 pub only-is : (b x : ℕ) → b ≤ 1 → x * b ≡ cond (eqb b 1) x 0

@@ -78,7 +78,7 @@ module _ (width : ℕ) (bytes : List ℕ) where
   pub runs-forest : (n : ℕ) (p : ℕ → ℕ) → length bytes ≡ n → ((i : ℕ) → i < n → p i ≡ runStart bytes i) → Forest (named width (runs bytes)) n p
   runs-forest n p e h = record {
     falls = λ i l. omega (arith, h i l, start-below i);
-    along = λ i l. ap (parts.part (named width (runs bytes))) (h i l) ∙ part-same (named width (runs bytes)) (start-path i (omega arith));
+    along = λ i l. ap (parts.componentOf (named width (runs bytes))) (h i l) ∙ part-same (named width (runs bytes)) (start-path i (omega arith));
     top = λ i l t.
         let es = named width (runs bytes) in
         let low = start-first i (sym (h i l) ∙ t) (part-path es i) (omega arith) in

@@ -15,7 +15,7 @@ use Rattle.wire.proofs.Parts.{part-at, length-part}
 use Rattle.areas.specs.Open.{later, bitAt}
 use Rattle.areas.specs.Words.{word}
 use Rattle.components.specs.Forests.{Usable, Forest, Kept}
-use Rattle.components.specs.Joining.{addedFrom, joinedTo, Joined, Within, Ready, JoinedFrom, Joining, Joinable, JoinedAll}
+use Rattle.components.specs.Joining.{addedFrom, joinedTo, Joined, StepsWithin, WordsReady, JoinedFrom, Joining, Joinable, JoinedAll}
 use Rattle.components.proofs.WordLaws.{kept-none, kept-trans}
 use Rattle.components.proofs.ForestLaws.{forest-same}
 use Rattle.components.proofs.EdgeLaws.{joined-members}
@@ -48,7 +48,7 @@ to-last width i = omega arith
 
 module _ (width b i : ℕ) where
   -- what a join asks
-  pub asked : {s w : List ℕ} → Ready width b i s → ((m : ℕ) → Usable m s → Usable m w) → (k : ℕ) → k < 4 → {on : Bool} {j : ℕ} → on ≡ bitAt b k
+  pub asked : {s w : List ℕ} → WordsReady width b i s → ((m : ℕ) → Usable m s → Usable m w) → (k : ℕ) → k < 4 → {on : Bool} {j : ℕ} → on ≡ bitAt b k
       → j ≡ i + later width k →
       Usable i w × (on ≡ true → Usable j w)
   asked {w = w} r u k l e f = (u i (r .here), λ h. subst (λ (x : ℕ). Usable x w) (sym f) (u (i + later width k) (r .there k l (sym e ∙ h))))
@@ -98,11 +98,11 @@ joinable-kept {n} {width} {base} {s} {w} g k u = record {
   apart = g .apart;
   room = omega (arith, g .room, k .size);
   usable = u;
-  within = λ i l. subst (λ (x : ℕ). Within n width x i) (sym (kept-at k (base + i) (omega (arith, g .apart)))) (g .within i l);
+  within = λ i l. subst (λ (x : ℕ). StepsWithin n width x i) (sym (kept-at k (base + i) (omega (arith, g .apart)))) (g .within i l);
 }
 
 module _ {n width base i : ℕ} {w : List ℕ} (g : Joinable n width base w) (l : i < n) where
-  pub joinable-ready : Ready width (getD w (base + i) 0) i w
+  pub joinable-ready : WordsReady width (getD w (base + i) 0) i w
   joinable-ready = record { here = g .usable i l; there = λ k m e. g .usable (i + later width k) (g .within i l .there k m e) }
 
   -- one more byte

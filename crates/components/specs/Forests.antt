@@ -4,7 +4,7 @@ use mathlib.Core.List.{List}
 use Prim.Native.Nat.{ℕ, _+_, _*_, _≤_, _<_}
 use lib.ListN.{length, drop}
 use Rattle.graph.specs.Path.{Edge}
-use Rattle.graph.specs.Parts.{part}
+use Rattle.graph.specs.Parts.{componentOf}
 use Rattle.areas.specs.Words.{word}
 
 -- i fits a word, the words up to i are in the bytes, and no parent comes after its vertex
@@ -13,22 +13,22 @@ pub record Usable (i : ℕ) (w : List ℕ) : Type 0 where
   pub room : 4 * i + 4 ≤ length w
   pub falls : (j : ℕ) → j ≤ i → word w j ≤ j
 
--- parents p of the vertices 0, …, n - 1: none comes after its vertex, each is in its vertex's part, and a vertex that is its own parent is the first
--- of its part
+-- parents p of the vertices 0, …, n - 1: none comes after its vertex, each is in its vertex's componentOf, and a vertex that is its own parent is the first
+-- of its componentOf
 pub record Forest (es : List Edge) (n : ℕ) (p : ℕ → ℕ) : Type 0 where
   pub falls : (i : ℕ) → i < n → p i ≤ i
-  pub along : (i : ℕ) → i < n → part es (p i) ≡ part es i
-  pub top : (i : ℕ) → i < n → p i ≡ i → part es i ≡ i
+  pub along : (i : ℕ) → i < n → componentOf es (p i) ≡ componentOf es i
+  pub top : (i : ℕ) → i < n → p i ≡ i → componentOf es i ≡ i
 
 -- the bytes past the first n words are as they were
 pub record Kept (n : ℕ) (s w : List ℕ) : Type 0 where
   pub size : length w ≡ length s
   pub rest : drop (4 * n) w ≡ drop (4 * n) s
 
--- the first vertex r of the part of i was found, and the parents say the same
+-- the first vertex r of the componentOf of i was found, and the parents say the same
 pub record Found (i r : ℕ) (s w : List ℕ) : Type 0 where
   pub below : r ≤ i
   pub usable : (m : ℕ) → Usable m s → Usable m w
   pub kept : (n : ℕ) → i < n → Kept n s w
   pub forest : (n : ℕ) (es : List Edge) → i < n → Forest es n (word s) → Forest es n (word w)
-  pub first : (n : ℕ) (es : List Edge) → i < n → Forest es n (word s) → r ≡ part es i
+  pub first : (n : ℕ) (es : List Edge) → i < n → Forest es n (word s) → r ≡ componentOf es i

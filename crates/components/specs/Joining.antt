@@ -14,7 +14,7 @@ use Rattle.components.specs.Forests.{Usable, Forest, Kept}
 use Rattle.components.specs.Numbered.{walks}
 
 -- every edge that the open bytes name leads between two walkable cells
-pub record Sound (cells : List ℕ) (width : ℕ) (bytes : List ℕ) : Type 0 where
+pub record OpenBytesSound (cells : List ℕ) (width : ℕ) (bytes : List ℕ) : Type 0 where
   pub ends : Among (walks cells) (named width bytes)
 
 -- with one more edge, if it is there
@@ -44,20 +44,20 @@ pub record Joined (on : Bool) (i j : ℕ) (s w : List ℕ) : Type 0 where
   pub forest : (n : ℕ) (es : List Edge) → i < n → (on ≡ true → j < n) → Forest es n (word s) → Forest (added on (stepOf i j) es) n (word w)
 
 -- cell i and those that its byte leads to are below n
-pub record Within (n width b i : ℕ) : Type 0 where
+pub record StepsWithin (n width b i : ℕ) : Type 0 where
   pub here : i < n
   pub there : (k : ℕ) → k < 4 → bitAt b k ≡ true → i + later width k < n
 
 -- the words of these cells can be used
-pub record Ready (width b i : ℕ) (w : List ℕ) : Type 0 where
+pub record WordsReady (width b i : ℕ) (w : List ℕ) : Type 0 where
   pub here : Usable i w
   pub there : (k : ℕ) → k < 4 → bitAt b k ≡ true → Usable (i + later width k) w
 
 -- the parents after the edges of the byte of cell i were joined
 pub record JoinedFrom (width b i : ℕ) (s w : List ℕ) : Type 0 where
   pub usable : (m : ℕ) → Usable m s → Usable m w
-  pub kept : (n : ℕ) → Within n width b i → Kept n s w
-  pub forest : (n : ℕ) (es : List Edge) → Within n width b i → Forest es n (word s) → Forest (addedFrom width b i es) n (word w)
+  pub kept : (n : ℕ) → StepsWithin n width b i → Kept n s w
+  pub forest : (n : ℕ) (es : List Edge) → StepsWithin n width b i → Forest es n (word s) → Forest (addedFrom width b i es) n (word w)
 
 -- and after those of the first i of the n bytes from base on
 pub record Joining (n width base i : ℕ) (s w : List ℕ) : Type 0 where
@@ -74,7 +74,7 @@ pub record Joinable (n width base : ℕ) (w : List ℕ) : Type 0 where
   pub apart : 4 * n ≤ base
   pub room : base + n ≤ length w
   pub usable : (m : ℕ) → m < n → Usable m w
-  pub within : (i : ℕ) → i < n → Within n width (getD w (base + i) 0) i
+  pub within : (i : ℕ) → i < n → StepsWithin n width (getD w (base + i) 0) i
 
 -- after those of all
 pub record JoinedAll (n width : ℕ) (bytes s w : List ℕ) : Type 0 where

@@ -24,6 +24,6 @@ pub record NextNumbered (on : Bool) (i count : ℕ) (s w : List ℕ) (total : �
   pub most : total ≡ max count (nextLabel on (word s) i count)
 
 -- w is s with the labels of the first n vertices in its first words, and there are `count` labels
-pub record Numbered (n : ℕ) (on : ℕ → Bool) (es : List Edge) (s w : List ℕ) (count : ℕ) : Type 0 where
+pub record ComponentLabels (n : ℕ) (on : ℕ → Bool) (es : List Edge) (s w : List ℕ) (count : ℕ) : Type 0 where
   pub same : w ≡ splice s 0 (flatMap u32Bytes (labels n on es))
   pub total : count ≡ labelCount n on es

@@ -6,8 +6,8 @@ ghost use Rattle.wire.specs.Bytes.{part};
 ghost use Rattle.grid.specs.Cells.{Grid, walkable};
 ghost use Rattle.areas.specs.Open.{named};
 ghost use Rattle.components.specs.Dues.{dues};
-ghost use Rattle.components.specs.Joining.{Sound};
-ghost use Rattle.components.specs.Numbered.{Numbered};
+ghost use Rattle.components.specs.Joining.{OpenBytesSound};
+ghost use Rattle.components.specs.Numbered.{ComponentLabels};
 
 mod parents; // the parents of cells: start, find, join
 mod dues; // the due bytes
@@ -30,10 +30,10 @@ use steps::join_all;
 // `work`. Gives the number of labels.
 pub fn components(cells: &[u8], width: u32, work: &mut [u8], base: usize) -> u32
     requires { ⌜ (length (now cells) ≤ 1048576) × (0 < width) × (4 * length (now cells) ≤ base) × (base + 2 * length (now cells) ≤ length (now work)) ⌝ }
-    requires { ⌜ Sound (now cells) width (part (now work) base (length (now cells))) ⌝ }
+    requires { ⌜ OpenBytesSound (now cells) width (part (now work) base (length (now cells))) ⌝ }
     requires { ⌜ part (now work) (base + length (now cells)) (length (now cells)) ≡ dues width (part (now work) base (length (now cells))) ⌝ }
     ensures { λ r. ⌜ ((g : Grid) → g .cells ≡ now (cells .entry)
-        → Numbered (length (now (cells .entry))) (walkable g) (named width (part (now (work .entry)) base (length (now (cells .entry)))))
+        → ComponentLabels (length (now (cells .entry))) (walkable g) (named width (part (now (work .entry)) base (length (now (cells .entry)))))
         (now (work .entry)) (now (work .exit)) r) ⌝ }
 {
     let n = cells.len();

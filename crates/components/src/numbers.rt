@@ -9,7 +9,7 @@ ghost use Rattle.areas.specs.Words.{word};
 ghost use Rattle.graph.specs.Path.{Edge};
 ghost use Rattle.graph.specs.Labelling.{Among};
 ghost use Rattle.components.specs.Forests.{Forest};
-ghost use Rattle.components.specs.Numbered.{walks, NextNumbered, Numbered};
+ghost use Rattle.components.specs.Numbered.{walks, NextNumbered, ComponentLabels};
 use wire::read_u32;
 use wire::size;
 use wire::write_u32;
@@ -48,7 +48,7 @@ fn number_cell(cells: &[u8], work: &mut [u8], i: usize, count: u32) -> u32
 pub fn number(cells: &[u8], work: &mut [u8]) -> u32
     requires { ⌜ (length (now cells) ≤ 1048576) × (4 * length (now cells) ≤ length (now work)) × ((i : ℕ) → i < length (now cells) → word (now work) i ≤ i) ⌝ }
     ensures { λ r. ⌜ ((es : List Edge) → Forest es (length (now (cells .entry))) (word (now (work .entry))) → Among (walks (now (cells .entry))) es
-        → Numbered (length (now (cells .entry))) (walks (now (cells .entry))) es (now (work .entry)) (now (work .exit)) r) ⌝ }
+        → ComponentLabels (length (now (cells .entry))) (walks (now (cells .entry))) es (now (work .entry)) (now (work .exit)) r) ⌝ }
 {
     let mut count: u32 = 0;
     let mut i: usize = 0;

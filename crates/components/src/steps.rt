@@ -5,12 +5,12 @@ ghost use mathlib.Core.List.{List};
 ghost use Prim.Native.Nat.{ℕ, _+_, _≤_, _<_};
 ghost use lib.ListN.{length, getD};
 ghost use Rattle.wire.specs.Bytes.{part};
-ghost use Rattle.components.specs.Joining.{Ready, JoinedFrom, Joinable, Joining, JoinedAll};
+ghost use Rattle.components.specs.Joining.{WordsReady, JoinedFrom, Joinable, Joining, JoinedAll};
 use crate::parents::join_if;
 
 // Bit k of the byte of a cell: to the right; below to the left, below, below to the right.
 fn join_bits(work: &mut [u8], width: usize, i: usize, byte: u8)
-    requires { ⌜ (0 < width) × (width < 4294967296) × (i < 1048576) × Ready width byte i (now work) ⌝ }
+    requires { ⌜ (0 < width) × (width < 4294967296) × (i < 1048576) × WordsReady width byte i (now work) ⌝ }
     ensures { λ r. ⌜ JoinedFrom width byte i (now (work .entry)) (now (work .exit)) ⌝ }
 {
     join_if(work, byte % 2 == 1, i, i + 1);
@@ -20,7 +20,7 @@ fn join_bits(work: &mut [u8], width: usize, i: usize, byte: u8)
 }
 
 fn join_cell(work: &mut [u8], width: usize, i: usize, byte: u8)
-    requires { ⌜ (0 < width) × (width < 4294967296) × (i < 1048576) × Ready width byte i (now work) ⌝ }
+    requires { ⌜ (0 < width) × (width < 4294967296) × (i < 1048576) × WordsReady width byte i (now work) ⌝ }
     ensures { λ r. ⌜ JoinedFrom width byte i (now (work .entry)) (now (work .exit)) ⌝ }
 {
     if byte == 0 {

@@ -7,7 +7,7 @@ use lib.ListN.{length, getD, take, drop, length-append}
 use lib.Seq.{take-suc, take-length, take-append-seam, drop-append-add, getD-take, getD-drop}
 use Rattle.lists.specs.Rows.{rows, sum}
 use Rattle.lists.proofs.Flat.{flatMap-append}
-use Rattle.answer.specs.Laying.{below}
+use Rattle.answer.specs.Laying.{sumBelow}
 use Rattle.encoding.specs.Pieces.{pieces}
 
 flat-one : {A B : Type 0} (f : A → List B) (x : A) → flatMap f (x ∷ []) ≡ f x
@@ -34,7 +34,8 @@ flat-flat f g [] = refl
 flat-flat f g (x ∷ l) = flatMap-append f (g x) (flatMap g l) ∙ ap (λ t. flatMap f (g x) ++ t) (flat-flat f g l)
 
 -- The sum of a list's numbers, by place.
-pub below-sum : {A : Type 0} (h : A → ℕ) (l : List A) (d : A) (g : ℕ → ℕ) → ((k : ℕ) → k < length l → g k ≡ h (getD l k d)) → below g (length l) ≡ sum (map h l)
+pub below-sum : {A : Type 0} (h : A → ℕ) (l : List A) (d : A) (g : ℕ → ℕ) → ((k : ℕ) → k < length l → g k ≡ h (getD l k d))
+    → sumBelow g (length l) ≡ sum (map h l)
 unfolding sum rows
 below-sum h [] d g e = refl
 below-sum h (x ∷ l) d g e = let a = e 0 (omega arith) in let b = below-sum h l d (λ k. g (suc k)) (λ k i. e (suc k) (omega arith)) in omega arith
@@ -42,27 +43,27 @@ below-sum h (x ∷ l) d g e = let a = e 0 (omega arith) in let b = below-sum h l
 -- A member's piece, where it stands.
 pub flat-part : {A B : Type 0} (f : A → List B) (l : List A) (d : A) (g : ℕ → ℕ) (k : ℕ) → k < length l
     → ((i : ℕ) → i < length l → g i ≡ length (f (getD l i d)))
-    → take (length (f (getD l k d))) (drop (below g k) (flatMap f l)) ≡ f (getD l k d)
+    → take (length (f (getD l k d))) (drop (sumBelow g k) (flatMap f l)) ≡ f (getD l k d)
 unfolding flatMap sum rows
 flat-part f [] d g k h e = absurd (omega arith)
 flat-part f (x ∷ l) d g zero h e = take-append-seam (f x) (flatMap f l)
 flat-part f (x ∷ l) d g (suc k) h e =
     let a = e 0 (omega arith) in
-    ap (λ (j : ℕ). take (length (f (getD l k d))) (drop (j + below (λ i. g (suc i)) k) (f x ++ flatMap f l))) a
-    ∙ ap (take (length (f (getD l k d)))) (drop-append-add (f x) (flatMap f l) (below (λ i. g (suc i)) k))
+    ap (λ (j : ℕ). take (length (f (getD l k d))) (drop (j + sumBelow (λ i. g (suc i)) k) (f x ++ flatMap f l))) a
+    ∙ ap (take (length (f (getD l k d)))) (drop-append-add (f x) (flatMap f l) (sumBelow (λ i. g (suc i)) k))
     ∙ flat-part f l d (λ i. g (suc i)) k (omega arith) (λ i j. e (suc i) (omega arith))
 
 pub flat-at : {A B : Type 0} (f : A → List B) (l : List A) (d : A) (g : ℕ → ℕ) (k : ℕ) → k < length l → ((i : ℕ) → i < length l → g i ≡ length (f (getD l i d)))
-    → (i : ℕ) (b : B) → i < length (f (getD l k d)) → getD (flatMap f l) (below g k + i) b ≡ getD (f (getD l k d)) i b
+    → (i : ℕ) (b : B) → i < length (f (getD l k d)) → getD (flatMap f l) (sumBelow g k + i) b ≡ getD (f (getD l k d)) i b
 flat-at f l d g k h e i b j =
-    sym (getD-drop (below g k) (flatMap f l) i b)
-    ∙ sym (getD-take (length (f (getD l k d))) (drop (below g k) (flatMap f l)) i b j)
+    sym (getD-drop (sumBelow g k) (flatMap f l) i b)
+    ∙ sym (getD-take (length (f (getD l k d))) (drop (sumBelow g k) (flatMap f l)) i b j)
     ∙ ap (λ t. getD t i b) (flat-part f l d g k h e)
 
 -- Their place is within the whole.
 pub flat-within : {A B : Type 0} (f : A → List B) (l : List A) (d : A) (g : ℕ → ℕ) (k : ℕ) → k < length l
     → ((i : ℕ) → i < length l → g i ≡ length (f (getD l i d)))
-    → below g k + length (f (getD l k d)) ≤ length (flatMap f l)
+    → sumBelow g k + length (f (getD l k d)) ≤ length (flatMap f l)
 unfolding flatMap sum rows
 flat-within f [] d g k h e = absurd (omega arith)
 flat-within f (x ∷ l) d g zero h e = omega (arith, length-append (f x) (flatMap f l))

@@ -27,13 +27,13 @@ use Rattle.format.proofs.Distribution.{observed, own-and-observed}
 use Rattle.merging.specs.Kept.{noBoundary}
 use Rattle.merging.specs.Sources.{ownSources}
 use Rattle.merging.proofs.Lists.{flat-gather}
-use Rattle.answer.specs.Laying.{below}
+use Rattle.answer.specs.Laying.{sumBelow}
 use Rattle.answer.specs.Packed.{sourcePack, packed}
 use Rattle.format.specs.Records.{observationWords}
-use Rattle.answer.specs.Placed.{Holds}
+use Rattle.answer.specs.Placed.{HoldsObservation}
 use Rattle.answer.specs.Gathered.{noObservation, Gathered}
 use Rattle.encoding.specs.Pieces.{pieces, keySource, keySpan, keyBits, keptRecord, keptPiece, keyPiece, runFrom, runLength, placeRun, placePiece}
-use Rattle.encoding.specs.Pieces.{runsFrom, elements, groupPiece, citedTotal, answerBytes}
+use Rattle.encoding.specs.Pieces.{runsFrom, elements, groupPiece, citedTotal, writtenBytes}
 use Rattle.encoding.proofs.Flats.{pieces-flat, flat-flat, below-sum, flat-part, flat-at, flat-within}
 use Rattle.encoding.proofs.Lengths.{part-short}
 
@@ -85,7 +85,7 @@ keys-flat keys from n ss f e h =
     (λ i l. ap (λ (v : ℕ). sourceBytes (keySource v)) (h i l ∙ List·getD-map sourcePack ss i noSource)
     ∙ ap sourceBytes (key-source (getD ss i noSource) (all-at ss i noSource f l)))
 
-module _ {first second third starts counts keys : List ℕ} {p : ℕ} {o : Observation} (h : Holds first second third starts counts keys p o) where
+module _ {first second third starts counts keys : List ℕ} {p : ℕ} {o : Observation} (h : HoldsObservation first second third starts counts keys p o) where
   pub run-count : runLength starts counts keys p ≡ length (o .sources)
   unfolding packed
   run-count = ap length (h .run) ∙ length-map (o .sources) sourcePack
@@ -116,7 +116,7 @@ module _ {bs : ℕ → BoundaryRecord} {n : ℕ} {ks : List Boundary} {kept owns
   seen-at : (k : ℕ) → k < length ks → elements seens k ≡ length (getD ks k noBoundary .observations)
   seen-at k h = g .seen-count k h
 
-  pub seen-sum : below (elements seens) (length ks) ≡ length os
+  pub seen-sum : sumBelow (elements seens) (length ks) ≡ length os
   unfolding observationsOf
   seen-sum = below-sum (λ (b : Boundary). length (b .observations)) ks noBoundary (elements seens) seen-at
       ∙ sym (length-flatMap (λ (b : Boundary). b .observations) ks)
@@ -125,23 +125,23 @@ module _ {bs : ℕ → BoundaryRecord} {n : ℕ} {ks : List Boundary} {kept owns
   unfolding ownSources
   own-flat = sym (flat-gather (λ (b : Boundary). b .sources) ks)
 
-  pub own-sum : below (elements owns) (length ks) ≡ length (ownSources ks)
+  pub own-sum : sumBelow (elements owns) (length ks) ≡ length (ownSources ks)
   own-sum = below-sum (λ (b : Boundary). length (b .sources)) ks noBoundary (elements owns) own-at
       ∙ sym (ap length own-flat ∙ length-flatMap (λ (b : Boundary). b .sources) ks)
 
   -- The places of observations.
-  seen-holds : (q : ℕ) → q < length os → Holds first second third starts counts keys (getD seen q 0) (getD os q noObservation)
-  seen-holds q h = subst (λ (p : ℕ). Holds first second third starts counts keys p (getD os q noObservation)) (getD-take (length os) seen q 0 h)
+  seen-holds : (q : ℕ) → q < length os → HoldsObservation first second third starts counts keys (getD seen q 0) (getD os q noObservation)
+  seen-holds q h = subst (λ (p : ℕ). HoldsObservation first second third starts counts keys p (getD os q noObservation)) (getD-take (length os) seen q 0 h)
       (g .seen-there .each q h)
 
   pub cited-sum : citedTotal seen starts counts keys (length os) ≡ length (observed os)
   cited-sum = below-sum (λ (o : Observation). length (o .sources)) os noObservation (λ q. runLength starts counts keys (getD seen q 0))
       (λ q h. run-count (seen-holds q h)) ∙ sym (length-flatMap (λ (o : Observation). o .sources) os)
 
-  pub sources-sum : below (elements owns) (length ks) + citedTotal seen starts counts keys (length os) ≡ length (sourcesOf ks)
+  pub sources-sum : sumBelow (elements owns) (length ks) + citedTotal seen starts counts keys (length os) ≡ length (sourcesOf ks)
   unfolding boundaryRecord
   sources-sum =
-      let a : sum (map (λ (r : BoundaryRecord). r .sources) (map boundaryRecord ks)) ≡ below (elements owns) (length ks)
+      let a : sum (map (λ (r : BoundaryRecord). r .sources) (map boundaryRecord ks)) ≡ sumBelow (elements owns) (length ks)
       = ap sum (map-map (λ (r : BoundaryRecord). r .sources) boundaryRecord ks)
       ∙ sym (below-sum (λ (b : Boundary). length (b .sources)) ks noBoundary (elements owns) own-at) in
       omega (arith, a, cited-sum, own-and-observed ks)
@@ -173,14 +173,14 @@ module _ {bs : ℕ → BoundaryRecord} {n : ℕ} {ks : List Boundary} {kept owns
     own-fit : All SourceFits (here .sources)
     own-fit =
         subst (λ (l : List Source). All SourceFits l)
-        (ap (λ (l : List Source). take (length (here .sources)) (drop (below (elements owns) k) l)) own-flat
+        (ap (λ (l : List Source). take (length (here .sources)) (drop (sumBelow (elements owns) k) l)) own-flat
         ∙ flat-part (λ (b : Boundary). b .sources) ks noBoundary (elements owns) k h own-at)
-        (all-take (length (here .sources)) (all-drop (below (elements owns) k) (g .own-fits)))
+        (all-take (length (here .sources)) (all-drop (sumBelow (elements owns) k) (g .own-fits)))
 
-    own-key : (i : ℕ) → i < length (here .sources) → getD owned (below (elements owns) k + i) 0 ≡ getD (packed (here .sources)) i 0
+    own-key : (i : ℕ) → i < length (here .sources) → getD owned (sumBelow (elements owns) k + i) 0 ≡ getD (packed (here .sources)) i 0
     unfolding packed sourcePack
     own-key i l =
-        let j = below (elements owns) k + i in
+        let j = sumBelow (elements owns) k + i in
         let w = flat-within (λ (b : Boundary). b .sources) ks noBoundary (elements owns) k h own-at in
         let m : j < length (ownSources ks) = omega (arith, w, ap length own-flat) in
         sym (getD-take (length (ownSources ks)) owned j 0 m)
@@ -191,10 +191,10 @@ module _ {bs : ℕ → BoundaryRecord} {n : ℕ} {ks : List Boundary} {kept owns
         ∙ sym (List·getD-map sourcePack (here .sources) i noSource)
 
     seen-run : (i : ℕ) → i < length (here .observations)
-        → placeRun starts counts keys (getD seen (below (elements seens) k + i) 0) ≡ flatMap sourceBytes (getD (here .observations) i noObservation .sources)
+        → placeRun starts counts keys (getD seen (sumBelow (elements seens) k + i) 0) ≡ flatMap sourceBytes (getD (here .observations) i noObservation .sources)
     unfolding observationsOf
     seen-run i l =
-        let j = below (elements seens) k + i in
+        let j = sumBelow (elements seens) k + i in
         let w = flat-within (λ (b : Boundary). b .observations) ks noBoundary (elements seens) k h seen-at in
         run-bytes (seen-holds j (omega arith))
         ∙ ap (λ (o : Observation). flatMap sourceBytes (o .sources))
@@ -203,11 +203,11 @@ module _ {bs : ℕ → BoundaryRecord} {n : ℕ} {ks : List Boundary} {kept owns
     group-bytes : groupPiece owns seens owned seen starts counts keys k ≡ flatMap sourceBytes (sourcesWith here)
     unfolding groupPiece sourcesWith
     group-bytes =
-        ap (λ (t : List ℕ). t ++ runsFrom seen starts counts keys (below (elements seens) k) (getD seens k 0))
-        (keys-flat owned (below (elements owns) k) (getD owns k 0) (here .sources) own-fit (own-at k h) own-key)
+        ap (λ (t : List ℕ). t ++ runsFrom seen starts counts keys (sumBelow (elements seens) k) (getD seens k 0))
+        (keys-flat owned (sumBelow (elements owns) k) (getD owns k 0) (here .sources) own-fit (own-at k h) own-key)
         ∙ ap (λ (t : List ℕ). flatMap sourceBytes (here .sources) ++ t)
         (pieces-flat (λ (o : Observation). flatMap sourceBytes (o .sources)) (here .observations) noObservation
-        (λ i. placeRun starts counts keys (getD seen (below (elements seens) k + i) 0)) (getD seens k 0) (seen-at k h) seen-run
+        (λ i. placeRun starts counts keys (getD seen (sumBelow (elements seens) k + i) 0)) (getD seens k 0) (seen-at k h) seen-run
         ∙ sym (flat-flat sourceBytes (λ (o : Observation). o .sources) (here .observations)))
         ∙ sym (flatMap-append sourceBytes (here .sources) (flatMap (λ (o : Observation). o .sources) (here .observations)))
 
@@ -219,13 +219,13 @@ module _ {bs : ℕ → BoundaryRecord} {n : ℕ} {ks : List Boundary} {kept owns
       ∙ sym (flat-flat sourceBytes sourcesWith ks)
 
   -- All bytes.
-  pub answer-bytes : (count : ℕ) → length ks ≡ count → answerBytes bs count kept owns seens owned seen first second third starts counts keys ≡ encodeAnswer ks
-  unfolding answerBytes encodeAnswer encodeBoundaries
+  pub answer-bytes : (count : ℕ) → length ks ≡ count → writtenBytes bs count kept owns seens owned seen first second third starts counts keys ≡ encodeAnswer ks
+  unfolding writtenBytes encodeAnswer encodeBoundaries
   answer-bytes count e =
-      ap (λ (n : ℕ). answerBytes bs n kept owns seens owned seen first second third starts counts keys) (sym e)
+      ap (λ (n : ℕ). writtenBytes bs n kept owns seens owned seen first second third starts counts keys) (sym e)
       ∙ ap
       (λ (m : ℕ).
-      flatMap u32Bytes (answerWords (length ks) m (below (elements owns) (length ks) + citedTotal seen starts counts keys m))
+      flatMap u32Bytes (answerWords (length ks) m (sumBelow (elements owns) (length ks) + citedTotal seen starts counts keys m))
       ++ (pieces (length ks) (keptPiece bs kept owns seens)
       ++ (pieces m (λ q. placePiece first second third starts counts keys (getD seen q 0))
       ++ pieces (length ks) (groupPiece owns seens owned seen starts counts keys))))

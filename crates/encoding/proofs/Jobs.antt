@@ -27,20 +27,20 @@ use Rattle.job.proofs.Passing.{job-passed}
 use Rattle.job.proofs.Formed.{job-formed}
 use Rattle.merging.specs.Copies.{canon}
 use Rattle.merging.specs.Kept.{noBoundary}
-use Rattle.answer.specs.Laying.{below, ownCount, seenCount, citedCount}
+use Rattle.answer.specs.Laying.{sumBelow, ownCount, seenCount, citedCount}
 use Rattle.answer.specs.Placed.{boundaryOf, boundaryRows, observationRows, JobPlaces}
 use Rattle.merging.specs.Planned.{planned}
-use Rattle.answer.specs.Gathered.{Ordered, copiesBy, keptBy}
+use Rattle.answer.specs.Gathered.{PlacesOrder, copiesBy, keptBy}
 use Rattle.encoding.specs.Answered.{keptOf}
 use Rattle.answer.proofs.Decoded.{decoded}
 
 -- Of counts that add up.
 module _ (s : List ℕ) (c : Counts) (f : FormedWith c s) (w : CountsAllowed c) where
-  seen-adds : below (seenCount s (boundariesStart c)) (c .boundaries) ≡ c .observations
+  seen-adds : sumBelow (seenCount s (boundariesStart c)) (c .boundaries) ≡ c .observations
   unfolding boundaryRecords
   seen-adds = sym (sum-field (λ (b : BoundaryRecord). b .observations) (c .boundaries) (λ k. boundaryAt s (boundariesStart c + k * 40))) ∙ f .observations
 
-  sources-add : below (ownCount s (boundariesStart c)) (c .boundaries) + below (citedCount s (observationsStart c)) (c .observations) ≡ c .sources
+  sources-add : sumBelow (ownCount s (boundariesStart c)) (c .boundaries) + sumBelow (citedCount s (observationsStart c)) (c .observations) ≡ c .sources
   unfolding boundaryRecords observationRecords sourceCount
   sources-add =
       let a = sum-field (λ (b : BoundaryRecord). b .sources) (c .boundaries) (λ k. boundaryAt s (boundariesStart c + k * 40)) in
@@ -50,7 +50,7 @@ module _ (s : List ℕ) (c : Counts) (f : FormedWith c s) (w : CountsAllowed c) 
   counted-places : JobPlaces s (boundariesStart c) (c .boundaries) (observationsStart c) (c .observations) (sourcesStart c) (c .sources)
   counted-places =
       let t = f .total in
-      let e = ap (below (citedCount s (observationsStart c))) seen-adds in
+      let e = ap (sumBelow (citedCount s (observationsStart c))) seen-adds in
       record {
         countable = record {
           boundaries-in = omega arith;
@@ -65,7 +65,7 @@ module _ (s : List ℕ) (c : Counts) (f : FormedWith c s) (w : CountsAllowed c) 
         sources-add = sources-add;
       }
 
-order-below : (order : List ℕ) (n i : ℕ) → Ordered order n → List·Memᴰ i (upFrom 0 n) → getD order i 0 < n
+order-below : (order : List ℕ) (n i : ℕ) → PlacesOrder order n → List·Memᴰ i (upFrom 0 n) → getD order i 0 < n
 order-below order n i p m = omega (arith, up-mem 0 n (perm-mem (Permᴰ·symm p) (Memᴰ·map (λ j. getD order j 0) m)) .1)
 
 module _ (s : List ℕ) (passed : firstRefusal (jobChecks s) ≡ none) where
@@ -91,7 +91,7 @@ module _ (s : List ℕ) (passed : firstRefusal (jobChecks s) ≡ none) where
       (omega (arith, seen-adds s counts (job-formed s passed) allowed))
 
   -- The copies by rank are those of the job's boundaries.
-  pub job-copies : (order : List ℕ) → Ordered order (counts .boundaries)
+  pub job-copies : (order : List ℕ) → PlacesOrder order (counts .boundaries)
       → copiesBy (boundaryRows s (boundariesStart counts)) (observationRows s (observationsStart counts))
       (sourceRecords s (sourcesStart counts) (counts .sources)) order (counts .boundaries)
       ≡ map (λ i. canon (getD (decode s .boundaries) (getD order i 0) noBoundary)) (upFrom 0 (counts .boundaries))
@@ -129,9 +129,9 @@ module _ (s : List ℕ) (passed : firstRefusal (jobChecks s) ≡ none) where
     pub job-places : JobPlaces s at n ats m from count
     job-places = rw (w .at-is, w .n-is, w .ats-is, w .m-is, w .from-is, w .count-is) counts-places
 
-    pub kept-is : (order plan : List ℕ) → Ordered order n
+    pub kept-is : (order plan : List ℕ) → PlacesOrder order n
         → keptBy (boundaryRows s at) (observationRows s ats) (sourceRecords s from count) order plan n
         ≡ keptOf s order plan
     kept-is order plan p =
         (λ i. keptBy (boundaryRows s (w .at-is i)) (observationRows s (w .ats-is i)) (sourceRecords s (w .from-is i) (w .count-is i)) order plan (w .n-is i))
-        ∙ ap (λ (l : List Boundary). planned l (λ i. getD plan i 0)) (job-copies order (subst (λ (k : ℕ). Ordered order k) (w .n-is) p))
+        ∙ ap (λ (l : List Boundary). planned l (λ i. getD plan i 0)) (job-copies order (subst (λ (k : ℕ). PlacesOrder order k) (w .n-is) p))

@@ -8,7 +8,7 @@ use Rattle.wire.specs.Bytes.{splice}
 use Rattle.format.specs.Records.{sourceBytes, boundaryBytes, observationBytes, boundaryAt}
 use Rattle.format.specs.declared.records.BoundaryRecord.{BoundaryRecord}
 use Rattle.format.proofs.RecordTrips.{source-trip, boundary-trip, observation-trip}
-use Rattle.answer.specs.Laying.{below}
+use Rattle.answer.specs.Laying.{sumBelow}
 use Rattle.answer.specs.Placed.{boundaryRows}
 use Rattle.format.specs.Records.{observationWords}
 use Rattle.position.specs.declared.Span.{Span}
@@ -167,8 +167,8 @@ module _ (owns seens owned seen starts counts keys : List ℕ) where
     pub below-count : k ≤ n
     pub writes : Writes s at groupAt k t
     pub place : to ≡ at + length (pieces k groupAt)
-    pub owns-are : a ≡ below (elements owns) k
-    pub seens-are : q ≡ below (elements seens) k
+    pub owns-are : a ≡ sumBelow (elements owns) k
+    pub seens-are : q ≡ sumBelow (elements seens) k
 
   pub grouping-start : (s : List ℕ) (at n : ℕ) → Grouping s at 0 n s at 0 0
   unfolding pieces sum rows
@@ -179,10 +179,10 @@ module _ {owns seens owned seen starts counts keys : List ℕ} where
   module _ {s t : List ℕ} {at k n to a q : ℕ} (r : Grouping owns seens owned seen starts counts keys s at k n t to a q)
       (h : SourceRoom n owns seens owned seen starts counts keys at s) (l : k < n)
       {own m : ℕ} (e : own ≡ getD owns k 0) (f : m ≡ getD seens k 0) where
-    pub own-sum : a + own ≡ below (elements owns) (k + 1)
+    pub own-sum : a + own ≡ sumBelow (elements owns) (k + 1)
     own-sum = omega (arith, r .owns-are, below-next (elements owns) k)
 
-    pub seen-sum : q + m ≡ below (elements seens) (k + 1)
+    pub seen-sum : q + m ≡ sumBelow (elements seens) (k + 1)
     seen-sum = omega (arith, r .seens-are, below-next (elements seens) k)
 
     pub own-few : a + own ≤ 4096
@@ -195,9 +195,9 @@ module _ {owns seens owned seen starts counts keys : List ℕ} where
     unfolding groupPiece
     group-is =
         ap (λ (z : ℕ). runFrom owned z own ++ runsFrom seen starts counts keys q m) (r .owns-are)
-        ∙ ap (λ (z : ℕ). runFrom owned (below (elements owns) k) z ++ runsFrom seen starts counts keys q m) e
-        ∙ ap (λ (z : ℕ). runFrom owned (below (elements owns) k) (getD owns k 0) ++ runsFrom seen starts counts keys z m) (r .seens-are)
-        ∙ ap (λ (z : ℕ). runFrom owned (below (elements owns) k) (getD owns k 0) ++ runsFrom seen starts counts keys (below (elements seens) k) z) f
+        ∙ ap (λ (z : ℕ). runFrom owned (sumBelow (elements owns) k) z ++ runsFrom seen starts counts keys q m) e
+        ∙ ap (λ (z : ℕ). runFrom owned (sumBelow (elements owns) k) (getD owns k 0) ++ runsFrom seen starts counts keys z m) (r .seens-are)
+        ∙ ap (λ (z : ℕ). runFrom owned (sumBelow (elements owns) k) (getD owns k 0) ++ runsFrom seen starts counts keys (sumBelow (elements seens) k) z) f
 
     group-long : length (pieces (k + 1) (groupPiece owns seens owned seen starts counts keys)) ≡ length
         (pieces k (groupPiece owns seens owned seen starts counts keys)) + (own * 8 + length (runsFrom seen starts counts keys q m))

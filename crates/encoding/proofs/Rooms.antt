@@ -9,7 +9,7 @@ use Rattle.format.specs.Values.{Boundary}
 use Rattle.format.specs.declared.records.Source.{Source}
 use Rattle.format.specs.declared.records.ObservationRecord.{ObservationRecord}
 use Rattle.answer.specs.Placed.{PlaceRoom, PlacedInside, JobPlaces, boundaryRows}
-use Rattle.answer.specs.Gathered.{Ordered}
+use Rattle.answer.specs.Gathered.{PlacesOrder}
 use Rattle.answer.proofs.Layouts.{apart-none}
 use Rattle.gathering.specs.Room.{GatherRoom}
 use Rattle.encoding.specs.Answered.{Answered, WorkRoom}
@@ -52,7 +52,7 @@ module _ {s : List ℕ} {at n ats m from count : ℕ} (j : JobPlaces s at n ats 
   }
 
   pub gather-room : {os : ℕ → ObservationRecord} {ss : List Source} {order firsts starts′ counts′ keys′ spare′ : List ℕ}
-      → PlacedInside (boundaryRows s at) os ss m n count firsts starts′ counts′ → Ordered order n
+      → PlacedInside (boundaryRows s at) os ss m n count firsts starts′ counts′ → PlacesOrder order n
       → n ≤ length firsts → length starts′ ≡ length starts → length counts′ ≡ length counts → length keys′ ≡ length keys → length spare′ ≡ length spare
       → GatherRoom s at m n order firsts starts′ counts′ keys′ spare′ (replicate 256 0) (replicate 256 0) (replicate 256 0) owned seen places
   gather-room p o f a b c d =

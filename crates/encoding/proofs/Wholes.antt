@@ -11,10 +11,10 @@ use Rattle.format.specs.Records.{sourceBytes}
 use Rattle.format.specs.Encode.{answerWords, encodeAnswer, observationsOf, sourcesOf}
 use Rattle.format.proofs.RecordTrips.{source-trip}
 use Rattle.format.proofs.AnswerTrip.{length-encodeAnswer, header-length}
-use Rattle.answer.specs.Laying.{below}
+use Rattle.answer.specs.Laying.{sumBelow}
 use Rattle.answer.specs.Placed.{boundaryRows}
 use Rattle.answer.specs.Gathered.{Gathered}
-use Rattle.encoding.specs.Pieces.{pieces, keptPiece, placePiece, elements, groupPiece, citedTotal, answerBytes}
+use Rattle.encoding.specs.Pieces.{pieces, keptPiece, placePiece, elements, groupPiece, citedTotal, writtenBytes}
 use Rattle.encoding.specs.Answered.{Answered, Writable}
 use Rattle.encoding.proofs.Loops.{kept-long, places-long}
 use Rattle.encoding.proofs.GatheredBytes.{seen-sum, own-sum, sources-sum, source-bytes, answer-bytes}
@@ -25,25 +25,26 @@ module _ {s : List ℕ} {at count : ℕ} {kept owns seens owned seen first secon
   pub count-few : count ≤ 256
   count-few = omega (arith, w .gathered .few, w .many, w .limit)
 
-  pub seen-few : below (elements seens) count ≤ 1280
-  seen-few = omega (arith, ap (below (elements seens)) (w .many), seen-sum (w .gathered), w .gathered .seen-room)
+  pub seen-few : sumBelow (elements seens) count ≤ 1280
+  seen-few = omega (arith, ap (sumBelow (elements seens)) (w .many), seen-sum (w .gathered), w .gathered .seen-room)
 
-  pub own-few : below (elements owns) count ≤ 4096
-  own-few = omega (arith, ap (below (elements owns)) (w .many), own-sum (w .gathered), w .gathered .own-room)
+  pub own-few : sumBelow (elements owns) count ≤ 4096
+  own-few = omega (arith, ap (sumBelow (elements owns)) (w .many), own-sum (w .gathered), w .gathered .own-room)
 
   pub record-in : (k : ℕ) → k < count → at + (getD kept k 0 + 1) * 40 ≤ length s
   record-in k h = omega (arith, w .gathered .place-in k (omega (arith, w .many)), w .inside)
 
   abbrev all : List ℕ
-  all = answerBytes (boundaryRows s at) count kept owns seens owned seen first second third starts counts keys
+  all = writtenBytes (boundaryRows s at) count kept owns seens owned seen first second third starts counts keys
 
-  module _ {o own c : ℕ} (eo : o ≡ below (elements seens) count) (ew : own ≡ below (elements owns) count) (ec : c ≡ citedTotal seen starts counts keys o) where
+  module _ {o own c : ℕ} (eo : o ≡ sumBelow (elements seens) count) (ew : own ≡ sumBelow (elements owns) count)
+      (ec : c ≡ citedTotal seen starts counts keys o) where
     observation-count : o ≡ length (observationsOf (w .ks))
-    observation-count = eo ∙ ap (below (elements seens)) (sym (w .many)) ∙ seen-sum (w .gathered)
+    observation-count = eo ∙ ap (sumBelow (elements seens)) (sym (w .many)) ∙ seen-sum (w .gathered)
 
     source-total : own + c ≡ length (sourcesOf (w .ks))
     source-total =
-        let a = ap (below (elements owns)) (w .many) in
+        let a = ap (sumBelow (elements owns)) (w .many) in
         let b = ap (citedTotal seen starts counts keys) observation-count in
         omega (arith, sources-sum (w .gathered))
 
@@ -56,14 +57,14 @@ module _ {s : List ℕ} {at count : ℕ} {kept owns seens owned seen first secon
         = ap (λ (n : ℕ). pieces n (groupPiece owns seens owned seen starts counts keys)) (sym (w .many)) ∙ source-bytes (w .gathered) in
         ap length a ∙ length-pieces 8 sourceBytes (source-trip .size) (sourcesOf (w .ks)) ∙ ap (λ (n : ℕ). n * 8) (sym source-total)
 
-    words-same : own + c ≡ below (elements owns) count + citedTotal seen starts counts keys (below (elements seens) count)
+    words-same : own + c ≡ sumBelow (elements owns) count + citedTotal seen starts counts keys (sumBelow (elements seens) count)
     words-same = let b = ap (citedTotal seen starts counts keys) eo in omega arith
 
     pub all-written : (t0 : List ℕ) {t1 t2 t3 t4 : List ℕ} → 24 + count * 40 + o * 28 + (own + c) * 8 ≤ length t0
         → t1 ≡ splice t0 0 (flatMap u32Bytes (answerWords count o (own + c))) → t2 ≡ splice t1 24 (pieces count (keptPiece (boundaryRows s at) kept owns seens))
         → t3 ≡ splice t2 (24 + count * 40) (pieces o (λ q. placePiece first second third starts counts keys (getD seen q 0)))
         → t4 ≡ splice t3 (24 + count * 40 + o * 28) (pieces count (groupPiece owns seens owned seen starts counts keys)) → t4 ≡ splice t0 0 all
-    unfolding answerBytes
+    unfolding writtenBytes
     all-written t0 h p q r u =
         let b1 = flatMap u32Bytes (answerWords count o (own + c)) in
         let b2 = pieces count (keptPiece (boundaryRows s at) kept owns seens) in

@@ -8,7 +8,7 @@ use Rattle.wire.specs.Bytes.{splice}
 use Rattle.format.specs.Sizes.{boundarySize}
 use Rattle.format.specs.Values.{Boundary}
 use Rattle.order.specs.Lists.{upFrom}
-use Rattle.answer.specs.Laying.{below, Apart}
+use Rattle.answer.specs.Laying.{sumBelow, Apart}
 use Rattle.answer.specs.Ranked.{RankRoom}
 use Rattle.format.specs.Header.{countsAt, headerAt}
 use Rattle.format.specs.Decode.{decode}
@@ -21,8 +21,8 @@ use Rattle.format.specs.declared.records.Source.{Source}
 use Rattle.format.specs.declared.records.ObservationRecord.{ObservationRecord}
 use Rattle.checks.specs.Checks.{firstRefusal}
 use Rattle.job.specs.Refusals.{jobChecks}
-use Rattle.answer.specs.Placed.{Placed, boundaryRows}
-use Rattle.answer.specs.Gathered.{Ordered, Gathered}
+use Rattle.answer.specs.Placed.{CopiesPlaced, boundaryRows}
+use Rattle.answer.specs.Gathered.{PlacesOrder, Gathered}
 use Rattle.encoding.specs.Pieces.{pieces, elements, groupPiece}
 
 -- The length of the bytes is returned; they stand first if they fit, else nothing is written.
@@ -50,8 +50,8 @@ pub record BoundaryRoom (s : List ℕ) (at count : ℕ) (kept : List ℕ) (to : 
 -- Room for all the sources, which are few.
 pub record SourceRoom (count : ℕ) (owns seens owned seen starts counts keys : List ℕ) (to : ℕ) (t : List ℕ) : Type 0 where
   pub limit : count ≤ 256
-  pub own-limit : below (elements owns) count ≤ 4096
-  pub seen-limit : below (elements seens) count ≤ 1280
+  pub own-limit : sumBelow (elements owns) count ≤ 4096
+  pub seen-limit : sumBelow (elements seens) count ≤ 1280
   pub room : to + length (pieces count (groupPiece owns seens owned seen starts counts keys)) ≤ length t
 
 -- The bytes stand from `at` on and end at r.
@@ -63,7 +63,7 @@ pub record RunsWritten (before : List ℕ) (at : ℕ) (bytes after : List ℕ) (
 pub record Placeable (s : List ℕ) (at base n : ℕ) (order firsts first second third starts counts keys spare owned seen places : List ℕ) : Type 0 where
   pub os : ℕ → ObservationRecord
   pub ss : List Source
-  pub placed : Placed (boundaryRows s at) os ss base n firsts first second third starts counts keys
+  pub placed : CopiesPlaced (boundaryRows s at) os ss base n firsts first second third starts counts keys
   pub room : GatherRoom s at base n order firsts starts counts keys spare (replicate 256 0) (replicate 256 0) (replicate 256 0) owned seen places
   pub keys-few : length keys ≤ 4096
 
@@ -84,7 +84,7 @@ pub record WorkRoom (n m count : ℕ) (keys spare owned starts counts first seco
 pub record Answerable (s : List ℕ) (h : Header) (order : List ℕ) : Type 0 where
   pub passed : firstRefusal (jobChecks s) ≡ none
   pub header : h ≡ headerAt s
-  pub ordered : Ordered order (h .counts .boundaries)
+  pub ordered : PlacesOrder order (h .counts .boundaries)
 
 -- What a plan keeps of a job's boundaries, canonical and by rank.
 abbrev pub keptOf : (s order plan : List ℕ) → List Boundary

@@ -13,7 +13,7 @@ use Rattle.format.specs.Decode.{rampOf}
 use Rattle.format.specs.Encode.{rampRecord, answerWords}
 use Rattle.format.specs.declared.records.Source.{Source}
 use Rattle.format.specs.declared.records.BoundaryRecord.{BoundaryRecord}
-use Rattle.answer.specs.Laying.{below}
+use Rattle.answer.specs.Laying.{sumBelow}
 use Rattle.answer.specs.Squeezed.{partOf}
 use Rattle.format.specs.Records.{observationWords}
 
@@ -71,21 +71,21 @@ elements l k = getD l k 0
 -- "Each boundary's own, then those of its observations."
 unfoldable pub groupPiece : (owns seens owned seen starts counts keys : List ℕ) → ℕ → List ℕ
 groupPiece owns seens owned seen starts counts keys k =
-    runFrom owned (below (elements owns) k) (getD owns k 0) ++ runsFrom seen starts counts keys (below (elements seens) k) (getD seens k 0)
+    runFrom owned (sumBelow (elements owns) k) (getD owns k 0) ++ runsFrom seen starts counts keys (sumBelow (elements seens) k) (getD seens k 0)
 
 -- How many sources the first n of the observations have.
 abbrev pub citedTotal : (seen starts counts keys : List ℕ) → ℕ → ℕ
-citedTotal seen starts counts keys n = below (λ q. runLength starts counts keys (getD seen q 0)) n
+citedTotal seen starts counts keys n = sumBelow (λ q. runLength starts counts keys (getD seen q 0)) n
 
 -- An answer's sections: boundaries, observations, sources.
 abbrev pub sectionBytes : (bs : ℕ → BoundaryRecord) (count : ℕ) (kept owns seens owned seen first second third starts counts keys : List ℕ) → List ℕ
 sectionBytes bs count kept owns seens owned seen first second third starts counts keys =
     pieces count (keptPiece bs kept owns seens)
-    ++ (pieces (below (elements seens) count) (λ q. placePiece first second third starts counts keys (getD seen q 0))
+    ++ (pieces (sumBelow (elements seens) count) (λ q. placePiece first second third starts counts keys (getD seen q 0))
     ++ pieces count (groupPiece owns seens owned seen starts counts keys))
 
-unfoldable pub answerBytes : (bs : ℕ → BoundaryRecord) (count : ℕ) (kept owns seens owned seen first second third starts counts keys : List ℕ) → List ℕ
-answerBytes bs count kept owns seens owned seen first second third starts counts keys =
-    flatMap u32Bytes (answerWords count (below (elements seens) count)
-    (below (elements owns) count + citedTotal seen starts counts keys (below (elements seens) count)))
+unfoldable pub writtenBytes : (bs : ℕ → BoundaryRecord) (count : ℕ) (kept owns seens owned seen first second third starts counts keys : List ℕ) → List ℕ
+writtenBytes bs count kept owns seens owned seen first second third starts counts keys =
+    flatMap u32Bytes (answerWords count (sumBelow (elements seens) count)
+    (sumBelow (elements owns) count + citedTotal seen starts counts keys (sumBelow (elements seens) count)))
     ++ sectionBytes bs count kept owns seens owned seen first second third starts counts keys

@@ -11,7 +11,7 @@ ghost use Rattle.format.specs.declared.records.ObservationRecord.{ObservationRe
 ghost use Rattle.merging.specs.Copies.{canon};
 ghost use Rattle.merging.specs.Kept.{noBoundary};
 ghost use Rattle.merging.specs.Planned.{planned};
-ghost use Rattle.answer.specs.Placed.{Placed, boundaryRows};
+ghost use Rattle.answer.specs.Placed.{CopiesPlaced, boundaryRows};
 ghost use Rattle.answer.specs.Gathered.{keptBy};
 ghost use Rattle.encoding.specs.Answered.{Answered, Placeable, WorkRoom, Answerable, keptOf};
 use crate::whole::write_kept;
@@ -56,7 +56,7 @@ fn write_placed(
     requires { ⌜ Placeable (now job) at base n (now order) (now firsts) (now first) (now second) (now third) (now starts) (now counts) (now keys) (now spare)
         (now owned) (now seen) (now places) ⌝ }
     ensures { λ r. ⌜ ((os : ℕ → ObservationRecord) (ss : List Source)
-        → Placed (boundaryRows (now (job .entry)) at) os ss base n (now (firsts .entry)) (now (first .entry)) (now (second .entry)) (now (third .entry))
+        → CopiesPlaced (boundaryRows (now (job .entry)) at) os ss base n (now (firsts .entry)) (now (first .entry)) (now (second .entry)) (now (third .entry))
         (now (starts .entry)) (now (counts .entry)) (now (keys .entry))
         → Answered (encodeAnswer (keptBy (boundaryRows (now (job .entry)) at) os ss (now (order .entry)) (now (plan .entry)) n)) (now (answer .entry))
         (now (answer .exit)) r) ⌝ }

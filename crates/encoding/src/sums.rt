@@ -2,14 +2,14 @@
 ghost use mathlib.Core.Path.{_≡_};
 ghost use Prim.Native.Nat.{_*_, _≤_};
 ghost use lib.ListN.{length};
-ghost use Rattle.answer.specs.Laying.{below};
+ghost use Rattle.answer.specs.Laying.{sumBelow};
 ghost use Rattle.encoding.specs.Pieces.{elements, citedTotal};
 use crate::reads::index;
 use crate::runs::run_length;
 
 pub fn sum_first(xs: &[u32], n: usize) -> usize
     requires { ⌜ n ≤ 256 ⌝ }
-    ensures { λ r. ⌜ r ≡ below (elements (now (xs .entry))) n ⌝ }
+    ensures { λ r. ⌜ r ≡ sumBelow (elements (now (xs .entry))) n ⌝ }
 {
     let mut t: usize = 0;
     let mut i: usize = 0;

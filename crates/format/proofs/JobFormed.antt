@@ -10,7 +10,7 @@ use Rattle.lists.proofs.Each.{all-map, all-every, row-of}
 use Rattle.format.specs.Sizes.{boundarySize}
 use Rattle.format.specs.Values.{Boundary, Job}
 use Rattle.format.specs.Records.{boundaryAt}
-use Rattle.format.specs.Header.{offsetsBytes, cellCount, boundariesStart, totalLength, offsetsOf}
+use Rattle.format.specs.Header.{offsetsBytes, mapCells, boundariesStart, totalLength, offsetsOf}
 use Rattle.format.specs.Encode.{rampRecord, boundaryRecord, observationRecord, observationsOf, encodeBoundaries, countsOf, encode}
 use Rattle.format.specs.Decode.{boundaryRecords, sourceCount}
 use Rattle.format.specs.declared.header.Counts.{Counts}
@@ -26,7 +26,7 @@ use Rattle.format.proofs.JobTrip.{length-encode, offsets-on, boundaries
 offsets-fit : (c : Counts) → CountsAllowed c → OffsetsFit (offsetsOf c)
 unfolding offsetsOf
 offsets-fit c a =
-    let l : cellCount c ≤ 1024 * 1024 = mul-le-mul (a .width) (a .height) in
+    let l : mapCells c ≤ 1024 * 1024 = mul-le-mul (a .width) (a .height) in
     omega arith
 
 zero-written : (bs : List Boundary) → All (λ (r : BoundaryRecord). r .ramp .zero ≡ 0) (map boundaryRecord bs)

@@ -9,7 +9,7 @@ use Rattle.wire.specs.Bytes.{part, AreBytes}
 use Rattle.wire.proofs.Parts.{part-join, part-whole, length-part}
 use Rattle.format.specs.Sizes.{headerSize, baseSize}
 use Rattle.format.specs.Values.{Job}
-use Rattle.format.specs.Header.{countsAt, countsBytes, offsetsBytes, cellCount, basesStart, boundariesStart, observationsStart, sourcesStart, totalLength}
+use Rattle.format.specs.Header.{countsAt, countsBytes, offsetsBytes, mapCells, basesStart, boundariesStart, observationsStart, sourcesStart, totalLength}
 use Rattle.format.specs.Header.{offsetsOf}
 use Rattle.format.specs.Encode.{encodeBoundaries, countsOf, encode}
 use Rattle.format.specs.Decode.{baseOf, boundaryRecords, observationRecords, sourceRecords, baseRecords, decodeBoundaries, jobWith, decode}
@@ -61,7 +61,7 @@ unfolding decode jobWith countsOf
 decode-encode j f =
     let s = encode j in
     let c = countsOf j in
-    let e1 : part s headerSize (cellCount c) ≡ j .cells = part-here s headerSize (cellCount c) (j .cells) _ (f .cells) (cells-on j (f .cells)) in
+    let e1 : part s headerSize (mapCells c) ≡ j .cells = part-here s headerSize (mapCells c) (j .cells) _ (f .cells) (cells-on j (f .cells)) in
     let e2 : map baseOf (baseRecords s (basesStart c) (c .bases)) ≡ j .bases
     = bases-read s (basesStart c) (j .bases) (f .bases)
     (part-here s (basesStart c) (c .bases * baseSize) _ _ (length-baseSection (j .bases)) (bases-on j (f .cells))) in
@@ -107,15 +107,15 @@ encode-decode s h f =
     = ap (λ (d : Counts). offsetsBytes (offsetsOf d)) e0 ∙ ap offsetsBytes (sym (f .offsets)) ∙ offsets-trip .write s 24 h (omega arith) in
     let e3 = bases-write s (basesStart c) (c .bases) h (omega arith) in
     let e4 = boundaries-write s (boundariesStart c) (c .boundaries) (c .observations) (c .sources) (adds s f) h (omega arith) (f .zeros) in
-    let n : 24 + (24 + (cellCount c + (c .bases * baseSize + r))) ≡ length s = omega arith in
+    let n : 24 + (24 + (mapCells c + (c .bases * baseSize + r))) ≡ length s = omega arith in
     ap₂ _++_ e1
     (ap₂ _++_ e2
-    (ap (λ (t : List ℕ). part s headerSize (cellCount c) ++ t)
+    (ap (λ (t : List ℕ). part s headerSize (mapCells c) ++ t)
     (ap₂ _++_ e3 e4
     ∙ sym (part-join s (basesStart c) (c .bases * baseSize) r))
-    ∙ sym (part-join s headerSize (cellCount c) (c .bases * baseSize + r)))
-    ∙ sym (part-join s 24 24 (cellCount c + (c .bases * baseSize + r))))
-    ∙ sym (part-join s 0 24 (24 + (cellCount c + (c .bases * baseSize + r))))
+    ∙ sym (part-join s headerSize (mapCells c) (c .bases * baseSize + r)))
+    ∙ sym (part-join s 24 24 (mapCells c + (c .bases * baseSize + r))))
+    ∙ sym (part-join s 0 24 (24 + (mapCells c + (c .bases * baseSize + r))))
     ∙ ap (part s 0) n
     ∙ part-whole s
 
@@ -127,7 +127,7 @@ decode-fits s h f a =
     let l : length s ≡ totalLength c = f .total in
     record {
       counts = rw (counts-decode s f) a;
-      cells = length-part s headerSize (cellCount c) (omega arith);
+      cells = length-part s headerSize (mapCells c) (omega arith);
       bases = bases-within s (basesStart c) (c .bases) h (omega arith);
       boundaries = decoded-within s (boundariesStart c) (c .boundaries) (c .observations) (c .sources) h (omega arith);
     }

@@ -15,7 +15,7 @@ use Rattle.format.specs.Sizes.{spanSize}
 use Rattle.format.specs.Records.{spanAt, spanBytes}
 use Rattle.format.specs.Encode.{encodeList}
 use Rattle.format.specs.Decode.{decodeList}
-use Rattle.format.specs.Fits.{SpanFits}
+use Rattle.format.specs.Fits.{SpanEncodable}
 use Rattle.format.proofs.RecordTrips.{span-trip}
 use Rattle.format.proofs.RowTrips.{rows-read, rows-write}
 
@@ -35,7 +35,7 @@ unfolding decodeList
 from-start l = simp zero-add
 
 -- Spans that were written are read back.
-pub decodeList-encodeList : (ss : List Span) → All SpanFits ss → decodeList (encodeList ss) ≡ ss
+pub decodeList-encodeList : (ss : List Span) → All SpanEncodable ss → decodeList (encodeList ss) ≡ ss
 unfolding encodeList
 decodeList-encodeList ss h =
     let l : length (encodeList ss) ≡ length ss * spanSize = length-encodeList ss in

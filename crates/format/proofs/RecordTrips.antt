@@ -5,7 +5,8 @@ use Rattle.format.specs.Sizes.{baseSize, boundarySize, observationSize, 
 use Rattle.format.specs.Records.{positionAt, positionBytes, spanAt, spanBytes, sourceAt, sourceBytes, baseAt, baseBytes, rampAt, rampBytes, boundaryAt}
 use Rattle.format.specs.Records.{boundaryBytes, observationAt, observationBytes}
 use Rattle.format.specs.Header.{countsAt, countsBytes, offsetsAt, offsetsBytes}
-use Rattle.format.specs.Fits.{PositionFits, SpanFits, SourceFits, BaseRecordFits, RampRecordFits, BoundaryRecordFits, ObservationRecordFits, CountsFit}
+use Rattle.format.specs.Fits.{PositionFits, SpanEncodable, SourceFits, BaseRecordFits, RampRecordFits, BoundaryRecordFits, ObservationRecordFits}
+use Rattle.format.specs.Fits.{CountsFit}
 use Rattle.format.specs.Fits.{OffsetsFit}
 use Rattle.format.proofs.Trip.{Trip, number-trip, byte-trip, both-trip, as-trip}
 
@@ -24,7 +25,7 @@ position-trip =
     (both-trip (number-trip 4) (number-trip 4))
 
 -- A span: two ends.
-pub span-trip : Trip spanSize spanAt spanBytes SpanFits
+pub span-trip : Trip spanSize spanAt spanBytes SpanEncodable
 unfolding spanAt spanBytes
 span-trip =
     as-trip

@@ -12,7 +12,7 @@ use Rattle.wire.specs.Bytes.{part, u32At}
 use Rattle.format.specs.Sizes.{noAnchor, headerSize, answerHeaderSize, baseSize, boundarySize, observationSize, sourceSize, spanSize}
 use Rattle.format.specs.Values.{Base, Ramp, Observation, Boundary, Job}
 use Rattle.format.specs.Records.{spanAt, sourceAt, baseAt, boundaryAt, observationAt}
-use Rattle.format.specs.Header.{countsAt, cellCount, basesStart, boundariesStart}
+use Rattle.format.specs.Header.{countsAt, mapCells, basesStart, boundariesStart}
 use Rattle.format.specs.declared.header.Counts.{Counts}
 use Rattle.format.specs.declared.records.Source.{Source}
 use Rattle.format.specs.declared.records.BaseRecord.{BaseRecord}
@@ -97,7 +97,7 @@ unfolding part baseOf
 jobWith c s = record {
   width = c .width;
   height = c .height;
-  cells = part s headerSize (cellCount c);
+  cells = part s headerSize (mapCells c);
   bases = map baseOf (baseRecords s (basesStart c) (c .bases));
   boundaries = decodeBoundaries s (boundariesStart c) (c .boundaries) (c .observations) (c .sources);
 }

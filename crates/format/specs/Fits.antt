@@ -38,7 +38,7 @@ pub record PositionFits (p : PixelPosition) : Type 0 where
   pub x : IsWord (p .x)
   pub y : IsWord (p .y)
 
-pub record SpanFits (e : Span) : Type 0 where
+pub record SpanEncodable (e : Span) : Type 0 where
   pub a : PositionFits (e .a)
   pub b : PositionFits (e .b)
 
@@ -60,14 +60,14 @@ pub record RampRecordFits (r : RampRecord) : Type 0 where
   pub id : IsWord (r .id)
 
 pub record BoundaryRecordFits (r : BoundaryRecord) : Type 0 where
-  pub ends : SpanFits (r .ends)
+  pub ends : SpanEncodable (r .ends)
   pub bits : IsLong (r .bits)
   pub sources : IsWord (r .sources)
   pub observations : IsWord (r .observations)
   pub ramp : RampRecordFits (r .ramp)
 
 pub record ObservationRecordFits (r : ObservationRecord) : Type 0 where
-  pub ends : SpanFits (r .ends)
+  pub ends : SpanEncodable (r .ends)
   pub bits : IsLong (r .bits)
   pub sources : IsWord (r .sources)
 
@@ -104,12 +104,12 @@ pub record RampFits (r : Ramp) : Type 0 where
   pub id : IsWord (r .id)
 
 pub record ObservationFits (o : Observation) : Type 0 where
-  pub ends : SpanFits (o .ends)
+  pub ends : SpanEncodable (o .ends)
   pub bits : IsLong (o .bits)
   pub sources : All SourceFits (o .sources)
 
 pub record BoundaryFits (b : Boundary) : Type 0 where
-  pub ends : SpanFits (b .ends)
+  pub ends : SpanEncodable (b .ends)
   pub bits : IsLong (b .bits)
   pub ramp : RampFits (b .ramp)
   pub sources : All SourceFits (b .sources)

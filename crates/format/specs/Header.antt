@@ -40,12 +40,12 @@ unfoldable pub headerAt : List ℕ → Header
 unfolding countsAt offsetsAt
 headerAt s = record { counts = countsAt s 0; offsets = offsetsAt s countsSize }
 
-abbrev pub cellCount : Counts → ℕ
-cellCount c = c .width * c .height
+abbrev pub mapCells : Counts → ℕ
+mapCells c = c .width * c .height
 
 -- What the counts give.
 abbrev pub basesStart : Counts → ℕ
-basesStart c = headerSize + cellCount c
+basesStart c = headerSize + mapCells c
 
 abbrev pub boundariesStart : Counts → ℕ
 boundariesStart c = basesStart c + c .bases * baseSize

@@ -23,12 +23,12 @@ use Rattle.merging.specs.Kept.{noBoundary}
 use Rattle.merging.specs.Planned.{merged}
 use Rattle.merging.specs.Sources.{ownSources}
 use Rattle.answer.specs.Packed.{packed, sourcePack}
-use Rattle.answer.specs.Laying.{below}
-use Rattle.answer.specs.Placed.{Placed, seenOf}
-use Rattle.answer.specs.Gathered.{copiesBy, keptBy, Stands, Gathered}
+use Rattle.answer.specs.Laying.{sumBelow}
+use Rattle.answer.specs.Placed.{CopiesPlaced, seenOf}
+use Rattle.answer.specs.Gathered.{copiesBy, keptBy, PlacesStand, Gathered}
 use Rattle.answer.proofs.Merged.{packed-append, kept-list, kept-at, merged-ends, merged-bits, merged-ramp, merged-fits, merged-own, merged-seen, stands-none}
 use Rattle.answer.proofs.Merged.{stands-append}
-use Rattle.gathering.specs.Runs.{Filled, keptRanks, going, ownRun, seenRun, ownWeight, seenWeight, OwnsBy, SeensBy}
+use Rattle.gathering.specs.Runs.{Prefix, keptRanks, going, ownRun, seenRun, ownWeight, seenWeight, OwnsBy, SeensBy}
 use Rattle.gathering.proofs.Weights.{lower-all}
 
 packed-long : (l : List Source) → length l ≡ length (packed l)
@@ -36,7 +36,8 @@ unfolding packed
 packed-long l = sym (length-map l sourcePack)
 
 module _ {bs : ℕ → BoundaryRecord} {os : ℕ → ObservationRecord} {ss : List Source} {base n : ℕ} {firsts first second third starts counts keys : List ℕ}
-    (placed : Placed bs os ss base n firsts first second third starts counts keys) (order plan : List ℕ) (inside : (j : ℕ) → j < n → getD order j 0 < n) where
+    (placed : CopiesPlaced bs os ss base n firsts first second third starts counts keys) (order plan : List ℕ)
+    (inside : (j : ℕ) → j < n → getD order j 0 < n) where
   -- What goes into rank i.
   abbrev whole : ℕ → Boundary
   whole i = merged (copiesBy bs os ss order n) (going plan n i) i
@@ -51,7 +52,7 @@ module _ {bs : ℕ → BoundaryRecord} {os : ℕ → ObservationRecord} {ss : Li
   own-fits : (i : ℕ) → Stays i → All SourceFits (whole i .sources)
   own-fits i h = merged-fits placed order inside (λ j. getD plan j 0) i (h .0) (h .1)
 
-  seen-run : (i : ℕ) → Stays i → Stands first second third starts counts keys
+  seen-run : (i : ℕ) → Stays i → PlacesStand first second third starts counts keys
       (seenRun base order plan firsts first second third starts counts keys (seenOf bs os ss) n i) (whole i .observations)
   unfolding seenRun
   seen-run i h = merged-seen placed order inside (λ j. getD plan j 0) i (h .0) (h .1)
@@ -76,7 +77,7 @@ module _ {bs : ℕ → BoundaryRecord} {os : ℕ → ObservationRecord} {ss : Li
   owns-fit (i ∷ l) h = all-append (own-fits i (h i (List·Memᴰ·head refl))) (owns-fit l (λ j m. h j (List·Memᴰ·tail m)))
 
   seens-are : (l : List ℕ) → ((i : ℕ) → List·Memᴰ i l → Stays i)
-      → Stands first second third starts counts keys (gather (seenRun base order plan firsts first second third starts counts keys (seenOf bs os ss) n) l)
+      → PlacesStand first second third starts counts keys (gather (seenRun base order plan firsts first second third starts counts keys (seenOf bs os ss) n) l)
       (observationsOf (map whole l))
   unfolding observationsOf flatMap gather
   seens-are [] h = stands-none
@@ -84,7 +85,7 @@ module _ {bs : ℕ → BoundaryRecord} {os : ℕ → ObservationRecord} {ss : Li
 
   module _ {k r a b : ℕ} {kept owns seens owned seen : List ℕ} (o : OwnsBy base order plan starts counts keys n n k a kept owns owned)
       (s : SeensBy base order plan firsts first second third starts counts keys (seenOf bs os ss) n n r b seens seen)
-      (small : below (ownWeight base order counts) n ≤ 4096) (few : below (seenWeight order (seenOf bs os ss)) n ≤ 1280) where
+      (small : sumBelow (ownWeight base order counts) n ≤ 4096) (few : sumBelow (seenWeight order (seenOf bs os ss)) n ≤ 1280) where
     abbrev ranks : List ℕ
     ranks = keptRanks plan n
 
@@ -106,7 +107,7 @@ module _ {bs : ℕ → BoundaryRecord} {os : ℕ → ObservationRecord} {ss : Li
     ks-at q h = kept-at bs os ss order plan n q (getD ranks q 0) (omega (arith, h, ks-long)) refl
 
     -- What stands in a list that is filled rank by rank.
-    filled-at : {l : List ℕ} {m : ℕ} (f : ℕ → ℕ) → Filled l m (map f ranks) → (q : ℕ) → q < length ks → getD l q 0 ≡ f (getD ranks q 0)
+    filled-at : {l : List ℕ} {m : ℕ} (f : ℕ → ℕ) → Prefix l m (map f ranks) → (q : ℕ) → q < length ks → getD l q 0 ≡ f (getD ranks q 0)
     filled-at {l} {m} f g q h =
         let c : q < length ranks = omega (arith, h, ks-long) in
         let d : q < m = omega (arith, c, g .many, length-map ranks f) in
@@ -116,10 +117,11 @@ module _ {bs : ℕ → BoundaryRecord} {os : ℕ → ObservationRecord} {ss : Li
     owns-long = packed-long (ownSources ks)
         ∙ (ap length (ap (λ (l : List Boundary). packed (ownSources l)) ks-are ∙ owns-are ranks ranks-stay) ∙ sym (o .owned-there .many))
 
-    stands-all : Stands first second third starts counts keys
+    stands-all : PlacesStand first second third starts counts keys
         (gather (seenRun base order plan firsts first second third starts counts keys (seenOf bs os ss) n) ranks) (observationsOf ks)
     stands-all = subst (λ (l : List Boundary).
-        Stands first second third starts counts keys (gather (seenRun base order plan firsts first second third starts counts keys (seenOf bs os ss) n) ranks)
+        PlacesStand first second third starts counts keys
+        (gather (seenRun base order plan firsts first second third starts counts keys (seenOf bs os ss) n) ranks)
         (observationsOf l)) (sym ks-are) (seens-are ranks ranks-stay)
 
     seens-long : length (observationsOf ks) ≡ b

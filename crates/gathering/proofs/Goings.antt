@@ -16,9 +16,9 @@ use Rattle.order.proofs.Keep.{keep-append}
 use Rattle.order.specs.Sorting.{sortOnce}
 use Rattle.sorting.specs.Between.{between, Front}
 use Rattle.merging.specs.Planned.{members}
-use Rattle.answer.specs.Laying.{below}
+use Rattle.answer.specs.Laying.{sumBelow}
 use Rattle.answer.proofs.Lays.{below-next}
-use Rattle.gathering.specs.Runs.{Added, going, ownAt, ownRun, ownWeight, into}
+use Rattle.gathering.specs.Runs.{Appended, going, ownAt, ownRun, ownWeight, into}
 use Rattle.gathering.specs.Room.{OwnRoom}
 use Rattle.gathering.proofs.Fills.{up-next, added-none, added-is, added-then, added-once}
 use Rattle.order.proofs.Gather.{gather-append}
@@ -64,29 +64,29 @@ cond-le false k m h = omega arith
 
 -- One more rank's run, if it goes into rank i.
 module _ {l₀ l m : List ℕ} {from to r : ℕ} (f : ℕ → List ℕ) (plan : List ℕ) (j i : ℕ)
-    (a : Added l₀ from (gather f (going plan j i)) l to) (g : Added l to (cond (eqb (getD plan j 0) i) (f j) []) m r) where
-  pub runs-next : Added l₀ from (gather f (going plan (j + 1) i)) m r
+    (a : Appended l₀ from (gather f (going plan j i)) l to) (g : Appended l to (cond (eqb (getD plan j 0) i) (f j) []) m r) where
+  pub runs-next : Appended l₀ from (gather f (going plan (j + 1) i)) m r
   runs-next = added-is (added-then a g) refl (sym (gather-last f plan j i))
 
-  pub weight-next : (w : ℕ → ℕ) → length (f j) ≤ w j → to ≤ from + below (into plan w i) j → r ≤ from + below (into plan w i) (j + 1)
+  pub weight-next : (w : ℕ → ℕ) → length (f j) ≤ w j → to ≤ from + sumBelow (into plan w i) j → r ≤ from + sumBelow (into plan w i) (j + 1)
   weight-next w h e =
       omega (arith, e, g .ends, length-cond (eqb (getD plan j 0) i) (f j), cond-le (eqb (getD plan j 0) i) (length (f j)) (w j) h, below-next (into plan w i) j)
 
-pub runs-start : (f : ℕ → List ℕ) (plan : List ℕ) (i : ℕ) (l : List ℕ) (from : ℕ) → Added l from (gather f (going plan 0 i)) l from
+pub runs-start : (f : ℕ → List ℕ) (plan : List ℕ) (i : ℕ) (l : List ℕ) (from : ℕ) → Appended l from (gather f (going plan 0 i)) l from
 runs-start f plan i l from = added-is (added-none l from) refl (sym (gather-none f plan i))
 
-pub runs-end : {l m : List ℕ} {from to : ℕ} (f : ℕ → List ℕ) (w : ℕ → ℕ) (plan : List ℕ) (i j n : ℕ) → Added l from (gather f (going plan j i)) m to
-    → to ≤ from + below (into plan w i) j → j ≤ n → n ≤ j
-    → Added l from (gather f (going plan n i)) m to × (to ≤ from + below (into plan w i) n)
+pub runs-end : {l m : List ℕ} {from to : ℕ} (f : ℕ → List ℕ) (w : ℕ → ℕ) (plan : List ℕ) (i j n : ℕ) → Appended l from (gather f (going plan j i)) m to
+    → to ≤ from + sumBelow (into plan w i) j → j ≤ n → n ≤ j
+    → Appended l from (gather f (going plan n i)) m to × (to ≤ from + sumBelow (into plan w i) n)
 runs-end {l} {m} {from} {to} f w plan i j n a b h k =
     let e : j ≡ n = omega arith in
-    (added-is a refl (ap (λ (z : ℕ). gather f (going plan z i)) e), subst (λ (z : ℕ). to ≤ from + below (into plan w i) z) e b)
+    (added-is a refl (ap (λ (z : ℕ). gather f (going plan z i)) e), subst (λ (z : ℕ). to ≤ from + sumBelow (into plan w i) z) e b)
 
 -- Nothing of a rank that goes elsewhere, its run of one that goes there.
-pub elsewhere : (l xs : List ℕ) (to : ℕ) {x y z : ℕ} → z ≡ x → (z ≡ y → ⊥) → Added l to (cond (eqb x y) xs []) l to
+pub elsewhere : (l xs : List ℕ) (to : ℕ) {x y z : ℕ} → z ≡ x → (z ≡ y → ⊥) → Appended l to (cond (eqb x y) xs []) l to
 elsewhere l xs to {x} {y} e h = rw (is-false (eqb x y) (λ q. h (e ∙ eqb-true x y q))) (added-none l to)
 
-pub there : {l m xs : List ℕ} {to r x y z : ℕ} → z ≡ x → z ≡ y → Added l to xs m r → Added l to (cond (eqb x y) xs []) m r
+pub there : {l m xs : List ℕ} {to r x y z : ℕ} → z ≡ x → z ≡ y → Appended l to xs m r → Appended l to (cond (eqb x y) xs []) m r
 there {x = x} {y = y} e h a = rw (eq-eqb x y (sym e ∙ h)) a
 
 -- The own sources of rank j, which has place z.
@@ -115,13 +115,13 @@ own-long {base} {order} {starts} {counts} {keys} r j h =
     omega (arith, e)
 
 -- The first ranks weigh no more than all.
-pub into-part : (plan : List ℕ) (w : ℕ → ℕ) (i j n : ℕ) → j < n → below (into plan w i) j + into plan w i j ≤ below (into plan w i) n
+pub into-part : (plan : List ℕ) (w : ℕ → ℕ) (i j n : ℕ) → j < n → sumBelow (into plan w i) j + into plan w i j ≤ sumBelow (into plan w i) n
 into-part plan w i j n h = omega (arith, below-next (into plan w i) j, sum-prefix (j + 1) n (into plan w i) (omega arith))
 
 -- These, sorted and each once.
 pub own-gathered : {l₀ l m : List ℕ} {from to r : ℕ} (base : ℕ) (order plan starts counts keys : List ℕ) (n i : ℕ)
-    → Added l₀ from (gather (ownAt base order starts counts keys) (going plan n i)) l to
+    → Appended l₀ from (gather (ownAt base order starts counts keys) (going plan n i)) l to
     → from ≤ length l₀ → Front l from to (sortOnce leb (between l from to)) m r → length m ≡ length l
-    → Added l₀ from (ownRun base order plan starts counts keys n i) m r
+    → Appended l₀ from (ownRun base order plan starts counts keys n i) m r
 unfolding ownRun
 own-gathered base order plan starts counts keys n i a h f d = added-once a h f d

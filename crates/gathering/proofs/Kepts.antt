@@ -8,8 +8,8 @@ use borrow.Author.Tests.{eq-eqb, ne-eqb}
 use lib.Dec.{eqb}
 use lib.ListN.{length, getD, set}
 use Rattle.order.specs.Lists.{keep, gather, upFrom}
-use Rattle.answer.specs.Laying.{below}
-use Rattle.gathering.specs.Runs.{Filled, Added, keptRanks, ownRun, seenRun, ownWeight, seenWeight, into, OwnsBy, SeensBy, ownTotal, seenTotal}
+use Rattle.answer.specs.Laying.{sumBelow}
+use Rattle.gathering.specs.Runs.{Prefix, Appended, keptRanks, ownRun, seenRun, ownWeight, seenWeight, into, OwnsBy, SeensBy, gatheredTotal, seenTotal}
 use Rattle.gathering.proofs.Fills.{filled-start, filled-is, filled-put, filled-then}
 use Rattle.gathering.proofs.Goings.{keep-last}
 use Rattle.gathering.proofs.Weights.{lower-next, lower-all}
@@ -44,14 +44,14 @@ module _ (plan : List ℕ) (i : ℕ) {z : ℕ} (e : z ≡ getD plan i 0) where
     count-on : (k : ℕ) → k + cond (eqb (getD plan i 0) i) 1 0 ≡ k + 1
     count-on k = ap (λ (b : Bool). k + cond b 1 0) test-on
 
-    put-on : {l : List ℕ} {k v : ℕ} (f : ℕ → ℕ) → Filled l k (map f (keptRanks plan i)) → k < length l → v ≡ f i
-        → Filled (set l k v) (k + cond (eqb (getD plan i 0) i) 1 0) (map f (keptRanks plan (i + 1)))
+    put-on : {l : List ℕ} {k v : ℕ} (f : ℕ → ℕ) → Prefix l k (map f (keptRanks plan i)) → k < length l → v ≡ f i
+        → Prefix (set l k v) (k + cond (eqb (getD plan i 0) i) 1 0) (map f (keptRanks plan (i + 1)))
     put-on {l} {k} {v} f a h q =
         filled-is (filled-put v a h) (sym (count-on k))
         (ap (λ (y : ℕ). map f (keptRanks plan i) ++ (y ∷ [])) q ∙ (sym (map-append f (keptRanks plan i) (i ∷ [])) ∙ ap (map f) (sym ranks-on)))
 
-    then-on : {l m : List ℕ} {a r : ℕ} (f : ℕ → List ℕ) → Filled l a (gather f (keptRanks plan i)) → Added l a (f i) m r
-        → Filled m r (gather f (keptRanks plan (i + 1)))
+    then-on : {l m : List ℕ} {a r : ℕ} (f : ℕ → List ℕ) → Prefix l a (gather f (keptRanks plan i)) → Appended l a (f i) m r
+        → Prefix m r (gather f (keptRanks plan (i + 1)))
     then-on f a g = filled-is (filled-then a g) refl (sym (gather-last f (keptRanks plan i) i) ∙ ap (gather f) (sym ranks-on))
 
 module _ (base : ℕ) (order plan starts counts keys : List ℕ) (n : ℕ) where
@@ -81,7 +81,7 @@ module _ (base : ℕ) (order plan starts counts keys : List ℕ) (n : ℕ) where
       room = omega (arith, s .room, lower-next plan (ownWeight base order counts) i n);
     }
 
-    pub owns-keep : z ≡ i → {p v r : ℕ} {owned′ : List ℕ} → Added owned a (run i) owned′ r → r ≤ a + below (into plan (ownWeight base order counts) i) n
+    pub owns-keep : z ≡ i → {p v r : ℕ} {owned′ : List ℕ} → Appended owned a (run i) owned′ r → r ≤ a + sumBelow (into plan (ownWeight base order counts) i) n
         → k < length kept → k < length owns → p ≡ getD order i 0 → v ≡ r - a
         → state (i + 1) (k + cond (eqb (getD plan i 0) i) 1 0) r (set kept k p) (set owns k v) owned′
     owns-keep d {p} {v} {r} g b h l x y = record {
@@ -93,16 +93,16 @@ module _ (base : ℕ) (order plan starts counts keys : List ℕ) (n : ℕ) where
     }
 
   pub owns-end : {i k a : ℕ} {kept owns owned : List ℕ} → state i k a kept owns owned → i ≤ n → n ≤ i
-      → state n k (ownTotal base order plan starts counts keys n) kept owns owned
+      → state n k (gatheredTotal base order plan starts counts keys n) kept owns owned
   owns-end {i} {k} {a} {kept} {owns} {owned} s h l =
       let e : i ≡ n = omega arith in
-      let d : a ≡ ownTotal base order plan starts counts keys n = s .owned-there .many ∙ ap (λ (y : ℕ). length (gather run (keptRanks plan y))) e in
+      let d : a ≡ gatheredTotal base order plan starts counts keys n = s .owned-there .many ∙ ap (λ (y : ℕ). length (gather run (keptRanks plan y))) e in
       subst (λ (y : ℕ). state n k y kept owns owned) d (subst (λ (y : ℕ). state y k a kept owns owned) e s)
 
 -- What goes into rank i still fits.
 pub owns-fit : {base : ℕ} {order plan starts counts keys kept owns owned : List ℕ} {n i k a : ℕ}
     → OwnsBy base order plan starts counts keys n i k a kept owns owned
-    → a + below (into plan (ownWeight base order counts) i) n ≤ below (ownWeight base order counts) n
+    → a + sumBelow (into plan (ownWeight base order counts) i) n ≤ sumBelow (ownWeight base order counts) n
 owns-fit {base} {order} {plan} {counts = counts} {n = n} {i = i} s =
     omega (arith, s .room, lower-next plan (ownWeight base order counts) i n, lower-all plan (ownWeight base order counts) (i + 1) n)
 
@@ -135,7 +135,7 @@ module _ (base : ℕ) (order plan firsts first second third starts counts keys :
       room = omega (arith, s .room, lower-next plan (seenWeight order count) i n);
     }
 
-    pub seens-keep : z ≡ i → {v r : ℕ} {seen′ : List ℕ} → Added seen a (sights i) seen′ r → r ≤ a + below (into plan (seenWeight order count) i) n
+    pub seens-keep : z ≡ i → {v r : ℕ} {seen′ : List ℕ} → Appended seen a (sights i) seen′ r → r ≤ a + sumBelow (into plan (seenWeight order count) i) n
         → k < length seens → v ≡ r - a → seenState (i + 1) (k + cond (eqb (getD plan i 0) i) 1 0) r (set seens k v) seen′
     seens-keep d g b l y = record {
       few = omega (arith, count-on plan i e d k, s .few);
@@ -154,7 +154,7 @@ module _ (base : ℕ) (order plan firsts first second third starts counts keys :
 
 pub seens-fit : {base : ℕ} {order plan firsts first second third starts counts keys seens seen : List ℕ} {count : ℕ → ℕ} {n i k a : ℕ}
     → SeensBy base order plan firsts first second third starts counts keys count n i k a seens seen
-    → a + below (into plan (seenWeight order count) i) n ≤ below (seenWeight order count) n
+    → a + sumBelow (into plan (seenWeight order count) i) n ≤ sumBelow (seenWeight order count) n
 seens-fit {order = order} {plan = plan} {count = count} {n = n} {i = i} s =
     omega (arith, s .room, lower-next plan (seenWeight order count) i n, lower-all plan (seenWeight order count) (i + 1) n)
 

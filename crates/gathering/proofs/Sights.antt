@@ -15,23 +15,23 @@ use Rattle.sorting.specs.Between.{between}
 use Rattle.places.specs.Orders.{byRun}
 use Rattle.answer.specs.Laying.{seenCount}
 use Rattle.answer.specs.Gathered.{placesFrom}
-use Rattle.gathering.specs.Runs.{Added, going, placesAt, seenRun, seenWeight, into}
+use Rattle.gathering.specs.Runs.{Appended, going, placesAt, seenRun, seenWeight, into}
 use Rattle.gathering.specs.Room.{SeenRoom}
 use Rattle.gathering.proofs.Fills.{added-none, added-is, added-sorted}
 use Rattle.gathering.proofs.Goings.{going-last, going-none}
 
 -- Of one that observed something, of one alone that observed nothing, and of one of several that observed nothing.
 module _ {p k b : ℕ} (base among : ℕ) (firsts : List ℕ) (count : ℕ → ℕ) (e : getD firsts b 0 ≡ p) (f : count b ≡ k) where
-  pub places-some : {l m : List ℕ} {to r : ℕ} → (k ≡ 0 → ⊥) → Added l to (upFrom p k) m r → Added l to (placesFrom base firsts count (eqb among 1) b) m r
+  pub places-some : {l m : List ℕ} {to r : ℕ} → (k ≡ 0 → ⊥) → Appended l to (upFrom p k) m r → Appended l to (placesFrom base firsts count (eqb among 1) b) m r
   unfolding placesFrom
   places-some d a = rw (f, e, ne-eqb k 0 d) a
 
-  pub places-alone : (l : List ℕ) (to : ℕ) → k ≡ 0 → among ≡ 1 → Added l to (placesFrom base firsts count (eqb among 1) b) l to
+  pub places-alone : (l : List ℕ) (to : ℕ) → k ≡ 0 → among ≡ 1 → Appended l to (placesFrom base firsts count (eqb among 1) b) l to
   unfolding placesFrom upFrom
   places-alone l to z h = rw (f, z, eq-eqb among 1 h) (added-none l to)
 
-  pub places-itself : {l m : List ℕ} {to r : ℕ} → k ≡ 0 → (among ≡ 1 → ⊥) → Added l to (upFrom (base + b) 1) m r
-      → Added l to (placesFrom base firsts count (eqb among 1) b) m r
+  pub places-itself : {l m : List ℕ} {to r : ℕ} → k ≡ 0 → (among ≡ 1 → ⊥) → Appended l to (upFrom (base + b) 1) m r
+      → Appended l to (placesFrom base firsts count (eqb among 1) b) m r
   unfolding placesFrom upFrom
   places-itself z h a = rw (f, z, ne-eqb among 1 h) a
 
@@ -63,8 +63,8 @@ module _ {s order firsts : List ℕ} {at base n j : ℕ} (room : SeenRoom s at b
   pub places-inside : {p m : ℕ} → p ≡ getD firsts z 0 → m ≡ seenCount s at z → p + m ≤ 1280
   places-inside a b = omega (arith, a, b, room .places-in z place-small, room .base-few)
 
-  pub places-there : {l m : List ℕ} {to r : ℕ} (among : ℕ) → Added l to (placesFrom base firsts (seenCount s at) (eqb among 1) z) m r
-      → Added l to (placesAt base order firsts (seenCount s at) among j) m r
+  pub places-there : {l m : List ℕ} {to r : ℕ} (among : ℕ) → Appended l to (placesFrom base firsts (seenCount s at) (eqb among 1) z) m r
+      → Appended l to (placesAt base order firsts (seenCount s at) among j) m r
   places-there among a = added-is a refl (ap (placesFrom base firsts (seenCount s at) (eqb among 1)) e)
 
 length-one : (t : Bool) (j : ℕ) → length (cond t (j ∷ []) []) ≡ cond t 1 0
@@ -98,9 +98,10 @@ count-end plan i j n e h k = let d : j ≡ n = omega arith in e ∙ ap (λ (z : 
 -- These, sorted.
 pub seen-gathered : {l₀ l m : List ℕ} {from to among : ℕ} (base : ℕ) (order plan firsts first second third starts counts keys : List ℕ) (count : ℕ → ℕ)
     (n i : ℕ)
-    → among ≡ length (going plan n i) → Added l₀ from (gather (placesAt base order firsts count among) (going plan n i)) l to → from ≤ length l₀ → to ≤ length l
+    → among ≡ length (going plan n i) → Appended l₀ from (gather (placesAt base order firsts count among) (going plan n i)) l to → from ≤ length l₀
+    → to ≤ length l
     → m ≡ splice l from (sort (byRun first second third starts counts keys) (between l from to))
-    → Added l₀ from (seenRun base order plan firsts first second third starts counts keys count n i) m to
+    → Appended l₀ from (seenRun base order plan firsts first second third starts counts keys count n i) m to
 unfolding seenRun
 seen-gathered base order plan firsts first second third starts counts keys count n i d a h b e =
     added-is (added-sorted a h (byRun first second third starts counts keys) b e) refl

@@ -15,8 +15,8 @@ use Rattle.order.specs.Lists.{upFrom}
 use Rattle.order.proofs.Bools.{by-test}
 use Rattle.order.proofs.Members.{perm-mem, getD-mem}
 use Rattle.order.proofs.Numbers.{up-mem, map-up-at, up-length}
-use Rattle.answer.specs.Laying.{below, seenCount}
-use Rattle.answer.specs.Gathered.{Ordered}
+use Rattle.answer.specs.Laying.{sumBelow, seenCount}
+use Rattle.answer.specs.Gathered.{PlacesOrder}
 use Rattle.answer.proofs.Layouts.{below-none}
 use Rattle.gathering.specs.Runs.{into, lower, ownWeight, seenWeight}
 use Rattle.gathering.specs.Room.{OwnsRoom, SeensRoom, GatherRoom}
@@ -33,7 +33,7 @@ weight-split x i v =
     more : (x i : ℕ) → i ≤ x → (x ≡ i → ⊥) → i + 1 ≤ x
     more x i h d = by-cases (ℕ-discrete x i) (λ e. absurd (d e)) (λ n. omega arith)
 
-pub lower-next : (plan : List ℕ) (w : ℕ → ℕ) (i n : ℕ) → below (lower plan w i) n + below (into plan w i) n ≡ below (lower plan w (i + 1)) n
+pub lower-next : (plan : List ℕ) (w : ℕ → ℕ) (i n : ℕ) → sumBelow (lower plan w i) n + sumBelow (into plan w i) n ≡ sumBelow (lower plan w (i + 1)) n
 lower-next plan w i zero = omega (arith, below-none (lower plan w i), below-none (into plan w i), below-none (lower plan w (i + 1)))
 lower-next plan w i (suc n) =
     omega (
@@ -49,7 +49,7 @@ cond-most : (b : Bool) (v : ℕ) → cond b v 0 ≤ v
 cond-most true v = omega arith
 cond-most false v = omega arith
 
-pub lower-all : (plan : List ℕ) (w : ℕ → ℕ) (i n : ℕ) → below (lower plan w i) n ≤ below w n
+pub lower-all : (plan : List ℕ) (w : ℕ → ℕ) (i n : ℕ) → sumBelow (lower plan w i) n ≤ sumBelow w n
 lower-all plan w i zero = omega (arith, below-none (lower plan w i))
 lower-all plan w i (suc n) = omega (arith, lower-all plan w i n, sum-last n (lower plan w i), sum-last n w, cond-most (ltb (getD plan n 0) i) (w n))
 
@@ -63,16 +63,16 @@ rows-up f a (suc n) =
     ∙ ap (λ (t : List ℕ). f (a + 0) ∷ t)
     (rows-up f (suc a) n ∙ rows-same n (λ k. f (suc a + k)) (λ k. f (a + suc k)) (λ k h. ap f (let d : suc a + k ≡ a + suc k = omega arith in d)))
 
-below-up : (f : ℕ → ℕ) (n : ℕ) → below f n ≡ sum (map f (upFrom 0 n))
+below-up : (f : ℕ → ℕ) (n : ℕ) → sumBelow f n ≡ sum (map f (upFrom 0 n))
 below-up f n = ap sum (sym (rows-up f 0 n ∙ rows-same n (λ k. f (0 + k)) f (λ k h. ap f (let d : 0 + k ≡ k = omega arith in d))))
 
-pub below-order : (order : List ℕ) (n : ℕ) → Ordered order n → (f : ℕ → ℕ) → below (λ j. f (getD order j 0)) n ≡ below f n
+pub below-order : (order : List ℕ) (n : ℕ) → PlacesOrder order n → (f : ℕ → ℕ) → sumBelow (λ j. f (getD order j 0)) n ≡ sumBelow f n
 below-order order n p f =
     below-up (λ j. f (getD order j 0)) n
     ∙ (sym (ap sum (map-map f (λ j. getD order j 0) (upFrom 0 n)))
     ∙ (sym (sum-perm (Permᴰ·map f p)) ∙ sym (below-up f n)))
 
-pub order-inside : (order : List ℕ) (n : ℕ) → Ordered order n → (j : ℕ) → j < n → getD order j 0 < n
+pub order-inside : (order : List ℕ) (n : ℕ) → PlacesOrder order n → (j : ℕ) → j < n → getD order j 0 < n
 order-inside order n p j h =
     let e : getD (map (λ i. getD order i 0) (upFrom 0 n)) j 0 ≡ getD order j 0 = map-up-at (λ i. getD order i 0) 0 n j 0 h
     ∙ ap (λ (k : ℕ). getD order k 0) (let d : 0 + j ≡ j = omega arith in d) in
@@ -82,16 +82,16 @@ order-inside order n p j h =
     let u = up-mem 0 n (perm-mem (Permᴰ·symm p) m) in
     omega (arith, u .1, e)
 
-below-suc : (f : ℕ → ℕ) (n : ℕ) → below (λ j. suc (f j)) n ≡ n + below f n
+below-suc : (f : ℕ → ℕ) (n : ℕ) → sumBelow (λ j. suc (f j)) n ≡ n + sumBelow f n
 below-suc f zero = omega (arith, below-none f, below-none (λ j. suc (f j)))
 below-suc f (suc n) = omega (arith, below-suc f n, sum-last n f, sum-last n (λ j. suc (f j)))
 
 module _ {s : List ℕ} {at base n : ℕ} {order firsts starts counts keys spare kept owns seens owned seen places : List ℕ}
     (room : GatherRoom s at base n order firsts starts counts keys spare kept owns seens owned seen places) where
-  own-weight : below (ownWeight base order counts) n ≡ below (λ b. getD counts (base + b) 0) n
+  own-weight : sumBelow (ownWeight base order counts) n ≡ sumBelow (λ b. getD counts (base + b) 0) n
   own-weight = below-order order n (room .ordered) (λ b. getD counts (base + b) 0)
 
-  seen-weight : below (seenWeight order (seenCount s at)) n ≤ base + n
+  seen-weight : sumBelow (seenWeight order (seenCount s at)) n ≤ base + n
   seen-weight = omega (arith, below-order order n (room .ordered) (seenCount s at), below-suc (λ j. seenCount s at (getD order j 0)) n, room .seen-small)
 
   pub owns-room : OwnsRoom base order starts counts keys spare kept owns owned n

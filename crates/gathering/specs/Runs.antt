@@ -9,17 +9,17 @@ use Rattle.order.specs.Lists.{keep, gather, upFrom}
 use Rattle.order.specs.Sorting.{sort, sortOnce}
 use Rattle.places.specs.Orders.{byRun}
 use Rattle.merging.specs.Planned.{members}
-use Rattle.answer.specs.Laying.{below}
+use Rattle.answer.specs.Laying.{sumBelow}
 use Rattle.answer.specs.Squeezed.{partOf}
 use Rattle.answer.specs.Gathered.{placesFrom}
 
 -- The first n elements of l are xs.
-pub record Filled (l : List ℕ) (n : ℕ) (xs : List ℕ) : Type 0 where
+pub record Prefix (l : List ℕ) (n : ℕ) (xs : List ℕ) : Type 0 where
   pub many : n ≡ length xs
   pub there : take n l ≡ xs
 
 -- `more` written after the first `from` elements: up to r.
-pub record Added (before : List ℕ) (from : ℕ) (more after : List ℕ) (r : ℕ) : Type 0 where
+pub record Appended (before : List ℕ) (from : ℕ) (more after : List ℕ) (r : ℕ) : Type 0 where
   pub long : length after ≡ length before
   pub ends : r ≡ from + length more
   pub there : take r after ≡ take from before ++ more
@@ -66,25 +66,25 @@ into plan weight i j = cond (eqb (getD plan j 0) i) (weight j) 0
 abbrev pub lower : (plan : List ℕ) (weight : ℕ → ℕ) → ℕ → ℕ → ℕ
 lower plan weight i j = cond (ltb (getD plan j 0) i) (weight j) 0
 
--- The own sources of the kept ranks below i, which end at a: each one's place, how many own sources it has, and these.
+-- The own sources of the kept ranks sumBelow i, which end at a: each one's place, how many own sources it has, and these.
 pub record OwnsBy (base : ℕ) (order plan starts counts keys : List ℕ) (n i k a : ℕ) (kept owns owned : List ℕ) : Type 0 where
   pub few : k ≤ i
-  pub kept-there : Filled kept k (map (λ j. getD order j 0) (keptRanks plan i))
-  pub owns-there : Filled owns k (map (λ j. length (ownRun base order plan starts counts keys n j)) (keptRanks plan i))
-  pub owned-there : Filled owned a (gather (ownRun base order plan starts counts keys n) (keptRanks plan i))
-  pub room : a ≤ below (lower plan (ownWeight base order counts) i) n
+  pub kept-there : Prefix kept k (map (λ j. getD order j 0) (keptRanks plan i))
+  pub owns-there : Prefix owns k (map (λ j. length (ownRun base order plan starts counts keys n j)) (keptRanks plan i))
+  pub owned-there : Prefix owned a (gather (ownRun base order plan starts counts keys n) (keptRanks plan i))
+  pub room : a ≤ sumBelow (lower plan (ownWeight base order counts) i) n
 
 -- The places of their observations, which end at a: how many each one has, and these.
 pub record SeensBy (base : ℕ) (order plan firsts first second third starts counts keys : List ℕ) (count : ℕ → ℕ) (n i k a : ℕ) (seens seen : List ℕ) : Type
     0 where
   pub few : k ≤ i
-  pub seens-there : Filled seens k (map (λ j. length (seenRun base order plan firsts first second third starts counts keys count n j)) (keptRanks plan i))
-  pub seen-there : Filled seen a (gather (seenRun base order plan firsts first second third starts counts keys count n) (keptRanks plan i))
-  pub room : a ≤ below (lower plan (seenWeight order count) i) n
+  pub seens-there : Prefix seens k (map (λ j. length (seenRun base order plan firsts first second third starts counts keys count n j)) (keptRanks plan i))
+  pub seen-there : Prefix seen a (gather (seenRun base order plan firsts first second third starts counts keys count n) (keptRanks plan i))
+  pub room : a ≤ sumBelow (lower plan (seenWeight order count) i) n
 
 -- How many of each are gathered in all.
-abbrev pub ownTotal : (base : ℕ) (order plan starts counts keys : List ℕ) → ℕ → ℕ
-ownTotal base order plan starts counts keys n = length (gather (ownRun base order plan starts counts keys n) (keptRanks plan n))
+abbrev pub gatheredTotal : (base : ℕ) (order plan starts counts keys : List ℕ) → ℕ → ℕ
+gatheredTotal base order plan starts counts keys n = length (gather (ownRun base order plan starts counts keys n) (keptRanks plan n))
 
 abbrev pub seenTotal : (base : ℕ) (order plan firsts first second third starts counts keys : List ℕ) (count : ℕ → ℕ) → ℕ → ℕ
 seenTotal base order plan firsts first second third starts counts keys count n =

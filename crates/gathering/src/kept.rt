@@ -5,7 +5,7 @@ ghost use Prim.Native.Nat.{ℕ};
 ghost use lib.ListN.{length};
 ghost use Rattle.format.specs.declared.records.Source.{Source};
 ghost use Rattle.format.specs.declared.records.ObservationRecord.{ObservationRecord};
-ghost use Rattle.answer.specs.Placed.{Placed, boundaryRows};
+ghost use Rattle.answer.specs.Placed.{CopiesPlaced, boundaryRows};
 ghost use Rattle.answer.specs.Gathered.{Gathered, keptBy};
 ghost use Rattle.gathering.specs.Room.{GatherRoom};
 use crate::own::gather_owns;
@@ -38,7 +38,7 @@ pub fn gather_kept(
     requires { ⌜ GatherRoom (now job) at base n (now order) (now firsts) (now starts) (now counts) (now keys) (now spare) (now kept) (now owns) (now seens)
         (now owned) (now seen) (now «spare_places») ⌝ }
     ensures { λ r. ⌜ ((os : ℕ → ObservationRecord) (ss : List Source)
-        → Placed (boundaryRows (now (job .entry)) at) os ss base n (now (firsts .entry)) (now (first .entry)) (now (second .entry)) (now (third .entry))
+        → CopiesPlaced (boundaryRows (now (job .entry)) at) os ss base n (now (firsts .entry)) (now (first .entry)) (now (second .entry)) (now (third .entry))
         (now (starts .entry)) (now (counts .entry)) (now (keys .entry))
         → Gathered (boundaryRows (now (job .entry)) at) n (keptBy (boundaryRows (now (job .entry)) at) os ss (now (order .entry)) (now (plan .entry)) n)
         (now (kept .exit)) (now (owns .exit)) (now (seens .exit)) (now (owned .exit)) (now (seen .exit)) (now (first .entry)) (now (second .entry))

@@ -5,8 +5,8 @@ ghost use Prim.Native.Nat.{_+_, _≤_, _<_};
 ghost use lib.Dec.{eqb};
 ghost use lib.ListN.{length, getD};
 ghost use Rattle.order.specs.Lists.{gather};
-ghost use Rattle.answer.specs.Laying.{below};
-ghost use Rattle.gathering.specs.Runs.{Added, going, ownAt, ownRun, ownWeight, into, OwnsBy, ownTotal};
+ghost use Rattle.answer.specs.Laying.{sumBelow};
+ghost use Rattle.gathering.specs.Runs.{Appended, going, ownAt, ownRun, ownWeight, into, OwnsBy, gatheredTotal};
 ghost use Rattle.gathering.specs.Room.{OwnRoom, OwnsRoom};
 use crate::casts::counted;
 use crate::runs::append_keys;
@@ -29,7 +29,7 @@ fn add_own(
 ) -> usize
     requires { ⌜ OwnRoom base (now order) (now starts) (now counts) (now keys) n × (j < n)
         × (to + into (now plan) (ownWeight base (now order) (now counts)) i j ≤ length (now owned)) ⌝ }
-    ensures { λ r. ⌜ Added (now (owned .entry)) to
+    ensures { λ r. ⌜ Appended (now (owned .entry)) to
         (cond (eqb (getD (now (plan .entry)) j 0) i) (ownAt base (now (order .entry)) (now (starts .entry)) (now (counts .entry)) (now (keys .entry)) j) [])
         (now (owned .exit)) r ⌝ }
 {
@@ -54,10 +54,10 @@ fn add_owns(
     from: usize,
 ) -> usize
     requires { ⌜ OwnRoom base (now order) (now starts) (now counts) (now keys) n
-        × (from + below (into (now plan) (ownWeight base (now order) (now counts)) i) n ≤ length (now owned)) ⌝ }
-    ensures { λ r. ⌜ Added (now (owned .entry)) from
+        × (from + sumBelow (into (now plan) (ownWeight base (now order) (now counts)) i) n ≤ length (now owned)) ⌝ }
+    ensures { λ r. ⌜ Appended (now (owned .entry)) from
         (gather (ownAt base (now (order .entry)) (now (starts .entry)) (now (counts .entry)) (now (keys .entry))) (going (now (plan .entry)) n i))
-        (now (owned .exit)) r × (r ≤ from + below (into (now (plan .entry)) (ownWeight base (now (order .entry)) (now (counts .entry))) i) n) ⌝ }
+        (now (owned .exit)) r × (r ≤ from + sumBelow (into (now (plan .entry)) (ownWeight base (now (order .entry)) (now (counts .entry))) i) n) ⌝ }
 {
     let mut to = from;
     let mut j: usize = 0;
@@ -83,11 +83,11 @@ fn gather_own(
     from: usize,
 ) -> usize
     requires { ⌜ OwnRoom base (now order) (now starts) (now counts) (now keys) n
-        × (from + below (into (now plan) (ownWeight base (now order) (now counts)) i) n ≤ length (now owned))
-        × (from + below (into (now plan) (ownWeight base (now order) (now counts)) i) n ≤ length (now spare)) ⌝ }
-    ensures { λ r. ⌜ Added (now (owned .entry)) from
+        × (from + sumBelow (into (now plan) (ownWeight base (now order) (now counts)) i) n ≤ length (now owned))
+        × (from + sumBelow (into (now plan) (ownWeight base (now order) (now counts)) i) n ≤ length (now spare)) ⌝ }
+    ensures { λ r. ⌜ Appended (now (owned .entry)) from
         (ownRun base (now (order .entry)) (now (plan .entry)) (now (starts .entry)) (now (counts .entry)) (now (keys .entry)) n i) (now (owned .exit)) r
-        × (r ≤ from + below (into (now (plan .entry)) (ownWeight base (now (order .entry)) (now (counts .entry))) i) n) ⌝ }
+        × (r ≤ from + sumBelow (into (now (plan .entry)) (ownWeight base (now (order .entry)) (now (counts .entry))) i) n) ⌝ }
 {
     let end = add_owns(order, plan, n, i, base, starts, counts, keys, owned, from);
     sort_unique(owned, spare, from, end)
@@ -152,7 +152,7 @@ pub fn gather_owns(
 ) -> usize
     requires { ⌜ OwnsRoom base (now order) (now starts) (now counts) (now keys) (now spare) (now kept) (now owns) (now owned) n ⌝ }
     ensures { λ r. ⌜ OwnsBy base (now (order .entry)) (now (plan .entry)) (now (starts .entry)) (now (counts .entry)) (now (keys .entry)) n n r
-        (ownTotal base (now (order .entry)) (now (plan .entry)) (now (starts .entry)) (now (counts .entry)) (now (keys .entry)) n) (now (kept .exit))
+        (gatheredTotal base (now (order .entry)) (now (plan .entry)) (now (starts .entry)) (now (counts .entry)) (now (keys .entry)) n) (now (kept .exit))
         (now (owns .exit)) (now (owned .exit)) ⌝ }
 {
     let mut k: usize = 0;

@@ -6,9 +6,9 @@ ghost use Prim.Native.Nat.{ℕ, _+_, _≤_, _<_};
 ghost use lib.Dec.{eqb};
 ghost use lib.ListN.{length, getD};
 ghost use Rattle.order.specs.Lists.{gather};
-ghost use Rattle.answer.specs.Laying.{below, seenCount};
+ghost use Rattle.answer.specs.Laying.{sumBelow, seenCount};
 ghost use Rattle.answer.specs.Gathered.{placesFrom};
-ghost use Rattle.gathering.specs.Runs.{Added, going, placesAt, seenRun, seenWeight, into, SeensBy, seenTotal};
+ghost use Rattle.gathering.specs.Runs.{Appended, going, placesAt, seenRun, seenWeight, into, SeensBy, seenTotal};
 ghost use Rattle.gathering.specs.Room.{SeenRoom, SeensRoom};
 use crate::casts::counted;
 use crate::runs::append_places;
@@ -43,7 +43,7 @@ fn add_places(
 ) -> usize
     requires { ⌜ (base + b < 1280) × (p + m ≤ 1280) × (to + m + 1 ≤ length (now seen)) ⌝ }
     ensures { λ r. ⌜ ((firsts : List ℕ) (count : ℕ → ℕ) → getD firsts b 0 ≡ p → count b ≡ m
-        → Added (now (seen .entry)) to (placesFrom base firsts count (eqb among 1) b) (now (seen .exit)) r) ⌝ }
+        → Appended (now (seen .entry)) to (placesFrom base firsts count (eqb among 1) b) (now (seen .exit)) r) ⌝ }
 {
     if m != 0 {
         return append_places(p, m, seen, to);
@@ -71,7 +71,7 @@ fn add_seen(
 ) -> usize
     requires { ⌜ SeenRoom (now job) at base (now order) (now firsts) n × (j < n)
         × (to + into (now plan) (seenWeight (now order) (seenCount (now job) at)) i j ≤ length (now seen)) ⌝ }
-    ensures { λ r. ⌜ Added (now (seen .entry)) to
+    ensures { λ r. ⌜ Appended (now (seen .entry)) to
         (cond (eqb (getD (now (plan .entry)) j 0) i) (placesAt base (now (order .entry)) (now (firsts .entry)) (seenCount (now (job .entry)) at) among j)
         []) (now (seen .exit)) r ⌝ }
 {
@@ -106,10 +106,10 @@ fn add_seens(
     from: usize,
 ) -> usize
     requires { ⌜ SeenRoom (now job) at base (now order) (now firsts) n
-        × (from + below (into (now plan) (seenWeight (now order) (seenCount (now job) at)) i) n ≤ length (now seen)) ⌝ }
-    ensures { λ r. ⌜ Added (now (seen .entry)) from
+        × (from + sumBelow (into (now plan) (seenWeight (now order) (seenCount (now job) at)) i) n ≤ length (now seen)) ⌝ }
+    ensures { λ r. ⌜ Appended (now (seen .entry)) from
         (gather (placesAt base (now (order .entry)) (now (firsts .entry)) (seenCount (now (job .entry)) at) among) (going (now (plan .entry)) n i))
-        (now (seen .exit)) r × (r ≤ from + below (into (now (plan .entry)) (seenWeight (now (order .entry)) (seenCount (now (job .entry)) at)) i) n) ⌝ }
+        (now (seen .exit)) r × (r ≤ from + sumBelow (into (now (plan .entry)) (seenWeight (now (order .entry)) (seenCount (now (job .entry)) at)) i) n) ⌝ }
 {
     let mut to = from;
     let mut j: usize = 0;
@@ -141,12 +141,12 @@ fn gather_seen(
     from: usize,
 ) -> usize
     requires { ⌜ SeenRoom (now job) at base (now order) (now firsts) n
-        × (from + below (into (now plan) (seenWeight (now order) (seenCount (now job) at)) i) n ≤ length (now seen))
-        × (from + below (into (now plan) (seenWeight (now order) (seenCount (now job) at)) i) n ≤ length (now spare)) ⌝ }
-    ensures { λ r. ⌜ Added (now (seen .entry)) from
+        × (from + sumBelow (into (now plan) (seenWeight (now order) (seenCount (now job) at)) i) n ≤ length (now seen))
+        × (from + sumBelow (into (now plan) (seenWeight (now order) (seenCount (now job) at)) i) n ≤ length (now spare)) ⌝ }
+    ensures { λ r. ⌜ Appended (now (seen .entry)) from
         (seenRun base (now (order .entry)) (now (plan .entry)) (now (firsts .entry)) (now (first .entry)) (now (second .entry)) (now (third .entry))
         (now (starts .entry)) (now (counts .entry)) (now (keys .entry)) (seenCount (now (job .entry)) at) n i) (now (seen .exit)) r
-        × (r ≤ from + below (into (now (plan .entry)) (seenWeight (now (order .entry)) (seenCount (now (job .entry)) at)) i) n) ⌝ }
+        × (r ≤ from + sumBelow (into (now (plan .entry)) (seenWeight (now (order .entry)) (seenCount (now (job .entry)) at)) i) n) ⌝ }
 {
     let among = count_going(plan, n, i);
     let end = add_seens(job, at, order, plan, n, i, base, firsts, among, seen, from);

@@ -10,23 +10,23 @@ use lib.ListN.{length}
 use Rattle.order.proofs.Bools.{and-parts, and-both, clash, or-cases, or-right}
 use Rattle.graph.specs.Path.{Path}
 use Rattle.graph.specs.Parts.{samePart}
-use Rattle.graph.specs.Records.{Record, at, edges, without, only, ofOwner}
+use Rattle.graph.specs.Records.{Record, recordAt, edges, without, only, ofOwner}
 use Rattle.graph.specs.Bridges.{Bridge, isParted, isBridge, markOf, someRecord}
 use Rattle.graph.proofs.Parts.{other-part}
 
 -- some record passes the test
-some-record : (t : ℕ → Record → Bool) (rs : List Record) → someRecord t rs ≡ true → (k : ℕ) × (k < length rs) × (t k (at rs k) ≡ true)
+some-record : (t : ℕ → Record → Bool) (rs : List Record) → someRecord t rs ≡ true → (k : ℕ) × (k < length rs) × (t k (recordAt rs k) ≡ true)
 unfolding someRecord
 some-record t [] h = clash h refl
 some-record t (r ∷ rs) h = go (or-cases (t 0 r) (someRecord (λ k. t (suc k)) rs) h) (λ i. some-record (λ k. t (suc k)) rs i)
   where
     go : (t 0 r ≡ true) ⊎ (someRecord (λ k. t (suc k)) rs ≡ true)
-        → (someRecord (λ k. t (suc k)) rs ≡ true → (k : ℕ) × (k < length rs) × (t (suc k) (at rs k) ≡ true)) →
-        (k : ℕ) × (k < suc (length rs)) × (t k (at (r ∷ rs) k) ≡ true)
+        → (someRecord (λ k. t (suc k)) rs ≡ true → (k : ℕ) × (k < length rs) × (t (suc k) (recordAt rs k) ≡ true)) →
+        (k : ℕ) × (k < suc (length rs)) × (t k (recordAt (r ∷ rs) k) ≡ true)
     go (inl e) i = (0, omega arith, e)
     go (inr e) i = let w = i e in (suc (w .0), omega arith, w .2)
 
-record-some : (t : ℕ → Record → Bool) (rs : List Record) (k : ℕ) → k < length rs → t k (at rs k) ≡ true → someRecord t rs ≡ true
+record-some : (t : ℕ → Record → Bool) (rs : List Record) (k : ℕ) → k < length rs → t k (recordAt rs k) ≡ true → someRecord t rs ≡ true
 unfolding someRecord
 record-some t [] k l e = absurd (omega arith)
 record-some t (r ∷ rs) zero l e = rw e
@@ -44,8 +44,8 @@ parted-iff gone rs r = (
 record Some (gone : ℕ → ℕ → Record → Bool) (rs : List Record) (b : ℕ) : Type 0 where
   place : ℕ
   inside : place < length rs
-  owned : at rs place .owner ≡ b
-  parted : Path (edges (without (gone place) rs)) (at rs place .left) (at rs place .right) → ⊥
+  owned : recordAt rs place .owner ≡ b
+  parted : Path (edges (without (gone place) rs)) (recordAt rs place .left) (recordAt rs place .right) → ⊥
 
 some-iff : (gone : ℕ → ℕ → Record → Bool) (rs : List Record) (b : ℕ)
     → (someRecord (λ k r. ofOwner b k r && isParted (gone k) rs r) rs ≡ true) ↔ Some gone rs b
@@ -57,13 +57,18 @@ some-iff gone rs b = (to, from)
     to : someRecord test rs ≡ true → Some gone rs b
     to h =
         let w = some-record test rs h in
-        let p = and-parts (ofOwner b (w .0) (at rs (w .0))) (isParted (gone (w .0)) rs (at rs (w .0))) (w .2) in
-        record { place = w .0; inside = w .1; owned = eqb-true (at rs (w .0) .owner) b (p .0); parted = parted-iff (gone (w .0)) rs (at rs (w .0)) .0 (p .1) }
+        let p = and-parts (ofOwner b (w .0) (recordAt rs (w .0))) (isParted (gone (w .0)) rs (recordAt rs (w .0))) (w .2) in
+        record {
+          place = w .0;
+          inside = w .1;
+          owned = eqb-true (recordAt rs (w .0) .owner) b (p .0);
+          parted = parted-iff (gone (w .0)) rs (recordAt rs (w .0)) .0 (p .1);
+        }
 
     from : Some gone rs b → someRecord test rs ≡ true
     from w =
         record-some test rs (w .place) (w .inside)
-        (and-both (eq-eqb (at rs (w .place) .owner) b (w .owned)) (parted-iff (gone (w .place)) rs (at rs (w .place)) .1 (w .parted)))
+        (and-both (eq-eqb (recordAt rs (w .place) .owner) b (w .owned)) (parted-iff (gone (w .place)) rs (recordAt rs (w .place)) .1 (w .parted)))
 
 pub bridge-iff : (rs : List Record) (b : ℕ) → (isBridge rs b ≡ true) ↔ Bridge rs b
 unfolding isBridge

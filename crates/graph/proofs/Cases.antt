@@ -7,21 +7,21 @@ use borrow.Author.Tests.{eq-eqb}
 use lib.Dec.{eqb}
 use Rattle.order.specs.Lists.{upFrom, has}
 use Rattle.graph.specs.Path.{Edge}
-use Rattle.graph.specs.Parts.{part, samePart}
+use Rattle.graph.specs.Parts.{componentOf, samePart}
 use Rattle.graph.specs.Labels.{count, labels, labelCount}
 use Rattle.graph.specs.Records.{Record, edges, without, only, ofOwner}
 use Rattle.graph.specs.Bridges.{isParted, isBridge}
-use Rattle.graph.specs.Cases.{pairOf, BridgeCases}
+use Rattle.graph.specs.Cases.{boundaryPair, BridgeCases}
 
 abbrev edge : ℕ → ℕ → Edge
 edge a b = record { left = a; right = b }
 
--- 1, 4 and 5 are one part, 2 and 3 another
+-- 1, 4 and 5 are one componentOf, 2 and 3 another
 abbrev some-edges : List Edge
 some-edges = edge 1 5 ∷ edge 5 4 ∷ edge 2 3 ∷ edge 4 1 ∷ []
 
-first-vertices : map (part some-edges) (upFrom 0 7) ≡ 0 ∷ 1 ∷ 2 ∷ 2 ∷ 1 ∷ 1 ∷ 6 ∷ []
-unfolding part upFrom
+first-vertices : map (componentOf some-edges) (upFrom 0 7) ≡ 0 ∷ 1 ∷ 2 ∷ 2 ∷ 1 ∷ 1 ∷ 6 ∷ []
+unfolding componentOf upFrom
 first-vertices = refl
 
 together : samePart some-edges 4 5 ≡ true
@@ -37,36 +37,36 @@ abbrev inside : ℕ → Bool
 inside i = has i (1 ∷ 2 ∷ 3 ∷ 4 ∷ 5 ∷ 6 ∷ [])
 
 labelled : labels 7 inside some-edges ≡ 0 ∷ 1 ∷ 2 ∷ 2 ∷ 1 ∷ 1 ∷ 3 ∷ []
-unfolding labels count has upFrom part
+unfolding labels count has upFrom componentOf
 labelled = refl
 
 three-parts : labelCount 7 inside some-edges ≡ 3
-unfolding labelCount count has part
+unfolding labelCount count has componentOf
 three-parts = refl
 
 -- two records of boundary 4, and one of 5
 abbrev ring : List Record
-ring = pairOf 4 1 2 ∷ pairOf 4 2 3 ∷ pairOf 5 1 3 ∷ []
+ring = boundaryPair 4 1 2 ∷ boundaryPair 4 2 3 ∷ boundaryPair 5 1 3 ∷ []
 
 region-graph : edges ring ≡ edge 1 2 ∷ edge 2 3 ∷ edge 1 3 ∷ []
 unfolding edges
 region-graph = refl
 
-closed-one : without (only 1) ring ≡ pairOf 4 1 2 ∷ pairOf 5 1 3 ∷ []
+closed-one : without (only 1) ring ≡ boundaryPair 4 1 2 ∷ boundaryPair 5 1 3 ∷ []
 unfolding without
 closed-one = refl
 
-closed-owner : without (ofOwner 4) ring ≡ pairOf 5 1 3 ∷ []
+closed-owner : without (ofOwner 4) ring ≡ boundaryPair 5 1 3 ∷ []
 unfolding without
 closed-owner = refl
 
 -- closing both records of 4 parts their regions, though neither is a bridge by itself
-closed-whole : (isParted (ofOwner 4) ring (pairOf 4 1 2) ≡ true) × (isBridge ring 4 ≡ false)
+closed-whole : (isParted (ofOwner 4) ring (boundaryPair 4 1 2) ≡ true) × (isBridge ring 4 ≡ false)
 unfolding isBridge
 closed-whole = (refl, refl)
 
 -- a boundary without records is none
-lone : map (isBridge (pairOf 4 1 2 ∷ [])) (4 ∷ 5 ∷ []) ≡ true ∷ false ∷ []
+lone : map (isBridge (boundaryPair 4 1 2 ∷ [])) (4 ∷ 5 ∷ []) ≡ true ∷ false ∷ []
 unfolding isBridge
 lone = refl
 

@@ -1,4 +1,4 @@
--- Two vertices are in one part exactly if a path joins them, and a part is known by its first vertex.
+-- Two vertices are in one componentOf exactly if a path joins them, and a componentOf is known by its first vertex.
 use mathlib.Core.Path.{_≡_, refl, sym, _∙_, ap}
 use mathlib.Core.Logic.{_↔_}
 use mathlib.Core.Bool.{true, false}
@@ -11,16 +11,16 @@ use lib.Dec.{eqb}
 use Rattle.order.specs.Pairs.{SameMembers}
 use Rattle.order.proofs.Bools.{clash, is-false, by-test}
 use Rattle.graph.specs.Path.{Edge, Path, here}
-use Rattle.graph.specs.Parts.{join, part, samePart}
+use Rattle.graph.specs.Parts.{join, componentOf, samePart}
 use Rattle.graph.proofs.Paths.{path-trans, path-sym, path-edge, path-eq, path-between, path-kept, path-more, path-same}
 
 -- the parts without edges, and with one more edge
-pub part-none : (c : ℕ) → part [] c ≡ c
-unfolding part
+pub part-none : (c : ℕ) → componentOf [] c ≡ c
+unfolding componentOf
 part-none c = refl
 
-pub part-add : (e : Edge) (es : List Edge) (c : ℕ) → part (e ∷ es) c ≡ join (part es (e .left)) (part es (e .right)) (part es c)
-unfolding part
+pub part-add : (e : Edge) (es : List Edge) (c : ℕ) → componentOf (e ∷ es) c ≡ join (componentOf es (e .left)) (componentOf es (e .right)) (componentOf es c)
+unfolding componentOf
 part-add e es c = refl
 
 -- what joining a and b does to c
@@ -57,56 +57,59 @@ join-path {es} a b c p = go (joined a b c) (decLe a b)
     go (lowered q r) (no l) = path-between (omega arith) p (omega arith)
     go (kept q r) d = path-eq (sym r)
 
-module _ (e : Edge) (es : List Edge) (old : (c : ℕ) → Path (e ∷ es) c (part es c)) where
-  part-step : (c : ℕ) → Path (e ∷ es) c (part (e ∷ es) c)
-  unfolding part
-  part-step c = path-trans (old c) (join-path (part es (e .left)) (part es (e .right)) (part es c) across)
+module _ (e : Edge) (es : List Edge) (old : (c : ℕ) → Path (e ∷ es) c (componentOf es c)) where
+  part-step : (c : ℕ) → Path (e ∷ es) c (componentOf (e ∷ es) c)
+  unfolding componentOf
+  part-step c = path-trans (old c) (join-path (componentOf es (e .left)) (componentOf es (e .right)) (componentOf es c) across)
     where
-      across : Path (e ∷ es) (part es (e .left)) (part es (e .right))
+      across : Path (e ∷ es) (componentOf es (e .left)) (componentOf es (e .right))
       across = path-trans (path-sym (old (e .left))) (path-trans (path-edge e (List·Memᴰ·head refl)) (old (e .right)))
 
--- a path leads to the first vertex of the part
-pub part-path : (es : List Edge) (c : ℕ) → Path es c (part es c)
-unfolding part
+-- a path leads to the first vertex of the componentOf
+pub part-path : (es : List Edge) (c : ℕ) → Path es c (componentOf es c)
+unfolding componentOf
 part-path [] c = here
 part-path (e ∷ es) c = part-step e es (λ d. path-more (λ f m. List·Memᴰ·tail m) (part-path es d)) c
 
--- the ends of an edge are in one part
-part-edge : (es : List Edge) (e : Edge) → List·Memᴰ e es → part es (e .left) ≡ part es (e .right)
-unfolding part
-part-edge (f ∷ es) e (List·Memᴰ·head k) = rw k (join-both (part es (f .left)) (part es (f .right)))
-part-edge (f ∷ es) e (List·Memᴰ·tail m) = ap (join (part es (f .left)) (part es (f .right))) (part-edge es e m)
+-- the ends of an edge are in one componentOf
+part-edge : (es : List Edge) (e : Edge) → List·Memᴰ e es → componentOf es (e .left) ≡ componentOf es (e .right)
+unfolding componentOf
+part-edge (f ∷ es) e (List·Memᴰ·head k) = rw k (join-both (componentOf es (f .left)) (componentOf es (f .right)))
+part-edge (f ∷ es) e (List·Memᴰ·tail m) = ap (join (componentOf es (f .left)) (componentOf es (f .right))) (part-edge es e m)
 
-pub part-same : (es : List Edge) {a b : ℕ} → Path es a b → part es a ≡ part es b
-part-same es {a} p = path-kept (λ x. part es a ≡ part es x) (λ e m. (λ q. q ∙ part-edge es e m, λ q. q ∙ sym (part-edge es e m))) p refl
+pub part-same : (es : List Edge) {a b : ℕ} → Path es a b → componentOf es a ≡ componentOf es b
+part-same es {a} p = path-kept (λ x. componentOf es a ≡ componentOf es x) (λ e m. (λ q. q ∙ part-edge es e m, λ q. q ∙ sym (part-edge es e m))) p refl
 
 -- the computed parts are what the paths say
-pub part-iff : (es : List Edge) (a b : ℕ) → (part es a ≡ part es b) ↔ Path es a b
+pub part-iff : (es : List Edge) (a b : ℕ) → (componentOf es a ≡ componentOf es b) ↔ Path es a b
 part-iff es a b = (λ e. path-trans (part-path es a) (path-trans (path-eq e) (path-sym (part-path es b))), λ p. part-same es p)
 
-pub part-le : (es : List Edge) (c : ℕ) → part es c ≤ c
-unfolding part
+pub part-le : (es : List Edge) (c : ℕ) → componentOf es c ≤ c
+unfolding componentOf
 part-le [] c = omega arith
-part-le (e ∷ es) c = omega (arith, join-le (part es (e .left)) (part es (e .right)) (part es c), part-le es c)
+part-le (e ∷ es) c = omega (arith, join-le (componentOf es (e .left)) (componentOf es (e .right)) (componentOf es c), part-le es c)
 
--- no vertex of the part comes before it
-pub part-least : (es : List Edge) {a b : ℕ} → Path es a b → part es a ≤ b
+-- no vertex of the componentOf comes before it
+pub part-least : (es : List Edge) {a b : ℕ} → Path es a b → componentOf es a ≤ b
 part-least es {b = b} p = omega (arith, part-same es p, part-le es b)
 
-pub part-idem : (es : List Edge) (c : ℕ) → part es (part es c) ≡ part es c
+pub part-idem : (es : List Edge) (c : ℕ) → componentOf es (componentOf es c) ≡ componentOf es c
 part-idem es c = sym (part-same es (part-path es c))
 
 -- the same paths, the same parts
-pub part-ext : (es fs : List Edge) → ((a b : ℕ) → Path es a b ↔ Path fs a b) → (c : ℕ) → part es c ≡ part fs c
-part-ext es fs s c = omega (arith, part-least es (s c (part fs c) .1 (part-path fs c)), part-least fs (s c (part es c) .0 (part-path es c)))
+pub part-ext : (es fs : List Edge) → ((a b : ℕ) → Path es a b ↔ Path fs a b) → (c : ℕ) → componentOf es c ≡ componentOf fs c
+part-ext es fs s c = omega (arith, part-least es (s c (componentOf fs c) .1 (part-path fs c)), part-least fs (s c (componentOf es c) .0 (part-path es c)))
 
 -- the parts depend on the set of edges alone
-pub part-edges : (es fs : List Edge) → SameMembers es fs → (c : ℕ) → part es c ≡ part fs c
+pub part-edges : (es fs : List Edge) → SameMembers es fs → (c : ℕ) → componentOf es c ≡ componentOf fs c
 part-edges es fs s = part-ext es fs (path-same s)
 
 pub same-part : (es : List Edge) (a b : ℕ) → (samePart es a b ≡ true) ↔ Path es a b
 unfolding samePart
-same-part es a b = (λ h. part-iff es a b .0 (eqb-true (part es a) (part es b) h), λ p. eq-eqb (part es a) (part es b) (part-same es p))
+same-part es a b = (
+  λ h. part-iff es a b .0 (eqb-true (componentOf es a) (componentOf es b) h),
+  λ p. eq-eqb (componentOf es a) (componentOf es b) (part-same es p),
+)
 
 pub other-part : (es : List Edge) (a b : ℕ) → (samePart es a b ≡ false) ↔ (Path es a b → ⊥)
 other-part es a b = (λ h p. clash (same-part es a b .1 p) h, λ h. is-false (samePart es a b) (λ e. h (same-part es a b .0 e)))

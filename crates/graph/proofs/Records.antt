@@ -7,7 +7,7 @@ use native.Mathlib.Omega.{arith}
 use lib.ListN.{length}
 use Rattle.lists.proofs.Rows.{length-rows, rows-at}
 use Rattle.graph.specs.Path.{Edge, Path}
-use Rattle.graph.specs.Records.{Record, noRecord, recordIn, recordsIn, at, edgeOf, edges, without, Remains}
+use Rattle.graph.specs.Records.{Record, noRecord, recordIn, recordsIn, recordAt, recordEdge, edges, without, Remains}
 use Rattle.graph.proofs.Paths.{path-more}
 
 module _ (owners lefts rights : List ℕ) (n : ℕ) where
@@ -15,7 +15,7 @@ module _ (owners lefts rights : List ℕ) (n : ℕ) where
   unfolding recordsIn
   records-length = length-rows n (recordIn owners lefts rights)
 
-  pub records-at : (k : ℕ) → k < n → at (recordsIn owners lefts rights n) k ≡ recordIn owners lefts rights k
+  pub records-at : (k : ℕ) → k < n → recordAt (recordsIn owners lefts rights n) k ≡ recordIn owners lefts rights k
   unfolding recordsIn
   records-at k h = rows-at n (recordIn owners lefts rights) k noRecord h
 
@@ -23,7 +23,7 @@ module _ (owners lefts rights : List ℕ) (n : ℕ) where
 remains-behind : {gone : ℕ → Record → Bool} {s r : Record} {rs : List Record} → Remains (λ k. gone (suc k)) rs r → Remains gone (s ∷ rs) r
 remains-behind w = record { place = suc (w .place); inside = omega arith; spared = w .spared; stands = w .stands }
 
--- what is left are the records at the places that are not named
+-- what is left are the records recordAt the places that are not named
 pub without-remains : (gone : ℕ → Record → Bool) (rs : List Record) {r : Record} → List·Memᴰ r (without gone rs) → Remains gone rs r
 unfolding without
 without-remains gone [] n = absurd (List·Memᴰ·not-nil n)
@@ -52,29 +52,30 @@ remains-without gone (s ∷ rs) {r} w = go (w .place) (w .inside) (w .spared) (w
     behind true m = m
     behind false m = List·Memᴰ·tail m
 
-    go : (k : ℕ) → k < suc (length rs) → gone k (at (s ∷ rs) k) ≡ false → at (s ∷ rs) k ≡ r → (Remains (λ k. gone (suc k)) rs r → List·Memᴰ r rest)
+    go : (k : ℕ) → k < suc (length rs) → gone k (recordAt (s ∷ rs) k) ≡ false → recordAt (s ∷ rs) k ≡ r → (Remains (λ k. gone (suc k)) rs r → List·Memᴰ r rest)
         → List·Memᴰ r (cond (gone 0 s) rest (s ∷ rest))
     go zero l e q i = rw e (List·Memᴰ·head (sym q))
     go (suc k) l e q i = behind (gone 0 s) (i (record { place = k; inside = omega arith; spared = e; stands = q }))
 
 -- taking nothing away changes nothing
-pub without-none : (gone : ℕ → Record → Bool) (rs : List Record) → ((k : ℕ) → k < length rs → gone k (at rs k) ≡ false) → without gone rs ≡ rs
+pub without-none : (gone : ℕ → Record → Bool) (rs : List Record) → ((k : ℕ) → k < length rs → gone k (recordAt rs k) ≡ false) → without gone rs ≡ rs
 unfolding without
 without-none gone [] h = refl
 without-none gone (s ∷ rs) h = rw (h 0 (omega arith)) (ap (λ (l : List Record). s ∷ l) (without-none (λ k. gone (suc k)) rs (λ k l. h (suc k) (omega arith))))
 
 -- the edges of what is left, by place
 pub edge-remains : (gone : ℕ → Record → Bool) (rs : List Record) {e : Edge} → List·Memᴰ e (edges (without gone rs)) → (r : Record) × Remains gone rs r
-    × (edgeOf r ≡ e)
+    × (recordEdge r ≡ e)
 unfolding edges
-edge-remains gone rs m = let w = Memᴰ·of-map edgeOf (without gone rs) m in (w .0, without-remains gone rs (w .1), w .2)
+edge-remains gone rs m = let w = Memᴰ·of-map recordEdge (without gone rs) m in (w .0, without-remains gone rs (w .1), w .2)
 
-pub remains-edge : (gone : ℕ → Record → Bool) (rs : List Record) {r : Record} → Remains gone rs r → List·Memᴰ (edgeOf r) (edges (without gone rs))
+pub remains-edge : (gone : ℕ → Record → Bool) (rs : List Record) {r : Record} → Remains gone rs r → List·Memᴰ (recordEdge r) (edges (without gone rs))
 unfolding edges
-remains-edge gone rs l = Memᴰ·map edgeOf (remains-without gone rs l)
+remains-edge gone rs l = Memᴰ·map recordEdge (remains-without gone rs l)
 
 -- the less is taken away, the more paths there are
-pub without-path : (more less : ℕ → Record → Bool) (rs : List Record) → ((k : ℕ) → k < length rs → more k (at rs k) ≡ false → less k (at rs k) ≡ false) →
+pub without-path : (more less : ℕ → Record → Bool) (rs : List Record)
+    → ((k : ℕ) → k < length rs → more k (recordAt rs k) ≡ false → less k (recordAt rs k) ≡ false) →
     {a b : ℕ} → Path (edges (without more rs)) a b → Path (edges (without less rs)) a b
 without-path more less rs h = path-more (λ e m. let w = edge-remains more rs m in Memᴰ·cast (sym (w .2)) (remains-edge less rs (spare (w .1))))
   where

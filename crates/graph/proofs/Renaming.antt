@@ -8,7 +8,7 @@ use native.Mathlib.Omega.{arith}
 use lib.ListN.{length}
 use Rattle.order.proofs.Bools.{clash, by-test}
 use Rattle.graph.specs.Path.{Edge, Joins, forth, back, Path, here, onward}
-use Rattle.graph.specs.Records.{Record, at, edgeOf, edges, without, Remains, only}
+use Rattle.graph.specs.Records.{Record, recordAt, recordEdge, edges, without, Remains, only}
 use Rattle.graph.specs.Bridges.{Bridge, isBridge}
 use Rattle.graph.proofs.Records.{edge-remains, remains-edge}
 use Rattle.graph.proofs.Bridges.{bridge-iff}
@@ -17,18 +17,18 @@ use Rattle.graph.proofs.Bridges.{bridge-iff}
 pub record Occurs (rs : List Record) (a : ℕ) : Type 0 where
   pub place : ℕ
   pub inside : place < length rs
-  pub end : (at rs place .left ≡ a) ⊎ (at rs place .right ≡ a)
+  pub end : (recordAt rs place .left ≡ a) ⊎ (recordAt rs place .right ≡ a)
 
 -- ss are the records rs under the names that g gives, and it gives no two regions that occur one name
 pub record Renaming (g : ℕ → ℕ) (rs ss : List Record) : Type 0 where
   pub as-many : length ss ≡ length rs
-  pub owner : (k : ℕ) → k < length rs → at ss k .owner ≡ at rs k .owner
-  pub left : (k : ℕ) → k < length rs → at ss k .left ≡ g (at rs k .left)
-  pub right : (k : ℕ) → k < length rs → at ss k .right ≡ g (at rs k .right)
+  pub owner : (k : ℕ) → k < length rs → recordAt ss k .owner ≡ recordAt rs k .owner
+  pub left : (k : ℕ) → k < length rs → recordAt ss k .left ≡ g (recordAt rs k .left)
+  pub right : (k : ℕ) → k < length rs → recordAt ss k .right ≡ g (recordAt rs k .right)
   pub apart : (a b : ℕ) → Occurs rs a → Occurs rs b → g a ≡ g b → a ≡ b
 
 module _ {g : ℕ → ℕ} {rs ss : List Record} (N : Renaming g rs ss) where
-  -- a path from a under its new name ends at a region under its new name
+  -- a path from a under its new name ends recordAt a region under its new name
   record Ends (es : List Edge) (a d : ℕ) : Type 0 where
     to : ℕ
     occurs : Occurs rs to
@@ -36,22 +36,22 @@ module _ {g : ℕ → ℕ} {rs ss : List Record} (N : Renaming g rs ss) where
     path : Path es a to
 
   -- where both lists have the same records taken away
-  module _ (gone : ℕ → Record → Bool) (agrees : (k : ℕ) → k < length rs → gone k (at ss k) ≡ gone k (at rs k)) where
+  module _ (gone : ℕ → Record → Bool) (agrees : (k : ℕ) → k < length rs → gone k (recordAt ss k) ≡ gone k (recordAt rs k)) where
     -- a path under the old names is one under the new
     there : {a b : ℕ} → Path (edges (without gone rs)) a b → Path (edges (without gone ss)) (g a) (g b)
     there here = here
     there (onward {a} {b} {c} {e} m j p) = onward member (joins j) (there p)
       where
-        w : (r : Record) × Remains gone rs r × (edgeOf r ≡ e)
+        w : (r : Record) × Remains gone rs r × (recordEdge r ≡ e)
         w = edge-remains gone rs m
 
         i : ℕ
         i = w .1 .place
 
-        same : edgeOf (at rs i) ≡ e
-        same = ap edgeOf (w .1 .stands) ∙ w .2
+        same : recordEdge (recordAt rs i) ≡ e
+        same = ap recordEdge (w .1 .stands) ∙ w .2
 
-        member : List·Memᴰ (edgeOf (at ss i)) (edges (without gone ss))
+        member : List·Memᴰ (recordEdge (recordAt ss i)) (edges (without gone ss))
         member = remains-edge gone ss (record {
           place = i;
           inside = omega (arith, w .1 .inside, N .as-many);
@@ -59,7 +59,7 @@ module _ {g : ℕ → ℕ} {rs ss : List Record} (N : Renaming g rs ss) where
           stands = refl;
         })
 
-        joins : Joins e a b → Joins (edgeOf (at ss i)) (g a) (g b)
+        joins : Joins e a b → Joins (recordEdge (recordAt ss i)) (g a) (g b)
         joins (forth p q) =
             forth (N .left i (w .1 .inside) ∙ ap g (ap (λ (x : Edge). x .left) same ∙ p))
             (N .right i (w .1 .inside) ∙ ap g (ap (λ (x : Edge). x .right) same ∙ q))
@@ -72,7 +72,7 @@ module _ {g : ℕ → ℕ} {rs ss : List Record} (N : Renaming g rs ss) where
     back-again here a o n = record { to = a; occurs = o; named = n; path = here }
     back-again (onward {a = c} {b = b} {c = d} {e = e} m j p) a o n = step j (λ v u z. back-again p v u z)
       where
-        w : (r : Record) × Remains gone ss r × (edgeOf r ≡ e)
+        w : (r : Record) × Remains gone ss r × (recordEdge r ≡ e)
         w = edge-remains gone ss m
 
         i : ℕ
@@ -81,41 +81,43 @@ module _ {g : ℕ → ℕ} {rs ss : List Record} (N : Renaming g rs ss) where
         l : i < length rs
         l = omega (arith, w .1 .inside, N .as-many)
 
-        same : edgeOf (at ss i) ≡ e
-        same = ap edgeOf (w .1 .stands) ∙ w .2
+        same : recordEdge (recordAt ss i) ≡ e
+        same = ap recordEdge (w .1 .stands) ∙ w .2
 
-        member : List·Memᴰ (edgeOf (at rs i)) (edges (without gone rs))
+        member : List·Memᴰ (recordEdge (recordAt rs i)) (edges (without gone rs))
         member = remains-edge gone rs (record { place = i; inside = l; spared = sym (agrees i l) ∙ w .1 .spared; stands = refl })
 
-        lefts : Occurs rs (at rs i .left)
+        lefts : Occurs rs (recordAt rs i .left)
         lefts = record { place = i; inside = l; end = inl refl }
 
-        rights : Occurs rs (at rs i .right)
+        rights : Occurs rs (recordAt rs i .right)
         rights = record { place = i; inside = l; end = inr refl }
 
-        go : (v : ℕ) → Joins (edgeOf (at rs i)) a v → Ends (edges (without gone rs)) v d → Ends (edges (without gone rs)) a d
+        go : (v : ℕ) → Joins (recordEdge (recordAt rs i)) a v → Ends (edges (without gone rs)) v d → Ends (edges (without gone rs)) a d
         go v t f = record { to = f .to; occurs = f .occurs; named = f .named; path = onward member t (f .path) }
 
         step : Joins e c b → ((v : ℕ) → Occurs rs v → g v ≡ b → Ends (edges (without gone rs)) v d) → Ends (edges (without gone rs)) a d
         step (forth x y) rest =
-            let is : at rs i .left ≡ a = N .apart (at rs i .left) a lefts o (sym (N .left i l) ∙ ap (λ (z : Edge). z .left) same ∙ x ∙ sym n) in
-            go (at rs i .right) (forth is refl) (rest (at rs i .right) rights (sym (N .right i l) ∙ ap (λ (z : Edge). z .right) same ∙ y))
+            let is : recordAt rs i .left ≡ a = N .apart (recordAt rs i .left) a lefts o (sym (N .left i l) ∙ ap (λ (z : Edge). z .left) same ∙ x ∙ sym n) in
+            go (recordAt rs i .right) (forth is refl) (rest (recordAt rs i .right) rights (sym (N .right i l) ∙ ap (λ (z : Edge). z .right) same ∙ y))
         step (back x y) rest =
-            let is : at rs i .right ≡ a = N .apart (at rs i .right) a rights o (sym (N .right i l) ∙ ap (λ (z : Edge). z .right) same ∙ y ∙ sym n) in
-            go (at rs i .left) (back refl is) (rest (at rs i .left) lefts (sym (N .left i l) ∙ ap (λ (z : Edge). z .left) same ∙ x))
+            let is : recordAt rs i .right ≡ a =
+            N .apart (recordAt rs i .right) a rights o (sym (N .right i l) ∙ ap (λ (z : Edge). z .right) same ∙ y ∙ sym n) in
+            go (recordAt rs i .left) (back refl is) (rest (recordAt rs i .left) lefts (sym (N .left i l) ∙ ap (λ (z : Edge). z .left) same ∙ x))
 
     -- the two regions of a record are parted under the new names exactly if they are under the old
-    parted-old : (k : ℕ) → k < length rs → (Path (edges (without gone ss)) (at ss k .left) (at ss k .right) → ⊥) →
-        Path (edges (without gone rs)) (at rs k .left) (at rs k .right) → ⊥
+    parted-old : (k : ℕ) → k < length rs → (Path (edges (without gone ss)) (recordAt ss k .left) (recordAt ss k .right) → ⊥) →
+        Path (edges (without gone rs)) (recordAt rs k .left) (recordAt rs k .right) → ⊥
     parted-old k l h p = h (subst₂ (Path (edges (without gone ss))) (sym (N .left k l)) (sym (N .right k l)) (there p))
 
-    parted-new : (k : ℕ) → k < length rs → (Path (edges (without gone rs)) (at rs k .left) (at rs k .right) → ⊥) →
-        Path (edges (without gone ss)) (at ss k .left) (at ss k .right) → ⊥
+    parted-new : (k : ℕ) → k < length rs → (Path (edges (without gone rs)) (recordAt rs k .left) (recordAt rs k .right) → ⊥) →
+        Path (edges (without gone ss)) (recordAt ss k .left) (recordAt ss k .right) → ⊥
     parted-new k l h p =
-        let f = back-again (subst₂ (Path (edges (without gone ss))) (N .left k l) (N .right k l) p) (at rs k .left)
+        let f = back-again (subst₂ (Path (edges (without gone ss))) (N .left k l) (N .right k l) p) (recordAt rs k .left)
         (record { place = k; inside = l; end = inl refl }) refl in
-        let is : f .to ≡ at rs k .right = N .apart (f .to) (at rs k .right) (f .occurs) (record { place = k; inside = l; end = inr refl }) (f .named) in
-        h (subst (Path (edges (without gone rs)) (at rs k .left)) is (f .path))
+        let is : f .to ≡ recordAt rs k .right =
+        N .apart (f .to) (recordAt rs k .right) (f .occurs) (record { place = k; inside = l; end = inr refl }) (f .named) in
+        h (subst (Path (edges (without gone rs)) (recordAt rs k .left)) is (f .path))
 
   inside : {k : ℕ} → k < length ss → k < length rs
   inside l = omega (arith, N .as-many)

@@ -6,14 +6,14 @@ use Prim.Native.Nat.{ℕ, suc, _<_}
 use lib.ListN.{length}
 use Rattle.graph.specs.Path.{Path}
 use Rattle.graph.specs.Parts.{samePart}
-use Rattle.graph.specs.Records.{Record, at, edges, without, only, ofOwner}
+use Rattle.graph.specs.Records.{Record, recordAt, edges, without, only, ofOwner}
 
 -- the meaning: some record of the boundary has two regions that no path over the other records joins
 pub record Bridge (rs : List Record) (b : ℕ) : Type 0 where
   pub place : ℕ
   pub inside : place < length rs
-  pub owned : at rs place .owner ≡ b
-  pub parted : Path (edges (without (only place) rs)) (at rs place .left) (at rs place .right) → ⊥
+  pub owned : recordAt rs place .owner ≡ b
+  pub parted : Path (edges (without (only place) rs)) (recordAt rs place .left) (recordAt rs place .right) → ⊥
 
 -- with what `gone` names taken away, the regions of r are unconnected
 unfoldable pub isParted : (ℕ → Record → Bool) → List Record → Record → Bool

@@ -7,15 +7,16 @@ use Rattle.graph.specs.Records.{Record}
 use Rattle.graph.specs.Bridges.{isBridge}
 
 -- the pair {l, r} of boundary b
-abbrev pub pairOf : ℕ → ℕ → ℕ → Record
-pairOf b l r = record { owner = b; left = l; right = r }
+abbrev pub boundaryPair : ℕ → ℕ → ℕ → Record
+boundaryPair b l r = record { owner = b; left = l; right = r }
 
 pub record BridgeCases : Type 0 where
   -- 5: {1,2}, {2,3} of two boundaries: both are bridges
-  pub case5 : (b c : ℕ) → (isBridge (pairOf b 1 2 ∷ pairOf c 2 3 ∷ []) b ≡ true) × (isBridge (pairOf b 1 2 ∷ pairOf c 2 3 ∷ []) c ≡ true)
+  pub case5 : (b c : ℕ) → (isBridge (boundaryPair b 1 2 ∷ boundaryPair c 2 3 ∷ []) b ≡ true)
+      × (isBridge (boundaryPair b 1 2 ∷ boundaryPair c 2 3 ∷ []) c ≡ true)
   -- 6: with {1,3} of a third: none is
-  pub case6 : (b c d x : ℕ) → isBridge (pairOf b 1 2 ∷ pairOf c 2 3 ∷ pairOf d 1 3 ∷ []) x ≡ false
+  pub case6 : (b c d x : ℕ) → isBridge (boundaryPair b 1 2 ∷ boundaryPair c 2 3 ∷ boundaryPair d 1 3 ∷ []) x ≡ false
   -- 7: {1,2} of two boundaries: none is
-  pub case7 : (b c x : ℕ) → isBridge (pairOf b 1 2 ∷ pairOf c 1 2 ∷ []) x ≡ false
+  pub case7 : (b c x : ℕ) → isBridge (boundaryPair b 1 2 ∷ boundaryPair c 1 2 ∷ []) x ≡ false
   -- 8: one boundary with {1,2}, {2,3}, {1,3}: it is none, and no other is
-  pub case8 : (b x : ℕ) → isBridge (pairOf b 1 2 ∷ pairOf b 2 3 ∷ pairOf b 1 3 ∷ []) x ≡ false
+  pub case8 : (b x : ℕ) → isBridge (boundaryPair b 1 2 ∷ boundaryPair b 2 3 ∷ boundaryPair b 1 3 ∷ []) x ≡ false

@@ -26,30 +26,30 @@ unfoldable pub recordsIn : List ℕ → List ℕ → List ℕ → ℕ → List R
 unfolding rows
 recordsIn owners lefts rights n = rows n (recordIn owners lefts rights)
 
--- the record at a place
-abbrev pub at : List Record → ℕ → Record
-at rs k = getD rs k noRecord
+-- the record recordAt a place
+abbrev pub recordAt : List Record → ℕ → Record
+recordAt rs k = getD rs k noRecord
 
-abbrev pub edgeOf : Record → Edge
-edgeOf r = record { left = r .left; right = r .right }
+abbrev pub recordEdge : Record → Edge
+recordEdge r = record { left = r .left; right = r .right }
 
 -- the graph of regions that the records make
 unfoldable pub edges : List Record → List Edge
-edges rs = map edgeOf rs
+edges rs = map recordEdge rs
 
 -- the records but for those that `gone` names by place and record
 unfoldable pub without : (ℕ → Record → Bool) → List Record → List Record
 without gone [] = []
 without gone (r ∷ rs) = let rest = without (λ k. gone (suc k)) rs in cond (gone 0 r) rest (r ∷ rest)
 
--- the meaning of it: the record stands at a place that `gone` does not name
+-- the meaning of it: the record stands recordAt a place that `gone` does not name
 pub record Remains (gone : ℕ → Record → Bool) (rs : List Record) (r : Record) : Type 0 where
   pub place : ℕ
   pub inside : place < length rs
-  pub spared : gone place (at rs place) ≡ false
-  pub stands : at rs place ≡ r
+  pub spared : gone place (recordAt rs place) ≡ false
+  pub stands : recordAt rs place ≡ r
 
--- the record at place k alone
+-- the record recordAt place k alone
 abbrev pub only : ℕ → ℕ → Record → Bool
 only k i r = eqb i k
 

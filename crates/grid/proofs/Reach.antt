@@ -10,7 +10,7 @@ use Rattle.position.specs.declared.WalkPosition.{WalkPosition}
 use Rattle.order.proofs.Bools.{and-parts}
 use Rattle.grid.specs.Cells.{Grid, Whole, size, walkable, indexOf, columnOf, rowOf}
 use Rattle.grid.specs.Directions.{diagonal}
-use Rattle.grid.specs.Steps.{leadsOn, columnTo, rowTo, neighbour, beside, across, hasStep, Placed}
+use Rattle.grid.specs.Steps.{leadsOn, columnTo, rowTo, neighbour, beside, across, hasStep, CellPlace}
 use Rattle.grid.proofs.Index.{column-of, row-of, column-in, row-in}
 use Rattle.grid.proofs.Steps.{Leads, leads-means}
 
@@ -66,7 +66,7 @@ module _ (g : Grid) (i d : ℕ) where
       slanting h k = let p = and-parts (walkable g i) (walkable g (neighbour g i d)) ends in rw (leads, p .0, p .1, h) k
 
 -- the cell at a place of the map
-module _ {w h : ℕ} {cs : List ℕ} {p : WalkPosition} (at : Placed w h cs p) where
+module _ {w h : ℕ} {cs : List ℕ} {p : WalkPosition} (at : CellPlace w h cs p) where
   pub place-column : columnOf (gridOf w h cs) (p .y * w + p .x) ≡ p .x
   place-column = column-of (gridOf w h cs) (p .x) (p .y) (at .column)
 

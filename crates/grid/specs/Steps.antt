@@ -40,7 +40,7 @@ module _ (g : Grid) (i d : ℕ) where
   hasStep = leadsOn && (walkable g i && (walkable g neighbour && (not (diagonal d) || (walkable g beside && walkable g across))))
 
 -- a place of a map whose sides are at most 1,024 cells
-pub record Placed (width height : ℕ) (cs : List ℕ) (position : WalkPosition) : Type 0 where
+pub record CellPlace (width height : ℕ) (cs : List ℕ) (position : WalkPosition) : Type 0 where
   pub wide : width ≤ 1024
   pub high : height ≤ 1024
   pub whole : length cs ≡ width * height

@@ -5,7 +5,7 @@ ghost use Prim.Native.Nat.{ℕ, _+_, _*_, _/_, _%_, _<_, _≤_};
 ghost use Rattle.order.specs.Lists.{has};
 ghost use Rattle.grid.specs.Cells.{Grid, walkable, columnOf, rowOf};
 ghost use Rattle.grid.specs.Directions.{diagonal, directionsOf};
-ghost use Rattle.grid.specs.Steps.{leadsOn, columnTo, rowTo, neighbour, beside, across, hasStep, Placed};
+ghost use Rattle.grid.specs.Steps.{leadsOn, columnTo, rowTo, neighbour, beside, across, hasStep, CellPlace};
 use super::cells::index;
 use super::cells::walkable_at;
 use position::WalkPosition;
@@ -86,7 +86,7 @@ fn across(width: u32, position: WalkPosition, d: u32) -> u32
 
 // The cell and the one that the direction leads to are walkable.
 fn ends_walkable(cells: &[u8], width: u32, height: u32, position: WalkPosition, d: u32) -> bool
-    requires { ⌜ Placed width height (now cells) position × (d < 9)
+    requires { ⌜ CellPlace width height (now cells) position × (d < 9)
         × (leadsOn (record { width = width; height = height; cells = now cells }) (position .y * width + position .x) d ≡ true) ⌝ }
     ensures { λ r. ⌜ ((g : Grid) (i : ℕ) → g ≡ record { width = width; height = height; cells = now (cells .entry) } → i ≡ position .y * width + position .x
         → r ≡ (walkable g i && walkable g (neighbour g i d))) ⌝ }
@@ -96,7 +96,7 @@ fn ends_walkable(cells: &[u8], width: u32, height: u32, position: WalkPosition, 
 
 // The two cells beside the direction are walkable.
 fn sides_walkable(cells: &[u8], width: u32, height: u32, position: WalkPosition, d: u32) -> bool
-    requires { ⌜ Placed width height (now cells) position × (d < 9)
+    requires { ⌜ CellPlace width height (now cells) position × (d < 9)
         × (leadsOn (record { width = width; height = height; cells = now cells }) (position .y * width + position .x) d ≡ true) ⌝ }
     ensures { λ r. ⌜ ((g : Grid) (i : ℕ) → g ≡ record { width = width; height = height; cells = now (cells .entry) } → i ≡ position .y * width + position .x
         → r ≡ (walkable g (beside g i d) && walkable g (across g i d))) ⌝ }
@@ -106,7 +106,7 @@ fn sides_walkable(cells: &[u8], width: u32, height: u32, position: WalkPosition,
 
 // A step leads in the direction from the cell at a place of the map.
 pub fn step_at(cells: &[u8], width: u32, height: u32, position: WalkPosition, d: u32) -> bool
-    requires { ⌜ Placed width height (now cells) position × (d < 9) ⌝ }
+    requires { ⌜ CellPlace width height (now cells) position × (d < 9) ⌝ }
     ensures { λ r. ⌜ r ≡ hasStep (record { width = width; height = height; cells = now (cells .entry) }) (position .y * width + position .x) d ⌝ }
 {
     if !leads_on(width, height, position, d) {

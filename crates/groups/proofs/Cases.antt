@@ -8,7 +8,7 @@ use Rattle.length.specs.Length.{lengthOf}
 use Rattle.position.specs.declared.WalkPosition.{WalkPosition}
 use Rattle.position.specs.declared.Span.{Span}
 use Rattle.graph.specs.Labels.{count}
-use Rattle.graph.specs.Parts.{part}
+use Rattle.graph.specs.Parts.{componentOf}
 use Rattle.grid.specs.Cells.{Grid}
 use Rattle.grid.specs.Directions.{eight}
 use Rattle.areas.specs.Cases.{spanOf}
@@ -44,11 +44,11 @@ abbrev linkOver : ℕ → ℕ → ℕ → LinkAt
 linkOver r i j = record { region = r; first = i; second = j }
 
 pub corridor-links : links eight corridor [] items ≡ linkOver 2 0 1 ∷ []
-unfolding links part count upFrom
+unfolding links componentOf count upFrom
 corridor-links = refl
 
 pub corridor-accepted : accepted limits000 eight corridor [] items ≡ record { ranks = 0 ∷ 1 ∷ []; links = linkOver 2 0 1 ∷ [] } ∷ []
-unfolding accepted part count upFrom lengthOf ofInt ofBits toBits neg add sub mul div lt le
+unfolding accepted componentOf count upFrom lengthOf ofInt ofBits toBits neg add sub mul div lt le
 corridor-accepted = refl
 
 pub corridor-retained : retained limits000 items (0 ∷ 1 ∷ []) ≡ 0
@@ -56,7 +56,7 @@ unfolding retained lengthOf ofInt ofBits toBits neg add sub mul div lt le
 corridor-retained = refl
 
 pub corridor-plan : map (mergePlan limits000 eight corridor [] items) (0 ∷ 1 ∷ []) ≡ 0 ∷ 0 ∷ []
-unfolding mergePlan part count upFrom lengthOf ofInt ofBits toBits neg add sub mul div lt le
+unfolding mergePlan componentOf count upFrom lengthOf ofInt ofBits toBits neg add sub mul div lt le
 corridor-plan = refl
 
 -- with an anchor in its second cell
@@ -64,11 +64,11 @@ abbrev anchored : List WalkPosition
 anchored = record { x = 1; y = 0 } ∷ []
 
 pub anchored-links : links eight corridor anchored items ≡ []
-unfolding links part count upFrom
+unfolding links componentOf count upFrom
 anchored-links = refl
 
 pub anchored-accepted : accepted limits000 eight corridor anchored items ≡ []
-unfolding accepted part count upFrom
+unfolding accepted componentOf count upFrom
 anchored-accepted = refl
 
 -- listed the other way round, one of them turned
@@ -78,7 +78,7 @@ corridor-listing = refl
 
 -- boundaries of one centre, which the spans of a list stand for
 same-centre : links eight corridor [] (itemOf 0 (spanOf 8 0 8 8) (spanOf 8 0 8 8) ∷ itemOf 0 (spanOf 4 4 12 4) (spanOf 16 0 16 8) ∷ []) ≡ []
-unfolding links part count upFrom
+unfolding links componentOf count upFrom
 same-centre = refl
 
 -- three spans touch the middle of a fork
@@ -86,10 +86,10 @@ abbrev fork : Grid
 fork = record { width = 3; height = 2; cells = 1 ∷ 1 ∷ 1 ∷ 0 ∷ 1 ∷ 0 ∷ [] }
 
 three-touch : links eight fork [] (uprightAt 8 ∷ itemOf 0 (spanOf 8 8 16 8) (spanOf 8 8 16 8) ∷ uprightAt 16 ∷ []) ≡ []
-unfolding links part count upFrom
+unfolding links componentOf count upFrom
 three-touch = refl
 
--- three spans part a longer corridor: one serial group, and no flat one of what it leaves
+-- three spans componentOf a longer corridor: one serial group, and no flat one of what it leaves
 abbrev long : Grid
 long = record { width = 5; height = 1; cells = 1 ∷ 1 ∷ 1 ∷ 1 ∷ 1 ∷ [] }
 
@@ -97,7 +97,7 @@ abbrev three : List Item
 three = uprightAt 8 ∷ uprightAt 16 ∷ uprightAt 24 ∷ []
 
 serial-three : accepted limits000 eight long [] three ≡ record { ranks = 0 ∷ 1 ∷ 2 ∷ []; links = linkOver 2 0 1 ∷ linkOver 3 1 2 ∷ [] } ∷ []
-unfolding accepted part count upFrom lengthOf ofInt ofBits toBits neg add sub mul div lt le
+unfolding accepted componentOf count upFrom lengthOf ofInt ofBits toBits neg add sub mul div lt le
 serial-three = refl
 
 -- a column below one region makes its link fail: none of the chain's four spans is in a serial group
@@ -109,7 +109,7 @@ bulged = record {
 }
 
 failing-rejects : serialGroups limits000 eight bulged [] (map uprightAt (8 ∷ 16 ∷ 24 ∷ 32 ∷ [])) ≡ []
-unfolding serialGroups part count upFrom lengthOf ofInt ofBits toBits neg add sub mul div lt le
+unfolding serialGroups componentOf count upFrom lengthOf ofInt ofBits toBits neg add sub mul div lt le
 failing-rejects = refl
 
 -- the middle one has the least sum
@@ -140,14 +140,14 @@ hall = record { width = 51; height = 1; cells = map (λ i. 1) (upFrom 0 51) }
 
 exactly-384 : accepted limits000 eight hall []
     (uprightAt 8 ∷ uprightAt 200 ∷ uprightAt 392 ∷ []) ≡ record { ranks = 0 ∷ 1 ∷ 2 ∷ []; links = linkOver 2 0 1 ∷ linkOver 3 1 2 ∷ [] } ∷ []
-unfolding accepted part count upFrom lengthOf ofInt ofBits toBits neg add sub mul div lt le
+unfolding accepted componentOf count upFrom lengthOf ofInt ofBits toBits neg add sub mul div lt le
 exactly-384 = refl
 
 over-384 : accepted limits000 eight hall [] (uprightAt 8 ∷ uprightAt 200 ∷ itemOf 0x4020_0000_0000_0000 (spanOf 392 0 393 8) (spanOf 392 0 393 8) ∷ []) ≡ []
-unfolding accepted part count upFrom lengthOf ofInt ofBits toBits neg add sub mul div lt le
+unfolding accepted componentOf count upFrom lengthOf ofInt ofBits toBits neg add sub mul div lt le
 over-384 = refl
 
 -- a fifth boundary rejects the whole chain, serial and flat
 five : accepted limits000 eight (record { width = 6; height = 1; cells = map (λ i. 1) (upFrom 0 6) }) [] (map uprightAt (8 ∷ 16 ∷ 24 ∷ 32 ∷ 40 ∷ [])) ≡ []
-unfolding accepted part count upFrom lengthOf ofInt ofBits toBits neg add sub mul div lt le
+unfolding accepted componentOf count upFrom lengthOf ofInt ofBits toBits neg add sub mul div lt le
 five = refl

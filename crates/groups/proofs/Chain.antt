@@ -18,10 +18,10 @@ use Rattle.topology.specs.Listing.{Item}
 use Rattle.links.specs.Limits.{Limits}
 use Rattle.groups.specs.Regions.{assessAt}
 use Rattle.groups.specs.Links.{LinkAt, joins}
-use Rattle.groups.specs.Groups.{Group}
+use Rattle.groups.specs.Groups.{LinkGroup}
 use Rattle.groups.specs.SimplePath.{linksAt, degree, endsOf, firstEnd, lastEnd, noLink, outerRegion, IsSimplePath}
 use Rattle.groups.specs.LinkRule.{Touches, FullPair}
-use Rattle.groups.specs.ConnectedPart.{Joins, LinkOf}
+use Rattle.groups.specs.ConnectedPart.{LinkJoins, LinkOf}
 use Rattle.groups.specs.Chain.{JoinedByOne, JoinedByTwo, Beyond, Chain}
 use Rattle.groups.proofs.Tests.{two-members}
 use Rattle.groups.proofs.Links.{pair-iff}
@@ -89,8 +89,8 @@ one-of-three i m n f h k =
 one-or-two : (n : ℕ) → 1 ≤ n → n ≤ 2 → (n ≡ 1) ⊎ (n ≡ 2)
 one-or-two n h k = by-test (eqb n 1) (λ e. inl (eqb-true n 1 e)) (λ e. let d = eqb-false n 1 e in inr (omega (arith, h, k, d)))
 
-module _ (a : Group) (by-region : Pairs (λ (j k : LinkAt). j .region < k .region) (a .links)) where
-  at-iff : (i : ℕ) (h : LinkAt) → List·Memᴰ h (linksAt a i) ↔ (LinkOf a h × Joins h i)
+module _ (a : LinkGroup) (by-region : Pairs (λ (j k : LinkAt). j .region < k .region) (a .links)) where
+  at-iff : (i : ℕ) (h : LinkAt) → List·Memᴰ h (linksAt a i) ↔ (LinkOf a h × LinkJoins h i)
   unfolding linksAt
   at-iff i h = (
     λ m. let p = keep-mem (joins i) (a .links) m in (p .0, joins-iff h i .0 (p .1)),
@@ -154,7 +154,7 @@ module _ (a : Group) (by-region : Pairs (λ (j k : LinkAt). j .region < k .regio
     ends-rising = keep-pairs (λ i. eqb (degree a i) 1) ascending
 
     module _ (limits : Limits) (dirs : List ℕ) (g : Grid) (l : List Item) (least : ℕ)
-        (full : (k : LinkAt) → LinkOf a k → (i : ℕ) → Joins k i → FullPair (assessAt dirs g l i) × Touches (assessAt dirs g l i) (k .region)) where
+        (full : (k : LinkAt) → LinkOf a k → (i : ℕ) → LinkJoins k i → FullPair (assessAt dirs g l i) × Touches (assessAt dirs g l i) (k .region)) where
       -- past a rank with one link lies the computed outer region
       outer-is : (i : ℕ) (k : LinkAt) → JoinedByOne a i k → Beyond (assessAt dirs g l i) (k .region) (outerRegion dirs g l a i)
       unfolding outerRegion

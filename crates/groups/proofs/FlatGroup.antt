@@ -18,7 +18,7 @@ use Rattle.grid.specs.Cells.{Grid, rampCell}
 use Rattle.links.specs.Limits.{Limits}
 use Rattle.links.specs.Geometry.{Vector, cellCentre, dot}
 use Rattle.links.specs.Link.{Link, Bounds}
-use Rattle.links.specs.Flat.{alongTolerance, acrossTolerance, radius, insideOn, insideBoth, insideFlat}
+use Rattle.links.specs.Flat.{alongTolerance, acrossTolerance, cellReach, insideOn, insideBoth, insideFlat}
 use Rattle.topology.specs.RegionStats.{elevationKinds}
 use Rattle.topology.specs.Listing.{Item}
 use Rattle.topology.proofs.RegionStats.{region-cells-iff, ramp-iff}
@@ -27,7 +27,7 @@ use Rattle.groups.specs.Tests.{every}
 use Rattle.groups.specs.Regions.{regionLabels, cellsOf, statsOf}
 use Rattle.groups.specs.Links.{LinkAt, links}
 use Rattle.groups.specs.Measuring.{valueOf, staysInside}
-use Rattle.groups.specs.Groups.{Group, groupsOf, inAny}
+use Rattle.groups.specs.Groups.{LinkGroup, groupsOf, inAnyLinkGroup}
 use Rattle.groups.specs.SimplePath.{simplePath}
 use Rattle.groups.specs.Serial.{serialGroups}
 use Rattle.groups.specs.Flat.{alike, isFlat, acceptsFlat, isLeft, isFlatLink, flatLinks, flatGroups}
@@ -44,7 +44,7 @@ neither s t = (λ h. let p = and-parts (not s) (not t) h in (not-true s (p .0), 
 
 stays-iff : (v : Vector) (b : Bounds) (tolerance : Float) (p : Vector) → (insideOn v b tolerance p ≡ true) ↔ StaysOn v b tolerance p
 stays-iff v b tolerance p =
-    let n = neither (lt (dot p v ⊖ radius v) (b .low ⊖ tolerance)) (lt (b .high ⊕ tolerance) (dot p v ⊕ radius v)) in
+    let n = neither (lt (dot p v ⊖ cellReach v) (b .low ⊖ tolerance)) (lt (b .high ⊕ tolerance) (dot p v ⊕ cellReach v)) in
     (λ h. let q = n .0 h in record { not-below = q .0; not-above = q .1 }, λ w. n .1 (w .not-below, w .not-above))
 
 envelope-iff : (limits : Limits) (link : Link) (p : Vector) → (insideBoth limits link p ≡ true) ↔ InEnvelope limits link p
@@ -124,17 +124,17 @@ module _ (dirs : List ℕ) (g : Grid) (l : List Item) where
 
 module _ (limits : Limits) (dirs : List ℕ) (g : Grid) (anchors : List WalkPosition) (l : List Item) where
   left-iff : (i : ℕ) → (isLeft limits dirs g anchors l i ≡ true) ↔ LeftBySerial limits dirs g anchors l i
-  unfolding inAny
+  unfolding inAnyLinkGroup
   left-iff i = (
     λ h a s m.
-        clash (mem-any (λ (b : Group). has i (b .ranks)) (serial-iff limits dirs g anchors l a .1 s) (mem-has i (a .ranks) m))
-        (not-true (inAny (serialGroups limits dirs g anchors l) i) h),
-    λ f. let n = is-false (inAny (serialGroups limits dirs g anchors l) i) (none f) in rw n refl,
+        clash (mem-any (λ (b : LinkGroup). has i (b .ranks)) (serial-iff limits dirs g anchors l a .1 s) (mem-has i (a .ranks) m))
+        (not-true (inAnyLinkGroup (serialGroups limits dirs g anchors l) i) h),
+    λ f. let n = is-false (inAnyLinkGroup (serialGroups limits dirs g anchors l) i) (none f) in rw n refl,
   )
     where
-      none : LeftBySerial limits dirs g anchors l i → inAny (serialGroups limits dirs g anchors l) i ≡ true → ⊥
+      none : LeftBySerial limits dirs g anchors l i → inAnyLinkGroup (serialGroups limits dirs g anchors l) i ≡ true → ⊥
       none f h =
-          let w = any-mem (λ (b : Group). has i (b .ranks)) (serialGroups limits dirs g anchors l) h in
+          let w = any-mem (λ (b : LinkGroup). has i (b .ranks)) (serialGroups limits dirs g anchors l) h in
           f (w .0) (serial-iff limits dirs g anchors l (w .0) .0 (w .1)) (has-mem i (w .0 .ranks) (w .2))
 
   inside-iff : (k : LinkAt) →
@@ -202,12 +202,12 @@ module _ (limits : Limits) (dirs : List ℕ) (g : Grid) (anchors : List WalkPosi
         )),
   )
 
-  flat-parts : (a : Group) → List·Memᴰ a (groupsOf (length l) (flatLinks limits dirs g anchors l)) ↔ ConnectedPart (FlatLink limits dirs g anchors l) a
+  flat-parts : (a : LinkGroup) → List·Memᴰ a (groupsOf (length l) (flatLinks limits dirs g anchors l)) ↔ ConnectedPart (FlatLink limits dirs g anchors l) a
   unfolding flatLinks
   flat-parts = chosen-parts dirs g anchors l (isFlatLink limits dirs g anchors l) flat-link-iff
 
   -- an accepted flat group is just what document 01 calls one
-  pub flat-iff : (a : Group) → List·Memᴰ a (flatGroups limits dirs g anchors l) ↔ FlatGroup limits dirs g anchors l a
+  pub flat-iff : (a : LinkGroup) → List·Memᴰ a (flatGroups limits dirs g anchors l) ↔ FlatGroup limits dirs g anchors l a
   unfolding flatGroups acceptsFlat
   flat-iff a = (to, from)
     where

@@ -18,7 +18,7 @@ use Rattle.topology.specs.FullPair.{touches, hasFullPair}
 use Rattle.topology.specs.Listing.{Item}
 use Rattle.topology.proofs.Anchors.{anchored-iff}
 use Rattle.topology.proofs.FullPair.{touches-iff, full-pair-iff}
-use Rattle.links.specs.Geometry.{Doubled, apart, squares, doubledCentre}
+use Rattle.links.specs.Geometry.{DoubledPoint, apart, squares, doubledCentre}
 use Rattle.groups.specs.Listing.{boundaryAt, endsAt}
 use Rattle.groups.specs.Regions.{regionLabels, assessAt}
 use Rattle.groups.specs.Links.{LinkAt, linkable, links, IsLink}
@@ -48,14 +48,14 @@ square-zero zero h = refl
 square-zero (suc n) h = absurd (omega arith)
 
 -- the sum of squares is 0 exactly if the centres are one
-same-centre : (p q : Doubled) → squares p q ≡ 0 → p ≡ q
+same-centre : (p q : DoubledPoint) → squares p q ≡ 0 → p ≡ q
 unfolding squares
 same-centre p q h =
     let x : p .x ≡ q .x = omega (arith, square-zero (apart (p .x) (q .x)) (omega arith)) in
     let y : p .y ≡ q .y = omega (arith, square-zero (apart (p .y) (q .y)) (omega arith)) in
     λ i. record { x = x i; y = y i }
 
-no-squares : (p : Doubled) → squares p p ≡ 0
+no-squares : (p : DoubledPoint) → squares p p ≡ 0
 unfolding squares
 no-squares p =
     let x : apart (p .x) (p .x) ≡ 0 = omega arith in

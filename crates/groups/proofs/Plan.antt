@@ -15,7 +15,7 @@ use Rattle.grid.specs.Cells.{Grid}
 use Rattle.links.specs.Limits.{Limits}
 use Rattle.groups.specs.Tests.{any}
 use Rattle.topology.specs.Listing.{Item}
-use Rattle.groups.specs.Groups.{Group, inAny, Disjoint}
+use Rattle.groups.specs.Groups.{LinkGroup, inAnyLinkGroup, LinkGroupsDisjoint}
 use Rattle.groups.specs.Flat.{accepted}
 use Rattle.groups.specs.Representative.{retained}
 use Rattle.groups.specs.Plan.{goesInto, mergePlan}
@@ -24,52 +24,53 @@ use Rattle.groups.proofs.Accepted.{groups-disjoint, accepted-below, acc
 use Rattle.groups.proofs.Representative.{retained-mem}
 
 -- the rank is in one of the groups
-pub in-any : (gs : List Group) (i : ℕ) → inAny gs i ≡ true → (a : Group) × List·Memᴰ a gs × List·Memᴰ i (a .ranks)
-unfolding inAny
-in-any gs i h = let w = any-mem (λ (b : Group). has i (b .ranks)) gs h in (w .0, w .1, has-mem i (w .0 .ranks) (w .2))
+pub in-any : (gs : List LinkGroup) (i : ℕ) → inAnyLinkGroup gs i ≡ true → (a : LinkGroup) × List·Memᴰ a gs × List·Memᴰ i (a .ranks)
+unfolding inAnyLinkGroup
+in-any gs i h = let w = any-mem (λ (b : LinkGroup). has i (b .ranks)) gs h in (w .0, w .1, has-mem i (w .0 .ranks) (w .2))
 
-pub any-in : {gs : List Group} {a : Group} {i : ℕ} → List·Memᴰ a gs → List·Memᴰ i (a .ranks) → inAny gs i ≡ true
-unfolding inAny
-any-in {a = a} {i = i} m k = mem-any (λ (b : Group). has i (b .ranks)) m (mem-has i (a .ranks) k)
+pub any-in : {gs : List LinkGroup} {a : LinkGroup} {i : ℕ} → List·Memᴰ a gs → List·Memᴰ i (a .ranks) → inAnyLinkGroup gs i ≡ true
+unfolding inAnyLinkGroup
+any-in {a = a} {i = i} m k = mem-any (λ (b : LinkGroup). has i (b .ranks)) m (mem-has i (a .ranks) k)
 
 module _ (limits : Limits) (l : List Item) where
-  pub goes-member : {gs : List Group} → Pairs Disjoint gs → {a : Group} → List·Memᴰ a gs → (i : ℕ) → List·Memᴰ i (a .ranks)
+  pub goes-member : {gs : List LinkGroup} → Pairs LinkGroupsDisjoint gs → {a : LinkGroup} → List·Memᴰ a gs → (i : ℕ) → List·Memᴰ i (a .ranks)
       → goesInto limits l gs i ≡ retained limits l (a .ranks)
   unfolding goesInto
   goes-member (more f o) {a} (List·Memᴰ·head e) i k = let h = mem-has i (a .ranks) k in rw (← e, h)
   goes-member (more {x = b} f o) {a} (List·Memᴰ·tail m) i k =
       let h = is-false (has i (b .ranks)) (λ p. f a m i (has-mem i (b .ranks) p) k) in rw h (goes-member o m i k)
 
-  pub goes-other : (gs : List Group) (i : ℕ) → inAny gs i ≡ false → goesInto limits l gs i ≡ i
-  unfolding goesInto inAny any
+  pub goes-other : (gs : List LinkGroup) (i : ℕ) → inAnyLinkGroup gs i ≡ false → goesInto limits l gs i ≡ i
+  unfolding goesInto inAnyLinkGroup any
   goes-other [] i h = refl
   goes-other (a ∷ gs) i h = go (has i (a .ranks)) h (goes-other gs i)
     where
-      go : (t : Bool) → t || any (λ (b : Group). has i (b .ranks)) gs ≡ false → (any (λ (b : Group). has i (b .ranks)) gs ≡ false → goesInto limits l gs i ≡ i)
+      go : (t : Bool) → t || any (λ (b : LinkGroup). has i (b .ranks)) gs ≡ false
+          → (any (λ (b : LinkGroup). has i (b .ranks)) gs ≡ false → goesInto limits l gs i ≡ i)
           → cond t (retained limits l (a .ranks)) (goesInto limits l gs i) ≡ i
       go true h f = clash refl h
       go false h f = f h
 
 module _ (limits : Limits) (dirs : List ℕ) (g : Grid) (anchors : List WalkPosition) (l : List Item) where
   -- a group has a rank, and retains one of its own
-  some-rank : {a : Group} → List·Memᴰ a (accepted limits dirs g anchors l) → List·Memᴰ (getD (a .ranks) 0 0) (a .ranks)
+  some-rank : {a : LinkGroup} → List·Memᴰ a (accepted limits dirs g anchors l) → List·Memᴰ (getD (a .ranks) 0 0) (a .ranks)
   some-rank {a} m = getD-mem (a .ranks) 0 0 (omega (arith, accepted-two limits dirs g anchors l m))
 
-  pub accepted-retained : {a : Group} → List·Memᴰ a (accepted limits dirs g anchors l) → List·Memᴰ (retained limits l (a .ranks)) (a .ranks)
+  pub accepted-retained : {a : LinkGroup} → List·Memᴰ a (accepted limits dirs g anchors l) → List·Memᴰ (retained limits l (a .ranks)) (a .ranks)
   accepted-retained {a} m = retained-mem limits l (a .ranks) (some-rank m)
 
-  pub plan-member : {a : Group} → List·Memᴰ a (accepted limits dirs g anchors l) → (i : ℕ) → List·Memᴰ i (a .ranks)
+  pub plan-member : {a : LinkGroup} → List·Memᴰ a (accepted limits dirs g anchors l) → (i : ℕ) → List·Memᴰ i (a .ranks)
       → mergePlan limits dirs g anchors l i ≡ retained limits l (a .ranks)
   unfolding mergePlan
   plan-member m i k = goes-member limits l (groups-disjoint limits dirs g anchors l) m i k
 
-  pub plan-other : (i : ℕ) → inAny (accepted limits dirs g anchors l) i ≡ false → mergePlan limits dirs g anchors l i ≡ i
+  pub plan-other : (i : ℕ) → inAnyLinkGroup (accepted limits dirs g anchors l) i ≡ false → mergePlan limits dirs g anchors l i ≡ i
   unfolding mergePlan
   plan-other i h = goes-other limits l (accepted limits dirs g anchors l) i h
 
   pub plan-below : (i : ℕ) → i < length l → mergePlan limits dirs g anchors l i < length l
   plan-below i b =
-      by-test (inAny (accepted limits dirs g anchors l) i)
+      by-test (inAnyLinkGroup (accepted limits dirs g anchors l) i)
       (λ h.
       let w = in-any (accepted limits dirs g anchors l) i h in
       rw (plan-member (w .1) i (w .2)) (accepted-below limits dirs g anchors l (w .1) (retained limits l (w .0 .ranks)) (accepted-retained (w .1))))

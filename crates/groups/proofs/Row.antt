@@ -11,8 +11,8 @@ use Rattle.grid.specs.Cells.{Grid}
 use Rattle.topology.specs.Listing.{Item}
 use Rattle.links.specs.Limits.{Limits}
 use Rattle.groups.specs.Links.{LinkAt}
-use Rattle.groups.specs.Groups.{Group}
-use Rattle.groups.specs.ConnectedPart.{Joins, Walk, here, onward, LinkOf, ConnectedPart}
+use Rattle.groups.specs.Groups.{LinkGroup}
+use Rattle.groups.specs.ConnectedPart.{LinkJoins, Walk, here, onward, LinkOf, ConnectedPart}
 use Rattle.groups.specs.Chain.{JoinedByOne, JoinedByTwo, Chain}
 use Rattle.groups.specs.SerialGroup.{SerialGroup}
 use Rattle.groups.specs.FlatGroup.{FlatGroup}
@@ -48,7 +48,7 @@ distinct-tail : {x : ℕ} {l : List ℕ} → Distinct (x ∷ l) → Distinct l
 distinct-tail (more f d) = d
 
 -- a link has just two ranks
-just-two : (k : LinkAt) {i j h : ℕ} → Joins k i → Joins k j → (i ≡ j → ⊥) → Joins k h → (h ≡ i) ⊎ (h ≡ j)
+just-two : (k : LinkAt) {i j h : ℕ} → LinkJoins k i → LinkJoins k j → (i ≡ j → ⊥) → LinkJoins k h → (h ≡ i) ⊎ (h ≡ j)
 just-two k (inl p) (inl q) n r = absurd (n (p ∙ sym q))
 just-two k (inl p) (inr q) n (inl r) = inl (r ∙ sym p)
 just-two k (inl p) (inr q) n (inr r) = inr (r ∙ sym q)
@@ -57,36 +57,36 @@ just-two k (inr p) (inl q) n (inr r) = inl (r ∙ sym p)
 just-two k (inr p) (inr q) n r = absurd (n (p ∙ sym q))
 
 -- the links of a row join none but its ranks
-row-inside : {v : List ℕ} {ks : List LinkAt} → Row v ks → Distinct v → {k : LinkAt} {h : ℕ} → List·Memᴰ k ks → Joins k h → List·Memᴰ h v
+row-inside : {v : List ℕ} {ks : List LinkAt} → Row v ks → Distinct v → {k : LinkAt} {h : ℕ} → List·Memᴰ k ks → LinkJoins k h → List·Memᴰ h v
 row-inside alone d m q = absurd (List·Memᴰ·not-nil m)
 row-inside (linked {i = i} {j = j} {is = is} {k = o} p q r) d {k} {h} (List·Memᴰ·head e) s =
     ⊎-elim (λ (f : h ≡ i). List·Memᴰ·head f) (λ (f : h ≡ j). List·Memᴰ·tail (List·Memᴰ·head f))
-    (just-two o p q (λ f. distinct-head d (List·Memᴰ·head f)) (subst (λ (z : LinkAt). Joins z h) e s))
+    (just-two o p q (λ f. distinct-head d (List·Memᴰ·head f)) (subst (λ (z : LinkAt). LinkJoins z h) e s))
 row-inside (linked p q r) d (List·Memᴰ·tail m) s = List·Memᴰ·tail (row-inside r (distinct-tail d) m s)
 
-row-head : {x y : ℕ} {rest : List ℕ} {k : LinkAt} {ks : List LinkAt} → Row (x ∷ y ∷ rest) (k ∷ ks) → Joins k x × Row (y ∷ rest) ks
+row-head : {x y : ℕ} {rest : List ℕ} {k : LinkAt} {ks : List LinkAt} → Row (x ∷ y ∷ rest) (k ∷ ks) → LinkJoins k x × Row (y ∷ rest) ks
 row-head (linked p q r) = (p, r)
 
 -- the other rank of a link
-other-rank : (k : LinkAt) → k .first < k .second → {x : ℕ} → Joins k x → (z : ℕ) × Joins k z × (z ≡ x → ⊥)
+other-rank : (k : LinkAt) → k .first < k .second → {x : ℕ} → LinkJoins k x → (z : ℕ) × LinkJoins k z × (z ≡ x → ⊥)
 other-rank k h (inl e) = (k .second, inr refl, λ f. absurd (omega arith))
 other-rank k h (inr e) = (k .first, inl refl, λ f. absurd (omega arith))
 
-module _ {L : LinkAt → Type 0} {a : Group} (p : ConnectedPart L a) (rising : (k : LinkAt) → LinkOf a k → k .first < k .second) where
+module _ {L : LinkAt → Type 0} {a : LinkGroup} (p : ConnectedPart L a) (rising : (k : LinkAt) → LinkOf a k → k .first < k .second) where
   -- a row that ends at x: the ranks behind x have no other links
   record Grown (x : ℕ) (rest : List ℕ) (ks : List LinkAt) : Type 0 where
     row : Row (x ∷ rest) ks
     once : Distinct (x ∷ rest)
     mine : (y : ℕ) → List·Memᴰ y (x ∷ rest) → List·Memᴰ y (a .ranks)
     own : (k : LinkAt) → List·Memᴰ k ks → LinkOf a k
-    full : (y : ℕ) → List·Memᴰ y rest → (k : LinkAt) → LinkOf a k → Joins k y → List·Memᴰ k ks
+    full : (y : ℕ) → List·Memᴰ y rest → (k : LinkAt) → LinkOf a k → LinkJoins k y → List·Memᴰ k ks
 
   -- over a new link to a new rank
-  step : {x : ℕ} {rest : List ℕ} {ks : List LinkAt} → Grown x rest ks → (k : LinkAt) → LinkOf a k → Joins k x → (List·Memᴰ k ks → ⊥) →
-      ((h : LinkAt) → LinkOf a h → Joins h x → (h ≡ k) ⊎ List·Memᴰ h ks) → (z : ℕ) × Grown z (x ∷ rest) (k ∷ ks)
+  step : {x : ℕ} {rest : List ℕ} {ks : List LinkAt} → Grown x rest ks → (k : LinkAt) → LinkOf a k → LinkJoins k x → (List·Memᴰ k ks → ⊥) →
+      ((h : LinkAt) → LinkOf a h → LinkJoins h x → (h ≡ k) ⊎ List·Memᴰ h ks) → (z : ℕ) × Grown z (x ∷ rest) (k ∷ ks)
   step {x} {rest} {ks} g k o q n all = (z, record { row = linked (w .1) q (g .row); once = more new (g .once); mine = mine; own = own; full = full })
     where
-      w : (z : ℕ) × Joins k z × (z ≡ x → ⊥)
+      w : (z : ℕ) × LinkJoins k z × (z ≡ x → ⊥)
       w = other-rank k (rising k o) q
 
       z : ℕ
@@ -94,7 +94,7 @@ module _ {L : LinkAt → Type 0} {a : Group} (p : ConnectedPart L a) (rising : (
 
       new : (y : ℕ) → List·Memᴰ y (x ∷ rest) → z ≡ y → ⊥
       new y (List·Memᴰ·head e) f = w .2 (f ∙ e)
-      new y (List·Memᴰ·tail m) f = n (g .full y m k o (subst (λ (i : ℕ). Joins k i) f (w .1)))
+      new y (List·Memᴰ·tail m) f = n (g .full y m k o (subst (λ (i : ℕ). LinkJoins k i) f (w .1)))
 
       mine : (y : ℕ) → List·Memᴰ y (z ∷ x ∷ rest) → List·Memᴰ y (a .ranks)
       mine y (List·Memᴰ·head e) = rw e (p .ranks z .1 (k, o, w .1))
@@ -104,13 +104,13 @@ module _ {L : LinkAt → Type 0} {a : Group} (p : ConnectedPart L a) (rising : (
       own h (List·Memᴰ·head e) = subst (λ (i : LinkAt). LinkOf a i) (sym e) o
       own h (List·Memᴰ·tail m) = g .own h m
 
-      full : (y : ℕ) → List·Memᴰ y (x ∷ rest) → (h : LinkAt) → LinkOf a h → Joins h y → List·Memᴰ h (k ∷ ks)
+      full : (y : ℕ) → List·Memᴰ y (x ∷ rest) → (h : LinkAt) → LinkOf a h → LinkJoins h y → List·Memᴰ h (k ∷ ks)
       full y (List·Memᴰ·head e) h b s =
-          ⊎-elim (λ (f : h ≡ k). List·Memᴰ·head f) (λ (m : List·Memᴰ h ks). List·Memᴰ·tail m) (all h b (subst (λ (i : ℕ). Joins h i) e s))
+          ⊎-elim (λ (f : h ≡ k). List·Memᴰ·head f) (λ (m : List·Memᴰ h ks). List·Memᴰ·tail m) (all h b (subst (λ (i : ℕ). LinkJoins h i) e s))
       full y (List·Memᴰ·tail m) h b s = List·Memᴰ·tail (g .full y m h b s)
 
   -- where the last rank has no other link the row is the whole part
-  done : {x : ℕ} {rest : List ℕ} {ks : List LinkAt} → Grown x rest ks → ((k : LinkAt) → LinkOf a k → Joins k x → List·Memᴰ k ks) → InARow a
+  done : {x : ℕ} {rest : List ℕ} {ks : List LinkAt} → Grown x rest ks → ((k : LinkAt) → LinkOf a k → LinkJoins k x → List·Memᴰ k ks) → InARow a
   done {x} {rest} {ks} g all = record {
     order = x ∷ rest;
     between = ks;
@@ -120,8 +120,8 @@ module _ {L : LinkAt → Type 0} {a : Group} (p : ConnectedPart L a) (rising : (
     links = λ k. (g .own k, λ m. let i = p .ranks (k .first) .1 (k, m, inl refl) in whole (k .first) (inside (k .first) i) k m (inl refl));
   }
     where
-      whole : (y : ℕ) → List·Memᴰ y (x ∷ rest) → (k : LinkAt) → LinkOf a k → Joins k y → List·Memᴰ k ks
-      whole y (List·Memᴰ·head e) k o s = all k o (subst (λ (i : ℕ). Joins k i) e s)
+      whole : (y : ℕ) → List·Memᴰ y (x ∷ rest) → (k : LinkAt) → LinkOf a k → LinkJoins k y → List·Memᴰ k ks
+      whole y (List·Memᴰ·head e) k o s = all k o (subst (λ (i : ℕ). LinkJoins k i) e s)
       whole y (List·Memᴰ·tail m) k o s = g .full y m k o s
 
       reach : {i j : ℕ} → Walk (LinkOf a) i j → List·Memᴰ i (x ∷ rest) → List·Memᴰ j (x ∷ rest)
@@ -139,7 +139,7 @@ module _ {L : LinkAt → Type 0} {a : Group} (p : ConnectedPart L a) (rising : (
         one-of-three x (c .first) (c .last) (λ e. whole (c .first-link) (rw e (c .first-end))) (λ e. whole (c .last-link) (rw e (c .last-end)))
         (λ u v. two (c .inner x (r .mine x (List·Memᴰ·head refl)) u v))
       where
-        came : Joins k x
+        came : LinkJoins k x
         came = row-head (r .row) .0
 
         mine : LinkOf a k
@@ -148,11 +148,11 @@ module _ {L : LinkAt → Type 0} {a : Group} (p : ConnectedPart L a) (rising : (
         whole : (j : LinkAt) → JoinedByOne a x j → InARow a
         whole j w = done r (λ h o q. List·Memᴰ·head (w .just h .0 (o, q) ∙ sym (w .just k .0 (mine, came))))
 
-        fresh : (j : LinkAt) → Joins j x → (j ≡ k → ⊥) → List·Memᴰ j (k ∷ ks) → ⊥
+        fresh : (j : LinkAt) → LinkJoins j x → (j ≡ k → ⊥) → List·Memᴰ j (k ∷ ks) → ⊥
         fresh j q n (List·Memᴰ·head e) = n e
         fresh j q n (List·Memᴰ·tail m) = distinct-head (r .once) (row-inside (row-head (r .row) .1) (distinct-tail (r .once)) m q)
 
-        on : (j : LinkAt) → LinkOf a j × Joins j x → (j ≡ k → ⊥) → ((h : LinkAt) → LinkOf a h → Joins h x → (h ≡ j) ⊎ (h ≡ k)) → InARow a
+        on : (j : LinkAt) → LinkOf a j × LinkJoins j x → (j ≡ k → ⊥) → ((h : LinkAt) → LinkOf a h → LinkJoins h x → (h ≡ j) ⊎ (h ≡ k)) → InARow a
         on j o n all =
             let s = step r j (o .0) (o .1) (fresh j (o .1) n)
             (λ h b q. ⊎-elim (λ (e : h ≡ j). inl e) (λ (e : h ≡ k). inr (List·Memᴰ·head e)) (all h b q)) in
@@ -199,7 +199,7 @@ module _ {L : LinkAt → Type 0} {a : Group} (p : ConnectedPart L a) (rising : (
         grow (length (a .ranks)) (s .1) (omega arith)
 
 -- so do the ranks of an accepted group
-module _ {limits : Limits} {dirs : List ℕ} {g : Grid} {anchors : List WalkPosition} {l : List Item} {a : Group} where
+module _ {limits : Limits} {dirs : List ℕ} {g : Grid} {anchors : List WalkPosition} {l : List Item} {a : LinkGroup} where
   pub serial-row : SerialGroup limits dirs g anchors l a → InARow a
   serial-row w = chain-row (w .part) (λ k h. part-link (w .part) k h .gives .rising) (w .chain)
 

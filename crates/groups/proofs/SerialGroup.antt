@@ -22,11 +22,11 @@ use Rattle.groups.specs.Listing.{spansOf}
 use Rattle.groups.specs.Regions.{assessAt, bridgeAt}
 use Rattle.groups.specs.Links.{LinkAt, links}
 use Rattle.groups.specs.Measuring.{measuredAt, passes}
-use Rattle.groups.specs.Groups.{Group, groupsOf}
+use Rattle.groups.specs.Groups.{LinkGroup, groupsOf}
 use Rattle.groups.specs.SimplePath.{firstEnd, lastEnd, simplePath}
 use Rattle.groups.specs.Serial.{rankDistance, chainSum, endDistance, acceptsSerial, serialLinks, serialGroups}
 use Rattle.groups.specs.LinkRule.{Touches, FullPair, Gives}
-use Rattle.groups.specs.ConnectedPart.{Joins, LinkOf, ConnectedPart}
+use Rattle.groups.specs.ConnectedPart.{LinkJoins, LinkOf, ConnectedPart}
 use Rattle.groups.specs.Chain.{Chain}
 use Rattle.groups.specs.SerialGroup.{SerialLink, Passes, SerialGroup}
 use Rattle.groups.proofs.Tests.{every-mem, mem-every}
@@ -38,7 +38,7 @@ use Rattle.groups.proofs.Chain.{path-chain, chain-ends, chain-path}
 
 module _ (dirs : List ℕ) (g : Grid) (anchors : List WalkPosition) (l : List Item) where
   -- the ranks of a link have a full pair and touch its region
-  gives-full : {k : LinkAt} → Gives dirs g anchors l k → (i : ℕ) → Joins k i → FullPair (assessAt dirs g l i) × Touches (assessAt dirs g l i) (k .region)
+  gives-full : {k : LinkAt} → Gives dirs g anchors l k → (i : ℕ) → LinkJoins k i → FullPair (assessAt dirs g l i) × Touches (assessAt dirs g l i) (k .region)
   gives-full {k} w i e = (
     ⊎-elim (λ (f : i ≡ k .first). rw f (w .first-linkable .full)) (λ (f : i ≡ k .second). rw f (w .second-linkable .full)) e,
     w .touching i .1 e .1,
@@ -46,15 +46,16 @@ module _ (dirs : List ℕ) (g : Grid) (anchors : List WalkPosition) (l : List It
 
   -- the groups of the links that a test chooses are the connected parts of those that it stands for
   pub chosen-parts : {L : LinkAt → Type 0} (t : LinkAt → Bool) → ((k : LinkAt) → List·Memᴰ k (keep t (links dirs g anchors l)) ↔ L k) →
-      (a : Group) → List·Memᴰ a (groupsOf (length l) (keep t (links dirs g anchors l))) ↔ ConnectedPart L a
+      (a : LinkGroup) → List·Memᴰ a (groupsOf (length l) (keep t (links dirs g anchors l))) ↔ ConnectedPart L a
   chosen-parts t is = parts-iff (length l) (keep t (links dirs g anchors l)) is inside (keep-pairs t (links-rising dirs g anchors l))
     where
       inside : (k : LinkAt) → List·Memᴰ k (keep t (links dirs g anchors l)) → (k .first < length l) × (k .second < length l)
       inside k m = let w = gives-iff dirs g anchors l k .0 (keep-mem t (links dirs g anchors l) m .0) in (omega (arith, w .rising, w .below), w .below)
 
   -- a connected part of links is a simple path exactly if it is a chain, with the ends that are searched for
-  module _ (limits : Limits) {L : LinkAt → Type 0} (gives : (k : LinkAt) → L k → Gives dirs g anchors l k) (least : ℕ) {a : Group} (p : ConnectedPart L a) where
-    part-full : (k : LinkAt) → LinkOf a k → (i : ℕ) → Joins k i → FullPair (assessAt dirs g l i) × Touches (assessAt dirs g l i) (k .region)
+  module _ (limits : Limits) {L : LinkAt → Type 0} (gives : (k : LinkAt) → L k → Gives dirs g anchors l k) (least : ℕ) {a : LinkGroup}
+      (p : ConnectedPart L a) where
+    part-full : (k : LinkAt) → LinkOf a k → (i : ℕ) → LinkJoins k i → FullPair (assessAt dirs g l i) × Touches (assessAt dirs g l i) (k .region)
     part-full k h i e = gives-full (gives k (part-link p k h)) i e
 
     pub simple-chain : simplePath limits dirs g l least a ≡ true → Chain limits dirs g l least a
@@ -86,7 +87,7 @@ module _ (dirs : List ℕ) (g : Grid) (anchors : List WalkPosition) (l : List It
         (bridge-iff (records dirs g (spansOf l)) (k .second) .1 (w .second-bridge))),
   )
 
-  serial-parts : (a : Group) → List·Memᴰ a (groupsOf (length l) (serialLinks dirs g anchors l)) ↔ ConnectedPart (SerialLink dirs g anchors l) a
+  serial-parts : (a : LinkGroup) → List·Memᴰ a (groupsOf (length l) (serialLinks dirs g anchors l)) ↔ ConnectedPart (SerialLink dirs g anchors l) a
   unfolding serialLinks
   serial-parts = chosen-parts twoBridges serial-link-iff
 
@@ -110,7 +111,7 @@ module _ (limits : Limits) (dirs : List ℕ) (g : Grid) (anchors : List WalkPosi
   )
 
   -- an accepted serial group is just what document 01 calls one
-  pub serial-iff : (a : Group) → List·Memᴰ a (serialGroups limits dirs g anchors l) ↔ SerialGroup limits dirs g anchors l a
+  pub serial-iff : (a : LinkGroup) → List·Memᴰ a (serialGroups limits dirs g anchors l) ↔ SerialGroup limits dirs g anchors l a
   unfolding serialGroups acceptsSerial chainSum endDistance
   serial-iff a = (to, from)
     where

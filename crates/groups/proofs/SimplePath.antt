@@ -13,12 +13,12 @@ use Rattle.grid.specs.Cells.{Grid}
 use Rattle.links.specs.Limits.{Limits}
 use Rattle.groups.specs.Tests.{every}
 use Rattle.topology.specs.Listing.{Item}
-use Rattle.groups.specs.Groups.{Group}
+use Rattle.groups.specs.Groups.{LinkGroup}
 use Rattle.groups.specs.SimplePath.{degree, endsOf, firstEnd, lastEnd, isPath, outerRegion, simplePath, IsSimplePath}
 use Rattle.groups.proofs.Tests.{every-mem, mem-every}
 use Rattle.order.proofs.Keep.{keep-length}
 
-module _ (limits : Limits) (dirs : List ℕ) (g : Grid) (l : List Item) (least : ℕ) (a : Group) where
+module _ (limits : Limits) (dirs : List ℕ) (g : Grid) (l : List Item) (least : ℕ) (a : LinkGroup) where
   pub simple-path-iff : (simplePath limits dirs g l least a ≡ true) ↔ IsSimplePath limits dirs g l least a
   unfolding simplePath isPath
   simple-path-iff = (to, from)

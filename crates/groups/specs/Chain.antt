@@ -11,21 +11,21 @@ use Rattle.links.specs.Limits.{Limits}
 use Rattle.topology.specs.Listing.{Item}
 use Rattle.groups.specs.Regions.{assessAt}
 use Rattle.groups.specs.Links.{LinkAt}
-use Rattle.groups.specs.Groups.{Group}
-use Rattle.groups.specs.ConnectedPart.{Joins, LinkOf}
+use Rattle.groups.specs.Groups.{LinkGroup}
+use Rattle.groups.specs.ConnectedPart.{LinkJoins, LinkOf}
 
-module _ (a : Group) where
+module _ (a : LinkGroup) where
   -- of the group's links, k alone joins the rank
   pub record JoinedByOne (i : ℕ) (k : LinkAt) : Type 0 where
     pub mine : List·Memᴰ i (a .ranks)
-    pub just : (h : LinkAt) → (LinkOf a h × Joins h i) ↔ (h ≡ k)
+    pub just : (h : LinkAt) → (LinkOf a h × LinkJoins h i) ↔ (h ≡ k)
 
   -- just two of them join the rank
   pub record JoinedByTwo (i : ℕ) : Type 0 where
     pub lower : LinkAt
     pub higher : LinkAt
     pub differ : lower .region < higher .region
-    pub just : (h : LinkAt) → (LinkOf a h × Joins h i) ↔ ((h ≡ lower) ⊎ (h ≡ higher))
+    pub just : (h : LinkAt) → (LinkOf a h × LinkJoins h i) ↔ ((h ≡ lower) ⊎ (h ≡ higher))
 
 -- a pair of the boundary has the region, and r is the pair's other one
 pub record Beyond (s : Assessment) (region r : ℕ) : Type 0 where
@@ -34,7 +34,7 @@ pub record Beyond (s : Assessment) (region r : ℕ) : Type 0 where
   pub other : ((region ≡ pair .lower) × (r ≡ pair .higher)) ⊎ ((region ≡ pair .higher) × (r ≡ pair .lower))
 
 -- of at least so many boundaries, and at most the limit's
-pub record Chain (limits : Limits) (dirs : List ℕ) (g : Grid) (l : List Item) (least : ℕ) (a : Group) : Type 0 where
+pub record Chain (limits : Limits) (dirs : List ℕ) (g : Grid) (l : List Item) (least : ℕ) (a : LinkGroup) : Type 0 where
   pub enough : least ≤ length (a .ranks)
   pub most : length (a .ranks) ≤ limits .mostSpans
   pub one-fewer : suc (length (a .links)) ≡ length (a .ranks)

@@ -17,7 +17,7 @@ use Rattle.groups.specs.Listing.{endsAt}
 use Rattle.groups.specs.Regions.{statsOf}
 use Rattle.groups.specs.Links.{LinkAt, links}
 use Rattle.groups.specs.Measuring.{staysInside}
-use Rattle.groups.specs.Groups.{Group, groupsOf, inAny}
+use Rattle.groups.specs.Groups.{LinkGroup, groupsOf, inAnyLinkGroup}
 use Rattle.groups.specs.SimplePath.{simplePath}
 use Rattle.groups.specs.Serial.{serialGroups}
 
@@ -35,17 +35,17 @@ unfolding statsOf elevationKinds
 isFlat dirs g l r = not (statsOf dirs g l r .hasRamp) && eqb (elevationKinds (statsOf dirs g l r)) 1
 
 -- every ordered pair of members is nearby and parallel
-unfoldable pub acceptsFlat : Limits → List ℕ → Grid → List Item → Group → Bool
+unfoldable pub acceptsFlat : Limits → List ℕ → Grid → List Item → LinkGroup → Bool
 unfolding simplePath every nearbyParallel
 acceptsFlat limits dirs g l a = simplePath limits dirs g l leastFlatSpans a && every (λ i. every (alike limits l i) (a .ranks)) (a .ranks)
 
 module _ (limits : Limits) (dirs : List ℕ) (g : Grid) (anchors : List WalkPosition) (l : List Item) where
   -- the rank is in no accepted serial group
   abbrev pub isLeft : ℕ → Bool
-  isLeft i = not (inAny (serialGroups limits dirs g anchors l) i)
+  isLeft i = not (inAnyLinkGroup (serialGroups limits dirs g anchors l) i)
 
   unfoldable pub isFlatLink : LinkAt → Bool
-  unfolding staysInside isFlat serialGroups inAny nearbyParallel
+  unfolding staysInside isFlat serialGroups inAnyLinkGroup nearbyParallel
   isFlatLink k = (staysInside limits dirs g l k && isFlat dirs g l (k .region))
       && ((isLeft (k .first) && isLeft (k .second)) && alike limits l (k .first) (k .second))
 
@@ -53,11 +53,11 @@ module _ (limits : Limits) (dirs : List ℕ) (g : Grid) (anchors : List WalkPosi
   unfolding isFlatLink links keep
   flatLinks = keep isFlatLink (links dirs g anchors l)
 
-  unfoldable pub flatGroups : List Group
+  unfoldable pub flatGroups : List LinkGroup
   unfolding flatLinks acceptsFlat groupsOf keep
   flatGroups = keep (acceptsFlat limits dirs g l) (groupsOf (length l) flatLinks)
 
   -- serial ones, then flat ones
-  unfoldable pub accepted : List Group
+  unfoldable pub accepted : List LinkGroup
   unfolding serialGroups flatGroups
   accepted = serialGroups limits dirs g anchors l ++ flatGroups

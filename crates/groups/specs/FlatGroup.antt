@@ -10,13 +10,13 @@ use Rattle.grid.specs.Cells.{Grid, rampCell, elevation}
 use Rattle.links.specs.Limits.{Limits}
 use Rattle.links.specs.Geometry.{Vector, cellCentre, dot}
 use Rattle.links.specs.Link.{Link, Bounds}
-use Rattle.links.specs.Flat.{alongTolerance, acrossTolerance, radius}
+use Rattle.links.specs.Flat.{alongTolerance, acrossTolerance, cellReach}
 use Rattle.links.specs.Parallel.{nearbyParallel}
 use Rattle.topology.specs.Listing.{Item}
 use Rattle.groups.specs.Listing.{endsAt}
 use Rattle.groups.specs.Links.{LinkAt}
 use Rattle.groups.specs.Measuring.{valueOf}
-use Rattle.groups.specs.Groups.{Group}
+use Rattle.groups.specs.Groups.{LinkGroup}
 use Rattle.groups.specs.LinkRule.{Gives, LiesIn}
 use Rattle.groups.specs.ConnectedPart.{ConnectedPart}
 use Rattle.groups.specs.Chain.{Chain}
@@ -24,8 +24,8 @@ use Rattle.groups.specs.SerialGroup.{SerialGroup}
 
 -- a cell at p stays inside the bounds and the tolerance on the direction v, on both sides
 pub record StaysOn (v : Vector) (b : Bounds) (tolerance : Float) (p : Vector) : Type 0 where
-  pub not-below : lt (dot p v ⊖ radius v) (b .low ⊖ tolerance) ≡ false
-  pub not-above : lt (b .high ⊕ tolerance) (dot p v ⊕ radius v) ≡ false
+  pub not-below : lt (dot p v ⊖ cellReach v) (b .low ⊖ tolerance) ≡ false
+  pub not-above : lt (b .high ⊕ tolerance) (dot p v ⊕ cellReach v) ≡ false
 
 -- and so on both directions of the flat envelope
 pub record InEnvelope (limits : Limits) (link : Link) (p : Vector) : Type 0 where
@@ -46,7 +46,7 @@ Alike limits l i j = nearbyParallel limits (endsAt l i) (endsAt l j) ≡ true
 module _ (limits : Limits) (dirs : List ℕ) (g : Grid) (anchors : List WalkPosition) (l : List Item) where
   -- the rank is in no accepted serial group
   abbrev pub LeftBySerial : ℕ → Type 0
-  LeftBySerial i = (a : Group) → SerialGroup limits dirs g anchors l a → List·Memᴰ i (a .ranks) → ⊥
+  LeftBySerial i = (a : LinkGroup) → SerialGroup limits dirs g anchors l a → List·Memᴰ i (a .ranks) → ⊥
 
   pub record FlatLink (k : LinkAt) : Type 0 where
     pub gives : Gives dirs g anchors l k
@@ -56,7 +56,7 @@ module _ (limits : Limits) (dirs : List ℕ) (g : Grid) (anchors : List WalkPosi
     pub second-left : LeftBySerial (k .second)
     pub alike : Alike limits l (k .first) (k .second)
 
-  pub record FlatGroup (a : Group) : Type 0 where
+  pub record FlatGroup (a : LinkGroup) : Type 0 where
     pub part : ConnectedPart FlatLink a
     -- "(2 to 4)"
     pub chain : Chain limits dirs g l 2 a

@@ -8,12 +8,12 @@ use Rattle.position.specs.declared.WalkPosition.{WalkPosition}
 use Rattle.grid.specs.Cells.{Grid}
 use Rattle.links.specs.Limits.{Limits}
 use Rattle.topology.specs.Listing.{Item}
-use Rattle.groups.specs.Groups.{Group}
+use Rattle.groups.specs.Groups.{LinkGroup}
 use Rattle.groups.specs.Flat.{accepted}
 use Rattle.groups.specs.Representative.{retained}
 
 -- the rank that its group retains, or itself where no group has it
-unfoldable pub goesInto : Limits → List Item → List Group → ℕ → ℕ
+unfoldable pub goesInto : Limits → List Item → List LinkGroup → ℕ → ℕ
 unfolding has retained
 goesInto limits l [] i = i
 goesInto limits l (a ∷ rest) i = cond (has i (a .ranks)) (retained limits l (a .ranks)) (goesInto limits l rest i)

@@ -3,16 +3,16 @@ use mathlib.Core.List.{List, [], _∷_}
 use Prim.Native.Nat.{ℕ}
 use Rattle.order.specs.Pairs.{Distinct, SameMembers}
 use Rattle.groups.specs.Links.{LinkAt}
-use Rattle.groups.specs.Groups.{Group}
-use Rattle.groups.specs.ConnectedPart.{Joins}
+use Rattle.groups.specs.Groups.{LinkGroup}
+use Rattle.groups.specs.ConnectedPart.{LinkJoins}
 
 -- ranks in a row, each joined with the next by a link
 pub data Row : List ℕ → List LinkAt → Type 0 where
   alone : {i : ℕ} → Row (i ∷ []) []
-  linked : {i j : ℕ} {is : List ℕ} {k : LinkAt} {ks : List LinkAt} → Joins k i → Joins k j → Row (j ∷ is) ks → Row (i ∷ j ∷ is) (k ∷ ks)
+  linked : {i j : ℕ} {is : List ℕ} {k : LinkAt} {ks : List LinkAt} → LinkJoins k i → LinkJoins k j → Row (j ∷ is) ks → Row (i ∷ j ∷ is) (k ∷ ks)
 
 -- all ranks of the group stand in such a row, each once, and it has no other links
-pub record InARow (a : Group) : Type 0 where
+pub record InARow (a : LinkGroup) : Type 0 where
   pub order : List ℕ
   pub between : List LinkAt
   pub row : Row order between

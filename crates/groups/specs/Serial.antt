@@ -18,7 +18,7 @@ use Rattle.groups.specs.Listing.{endsAt}
 use Rattle.groups.specs.Regions.{bridgeAt}
 use Rattle.groups.specs.Links.{LinkAt, links}
 use Rattle.groups.specs.Measuring.{passes}
-use Rattle.groups.specs.Groups.{Group, groupsOf}
+use Rattle.groups.specs.Groups.{LinkGroup, groupsOf}
 use Rattle.groups.specs.SimplePath.{firstEnd, lastEnd, endsOf, simplePath}
 
 -- how far apart the centres of two ranks are
@@ -26,16 +26,16 @@ abbrev pub rankDistance : List Item → ℕ → ℕ → Float
 rankDistance l i j = centreDistance (endsAt l i) (endsAt l j)
 
 -- the sum of a group's centre distances, in ascending order
-unfoldable pub chainSum : List Item → Group → Float
+unfoldable pub chainSum : List Item → LinkGroup → Float
 unfolding ascendingSum sumOf addedTo sort totalLe squares
 chainSum l a = ascendingSum (map (λ (k : LinkAt). rankDistance l (k .first) (k .second)) (a .links))
 
 -- the distance between its two ends
-unfoldable pub endDistance : List Item → Group → Float
+unfoldable pub endDistance : List Item → LinkGroup → Float
 unfolding endsOf squares
 endDistance l a = rankDistance l (firstEnd a) (lastEnd a)
 
-unfoldable pub acceptsSerial : Limits → List ℕ → Grid → List Item → Group → Bool
+unfoldable pub acceptsSerial : Limits → List ℕ → Grid → List Item → LinkGroup → Bool
 unfolding every passes simplePath chainSum endDistance
 acceptsSerial limits dirs g l a =
     (every (passes limits dirs g l) (a .links) && simplePath limits dirs g l (limits .leastSpans) a)
@@ -46,6 +46,6 @@ unfoldable pub serialLinks : List ℕ → Grid → List WalkPosition → List It
 unfolding links bridgeAt keep
 serialLinks dirs g anchors l = keep (λ k. bridgeAt dirs g l (k .first) && bridgeAt dirs g l (k .second)) (links dirs g anchors l)
 
-unfoldable pub serialGroups : Limits → List ℕ → Grid → List WalkPosition → List Item → List Group
+unfoldable pub serialGroups : Limits → List ℕ → Grid → List WalkPosition → List Item → List LinkGroup
 unfolding serialLinks acceptsSerial groupsOf keep
 serialGroups limits dirs g anchors l = keep (acceptsSerial limits dirs g l) (groupsOf (length l) (serialLinks dirs g anchors l))

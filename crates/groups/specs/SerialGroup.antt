@@ -18,7 +18,7 @@ use Rattle.groups.specs.Listing.{spansOf, endsAt}
 use Rattle.groups.specs.Regions.{cellsOf}
 use Rattle.groups.specs.Links.{LinkAt}
 use Rattle.groups.specs.Measuring.{valueOf}
-use Rattle.groups.specs.Groups.{Group}
+use Rattle.groups.specs.Groups.{LinkGroup}
 use Rattle.groups.specs.LinkRule.{Gives}
 use Rattle.groups.specs.ConnectedPart.{LinkOf, ConnectedPart}
 use Rattle.groups.specs.Chain.{Chain}
@@ -37,7 +37,7 @@ pub record Passes (limits : Limits) (dirs : List ℕ) (g : Grid) (l : List Item)
   pub is : measured limits (valueOf l k) (g .width) (cellsOf dirs g l (k .region)) ≡ within transverse longitudinal
 
 module _ (limits : Limits) (dirs : List ℕ) (g : Grid) (anchors : List WalkPosition) (l : List Item) where
-  pub record SerialGroup (a : Group) : Type 0 where
+  pub record SerialGroup (a : LinkGroup) : Type 0 where
     pub part : ConnectedPart (SerialLink dirs g anchors l) a
     -- "every link passing": one that fails rejects the whole part
     pub passing : (k : LinkAt) → LinkOf a k → Passes limits dirs g l k

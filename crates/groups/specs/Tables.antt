@@ -58,6 +58,6 @@ unfolding rows
 linksIn regions firsts seconds n = rows n (linkRow regions firsts seconds)
 
 -- the links of the map, in the order of their regions
-pub record Linked (dirs : List ℕ) (g : Grid) (anchors : List WalkPosition) (l : List Item) (regions firsts seconds : List ℕ) (n : ℕ) : Type 0 where
+pub record LinkTable (dirs : List ℕ) (g : Grid) (anchors : List WalkPosition) (l : List Item) (regions firsts seconds : List ℕ) (n : ℕ) : Type 0 where
   pub most : n ≤ 256
   pub all : linksIn regions firsts seconds n ≡ links dirs g anchors l

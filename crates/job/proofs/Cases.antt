@@ -11,7 +11,7 @@ use Rattle.lists.specs.Rows.{All, none as all-none, more}
 use Rattle.lists.proofs.Each.{all-append}
 use Rattle.order.proofs.Bools.{clash}
 use Rattle.format.specs.Bounds.{maxBoundaries, maxWidthBits}
-use Rattle.format.specs.Header.{headerAt, cellCount, basesStart, boundariesStart}
+use Rattle.format.specs.Header.{headerAt, mapCells, basesStart, boundariesStart}
 use Rattle.format.specs.declared.header.Counts.{Counts}
 use Rattle.checks.specs.Checks.{Refusal, Check, check, firstRefusal, each}
 use Rattle.checks.specs.Faults.{boundaryCountFault, widthFault}
@@ -53,7 +53,7 @@ after-ramps : (s : List ℕ) (c : Counts) → firstRefusal (upToRamps s c) ≡ n
     → firstRefusal (recordChecks s c) ≡ firstRefusal (each (c .boundaries) (widthCheck s (boundariesStart c)))
 unfolding recordChecks
 after-ramps s c e =
-    let cells = each (cellCount c) (cellCheck s) in
+    let cells = each (mapCells c) (cellCheck s) in
     let bases = each (c .bases) (baseCheck s (c .width) (c .height) (basesStart c)) in
     let r1 = none-right cells _ e in
     let r2 = none-head (sumsFault s c) 8 0 _ (none-right bases _ r1) in

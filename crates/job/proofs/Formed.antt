@@ -12,7 +12,7 @@ use Rattle.lists.proofs.Rows.{map-rows, sum-prefix}
 use Rattle.wire.specs.Bytes.{AreBytes}
 use Rattle.format.specs.Sizes.{boundarySize, observationSize}
 use Rattle.format.specs.Records.{boundaryAt, observationAt}
-use Rattle.format.specs.Header.{countsAt, headerAt, boundariesStart, observationsStart, cellCount, basesStart}
+use Rattle.format.specs.Header.{countsAt, headerAt, boundariesStart, observationsStart, mapCells, basesStart}
 use Rattle.format.specs.Decode.{decode, boundaryRecords, observationRecords, observationTotal, ownTotal, sourceCount}
 use Rattle.format.specs.Encode.{encode}
 use Rattle.format.specs.Fits.{Formed}
@@ -40,7 +40,7 @@ module _ (s : List ℕ) (c : Counts) (e : firstRefusal (recordChecks s c) ≡ no
   after-bases : firstRefusal
       (check (sumsFault s c) 8 0 ∷ (each (c .boundaries) (rampCheck s (boundariesStart c)) ++ each (c .boundaries) (widthCheck s (boundariesStart c)))) ≡ none
   unfolding recordChecks
-  after-bases = none-right (each (c .bases) (baseCheck s (c .width) (c .height) (basesStart c))) _ (none-right (each (cellCount c) (cellCheck s)) _ e)
+  after-bases = none-right (each (c .bases) (baseCheck s (c .width) (c .height) (basesStart c))) _ (none-right (each (mapCells c) (cellCheck s)) _ e)
 
   sums-right : (observationTotal (boundaryRecords s (boundariesStart c) (c .boundaries)) ≡ c .observations)
       × (ownTotal (boundaryRecords s (boundariesStart c) (c .boundaries)) + sourceCount

@@ -7,7 +7,7 @@ use Prim.Native.Nat.{ℕ, _+_, _*_, _≤_, _<_}
 use lib.ListN.{length}
 use Rattle.format.specs.Sizes.{headerSize, boundarySize}
 use Rattle.format.specs.Records.{boundaryAt}
-use Rattle.format.specs.Header.{headerAt, cellCount, basesStart, boundariesStart}
+use Rattle.format.specs.Header.{headerAt, mapCells, basesStart, boundariesStart}
 use Rattle.format.specs.declared.header.Counts.{Counts}
 use Rattle.checks.specs.Checks.{Check, check, firstRefusal, each}
 use Rattle.checks.specs.Faults.{sizeFault, countFault, widthFault}
@@ -17,7 +17,7 @@ use Rattle.job.specs.Refusals.{layoutChecks}
 -- The job passes 1 to 9.
 abbrev pub upToRamps : List ℕ → Counts → List Check
 upToRamps s c =
-    each (cellCount c) (cellCheck s)
+    each (mapCells c) (cellCheck s)
     ++ (each (c .bases) (baseCheck s (c .width) (c .height) (basesStart c))
     ++ (check (sumsFault s c) 8 0
     ∷ each (c .boundaries) (rampCheck s (boundariesStart c))))

@@ -6,7 +6,7 @@ use mathlib.Core.List.{List, [], _∷_, _++_}
 use lib.Dec.{ltb, eqb}
 use lib.ListN.{length}
 use Rattle.format.specs.Sizes.{headerSize}
-use Rattle.format.specs.Header.{headerAt, cellCount, basesStart, boundariesStart}
+use Rattle.format.specs.Header.{headerAt, mapCells, basesStart, boundariesStart}
 use Rattle.format.specs.declared.header.Counts.{Counts}
 use Rattle.checks.specs.Checks.{Check, check, each}
 use Rattle.checks.specs.Numbers.{jobTooShort, badLayout, badSums}
@@ -15,7 +15,7 @@ use Rattle.checks.specs.Single.{headerChecks, cellCheck, baseCheck, sumsFault, 
 -- 6 to 10, each over the whole job before the next.
 unfoldable pub recordChecks : List ℕ → Counts → List Check
 recordChecks s c =
-    each (cellCount c) (cellCheck s)
+    each (mapCells c) (cellCheck s)
     ++ (each (c .bases) (baseCheck s (c .width) (c .height) (basesStart c))
     ++ (check (sumsFault s c) badSums 0
     ∷ (each (c .boundaries) (rampCheck s (boundariesStart c))

@@ -3,7 +3,7 @@ use mathlib.Core.Path.{_≡_, ap}
 use Prim.Native.Nat.{ℕ, _+_, _-_, _*_, _/_, _%_, _^_, _≤_, _<_}
 use native.Mathlib.Nat.{div-add-mod', mod-lt, lt-of-mul-lt-mul-right, mul-le-mul}
 use native.Mathlib.Omega.{arith}
-use Rattle.length.specs.Root.{Doubled}
+use Rattle.length.specs.Root.{DoubledDigits}
 
 -- r is a root of 27 digits, with q left over
 module _ (r q : ℕ) (low : 2 ^ 26 ≤ r) (high : r < 2 ^ 27) (small : q ≤ 2 * r) where
@@ -29,7 +29,7 @@ module _ (r q : ℕ) (low : 2 ^ 26 ≤ r) (high : r < 2 ^ 27) (small : q ≤ 2 *
   square-most = omega (arith, mul-le-mul half-most half-most)
 
   -- the division leaves enough for the square of the second half
-  pub enough : half * half ≤ left * 0x800_0000 → Doubled r q (r * 0x800_0000 + half) (left * 0x800_0000 - half * half)
+  pub enough : half * half ≤ left * 0x800_0000 → DoubledDigits r q (r * 0x800_0000 + half) (left * 0x800_0000 - half * half)
   enough h = record {
     sum = omega (arith, divided);
     small = omega (arith, left-less);
@@ -40,7 +40,8 @@ module _ (r q : ℕ) (low : 2 ^ 26 ≤ r) (high : r < 2 ^ 27) (small : q ≤ 2 *
   pub some : {n : ℕ} → n < half * half → 0 < half
   some h = lt-of-mul-lt-mul-right half {m = 0} {n = half} (omega arith)
 
-  lowered : (s t : ℕ) → left * 0x800_0000 < half * half → s + 1 ≡ r * 0x800_0000 + half → t + half * half ≡ left * 0x800_0000 + (2 * s + 1) → Doubled r q s t
+  lowered : (s t : ℕ) → left * 0x800_0000 < half * half → s + 1 ≡ r * 0x800_0000 + half → t + half * half ≡ left * 0x800_0000 + (2 * s + 1)
+      → DoubledDigits r q s t
   lowered s t h e f = record {
     sum = omega (arith, divided, ap (λ (z : ℕ). z * z) e);
     small = omega arith;
@@ -48,7 +49,7 @@ module _ (r q : ℕ) (low : 2 ^ 26 ≤ r) (high : r < 2 ^ 27) (small : q ≤ 2 *
   }
 
   pub one-less : left * 0x800_0000 < half * half
-      → Doubled r q (r * 0x800_0000 + half - 1) (left * 0x800_0000 + ((r * 0x800_0000 + half) * 2 - 1) - half * half)
+      → DoubledDigits r q (r * 0x800_0000 + half - 1) (left * 0x800_0000 + ((r * 0x800_0000 + half) * 2 - 1) - half * half)
   one-less h =
       lowered (r * 0x800_0000 + half - 1) (left * 0x800_0000 + ((r * 0x800_0000 + half) * 2 - 1) - half * half) h (omega (arith, some h))
       (omega (arith, square-most, some h))

@@ -8,11 +8,11 @@ use lib.Dec.{T, eqb→eq}
 use lib.Pow.{pow-pos}
 use lib.Ieee.{Float, nan, inf, fin, binary64, fits}
 use Rattle.length.specs.Root.{Square}
-use Rattle.length.specs.Nearest.{NearestLength, Exact, Plain, num, den}
+use Rattle.length.specs.Nearest.{NearestLength, ExactRoot, PlainFloat, num, den}
 use Rattle.length.proofs.Squares.{square-lt}
 use Rattle.length.proofs.Values.{odd-part}
 
-pub exact-nearest : (d : ℕ) (x : Float) → Plain x → Exact d x → NearestLength d x
+pub exact-nearest : (d : ℕ) (x : Float) → PlainFloat x → ExactRoot d x → NearestLength d x
 exact-nearest d x p e = record {
   value = p;
   below = λ y q l.
@@ -40,7 +40,7 @@ odd-square n d p o e =
     odd (g * g + g) (d * (p * p)) (omega arith)
 
 -- so the number has at most one digit after the point
-pub exact-square : (d : ℕ) (x : Float) → T (fits binary64 x) → Exact d x → Square d
+pub exact-square : (d : ℕ) (x : Float) → T (fits binary64 x) → ExactRoot d x → Square d
 exact-square d nan h e = (0, omega arith)
 exact-square d (inf s) h e = (0, omega arith)
 exact-square d (fin s m (pos a)) h e = (2 * (m * 2 ^ a), omega arith)

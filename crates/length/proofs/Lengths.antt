@@ -13,8 +13,8 @@ use lib.Ieee.Digits.{size-lt, size-le, size-reaches}
 use lib.Ieee.Exact.{HasValue}
 use lib.Ieee.Fits.{round-fits}
 use Rattle.length.specs.Root.{Rooted, wholeRoot, restOf, isSquare}
-use Rattle.length.specs.Nearest.{NearestLength, Exact}
-use Rattle.length.specs.Length.{places, halved, lengthOf, lengthAt}
+use Rattle.length.specs.Nearest.{NearestLength, ExactRoot}
+use Rattle.length.specs.Length.{rootPlaces, halved, lengthOf, lengthAt}
 use Rattle.length.specs.declared.Length.{Length}
 use Rattle.length.proofs.Powers.{twice-power}
 use Rattle.length.proofs.Squares.{root-lt, le-square}
@@ -71,8 +71,8 @@ module _ (d s : ℕ) (D : d ≤ 2 ^ 29) (is : size (wholeRoot d) ≡ suc s) wher
       subst (λ (z : ℕ). NearestLength d (round binary64 false (halved (wholeRoot (d * z))) p)) (sym (twice-power (suc k)))
       (rounded d k (wholeRoot n) (restOf n) (root-is n) (subst (λ (z : ℕ). z ≤ wholeRoot n) low lo) (subst (λ (z : ℕ). wholeRoot n < z) high hi) (omega arith))
 
-  places-is : places d ≡ suc (52 - s)
-  unfolding places
+  places-is : rootPlaces d ≡ suc (52 - s)
+  unfolding rootPlaces
   places-is = let f = few in omega arith
 
   above-zero : NearestLength d (lengthOf d)
@@ -104,7 +104,7 @@ pub is-length : (d : ℕ) (x : Length) → d ≤ 2 ^ 29 → NearestLength d (x .
 is-length d x D h e = let f = length-unique d (x .value) D h in λ i. record { value = f i; exact = e i }
 
 -- the length of a square is half its root
-half-exact : (s : ℕ) (x : Float) → HasValue x false s 2 → Exact (s * s) x
+half-exact : (s : ℕ) (x : Float) → HasValue x false s 2 → ExactRoot (s * s) x
 half-exact s x h = let e = ap (λ (z : ℕ). z * z) (cross x s 2 h) in omega arith
 
 half-nearest : (s : ℕ) (x : Float) → HasValue x false s 2 → T (fits binary64 x) → NearestLength (s * s) x
@@ -127,11 +127,11 @@ root-halved d s S D e =
     rw (two, ← e) (half-nearest s (div binary64 (ofInt binary64 (pos s)) (ofInt binary64 (pos 2))) (q .0) (q .1))
 
 -- so the length is √d ÷ 2 itself if d is a square, and only then
-pub length-exact : (d : ℕ) → d ≤ 2 ^ 29 → (isSquare d ≡ true) ↔ Exact d (lengthOf d)
+pub length-exact : (d : ℕ) → d ≤ 2 ^ 29 → (isSquare d ≡ true) ↔ ExactRoot d (lengthOf d)
 length-exact d D = (there, λ e. is-square d (exact-square d (lengthOf d) (length-nearest d D .value .held) e))
   where
-    there : isSquare d ≡ true → Exact d (lengthOf d)
+    there : isSquare d ≡ true → ExactRoot d (lengthOf d)
     there e =
         let k = square-is d e in
         let s = k .0 in
-        subst (λ (z : ℕ). Exact z (lengthOf z)) (k .1) (half-exact s (lengthOf (s * s)) (length-half s (subst (λ (z : ℕ). z ≤ 2 ^ 29) (sym (k .1)) D)))
+        subst (λ (z : ℕ). ExactRoot z (lengthOf z)) (k .1) (half-exact s (lengthOf (s * s)) (length-half s (subst (λ (z : ℕ). z ≤ 2 ^ 29) (sym (k .1)) D)))

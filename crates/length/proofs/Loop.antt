@@ -8,7 +8,7 @@ use lib.IntN.{pos}
 use lib.Dec.{T, le→leb}
 use lib.Pow.{pow-pos, pow-mono, pow-add}
 use lib.Ieee.{binary64, div, ofInt, inFloat}
-use Rattle.length.specs.Root.{Rooted, Step, Doubled}
+use Rattle.length.specs.Root.{Rooted, DigitStep, DoubledDigits}
 use Rattle.length.specs.Nearest.{NearestLength}
 use Rattle.length.proofs.Squares.{le-square, root-lt}
 use Rattle.length.proofs.Roots.{root-pos}
@@ -34,7 +34,7 @@ start d R Q n h r = record {
   below = omega (arith, le-square R, r .sum);
 }
 
-pub turn : (d R Q p S U : ℕ) → Going d R Q p → R < 2 ^ 53 → Step R Q 0 S U → Going d S U (p * 2)
+pub turn : (d R Q p S U : ℕ) → Going d R Q p → R < 2 ^ 53 → DigitStep R Q 0 S U → Going d S U (p * 2)
 turn d R Q p S U g h s = record {
   k = suc (g .k);
   power = omega (arith, g .power);
@@ -45,11 +45,11 @@ turn d R Q p S U g h s = record {
 }
 
 -- a turn's R is larger
-pub grows : (d R Q p S U : ℕ) → Going d R Q p → Step R Q 0 S U → R < S
+pub grows : (d R Q p S U : ℕ) → Going d R Q p → DigitStep R Q 0 S U → R < S
 grows d R Q p S U g s = omega (arith, g .power, g .under, s .least, pow-pos (g .k))
 
 -- twice as many digits
-pub lengthen : (d R Q p S U : ℕ) → Going d R Q p → R < 2 ^ 27 → Doubled R Q S U → Going d S U (p * 0x800_0000)
+pub lengthen : (d R Q p S U : ℕ) → Going d R Q p → R < 2 ^ 27 → DoubledDigits R Q S U → Going d S U (p * 0x800_0000)
 lengthen d R Q p S U g h s = record {
   k = g .k + 27;
   power = ap (λ (z : ℕ). z * 0x800_0000) (g .power) ∙ sym (pow-add 2 (g .k) 27);

@@ -10,7 +10,7 @@ use lib.Dec.{T}
 use lib.Pow.{pow-pos, pow-mono}
 use lib.Ieee.{Float, nan, inf, fin, binary64, fits}
 use lib.Ieee.Exact.{HasValue}
-use Rattle.length.specs.Nearest.{NearestLength, Plain, num, den}
+use Rattle.length.specs.Nearest.{NearestLength, PlainFloat, num, den}
 use Rattle.length.proofs.Powers.{split}
 use Rattle.length.proofs.Values.{den-pos, digits, cross, is-plain}
 use Rattle.length.proofs.Squares.{under, under-odd, over, rest, less, more, to-below, to-above}
@@ -35,7 +35,7 @@ fine n M i k h n< m l =
     let b : 2 ^ 52 * 2 ≤ M * w = mul-le-mul m two in
     omega arith
 
-gap : (y : Float) (M k : ℕ) → Plain y → 2 ^ 52 ≤ M → M * den y < num y * 2 ^ k → num y * 2 ^ k < suc M * den y → ⊥
+gap : (y : Float) (M k : ℕ) → PlainFloat y → 2 ^ 52 ≤ M → M * den y < num y * 2 ^ k → num y * 2 ^ k < suc M * den y → ⊥
 gap nan M k p m l u = absurd (p .plain)
 gap (inf s) M k p m l u = absurd (p .plain)
 gap (fin s n (pos a)) M k p m l u = omega arith
@@ -52,14 +52,14 @@ gap (fin s n (negsuc a)) M k p m l u = go (decLe (suc a) k)
     go (no f) = fine n M (suc a) k (lt-of-not-le f) (digits s n (negsuc a) (p .held)) m l'
 
 -- so a y below M + 1 units is at most M, and a y above M at least M + 1
-at-most : (y : Float) (M k : ℕ) → Plain y → 2 ^ 52 ≤ M → num y * 2 ^ k < suc M * den y → num y * 2 ^ k ≤ M * den y
+at-most : (y : Float) (M k : ℕ) → PlainFloat y → 2 ^ 52 ≤ M → num y * 2 ^ k < suc M * den y → num y * 2 ^ k ≤ M * den y
 at-most y M k p m u = go (decLe (num y * 2 ^ k) (M * den y))
   where
     go : Dec (num y * 2 ^ k ≤ M * den y) → num y * 2 ^ k ≤ M * den y
     go (yes h) = h
     go (no f) = absurd (gap y M k p m (lt-of-not-le f) u)
 
-at-least : (y : Float) (M k : ℕ) → Plain y → 2 ^ 52 ≤ M → M * den y < num y * 2 ^ k → suc M * den y ≤ num y * 2 ^ k
+at-least : (y : Float) (M k : ℕ) → PlainFloat y → 2 ^ 52 ≤ M → M * den y < num y * 2 ^ k → suc M * den y ≤ num y * 2 ^ k
 at-least y M k p m l = go (decLe (suc M * den y) (num y * 2 ^ k))
   where
     go : Dec (suc M * den y ≤ num y * 2 ^ k) → suc M * den y ≤ num y * 2 ^ k
@@ -75,10 +75,10 @@ module _ (d R Q k M : ℕ) (x : Float) (sum : R * R + Q ≡ d * (2 ^ suc k * 2 ^
 
   -- what is to be shown of a y below x, and of one above it
   abbrev Below : Type 0
-  Below = (y : Float) → Plain y → num y * 2 ^ suc k < M * den y → both y * both y < (R * R + Q) * (den y * den y)
+  Below = (y : Float) → PlainFloat y → num y * 2 ^ suc k < M * den y → both y * both y < (R * R + Q) * (den y * den y)
 
   abbrev Above : Type 0
-  Above = (y : Float) → Plain y → M * den y < num y * 2 ^ suc k → (R * R + Q) * (den y * den y) < both y * both y
+  Above = (y : Float) → PlainFloat y → M * den y < num y * 2 ^ suc k → (R * R + Q) * (den y * den y) < both y * both y
 
   below-even : R ≡ 2 * M → Below
   below-even e y p l = under (both y) (den y) R Q (omega (arith, ap (λ (z : ℕ). z * den y) e))

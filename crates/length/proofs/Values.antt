@@ -11,7 +11,7 @@ use lib.Ieee.Bits.{ofBits-toBits}
 use lib.Ieee.Fits.{down-pos, and-l, and-r}
 use lib.Ieee.Exact.{HasValue}
 use lib.Ieee.Nearest.{div-same}
-use Rattle.length.specs.Nearest.{Plain, plain, num, den}
+use Rattle.length.specs.Nearest.{PlainFloat, plain, num, den}
 
 pub den-pos : (x : Float) → 0 < den x
 den-pos nan = pow-pos 0
@@ -41,7 +41,7 @@ bits (inf s) p = absurd p
 bits (fin true m e) p = absurd p
 bits (fin false m e) p = refl
 
-pub same-number : (x y : Float) → Plain x → Plain y → num x * den y ≡ num y * den x → x ≡ y
+pub same-number : (x y : Float) → PlainFloat x → PlainFloat y → num x * den y ≡ num y * den x → x ≡ y
 same-number x y p q e =
     let n : num x * 2 ^ 1074 / den x ≡ num y * 2 ^ 1074 / den y =
     div-same (num x * 2 ^ 1074) (den x) (num y * 2 ^ 1074) (den y) (den-pos x) (den-pos y)

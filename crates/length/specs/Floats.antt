@@ -19,9 +19,9 @@ _⊗_ x y = mul binary64 x y
 abbrev pub _⊘_ : Float → Float → Float
 _⊘_ x y = div binary64 x y
 
--- The f64 of a whole number.
-abbrev pub whole : ℕ → Float
-whole n = ofInt binary64 (pos n)
+-- The f64 of a wholeFloat number.
+abbrev pub wholeFloat : ℕ → Float
+wholeFloat n = ofInt binary64 (pos n)
 
 -- Rust's `abs`, `min` and `max` of numbers. They may differ from Rust's in a zero's sign, which no result tells, and at a NaN, which does not arise.
 abbrev pub absOf : Float → Float

@@ -6,9 +6,9 @@ use Rattle.length.specs.Root.{wholeRoot, isSquare}
 use Rattle.length.specs.declared.Length.{Length}
 
 -- How many binary digits after the point the root of d has, if it has 54 in all: one more than an f64 holds.
-unfoldable pub places : ℕ → ℕ
+unfoldable pub rootPlaces : ℕ → ℕ
 unfolding size wholeRoot
-places d = 54 - size (wholeRoot d)
+rootPlaces d = 54 - size (wholeRoot d)
 
 -- Half a number, rounded up.
 abbrev pub halved : ℕ → ℕ
@@ -16,8 +16,8 @@ halved r = r / 2 + r % 2
 
 -- Half of the root of d, to 53 binary digits.
 unfoldable pub lengthOf : ℕ → Float
-unfolding places wholeRoot round
-lengthOf d = round binary64 false (halved (wholeRoot (d * 2 ^ (2 * places d)))) (2 ^ places d)
+unfolding rootPlaces wholeRoot round
+lengthOf d = round binary64 false (halved (wholeRoot (d * 2 ^ (2 * rootPlaces d)))) (2 ^ rootPlaces d)
 
 -- With whether it is √d ÷ 2 itself.
 abbrev pub lengthAt : ℕ → Length

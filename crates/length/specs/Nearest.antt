@@ -25,7 +25,7 @@ den (inf s) = 1
 den (fin s m e) = down e
 
 -- A plain f64.
-pub record Plain (x : Float) : Type 0 where
+pub record PlainFloat (x : Float) : Type 0 where
   pub held : T (fits binary64 x)
   pub plain : T (plain x)
 
@@ -44,14 +44,14 @@ abbrev pub bottom : Float → Float → ℕ
 bottom x y = den x * den y
 
 -- r is √d ÷ 2 itself: (2 r)² = d.
-abbrev pub Exact : ℕ → Float → Type 0
-Exact d r = 4 * square (num r) ≡ d * square (den r)
+abbrev pub ExactRoot : ℕ → Float → Type 0
+ExactRoot d r = 4 * square (num r) ≡ d * square (den r)
 
 -- r is the f64 nearest to √d ÷ 2, and every other f64 is farther.
 -- The middle between r and another f64 y is (r + y) ÷ 2. It lies below √d ÷ 2 exactly if (r + y)² < d.
 -- So a y below r is farther from √d ÷ 2 than r is, if (r + y)² < d; and a y above r, if d < (r + y)².
 -- y runs over the f64s that are finite and not negative: a negative one, an infinity and a NaN are no nearer than 0 is, or no number.
 pub record NearestLength (d : ℕ) (r : Float) : Type 0 where
-  pub value : Plain r
-  pub below : (y : Float) → Plain y → Less y r → square (top r y) < d * square (bottom r y)
-  pub above : (y : Float) → Plain y → Less r y → d * square (bottom r y) < square (top r y)
+  pub value : PlainFloat r
+  pub below : (y : Float) → PlainFloat y → Less y r → square (top r y) < d * square (bottom r y)
+  pub above : (y : Float) → PlainFloat y → Less r y → d * square (bottom r y) < square (top r y)

@@ -43,14 +43,14 @@ abbrev pub rootOf : ℕ → Root
 rootOf n = record { root = wholeRoot n; rem = restOf n }
 
 -- One binary digit more: s, with t left over, is to 4 n + b as r, with q left over, is to n.
-pub record Step (r q b s t : ℕ) : Type 0 where
+pub record DigitStep (r q b s t : ℕ) : Type 0 where
   pub sum : s * s + t ≡ 4 * (r * r + q) + b
   pub small : t ≤ 2 * s
   pub least : 2 * r ≤ s
   pub most : s ≤ 2 * r + 1
 
 -- As many binary digits more as r has, 27: s, with t left over, is to n · 2^54 as r, with q left over, is to n.
-pub record Doubled (r q s t : ℕ) : Type 0 where
+pub record DoubledDigits (r q s t : ℕ) : Type 0 where
   pub sum : s * s + t ≡ (r * r + q) * 2 ^ 54
   pub small : t ≤ 2 * s
   pub least : r * 2 ^ 27 ≤ s

@@ -1,7 +1,7 @@
 // The whole square root of a number, and the length of a doubled difference: the f64 nearest to half a square root.
 ghost use mathlib.Core.Path.{_≡_};
 ghost use Prim.Native.Nat.{_*_, _^_, _≤_, _<_};
-ghost use Rattle.length.specs.Root.{Step, Doubled, rootOf};
+ghost use Rattle.length.specs.Root.{DigitStep, DoubledDigits, rootOf};
 ghost use Rattle.length.specs.Length.{lengthAt};
 
 pub mod floats;
@@ -21,7 +21,7 @@ pub struct Length {
 // One more binary digit of a root: the number under the root is four times what it was, plus b.
 fn digit(r: Root, b: u64) -> Root
     requires { ⌜ (r .root < 2 ^ 58) × (r .rem ≤ 2 * r .root) × (b < 4) ⌝ }
-    ensures { λ s. ⌜ Step (r .root) (r .rem) b (s .root) (s .rem) ⌝ }
+    ensures { λ s. ⌜ DigitStep (r .root) (r .rem) b (s .root) (s .rem) ⌝ }
 {
     let root = r.root * 2;
     let rem = r.rem * 4 + b;
@@ -40,7 +40,7 @@ fn digit(r: Root, b: u64) -> Root
 // (Zimmermann 1999, Karatsuba square root).
 fn doubled(r: Root) -> Root
     requires { ⌜ (2 ^ 26 ≤ r .root) × (r .root < 2 ^ 27) × (r .rem ≤ 2 * r .root) ⌝ }
-    ensures { λ s. ⌜ Doubled (r .root) (r .rem) (s .root) (s .rem) ⌝ }
+    ensures { λ s. ⌜ DoubledDigits (r .root) (r .rem) (s .root) (s .rem) ⌝ }
 {
     let twice = r.root * 2;
     let over = r.rem * 0x800_0000;

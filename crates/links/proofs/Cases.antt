@@ -7,7 +7,7 @@ use Prim.Native.Nat.{ℕ}
 use lib.Ieee.{Float, binary64, neg, add, sub, mul, div, lt, le, ofBits, ofInt, toBits}
 use Rattle.order.specs.Sorting.{sort}
 use Rattle.length.specs.Length.{lengthOf}
-use Rattle.length.specs.Floats.{whole}
+use Rattle.length.specs.Floats.{wholeFloat}
 use Rattle.length.specs.Total.{totalLe}
 use Rattle.position.specs.Order.{canonical}
 use Rattle.position.specs.declared.Span.{Span}
@@ -35,14 +35,14 @@ abbrev corridor : Link
 corridor = linkOf (side first) (side second)
 
 abbrev vector : ℕ → ℕ → Vector
-vector x y = record { x = whole x; y = whole y }
+vector x y = record { x = wholeFloat x; y = wholeFloat y }
 
-corridor-distance : centreDistance first second ≡ whole 8
+corridor-distance : centreDistance first second ≡ wholeFloat 8
 unfolding lengthOf squares ofInt
 corridor-distance = refl
 
 -- a span that is not upright: centres 9 and 16
-slanted-distance : centreDistance (span 8 0 10 8) second ≡ whole 7
+slanted-distance : centreDistance (span 8 0 10 8) second ≡ wholeFloat 7
 unfolding lengthOf squares ofInt
 slanted-distance = refl
 
@@ -50,25 +50,25 @@ corridor-link :
     corridor
     ≡ record {
       centre = vector 8 4;
-      distance = whole 8;
+      distance = wholeFloat 8;
       unit = vector 1 0;
-      normal = record { x = neg (whole 0); y = whole 1 };
+      normal = record { x = neg (wholeFloat 0); y = wholeFloat 1 };
       spanUnit = vector 0 1;
-      spanNormal = record { x = neg (whole 1); y = whole 0 };
-      along = record { low = whole 0; high = whole 8 };
-      across = record { low = neg (whole 16); high = neg (whole 8) };
-      minWidth = whole 8;
+      spanNormal = record { x = neg (wholeFloat 1); y = wholeFloat 0 };
+      along = record { low = wholeFloat 0; high = wholeFloat 8 };
+      across = record { low = neg (wholeFloat 16); high = neg (wholeFloat 8) };
+      minWidth = wholeFloat 8;
     }
 unfolding linkOf canonical widenedBy lengthOf squares ofInt ofBits neg add sub mul div lt
 corridor-link = refl
 
 -- both envelopes of cell 1 are 8, within 28
-corridor-measured : measured limits000 corridor 4 (1 ∷ []) ≡ within (whole 8) (whole 8)
+corridor-measured : measured limits000 corridor 4 (1 ∷ []) ≡ within (wholeFloat 8) (wholeFloat 8)
 unfolding measured judged extremes linkOf canonical widenedBy lengthOf squares ofInt ofBits neg add sub mul div lt le
 corridor-measured = refl
 
 -- all four cells would be 32 long
-corridor-beyond : measured limits000 corridor 4 (0 ∷ 1 ∷ 2 ∷ 3 ∷ []) ≡ beyond (whole 8) (whole 32)
+corridor-beyond : measured limits000 corridor 4 (0 ∷ 1 ∷ 2 ∷ 3 ∷ []) ≡ beyond (wholeFloat 8) (wholeFloat 32)
 unfolding measured judged extremes linkOf canonical widenedBy lengthOf squares ofInt ofBits neg add sub mul div lt le
 corridor-beyond = refl
 
@@ -76,7 +76,7 @@ corridor-beyond = refl
 abbrev broad : Link
 broad = linkOf (record { span = first; bits = 0x4030_0000_0000_0000 }) (record { span = second; bits = 0x4038_0000_0000_0000 })
 
-broad-limits : transverseLimit limits000 broad ∷ longitudinalLimit limits000 broad ∷ [] ≡ whole 40 ∷ whole 32 ∷ []
+broad-limits : transverseLimit limits000 broad ∷ longitudinalLimit limits000 broad ∷ [] ≡ wholeFloat 40 ∷ wholeFloat 32 ∷ []
 unfolding linkOf lengthOf squares ofInt ofBits add mul div lt
 broad-limits = refl
 
@@ -84,7 +84,7 @@ no-cell : measured limits000 corridor 4 [] ≡ empty
 unfolding measured
 no-cell = refl
 
-only-within : map passing (empty ∷ within (whole 8) (whole 8) ∷ beyond (whole 8) (whole 32) ∷ []) ≡ false ∷ true ∷ false ∷ []
+only-within : map passing (empty ∷ within (wholeFloat 8) (wholeFloat 8) ∷ beyond (wholeFloat 8) (wholeFloat 32) ∷ []) ≡ false ∷ true ∷ false ∷ []
 only-within = refl
 
 -- a cell may reach 32 pixels past the spans, and no farther
@@ -118,6 +118,6 @@ unfolding sumOf ascendingSum addedTo sort totalLe toBits lengthOf ofBits add
 in-order = (refl, refl)
 
 -- from the first of three spans: 0 + 8 + 16
-corridor-sum : distanceSum first (first ∷ second ∷ span 24 0 24 8 ∷ []) ≡ whole 24
+corridor-sum : distanceSum first (first ∷ second ∷ span 24 0 24 8 ∷ []) ≡ wholeFloat 24
 unfolding distanceSum sumOf addedTo lengthOf squares ofInt add
 corridor-sum = refl

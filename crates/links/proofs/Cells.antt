@@ -9,7 +9,7 @@ use Rattle.links.specs.Geometry.{cellCentre}
 use Rattle.links.specs.Link.{Link, Bounds, noBounds, widened, widenedBy, boundsOf}
 use Rattle.links.specs.Measure.{placed, extremes, measured, judged}
 use Rattle.links.specs.Flat.{insideBoth, insideFlat}
-use Rattle.links.specs.HeldLink.{noCell, withCell, someCell, linkAfter, measuredIn}
+use Rattle.links.specs.HeldLink.{noCell, linkWithCell, someCell, linkAfter, measuredIn}
 
 -- one value more, at the end
 pub widened-last : (b : Bounds) (vs : List Float) (v : Float) → widenedBy b (vs ++ (v ∷ [])) ≡ widened (widenedBy b vs) v
@@ -46,8 +46,8 @@ module _ (limits : Limits) (k : Link) (columns : ℕ) where
   after-none = refl
 
   pub after-next : (cs : List ℕ) (c : ℕ)
-      → withCell limits (linkAfter limits k columns cs) (c % columns) (c / columns) ≡ linkAfter limits k columns (cs ++ (c ∷ []))
-  unfolding withCell linkAfter extremes
+      → linkWithCell limits (linkAfter limits k columns cs) (c % columns) (c / columns) ≡ linkAfter limits k columns (cs ++ (c ∷ []))
+  unfolding linkWithCell linkAfter extremes
   after-next cs c =
       simp (bounds-last (placed k (k .unit) columns) cs c, bounds-last (placed k (k .normal) columns) cs c, inside-last cs c, some-last cs c)
 

@@ -4,7 +4,7 @@ use mathlib.Core.Bool.{true, false, _&&_}
 use lib.Ieee.{Float, le}
 use Rattle.links.specs.Limits.{Limits}
 use Rattle.links.specs.Measure.{empty, within, beyond, judged, transverseEnvelope, transverseLimit, longitudinalEnvelope, longitudinalLimit}
-use Rattle.links.specs.HeldLink.{linkIn, extremesIn, measuredIn}
+use Rattle.links.specs.HeldLink.{linkHeld, extremesIn, measuredIn}
 use Rattle.links.specs.declared.link.Link.{Link as LinkHeld}
 
 module _ (limits : Limits) (l : LinkHeld) where
@@ -12,12 +12,12 @@ module _ (limits : Limits) (l : LinkHeld) where
   unfolding measuredIn
   no-cell e = rw e
 
-  pub within-both : {t u : Float} → l .seen ≡ true → t ≡ transverseEnvelope (linkIn l) (extremesIn l) → u ≡ longitudinalEnvelope (linkIn l) (extremesIn l)
-      → (le t (transverseLimit limits (linkIn l)) && le u (longitudinalLimit limits (linkIn l))) ≡ true → within t u ≡ measuredIn limits l
+  pub within-both : {t u : Float} → l .seen ≡ true → t ≡ transverseEnvelope (linkHeld l) (extremesIn l) → u ≡ longitudinalEnvelope (linkHeld l) (extremesIn l)
+      → (le t (transverseLimit limits (linkHeld l)) && le u (longitudinalLimit limits (linkHeld l))) ≡ true → within t u ≡ measuredIn limits l
   unfolding measuredIn judged
   within-both e p q h = let k = rw (p, q) at h in rw (p, q, e, k)
 
-  pub beyond-one : {t u : Float} → l .seen ≡ true → t ≡ transverseEnvelope (linkIn l) (extremesIn l) → u ≡ longitudinalEnvelope (linkIn l) (extremesIn l)
-      → (le t (transverseLimit limits (linkIn l)) && le u (longitudinalLimit limits (linkIn l))) ≡ false → beyond t u ≡ measuredIn limits l
+  pub beyond-one : {t u : Float} → l .seen ≡ true → t ≡ transverseEnvelope (linkHeld l) (extremesIn l) → u ≡ longitudinalEnvelope (linkHeld l) (extremesIn l)
+      → (le t (transverseLimit limits (linkHeld l)) && le u (longitudinalLimit limits (linkHeld l))) ≡ false → beyond t u ≡ measuredIn limits l
   unfolding measuredIn judged
   beyond-one e p q h = let k = rw (p, q) at h in rw (p, q, e, k)

@@ -8,7 +8,7 @@ use lib.Ieee.{Float, nan, inf, fin, binary64, prec, emax, low, up, down, size, n
 use lib.Ieee.Bits.{toBits-lt}
 use lib.Ieee.Fits.{round-fits, neg-fits}
 use Rattle.length.specs.Root.{wholeRoot}
-use Rattle.length.specs.Length.{places, halved, lengthOf}
+use Rattle.length.specs.Length.{rootPlaces, halved, lengthOf}
 use Rattle.length.specs.Floats.{_⊕_}
 use Rattle.position.specs.declared.Span.{Span}
 use Rattle.links.specs.Geometry.{centreDistance, doubledCentre, squares}
@@ -67,7 +67,7 @@ sum-upward (fin false m e) (fin false n d) h k = round-upward (m * up e * down d
 
 pub length-upward : (d : ℕ) → T (upward (lengthOf d))
 unfolding lengthOf
-length-upward d = round-upward (halved (wholeRoot (d * 2 ^ (2 * places d)))) (2 ^ places d)
+length-upward d = round-upward (halved (wholeRoot (d * 2 ^ (2 * rootPlaces d)))) (2 ^ rootPlaces d)
 
 pub added-upward : (s : Span) (x : Float) (ms : List Span) → T (upward x) → T (upward (addedTo x (map (centreDistance s) ms)))
 unfolding addedTo
@@ -90,8 +90,8 @@ distance-sum-number s m ms = upward-number (addedTo (centreDistance s m) (map (c
 -- a distance is an f64
 pub distance-fits : (s t : Span) → T (fits binary64 (centreDistance s t))
 unfolding lengthOf
-distance-fits s t = let d = squares (doubledCentre s) (doubledCentre t) in round-fits binary64 false (halved (wholeRoot (d * 2 ^ (2 * places d))))
-    (2 ^ places d)
+distance-fits s t = let d = squares (doubledCentre s) (doubledCentre t) in round-fits binary64 false (halved (wholeRoot (d * 2 ^ (2 * rootPlaces d))))
+    (2 ^ rootPlaces d)
 
 -- a number that is not negative has bits below the sign's
 sign-apart : (a b t : ℕ) → t + a + b < 2 * t → 0 + a + b < t

@@ -5,23 +5,23 @@ use Prim.Native.Nat.{ℕ}
 use lib.Ieee.{Float, lt}
 use Rattle.length.specs.Floats.{_⊕_, _⊖_, _⊗_, _⊘_, maxOf}
 use Rattle.links.specs.Limits.{Limits}
-use Rattle.links.specs.Geometry.{Vector, four, cellCentre, dot, reach}
+use Rattle.links.specs.Geometry.{Vector, float4, cellCentre, dot, reach}
 use Rattle.links.specs.Link.{Link, Bounds}
 
 -- How far past the spans' ends a region may reach: along the first span, and across it.
 abbrev pub alongTolerance : Limits → Link → Float
-alongTolerance limits link = maxOf (limits .envelope) (link .minWidth ⊘ four)
+alongTolerance limits link = maxOf (limits .envelope) (link .minWidth ⊘ float4)
 
 abbrev pub acrossTolerance : Limits → Float
 acrossTolerance limits = limits .envelope
 
 -- How far a cell reaches from its centre.
-abbrev pub radius : Vector → Float
-radius v = four ⊗ reach v
+abbrev pub cellReach : Vector → Float
+cellReach v = float4 ⊗ reach v
 
 -- A cell at p stays inside the bounds and the tolerance on the direction v.
 abbrev pub insideOn : Vector → Bounds → Float → Vector → Bool
-insideOn v b tolerance p = not (lt (dot p v ⊖ radius v) (b .low ⊖ tolerance)) && not (lt (b .high ⊕ tolerance) (dot p v ⊕ radius v))
+insideOn v b tolerance p = not (lt (dot p v ⊖ cellReach v) (b .low ⊖ tolerance)) && not (lt (b .high ⊕ tolerance) (dot p v ⊕ cellReach v))
 
 abbrev pub insideBoth : Limits → Link → Vector → Bool
 insideBoth limits link p =

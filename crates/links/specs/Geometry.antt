@@ -2,7 +2,7 @@
 use Prim.Native.Nat.{ℕ, _+_, _-_, _*_, _/_, _%_}
 use lib.Ieee.{Float, binary64, neg, ofBits}
 use Rattle.length.specs.Length.{lengthOf}
-use Rattle.length.specs.Floats.{_⊕_, _⊖_, _⊗_, _⊘_, whole, absOf}
+use Rattle.length.specs.Floats.{_⊕_, _⊖_, _⊗_, _⊘_, wholeFloat, absOf}
 use Rattle.position.specs.declared.PixelPosition.{PixelPosition}
 use Rattle.position.specs.declared.Span.{Span}
 
@@ -13,11 +13,11 @@ oneAndHalf = ofBits binary64 0x3FF8_0000_0000_0000
 abbrev pub two : Float
 two = ofBits binary64 0x4000_0000_0000_0000
 
-abbrev pub four : Float
-four = ofBits binary64 0x4010_0000_0000_0000
+abbrev pub float4 : Float
+float4 = ofBits binary64 0x4010_0000_0000_0000
 
-abbrev pub eight : Float
-eight = ofBits binary64 0x4020_0000_0000_0000
+abbrev pub float8 : Float
+float8 = ofBits binary64 0x4020_0000_0000_0000
 
 -- A point, or a direction.
 pub record Vector : Type 0 where
@@ -26,15 +26,15 @@ pub record Vector : Type 0 where
 
 -- 001's `point`.
 abbrev pub pointOf : PixelPosition → Vector
-pointOf p = record { x = whole (p .x); y = whole (p .y) }
+pointOf p = record { x = wholeFloat (p .x); y = wholeFloat (p .y) }
 
 -- 001's `center`.
 abbrev pub centreOf : Span → Vector
-centreOf s = record { x = (whole (s .a .x) ⊕ whole (s .b .x)) ⊘ two; y = (whole (s .a .y) ⊕ whole (s .b .y)) ⊘ two }
+centreOf s = record { x = (wholeFloat (s .a .x) ⊕ wholeFloat (s .b .x)) ⊘ two; y = (wholeFloat (s .a .y) ⊕ wholeFloat (s .b .y)) ⊘ two }
 
 -- The centre of a cell in a map of the given width. Document 01: "Cell centres are (8c + 4, 8r + 4)."
 abbrev pub cellCentre : ℕ → ℕ → Vector
-cellCentre columns cell = record { x = whole (cell % columns) ⊗ eight ⊕ four; y = whole (cell / columns) ⊗ eight ⊕ four }
+cellCentre columns cell = record { x = wholeFloat (cell % columns) ⊗ float8 ⊕ float4; y = wholeFloat (cell / columns) ⊗ float8 ⊕ float4 }
 
 -- From a to b.
 abbrev pub towards : Vector → Vector → Vector
@@ -56,15 +56,15 @@ dot p v = p .x ⊗ v .x ⊕ p .y ⊗ v .y
 abbrev pub reach : Vector → Float
 reach v = absOf (v .x) ⊕ absOf (v .y)
 
--- A point whose coordinates are halves of whole numbers, by the doubled coordinates.
-pub record Doubled : Type 0 where
+-- A point whose coordinates are halves of wholeFloat numbers, by the doubled coordinates.
+pub record DoubledPoint : Type 0 where
   pub x : ℕ
   pub y : ℕ
 
-abbrev pub doubledPoint : PixelPosition → Doubled
+abbrev pub doubledPoint : PixelPosition → DoubledPoint
 doubledPoint p = record { x = 2 * p .x; y = 2 * p .y }
 
-abbrev pub doubledCentre : Span → Doubled
+abbrev pub doubledCentre : Span → DoubledPoint
 doubledCentre s = record { x = s .a .x + s .b .x; y = s .a .y + s .b .y }
 
 -- How far two numbers are apart.
@@ -72,12 +72,12 @@ abbrev pub apart : ℕ → ℕ → ℕ
 apart m n = m - n + (n - m)
 
 -- Document 01: "D the sum of squares of the doubled differences".
-unfoldable pub squares : Doubled → Doubled → ℕ
+unfoldable pub squares : DoubledPoint → DoubledPoint → ℕ
 squares p q = apart (p .x) (q .x) * apart (p .x) (q .x) + apart (p .y) (q .y) * apart (p .y) (q .y)
 
--- 001's `distance`, and the `hypot` of every difference of two points or centres: coordinates are whole numbers up to 8,192
--- or halves of such sums, so that their f64 differences are exact, and D is four times the sum of the differences' squares.
-abbrev pub distance : Doubled → Doubled → Float
+-- 001's `distance`, and the `hypot` of every difference of two points or centres: coordinates are wholeFloat numbers up to 8,192
+-- or halves of such sums, so that their f64 differences are exact, and D is float4 times the sum of the differences' squares.
+abbrev pub distance : DoubledPoint → DoubledPoint → Float
 distance p q = lengthOf (squares p q)
 
 abbrev pub pointDistance : PixelPosition → PixelPosition → Float

@@ -6,8 +6,8 @@ use lib.Ieee.{Float, binary64, ofBits, lt, isNan}
 use Rattle.position.specs.Order.{swapped}
 use Rattle.position.specs.Bounds.{Bounded}
 use Rattle.position.specs.declared.Span.{Span}
-use Rattle.length.specs.Floats.{_⊕_, _⊗_, whole}
-use Rattle.links.specs.Geometry.{Vector, Doubled, four, eight, pointOf, dot}
+use Rattle.length.specs.Floats.{_⊕_, _⊗_, wholeFloat}
+use Rattle.links.specs.Geometry.{Vector, DoubledPoint, float4, float8, pointOf, dot}
 use Rattle.links.specs.Link.{Bounds, widened}
 use Rattle.links.specs.declared.geometry.Point.{Point}
 use Rattle.links.specs.declared.geometry.Range.{Range}
@@ -16,7 +16,7 @@ pub record SpanBounded (s : Span) : Type 0 where
   pub first : Bounded (s .a)
   pub second : Bounded (s .b)
 
-abbrev pub doubled : ℕ → ℕ → Doubled
+abbrev pub doubled : ℕ → ℕ → DoubledPoint
 doubled x y = record { x = x; y = y }
 
 abbrev pub vector : Point → Vector
@@ -33,7 +33,7 @@ heldRange b = record { low = b .low; high = b .high }
 
 -- The centre of the cell at a column and a row: `cellCentre` of the cell.
 abbrev pub centreAt : ℕ → ℕ → Vector
-centreAt column row = record { x = whole column ⊗ eight ⊕ four; y = whole row ⊗ eight ⊕ four }
+centreAt column row = record { x = wholeFloat column ⊗ float8 ⊕ float4; y = wholeFloat row ⊗ float8 ⊕ float4 }
 
 -- Bounds with the ends of a span on a direction.
 abbrev pub withEnds : Bounds → Span → Vector → Bounds

@@ -1,4 +1,4 @@
--- A link as the code holds it: its meaning, what a cell does to it, and what it holds after the cells of its region.
+-- A link as the code holds it: its measuredMeaning, what a cell does to it, and what it holds after the cells of its region.
 use mathlib.Core.Bool.{Bool, true, false, cond, _&&_}
 use mathlib.Core.List.{List, [], _∷_}
 use Prim.Native.Nat.{ℕ}
@@ -17,8 +17,8 @@ abbrev pub side : Span → ℕ → Side
 side s bits = record { span = s; bits = bits }
 
 -- The link that it is.
-abbrev pub linkIn : LinkHeld → Link
-linkIn l = record {
+abbrev pub linkHeld : LinkHeld → Link
+linkHeld l = record {
   centre = record { x = l .«centre_x»; y = l .«centre_y» };
   distance = l .distance;
   unit = record { x = l .«unit_x»; y = l .«unit_y» };
@@ -38,8 +38,8 @@ extremesIn l = record {
 }
 
 -- A link with the extremes of some cells, whether they stay inside the flat envelope, and whether there is one.
-abbrev pub held : Link → Extremes → Bool → Bool → LinkHeld
-held k e inside seen = record {
+abbrev pub heldLink : Link → Extremes → Bool → Bool → LinkHeld
+heldLink k e inside seen = record {
   «centre_x» = k .centre .x;
   «centre_y» = k .centre .y;
   distance = k .distance;
@@ -69,7 +69,7 @@ noExtremes = record { longitudinal = noBounds; transverse = noBounds }
 
 -- Of no cell.
 abbrev pub noCell : Link → LinkHeld
-noCell k = held k noExtremes true false
+noCell k = heldLink k noExtremes true false
 
 -- Extremes with a cell at p more.
 abbrev pub stretched : Link → Extremes → Vector → Extremes
@@ -79,11 +79,11 @@ stretched k e p = record {
 }
 
 -- With the cell at a column and a row more.
-unfoldable pub withCell : Limits → LinkHeld → ℕ → ℕ → LinkHeld
-withCell limits l column row =
-    held (linkIn l)
-    (stretched (linkIn l) (extremesIn l) (centreAt column row))
-    (l .inside && insideBoth limits (linkIn l) (centreAt column row))
+unfoldable pub linkWithCell : Limits → LinkHeld → ℕ → ℕ → LinkHeld
+linkWithCell limits l column row =
+    heldLink (linkHeld l)
+    (stretched (linkHeld l) (extremesIn l) (centreAt column row))
+    (l .inside && insideBoth limits (linkHeld l) (centreAt column row))
     true
 
 -- Some cells are not none.
@@ -94,15 +94,15 @@ someCell (c ∷ cs) = true
 -- The link after the cells of its region, in a map of so many columns.
 unfoldable pub linkAfter : Limits → Link → ℕ → List ℕ → LinkHeld
 unfolding extremes insideFlat
-linkAfter limits k columns cells = held k (extremes k columns cells) (insideFlat limits k columns cells) (someCell cells)
+linkAfter limits k columns cells = heldLink k (extremes k columns cells) (insideFlat limits k columns cells) (someCell cells)
 
 -- "a definition gives this paper's number and values for each of the enum's cases"
-abbrev pub meaning : MeasuredHeld → Measured
-meaning Empty = empty
-meaning (Within t l) = within t l
-meaning (Beyond t l) = beyond t l
+abbrev pub measuredMeaning : MeasuredHeld → Measured
+measuredMeaning Empty = empty
+measuredMeaning (Within t l) = within t l
+measuredMeaning (Beyond t l) = beyond t l
 
 -- What the link measures.
 unfoldable pub measuredIn : Limits → LinkHeld → Measured
 unfolding judged
-measuredIn limits l = cond (l .seen) (judged limits (linkIn l) (extremesIn l)) empty
+measuredIn limits l = cond (l .seen) (judged limits (linkHeld l) (extremesIn l)) empty

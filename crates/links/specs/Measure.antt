@@ -5,7 +5,7 @@ use Prim.Native.Nat.{ℕ}
 use lib.Ieee.{Float, le}
 use Rattle.length.specs.Floats.{_⊕_, _⊖_, _⊗_, _⊘_}
 use Rattle.links.specs.Limits.{Limits}
-use Rattle.links.specs.Geometry.{Vector, oneAndHalf, two, eight, cellCentre, towards, dot, reach}
+use Rattle.links.specs.Geometry.{Vector, oneAndHalf, two, float8, cellCentre, towards, dot, reach}
 use Rattle.links.specs.Link.{Link, Bounds, boundsOf}
 
 -- The extremes of a region's cells along the link and across it. No width plays a part in them.
@@ -26,7 +26,7 @@ extremes link columns cells = record {
 
 -- An envelope: from the least centre to the greatest, and the extent of a cell.
 abbrev pub enveloped : Bounds → Vector → Float
-enveloped b v = b .high ⊖ b .low ⊕ eight ⊗ reach v
+enveloped b v = b .high ⊖ b .low ⊕ float8 ⊗ reach v
 
 abbrev pub transverseEnvelope : Link → Extremes → Float
 transverseEnvelope link e = enveloped (e .transverse) (link .normal)

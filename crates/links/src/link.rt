@@ -7,7 +7,7 @@ ghost use Rattle.links.specs.Flat.{insideOn, insideBoth};
 ghost use Rattle.links.specs.Measure.{enveloped, transverseEnvelope, longitudinalEnvelope, passing};
 ghost use Rattle.links.specs.Held.{SpanBounded, vector, range};
 ghost use Rattle.links.specs.HeldLimits.{limitsOf};
-ghost use Rattle.links.specs.HeldLink.{linkIn, extremesIn, noCell, withCell, measuredIn, meaning, side};
+ghost use Rattle.links.specs.HeldLink.{linkHeld, extremesIn, noCell, linkWithCell, measuredIn, measuredMeaning, side};
 use crate::geometry::Point;
 use crate::geometry::Range;
 use crate::geometry::cell_centre;
@@ -118,7 +118,7 @@ impl Link {
 
     // A cell with its centre at p stays inside the flat envelope.
     fn stays(self, p: Point, limits: Limits) -> bool
-        ensures { λ r. ⌜ r ≡ insideBoth (limitsOf limits) (linkIn self) (vector p) ⌝ }
+        ensures { λ r. ⌜ r ≡ insideBoth (limitsOf limits) (linkHeld self) (vector p) ⌝ }
     {
         let unit = Point {
             x: self.span_unit_x,
@@ -142,7 +142,7 @@ impl Link {
 
     // The cells so far stay inside the flat envelope, and so does one with its centre at p.
     fn still(self, p: Point, limits: Limits) -> bool
-        ensures { λ r. ⌜ r ≡ self .inside && insideBoth (limitsOf limits) (linkIn self) (vector p) ⌝ }
+        ensures { λ r. ⌜ r ≡ self .inside && insideBoth (limitsOf limits) (linkHeld self) (vector p) ⌝ }
     {
         if self.inside {
             self.stays(p, limits)
@@ -153,7 +153,7 @@ impl Link {
 
     // One cell of its region more.
     pub fn at(self, column: u32, row: u32, limits: Limits) -> Link
-        ensures { λ r. ⌜ r ≡ withCell (limitsOf limits) self column row ⌝ }
+        ensures { λ r. ⌜ r ≡ linkWithCell (limitsOf limits) self column row ⌝ }
     {
         let p = cell_centre(column, row);
         let centre = Point {
@@ -182,7 +182,7 @@ impl Link {
     }
 
     fn transverse_envelope(self) -> f64
-        ensures { λ r. ⌜ r ≡ transverseEnvelope (linkIn self) (extremesIn self) ⌝ }
+        ensures { λ r. ⌜ r ≡ transverseEnvelope (linkHeld self) (extremesIn self) ⌝ }
     {
         let normal = Point {
             x: self.normal_x,
@@ -196,7 +196,7 @@ impl Link {
     }
 
     fn longitudinal_envelope(self) -> f64
-        ensures { λ r. ⌜ r ≡ longitudinalEnvelope (linkIn self) (extremesIn self) ⌝ }
+        ensures { λ r. ⌜ r ≡ longitudinalEnvelope (linkHeld self) (extremesIn self) ⌝ }
     {
         let unit = Point {
             x: self.unit_x,
@@ -211,7 +211,7 @@ impl Link {
 
     // Empty without a cell; else within both limits, or beyond one.
     pub fn measured(self, limits: Limits) -> Measured
-        ensures { λ r. ⌜ meaning r ≡ measuredIn (limitsOf limits) self ⌝ }
+        ensures { λ r. ⌜ measuredMeaning r ≡ measuredIn (limitsOf limits) self ⌝ }
     {
         if !self.seen {
             return Measured::Empty;
@@ -232,7 +232,7 @@ impl Link {
 impl Measured {
     // Only a link within both limits passes.
     pub fn passing(self) -> bool
-        ensures { λ r. ⌜ r ≡ passing (meaning self) ⌝ }
+        ensures { λ r. ⌜ r ≡ passing (measuredMeaning self) ⌝ }
     {
         match self {
             Measured::Empty => false,

@@ -1,4 +1,4 @@
--- The corridor's listing; and the listing of an answer that was encoded.
+-- The corridor's answerText; and the answerText of an answer that was encoded.
 use mathlib.Core.Path.{_≡_, refl, _∙_, ap}
 use mathlib.Core.Bool.{Bool, cond}
 use mathlib.Core.List.{List, [], flatMap}
@@ -14,19 +14,21 @@ use Rattle.format.specs.Records.{positionAt, spanAt, sourceAt, rampAt, boundary
 use Rattle.format.specs.Decode.{boundaryRecords, observationRecords, sourceRecords, observationsWith, boundaryWith, boundariesWith, sourceCount}
 use Rattle.format.specs.Decode.{decodeBoundaries, decodeAnswer, rampOf}
 use Rattle.format.proofs.AnswerTrip.{length-encodeAnswer, answer-words, decodeAnswer-encodeAnswer}
-use Rattle.listing.specs.Digits.{glyph, lastDigits, placesFrom, places, digits, hexDigits}
+use Rattle.listing.specs.Digits.{glyph, lastDigits, digitCountFrom, digitCount, digits, hexDigits}
 use Rattle.listing.specs.Lines.{fieldText, bitsText, endsText, rampText, sourceLine, sourceLines, observationFields, observationLine, observationText}
-use Rattle.listing.specs.Lines.{observationTexts, boundaryFields, boundaryLine, boundaryText, boundaryTexts, keptLine, listingOf}
-use Rattle.listing.specs.Answer.{answerLength, whole, listing}
+use Rattle.listing.specs.Lines.{observationTexts, boundaryFields, boundaryLine, boundaryText, boundaryTexts, keptLine, answerLines}
+use Rattle.listing.specs.Answer.{answerLength, answerWhole, answerText}
 use Rattle.listing.specs.Corridor.{corridorBytes, corridorText}
 use Rattle.listing.proofs.Sizing.{is-whole}
 
 -- "Here it prints": the corridor's answer, in a slice of three times its length.
-pub corridor-listing : listing corridorBytes 456 ≡ corridorText
-unfolding listing whole corridorBytes corridorText words decodeAnswer decodeBoundaries boundariesWith boundaryWith observationsWith sourceCount boundaryRecords
+pub corridor-listing : answerText corridorBytes 456 ≡ corridorText
+unfolding answerText answerWhole corridorBytes corridorText words decodeAnswer decodeBoundaries boundariesWith boundaryWith observationsWith sourceCount
+    boundaryRecords
     observationRecords sourceRecords rampOf positionAt spanAt sourceAt rampAt boundaryAt observationAt numberAt part number bytes rows sum flatMap glyph
-    lastDigits placesFrom places digits hexDigits fieldText bitsText endsText rampText sourceLine sourceLines observationFields observationLine observationText
-    observationTexts boundaryFields boundaryLine boundaryText boundaryTexts keptLine listingOf
+    lastDigits digitCountFrom digitCount digits hexDigits fieldText bitsText endsText rampText sourceLine sourceLines observationFields observationLine
+    observationText
+    observationTexts boundaryFields boundaryLine boundaryText boundaryTexts keptLine answerLines
 corridor-listing = refl
 
 module _ (bs : List Boundary) (f : AnswerFits bs) where
@@ -39,9 +41,9 @@ module _ (bs : List Boundary) (f : AnswerFits bs) where
   same-length = omega (arith, word 0, word 1, word 2, length-encodeAnswer bs)
 
   -- An answer that was encoded is listed as its boundaries, where there is room.
-  pub listing-encoded : (out : List ℕ) → length (encodeAnswer bs) * 3 ≤ length out → listing (encodeAnswer bs) (length out) ≡ listingOf bs
-  unfolding listing
+  pub listing-encoded : (out : List ℕ) → length (encodeAnswer bs) * 3 ≤ length out → answerText (encodeAnswer bs) (length out) ≡ answerLines bs
+  unfolding answerText
   listing-encoded out h =
-      ap (λ (b : Bool). cond b (listingOf (decodeAnswer (encodeAnswer bs))) [])
+      ap (λ (b : Bool). cond b (answerLines (decodeAnswer (encodeAnswer bs))) [])
       (is-whole (encodeAnswer bs) out (omega (arith, same-length)) (omega (arith, same-length, h)))
-      ∙ ap listingOf (decodeAnswer-encodeAnswer bs f)
+      ∙ ap answerLines (decodeAnswer-encodeAnswer bs f)

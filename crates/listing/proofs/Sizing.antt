@@ -1,4 +1,4 @@
--- A listing is at most three times as long as its answer; and the answers that are listed.
+-- A answerText is at most three times as long as its answer; and the answers that are listed.
 use mathlib.Core.Path.{_≡_, refl, sym, _∙_, ap, subst}
 use mathlib.Core.Bool.{Bool, true, false, cond, _&&_}
 use mathlib.Core.List.{List, [], _∷_, _++_, flatMap, append-nil}
@@ -14,7 +14,7 @@ use Rattle.position.specs.declared.Span.{Span}
 use Rattle.wire.specs.Bytes.{AreBytes, u32At}
 use Rattle.wire.proofs.Parts.{splice-none}
 use Rattle.format.specs.Values.{Ramp, Boundary}
-use Rattle.format.specs.Fits.{SourceFits, SpanFits, RampFits, ObservationFits, BoundaryFits}
+use Rattle.format.specs.Fits.{SourceFits, SpanEncodable, RampFits, ObservationFits, BoundaryFits}
 use Rattle.format.specs.Records.{boundaryAt, observationAt, sourceAt}
 use Rattle.format.specs.Decode.{boundaryRecords, observationRecords, sourceRecords, observationsWith, boundaryWith, boundariesWith, sourceCount}
 use Rattle.format.specs.Decode.{decodeBoundaries, decodeAnswer}
@@ -24,12 +24,12 @@ use Rattle.format.specs.declared.records.Source.{Source}
 use Rattle.format.proofs.Distribution.{length-observationsWith, length-boundariesWith}
 use Rattle.format.proofs.BoundaryTrips.{decoded-within}
 use Rattle.listing.specs.Lines.{newline, fieldText, bitsText, endsText, rampText, sourceLine, sourceLines, observationFields, observationLine}
-use Rattle.listing.specs.Lines.{observationText, observationTexts, boundaryFields, boundaryLine, boundaryText, boundaryTexts, keptLine, listingOf}
-use Rattle.listing.specs.Answer.{Writes, answerLength, whole, listing}
+use Rattle.listing.specs.Lines.{observationText, observationTexts, boundaryFields, boundaryLine, boundaryText, boundaryTexts, keptLine, answerLines}
+use Rattle.listing.specs.Answer.{Writes, answerLength, answerWhole, answerText}
 use Rattle.listing.proofs.Writing.{Left, start}
 use Rattle.listing.proofs.Pieces.{word-length, byte-length, length-bits}
 
-ends-most : (e : Span) → SpanFits e → length (endsText e) ≤ 44
+ends-most : (e : Span) → SpanEncodable e → length (endsText e) ≤ 44
 unfolding endsText
 ends-most e f =
     omega (
@@ -72,7 +72,7 @@ unfolding sourceLines flatMap
 sources-most [] h = omega arith
 sources-most (s ∷ ss) (more p h) = omega (arith, length-append (sourceLine s) (sourceLines ss), source-most s p, sources-most ss h)
 
-observation-most : (e : Span) (bits n : ℕ) → SpanFits e → n < 4_294_967_296 → length (observationFields e bits n) ≤ 74
+observation-most : (e : Span) (bits n : ℕ) → SpanEncodable e → n < 4_294_967_296 → length (observationFields e bits n) ≤ 74
 unfolding observationFields
 observation-most e bits n f h =
     omega (
@@ -85,7 +85,7 @@ observation-most e bits n f h =
       word-length n h,
     )
 
-boundary-most : (e : Span) (bits n m : ℕ) (r : Ramp) → SpanFits e → n < 4_294_967_296 → m < 4_294_967_296 → RampFits r
+boundary-most : (e : Span) (bits n m : ℕ) (r : Ramp) → SpanEncodable e → n < 4_294_967_296 → m < 4_294_967_296 → RampFits r
     → length (boundaryFields e bits n m r) ≤ 108
 unfolding boundaryFields
 boundary-most e bits n m r f h k g =
@@ -160,31 +160,31 @@ and-false : (b : Bool) → b && false ≡ false
 and-false true = refl
 and-false false = refl
 
-unlisted : (s out : List ℕ) → whole s (length out) ≡ false → Writes (listing s (length out)) out 0 out 0
-unfolding listing
+unlisted : (s out : List ℕ) → answerWhole s (length out) ≡ false → Writes (answerText s (length out)) out 0 out 0
+unfolding answerText
 unlisted s out e =
-    subst (λ (b : Bool). Writes (cond b (listingOf (decodeAnswer s)) []) out 0 out 0) (sym e) (record { is = sym (splice-none out 0); end = refl })
+    subst (λ (b : Bool). Writes (cond b (answerLines (decodeAnswer s)) []) out 0 out 0) (sym e) (record { is = sym (splice-none out 0); end = refl })
 
 module _ (s out : List ℕ) where
-  pub no-header : length s < 24 → Writes (listing s (length out)) out 0 out 0
-  unfolding whole
+  pub no-header : length s < 24 → Writes (answerText s (length out)) out 0 out 0
+  unfolding answerWhole
   no-header h = unlisted s out (ap (λ (b : Bool). b && (leb (answerLength s) (length s) && leb (answerLength s * 3) (length out))) (lt-leb 24 (length s) h))
 
-  pub no-records : length s < answerLength s → Writes (listing s (length out)) out 0 out 0
-  unfolding whole
+  pub no-records : length s < answerLength s → Writes (answerText s (length out)) out 0 out 0
+  unfolding answerWhole
   no-records h = unlisted s out
       (ap (λ (b : Bool). leb 24 (length s) && (b && leb (answerLength s * 3) (length out))) (lt-leb (answerLength s) (length s) h)
       ∙ and-false (leb 24 (length s)))
 
-  pub no-room : length out < answerLength s * 3 → Writes (listing s (length out)) out 0 out 0
-  unfolding whole
+  pub no-room : length out < answerLength s * 3 → Writes (answerText s (length out)) out 0 out 0
+  unfolding answerWhole
   no-room h =
       unlisted s out (ap (λ (b : Bool). leb 24 (length s) && (leb (answerLength s) (length s) && b)) (lt-leb (answerLength s * 3) (length out) h)
       ∙ ap (λ (b : Bool). leb 24 (length s) && b) (and-false (leb (answerLength s) (length s)))
       ∙ and-false (leb 24 (length s)))
 
-  pub is-whole : answerLength s ≤ length s → answerLength s * 3 ≤ length out → whole s (length out) ≡ true
-  unfolding whole
+  pub is-whole : answerLength s ≤ length s → answerLength s * 3 ≤ length out → answerWhole s (length out) ≡ true
+  unfolding answerWhole
   is-whole h k =
       ap (λ (b : Bool). b && (leb (answerLength s) (length s) && leb (answerLength s * 3) (length out))) (le-leb 24 (length s) (omega arith))
       ∙ ap (λ (b : Bool). b && leb (answerLength s * 3) (length out)) (le-leb (answerLength s) (length s) h)
@@ -202,10 +202,10 @@ module _ (s out : List ℕ) where
     decoded = ap (λ (i : ℕ). decodeBoundaries s 24 i (u32At s 4) (u32At s 8)) (sym e) ∙ ap (λ (i : ℕ). decodeBoundaries s 24 b i (u32At s 8)) (sym f)
         ∙ ap (λ (i : ℕ). decodeBoundaries s 24 b o i) (sym g)
 
-    is-listing : listing s (length out) ≡ listingOf records
-    unfolding listing
-    is-listing = ap (λ (c : Bool). cond c (listingOf (decodeAnswer s)) []) (is-whole (omega (arith, h, e, f, g)) (omega (arith, k, e, f, g)))
-        ∙ ap listingOf decoded
+    is-listing : answerText s (length out) ≡ answerLines records
+    unfolding answerText
+    is-listing = ap (λ (c : Bool). cond c (answerLines (decodeAnswer s)) []) (is-whole (omega (arith, h, e, f, g)) (omega (arith, k, e, f, g)))
+        ∙ ap answerLines decoded
 
     count : length records ≡ b
     unfolding decodeBoundaries boundaryRecords
@@ -228,12 +228,12 @@ module _ (s out : List ℕ) where
         )
 
     pub listing-start : (v : ℕ) → v ≡ b
-        → Left (listing s (length out)) out 0
+        → Left (answerText s (length out)) out 0
         (keptLine v ∷ boundaryTexts (boundariesWith (boundaryRecords s 24 b) (observationRecords s (24 + b * 40) o) (sourceRecords s (24 + b * 40 + o * 28) n))
         ∷ []) out 0
-    unfolding listingOf decodeBoundaries
+    unfolding answerLines decodeBoundaries
     listing-start v c =
-        let q : keptLine v ++ boundaryTexts records ≡ listing s (length out) = ap (λ (i : ℕ). keptLine i ++ boundaryTexts records) (c ∙ sym count)
+        let q : keptLine v ++ boundaryTexts records ≡ answerText s (length out) = ap (λ (i : ℕ). keptLine i ++ boundaryTexts records) (c ∙ sym count)
         ∙ sym is-listing in
         start _ (ap (λ (t : List ℕ). keptLine v ++ t) (append-nil (boundaryTexts records)) ∙ q)
         (omega (arith, ap length q, length-append (keptLine v) (boundaryTexts records), kept-most v (omega (arith, c, bw)), most))

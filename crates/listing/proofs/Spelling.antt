@@ -13,7 +13,7 @@ use lib.Seq.{set-append-left, take-set-lt, take-suc-set, length-take-le}
 use Rattle.wire.specs.Bytes.{splice}
 use Rattle.wire.proofs.Parts.{splice-none, length-splice}
 use Rattle.listing.specs.Answer.{Writes}
-use Rattle.listing.specs.Digits.{glyph, lastDigits, placesFrom, places, digits, hexDigits}
+use Rattle.listing.specs.Digits.{glyph, lastDigits, digitCountFrom, digitCount, digits, hexDigits}
 
 pub glyph-low : {d : ℕ} → d < 10 → 48 + d ≡ glyph d
 unfolding glyph
@@ -23,17 +23,17 @@ pub glyph-high : {d : ℕ} → 10 ≤ d → 87 + d ≡ glyph d
 unfolding glyph
 glyph-high {d} h = sym (ap (λ (b : Bool). cond b (48 + d) (87 + d)) (le-ltb d 10 h))
 
-from-small : (n v : ℕ) → v < 10 → placesFrom n v ≡ 1
-unfolding placesFrom
+from-small : (n v : ℕ) → v < 10 → digitCountFrom n v ≡ 1
+unfolding digitCountFrom
 from-small zero v h = refl
-from-small (suc n) v h = ap (λ (b : Bool). elim b [ true ↦ 1 | false ↦ suc (placesFrom n (v / 10)) ]) (lt-ltb v 10 h)
+from-small (suc n) v h = ap (λ (b : Bool). elim b [ true ↦ 1 | false ↦ suc (digitCountFrom n (v / 10)) ]) (lt-ltb v 10 h)
 
-from-large : (n v : ℕ) → 10 ≤ v → placesFrom (suc n) v ≡ suc (placesFrom n (v / 10))
-unfolding placesFrom
-from-large n v h = ap (λ (b : Bool). elim b [ true ↦ 1 | false ↦ suc (placesFrom n (v / 10)) ]) (le-ltb v 10 h)
+from-large : (n v : ℕ) → 10 ≤ v → digitCountFrom (suc n) v ≡ suc (digitCountFrom n (v / 10))
+unfolding digitCountFrom
+from-large n v h = ap (λ (b : Bool). elim b [ true ↦ 1 | false ↦ suc (digitCountFrom n (v / 10)) ]) (le-ltb v 10 h)
 
 -- Any bound of a number tells its digits.
-from-same : (n m v : ℕ) → v ≤ n → v ≤ m → placesFrom n v ≡ placesFrom m v
+from-same : (n m v : ℕ) → v ≤ n → v ≤ m → digitCountFrom n v ≡ digitCountFrom m v
 from-same zero m v h k = from-small 0 v (omega arith) ∙ sym (from-small m v (omega arith))
 from-same (suc n) zero v h k = from-small (suc n) v (omega arith) ∙ sym (from-small 0 v (omega arith))
 from-same (suc n) (suc m) v h k =
@@ -41,18 +41,18 @@ from-same (suc n) (suc m) v h k =
     let l : 10 ≤ v = omega arith in
     from-large n v l ∙ ap suc (from-same n m (v / 10) (omega arith) (omega arith)) ∙ sym (from-large m v l)
 
-pub places-small : (v : ℕ) → v < 10 → places v ≡ 1
-unfolding places
+pub places-small : (v : ℕ) → v < 10 → digitCount v ≡ 1
+unfolding digitCount
 places-small v h = from-small v v h
 
-pub places-large : (v : ℕ) → 10 ≤ v → places v ≡ suc (places (v / 10))
-unfolding places
+pub places-large : (v : ℕ) → 10 ≤ v → digitCount v ≡ suc (digitCount (v / 10))
+unfolding digitCount
 places-large zero h = absurd (omega arith)
 places-large (suc v) h = from-large v (suc v) h ∙ ap suc (from-same v (suc v / 10) (suc v / 10) (omega arith) (omega arith))
 
 -- k digits are dropped from v, and rest is left.
 pub record Counted (v k rest : ℕ) : Type 0 where
-  pub count : k + places rest ≡ 1 + places v
+  pub count : k + digitCount rest ≡ 1 + digitCount v
   pub small : k + rest ≤ 1 + v
 
 pub counted-start : (v : ℕ) → Counted v 1 v
@@ -61,11 +61,11 @@ counted-start v = record { count = refl; small = omega arith }
 pub counted-next : {v k rest : ℕ} → Counted v k rest → 10 ≤ rest → Counted v (k + 1) (rest / 10)
 counted-next {v} {k} {rest} c h = record { count = omega (arith, c .count, places-large rest h); small = omega (arith, c .small) }
 
-pub counted-end : {v k rest : ℕ} → Counted v k rest → rest < 10 → k ≡ places v
+pub counted-end : {v k rest : ℕ} → Counted v k rest → rest < 10 → k ≡ digitCount v
 counted-end {v} {k} {rest} c h = omega (arith, c .count, places-small rest h)
 
 -- A number below a power of ten has no more digits than that.
-pub places-most : (k v : ℕ) → v < 10 ^ suc k → places v ≤ suc k
+pub places-most : (k v : ℕ) → v < 10 ^ suc k → digitCount v ≤ suc k
 places-most zero v h = omega (arith, places-small v (omega (arith, pow-suc 10 0)))
 places-most (suc k) v h =
     by-cases (decLt v 10) (λ l. omega (arith, places-small v l)) λ q.
@@ -77,9 +77,9 @@ unfolding lastDigits
 length-lastDigits b zero v = refl
 length-lastDigits b (suc k) v = length-append (lastDigits b k (v / b)) (glyph (v % b) ∷ []) ∙ omega (arith, length-lastDigits b k (v / b))
 
-pub length-digits : (v : ℕ) → length (digits v) ≡ places v
+pub length-digits : (v : ℕ) → length (digits v) ≡ digitCount v
 unfolding digits
-length-digits v = length-lastDigits 10 (places v) v
+length-digits v = length-lastDigits 10 (digitCount v) v
 
 pub length-hexDigits : (v : ℕ) → length (hexDigits v) ≡ 16
 unfolding hexDigits
@@ -96,7 +96,7 @@ set-before s p g t h =
     ∙ append-assoc (take p s) (g ∷ []) (t ++ drop (suc p + length t) s)
     ∙ ap (λ (k : ℕ). take p s ++ (g ∷ (t ++ drop k s))) e
 
--- All but the first i of k digits stand at their places; those are digits of rest.
+-- All but the first i of k digits stand at their digitCount; those are digits of rest.
 pub record Spelt (b k v : ℕ) (out : List ℕ) (at : ℕ) (now : List ℕ) (i rest : ℕ) : Type 0 where
   pub text : List ℕ
   pub fits : at + k ≤ length out
@@ -141,11 +141,11 @@ module _ {b k v : ℕ} {out : List ℕ} {at : ℕ} where
 pub remainder-small : (v : ℕ) {b : ℕ} → 1 < b → b ≤ 16 → v % b < 16
 remainder-small v {b} h k = omega (arith, mod-lt v {m = b} (omega arith))
 
-pub decimal-writes : (v : ℕ) {k : ℕ} {out : List ℕ} {at : ℕ} {after : List ℕ} → k ≡ places v → after ≡ splice out at (lastDigits 10 k v)
+pub decimal-writes : (v : ℕ) {k : ℕ} {out : List ℕ} {at : ℕ} {after : List ℕ} → k ≡ digitCount v → after ≡ splice out at (lastDigits 10 k v)
     → Writes (digits v) out at after (at + k)
 unfolding digits
 decimal-writes v {k} {out} {at} e h =
-    record { is = h ∙ ap (λ (j : ℕ). splice out at (lastDigits 10 j v)) e; end = omega (arith, e, length-lastDigits 10 (places v) v) }
+    record { is = h ∙ ap (λ (j : ℕ). splice out at (lastDigits 10 j v)) e; end = omega (arith, e, length-lastDigits 10 (digitCount v) v) }
 
 pub hex-writes : (v : ℕ) {out : List ℕ} {at : ℕ} {after : List ℕ} → after ≡ splice out at (lastDigits 16 16 v) → Writes (hexDigits v) out at after (at + 16)
 unfolding hexDigits

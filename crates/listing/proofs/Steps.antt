@@ -17,7 +17,7 @@ use Rattle.format.specs.declared.records.Source.{Source}
 use Rattle.format.proofs.Distribution.{length-observationsWith}
 use Rattle.listing.specs.Lines.{sourceLine, sourceLines, observationFields, observationLine, observationText, observationTexts, boundaryFields}
 use Rattle.listing.specs.Lines.{boundaryLine, boundaryText, boundaryTexts}
-use Rattle.listing.specs.Answer.{Room, Writes, observationsAt, sourcesAt, observationHere, Inside, Moved}
+use Rattle.listing.specs.Answer.{TextRoom, Writes, observationsAt, sourcesAt, observationHere, SectionsInside, Moved}
 use Rattle.listing.specs.declared.walk.Cursor.{Cursor}
 use Rattle.listing.proofs.Writing.{Left, start, next, done, retell, room}
 
@@ -88,7 +88,7 @@ module _ (s : List ℕ) where
   SourcesLeft from n out at now i p = Left (sourceLines (sourceRecords s from n)) out at (sourceLines (sourceRecords s (from + i * 8) (n - i)) ∷ []) now p
 
   module _ (from n : ℕ) (out : List ℕ) (at : ℕ) where
-    pub sources-start : Room (sourceLines (sourceRecords s from n)) out at → SourcesLeft from n out at out 0 at
+    pub sources-start : TextRoom (sourceLines (sourceRecords s from n)) out at → SourcesLeft from n out at out 0 at
     sources-start h =
         let e : from ≡ from + 0 * 8 = omega arith in
         let f : n ≡ n - 0 = omega arith in
@@ -105,8 +105,8 @@ module _ (s : List ℕ) where
         ∙ ap (λ (t : List ℕ). sourceLine (sourceAt s (from + i * 8)) ++ t) (sym (append-nil _))) l
 
     pub source-room : {now : List ℕ} {i p : ℕ} (r : Source) → r ≡ sourceAt s (from + i * 8) → i < n → SourcesLeft from n out at now i p
-        → Room (sourceLine r) now p
-    source-room {now} {i} {p} r e h l = subst (λ (x : Source). Room (sourceLine x) now p) (sym e) (room (split h l))
+        → TextRoom (sourceLine r) now p
+    source-room {now} {i} {p} r e h l = subst (λ (x : Source). TextRoom (sourceLine x) now p) (sym e) (room (split h l))
 
     pub sources-next : {now after : List ℕ} {i p q : ℕ} (r : Source) → r ≡ sourceAt s (from + i * 8) → i < n → SourcesLeft from n out at now i p
         → Writes (sourceLine r) now p after q → SourcesLeft from n out at after (i + 1) q
@@ -176,15 +176,15 @@ module _ (s : List ℕ) (c : Cursor) where
         ∙ ap (λ (l : List Source). observationFields (p .ends) (p .bits) (length (take (p .sources) (sourcesAt s c))) ++ sourceLines l)
         (sources-taken (p .sources) n here-count)
 
-    pub here-start : (out : List ℕ) → Room (observationText (observationHere s c)) out (c .at)
+    pub here-start : (out : List ℕ) → TextRoom (observationText (observationHere s c)) out (c .at)
         → Left (observationText (observationHere s c)) out (c .at) (observationFields (o .ends) (o .bits) n ∷ sourceLines (sourceRecords s (c .source) n) ∷ [])
         out (c .at)
     here-start out r = start _ (ap (λ (t : List ℕ). observationFields (o .ends) (o .bits) n ++ t) (append-nil _) ∙ here-text) r
 
-    pub here-sources : Inside s c → c .source + n * 8 ≤ length s
+    pub here-sources : SectionsInside s c → c .source + n * 8 ≤ length s
     here-sources i = omega (arith, i .sources, here-count)
 
-    pub here-moved : Inside s c → 0 < c .observations → (at : ℕ)
+    pub here-moved : SectionsInside s c → 0 < c .observations → (at : ℕ)
         → Moved s c (record {
           at = at;
           observation = c .observation + 28;
@@ -219,14 +219,14 @@ module _ (s : List ℕ) (c : Cursor) where
 pub record ObservationsLeft (s : List ℕ) (n : ℕ) (c : Cursor) (out now : List ℕ) (i : ℕ) (d : Cursor) : Type 0 where
   pub text : Left (observationTexts (observationsWith (take n (observationsAt s c)) (sourcesAt s c))) out (c .at)
       (observationTexts (observationsWith (take (n - i) (observationsAt s d)) (sourcesAt s d)) ∷ []) now (d .at)
-  pub inside : Inside s d
+  pub inside : SectionsInside s d
   pub enough : n - i ≤ d .observations
   pub observations : drop (n - i) (observationsAt s d) ≡ drop n (observationsAt s c)
   pub sources : drop (sourceCount (take (n - i) (observationsAt s d))) (sourcesAt s d) ≡ drop (sourceCount (take n (observationsAt s c))) (sourcesAt s c)
 
 module _ (s : List ℕ) (n : ℕ) (c : Cursor) (out : List ℕ) where
-  pub observations-start : Inside s c → n ≤ c .observations
-      → Room (observationTexts (observationsWith (take n (observationsAt s c)) (sourcesAt s c))) out (c .at) → ObservationsLeft s n c out out 0 c
+  pub observations-start : SectionsInside s c → n ≤ c .observations
+      → TextRoom (observationTexts (observationsWith (take n (observationsAt s c)) (sourcesAt s c))) out (c .at) → ObservationsLeft s n c out out 0 c
   observations-start i h r =
       let e : n - 0 ≡ n = omega arith in
       record {
@@ -252,7 +252,7 @@ module _ (s : List ℕ) (n : ℕ) (c : Cursor) (out : List ℕ) where
         retell _ (append-nil _ ∙ ap (λ (k : ℕ). observationTexts (observationsWith (take k (observationsAt s d)) (sourcesAt s d))) again
         ∙ next-observations s d (n - (i + 1)) some-left ∙ ap (λ (t : List ℕ). observationText (observationHere s d) ++ t) (sym (append-nil _))) (l .text)
 
-    pub observation-room : Room (observationText (observationHere s d)) now (d .at)
+    pub observation-room : TextRoom (observationText (observationHere s d)) now (d .at)
     observation-room = room cut
 
     module _ {after : List ℕ} (e : Cursor) (w : Writes (observationText (observationHere s d)) now (d .at) after (e .at))
@@ -339,7 +339,7 @@ module _ (s : List ℕ) (place : ℕ) (c : Cursor) (b : BoundaryRecord) (n m : �
       ∙ ap (λ (x : ℕ). boundaryFields (b .ends) (b .bits) (length (take (b .sources) ss)) x (rampOf (b .ramp))
       ++ (sourceLines (take (b .sources) ss) ++ observationTexts (observationsWith (take (b .observations) os) (drop (b .sources) ss)))) count2
 
-  pub whole-start : (out : List ℕ) → Room (wholeOf (boundaryAt s place)) out (c .at)
+  pub whole-start : (out : List ℕ) → TextRoom (wholeOf (boundaryAt s place)) out (c .at)
       → Left (wholeOf (boundaryAt s place)) out (c .at)
       (boundaryFields (b .ends) (b .bits) n m (rampOf (b .ramp)) ∷ sourceLines (sourceRecords s (c .source) n) ∷ observationTexts
       (observationsWith (take m (observationsAt s c)) (sourceRecords s (c .source + n * 8) (c .sources - n))) ∷ []) out (c .at)
@@ -347,10 +347,10 @@ module _ (s : List ℕ) (place : ℕ) (c : Cursor) (b : BoundaryRecord) (n m : �
       start _ (ap (λ (t : List ℕ). boundaryFields (b .ends) (b .bits) n m (rampOf (b .ramp)) ++ (sourceLines (sourceRecords s (c .source) n) ++ t))
       (append-nil _) ∙ text-of ∙ ap wholeOf e) r
 
-  pub own-inside : Inside s c → c .source + n * 8 ≤ length s
+  pub own-inside : SectionsInside s c → c .source + n * 8 ≤ length s
   own-inside i = omega (arith, i .sources, h)
 
-  pub rest-inside : Inside s c → (at : ℕ) → Inside s (after-own at)
+  pub rest-inside : SectionsInside s c → (at : ℕ) → SectionsInside s (after-own at)
   rest-inside i at = record { observations = i .observations; sources = omega (arith, i .sources, h) }
 
   pub seen-few : m ≤ c .observations
@@ -378,7 +378,7 @@ module _ (s : List ℕ) (place : ℕ) (c : Cursor) (b : BoundaryRecord) (n m : �
 pub record BoundariesLeft (s : List ℕ) (place n : ℕ) (c : Cursor) (out now : List ℕ) (i : ℕ) (d : Cursor) : Type 0 where
   pub text : Left (boundaryTexts (boundariesWith (boundaryRecords s place n) (observationsAt s c) (sourcesAt s c))) out (c .at)
       (boundaryTexts (boundariesWith (boundaryRecords s (place + i * 40) (n - i)) (observationsAt s d) (sourcesAt s d)) ∷ []) now (d .at)
-  pub inside : Inside s d
+  pub inside : SectionsInside s d
 
 module _ (s : List ℕ) (place n : ℕ) (c : Cursor) (out : List ℕ) where
   abbrev pub rest : ℕ → ℕ → List ObservationRecord → List Source → List ℕ
@@ -394,7 +394,7 @@ module _ (s : List ℕ) (place n : ℕ) (c : Cursor) (out : List ℕ) where
   next-boundary p k q d h = ap (λ (l : List BoundaryRecord). boundaryTexts (boundariesWith l (observationsAt s d) (sourcesAt s d)))
       (table-first boundaryAt s 40 p k q h)
 
-  pub boundaries-start : Inside s c → Room (rest place n (observationsAt s c) (sourcesAt s c)) out (c .at) → BoundariesLeft s place n c out out 0 c
+  pub boundaries-start : SectionsInside s c → TextRoom (rest place n (observationsAt s c) (sourcesAt s c)) out (c .at) → BoundariesLeft s place n c out out 0 c
   boundaries-start i r =
       let e : place + 0 * 40 ≡ place = omega arith in
       let f : n - 0 ≡ n = omega arith in
@@ -417,7 +417,7 @@ module _ (s : List ℕ) (place n : ℕ) (c : Cursor) (out : List ℕ) where
         retell _ (append-nil _ ∙ ap (λ (k : ℕ). rest here k (observationsAt s d) (sourcesAt s d)) e
         ∙ next-boundary here (n - (i + 1)) (place + (i + 1) * 40) d f ∙ ap (λ (t : List ℕ). headOf here d ++ t) (sym (append-nil _))) (l .text)
 
-    pub boundary-room : Room (headOf here d) now (d .at)
+    pub boundary-room : TextRoom (headOf here d) now (d .at)
     boundary-room = room part-left
 
     pub boundaries-next : {after : List ℕ} (e : Cursor) → Writes (headOf here d) now (d .at) after (e .at)

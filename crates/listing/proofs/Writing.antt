@@ -7,7 +7,7 @@ use lib.ListN.{length, set, getD, drop, length-append, drop-of-length-le}
 use lib.Seq.{drop-cons}
 use Rattle.wire.specs.Bytes.{splice}
 use Rattle.wire.proofs.Parts.{splice-none, set-splice, length-splice, splice-splice}
-use Rattle.listing.specs.Answer.{Room, Writes}
+use Rattle.listing.specs.Answer.{TextRoom, Writes}
 
 -- Texts one after another.
 abbrev pub joined : List (List ℕ) → List ℕ
@@ -17,13 +17,13 @@ joined (a ∷ ps) = a ++ joined ps
 -- Part of a text was written from a place on, up to another; pieces are left to write.
 pub record Left (whole out : List ℕ) (at : ℕ) (pieces : List (List ℕ)) (now : List ℕ) (place : ℕ) : Type 0 where
   pub text : List ℕ
-  pub fits : Room whole out at
+  pub fits : TextRoom whole out at
   pub is : now ≡ splice out at text
   pub end : place ≡ at + length text
   pub all : text ++ joined pieces ≡ whole
 
 module _ {whole out : List ℕ} {at : ℕ} where
-  pub start : (ps : List (List ℕ)) → joined ps ≡ whole → Room whole out at → Left whole out at ps out at
+  pub start : (ps : List (List ℕ)) → joined ps ≡ whole → TextRoom whole out at → Left whole out at ps out at
   start ps e h = record { text = []; fits = h; is = sym (splice-none out at); end = omega arith; all = e }
 
   lengths : {ps : List (List ℕ)} {now : List ℕ} {p : ℕ} (l : Left whole out at ps now p) → length (l .text) + length (joined ps) ≡ length whole
@@ -37,7 +37,7 @@ module _ {whole out : List ℕ} {at : ℕ} where
   as-long l = ap length (l .is) ∙ length-splice out at (l .text) (inside l)
 
   -- What comes next has room.
-  pub room : {a : List ℕ} {ps : List (List ℕ)} {now : List ℕ} {p : ℕ} → Left whole out at (a ∷ ps) now p → Room a now p
+  pub room : {a : List ℕ} {ps : List (List ℕ)} {now : List ℕ} {p : ℕ} → Left whole out at (a ∷ ps) now p → TextRoom a now p
   room {a} {ps} l = omega (arith, lengths l, length-append a (joined ps), as-long l, l .fits, l .end)
 
   -- It is written.
@@ -75,7 +75,7 @@ abbrev pub Copied : List ℕ → List ℕ → ℕ → List ℕ → ℕ → Type 
 Copied t out at now i = Left t out at (drop i t ∷ []) now (at + i)
 
 module _ (t out : List ℕ) (at : ℕ) where
-  pub copied-start : Room t out at → Copied t out at out 0
+  pub copied-start : TextRoom t out at → Copied t out at out 0
   copied-start h =
       let e : at ≡ at + 0 = omega arith in
       subst (λ (p : ℕ). Left t out at (t ∷ []) out p) e (start (t ∷ []) (append-nil t) h)

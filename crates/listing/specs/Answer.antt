@@ -1,4 +1,4 @@
--- The listing of an answer's bytes, and what a writer of text does to a lent slice.
+-- The answerText of an answer's bytes, and what a writer of text does to a lent slice.
 use Prim.Native.Nat.{ℕ, _+_, _*_, _≤_}
 use mathlib.Core.Path.{_≡_}
 use mathlib.Core.Bool.{Bool, cond, _&&_}
@@ -12,12 +12,12 @@ use Rattle.format.specs.Values.{Observation}
 use Rattle.format.specs.Decode.{observationRecords, sourceRecords, decodeAnswer}
 use Rattle.format.specs.declared.records.ObservationRecord.{ObservationRecord}
 use Rattle.format.specs.declared.records.Source.{Source}
-use Rattle.listing.specs.Lines.{listingOf}
+use Rattle.listing.specs.Lines.{answerLines}
 use Rattle.listing.specs.declared.walk.Cursor.{Cursor}
 
 -- There is room for a text at a place of a slice.
-abbrev pub Room : List ℕ → List ℕ → ℕ → Type 0
-Room text out at = at + length text ≤ length out
+abbrev pub TextRoom : List ℕ → List ℕ → ℕ → Type 0
+TextRoom text out at = at + length text ≤ length out
 
 -- A text was written at a place of a slice, and nothing else; it ends at r.
 pub record Writes (text out : List ℕ) (at : ℕ) (after : List ℕ) (r : ℕ) : Type 0 where
@@ -40,13 +40,13 @@ observationHere s c = record {
 }
 
 -- They lie in the answer.
-pub record Inside (s : List ℕ) (c : Cursor) : Type 0 where
+pub record SectionsInside (s : List ℕ) (c : Cursor) : Type 0 where
   pub observations : c .observation + c .observations * observationSize ≤ length s
   pub sources : c .source + c .sources * sourceSize ≤ length s
 
 -- The second cursor is past n more observations and m more sources than the first; past the end there are none.
 pub record Moved (s : List ℕ) (c d : Cursor) (n m : ℕ) : Type 0 where
-  pub inside : Inside s d
+  pub inside : SectionsInside s d
   pub observations : observationsAt s d ≡ drop n (observationsAt s c)
   pub sources : sourcesAt s d ≡ drop m (sourcesAt s c)
 
@@ -54,11 +54,11 @@ pub record Moved (s : List ℕ) (c d : Cursor) (n m : ℕ) : Type 0 where
 abbrev pub answerLength : List ℕ → ℕ
 answerLength s = answerHeaderSize + u32At s 0 * answerBoundarySize + u32At s 4 * observationSize + u32At s 8 * sourceSize
 
--- An answer that is there whole, and room for its listing: thrice its length always suffices.
-unfoldable pub whole : List ℕ → ℕ → Bool
-whole s room = leb answerHeaderSize (length s) && (leb (answerLength s) (length s) && leb (answerLength s * 3) room)
+-- An answer that is there answerWhole, and room for its answerText: thrice its length always suffices.
+unfoldable pub answerWhole : List ℕ → ℕ → Bool
+answerWhole s room = leb answerHeaderSize (length s) && (leb (answerLength s) (length s) && leb (answerLength s * 3) room)
 
--- What is written for an answer's bytes into a slice of a length: the listing, and nothing where the answer is not whole or room is short.
-unfoldable pub listing : List ℕ → ℕ → List ℕ
-unfolding whole listingOf decodeAnswer
-listing s room = cond (whole s room) (listingOf (decodeAnswer s)) []
+-- What is written for an answer's bytes into a slice of a length: the answerText, and nothing where the answer is not answerWhole or room is short.
+unfoldable pub answerText : List ℕ → ℕ → List ℕ
+unfolding answerWhole answerLines decodeAnswer
+answerText s room = cond (answerWhole s room) (answerLines (decodeAnswer s)) []

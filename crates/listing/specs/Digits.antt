@@ -15,18 +15,18 @@ lastDigits b zero v = []
 lastDigits b (suc k) v = lastDigits b k (v / b) ++ (glyph (v % b) ∷ [])
 
 -- How many decimal digits v has without leading zeros, where v ≤ n; 0 has one.
-unfoldable pub placesFrom : ℕ → ℕ → ℕ
-placesFrom zero v = 1
-placesFrom (suc n) v = elim (ltb v 10) [ true ↦ 1 | false ↦ suc (placesFrom n (v / 10)) ]
+unfoldable pub digitCountFrom : ℕ → ℕ → ℕ
+digitCountFrom zero v = 1
+digitCountFrom (suc n) v = elim (ltb v 10) [ true ↦ 1 | false ↦ suc (digitCountFrom n (v / 10)) ]
 
-unfoldable pub places : ℕ → ℕ
-unfolding placesFrom
-places v = placesFrom v v
+unfoldable pub digitCount : ℕ → ℕ
+unfolding digitCountFrom
+digitCount v = digitCountFrom v v
 
 -- v in decimal, without leading zeros.
 unfoldable pub digits : ℕ → List ℕ
-unfolding lastDigits places
-digits v = lastDigits 10 (places v) v
+unfolding lastDigits digitCount
+digits v = lastDigits 10 (digitCount v) v
 
 -- "bits are 16 lower-case hexadecimal digits"
 unfoldable pub hexDigits : ℕ → List ℕ

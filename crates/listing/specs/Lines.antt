@@ -86,9 +86,9 @@ unfolding fieldText
 keptLine n = (107 ∷ 101 ∷ 112 ∷ 116 ∷ []) ++ (fieldText n ++ newline)
 
 -- What is printed for an answer's boundaries: "kept: the number of boundaries. Then for each …".
-unfoldable pub listingOf : List Boundary → List ℕ
+unfoldable pub answerLines : List Boundary → List ℕ
 unfolding keptLine boundaryTexts
-listingOf bs = keptLine (length bs) ++ boundaryTexts bs
+answerLines bs = keptLine (length bs) ++ boundaryTexts bs
 
 -- "a refusal prints `refused`, number, detail on one line"
 unfoldable pub refusedLine : ℕ → ℕ → List ℕ

@@ -6,7 +6,7 @@ ghost use Rattle.wire.specs.Bytes.{splice};
 ghost use Rattle.listing.specs.Digits.{lastDigits, digits, hexDigits};
 ghost use Rattle.listing.specs.Digits.{glyph as Digits·glyph};
 ghost use Rattle.listing.specs.Digits.{places as Digits·places};
-ghost use Rattle.listing.specs.Answer.{Room, Writes};
+ghost use Rattle.listing.specs.Answer.{TextRoom, Writes};
 
 fn glyph(d: u64) -> u8
     requires { ⌜ d < 16 ⌝ }
@@ -44,7 +44,7 @@ fn write_digits(v: u64, base: u64, k: usize, out: &mut [u8], at: usize)
 
 // v in decimal, without leading zeros; gives the place after it.
 pub fn write_decimal(v: u64, out: &mut [u8], at: usize) -> usize
-    requires { ⌜ Room (digits v) (now out) at ⌝ }
+    requires { ⌜ TextRoom (digits v) (now out) at ⌝ }
     ensures { λ r. ⌜ Writes (digits v) (now (out .entry)) at (now (out .exit)) r ⌝ }
 {
     let k = places(v);
@@ -54,7 +54,7 @@ pub fn write_decimal(v: u64, out: &mut [u8], at: usize) -> usize
 
 // v in 16 hexadecimal digits; gives the place after them.
 pub fn write_hex(v: u64, out: &mut [u8], at: usize) -> usize
-    requires { ⌜ Room (hexDigits v) (now out) at ⌝ }
+    requires { ⌜ TextRoom (hexDigits v) (now out) at ⌝ }
     ensures { λ r. ⌜ Writes (hexDigits v) (now (out .entry)) at (now (out .exit)) r ⌝ }
 {
     write_digits(v, 16, 16, out, at);

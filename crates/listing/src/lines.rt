@@ -3,7 +3,7 @@ ghost use Prim.Native.Nat.{_+_, _<_};
 ghost use mathlib.Core.List.{[], _∷_};
 ghost use Rattle.format.specs.Decode.{rampOf};
 ghost use Rattle.listing.specs.Lines.{fieldText, bitsText, endsText, rampText, sourceLine, observationFields, boundaryFields};
-ghost use Rattle.listing.specs.Answer.{Room, Writes};
+ghost use Rattle.listing.specs.Answer.{TextRoom, Writes};
 use crate::digits::write_decimal;
 use crate::digits::write_hex;
 use format::BoundaryRecord;
@@ -13,7 +13,7 @@ use format::Source;
 use position::Span;
 
 pub fn write_byte(b: u8, out: &mut [u8], at: usize) -> usize
-    requires { ⌜ Room (b ∷ []) (now out) at ⌝ }
+    requires { ⌜ TextRoom (b ∷ []) (now out) at ⌝ }
     ensures { λ r. ⌜ Writes (b ∷ []) (now (out .entry)) at (now (out .exit)) r ⌝ }
 {
     out[at] = b;
@@ -21,7 +21,7 @@ pub fn write_byte(b: u8, out: &mut [u8], at: usize) -> usize
 }
 
 pub fn write_text(text: &[u8], out: &mut [u8], at: usize) -> usize
-    requires { ⌜ Room (now text) (now out) at ⌝ }
+    requires { ⌜ TextRoom (now text) (now out) at ⌝ }
     ensures { λ r. ⌜ Writes (now (text .entry)) (now (out .entry)) at (now (out .exit)) r ⌝ }
 {
     let n = text.len();
@@ -35,7 +35,7 @@ pub fn write_text(text: &[u8], out: &mut [u8], at: usize) -> usize
 
 // A number after a space.
 pub fn write_field(v: u64, out: &mut [u8], at: usize) -> usize
-    requires { ⌜ Room (fieldText v) (now out) at ⌝ }
+    requires { ⌜ TextRoom (fieldText v) (now out) at ⌝ }
     ensures { λ r. ⌜ Writes (fieldText v) (now (out .entry)) at (now (out .exit)) r ⌝ }
 {
     let end = write_byte(b' ', out, at);
@@ -43,28 +43,28 @@ pub fn write_field(v: u64, out: &mut [u8], at: usize) -> usize
 }
 
 fn write_small(v: u8, out: &mut [u8], at: usize) -> usize
-    requires { ⌜ Room (fieldText v) (now out) at ⌝ }
+    requires { ⌜ TextRoom (fieldText v) (now out) at ⌝ }
     ensures { λ r. ⌜ Writes (fieldText v) (now (out .entry)) at (now (out .exit)) r ⌝ }
 {
     write_field(v as u64, out, at)
 }
 
 pub fn write_word(v: u32, out: &mut [u8], at: usize) -> usize
-    requires { ⌜ Room (fieldText v) (now out) at ⌝ }
+    requires { ⌜ TextRoom (fieldText v) (now out) at ⌝ }
     ensures { λ r. ⌜ Writes (fieldText v) (now (out .entry)) at (now (out .exit)) r ⌝ }
 {
     write_field(v as u64, out, at)
 }
 
 fn write_count(v: usize, out: &mut [u8], at: usize) -> usize
-    requires { ⌜ Room (fieldText v) (now out) at ⌝ }
+    requires { ⌜ TextRoom (fieldText v) (now out) at ⌝ }
     ensures { λ r. ⌜ Writes (fieldText v) (now (out .entry)) at (now (out .exit)) r ⌝ }
 {
     write_field(v as u64, out, at)
 }
 
 fn write_bits(v: u64, out: &mut [u8], at: usize) -> usize
-    requires { ⌜ Room (bitsText v) (now out) at ⌝ }
+    requires { ⌜ TextRoom (bitsText v) (now out) at ⌝ }
     ensures { λ r. ⌜ Writes (bitsText v) (now (out .entry)) at (now (out .exit)) r ⌝ }
 {
     let end = write_byte(b' ', out, at);
@@ -72,7 +72,7 @@ fn write_bits(v: u64, out: &mut [u8], at: usize) -> usize
 }
 
 fn write_ends(e: Span, out: &mut [u8], at: usize) -> usize
-    requires { ⌜ Room (endsText e) (now out) at ⌝ }
+    requires { ⌜ TextRoom (endsText e) (now out) at ⌝ }
     ensures { λ r. ⌜ Writes (endsText e) (now (out .entry)) at (now (out .exit)) r ⌝ }
 {
     let a = e.a;
@@ -84,7 +84,7 @@ fn write_ends(e: Span, out: &mut [u8], at: usize) -> usize
 }
 
 fn write_ramp(r: RampRecord, out: &mut [u8], at: usize) -> usize
-    requires { ⌜ Room (rampText (rampOf r)) (now out) at ⌝ }
+    requires { ⌜ TextRoom (rampText (rampOf r)) (now out) at ⌝ }
     ensures { λ t. ⌜ Writes (rampText (rampOf r)) (now (out .entry)) at (now (out .exit)) t ⌝ }
 {
     let end1 = write_small(r.end, out, at);
@@ -94,7 +94,7 @@ fn write_ramp(r: RampRecord, out: &mut [u8], at: usize) -> usize
 }
 
 pub fn write_source(s: Source, out: &mut [u8], at: usize) -> usize
-    requires { ⌜ Room (sourceLine s) (now out) at ⌝ }
+    requires { ⌜ TextRoom (sourceLine s) (now out) at ⌝ }
     ensures { λ r. ⌜ Writes (sourceLine s) (now (out .entry)) at (now (out .exit)) r ⌝ }
 {
     let end1 = write_byte(b's', out, at);
@@ -105,7 +105,7 @@ pub fn write_source(s: Source, out: &mut [u8], at: usize) -> usize
 
 // An o line, with the number of sources that there are.
 pub fn write_observation_line(o: ObservationRecord, n: usize, out: &mut [u8], at: usize) -> usize
-    requires { ⌜ Room (observationFields (o .ends) (o .bits) n) (now out) at ⌝ }
+    requires { ⌜ TextRoom (observationFields (o .ends) (o .bits) n) (now out) at ⌝ }
     ensures { λ r. ⌜ Writes (observationFields (o .ends) (o .bits) n) (now (out .entry)) at (now (out .exit)) r ⌝ }
 {
     let ends = o.ends;
@@ -124,7 +124,7 @@ pub fn write_boundary_line(
     out: &mut [u8],
     at: usize,
 ) -> usize
-    requires { ⌜ Room (boundaryFields (b .ends) (b .bits) n m (rampOf (b .ramp))) (now out) at ⌝ }
+    requires { ⌜ TextRoom (boundaryFields (b .ends) (b .bits) n m (rampOf (b .ramp))) (now out) at ⌝ }
     ensures { λ r. ⌜ Writes (boundaryFields (b .ends) (b .bits) n m (rampOf (b .ramp))) (now (out .entry)) at (now (out .exit)) r ⌝ }
 {
     let ends = b.ends;

@@ -1,8 +1,8 @@
-// What choke-list prints: an answer's listing, or a refusal.
+// What choke-list prints: an answer's answerText, or a refusal.
 ghost use Prim.Native.Nat.{_+_, _*_, _≤_, _<_};
 ghost use lib.ListN.{length};
 ghost use Rattle.listing.specs.Lines.{keptLine, refusedLine};
-ghost use Rattle.listing.specs.Answer.{Room, Writes, listing};
+ghost use Rattle.listing.specs.Answer.{TextRoom, Writes, answerText};
 use crate::lines::write_byte;
 use crate::lines::write_field;
 use crate::lines::write_text;
@@ -17,7 +17,7 @@ use wire::read_u32;
 use wire::size;
 
 fn write_kept(n: u32, out: &mut [u8], at: usize) -> usize
-    requires { ⌜ Room (keptLine n) (now out) at ⌝ }
+    requires { ⌜ TextRoom (keptLine n) (now out) at ⌝ }
     ensures { λ r. ⌜ Writes (keptLine n) (now (out .entry)) at (now (out .exit)) r ⌝ }
 {
     let end1 = write_text(b"kept", out, at);
@@ -25,10 +25,10 @@ fn write_kept(n: u32, out: &mut [u8], at: usize) -> usize
     write_byte(b'\n', out, end2)
 }
 
-// The listing of an answer, written at the start of out; gives its length. Nothing is written, and 0 given, where the answer is not whole or out is
+// The answerText of an answer, written at the start of out; gives its length. Nothing is written, and 0 given, where the answer is not whole or out is
 // shorter than three times the answer.
 pub fn write_listing(answer: &[u8], out: &mut [u8]) -> usize
-    ensures { λ r. ⌜ Writes (listing (now (answer .entry)) (length (now (out .entry)))) (now (out .entry)) 0 (now (out .exit)) r ⌝ }
+    ensures { λ r. ⌜ Writes (answerText (now (answer .entry)) (length (now (out .entry)))) (now (out .entry)) 0 (now (out .exit)) r ⌝ }
     ensures fits { λ r. ⌜ r ≤ length (now (out .exit)) ⌝ }
 {
     let n = answer.len();

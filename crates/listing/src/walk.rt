@@ -6,7 +6,7 @@ ghost use Rattle.format.specs.Sizes.{answerBoundarySize, sourceSize};
 ghost use Rattle.format.specs.Records.{boundaryAt, observationAt};
 ghost use Rattle.format.specs.Decode.{sourceRecords, boundaryRecords, observationsWith, boundaryWith, boundariesWith, sourceCount};
 ghost use Rattle.listing.specs.Lines.{sourceLines, observationText, observationTexts, boundaryText, boundaryTexts};
-ghost use Rattle.listing.specs.Answer.{Room, Writes, observationsAt, sourcesAt, observationHere, Inside, Moved};
+ghost use Rattle.listing.specs.Answer.{TextRoom, Writes, observationsAt, sourcesAt, observationHere, SectionsInside, Moved};
 use crate::lines::write_boundary_line;
 use crate::lines::write_observation_line;
 use crate::lines::write_source;
@@ -36,7 +36,7 @@ fn least(n: u32, left: usize) -> usize
 
 // The s lines of n sources from a place of the answer on.
 fn write_sources(answer: &[u8], from: usize, n: usize, out: &mut [u8], at: usize) -> usize
-    requires { ⌜ (from + n * sourceSize ≤ length (now answer)) × Room (sourceLines (sourceRecords (now answer) from n)) (now out) at ⌝ }
+    requires { ⌜ (from + n * sourceSize ≤ length (now answer)) × TextRoom (sourceLines (sourceRecords (now answer) from n)) (now out) at ⌝ }
     ensures { λ r. ⌜ Writes (sourceLines (sourceRecords (now (answer .entry)) from n)) (now (out .entry)) at (now (out .exit)) r ⌝ }
 {
     let mut i = 0;
@@ -51,7 +51,7 @@ fn write_sources(answer: &[u8], from: usize, n: usize, out: &mut [u8], at: usize
 
 // The next observation with its sources.
 fn write_observation(answer: &[u8], c: Cursor, out: &mut [u8]) -> Cursor
-    requires { ⌜ Inside (now answer) c × (0 < c .observations) × Room (observationText (observationHere (now answer) c)) (now out) (c .at) ⌝ }
+    requires { ⌜ SectionsInside (now answer) c × (0 < c .observations) × TextRoom (observationText (observationHere (now answer) c)) (now out) (c .at) ⌝ }
     ensures text { λ r. ⌜ Writes (observationText (observationHere (now (answer .entry)) c)) (now (out .entry)) (c .at) (now (out .exit)) (r .at) ⌝ }
     ensures moved { λ r. ⌜ Moved (now (answer .entry)) c r 1 (observationAt (now (answer .entry)) (c .observation) .sources) ⌝ }
 {
@@ -73,8 +73,8 @@ fn write_observation(answer: &[u8], c: Cursor, out: &mut [u8]) -> Cursor
 
 // The next n observations, each with its sources.
 fn write_observations(answer: &[u8], n: usize, c: Cursor, out: &mut [u8]) -> Cursor
-    requires { ⌜ Inside (now answer) c × (n ≤ c .observations)
-        × Room (observationTexts (observationsWith (take n (observationsAt (now answer) c)) (sourcesAt (now answer) c))) (now out) (c .at) ⌝ }
+    requires { ⌜ SectionsInside (now answer) c × (n ≤ c .observations)
+        × TextRoom (observationTexts (observationsWith (take n (observationsAt (now answer) c)) (sourcesAt (now answer) c))) (now out) (c .at) ⌝ }
     ensures text { λ r. ⌜ Writes (observationTexts (observationsWith (take n (observationsAt (now (answer .entry)) c)) (sourcesAt (now (answer .entry)) c)))
         (now (out .entry)) (c .at) (now (out .exit)) (r .at) ⌝ }
     ensures moved { λ r. ⌜ Moved (now (answer .entry)) c r n (sourceCount (take n (observationsAt (now (answer .entry)) c))) ⌝ }
@@ -90,8 +90,8 @@ fn write_observations(answer: &[u8], n: usize, c: Cursor, out: &mut [u8]) -> Cur
 
 // The boundary at a place of the answer, with its own sources and its observations.
 fn write_boundary(answer: &[u8], place: usize, c: Cursor, out: &mut [u8]) -> Cursor
-    requires { ⌜ Inside (now answer) c × (place + answerBoundarySize ≤ length (now answer))
-        × Room (boundaryText (boundaryWith (boundaryAt (now answer) place)
+    requires { ⌜ SectionsInside (now answer) c × (place + answerBoundarySize ≤ length (now answer))
+        × TextRoom (boundaryText (boundaryWith (boundaryAt (now answer) place)
         (take (boundaryAt (now answer) place .observations) (observationsAt (now answer) c)) (sourcesAt (now answer) c))) (now out) (c .at) ⌝ }
     ensures text { λ r. ⌜ Writes
         (boundaryText (boundaryWith (boundaryAt (now (answer .entry)) place)
@@ -120,8 +120,8 @@ fn write_boundary(answer: &[u8], place: usize, c: Cursor, out: &mut [u8]) -> Cur
 
 // The n boundaries from a place of the answer on.
 pub fn write_boundaries(answer: &[u8], place: usize, n: usize, c: Cursor, out: &mut [u8]) -> usize
-    requires { ⌜ Inside (now answer) c × (place + n * answerBoundarySize ≤ length (now answer))
-        × Room (boundaryTexts (boundariesWith (boundaryRecords (now answer) place n) (observationsAt (now answer) c) (sourcesAt (now answer) c))) (now out)
+    requires { ⌜ SectionsInside (now answer) c × (place + n * answerBoundarySize ≤ length (now answer))
+        × TextRoom (boundaryTexts (boundariesWith (boundaryRecords (now answer) place n) (observationsAt (now answer) c) (sourcesAt (now answer) c))) (now out)
         (c .at) ⌝ }
     ensures { λ r. ⌜ Writes (boundaryTexts
         (boundariesWith (boundaryRecords (now (answer .entry)) place n) (observationsAt (now (answer .entry)) c) (sourcesAt (now (answer .entry)) c)))

@@ -11,13 +11,13 @@ use Rattle.lists.specs.Rows.{rows}
 use Rattle.lists.proofs.Rows.{length-rows, rows-at}
 use Rattle.wire.specs.Bytes.{splice}
 use Rattle.wire.proofs.Parts.{length-splice}
-use Rattle.marking.specs.Marks.{Held}
+use Rattle.marking.specs.Marks.{WorkHolds}
 
-pub held-none : (base : ℕ) (f : ℕ → ℕ) (s : List ℕ) → Held base 0 f s s
+pub held-none : (base : ℕ) (f : ℕ → ℕ) (s : List ℕ) → WorkHolds base 0 f s s
 held-none base f s = record { long = refl; here = λ i l. absurd (omega arith); rest = λ j off. refl }
 
-pub held-next : {base n : ℕ} {f : ℕ → ℕ} {before work : List ℕ} (v : ℕ) → base + n < length work → v ≡ f n → Held base n f before work
-    → Held base (n + 1) f before (set work (base + n) v)
+pub held-next : {base n : ℕ} {f : ℕ → ℕ} {before work : List ℕ} (v : ℕ) → base + n < length work → v ≡ f n → WorkHolds base n f before work
+    → WorkHolds base (n + 1) f before (set work (base + n) v)
 held-next {base} {n} {f} {before} {work} v room e h = record {
   long = length-set work (base + n) v ∙ h .long;
   here = λ i l.
@@ -28,7 +28,7 @@ held-next {base} {n} {f} {before} {work} v room e h = record {
 }
 
 -- as many as another number says
-pub held-count : {base n : ℕ} {f : ℕ → ℕ} {before work : List ℕ} (m : ℕ) → n ≡ m → Held base n f before work → Held base m f before work
+pub held-count : {base n : ℕ} {f : ℕ → ℕ} {before work : List ℕ} (m : ℕ) → n ≡ m → WorkHolds base n f before work → WorkHolds base m f before work
 held-count m e h = rw (← e) h
 
 -- what a splice has at each place
@@ -67,10 +67,10 @@ module _ (s : List ℕ) (base n : ℕ) (f : ℕ → ℕ) (fits : base + n ≤ le
   splice-long : length (splice s base (rows n f)) ≡ length s
   splice-long = length-splice s base (rows n f) (omega (arith, length-rows n f))
 
-  pub splice-held : Held base n f s (splice s base (rows n f))
+  pub splice-held : WorkHolds base n f s (splice s base (rows n f))
   splice-held = record { long = splice-long; here = splice-here; rest = splice-rest }
 
-  pub held-splice : {work : List ℕ} → Held base n f s work → work ≡ splice s base (rows n f)
+  pub held-splice : {work : List ℕ} → WorkHolds base n f s work → work ≡ splice s base (rows n f)
   held-splice {work} h = ext-getD 0 work (splice s base (rows n f)) (h .long ∙ sym splice-long) (λ j l. at j)
     where
       at : (j : ℕ) → getD work j 0 ≡ getD (splice s base (rows n f)) j 0

@@ -22,7 +22,7 @@ use Rattle.areas.specs.Open.{openByte}
 use Rattle.areas.specs.Spans.{Sides, SpanFits}
 use Rattle.areas.specs.Strip.{InRange, InStrip, tall, majorOf, minorOf, stripAxis, stripMinor}
 use Rattle.areas.proofs.StripCells.{in-within}
-use Rattle.marking.specs.Marks.{MapOf, Held, rankAt, rank, Half}
+use Rattle.marking.specs.Marks.{MapOf, WorkHolds, rankAt, rank, Half}
 use Rattle.marking.proofs.Bits.{byte-off}
 
 pub sides-of : {w h : ℕ} {g : Grid} → MapOf w h g → Sides w h → Sides (g .width) (g .height)
@@ -64,7 +64,8 @@ module _ (g : Grid) (whole : Whole g) (sides : Sides (g .width) (g .height)) (s 
     }
 
     pub half-start : {base : ℕ} {dirs : List ℕ} {ss : List Span} {before work : List ℕ} (k : ℕ) →
-        ((i : ℕ) → i < size g → rank g s i < k → InStrip g s i → ⊥) → Held base (size g) (openByte dirs g ss) before work → Half base g dirs ss s k before work
+        ((i : ℕ) → i < size g → rank g s i < k → InStrip g s i → ⊥) → WorkHolds base (size g) (openByte dirs g ss) before work
+        → Half base g dirs ss s k before work
     half-start {base} {dirs} {ss} {before} {work} k off h = record {
       long = h .long;
       done = λ i l r. h .here i l ∙ sym (byte-off dirs g ss s i whole o (off i l r));
@@ -74,7 +75,7 @@ module _ (g : Grid) (whole : Whole g) (sides : Sides (g .width) (g .height)) (s 
 
     pub half-end : {base : ℕ} {dirs : List ℕ} {ss : List Span} {k : ℕ} {before work : List ℕ} →
         ((i : ℕ) → i < size g → k ≤ rank g s i → InStrip g s i → ⊥) → Half base g dirs ss s k before work
-        → Held base (size g) (openByte dirs g (ss ++ (s ∷ []))) before work
+        → WorkHolds base (size g) (openByte dirs g (ss ++ (s ∷ []))) before work
     half-end {base} {dirs} {ss} {k} {before} {work} off h = record {
       long = h .long;
       here = λ i l.

@@ -9,7 +9,7 @@ use Rattle.position.specs.declared.Span.{Span}
 use Rattle.grid.specs.Cells.{Grid}
 use Rattle.areas.specs.Open.{openByte}
 use Rattle.areas.specs.Spans.{spanIn, spansIn}
-use Rattle.marking.specs.Marks.{Held}
+use Rattle.marking.specs.Marks.{WorkHolds}
 
 pub spans-none : (ends : List ℕ) → [] ≡ spansIn ends 0
 unfolding spansIn rows
@@ -21,6 +21,6 @@ spans-last ends k e = ap (λ (t : Span). rows k (spanIn ends) ++ (t ∷ [])) e
     ∙ (sym (rows-last k (spanIn ends)) ∙ ap (λ (n : ℕ). rows n (spanIn ends)) (sym (add-one k)))
 
 -- the same bytes of equal lists of spans
-pub held-as : {base n : ℕ} {before work : List ℕ} (dirs : List ℕ) (g : Grid) {ss ts : List Span} → ss ≡ ts → Held base n (openByte dirs g ss) before work
-    → Held base n (openByte dirs g ts) before work
+pub held-as : {base n : ℕ} {before work : List ℕ} (dirs : List ℕ) (g : Grid) {ss ts : List Span} → ss ≡ ts → WorkHolds base n (openByte dirs g ss) before work
+    → WorkHolds base n (openByte dirs g ts) before work
 held-as dirs g e h = rw (← e) h

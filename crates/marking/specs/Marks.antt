@@ -16,7 +16,7 @@ pub record MapOf (width height : ℕ) (g : Grid) : Type 0 where
   pub whole : Whole g
 
 -- work holds f 0, …, f (n − 1) from base on, and else what it held before
-pub record Held (base n : ℕ) (f : ℕ → ℕ) (before work : List ℕ) : Type 0 where
+pub record WorkHolds (base n : ℕ) (f : ℕ → ℕ) (before work : List ℕ) : Type 0 where
   pub long : length work ≡ length before
   pub here : (i : ℕ) → i < n → getD work (base + i) 0 ≡ f i
   pub rest : (j : ℕ) → (base ≤ j → j < base + n → ⊥) → getD work j 0 ≡ getD before j 0

@@ -11,7 +11,7 @@ ghost use Rattle.areas.specs.Cuts.{cutBy};
 ghost use Rattle.areas.specs.Open.{bitOf, openByte};
 ghost use Rattle.areas.specs.Spans.{Sides, SpanFits};
 ghost use Rattle.areas.specs.Strip.{tall};
-ghost use Rattle.marking.specs.Marks.{MapOf, Held, rankAt, Closes};
+ghost use Rattle.marking.specs.Marks.{MapOf, WorkHolds, rankAt, Closes};
 use super::opening::byte_of;
 use areas::candidates::is_tall;
 use areas::candidates::strip_axis;
@@ -100,8 +100,8 @@ fn close_line(span: Span, width: u32, height: u32, c: u32, work: &mut [u8], base
 pub fn close_cut(span: Span, width: u32, height: u32, work: &mut [u8], base: usize)
     requires { ⌜ Sides width height × SpanFits width height span × (base + width * height ≤ length (now work)) ⌝ }
     ensures { λ r. ⌜ ((g : Grid) (dirs : List ℕ) (ss : List Span) (before : List ℕ) → MapOf width height g
-        → Held base (size g) (openByte dirs g ss) before (now (work .entry))
-        → Held base (size g) (openByte dirs g (ss ++ (span ∷ []))) before (now (work .exit))) ⌝ }
+        → WorkHolds base (size g) (openByte dirs g ss) before (now (work .entry))
+        → WorkHolds base (size g) (openByte dirs g (ss ++ (span ∷ []))) before (now (work .exit))) ⌝ }
 {
     let range = strip_axis(span, width, height);
     let last = range.last;

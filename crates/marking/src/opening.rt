@@ -8,10 +8,10 @@ ghost use Rattle.order.specs.Lists.{has};
 ghost use Rattle.lists.specs.Rows.{rows};
 ghost use Rattle.wire.specs.Bytes.{splice};
 ghost use Rattle.grid.specs.Directions.{directionsOf};
-ghost use Rattle.grid.specs.Steps.{hasStep, Placed};
+ghost use Rattle.grid.specs.Steps.{hasStep, CellPlace};
 ghost use Rattle.areas.specs.Open.{bitOf, openByte};
 ghost use Rattle.areas.specs.Spans.{Sides};
-ghost use Rattle.marking.specs.Marks.{Held};
+ghost use Rattle.marking.specs.Marks.{WorkHolds};
 use grid::cells::index;
 use grid::neighbors::has_direction;
 use grid::neighbors::step_at;
@@ -34,7 +34,7 @@ fn open_bit(
     position: WalkPosition,
     d: u32,
 ) -> u8
-    requires { ⌜ Placed width height (now cells) position × (d < 9) ⌝ }
+    requires { ⌜ CellPlace width height (now cells) position × (d < 9) ⌝ }
     ensures { λ r. ⌜ (r ≡ bitOf
         (has d (directionsOf directions) && hasStep (record { width = width; height = height; cells = now (cells .entry) })
         (position .y * width + position .x) d)) × (r ≤ 1) ⌝ }
@@ -50,7 +50,7 @@ fn open_bit(
 
 // The byte of the cell at a place of the map, where no step is cut.
 fn open_byte(cells: &[u8], width: u32, height: u32, directions: u32, position: WalkPosition) -> u8
-    requires { ⌜ Placed width height (now cells) position ⌝ }
+    requires { ⌜ CellPlace width height (now cells) position ⌝ }
     ensures { λ r. ⌜ r ≡ openByte (directionsOf directions) (record { width = width; height = height; cells = now (cells .entry) }) []
         (position .y * width + position .x) ⌝ }
 {
@@ -73,8 +73,8 @@ fn open_row(
 )
     requires { ⌜ Sides width height × (length (now cells) ≡ width * height) × (base + width * height ≤ length (now work)) × (y < height) ⌝ }
     ensures { λ r. ⌜ ((before : List ℕ)
-        → Held base (y * width) (openByte (directionsOf directions) (record { width = width; height = height; cells = now (cells .entry) }) []) before
-        (now (work .entry)) → Held base ((y + 1) * width)
+        → WorkHolds base (y * width) (openByte (directionsOf directions) (record { width = width; height = height; cells = now (cells .entry) }) []) before
+        (now (work .entry)) → WorkHolds base ((y + 1) * width)
         (openByte (directionsOf directions) (record { width = width; height = height; cells = now (cells .entry) }) []) before (now (work .exit))) ⌝ }
 {
     let mut x: u32 = 0;

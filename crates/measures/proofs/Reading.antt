@@ -12,17 +12,17 @@ use Rattle.areas.specs.Spans.{spanIn}
 use Rattle.links.specs.Link.{linkOf}
 use Rattle.links.specs.Held.{SpanBounded}
 use Rattle.links.specs.HeldLink.{side, noCell}
-use Rattle.measures.specs.Tables.{numberOf}
-use Rattle.measures.specs.Judging.{Plain, valueIn}
+use Rattle.measures.specs.Tables.{tableNumber}
+use Rattle.measures.specs.Judging.{CoordinatesBounded, valueIn}
 
-pub number-zero : (work : List ℕ) (n : ℕ) {r : ℕ} → r ≡ 0 → 0 ≡ numberOf work n r
+pub number-zero : (work : List ℕ) (n : ℕ) {r : ℕ} → r ≡ 0 → 0 ≡ tableNumber work n r
 number-zero work n {r} e = let h = eq-eqb r 0 e in rw h
 
-pub number-word : (work : List ℕ) (n : ℕ) {r : ℕ} → (r ≡ 0 → ⊥) → u32At work (4 * n + 4 * (r - 1)) ≡ numberOf work n r
+pub number-word : (work : List ℕ) (n : ℕ) {r : ℕ} → (r ≡ 0 → ⊥) → u32At work (4 * n + 4 * (r - 1)) ≡ tableNumber work n r
 number-word work n {r} e = let h = ne-eqb r 0 e in rw h
 
 -- the spans of plain arrays are in bounds
-pub span-bounded : {own bits : List ℕ} → Plain own bits → (i : ℕ) → i < 256 → {s : Span} → s ≡ spanIn own i → SpanBounded s
+pub span-bounded : {own bits : List ℕ} → CoordinatesBounded own bits → (i : ℕ) → i < 256 → {s : Span} → s ≡ spanIn own i → SpanBounded s
 unfolding spanIn
 span-bounded P i l e = subst SpanBounded (sym e) (record {
   first = record { column = P .coordinate (4 * i) (omega arith); row = P .coordinate (4 * i + 1) (omega arith) };

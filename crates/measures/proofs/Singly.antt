@@ -6,7 +6,7 @@ use Prim.Native.Nat.{ℕ, _+_, _/_, _%_, _<_}
 use lib.Dec.{eqb}
 use Rattle.areas.specs.Words.{word, labelsIn}
 use Rattle.links.specs.Limits.{Limits}
-use Rattle.links.specs.HeldLink.{withCell, linkAfter}
+use Rattle.links.specs.HeldLink.{linkWithCell, linkAfter}
 use Rattle.links.specs.declared.link.Link.{Link as LinkHeld}
 use Rattle.links.proofs.Cells.{after-none, after-next}
 use Rattle.topology.proofs.CountLoop.{pass-next}
@@ -18,11 +18,11 @@ one-start limits width ls region start k e = e ∙ (after-none limits k width �
 
 pub one-next : (limits : Limits) (width : ℕ) (bytes : List ℕ) (n region : ℕ) {i : ℕ} {start link t : LinkHeld}
     → AllCells limits width (labelsIn bytes n) region i start link
-    → i < n → {v : ℕ} → v ≡ word bytes i → t ≡ cond (eqb region v) (withCell limits link (i % width) (i / width)) link
+    → i < n → {v : ℕ} → v ≡ word bytes i → t ≡ cond (eqb region v) (linkWithCell limits link (i % width) (i / width)) link
     → AllCells limits width (labelsIn bytes n) region (i + 1) start t
 one-next limits width bytes n region {i} now l q f k e =
     pass-next (linkAfter limits k width) bytes n region (now k e) l q
-    (λ cs h. ap (λ (x : LinkHeld). withCell limits x (i % width) (i / width)) h ∙ after-next limits k width cs i) f
+    (λ cs h. ap (λ (x : LinkHeld). linkWithCell limits x (i % width) (i / width)) h ∙ after-next limits k width cs i) f
 
 pub one-end : (limits : Limits) (width : ℕ) (ls : List ℕ) (region : ℕ) {i n : ℕ} {start link : LinkHeld} → i ≡ n → AllCells limits width ls region i start link
     → AllCells limits width ls region n start link

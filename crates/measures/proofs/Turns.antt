@@ -18,14 +18,14 @@ use Rattle.areas.specs.Areas.{labelAt}
 use Rattle.areas.specs.Words.{word, labelsIn}
 use Rattle.areas.proofs.Words.{label-in}
 use Rattle.links.specs.Limits.{Limits}
-use Rattle.links.specs.HeldLink.{noCell, withCell, linkAfter}
+use Rattle.links.specs.HeldLink.{noCell, linkWithCell, linkAfter}
 use Rattle.links.specs.declared.link.Link.{Link as LinkHeld}
 use Rattle.links.proofs.Cells.{after-none, after-next}
-use Rattle.topology.specs.Held.{Room, NoCells, withCell as withStats, statsAfter, firstCells}
+use Rattle.topology.specs.Held.{CellRoom, NoCells, linkWithCell as withStats, statsAfter, firstCells}
 use Rattle.topology.specs.declared.stats.RegionStats.{RegionStats as StatsHeld}
 use Rattle.topology.proofs.Counting.{after-next as stats-next, after-room, cells-in, cells-out, cells-most}
-use Rattle.measures.specs.Tables.{numberOf, Numbered}
-use Rattle.measures.specs.Judging.{valueIn, Filled, linkNow, statsNow, Running}
+use Rattle.measures.specs.Tables.{tableNumber, RegionNumbers}
+use Rattle.measures.specs.Judging.{valueIn, EmptyLinks, linkNow, statsNow, Running}
 
 -- the cell of a column and a row
 pub place-of : (g : Grid) {x y i : ℕ} → y * g .width + x ≡ i → x < g .width → (x ≡ i % g .width) × (y ≡ i / g .width)
@@ -49,11 +49,11 @@ next-place {x} {y} {w} {i} {c} {r} e l p q =
     (omega (arith, m, a, e), omega (arith, a, h, l)))
 
 -- the links without a cell
-pub fill-start : (own bits firsts seconds : List ℕ) (v : LinkHeld) → Filled own bits firsts seconds 0 (replicate 256 v)
+pub fill-start : (own bits firsts seconds : List ℕ) (v : LinkHeld) → EmptyLinks own bits firsts seconds 0 (replicate 256 v)
 fill-start own bits firsts seconds v = record { long = length-replicate 256 v; link-is = λ j d l. absurd (omega arith) }
 
-pub fill-next : {own bits firsts seconds : List ℕ} {k : ℕ} {table : List LinkHeld} {v : LinkHeld} → Filled own bits firsts seconds k table → k < 256
-    → v ≡ noCell (valueIn own bits (at firsts k) (at seconds k)) → Filled own bits firsts seconds (k + 1) (set table k v)
+pub fill-next : {own bits firsts seconds : List ℕ} {k : ℕ} {table : List LinkHeld} {v : LinkHeld} → EmptyLinks own bits firsts seconds k table → k < 256
+    → v ≡ noCell (valueIn own bits (at firsts k) (at seconds k)) → EmptyLinks own bits firsts seconds (k + 1) (set table k v)
 fill-next {own} {bits} {firsts} {seconds} {k} {table} {v} F b e = record {
   long = length-set table k v ∙ F .long;
   link-is = λ j d l.
@@ -64,16 +64,16 @@ fill-next {own} {bits} {firsts} {seconds} {k} {table} {v} F b e = record {
       (λ q. getD-set-other table k j v d q ∙ F .link-is j d (omega arith));
 }
 
-pub fill-end : {own bits firsts seconds : List ℕ} {k links : ℕ} {table : List LinkHeld} → k ≡ links → Filled own bits firsts seconds k table
-    → Filled own bits firsts seconds links table
-fill-end {own} {bits} {firsts} {seconds} {table = table} e F = subst (λ (z : ℕ). Filled own bits firsts seconds z table) e F
+pub fill-end : {own bits firsts seconds : List ℕ} {k links : ℕ} {table : List LinkHeld} → k ≡ links → EmptyLinks own bits firsts seconds k table
+    → EmptyLinks own bits firsts seconds links table
+fill-end {own} {bits} {firsts} {seconds} {table = table} e F = subst (λ (z : ℕ). EmptyLinks own bits firsts seconds z table) e F
 
 pub no-cells : (ls : List ℕ) (r : ℕ) → [] ≡ firstCells ls r 0
 unfolding firstCells keep upFrom
 no-cells ls r = refl
 
 module _ {limits : Limits} {own bits regions firsts seconds : List ℕ} {g : Grid} {ls : List ℕ} where
-  pub pass-start : {links : ℕ} {table : List LinkHeld} {s : StatsHeld} → links ≤ 256 → Filled own bits firsts seconds links table → NoCells s
+  pub pass-start : {links : ℕ} {table : List LinkHeld} {s : StatsHeld} → links ≤ 256 → EmptyLinks own bits firsts seconds links table → NoCells s
       → Running limits own bits regions firsts seconds g ls links 0 table (replicate 256 s)
   pass-start {links} {table} {s} few F S = record {
     long = F .long;
@@ -92,8 +92,8 @@ module _ {limits : Limits} {own bits regions firsts seconds : List ℕ} {g : Gri
 
 module _ {limits : Limits} {own bits regions firsts seconds : List ℕ} {g : Grid} {work : List ℕ} {n links i : ℕ} {table : List LinkHeld}
     {stats : List StatsHeld}
-    (N : Numbered work n regions links) (on : i < n) (R : Running limits own bits regions firsts seconds g (labelsIn work n) links i table stats)
-    (v : ℕ) (number : v ≡ numberOf work n (word work i)) where
+    (N : RegionNumbers work n regions links) (on : i < n) (R : Running limits own bits regions firsts seconds g (labelsIn work n) links i table stats)
+    (v : ℕ) (number : v ≡ tableNumber work n (word work i)) where
   abbrev ls : List ℕ
   ls = labelsIn work n
 
@@ -102,7 +102,7 @@ module _ {limits : Limits} {own bits regions firsts seconds : List ℕ} {g : Gri
 
   -- a link with another number has another region
   other : (k : ℕ) → k < links → (v ≡ k + 1 → ⊥) → eqb (at regions k) (labelAt ls i) ≡ false
-  other k b h = ne-eqb (at regions k) (labelAt ls i) (λ e. h (number ∙ (ap (λ (z : ℕ). numberOf work n z) (sym (e ∙ label)) ∙ N .own k b)))
+  other k b h = ne-eqb (at regions k) (labelAt ls i) (λ e. h (number ∙ (ap (λ (z : ℕ). tableNumber work n z) (sym (e ∙ label)) ∙ N .own k b)))
 
   same-cells : (k : ℕ) → k < links → (v ≡ k + 1 → ⊥) → firstCells ls (at regions k) i ≡ firstCells ls (at regions k) (i + 1)
   same-cells k b h = let s : suc i ≡ i + 1 = omega arith in sym (cells-out ls (at regions k) i (other k b h)) ∙ ap (λ (z : ℕ). firstCells ls (at regions k) z) s
@@ -131,7 +131,7 @@ module _ {limits : Limits} {own bits regions firsts seconds : List ℕ} {g : Gri
 
     mine : at regions j ≡ word work i
     mine =
-        let q : j ≡ numberOf work n (word work i) - 1 = omega (arith, number, e) in
+        let q : j ≡ tableNumber work n (word work i) - 1 = omega (arith, number, e) in
         ap (λ (z : ℕ). at regions z) q ∙ N .named (word work i) (N .most i on) (omega (arith, number, some))
 
     more-cells : firstCells ls (at regions j) i ++ (i ∷ []) ≡ firstCells ls (at regions j) (i + 1)
@@ -139,16 +139,16 @@ module _ {limits : Limits} {own bits regions firsts seconds : List ℕ} {g : Gri
         let s : suc i ≡ i + 1 = omega arith in
         sym (cells-in ls (at regions j) i (eq-eqb (at regions j) (labelAt ls i) (mine ∙ sym label))) ∙ ap (λ (z : ℕ). firstCells ls (at regions j) z) s
 
-    pub turn-room : (d : StatsHeld) → i < 4294967295 → Room (getD stats j d)
+    pub turn-room : (d : StatsHeld) → i < 4294967295 → CellRoom (getD stats j d)
     turn-room d small =
-        subst Room (sym (R .stats-is j d turn-on)) (after-room g (firstCells ls (at regions j) i) (omega (arith, cells-most ls (at regions j) i, small)))
+        subst CellRoom (sym (R .stats-is j d turn-on)) (after-room g (firstCells ls (at regions j) i) (omega (arith, cells-most ls (at regions j) i, small)))
 
     module _ {x y : ℕ} (column : x ≡ i % g .width) (row : y ≡ i / g .width) where
-      next-link : (d : LinkHeld) → withCell limits (getD table j d) x y ≡ linkNow limits own bits regions firsts seconds g ls j (i + 1)
+      next-link : (d : LinkHeld) → linkWithCell limits (getD table j d) x y ≡ linkNow limits own bits regions firsts seconds g ls j (i + 1)
       next-link d =
-          ap (λ (t : LinkHeld). withCell limits t x y) (R .link-is j d turn-on)
-          ∙ (ap (λ (z : ℕ). withCell limits (linkNow limits own bits regions firsts seconds g ls j i) z y) column
-          ∙ (ap (λ (z : ℕ). withCell limits (linkNow limits own bits regions firsts seconds g ls j i) (i % g .width) z) row
+          ap (λ (t : LinkHeld). linkWithCell limits t x y) (R .link-is j d turn-on)
+          ∙ (ap (λ (z : ℕ). linkWithCell limits (linkNow limits own bits regions firsts seconds g ls j i) z y) column
+          ∙ (ap (λ (z : ℕ). linkWithCell limits (linkNow limits own bits regions firsts seconds g ls j i) (i % g .width) z) row
           ∙ (after-next limits (valueIn own bits (at firsts j) (at seconds j)) (g .width) (firstCells ls (at regions j) i) i
           ∙ ap (λ (cs : List ℕ). linkAfter limits (valueIn own bits (at firsts j) (at seconds j)) (g .width) cs) more-cells)))
 
@@ -159,7 +159,7 @@ module _ {limits : Limits} {own bits regions firsts seconds : List ℕ} {g : Gri
           ∙ (ap (λ (z : ℕ). withStats (statsAfter g (firstCells ls (at regions j) i)) (i % g .width) z (cellAt g i)) row
           ∙ (stats-next g (firstCells ls (at regions j) i) i ∙ ap (λ (cs : List ℕ). statsAfter g cs) more-cells)))
 
-      pub turn-in : {a : LinkHeld} {b : StatsHeld} (d : LinkHeld) (f : StatsHeld) → a ≡ withCell limits (getD table j d) x y
+      pub turn-in : {a : LinkHeld} {b : StatsHeld} (d : LinkHeld) (f : StatsHeld) → a ≡ linkWithCell limits (getD table j d) x y
           → b ≡ withStats (getD stats j f) x y (cellAt g i)
           → Running limits own bits regions firsts seconds g ls links (i + 1) (set table j a) (set stats j b)
       turn-in {a} {b} d f p q = record {

@@ -15,7 +15,7 @@ use Rattle.wire.proofs.Words.{four-bytes}
 use Rattle.walk.specs.Slices.{put}
 use Rattle.walk.proofs.Puts.{put-at, put-off}
 use Rattle.label_table.proofs.Table.{table-set, table-blank, word-cleared, all-cleared}
-use Rattle.measures.specs.Tables.{Regions, Labels, Written, Later, Cleared, numberOf, Numbered}
+use Rattle.measures.specs.Tables.{LinkRegions, Labels, Written, Later, Cleared, tableNumber, RegionNumbers}
 
 pub write-start : {start : List ℕ} {n : ℕ} (regions : List ℕ) → Labels start n → Written start start n regions 0
 write-start regions L =
@@ -25,17 +25,17 @@ write-start regions L =
 abbrev spot : List ℕ → ℕ → ℕ
 spot regions k = at regions k - 1
 
-below : {regions : List ℕ} {links k n : ℕ} → Regions regions links n → k < links → spot regions k < n
+below : {regions : List ℕ} {links k n : ℕ} → LinkRegions regions links n → k < links → spot regions k < n
 below {regions} {links} {k} R inside = omega (arith, R .from k inside, R .to k inside)
 
 -- the word of link k is there; j is k as an index
-pub word-there : {regions : List ℕ} {links n k j : ℕ} → Regions regions links n → k < links → j ≡ k → (work : List ℕ) → 8 * n ≤ length work
+pub word-there : {regions : List ℕ} {links n k j : ℕ} → LinkRegions regions links n → k < links → j ≡ k → (work : List ℕ) → 8 * n ≤ length work
     → (0 < at regions j) × (4 * n + 4 * at regions j ≤ length work)
 word-there {regions} {k = k} R inside e work room =
     let t = ap (at regions) e in
     (omega (arith, t, R .from k inside), omega (arith, t, R .to k inside))
 
-module _ {start work : List ℕ} {n : ℕ} {regions : List ℕ} {links k j : ℕ} (R : Regions regions links n) (room : 8 * n ≤ length start) (inside : k < links)
+module _ {start work : List ℕ} {n : ℕ} {regions : List ℕ} {links k j : ℕ} (R : LinkRegions regions links n) (room : 8 * n ≤ length start) (inside : k < links)
     (index : j ≡ k) where
   pub write-next : Written start work n regions k → {next : List ℕ} → next ≡ splice work (4 * n + 4 * (at regions j - 1)) (u32Bytes (k + 1))
       → Written start next n regions (k + 1)
@@ -114,13 +114,13 @@ module _ {start work : List ℕ} {n : ℕ} {regions : List ℕ} {links : ℕ} (L
   pub written-labels : labelsIn work n ≡ labelsIn start n
   written-labels = labels-same work n start same-label
 
-  word-is : (r : ℕ) → 0 < r → r ≤ n → numberOf work n r ≡ W .words (r - 1)
+  word-is : (r : ℕ) → 0 < r → r ≤ n → tableNumber work n r ≡ W .words (r - 1)
   word-is r p l = let h = ne-eqb r 0 (λ e. omega arith) in rw h (W .table .word (r - 1) (omega arith))
 
-  zero-is : (r : ℕ) → r ≡ 0 → numberOf work n r ≡ 0
+  zero-is : (r : ℕ) → r ≡ 0 → tableNumber work n r ≡ 0
   zero-is r e = let h = eq-eqb r 0 e in rw h
 
-  pub written-numbered : Regions regions links n → Numbered work n regions links
+  pub written-numbered : LinkRegions regions links n → RegionNumbers work n regions links
   written-numbered R = record {
     few = R .few;
     room = omega (arith, L .room, W .table .as-long);

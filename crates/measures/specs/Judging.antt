@@ -23,12 +23,12 @@ use Rattle.groups.specs.Flat.{isFlat}
 use Rattle.groups.specs.Tables.{Boundaries, linkRow}
 
 -- each coordinate is at most 8 · 1,024, and each width at most that of a job
-pub record Plain (own bits : List ℕ) : Type 0 where
+pub record CoordinatesBounded (own bits : List ℕ) : Type 0 where
   pub coordinate : (i : ℕ) → i < 1024 → at own i ≤ 8192
   pub width : (i : ℕ) → i < 256 → at bits i ≤ 0x40D0_0000_0000_0000
 
 -- the ranks of the links are places of the arrays
-pub record Ranks (firsts seconds : List ℕ) (links : ℕ) : Type 0 where
+pub record LinkEndsInside (firsts seconds : List ℕ) (links : ℕ) : Type 0 where
   pub first : (k : ℕ) → k < links → at firsts k < 256
   pub second : (k : ℕ) → k < links → at seconds k < 256
 
@@ -37,7 +37,7 @@ abbrev pub valueIn : List ℕ → List ℕ → ℕ → ℕ → Link
 valueIn own bits first second = linkOf (side (spanIn own first) (at bits first)) (side (spanIn own second) (at bits second))
 
 -- a link without a cell for each of the first k
-pub record Filled (own bits firsts seconds : List ℕ) (k : ℕ) (table : List LinkHeld) : Type 0 where
+pub record EmptyLinks (own bits firsts seconds : List ℕ) (k : ℕ) (table : List LinkHeld) : Type 0 where
   pub long : length table ≡ 256
   pub link-is : (j : ℕ) (d : LinkHeld) → j < k → getD table j d ≡ noCell (valueIn own bits (at firsts j) (at seconds j))
 

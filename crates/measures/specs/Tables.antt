@@ -11,7 +11,7 @@ use Rattle.areas.specs.Words.{word}
 use Rattle.label_table.specs.Table.{Table, OnlyOf}
 
 -- the regions of the links are different labels from 1 to n
-pub record Regions (regions : List ℕ) (links n : ℕ) : Type 0 where
+pub record LinkRegions (regions : List ℕ) (links n : ℕ) : Type 0 where
   pub few : links ≤ 256
   pub from : (k : ℕ) → k < links → 0 < at regions k
   pub to : (k : ℕ) → k < links → at regions k ≤ n
@@ -42,14 +42,14 @@ abbrev pub Cleared : List ℕ → List ℕ → ℕ → List ℕ → ℕ → ℕ 
 Cleared start work n regions links k = OnlyOf (Later regions links k) start n (4 * n) work
 
 -- what the table says of a label
-abbrev pub numberOf : List ℕ → ℕ → ℕ → ℕ
-numberOf work n r = cond (eqb r 0) 0 (u32At work (4 * n + 4 * (r - 1)))
+abbrev pub tableNumber : List ℕ → ℕ → ℕ → ℕ
+tableNumber work n r = cond (eqb r 0) 0 (u32At work (4 * n + 4 * (r - 1)))
 
 -- it has the number of each link's region, and of no other label
-pub record Numbered (work : List ℕ) (n : ℕ) (regions : List ℕ) (links : ℕ) : Type 0 where
+pub record RegionNumbers (work : List ℕ) (n : ℕ) (regions : List ℕ) (links : ℕ) : Type 0 where
   pub few : links ≤ 256
   pub room : 8 * n ≤ length work
   pub most : (i : ℕ) → i < n → word work i ≤ n
-  pub within : (r : ℕ) → r ≤ n → numberOf work n r ≤ links
-  pub named : (r : ℕ) → r ≤ n → 0 < numberOf work n r → at regions (numberOf work n r - 1) ≡ r
-  pub own : (k : ℕ) → k < links → numberOf work n (at regions k) ≡ k + 1
+  pub within : (r : ℕ) → r ≤ n → tableNumber work n r ≤ links
+  pub named : (r : ℕ) → r ≤ n → 0 < tableNumber work n r → at regions (tableNumber work n r - 1) ≡ r
+  pub own : (k : ℕ) → k < links → tableNumber work n (at regions k) ≡ k + 1

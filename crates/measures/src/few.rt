@@ -6,8 +6,8 @@ ghost use lib.ListN.{length};
 ghost use Rattle.areas.specs.Spans.{Sides};
 ghost use Rattle.areas.specs.Words.{labelsIn};
 ghost use Rattle.links.specs.HeldLimits.{limitsOf};
-ghost use Rattle.links.specs.HeldLink.{withCell};
-ghost use Rattle.measures.specs.Judging.{Plain, Ranks, Judged, AllCells};
+ghost use Rattle.links.specs.HeldLink.{linkWithCell};
+ghost use Rattle.measures.specs.Judging.{CoordinatesBounded, LinkEndsInside, Judged, AllCells};
 use crate::flat_mark;
 use crate::inside_mark;
 use crate::link_at;
@@ -22,7 +22,7 @@ use wire::read_u32;
 // With one cell more, if it is of the link's region.
 fn counted(link: Link, inside: bool, i: usize, width: u32, limits: Limits) -> Link
     requires { ⌜ (i < 1048576) × (0 < width) ⌝ }
-    ensures { λ r. ⌜ r ≡ cond inside (withCell (limitsOf limits) link (i % width) (i / width)) link ⌝ }
+    ensures { λ r. ⌜ r ≡ cond inside (linkWithCell (limitsOf limits) link (i % width) (i / width)) link ⌝ }
 {
     if !inside {
         return link;
@@ -69,7 +69,8 @@ pub fn measure_few(
     flat: &mut [u8; 256],
     inside: &mut [u8; 256],
 )
-    requires { ⌜ Sides width height × (length (now cells) ≡ width * height) × Plain (now own) (now bits) × Ranks (now firsts) (now seconds) links
+    requires { ⌜ Sides width height × (length (now cells) ≡ width * height) × CoordinatesBounded (now own) (now bits)
+        × LinkEndsInside (now firsts) (now seconds) links
         × (links ≤ 256) × (length (now cells) * 4 ≤ length (now work)) ⌝ }
     ensures { λ _. ⌜ Judged (limitsOf limits) (now (own .entry)) (now (bits .entry)) (now (regions .entry)) (now (firsts .entry)) (now (seconds .entry))
         (record { width = width; height = height; cells = now (cells .entry) }) (labelsIn (now (work .entry)) (length (now (cells .entry))))

@@ -11,8 +11,8 @@ ghost use Rattle.areas.specs.Words.{word, labelsIn};
 ghost use Rattle.links.specs.HeldLimits.{limitsOf};
 ghost use Rattle.links.specs.HeldLink.{noCell, measuredIn};
 ghost use Rattle.links.specs.Measure.{passing};
-ghost use Rattle.measures.specs.Tables.{Regions, Labels, Written, Numbered, numberOf};
-ghost use Rattle.measures.specs.Judging.{Plain, Ranks, valueIn, flatIn, Judged, Measured};
+ghost use Rattle.measures.specs.Tables.{LinkRegions, Labels, Written, RegionNumbers, tableNumber};
+ghost use Rattle.measures.specs.Judging.{CoordinatesBounded, LinkEndsInside, valueIn, flatIn, Judged, Measured};
 use areas::spans::span_at;
 use few::measure_few;
 use label_table::put_word;
@@ -32,7 +32,7 @@ fn flag(t: bool) -> u8
 
 // Gives the region of each link its number in the table.
 fn number_all(work: &mut [u8], n: usize, regions: &[u32; 256], links: u32)
-    requires { ⌜ (n ≤ 0x10_0000) × Labels (now work) n × Regions (now regions) links n ⌝ }
+    requires { ⌜ (n ≤ 0x10_0000) × Labels (now work) n × LinkRegions (now regions) links n ⌝ }
     ensures { λ _. ⌜ Written (now (work .entry)) (now (work .exit)) n (now (regions .entry)) links ⌝ }
 {
     let base = 4 * n;
@@ -45,7 +45,7 @@ fn number_all(work: &mut [u8], n: usize, regions: &[u32; 256], links: u32)
 
 // Takes the words of the links' regions back to 0.
 fn clear_all(work: &mut [u8], n: usize, regions: &[u32; 256], links: u32)
-    requires { ⌜ (n ≤ 0x10_0000) × (8 * n ≤ length (now work)) × Regions (now regions) links n ⌝ }
+    requires { ⌜ (n ≤ 0x10_0000) × (8 * n ≤ length (now work)) × LinkRegions (now regions) links n ⌝ }
     ensures { λ _. ⌜ ((start : List ℕ) → Labels start n → Written start (now (work .entry)) n (now (regions .entry)) links → now (work .exit) ≡ start) ⌝ }
 {
     let base = 4 * n;
@@ -59,7 +59,7 @@ fn clear_all(work: &mut [u8], n: usize, regions: &[u32; 256], links: u32)
 // What the table says of a cell's label: 0, or the number of a link and 1.
 fn number_at(work: &[u8], n: usize, i: usize) -> u32
     requires { ⌜ (i < n) × (n ≤ 0x10_0000) × (8 * n ≤ length (now work)) × (word (now work) i ≤ n) ⌝ }
-    ensures { λ r. ⌜ r ≡ numberOf (now (work .entry)) n (word (now (work .entry)) i) ⌝ }
+    ensures { λ r. ⌜ r ≡ tableNumber (now (work .entry)) n (word (now (work .entry)) i) ⌝ }
 {
     let label = read_u32(work, 4 * i);
     if label == 0 {
@@ -70,7 +70,7 @@ fn number_at(work: &[u8], n: usize, i: usize) -> u32
 
 // The link of two ranks, without a cell.
 fn link_at(own: &[u32; 1024], bits: &[u64; 256], first: u32, second: u32) -> Link
-    requires { ⌜ Plain (now own) (now bits) × (first < 256) × (second < 256) ⌝ }
+    requires { ⌜ CoordinatesBounded (now own) (now bits) × (first < 256) × (second < 256) ⌝ }
     ensures { λ r. ⌜ r ≡ noCell (valueIn (now (own .entry)) (now (bits .entry)) first second) ⌝ }
 {
     let i = size(first);
@@ -137,8 +137,9 @@ fn measure_all(
     flat: &mut [u8; 256],
     inside: &mut [u8; 256],
 )
-    requires { ⌜ Sides width height × (length (now cells) ≡ width * height) × Plain (now own) (now bits) × Ranks (now firsts) (now seconds) links
-        × Numbered (now work) (length (now cells)) (now regions) links ⌝ }
+    requires { ⌜ Sides width height × (length (now cells) ≡ width * height) × CoordinatesBounded (now own) (now bits)
+        × LinkEndsInside (now firsts) (now seconds) links
+        × RegionNumbers (now work) (length (now cells)) (now regions) links ⌝ }
     ensures { λ _. ⌜ Judged (limitsOf limits) (now (own .entry)) (now (bits .entry)) (now (regions .entry)) (now (firsts .entry)) (now (seconds .entry))
         (record { width = width; height = height; cells = now (cells .entry) }) (labelsIn (now (work .entry)) (length (now (cells .entry))))
         (length (now (cells .entry))) links (now (passing .exit)) (now (flat .exit)) (now (inside .exit)) ⌝ }
@@ -203,7 +204,7 @@ pub fn measure_links(
     inside: &mut [u8; 256],
 )
     requires { ⌜ Sides width height × (length (now cells) ≡ width * height) × Labels (now work) (length (now cells))
-        × Regions (now regions) links (length (now cells)) × Ranks (now firsts) (now seconds) links × Plain (now own) (now bits) ⌝ }
+        × LinkRegions (now regions) links (length (now cells)) × LinkEndsInside (now firsts) (now seconds) links × CoordinatesBounded (now own) (now bits) ⌝ }
     ensures work { λ _. ⌜ now (work .exit) ≡ now (work .entry) ⌝ }
     ensures marks { λ _. ⌜ Measured (limitsOf limits) (now (own .entry)) (now (bits .entry)) (now (regions .entry)) (now (firsts .entry)) (now (seconds .entry))
         (record { width = width; height = height; cells = now (cells .entry) }) (labelsIn (now (work .entry)) (length (now (cells .entry)))) links

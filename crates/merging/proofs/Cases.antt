@@ -20,7 +20,7 @@ use Rattle.length.specs.Total.{totalKey}
 use Rattle.merging.specs.Keys.{sourceKey, sourcesKey, observationKey}
 use Rattle.merging.specs.Copies.{canonObservation, canon, copiesOf}
 use Rattle.merging.specs.Consolidation.{orItself, observed, consolidate}
-use Rattle.merging.specs.Groups.{Group, Groups, noGroups, every, Good, WellGrouped}
+use Rattle.merging.specs.Groups.{Group, Groups, noGroups, allGroups, Good, WellGrouped}
 use Rattle.merging.specs.Kept.{noBoundary, copyAt, membersOf, consolidated, slot, kept}
 use Rattle.merging.specs.Runs.{reduceRun, groupsOf, keptOf, rulesAnswer}
 use Rattle.merging.specs.Follows.{Follows}
@@ -70,12 +70,14 @@ corridorKept = record {
 } ∷ []
 
 corridor-kept : keptOf firstTwo (reduceRun corridor) ≡ corridorKept
-unfolding keptOf groupsOf every kept slot consolidated consolidate membersOf observed orItself copiesOf canon canonObservation canonical posLe endsKey spanKey
+unfolding keptOf groupsOf allGroups kept slot consolidated consolidate membersOf observed orItself copiesOf canon canonObservation canonical posLe endsKey
+    spanKey
     sourceKey sourcesKey observationKey totalKey sort insert sortOnce include lexLe gather upFrom has
 corridor-kept = refl
 
 relisted-kept : keptOf firstTwo (reduceRun relisted) ≡ corridorKept
-unfolding keptOf groupsOf every kept slot consolidated consolidate membersOf observed orItself copiesOf canon canonObservation canonical posLe endsKey spanKey
+unfolding keptOf groupsOf allGroups kept slot consolidated consolidate membersOf observed orItself copiesOf canon canonObservation canonical posLe endsKey
+    spanKey
     sourceKey sourcesKey observationKey totalKey sort insert sortOnce include lexLe gather upFrom has
 relisted-kept = refl
 
@@ -93,7 +95,7 @@ none items = noGroups
 
 equal-ends : keptOf none (reduceRun (wide (span 8 8 8 0) 7 ∷ wide (span 0 0 0 8) 1 ∷ wide (span 8 0 8 8) 2 ∷ [])) ≡ wide (span 0 0 0 8) 1 ∷ wide (span 8 0 8 8)
     7 ∷ wide (span 8 0 8 8) 2 ∷ []
-unfolding keptOf groupsOf every kept slot copiesOf canon canonObservation canonical posLe endsKey spanKey sourceKey sourcesKey observationKey totalKey sort
+unfolding keptOf groupsOf allGroups kept slot copiesOf canon canonObservation canonical posLe endsKey spanKey sourceKey sourcesKey observationKey totalKey sort
     insert sortOnce include lexLe gather upFrom
 equal-ends = refl
 
@@ -122,7 +124,7 @@ twoPairs items = record { serial = record { ranks = 0 ∷ 3 ∷ []; retained = 3
 
 two-groups : map (λ (b : Boundary). b .bits)
     (keptOf twoPairs (reduceRun (wide (span 0 0 0 8) 1 ∷ wide (span 1 0 1 8) 2 ∷ wide (span 2 0 2 8) 3 ∷ wide (span 3 0 3 8) 4 ∷ []))) ≡ 2 ∷ 4 ∷ []
-unfolding keptOf groupsOf every kept slot consolidated consolidate copiesOf canon canonObservation canonical posLe endsKey spanKey sort insert lexLe gather
+unfolding keptOf groupsOf allGroups kept slot consolidated consolidate copiesOf canon canonObservation canonical posLe endsKey spanKey sort insert lexLe gather
     upFrom has
 two-groups = refl
 

@@ -17,7 +17,7 @@ use Rattle.format.specs.Values.{Boundary}
 use Rattle.topology.specs.Listing.{endsKey}
 use Rattle.merging.specs.Copies.{canon}
 use Rattle.merging.specs.Consolidation.{consolidate}
-use Rattle.merging.specs.Groups.{Group, Groups, noGroups, every, inAny, unmerged, WellGrouped}
+use Rattle.merging.specs.Groups.{Group, Groups, noGroups, allGroups, inAny, unmerged, WellGrouped}
 use Rattle.merging.specs.Kept.{copyAt, consolidated}
 use Rattle.merging.specs.Follows.{replaced}
 use Rattle.merging.specs.Merging.{isMember, taken, left, MergeStep, Merges, done, merge, MergeList}
@@ -27,19 +27,19 @@ use Rattle.merging.proofs.Groups.{retained-below, outside, any-false, w
 use Rattle.merging.proofs.Ends.{Unlike}
 use Rattle.merging.proofs.Merges.{member-canon, member-at, step, start, turned-round}
 
-pub first-list : (gs : Groups) → MergeList gs (every gs)
-unfolding every
+pub first-list : (gs : Groups) → MergeList gs (allGroups gs)
+unfolding allGroups
 first-list gs = record { first = gs .serial; second = gs .flat; whole = refl; serials = Permᴰ·refl (gs .serial); flats = Permᴰ·refl (gs .flat) }
 
 -- A list of merges names each group once.
-pub list-perm : {gs : Groups} {ms : List Group} → MergeList gs ms → List·Permᴰ ms (every gs)
-unfolding every
+pub list-perm : {gs : Groups} {ms : List Group} → MergeList gs ms → List·Permᴰ ms (allGroups gs)
+unfolding allGroups
 list-perm {gs} m = List·Permᴰ·trans (perm-eq (m .whole))
     (List·Permᴰ·trans (Permᴰ·append-right (m .second) (m .serials)) (Permᴰ·append-left (gs .serial) (m .flats)))
 
 -- "without such groups it is empty"
 pub empty-list : {ms : List Group} → MergeList noGroups ms → ms ≡ []
-unfolding every
+unfolding allGroups
 empty-list {ms} m = go ms (list-perm m)
   where
     go : (ms : List Group) → List·Permᴰ ms [] → ms ≡ []

@@ -10,7 +10,7 @@ use Rattle.format.specs.Values.{Boundary}
 use Rattle.format.specs.Encode.{encodeAnswer}
 use Rattle.topology.specs.Listing.{Item, listing}
 use Rattle.merging.specs.Copies.{copiesOf}
-use Rattle.merging.specs.Groups.{Groups, every, WellGrouped}
+use Rattle.merging.specs.Groups.{Groups, allGroups, WellGrouped}
 use Rattle.merging.specs.Runs.{Run, itemsOf, canonItem, groupsOf, keptOf, rulesAnswer}
 use Rattle.merging.specs.Follows.{Follows}
 use Rattle.merging.specs.Relisted.{Relisted, DistinctEnds}
@@ -23,9 +23,9 @@ use Rattle.merging.proofs.Merges.{merged-exact, finished}
 use Rattle.merging.proofs.Exists.{first-list, list-perm, steps}
 use Rattle.merging.proofs.Sources.{sources-canon, sources-perm, sources-refl, sources-sym, sources-trans, through, kept-sources}
 
-module _ (rules : List Item → Groups) (well : (items : List Item) → WellGrouped (length items) (every (rules items))) where
-  pub groups-well : (r : Run) → WellGrouped (length (copiesOf (r .boundaries))) (every (groupsOf rules r))
-  unfolding groupsOf every
+module _ (rules : List Item → Groups) (well : (items : List Item) → WellGrouped (length items) (allGroups (rules items))) where
+  pub groups-well : (r : Run) → WellGrouped (length (copiesOf (r .boundaries))) (allGroups (groupsOf rules r))
+  unfolding groupsOf allGroups
   groups-well r = by-cases (ℕ-discrete (length (r .boundaries)) (length (r .spans)))
       (λ e.
       let items = listing (map canonItem (itemsOf r)) in
@@ -33,18 +33,18 @@ module _ (rules : List Item → Groups) (well : (items : List Item) → WellGrou
       rw (eq-eqb (length (r .boundaries)) (length (r .spans)) e, ← n) (well items))
       (λ e. rw (ne-eqb (length (r .boundaries)) (length (r .spans)) e) (record { good = λ g m. absurd (List·Memᴰ·not-nil m); apart = none }))
 
-  -- Of every run.
-  pub kept-follows : (r : Run) → Follows (r .boundaries) (every (groupsOf rules r)) (keptOf rules r)
+  -- Of allGroups run.
+  pub kept-follows : (r : Run) → Follows (r .boundaries) (allGroups (groupsOf rules r)) (keptOf rules r)
   unfolding keptOf
-  kept-follows r = follows (r .boundaries) (every (groupsOf rules r)) (groups-well r)
+  kept-follows r = follows (r .boundaries) (allGroups (groupsOf rules r)) (groups-well r)
 
   -- And no other list follows them.
-  pub kept-only : (r : Run) (l : List Boundary) → Follows (r .boundaries) (every (groupsOf rules r)) l → l ≡ keptOf rules r
-  kept-only r l f = follows-unique (r .boundaries) (every (groupsOf rules r)) (groups-well r) f (kept-follows r)
+  pub kept-only : (r : Run) (l : List Boundary) → Follows (r .boundaries) (allGroups (groupsOf rules r)) l → l ≡ keptOf rules r
+  kept-only r l f = follows-unique (r .boundaries) (allGroups (groupsOf rules r)) (groups-well r) f (kept-follows r)
 
   pub run-sources : (r : Run) → SameSources (r .boundaries) (keptOf rules r)
   unfolding keptOf
-  run-sources r = kept-sources (r .boundaries) (every (groupsOf rules r)) (groups-well r)
+  run-sources r = kept-sources (r .boundaries) (allGroups (groupsOf rules r)) (groups-well r)
 
   same-kept : {a b : Run} → Pairs Unlike (a .boundaries) → Relisted a b → keptOf rules a ≡ keptOf rules b
   unfolding keptOf
@@ -55,7 +55,7 @@ module _ (rules : List Item → Groups) (well : (items : List Item) → WellGrou
   demand-three a b d h =
       let u = distinct-unlike d in
       let copies = copiesOf (b .boundaries) in
-      let gs = every (groupsOf rules b) in
+      let gs = allGroups (groupsOf rules b) in
       let sorted = copies-sorted (b .boundaries) in
       let apart = copies-apart (b .boundaries) (relisted-unlike h u) in
       let perm = copies-perm (b .boundaries) in

@@ -26,7 +26,7 @@ use Rattle.merging.specs.Consolidation.{consolidate}
 use Rattle.merging.specs.Groups.{Group, inAny, unmerged, Good, WellGrouped}
 use Rattle.merging.specs.Kept.{noBoundary, copyAt, membersOf, consolidated, kept}
 use Rattle.merging.specs.Follows.{replaced}
-use Rattle.merging.specs.Merging.{sameEnds, among, isMember, taken, left, MergeStep, Merges, done, merge, Exact}
+use Rattle.merging.specs.Merging.{sameEnds, among, isMember, taken, left, MergeStep, Merges, done, merge, WholeGroups}
 use Rattle.merging.proofs.Lists.{apart-told, perm-eq}
 use Rattle.merging.proofs.Copies.{key-canon}
 use Rattle.merging.proofs.Consolidation.{consolidate-canon, consolidate-perm}
@@ -158,8 +158,8 @@ module _ (copies : List Boundary) (unlike : Pairs Unlike copies) where
   run ds (merge {s = before} {g = g} {gs = gs} s more) inv w = run (g ∷ ds) more (step g ds (next-of g gs ds w) before inv s) w
 
   run-exact : (ds : List Group) {before after : List Boundary} {ms : List Group} (s : Merges copies before ms after)
-      → List·Permᴰ (map canon before) (replaced copies ds) → WellGrouped size (reverseAux ms ds) → Exact s
-  unfolding Exact
+      → List·Permᴰ (map canon before) (replaced copies ds) → WellGrouped size (reverseAux ms ds) → WholeGroups s
+  unfolding WholeGroups
   run-exact ds done inv w = tt
   run-exact ds (merge {s = before} {g = g} {gs = gs} s more) inv w =
       let n = next-of g gs ds w in
@@ -182,7 +182,7 @@ module _ (copies : List Boundary) (sorted : Sorted (byKey endsKey) copies) (unli
 
   module _ {before after : List Boundary} {ms : List Group} (p : List·Permᴰ ms gs) (b : List·Permᴰ (map canon before) copies)
       (s : Merges copies before ms after) where
-    pub merged-exact : Exact s
+    pub merged-exact : WholeGroups s
     merged-exact = run-exact copies unlike [] s (List·Permᴰ·trans b (start copies)) (well-perm (Permᴰ·symm (turned-round p)) well)
 
     merged-kept : List·Permᴰ (map canon after) (kept copies gs)

@@ -15,16 +15,16 @@ use Rattle.order.proofs.Sort.{sort-perm}
 use Rattle.position.specs.Order.{posLe, swapped, canonical}
 use Rattle.position.specs.declared.Span.{Span}
 use Rattle.format.specs.Values.{Boundary}
-use Rattle.format.specs.Fits.{SpanFits, SourceFits}
+use Rattle.format.specs.Fits.{SpanEncodable, SourceFits}
 use Rattle.format.specs.declared.records.Source.{Source}
 use Rattle.topology.specs.Listing.{spanKey, endsKey}
 use Rattle.merging.specs.Keys.{sourceKey, sourcesKey}
 
-pub canonical-fits : (s : Span) → SpanFits s → SpanFits (canonical s)
+pub canonical-fits : (s : Span) → SpanEncodable s → SpanEncodable (canonical s)
 unfolding canonical
 canonical-fits s f = go (posLe (s .a) (s .b))
   where
-    go : (t : Bool) → SpanFits (cond t s (swapped s))
+    go : (t : Bool) → SpanEncodable (cond t s (swapped s))
     go true = f
     go false = record { a = f .b; b = f .a }
 
@@ -38,7 +38,7 @@ abbrev pub packSource : Source → ℕ
 packSource s = pack (s .from) (s .to)
 
 -- two spans, whatever follows
-pub span-packed : (s t : Span) (l m : List ℕ) → SpanFits s → SpanFits t
+pub span-packed : (s t : Span) (l m : List ℕ) → SpanEncodable s → SpanEncodable t
     → lexLe (spanKey s ++ l) (spanKey t ++ m) ≡ lexLe (packFirst s ∷ packSecond s ∷ l) (packFirst t ∷ packSecond t ∷ m)
 unfolding spanKey
 span-packed s t l m f g =
@@ -46,7 +46,7 @@ span-packed s t l m f g =
     ∙ lex-behind (packFirst s) (packFirst t) (s .b .x ∷ s .b .y ∷ l) (t .b .x ∷ t .b .y ∷ m) (packSecond s ∷ l) (packSecond t ∷ m)
     (lex-pack (s .b .x) (s .b .y) (t .b .x) (t .b .y) l m (f .b .y) (g .b .y))
 
-pub ends-packed : (b c : Boundary) → SpanFits (b .ends) → SpanFits (c .ends)
+pub ends-packed : (b c : Boundary) → SpanEncodable (b .ends) → SpanEncodable (c .ends)
     → lexLe (endsKey b) (endsKey c)
     ≡ lexLe (packFirst (canonical (b .ends)) ∷ packSecond (canonical (b .ends)) ∷ []) (packFirst (canonical (c .ends)) ∷ packSecond (canonical (c .ends)) ∷ [])
 unfolding endsKey spanKey

@@ -17,8 +17,8 @@ pub record Groups : Type 0 where
 abbrev pub noGroups : Groups
 noGroups = record { serial = []; flat = [] }
 
-unfoldable pub every : Groups → List Group
-every gs = gs .serial ++ gs .flat
+unfoldable pub allGroups : Groups → List Group
+allGroups gs = gs .serial ++ gs .flat
 
 -- The rank is in one of the groups.
 unfoldable pub inAny : List Group → ℕ → Bool

@@ -64,6 +64,6 @@ Throughout P (done {s = s}) = P s
 Throughout P (merge {s = s} step more) = P s × Throughout P more
 
 -- Every merge takes its group's members, whole.
-unfoldable pub Exact : {copies before after : List Boundary} {ms : List Group} → Merges copies before ms after → Type 0
-Exact done = Unit {0}
-Exact {copies = copies} (merge {s = s} {g = g} step more) = List·Permᴰ (map canon (taken copies g s)) (membersOf copies g) × Exact more
+unfoldable pub WholeGroups : {copies before after : List Boundary} {ms : List Group} → Merges copies before ms after → Type 0
+WholeGroups done = Unit {0}
+WholeGroups {copies = copies} (merge {s = s} {g = g} step more) = List·Permᴰ (map canon (taken copies g s)) (membersOf copies g) × WholeGroups more

@@ -11,7 +11,7 @@ use Rattle.format.specs.Values.{Boundary}
 use Rattle.format.specs.Encode.{encodeAnswer}
 use Rattle.topology.specs.Listing.{Item, listing}
 use Rattle.merging.specs.Copies.{canon, copiesOf}
-use Rattle.merging.specs.Groups.{Groups, noGroups, every}
+use Rattle.merging.specs.Groups.{Groups, noGroups, allGroups}
 use Rattle.merging.specs.Kept.{kept}
 
 -- The boundaries as they are listed, and the spans that the run partitions by.
@@ -44,7 +44,7 @@ module _ (rules : List Item → Groups) where
   groupsOf r = cond (eqb (length (r .boundaries)) (length (r .spans))) (rules (listing (map canonItem (itemsOf r)))) noGroups
 
   unfoldable pub keptOf : Run → List Boundary
-  keptOf r = kept (copiesOf (r .boundaries)) (every (groupsOf r))
+  keptOf r = kept (copiesOf (r .boundaries)) (allGroups (groupsOf r))
 
   unfoldable pub rulesAnswer : Run → List ℕ
   rulesAnswer r = encodeAnswer (keptOf r)

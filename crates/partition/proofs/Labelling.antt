@@ -19,8 +19,8 @@ use Rattle.areas.specs.Spans.{Sides}
 use Rattle.areas.proofs.Areas.{area-labels-length}
 use Rattle.areas.proofs.OpenLabels.{open-among, open-labels, open-count}
 use Rattle.components.specs.Dues.{dues}
-use Rattle.components.specs.Joining.{Sound}
-use Rattle.components.specs.Numbered.{Numbered}
+use Rattle.components.specs.Joining.{OpenBytesSound}
+use Rattle.components.specs.Numbered.{ComponentLabels}
 use Rattle.components.proofs.DueLaws.{dues-long}
 use Rattle.components.proofs.LabelWords.{bytes-length, sound-of}
 use Rattle.partition.specs.Partitioned.{AreasIn}
@@ -78,11 +78,12 @@ module _ (dirs : List ℕ) (g : Grid) (ss : List Span) (base : ℕ) (w : List �
         ∙ (splice-same m (base + size g) ds fits ∙ ap (dues (g .width)) (sym open-kept)))
 
   module _ (each : (d : ℕ) → List·Memᴰ d dirs → IsDirection d) {m : List ℕ} (h : Marked dirs g ss base w m) where
-    pub marked-sound : Sound (g .cells) (g .width) (part m base (size g))
-    marked-sound = subst (Sound (g .cells) (g .width)) (sym (h .bytes)) (sound-of g (g .width) (rows (size g) (openByte dirs g ss)) (open-among dirs g ss each))
+    pub marked-sound : OpenBytesSound (g .cells) (g .width) (part m base (size g))
+    marked-sound = subst (OpenBytesSound (g .cells) (g .width)) (sym (h .bytes))
+        (sound-of g (g .width) (rows (size g) (openByte dirs g ss)) (open-among dirs g ss each))
 
     module _ {w′ : List ℕ} {r : ℕ}
-        (numbered : (i : Grid) → i .cells ≡ g .cells → Numbered (size g) (walkable i) (named (g .width) (part m base (size g))) m w′ r) where
+        (numbered : (i : Grid) → i .cells ≡ g .cells → ComponentLabels (size g) (walkable i) (named (g .width) (part m base (size g))) m w′ r) where
       abbrev flat : List ℕ
       flat = flatMap u32Bytes (areaLabels dirs g ss)
 

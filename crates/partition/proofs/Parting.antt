@@ -19,7 +19,7 @@ use Rattle.areas.proofs.Records.{records-iff}
 use Rattle.areas.specs.Words.{labelsIn, labelled}
 use Rattle.components.proofs.LabelWords.{area-count-few, area-labels-read}
 use Rattle.assessments.specs.Recording.{assessed, recordsOf, Recorded}
-use Rattle.partition.specs.Partitioned.{AreasIn, Regions, Partitioned}
+use Rattle.partition.specs.Partitioned.{AreasIn, RegionsInUse, Partitioned}
 use Rattle.partition.proofs.Labelling.{flat-long}
 
 -- written over nothing
@@ -38,7 +38,7 @@ module _ (dirs : List ℕ) (g : Grid) (few : size g ≤ 1048576) where
       ∙ area-labels-read dirs g ss few []
 
   -- a record is of a span of the list, and between two areas
-  record-in : (ss : List Span) (d : Span) (r : Record) → List·Memᴰ r (records dirs g ss) → (r .owner < length ss) × Regions (size g) (r .left) (r .right)
+  record-in : (ss : List Span) (d : Span) (r : Record) → List·Memᴰ r (records dirs g ss) → (r .owner < length ss) × RegionsInUse (size g) (r .left) (r .right)
   record-in ss d r m =
       let k = records-iff dirs g ss d r .0 m in
       let q = pair-labels dirs g ss _ (regionsOf r) (k .1) in
@@ -92,7 +92,7 @@ module _ (dirs : List ℕ) (g : Grid) (few : size g ≤ 1048576) (ends : List �
   spans-long = length-rows count (spanIn ends)
 
   -- record k of the arrays
-  at-place : length rs ≤ most → (k : ℕ) → k < r → (getD owners k 0 < count) × Regions (size g) (getD lefts k 0) (getD rights k 0)
+  at-place : length rs ≤ most → (k : ℕ) → k < r → (getD owners k 0 < count) × RegionsInUse (size g) (getD lefts k 0) (getD rights k 0)
   unfolding recordsIn
   at-place h k l =
       let here : Record = recordIn owners lefts rights k in

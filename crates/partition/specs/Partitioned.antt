@@ -31,7 +31,7 @@ pub record AreasIn (dirs : List ℕ) (g : Grid) (ss : List Span) (before work : 
   pub total : r ≡ areaCount dirs g ss
 
 -- two different labels in use, the lower one first
-pub record Regions (n left right : ℕ) : Type 0 where
+pub record RegionsInUse (n left right : ℕ) : Type 0 where
   pub some : 0 < left
   pub apart : left < right
   pub most : right ≤ n
@@ -51,4 +51,4 @@ pub record Partitioned (most : ℕ) (dirs : List ℕ) (g : Grid) (ends : List �
   pub separated-are : length (records dirs g (spansIn ends count)) ≤ most → (i : ℕ) → i < count →
       getD separated i 0 ≡ assess dirs g (spansIn ends count) (spanIn ends i) .separated
   pub owners-few : length (records dirs g (spansIn ends count)) ≤ most → (k : ℕ) → k < p .pairs → getD owners k 0 < count
-  pub regions : length (records dirs g (spansIn ends count)) ≤ most → (k : ℕ) → k < p .pairs → Regions (size g) (getD lefts k 0) (getD rights k 0)
+  pub regions : length (records dirs g (spansIn ends count)) ≤ most → (k : ℕ) → k < p .pairs → RegionsInUse (size g) (getD lefts k 0) (getD rights k 0)

@@ -17,7 +17,7 @@ use Rattle.links.specs.Geometry.{centreDistance}
 use Rattle.groups.specs.Tests.{every}
 use Rattle.groups.specs.Flat.{leastFlatSpans}
 use Rattle.plan.specs.declared.few.Few.{Few}
-use Rattle.plan.specs.Few.{held, slot, listed}
+use Rattle.plan.specs.Few.{fewOf, fewAt, fewList}
 use Rattle.plan.specs.Arrays.{isOn}
 use Rattle.plan.specs.Shape.{degreeIn, endsIn, regularIn, outerIn, pathIn, chainIn, allAlikeIn}
 use Rattle.plan.specs.Told.{serialIn, flatIn}
@@ -25,8 +25,9 @@ use Rattle.plan.proofs.ShapeLaws.{listed-length, held-count, held-first
 use Rattle.plan.proofs.ValueLaws.{both}
 
 -- what holds of the ranks holds of the ends
-pub ends-slots : (P : ℕ → Type 0) (firsts seconds js : List ℕ) (f : Few) {e : Few} → e ≡ held (endsIn firsts seconds (listed f) js) → ((j : ℕ) → P (slot f j))
-    → P 0 → (j : ℕ) → P (slot e j)
+pub ends-slots : (P : ℕ → Type 0) (firsts seconds js : List ℕ) (f : Few) {e : Few} → e ≡ fewOf (endsIn firsts seconds (fewList f) js)
+    → ((j : ℕ) → P (fewAt f j))
+    → P 0 → (j : ℕ) → P (fewAt e j)
 unfolding endsIn
 ends-slots P firsts seconds js f e h z = kept-slots P (λ i. eqb (degreeIn firsts seconds js i) 1) f e h z
 
@@ -35,32 +36,32 @@ module _ (lowers highers regions firsts seconds : List ℕ) (least most : ℕ) w
   tests a m n k r o u = (a && ((eqb m n && eqb k 2) && r)) && not (eqb o u)
 
   pub path-as : (f g : Few) {a r : Bool} {e : Few} {o u x y : ℕ} → a ≡ leb least (f .count) && leb (f .count) most
-      → e ≡ held (endsIn firsts seconds (listed f) (listed g)) → r ≡ regularIn firsts seconds (listed f) (listed g) →
-      x ≡ slot e 0 → y ≡ slot e 1 → o ≡ outerIn lowers highers regions firsts seconds (listed g) x
-      → u ≡ outerIn lowers highers regions firsts seconds (listed g) y →
-      tests a (g .count + 1) (f .count) (e .count) r o u ≡ pathIn lowers highers regions firsts seconds least most (listed f) (listed g)
+      → e ≡ fewOf (endsIn firsts seconds (fewList f) (fewList g)) → r ≡ regularIn firsts seconds (fewList f) (fewList g) →
+      x ≡ fewAt e 0 → y ≡ fewAt e 1 → o ≡ outerIn lowers highers regions firsts seconds (fewList g) x
+      → u ≡ outerIn lowers highers regions firsts seconds (fewList g) y →
+      tests a (g .count + 1) (f .count) (e .count) r o u ≡ pathIn lowers highers regions firsts seconds least most (fewList f) (fewList g)
   unfolding pathIn
   path-as f g {a} {r} {e} {o} {u} {x} {y} ea ee er ex ey eo eu =
       ap (λ (t : Bool). tests t (g .count + 1) (f .count) (e .count) r o u) ea
       ∙ (ap (λ (n : ℕ). tests (leb least n && leb n most) (g .count + 1) n (e .count) r o u) (sym (listed-length f))
       ∙ (ap (λ (m : ℕ). tests (leb least n && leb n most) m n (e .count) r o u) (add-one (g .count) ∙ ap suc (sym (listed-length g)))
-      ∙ (ap (λ (k : ℕ). tests (leb least n && leb n most) (suc (length (listed g))) n k r o u) (held-count es ee)
-      ∙ (ap (λ (t : Bool). tests (leb least n && leb n most) (suc (length (listed g))) n (length es) t o u) er
-      ∙ (ap (λ (t : ℕ). tests (leb least n && leb n most) (suc (length (listed g))) n (length es) whole t u) (eo ∙ ap out (ex ∙ held-first es ee))
-      ∙ ap (λ (t : ℕ). tests (leb least n && leb n most) (suc (length (listed g))) n (length es) whole (out (getD es 0 0)) t)
+      ∙ (ap (λ (k : ℕ). tests (leb least n && leb n most) (suc (length (fewList g))) n k r o u) (held-count es ee)
+      ∙ (ap (λ (t : Bool). tests (leb least n && leb n most) (suc (length (fewList g))) n (length es) t o u) er
+      ∙ (ap (λ (t : ℕ). tests (leb least n && leb n most) (suc (length (fewList g))) n (length es) whole t u) (eo ∙ ap out (ex ∙ held-first es ee))
+      ∙ ap (λ (t : ℕ). tests (leb least n && leb n most) (suc (length (fewList g))) n (length es) whole (out (getD es 0 0)) t)
       (eu ∙ ap out (ey ∙ held-second es ee)))))))
     where
       n : ℕ
-      n = length (listed f)
+      n = length (fewList f)
 
       es : List ℕ
-      es = endsIn firsts seconds (listed f) (listed g)
+      es = endsIn firsts seconds (fewList f) (fewList g)
 
       whole : Bool
-      whole = regularIn firsts seconds (listed f) (listed g)
+      whole = regularIn firsts seconds (fewList f) (fewList g)
 
       out : ℕ → ℕ
-      out = outerIn lowers highers regions firsts seconds (listed g)
+      out = outerIn lowers highers regions firsts seconds (fewList g)
 
   -- how many ranks and links a path has: two ranks at least, for it has two ends
   pub path-sizes : (rs js : List ℕ) → pathIn lowers highers regions firsts seconds least most rs js ≡ true

@@ -18,8 +18,8 @@ use Rattle.groups.specs.Regions.{bridgeAt}
 use Rattle.groups.specs.Links.{LinkAt}
 use Rattle.groups.specs.Serial.{serialLinks}
 use Rattle.groups.specs.Flat.{isLeft, alike, isFlatLink, flatLinks}
-use Rattle.groups.specs.Tables.{Linked, Bridged}
-use Rattle.plan.specs.Arrays.{isOn, Ranked, Filled}
+use Rattle.groups.specs.Tables.{LinkTable, Bridged}
+use Rattle.plan.specs.Arrays.{isOn, LinkRanks, FirstAre}
 use Rattle.plan.specs.Shape.{bothOn, alikeIn, flatLinkIn}
 use Rattle.plan.specs.Told.{FlatInside}
 use Rattle.plan.proofs.WholeLaws.{chosenLinks, on-mark}
@@ -30,12 +30,12 @@ pair : {a b c d : Bool} → a ≡ c → b ≡ d → a && b ≡ c && d
 pair {b = b} {c = c} p q = ap (λ (t : Bool). t && b) p ∙ ap (λ (t : Bool). c && t) q
 
 module _ {dirs : List ℕ} {g : Grid} {anchors : List WalkPosition} {l : List Item} {regions firsts seconds : List ℕ} {n : ℕ}
-    (linked : Linked dirs g anchors l regions firsts seconds n)
-    (ranked : Ranked (length l) firsts seconds n) where
-  on-chosen : (t : ℕ → Bool) {chosen : List ℕ} → Filled (λ k. cond (t k) 1 0) n chosen → (k : ℕ) → k < n → isOn chosen k ≡ t k
+    (linked : LinkTable dirs g anchors l regions firsts seconds n)
+    (ranked : LinkRanks (length l) firsts seconds n) where
+  on-chosen : (t : ℕ → Bool) {chosen : List ℕ} → FirstAre (λ k. cond (t k) 1 0) n chosen → (k : ℕ) → k < n → isOn chosen k ≡ t k
   on-chosen t {chosen} p k h = ap (λ (x : ℕ). eqb x 1) (p .each k h) ∙ on-mark (t k)
 
-  pub serial-chosen : {marks chosen : List ℕ} → Bridged dirs g l marks → Filled (λ k. cond (bothOn marks (at firsts k) (at seconds k)) 1 0) n chosen →
+  pub serial-chosen : {marks chosen : List ℕ} → Bridged dirs g l marks → FirstAre (λ k. cond (bothOn marks (at firsts k) (at seconds k)) 1 0) n chosen →
       serialLinks dirs g anchors l ≡ chosenLinks regions firsts seconds chosen n
   unfolding serialLinks
   serial-chosen {marks} {chosen} bridged p =
@@ -49,7 +49,7 @@ module _ {dirs : List ℕ} {g : Grid} {anchors : List WalkPosition} {l : List It
   pub flat-chosen : {limits : Limits} {flat chosen : List ℕ} (own into : List ℕ) (few : length l ≤ 256)
       → FlatInside limits dirs g l regions firsts seconds flat n → ((i : ℕ) → i < length l → endsAt l i ≡ spanIn own i) →
       ((i : ℕ) → i < length l → at into i ≡ serialGoes limits dirs g anchors l few i) →
-      Filled (λ k. cond (flatLinkIn limits own into (at flat k) (at firsts k) (at seconds k)) 1 0) n chosen
+      FirstAre (λ k. cond (flatLinkIn limits own into (at flat k) (at firsts k) (at seconds k)) 1 0) n chosen
       → flatLinks limits dirs g anchors l ≡ chosenLinks regions firsts seconds chosen n
   unfolding flatLinks isFlatLink
   flat-chosen {limits} {flat} {chosen} own into few inner ends goes p =

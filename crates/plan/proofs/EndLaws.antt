@@ -12,24 +12,25 @@ use Rattle.topology.specs.Listing.{Item}
 use Rattle.groups.specs.Links.{LinkAt}
 use Rattle.groups.specs.Serial.{acceptsSerial}
 use Rattle.groups.specs.Flat.{acceptsFlat}
-use Rattle.groups.specs.Tables.{Linked, Bridged}
+use Rattle.groups.specs.Tables.{LinkTable, Bridged}
 use Rattle.groups.specs.Plan.{mergePlan}
-use Rattle.plan.specs.Arrays.{Ranked, Filled}
+use Rattle.plan.specs.Arrays.{LinkRanks, FirstAre}
 use Rattle.plan.specs.Shape.{bothOn, flatLinkIn}
-use Rattle.plan.specs.Told.{Told, Passed, FlatInside}
+use Rattle.plan.specs.Told.{BoundaryTables, Passed, FlatInside}
 use Rattle.plan.specs.Into.{serialInto, flatInto, goesTo}
-use Rattle.plan.specs.Planning.{Parted}
+use Rattle.plan.specs.Planning.{LinkComponents}
 use Rattle.plan.proofs.GoesLaws.{serial-into, flat-into}
 use Rattle.plan.proofs.MergeLaws.{goesBy, serialGoes, flatGoes, plan-goes}
 use Rattle.plan.proofs.ChosenLaws.{serial-chosen, flat-chosen}
 
 module _ (limits : Limits) {dirs : List ℕ} {g : Grid} {anchors : List WalkPosition} {l : List Item} {own bits lowers highers regions firsts seconds : List ℕ}
     {count : ℕ}
-    (few : length l ≤ 256) (told : Told dirs g l (length l) own bits lowers highers) (linked : Linked dirs g anchors l regions firsts seconds count)
-    (ranked : Ranked (length l) firsts seconds count) where
+    (few : length l ≤ 256) (told : BoundaryTables dirs g l (length l) own bits lowers highers)
+    (linked : LinkTable dirs g anchors l regions firsts seconds count)
+    (ranked : LinkRanks (length l) firsts seconds count) where
   pub serial-goes : {marks passing chosen parts joined into : List ℕ} → Bridged dirs g l marks → Passed limits dirs g l regions firsts seconds passing count →
-      Filled (λ k. cond (bothOn marks (at firsts k) (at seconds k)) 1 0) count chosen → Parted chosen firsts seconds count parts joined →
-      Filled (serialInto limits (length l) own bits lowers highers regions firsts seconds count passing chosen joined parts) (length l) into →
+      FirstAre (λ k. cond (bothOn marks (at firsts k) (at seconds k)) 1 0) count chosen → LinkComponents chosen firsts seconds count parts joined →
+      FirstAre (serialInto limits (length l) own bits lowers highers regions firsts seconds count passing chosen joined parts) (length l) into →
       0 < length l → (i : ℕ) → i < length l → at into i ≡ serialGoes limits dirs g anchors l few i
   serial-goes {passing = passing} {chosen} bridged passed selected p filled some i h =
       filled .each i h
@@ -38,9 +39,9 @@ module _ (limits : Limits) {dirs : List ℕ} {g : Grid} {anchors : List WalkPosi
 
   pub flat-goes : {flat chosen parts joined into : List ℕ} (serial : List ℕ) → FlatInside limits dirs g l regions firsts seconds flat count →
       ((i : ℕ) → i < length l → at serial i ≡ serialGoes limits dirs g anchors l few i) →
-      Filled (λ k. cond (flatLinkIn limits own serial (at flat k) (at firsts k) (at seconds k)) 1 0) count chosen
-      → Parted chosen firsts seconds count parts joined →
-      Filled (flatInto limits (length l) own bits lowers highers regions firsts seconds count chosen joined parts) (length l) into →
+      FirstAre (λ k. cond (flatLinkIn limits own serial (at flat k) (at firsts k) (at seconds k)) 1 0) count chosen
+      → LinkComponents chosen firsts seconds count parts joined →
+      FirstAre (flatInto limits (length l) own bits lowers highers regions firsts seconds count chosen joined parts) (length l) into →
       (i : ℕ) → i < length l → at into i ≡ flatGoes limits dirs g anchors l few i
   flat-goes {chosen = chosen} serial inner goes selected p filled i h =
       filled .each i h

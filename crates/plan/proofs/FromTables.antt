@@ -6,7 +6,7 @@ use Prim.Native.Nat.{ℕ, _<_}
 use native.Mathlib.Omega.{arith}
 use lib.Dec.{eqb}
 use lib.ListN.{length, getD}
-use Rattle.areas.specs.Assessments.{pairOf}
+use Rattle.areas.specs.Assessments.{regionPair}
 use Rattle.order.proofs.Members.{getD-mem}
 use Rattle.lists.specs.Rows.{at, rows}
 use Rattle.lists.proofs.Rows.{length-rows, rows-at}
@@ -20,27 +20,28 @@ use Rattle.groups.specs.Regions.{assessAt}
 use Rattle.groups.specs.Links.{LinkAt, links, IsLink}
 use Rattle.groups.specs.Measuring.{passes, staysInside}
 use Rattle.groups.specs.Flat.{isFlat}
-use Rattle.groups.specs.Tables.{Boundaries, FirstPairs, linkRow, linksIn, Linked}
+use Rattle.groups.specs.Tables.{Boundaries, FirstPairs, linkRow, linksIn, LinkTable}
 use Rattle.groups.proofs.Links.{link-iff}
-use Rattle.plan.specs.Arrays.{Ranked}
-use Rattle.plan.specs.Told.{Told, Passed, FlatInside}
-use Rattle.plan.specs.Fitting.{Plannable}
+use Rattle.plan.specs.Arrays.{LinkRanks}
+use Rattle.plan.specs.Told.{BoundaryTables, Passed, FlatInside}
+use Rattle.plan.specs.Fitting.{RankedLinks}
 use Rattle.plan.proofs.WholeLaws.{on-mark}
 
 module _ {l : List Item} {own bits ramps : List ℕ} (b : Boundaries l own bits ramps) where
   pub told : {dirs : List ℕ} {g : Grid} {counts lowers highers : List ℕ} → FirstPairs dirs g l counts lowers highers → {n : ℕ} → length l ≡ n
-      → Told dirs g l n own bits lowers highers
+      → BoundaryTables dirs g l n own bits lowers highers
   told {dirs} {g} {lowers = lowers} p e = record {
     size = e;
     ends = λ i h. b .ends i (omega (arith, e));
     widths = λ i h. b .widths i (omega (arith, e));
     pairs = λ i h.
         let k : i < length l = omega (arith, e) in
-        ap (λ (x : ℕ). pairOf x (fullPair (assessAt dirs g l i) .higher)) (sym (p .lower-is i k)) ∙ ap (pairOf (at lowers i)) (sym (p .higher-is i k));
+        ap (λ (x : ℕ). regionPair x (fullPair (assessAt dirs g l i) .higher)) (sym (p .lower-is i k)) ∙ ap (regionPair (at lowers i)) (sym (p .higher-is i k));
   }
 
   -- the links may be of any two ranks
-  pub plannable : {n : ℕ} → length l ≡ n → {firsts seconds : List ℕ} {count : ℕ} → Ranked n firsts seconds count → Plannable n own bits firsts seconds count
+  pub plannable : {n : ℕ} → length l ≡ n → {firsts seconds : List ℕ} {count : ℕ} → LinkRanks n firsts seconds count
+      → RankedLinks n own bits firsts seconds count
   plannable e r = record {
     few = omega (arith, b .few, e);
     ranked = r;
@@ -52,7 +53,7 @@ module _ {l : List Item} {own bits ramps : List ℕ} (b : Boundaries l own bits 
 
 -- links join ranks of the listing
 module _ {dirs : List ℕ} {g : Grid} {anchors : List WalkPosition} {l : List Item} {regions firsts seconds : List ℕ} {count : ℕ}
-    (linked : Linked dirs g anchors l regions firsts seconds count) where
+    (linked : LinkTable dirs g anchors l regions firsts seconds count) where
   pub is-link : (k : ℕ) → k < count → IsLink dirs g anchors l (linkRow regions firsts seconds k)
   unfolding linksIn
   is-link k h = link-iff dirs g anchors l (linkRow regions firsts seconds k) .0 (subst (List·Memᴰ (linkRow regions firsts seconds k)) (linked .all) member)
@@ -64,7 +65,7 @@ module _ {dirs : List ℕ} {g : Grid} {anchors : List WalkPosition} {l : List It
       member = subst (λ (x : LinkAt). List·Memᴰ x (rows count row)) (rows-at count row k (row 0) h)
           (getD-mem (rows count row) (row 0) k (omega (arith, length-rows count row)))
 
-  pub ranked : {n : ℕ} → length l ≡ n → Ranked n firsts seconds count
+  pub ranked : {n : ℕ} → length l ≡ n → LinkRanks n firsts seconds count
   ranked e = record {
     few = linked .most;
     first-in = λ k h. omega (arith, is-link k h .rising, is-link k h .below, e);

@@ -9,20 +9,20 @@ use Rattle.lists.specs.Rows.{at, rows}
 use Rattle.order.specs.Lists.{keep, upFrom}
 use Rattle.order.proofs.Keep.{keep-mem, keep-map}
 use Rattle.order.proofs.Numbers.{up-mem}
-use Rattle.graph.specs.Parts.{part}
+use Rattle.graph.specs.Parts.{componentOf}
 use Rattle.position.specs.declared.WalkPosition.{WalkPosition}
 use Rattle.grid.specs.Cells.{Grid}
 use Rattle.topology.specs.Listing.{Item}
 use Rattle.links.specs.Limits.{Limits}
 use Rattle.groups.specs.Links.{LinkAt, links}
-use Rattle.groups.specs.Groups.{Group, linkEdges, isJoined, groupAt}
+use Rattle.groups.specs.Groups.{LinkGroup, linkEdges, isJoined, groupAt}
 use Rattle.groups.specs.Serial.{acceptsSerial}
 use Rattle.groups.specs.Flat.{acceptsFlat}
 use Rattle.groups.specs.Representative.{retained}
-use Rattle.groups.specs.Tables.{linkRow, linksIn, Linked}
-use Rattle.plan.specs.Arrays.{isOn, chosenFrom, partFrom, joinedFrom, inPart, linkIn, ranksIn, numbersIn, Ranked, Filled}
+use Rattle.groups.specs.Tables.{linkRow, linksIn, LinkTable}
+use Rattle.plan.specs.Arrays.{isOn, chosenFrom, partFrom, joinedFrom, inPart, linkInPart, ranksIn, numbersIn, LinkRanks, FirstAre}
 use Rattle.plan.specs.Shape.{retainedIn}
-use Rattle.plan.specs.Told.{Told, Passed, serialIn, flatIn}
+use Rattle.plan.specs.Told.{BoundaryTables, Passed, serialIn, flatIn}
 use Rattle.plan.specs.Into.{serialInto, flatInto}
 use Rattle.plan.proofs.GroupLaws.{retained-by, flat-is, serial-is}
 use Rattle.plan.proofs.WholeLaws.{chosenLinks, part-by, joined-by, on-mark, group-by}
@@ -42,7 +42,7 @@ rows-up {A} (suc n) a h f e =
 
 -- the links that pass a test are the chosen ones
 pub chosen-are : {dirs : List ℕ} {g : Grid} {anchors : List WalkPosition} {l : List Item} {regions firsts seconds : List ℕ} {n : ℕ} (chosen : List ℕ)
-    (t : LinkAt → Bool) → Linked dirs g anchors l regions firsts seconds n →
+    (t : LinkAt → Bool) → LinkTable dirs g anchors l regions firsts seconds n →
     ((k : ℕ) → k < n → t (linkRow regions firsts seconds k) ≡ isOn chosen k) → keep t (links dirs g anchors l) ≡ chosenLinks regions firsts seconds chosen n
 unfolding chosenFrom linksIn
 chosen-are {regions = regions} {firsts} {seconds} {n} chosen t linked e =
@@ -52,10 +52,10 @@ chosen-are {regions = regions} {firsts} {seconds} {n} chosen t linked e =
     ∙ keep-map (linkRow regions firsts seconds) t (isOn chosen) (upFrom 0 n) (λ k m. e k (omega (arith, up-mem 0 n m)))
 
 module _ (limits : Limits) {dirs : List ℕ} {g : Grid} {l : List Item} {n : ℕ} {own bits lowers highers : List ℕ}
-    (told : Told dirs g l n own bits lowers highers)
-    (regions firsts seconds chosen : List ℕ) (count : ℕ) (few : n ≤ 256) (ranked : Ranked n firsts seconds count) {parts joined : List ℕ}
-    (parted : Filled (partFrom chosen firsts seconds 0 count) 256 parts)
-    (marked : Filled (λ i. cond (joinedFrom chosen firsts seconds 0 count i) 1 0) 256 joined) where
+    (told : BoundaryTables dirs g l n own bits lowers highers)
+    (regions firsts seconds chosen : List ℕ) (count : ℕ) (few : n ≤ 256) (ranked : LinkRanks n firsts seconds count) {parts joined : List ℕ}
+    (parted : FirstAre (partFrom chosen firsts seconds 0 count) 256 parts)
+    (marked : FirstAre (λ i. cond (joinedFrom chosen firsts seconds 0 count i) 1 0) 256 joined) where
   abbrev ks : List LinkAt
   ks = chosenLinks regions firsts seconds chosen count
 
@@ -64,28 +64,29 @@ module _ (limits : Limits) {dirs : List ℕ} {g : Grid} {l : List Item} {n : ℕ
       ap (λ (x : ℕ). eqb x 1) (marked .each i (omega arith))
       ∙ (on-mark (joinedFrom chosen firsts seconds 0 count i) ∙ sym (joined-by regions firsts seconds chosen count i))
 
-  part-at : (i : ℕ) → i < n → at parts i ≡ part (linkEdges ks) i
+  part-at : (i : ℕ) → i < n → at parts i ≡ componentOf (linkEdges ks) i
   part-at i h = parted .each i (omega arith) ∙ sym (part-by regions firsts seconds chosen count i)
 
   inside : (c i : ℕ) → List·Memᴰ i (ranksIn n joined parts c) → i < n
   inside c i m = omega (arith, up-mem 0 n (keep-mem (inPart joined parts c) (upFrom 0 n) m .0))
 
   below : (c k : ℕ) → List·Memᴰ k (numbersIn count chosen firsts parts c) → k < count
-  below c k m = omega (arith, up-mem 0 count (keep-mem (linkIn chosen firsts parts c) (upFrom 0 count) m .0))
+  below c k m = omega (arith, up-mem 0 count (keep-mem (linkInPart chosen firsts parts c) (upFrom 0 count) m .0))
 
   retained-at : (c : ℕ) → retainedIn limits own bits (ranksIn n joined parts c) ≡ retained limits l (groupAt n ks c .ranks)
   retained-at c =
       sym (retained-by told (ranksIn n joined parts c) (inside c) limits)
-      ∙ ap (λ (a : Group). retained limits l (a .ranks)) (sym (group-by regions firsts seconds chosen count few ranked parted marked c))
+      ∙ ap (λ (a : LinkGroup). retained limits l (a .ranks)) (sym (group-by regions firsts seconds chosen count few ranked parted marked c))
 
   into-by : (F G : ℕ → Bool) (R S : ℕ → ℕ) → ((c : ℕ) → F c ≡ G c) → ((c : ℕ) → R c ≡ S c) → (i : ℕ) → i < n →
-      cond (isOn joined i) (cond (F (at parts i)) (R (at parts i)) 256) 256 ≡ cond (isJoined ks i && G (part (linkEdges ks) i)) (S (part (linkEdges ks) i)) 256
+      cond (isOn joined i) (cond (F (at parts i)) (R (at parts i)) 256) 256 ≡ cond (isJoined ks i && G (componentOf (linkEdges ks) i))
+      (S (componentOf (linkEdges ks) i)) 256
   into-by F G R S f r i h =
       ap (λ (b : Bool). cond b (cond (F (at parts i)) (R (at parts i)) 256) 256) (joined-at i h)
       ∙ (ap (λ (c : ℕ). cond (isJoined ks i) (cond (F c) (R c) 256) 256) (part-at i h)
-      ∙ (ap (λ (b : Bool). cond (isJoined ks i) (cond b (R (part (linkEdges ks) i)) 256) 256) (f (part (linkEdges ks) i))
-      ∙ (ap (λ (x : ℕ). cond (isJoined ks i) (cond (G (part (linkEdges ks) i)) x 256) 256) (r (part (linkEdges ks) i))
-      ∙ into-step (isJoined ks i) (G (part (linkEdges ks) i)) (S (part (linkEdges ks) i)))))
+      ∙ (ap (λ (b : Bool). cond (isJoined ks i) (cond b (R (componentOf (linkEdges ks) i)) 256) 256) (f (componentOf (linkEdges ks) i))
+      ∙ (ap (λ (x : ℕ). cond (isJoined ks i) (cond (G (componentOf (linkEdges ks) i)) x 256) 256) (r (componentOf (linkEdges ks) i))
+      ∙ into-step (isJoined ks i) (G (componentOf (linkEdges ks) i)) (S (componentOf (linkEdges ks) i)))))
 
   pub serial-into : (passing : List ℕ) → Passed limits dirs g l regions firsts seconds passing count → 0 < n → (i : ℕ) → i < n →
       serialInto limits n own bits lowers highers regions firsts seconds count passing chosen joined parts i ≡ cond

@@ -19,7 +19,7 @@ use Rattle.length.specs.Total.{totalLe}
 use Rattle.position.specs.declared.Span.{Span}
 use Rattle.grid.specs.Cells.{Grid}
 use Rattle.areas.specs.Spans.{spanIn}
-use Rattle.areas.specs.Assessments.{RegionPair, pairOf}
+use Rattle.areas.specs.Assessments.{RegionPair, regionPair}
 use Rattle.topology.specs.FullPair.{otherRegion}
 use Rattle.topology.specs.Listing.{Item}
 use Rattle.links.specs.Limits.{Limits}
@@ -30,7 +30,7 @@ use Rattle.groups.specs.Tests.{every}
 use Rattle.groups.specs.Listing.{endsAt, bitsAt}
 use Rattle.groups.specs.Links.{LinkAt, joins}
 use Rattle.groups.specs.Measuring.{passes}
-use Rattle.groups.specs.Groups.{Group}
+use Rattle.groups.specs.Groups.{LinkGroup}
 use Rattle.groups.specs.SimplePath.{linksAt, degree, endsOf, isPath, noLink, outerRegion, simplePath}
 use Rattle.groups.specs.Serial.{rankDistance, chainSum, endDistance, acceptsSerial}
 use Rattle.groups.specs.Flat.{alike, acceptsFlat, leastFlatSpans}
@@ -39,7 +39,7 @@ use Rattle.groups.specs.Tables.{linkRow}
 use Rattle.plan.specs.Arrays.{isOn, joinsAt}
 use Rattle.plan.specs.Shape.{degreeIn, endsIn, regularIn, gapIn, chainIn, outerIn, pathIn, alikeIn, allAlikeIn, leastIn, sumIn, nearerIn, fineIn}
 use Rattle.plan.specs.Shape.{eligibleIn, retainedIn}
-use Rattle.plan.specs.Told.{groupBy, Told, Passed, serialIn, flatIn}
+use Rattle.plan.specs.Told.{groupBy, BoundaryTables, Passed, serialIn, flatIn}
 use Rattle.plan.proofs.ShapeLaws.{at-each}
 
 pub every-ext : {A : Type 0} (t u : A → Bool) (l : List A) → ((y : A) → List·Memᴰ y l → t y ≡ u y) → every t l ≡ every u l
@@ -73,7 +73,7 @@ last-matters true true false false e f g h = refl
 last-matters true true true false e f g h = refl
 
 module _ (regions firsts seconds rs js : List ℕ) where
-  abbrev a : Group
+  abbrev a : LinkGroup
   a = groupBy regions firsts seconds rs js
 
   abbrev near : ℕ → List ℕ
@@ -108,13 +108,13 @@ module _ (regions firsts seconds rs js : List ℕ) where
   first-region [] e = absurd (omega arith)
   first-region (k ∷ ks) e = refl
 
-  module _ {dirs : List ℕ} {g : Grid} {l : List Item} {n : ℕ} {own bits lowers highers : List ℕ} (told : Told dirs g l n own bits lowers highers)
+  module _ {dirs : List ℕ} {g : Grid} {l : List Item} {n : ℕ} {own bits lowers highers : List ℕ} (told : BoundaryTables dirs g l n own bits lowers highers)
       (inside : (i : ℕ) → List·Memᴰ i rs → i < n) where
     outer-is : (i : ℕ) → i < n → degreeIn firsts seconds js i ≡ 1 → outerRegion dirs g l a i ≡ outerIn lowers highers regions firsts seconds js i
     unfolding outerRegion outerIn
     outer-is i h e =
         ap (λ (p : RegionPair). otherRegion p (getD (linksAt a i) 0 noLink .region)) (told .pairs i h)
-        ∙ ap (λ (r : ℕ). otherRegion (pairOf (at lowers i) (at highers i)) r)
+        ∙ ap (λ (r : ℕ). otherRegion (regionPair (at lowers i) (at highers i)) r)
         (ap (λ (ks : List LinkAt). getD ks 0 noLink .region) (links-at-is i) ∙ first-region (near i) e)
 
     outer-at : (j : ℕ) → j < length (endsIn firsts seconds rs js)
@@ -181,7 +181,8 @@ sort-ext p q (x ∷ xs) f =
     ap (insert p x) (sort-ext p q xs (λ y z m k. f y z (List·Memᴰ·tail m) (List·Memᴰ·tail k)))
     ∙ insert-ext p q x (sort q xs) (λ y m. f x y (List·Memᴰ·head refl) (List·Memᴰ·tail (perm-mem (Permᴰ·symm (sort-perm q xs)) m)))
 
-module _ {dirs : List ℕ} {g : Grid} {l : List Item} {n : ℕ} {own bits lowers highers : List ℕ} (told : Told dirs g l n own bits lowers highers) (rs : List ℕ)
+module _ {dirs : List ℕ} {g : Grid} {l : List Item} {n : ℕ} {own bits lowers highers : List ℕ} (told : BoundaryTables dirs g l n own bits lowers highers)
+    (rs : List ℕ)
     (inside : (i : ℕ) → List·Memᴰ i rs → i < n) where
   ends-as : (i : ℕ) → List·Memᴰ i rs → endsAt l i ≡ spanIn own i
   ends-as i m = told .ends i (inside i m)
@@ -260,7 +261,7 @@ module _ {dirs : List ℕ} {g : Grid} {l : List Item} {n : ℕ} {own bits lowers
           ∙ (ap (λ (x : Float). both-pass && rest x (endDistance l h)) chain-is
           ∙ ap (λ (x : Float). both-pass && rest (chainIn firsts seconds own js) x) far-is))
         where
-          h : Group
+          h : LinkGroup
           h = groupBy regions firsts seconds rs js
 
           rest : Float → Float → Bool

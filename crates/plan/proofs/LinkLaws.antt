@@ -24,12 +24,12 @@ use Rattle.groups.specs.Listing.{noSpan, spansOf}
 use Rattle.groups.specs.Regions.{regionLabels, regionCount}
 use Rattle.groups.specs.Links.{LinkAt, links}
 use Rattle.groups.specs.SimplePath.{noLink}
-use Rattle.groups.specs.Tables.{Paired, linkRow, linksIn, Linked}
+use Rattle.groups.specs.Tables.{Paired, linkRow, linksIn, LinkTable}
 use Rattle.groups.proofs.Links.{links-rising}
 use Rattle.candidates.specs.Owners.{OwnersBelow}
-use Rattle.measures.specs.Tables.{Regions, Labels}
-use Rattle.measures.specs.Judging.{Ranks}
-use Rattle.plan.specs.Arrays.{Ranked}
+use Rattle.measures.specs.Tables.{LinkRegions, Labels}
+use Rattle.measures.specs.Judging.{LinkEndsInside}
+use Rattle.plan.specs.Arrays.{LinkRanks}
 use Rattle.plan.proofs.FromTables.{is-link}
 
 -- a label that a cell can have is no more than the number of cells
@@ -42,7 +42,7 @@ label-within dirs g l work e L v p q =
     omega (arith, x, L .most (w .0) (w .1))
 
 module _ {dirs : List ℕ} {g : Grid} {anchors : List WalkPosition} {l : List Item} {regions firsts seconds : List ℕ} {r : ℕ}
-    (L : Linked dirs g anchors l regions firsts seconds r) where
+    (L : LinkTable dirs g anchors l regions firsts seconds r) where
   row-at : (k : ℕ) → k < r → getD (links dirs g anchors l) k noLink ≡ linkRow regions firsts seconds k
   unfolding linksIn
   row-at k h = ap (λ (t : List LinkAt). getD t k noLink) (sym (L .all)) ∙ rows-at r (linkRow regions firsts seconds) k noLink h
@@ -58,7 +58,7 @@ module _ {dirs : List ℕ} {g : Grid} {anchors : List WalkPosition} {l : List It
       let y : getD (links dirs g anchors l) k noLink .region ≡ getD regions k 0 = ap (λ (t : LinkAt). t .region) (row-at k m) in
       omega (arith, p, x, y)
 
-  pub regions-are : {work : List ℕ} → labelsIn work (size g) ≡ regionLabels dirs g l → Labels work (size g) → Regions regions r (size g)
+  pub regions-are : {work : List ℕ} → labelsIn work (size g) ≡ regionLabels dirs g l → Labels work (size g) → LinkRegions regions r (size g)
   regions-are {work} e B = record {
     few = L .most;
     from = λ k h. is-link L k h .some;
@@ -69,7 +69,7 @@ module _ {dirs : List ℕ} {g : Grid} {anchors : List WalkPosition} {l : List It
         (λ s. let u = ltb-false j k t in let v = ltb-false k j s in omega (arith, u, v)));
   }
 
-pub ranks-are : {n : ℕ} {firsts seconds : List ℕ} {r : ℕ} → n ≤ 256 → Ranked n firsts seconds r → Ranks firsts seconds r
+pub ranks-are : {n : ℕ} {firsts seconds : List ℕ} {r : ℕ} → n ≤ 256 → LinkRanks n firsts seconds r → LinkEndsInside firsts seconds r
 ranks-are h R = record { first = λ k b. omega (arith, R .first-in k b); second = λ k b. omega (arith, R .second-in k b) }
 
 pub owners-are : (dirs : List ℕ) (g : Grid) (l : List Item) {owners lefts rights : List ℕ} {n : ℕ} → Paired dirs g l owners lefts rights n

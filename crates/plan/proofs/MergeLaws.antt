@@ -12,7 +12,7 @@ use Rattle.grid.specs.Cells.{Grid}
 use Rattle.links.specs.Limits.{Limits}
 use Rattle.topology.specs.Listing.{Item}
 use Rattle.groups.specs.Links.{LinkAt}
-use Rattle.groups.specs.Groups.{Group}
+use Rattle.groups.specs.Groups.{LinkGroup}
 use Rattle.groups.specs.Serial.{acceptsSerial, serialLinks}
 use Rattle.groups.specs.Flat.{acceptsFlat, flatLinks, accepted, isLeft}
 use Rattle.groups.specs.Representative.{retained}
@@ -24,7 +24,7 @@ use Rattle.plan.proofs.TakenLaws.{ownGroup, taken, serialTaken, flatTak
 use Rattle.plan.proofs.TakenLaws.{plan-stays}
 
 -- the rank that the rank goes into by the accepted ones of the links' groups
-abbrev pub goesBy : Limits → List Item → ℕ → List LinkAt → (Group → Bool) → ℕ → ℕ
+abbrev pub goesBy : Limits → List Item → ℕ → List LinkAt → (LinkGroup → Bool) → ℕ → ℕ
 goesBy limits l n ks t i = cond (taken n ks t i) (retained limits l (ownGroup n ks i .ranks)) 256
 
 free-by : (t : Bool) (x : ℕ) → (t ≡ true → x < 256) → eqb (cond t x 256) 256 ≡ not t
@@ -44,7 +44,7 @@ module _ (limits : Limits) (dirs : List ℕ) (g : Grid) (anchors : List WalkPosi
   abbrev pub flatGoes : ℕ → ℕ
   flatGoes = goesBy limits l (length l) (flatLinks limits dirs g anchors l) (acceptsFlat limits dirs g l)
 
-  retained-low : {a : Group} → List·Memᴰ a (accepted limits dirs g anchors l) → retained limits l (a .ranks) < 256
+  retained-low : {a : LinkGroup} → List·Memᴰ a (accepted limits dirs g anchors l) → retained limits l (a .ranks) < 256
   retained-low {a} m = omega (arith, few, accepted-below limits dirs g anchors l m (retained limits l (a .ranks)) (accepted-retained limits dirs g anchors l m))
 
   serial-low : (i : ℕ) → i < length l → serialTaken limits dirs g anchors l i ≡ true

@@ -12,7 +12,7 @@ use Rattle.areas.specs.Spans.{spanIn}
 use Rattle.topology.specs.Listing.{Item}
 use Rattle.groups.specs.Listing.{endsAt}
 use Rattle.groups.specs.Tables.{Boundaries}
-use Rattle.measures.specs.Judging.{Plain}
+use Rattle.measures.specs.Judging.{CoordinatesBounded}
 
 module _ {l : List Item} {own bits ramps : List ℕ} (B : Boundaries l own bits ramps) where
   coordinate-of : (i : ℕ) → i < length l → (j : ℕ) → j < 4 → getD own (4 * i + j) 0 ≤ 8192
@@ -29,7 +29,7 @@ module _ {l : List Item} {own bits ramps : List ℕ} (B : Boundaries l own bits 
       omega (arith, e, B .bounded i b .1 .row)
   coordinate-of i b (suc (suc (suc (suc j)))) h = absurd (omega arith)
 
-  pub plain-arrays : ((k : ℕ) → 4 * length l ≤ k → getD own k 0 ≡ 0) → ((k : ℕ) → length l ≤ k → getD bits k 0 ≡ 0) → Plain own bits
+  pub plain-arrays : ((k : ℕ) → 4 * length l ≤ k → getD own k 0 ≡ 0) → ((k : ℕ) → length l ≤ k → getD bits k 0 ≡ 0) → CoordinatesBounded own bits
   plain-arrays p q = record {
     coordinate = λ k h.
         by-test (ltb k (4 * length l))

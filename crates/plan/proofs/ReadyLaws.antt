@@ -13,18 +13,18 @@ use Rattle.areas.specs.Spans.{Sides}
 use Rattle.areas.specs.Words.{labelsIn}
 use Rattle.areas.proofs.Words.{labels-same}
 use Rattle.topology.specs.Listing.{Item}
-use Rattle.groups.specs.Tables.{Linked}
-use Rattle.candidates.specs.Gives.{OnMap, OwnBounded}
+use Rattle.groups.specs.Tables.{LinkTable}
+use Rattle.candidates.specs.Gives.{AnchorsOnMap, OwnBounded}
 use Rattle.candidates.specs.Owners.{Stored, OwnersBelow}
-use Rattle.candidates.specs.Top.{Answer}
-use Rattle.measures.specs.Tables.{Labels, Regions}
-use Rattle.measures.specs.Judging.{Plain, Ranks, Measured}
+use Rattle.candidates.specs.Top.{CandidateLinks}
+use Rattle.measures.specs.Tables.{Labels, LinkRegions}
+use Rattle.measures.specs.Judging.{CoordinatesBounded, LinkEndsInside, Measured}
 use Rattle.measures.proofs.Reading.{span-bounded, area}
-use Rattle.plan.specs.Arrays.{Ranked}
-use Rattle.plan.specs.Fitting.{Plannable}
+use Rattle.plan.specs.Arrays.{LinkRanks}
+use Rattle.plan.specs.Fitting.{RankedLinks}
 use Rattle.plan.specs.Planning.{PlanOf}
 use Rattle.plan.proofs.FromTables.{told, plannable, ranked, passed, flat-inside}
-use Rattle.plan.specs.Listed.{Listed, Ready}
+use Rattle.plan.specs.Listed.{ListingTables, PlanInput}
 use Rattle.plan.specs.Planned.{anchorsIn, LinksFrom, PlanFrom}
 use Rattle.plan.proofs.LinkLaws.{regions-are, ranks-are, owners-are}
 
@@ -46,11 +46,11 @@ lent-labels work m =
 
 module _ {job : List ℕ} {start bases : ℕ} {cells : List ℕ} {width height n : ℕ} {own bits ramps work removed separated owners lefts rights : List ℕ}
     {records : ℕ}
-    (R : Ready job start bases cells width height n own bits ramps work removed separated owners lefts rights records) where
+    (R : PlanInput job start bases cells width height n own bits ramps work removed separated owners lefts rights records) where
   few : n ≤ 256
   few = omega (arith, R .listed .told .few, R .listed .count)
 
-  on-map : OnMap job start bases width (lent work (length cells)) (length cells)
+  on-map : AnchorsOnMap job start bases width (lent work (length cells)) (length cells)
   on-map = record {
     there = R .there;
     few = area (R .sides .wide) (R .sides .high) (R .whole);
@@ -65,30 +65,32 @@ module _ {job : List ℕ} {start bases : ℕ} {cells : List ℕ} {width height n
   owned = subst (OwnersBelow owners records) (R .listed .count) (owners-are (R .dirs) (mapOf width height cells) (R .items) (R .listed .paired))
 
   -- what `candidate_links` asks for
-  pub findable : OnMap job start bases width (lent work (length cells)) (length cells) × (n ≤ 256) × OwnBounded own n × Stored owners lefts rights records
+  pub findable : AnchorsOnMap job start bases width (lent work (length cells)) (length cells) × (n ≤ 256) × OwnBounded own n
+      × Stored owners lefts rights records
       × OwnersBelow owners records n
   findable = (on-map, few, own-bounded, R .stored, owned)
 
   module _ {counts lowers highers regions firsts seconds : List ℕ} {r : ℕ}
-      (A : Answer job start bases width (labelsIn (lent work (length cells)) (length cells)) n own ramps removed separated owners lefts rights records counts
+      (A : CandidateLinks job start bases width (labelsIn (lent work (length cells)) (length cells)) n own ramps removed separated owners lefts rights records
+      counts
       lowers highers regions firsts seconds r) where
     -- the links of a listing that the arrays tell of
     linked : (dirs : List ℕ) (anchors : List WalkPosition) (l : List Item) (marks : List ℕ)
-        → Listed dirs (mapOf width height cells) l n own bits ramps (labelsIn work (length cells)) removed separated owners lefts rights records marks
-        → anchors ≡ anchorsIn job start bases → Linked dirs (mapOf width height cells) anchors l regions firsts seconds r
+        → ListingTables dirs (mapOf width height cells) l n own bits ramps (labelsIn work (length cells)) removed separated owners lefts rights records marks
+        → anchors ≡ anchorsIn job start bases → LinkTable dirs (mapOf width height cells) anchors l regions firsts seconds r
     linked dirs anchors l marks h e =
         A .linked dirs (mapOf width height cells) anchors l bits (h .count) (h .told) (h .counted) (h .paired) (lent-labels work (length cells) ∙ h .labelled)
         refl e
 
-    own-links : Linked (R .dirs) (mapOf width height cells) (anchorsIn job start bases) (R .items) regions firsts seconds r
+    own-links : LinkTable (R .dirs) (mapOf width height cells) (anchorsIn job start bases) (R .items) regions firsts seconds r
     own-links = linked (R .dirs) (anchorsIn job start bases) (R .items) (R .marks) (R .listed) refl
 
-    ranked-found : Ranked n firsts seconds r
+    ranked-found : LinkRanks n firsts seconds r
     ranked-found = ranked own-links (R .listed .count)
 
     -- what `measure_links` asks for
-    pub measurable : Sides width height × (length cells ≡ width * height) × Labels work (length cells) × Regions regions r (length cells)
-        × Ranks firsts seconds r × Plain own bits
+    pub measurable : Sides width height × (length cells ≡ width * height) × Labels work (length cells) × LinkRegions regions r (length cells)
+        × LinkEndsInside firsts seconds r × CoordinatesBounded own bits
     measurable = (R .sides, R .whole, R .labels, regions-are own-links (R .listed .labelled) (R .labels), ranks-are few ranked-found, R .plain)
 
     module _ {limits : Limits} {passing flat inside-marks : List ℕ}
@@ -98,7 +100,7 @@ module _ {job : List ℕ} {start bases : ℕ} {cells : List ℕ} {width height n
       links-found = record {
         ranked = ranked-found;
         each = λ dirs anchors l marks h e.
-            let inside : Ranked (length l) firsts seconds r = subst (λ (k : ℕ). Ranked k firsts seconds r) (sym (h .count)) ranked-found in
+            let inside : LinkRanks (length l) firsts seconds r = subst (λ (k : ℕ). LinkRanks k firsts seconds r) (sym (h .count)) ranked-found in
             record {
               told = told (h .told) (A .first-pairs dirs (mapOf width height cells) l bits (h .count) (h .told) (h .paired)) (h .count);
               linked = linked dirs anchors l marks h e;
@@ -108,7 +110,7 @@ module _ {job : List ℕ} {start bases : ℕ} {cells : List ℕ} {width height n
       }
 
   -- what `merge_plan` asks for
-  pub fit : {firsts seconds : List ℕ} {r : ℕ} → Ranked n firsts seconds r → Plannable n own bits firsts seconds r
+  pub fit : {firsts seconds : List ℕ} {r : ℕ} → LinkRanks n firsts seconds r → RankedLinks n own bits firsts seconds r
   fit F = plannable (R .listed .told) (R .listed .count) F
 
 pub planned : {limits : Limits} {job : List ℕ} {start bases : ℕ} {g : Grid} {n : ℕ} {own bits ramps labels removed separated owners lefts rights : List ℕ}

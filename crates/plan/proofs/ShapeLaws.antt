@@ -12,33 +12,33 @@ use Rattle.order.proofs.Numbers.{up-length}
 use Rattle.groups.specs.Tests.{every}
 use Rattle.plan.specs.declared.few.Few.{Few}
 use Rattle.plan.specs.declared.path.Near.{Near}
-use Rattle.plan.specs.Few.{firstOf, held, slot, listed, near}
+use Rattle.plan.specs.Few.{firstOf, fewOf, fewAt, fewList, near}
 use Rattle.order.proofs.SortedFirst.{up-down, up-none}
 use Rattle.plan.proofs.FewLaws.{slot-held, Picked, picked-end, Noted, noted-end}
 
-pub picked-listed : {t : ℕ → Bool} (f : Few) {k : ℕ} {g : Few} → Picked t (slot f) (f .count) k g → k ≡ 0 → g ≡ held (keep t (listed f))
-unfolding listed
+pub picked-listed : {t : ℕ → Bool} (f : Few) {k : ℕ} {g : Few} → Picked t (fewAt f) (f .count) k g → k ≡ 0 → g ≡ fewOf (keep t (fewList f))
+unfolding fewList
 picked-listed f p e = picked-end p e
 
-pub noted-listed : {t : ℕ → Bool} (f : Few) {k : ℕ} {g : Near} → Noted t (slot f) (f .count) k g → k ≡ 0 → g ≡ near (keep t (listed f))
-unfolding listed
+pub noted-listed : {t : ℕ → Bool} (f : Few) {k : ℕ} {g : Near} → Noted t (fewAt f) (f .count) k g → k ≡ 0 → g ≡ near (keep t (fewList f))
+unfolding fewList
 noted-listed f p e = noted-end p e
 
-pub listed-length : (f : Few) → length (listed f) ≡ f .count
-unfolding listed
-listed-length f = length-map (upFrom 0 (f .count)) (slot f) ∙ up-length 0 (f .count)
+pub listed-length : (f : Few) → length (fewList f) ≡ f .count
+unfolding fewList
+listed-length f = length-map (upFrom 0 (f .count)) (fewAt f) ∙ up-length 0 (f .count)
 
-pub held-count : {f : Few} (xs : List ℕ) → f ≡ held xs → f .count ≡ length xs
-unfolding held
+pub held-count : {f : Few} (xs : List ℕ) → f ≡ fewOf xs → f .count ≡ length xs
+unfolding fewOf
 held-count xs e = ap (λ (g : Few). g .count) e
 
-pub held-first : {f : Few} (xs : List ℕ) → f ≡ held xs → slot f 0 ≡ getD xs 0 0
-unfolding held firstOf
-held-first xs e = ap (λ (g : Few). slot g 0) e
+pub held-first : {f : Few} (xs : List ℕ) → f ≡ fewOf xs → fewAt f 0 ≡ getD xs 0 0
+unfolding fewOf firstOf
+held-first xs e = ap (λ (g : Few). fewAt g 0) e
 
-pub held-second : {f : Few} (xs : List ℕ) → f ≡ held xs → slot f 1 ≡ getD xs 1 0
-unfolding held firstOf
-held-second xs e = ap (λ (g : Few). slot g 1) e
+pub held-second : {f : Few} (xs : List ℕ) → f ≡ fewOf xs → fewAt f 1 ≡ getD xs 1 0
+unfolding fewOf firstOf
+held-second xs e = ap (λ (g : Few). fewAt g 1) e
 
 -- what holds of each number that is kept
 module _ (P : ℕ → Type 0) where
@@ -51,19 +51,19 @@ module _ (P : ℕ → Type 0) where
   at-each (x ∷ xs) zero f z = f x (List·Memᴰ·head refl)
   at-each (x ∷ xs) (suc j) f z = at-each xs j (λ y m. f y (List·Memᴰ·tail m)) z
 
-  pub held-slots : (xs : List ℕ) {f : Few} → f ≡ held xs → ((x : ℕ) → List·Memᴰ x xs → P x) → P 0 → (j : ℕ) → P (slot f j)
+  pub held-slots : (xs : List ℕ) {f : Few} → f ≡ fewOf xs → ((x : ℕ) → List·Memᴰ x xs → P x) → P 0 → (j : ℕ) → P (fewAt f j)
   held-slots xs e f z j = rw (e, slot-held xs j) (one-of (ltb j 16) (at-each xs j f z) z)
 
-  pub listed-each : (f : Few) → ((j : ℕ) → P (slot f j)) → (x : ℕ) → List·Memᴰ x (listed f) → P x
-  unfolding listed
-  listed-each f h x m = let w = Memᴰ·of-map (slot f) (upFrom 0 (f .count)) m in subst P (w .2) (h (w .0))
+  pub listed-each : (f : Few) → ((j : ℕ) → P (fewAt f j)) → (x : ℕ) → List·Memᴰ x (fewList f) → P x
+  unfolding fewList
+  listed-each f h x m = let w = Memᴰ·of-map (fewAt f) (upFrom 0 (f .count)) m in subst P (w .2) (h (w .0))
 
-  pub kept-slots : (t : ℕ → Bool) (f : Few) {g : Few} → g ≡ held (keep t (listed f)) → ((j : ℕ) → P (slot f j)) → P 0 → (j : ℕ) → P (slot g j)
-  kept-slots t f e h z = held-slots (keep t (listed f)) e (λ x m. listed-each f h x (keep-mem t (listed f) m .0)) z
+  pub kept-slots : (t : ℕ → Bool) (f : Few) {g : Few} → g ≡ fewOf (keep t (fewList f)) → ((j : ℕ) → P (fewAt f j)) → P 0 → (j : ℕ) → P (fewAt g j)
+  kept-slots t f e h z = held-slots (keep t (fewList f)) e (λ x m. listed-each f h x (keep-mem t (fewList f) m .0)) z
 
-  pub kept-first : (t : ℕ → Bool) (f : Few) {g : Near} → g ≡ near (keep t (listed f)) → ((j : ℕ) → P (slot f j)) → P 0 → P (g .first)
+  pub kept-first : (t : ℕ → Bool) (f : Few) {g : Near} → g ≡ near (keep t (fewList f)) → ((j : ℕ) → P (fewAt f j)) → P 0 → P (g .first)
   kept-first t f {g} e h z =
-      subst P (sym (ap (λ (r : Near). r .first) e)) (at-each (keep t (listed f)) 0 (λ x m. listed-each f h x (keep-mem t (listed f) m .0)) z)
+      subst P (sym (ap (λ (r : Near). r .first) e)) (at-each (keep t (fewList f)) 0 (λ x m. listed-each f h x (keep-mem t (fewList f) m .0)) z)
 
 module _ (t : ℕ → Bool) (v : ℕ → ℕ) (n : ℕ) where
   -- the values of k, …, n - 1 all pass, or not
@@ -88,6 +88,6 @@ module _ (t : ℕ → Bool) (v : ℕ → ℕ) (n : ℕ) where
       let a : upFrom k (n - k) ≡ upFrom 0 n = ap (λ (m : ℕ). upFrom m (n - m)) e ∙ (let z : n - 0 ≡ n = omega arith in ap (upFrom 0) z) in
       p .is ∙ ap (λ (l : List ℕ). every t (map v l)) a
 
-pub each-listed : (t : ℕ → Bool) (f : Few) {k : ℕ} {b : Bool} → Each t (slot f) (f .count) k b → k ≡ 0 → b ≡ every t (listed f)
-unfolding listed
-each-listed t f p e = each-end t (slot f) (f .count) p e
+pub each-listed : (t : ℕ → Bool) (f : Few) {k : ℕ} {b : Bool} → Each t (fewAt f) (f .count) k b → k ≡ 0 → b ≡ every t (fewList f)
+unfolding fewList
+each-listed t f p e = each-end t (fewAt f) (f .count) p e

@@ -31,7 +31,7 @@ use Rattle.links.specs.Held.{Number}
 use Rattle.links.proofs.Numbers.{upward, upward-number, upward-bits, distance-upward, distance-fits, distance-sum-number}
 use Rattle.links.proofs.SumSteps.{Summed, summed-end}
 use Rattle.plan.specs.declared.few.Few.{Few}
-use Rattle.plan.specs.Few.{slot, listed}
+use Rattle.plan.specs.Few.{fewAt, fewList}
 use Rattle.plan.specs.Shape.{gapIn, chainIn, sumIn, BitsOf}
 use Rattle.plan.proofs.ShapeLaws.{listed-length}
 use Rattle.plan.proofs.GroupLaws.{sort-ext}
@@ -66,12 +66,12 @@ module _ (number : ℕ → Float) where
       → Written value (j + 1) (set bits i b)
   written-next value {j} {i} {b} {bits} w h q e = rw q (step value w h e)
 
-  pub written-end : (f : Few) {j : ℕ} {bits : List ℕ} → Written (slot f) j bits → j ≤ f .count → f .count ≤ j → BitsOf number (listed f) bits
-  unfolding listed
+  pub written-end : (f : Few) {j : ℕ} {bits : List ℕ} → Written (fewAt f) j bits → j ≤ f .count → f .count ≤ j → BitsOf number (fewList f) bits
+  unfolding fewList
   written-end f {j} {bits} w l m = record {
     size = w .size;
     first = ap (λ (k : ℕ). take k bits) (listed-length f ∙ whole)
-        ∙ (w .first ∙ (ap (λ (k : ℕ). map (λ i. bitsAt (slot f i)) (upFrom 0 k)) (sym whole) ∙ sym (map-map bitsAt (slot f) (upFrom 0 (f .count)))));
+        ∙ (w .first ∙ (ap (λ (k : ℕ). map (λ i. bitsAt (fewAt f i)) (upFrom 0 k)) (sym whole) ∙ sym (map-map bitsAt (fewAt f) (upFrom 0 (f .count)))));
   }
     where
       whole : f .count ≡ j
@@ -149,14 +149,14 @@ module _ (firsts seconds own : List ℕ) (f : Few) where
   abbrev gap : ℕ → Float
   gap = gapIn firsts seconds own
 
-  gaps-plain : (x : Float) → List·Memᴰ x (map gap (listed f)) → Plain x
+  gaps-plain : (x : Float) → List·Memᴰ x (map gap (fewList f)) → Plain x
   gaps-plain x m =
-      let w = Memᴰ·of-map gap (listed f) m in
+      let w = Memᴰ·of-map gap (fewList f) m in
       let s = spanIn own (at firsts (w .0)) in
       let t = spanIn own (at seconds (w .0)) in
       subst Plain (w .2) (record { up = distance-upward s t; held = distance-fits s t })
 
-  module _ {bits after : List ℕ} {n : ℕ} (b : BitsOf gap (listed f) bits) (few : f .count ≤ 16) (e : n ≡ f .count)
+  module _ {bits after : List ℕ} {n : ℕ} (b : BitsOf gap (fewList f) bits) (few : f .count ≤ 16) (e : n ≡ f .count)
       (s : after ≡ splice bits 0 (sort leb (between bits 0 n))) where
     fits-in : n ≤ length bits
     fits-in = omega (arith, b .size)
@@ -164,25 +164,25 @@ module _ (firsts seconds own : List ℕ) (f : Few) where
     pub chain-size : length after ≡ 16
     chain-size = ap (λ (l : List ℕ). length l) s ∙ (front-size bits n fits-in ∙ b .size)
 
-    in-order : take n after ≡ sort leb (map (toBits binary64) (map gap (listed f)))
+    in-order : take n after ≡ sort leb (map (toBits binary64) (map gap (fewList f)))
     in-order =
         ap (take n) s
         ∙ (front-sorted bits n fits-in
-        ∙ ap (sort leb) (ap (λ (k : ℕ). take k bits) (e ∙ sym (listed-length f)) ∙ (b .first ∙ sym (map-map (toBits binary64) gap (listed f)))))
+        ∙ ap (sort leb) (ap (λ (k : ℕ). take k bits) (e ∙ sym (listed-length f)) ∙ (b .first ∙ sym (map-map (toBits binary64) gap (fewList f)))))
 
     pub chain-patterns : Patterns n after
     chain-patterns i l =
         subst (λ (x : ℕ). T (not (nanBits binary64 x))) (ap (λ (k : List ℕ). getD k i 0) (sym in-order) ∙ getD-take n after i 0 l)
-        (each-number (map gap (listed f)) gaps-plain _ (getD-mem (sort leb (map (toBits binary64) (map gap (listed f)))) 0 i (omega (arith, long))))
+        (each-number (map gap (fewList f)) gaps-plain _ (getD-mem (sort leb (map (toBits binary64) (map gap (fewList f)))) 0 i (omega (arith, long))))
       where
-        long : length (sort leb (map (toBits binary64) (map gap (listed f)))) ≡ n
+        long : length (sort leb (map (toBits binary64) (map gap (fewList f)))) ≡ n
         long =
-            sort-length leb (map (toBits binary64) (map gap (listed f)))
-            ∙ (length-map (map gap (listed f)) (toBits binary64) ∙ (length-map (listed f) gap ∙ (listed-length f ∙ sym e)))
+            sort-length leb (map (toBits binary64) (map gap (fewList f)))
+            ∙ (length-map (map gap (fewList f)) (toBits binary64) ∙ (length-map (fewList f) gap ∙ (listed-length f ∙ sym e)))
 
-    pub chain-added : {r : Float} → r ≡ sumOf (map (ofBits binary64) (take n after)) → r ≡ chainIn firsts seconds own (listed f)
+    pub chain-added : {r : Float} → r ≡ sumOf (map (ofBits binary64) (take n after)) → r ≡ chainIn firsts seconds own (fewList f)
     unfolding chainIn ascendingSum
-    chain-added q = q ∙ ap sumOf (ap (map (ofBits binary64)) in-order ∙ back (map gap (listed f)) gaps-plain)
+    chain-added q = q ∙ ap sumOf (ap (map (ofBits binary64)) in-order ∙ back (map gap (fewList f)) gaps-plain)
 
 sum-number : (s : Span) (ms : List Span) → 0 < length ms → Number (distanceSum s ms)
 sum-number s [] h = absurd (omega arith)
@@ -190,19 +190,19 @@ sum-number s (m ∷ ms) h = distance-sum-number s m ms
 
 -- the distance to each rank that is kept
 abbrev pub distanceAt : List ℕ → ℕ → Few → ℕ → Float
-distanceAt own i f j = centreDistance (spanIn own i) (spanIn own (slot f j))
+distanceAt own i f j = centreDistance (spanIn own i) (spanIn own (fewAt f j))
 
 pub sum-listed : (own : List ℕ) (f : Few) (i : ℕ) {j : ℕ} {r : Float} → 1 ≤ f .count → Summed (distanceAt own i f) (f .count) j r → f .count ≤ j
-    → (r ≡ sumIn own (listed f) i) × Number r
-unfolding sumIn listed distanceSum
+    → (r ≡ sumIn own (fewList f) i) × Number r
+unfolding sumIn fewList distanceSum
 sum-listed own f i {j} {r} l p h = (
   whole,
-  subst Number (sym whole) (sum-number (spanIn own i) (map (spanIn own) (listed f))
-      (omega (arith, length-map (listed f) (spanIn own), listed-length f))),
+  subst Number (sym whole) (sum-number (spanIn own i) (map (spanIn own) (fewList f))
+      (omega (arith, length-map (fewList f) (spanIn own), listed-length f))),
 )
   where
-    whole : r ≡ distanceSum (spanIn own i) (map (spanIn own) (listed f))
+    whole : r ≡ distanceSum (spanIn own i) (map (spanIn own) (fewList f))
     whole =
         summed-end (distanceAt own i f) (f .count) p h
-        ∙ ap sumOf (sym (map-map (centreDistance (spanIn own i)) (λ k. spanIn own (slot f k)) (upFrom 0 (f .count)))
-        ∙ ap (map (centreDistance (spanIn own i))) (sym (map-map (spanIn own) (slot f) (upFrom 0 (f .count)))))
+        ∙ ap sumOf (sym (map-map (centreDistance (spanIn own i)) (λ k. spanIn own (fewAt f k)) (upFrom 0 (f .count)))
+        ∙ ap (map (centreDistance (spanIn own i))) (sym (map-map (spanIn own) (fewAt f) (upFrom 0 (f .count)))))

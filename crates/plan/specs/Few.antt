@@ -14,9 +14,9 @@ unfolding upFrom
 firstOf n xs = map (λ j. getD xs j 0) (upFrom 0 n)
 
 -- what is kept of a list
-unfoldable pub held : List ℕ → Few
+unfoldable pub fewOf : List ℕ → Few
 unfolding firstOf
-held xs = record { count = length xs; items = firstOf 16 xs }
+fewOf xs = record { count = length xs; items = firstOf 16 xs }
 
 -- with one number before the others
 unfoldable pub pushed : Few → ℕ → Few
@@ -24,17 +24,17 @@ unfolding firstOf
 pushed f x = record { count = f .count + 1; items = x ∷ firstOf 15 (f .items) }
 
 -- number j
-abbrev pub slot : Few → ℕ → ℕ
-slot f j = cond (ltb j 16) (getD (f .items) j 0) 0
+abbrev pub fewAt : Few → ℕ → ℕ
+fewAt f j = cond (ltb j 16) (getD (f .items) j 0) 0
 
 -- the list, if it has at most sixteen
-unfoldable pub listed : Few → List ℕ
+unfoldable pub fewList : Few → List ℕ
 unfolding upFrom
-listed f = map (slot f) (upFrom 0 (f .count))
+fewList f = map (fewAt f) (upFrom 0 (f .count))
 
 -- how many a list has, and its first; with one number before the others
 abbrev pub near : List ℕ → Near
 near xs = record { count = length xs; first = getD xs 0 0 }
 
-abbrev pub nearer : Near → ℕ → Near
-nearer f x = record { count = f .count + 1; first = x }
+abbrev pub nearLink : Near → ℕ → Near
+nearLink f x = record { count = f .count + 1; first = x }

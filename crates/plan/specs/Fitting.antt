@@ -5,8 +5,8 @@ use Rattle.lists.specs.Rows.{at}
 use Rattle.areas.specs.Spans.{spanIn}
 use Rattle.links.specs.Held.{SpanBounded}
 use Rattle.plan.specs.declared.few.Few.{Few}
-use Rattle.plan.specs.Few.{slot}
-use Rattle.plan.specs.Arrays.{Ranked}
+use Rattle.plan.specs.Few.{fewAt}
+use Rattle.plan.specs.Arrays.{LinkRanks}
 
 pub record RankFits (own : List ℕ) (i : ℕ) : Type 0 where
   pub below : i < 256
@@ -22,22 +22,22 @@ pub record WidthFits (bits : List ℕ) (i : ℕ) : Type 0 where
   pub fits : at bits i ≤ 0x40D0_0000_0000_0000
 
 -- so is each number that is kept
-abbrev pub Ranks : List ℕ → Few → Type 0
-Ranks own f = (j : ℕ) → RankFits own (slot f j)
+abbrev pub RanksFit : List ℕ → Few → Type 0
+RanksFit own f = (j : ℕ) → RankFits own (fewAt f j)
 
 abbrev pub Links : List ℕ → List ℕ → List ℕ → Few → Type 0
-Links own firsts seconds f = (j : ℕ) → LinkFits own firsts seconds (slot f j)
+Links own firsts seconds f = (j : ℕ) → LinkFits own firsts seconds (fewAt f j)
 
 abbrev pub Widths : List ℕ → Few → Type 0
-Widths bits f = (j : ℕ) → WidthFits bits (slot f j)
+Widths bits f = (j : ℕ) → WidthFits bits (fewAt f j)
 
 abbrev pub Slots : ℕ → Few → Type 0
-Slots n f = (j : ℕ) → slot f j < n
+Slots n f = (j : ℕ) → fewAt f j < n
 
 -- n ranks and their links
-pub record Plannable (n : ℕ) (own bits firsts seconds : List ℕ) (links : ℕ) : Type 0 where
+pub record RankedLinks (n : ℕ) (own bits firsts seconds : List ℕ) (links : ℕ) : Type 0 where
   pub few : n ≤ 256
-  pub ranked : Ranked n firsts seconds links
+  pub ranked : LinkRanks n firsts seconds links
   pub spans : (i : ℕ) → i < n → SpanBounded (spanIn own i)
   pub widths : (i : ℕ) → i < n → at bits i ≤ 0x40D0_0000_0000_0000
 
@@ -45,4 +45,4 @@ pub record Plannable (n : ℕ) (own bits firsts seconds : List ℕ) (links : ℕ
 pub record Safe (n : ℕ) (own bits firsts seconds : List ℕ) (links : ℕ) : Type 0 where
   pub some : 0 < n
   pub linked : 0 < links
-  pub fit : Plannable n own bits firsts seconds links
+  pub fit : RankedLinks n own bits firsts seconds links

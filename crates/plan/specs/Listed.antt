@@ -13,10 +13,10 @@ use Rattle.groups.specs.Regions.{regionLabels}
 use Rattle.groups.specs.Tables.{Boundaries, Counted, Paired, Bridged}
 use Rattle.candidates.specs.Owners.{Stored}
 use Rattle.measures.specs.Tables.{Labels}
-use Rattle.measures.specs.Judging.{Plain}
+use Rattle.measures.specs.Judging.{CoordinatesBounded}
 
 -- n boundaries, the regions of the cells, what each span does to them, and which ones are bridges
-pub record Listed (dirs : List ℕ) (g : Grid) (l : List Item) (n : ℕ) (own bits ramps labels removed separated owners lefts rights : List ℕ) (records : ℕ)
+pub record ListingTables (dirs : List ℕ) (g : Grid) (l : List Item) (n : ℕ) (own bits ramps labels removed separated owners lefts rights : List ℕ) (records : ℕ)
     (marks : List ℕ) : Type 0 where
   pub count : length l ≡ n
   pub told : Boundaries l own bits ramps
@@ -26,16 +26,17 @@ pub record Listed (dirs : List ℕ) (g : Grid) (l : List Item) (n : ℕ) (own bi
   pub bridged : Bridged dirs g l marks
 
 -- a map with labels in bytes, bases with their anchors on it, arrays of plain numbers, room for the records, and some listing that they tell of
-pub record Ready (job : List ℕ) (start bases : ℕ) (cells : List ℕ) (width height n : ℕ) (own bits ramps work removed separated owners lefts rights : List ℕ)
+pub record PlanInput (job : List ℕ) (start bases : ℕ) (cells : List ℕ) (width height n : ℕ) (own bits ramps work removed separated owners lefts rights : List ℕ)
     (records : ℕ) : Type 0 where
   pub sides : Sides width height
   pub whole : length cells ≡ width * height
   pub labels : Labels work (length cells)
   pub there : start + bases * baseSize ≤ length job
   pub anchors : AnchorsIn job start bases width (length cells)
-  pub plain : Plain own bits
+  pub plain : CoordinatesBounded own bits
   pub stored : Stored owners lefts rights records
   pub dirs : List ℕ
   pub items : List Item
   pub marks : List ℕ
-  pub listed : Listed dirs (mapOf width height cells) items n own bits ramps (labelsIn work (length cells)) removed separated owners lefts rights records marks
+  pub listed : ListingTables dirs (mapOf width height cells) items n own bits ramps (labelsIn work (length cells)) removed separated owners lefts rights records
+      marks

@@ -10,10 +10,10 @@ use Rattle.links.specs.Limits.{Limits}
 use Rattle.topology.specs.Anchors.{anchorsOf}
 use Rattle.topology.specs.Listing.{Item}
 use Rattle.groups.specs.Plan.{mergePlan}
-use Rattle.groups.specs.Tables.{Linked}
-use Rattle.plan.specs.Arrays.{Ranked}
-use Rattle.plan.specs.Told.{Told, Passed, FlatInside}
-use Rattle.plan.specs.Listed.{Listed}
+use Rattle.groups.specs.Tables.{LinkTable}
+use Rattle.plan.specs.Arrays.{LinkRanks}
+use Rattle.plan.specs.Told.{BoundaryTables, Passed, FlatInside}
+use Rattle.plan.specs.Listed.{ListingTables}
 
 -- the anchors of a job's bases
 abbrev pub anchorsIn : List ℕ → ℕ → ℕ → List WalkPosition
@@ -22,8 +22,8 @@ anchorsIn job start bases = anchorsOf (map baseOf (baseRecords job start bases))
 -- the links of the listing, the first pairs of its boundaries, which links pass, and which are flat
 pub record LinksTold (limits : Limits) (dirs : List ℕ) (g : Grid) (anchors : List WalkPosition) (l : List Item) (n : ℕ)
     (own bits lowers highers regions firsts seconds passing flat : List ℕ) (r : ℕ) : Type 0 where
-  pub told : Told dirs g l n own bits lowers highers
-  pub linked : Linked dirs g anchors l regions firsts seconds r
+  pub told : BoundaryTables dirs g l n own bits lowers highers
+  pub linked : LinkTable dirs g anchors l regions firsts seconds r
   pub passed : Passed limits dirs g l regions firsts seconds passing r
   pub flat-inside : FlatInside limits dirs g l regions firsts seconds flat r
 
@@ -31,14 +31,14 @@ module _ (limits : Limits) (job : List ℕ) (start bases : ℕ) (g : Grid) (n : 
     (records : ℕ) where
   -- these of any listing that the arrays tell of
   pub record LinksFrom (lowers highers regions firsts seconds passing flat : List ℕ) (r : ℕ) : Type 0 where
-    pub ranked : Ranked n firsts seconds r
+    pub ranked : LinkRanks n firsts seconds r
     pub each : (dirs : List ℕ) (anchors : List WalkPosition) (l : List Item) (marks : List ℕ)
-        → Listed dirs g l n own bits ramps labels removed separated owners lefts rights records marks
+        → ListingTables dirs g l n own bits ramps labels removed separated owners lefts rights records marks
         → anchors ≡ anchorsIn job start bases → LinksTold limits dirs g anchors l n own bits lowers highers regions firsts seconds passing flat r
 
   -- the merge plan of any such listing
   pub record PlanFrom (marks into : List ℕ) : Type 0 where
     pub whole : length into ≡ 256
     pub each : (dirs : List ℕ) (anchors : List WalkPosition) (l : List Item)
-        → Listed dirs g l n own bits ramps labels removed separated owners lefts rights records marks
+        → ListingTables dirs g l n own bits ramps labels removed separated owners lefts rights records marks
         → anchors ≡ anchorsIn job start bases → (i : ℕ) → i < n → getD into i 0 ≡ mergePlan limits dirs g anchors l i

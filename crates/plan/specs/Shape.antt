@@ -6,7 +6,7 @@ use Prim.Native.Nat.{ℕ, suc}
 use lib.Dec.{leb, eqb}
 use lib.Ieee.{Float, binary64, le, ofBits, toBits}
 use lib.ListN.{length, getD, take}
-use Rattle.areas.specs.Assessments.{pairOf}
+use Rattle.areas.specs.Assessments.{regionPair}
 use Rattle.lists.specs.Rows.{at}
 use Rattle.order.specs.Lists.{keep}
 use Rattle.order.specs.Sorting.{sort}
@@ -53,7 +53,7 @@ module _ (lowers highers regions firsts seconds : List ℕ) where
   -- the region on the other side of an end
   unfoldable pub outerIn : List ℕ → ℕ → ℕ
   unfolding keep otherRegion
-  outerIn js i = otherRegion (pairOf (at lowers i) (at highers i)) (at regions (getD (keep (joinsAt firsts seconds i) js) 0 0))
+  outerIn js i = otherRegion (regionPair (at lowers i) (at highers i)) (at regions (getD (keep (joinsAt firsts seconds i) js) 0 0))
 
   unfoldable pub pathIn : ℕ → ℕ → List ℕ → List ℕ → Bool
   unfolding endsIn regularIn outerIn

@@ -5,7 +5,7 @@ use mathlib.Core.List.{List, map}
 use Prim.Native.Nat.{ℕ, _<_}
 use lib.Ieee.{le}
 use lib.ListN.{length, getD}
-use Rattle.areas.specs.Assessments.{pairOf}
+use Rattle.areas.specs.Assessments.{regionPair}
 use Rattle.lists.specs.Rows.{at}
 use Rattle.grid.specs.Cells.{Grid}
 use Rattle.areas.specs.Spans.{spanIn}
@@ -17,22 +17,22 @@ use Rattle.groups.specs.Tests.{every}
 use Rattle.groups.specs.Listing.{endsAt, bitsAt}
 use Rattle.groups.specs.Regions.{assessAt}
 use Rattle.groups.specs.Measuring.{passes, staysInside}
-use Rattle.groups.specs.Groups.{Group}
+use Rattle.groups.specs.Groups.{LinkGroup}
 use Rattle.groups.specs.Flat.{leastFlatSpans, isFlat}
 use Rattle.groups.specs.Tables.{linkRow}
 use Rattle.plan.specs.Arrays.{isOn}
 use Rattle.plan.specs.Shape.{endsIn, chainIn, pathIn, allAlikeIn}
 
 -- the group of some ranks and links
-abbrev pub groupBy : List ℕ → List ℕ → List ℕ → List ℕ → List ℕ → Group
+abbrev pub groupBy : List ℕ → List ℕ → List ℕ → List ℕ → List ℕ → LinkGroup
 groupBy regions firsts seconds rs js = record { ranks = rs; links = map (linkRow regions firsts seconds) js }
 
 -- ends, width bits and full pairs of n boundaries
-pub record Told (dirs : List ℕ) (g : Grid) (l : List Item) (n : ℕ) (own bits lowers highers : List ℕ) : Type 0 where
+pub record BoundaryTables (dirs : List ℕ) (g : Grid) (l : List Item) (n : ℕ) (own bits lowers highers : List ℕ) : Type 0 where
   pub size : length l ≡ n
   pub ends : (i : ℕ) → i < n → endsAt l i ≡ spanIn own i
   pub widths : (i : ℕ) → i < n → bitsAt l i ≡ at bits i
-  pub pairs : (i : ℕ) → i < n → fullPair (assessAt dirs g l i) ≡ pairOf (at lowers i) (at highers i)
+  pub pairs : (i : ℕ) → i < n → fullPair (assessAt dirs g l i) ≡ regionPair (at lowers i) (at highers i)
 
 -- which links pass
 pub record Passed (limits : Limits) (dirs : List ℕ) (g : Grid) (l : List Item) (regions firsts seconds passing : List ℕ) (links : ℕ) : Type 0 where

@@ -2,9 +2,9 @@
 ghost use mathlib.Core.Path.{_≡_};
 ghost use Prim.Native.Nat.{_≤_};
 ghost use Rattle.links.specs.HeldLimits.{limitsOf};
-ghost use Rattle.plan.specs.Few.{listed};
+ghost use Rattle.plan.specs.Few.{fewList};
 ghost use Rattle.plan.specs.Told.{serialIn, flatIn};
-ghost use Rattle.plan.specs.Fitting.{RankFits, Ranks, Links};
+ghost use Rattle.plan.specs.Fitting.{RankFits, RanksFit, Links};
 use crate::alike::all_alike;
 use crate::chain::chain_sum;
 use crate::chain::rank_distance;
@@ -28,10 +28,10 @@ pub fn accepts_serial(
     ranks: Few,
     links: Few,
 ) -> bool
-    requires { ⌜ (limits .«most_spans» ≤ 16) × (ranks .count ≤ 256) × (links .count ≤ 256) × Ranks (now own) ranks
+    requires { ⌜ (limits .«most_spans» ≤ 16) × (ranks .count ≤ 256) × (links .count ≤ 256) × RanksFit (now own) ranks
         × Links (now own) (now firsts) (now seconds) links × RankFits (now own) 0 ⌝ }
     ensures { λ r. ⌜ r ≡ serialIn (limitsOf limits) (now (own .entry)) (now (lowers .entry)) (now (highers .entry)) (now (regions .entry)) (now (firsts .entry))
-        (now (seconds .entry)) (now (passing .entry)) (listed ranks) (listed links) ⌝ }
+        (now (seconds .entry)) (now (passing .entry)) (fewList ranks) (fewList links) ⌝ }
 {
     let pass = all_on(passing, links);
     let least = limits.least_spans;
@@ -68,9 +68,9 @@ pub fn accepts_flat(
     ranks: Few,
     links: Few,
 ) -> bool
-    requires { ⌜ (ranks .count ≤ 256) × (links .count ≤ 256) × Ranks (now own) ranks × Links (now own) (now firsts) (now seconds) links ⌝ }
+    requires { ⌜ (ranks .count ≤ 256) × (links .count ≤ 256) × RanksFit (now own) ranks × Links (now own) (now firsts) (now seconds) links ⌝ }
     ensures { λ r. ⌜ r ≡ flatIn (limitsOf limits) (now (own .entry)) (now (lowers .entry)) (now (highers .entry)) (now (regions .entry)) (now (firsts .entry))
-        (now (seconds .entry)) (listed ranks) (listed links) ⌝ }
+        (now (seconds .entry)) (fewList ranks) (fewList links) ⌝ }
 {
     let path = group_is_simple_path(
         limits,

@@ -3,9 +3,9 @@ ghost use mathlib.Core.Path.{_≡_};
 ghost use Prim.Native.Nat.{_<_};
 ghost use Rattle.groups.specs.Tests.{every};
 ghost use Rattle.links.specs.HeldLimits.{limitsOf};
-ghost use Rattle.plan.specs.Few.{listed};
+ghost use Rattle.plan.specs.Few.{fewList};
 ghost use Rattle.plan.specs.Shape.{alikeIn, allAlikeIn};
-ghost use Rattle.plan.specs.Fitting.{RankFits, Ranks};
+ghost use Rattle.plan.specs.Fitting.{RankFits, RanksFit};
 use crate::few::Few;
 use areas::spans::span_at;
 use links::limits::Limits;
@@ -24,8 +24,8 @@ pub fn alike(limits: Limits, own: &[u32; 1024], i: usize, j: usize) -> bool
 
 // The span of rank i with those of all the ranks.
 fn alike_to_all(limits: Limits, own: &[u32; 1024], i: usize, ranks: Few) -> bool
-    requires { ⌜ RankFits (now own) i × Ranks (now own) ranks ⌝ }
-    ensures { λ r. ⌜ r ≡ every (alikeIn (limitsOf limits) (now (own .entry)) i) (listed ranks) ⌝ }
+    requires { ⌜ RankFits (now own) i × RanksFit (now own) ranks ⌝ }
+    ensures { λ r. ⌜ r ≡ every (alikeIn (limitsOf limits) (now (own .entry)) i) (fewList ranks) ⌝ }
 {
     let mut all = true;
     let mut j = ranks.count;
@@ -38,8 +38,8 @@ fn alike_to_all(limits: Limits, own: &[u32; 1024], i: usize, ranks: Few) -> bool
 
 // Every ordered pair of ranks.
 pub fn all_alike(limits: Limits, own: &[u32; 1024], ranks: Few) -> bool
-    requires { ⌜ Ranks (now own) ranks ⌝ }
-    ensures { λ r. ⌜ r ≡ allAlikeIn (limitsOf limits) (now (own .entry)) (listed ranks) ⌝ }
+    requires { ⌜ RanksFit (now own) ranks ⌝ }
+    ensures { λ r. ⌜ r ≡ allAlikeIn (limitsOf limits) (now (own .entry)) (fewList ranks) ⌝ }
 {
     let mut all = true;
     let mut j = ranks.count;

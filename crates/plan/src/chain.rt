@@ -4,7 +4,7 @@ ghost use Prim.Native.Nat.{_≤_};
 ghost use lib.ListN.{length};
 ghost use Rattle.areas.specs.Spans.{spanIn};
 ghost use Rattle.links.specs.Geometry.{centreDistance};
-ghost use Rattle.plan.specs.Few.{listed};
+ghost use Rattle.plan.specs.Few.{fewList};
 ghost use Rattle.plan.specs.Shape.{gapIn, chainIn, BitsOf};
 ghost use Rattle.plan.specs.Fitting.{RankFits, LinkFits, Links};
 use crate::few::Few;
@@ -38,7 +38,7 @@ fn fill_gaps(
     gaps: &mut [u64; 16],
 )
     requires { ⌜ (links .count ≤ 16) × Links (now own) (now firsts) (now seconds) links × (length (now gaps) ≡ 16) ⌝ }
-    ensures { λ _. ⌜ BitsOf (gapIn (now (firsts .entry)) (now (seconds .entry)) (now (own .entry))) (listed links) (now (gaps .exit)) ⌝ }
+    ensures { λ _. ⌜ BitsOf (gapIn (now (firsts .entry)) (now (seconds .entry)) (now (own .entry))) (fewList links) (now (gaps .exit)) ⌝ }
 {
     let mut j: u32 = 0;
     while j < links.count {
@@ -52,7 +52,7 @@ fn fill_gaps(
 // The links' distances, added up from the least; their bits are in the order of the numbers, for none is negative.
 pub fn chain_sum(own: &[u32; 1024], firsts: &[u32; 256], seconds: &[u32; 256], links: Few) -> f64
     requires { ⌜ (1 ≤ links .count) × (links .count ≤ 16) × Links (now own) (now firsts) (now seconds) links ⌝ }
-    ensures { λ r. ⌜ r ≡ chainIn (now (firsts .entry)) (now (seconds .entry)) (now (own .entry)) (listed links) ⌝ }
+    ensures { λ r. ⌜ r ≡ chainIn (now (firsts .entry)) (now (seconds .entry)) (now (own .entry)) (fewList links) ⌝ }
 {
     let mut gaps = [0u64; 16];
     fill_gaps(own, firsts, seconds, links, &mut gaps);

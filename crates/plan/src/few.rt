@@ -3,7 +3,7 @@ ghost use mathlib.Core.Path.{_≡_};
 ghost use mathlib.Core.Bool.{cond};
 ghost use mathlib.Core.List.{[]};
 ghost use Prim.Native.Nat.{_<_};
-ghost use Rattle.plan.specs.Few.{held, pushed, slot};
+ghost use Rattle.plan.specs.Few.{fewOf, pushed, fewAt};
 
 pub struct Few {
     pub count: u32,
@@ -13,7 +13,7 @@ pub struct Few {
 impl Few {
     // Of no number.
     pub fn none() -> Few
-        ensures { λ r. ⌜ r ≡ held [] ⌝ }
+        ensures { λ r. ⌜ r ≡ fewOf [] ⌝ }
     {
         Few {
             count: 0,
@@ -55,7 +55,7 @@ impl Few {
 
     // Number j, of at most sixteen.
     pub fn get(self, j: u32) -> u32
-        ensures { λ r. ⌜ r ≡ slot self j ⌝ }
+        ensures { λ r. ⌜ r ≡ fewAt self j ⌝ }
     {
         if 16 <= j {
             return 0;
@@ -66,8 +66,8 @@ impl Few {
 
     // Number j, as an index.
     pub fn index(self, j: u32) -> usize
-        requires { ⌜ slot self j < 256 ⌝ }
-        ensures { λ r. ⌜ (r ≡ slot self j) × (r < 256) ⌝ }
+        requires { ⌜ fewAt self j < 256 ⌝ }
+        ensures { λ r. ⌜ (r ≡ fewAt self j) × (r < 256) ⌝ }
     {
         self.get(j) as usize
     }

@@ -5,8 +5,8 @@ ghost use Prim.Native.Nat.{_<_, _≤_};
 ghost use lib.Dec.{eqb};
 ghost use Rattle.lists.specs.Rows.{at};
 ghost use Rattle.order.specs.Lists.{keep, upFrom};
-ghost use Rattle.plan.specs.Few.{held};
-ghost use Rattle.plan.specs.Arrays.{inPart, linkIn, Ranked};
+ghost use Rattle.plan.specs.Few.{fewOf};
+ghost use Rattle.plan.specs.Arrays.{inPart, linkInPart, LinkRanks};
 use crate::few::Few;
 
 fn number(i: usize) -> u32
@@ -25,7 +25,7 @@ fn in_part(joined: u8, part: u32, c: u32) -> bool
 // The joined ranks of part c.
 pub fn ranks_of(n: usize, joined: &[u8; 256], parts: &[u32; 256], c: u32) -> Few
     requires { ⌜ n ≤ 256 ⌝ }
-    ensures { λ r. ⌜ r ≡ held (keep (inPart (now (joined .entry)) (now (parts .entry)) c) (upFrom 0 n)) ⌝ }
+    ensures { λ r. ⌜ r ≡ fewOf (keep (inPart (now (joined .entry)) (now (parts .entry)) c) (upFrom 0 n)) ⌝ }
 {
     let mut found = Few::none();
     let mut i = n;
@@ -52,8 +52,8 @@ pub fn links_of(
     parts: &[u32; 256],
     c: u32,
 ) -> Few
-    requires { ⌜ Ranked 256 (now firsts) (now seconds) links ⌝ }
-    ensures { λ r. ⌜ r ≡ held (keep (linkIn (now (chosen .entry)) (now (firsts .entry)) (now (parts .entry)) c) (upFrom 0 links)) ⌝ }
+    requires { ⌜ LinkRanks 256 (now firsts) (now seconds) links ⌝ }
+    ensures { λ r. ⌜ r ≡ fewOf (keep (linkInPart (now (chosen .entry)) (now (firsts .entry)) (now (parts .entry)) c) (upFrom 0 links)) ⌝ }
 {
     let mut found = Few::none();
     let mut k = links;

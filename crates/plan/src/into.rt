@@ -4,7 +4,7 @@ ghost use Prim.Native.Nat.{_<_, _≤_};
 ghost use lib.ListN.{length};
 ghost use Rattle.lists.specs.Rows.{at};
 ghost use Rattle.links.specs.HeldLimits.{limitsOf};
-ghost use Rattle.plan.specs.Arrays.{Filled};
+ghost use Rattle.plan.specs.Arrays.{FirstAre};
 ghost use Rattle.plan.specs.Into.{serialInto, flatInto, goesTo};
 ghost use Rattle.plan.specs.Fitting.{Safe};
 use crate::judge::judge_flat;
@@ -55,7 +55,7 @@ fn one_serial(
     i: usize,
 ) -> u32
     requires { ⌜ (limits .«most_spans» ≤ 16) × Safe n (now own) (now bits) (now firsts) (now seconds) links × (i < 256)
-        × Filled (serialInto (limitsOf limits) n (now own) (now bits) (now lowers) (now highers) (now regions) (now firsts) (now seconds) links
+        × FirstAre (serialInto (limitsOf limits) n (now own) (now bits) (now lowers) (now highers) (now regions) (now firsts) (now seconds) links
         (now passing) (now chosen) (now joined) (now parts)) i (now into) ⌝ }
     ensures { λ r. ⌜ r ≡ serialInto (limitsOf limits) n (now (own .entry)) (now (bits .entry)) (now (lowers .entry)) (now (highers .entry))
         (now (regions .entry)) (now (firsts .entry)) (now (seconds .entry)) links (now (passing .entry)) (now (chosen .entry)) (now (joined .entry))
@@ -107,7 +107,7 @@ pub fn into_serial(
     into: &mut [u32; 256],
 )
     requires { ⌜ (limits .«most_spans» ≤ 16) × Safe n (now own) (now bits) (now firsts) (now seconds) links × (length (now into) ≡ 256) ⌝ }
-    ensures { λ r. ⌜ Filled (serialInto (limitsOf limits) n (now (own .entry)) (now (bits .entry)) (now (lowers .entry)) (now (highers .entry))
+    ensures { λ r. ⌜ FirstAre (serialInto (limitsOf limits) n (now (own .entry)) (now (bits .entry)) (now (lowers .entry)) (now (highers .entry))
         (now (regions .entry)) (now (firsts .entry)) (now (seconds .entry)) links (now (passing .entry)) (now (chosen .entry)) (now (joined .entry))
         (now (parts .entry))) n (now (into .exit)) ⌝ }
 {
@@ -154,7 +154,7 @@ fn one_flat(
     i: usize,
 ) -> u32
     requires { ⌜ (limits .«most_spans» ≤ 16) × Safe n (now own) (now bits) (now firsts) (now seconds) links × (i < 256)
-        × Filled (flatInto (limitsOf limits) n (now own) (now bits) (now lowers) (now highers) (now regions) (now firsts) (now seconds) links (now chosen)
+        × FirstAre (flatInto (limitsOf limits) n (now own) (now bits) (now lowers) (now highers) (now regions) (now firsts) (now seconds) links (now chosen)
         (now joined) (now parts)) i (now into) ⌝ }
     ensures { λ r. ⌜ r ≡ flatInto (limitsOf limits) n (now (own .entry)) (now (bits .entry)) (now (lowers .entry)) (now (highers .entry)) (now (regions .entry))
         (now (firsts .entry)) (now (seconds .entry)) links (now (chosen .entry)) (now (joined .entry)) (now (parts .entry)) i ⌝ }
@@ -203,7 +203,7 @@ pub fn into_flat(
     into: &mut [u32; 256],
 )
     requires { ⌜ (limits .«most_spans» ≤ 16) × Safe n (now own) (now bits) (now firsts) (now seconds) links × (length (now into) ≡ 256) ⌝ }
-    ensures { λ r. ⌜ Filled (flatInto (limitsOf limits) n (now (own .entry)) (now (bits .entry)) (now (lowers .entry)) (now (highers .entry))
+    ensures { λ r. ⌜ FirstAre (flatInto (limitsOf limits) n (now (own .entry)) (now (bits .entry)) (now (lowers .entry)) (now (highers .entry))
         (now (regions .entry)) (now (firsts .entry)) (now (seconds .entry)) links (now (chosen .entry)) (now (joined .entry)) (now (parts .entry))) n
         (now (into .exit)) ⌝ }
 {
@@ -242,7 +242,7 @@ fn goes_to(s: u32, f: u32, i: u32) -> u32
 // Which rank each rank goes into by both.
 pub fn combine(n: usize, serial: &[u32; 256], flat: &[u32; 256], plan: &mut [u32; 256])
     requires { ⌜ (n ≤ 256) × (length (now plan) ≡ 256) ⌝ }
-    ensures { λ r. ⌜ Filled (λ i. goesTo (at (now (serial .entry)) i) (at (now (flat .entry)) i) i) n (now (plan .exit)) ⌝ }
+    ensures { λ r. ⌜ FirstAre (λ i. goesTo (at (now (serial .entry)) i) (at (now (flat .entry)) i) i) n (now (plan .exit)) ⌝ }
 {
     let mut i: usize = 0;
     while i < n {

@@ -3,9 +3,9 @@ ghost use mathlib.Core.Path.{_≡_};
 ghost use Prim.Native.Nat.{_≤_};
 ghost use lib.ListN.{length};
 ghost use Rattle.links.specs.HeldLimits.{limitsOf};
-ghost use Rattle.plan.specs.Arrays.{Ranked};
-ghost use Rattle.plan.specs.Fitting.{Plannable, Safe};
-ghost use Rattle.plan.specs.Planning.{Parted, SerialPlan, FlatPlan, PlanOf};
+ghost use Rattle.plan.specs.Arrays.{LinkRanks};
+ghost use Rattle.plan.specs.Fitting.{RankedLinks, Safe};
+ghost use Rattle.plan.specs.Planning.{LinkComponents, SerialPlan, FlatPlan, PlanOf};
 use crate::into::combine;
 use crate::into::into_flat;
 use crate::into::into_serial;
@@ -25,8 +25,8 @@ fn join_chosen(
     parts: &mut [u32; 256],
     joined: &mut [u8; 256],
 )
-    requires { ⌜ Ranked 256 (now firsts) (now seconds) links × (length (now parts) ≡ 256) × (length (now joined) ≡ 256) ⌝ }
-    ensures { λ r. ⌜ Parted (now (chosen .entry)) (now (firsts .entry)) (now (seconds .entry)) links (now (parts .exit)) (now (joined .exit)) ⌝ }
+    requires { ⌜ LinkRanks 256 (now firsts) (now seconds) links × (length (now parts) ≡ 256) × (length (now joined) ≡ 256) ⌝ }
+    ensures { λ r. ⌜ LinkComponents (now (chosen .entry)) (now (firsts .entry)) (now (seconds .entry)) links (now (parts .exit)) (now (joined .exit)) ⌝ }
 {
     connected_link_groups(chosen, firsts, seconds, links, parts);
     mark_joined(chosen, firsts, seconds, links, joined);
@@ -201,7 +201,7 @@ pub fn merge_plan(
     flat: &[u8; 256],
     into: &mut [u32; 256],
 )
-    requires { ⌜ (limits .«most_spans» ≤ 16) × Plannable n (now own) (now bits) (now firsts) (now seconds) links × (length (now into) ≡ 256) ⌝ }
+    requires { ⌜ (limits .«most_spans» ≤ 16) × RankedLinks n (now own) (now bits) (now firsts) (now seconds) links × (length (now into) ≡ 256) ⌝ }
     ensures { λ r. ⌜ PlanOf (limitsOf limits) n (now (own .entry)) (now (bits .entry)) (now (lowers .entry)) (now (highers .entry)) (now (regions .entry))
         (now (firsts .entry)) (now (seconds .entry)) links (now (marks .entry)) (now (passing .entry)) (now (flat .entry)) (now (into .exit)) ⌝ }
 {

@@ -6,7 +6,7 @@ ghost use lib.Dec.{eqb};
 ghost use lib.ListN.{length};
 ghost use Rattle.lists.specs.Rows.{at};
 ghost use Rattle.graph.specs.Parts.{join};
-ghost use Rattle.plan.specs.Arrays.{partFrom, joinedFrom, Ranked, Filled};
+ghost use Rattle.plan.specs.Arrays.{partFrom, joinedFrom, LinkRanks, FirstAre};
 use wire::size;
 
 fn smaller(a: u32, b: u32) -> u32
@@ -30,7 +30,7 @@ fn moved(c: u32, high: u32, low: u32) -> u32
 // Each rank is a part of its own.
 pub fn start(parts: &mut [u32; 256])
     requires { ⌜ length (now parts) ≡ 256 ⌝ }
-    ensures { λ r. ⌜ Filled (λ i. i) 256 (now (parts .exit)) ⌝ }
+    ensures { λ r. ⌜ FirstAre (λ i. i) 256 (now (parts .exit)) ⌝ }
 {
     let mut i: usize = 0;
     while i < 256 {
@@ -42,7 +42,7 @@ pub fn start(parts: &mut [u32; 256])
 // Makes the parts a and b one.
 fn join_parts(parts: &mut [u32; 256], a: u32, b: u32)
     requires { ⌜ length (now parts) ≡ 256 ⌝ }
-    ensures { λ r. ⌜ Filled (λ i. join a b (at (now (parts .entry)) i)) 256 (now (parts .exit)) ⌝ }
+    ensures { λ r. ⌜ FirstAre (λ i. join a b (at (now (parts .entry)) i)) 256 (now (parts .exit)) ⌝ }
 {
     let low = smaller(a, b);
     let high = larger(a, b);
@@ -56,7 +56,7 @@ fn join_parts(parts: &mut [u32; 256], a: u32, b: u32)
 // Joins the parts of two ranks, if the link is chosen.
 fn join_link(parts: &mut [u32; 256], on: u8, first: u32, second: u32)
     requires { ⌜ (length (now parts) ≡ 256) × (first < 256) × (second < 256) ⌝ }
-    ensures { λ r. ⌜ Filled (λ i. cond (eqb on 1) (join (at (now (parts .entry)) first) (at (now (parts .entry)) second) (at (now (parts .entry)) i))
+    ensures { λ r. ⌜ FirstAre (λ i. cond (eqb on 1) (join (at (now (parts .entry)) first) (at (now (parts .entry)) second) (at (now (parts .entry)) i))
         (at (now (parts .entry)) i)) 256 (now (parts .exit)) ⌝ }
 {
     if on != 1 {
@@ -75,8 +75,8 @@ pub fn connected_link_groups(
     links: usize,
     parts: &mut [u32; 256],
 )
-    requires { ⌜ (length (now parts) ≡ 256) × Ranked 256 (now firsts) (now seconds) links ⌝ }
-    ensures { λ r. ⌜ Filled (partFrom (now (chosen .entry)) (now (firsts .entry)) (now (seconds .entry)) 0 links) 256 (now (parts .exit)) ⌝ }
+    requires { ⌜ (length (now parts) ≡ 256) × LinkRanks 256 (now firsts) (now seconds) links ⌝ }
+    ensures { λ r. ⌜ FirstAre (partFrom (now (chosen .entry)) (now (firsts .entry)) (now (seconds .entry)) 0 links) 256 (now (parts .exit)) ⌝ }
 {
     start(parts);
     let mut k = links;
@@ -89,7 +89,7 @@ pub fn connected_link_groups(
 // Marks the two ranks of the link with 1, if it is chosen.
 fn mark_link(joined: &mut [u8; 256], on: u8, first: u32, second: u32)
     requires { ⌜ (length (now joined) ≡ 256) × (first < 256) × (second < 256) ⌝ }
-    ensures { λ r. ⌜ Filled (λ i. cond (eqb on 1 && (eqb i first || eqb i second)) 1 (at (now (joined .entry)) i)) 256 (now (joined .exit)) ⌝ }
+    ensures { λ r. ⌜ FirstAre (λ i. cond (eqb on 1 && (eqb i first || eqb i second)) 1 (at (now (joined .entry)) i)) 256 (now (joined .exit)) ⌝ }
 {
     if on != 1 {
         return;
@@ -106,8 +106,8 @@ pub fn mark_joined(
     links: usize,
     joined: &mut [u8; 256],
 )
-    requires { ⌜ Ranked 256 (now firsts) (now seconds) links ⌝ }
-    ensures { λ r. ⌜ Filled (λ i. cond (joinedFrom (now (chosen .entry)) (now (firsts .entry)) (now (seconds .entry)) 0 links i) 1 0) 256
+    requires { ⌜ LinkRanks 256 (now firsts) (now seconds) links ⌝ }
+    ensures { λ r. ⌜ FirstAre (λ i. cond (joinedFrom (now (chosen .entry)) (now (firsts .entry)) (now (seconds .entry)) 0 links i) 1 0) 256
         (now (joined .exit)) ⌝ }
 {
     *joined = [0u8; 256];

@@ -7,7 +7,7 @@ ghost use Rattle.lists.specs.Rows.{at};
 ghost use Rattle.order.specs.Lists.{keep};
 ghost use Rattle.groups.specs.Tests.{every};
 ghost use Rattle.links.specs.HeldLimits.{limitsOf};
-ghost use Rattle.plan.specs.Few.{held, listed, near, nearer};
+ghost use Rattle.plan.specs.Few.{fewOf, fewList, near, nearLink};
 ghost use Rattle.plan.specs.Arrays.{isOn, joinsAt};
 ghost use Rattle.plan.specs.Shape.{endsIn, regularIn, outerIn, pathIn};
 ghost use Rattle.plan.specs.Fitting.{Slots};
@@ -33,7 +33,7 @@ impl Near {
     // With x before the others, if asked.
     fn with(self, x: u32, on: bool) -> Near
         requires { ⌜ self .count < 4294967295 ⌝ }
-        ensures { λ r. ⌜ r ≡ cond on (nearer self x) self ⌝ }
+        ensures { λ r. ⌜ r ≡ cond on (nearLink self x) self ⌝ }
     {
         if on {
             return Near {
@@ -48,7 +48,7 @@ impl Near {
 // The links that join rank i.
 fn links_at(firsts: &[u32; 256], seconds: &[u32; 256], links: Few, i: u32) -> Near
     requires { ⌜ (links .count ≤ 256) × Slots 256 links ⌝ }
-    ensures { λ r. ⌜ r ≡ near (keep (joinsAt (now (firsts .entry)) (now (seconds .entry)) i) (listed links)) ⌝ }
+    ensures { λ r. ⌜ r ≡ near (keep (joinsAt (now (firsts .entry)) (now (seconds .entry)) i) (fewList links)) ⌝ }
 {
     let mut found = Near { count: 0, first: 0 };
     let mut j = links.count;
@@ -63,7 +63,7 @@ fn links_at(firsts: &[u32; 256], seconds: &[u32; 256], links: Few, i: u32) -> Ne
 // The ranks that one link joins.
 pub fn group_end_nodes(firsts: &[u32; 256], seconds: &[u32; 256], ranks: Few, links: Few) -> Few
     requires { ⌜ (ranks .count ≤ 256) × (links .count ≤ 256) × Slots 256 links ⌝ }
-    ensures { λ r. ⌜ r ≡ held (endsIn (now (firsts .entry)) (now (seconds .entry)) (listed ranks) (listed links)) ⌝ }
+    ensures { λ r. ⌜ r ≡ fewOf (endsIn (now (firsts .entry)) (now (seconds .entry)) (fewList ranks) (fewList links)) ⌝ }
 {
     let mut found = Few::none();
     let mut j = ranks.count;
@@ -79,7 +79,7 @@ pub fn group_end_nodes(firsts: &[u32; 256], seconds: &[u32; 256], ranks: Few, li
 // One link or two join each rank.
 fn regular(firsts: &[u32; 256], seconds: &[u32; 256], ranks: Few, links: Few) -> bool
     requires { ⌜ (links .count ≤ 256) × Slots 256 links ⌝ }
-    ensures { λ r. ⌜ r ≡ regularIn (now (firsts .entry)) (now (seconds .entry)) (listed ranks) (listed links) ⌝ }
+    ensures { λ r. ⌜ r ≡ regularIn (now (firsts .entry)) (now (seconds .entry)) (fewList ranks) (fewList links) ⌝ }
 {
     let mut all = true;
     let mut j = ranks.count;
@@ -94,7 +94,7 @@ fn regular(firsts: &[u32; 256], seconds: &[u32; 256], ranks: Few, links: Few) ->
 // Each of the links is marked.
 pub fn all_on(marks: &[u8; 256], links: Few) -> bool
     requires { ⌜ Slots 256 links ⌝ }
-    ensures { λ r. ⌜ r ≡ every (isOn (now (marks .entry))) (listed links) ⌝ }
+    ensures { λ r. ⌜ r ≡ every (isOn (now (marks .entry))) (fewList links) ⌝ }
 {
     let mut all = true;
     let mut j = links.count;
@@ -116,7 +116,8 @@ fn outer(
     i: u32,
 ) -> u32
     requires { ⌜ (links .count ≤ 256) × Slots 256 links × (i < 256) ⌝ }
-    ensures { λ r. ⌜ r ≡ outerIn (now (lowers .entry)) (now (highers .entry)) (now (regions .entry)) (now (firsts .entry)) (now (seconds .entry)) (listed links)
+    ensures { λ r. ⌜ r ≡ outerIn (now (lowers .entry)) (now (highers .entry)) (now (regions .entry)) (now (firsts .entry)) (now (seconds .entry))
+        (fewList links)
         i ⌝ }
 {
     let near = links_at(firsts, seconds, links, i);
@@ -138,7 +139,7 @@ pub fn group_is_simple_path(
 ) -> bool
     requires { ⌜ (ranks .count ≤ 256) × (links .count ≤ 256) × Slots 256 ranks × Slots 256 links ⌝ }
     ensures { λ r. ⌜ r ≡ pathIn (now (lowers .entry)) (now (highers .entry)) (now (regions .entry)) (now (firsts .entry)) (now (seconds .entry)) least
-        (limitsOf limits .mostSpans) (listed ranks) (listed links) ⌝ }
+        (limitsOf limits .mostSpans) (fewList ranks) (fewList links) ⌝ }
 {
     let size = GroupSize { spans: ranks.count };
     let two = group_end_nodes(firsts, seconds, ranks, links);

@@ -5,7 +5,7 @@ ghost use lib.ListN.{length};
 ghost use Rattle.grid.specs.Cells.{mapOf};
 ghost use Rattle.areas.specs.Words.{labelsIn};
 ghost use Rattle.links.specs.HeldLimits.{limitsOf};
-ghost use Rattle.plan.specs.Listed.{Ready};
+ghost use Rattle.plan.specs.Listed.{PlanInput};
 ghost use Rattle.plan.specs.Planned.{LinksFrom, PlanFrom};
 use crate::merge::merge_plan;
 use candidates::candidate_links;
@@ -40,7 +40,7 @@ fn measured_links(
     passing: &mut [u8; 256],
     flat: &mut [u8; 256],
 ) -> usize
-    requires { ⌜ Ready (now job) «bases_at» bases (now cells) width height n (now own) (now bits) (now ramps) (now work) (now removed) (now separated)
+    requires { ⌜ PlanInput (now job) «bases_at» bases (now cells) width height n (now own) (now bits) (now ramps) (now work) (now removed) (now separated)
         (now owners) (now lefts) (now rights) records ⌝ }
     ensures work { λ r. ⌜ now (work .exit) ≡ now (work .entry) ⌝ }
     ensures links { λ r. ⌜ LinksFrom (limitsOf limits) (now (job .entry)) «bases_at» bases (mapOf width height (now (cells .entry))) n (now (own .entry))
@@ -117,7 +117,7 @@ pub fn plan_merges(
     into: &mut [u32; 256],
 )
     requires { ⌜ (limits .«most_spans» ≤ 16)
-        × Ready (now job) «bases_at» bases (now cells) width height n (now own) (now bits) (now ramps) (now work) (now removed) (now separated) (now owners)
+        × PlanInput (now job) «bases_at» bases (now cells) width height n (now own) (now bits) (now ramps) (now work) (now removed) (now separated) (now owners)
         (now lefts) (now rights) records × (length (now into) ≡ 256) ⌝ }
     ensures work { λ _. ⌜ now (work .exit) ≡ now (work .entry) ⌝ }
     ensures plan { λ _. ⌜ PlanFrom (limitsOf limits) (now (job .entry)) «bases_at» bases (mapOf width height (now (cells .entry))) n (now (own .entry))

@@ -8,9 +8,9 @@ ghost use Rattle.order.specs.Sorting.{sort};
 ghost use Rattle.length.specs.Total.{totalLe};
 ghost use Rattle.links.specs.Held.{Number};
 ghost use Rattle.links.specs.HeldLimits.{limitsOf};
-ghost use Rattle.plan.specs.Few.{held, listed};
+ghost use Rattle.plan.specs.Few.{fewOf, fewList};
 ghost use Rattle.plan.specs.Shape.{leastIn, sumIn, nearerIn, fineIn, retainedIn};
-ghost use Rattle.plan.specs.Fitting.{RankFits, WidthFits, Ranks, Widths};
+ghost use Rattle.plan.specs.Fitting.{RankFits, WidthFits, RanksFit, Widths};
 use crate::chain::rank_distance;
 use crate::few::Few;
 use length::floats::total_le;
@@ -30,7 +30,7 @@ fn lesser(a: u64, b: u64) -> u64
 // The bits of the least width.
 fn least_bits(bits: &[u64; 256], ranks: Few) -> u64
     requires { ⌜ (1 ≤ ranks .count) × Widths (now bits) ranks ⌝ }
-    ensures { λ r. ⌜ (r ≡ leastIn (now (bits .entry)) (listed ranks)) × (r ≤ 0x40D0_0000_0000_0000) ⌝ }
+    ensures { λ r. ⌜ (r ≡ leastIn (now (bits .entry)) (fewList ranks)) × (r ≤ 0x40D0_0000_0000_0000) ⌝ }
 {
     let mut j = ranks.count - 1;
     let mut least = bits[ranks.index(j)];
@@ -54,7 +54,7 @@ fn is_eligible(limits: Limits, bits: &[u64; 256], least: f64, i: usize) -> bool
 // The ranks that are no wider than the least width and the tolerance.
 fn eligible(limits: Limits, bits: &[u64; 256], least: f64, ranks: Few) -> Few
     requires { ⌜ (ranks .count ≤ 256) × Widths (now bits) ranks ⌝ }
-    ensures { λ r. ⌜ r ≡ held (keep (fineIn (limitsOf limits) (now (bits .entry)) least) (listed ranks)) ⌝ }
+    ensures { λ r. ⌜ r ≡ fewOf (keep (fineIn (limitsOf limits) (now (bits .entry)) least) (fewList ranks)) ⌝ }
 {
     let mut found = Few::none();
     let mut j = ranks.count;
@@ -70,8 +70,8 @@ fn eligible(limits: Limits, bits: &[u64; 256], least: f64, ranks: Few) -> Few
 
 // The sum of the distances from rank i to all the ranks.
 fn sum_from(own: &[u32; 1024], ranks: Few, i: usize) -> f64
-    requires { ⌜ (1 ≤ ranks .count) × Ranks (now own) ranks × RankFits (now own) i ⌝ }
-    ensures { λ r. ⌜ (r ≡ sumIn (now (own .entry)) (listed ranks) i) × Number r ⌝ }
+    requires { ⌜ (1 ≤ ranks .count) × RanksFit (now own) ranks × RankFits (now own) i ⌝ }
+    ensures { λ r. ⌜ (r ≡ sumIn (now (own .entry)) (fewList ranks) i) × Number r ⌝ }
 {
     let mut total = rank_distance(own, i, ranks.index(0));
     let mut j: u32 = 1;
@@ -84,8 +84,8 @@ fn sum_from(own: &[u32; 1024], ranks: Few, i: usize) -> f64
 
 // The one of the lesser sum, the first if they are the same.
 fn nearer(own: &[u32; 1024], ranks: Few, i: usize, j: usize) -> usize
-    requires { ⌜ (1 ≤ ranks .count) × Ranks (now own) ranks × RankFits (now own) i × RankFits (now own) j ⌝ }
-    ensures { λ r. ⌜ (r ≡ cond (nearerIn (now (own .entry)) (listed ranks) i j) i j) × RankFits (now (own .entry)) r ⌝ }
+    requires { ⌜ (1 ≤ ranks .count) × RanksFit (now own) ranks × RankFits (now own) i × RankFits (now own) j ⌝ }
+    ensures { λ r. ⌜ (r ≡ cond (nearerIn (now (own .entry)) (fewList ranks) i j) i j) × RankFits (now (own .entry)) r ⌝ }
 {
     let x = sum_from(own, ranks, i);
     let y = sum_from(own, ranks, j);
@@ -94,8 +94,8 @@ fn nearer(own: &[u32; 1024], ranks: Few, i: usize, j: usize) -> usize
 
 // Of some ranks the one with the least sum of distances to all the ranks, the earliest of such.
 fn nearest(own: &[u32; 1024], ranks: Few, among: Few) -> usize
-    requires { ⌜ (1 ≤ ranks .count) × (1 ≤ among .count) × Ranks (now own) ranks × Ranks (now own) among ⌝ }
-    ensures { λ r. ⌜ (r ≡ getD (sort (nearerIn (now (own .entry)) (listed ranks)) (listed among)) 0 0) × (r < 256) ⌝ }
+    requires { ⌜ (1 ≤ ranks .count) × (1 ≤ among .count) × RanksFit (now own) ranks × RanksFit (now own) among ⌝ }
+    ensures { λ r. ⌜ (r ≡ getD (sort (nearerIn (now (own .entry)) (fewList ranks)) (fewList among)) 0 0) × (r < 256) ⌝ }
 {
     let mut j = among.count - 1;
     let mut best = among.index(j);
@@ -108,8 +108,8 @@ fn nearest(own: &[u32; 1024], ranks: Few, among: Few) -> usize
 
 // The retained rank of a group.
 pub fn representative(limits: Limits, own: &[u32; 1024], bits: &[u64; 256], ranks: Few) -> usize
-    requires { ⌜ (1 ≤ ranks .count) × (ranks .count ≤ 16) × Ranks (now own) ranks × Widths (now bits) ranks × RankFits (now own) 0 ⌝ }
-    ensures { λ r. ⌜ (r ≡ retainedIn (limitsOf limits) (now (own .entry)) (now (bits .entry)) (listed ranks)) × (r < 256) ⌝ }
+    requires { ⌜ (1 ≤ ranks .count) × (ranks .count ≤ 16) × RanksFit (now own) ranks × Widths (now bits) ranks × RankFits (now own) 0 ⌝ }
+    ensures { λ r. ⌜ (r ≡ retainedIn (limitsOf limits) (now (own .entry)) (now (bits .entry)) (fewList ranks)) × (r < 256) ⌝ }
 {
     let least = width_of(least_bits(bits, ranks));
     let among = eligible(limits, bits, least, ranks);

@@ -6,7 +6,7 @@ ghost use lib.Dec.{eqb};
 ghost use lib.ListN.{length};
 ghost use Rattle.lists.specs.Rows.{at};
 ghost use Rattle.links.specs.HeldLimits.{limitsOf};
-ghost use Rattle.plan.specs.Arrays.{isOn, Ranked, Filled};
+ghost use Rattle.plan.specs.Arrays.{isOn, LinkRanks, FirstAre};
 ghost use Rattle.plan.specs.Shape.{bothOn, flatLinkIn};
 ghost use Rattle.plan.specs.Fitting.{RankFits, LinkFits};
 use crate::alike::alike;
@@ -35,8 +35,8 @@ pub fn select_serial(
     links: usize,
     chosen: &mut [u8; 256],
 )
-    requires { ⌜ (length (now chosen) ≡ 256) × Ranked 256 (now firsts) (now seconds) links ⌝ }
-    ensures { λ r. ⌜ Filled (λ k. cond (bothOn (now (marks .entry)) (at (now (firsts .entry)) k) (at (now (seconds .entry)) k)) 1 0) links
+    requires { ⌜ (length (now chosen) ≡ 256) × LinkRanks 256 (now firsts) (now seconds) links ⌝ }
+    ensures { λ r. ⌜ FirstAre (λ k. cond (bothOn (now (marks .entry)) (at (now (firsts .entry)) k) (at (now (seconds .entry)) k)) 1 0) links
         (now (chosen .exit)) ⌝ }
 {
     let mut k: usize = 0;
@@ -83,7 +83,7 @@ pub fn select_flat(
     chosen: &mut [u8; 256],
 )
     requires { ⌜ (length (now chosen) ≡ 256) × (links ≤ 256) × ((k : ℕ) → k < links → LinkFits (now own) (now firsts) (now seconds) k) ⌝ }
-    ensures { λ r. ⌜ Filled (λ k. cond
+    ensures { λ r. ⌜ FirstAre (λ k. cond
         (flatLinkIn (limitsOf limits) (now (own .entry)) (now (into .entry)) (at (now (flat .entry)) k) (at (now (firsts .entry)) k)
         (at (now (seconds .entry)) k)) 1 0) links (now (chosen .exit)) ⌝ }
 {

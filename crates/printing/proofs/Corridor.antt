@@ -9,11 +9,11 @@ use lib.Dec.{ltb}
 use lib.ListN.{length}
 use Rattle.wire.specs.Bytes.{words, part, number, bytes, numberAt}
 use Rattle.format.specs.Decode.{decodeAnswer}
-use Rattle.listing.specs.Lines.{listingOf}
-use Rattle.listing.specs.Answer.{listing, whole}
+use Rattle.listing.specs.Lines.{answerLines}
+use Rattle.listing.specs.Answer.{answerText, answerWhole}
 use Rattle.listing.specs.Corridor.{corridorBytes, corridorText}
 use Rattle.listing.proofs.Cases.{corridor-listing}
-use Rattle.results.specs.Cases.{upright, observed, corridor, corridorAnswer}
+use Rattle.results.specs.Cases.{upright, corridorObservation, corridor, corridorAnswer}
 use Rattle.results.specs.Calls.{reduceResult}
 use Rattle.results.proofs.Cases.{corridor-case}
 use Rattle.chokes.proofs.Demand.{first-written}
@@ -23,16 +23,16 @@ use Rattle.printing.proofs.Reading.{length-zeros}
 
 -- The answer that is listed is case 12's.
 pub same-answer : corridorBytes ≡ corridorAnswer
-unfolding corridorBytes corridorAnswer words upright observed bytes flatMap
+unfolding corridorBytes corridorAnswer words upright corridorObservation bytes flatMap
 same-answer = refl
 
-corridor-whole : whole corridorBytes 456 ≡ true
-unfolding whole corridorBytes numberAt part number bytes flatMap
+corridor-whole : answerWhole corridorBytes 456 ≡ true
+unfolding answerWhole corridorBytes numberAt part number bytes flatMap
 corridor-whole = refl
 
-corridor-listed : listingOf (decodeAnswer corridorBytes) ≡ corridorText
-unfolding listing
-corridor-listed = ap (λ (b : Bool). cond b (listingOf (decodeAnswer corridorBytes)) []) (sym corridor-whole) ∙ corridor-listing
+corridor-listed : answerLines (decodeAnswer corridorBytes) ≡ corridorText
+unfolding answerText
+corridor-listed = ap (λ (b : Bool). cond b (answerLines (decodeAnswer corridorBytes)) []) (sym corridor-whole) ∙ corridor-listing
 
 -- Reduce on the corridor, whatever the lent slices hold: the eight lines.
 pub corridor-printed : (work answer : List ℕ) → 40 ≤ length work → 152 ≤ length answer → printed (reduceResult corridor work answer) ≡ corridorText
@@ -40,7 +40,7 @@ unfolding printed
 corridor-printed work answer w a =
     let fits : length corridorAnswer ≤ length answer = omega (arith, a, corridor-case .answer-long) in
     ap printed (corridor-case .reduced work answer w fits)
-    ∙ ap (λ (l : List ℕ). listingOf (decodeAnswer l)) (first-written answer corridorAnswer ∙ sym same-answer)
+    ∙ ap (λ (l : List ℕ). answerLines (decodeAnswer l)) (first-written answer corridorAnswer ∙ sym same-answer)
     ∙ corridor-listed
 
 -- So does the program, which lends more than that.

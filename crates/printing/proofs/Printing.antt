@@ -11,8 +11,8 @@ use Rattle.format.specs.Values.{Boundary}
 use Rattle.format.specs.Decode.{decodeAnswer}
 use Rattle.format.specs.Encode.{observationsOf, sourcesOf, answerWords, encodeAnswer}
 use Rattle.format.proofs.AnswerTrip.{length-encodeAnswer}
-use Rattle.listing.specs.Lines.{listingOf, refusedLine}
-use Rattle.listing.specs.Answer.{Writes, answerLength, listing}
+use Rattle.listing.specs.Lines.{answerLines, refusedLine}
+use Rattle.listing.specs.Answer.{Writes, answerLength, answerText}
 use Rattle.listing.proofs.Sizing.{is-whole}
 use Rattle.results.specs.Results.{Outcome, leftBy}
 use Rattle.results.specs.Calls.{reduceResult}
@@ -39,9 +39,9 @@ counts-most bs = omega (
 
 -- An answer is listed whole, where there is room.
 listed : (bs : List Boundary) (out : List ℕ) → length (encodeAnswer bs) * 3 ≤ length out
-    → listing (encodeAnswer bs) (length out) ≡ listingOf (decodeAnswer (encodeAnswer bs))
-unfolding listing
-listed bs out h = ap (λ (b : Bool). cond b (listingOf (decodeAnswer (encodeAnswer bs))) [])
+    → answerText (encodeAnswer bs) (length out) ≡ answerLines (decodeAnswer (encodeAnswer bs))
+unfolding answerText
+listed bs out h = ap (λ (b : Bool). cond b (answerLines (decodeAnswer (encodeAnswer bs))) [])
     (is-whole (encodeAnswer bs) out (counts-most bs) (omega (arith, counts-most bs, h)))
 
 -- The result that Reduce gave.
@@ -49,7 +49,7 @@ module _ (job work answer : List ℕ) {number detail : ℕ} {work′ answer′ :
   pub refused-text : (number ≡ 0 → ⊥) → refusedLine number detail ≡ printed (reduceResult job work answer)
   unfolding printed
   refused-text h =
-      ap (λ (b : Bool). cond b (listingOf (decodeAnswer (take detail answer′))) (refusedLine number detail)) (sym (ne-eqb number 0 h))
+      ap (λ (b : Bool). cond b (answerLines (decodeAnswer (take detail answer′))) (refusedLine number detail)) (sym (ne-eqb number 0 h))
       ∙ ap printed e
 
   -- Work and answer, as Reduce left them.
@@ -75,13 +75,13 @@ module _ (job work answer : List ℕ) {number detail : ℕ} {work′ answer′ :
     pub detail-fits : detail ≤ length answer
     detail-fits = let d = ap (λ (o : Outcome). o .detail) e in let s = demand-one .reduce job work answer .success zero-given in omega (arith, d, s .0, s .1)
 
-    pub listed-text : (out : List ℕ) → 3 * length answer ≤ length out → listing (take detail answer′) (length out) ≡ printed (reduceResult job work answer)
+    pub listed-text : (out : List ℕ) → 3 * length answer ≤ length out → answerText (take detail answer′) (length out) ≡ printed (reduceResult job work answer)
     unfolding printed
     listed-text out room =
-        ap (λ (l : List ℕ). listing l (length out)) first-bytes
+        ap (λ (l : List ℕ). answerText l (length out)) first-bytes
         ∙ listed kept out (omega (arith, detail-is, detail-fits, room))
-        ∙ ap (λ (l : List ℕ). listingOf (decodeAnswer l)) (sym first-bytes)
-        ∙ ap (λ (b : Bool). cond b (listingOf (decodeAnswer (take detail answer′))) (refusedLine number detail)) (sym (eq-eqb number 0 h))
+        ∙ ap (λ (l : List ℕ). answerLines (decodeAnswer l)) (sym first-bytes)
+        ∙ ap (λ (b : Bool). cond b (answerLines (decodeAnswer (take detail answer′))) (refusedLine number detail)) (sym (eq-eqb number 0 h))
         ∙ ap printed e
 
 -- A text that was written, under another name.

@@ -5,10 +5,10 @@ use mathlib.Core.List.{List}
 use lib.Dec.{eqb}
 use lib.ListN.{take}
 use Rattle.format.specs.Decode.{decodeAnswer}
-use Rattle.listing.specs.Lines.{listingOf, refusedLine}
+use Rattle.listing.specs.Lines.{answerLines, refusedLine}
 use Rattle.results.specs.Results.{Outcome}
 
 -- "a refusal prints `refused`, number, detail on one line"; else "kept: the number of boundaries. Then for each …", of the answer, whose length is the detail.
 unfoldable pub printed : Outcome → List ℕ
-unfolding listingOf decodeAnswer refusedLine
-printed o = cond (eqb (o .number) 0) (listingOf (decodeAnswer (take (o .detail) (o .out)))) (refusedLine (o .number) (o .detail))
+unfolding answerLines decodeAnswer refusedLine
+printed o = cond (eqb (o .number) 0) (answerLines (decodeAnswer (take (o .detail) (o .out)))) (refusedLine (o .number) (o .detail))

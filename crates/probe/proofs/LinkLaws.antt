@@ -36,7 +36,7 @@ use Rattle.analysis.proofs.Checked.{boundariesAt, canonical-on-map, on-map-boun
 use Rattle.analysis.proofs.Headed.{headed-checked, headed-laid, counts-are, start-is, count-is}
 use Rattle.analysis.proofs.Mapped.{map-cells, map-long}
 use Rattle.probe.specs.Regions.{cellLabels}
-use Rattle.probe.specs.Links.{bitsOf, kindOf, transverse, longitudinal, fourBytes, sideOf, linkBytes}
+use Rattle.probe.specs.Links.{floatBits, kindOf, transverse, longitudinal, fourBytes, sideOf, linkBytes}
 use Rattle.probe.proofs.WritingLaws.{beside}
 
 -- what is like itself is no NaN
@@ -131,7 +131,7 @@ module _ {s : List ℕ} {h : Header} (d : Headed s h) {n : ℕ} (e : n ≡ h .co
 
   pub link-told : (limits : Limits) {start r : LinkHeld} {m : Measured} {kind across along inside : ℕ} → start ≡ noCell link
       → AllCells limits (h .counts .width) (labelsIn labels n) region n start r → m ≡ measuredIn limits r
-      → kind ≡ kindOf m → across ≡ bitsOf (transverse m) → along ≡ bitsOf (longitudinal m) → inside ≡ one (r .inside)
+      → kind ≡ kindOf m → across ≡ floatBits (transverse m) → along ≡ floatBits (longitudinal m) → inside ≡ one (r .inside)
       → fourBytes kind across along inside ≡ linkBytes limits s labels region first second
   unfolding linkBytes linkAfter
   link-told limits {start} {r} {m} p f q k x y z =

@@ -35,31 +35,33 @@ use Rattle.analysis.specs.Plans.{OwnJob, OwnEnds}
 use Rattle.analysis.proofs.Headed.{headed-checked, count-is}
 use Rattle.analysis.proofs.OwnEnds.{own-map, own-count, own-labels, own-records}
 use Rattle.analysis.proofs.RankedTables.{own-listed, canonical-own}
-use Rattle.probe.specs.Parting.{countBytes, recordBytes, partitionBytes, countsFrom, recordsFrom, heldBytes, Told, many, short, written, Parted}
+use Rattle.probe.specs.Parting.{countBytes, recordBytes, partitionBytes, countsFrom, recordsFrom, heldBytes, PartitionBytes, many, short, written}
+use Rattle.probe.specs.Parting.{PartitionLeft}
 use Rattle.probe.proofs.WritingLaws.{flat-blocks, blocks-same}
 
 -- 4,097 pairs stand for over 4,096
 module _ {count pairs found : ℕ} {held bytes out outEnd : List ℕ} {number detail : ℕ} where
-  over-many : 4096 < found → pairs ≡ 4097 → Told count pairs held out outEnd number detail → Told count found bytes out outEnd number detail
+  over-many : 4096 < found → pairs ≡ 4097 → PartitionBytes count pairs held out outEnd number detail → PartitionBytes count found bytes out outEnd number detail
   over-many l e (many _ n d u) = many l n d u
   over-many l e (short q _ _ _ _) = absurd (omega arith)
   over-many l e (written q _ _ _ _) = absurd (omega arith)
 
   told-found : (4096 < found → pairs ≡ 4097) → (found ≤ 4096 → pairs ≡ found) → (found ≤ 4096 → held ≡ bytes)
-      → Told count pairs held out outEnd number detail → Told count found bytes out outEnd number detail
+      → PartitionBytes count pairs held out outEnd number detail → PartitionBytes count found bytes out outEnd number detail
   told-found over are same x =
       by-test (ltb 4096 found)
       (λ h. let l = ltb-true 4096 found h in over-many l (over l) x)
       (λ h.
       let l = ltb-false 4096 found h in
-      subst (λ (p : ℕ). Told count p bytes out outEnd number detail) (are l) (subst (λ (b : List ℕ). Told count pairs b out outEnd number detail) (same l) x))
+      subst (λ (p : ℕ). PartitionBytes count p bytes out outEnd number detail) (are l)
+      (subst (λ (b : List ℕ). PartitionBytes count pairs b out outEnd number detail) (same l) x))
 
 pub told-right : {count m pairs found right : ℕ} {held bytes out outEnd : List ℕ} {number detail : ℕ} → count ≡ m → found ≡ right
     → (4096 < found → pairs ≡ 4097) → (found ≤ 4096 → pairs ≡ found) → (found ≤ 4096 → held ≡ bytes)
-    → Told count pairs held out outEnd number detail → Told m right bytes out outEnd number detail
+    → PartitionBytes count pairs held out outEnd number detail → PartitionBytes m right bytes out outEnd number detail
 told-right {count} {m} {pairs} {found} {right} {held} {bytes} {out} {outEnd} {number} {detail} e f over are same x =
-    subst (λ (c : ℕ). Told c right bytes out outEnd number detail) e
-    (subst (λ (p : ℕ). Told count p bytes out outEnd number detail) f (told-found over are same x))
+    subst (λ (c : ℕ). PartitionBytes c right bytes out outEnd number detail) e
+    (subst (λ (p : ℕ). PartitionBytes count p bytes out outEnd number detail) f (told-found over are same x))
 
 -- the bytes of spans are those of their canonical copies
 module _ (dirs : List ℕ) (g : Grid) where
@@ -104,7 +106,7 @@ module _ {dirs : List ℕ} {g : Grid} {ends before work removed separated owners
 
 -- 13, and pairs within the limit
 module _ {count pairs : ℕ} {bytes out : List ℕ} {number detail : ℕ} where
-  pub told-many : PairAnswer pairs number detail → 0 < number → Told count pairs bytes out out number detail
+  pub told-many : PairAnswer pairs number detail → 0 < number → PartitionBytes count pairs bytes out out number detail
   told-many (over-limit h p q) l = many h p q refl
   told-many (in-limit h p q) l = absurd (omega arith)
 
@@ -124,15 +126,15 @@ module _ {s : List ℕ} {h : Header} {work : List ℕ} (m : OwnJob s h work) {n 
 
   pub all-parted : {out workEnd outEnd removed separated owners lefts rights : List ℕ} {p : Partition} {number detail : ℕ}
       → Partitioned 4096 dirs grid ends count work workEnd removed separated owners lefts rights p
-      → Told count (p .pairs) (heldBytes (p .areas) (p .pairs) count removed separated owners lefts rights) out outEnd number detail
-      → Parted dirs s work out workEnd outEnd number detail
+      → PartitionBytes count (p .pairs) (heldBytes (p .areas) (p .pairs) count removed separated owners lefts rights) out outEnd number detail
+      → PartitionLeft dirs s work out workEnd outEnd number detail
   all-parted q told = record {
     work-is = q .work-is ∙ ap (λ (l : List ℕ). labelled l work) (own-labels m e k o dirs);
     told = told-right (k ∙ count-is (m .headed)) (ap length (own-records m e k o dirs)) (q .over) (q .pairs-are) (λ few. held-found q few ∙ bytes-own) told;
   }
 
 -- with the eight directions
-pub parted-eight : {s work out workEnd outEnd : List ℕ} {number detail : ℕ} → Parted (directionsOf 495) s work out workEnd outEnd number detail
-    → Parted eight s work out workEnd outEnd number detail
+pub parted-eight : {s work out workEnd outEnd : List ℕ} {number detail : ℕ} → PartitionLeft (directionsOf 495) s work out workEnd outEnd number detail
+    → PartitionLeft eight s work out workEnd outEnd number detail
 parted-eight {s} {work} {out} {workEnd} {outEnd} {number} {detail} r =
-    subst (λ (dirs : List ℕ). Parted dirs s work out workEnd outEnd number detail) directions-eight r
+    subst (λ (dirs : List ℕ). PartitionLeft dirs s work out workEnd outEnd number detail) directions-eight r

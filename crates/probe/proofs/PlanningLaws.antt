@@ -37,7 +37,7 @@ use Rattle.analysis.specs.Plans.{planOf, RankedBy, Headed, Made, PlanLeft}
 use Rattle.analysis.proofs.Ranked.{places-count, places-perm, place-below, listed-length}
 use Rattle.analysis.proofs.Headed.{headed-checked}
 use Rattle.analysis.proofs.Calling.{reduce-headed, by-list-headed}
-use Rattle.probe.specs.Planning.{checksOf, spansOf, CountOf, Ranked, Inside, Words, placeAt, RankOf, Placed, Parting}
+use Rattle.probe.specs.Planning.{probeChecks, probeSpans, CountOf, PermutationOf, PlanInside, Words, placeAt, RankOf, PlanWords, Parting}
 
 -- numbers that rise are distinct
 up-distinct : (a n : ℕ) → Distinct (upFrom a n)
@@ -52,7 +52,7 @@ up-distinct a n = rising (up-strict a n)
 
 -- the places of the boundaries by rank
 module _ (j : Job) {order : List ℕ} (r : RankedBy j order) where
-  pub order-ranked : Ranked order (length (j .boundaries))
+  pub order-ranked : PermutationOf order (length (j .boundaries))
   order-ranked = record { below = λ i h. rw (r i h) (place-below (j .boundaries) i h); apart = differ }
     where
       differ : (i k : ℕ) → i < k → k < length (j .boundaries) → getD order i 0 ≡ getD order k 0 → ⊥
@@ -72,7 +72,7 @@ module _ {order : List ℕ} {goes : ℕ → ℕ} {n : ℕ} where
   pub words-start : (out : List ℕ) → Words order goes n 0 out out
   words-start out = record { each = λ i h. absurd (omega arith); rest = refl; long = refl }
 
-  pub words-next : {k : ℕ} {out e f : List ℕ} (x v : ℕ) → Ranked order n → Words order goes n k out e → k < n → 4 * n ≤ length out → x ≡ getD order k 0
+  pub words-next : {k : ℕ} {out e f : List ℕ} (x v : ℕ) → PermutationOf order n → Words order goes n k out e → k < n → 4 * n ≤ length out → x ≡ getD order k 0
       → v ≡ goes k
       → f ≡ splice e (4 * x) (u32Bytes v) → Words order goes n (k + 1) out f
   words-next {k} {out} {e} {f} x v o w h room a q b = record {
@@ -138,13 +138,13 @@ plan-inside limits dirs j ss i h =
 -- the words of the arrays are those of the plan
 module _ {limits : Limits} {dirs : List ℕ} {checks : List Check} {j : Job} {ss : List Span} {work workEnd order plan : List ℕ} {detail n : ℕ}
     (m : Made limits dirs checks j ss work workEnd order plan detail) (e : n ≡ length (j .boundaries)) where
-  pub made-ranked : Ranked order n
+  pub made-ranked : PermutationOf order n
   made-ranked = rw e (order-ranked j (m .ranks))
 
-  pub made-inside : Inside plan n
+  pub made-inside : PlanInside plan n
   made-inside = rw e (record { below = λ i h. rw (m .plan-is i h) (plan-inside limits dirs j ss i h) })
 
-  pub made-placed : {out outEnd : List ℕ} → Words order (λ i. getD order (getD plan i 0) 0) n n out outEnd → Placed limits dirs j ss out outEnd
+  pub made-placed : {out outEnd : List ℕ} → Words order (λ i. getD order (getD plan i 0) 0) n n out outEnd → PlanWords limits dirs j ss out outEnd
   made-placed {out} {outEnd} w = record { words = rw (← e) placed; all = place-ranked j }
     where
       placed : Words (placesOf (j .boundaries)) (λ i. placeAt j (planOf limits dirs j ss i)) n n out outEnd
@@ -162,20 +162,20 @@ module _ {limits : Limits} {dirs : List ℕ} {checks : List Check} {j : Job} {ss
 module _ (limits : Limits) (dirs : List ℕ) (which : ℕ) (s l : List ℕ) where
   pub plan-own : {work workEnd order plan : List ℕ} {number detail : ℕ} → which ≡ 0
       → PlanLeft limits dirs (reduceChecks s) (decode s) (ownEnds (decode s)) work workEnd order plan number detail
-      → PlanLeft limits dirs (checksOf which s l) (decode s) (spansOf which s l) work workEnd order plan number detail
-  unfolding checksOf spansOf
+      → PlanLeft limits dirs (probeChecks which s l) (decode s) (probeSpans which s l) work workEnd order plan number detail
+  unfolding probeChecks probeSpans
   plan-own e x = rw (eq-eqb which 0 e) x
 
   pub plan-listed : {work workEnd order plan : List ℕ} {number detail : ℕ} → (which ≡ 0 → ⊥)
       → PlanLeft limits dirs (byListChecks s l) (decode s) (decodeList l) work workEnd order plan number detail
-      → PlanLeft limits dirs (checksOf which s l) (decode s) (spansOf which s l) work workEnd order plan number detail
-  unfolding checksOf spansOf
+      → PlanLeft limits dirs (probeChecks which s l) (decode s) (probeSpans which s l) work workEnd order plan number detail
+  unfolding probeChecks probeSpans
   plan-listed e x = rw (ne-eqb which 0 e) x
 
 -- the boundaries are as many as the header says
 module _ (which : ℕ) (s l : List ℕ) where
-  pub plan-count : AreBytes s → firstRefusal (checksOf which s l) ≡ none → {n : ℕ} → CountOf s n → n ≡ length (decode s .boundaries)
-  unfolding checksOf
+  pub plan-count : AreBytes s → firstRefusal (probeChecks which s l) ≡ none → {n : ℕ} → CountOf s n → n ≡ length (decode s .boundaries)
+  unfolding probeChecks
   plan-count bytes e {n} c = counted (chosen (eqb which 0) e)
     where
       chosen : (t : Bool) → firstRefusal (cond t (reduceChecks s) (byListChecks s l)) ≡ none → Headed s (headerAt s)

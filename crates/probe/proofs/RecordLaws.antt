@@ -18,7 +18,7 @@ use Rattle.graph.specs.Records.{Record, recordIn, recordsIn}
 use Rattle.walk.specs.Marks.{bridgeMarks}
 use Rattle.bridges.specs.Names.{Labelled}
 use Rattle.walk.specs.Slices.{Owners}
-use Rattle.probe.specs.Probe.{copied}
+use Rattle.probe.specs.Probe.{putFirst}
 use Rattle.probe.specs.Records.{ownerAt, leftAt, rightAt, recordsAt, fitting, fitsAt, Loaded, AllFit}
 
 -- a list that is f up to k, with f k at k
@@ -138,10 +138,10 @@ marks-length rs n = length-rows n _
 
 -- 256 marks before the rest
 pub marks-copied : {found : List ℕ} (marks : List ℕ) (rs : List Record) → found ≡ bridgeMarks rs 256 → 256 ≤ length marks
-    → copied marks found ≡ bridgeMarks rs 256 ++ drop 256 marks
-unfolding copied
+    → putFirst marks found ≡ bridgeMarks rs 256 ++ drop 256 marks
+unfolding putFirst
 marks-copied {found} marks rs e h =
-    ap (copied marks) e ∙ rw (marks-length rs 256, le-ltb (length marks) 256 h)
+    ap (putFirst marks) e ∙ rw (marks-length rs 256, le-ltb (length marks) 256 h)
 
 -- one more record that fits
 pub fit-next : (s : List ℕ) (regions k : ℕ) → AllFit s regions k → fitsAt s regions k ≡ true → AllFit s regions (k + 1)
@@ -169,6 +169,6 @@ pub found-length : {found : List ℕ} (rs : List Record) → found ≡ bridgeMar
 found-length rs e = sym (ap (λ (t : List ℕ). length t) e ∙ marks-length rs 256)
 
 pub marks-end : {s owners lefts rights found out : List ℕ} {n : ℕ} (marks : List ℕ) → Loaded s n owners lefts rights
-    → found ≡ bridgeMarks (recordsIn owners lefts rights n) 256 → 256 ≤ length marks → out ≡ copied marks found
+    → found ≡ bridgeMarks (recordsIn owners lefts rights n) 256 → 256 ≤ length marks → out ≡ putFirst marks found
     → out ≡ bridgeMarks (recordsAt s n) 256 ++ drop 256 marks
 marks-end {s} {n = n} marks a e h q = q ∙ marks-copied marks (recordsAt s n) (e ∙ ap (λ (rs : List Record). bridgeMarks rs 256) (same-records a)) h

@@ -15,11 +15,11 @@ use Rattle.links.specs.Measure.{Measured, empty, within, beyond, measured}
 use Rattle.links.specs.Flat.{insideFlat}
 use Rattle.topology.specs.RegionStats.{regionCells}
 use Rattle.topology.specs.Held.{one}
-use Rattle.probe.specs.Regions.{Ready, cellLabels, Shown}
+use Rattle.probe.specs.Regions.{LabelsReady, cellLabels, Shown}
 
 -- a float's bits; one pattern for a NaN, which is unlike itself
-unfoldable pub bitsOf : Float → ℕ
-bitsOf x = cond (eq x x) (toBits binary64 x) 0x7FF8_0000_0000_0000
+unfoldable pub floatBits : Float → ℕ
+floatBits x = cond (eq x x) (toBits binary64 x) 0x7FF8_0000_0000_0000
 
 -- 0 empty, 1 within, 2 beyond; both envelopes, 0 where there are none
 abbrev pub kindOf : Measured → ℕ
@@ -41,7 +41,7 @@ abbrev pub fourBytes : ℕ → ℕ → ℕ → ℕ → List ℕ
 fourBytes kind across along inside = u32Bytes kind ++ (u64Bytes across ++ (u64Bytes along ++ u32Bytes inside))
 
 abbrev pub measuredBytes : Measured → Bool → List ℕ
-measuredBytes m inside = fourBytes (kindOf m) (bitsOf (transverse m)) (bitsOf (longitudinal m)) (one inside)
+measuredBytes m inside = fourBytes (kindOf m) (floatBits (transverse m)) (floatBits (longitudinal m)) (one inside)
 
 -- what a link sees of the boundary at a place of the input: its ends, the earlier first, and its width
 unfoldable pub sideOf : List ℕ → ℕ → Side
@@ -57,10 +57,10 @@ linkBytes limits s labels region first second =
 
 -- a place that no boundary has; or what is shown, of two that have one
 pub data LinkAnswer (s labels bytes : List ℕ) (first second : ℕ) (out outEnd : List ℕ) (number detail : ℕ) : Type 0 where
-  first-unknown : Ready s labels 0 0 → countsAt s 0 .boundaries ≤ first → number ≡ 24 → detail ≡ 0 → outEnd ≡ out
+  first-unknown : LabelsReady s labels 0 0 → countsAt s 0 .boundaries ≤ first → number ≡ 24 → detail ≡ 0 → outEnd ≡ out
       → LinkAnswer s labels bytes first second out outEnd number detail
-  second-unknown : Ready s labels 0 0 → countsAt s 0 .boundaries ≤ second → number ≡ 24 → detail ≡ 0 → outEnd ≡ out
+  second-unknown : LabelsReady s labels 0 0 → countsAt s 0 .boundaries ≤ second → number ≡ 24 → detail ≡ 0 → outEnd ≡ out
       → LinkAnswer s labels bytes first second out outEnd number detail
-  refused : 0 < number → Ready s labels number detail → outEnd ≡ out → LinkAnswer s labels bytes first second out outEnd number detail
+  refused : 0 < number → LabelsReady s labels number detail → outEnd ≡ out → LinkAnswer s labels bytes first second out outEnd number detail
   known : first < countsAt s 0 .boundaries → second < countsAt s 0 .boundaries → Shown s labels bytes 24 out outEnd number detail
       → LinkAnswer s labels bytes first second out outEnd number detail

@@ -50,22 +50,22 @@ abbrev pub bytesOf : ℕ → ℕ → ℕ
 bytesOf count pairs = 8 + 8 * count + 12 * pairs
 
 -- over 4,096 pairs; an out that is too short, with the bytes that it should have; or the bytes, written at its start
-pub data Told (count pairs : ℕ) (bytes out outEnd : List ℕ) (number detail : ℕ) : Type 0 where
-  many : 4096 < pairs → number ≡ 13 → detail ≡ 0 → outEnd ≡ out → Told count pairs bytes out outEnd number detail
+pub data PartitionBytes (count pairs : ℕ) (bytes out outEnd : List ℕ) (number detail : ℕ) : Type 0 where
+  many : 4096 < pairs → number ≡ 13 → detail ≡ 0 → outEnd ≡ out → PartitionBytes count pairs bytes out outEnd number detail
   short : pairs ≤ 4096 → length out < bytesOf count pairs → number ≡ 22 → detail ≡ bytesOf count pairs → outEnd ≡ out
-      → Told count pairs bytes out outEnd number detail
+      → PartitionBytes count pairs bytes out outEnd number detail
   written : pairs ≤ 4096 → bytesOf count pairs ≤ length out → number ≡ 0 → detail ≡ bytesOf count pairs → outEnd ≡ splice out 0 bytes
-      → Told count pairs bytes out outEnd number detail
+      → PartitionBytes count pairs bytes out outEnd number detail
 
 -- the areas by the boundaries' own ends are labelled, and what the partition found is told
-pub record Parted (dirs s work out workEnd outEnd : List ℕ) (number detail : ℕ) : Type 0 where
+pub record PartitionLeft (dirs s work out workEnd outEnd : List ℕ) (number detail : ℕ) : Type 0 where
   pub work-is : workEnd ≡ labelled (labelsOf dirs (decode s) (ownEnds (decode s))) work
-  pub told : Told (countsAt s 0 .boundaries) (length (records dirs (gridOf (decode s)) (ownEnds (decode s))))
+  pub told : PartitionBytes (countsAt s 0 .boundaries) (length (records dirs (gridOf (decode s)) (ownEnds (decode s))))
       (partitionBytes dirs (gridOf (decode s)) (ownEnds (decode s))) out outEnd number detail
 
 -- a refusal of the checks, or of work under ten bytes a cell, with nothing written; or the partition
 pub data PartitionAnswer (dirs s work out workEnd outEnd : List ℕ) (number detail : ℕ) : Type 0 where
   declined : 0 < number → FirstAnswer (firstRefusal (reduceChecks s)) (workSize (decode s)) (length work) number detail → workEnd ≡ work → outEnd ≡ out
       → PartitionAnswer dirs s work out workEnd outEnd number detail
-  parted : firstRefusal (reduceChecks s) ≡ none → workSize (decode s) ≤ length work → Parted dirs s work out workEnd outEnd number detail
+  parted : firstRefusal (reduceChecks s) ≡ none → workSize (decode s) ≤ length work → PartitionLeft dirs s work out workEnd outEnd number detail
       → PartitionAnswer dirs s work out workEnd outEnd number detail

@@ -23,11 +23,11 @@ use Rattle.results.specs.Results.{workSize, maxPairs, labelsOf, reduced, leftBy
 use Rattle.analysis.specs.Plans.{planOf}
 
 -- the checks and the spans of Reduce for 0, those of Reduce by list for any other number
-unfoldable pub checksOf : ℕ → List ℕ → List ℕ → List Check
-checksOf which s l = cond (eqb which 0) (reduceChecks s) (byListChecks s l)
+unfoldable pub probeChecks : ℕ → List ℕ → List ℕ → List Check
+probeChecks which s l = cond (eqb which 0) (reduceChecks s) (byListChecks s l)
 
-unfoldable pub spansOf : ℕ → List ℕ → List ℕ → List Span
-spansOf which s l = cond (eqb which 0) (ownEnds (decode s)) (decodeList l)
+unfoldable pub probeSpans : ℕ → List ℕ → List ℕ → List Span
+probeSpans which s l = cond (eqb which 0) (ownEnds (decode s)) (decodeList l)
 
 -- how many boundaries a job has, where its header can be read and they are no more than 256
 pub record CountOf (s : List ℕ) (r : ℕ) : Type 0 where
@@ -35,12 +35,12 @@ pub record CountOf (s : List ℕ) (r : ℕ) : Type 0 where
   pub is : headerSize ≤ length s → countsAt s 0 .boundaries ≤ 256 → r ≡ countsAt s 0 .boundaries
 
 -- n different numbers below n stand first
-pub record Ranked (order : List ℕ) (n : ℕ) : Type 0 where
+pub record PermutationOf (order : List ℕ) (n : ℕ) : Type 0 where
   pub below : (i : ℕ) → i < n → getD order i 0 < n
   pub apart : (i j : ℕ) → i < j → j < n → getD order i 0 ≡ getD order j 0 → ⊥
 
 -- the first n are below n
-pub record Inside (plan : List ℕ) (n : ℕ) : Type 0 where
+pub record PlanInside (plan : List ℕ) (n : ℕ) : Type 0 where
   pub below : (i : ℕ) → i < n → getD plan i 0 < n
 
 -- the word of each of the first k is what `goes` says of it; what follows n words is as it was
@@ -59,7 +59,7 @@ pub record RankOf (j : Job) (place : ℕ) : Type 0 where
   pub is : placeAt j rank ≡ place
 
 -- little-endian words, one a boundary in the input's order: the place of the boundary that it goes into. Each place is that of a rank, so every word is settled
-pub record Placed (limits : Limits) (dirs : List ℕ) (j : Job) (ss : List Span) (out outEnd : List ℕ) : Type 0 where
+pub record PlanWords (limits : Limits) (dirs : List ℕ) (j : Job) (ss : List Span) (out outEnd : List ℕ) : Type 0 where
   pub words : Words (placesOf (j .boundaries)) (λ i. placeAt j (planOf limits dirs j ss i)) (length (j .boundaries)) (length (j .boundaries)) out outEnd
   pub all : (place : ℕ) → place < length (j .boundaries) → RankOf j place
 
@@ -78,5 +78,5 @@ pub data PlanAnswer (limits : Limits) (dirs : List ℕ) (checks : List Check) (j
   short : Parting dirs checks j ss work workEnd → length out < 4 * length (j .boundaries) → number ≡ 22 → detail ≡ 4 * length (j .boundaries) → outEnd ≡ out
       → PlanAnswer limits dirs checks j ss work out workEnd outEnd number detail
   planned : Parting dirs checks j ss work workEnd → 4 * length (j .boundaries) ≤ length out → number ≡ 0 → detail ≡ 4 * length (j .boundaries)
-      → Placed limits dirs j ss out outEnd
+      → PlanWords limits dirs j ss out outEnd
       → PlanAnswer limits dirs checks j ss work out workEnd outEnd number detail

@@ -13,5 +13,5 @@ unfoldable pub checked : ℕ → List ℕ → List ℕ → Option Refusal
 checked call s l = cond (eqb call 0) (firstRefusal (reduceChecks s)) (cond (eqb call 1) (firstRefusal (byListChecks s l)) (firstRefusal (markChecks s)))
 
 -- out with xs at its start, or as it was where xs does not fit.
-unfoldable pub copied : List ℕ → List ℕ → List ℕ
-copied out xs = cond (ltb (length out) (length xs)) out (xs ++ drop (length xs) out)
+unfoldable pub putFirst : List ℕ → List ℕ → List ℕ
+putFirst out xs = cond (ltb (length out) (length xs)) out (xs ++ drop (length xs) out)

@@ -52,20 +52,20 @@ pub record Refused (work marks workEnd marksEnd : List ℕ) (number detail n d :
   pub marks-kept : marksEnd ≡ marks
 
 -- the table of words at the start of work is 0, and the first 256 marks are those of the records
-pub record Marked (s work marks workEnd marksEnd : List ℕ) (number detail : ℕ) : Type 0 where
+pub record MarksLeft (s work marks workEnd marksEnd : List ℕ) (number detail : ℕ) : Type 0 where
   pub number-is : number ≡ 0
   pub detail-is : detail ≡ length s / 12
   pub work-is : workEnd ≡ splice work 0 (replicate (4 * (length work / 4)) 0)
   pub marks-are : marksEnd ≡ bridgeMarks (recordsAt s (length s / 12)) 256 ++ drop 256 marks
 
 -- the answer on bytes s, with work and marks at entry and at exit
-pub data Answer (s work marks workEnd marksEnd : List ℕ) (number detail : ℕ) : Type 0 where
-  uneven : (length s % 12 ≡ 0 → ⊥) → Refused work marks workEnd marksEnd number detail 1 0 → Answer s work marks workEnd marksEnd number detail
+pub data MarksAnswer (s work marks workEnd marksEnd : List ℕ) (number detail : ℕ) : Type 0 where
+  uneven : (length s % 12 ≡ 0 → ⊥) → Refused work marks workEnd marksEnd number detail 1 0 → MarksAnswer s work marks workEnd marksEnd number detail
   many : length s % 12 ≡ 0 → 4096 < length s / 12 → Refused work marks workEnd marksEnd number detail 2 (length s / 12)
-      → Answer s work marks workEnd marksEnd number detail
+      → MarksAnswer s work marks workEnd marksEnd number detail
   unfit : (k : ℕ) → length s % 12 ≡ 0 → length s / 12 ≤ 4096 → k < length s / 12 → AllFit s (length work / 4) k → fitsAt s (length work / 4) k ≡ false
-      → Refused work marks workEnd marksEnd number detail 3 k → Answer s work marks workEnd marksEnd number detail
+      → Refused work marks workEnd marksEnd number detail 3 k → MarksAnswer s work marks workEnd marksEnd number detail
   short : length s % 12 ≡ 0 → length s / 12 ≤ 4096 → AllFit s (length work / 4) (length s / 12) → length marks < 256
-      → Refused work marks workEnd marksEnd number detail 4 0 → Answer s work marks workEnd marksEnd number detail
+      → Refused work marks workEnd marksEnd number detail 4 0 → MarksAnswer s work marks workEnd marksEnd number detail
   marked : length s % 12 ≡ 0 → length s / 12 ≤ 4096 → AllFit s (length work / 4) (length s / 12) → 256 ≤ length marks
-      → Marked s work marks workEnd marksEnd number detail → Answer s work marks workEnd marksEnd number detail
+      → MarksLeft s work marks workEnd marksEnd number detail → MarksAnswer s work marks workEnd marksEnd number detail

@@ -18,8 +18,8 @@ use Rattle.results.specs.Rules.{gridOf}
 use Rattle.results.specs.Returns.{FirstAnswer}
 
 -- a refusal of the checks; labels under four bytes a cell; or neither
-abbrev pub Ready : List ℕ → List ℕ → ℕ → ℕ → Type 0
-Ready s labels number detail = FirstAnswer (firstRefusal (reduceChecks s)) (4 * length (decode s .cells)) (length labels) number detail
+abbrev pub LabelsReady : List ℕ → List ℕ → ℕ → ℕ → Type 0
+LabelsReady s labels number detail = FirstAnswer (firstRefusal (reduceChecks s)) (4 * length (decode s .cells)) (length labels) number detail
 
 -- how many cells an area has; 001's `RegionStats`: cells, box, ramp, cells of each elevation; whether an anchor lies in it
 abbrev pub statsWords : ℕ → RegionStats → Bool → List ℕ
@@ -35,6 +35,6 @@ cellLabels s labels = labelsIn labels (length (decode s .cells))
 
 -- a refusal as above; an out under n bytes; or these bytes at its start
 pub data Shown (s labels bytes : List ℕ) (n : ℕ) (out outEnd : List ℕ) (number detail : ℕ) : Type 0 where
-  declined : 0 < number → Ready s labels number detail → outEnd ≡ out → Shown s labels bytes n out outEnd number detail
-  short : Ready s labels 0 0 → length out < n → number ≡ 22 → detail ≡ n → outEnd ≡ out → Shown s labels bytes n out outEnd number detail
-  told : Ready s labels 0 0 → n ≤ length out → number ≡ 0 → detail ≡ n → outEnd ≡ splice out 0 bytes → Shown s labels bytes n out outEnd number detail
+  declined : 0 < number → LabelsReady s labels number detail → outEnd ≡ out → Shown s labels bytes n out outEnd number detail
+  short : LabelsReady s labels 0 0 → length out < n → number ≡ 22 → detail ≡ n → outEnd ≡ out → Shown s labels bytes n out outEnd number detail
+  told : LabelsReady s labels 0 0 → n ≤ length out → number ≡ 0 → detail ≡ n → outEnd ≡ splice out 0 bytes → Shown s labels bytes n out outEnd number detail

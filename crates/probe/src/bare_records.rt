@@ -6,7 +6,7 @@ ghost use Prim.Native.Nat.{ℕ, _+_, _*_, _≤_, _<_};
 ghost use lib.ListN.{length, drop, replicate};
 ghost use Rattle.wire.specs.Bytes.{splice};
 ghost use Rattle.walk.specs.Marks.{bridgeMarks};
-ghost use Rattle.probe.specs.Records.{fitting, fitsAt, recordsAt, Loaded, Answer};
+ghost use Rattle.probe.specs.Records.{fitting, fitsAt, recordsAt, Loaded, MarksAnswer};
 use crate::copy;
 use analysis::ChokesResult;
 use bridges::bridge_boundary_indices;
@@ -103,7 +103,8 @@ fn mark_records(records: &[u8], count: usize, regions: usize, work: &mut [u8], m
 // The bridges of records that are little-endian words: owner, left region, right region. The first 256 marks are the owners'.
 #[no_mangle]
 pub extern "C" fn probe_bridges(records: &[u8], work: &mut [u8], marks: &mut [u8]) -> ChokesResult
-    ensures { λ r. ⌜ Answer (now (records .entry)) (now (work .entry)) (now (marks .entry)) (now (work .exit)) (now (marks .exit)) (r .number) (r .detail) ⌝ }
+    ensures { λ r. ⌜ MarksAnswer (now (records .entry)) (now (work .entry)) (now (marks .entry)) (now (work .exit)) (now (marks .exit)) (r .number)
+        (r .detail) ⌝ }
 {
     let n = records.len();
     if n % 12 != 0 {

@@ -1,6 +1,6 @@
 // C functions for the differential driver, so that it can reach what no exported call shows by itself. No part of the product.
 ghost use mathlib.Core.Path.{_≡_};
-ghost use Rattle.probe.specs.Probe.{checked, copied};
+ghost use Rattle.probe.specs.Probe.{checked, putFirst};
 ghost use lib.ListN.{length};
 ghost use Rattle.job.specs.SpanEnds.{spanEnds};
 ghost use Rattle.checks.specs.Verdict.{meaning, numberOf, detailOf};
@@ -36,7 +36,7 @@ pub extern "C" fn probe_check(call: u32, job: &[u8], list: &[u8]) -> ChokesResul
 
 // part at the start of out where it fits; its number of bytes.
 fn copy(out: &mut [u8], part: &[u8]) -> usize
-    ensures { λ r. ⌜ (r ≡ length (now (part .entry))) × (now (out .exit) ≡ copied (now (out .entry)) (now (part .entry))) ⌝ }
+    ensures { λ r. ⌜ (r ≡ length (now (part .entry))) × (now (out .exit) ≡ putFirst (now (out .entry)) (now (part .entry))) ⌝ }
 {
     let n = part.len();
     if out.len() < n {
@@ -50,7 +50,7 @@ fn copy(out: &mut [u8], part: &[u8]) -> usize
     n
 }
 
-// The ends of span i, copied to the start of out where they fit; their number of bytes.
+// The ends of span i, putFirst to the start of out where they fit; their number of bytes.
 #[no_mangle]
 pub extern "C" fn probe_span_ends<'a>(
     job: &'a [u8],
@@ -60,7 +60,7 @@ pub extern "C" fn probe_span_ends<'a>(
     out: &mut [u8],
 ) -> usize
     ensures { λ r. ⌜ (r ≡ length (spanEnds (now (job .entry)) (now (list .entry)) which i))
-        × (now (out .exit) ≡ copied (now (out .entry)) (spanEnds (now (job .entry)) (now (list .entry)) which i)) ⌝ }
+        × (now (out .exit) ≡ putFirst (now (out .entry)) (spanEnds (now (job .entry)) (now (list .entry)) which i)) ⌝ }
 {
     copy(out, job::span_ends(job, list, which, i))
 }

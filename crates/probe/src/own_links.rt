@@ -7,9 +7,9 @@ ghost use Rattle.format.specs.Decode.{decode};
 ghost use Rattle.links.specs.Limits.{limits000};
 ghost use Rattle.links.specs.HeldLimits.{limitsOf};
 ghost use Rattle.links.specs.Link.{linkOf};
-ghost use Rattle.links.specs.HeldLink.{noCell, meaning};
+ghost use Rattle.links.specs.HeldLink.{noCell, measuredMeaning};
 ghost use Rattle.analysis.specs.Plans.{Headed};
-ghost use Rattle.probe.specs.Links.{bitsOf, kindOf, transverse, longitudinal, fourBytes, sideOf, linkBytes, LinkAnswer};
+ghost use Rattle.probe.specs.Links.{floatBits, kindOf, transverse, longitudinal, fourBytes, sideOf, linkBytes, LinkAnswer};
 use crate::own_regions::flag;
 use crate::own_regions::unready;
 use analysis::ANSWER_TOO_SHORT;
@@ -31,7 +31,7 @@ use wire::write_u64;
 const NO_BOUNDARY: u32 = 24;
 
 fn bits_of(x: f64) -> u64
-    ensures { λ r. ⌜ r ≡ bitsOf x ⌝ }
+    ensures { λ r. ⌜ r ≡ floatBits x ⌝ }
 {
     if x == x {
         return f64::to_bits(x);
@@ -40,7 +40,7 @@ fn bits_of(x: f64) -> u64
 }
 
 fn kind_of(m: Measured) -> u32
-    ensures { λ r. ⌜ r ≡ kindOf (meaning m) ⌝ }
+    ensures { λ r. ⌜ r ≡ kindOf (measuredMeaning m) ⌝ }
 {
     match m {
         Measured::Empty => 0,
@@ -50,7 +50,7 @@ fn kind_of(m: Measured) -> u32
 }
 
 fn transverse_of(m: Measured) -> f64
-    ensures { λ r. ⌜ r ≡ transverse (meaning m) ⌝ }
+    ensures { λ r. ⌜ r ≡ transverse (measuredMeaning m) ⌝ }
 {
     match m {
         Measured::Empty => 0.0,
@@ -60,7 +60,7 @@ fn transverse_of(m: Measured) -> f64
 }
 
 fn longitudinal_of(m: Measured) -> f64
-    ensures { λ r. ⌜ r ≡ longitudinal (meaning m) ⌝ }
+    ensures { λ r. ⌜ r ≡ longitudinal (measuredMeaning m) ⌝ }
 {
     match m {
         Measured::Empty => 0.0,

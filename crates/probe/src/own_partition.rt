@@ -5,7 +5,7 @@ ghost use lib.ListN.{length};
 ghost use Rattle.wire.specs.Bytes.{splice};
 ghost use Rattle.grid.specs.Directions.{eight, directionsOf};
 ghost use Rattle.analysis.specs.Plans.{Leads, OwnJob};
-ghost use Rattle.probe.specs.Parting.{Told, Parted, PartitionAnswer, countsFrom, recordsFrom, heldBytes};
+ghost use Rattle.probe.specs.Parting.{PartitionBytes, PartitionLeft, PartitionAnswer, countsFrom, recordsFrom, heldBytes};
 use analysis::ANSWER_TOO_SHORT;
 use analysis::ChokesResult;
 use analysis::WORK_PER_CELL;
@@ -69,7 +69,7 @@ fn write_partition(
     out: &mut [u8],
 ) -> ChokesResult
     requires { ⌜ count ≤ 256 ⌝ }
-    ensures { λ r. ⌜ Told count pairs
+    ensures { λ r. ⌜ PartitionBytes count pairs
         (heldBytes areas pairs count (now (removed .entry)) (now (separated .entry)) (now (owners .entry)) (now (lefts .entry)) (now (rights .entry)))
         (now (out .entry)) (now (out .exit)) (r .number) (r .detail) ⌝ }
 {
@@ -103,7 +103,7 @@ fn partition_job(
     out: &mut [u8],
 ) -> ChokesResult
     requires { ⌜ OwnJob (now job) h (now work) × Leads directions ⌝ }
-    ensures { λ r. ⌜ Parted (directionsOf directions) (now (job .entry)) (now (work .entry)) (now (out .entry)) (now (work .exit))
+    ensures { λ r. ⌜ PartitionLeft (directionsOf directions) (now (job .entry)) (now (work .entry)) (now (out .entry)) (now (work .exit))
         (now (out .exit)) (r .number) (r .detail) ⌝ }
 {
     let c = h.counts;

@@ -7,7 +7,7 @@ ghost use Rattle.grid.specs.Directions.{eight, directionsOf};
 ghost use Rattle.links.specs.Limits.{limits000};
 ghost use Rattle.links.specs.HeldLimits.{limitsOf};
 ghost use Rattle.analysis.specs.Plans.{Leads, PlanLeft};
-ghost use Rattle.probe.specs.Planning.{checksOf, spansOf, CountOf, Ranked, Inside, Words, PlanAnswer};
+ghost use Rattle.probe.specs.Planning.{probeChecks, probeSpans, CountOf, PermutationOf, PlanInside, Words, PlanAnswer};
 use analysis::ANSWER_TOO_SHORT;
 use analysis::ChokesResult;
 use analysis::plan_reduce;
@@ -30,8 +30,8 @@ fn plan_of(
     plan: &mut [u32; 256],
 ) -> ChokesResult
     requires { ⌜ (limits .«most_spans» ≤ 16) × Leads directions ⌝ }
-    ensures { λ r. ⌜ PlanLeft (limitsOf limits) (directionsOf directions) (checksOf which (now (job .entry)) (now (list .entry))) (decode (now (job .entry)))
-        (spansOf which (now (job .entry)) (now (list .entry)))
+    ensures { λ r. ⌜ PlanLeft (limitsOf limits) (directionsOf directions) (probeChecks which (now (job .entry)) (now (list .entry))) (decode (now (job .entry)))
+        (probeSpans which (now (job .entry)) (now (list .entry)))
         (now (work .entry)) (now (work .exit)) (now (order .exit)) (now (plan .exit)) (r .number) (r .detail) ⌝ }
 {
     if which == 0 {
@@ -42,7 +42,7 @@ fn plan_of(
 
 // For each boundary, the one that it goes into.
 fn write_plan(order: &[u32; 256], plan: &[u32; 256], n: usize, out: &mut [u8])
-    requires { ⌜ (n ≤ 256) × Ranked (now order) n × Inside (now plan) n × (4 * n ≤ length (now out)) ⌝ }
+    requires { ⌜ (n ≤ 256) × PermutationOf (now order) n × PlanInside (now plan) n × (4 * n ≤ length (now out)) ⌝ }
     ensures { λ _. ⌜ Words (now (order .entry)) (λ i. getD (now (order .entry)) (getD (now (plan .entry)) i 0) 0) n n (now (out .entry)) (now (out .exit)) ⌝ }
 {
     let mut i: usize = 0;
@@ -79,8 +79,8 @@ pub extern "C" fn probe_plan(
     work: &mut [u8],
     out: &mut [u8],
 ) -> ChokesResult
-    ensures { λ r. ⌜ PlanAnswer limits000 eight (checksOf which (now (job .entry)) (now (list .entry))) (decode (now (job .entry)))
-        (spansOf which (now (job .entry)) (now (list .entry)))
+    ensures { λ r. ⌜ PlanAnswer limits000 eight (probeChecks which (now (job .entry)) (now (list .entry))) (decode (now (job .entry)))
+        (probeSpans which (now (job .entry)) (now (list .entry)))
         (now (work .entry)) (now (out .entry)) (now (work .exit)) (now (out .exit)) (r .number) (r .detail) ⌝ }
 {
     let mut order = [0u32; 256];

@@ -6,7 +6,7 @@ ghost use Rattle.wire.specs.Bytes.{words, splice};
 ghost use Rattle.format.specs.Decode.{decode};
 ghost use Rattle.topology.specs.Held.{one};
 ghost use Rattle.analysis.specs.Plans.{Headed};
-ghost use Rattle.probe.specs.Regions.{Ready, regionWords, cellLabels, Shown};
+ghost use Rattle.probe.specs.Regions.{LabelsReady, regionWords, cellLabels, Shown};
 use analysis::ANSWER_TOO_SHORT;
 use analysis::ChokesResult;
 use analysis::first_answer;
@@ -22,7 +22,7 @@ use wire::write_u32;
 
 // The refusal of a job, or of labels under four bytes a cell.
 pub fn unready(job: &[u8], labels: &[u8]) -> ChokesResult
-    ensures { λ r. ⌜ Ready (now (job .entry)) (now (labels .entry)) (r .number) (r .detail) ⌝ }
+    ensures { λ r. ⌜ LabelsReady (now (job .entry)) (now (labels .entry)) (r .number) (r .detail) ⌝ }
 {
     first_answer(check_reduce(job), job, 4, labels.len())
 }

@@ -34,7 +34,7 @@ use Rattle.groups.proofs.ConnectedPart.{part-link}
 use Rattle.groups.proofs.SerialGroup.{serial-iff}
 use Rattle.groups.proofs.FlatGroup.{flat-iff}
 use Rattle.groups.proofs.Retains.{retains-iff}
-use Rattle.merging.specs.Groups.{Group, every, Disjoint}
+use Rattle.merging.specs.Groups.{Group, allGroups, Disjoint}
 use Rattle.merging.specs.Copies.{canon}
 use Rattle.merging.specs.Runs.{Run, itemOf, itemsOf, canonItem, groupsOf}
 use Rattle.results.specs.Rules.{gridOf, listingOf, groupOf, rulesOf}
@@ -62,25 +62,25 @@ module _ (limits : Limits) (dirs : List ℕ) (j : Job) (ss : List Span) where
   abbrev run : Run
   run = record { boundaries = j .boundaries; spans = ss }
 
-  abbrev serials : List Link.Group
+  abbrev serials : List Link.LinkGroup
   serials = serialGroups limits dirs (gridOf j) (anchorsOf (j .bases)) l
 
-  abbrev flats : List Link.Group
+  abbrev flats : List Link.LinkGroup
   flats = flatGroups limits dirs (gridOf j) (anchorsOf (j .bases)) l
 
-  abbrev all : List Link.Group
+  abbrev all : List Link.LinkGroup
   all = accepted limits dirs (gridOf j) (anchorsOf (j .bases)) l
 
   -- where the numbers agree the groups are those of the listing, and where they differ there are none
   abbrev chosen : List Group
-  chosen = every (groupsOf (rulesOf limits dirs j) run)
+  chosen = allGroups (groupsOf (rulesOf limits dirs j) run)
 
   chosen-matched : length (j .boundaries) ≡ length ss → chosen ≡ map (groupOf limits l) all
   unfolding groupsOf
   chosen-matched e = let t = eq-eqb (length (j .boundaries)) (length ss) e in rw t (every-group limits dirs j l)
 
   chosen-differ : eqb (length (j .boundaries)) (length ss) ≡ false → chosen ≡ []
-  unfolding groupsOf every
+  unfolding groupsOf allGroups
   chosen-differ e = rw e refl
 
   matched : {g : Group} → List·Memᴰ g chosen → length (j .boundaries) ≡ length ss
@@ -89,16 +89,16 @@ module _ (limits : Limits) (dirs : List ℕ) (j : Job) (ss : List Span) where
       (λ h. absurd (List·Memᴰ·not-nil (rw (chosen-differ h) at m)))
 
   -- a connected part has a rank, and its ranks ascend
-  retains : {L : LinkAt → Type 0} {a : Link.Group} → ConnectedPart L a → (i : ℕ) → Retains limits l (a .ranks) i ↔ (retained limits l (a .ranks) ≡ i)
+  retains : {L : LinkAt → Type 0} {a : Link.LinkGroup} → ConnectedPart L a → (i : ℕ) → Retains limits l (a .ranks) i ↔ (retained limits l (a .ranks) ≡ i)
   retains {L} {a} p i = retains-iff limits l (a .ranks) (p .ascending) (p .ranks (p .link .first) .1 (p .link, p .has, inl refl)) i
 
-  serial-ranks : (a : Link.Group) → List·Memᴰ a serials → SerialRanks limits dirs j ss (a .ranks)
+  serial-ranks : (a : Link.LinkGroup) → List·Memᴰ a serials → SerialRanks limits dirs j ss (a .ranks)
   serial-ranks a m = record { group = a; serial = serial-iff limits dirs (gridOf j) (anchorsOf (j .bases)) l a .0 m; own = refl }
 
-  flat-ranks : (a : Link.Group) → List·Memᴰ a flats → FlatRanks limits dirs j ss (a .ranks)
+  flat-ranks : (a : Link.LinkGroup) → List·Memᴰ a flats → FlatRanks limits dirs j ss (a .ranks)
   flat-ranks a m = record { group = a; flat = flat-iff limits dirs (gridOf j) (anchorsOf (j .bases)) l a .0 m; own = refl }
 
-  group-accepted : length (j .boundaries) ≡ length ss → (a : Link.Group) → List·Memᴰ a all → AcceptedGroup limits dirs j ss (groupOf limits l a)
+  group-accepted : length (j .boundaries) ≡ length ss → (a : Link.LinkGroup) → List·Memᴰ a all → AcceptedGroup limits dirs j ss (groupOf limits l a)
   unfolding accepted
   group-accepted e a m = ⊎-elim serial flat (List·Memᴰ·append-cases serials m)
     where
@@ -116,16 +116,16 @@ module _ (limits : Limits) (dirs : List ℕ) (j : Job) (ss : List Span) where
           record { matched = e; kind = inr (flat-ranks a k); retains = keeps (s .part) }
 
   -- the group with these ranks and the member that it keeps
-  same-group : (g : Group) (a : Link.Group) → a .ranks ≡ g .ranks → retained limits l (a .ranks) ≡ g .retained → groupOf limits l a ≡ g
+  same-group : (g : Group) (a : Link.LinkGroup) → a .ranks ≡ g .ranks → retained limits l (a .ranks) ≡ g .retained → groupOf limits l a ≡ g
   same-group g a e f = λ i. record { ranks = e i; retained = f i }
 
-  found : (g : Group) (a : Link.Group) {L : LinkAt → Type 0} → ConnectedPart L a → a .ranks ≡ g .ranks → Retains limits l (g .ranks) (g .retained) →
+  found : (g : Group) (a : Link.LinkGroup) {L : LinkAt → Type 0} → ConnectedPart L a → a .ranks ≡ g .ranks → Retains limits l (g .ranks) (g .retained) →
       groupOf limits l a ≡ g
   found g a p e w = same-group g a e (retains p (g .retained) .0 (subst (λ (is : List ℕ). Retains limits l is (g .retained)) (sym e) w))
 
   -- an accepted group is just what document 01 calls one
   pub accepted-iff : (g : Group) →
-      List·Memᴰ g (every (groupsOf (rulesOf limits dirs j) (record { boundaries = j .boundaries; spans = ss }))) ↔ AcceptedGroup limits dirs j ss g
+      List·Memᴰ g (allGroups (groupsOf (rulesOf limits dirs j) (record { boundaries = j .boundaries; spans = ss }))) ↔ AcceptedGroup limits dirs j ss g
   unfolding accepted
   accepted-iff g = (to, from)
     where
@@ -156,25 +156,25 @@ module _ (limits : Limits) (dirs : List ℕ) (j : Job) (ss : List Span) where
       part-link p k (p .has) .first-left (s .group) (s .serial)
       (subst (λ (js : List ℕ). List·Memᴰ (k .first) js) (f .own ∙ sym (s .own)) mine)
 
-  -- what holds of every two groups of the listing
-  chosen-pairs : (R : Group → Group → Type 0) → Pairs (λ (a b : Link.Group). R (groupOf limits l a) (groupOf limits l b)) all → Pairs R chosen
+  -- what holds of allGroups two groups of the listing
+  chosen-pairs : (R : Group → Group → Type 0) → Pairs (λ (a b : Link.LinkGroup). R (groupOf limits l a) (groupOf limits l b)) all → Pairs R chosen
   chosen-pairs R p =
       by-test (eqb (length (j .boundaries)) (length ss))
       (λ h. rw (chosen-matched (eqb-true (length (j .boundaries)) (length ss) h)) (pairs-map (groupOf limits l) (λ a b r. r) p))
       (λ h. rw (chosen-differ h) none)
 
-  serials-first : Pairs (λ (a b : Link.Group). SerialRanks limits dirs j ss (b .ranks) → SerialRanks limits dirs j ss (a .ranks)) all
+  serials-first : Pairs (λ (a b : Link.LinkGroup). SerialRanks limits dirs j ss (b .ranks) → SerialRanks limits dirs j ss (a .ranks)) all
   unfolding accepted
   serials-first =
       pairs-append (pairs-imp (λ a b p s. serial-ranks a (p .1)) (members serials))
       (pairs-imp (λ a b p s. absurd (kinds-apart (b .ranks) s (flat-ranks b (p .2)))) (members flats))
       (λ a b m n s. serial-ranks a m)
     where
-      members : (gs : List Link.Group) → Pairs (λ (a b : Link.Group). Unit {0} × List·Memᴰ a gs × List·Memᴰ b gs) gs
+      members : (gs : List Link.LinkGroup) → Pairs (λ (a b : Link.LinkGroup). Unit {0} × List·Memᴰ a gs × List·Memᴰ b gs) gs
       members gs = pairs-mem (pairs-all (λ a b. tt) gs)
 
   -- the groups that the rules give are the accepted ones
-  pub accepted-groups : AcceptedGroups limits dirs j ss (every (groupsOf (rulesOf limits dirs j) (record { boundaries = j .boundaries; spans = ss })))
+  pub accepted-groups : AcceptedGroups limits dirs j ss (allGroups (groupsOf (rulesOf limits dirs j) (record { boundaries = j .boundaries; spans = ss })))
   accepted-groups = record {
     each = accepted-iff;
     apart = chosen-pairs Disjoint (groups-disjoint limits dirs (gridOf j) (anchorsOf (j .bases)) l);

@@ -38,7 +38,7 @@ use Rattle.topology.specs.Listing.{spanKey, endsKey}
 use Rattle.merging.specs.Keys.{sourceKey, sourcesKey, observationKey}
 use Rattle.merging.specs.Copies.{canonObservation, canon, copiesOf}
 use Rattle.merging.specs.Consolidation.{orItself, observed, consolidate}
-use Rattle.merging.specs.Groups.{Groups, noGroups, every}
+use Rattle.merging.specs.Groups.{Groups, noGroups, allGroups}
 use Rattle.merging.specs.Kept.{membersOf, consolidated, slot, kept}
 use Rattle.merging.specs.Runs.{Run, reduceRun, itemsOf, canonItem, groupsOf, keptOf, rulesAnswer}
 use Rattle.results.specs.Rules.{gridOf, rulesOn, rulesOf}
@@ -132,13 +132,15 @@ unfolding groupsOf itemsOf canonItem canon canonical posLe endsKey spanKey sourc
 anchored-groups id = refl
 
 -- What is kept.
-pair-kept : kept (copiesOf (first ∷ second ∷ [])) (every pair) ≡ merged ∷ []
-unfolding keptOf every kept slot consolidated consolidate membersOf observed orItself copiesOf canon canonObservation canonical posLe endsKey spanKey sourceKey
+pair-kept : kept (copiesOf (first ∷ second ∷ [])) (allGroups pair) ≡ merged ∷ []
+unfolding keptOf allGroups kept slot consolidated consolidate membersOf observed orItself copiesOf canon canonObservation canonical posLe endsKey spanKey
+    sourceKey
     sourcesKey observationKey totalKey sort insert sortOnce include lexLe gather upFrom has
 pair-kept = refl
 
-none-kept : kept (copiesOf (first ∷ second ∷ [])) (every noGroups) ≡ first ∷ second ∷ []
-unfolding keptOf every kept slot consolidated consolidate membersOf observed orItself copiesOf canon canonObservation canonical posLe endsKey spanKey sourceKey
+none-kept : kept (copiesOf (first ∷ second ∷ [])) (allGroups noGroups) ≡ first ∷ second ∷ []
+unfolding keptOf allGroups kept slot consolidated consolidate membersOf observed orItself copiesOf canon canonObservation canonical posLe endsKey spanKey
+    sourceKey
     sourcesKey observationKey totalKey sort insert sortOnce include lexLe gather upFrom has
 none-kept = refl
 
@@ -160,7 +162,7 @@ corridor-answer : answer corridor ≡ corridorAnswer
 unfolding rulesAnswer keptOf
 corridor-answer =
     ap (λ (j : Job). answerOf limits000 eight j (ownEnds j)) corridor-job
-    ∙ ap (λ (g : Groups). encodeAnswer (kept (copiesOf (first ∷ second ∷ [])) (every g))) corridor-groups
+    ∙ ap (λ (g : Groups). encodeAnswer (kept (copiesOf (first ∷ second ∷ [])) (allGroups g))) corridor-groups
     ∙ ap encodeAnswer pair-kept
     ∙ merged-bytes
 
@@ -168,7 +170,7 @@ anchored-answer : (id : ℕ) → answer (anchored id) ≡ anchoredAnswer
 unfolding rulesAnswer keptOf
 anchored-answer id =
     ap (λ (j : Job). answerOf limits000 eight j (ownEnds j)) (anchored-job id)
-    ∙ ap (λ (g : Groups). encodeAnswer (kept (copiesOf (first ∷ second ∷ [])) (every g))) (anchored-groups id)
+    ∙ ap (λ (g : Groups). encodeAnswer (kept (copiesOf (first ∷ second ∷ [])) (allGroups g))) (anchored-groups id)
     ∙ ap encodeAnswer none-kept
     ∙ both-bytes
 

@@ -15,7 +15,7 @@ use Rattle.groups.specs.Flat.{accepted}
 use Rattle.groups.specs.Plan.{goesInto, mergePlan}
 use Rattle.groups.proofs.Accepted.{accepted-two}
 use Rattle.merging.specs.Copies.{copiesOf}
-use Rattle.merging.specs.Groups.{Group, noGroups, every}
+use Rattle.merging.specs.Groups.{Group, noGroups, allGroups}
 use Rattle.merging.specs.Planned.{goes, planned}
 use Rattle.merging.specs.Runs.{Run, groupsOf, keptOf, rulesAnswer}
 use Rattle.merging.proofs.Independence.{groups-well}
@@ -24,7 +24,7 @@ use Rattle.results.specs.Rules.{gridOf, listingOf, groupOf, rulesOf}
 use Rattle.results.specs.Results.{answerOf}
 use Rattle.results.proofs.Rules.{every-group, rules-well}
 
-goes-into : (limits : Limits) (l : List Item) (hs : List Link.Group) (i : ℕ) → goes (map (groupOf limits l) hs) i ≡ goesInto limits l hs i
+goes-into : (limits : Limits) (l : List Item) (hs : List Link.LinkGroup) (i : ℕ) → goes (map (groupOf limits l) hs) i ≡ goesInto limits l hs i
 unfolding goes goesInto
 goes-into limits l [] i = refl
 goes-into limits l (a ∷ hs) i = rw (goes-into limits l hs i) refl
@@ -34,7 +34,7 @@ module _ (limits : Limits) (dirs : List ℕ) (j : Job) (ss : List Span) where
   run = record { boundaries = j .boundaries; spans = ss }
 
   -- what the rules accept has two ranks or more
-  pub two-all : (l : List Item) (a : Group) → List·Memᴰ a (every (rulesOf limits dirs j l)) → 2 ≤ length (a .ranks)
+  pub two-all : (l : List Item) (a : Group) → List·Memᴰ a (allGroups (rulesOf limits dirs j l)) → 2 ≤ length (a .ranks)
   two-all l a m =
       let n : List·Memᴰ a (map (groupOf limits l) (accepted limits dirs (gridOf j) (anchorsOf (j .bases)) l)) = rw (← every-group limits dirs j l) m in
       let w = Memᴰ·of-map (groupOf limits l) (accepted limits dirs (gridOf j) (anchorsOf (j .bases)) l) n in
@@ -56,17 +56,17 @@ module _ (limits : Limits) (dirs : List ℕ) (j : Job) (ss : List Span) where
       let l = listingOf j ss in
       let gs : groupsOf (rulesOf limits dirs j) run ≡ rulesOf limits dirs j l = groups-matched e in
       let w = groups-well (rulesOf limits dirs j) (rules-well limits dirs j) run in
-      ap encodeAnswer (kept-planned (copiesOf (j .boundaries)) (every (groupsOf (rulesOf limits dirs j) run)) w (λ a m. two-all l a (rw (← gs) m))
+      ap encodeAnswer (kept-planned (copiesOf (j .boundaries)) (allGroups (groupsOf (rulesOf limits dirs j) run)) w (λ a m. two-all l a (rw (← gs) m))
       ∙ planned-ext (copiesOf (j .boundaries)) _ _
-      (λ i h. ap (λ hs. goes (every hs) i) gs
+      (λ i h. ap (λ hs. goes (allGroups hs) i) gs
       ∙ (ap (λ hs. goes hs i) (every-group limits dirs j l) ∙ goes-into limits l (accepted limits dirs (gridOf j) (anchorsOf (j .bases)) l) i)))
 
   -- they differ in number
   pub unmatched-answer : (length (j .boundaries) ≡ length ss → ⊥) → answerOf limits dirs j ss ≡ encodeAnswer (planned (copiesOf (j .boundaries)) (λ i. i))
-  unfolding rulesAnswer keptOf every goes
+  unfolding rulesAnswer keptOf allGroups goes
   unmatched-answer n =
       let gs = groups-unmatched n in
       let w = groups-well (rulesOf limits dirs j) (rules-well limits dirs j) run in
-      ap encodeAnswer (kept-planned (copiesOf (j .boundaries)) (every (groupsOf (rulesOf limits dirs j) run)) w
-      (λ a m. let z : List·Memᴰ a [] = rw (← ap every gs) m in absurd (List·Memᴰ·not-nil z))
-      ∙ planned-ext (copiesOf (j .boundaries)) _ _ (λ i h. ap (λ hs. goes (every hs) i) gs))
+      ap encodeAnswer (kept-planned (copiesOf (j .boundaries)) (allGroups (groupsOf (rulesOf limits dirs j) run)) w
+      (λ a m. let z : List·Memᴰ a [] = rw (← ap allGroups gs) m in absurd (List·Memᴰ·not-nil z))
+      ∙ planned-ext (copiesOf (j .boundaries)) _ _ (λ i h. ap (λ hs. goes (allGroups hs) i) gs))

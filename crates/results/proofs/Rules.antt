@@ -1,4 +1,4 @@
--- The rules' groups are well formed, for every job, direction set and limits; so what is proved of any rules holds of them.
+-- The rules' groups are well formed, for allGroups job, direction set and limits; so what is proved of any rules holds of them.
 use mathlib.Core.Path.{_≡_, sym}
 use mathlib.Core.List.{List, map, map-append, List·Memᴰ, Memᴰ·of-map}
 use Prim.Native.Nat.{ℕ}
@@ -13,7 +13,7 @@ use Rattle.groups.specs.Serial.{serialGroups}
 use Rattle.groups.specs.Flat.{flatGroups, accepted}
 use Rattle.groups.proofs.Accepted.{groups-disjoint, accepted-rising, accepted-below}
 use Rattle.groups.proofs.Plan.{accepted-retained}
-use Rattle.merging.specs.Groups.{Group, every, Good, Disjoint, WellGrouped}
+use Rattle.merging.specs.Groups.{Group, allGroups, Good, Disjoint, WellGrouped}
 use Rattle.merging.specs.Runs.{Run, groupsOf, keptOf}
 use Rattle.merging.specs.Follows.{Follows}
 use Rattle.merging.specs.Relisted.{Relisted, DistinctEnds}
@@ -22,12 +22,12 @@ use Rattle.merging.proofs.Independence.{kept-follows, demand-three}
 use Rattle.results.specs.Rules.{gridOf, groupOf, rulesOn, rulesOf}
 
 module _ (limits : Limits) (dirs : List ℕ) (j : Job) where
-  pub every-group : (l : List Item) → every (rulesOf limits dirs j l) ≡ map (groupOf limits l) (accepted limits dirs (gridOf j) (anchorsOf (j .bases)) l)
-  unfolding every rulesOn accepted
+  pub every-group : (l : List Item) → allGroups (rulesOf limits dirs j l) ≡ map (groupOf limits l) (accepted limits dirs (gridOf j) (anchorsOf (j .bases)) l)
+  unfolding allGroups rulesOn accepted
   every-group l = sym (map-append (groupOf limits l) (serialGroups limits dirs (gridOf j) (anchorsOf (j .bases)) l)
       (flatGroups limits dirs (gridOf j) (anchorsOf (j .bases)) l))
 
-  pub rules-well : (l : List Item) → WellGrouped (length l) (every (rulesOf limits dirs j l))
+  pub rules-well : (l : List Item) → WellGrouped (length l) (allGroups (rulesOf limits dirs j l))
   rules-well l = rw every-group (record { good = good; apart = apart })
     where
       good : (g : Group) → List·Memᴰ g (map (groupOf limits l) (accepted limits dirs (gridOf j) (anchorsOf (j .bases)) l)) → Good (length l) g
@@ -43,7 +43,7 @@ module _ (limits : Limits) (dirs : List ℕ) (j : Job) where
       apart = pairs-map (groupOf limits l) (λ a b d. d) (groups-disjoint limits dirs (gridOf j) (anchorsOf (j .bases)) l)
 
   -- "the list follows the merging rules"
-  pub list-follows : (r : Run) → Follows (r .boundaries) (every (groupsOf (rulesOf limits dirs j) r)) (keptOf (rulesOf limits dirs j) r)
+  pub list-follows : (r : Run) → Follows (r .boundaries) (allGroups (groupsOf (rulesOf limits dirs j) r)) (keptOf (rulesOf limits dirs j) r)
   list-follows = kept-follows (rulesOf limits dirs j) rules-well
 
   -- Demand 3 for these rules.

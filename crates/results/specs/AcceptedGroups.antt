@@ -19,13 +19,13 @@ use Rattle.results.specs.Rules.{gridOf, listingOf}
 module _ (limits : Limits) (dirs : List ℕ) (j : Job) (ss : List Span) where
   -- the ranks are those of a serial group over the listing
   pub record SerialRanks (is : List ℕ) : Type 0 where
-    pub group : Link.Group
+    pub group : Link.LinkGroup
     pub serial : SerialGroup limits dirs (gridOf j) (anchorsOf (j .bases)) (listingOf j ss) group
     pub own : group .ranks ≡ is
 
   -- those of a flat one
   pub record FlatRanks (is : List ℕ) : Type 0 where
-    pub group : Link.Group
+    pub group : Link.LinkGroup
     pub flat : FlatGroup limits dirs (gridOf j) (anchorsOf (j .bases)) (listingOf j ss) group
     pub own : group .ranks ≡ is
 

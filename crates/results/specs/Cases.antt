@@ -34,16 +34,16 @@ anchored id =
     ++ ((1 ∷ 1 ∷ 1 ∷ 1 ∷ []) ++ (words (id ∷ 1 ∷ 0 ∷ []) ++ (upright 8 1 0 ++ (upright 16 1 0 ++ words (1 ∷ 2 ∷ 2 ∷ 1 ∷ [])))))
 
 -- An observation of the corridor's answer.
-unfoldable pub observed : ℕ → List ℕ
+unfoldable pub corridorObservation : ℕ → List ℕ
 unfolding words
-observed x = words (x ∷ 0 ∷ x ∷ 8 ∷ []) ++ (u64Bytes 0x4020_0000_0000_0000 ++ words (1 ∷ []))
+corridorObservation x = words (x ∷ 0 ∷ x ∷ 8 ∷ []) ++ (u64Bytes 0x4020_0000_0000_0000 ++ words (1 ∷ []))
 
 -- One boundary kept, with both sources and both boundaries as observations: 152 bytes.
 unfoldable pub corridorAnswer : List ℕ
-unfolding words upright observed
+unfolding words upright corridorObservation
 corridorAnswer =
     words (1 ∷ 2 ∷ 4 ∷ 64 ∷ 120 ∷ 152 ∷ [])
-    ++ (upright 8 2 2 ++ (observed 8 ++ (observed 16 ++ words (1 ∷ 2 ∷ 2 ∷ 1 ∷ 1 ∷ 2 ∷ 2 ∷ 1 ∷ []))))
+    ++ (upright 8 2 2 ++ (corridorObservation 8 ++ (corridorObservation 16 ++ words (1 ∷ 2 ∷ 2 ∷ 1 ∷ 1 ∷ 2 ∷ 2 ∷ 1 ∷ []))))
 
 -- Two kept.
 unfoldable pub anchoredAnswer : List ℕ

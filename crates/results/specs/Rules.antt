@@ -23,7 +23,7 @@ abbrev pub listingOf : Job → List Span → List Item
 listingOf j ss = listing (map canonItem (itemsOf (record { boundaries = j .boundaries; spans = ss })))
 
 -- A group of links with the member that it keeps.
-abbrev pub groupOf : Limits → List Item → Link.Group → Group
+abbrev pub groupOf : Limits → List Item → Link.LinkGroup → Group
 groupOf limits l a = record { ranks = a .ranks; retained = retained limits l (a .ranks) }
 
 -- "Serial groups come first, then flat groups", over a listing, on a map with these anchors.

@@ -13,9 +13,9 @@ use Rattle.position.specs.declared.WalkPosition.{WalkPosition}
 use Rattle.format.specs.Values.{Base}
 use Rattle.grid.specs.Cells.{Grid, indexOf}
 use Rattle.areas.specs.Areas.{labelAt}
-use Rattle.topology.specs.Anchors.{listed, anchorsOf, isAnchored}
+use Rattle.topology.specs.Anchors.{optional, anchorsOf, isAnchored}
 
-listed-some : (o : Option WalkPosition) {p : WalkPosition} → List·Memᴰ p (listed o) → o ≡ some p
+listed-some : (o : Option WalkPosition) {p : WalkPosition} → List·Memᴰ p (optional o) → o ≡ some p
 listed-some none m = absurd (List·Memᴰ·not-nil m)
 listed-some (some q) (List·Memᴰ·head e) = ap some (sym e)
 listed-some (some q) (List·Memᴰ·tail m) = absurd (List·Memᴰ·not-nil m)
@@ -23,8 +23,8 @@ listed-some (some q) (List·Memᴰ·tail m) = absurd (List·Memᴰ·not-nil m)
 pub anchors-iff : (bs : List Base) (p : WalkPosition) → List·Memᴰ p (anchorsOf bs) ↔ ((b : Base) × List·Memᴰ b bs × (b .anchor ≡ some p))
 unfolding anchorsOf
 anchors-iff bs p = (
-  λ m. let w = gather-mem (λ (b : Base). listed (b .anchor)) bs m in (w .0, w .1, listed-some (w .0 .anchor) (w .2)),
-  λ w. mem-gather (λ (b : Base). listed (b .anchor)) (w .1) (let h : List·Memᴰ p (listed (w .0 .anchor)) = rw (w .2) (List·Memᴰ·head refl) in h),
+  λ m. let w = gather-mem (λ (b : Base). optional (b .anchor)) bs m in (w .0, w .1, listed-some (w .0 .anchor) (w .2)),
+  λ w. mem-gather (λ (b : Base). optional (b .anchor)) (w .1) (let h : List·Memᴰ p (optional (w .0 .anchor)) = rw (w .2) (List·Memᴰ·head refl) in h),
 )
 
 module _ (g : Grid) (ls : List ℕ) where

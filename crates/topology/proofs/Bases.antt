@@ -18,7 +18,7 @@ use Rattle.grid.specs.Cells.{Grid}
 use Rattle.areas.specs.Areas.{labelAt}
 use Rattle.areas.specs.Words.{word, labelsIn}
 use Rattle.areas.proofs.Words.{label-in}
-use Rattle.topology.specs.Anchors.{listed, anchorsOf, isAnchored}
+use Rattle.topology.specs.Anchors.{optional, anchorsOf, isAnchored}
 use Rattle.topology.specs.Held.{isNone}
 use Rattle.topology.specs.AnchorLoop.{Hit, anchorHit, anchoredBy}
 
@@ -66,17 +66,17 @@ module _ (g : Grid) (ls : List ℕ) (r : ℕ) where
       ∙ sym (or-assoc (eqb r (labelAt ls (p .y * g .width + p .x))) (isAnchored g ls ps r) (isAnchored g ls qs r))
 
   anchors-append : (bs : List BaseRecord) (b : BaseRecord)
-      → anchorsOf (map baseOf (bs ++ (b ∷ []))) ≡ anchorsOf (map baseOf bs) ++ listed (anchorOf (b .anchor))
+      → anchorsOf (map baseOf (bs ++ (b ∷ []))) ≡ anchorsOf (map baseOf bs) ++ optional (anchorOf (b .anchor))
   unfolding anchorsOf gather baseOf
-  anchors-append [] b = append-nil (listed (anchorOf (b .anchor)))
-  anchors-append (d ∷ ds) b = ap (λ (l : List WalkPosition). listed (anchorOf (d .anchor)) ++ l) (anchors-append ds b)
-      ∙ sym (append-assoc (listed (anchorOf (d .anchor))) (anchorsOf (map baseOf ds)) (listed (anchorOf (b .anchor))))
+  anchors-append [] b = append-nil (optional (anchorOf (b .anchor)))
+  anchors-append (d ∷ ds) b = ap (λ (l : List WalkPosition). optional (anchorOf (d .anchor)) ++ l) (anchors-append ds b)
+      ∙ sym (append-assoc (optional (anchorOf (d .anchor))) (anchorsOf (map baseOf ds)) (optional (anchorOf (b .anchor))))
 
-  one-anchor : (p : WalkPosition) → isAnchored g ls (listed (anchorOf p)) r ≡ anchorHit ls (g .width) p r
+  one-anchor : (p : WalkPosition) → isAnchored g ls (optional (anchorOf p)) r ≡ anchorHit ls (g .width) p r
   unfolding isAnchored anchorOf
   one-anchor p = go (isNone p)
     where
-      go : (t : Bool) → isAnchored g ls (listed (cond t none (some p))) r ≡ (not t && eqb r (labelAt ls (p .y * g .width + p .x)))
+      go : (t : Bool) → isAnchored g ls (optional (cond t none (some p))) r ≡ (not t && eqb r (labelAt ls (p .y * g .width + p .x)))
       go true = refl
       go false = or-swap (eqb r (labelAt ls (p .y * g .width + p .x))) false
 
@@ -90,6 +90,6 @@ module _ (g : Grid) (ls : List ℕ) (r : ℕ) where
       let e : isAnchored g ls (anchorsOf (map baseOf (rows (suc k) f))) r ≡ (isAnchored g ls (anchorsOf (map baseOf (rows k f))) r || hitK) =
       ap (λ (l : List BaseRecord). isAnchored g ls (anchorsOf (map baseOf l)) r) (rows-last k f)
       ∙ (ap (λ (l : List WalkPosition). isAnchored g ls l r) (anchors-append (rows k f) (f k))
-      ∙ (found-append (anchorsOf (map baseOf (rows k f))) (listed (anchorOf (f k .anchor)))
+      ∙ (found-append (anchorsOf (map baseOf (rows k f))) (optional (anchorOf (f k .anchor)))
       ∙ ap (λ (t : Bool). isAnchored g ls (anchorsOf (map baseOf (rows k f))) r || t) (one-anchor (f k .anchor)))) in
       ap (λ (t : Bool). hitK || t) (by-bases job at k) ∙ (or-swap hitK (isAnchored g ls (anchorsOf (map baseOf (rows k f))) r) ∙ sym e)

@@ -15,7 +15,7 @@ use Rattle.areas.specs.Areas.{labelAt}
 use Rattle.areas.specs.Words.{word, labelsIn}
 use Rattle.areas.proofs.Words.{labels-many, label-in}
 use Rattle.topology.specs.RegionStats.{regionStats}
-use Rattle.topology.specs.Held.{Room, withCell, statsAfter, statsIn, firstCells, NoCells}
+use Rattle.topology.specs.Held.{CellRoom, statsWithCell, statsAfter, statsIn, firstCells, NoCells}
 use Rattle.topology.specs.declared.stats.RegionStats.{RegionStats as StatsHeld}
 use Rattle.topology.proofs.Counting.{after-next, after-all, after-room, cells-in, cells-out, cells-most, cells-all}
 
@@ -53,13 +53,14 @@ pass-next {A} after bytes n r {i} {s} now l {v} e {more} step {t} f =
     same = ap (eqb r) (label-in bytes n i l ∙ sym e)
 
 module _ (g : Grid) (bytes : List ℕ) (n r : ℕ) {i : ℕ} {s : StatsHeld} (now : s ≡ statsAfter g (firstCells (labelsIn bytes n) r i)) where
-  pub count-room : i < 1048576 → Room s
+  pub count-room : i < 1048576 → CellRoom s
   count-room h = rw now (after-room g (firstCells (labelsIn bytes n) r i) (omega (arith, cells-most (labelsIn bytes n) r i)))
 
-  pub count-next : i < n → {v : ℕ} → v ≡ word bytes i → {t : StatsHeld} → t ≡ cond (eqb r v) (withCell s (columnOf g i) (rowOf g i) (cellAt g i)) s
+  pub count-next : i < n → {v : ℕ} → v ≡ word bytes i → {t : StatsHeld} → t ≡ cond (eqb r v) (statsWithCell s (columnOf g i) (rowOf g i) (cellAt g i)) s
       → t ≡ statsAfter g (firstCells (labelsIn bytes n) r (i + 1))
   count-next l e f =
-      pass-next (statsAfter g) bytes n r now l e (λ cs h. ap (λ (x : StatsHeld). withCell x (columnOf g i) (rowOf g i) (cellAt g i)) h ∙ after-next g cs i) f
+      pass-next (statsAfter g) bytes n r now l e (λ cs h. ap (λ (x : StatsHeld). statsWithCell x (columnOf g i) (rowOf g i) (cellAt g i)) h ∙ after-next g cs i)
+      f
 
   pub count-end : i ≡ n → statsIn s ≡ regionStats g (labelsIn bytes n) r
   count-end e =

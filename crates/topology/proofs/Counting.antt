@@ -14,7 +14,7 @@ use Rattle.grid.specs.Cells.{Grid, rampCell, elevation, columnOf, rowOf, cellAt
 use Rattle.areas.specs.Areas.{labelAt}
 use Rattle.topology.specs.Extremes.{least, greatest}
 use Rattle.topology.specs.RegionStats.{leftOf, topOf, regionCells, regionStats}
-use Rattle.topology.specs.Held.{Room, one, lesser, withCell, statsAfter, statsIn, firstCells}
+use Rattle.topology.specs.Held.{CellRoom, one, lesser, statsWithCell, statsAfter, statsIn, firstCells}
 
 pub lesser-first : {n y : ℕ} (x : ℕ) → n ≡ 0 → y ≡ lesser n x y
 lesser-first {n} x e = let h = eq-eqb n 0 e in rw h
@@ -74,8 +74,8 @@ some-last zero false = refl
 some-last (suc n) b = lt-ltb 0 (suc n + one b) (omega arith) ∙ sym (let e : ltb 0 (suc n) ≡ true = lt-ltb 0 (suc n) (omega arith) in rw e)
 
 module _ (g : Grid) where
-  pub after-next : (cs : List ℕ) (c : ℕ) → withCell (statsAfter g cs) (columnOf g c) (rowOf g c) (cellAt g c) ≡ statsAfter g (cs ++ (c ∷ []))
-  unfolding withCell statsAfter rampCell elevation
+  pub after-next : (cs : List ℕ) (c : ℕ) → statsWithCell (statsAfter g cs) (columnOf g c) (rowOf g c) (cellAt g c) ≡ statsAfter g (cs ++ (c ∷ []))
+  unfolding statsWithCell statsAfter rampCell elevation
   after-next cs c =
       let e : length (cs ++ (c ∷ [])) ≡ length cs + 1 = length-append cs (c ∷ []) in
       let ramp : ltb 0 (length (keep (rampCell g) (cs ++ (c ∷ [])))) ≡ (ltb 0 (length (keep (rampCell g) cs)) || rampCell g c) =
@@ -98,7 +98,7 @@ module _ (g : Grid) where
   unfolding statsAfter regionStats upFrom
   after-all ls r = refl
 
-  pub after-room : (cs : List ℕ) → length cs < 4294967295 → Room (statsAfter g cs)
+  pub after-room : (cs : List ℕ) → length cs < 4294967295 → CellRoom (statsAfter g cs)
   unfolding statsAfter
   after-room cs h = record {
     cells = h;

@@ -10,7 +10,7 @@ use borrow.Author.Tests.{ltb-true, lt-ltb}
 use lib.Dec.{ltb}
 use lib.ListN.{getD}
 use Rattle.grid.specs.Cells.{Grid, elevation}
-use Rattle.topology.specs.RegionStats.{regionCells, regionStats, bitsOf, elevations}
+use Rattle.topology.specs.RegionStats.{regionCells, regionStats, elevationBits, elevations}
 use Rattle.topology.specs.Held.{one}
 use Rattle.topology.proofs.RegionStats.{elevation-iff}
 
@@ -19,18 +19,18 @@ halved : (t : Bool) (m : ℕ) → ((cond t 1 0 + 2 * m) / 2 ≡ m) × ((cond t 1
 halved true m = (omega arith, omega arith)
 halved false m = (omega arith, omega arith)
 
-bit-of : (ns : List ℕ) (e : ℕ) → bitsOf ns / 2 ^ e % 2 ≡ cond (ltb 0 (getD ns e 0)) 1 0
-unfolding bitsOf
+bit-of : (ns : List ℕ) (e : ℕ) → elevationBits ns / 2 ^ e % 2 ≡ cond (ltb 0 (getD ns e 0)) 1 0
+unfolding elevationBits
 bit-of [] e = ap (λ (k : ℕ). k % 2) (zero-div (2 ^ e))
 bit-of (n ∷ ns) zero =
-    let v = cond (ltb 0 n) 1 0 + 2 * bitsOf ns in
+    let v = cond (ltb 0 n) 1 0 + 2 * elevationBits ns in
     let whole : v / 1 ≡ v = omega arith in
-    ap (λ (k : ℕ). k % 2) whole ∙ halved (ltb 0 n) (bitsOf ns) .1
+    ap (λ (k : ℕ). k % 2) whole ∙ halved (ltb 0 n) (elevationBits ns) .1
 bit-of (n ∷ ns) (suc e) =
-    let v = cond (ltb 0 n) 1 0 + 2 * bitsOf ns in
+    let v = cond (ltb 0 n) 1 0 + 2 * elevationBits ns in
     ap (λ (k : ℕ). v / k % 2) (pow-succ' 2 e)
     ∙ (ap (λ (k : ℕ). k % 2) (sym (div-div-eq-div-mul v 2 (2 ^ e)))
-    ∙ (ap (λ (k : ℕ). k / 2 ^ e % 2) (halved (ltb 0 n) (bitsOf ns) .0) ∙ bit-of ns e))
+    ∙ (ap (λ (k : ℕ). k / 2 ^ e % 2) (halved (ltb 0 n) (elevationBits ns) .0) ∙ bit-of ns e))
 
 one-true : (t : Bool) → _≡_ {A = ℕ} (cond t 1 0) 1 → t ≡ true
 one-true true e = refl
@@ -48,13 +48,13 @@ module _ (g : Grid) (ls : List ℕ) (r e : ℕ) (small : e < 4) where
   )
 
 -- the sum that the code adds up
-pub bits-are : (a b c d : ℕ) → one (ltb 0 a) + 2 * one (ltb 0 b) + 4 * one (ltb 0 c) + 8 * one (ltb 0 d) ≡ bitsOf (a ∷ b ∷ c ∷ d ∷ [])
-unfolding bitsOf
+pub bits-are : (a b c d : ℕ) → one (ltb 0 a) + 2 * one (ltb 0 b) + 4 * one (ltb 0 c) + 8 * one (ltb 0 d) ≡ elevationBits (a ∷ b ∷ c ∷ d ∷ [])
+unfolding elevationBits
 bits-are a b c d = omega arith
 
 -- no other bit is set
-pub four-bits : (a b c d : ℕ) → bitsOf (a ∷ b ∷ c ∷ d ∷ []) < 16
-unfolding bitsOf
+pub four-bits : (a b c d : ℕ) → elevationBits (a ∷ b ∷ c ∷ d ∷ []) < 16
+unfolding elevationBits
 four-bits a b c d = below (ltb 0 a) (ltb 0 b) (ltb 0 c) (ltb 0 d)
   where
     bit : (t : Bool) → cond t 1 0 < 2

@@ -11,14 +11,14 @@ use Rattle.grid.specs.Cells.{Grid, indexOf}
 use Rattle.areas.specs.Areas.{labelAt}
 
 -- none, or one
-abbrev pub listed : Option WalkPosition → List WalkPosition
-listed none = []
-listed (some p) = p ∷ []
+abbrev pub optional : Option WalkPosition → List WalkPosition
+optional none = []
+optional (some p) = p ∷ []
 
 -- the anchors of all bases that have one
 unfoldable pub anchorsOf : List Base → List WalkPosition
 unfolding gather
-anchorsOf bases = gather (λ (b : Base). listed (b .anchor)) bases
+anchorsOf bases = gather (λ (b : Base). optional (b .anchor)) bases
 
 -- some anchor's cell has the label r
 unfoldable pub isAnchored : Grid → List ℕ → List WalkPosition → ℕ → Bool

@@ -27,7 +27,7 @@ statsIn s = record {
 }
 
 -- There is room for another cell.
-pub record Room (s : StatsHeld) : Type 0 where
+pub record CellRoom (s : StatsHeld) : Type 0 where
   pub cells : s .cells < 4294967295
   pub first : s .«level_0» < 4294967295
   pub second : s .«level_1» < 4294967295
@@ -42,8 +42,8 @@ abbrev pub lesser : ℕ → ℕ → ℕ → ℕ
 lesser n x y = cond (eqb n 0) y (min x y)
 
 -- One cell more, at a column and a row.
-unfoldable pub withCell : StatsHeld → ℕ → ℕ → ℕ → StatsHeld
-withCell s column row cell = record {
+unfoldable pub statsWithCell : StatsHeld → ℕ → ℕ → ℕ → StatsHeld
+statsWithCell s column row cell = record {
   cells = s .cells + 1;
   «min_x» = lesser (s .cells) (s .«min_x») (8 * column);
   «min_y» = lesser (s .cells) (s .«min_y») (8 * row);

@@ -56,13 +56,13 @@ unfolding keep
 elevationKinds s = length (keep (ltb 0) (s .elevationCounts))
 
 -- 001's set of elevations: bit e is set if a cell has elevation e
-unfoldable pub bitsOf : List ℕ → ℕ
-bitsOf [] = 0
-bitsOf (n ∷ ns) = cond (ltb 0 n) 1 0 + 2 * bitsOf ns
+unfoldable pub elevationBits : List ℕ → ℕ
+elevationBits [] = 0
+elevationBits (n ∷ ns) = cond (ltb 0 n) 1 0 + 2 * elevationBits ns
 
 unfoldable pub elevations : RegionStats → ℕ
-unfolding bitsOf
-elevations s = bitsOf (s .elevationCounts)
+unfolding elevationBits
+elevations s = elevationBits (s .elevationCounts)
 
 -- the meaning of 1: the region has a cell, and all its cells are of one elevation
 pub record OneElevation (g : Grid) (ls : List ℕ) (r : ℕ) : Type 0 where

@@ -1,6 +1,6 @@
 // Full pairs, and a pair's other region.
 ghost use mathlib.Core.Path.{_≡_};
-ghost use Rattle.areas.specs.Assessments.{pairOf};
+ghost use Rattle.areas.specs.Assessments.{regionPair};
 ghost use Rattle.topology.specs.FullPair.{otherRegion};
 ghost use Rattle.topology.specs.Numbers.{isFull};
 
@@ -13,7 +13,7 @@ pub fn has_full_pair(removed: u32, separated: u32, pairs: u32) -> bool
 
 // The pair's other region: 000's `exterior`.
 pub fn other_region(lower: u32, higher: u32, region: u32) -> u32
-    ensures { λ r. ⌜ r ≡ otherRegion (pairOf lower higher) region ⌝ }
+    ensures { λ r. ⌜ r ≡ otherRegion (regionPair lower higher) region ⌝ }
 {
     if lower == region { higher } else { lower }
 }

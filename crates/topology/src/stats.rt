@@ -5,7 +5,7 @@ ghost use Prim.Native.Nat.{ℕ, _*_, _/_, _%_, _<_, _≤_, max};
 ghost use lib.ListN.{length};
 ghost use Rattle.areas.specs.Words.{labelsIn};
 ghost use Rattle.topology.specs.RegionStats.{elevations, elevationKinds, regionStats};
-ghost use Rattle.topology.specs.Held.{Room, statsIn, one, lesser, withCell, NoCells};
+ghost use Rattle.topology.specs.Held.{CellRoom, statsIn, one, lesser, statsWithCell, NoCells};
 use wire::read_u32;
 
 // The box is in whole pixels, its right and lower edge past the last cell; `level_0` to `level_3` count the cells of each elevation.
@@ -64,8 +64,8 @@ impl RegionStats {
 
     // One cell more.
     pub fn with(self, column: u32, row: u32, cell: u8) -> RegionStats
-        requires { ⌜ Room self × (column < 536870911) × (row < 536870911) ⌝ }
-        ensures { λ r. ⌜ r ≡ withCell self column row cell ⌝ }
+        requires { ⌜ CellRoom self × (column < 536870911) × (row < 536870911) ⌝ }
+        ensures { λ r. ⌜ r ≡ statsWithCell self column row cell ⌝ }
     {
         let level = cell / 8 % 4;
         RegionStats {
@@ -120,8 +120,8 @@ pub fn row_of(i: usize, width: u32) -> u32
 
 // One cell more, if it is of the region.
 fn counted(stats: RegionStats, inside: bool, i: usize, width: u32, cell: u8) -> RegionStats
-    requires { ⌜ Room stats × (i < 1048576) × (0 < width) ⌝ }
-    ensures { λ r. ⌜ r ≡ cond inside (withCell stats (i % width) (i / width) cell) stats ⌝ }
+    requires { ⌜ CellRoom stats × (i < 1048576) × (0 < width) ⌝ }
+    ensures { λ r. ⌜ r ≡ cond inside (statsWithCell stats (i % width) (i / width) cell) stats ⌝ }
 {
     if !inside {
         return stats;

@@ -8,21 +8,21 @@ use native.Mathlib.Decide.{ℕ-discrete}
 use lib.ListN.{length, set, length-set}
 use lib.Seq.{getD-set-same, getD-set-other}
 use Rattle.lists.specs.Rows.{at}
-use Rattle.walk.specs.Walk.{Touches, First}
-use Rattle.walk.specs.Slices.{Graph, Linked}
+use Rattle.walk.specs.Walk.{RecordTouches, First}
+use Rattle.walk.specs.Slices.{Graph, IncidenceLists}
 use Rattle.walk.specs.declared.frame.Frame.{Frame}
 
 -- what follows record j in the chain of a region that it touches
-pub follows : {K R : ℕ} {lefts rights heads leftNexts rightNexts : List ℕ} → Linked K R lefts rights heads leftNexts rightNexts 0 →
-    (j x v : ℕ) → j < K → Touches (at lefts) (at rights) j x → (at lefts j ≡ x → v ≡ at leftNexts j) → ((at lefts j ≡ x → ⊥) → v ≡ at rightNexts j) →
+pub follows : {K R : ℕ} {lefts rights heads leftNexts rightNexts : List ℕ} → IncidenceLists K R lefts rights heads leftNexts rightNexts 0 →
+    (j x v : ℕ) → j < K → RecordTouches (at lefts) (at rights) j x → (at lefts j ≡ x → v ≡ at leftNexts j) → ((at lefts j ≡ x → ⊥) → v ≡ at rightNexts j) →
     First K (at lefts) (at rights) (j + 1) x v
 follows {K} {lefts = lefts} {rights} {heads} {leftNexts} {rightNexts} N j x v k t l r =
     by-cases (ℕ-discrete (at lefts j) x) (λ e. subst₂ (First K (at lefts) (at rights) (j + 1)) e (sym (l e)) (N .left-next j (omega arith) k))
     (λ e. ⊎-elim (λ z. absurd (e z)) (λ z. subst₂ (First K (at lefts) (at rights) (j + 1)) z (sym (r e)) (N .right-next j (omega arith) k)) t)
 
 -- the same, for a frame g at the region and the record of f
-pub follows-as : {K R : ℕ} {lefts rights heads leftNexts rightNexts : List ℕ} → Linked K R lefts rights heads leftNexts rightNexts 0 →
-    (f g : Frame) (v : ℕ) → g .next ≡ f .next → g .region ≡ f .region → f .next < K → Touches (at lefts) (at rights) (f .next) (f .region) →
+pub follows-as : {K R : ℕ} {lefts rights heads leftNexts rightNexts : List ℕ} → IncidenceLists K R lefts rights heads leftNexts rightNexts 0 →
+    (f g : Frame) (v : ℕ) → g .next ≡ f .next → g .region ≡ f .region → f .next < K → RecordTouches (at lefts) (at rights) (f .next) (f .region) →
     (at lefts (g .next) ≡ g .region → v ≡ at leftNexts (g .next)) → ((at lefts (g .next) ≡ g .region → ⊥) → v ≡ at rightNexts (g .next)) →
     First K (at lefts) (at rights) (f .next + 1) (f .region) v
 follows-as {lefts = lefts} {leftNexts = leftNexts} {rightNexts} N f g v a b k t l r =
@@ -31,13 +31,13 @@ follows-as {lefts = lefts} {leftNexts = leftNexts} {rightNexts} N f g v a b k t 
 
 -- a record has its places
 pub chain-in : {K R : ℕ} {lefts rights heads leftNexts rightNexts : List ℕ} {k : ℕ} → Graph K R lefts rights
-    → Linked K R lefts rights heads leftNexts rightNexts k → (j : ℕ) → j < K →
+    → IncidenceLists K R lefts rights heads leftNexts rightNexts k → (j : ℕ) → j < K →
     (j < length lefts) × (j < length leftNexts) × (j < length rightNexts)
 chain-in G N j l = (omega (arith, G .lefts-are), omega (arith, N .lefts-are), omega (arith, N .rights-are))
 
 -- no record is chained
 pub unlinked : {K R : ℕ} {lefts rights heads leftNexts rightNexts : List ℕ} → length heads ≡ R → K ≤ length leftNexts → K ≤ length rightNexts →
-    ((x : ℕ) → x < R → K ≤ at heads x) → Linked K R lefts rights heads leftNexts rightNexts K
+    ((x : ℕ) → x < R → K ≤ at heads x) → IncidenceLists K R lefts rights heads leftNexts rightNexts K
 unlinked a b c empty = record {
   heads-are = a;
   lefts-are = b;
@@ -49,14 +49,14 @@ unlinked a b c empty = record {
 
 -- record k is put before the chains of its regions
 module _ (K R : ℕ) (lefts rights heads leftNexts rightNexts : List ℕ) (k : ℕ) (G : Graph K R lefts rights)
-    (N : Linked K R lefts rights heads leftNexts rightNexts (k + 1)) (l : k < K) where
+    (N : IncidenceLists K R lefts rights heads leftNexts rightNexts (k + 1)) (l : k < K) where
   abbrev a : ℕ
   a = at lefts k
 
   abbrev b : ℕ
   b = at rights k
 
-  here : (x : ℕ) → Touches (at lefts) (at rights) k x → First K (at lefts) (at rights) k x k
+  here : (x : ℕ) → RecordTouches (at lefts) (at rights) k x → First K (at lefts) (at rights) k x k
   here x t = record { onward = omega arith; between = λ i f g z u. absurd (omega arith); touches = λ z. t }
 
   first : (x : ℕ) → x < R → First K (at lefts) (at rights) k x (at (set (set heads a k) b k) x)
@@ -85,7 +85,7 @@ module _ (K R : ℕ) (lefts rights heads leftNexts rightNexts : List ℕ) (k : �
             touches = N .head x m .touches;
           })
         where
-          between : (i : ℕ) → k ≤ i → i < at heads x → i < K → Touches (at lefts) (at rights) i x → ⊥
+          between : (i : ℕ) → k ≤ i → i < at heads x → i < K → RecordTouches (at lefts) (at rights) i x → ⊥
           between i c d z t =
               by-cases (ℕ-discrete i k)
               (λ y. ⊎-elim (λ u. f (sym u ∙ ap (at lefts) y)) (λ u. e (sym u ∙ ap (at rights) y)) t)
@@ -103,7 +103,7 @@ module _ (K R : ℕ) (lefts rights heads leftNexts rightNexts : List ℕ) (k : �
       subst₂ (λ (y z : ℕ). First K (at lefts) (at rights) (y + 1) (at ends i) z) (sym e) (sym v) (N .head (at ends i) (omega (arith, ap (at ends) e))))
       (λ e. subst (First K (at lefts) (at rights) (i + 1) (at ends i)) (sym (getD-set-other nexts k i (at heads (at ends k)) 0 e)) (old i (omega arith) d))
 
-  pub linked-one : Linked K R lefts rights (set (set heads (at lefts k) k) (at rights k) k) (set leftNexts k (at heads (at lefts k)))
+  pub linked-one : IncidenceLists K R lefts rights (set (set heads (at lefts k) k) (at rights k) k) (set leftNexts k (at heads (at lefts k)))
       (set rightNexts k (at heads (at rights k))) k
   linked-one = record {
     heads-are = simp length-set (N .heads-are);
@@ -117,10 +117,10 @@ module _ (K R : ℕ) (lefts rights heads leftNexts rightNexts : List ℕ) (k : �
 -- the same at lists that are equal
 pub linked-as : (K R : ℕ) (lefts rights heads leftNexts rightNexts heads′ leftNexts′ rightNexts′ : List ℕ) (k : ℕ) → leftNexts′ ≡ leftNexts
     → rightNexts′ ≡ rightNexts →
-    heads′ ≡ heads → Linked K R lefts rights heads leftNexts rightNexts k → Linked K R lefts rights heads′ leftNexts′ rightNexts′ k
+    heads′ ≡ heads → IncidenceLists K R lefts rights heads leftNexts rightNexts k → IncidenceLists K R lefts rights heads′ leftNexts′ rightNexts′ k
 linked-as K R lefts rights heads leftNexts rightNexts heads′ leftNexts′ rightNexts′ k a b c N = rw (a, b, c) N
 
 -- the same, with the length of the heads for the number of regions
-pub linked-here : {K R : ℕ} {lefts rights heads leftNexts rightNexts : List ℕ} {k : ℕ} → Linked K R lefts rights heads leftNexts rightNexts k →
-    Linked K (length heads) lefts rights heads leftNexts rightNexts k
+pub linked-here : {K R : ℕ} {lefts rights heads leftNexts rightNexts : List ℕ} {k : ℕ} → IncidenceLists K R lefts rights heads leftNexts rightNexts k →
+    IncidenceLists K (length heads) lefts rights heads leftNexts rightNexts k
 linked-here N = rw (N .heads-are) N

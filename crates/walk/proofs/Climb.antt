@@ -5,26 +5,26 @@ use Prim.Native.Nat.{ℕ, zero, suc, _+_, _≤_, _<_}
 use native.Mathlib.Omega.{arith}
 use native.Mathlib.Decide.{decLt, ℕ-discrete}
 use Rattle.walk.specs.Steps.{Connected, here}
-use Rattle.walk.specs.Walk.{Joins, forth, back, Touches, Without, Parted, Walk}
+use Rattle.walk.specs.Walk.{RecordJoins, forth, back, RecordTouches, Without, Parted, Walk}
 use Rattle.walk.proofs.Steps.{one, joined, turned, moved}
 
 module _ {lf rt : ℕ → ℕ} where
-  pub joins-sym : {k a b : ℕ} → Joins lf rt k a b → Joins lf rt k b a
+  pub joins-sym : {k a b : ℕ} → RecordJoins lf rt k a b → RecordJoins lf rt k b a
   joins-sym (forth p q) = back p q
   joins-sym (back p q) = forth p q
 
   -- a record that joins a with another has a for an end
-  pub touching : {k a b : ℕ} → Joins lf rt k a b → Touches lf rt k a
+  pub touching : {k a b : ℕ} → RecordJoins lf rt k a b → RecordTouches lf rt k a
   touching (forth p q) = inl p
   touching (back p q) = inr q
 
-  pub other-end : {k a b d : ℕ} → Joins lf rt k a b → Joins lf rt k a d → b ≡ d
+  pub other-end : {k a b d : ℕ} → RecordJoins lf rt k a b → RecordJoins lf rt k a d → b ≡ d
   other-end (forth p q) (forth r s) = sym q ∙ s
   other-end (forth p q) (back r s) = sym q ∙ s ∙ sym p ∙ r
   other-end (back p q) (forth r s) = sym p ∙ r ∙ sym q ∙ s
   other-end (back p q) (back r s) = sym p ∙ r
 
-  pub one-of : {k a b c d : ℕ} → Joins lf rt k a b → Joins lf rt k c d → (a ≡ c) ⊎ (a ≡ d)
+  pub one-of : {k a b c d : ℕ} → RecordJoins lf rt k a b → RecordJoins lf rt k c d → (a ≡ c) ⊎ (a ≡ d)
   one-of (forth p q) (forth r s) = inl (sym p ∙ r)
   one-of (forth p q) (back r s) = inr (sym p ∙ r)
   one-of (back p q) (forth r s) = inr (sym q ∙ s)
@@ -35,12 +35,12 @@ module _ {K : ℕ} {lf rt : ℕ → ℕ} where
   step-sym k a b s = record { by = s .by; below = s .below; other = s .other; joins = joins-sym (s .joins) }
 
   -- a path without k between k's ends shows that k is no bridge
-  pub no-bridge : {k a b : ℕ} → Joins lf rt k a b → Connected (Without K lf rt k) a b → Parted K lf rt k → ⊥
+  pub no-bridge : {k a b : ℕ} → RecordJoins lf rt k a b → Connected (Without K lf rt k) a b → Parted K lf rt k → ⊥
   no-bridge (forth p q) c h = h (moved (sym p) (sym q) c)
   no-bridge {k} (back p q) c h = h (moved (sym p) (sym q) (turned (step-sym k) c))
 
   -- and a bridge is shown from either end
-  pub bridge : {k a b : ℕ} → Joins lf rt k a b → (Connected (Without K lf rt k) b a → ⊥) → Parted K lf rt k
+  pub bridge : {k a b : ℕ} → RecordJoins lf rt k a b → (Connected (Without K lf rt k) b a → ⊥) → Parted K lf rt k
   bridge {k} (forth p q) h c = h (turned (step-sym k) (moved p q c))
   bridge (back p q) h c = h (moved p q c)
 
@@ -58,12 +58,13 @@ module _ {K : ℕ} {lf rt : ℕ → ℕ} where
     low-le m a = let f = W .low m a in omega (arith, f .is, place-le (f .to) m (f .upto) a)
 
     -- a record at frame n's region by which n was not entered is not one by which a frame up to n was
-    pub fresh : (n j w : ℕ) → n < h → j < K → Joins lf rt j (st n) w → (j ≡ pr n → ⊥) → (i : ℕ) → i ≤ n → j ≡ pr i → ⊥
+    pub fresh : (n j w : ℕ) → n < h → j < K → RecordJoins lf rt j (st n) w → (j ≡ pr n → ⊥) → (i : ℕ) → i ≤ n → j ≡ pr i → ⊥
     fresh n j w a b t q zero l e = omega (arith, W .root (omega arith))
     fresh n j w a b t q (suc i) l e =
         by-cases (ℕ-discrete (suc i) n) (λ s. q (e ∙ ap pr s)) λ s.
-        let ti : Joins lf rt (pr (i + 1)) (st i) (st (i + 1)) = W .tree i (omega arith) .1 in
-        let tj : Joins lf rt (pr (i + 1)) (st n) w = subst (λ (x : ℕ). Joins lf rt x (st n) w) (e ∙ ap pr (let z : suc i ≡ i + 1 = omega arith in z)) t in
+        let ti : RecordJoins lf rt (pr (i + 1)) (st i) (st (i + 1)) = W .tree i (omega arith) .1 in
+        let tj : RecordJoins lf rt (pr (i + 1)) (st n) w =
+        subst (λ (x : ℕ). RecordJoins lf rt x (st n) w) (e ∙ ap pr (let z : suc i ≡ i + 1 = omega arith in z)) t in
         ⊎-elim (λ k. absurd (omega (arith, distinct n i a (omega arith) k))) (λ k. absurd (omega (arith, distinct n (i + 1) a (omega arith) k))) (one-of tj ti)
 
     -- no two frames were entered by one record
@@ -71,15 +72,15 @@ module _ {K : ℕ} {lf rt : ℕ → ℕ} where
     entered n i a l e =
         fresh-tree i l e
       where
-        t : Joins lf rt (pr (n + 1)) (st (n + 1)) (st n)
+        t : RecordJoins lf rt (pr (n + 1)) (st (n + 1)) (st n)
         t = joins-sym (W .tree n a .1)
 
         fresh-tree : (i : ℕ) → i ≤ n → pr (n + 1) ≡ pr i → ⊥
         fresh-tree zero l e = omega (arith, W .root (omega arith), W .tree n a .0)
         fresh-tree (suc i) l e =
-            let ti : Joins lf rt (pr (i + 1)) (st i) (st (i + 1)) = W .tree i (omega arith) .1 in
-            let tj : Joins lf rt (pr (i + 1)) (st (n + 1)) (st n) =
-            subst (λ (x : ℕ). Joins lf rt x (st (n + 1)) (st n)) (e ∙ ap pr (let z : suc i ≡ i + 1 = omega arith in z)) t in
+            let ti : RecordJoins lf rt (pr (i + 1)) (st i) (st (i + 1)) = W .tree i (omega arith) .1 in
+            let tj : RecordJoins lf rt (pr (i + 1)) (st (n + 1)) (st n) =
+            subst (λ (x : ℕ). RecordJoins lf rt x (st (n + 1)) (st n)) (e ∙ ap pr (let z : suc i ≡ i + 1 = omega arith in z)) t in
             ⊎-elim (λ k. omega (arith, distinct (n + 1) i a (omega arith) k)) (λ k. omega (arith, distinct (n + 1) (i + 1) a (omega arith) k)) (one-of tj ti)
 
     -- the frames are a path, by the records by which they were entered

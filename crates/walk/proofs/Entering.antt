@@ -9,8 +9,8 @@ use lib.ListN.{length, set, length-set}
 use lib.Seq.{getD-set-same, getD-set-other}
 use Rattle.lists.specs.Rows.{at}
 use Rattle.walk.proofs.Zeros.{Upd, zeros-pos}
-use Rattle.walk.specs.Walk.{Joins, Touches, First, Walk}
-use Rattle.walk.specs.Slices.{put, Sized, Told, Between}
+use Rattle.walk.specs.Walk.{RecordJoins, RecordTouches, First, Walk}
+use Rattle.walk.specs.Slices.{put, Sized, OwnerMarked, Between}
 use Rattle.walk.specs.declared.frame.Frame.{Frame}
 use Rattle.walk.proofs.Retell.{retell}
 use Rattle.walk.proofs.Pushes.{push}
@@ -19,12 +19,12 @@ use Rattle.walk.proofs.Turn.{Loop, Hand, resized}
 
 -- a frame at region w, entered over record j, goes on the stack; v is the first record that touches w
 module _ (K : ℕ) {R : ℕ} (owners lefts rights disc stack parents marks : List ℕ) {nx lw : ℕ → ℕ} {r h time : ℕ}
-    (W : Walk K (at lefts) (at rights) (length disc) r (Told owners marks) (at disc) (at stack) (at parents) nx lw h time)
+    (W : Walk K (at lefts) (at rights) (length disc) r (OwnerMarked owners marks) (at disc) (at stack) (at parents) nx lw h time)
     (nexts lows : List ℕ) (Z : Sized R disc stack parents nexts lows) (hs : h < length disc) (el : (m : ℕ) → m < h → at lows m ≡ lw m) (w j v : ℕ)
     (fv : First K (at lefts) (at rights) 0 w v)
     (new : at disc w ≡ 0) (on : w < length disc) (first : h ≡ 0 → K ≤ j)
-    (over : (m : ℕ) → m + 1 ≡ h → (j < K) × Joins (at lefts) (at rights) j (at stack m) w)
-    (adv : (m i : ℕ) → m < h → i < at nexts m → i < K → Touches (at lefts) (at rights) i (at stack m) → (i < nx m) ⊎ ((m + 1 ≡ h) × (i ≡ j))) where
+    (over : (m : ℕ) → m + 1 ≡ h → (j < K) × RecordJoins (at lefts) (at rights) j (at stack m) w)
+    (adv : (m i : ℕ) → m < h → i < at nexts m → i < K → RecordTouches (at lefts) (at rights) i (at stack m) → (i < nx m) ⊎ ((m + 1 ≡ h) × (i ≡ j))) where
   abbrev st′ : ℕ → ℕ
   st′ = at (set stack h w)
 
@@ -43,18 +43,18 @@ module _ (K : ℕ) {R : ℕ} (owners lefts rights disc stack parents marks : Lis
   first′ : h ≡ 0 → K ≤ pr′ 0
   first′ e = omega (arith, first e, ph, ap pr′ (sym e))
 
-  over′ : (m : ℕ) → m + 1 ≡ h → (pr′ h < K) × Joins (at lefts) (at rights) (pr′ h) (st′ m) (st′ h)
+  over′ : (m : ℕ) → m + 1 ≡ h → (pr′ h < K) × RecordJoins (at lefts) (at rights) (pr′ h) (st′ m) (st′ h)
   over′ m e =
       let t = over m e in (
         omega (arith, t .0, ph),
-        subst (λ (x : ℕ). Joins (at lefts) (at rights) x (st′ m) (st′ h)) (sym ph)
-            (subst₂ (λ (x y : ℕ). Joins (at lefts) (at rights) j x y) (sym (below stack w m (omega arith))) (sym sh) (t .1)),
+        subst (λ (x : ℕ). RecordJoins (at lefts) (at rights) x (st′ m) (st′ h)) (sym ph)
+            (subst₂ (λ (x y : ℕ). RecordJoins (at lefts) (at rights) j x y) (sym (below stack w m (omega arith))) (sym sh) (t .1)),
       )
 
-  adv′ : (m i : ℕ) → m < h → i < at (set nexts h v) m → i < K → Touches (at lefts) (at rights) i (st′ m) → (i < nx m) ⊎ ((m + 1 ≡ h) × (i ≡ pr′ h))
+  adv′ : (m i : ℕ) → m < h → i < at (set nexts h v) m → i < K → RecordTouches (at lefts) (at rights) i (st′ m) → (i < nx m) ⊎ ((m + 1 ≡ h) × (i ≡ pr′ h))
   adv′ m i l q k t =
       ⊎-elim (λ a. inl a) (λ a. inr (a .0, a .1 ∙ sym ph))
-      (adv m i l (omega (arith, below nexts v m l)) k (subst (λ (x : ℕ). Touches (at lefts) (at rights) i x) (below stack w m l) t))
+      (adv m i l (omega (arith, below nexts v m l)) k (subst (λ (x : ℕ). RecordTouches (at lefts) (at rights) i x) (below stack w m l) t))
 
   nh : at (set nexts h v) h ≡ v
   nh = getD-set-same nexts h v 0 (omega (arith, Z .nexts-are, Z .disc-are))
@@ -66,11 +66,11 @@ module _ (K : ℕ) {R : ℕ} (owners lefts rights disc stack parents marks : Lis
   upd = subst (λ (x : ℕ). Upd (at disc) (at (set disc w (time + 1))) x (time + 1)) (sym sh)
       (record { at = getD-set-same disc w (time + 1) 0 on; off = λ k e. getD-set-other disc w k (time + 1) 0 e })
 
-  pub entered : Walk K (at lefts) (at rights) (length (set disc w (time + 1))) r (Told owners marks) (at (set disc w (time + 1))) (at (set stack h w))
+  pub entered : Walk K (at lefts) (at rights) (length (set disc w (time + 1))) r (OwnerMarked owners marks) (at (set disc w (time + 1))) (at (set stack h w))
       (at (set parents h j)) (at (set nexts h v)) (at (set lows h (time + 1))) (h + 1) (time + 1)
   entered =
       subst
-      (λ (x : ℕ). Walk K (at lefts) (at rights) x r (Told owners marks) (at (set disc w (time + 1))) (at (set stack h w)) (at (set parents h j))
+      (λ (x : ℕ). Walk K (at lefts) (at rights) x r (OwnerMarked owners marks) (at (set disc w (time + 1))) (at (set stack h w)) (at (set parents h j))
       (at (set nexts h v)) (at (set lows h (time + 1))) (h + 1) (time + 1))
       (sym (length-set disc w (time + 1)))
       (push K (at lefts) (at rights)
@@ -80,15 +80,16 @@ module _ (K : ℕ) {R : ℕ} (owners lefts rights disc stack parents marks : Lis
       start (getD-set-same lows h (time + 1) 0 (omega (arith, Z .lows-are, Z .disc-are))) adv′)
 
   -- the frames' next records touch their regions
-  pub touched : ((m : ℕ) → m < h → at nexts m < K → Touches (at lefts) (at rights) (at nexts m) (at stack m)) → (m : ℕ) → m < h + 1 → at (set nexts h v) m < K →
-      Touches (at lefts) (at rights) (at (set nexts h v) m) (at (set stack h w) m)
+  pub touched : ((m : ℕ) → m < h → at nexts m < K → RecordTouches (at lefts) (at rights) (at nexts m) (at stack m)) → (m : ℕ) → m < h + 1
+      → at (set nexts h v) m < K →
+      RecordTouches (at lefts) (at rights) (at (set nexts h v) m) (at (set stack h w) m)
   touched old m l k =
       by-cases (ℕ-discrete m h)
       (λ e.
-      subst₂ (λ (x y : ℕ). Touches (at lefts) (at rights) x y) (sym (ap (at (set nexts h v)) e ∙ nh)) (sym (ap st′ e ∙ sh))
+      subst₂ (λ (x y : ℕ). RecordTouches (at lefts) (at rights) x y) (sym (ap (at (set nexts h v)) e ∙ nh)) (sym (ap st′ e ∙ sh))
       (fv .touches (omega (arith, ap (at (set nexts h v)) e ∙ nh))))
       (λ e.
-      subst₂ (λ (x y : ℕ). Touches (at lefts) (at rights) x y) (sym (below nexts v m (omega arith))) (sym (below stack w m (omega arith)))
+      subst₂ (λ (x y : ℕ). RecordTouches (at lefts) (at rights) x y) (sym (below nexts v m (omega arith))) (sym (below stack w m (omega arith)))
       (old m (omega arith) (omega (arith, below nexts v m (omega arith)))))
 
 -- the first frame
@@ -118,7 +119,7 @@ rooted {K} {R} {owners} {lefts} {rights} {disc} {stack} {parents} {nexts} {lows}
 pub found : {K R : ℕ} {owners lefts rights disc stack parents nexts lows marks : List ℕ} {r top time : ℕ} (f g : Frame) (w v : ℕ) →
     Loop K R owners lefts rights disc stack parents nexts lows marks r (top + 1) time
     → Hand K owners lefts rights disc stack parents nexts lows marks r top time f →
-    f .next < K → Joins (at lefts) (at rights) (f .next) (f .region) w → w < length disc → at disc w ≡ 0 →
+    f .next < K → RecordJoins (at lefts) (at rights) (f .next) (f .region) w → w < length disc → at disc w ≡ 0 →
     First K (at lefts) (at rights) (f .next + 1) (f .region) (g .next) → g .low ≡ f .low → First K (at lefts) (at rights) 0 w v →
     Loop K R owners lefts rights (set disc w (time + 1)) (set stack (top + 1) w) (set parents (top + 1) (f .next)) (set (set nexts top (g .next)) (top + 1) v)
     (set (set lows top (g .low)) (top + 1) (time + 1)) marks r (top + 1 + 1) (time + 1)
@@ -154,11 +155,11 @@ found {K} {R} {owners} {lefts} {rights} {disc} {stack} {parents} {nexts} {lows} 
     nt : at (set nexts top (g .next)) top ≡ g .next
     nt = getD-set-same nexts top (g .next) 0 (omega (arith, L .sized .nexts-are, L .sized .disc-are, roomy))
 
-    over : (m : ℕ) → m + 1 ≡ top + 1 → (f .next < K) × Joins (at lefts) (at rights) (f .next) (at stack m) w
+    over : (m : ℕ) → m + 1 ≡ top + 1 → (f .next < K) × RecordJoins (at lefts) (at rights) (f .next) (at stack m) w
     over m e =
-        (k, subst (λ (x : ℕ). Joins (at lefts) (at rights) (f .next) x w) (H .region ∙ ap (at stack) (let z : top ≡ m = omega arith in z)) t)
+        (k, subst (λ (x : ℕ). RecordJoins (at lefts) (at rights) (f .next) x w) (H .region ∙ ap (at stack) (let z : top ≡ m = omega arith in z)) t)
 
-    adv : (m i : ℕ) → m < top + 1 → i < at (set nexts top (g .next)) m → i < K → Touches (at lefts) (at rights) i (at stack m) →
+    adv : (m i : ℕ) → m < top + 1 → i < at (set nexts top (g .next)) m → i < K → RecordTouches (at lefts) (at rights) i (at stack m) →
         (i < put (at nexts) top (f .next) m) ⊎ ((m + 1 ≡ top + 1) × (i ≡ f .next))
     adv m i l q b z =
         by-cases (ℕ-discrete m top) (λ e. last e) (λ e. inl (omega (arith, getD-set-other nexts top m (g .next) 0 e, put-off (at nexts) top (f .next) m e)))
@@ -169,17 +170,18 @@ found {K} {R} {owners} {lefts} {rights} {disc} {stack} {parents} {nexts} {lows} 
             let c : put (at nexts) top (f .next) m ≡ f .next = ap (put (at nexts) top (f .next)) e ∙ put-at (at nexts) top (f .next) in
             by-cases (ℕ-discrete i (f .next)) (λ y. inr (omega arith, y)) λ y.
             by-cases (decLt i (f .next)) (λ x. inl (omega arith)) λ x.
-            absurd (gn .between i (omega arith) (omega arith) b (subst (λ (x : ℕ). Touches (at lefts) (at rights) i x) (ap (at stack) e ∙ sym (H .region)) z))
+            absurd (gn .between i (omega arith) (omega arith) b
+            (subst (λ (x : ℕ). RecordTouches (at lefts) (at rights) i x) (ap (at stack) e ∙ sym (H .region)) z))
 
-    touch : (m : ℕ) → m < top + 1 → at (set nexts top (g .next)) m < K → Touches (at lefts) (at rights) (at (set nexts top (g .next)) m) (at stack m)
+    touch : (m : ℕ) → m < top + 1 → at (set nexts top (g .next)) m < K → RecordTouches (at lefts) (at rights) (at (set nexts top (g .next)) m) (at stack m)
     touch m l b =
         by-cases (ℕ-discrete m top)
         (λ e.
         let a : at (set nexts top (g .next)) m ≡ g .next = ap (at (set nexts top (g .next))) e ∙ nt in
-        subst₂ (λ (x y : ℕ). Touches (at lefts) (at rights) x y) (sym a) (H .region ∙ sym (ap (at stack) e)) (gn .touches (omega arith)))
+        subst₂ (λ (x y : ℕ). RecordTouches (at lefts) (at rights) x y) (sym a) (H .region ∙ sym (ap (at stack) e)) (gn .touches (omega arith)))
         (λ e.
         let a : at (set nexts top (g .next)) m ≡ at nexts m = getD-set-other nexts top m (g .next) 0 e in
-        subst (λ (x : ℕ). Touches (at lefts) (at rights) x (at stack m)) (sym a) (L .touching m l (omega arith)))
+        subst (λ (x : ℕ). RecordTouches (at lefts) (at rights) x (at stack m)) (sym a) (L .touching m l (omega arith)))
 
     still : 0 < at (set disc w (time + 1)) (at lefts r)
     still =

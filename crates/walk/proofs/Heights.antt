@@ -7,7 +7,7 @@ use lib.ListN.{length, set, length-set}
 use lib.Seq.{getD-set-same, getD-set-other}
 use Rattle.lists.specs.Rows.{at}
 use Rattle.walk.proofs.Zeros.{zeros-pos, zeros-upd}
-use Rattle.walk.specs.Walk.{zeros, First}
+use Rattle.walk.specs.Walk.{zeroCount, First}
 use Rattle.walk.specs.Slices.{marking}
 use Rattle.walk.specs.declared.frame.Frame.{Frame}
 use Rattle.walk.proofs.Turn.{Loop, Hand, Stop}
@@ -28,10 +28,10 @@ module _ {K R : ℕ} {owners lefts rights disc stack parents nexts lows marks : 
   pub timely : time ≤ 8192
   timely = omega (arith, L .walk .count, L .sized .disc-are, L .graph .near)
 
-  pub falls : (w v : ℕ) → w < R → at disc w ≡ 0 → 0 < v → zeros (at (set disc w v)) (length (set disc w v)) + 1 ≡ zeros (at disc) (length disc)
+  pub falls : (w v : ℕ) → w < R → at disc w ≡ 0 → 0 < v → zeroCount (at (set disc w v)) (length (set disc w v)) + 1 ≡ zeroCount (at disc) (length disc)
   falls w v in-range new p =
       let on : w < length disc = omega (arith, L .sized .disc-are) in
-      ap (λ (x : ℕ). zeros (at (set disc w v)) x + 1) (length-set disc w v) ∙
+      ap (λ (x : ℕ). zeroCount (at (set disc w v)) x + 1) (length-set disc w v) ∙
       zeros-upd (at disc) (at (set disc w v)) w v (length disc)
       (record { at = getD-set-same disc w v 0 on; off = λ k e. getD-set-other disc w k v 0 e }) on new p
 

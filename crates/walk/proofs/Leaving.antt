@@ -11,7 +11,7 @@ use lib.Seq.{getD-set-same, getD-set-other}
 use borrow.Author.Tests.{lt-ltb, le-ltb}
 use Rattle.lists.specs.Rows.{at}
 use Rattle.walk.specs.Walk.{Parted, Walk}
-use Rattle.walk.specs.Slices.{put, Sound, Told, Stacked, marking}
+use Rattle.walk.specs.Slices.{put, MarksSound, OwnerMarked, Stacked, marking}
 use Rattle.walk.specs.declared.frame.Frame.{Frame}
 use Rattle.walk.proofs.Retell.{retell}
 use Rattle.walk.proofs.Pops.{is-bridge, not-bridge, pop, pop-root}
@@ -33,29 +33,29 @@ module _ (owners marks : List ℕ) (k d low : ℕ) (on : at owners k < length ma
   no-case : (d < low → ⊥) → marking d low marks (at owners k) ≡ marks
   no-case l = sym (mark-kept d low marks (at owners k) (omega arith))
 
-  set-more : (j : ℕ) → Told owners marks j → Told owners (set marks (at owners k) 1) j
+  set-more : (j : ℕ) → OwnerMarked owners marks j → OwnerMarked owners (set marks (at owners k) 1) j
   set-more j t =
       by-cases (ℕ-discrete (at owners j) (at owners k))
       (λ e. ap (at (set marks (at owners k) 1)) e ∙ getD-set-same marks (at owners k) 1 0 on)
       (λ e. getD-set-other marks (at owners k) (at owners j) 1 0 e ∙ t)
 
-  pub marks-more : (j : ℕ) → Told owners marks j → Told owners (marking d low marks (at owners k)) j
+  pub marks-more : (j : ℕ) → OwnerMarked owners marks j → OwnerMarked owners (marking d low marks (at owners k)) j
   marks-more j t =
-      by-cases (decLt d low) (λ l. subst (λ (x : List ℕ). Told owners x j) (sym (yes-case l)) (set-more j t))
-      (λ l. subst (λ (x : List ℕ). Told owners x j) (sym (no-case l)) t)
+      by-cases (decLt d low) (λ l. subst (λ (x : List ℕ). OwnerMarked owners x j) (sym (yes-case l)) (set-more j t))
+      (λ l. subst (λ (x : List ℕ). OwnerMarked owners x j) (sym (no-case l)) t)
 
-  pub marks-told : (P : Type 0) → (low ≤ d → P → ⊥) → P → Told owners (marking d low marks (at owners k)) k
+  pub marks-told : (P : Type 0) → (low ≤ d → P → ⊥) → P → OwnerMarked owners (marking d low marks (at owners k)) k
   marks-told P h p =
-      by-cases (decLt d low) (λ l. subst (λ (x : List ℕ). Told owners x k) (sym (yes-case l)) (getD-set-same marks (at owners k) 1 0 on))
+      by-cases (decLt d low) (λ l. subst (λ (x : List ℕ). OwnerMarked owners x k) (sym (yes-case l)) (getD-set-same marks (at owners k) 1 0 on))
       (λ l. absurd (h (omega arith) p))
 
-  pub marks-sound : (K : ℕ) (lefts rights : List ℕ) → Sound K owners lefts rights marks → k < K →
-      (d < low → Parted K (at lefts) (at rights) k) → Sound K owners lefts rights (marking d low marks (at owners k))
+  pub marks-sound : (K : ℕ) (lefts rights : List ℕ) → MarksSound K owners lefts rights marks → k < K →
+      (d < low → Parted K (at lefts) (at rights) k) → MarksSound K owners lefts rights (marking d low marks (at owners k))
   marks-sound K lefts rights S i p =
-      by-cases (decLt d low) (λ l. subst (λ (x : List ℕ). Sound K owners lefts rights x) (sym (yes-case l)) (one-more l))
-      (λ l. subst (λ (x : List ℕ). Sound K owners lefts rights x) (sym (no-case l)) S)
+      by-cases (decLt d low) (λ l. subst (λ (x : List ℕ). MarksSound K owners lefts rights x) (sym (yes-case l)) (one-more l))
+      (λ l. subst (λ (x : List ℕ). MarksSound K owners lefts rights x) (sym (no-case l)) S)
     where
-      one-more : d < low → Sound K owners lefts rights (set marks (at owners k) 1)
+      one-more : d < low → MarksSound K owners lefts rights (set marks (at owners k) 1)
       one-more l b a =
           by-cases (ℕ-discrete b (at owners k))
           (λ e.
@@ -111,8 +111,8 @@ left {K} {R} {owners} {lefts} {rights} {disc} {stack} {parents} {nexts} {lows} {
     h : top + 1 ≡ up + 2
     h = omega arith
 
-    W : Walk K lf rt (length disc) r (Told owners marks) (at disc) (at stack) (at parents) nx lw (up + 2) time
-    W = subst (λ (x : ℕ). Walk K lf rt (length disc) r (Told owners marks) (at disc) (at stack) (at parents) nx lw x time) h (H .walk)
+    W : Walk K lf rt (length disc) r (OwnerMarked owners marks) (at disc) (at stack) (at parents) nx lw (up + 2) time
+    W = subst (λ (x : ℕ). Walk K lf rt (length disc) r (OwnerMarked owners marks) (at disc) (at stack) (at parents) nx lw x time) h (H .walk)
 
     pe : f .parent ≡ at parents (up + 1)
     pe = H .parent ∙ ap (at parents) e
@@ -138,12 +138,12 @@ left {K} {R} {owners} {lefts} {rights} {disc} {stack} {parents} {nexts} {lows} {
     lw′ : ℕ → ℕ
     lw′ = put lw up (min (lw up) (lw (up + 1)))
 
-    tells : B (at parents (up + 1)) → Told owners marks′ (at parents (up + 1))
+    tells : B (at parents (up + 1)) → OwnerMarked owners marks′ (at parents (up + 1))
     tells b =
-        subst (λ (x : ℕ). Told owners marks′ x) pe
+        subst (λ (x : ℕ). OwnerMarked owners marks′ x) pe
         (marks-told owners marks (f .parent) (at disc (at stack up)) (f .low) pin (B (at parents (up + 1))) (λ l. not-bridge K lf rt W (omega (arith, lt))) b)
 
-    popped : Walk K lf rt (length disc) r (Told owners marks′) (at disc) (at stack) (at parents) nx lw′ (up + 1) time
+    popped : Walk K lf rt (length disc) r (OwnerMarked owners marks′) (at disc) (at stack) (at parents) nx lw′ (up + 1) time
     popped =
         pop K lf rt W alln lw′ (putting lw up (min (lw up) (lw (up + 1)))) (λ j t. marks-more owners marks (f .parent) (at disc (at stack up)) (f .low) pin j t)
         tells
@@ -188,8 +188,9 @@ emptied {K} {R} {owners} {lefts} {rights} {disc} {stack} {parents} {nexts} {lows
     nx : ℕ → ℕ
     nx = put (at nexts) top (f .next)
 
-    W : Walk K (at lefts) (at rights) (length disc) r (Told owners marks) (at disc) (at stack) (at parents) nx (put (at lows) top (f .low)) 1 time
+    W : Walk K (at lefts) (at rights) (length disc) r (OwnerMarked owners marks) (at disc) (at stack) (at parents) nx (put (at lows) top (f .low)) 1 time
     W =
-        subst (λ (x : ℕ). Walk K (at lefts) (at rights) (length disc) r (Told owners marks) (at disc) (at stack) (at parents) nx (put (at lows) top (f .low)) x
+        subst (λ (x : ℕ). Walk K (at lefts) (at rights) (length disc) r (OwnerMarked owners marks) (at disc) (at stack) (at parents) nx
+        (put (at lows) top (f .low)) x
         time)
         (let z : top + 1 ≡ 1 = omega arith in z) (H .walk)

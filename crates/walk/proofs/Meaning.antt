@@ -16,8 +16,8 @@ use Rattle.graph.specs.Bridges.{Bridge, isBridge}
 use Rattle.graph.proofs.Records.{records-length, records-at, edge-remains, remains-edge}
 use Rattle.graph.proofs.Bridges.{bridge-iff}
 use Rattle.walk.specs.Steps.{Connected, here, onward}
-use Rattle.walk.specs.Walk.{Joins, forth, back, Without}
-use Rattle.walk.specs.Slices.{PartedBy, Sound, Between}
+use Rattle.walk.specs.Walk.{RecordJoins, forth, back, Without}
+use Rattle.walk.specs.Slices.{PartedBy, MarksSound, Between}
 use Rattle.walk.specs.Marks.{bridgeMarks}
 use Rattle.walk.proofs.Steps.{moved}
 use Rattle.walk.proofs.Roots.{finished}
@@ -44,10 +44,10 @@ module _ (K : ℕ) (owners lefts rights : List ℕ) where
   to-path k here = graph.here
   to-path k (onward {a} {b} s p) = graph.onward member (joins (s .joins)) (to-path k p)
     where
-      e : records.at rs (s .by) ≡ nth (s .by)
+      e : records.recordAt rs (s .by) ≡ nth (s .by)
       e = records-at owners lefts rights K (s .by) (s .below)
 
-      member : List·Memᴰ (records.edgeOf (records.at rs (s .by))) (records.edges (records.without (records.only k) rs))
+      member : List·Memᴰ (records.recordEdge (records.recordAt rs (s .by))) (records.edges (records.without (records.only k) rs))
       member =
           remains-edge (records.only k) rs
           (record {
@@ -57,7 +57,7 @@ module _ (K : ℕ) (owners lefts rights : List ℕ) where
             stands = refl;
           })
 
-      joins : Joins (at lefts) (at rights) (s .by) a b → graph.Joins (records.edgeOf (records.at rs (s .by))) a b
+      joins : RecordJoins (at lefts) (at rights) (s .by) a b → graph.Joins (records.recordEdge (records.recordAt rs (s .by))) a b
       joins (forth p q) = graph.forth (ap (λ (r : records.Record). r .left) e ∙ p) (ap (λ (r : records.Record). r .right) e ∙ q)
       joins (back p q) = graph.back (ap (λ (r : records.Record). r .left) e ∙ p) (ap (λ (r : records.Record). r .right) e ∙ q)
 
@@ -66,7 +66,7 @@ module _ (K : ℕ) (owners lefts rights : List ℕ) where
   step-of k {a} {b} {e} m j =
       record { by = v .place; below = below; other = eqb-false (v .place) k (v .spared); joins = joins j }
     where
-      w : (r : records.Record) × records.Remains (records.only k) rs r × (records.edgeOf r ≡ e)
+      w : (r : records.Record) × records.Remains (records.only k) rs r × (records.recordEdge r ≡ e)
       w = edge-remains (records.only k) rs m
 
       v : records.Remains (records.only k) rs (w .0)
@@ -75,10 +75,10 @@ module _ (K : ℕ) (owners lefts rights : List ℕ) where
       below : v .place < K
       below = omega (arith, records-length owners lefts rights K, v .inside)
 
-      same : records.edgeOf (nth (v .place)) ≡ e
-      same = ap records.edgeOf (sym (records-at owners lefts rights K (v .place) below) ∙ v .stands) ∙ w .2
+      same : records.recordEdge (nth (v .place)) ≡ e
+      same = ap records.recordEdge (sym (records-at owners lefts rights K (v .place) below) ∙ v .stands) ∙ w .2
 
-      joins : graph.Joins e a b → Joins (at lefts) (at rights) (v .place) a b
+      joins : graph.Joins e a b → RecordJoins (at lefts) (at rights) (v .place) a b
       joins (graph.forth p q) = forth (ap (λ (x : graph.Edge). x .left) same ∙ p) (ap (λ (x : graph.Edge). x .right) same ∙ q)
       joins (graph.back p q) = back (ap (λ (x : graph.Edge). x .left) same ∙ p) (ap (λ (x : graph.Edge). x .right) same ∙ q)
 
@@ -109,7 +109,7 @@ module _ (K : ℕ) (owners lefts rights : List ℕ) where
       }
 
   -- marks that are right, and leave no bridge out
-  pub marks-are : (marks : List ℕ) → Sound K owners lefts rights marks → ((b : ℕ) → PartedBy K owners lefts rights b → at marks b ≡ 1) →
+  pub marks-are : (marks : List ℕ) → MarksSound K owners lefts rights marks → ((b : ℕ) → PartedBy K owners lefts rights b → at marks b ≡ 1) →
       marks ≡ bridgeMarks rs (length marks)
   unfolding bridgeMarks
   marks-are marks S all = list-rows marks (λ b. cond (isBridge rs b) 1 0) each

@@ -4,11 +4,12 @@ use mathlib.Core.Logic.{⊎-elim, by-cases}
 use Prim.Native.Nat.{ℕ, _+_, _≤_, _<_}
 use native.Mathlib.Omega.{arith}
 use native.Mathlib.Decide.{ℕ-discrete}
-use Rattle.walk.specs.Walk.{zeros, forth, Parted, Walk}
+use Rattle.walk.specs.Walk.{zeroCount, forth, Parted, Walk}
 
 module _ (K : ℕ) (lf rt : ℕ → ℕ) where
   -- nothing is found yet
-  pub nothing : {R : ℕ} {Told : ℕ → Type 0} {disc st pr nx lw : ℕ → ℕ} → ((x : ℕ) → disc x ≡ 0) → zeros disc R ≤ R → Walk K lf rt R 0 Told disc st pr nx lw 0 0
+  pub nothing : {R : ℕ} {Told : ℕ → Type 0} {disc st pr nx lw : ℕ → ℕ} → ((x : ℕ) → disc x ≡ 0) → zeroCount disc R ≤ R
+      → Walk K lf rt R 0 Told disc st pr nx lw 0 0
   nothing z le = record {
     timed = λ x. omega (arith, z x);
     found = λ m l. absurd (omega arith);

@@ -5,7 +5,7 @@ use Prim.Native.Nat.{ℕ, _+_, _≤_, _<_, min}
 use native.Mathlib.Omega.{arith}
 use native.Mathlib.Decide.{decLt, ℕ-discrete}
 use Rattle.walk.specs.Steps.{Connected, onward}
-use Rattle.walk.specs.Walk.{Joins, Without, Parted, Scanned, OnStack, Lowest, Reach, Walk}
+use Rattle.walk.specs.Walk.{RecordJoins, Without, Parted, Scanned, OnStack, Lowest, Reach, Walk}
 use Rattle.walk.proofs.Steps.{joined, kept, wider}
 use Rattle.walk.proofs.Zeros.{Upd}
 use Rattle.walk.proofs.Climb.{joins-sym, no-bridge, bridge, place-le, low-le, entered, climb}
@@ -105,8 +105,8 @@ module _ (K : ℕ) (lf rt : ℕ → ℕ) where
               (λ e. omega (arith, f .low, u .at, ap lw (let z : f .place ≡ n + 1 = omega (arith, f .below) in z)));
         }
 
-    pop-old : (x : ℕ) → OnStack K lf rt st (n + 2) x ⊎ ((j y m : ℕ) → j < K → Joins lf rt j x y → m < n + 2 → st m ≡ y → disc y < disc x) →
-        OnStack K lf rt st (n + 1) x ⊎ ((j y m : ℕ) → j < K → Joins lf rt j x y → m < n + 1 → st m ≡ y → disc y < disc x)
+    pop-old : (x : ℕ) → OnStack K lf rt st (n + 2) x ⊎ ((j y m : ℕ) → j < K → RecordJoins lf rt j x y → m < n + 2 → st m ≡ y → disc y < disc x) →
+        OnStack K lf rt st (n + 1) x ⊎ ((j y m : ℕ) → j < K → RecordJoins lf rt j x y → m < n + 1 → st m ≡ y → disc y < disc x)
     pop-old x (inl f) =
         by-cases (ℕ-discrete (f .place) (n + 1))
         (λ e.

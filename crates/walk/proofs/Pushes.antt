@@ -5,7 +5,7 @@ use Prim.Native.Nat.{ℕ, zero, suc, _+_, _≤_, _<_}
 use native.Mathlib.Omega.{arith}
 use native.Mathlib.Decide.{ℕ-discrete}
 use Rattle.walk.specs.Steps.{here}
-use Rattle.walk.specs.Walk.{Joins, Touches, First, Parted, Scanned, OnStack, Lowest, Reach, Walk}
+use Rattle.walk.specs.Walk.{RecordJoins, RecordTouches, First, Parted, Scanned, OnStack, Lowest, Reach, Walk}
 use Rattle.walk.proofs.Zeros.{Upd, zeros-upd}
 use Rattle.walk.proofs.Climb.{touching, other-end}
 
@@ -13,8 +13,8 @@ module _ (K : ℕ) (lf rt : ℕ → ℕ) where
   -- the frame after the last is entered, at a region that was not found: a root, or over the record that the last frame looks at
   module _ {R r : ℕ} {Told : ℕ → Type 0} {disc st pr nx lw : ℕ → ℕ} {h time : ℕ} (W : Walk K lf rt R r Told disc st pr nx lw h time)
       (disc′ nx′ : ℕ → ℕ) (new : disc (st h) ≡ 0) (on : st h < R) (u : Upd disc disc′ (st h) (time + 1)) (first : h ≡ 0 → K ≤ pr 0)
-      (over : (m : ℕ) → m + 1 ≡ h → (pr h < K) × Joins lf rt (pr h) (st m) (st h)) (start : First K lf rt 0 (st h) (nx′ h)) (own : lw h ≡ time + 1)
-      (adv : (m i : ℕ) → m < h → i < nx′ m → i < K → Touches lf rt i (st m) → (i < nx m) ⊎ ((m + 1 ≡ h) × (i ≡ pr h))) where
+      (over : (m : ℕ) → m + 1 ≡ h → (pr h < K) × RecordJoins lf rt (pr h) (st m) (st h)) (start : First K lf rt 0 (st h) (nx′ h)) (own : lw h ≡ time + 1)
+      (adv : (m i : ℕ) → m < h → i < nx′ m → i < K → RecordTouches lf rt i (st m) → (i < nx m) ⊎ ((m + 1 ≡ h) × (i ≡ pr h))) where
     keep-d : (x : ℕ) → 0 < disc x → disc′ x ≡ disc x
     keep-d x p = u .off x (λ e. omega (arith, ap disc e))
 
@@ -29,14 +29,14 @@ module _ (K : ℕ) (lf rt : ℕ → ℕ) where
     which x f g = by-cases (ℕ-discrete x (st h)) (λ e. f e (ap disc′ e ∙ u .at)) (λ e. g (u .off x e))
 
     -- a record that was looked at was so before, or is the one by which the new frame is entered
-    un : {P : Type 0} (x i w : ℕ) → i < K → Joins lf rt i x w → 0 < disc′ x → Scanned K lf rt st nx′ (h + 1) x i
+    un : {P : Type 0} (x i w : ℕ) → i < K → RecordJoins lf rt i x w → 0 < disc′ x → Scanned K lf rt st nx′ (h + 1) x i
         → ((m : ℕ) → m + 1 ≡ h → st m ≡ x → i ≡ pr h → P) →
         (0 < disc x → disc′ x ≡ disc x → Scanned K lf rt st nx h x i → P) → P
     un {P} x i y b t p s f g =
         which x (λ e d. absurd (start .between i (omega arith) (s h (omega arith) (sym e)) b (touch (sym e)))) (λ d. look h refl d)
       where
-        touch : {v : ℕ} → v ≡ x → Touches lf rt i v
-        touch z = subst (λ (c : ℕ). Touches lf rt i c) (sym z) (touching t)
+        touch : {v : ℕ} → v ≡ x → RecordTouches lf rt i v
+        touch z = subst (λ (c : ℕ). RecordTouches lf rt i c) (sym z) (touching t)
 
         look : (q : ℕ) → h ≡ q → disc′ x ≡ disc x → P
         look zero z d = g (omega arith) d (λ m l e. absurd (omega arith))
@@ -51,9 +51,9 @@ module _ (K : ℕ) (lf rt : ℕ → ℕ) where
             before e m l w = ⊎-elim (λ a. a) (λ a. absurd (e (a .1))) (adv m i l (s m (omega arith) w) b (touch w))
 
     -- the record by which the new frame is entered, at its parent, leads to the new region
-    entry : (m x i w : ℕ) → m + 1 ≡ h → st m ≡ x → i ≡ pr h → Joins lf rt i x w → st h ≡ w
+    entry : (m x i w : ℕ) → m + 1 ≡ h → st m ≡ x → i ≡ pr h → RecordJoins lf rt i x w → st h ≡ w
     entry m x i w a b c t =
-        other-end (over m a .1) (subst (λ (y : ℕ). Joins lf rt (pr h) y w) (sym b) (subst (λ (y : ℕ). Joins lf rt y x w) c t))
+        other-end (over m a .1) (subst (λ (y : ℕ). RecordJoins lf rt (pr h) y w) (sym b) (subst (λ (y : ℕ). RecordJoins lf rt y x w) c t))
 
     push-low : (m : ℕ) → m < h + 1 → Lowest K lf rt disc′ st pr lw m
     push-low m l = by-cases (ℕ-discrete m h) top below
@@ -65,7 +65,7 @@ module _ (K : ℕ) (lf rt : ℕ → ℕ) where
         below e = let f = W .low m (omega arith) in
             record { to = f .to; upto = f .upto; is = f .is ∙ sym (keep-s (f .to) (omega (arith, f .upto))); path = f .path }
 
-    push-reach : (m x j w : ℕ) → m < h + 1 → disc′ (st m) ≤ disc′ x → Scanned K lf rt st nx′ (h + 1) x j → j < K → (j ≡ pr m → ⊥) → Joins lf rt j x w
+    push-reach : (m x j w : ℕ) → m < h + 1 → disc′ (st m) ≤ disc′ x → Scanned K lf rt st nx′ (h + 1) x j → j < K → (j ≡ pr m → ⊥) → RecordJoins lf rt j x w
         → Reach K lf rt disc′ lw m (h + 1) w
     push-reach m x j w l d s k o t =
         un x j w k t (omega (arith, some m l)) s (λ q a b c. up q a b c) (λ p e z. old-one p e z)
@@ -89,11 +89,11 @@ module _ (K : ℕ) (lf rt : ℕ → ℕ) where
               low = omega (arith, f .low, keep-d w (W .known x j w p z k t));
             })
 
-    push-old : (x : ℕ) → 0 < disc′ x → OnStack K lf rt st (h + 1) x ⊎ ((j y m : ℕ) → j < K → Joins lf rt j x y → m < h + 1 → st m ≡ y → disc′ y < disc′ x)
+    push-old : (x : ℕ) → 0 < disc′ x → OnStack K lf rt st (h + 1) x ⊎ ((j y m : ℕ) → j < K → RecordJoins lf rt j x y → m < h + 1 → st m ≡ y → disc′ y < disc′ x)
     push-old x p = which x (λ e d. inl (record { place = h; below = omega arith; is = sym e })) (λ d. on-to d (W .old x (omega arith)))
       where
-        on-to : disc′ x ≡ disc x → OnStack K lf rt st h x ⊎ ((j y m : ℕ) → j < K → Joins lf rt j x y → m < h → st m ≡ y → disc y < disc x) →
-            OnStack K lf rt st (h + 1) x ⊎ ((j y m : ℕ) → j < K → Joins lf rt j x y → m < h + 1 → st m ≡ y → disc′ y < disc′ x)
+        on-to : disc′ x ≡ disc x → OnStack K lf rt st h x ⊎ ((j y m : ℕ) → j < K → RecordJoins lf rt j x y → m < h → st m ≡ y → disc y < disc x) →
+            OnStack K lf rt st (h + 1) x ⊎ ((j y m : ℕ) → j < K → RecordJoins lf rt j x y → m < h + 1 → st m ≡ y → disc′ y < disc′ x)
         on-to d (inl f) = inl (record { place = f .place; below = omega (arith, f .below); is = f .is })
         on-to d (inr g) = by-cases (on-it h) (λ f. inl (record { place = f .place; below = omega (arith, f .below); is = f .is }))
             (λ off. inr (λ j y m k t l e. less off j y m k t l e))
@@ -109,7 +109,7 @@ module _ (K : ℕ) (lf rt : ℕ → ℕ) where
                     no (λ f. by-cases (ℕ-discrete (f .place) b) (λ k. e (sym (ap st k) ∙ f .is))
                     (λ k. q (record { place = f .place; below = omega (arith, f .below); is = f .is })))
 
-            less : (OnStack K lf rt st h x → ⊥) → (j y m : ℕ) → j < K → Joins lf rt j x y → m < h + 1 → st m ≡ y → disc′ y < disc′ x
+            less : (OnStack K lf rt st h x → ⊥) → (j y m : ℕ) → j < K → RecordJoins lf rt j x y → m < h + 1 → st m ≡ y → disc′ y < disc′ x
             less off j y m k t l e =
                 by-cases (ℕ-discrete m h)
                 (λ z.
@@ -131,7 +131,7 @@ module _ (K : ℕ) (lf rt : ℕ → ℕ) where
           (λ e. omega (arith, keep-s m (omega arith), W .timed (st m), ap (λ (x : ℕ). disc′ (st x)) e, u .at))
           (λ e. omega (arith, keep-s m (omega arith), keep-s q (omega arith), W .rising m q l (omega arith)));
       tree = λ m l.
-          by-cases (ℕ-discrete (m + 1) h) (λ e. subst (λ (x : ℕ). (pr x < K) × Joins lf rt (pr x) (st m) (st x)) (sym e) (over m e))
+          by-cases (ℕ-discrete (m + 1) h) (λ e. subst (λ (x : ℕ). (pr x < K) × RecordJoins lf rt (pr x) (st m) (st x)) (sym e) (over m e))
           (λ e. W .tree m (omega arith));
       root = λ l. by-cases (ℕ-discrete h 0) first (λ e. W .root (omega arith));
       low = push-low;

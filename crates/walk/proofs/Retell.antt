@@ -4,7 +4,7 @@ use native.Mathlib.Omega.{arith}
 use mathlib.Core.Path.{_≡_, sym, _∙_, ap, subst, subst₂}
 use mathlib.Core.Logic.{_⊎_, inl, inr}
 use Rattle.walk.proofs.Steps.{moved, wider}
-use Rattle.walk.specs.Walk.{Joins, Parted, Scanned, OnStack, Lowest, Walk}
+use Rattle.walk.specs.Walk.{RecordJoins, Parted, Scanned, OnStack, Lowest, Walk}
 
 module _ {K : ℕ} {lf rt : ℕ → ℕ} {R r : ℕ} {Told : ℕ → Type 0} {disc st pr nx lw : ℕ → ℕ} {h time : ℕ} (W : Walk K lf rt R r Told disc st pr nx lw h time)
     (st′ pr′ nx′ lw′ : ℕ → ℕ) (es : (m : ℕ) → m < h → st′ m ≡ st m) (ep : (m : ℕ) → m < h → pr′ m ≡ pr m) (en : (m : ℕ) → m < h → nx′ m ≡ nx m)
@@ -25,8 +25,8 @@ module _ {K : ℕ} {lf rt : ℕ → ℕ} {R r : ℕ} {Told : ℕ → Type 0} {di
             (wider (λ x y s. record { by = s .by; below = s .below; other = λ i b e. s .other i b (e ∙ ep i (omega arith)); joins = s .joins }) (f .path));
       }
 
-  old-on : (x : ℕ) → OnStack K lf rt st h x ⊎ ((j y m : ℕ) → j < K → Joins lf rt j x y → m < h → st m ≡ y → disc y < disc x) →
-      OnStack K lf rt st′ h x ⊎ ((j y m : ℕ) → j < K → Joins lf rt j x y → m < h → st′ m ≡ y → disc y < disc x)
+  old-on : (x : ℕ) → OnStack K lf rt st h x ⊎ ((j y m : ℕ) → j < K → RecordJoins lf rt j x y → m < h → st m ≡ y → disc y < disc x) →
+      OnStack K lf rt st′ h x ⊎ ((j y m : ℕ) → j < K → RecordJoins lf rt j x y → m < h → st′ m ≡ y → disc y < disc x)
   old-on x (inl f) = inl (record { place = f .place; below = f .below; is = es (f .place) (f .below) ∙ f .is })
   old-on x (inr g) = inr (λ j y m k t l e. g j y m k t l (sym (es m l) ∙ e))
 
@@ -44,8 +44,8 @@ module _ {K : ℕ} {lf rt : ℕ → ℕ} {R r : ℕ} {Told : ℕ → Type 0} {di
         let t = W .tree m l in
         let e : pr (m + 1) ≡ pr′ (m + 1) = sym (ep (m + 1) l) in (
           omega (arith, t .0),
-          subst (λ (x : ℕ). Joins lf rt x (st′ m) (st′ (m + 1))) e
-              (subst₂ (λ (x y : ℕ). Joins lf rt (pr (m + 1)) x y) (sym (es m (omega arith))) (sym (es (m + 1) l)) (t .1)),
+          subst (λ (x : ℕ). RecordJoins lf rt x (st′ m) (st′ (m + 1))) e
+              (subst₂ (λ (x y : ℕ). RecordJoins lf rt (pr (m + 1)) x y) (sym (es m (omega arith))) (sym (es (m + 1) l)) (t .1)),
         );
     root = λ l. omega (arith, W .root l, ep 0 l);
     low = low-on;

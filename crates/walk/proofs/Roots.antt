@@ -8,7 +8,7 @@ use lib.ListN.{length, replicate, length-replicate, getD-replicate}
 use Rattle.lists.specs.Rows.{at}
 use Rattle.walk.proofs.Zeros.{zeros-le}
 use Rattle.walk.specs.Walk.{Walk}
-use Rattle.walk.specs.Slices.{Graph, Owners, Sized, PartedBy, Told, Between}
+use Rattle.walk.specs.Slices.{Graph, Owners, Sized, PartedBy, OwnerMarked, Between}
 use Rattle.walk.proofs.Passing.{nothing, end, step-on}
 use Rattle.walk.proofs.Turn.{Loop}
 
@@ -33,7 +33,7 @@ pub finished : {K R : ℕ} {owners lefts rights disc stack parents nexts lows ma
 finished {K} {R} {owners} {lefts} {rights} {disc} {stack} {parents} {nexts} {lows} {marks} {r} {time} B e b p =
     subst (λ (x : ℕ). at marks x ≡ 1) (p .owned)
     (end K (at lefts) (at rights)
-    (subst (λ (x : ℕ). Walk K (at lefts) (at rights) (length disc) x (Told owners marks) (at disc) (at stack) (at parents) (at nexts) (at lows) 0 time) e
+    (subst (λ (x : ℕ). Walk K (at lefts) (at rights) (length disc) x (OwnerMarked owners marks) (at disc) (at stack) (at parents) (at nexts) (at lows) 0 time) e
     (B .walk))
     (p .place) (p .inside) (p .parted))
 

@@ -4,7 +4,7 @@ use mathlib.Core.Logic.{_⊎_, inl, inr, by-cases}
 use Prim.Native.Nat.{ℕ, zero, suc, _+_, _≤_, _<_, min}
 use native.Mathlib.Omega.{arith}
 use native.Mathlib.Decide.{decLt, ℕ-discrete}
-use Rattle.walk.specs.Walk.{Joins, Touches, First, Parted, Scanned, OnStack, Lowest, Reach, Walk}
+use Rattle.walk.specs.Walk.{RecordJoins, RecordTouches, First, Parted, Scanned, OnStack, Lowest, Reach, Walk}
 use Rattle.walk.proofs.Steps.{one, moved}
 use Rattle.walk.proofs.Climb.{joins-sym, touching, other-end, no-bridge, place-le, low-le, fresh, climb}
 
@@ -14,7 +14,7 @@ module _ (K : ℕ) (lf rt : ℕ → ℕ) where
       (nx′ lw′ : ℕ → ℕ) (u : First K lf rt (nx n + 1) (st n) (nx′ n)) (o : (m : ℕ) → (m ≡ n → ⊥) → nx′ m ≡ nx m)
       (v : (m : ℕ) → (m ≡ n → ⊥) → lw′ m ≡ lw m) where
     -- what is looked at now was before, or is the record
-    unscan : {P : Type 0} (x i w : ℕ) → i < K → Joins lf rt i x w → Scanned K lf rt st nx′ (n + 1) x i → (st n ≡ x → i ≡ nx n → P)
+    unscan : {P : Type 0} (x i w : ℕ) → i < K → RecordJoins lf rt i x w → Scanned K lf rt st nx′ (n + 1) x i → (st n ≡ x → i ≡ nx n → P)
         → (Scanned K lf rt st nx (n + 1) x i → P) → P
     unscan x i w b t s f g =
         by-cases (ℕ-discrete i (nx n)) (λ e. by-cases (ℕ-discrete (st n) x) (λ q. f q e) (λ q. g (λ m l z. away q m l z))) (λ e. g (λ m l z. before e m l z))
@@ -28,10 +28,10 @@ module _ (K : ℕ) (lf rt : ℕ → ℕ) where
             last : m ≡ n → st n ≡ x → i < nx m
             last k y =
                 by-cases (decLt i (nx n)) (λ a. omega (arith, ap nx k)) λ a.
-                absurd (u .between i (omega arith) (omega (arith, s m l z, ap nx′ k)) b (subst (λ (c : ℕ). Touches lf rt i c) (sym y) (touching t)))
+                absurd (u .between i (omega arith) (omega (arith, s m l z, ap nx′ k)) b (subst (λ (c : ℕ). RecordTouches lf rt i c) (sym y) (touching t)))
 
     scan : lw′ n ≤ lw n → Lowest K lf rt disc st pr lw′ n →
-        ((w : ℕ) → Joins lf rt (nx n) (st n) w →
+        ((w : ℕ) → RecordJoins lf rt (nx n) (st n) w →
         (0 < disc w) × ((m : ℕ) → m < n + 1 → (nx n ≡ pr m → ⊥) → Reach K lf rt disc lw′ m (n + 1) w)
         × ((Parted K lf rt (nx n) → Told (nx n)) ⊎ OnStack K lf rt pr (n + 1) (nx n))) →
         Walk K lf rt R r Told disc st pr nx′ lw′ (n + 1) time
@@ -53,8 +53,8 @@ module _ (K : ℕ) (lf rt : ℕ → ℕ) where
       count = W .count;
     }
       where
-        here-too : (x i w : ℕ) → st n ≡ x → i ≡ nx n → Joins lf rt i x w → Joins lf rt (nx n) (st n) w
-        here-too x i w q e t = subst (λ (y : ℕ). Joins lf rt (nx n) y w) (sym q) (subst (λ (y : ℕ). Joins lf rt y x w) e t)
+        here-too : (x i w : ℕ) → st n ≡ x → i ≡ nx n → RecordJoins lf rt i x w → RecordJoins lf rt (nx n) (st n) w
+        here-too x i w q e t = subst (λ (y : ℕ). RecordJoins lf rt (nx n) y w) (sym q) (subst (λ (y : ℕ). RecordJoins lf rt y x w) e t)
 
         stay : (m : ℕ) → m < n + 1 → lw′ m ≡ lw m → Lowest K lf rt disc st pr lw′ m
         stay m l e = let f = W .low m l in record { to = f .to; upto = f .upto; is = e ∙ f .is; path = f .path }
@@ -81,15 +81,15 @@ module _ (K : ℕ) (lf rt : ℕ → ℕ) where
         (let f = W .low n (omega arith) in record { to = f .to; upto = f .upto; is = e ∙ f .is; path = f .path })
         (λ w t. parent n refl w t)
       where
-        parent : (l : ℕ) → n ≡ l → (w : ℕ) → Joins lf rt (nx n) (st n) w →
+        parent : (l : ℕ) → n ≡ l → (w : ℕ) → RecordJoins lf rt (nx n) (st n) w →
             (0 < disc w) × ((m : ℕ) → m < n + 1 → (nx n ≡ pr m → ⊥) → Reach K lf rt disc lw′ m (n + 1) w)
             × ((Parted K lf rt (nx n) → Told (nx n)) ⊎ OnStack K lf rt pr (n + 1) (nx n))
         parent zero z w t = absurd (omega (arith, W .root (omega arith), ap pr z))
         parent (suc l) z w t =
             let y : n ≡ l + 1 = omega arith in
-            let tr : Joins lf rt (nx n) (st n) (st l) =
-            subst (λ (a : ℕ). Joins lf rt (nx n) (st a) (st l)) (sym y)
-            (subst (λ (a : ℕ). Joins lf rt a (st (l + 1)) (st l)) (sym (q ∙ ap pr y)) (joins-sym (W .tree l (omega arith) .1))) in
+            let tr : RecordJoins lf rt (nx n) (st n) (st l) =
+            subst (λ (a : ℕ). RecordJoins lf rt (nx n) (st a) (st l)) (sym y)
+            (subst (λ (a : ℕ). RecordJoins lf rt a (st (l + 1)) (st l)) (sym (q ∙ ap pr y)) (joins-sym (W .tree l (omega arith) .1))) in
             let is : st l ≡ w = other-end tr t in (
               subst (λ (a : ℕ). 0 < disc a) is (W .found l (omega arith)),
               λ m b o. record {
@@ -102,14 +102,14 @@ module _ (K : ℕ) (lf rt : ℕ → ℕ) where
             )
 
     -- the record leads to a region that was found
-    pub scan-seen : (w : ℕ) → nx n < K → (nx n ≡ pr n → ⊥) → Joins lf rt (nx n) (st n) w → 0 < disc w → lw′ n ≡ min (lw n) (disc w) →
+    pub scan-seen : (w : ℕ) → nx n < K → (nx n ≡ pr n → ⊥) → RecordJoins lf rt (nx n) (st n) w → 0 < disc w → lw′ n ≡ min (lw n) (disc w) →
         Walk K lf rt R r Told disc st pr nx′ lw′ (n + 1) time
     scan-seen w k q t p e = scan (omega arith) lowest (λ w₂ t₂. all w₂ (other-end t t₂))
       where
         clear : (i : ℕ) → i ≤ n → nx n ≡ pr i → ⊥
         clear = fresh W n (nx n) w (omega arith) k t q
 
-        first : OnStack K lf rt st (n + 1) w ⊎ ((j y m : ℕ) → j < K → Joins lf rt j w y → m < n + 1 → st m ≡ y → disc y < disc w) → disc w < lw n
+        first : OnStack K lf rt st (n + 1) w ⊎ ((j y m : ℕ) → j < K → RecordJoins lf rt j w y → m < n + 1 → st m ≡ y → disc y < disc w) → disc w < lw n
             → Lowest K lf rt disc st pr lw′ n
         first (inl f) l = record {
           to = f .place;
@@ -124,7 +124,7 @@ module _ (K : ℕ) (lf rt : ℕ → ℕ) where
             by-cases (decLt (disc w) (lw n)) (λ l. first (W .old w p) l)
             (λ l. let f = W .low n (omega arith) in record { to = f .to; upto = f .upto; is = omega (arith, f .is); path = f .path })
 
-        says : OnStack K lf rt st (n + 1) w ⊎ ((j y m : ℕ) → j < K → Joins lf rt j w y → m < n + 1 → st m ≡ y → disc y < disc w)
+        says : OnStack K lf rt st (n + 1) w ⊎ ((j y m : ℕ) → j < K → RecordJoins lf rt j w y → m < n + 1 → st m ≡ y → disc y < disc w)
             → (Parted K lf rt (nx n) → Told (nx n)) ⊎ OnStack K lf rt pr (n + 1) (nx n)
         says (inl f) =
             inl (λ b. absurd (no-bridge (joins-sym t)

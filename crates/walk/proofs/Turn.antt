@@ -7,8 +7,8 @@ use mathlib.Core.Logic.{by-cases}
 use mathlib.Core.List.{List}
 use lib.ListN.{length}
 use Rattle.lists.specs.Rows.{at}
-use Rattle.walk.specs.Walk.{Joins, forth, back, Touches, First}
-use Rattle.walk.specs.Slices.{put, Graph, Owners, Sized, Sound, Stacked, Held}
+use Rattle.walk.specs.Walk.{RecordJoins, forth, back, RecordTouches, First}
+use Rattle.walk.specs.Slices.{put, Graph, Owners, Sized, MarksSound, Stacked, FrameInHand}
 use Rattle.walk.specs.declared.frame.Frame.{Frame}
 use Rattle.walk.proofs.Retell.{retell}
 use Rattle.walk.proofs.Scans.{scan-parent, scan-seen}
@@ -21,28 +21,28 @@ pub record Loop (K R : ℕ) (owners lefts rights disc stack parents nexts lows m
   pub marks-are : length marks ≡ 256
   pub marked : Owners K owners
   pub walk : Stacked K owners lefts rights r disc stack parents nexts lows marks h time
-  pub sound : Sound K owners lefts rights marks
+  pub sound : MarksSound K owners lefts rights marks
   pub begun : 0 < at disc (at lefts r)
   -- each frame's next record touches its region
-  pub touching : (m : ℕ) → m < h → at nexts m < K → Touches (at lefts) (at rights) (at nexts m) (at stack m)
+  pub touching : (m : ℕ) → m < h → at nexts m < K → RecordTouches (at lefts) (at rights) (at nexts m) (at stack m)
 
 -- the last frame in hand is that of the stack, with its own next record and low
 pub record Hand (K : ℕ) (owners lefts rights disc stack parents nexts lows marks : List ℕ) (r top time : ℕ) (f : Frame) : Type 0 where
-  pub walk : Held K owners lefts rights r disc stack parents nexts lows marks top time f
+  pub walk : FrameInHand K owners lefts rights r disc stack parents nexts lows marks top time f
   pub region : f .region ≡ at stack top
   pub parent : f .parent ≡ at parents top
-  pub touching : f .next < K → Touches (at lefts) (at rights) (f .next) (f .region)
+  pub touching : f .next < K → RecordTouches (at lefts) (at rights) (f .next) (f .region)
 
 -- how the inner loop stopped
 pub record Stop (K R : ℕ) (lefts rights disc : List ℕ) (f : Frame) (w j : ℕ) : Type 0 where
   pub is : j < K → j ≡ f .next
-  pub joins : j < K → Joins (at lefts) (at rights) (f .next) (f .region) w
+  pub joins : j < K → RecordJoins (at lefts) (at rights) (f .next) (f .region) w
   pub within : j < K → w < R
   pub new : j < K → at disc w ≡ 0
   pub all : K ≤ j → K ≤ f .next
 
 -- the region that a record leads to is in range
-pub end-in : {K R : ℕ} {lefts rights : List ℕ} {j x w : ℕ} → Graph K R lefts rights → j < K → Joins (at lefts) (at rights) j x w → w < R
+pub end-in : {K R : ℕ} {lefts rights : List ℕ} {j x w : ℕ} → Graph K R lefts rights → j < K → RecordJoins (at lefts) (at rights) j x w → w < R
 end-in {j = j} G l (forth p q) = omega (arith, q, G .right-in j l)
 end-in {j = j} G l (back p q) = omega (arith, p, G .left-in j l)
 
@@ -84,7 +84,7 @@ module _ {K : ℕ} {owners lefts rights disc stack parents nexts lows marks : Li
         (λ m l. same (at nexts) (f .next) c m) (λ m l. same (at lows) (f .low) d m);
     region = a;
     parent = b;
-    touching = λ l. subst₂ (λ (x y : ℕ). Touches (at lefts) (at rights) x y) (sym c) (sym a) (L .touching top (omega arith) (omega arith));
+    touching = λ l. subst₂ (λ (x y : ℕ). RecordTouches (at lefts) (at rights) x y) (sym c) (sym a) (L .touching top (omega arith) (omega arith));
   }
     where
       same : (g : ℕ → ℕ) (v : ℕ) → v ≡ g top → (m : ℕ) → put g top v m ≡ g m
@@ -95,8 +95,8 @@ module _ {K : ℕ} {owners lefts rights disc stack parents nexts lows marks : Li
     abbrev nx : ℕ → ℕ
     nx = put (at nexts) top (f .next)
 
-    there : {w : ℕ} → Joins (at lefts) (at rights) (f .next) (f .region) w → Joins (at lefts) (at rights) (nx top) (at stack top) w
-    there {w} t = subst₂ (λ (x y : ℕ). Joins (at lefts) (at rights) x y w) (sym (put-at (at nexts) top (f .next))) (H .region) t
+    there : {w : ℕ} → RecordJoins (at lefts) (at rights) (f .next) (f .region) w → RecordJoins (at lefts) (at rights) (nx top) (at stack top) w
+    there {w} t = subst₂ (λ (x y : ℕ). RecordJoins (at lefts) (at rights) x y w) (sym (put-at (at nexts) top (f .next))) (H .region) t
 
     there-to : (v : ℕ) → First K (at lefts) (at rights) (f .next + 1) (f .region) v
         → First K (at lefts) (at rights) (nx top + 1) (at stack top) (put (at nexts) top v top)
@@ -116,13 +116,13 @@ module _ {K : ℕ} {owners lefts rights disc stack parents nexts lows marks : Li
           (omega (arith, put-at (at nexts) top (f .next))) (put-at (at nexts) top (f .next) ∙ e ∙ H .parent);
       region = a ∙ H .region;
       parent = b ∙ H .parent;
-      touching = λ l. subst (λ (x : ℕ). Touches (at lefts) (at rights) (g .next) x) (sym a) (c .touches l);
+      touching = λ l. subst (λ (x : ℕ). RecordTouches (at lefts) (at rights) (g .next) x) (sym a) (c .touches l);
     }
 
     -- the record leads to a region that was found
     pub seen : (g : Frame) (w : ℕ) → g .region ≡ f .region → g .parent ≡ f .parent → First K (at lefts) (at rights) (f .next + 1) (f .region) (g .next)
         → g .low ≡ min (f .low) (at disc w) →
-        f .next < K → Joins (at lefts) (at rights) (f .next) (f .region) w → (f .next ≡ f .parent → ⊥) → (at disc w ≡ 0 → ⊥) →
+        f .next < K → RecordJoins (at lefts) (at rights) (f .next) (f .region) w → (f .next ≡ f .parent → ⊥) → (at disc w ≡ 0 → ⊥) →
         Hand K owners lefts rights disc stack parents nexts lows marks r top time g
     seen g w a b c d k t o p = record {
       walk =
@@ -133,5 +133,5 @@ module _ {K : ℕ} {owners lefts rights disc stack parents nexts lows marks : Li
           (put-at (at lows) top (g .low) ∙ d ∙ ap (λ (x : ℕ). min x (at disc w)) (sym (put-at (at lows) top (f .low))));
       region = a ∙ H .region;
       parent = b ∙ H .parent;
-      touching = λ l. subst (λ (x : ℕ). Touches (at lefts) (at rights) (g .next) x) (sym a) (c .touches l);
+      touching = λ l. subst (λ (x : ℕ). RecordTouches (at lefts) (at rights) (g .next) x) (sym a) (c .touches l);
     }

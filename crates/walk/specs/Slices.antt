@@ -37,7 +37,7 @@ pub record Sized (R : ℕ) (disc stack parents nexts lows : List ℕ) : Type 0 w
 
 -- the records that touch a region are chained in their order: the first of them, and after a record the next one at its left and at its right region;
 -- so it is from record k on
-pub record Linked (K R : ℕ) (lefts rights heads leftNexts rightNexts : List ℕ) (k : ℕ) : Type 0 where
+pub record IncidenceLists (K R : ℕ) (lefts rights heads leftNexts rightNexts : List ℕ) (k : ℕ) : Type 0 where
   pub heads-are : length heads ≡ R
   pub lefts-are : K ≤ length leftNexts
   pub rights-are : K ≤ length rightNexts
@@ -53,23 +53,23 @@ pub record PartedBy (K : ℕ) (owners lefts rights : List ℕ) (b : ℕ) : Type 
   pub parted : Parted K (at lefts) (at rights) place
 
 -- each mark is 0, or is 1 and right
-abbrev pub Sound : ℕ → List ℕ → List ℕ → List ℕ → List ℕ → Type 0
-Sound K owners lefts rights marks =
+abbrev pub MarksSound : ℕ → List ℕ → List ℕ → List ℕ → List ℕ → Type 0
+MarksSound K owners lefts rights marks =
     (b : ℕ) → b < length marks → (at marks b ≡ 0) ⊎ ((at marks b ≡ 1) × PartedBy K owners lefts rights b)
 
 -- the record's owner has a mark
-abbrev pub Told : List ℕ → List ℕ → ℕ → Type 0
-Told owners marks k = at marks (at owners k) ≡ 1
+abbrev pub OwnerMarked : List ℕ → List ℕ → ℕ → Type 0
+OwnerMarked owners marks k = at marks (at owners k) ≡ 1
 
 -- the walk, with the stack in the four lists
 abbrev pub Stacked : ℕ → List ℕ → List ℕ → List ℕ → ℕ → List ℕ → List ℕ → List ℕ → List ℕ → List ℕ → List ℕ → ℕ → ℕ → Type 0
 Stacked K owners lefts rights r disc stack parents nexts lows marks h time =
-    Walk K (at lefts) (at rights) (length disc) r (Told owners marks) (at disc) (at stack) (at parents) (at nexts) (at lows) h time
+    Walk K (at lefts) (at rights) (length disc) r (OwnerMarked owners marks) (at disc) (at stack) (at parents) (at nexts) (at lows) h time
 
 -- the same, with the last frame in hand
-abbrev pub Held : ℕ → List ℕ → List ℕ → List ℕ → ℕ → List ℕ → List ℕ → List ℕ → List ℕ → List ℕ → List ℕ → ℕ → ℕ → Frame → Type 0
-Held K owners lefts rights r disc stack parents nexts lows marks top time f =
-    Walk K (at lefts) (at rights) (length disc) r (Told owners marks) (at disc) (at stack) (at parents) (put (at nexts) top (f .next))
+abbrev pub FrameInHand : ℕ → List ℕ → List ℕ → List ℕ → ℕ → List ℕ → List ℕ → List ℕ → List ℕ → List ℕ → List ℕ → ℕ → ℕ → Frame → Type 0
+FrameInHand K owners lefts rights r disc stack parents nexts lows marks top time f =
+    Walk K (at lefts) (at rights) (length disc) r (OwnerMarked owners marks) (at disc) (at stack) (at parents) (put (at nexts) top (f .next))
     (put (at lows) top (f .low)) (top + 1) time
 
 -- the walk between two roots: the ends of the records before r are found
@@ -80,7 +80,7 @@ pub record Between (K R : ℕ) (owners lefts rights disc stack parents nexts low
   pub marks-are : length marks ≡ 256
   pub marked : Owners K owners
   pub walk : Stacked K owners lefts rights r disc stack parents nexts lows marks 0 time
-  pub sound : Sound K owners lefts rights marks
+  pub sound : MarksSound K owners lefts rights marks
 
 -- the marks with one more at b, if what the parent knows is before low
 abbrev pub marking : ℕ → ℕ → List ℕ → ℕ → List ℕ

@@ -14,32 +14,32 @@ unit true = 1
 unit false = 0
 
 -- how many of the first n values are 0
-abbrev pub zeros : (ℕ → ℕ) → ℕ → ℕ
-zeros f zero = 0
-zeros f (suc n) = unit (eqb (f n) 0) + zeros f n
+abbrev pub zeroCount : (ℕ → ℕ) → ℕ → ℕ
+zeroCount f zero = 0
+zeroCount f (suc n) = unit (eqb (f n) 0) + zeroCount f n
 
 -- record k joins a and b
-pub data Joins (lf rt : ℕ → ℕ) (k a b : ℕ) : Type 0 where
-  forth : lf k ≡ a → rt k ≡ b → Joins lf rt k a b
-  back : lf k ≡ b → rt k ≡ a → Joins lf rt k a b
+pub data RecordJoins (lf rt : ℕ → ℕ) (k a b : ℕ) : Type 0 where
+  forth : lf k ≡ a → rt k ≡ b → RecordJoins lf rt k a b
+  back : lf k ≡ b → rt k ≡ a → RecordJoins lf rt k a b
 
 -- record k has region x for an end
-abbrev pub Touches : (ℕ → ℕ) → (ℕ → ℕ) → ℕ → ℕ → Type 0
-Touches lf rt k x = (lf k ≡ x) ⊎ (rt k ≡ x)
+abbrev pub RecordTouches : (ℕ → ℕ) → (ℕ → ℕ) → ℕ → ℕ → Type 0
+RecordTouches lf rt k x = (lf k ≡ x) ⊎ (rt k ≡ x)
 
 module _ (K : ℕ) (lf rt : ℕ → ℕ) where
   -- j is the first record from `from` on that touches region x, and no record of the K where there is none
   pub record First (from x j : ℕ) : Type 0 where
     pub onward : from ≤ j
-    pub between : (i : ℕ) → from ≤ i → i < j → i < K → Touches lf rt i x → ⊥
-    pub touches : j < K → Touches lf rt j x
+    pub between : (i : ℕ) → from ≤ i → i < j → i < K → RecordTouches lf rt i x → ⊥
+    pub touches : j < K → RecordTouches lf rt j x
 
   -- a step over a record that is not k
   pub record Without (k a b : ℕ) : Type 0 where
     pub by : ℕ
     pub below : by < K
     pub other : by ≡ k → ⊥
-    pub joins : Joins lf rt by a b
+    pub joins : RecordJoins lf rt by a b
 
   -- removing record k alone leaves its ends unconnected
   abbrev pub Parted : ℕ → Type 0
@@ -50,7 +50,7 @@ module _ (K : ℕ) (lf rt : ℕ → ℕ) where
     pub by : ℕ
     pub below : by < K
     pub other : (i : ℕ) → i ≤ m → by ≡ pr i → ⊥
-    pub joins : Joins lf rt by a b
+    pub joins : RecordJoins lf rt by a b
 
   -- every frame at region u has looked at record j; so it is where there is none
   abbrev pub Scanned : (st nx : ℕ → ℕ) (h u j : ℕ) → Type 0
@@ -79,16 +79,16 @@ module _ (K : ℕ) (lf rt : ℕ → ℕ) where
     pub found : (m : ℕ) → m < h → 0 < disc (st m)
     pub inside : (m : ℕ) → m < h → st m < R
     pub rising : (m l : ℕ) → m < l → l < h → disc (st m) < disc (st l)
-    pub tree : (m : ℕ) → m + 1 < h → (pr (m + 1) < K) × Joins lf rt (pr (m + 1)) (st m) (st (m + 1))
+    pub tree : (m : ℕ) → m + 1 < h → (pr (m + 1) < K) × RecordJoins lf rt (pr (m + 1)) (st m) (st (m + 1))
     pub root : 0 < h → K ≤ pr 0
     pub low : (m : ℕ) → m < h → Lowest disc st pr lw m
     -- a record that was looked at leads to a region that was found
-    pub known : (u j w : ℕ) → 0 < disc u → Scanned st nx h u j → j < K → Joins lf rt j u w → 0 < disc w
+    pub known : (u j w : ℕ) → 0 < disc u → Scanned st nx h u j → j < K → RecordJoins lf rt j u w → 0 < disc w
     -- and, from what was found after frame m began, to none before what a frame from m up knows, but for frame m's own entry
-    pub reach : (m u j w : ℕ) → m < h → disc (st m) ≤ disc u → Scanned st nx h u j → j < K → (j ≡ pr m → ⊥) → Joins lf rt j u w → Reach disc lw m h w
+    pub reach : (m u j w : ℕ) → m < h → disc (st m) ≤ disc u → Scanned st nx h u j → j < K → (j ≡ pr m → ⊥) → RecordJoins lf rt j u w → Reach disc lw m h w
     -- a region that was found is on the stack, or its neighbours on the stack were found before it
-    pub old : (x : ℕ) → 0 < disc x → OnStack st h x ⊎ ((j y m : ℕ) → j < K → Joins lf rt j x y → m < h → st m ≡ y → disc y < disc x)
-    pub settled : (u j w : ℕ) → 0 < disc u → Scanned st nx h u j → j < K → Joins lf rt j u w → (Parted j → Told j) ⊎ OnStack pr h j
+    pub old : (x : ℕ) → 0 < disc x → OnStack st h x ⊎ ((j y m : ℕ) → j < K → RecordJoins lf rt j x y → m < h → st m ≡ y → disc y < disc x)
+    pub settled : (u j w : ℕ) → 0 < disc u → Scanned st nx h u j → j < K → RecordJoins lf rt j u w → (Parted j → Told j) ⊎ OnStack pr h j
     pub passed : (k : ℕ) → k < r → 0 < disc (lf k)
-    pub room : h + zeros disc R ≤ R
-    pub count : time + zeros disc R ≤ R
+    pub room : h + zeroCount disc R ≤ R
+    pub count : time + zeroCount disc R ≤ R

@@ -3,7 +3,7 @@ ghost use mathlib.Core.Path.{_≡_};
 ghost use Prim.Native.Nat.{_<_};
 ghost use lib.ListN.{length, set};
 ghost use Rattle.lists.specs.Rows.{at};
-ghost use Rattle.walk.specs.Slices.{Graph, Linked};
+ghost use Rattle.walk.specs.Slices.{Graph, IncidenceLists};
 use wire::size;
 
 // Puts record k before the chains of its two regions.
@@ -40,8 +40,9 @@ pub fn full_graph(
     right_nexts: &mut [u32],
 )
     requires { ⌜ Graph count (length (now heads)) (now lefts) (now rights)
-        × Linked count (length (now heads)) (now lefts) (now rights) (now heads) (now «left_nexts») (now «right_nexts») count ⌝ }
-    ensures { λ _. ⌜ Linked count (length (now (heads .entry))) (now (lefts .entry)) (now (rights .entry)) (now (heads .exit)) (now («left_nexts» .exit))
+        × IncidenceLists count (length (now heads)) (now lefts) (now rights) (now heads) (now «left_nexts») (now «right_nexts») count ⌝ }
+    ensures { λ _. ⌜ IncidenceLists count (length (now (heads .entry))) (now (lefts .entry)) (now (rights .entry)) (now (heads .exit))
+        (now («left_nexts» .exit))
         (now («right_nexts» .exit)) 0 ⌝ }
 {
     let mut k = count;

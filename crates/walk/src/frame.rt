@@ -3,7 +3,7 @@ ghost use mathlib.Core.Path.{_≡_};
 ghost use Prim.Native.Nat.{_<_, min};
 ghost use lib.ListN.{length};
 ghost use Rattle.lists.specs.Rows.{at};
-ghost use Rattle.walk.specs.Walk.{Joins, Touches};
+ghost use Rattle.walk.specs.Walk.{RecordJoins, RecordTouches};
 use wire::size;
 
 // A region on the walk's stack: the record by which it was entered, the next record to look at, and the earliest region known behind it.
@@ -85,8 +85,8 @@ pub fn opened(heads: &[u32], region: u32, parent: u32, time: u32) -> Frame
 
 // The region that the frame's next record joins with its own.
 pub fn other_end(lefts: &[u32], rights: &[u32], f: Frame) -> u32
-    requires { ⌜ (f .next < length (now lefts)) × (f .next < length (now rights)) × Touches (at (now lefts)) (at (now rights)) (f .next) (f .region) ⌝ }
-    ensures { λ r. ⌜ Joins (at (now (lefts .entry))) (at (now (rights .entry))) (f .next) (f .region) r ⌝ }
+    requires { ⌜ (f .next < length (now lefts)) × (f .next < length (now rights)) × RecordTouches (at (now lefts)) (at (now rights)) (f .next) (f .region) ⌝ }
+    ensures { λ r. ⌜ RecordJoins (at (now (lefts .entry))) (at (now (rights .entry))) (f .next) (f .region) r ⌝ }
 {
     let j = size(f.next);
     if lefts[j] == f.region {

@@ -5,7 +5,7 @@ ghost use lib.ListN.{length};
 ghost use Rattle.lists.specs.Rows.{at};
 ghost use Rattle.graph.specs.Records.{recordsIn};
 ghost use Rattle.walk.specs.Marks.{bridgeMarks};
-ghost use Rattle.walk.specs.Slices.{Graph, Owners, Sized, Linked, Between};
+ghost use Rattle.walk.specs.Slices.{Graph, Owners, Sized, IncidenceLists, Between};
 use crate::frame::after;
 use crate::frame::opened;
 use crate::frame::other_end;
@@ -36,7 +36,7 @@ fn walk(
     start: u32,
 ) -> u32
     requires { ⌜ Between count (length (now heads)) (now owners) (now lefts) (now rights) (now disc) (now stack) (now parents) (now nexts) (now lows)
-        (now marks) r start × Linked count (length (now heads)) (now lefts) (now rights) (now heads) (now «left_nexts») (now «right_nexts») 0
+        (now marks) r start × IncidenceLists count (length (now heads)) (now lefts) (now rights) (now heads) (now «left_nexts») (now «right_nexts») 0
         × (root < length (now heads)) × (at (now disc) root ≡ 0) × (root ≡ at (now lefts) r) ⌝ }
     ensures { λ t. ⌜ Between count (length (now (heads .entry))) (now (owners .entry)) (now (lefts .entry)) (now (rights .entry)) (now (disc .exit))
         (now (stack .exit)) (now (parents .exit)) (now (nexts .exit)) (now (lows .exit)) (now (marks .exit)) (r + 1) t ⌝ }
@@ -119,7 +119,7 @@ fn visit(
     time: u32,
 ) -> u32
     requires { ⌜ Between count (length (now heads)) (now owners) (now lefts) (now rights) (now disc) (now stack) (now parents) (now nexts) (now lows)
-        (now marks) r time × Linked count (length (now heads)) (now lefts) (now rights) (now heads) (now «left_nexts») (now «right_nexts») 0
+        (now marks) r time × IncidenceLists count (length (now heads)) (now lefts) (now rights) (now heads) (now «left_nexts») (now «right_nexts») 0
         × (r < count) ⌝ }
     ensures { λ t. ⌜ Between count (length (now (heads .entry))) (now (owners .entry)) (now (lefts .entry)) (now (rights .entry)) (now (disc .exit))
         (now (stack .exit)) (now (parents .exit)) (now (nexts .exit)) (now (lows .exit)) (now (marks .exit)) (r + 1) t ⌝ }
@@ -165,7 +165,7 @@ pub fn walk_all(
     marks: &mut [u8; 256],
 )
     requires { ⌜ Graph count (length (now heads)) (now lefts) (now rights) × Owners count (now owners) × (count ≤ length (now owners))
-        × Linked count (length (now heads)) (now lefts) (now rights) (now heads) (now «left_nexts») (now «right_nexts») 0
+        × IncidenceLists count (length (now heads)) (now lefts) (now rights) (now heads) (now «left_nexts») (now «right_nexts») 0
         × Sized (length (now heads)) (now disc) (now stack) (now parents) (now nexts) (now lows) × ((x : ℕ) → at (now disc) x ≡ 0) ⌝ }
     ensures { λ _. ⌜ now (marks .exit) ≡ bridgeMarks (recordsIn (now (owners .entry)) (now (lefts .entry)) (now (rights .entry)) count) 256 ⌝ }
 {

@@ -6,7 +6,7 @@ use borrow.Author.Needs.{needs}
 use Rattle.areas.specs.Words.{labelsIn}
 use Rattle.grid.specs.Cells.{Grid}
 use Rattle.links.specs.HeldLimits.{limitsOf}
-use Rattle.measures.specs.Judging.{Filled, Running, Judged}
+use Rattle.measures.specs.Judging.{EmptyLinks, Running, Judged}
 use Rattle.measures.proofs.Reading.{area}
 use Rattle.measures.proofs.Turns.{place-of, row-below, next-place, fill-start, fill-next, fill-end, pass-start, pass-end}
 use Rattle.measures.proofs.Turns.{turn-out, turn-on, turn-room, turn-in}
@@ -16,7 +16,7 @@ use Rattle.measures.proofs.measure_all.Tie as tie
 
 abbrev Inv-loop : tie.InvT-loop
 Inv-loop cells width height work regions firsts seconds links own bits limits passing flat inside n table₀ stats k₀ table k = (k ≤ links)
-    × Filled own bits firsts seconds k table
+    × EmptyLinks own bits firsts seconds k table
 
 abbrev μ-loop : tie.MeasureT-loop
 μ-loop cells width height work regions firsts seconds links own bits limits passing flat inside n table₀ stats k₀ table k = links - k

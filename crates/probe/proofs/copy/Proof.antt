@@ -7,12 +7,12 @@ use native.Mathlib.Omega.{arith}
 use borrow.Author.Tests.{lt-ltb, le-ltb}
 use lib.ListN.{length, getD, set, take, drop, length-set}
 use lib.Seq.{paste-suc, take-all}
-use Rattle.probe.specs.Probe.{copied}
+use Rattle.probe.specs.Probe.{putFirst}
 use borrow.Author.Needs.{needs}
 use Rattle.probe.proofs.copy.Statement.{statement}
 use Rattle.probe.proofs.copy.Tie as tie
 
--- The first k elements of xs are copied.
+-- The first k elements of xs are putFirst.
 record Started (d xs e : List ℕ) (k : ℕ) : Type 0 where
   below : k ≤ length xs
   begun : e ≡ take k xs ++ drop k d
@@ -28,8 +28,8 @@ started-next {d} {xs} {e} {k} a h l =
       same = length-set e k (getD xs k 0) ∙ a .same;
     }
 
-started-end : {d xs e : List ℕ} {k : ℕ} → Started d xs e k → length xs ≤ k → length xs ≤ length d → e ≡ copied d xs
-unfolding copied
+started-end : {d xs e : List ℕ} {k : ℕ} → Started d xs e k → length xs ≤ k → length xs ≤ length d → e ≡ putFirst d xs
+unfolding putFirst
 started-end {d} {xs} {e} {k} a h l =
     let z : k ≡ length xs = omega (arith, a .below) in
     a .begun ∙ ap (λ (j : ℕ). take j xs ++ drop j d) z ∙ rw (take-all (length xs) xs (omega arith), le-ltb _ _ l)
@@ -41,7 +41,7 @@ abbrev μ-loop : tie.MeasureT-loop
 μ-loop out₀ part n k₀ out k = length part - k
 
 returns : tie.Need-returns Inv-loop μ-loop
-unfolding copied
+unfolding putFirst
 returns c = (refl, sym (rw (lt-ltb _ _ (c .if1 .taken))))
 
 loop-holds : tie.Need-loop-holds Inv-loop μ-loop

@@ -2,7 +2,7 @@ use mathlib.Core.Path.{_∙_, ap}
 use mathlib.Core.List.{List}
 use Prim.Native.Nat.{ℕ}
 use lib.ListN.{length}
-use Rattle.probe.specs.Probe.{copied}
+use Rattle.probe.specs.Probe.{putFirst}
 use borrow.Author.Needs.{needs}
 use Rattle.probe.proofs.probe_span_ends.Statement.{statement}
 use Rattle.probe.proofs.probe_span_ends.Tie as tie
@@ -18,7 +18,7 @@ returns c =
     let start = start-of (after-span-ends .before .before) in (
       after-copy .copy .ensures .0 ∙ ap (λ (l : List ℕ). length l) (after-span-ends .span-ends .ensures .bytes-are),
       after-copy .copy .ensures .1
-          ∙ ap (copied (start .args .out .now)) (after-span-ends .span-ends .ensures .bytes-are),
+          ∙ ap (putFirst (start .args .out .now)) (after-span-ends .span-ends .ensures .bytes-are),
     )
 
 pub probe-span-ends-spec : {M : Type 1} → statement M

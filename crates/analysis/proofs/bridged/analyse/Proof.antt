@@ -17,9 +17,8 @@ returns c =
 
 mul-bridge-boundary-indices : tie.Need-mul-bridge-boundary-indices
 mul-bridge-boundary-indices c =
-    let start =
-    start-of
-    (c .before .before .before .before .before .before .before .before .before .before .before .before .before .before .before .before .before .before .before .before) in
+    let listed = c .before .before .before .before .before .before .before .before .before .before in
+    let start = start-of (listed .before .before .before .before .before .before .before .before .before .before) in
     let p = start .pre .0 in omega (arith, p .whole, mul-le-mul (p .sides .wide) (p .sides .high))
 
 bridge-boundary-indices-requires : tie.Need-bridge-boundary-indices-requires

@@ -6,14 +6,14 @@ use lib.ListN.{length}
 use Rattle.format.specs.Sizes.{boundarySize}
 use Rattle.format.specs.Records.{boundaryAt}
 use Rattle.format.specs.declared.records.BoundaryRecord.{BoundaryRecord}
-use Rattle.answer.specs.Ranked.{Ranked}
+use Rattle.answer.specs.Ranked.{RankKeys}
 use Rattle.answer.proofs.Ranked.{ranks-room, ranks-after, ranked-start, ranked-next, ranked-end}
 use Rattle.answer.proofs.ranking.rank_boundaries.Statement.{statement}
 use Rattle.answer.proofs.ranking.rank_boundaries.Tie as tie
 
 abbrev Inv-loop : tie.InvT-loop
 Inv-loop job at n base first₀ second₀ third₀ p₀ first second third p = (p ≤ n)
-    × Ranked (λ k. boundaryAt job (at + k * boundarySize) .ends) (λ k. boundaryAt job (at + k * boundarySize) .bits) base p first₀ second₀ third₀ first second
+    × RankKeys (λ k. boundaryAt job (at + k * boundarySize) .ends) (λ k. boundaryAt job (at + k * boundarySize) .bits) base p first₀ second₀ third₀ first second
     third
 
 abbrev μ-loop : tie.MeasureT-loop

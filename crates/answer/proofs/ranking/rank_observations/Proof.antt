@@ -6,14 +6,15 @@ use lib.ListN.{length}
 use Rattle.format.specs.Sizes.{observationSize}
 use Rattle.format.specs.Records.{observationAt}
 use Rattle.format.specs.declared.records.ObservationRecord.{ObservationRecord}
-use Rattle.answer.specs.Ranked.{Ranked}
+use Rattle.answer.specs.Ranked.{RankKeys}
 use Rattle.answer.proofs.Ranked.{ranks-room, ranks-after, ranked-start, ranked-next, ranked-end}
 use Rattle.answer.proofs.ranking.rank_observations.Statement.{statement}
 use Rattle.answer.proofs.ranking.rank_observations.Tie as tie
 
 abbrev Inv-loop : tie.InvT-loop
 Inv-loop job at n first₀ second₀ third₀ p₀ first second third p = (p ≤ n)
-    × Ranked (λ k. observationAt job (at + k * observationSize) .ends) (λ k. observationAt job (at + k * observationSize) .bits) 0 p first₀ second₀ third₀ first
+    × RankKeys (λ k. observationAt job (at + k * observationSize) .ends) (λ k. observationAt job (at + k * observationSize) .bits) 0 p first₀ second₀ third₀
+    first
     second third
 
 abbrev μ-loop : tie.MeasureT-loop

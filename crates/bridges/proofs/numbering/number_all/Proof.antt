@@ -1,7 +1,7 @@
 use mathlib.Core.Path.{_≡_, subst, refl}
 use native.Mathlib.Omega.{arith}
 use Prim.Native.Nat.{_-_, _≤_}
-use Rattle.bridges.specs.Names.{Numbered}
+use Rattle.bridges.specs.Names.{EndNumbers}
 use Rattle.bridges.proofs.Names.{unnumbered}
 use Rattle.bridges.proofs.numbering.number_all.Statement.{statement}
 use Rattle.bridges.proofs.numbering.number_all.Tie as tie
@@ -10,7 +10,7 @@ use lib.ListN.{length}
 abbrev Inv-loop : tie.InvT-loop
 Inv-loop lefts rights count regions work₀ base small-lefts₀ small-rights₀ k₀ work small-lefts small-rights k = (k ≤ count)
     × (length small-lefts ≡ length small-lefts₀) × (length small-rights ≡ length small-rights₀)
-    × Numbered count lefts rights regions base work₀ work small-lefts small-rights k
+    × EndNumbers count lefts rights regions base work₀ work small-lefts small-rights k
 
 abbrev μ-loop : tie.MeasureT-loop
 μ-loop lefts rights count regions work₀ base small-lefts₀ small-rights₀ k₀ work small-lefts small-rights k = count - k
@@ -59,7 +59,7 @@ returns : tie.Need-returns Inv-loop μ-loop
 returns c =
     let start = start-of (c .before .before) in
     let inv = c .before .loop .inv in
-    subst (Numbered _ _ _ _ _ _ _ _ _) (let z : c .before .loop .k ≡ start .args .count = omega (arith, inv .0, c .loop-test .left) in z) (inv .3)
+    subst (EndNumbers _ _ _ _ _ _ _ _ _) (let z : c .before .loop .k ≡ start .args .count = omega (arith, inv .0, c .loop-test .left) in z) (inv .3)
 
 pub number-all-spec : {M : Type 1} → statement M
 number-all-spec =

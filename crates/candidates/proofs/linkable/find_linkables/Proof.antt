@@ -2,7 +2,7 @@ use mathlib.Core.Path.{_≡_, _∙_}
 use native.Mathlib.Omega.{arith}
 use Prim.Native.Nat.{ℕ, _-_, _≤_}
 use lib.ListN.{length, length-set, length-replicate}
-use Rattle.candidates.specs.Linkable.{canLink, Marked}
+use Rattle.candidates.specs.Linkable.{canLink, Flags}
 use Rattle.candidates.proofs.StepLaws.{marked-next, marked-end}
 use borrow.Author.Needs.{needs}
 use Rattle.candidates.proofs.linkable.find_linkables.Statement.{statement}
@@ -10,7 +10,7 @@ use Rattle.candidates.proofs.linkable.find_linkables.Tie as tie
 
 abbrev Inv-loop : tie.InvT-loop
 Inv-loop n own ramps removed separated counts linkables₀ i₀ linkables i = (i ≤ n) × (length linkables ≡ 256)
-    × Marked (canLink own ramps removed separated counts) i linkables
+    × Flags (canLink own ramps removed separated counts) i linkables
 
 abbrev μ-loop : tie.MeasureT-loop
 μ-loop n own ramps removed separated counts linkables₀ i₀ linkables i = n - i

@@ -1,6 +1,6 @@
 use Rattle.encoding.proofs.Jobs.{Words, words-read, job-places, kept-is}
 use Rattle.encoding.proofs.Rooms.{place-room, gather-room, work-same, answered-same}
-use Rattle.answer.specs.Gathered.{Ordered}
+use Rattle.answer.specs.Gathered.{PlacesOrder}
 use Prim.Native.Nat.{ℕ}
 use mathlib.Core.Path.{sym, subst}
 use native.Mathlib.Omega.{arith}
@@ -43,9 +43,9 @@ words c =
     words-read (given c .args .job .now) (given c .pre .0 .passed) (given c .args .h) (given c .pre .0 .header) (three .before .before .size .ensures .0)
     (three .before .size2 .ensures .0) (c .before .before .size4 .ensures .0) (three .size3 .ensures .0) (c .before .size5 .ensures .0) (c .size6 .ensures .0)
 
-ordered : (c : tie.After-size6) → Ordered (given c .args .order .now) (c .before .before .before .before .size2 .result)
+ordered : (c : tie.After-size6) → PlacesOrder (given c .args .order .now) (c .before .before .before .before .size2 .result)
 ordered c =
-    subst (λ (k : ℕ). Ordered (given c .args .order .now) k) (sym (c .before .before .before .before .size2 .ensures .0)) (given c .pre .0 .ordered)
+    subst (λ (k : ℕ). PlacesOrder (given c .args .order .now) k) (sym (c .before .before .before .before .size2 .ensures .0)) (given c .pre .0 .ordered)
 
 place-all-requires : tie.Need-place-all-requires
 place-all-requires c κs =

@@ -1,7 +1,7 @@
 use Rattle.gathering.proofs.Goings.{runs-start, runs-next, weight-next, runs-end, own-long, into-part}
 use Rattle.order.specs.Lists.{gather}
-use Rattle.answer.specs.Laying.{below}
-use Rattle.gathering.specs.Runs.{Added, going, ownAt, ownWeight, into}
+use Rattle.answer.specs.Laying.{sumBelow}
+use Rattle.gathering.specs.Runs.{Appended, going, ownAt, ownWeight, into}
 use Prim.Native.Nat.{_+_, _-_, _≤_}
 use native.Mathlib.Omega.{arith}
 use borrow.Author.Needs.{needs}
@@ -10,8 +10,8 @@ use Rattle.gathering.proofs.own.add_owns.Tie as tie
 
 abbrev Inv-loop : tie.InvT-loop
 Inv-loop order plan n i base starts counts keys owned₀ from to₀ j₀ owned to j = (j ≤ n)
-    × Added owned₀ from (gather (ownAt base order starts counts keys) (going plan j i)) owned to
-    × (to ≤ from + below (into plan (ownWeight base order counts) i) j)
+    × Appended owned₀ from (gather (ownAt base order starts counts keys) (going plan j i)) owned to
+    × (to ≤ from + sumBelow (into plan (ownWeight base order counts) i) j)
 
 abbrev μ-loop : tie.MeasureT-loop
 μ-loop order plan n i base starts counts keys owned₀ from to₀ j₀ owned to j = n - j

@@ -1,5 +1,5 @@
 use Rattle.wire.specs.Bytes.{part}
-use Rattle.gathering.specs.Runs.{Added}
+use Rattle.gathering.specs.Runs.{Appended}
 use Rattle.gathering.proofs.Fills.{keys-start, keys-next, run-end}
 use mathlib.Core.Path.{refl}
 use Prim.Native.Nat.{_+_, _-_, _≤_}
@@ -9,7 +9,7 @@ use Rattle.gathering.proofs.runs.append_keys.Statement.{statement}
 use Rattle.gathering.proofs.runs.append_keys.Tie as tie
 
 abbrev Inv-loop : tie.InvT-loop
-Inv-loop keys a m owned₀ to k₀ owned k = (k ≤ m) × Added owned₀ to (part keys a k) owned (to + k)
+Inv-loop keys a m owned₀ to k₀ owned k = (k ≤ m) × Appended owned₀ to (part keys a k) owned (to + k)
 
 abbrev μ-loop : tie.MeasureT-loop
 μ-loop keys a m owned₀ to k₀ owned k = m - k

@@ -1,5 +1,5 @@
 use Rattle.order.specs.Lists.{upFrom}
-use Rattle.gathering.specs.Runs.{Added}
+use Rattle.gathering.specs.Runs.{Appended}
 use Rattle.gathering.proofs.Fills.{places-start, places-next, run-end}
 use mathlib.Core.Path.{refl}
 use Prim.Native.Nat.{_+_, _-_, _≤_}
@@ -9,7 +9,7 @@ use Rattle.gathering.proofs.runs.append_places.Statement.{statement}
 use Rattle.gathering.proofs.runs.append_places.Tie as tie
 
 abbrev Inv-loop : tie.InvT-loop
-Inv-loop p m seen₀ to k₀ seen k = (k ≤ m) × Added seen₀ to (upFrom p k) seen (to + k)
+Inv-loop p m seen₀ to k₀ seen k = (k ≤ m) × Appended seen₀ to (upFrom p k) seen (to + k)
 
 abbrev μ-loop : tie.MeasureT-loop
 μ-loop p m seen₀ to k₀ seen k = m - k

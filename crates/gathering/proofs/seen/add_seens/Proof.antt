@@ -1,7 +1,7 @@
 use Rattle.gathering.proofs.Sights.{places-long}
 use Rattle.order.specs.Lists.{gather}
-use Rattle.answer.specs.Laying.{below, seenCount}
-use Rattle.gathering.specs.Runs.{Added, going, placesAt, seenWeight, into}
+use Rattle.answer.specs.Laying.{sumBelow, seenCount}
+use Rattle.gathering.specs.Runs.{Appended, going, placesAt, seenWeight, into}
 use Rattle.gathering.proofs.Goings.{runs-start, runs-next, weight-next, runs-end, into-part}
 use Prim.Native.Nat.{_+_, _-_, _≤_}
 use native.Mathlib.Omega.{arith}
@@ -11,8 +11,8 @@ use Rattle.gathering.proofs.seen.add_seens.Tie as tie
 
 abbrev Inv-loop : tie.InvT-loop
 Inv-loop job at order plan n i base firsts among seen₀ from to₀ j₀ seen to j = (j ≤ n)
-    × Added seen₀ from (gather (placesAt base order firsts (seenCount job at) among) (going plan j i)) seen to
-    × (to ≤ from + below (into plan (seenWeight order (seenCount job at)) i) j)
+    × Appended seen₀ from (gather (placesAt base order firsts (seenCount job at) among) (going plan j i)) seen to
+    × (to ≤ from + sumBelow (into plan (seenWeight order (seenCount job at)) i) j)
 
 abbrev μ-loop : tie.MeasureT-loop
 μ-loop job at order plan n i base firsts among seen₀ from to₀ j₀ seen to j = n - j

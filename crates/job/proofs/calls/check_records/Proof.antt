@@ -2,7 +2,7 @@ use mathlib.Core.Path.{_≡_, sym, _∙_, ap}
 use mathlib.Core.List.{List, _∷_, _++_}
 use Prim.Native.Nat.{ℕ}
 use native.Mathlib.Omega.{arith}
-use Rattle.format.specs.Header.{cellCount, basesStart, boundariesStart}
+use Rattle.format.specs.Header.{mapCells, basesStart, boundariesStart}
 use Rattle.format.specs.declared.header.Counts.{Counts}
 use Rattle.checks.specs.Checks.{Check, check, firstRefusal, each}
 use Rattle.checks.specs.Single.{cellCheck, baseCheck, sumsFault, rampCheck, widthCheck}
@@ -18,7 +18,7 @@ use Rattle.job.proofs.calls.check_records.Tie as tie
 -- the five checks, and what follows each
 module _ (s : List ℕ) (c : Counts) where
   abbrev cells : List Check
-  cells = each (cellCount c) (cellCheck s)
+  cells = each (mapCells c) (cellCheck s)
 
   abbrev bases : List Check
   bases = each (c .bases) (baseCheck s (c .width) (c .height) (basesStart c))

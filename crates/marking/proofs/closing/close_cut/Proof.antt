@@ -11,14 +11,14 @@ use Rattle.areas.specs.declared.candidates.CellRange.{CellRange}
 use Rattle.grid.specs.Cells.{Grid, size}
 use Rattle.position.specs.declared.Span.{Span}
 use Rattle.marking.proofs.Halves.{sides-of, half-start, half-end, before-axis, past-axis, limit-small}
-use Rattle.marking.specs.Marks.{MapOf, Held, Half}
+use Rattle.marking.specs.Marks.{MapOf, WorkHolds, Half}
 use borrow.Author.Needs.{needs}
 use Rattle.marking.proofs.closing.close_cut.Statement.{statement}
 use Rattle.marking.proofs.closing.close_cut.Tie as tie
 
 abbrev Inv-loop : tie.InvT-loop
 Inv-loop span width height work₀ base last c₀ work c = (c₀ ≤ c) × (length work ≡ length work₀)
-    × ((g : Grid) (dirs : List ℕ) (ss : List Span) (before : List ℕ) → MapOf width height g → Held base (size g) (openByte dirs g ss) before work₀
+    × ((g : Grid) (dirs : List ℕ) (ss : List Span) (before : List ℕ) → MapOf width height g → WorkHolds base (size g) (openByte dirs g ss) before work₀
     → Half base g dirs ss span (c * 1024) before work)
 
 abbrev μ-loop : tie.MeasureT-loop

@@ -8,15 +8,15 @@ use Rattle.grid.proofs.Reach.{gridOf}
 use Rattle.grid.specs.Directions.{directionsOf}
 use Rattle.marking.proofs.Filled.{held-next, held-count}
 use Rattle.marking.proofs.Halves.{place-in}
-use Rattle.marking.specs.Marks.{Held}
+use Rattle.marking.specs.Marks.{WorkHolds}
 use borrow.Author.Needs.{needs}
 use Rattle.marking.proofs.opening.open_row.Statement.{statement}
 use Rattle.marking.proofs.opening.open_row.Tie as tie
 
 abbrev Inv-loop : tie.InvT-loop
 Inv-loop cells width height directions y work₀ base x₀ work x = (x ≤ width) × (length work ≡ length work₀)
-    × ((before : List ℕ) → Held base (y * width) (openByte (directionsOf directions) (gridOf width height cells) []) before work₀
-    → Held base (y * width + x) (openByte (directionsOf directions) (gridOf width height cells) []) before work)
+    × ((before : List ℕ) → WorkHolds base (y * width) (openByte (directionsOf directions) (gridOf width height cells) []) before work₀
+    → WorkHolds base (y * width + x) (openByte (directionsOf directions) (gridOf width height cells) []) before work)
 
 abbrev μ-loop : tie.MeasureT-loop
 μ-loop cells width height directions y work₀ base x₀ work x = width - x
@@ -60,7 +60,7 @@ loop-again c =
       omega arith,
       length-set work (c .before .byte-of .result) v ∙ same,
       λ b h.
-          subst (λ (k : ℕ). Held (start .args .base) (y * w + (x + 1)) f b (set work k v)) (sym (c .before .byte-of .ensures))
+          subst (λ (k : ℕ). WorkHolds (start .args .base) (y * w + (x + 1)) f b (set work k v)) (sym (c .before .byte-of .ensures))
           (held-count (y * w + (x + 1)) (omega arith) (held-next v (omega arith) (c .open-byte .ensures) (inv .2 b h))),
     )
 

@@ -8,14 +8,14 @@ use Rattle.areas.specs.Open.{openByte}
 use Rattle.grid.proofs.Reach.{gridOf}
 use Rattle.grid.specs.Directions.{directionsOf}
 use Rattle.marking.proofs.Filled.{held-none, held-count, held-splice}
-use Rattle.marking.specs.Marks.{Held}
+use Rattle.marking.specs.Marks.{WorkHolds}
 use borrow.Author.Needs.{needs}
 use Rattle.marking.proofs.opening.open_steps.Statement.{statement}
 use Rattle.marking.proofs.opening.open_steps.Tie as tie
 
 abbrev Inv-loop : tie.InvT-loop
 Inv-loop cells width height directions work₀ base y₀ work y = (y ≤ height) × (length work ≡ length work₀)
-    × Held base (y * width) (openByte (directionsOf directions) (gridOf width height cells) []) work₀ work
+    × WorkHolds base (y * width) (openByte (directionsOf directions) (gridOf width height cells) []) work₀ work
 
 abbrev μ-loop : tie.MeasureT-loop
 μ-loop cells width height directions work₀ base y₀ work y = height - y

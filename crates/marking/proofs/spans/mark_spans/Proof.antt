@@ -9,15 +9,15 @@ use Rattle.grid.proofs.Reach.{gridOf}
 use Rattle.grid.specs.Directions.{directionsOf}
 use Rattle.marking.proofs.Filled.{splice-held, held-splice}
 use Rattle.marking.proofs.Listed.{spans-none, spans-last, held-as}
-use Rattle.marking.specs.Marks.{Held}
+use Rattle.marking.specs.Marks.{WorkHolds}
 use borrow.Author.Needs.{needs}
 use Rattle.marking.proofs.spans.mark_spans.Statement.{statement}
 use Rattle.marking.proofs.spans.mark_spans.Tie as tie
 
 abbrev Inv-loop : tie.InvT-loop
 Inv-loop cells width height directions ends count work₀ base k₀ work k = (k ≤ count) × (length work ≡ length work₀)
-    × ((before : List ℕ) → Held base (length cells) (openByte (directionsOf directions) (gridOf width height cells) []) before work₀
-    → Held base (length cells) (openByte (directionsOf directions) (gridOf width height cells) (spansIn ends k)) before work)
+    × ((before : List ℕ) → WorkHolds base (length cells) (openByte (directionsOf directions) (gridOf width height cells) []) before work₀
+    → WorkHolds base (length cells) (openByte (directionsOf directions) (gridOf width height cells) (spansIn ends k)) before work)
 
 abbrev μ-loop : tie.MeasureT-loop
 μ-loop cells width height directions ends count work₀ base k₀ work k = count - k
@@ -79,7 +79,7 @@ returns c =
     let n = length cs in
     let room : base + n ≤ length entry = omega (arith, start .pre .1, start .pre .2) in
     let e : c .before .loop .k ≡ start .args .count = omega (arith, inv .0, c .loop-test .left) in
-    let opened = subst (λ (l : List ℕ). Held base n (openByte dirs g []) entry l) (sym (after-open-steps .open-steps .ensures))
+    let opened = subst (λ (l : List ℕ). WorkHolds base n (openByte dirs g []) entry l) (sym (after-open-steps .open-steps .ensures))
     (splice-held entry base n (openByte dirs g []) room) in
     held-splice entry base n (openByte dirs g (spansIn ends (start .args .count))) room (held-as dirs g (ap (spansIn ends) e) (inv .2 entry opened))
 

@@ -1,5 +1,5 @@
 use Rattle.links.specs.HeldLimits.{limitsOf}
-use Rattle.plan.specs.Few.{listed}
+use Rattle.plan.specs.Few.{fewList}
 use Rattle.plan.proofs.AcceptLaws.{flat-no, flat-yes}
 use borrow.Author.Needs.{needs}
 use Rattle.plan.proofs.accept.accepts_flat.Statement.{statement}
@@ -12,14 +12,14 @@ returns : tie.Need-returns
 returns c =
     let a = c .before .before .args in
     flat-no (limitsOf (a .limits)) (a .own .now) (a .lowers .now) (a .highers .now) (a .regions .now) (a .firsts .now) (a .seconds .now)
-    (listed (a .ranks)) (listed (a .links)) (c .before .group-is-simple-path .ensures) (c .if1 .taken)
+    (fewList (a .ranks)) (fewList (a .links)) (c .before .group-is-simple-path .ensures) (c .if1 .taken)
 
 returns-2 : tie.Need-returns-2
 returns-2 c =
     let path = c .before .before in
     let a = path .before .args in
     flat-yes (limitsOf (a .limits)) (a .own .now) (a .lowers .now) (a .highers .now) (a .regions .now) (a .firsts .now) (a .seconds .now)
-    (listed (a .ranks)) (listed (a .links)) (path .group-is-simple-path .ensures) (c .before .if1 .left) (c .all-alike .ensures)
+    (fewList (a .ranks)) (fewList (a .links)) (path .group-is-simple-path .ensures) (c .before .if1 .left) (c .all-alike .ensures)
 
 pub accepts-flat-spec : {M : Type 1} → statement M
 accepts-flat-spec = tie.close (tie.spec group-is-simple-path-requires returns (λ c κs. search needs) returns-2)

@@ -5,7 +5,7 @@ use Rattle.areas.specs.Spans.{spanIn}
 use Rattle.links.specs.Geometry.{centreDistance}
 use Rattle.links.specs.HeldLimits.{limitsOf}
 use Rattle.plan.specs.Fitting.{RankFits}
-use Rattle.plan.specs.Few.{slot, listed}
+use Rattle.plan.specs.Few.{fewAt, fewList}
 use Rattle.plan.proofs.ShapeLaws.{listed-length, held-first, held-second}
 use Rattle.plan.proofs.ValueLaws.{both}
 use Rattle.plan.proofs.AcceptLaws.{ends-slots, path-sizes, serial-no, serial-path, serial-yes}
@@ -21,18 +21,18 @@ abbrev path-of : tie.After-group-end-nodes → tie.After-group-is-simple-path
 path-of c = c .before .before
 
 -- both ends are ranks that fit
-ends-fit : (c : tie.After-group-end-nodes) (j : ℕ) → RankFits (asked (path-of c) .args .own .now) (slot (c .group-end-nodes .result) j)
+ends-fit : (c : tie.After-group-end-nodes) (j : ℕ) → RankFits (asked (path-of c) .args .own .now) (fewAt (c .group-end-nodes .result) j)
 ends-fit c =
     let start = asked (path-of c) in
     let a = start .args in
-    ends-slots (RankFits (a .own .now)) (a .firsts .now) (a .seconds .now) (listed (a .links)) (a .ranks) (c .group-end-nodes .ensures) (start .pre .3)
+    ends-slots (RankFits (a .own .now)) (a .firsts .now) (a .seconds .now) (fewList (a .links)) (a .ranks) (c .group-end-nodes .ensures) (start .pre .3)
     (start .pre .5)
 
 returns : tie.Need-returns
 returns c =
     let a = asked (c .before) .args in
     serial-no (limitsOf (a .limits)) (a .own .now) (a .lowers .now) (a .highers .now) (a .regions .now) (a .firsts .now) (a .seconds .now) (a .passing .now)
-    (listed (a .ranks)) (listed (a .links)) (c .before .before .all-on .ensures) (c .before .group-is-simple-path .ensures) (c .if1 .taken)
+    (fewList (a .ranks)) (fewList (a .links)) (c .before .before .all-on .ensures) (c .before .group-is-simple-path .ensures) (c .if1 .taken)
 
 chain-sum-requires : tie.Need-chain-sum-requires
 chain-sum-requires c κs =
@@ -42,11 +42,11 @@ chain-sum-requires c κs =
     let l = limitsOf (a .limits) in
     let so =
     serial-path l (a .own .now) (a .lowers .now) (a .highers .now) (a .regions .now) (a .firsts .now) (a .seconds .now) (path .before .all-on .result)
-    (listed (a .ranks)) (listed (a .links)) (path .group-is-simple-path .ensures) (c .before .if1 .left)
+    (fewList (a .ranks)) (fewList (a .links)) (path .group-is-simple-path .ensures) (c .before .if1 .left)
     in
     let s =
-    path-sizes (a .lowers .now) (a .highers .now) (a .regions .now) (a .firsts .now) (a .seconds .now) (l .leastSpans) (l .mostSpans) (listed (a .ranks))
-    (listed (a .links)) so
+    path-sizes (a .lowers .now) (a .highers .now) (a .regions .now) (a .firsts .now) (a .seconds .now) (l .leastSpans) (l .mostSpans) (fewList (a .ranks))
+    (fewList (a .links)) so
     in
     (omega (arith, s .0, s .2, listed-length (a .links)), omega (arith, s .1, s .2, start .pre .0, listed-length (a .links)), start .pre .4)
 
@@ -65,7 +65,7 @@ returns-2 c =
     let path = path-of two in
     let a = asked path .args in
     serial-yes (limitsOf (a .limits)) (a .own .now) (a .lowers .now) (a .highers .now) (a .regions .now) (a .firsts .now) (a .seconds .now) (a .passing .now)
-    (listed (a .ranks)) (listed (a .links)) (path .before .all-on .ensures) (path .group-is-simple-path .ensures) (two .before .if1 .left) (c .short .ensures)
+    (fewList (a .ranks)) (fewList (a .links)) (path .before .all-on .ensures) (path .group-is-simple-path .ensures) (two .before .if1 .left) (c .short .ensures)
     (sum .chain-sum .ensures)
     (c .before .rank-distance .ensures
     ∙ both (λ (i j : ℕ). centreDistance (spanIn (a .own .now) i) (spanIn (a .own .now) j))

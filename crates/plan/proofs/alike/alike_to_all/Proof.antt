@@ -6,19 +6,23 @@ use mathlib.Core.Path.{subst}
 use Rattle.links.specs.HeldLimits.{limitsOf}
 use Rattle.plan.specs.Shape.{alikeIn}
 use Rattle.plan.specs.Fitting.{RankFits}
-use Rattle.plan.specs.Few.{slot}
+use Rattle.plan.specs.Few.{fewAt}
 use Rattle.plan.proofs.ShapeLaws.{Each, each-start, each-next, each-listed}
 use Rattle.plan.proofs.alike.alike_to_all.Statement.{statement}
 use Rattle.plan.proofs.alike.alike_to_all.Tie as tie
 
 abbrev Inv-loop : tie.InvT-loop
-Inv-loop limits own i ranks all₀ j₀ all j = (j ≤ ranks .count) × Each (alikeIn (limitsOf limits) own i) (slot ranks) (ranks .count) j all
+Inv-loop limits own i ranks all₀ j₀ all j = (j ≤ ranks .count) × Each (alikeIn (limitsOf limits) own i) (fewAt ranks) (ranks .count) j all
 
 abbrev μ-loop : tie.MeasureT-loop
 μ-loop limits own i ranks all₀ j₀ all j = j
 
 loop-holds : tie.Need-loop-holds Inv-loop μ-loop
-loop-holds c = (omega arith, each-start (alikeIn (limitsOf (c .args .limits)) (c .args .own .now) (c .args .i)) (slot (c .args .ranks)) (c .args .ranks .count))
+loop-holds c = (
+  omega arith,
+  each-start (alikeIn (limitsOf (c .args .limits)) (c .args .own .now) (c .args .i)) (fewAt (c .args .ranks))
+      (c .args .ranks .count),
+)
 
 alike-requires : tie.Need-alike-requires Inv-loop μ-loop
 alike-requires c κs =
@@ -36,7 +40,7 @@ loop-again c =
     let ranks = start .args .ranks in
     let i = start .args .i in (
       omega (arith, at-loop .loop .inv .0),
-      each-next (alikeIn (limitsOf limits) own i) (slot ranks) (ranks .count) (c .alike .result) (at-loop .loop .inv .1) (turning .loop-test .taken)
+      each-next (alikeIn (limitsOf limits) own i) (fewAt ranks) (ranks .count) (c .alike .result) (at-loop .loop .inv .1) (turning .loop-test .taken)
           (at-loop .loop .inv .0) (c .alike .ensures ∙ ap (alikeIn (limitsOf limits) own i) (c .before .index .ensures .0)) refl,
     )
 

@@ -7,7 +7,7 @@ use Rattle.links.specs.HeldLimits.{limitsOf}
 use Rattle.groups.specs.Tests.{every}
 use Rattle.plan.specs.Shape.{alikeIn}
 use Rattle.plan.specs.Fitting.{RankFits}
-use Rattle.plan.specs.Few.{slot, listed}
+use Rattle.plan.specs.Few.{fewAt, fewList}
 use Rattle.plan.proofs.ShapeLaws.{Each, each-start, each-next}
 use Rattle.plan.proofs.ValueLaws.{all-alike-whole}
 use Rattle.plan.proofs.alike.all_alike.Statement.{statement}
@@ -15,7 +15,7 @@ use Rattle.plan.proofs.alike.all_alike.Tie as tie
 
 abbrev Inv-loop : tie.InvT-loop
 Inv-loop limits own ranks all₀ j₀ all j =
-    (j ≤ ranks .count) × Each (λ i. every (alikeIn (limitsOf limits) own i) (listed ranks)) (slot ranks) (ranks .count) j all
+    (j ≤ ranks .count) × Each (λ i. every (alikeIn (limitsOf limits) own i) (fewList ranks)) (fewAt ranks) (ranks .count) j all
 
 abbrev μ-loop : tie.MeasureT-loop
 μ-loop limits own ranks all₀ j₀ all j = j
@@ -23,7 +23,7 @@ abbrev μ-loop : tie.MeasureT-loop
 loop-holds : tie.Need-loop-holds Inv-loop μ-loop
 loop-holds c =
     let ranks = c .args .ranks in
-    (omega arith, each-start (λ i. every (alikeIn (limitsOf (c .args .limits)) (c .args .own .now) i) (listed ranks)) (slot ranks) (ranks .count))
+    (omega arith, each-start (λ i. every (alikeIn (limitsOf (c .args .limits)) (c .args .own .now) i) (fewList ranks)) (fewAt ranks) (ranks .count))
 
 alike-to-all-requires : tie.Need-alike-to-all-requires Inv-loop μ-loop
 alike-to-all-requires c κs =
@@ -40,9 +40,9 @@ loop-again c =
     let limits = start .args .limits in
     let ranks = start .args .ranks in (
       omega (arith, at-loop .loop .inv .0),
-      each-next (λ i. every (alikeIn (limitsOf limits) own i) (listed ranks)) (slot ranks) (ranks .count) (c .alike-to-all .result) (at-loop .loop .inv .1)
+      each-next (λ i. every (alikeIn (limitsOf limits) own i) (fewList ranks)) (fewAt ranks) (ranks .count) (c .alike-to-all .result) (at-loop .loop .inv .1)
           (turning .loop-test .taken) (at-loop .loop .inv .0)
-          (c .alike-to-all .ensures ∙ ap (λ i. every (alikeIn (limitsOf limits) own i) (listed ranks)) (c .before .index .ensures .0)) refl,
+          (c .alike-to-all .ensures ∙ ap (λ i. every (alikeIn (limitsOf limits) own i) (fewList ranks)) (c .before .index .ensures .0)) refl,
     )
 
 returns : tie.Need-returns Inv-loop μ-loop

@@ -3,7 +3,7 @@ use Prim.Native.Nat.{_-_, _≤_}
 use native.Mathlib.Omega.{arith}
 use borrow.Author.Needs.{needs}
 use lib.Ieee.{binary64, toBits}
-use Rattle.plan.specs.Few.{slot}
+use Rattle.plan.specs.Few.{fewAt}
 use Rattle.plan.specs.Fitting.{LinkFits}
 use Rattle.plan.specs.Shape.{gapIn}
 use Rattle.plan.proofs.ValueLaws.{gap-number}
@@ -12,7 +12,7 @@ use Rattle.plan.proofs.chain.fill_gaps.Statement.{statement}
 use Rattle.plan.proofs.chain.fill_gaps.Tie as tie
 
 abbrev Inv-loop : tie.InvT-loop
-Inv-loop own firsts seconds links gaps₀ j₀ gaps j = (j ≤ links .count) × Written (gapIn firsts seconds own) (slot links) j gaps
+Inv-loop own firsts seconds links gaps₀ j₀ gaps j = (j ≤ links .count) × Written (gapIn firsts seconds own) (fewAt links) j gaps
 
 abbrev μ-loop : tie.MeasureT-loop
 μ-loop own firsts seconds links gaps₀ j₀ gaps j = links .count - j
@@ -20,7 +20,7 @@ abbrev μ-loop : tie.MeasureT-loop
 loop-holds : tie.Need-loop-holds Inv-loop μ-loop
 loop-holds c =
     let start = c .args in
-    (omega arith, written-start (gapIn (start .firsts .now) (start .seconds .now) (start .own .now)) (slot (start .links)) (c .pre .2))
+    (omega arith, written-start (gapIn (start .firsts .now) (start .seconds .now) (start .own .now)) (fewAt (start .links)) (c .pre .2))
 
 index-requires : tie.Need-index-requires Inv-loop μ-loop
 index-requires c κs =
@@ -53,7 +53,7 @@ loop-again c =
     let start = at-loop .before in
     let gap = gapIn (start .args .firsts .now) (start .args .seconds .now) (start .args .own .now) in (
       omega (arith, at-size .before .if1 .taken),
-      written-next gap (slot (start .args .links)) (at-loop .loop .inv .1) (omega (arith, at-size .before .if1 .taken, start .pre .0))
+      written-next gap (fewAt (start .args .links)) (at-loop .loop .inv .1) (omega (arith, at-size .before .if1 .taken, start .pre .0))
           (at-size .size .ensures .0)
           (ap (toBits binary64) (c .gap .ensures ∙ ap gap (c .before .index .ensures .0))),
     )

@@ -5,13 +5,13 @@ use native.Mathlib.Omega.{arith}
 use lib.Dec.{eqb}
 use lib.ListN.{getD}
 use borrow.Author.Needs.{needs}
-use Rattle.plan.specs.Arrays.{linkIn}
+use Rattle.plan.specs.Arrays.{linkInPart}
 use Rattle.plan.proofs.FewLaws.{Picked, picked-start, picked-room, picked-next, picked-whole}
 use Rattle.plan.proofs.gather.links_of.Statement.{statement}
 use Rattle.plan.proofs.gather.links_of.Tie as tie
 
 abbrev Inv-loop : tie.InvT-loop
-Inv-loop links chosen firsts seconds parts c found₀ k₀ found k = (k ≤ links) × Picked (linkIn chosen firsts parts c) (λ j. j) links k found
+Inv-loop links chosen firsts seconds parts c found₀ k₀ found k = (k ≤ links) × Picked (linkInPart chosen firsts parts c) (λ j. j) links k found
 
 abbrev μ-loop : tie.MeasureT-loop
 μ-loop links chosen firsts seconds parts c found₀ k₀ found k = k

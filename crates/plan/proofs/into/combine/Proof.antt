@@ -2,14 +2,14 @@ use Prim.Native.Nat.{_-_, _≤_}
 use native.Mathlib.Omega.{arith}
 use borrow.Author.Needs.{needs}
 use Rattle.lists.specs.Rows.{at}
-use Rattle.plan.specs.Arrays.{Filled}
+use Rattle.plan.specs.Arrays.{FirstAre}
 use Rattle.plan.specs.Into.{goesTo}
 use Rattle.plan.proofs.ArrayLaws.{filled-none, filled-next, filled-upto}
 use Rattle.plan.proofs.into.combine.Statement.{statement}
 use Rattle.plan.proofs.into.combine.Tie as tie
 
 abbrev Inv-loop : tie.InvT-loop
-Inv-loop n serial flat plan₀ i₀ plan i = (i ≤ n) × Filled (λ j. goesTo (at serial j) (at flat j) j) i plan
+Inv-loop n serial flat plan₀ i₀ plan i = (i ≤ n) × FirstAre (λ j. goesTo (at serial j) (at flat j) j) i plan
 
 abbrev μ-loop : tie.MeasureT-loop
 μ-loop n serial flat plan₀ i₀ plan i = n - i

@@ -1,13 +1,13 @@
 use Prim.Native.Nat.{_-_, _≤_, _<_}
 use native.Mathlib.Omega.{arith}
 use borrow.Author.Needs.{needs}
-use Rattle.plan.specs.Arrays.{partFrom, Filled}
+use Rattle.plan.specs.Arrays.{partFrom, FirstAre}
 use Rattle.plan.proofs.ArrayLaws.{parts-start, parts-next, parts-end}
 use Rattle.plan.proofs.parts.connected_link_groups.Statement.{statement}
 use Rattle.plan.proofs.parts.connected_link_groups.Tie as tie
 
 abbrev Inv-loop : tie.InvT-loop
-Inv-loop chosen firsts seconds links parts₀ k₀ parts k = (k ≤ links) × Filled (partFrom chosen firsts seconds k (links - k)) 256 parts
+Inv-loop chosen firsts seconds links parts₀ k₀ parts k = (k ≤ links) × FirstAre (partFrom chosen firsts seconds k (links - k)) 256 parts
 
 abbrev μ-loop : tie.MeasureT-loop
 μ-loop chosen firsts seconds links parts₀ k₀ parts k = k

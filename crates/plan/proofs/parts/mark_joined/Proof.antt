@@ -2,14 +2,14 @@ use mathlib.Core.Bool.{cond}
 use Prim.Native.Nat.{_-_, _≤_, _<_}
 use native.Mathlib.Omega.{arith}
 use borrow.Author.Needs.{needs}
-use Rattle.plan.specs.Arrays.{joinedFrom, Filled}
+use Rattle.plan.specs.Arrays.{joinedFrom, FirstAre}
 use Rattle.plan.proofs.ArrayLaws.{marks-start, marks-next, marks-end}
 use Rattle.plan.proofs.parts.mark_joined.Statement.{statement}
 use Rattle.plan.proofs.parts.mark_joined.Tie as tie
 
 abbrev Inv-loop : tie.InvT-loop
 Inv-loop chosen firsts seconds links joined₀ k₀ joined k =
-    (k ≤ links) × Filled (λ i. cond (joinedFrom chosen firsts seconds k (links - k) i) 1 0) 256 joined
+    (k ≤ links) × FirstAre (λ i. cond (joinedFrom chosen firsts seconds k (links - k) i) 1 0) 256 joined
 
 abbrev μ-loop : tie.MeasureT-loop
 μ-loop chosen firsts seconds links joined₀ k₀ joined k = k

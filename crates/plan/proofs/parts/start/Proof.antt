@@ -1,13 +1,13 @@
 use mathlib.Core.Path.{refl}
 use Prim.Native.Nat.{_-_}
 use borrow.Author.Needs.{needs}
-use Rattle.plan.specs.Arrays.{Filled}
+use Rattle.plan.specs.Arrays.{FirstAre}
 use Rattle.plan.proofs.ArrayLaws.{filled-none, filled-next, filled-all}
 use Rattle.plan.proofs.parts.start.Statement.{statement}
 use Rattle.plan.proofs.parts.start.Tie as tie
 
 abbrev Inv-loop : tie.InvT-loop
-Inv-loop parts₀ i₀ parts i = Filled (λ j. j) i parts
+Inv-loop parts₀ i₀ parts i = FirstAre (λ j. j) i parts
 
 abbrev μ-loop : tie.MeasureT-loop
 μ-loop parts₀ i₀ parts i = 256 - i

@@ -3,19 +3,19 @@ use Prim.Native.Nat.{_-_, _≤_}
 use native.Mathlib.Omega.{arith}
 use borrow.Author.Needs.{needs}
 use Rattle.plan.specs.Arrays.{isOn}
-use Rattle.plan.specs.Few.{slot}
+use Rattle.plan.specs.Few.{fewAt}
 use Rattle.plan.proofs.ShapeLaws.{Each, each-start, each-next, each-listed}
 use Rattle.plan.proofs.path.all_on.Statement.{statement}
 use Rattle.plan.proofs.path.all_on.Tie as tie
 
 abbrev Inv-loop : tie.InvT-loop
-Inv-loop marks links all₀ j₀ all j = (j ≤ links .count) × Each (isOn marks) (slot links) (links .count) j all
+Inv-loop marks links all₀ j₀ all j = (j ≤ links .count) × Each (isOn marks) (fewAt links) (links .count) j all
 
 abbrev μ-loop : tie.MeasureT-loop
 μ-loop marks links all₀ j₀ all j = j
 
 loop-holds : tie.Need-loop-holds Inv-loop μ-loop
-loop-holds c = (omega arith, each-start (isOn (c .args .marks .now)) (slot (c .args .links)) (c .args .links .count))
+loop-holds c = (omega arith, each-start (isOn (c .args .marks .now)) (fewAt (c .args .links)) (c .args .links .count))
 
 loop-again : tie.Need-loop-again Inv-loop μ-loop
 loop-again c =
@@ -25,7 +25,7 @@ loop-again c =
     let marks = start .args .marks .now in
     let links = start .args .links in (
       omega (arith, at-loop .loop .inv .0),
-      each-next (isOn marks) (slot links) (links .count) (isOn marks (c .before .index .result)) (at-loop .loop .inv .1) (turning .loop-test .taken)
+      each-next (isOn marks) (fewAt links) (links .count) (isOn marks (c .before .index .result)) (at-loop .loop .inv .1) (turning .loop-test .taken)
           (at-loop .loop .inv .0) (ap (isOn marks) (c .before .index .ensures .0)) refl,
     )
 

@@ -5,7 +5,7 @@ use lib.Dec.{eqb}
 use borrow.Author.Needs.{needs}
 use Rattle.plan.specs.Shape.{degreeIn}
 use Rattle.plan.specs.declared.path.Near.{Near}
-use Rattle.plan.specs.Few.{slot, listed}
+use Rattle.plan.specs.Few.{fewAt, fewList}
 use Rattle.plan.proofs.FewLaws.{Picked, picked-start, picked-room, picked-next}
 use Rattle.plan.proofs.ValueLaws.{ends-whole}
 use Rattle.plan.proofs.path.group_end_nodes.Statement.{statement}
@@ -13,7 +13,7 @@ use Rattle.plan.proofs.path.group_end_nodes.Tie as tie
 
 abbrev Inv-loop : tie.InvT-loop
 Inv-loop firsts seconds ranks links found₀ j₀ found j =
-    (j ≤ ranks .count) × Picked (λ (i : ℕ). eqb (degreeIn firsts seconds (listed links) i) 1) (slot ranks) (ranks .count) j found
+    (j ≤ ranks .count) × Picked (λ (i : ℕ). eqb (degreeIn firsts seconds (fewList links) i) 1) (fewAt ranks) (ranks .count) j found
 
 abbrev μ-loop : tie.MeasureT-loop
 μ-loop firsts seconds ranks links found₀ j₀ found j = j
@@ -38,13 +38,13 @@ loop-again c =
       omega (arith, inv .0),
       picked-next (inv .1) (turning .loop-test .taken) (inv .0) (c .with .ensures)
           (ap (λ (d : ℕ). eqb d 1) (ap (λ (n : Near). n .count) (near .links-at .ensures))
-          ∙ ap (λ (i : ℕ). eqb (degreeIn (a .firsts .now) (a .seconds .now) (listed (a .links)) i) 1) (got .get .ensures)) (got .get .ensures),
+          ∙ ap (λ (i : ℕ). eqb (degreeIn (a .firsts .now) (a .seconds .now) (fewList (a .links)) i) 1) (got .get .ensures)) (got .get .ensures),
     )
 
 returns : tie.Need-returns Inv-loop μ-loop
 returns c =
     let start = c .before .before .before in
-    ends-whole (start .args .firsts .now) (start .args .seconds .now) (listed (start .args .links)) (start .args .ranks) (c .before .loop .inv .1)
+    ends-whole (start .args .firsts .now) (start .args .seconds .now) (fewList (start .args .links)) (start .args .ranks) (c .before .loop .inv .1)
     (omega (arith, c .loop-test .left))
 
 pub group-end-nodes-spec : {M : Type 1} → statement M

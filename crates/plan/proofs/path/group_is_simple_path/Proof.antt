@@ -3,7 +3,7 @@ use Prim.Native.Nat.{ℕ, _<_}
 use native.Mathlib.Omega.{arith}
 use mathlib.Core.Path.{subst}
 use Rattle.links.specs.HeldLimits.{limitsOf}
-use Rattle.plan.specs.Few.{listed}
+use Rattle.plan.specs.Few.{fewList}
 use Rattle.plan.proofs.AcceptLaws.{ends-slots, path-as}
 use borrow.Author.Needs.{needs}
 use Rattle.plan.proofs.path.group_is_simple_path.Statement.{statement}
@@ -15,7 +15,7 @@ outer-requires c κs =
       start .pre .1,
       start .pre .3,
       subst (λ (i : ℕ). i < 256) (sym (c .get .ensures))
-          (ends-slots (λ x. x < 256) (start .args .firsts .now) (start .args .seconds .now) (listed (start .args .links)) (start .args .ranks)
+          (ends-slots (λ x. x < 256) (start .args .firsts .now) (start .args .seconds .now) (fewList (start .args .links)) (start .args .ranks)
           (c .before .group-end-nodes .ensures) (start .pre .2) (omega arith) 0),
     )
 
@@ -26,7 +26,7 @@ outer-requires-2 c κs =
       start .pre .1,
       start .pre .3,
       subst (λ (i : ℕ). i < 256) (sym (c .get2 .ensures))
-          (ends-slots (λ x. x < 256) (start .args .firsts .now) (start .args .seconds .now) (listed (start .args .links)) (start .args .ranks)
+          (ends-slots (λ x. x < 256) (start .args .firsts .now) (start .args .seconds .now) (fewList (start .args .links)) (start .args .ranks)
           (at-ends .group-end-nodes .ensures) (start .pre .2) (omega arith) 1),
     )
 

@@ -3,14 +3,14 @@ use Prim.Native.Nat.{_-_, _≤_}
 use native.Mathlib.Omega.{arith}
 use borrow.Author.Needs.{needs}
 use Rattle.plan.specs.Arrays.{joinsAt}
-use Rattle.plan.specs.Few.{slot}
+use Rattle.plan.specs.Few.{fewAt}
 use Rattle.plan.proofs.FewLaws.{Noted, noted-start, noted-room, noted-next}
 use Rattle.plan.proofs.ShapeLaws.{noted-listed}
 use Rattle.plan.proofs.path.links_at.Statement.{statement}
 use Rattle.plan.proofs.path.links_at.Tie as tie
 
 abbrev Inv-loop : tie.InvT-loop
-Inv-loop firsts seconds links i found₀ j₀ found j = (j ≤ links .count) × Noted (joinsAt firsts seconds i) (slot links) (links .count) j found
+Inv-loop firsts seconds links i found₀ j₀ found j = (j ≤ links .count) × Noted (joinsAt firsts seconds i) (fewAt links) (links .count) j found
 
 abbrev μ-loop : tie.MeasureT-loop
 μ-loop firsts seconds links i found₀ j₀ found j = j

@@ -3,7 +3,7 @@ use Prim.Native.Nat.{_<_}
 use native.Mathlib.Omega.{arith}
 use Rattle.plan.specs.declared.path.Near.{Near}
 use Rattle.plan.specs.Arrays.{joinsAt}
-use Rattle.plan.specs.Few.{listed}
+use Rattle.plan.specs.Few.{fewList}
 use Rattle.plan.proofs.ShapeLaws.{kept-first}
 use Rattle.plan.proofs.ValueLaws.{outer-as}
 use borrow.Author.Needs.{needs}
@@ -21,7 +21,7 @@ returns : tie.Need-returns
 returns c =
     let noted = c .before .before .before .before .before in
     let start = noted .before .args in
-    outer-as (start .lowers .now) (start .highers .now) (start .regions .now) (start .firsts .now) (start .seconds .now) (listed (start .links)) (start .i)
+    outer-as (start .lowers .now) (start .highers .now) (start .regions .now) (start .firsts .now) (start .seconds .now) (fewList (start .links)) (start .i)
     (c .before .before .size .ensures .0 ∙ ap (λ (n : Near). n .first) (noted .links-at .ensures)) (c .other-region .ensures)
 
 pub outer-spec : {M : Type 1} → statement M

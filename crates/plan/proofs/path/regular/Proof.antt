@@ -6,7 +6,7 @@ use borrow.Author.Needs.{needs}
 use lib.Dec.{leb}
 use Rattle.plan.specs.Shape.{degreeIn}
 use Rattle.plan.specs.declared.path.Near.{Near}
-use Rattle.plan.specs.Few.{slot, listed}
+use Rattle.plan.specs.Few.{fewAt, fewList}
 use Rattle.plan.proofs.ShapeLaws.{Each, each-start, each-next}
 use Rattle.plan.proofs.ValueLaws.{regular-whole}
 use Rattle.plan.proofs.path.regular.Statement.{statement}
@@ -14,7 +14,7 @@ use Rattle.plan.proofs.path.regular.Tie as tie
 
 abbrev Inv-loop : tie.InvT-loop
 Inv-loop firsts seconds ranks links all₀ j₀ all j =
-    (j ≤ ranks .count) × Each (λ (i : ℕ). leb 1 (degreeIn firsts seconds (listed links) i) && leb (degreeIn firsts seconds (listed links) i) 2) (slot ranks)
+    (j ≤ ranks .count) × Each (λ (i : ℕ). leb 1 (degreeIn firsts seconds (fewList links) i) && leb (degreeIn firsts seconds (fewList links) i) 2) (fewAt ranks)
     (ranks .count) j all
 
 abbrev μ-loop : tie.MeasureT-loop
@@ -27,7 +27,7 @@ loop-holds c =
     let ranks = c .args .ranks in
     let links = c .args .links in (
       omega arith,
-      each-start (λ (i : ℕ). leb 1 (degreeIn firsts seconds (listed links) i) && leb (degreeIn firsts seconds (listed links) i) 2) (slot ranks)
+      each-start (λ (i : ℕ). leb 1 (degreeIn firsts seconds (fewList links) i) && leb (degreeIn firsts seconds (fewList links) i) 2) (fewAt ranks)
           (ranks .count),
     )
 
@@ -48,17 +48,17 @@ loop-again c =
     let ranks = start .args .ranks in
     let links = start .args .links in (
       omega (arith, at-loop .loop .inv .0),
-      each-next (λ (i : ℕ). leb 1 (degreeIn firsts seconds (listed links) i) && leb (degreeIn firsts seconds (listed links) i) 2) (slot ranks) (ranks .count)
+      each-next (λ (i : ℕ). leb 1 (degreeIn firsts seconds (fewList links) i) && leb (degreeIn firsts seconds (fewList links) i) 2) (fewAt ranks) (ranks .count)
           (leb 1 (at-links-at .links-at .result .count) && leb (at-links-at .links-at .result .count) 2) (at-loop .loop .inv .1) (turning .loop-test .taken)
           (at-loop .loop .inv .0)
           (ap (λ (d : ℕ). leb 1 d && leb d 2) (ap (λ (n : Near). n .count) (at-links-at .links-at .ensures))
-          ∙ ap (λ (i : ℕ). leb 1 (degreeIn firsts seconds (listed links) i) && leb (degreeIn firsts seconds (listed links) i) 2) (at-get .get .ensures)) refl,
+          ∙ ap (λ (i : ℕ). leb 1 (degreeIn firsts seconds (fewList links) i) && leb (degreeIn firsts seconds (fewList links) i) 2) (at-get .get .ensures)) refl,
     )
 
 returns : tie.Need-returns Inv-loop μ-loop
 returns c =
     let start = c .before .before in
-    regular-whole (start .args .firsts .now) (start .args .seconds .now) (listed (start .args .links)) (start .args .ranks) (c .before .loop .inv .1)
+    regular-whole (start .args .firsts .now) (start .args .seconds .now) (fewList (start .args .links)) (start .args .ranks) (c .before .loop .inv .1)
     (omega (arith, c .loop-test .left))
 
 pub regular-spec : {M : Type 1} → statement M

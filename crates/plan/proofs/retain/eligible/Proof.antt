@@ -6,14 +6,14 @@ use mathlib.Core.Path.{subst}
 use Rattle.links.specs.HeldLimits.{limitsOf}
 use Rattle.plan.specs.Shape.{fineIn}
 use Rattle.plan.specs.Fitting.{WidthFits}
-use Rattle.plan.specs.Few.{slot}
+use Rattle.plan.specs.Few.{fewAt}
 use Rattle.plan.proofs.FewLaws.{Picked, picked-start, picked-room, picked-next}
 use Rattle.plan.proofs.ShapeLaws.{picked-listed}
 use Rattle.plan.proofs.retain.eligible.Statement.{statement}
 use Rattle.plan.proofs.retain.eligible.Tie as tie
 
 abbrev Inv-loop : tie.InvT-loop
-Inv-loop limits bits least ranks found₀ j₀ found j = (j ≤ ranks .count) × Picked (fineIn (limitsOf limits) bits least) (slot ranks) (ranks .count) j found
+Inv-loop limits bits least ranks found₀ j₀ found j = (j ≤ ranks .count) × Picked (fineIn (limitsOf limits) bits least) (fewAt ranks) (ranks .count) j found
 
 abbrev μ-loop : tie.MeasureT-loop
 μ-loop limits bits least ranks found₀ j₀ found j = j

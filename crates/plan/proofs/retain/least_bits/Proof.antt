@@ -5,14 +5,14 @@ use borrow.Author.Needs.{needs}
 use mathlib.Core.Path.{subst}
 use Rattle.lists.specs.Rows.{at}
 use Rattle.length.specs.Total.{totalLe}
-use Rattle.plan.specs.Few.{slot}
+use Rattle.plan.specs.Few.{fewAt}
 use Rattle.order.proofs.SortedFirst.{SortedFirst, first-start, first-next}
 use Rattle.plan.proofs.ValueLaws.{least-listed}
 use Rattle.plan.proofs.retain.least_bits.Statement.{statement}
 use Rattle.plan.proofs.retain.least_bits.Tie as tie
 
 abbrev Inv-loop : tie.InvT-loop
-Inv-loop bits ranks j₀ least₀ j least = SortedFirst totalLe (λ i. at bits (slot ranks i)) (ranks .count) j least × (least ≤ 0x40D0_0000_0000_0000)
+Inv-loop bits ranks j₀ least₀ j least = SortedFirst totalLe (λ i. at bits (fewAt ranks i)) (ranks .count) j least × (least ≤ 0x40D0_0000_0000_0000)
 
 abbrev μ-loop : tie.MeasureT-loop
 μ-loop bits ranks j₀ least₀ j least = j
@@ -22,7 +22,7 @@ loop-holds c =
     let start = c .before .before .before in
     let bits = start .args .bits .now in
     let ranks = start .args .ranks in (
-      first-start totalLe (λ i. at bits (slot ranks i)) (ranks .count) (ranks .count - 1) (omega (arith, start .pre .0))
+      first-start totalLe (λ i. at bits (fewAt ranks i)) (ranks .count) (ranks .count - 1) (omega (arith, start .pre .0))
           (ap (at bits) (c .before .index .ensures .0)),
       subst (λ (i : ℕ). at bits i ≤ 0x40D0_0000_0000_0000) (sym (c .before .index .ensures .0)) (start .pre .1 (ranks .count - 1) .fits),
     )
@@ -49,7 +49,7 @@ loop-again c =
     let start = at-loop .before .before .before .before in
     let bits = start .args .bits .now in
     let ranks = start .args .ranks in (
-      first-next totalLe (λ i. at bits (slot ranks i)) (ranks .count) (at bits (at-index2 .index2 .result)) (at-loop .loop .inv .0)
+      first-next totalLe (λ i. at bits (fewAt ranks i)) (ranks .count) (at bits (at-index2 .index2 .result)) (at-loop .loop .inv .0)
           (turning .loop-test .taken) (ap (at bits) (at-index2 .index2 .ensures .0)) (c .lesser .ensures .0),
       c .lesser .ensures .1,
     )

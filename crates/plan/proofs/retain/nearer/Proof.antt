@@ -1,5 +1,5 @@
 use mathlib.Core.Path.{sym, _∙_}
-use Rattle.plan.specs.Few.{listed}
+use Rattle.plan.specs.Few.{fewList}
 use Rattle.plan.proofs.ValueLaws.{choose-yes, choose-no, nearer-as}
 use borrow.Author.Needs.{needs}
 use Rattle.plan.proofs.retain.nearer.Statement.{statement}
@@ -14,7 +14,7 @@ returns c =
     let i = start .args .i in (
       choose-yes i j
           (sym
-          (nearer-as (start .args .own .now) (listed (start .args .ranks)) i j (at-sum-from .sum-from .ensures .0) (at-sum-from2 .sum-from2 .ensures .0)
+          (nearer-as (start .args .own .now) (fewList (start .args .ranks)) i j (at-sum-from .sum-from .ensures .0) (at-sum-from2 .sum-from2 .ensures .0)
           (c .before .no-later .ensures))
           ∙ c .if1 .taken),
       start .pre .2,
@@ -29,7 +29,7 @@ returns-2 c =
     let i = start .args .i in (
       choose-no i j
           (sym
-          (nearer-as (start .args .own .now) (listed (start .args .ranks)) i j (at-sum-from .sum-from .ensures .0) (at-sum-from2 .sum-from2 .ensures .0)
+          (nearer-as (start .args .own .now) (fewList (start .args .ranks)) i j (at-sum-from .sum-from .ensures .0) (at-sum-from2 .sum-from2 .ensures .0)
           (c .before .no-later .ensures))
           ∙ c .if1 .left),
       start .pre .3,

@@ -5,14 +5,14 @@ use borrow.Author.Needs.{needs}
 use mathlib.Core.Path.{subst}
 use Rattle.plan.specs.Shape.{nearerIn}
 use Rattle.plan.specs.Fitting.{RankFits}
-use Rattle.plan.specs.Few.{slot, listed}
+use Rattle.plan.specs.Few.{fewAt, fewList}
 use Rattle.order.proofs.SortedFirst.{SortedFirst, first-start, first-next}
 use Rattle.plan.proofs.ValueLaws.{first-listed}
 use Rattle.plan.proofs.retain.nearest.Statement.{statement}
 use Rattle.plan.proofs.retain.nearest.Tie as tie
 
 abbrev Inv-loop : tie.InvT-loop
-Inv-loop own ranks among j₀ best₀ j best = SortedFirst (nearerIn own (listed ranks)) (slot among) (among .count) j best × RankFits own best
+Inv-loop own ranks among j₀ best₀ j best = SortedFirst (nearerIn own (fewList ranks)) (fewAt among) (among .count) j best × RankFits own best
 
 abbrev μ-loop : tie.MeasureT-loop
 μ-loop own ranks among j₀ best₀ j best = j
@@ -22,7 +22,7 @@ loop-holds c =
     let start = c .before .before in
     let own = start .args .own .now in
     let among = start .args .among in (
-      first-start (nearerIn own (listed (start .args .ranks))) (slot among) (among .count) (among .count - 1) (omega (arith, start .pre .1))
+      first-start (nearerIn own (fewList (start .args .ranks))) (fewAt among) (among .count) (among .count - 1) (omega (arith, start .pre .1))
           (c .index .ensures .0),
       subst (RankFits own) (sym (c .index .ensures .0)) (start .pre .3 (among .count - 1)),
     )
@@ -48,7 +48,7 @@ loop-again c =
     let at-loop = turning .before in
     let start = at-loop .before .before .before in
     let among = start .args .among in (
-      first-next (nearerIn (start .args .own .now) (listed (start .args .ranks))) (slot among) (among .count) (c .before .index2 .result)
+      first-next (nearerIn (start .args .own .now) (fewList (start .args .ranks))) (fewAt among) (among .count) (c .before .index2 .result)
           (at-loop .loop .inv .0) (turning .loop-test .taken) (c .before .index2 .ensures .0) (c .nearer .ensures .0),
       c .nearer .ensures .1,
     )
@@ -57,7 +57,7 @@ returns : tie.Need-returns Inv-loop μ-loop
 returns c =
     let start = c .before .before .before .before in
     let inv = c .before .loop .inv in (
-      first-listed (nearerIn (start .args .own .now) (listed (start .args .ranks))) (start .args .among) (inv .0)
+      first-listed (nearerIn (start .args .own .now) (fewList (start .args .ranks))) (start .args .among) (inv .0)
           (omega (arith, c .loop-test .left)),
       inv .1 .below,
     )

@@ -1,7 +1,7 @@
 use Rattle.links.specs.HeldLimits.{limitsOf}
 use Rattle.plan.specs.Shape.{fineIn}
 use Rattle.plan.specs.Fitting.{RankFits}
-use Rattle.plan.specs.Few.{listed}
+use Rattle.plan.specs.Few.{fewList}
 use Rattle.plan.proofs.ShapeLaws.{kept-slots}
 use Rattle.plan.proofs.ValueLaws.{eligible-as, retained-none, retained-some, positive}
 use borrow.Author.Needs.{needs}
@@ -23,7 +23,7 @@ returns c =
     let limits = start .args .limits in
     let ranks = start .args .ranks in (
       retained-none (limitsOf limits) (start .args .own .now) bits ranks
-          (eligible-as (limitsOf limits) bits (listed ranks) (at-width-of .width-of .ensures) (at-least-bits .least-bits .ensures .0)
+          (eligible-as (limitsOf limits) bits (fewList ranks) (at-width-of .width-of .ensures) (at-least-bits .least-bits .ensures .0)
           (at-eligible .eligible .ensures)) (c .before .if1 .taken) (start .pre .0) (c .index .ensures .0),
       c .index .ensures .1,
     )
@@ -50,7 +50,7 @@ returns-2 c =
     let limits = start .args .limits in
     let ranks = start .args .ranks in (
       retained-some (limitsOf limits) (start .args .own .now) bits ranks
-          (eligible-as (limitsOf limits) bits (listed ranks) (at-width-of .width-of .ensures) (at-least-bits .least-bits .ensures .0)
+          (eligible-as (limitsOf limits) bits (fewList ranks) (at-width-of .width-of .ensures) (at-least-bits .least-bits .ensures .0)
           (at-eligible .eligible .ensures)) (start .pre .1) (c .before .if1 .left) (c .nearest .ensures .0),
       c .nearest .ensures .1,
     )

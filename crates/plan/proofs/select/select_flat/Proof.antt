@@ -6,7 +6,7 @@ use borrow.Author.Needs.{needs}
 use mathlib.Core.Path.{subst}
 use Rattle.lists.specs.Rows.{at}
 use Rattle.links.specs.HeldLimits.{limitsOf}
-use Rattle.plan.specs.Arrays.{Filled}
+use Rattle.plan.specs.Arrays.{FirstAre}
 use Rattle.plan.specs.Shape.{flatLinkIn}
 use Rattle.plan.specs.Fitting.{RankFits}
 use Rattle.plan.proofs.ArrayLaws.{filled-none, filled-next, filled-upto}
@@ -16,7 +16,7 @@ use Rattle.plan.proofs.select.select_flat.Tie as tie
 
 abbrev Inv-loop : tie.InvT-loop
 Inv-loop limits own flat into firsts seconds links chosen₀ k₀ chosen k = (k ≤ links)
-    × Filled (λ j. cond (flatLinkIn (limitsOf limits) own into (at flat j) (at firsts j) (at seconds j)) 1 0) k chosen
+    × FirstAre (λ j. cond (flatLinkIn (limitsOf limits) own into (at flat j) (at firsts j) (at seconds j)) 1 0) k chosen
 
 abbrev μ-loop : tie.MeasureT-loop
 μ-loop limits own flat into firsts seconds links chosen₀ k₀ chosen k = links - k

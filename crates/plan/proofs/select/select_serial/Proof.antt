@@ -5,7 +5,7 @@ use native.Mathlib.Omega.{arith}
 use borrow.Author.Needs.{needs}
 use mathlib.Core.Path.{subst}
 use Rattle.lists.specs.Rows.{at}
-use Rattle.plan.specs.Arrays.{Filled}
+use Rattle.plan.specs.Arrays.{FirstAre}
 use Rattle.plan.specs.Shape.{bothOn}
 use Rattle.plan.proofs.ArrayLaws.{filled-none, filled-next, filled-upto}
 use Rattle.plan.proofs.ValueLaws.{both}
@@ -13,7 +13,7 @@ use Rattle.plan.proofs.select.select_serial.Statement.{statement}
 use Rattle.plan.proofs.select.select_serial.Tie as tie
 
 abbrev Inv-loop : tie.InvT-loop
-Inv-loop marks firsts seconds links chosen₀ k₀ chosen k = (k ≤ links) × Filled (λ j. cond (bothOn marks (at firsts j) (at seconds j)) 1 0) k chosen
+Inv-loop marks firsts seconds links chosen₀ k₀ chosen k = (k ≤ links) × FirstAre (λ j. cond (bothOn marks (at firsts j) (at seconds j)) 1 0) k chosen
 
 abbrev μ-loop : tie.MeasureT-loop
 μ-loop marks firsts seconds links chosen₀ k₀ chosen k = links - k

@@ -8,7 +8,7 @@ use Rattle.results.proofs.Returns.{first-passed, first-room}
 use Rattle.analysis.specs.Plans.{Headed}
 use Rattle.analysis.proofs.Headed.{count-is}
 use Rattle.analysis.proofs.Calling.{header-there, reduce-job, reduce-headed}
-use Rattle.probe.specs.Regions.{Ready, short, told}
+use Rattle.probe.specs.Regions.{LabelsReady, short, told}
 use Rattle.probe.specs.Links.{first-unknown, second-unknown, refused, known}
 use Rattle.probe.proofs.LinkLaws.{link-named}
 use Rattle.probe.proofs.RegionLaws.{ready-now}
@@ -22,7 +22,7 @@ given c = c .before .before .before .before .before .before
 passed : (c : tie.Else1) → firstRefusal (reduceChecks (given c .args .job .now)) ≡ none
 passed c = first-passed (c .before .before .unready .ensures) (omega (arith, c .if1 .left))
 
-ready : (c : tie.Else1) → Ready (given c .args .job .now) (given c .args .labels .now) 0 0
+ready : (c : tie.Else1) → LabelsReady (given c .args .job .now) (given c .args .labels .now) 0 0
 ready c = ready-now (c .before .before .unready .ensures) (omega (arith, c .if1 .left))
 
 read : (c : tie.After-read-header) → Headed (given (c .before) .args .job .now) (c .read-header .result)

@@ -4,7 +4,7 @@ use borrow.Author.Needs.{needs}
 use Rattle.wire.specs.Bytes.{splice}
 use Rattle.analysis.proofs.Headed.{headed-laid, headed-cells}
 use Rattle.analysis.proofs.Calling.{headed-work}
-use Rattle.probe.specs.Links.{bitsOf}
+use Rattle.probe.specs.Links.{floatBits}
 use Rattle.probe.proofs.LinkLaws.{link-told}
 use Rattle.probe.proofs.own_links.tell_link.Statement.{statement}
 use Rattle.probe.proofs.own_links.tell_link.Tie as tie
@@ -45,8 +45,8 @@ returns c =
     ∙ ap (splice (given .out .now) 0)
     (link-told (start .pre .0) (after-size .size .ensures .0) (given .labels .now) (given .region) (given .first) (given .second) _
     (after-link-between .link-between .ensures) (after-measure-one .measure-one .ensures) (after-measured .measured .ensures) (after-kind-of .kind-of .ensures)
-    (after-bits-of .bits-of .ensures ∙ ap bitsOf (after-transverse-of .transverse-of .ensures))
-    (after-bits-of2 .bits-of2 .ensures ∙ ap bitsOf (after-longitudinal-of .longitudinal-of .ensures)) (after-flag .flag .ensures))
+    (after-bits-of .bits-of .ensures ∙ ap floatBits (after-transverse-of .transverse-of .ensures))
+    (after-bits-of2 .bits-of2 .ensures ∙ ap floatBits (after-longitudinal-of .longitudinal-of .ensures)) (after-flag .flag .ensures))
 
 pub tell-link-spec : {M : Type 1} → statement M
 tell-link-spec =

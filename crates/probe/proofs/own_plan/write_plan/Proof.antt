@@ -3,14 +3,14 @@ use mathlib.Core.Path.{ap}
 use Prim.Native.Nat.{ℕ, _*_, _-_, _≤_}
 use native.Mathlib.Omega.{arith}
 use lib.ListN.{length, getD}
-use Rattle.probe.specs.Planning.{Ranked, Inside, Words}
+use Rattle.probe.specs.Planning.{PermutationOf, PlanInside, Words}
 use Rattle.probe.proofs.PlanningLaws.{words-start, words-next, words-end}
 use Rattle.probe.proofs.own_plan.write_plan.Statement.{statement}
 use Rattle.probe.proofs.own_plan.write_plan.Tie as tie
 
 abbrev Inv-loop : tie.InvT-loop
 Inv-loop order plan n out₀ i₀ out i =
-    (i ≤ n) × (n ≤ 256) × Ranked order n × Inside plan n × (4 * n ≤ length out₀)
+    (i ≤ n) × (n ≤ 256) × PermutationOf order n × PlanInside plan n × (4 * n ≤ length out₀)
     × Words order (λ k. getD order (getD plan k 0) 0) n i out₀ out
 
 abbrev μ-loop : tie.MeasureT-loop

@@ -2,7 +2,7 @@ use mathlib.Core.Path.{_≡_, subst, refl}
 use native.Mathlib.Omega.{arith}
 use Prim.Native.Nat.{_+_, _-_, _≤_, _<_}
 use borrow.Author.Needs.{needs}
-use Rattle.walk.specs.Slices.{Linked}
+use Rattle.walk.specs.Slices.{IncidenceLists}
 use Rattle.walk.proofs.Chains.{linked-one, linked-as}
 use Rattle.walk.proofs.chaining.full_graph.Statement.{statement}
 use Rattle.walk.proofs.chaining.full_graph.Tie as tie
@@ -10,7 +10,7 @@ use lib.ListN.{length}
 
 abbrev Inv-loop : tie.InvT-loop
 Inv-loop lefts rights count heads₀ left-nexts₀ right-nexts₀ k₀ heads left-nexts right-nexts k = (k ≤ count) × (length left-nexts ≡ length left-nexts₀)
-    × (length right-nexts ≡ length right-nexts₀) × Linked count (length heads₀) lefts rights heads left-nexts right-nexts k
+    × (length right-nexts ≡ length right-nexts₀) × IncidenceLists count (length heads₀) lefts rights heads left-nexts right-nexts k
 
 abbrev μ-loop : tie.MeasureT-loop
 μ-loop lefts rights count heads₀ left-nexts₀ right-nexts₀ k₀ heads left-nexts right-nexts k = k
@@ -53,8 +53,8 @@ loop-again c =
     let a = start .args in
     let m = in-loop .loop in
     let e = at-link-record .link-record .ensures in
-    let n : Linked (a .count) (length (a .heads .now)) (a .lefts .now) (a .rights .now) (m .heads) (m .left-nexts) (m .right-nexts) (k - 1 + 1)
-    = subst (Linked (a .count) (length (a .heads .now)) (a .lefts .now) (a .rights .now) (m .heads) (m .left-nexts) (m .right-nexts))
+    let n : IncidenceLists (a .count) (length (a .heads .now)) (a .lefts .now) (a .rights .now) (m .heads) (m .left-nexts) (m .right-nexts) (k - 1 + 1)
+    = subst (IncidenceLists (a .count) (length (a .heads .now)) (a .lefts .now) (a .rights .now) (m .heads) (m .left-nexts) (m .right-nexts))
     (let z : k ≡ k - 1 + 1 = omega (arith, turning .loop-test .taken) in z) (m .inv .3) in (
       omega arith,
       omega (arith, at-link-record .link-record .kept, m .inv .1),
@@ -67,7 +67,7 @@ loop-again c =
 returns : tie.Need-returns Inv-loop μ-loop
 returns c =
     let start = start-of (c .before .before) in
-    subst (Linked (start .args .count) (length (start .args .heads .now)) (start .args .lefts .now) (start .args .rights .now) (c .before .loop .heads)
+    subst (IncidenceLists (start .args .count) (length (start .args .heads .now)) (start .args .lefts .now) (start .args .rights .now) (c .before .loop .heads)
     (c .before .loop .left-nexts) (c .before .loop .right-nexts))
     (let z : c .before .loop .k ≡ 0 = omega (arith, c .loop-test .left) in z) (c .before .loop .inv .3)
 

@@ -6,7 +6,7 @@ use mathlib.Core.List.{List}
 use borrow.Author.Needs.{needs}
 use lib.ListN.{length, set}
 use Rattle.lists.specs.Rows.{at}
-use Rattle.walk.specs.Walk.{zeros, Joins, First}
+use Rattle.walk.specs.Walk.{zeroCount, RecordJoins, First}
 use Rattle.walk.specs.declared.frame.Frame.{Frame}
 use Rattle.walk.proofs.Chains.{chain-in, follows, follows-as}
 use Rattle.walk.proofs.Puts.{set-as}
@@ -30,7 +30,7 @@ Inv-walk owners lefts rights count heads left-nexts right-nexts disc₀ stack₀
 
 abbrev μ-walk : tie.MeasureT-walk
 μ-walk owners lefts rights count heads left-nexts right-nexts disc₀ stack₀ parents₀ nexts₀ lows₀ marks₀ r root start time₀ h₀ disc stack parents nexts lows
-    marks time h = zeros (at disc) (length disc) + zeros (at disc) (length disc) + h
+    marks time h = zeroCount (at disc) (length disc) + zeroCount (at disc) (length disc) + h
 
 -- what the function is given and asked: the places since only say that its slices have lengths
 abbrev start-of : tie.After-slice-known5 Inv-loop μ-loop Inv-walk μ-walk → tie.Start Inv-loop μ-loop Inv-walk μ-walk
@@ -93,7 +93,7 @@ stopped c =
     let t = v .3 .ensures in
     record {
       is = λ l. v .8;
-      joins = λ l. subst (λ (x : ℕ). Joins _ _ _ _ x) (sym e) t;
+      joins = λ l. subst (λ (x : ℕ). RecordJoins _ _ _ _ x) (sym e) t;
       within = λ l. omega (arith, e, end-in (start-in (last c) .pre .0 .graph) (omega (arith, v .0 .left)) t);
       new = λ l. ap (at (outer (last c) .walk .disc)) e ∙ sym (v .5 .ensures) ∙ v .6 .taken;
       all = λ l. absurd (omega (arith, v .8, v .0 .left));
@@ -252,7 +252,7 @@ walk-less c =
     let e = c .before .before .before .before .before .before .before .before .before .before .enter2 .ensures .0 ∙ set-as (m .disc) (o .0) (o .3) in
     omega (
       arith,
-      ap (λ (x : List ℕ). zeros (at x) (length x)) e,
+      ap (λ (x : List ℕ). zeroCount (at x) (length x)) e,
       falls (m .inv) (found .before .if1 .w) (m .time + 1) (v .within j) (v .new j) (omega arith),
     )
 

@@ -1,10 +1,10 @@
-use Rattle.links.specs.HeldLink.{withCell}
+use Rattle.links.specs.HeldLink.{linkWithCell}
 use borrow.Author.Needs.{needs}
 use Rattle.links.proofs.link.Link.at.Statement.{statement}
 use Rattle.links.proofs.link.Link.at.Tie as tie
 
 returns : tie.Need-returns
-unfolding withCell
+unfolding linkWithCell
 returns c =
     let after-min = c .before .before .before in
     let after-still = after-min .before in

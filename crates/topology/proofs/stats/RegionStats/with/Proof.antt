@@ -1,4 +1,4 @@
-use Rattle.topology.specs.Held.{withCell}
+use Rattle.topology.specs.Held.{statsWithCell}
 use native.Mathlib.Omega.{arith}
 use borrow.Author.Needs.{needs}
 use Rattle.topology.proofs.stats.RegionStats.with.Statement.{statement}
@@ -10,7 +10,7 @@ add-t32 c =
     omega (arith, start .pre .0 .fourth, c .before .one4 .ensures .1)
 
 returns : tie.Need-returns
-unfolding withCell
+unfolding statsWithCell
 returns c =
     let after-one3 = c .before .before .before in
     let after-one2 = after-one3 .before .before in
