@@ -15,7 +15,7 @@ use Rattle.areas.specs.Spans.{Sides}
 use Rattle.areas.specs.declared.candidates.CellRange.{CellRange}
 use Rattle.areas.specs.Strip.{numbersOf, tall, cellOf, stripAxis, stripMinor}
 use Rattle.areas.proofs.StripCells.{axis-on, minor-on}
-use Rattle.marking.proofs.Halves.{place-fits}
+use Rattle.areas_steps.proofs.Halves.{place-fits}
 use Rattle.assessments.specs.declared.steps.Assessed.{Assessed}
 use Rattle.assessments.specs.Holding.{pairsIn, HoldsAssessment, StepRoom}
 use Rattle.assessments.specs.Visits.{cutFrom, cutBeside, cutAlong}

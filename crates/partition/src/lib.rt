@@ -10,7 +10,7 @@ use assessments::spans::assess_spans;
 use components::components;
 use components::write_dues;
 use components::zero_fill;
-use marking::spans::mark_spans;
+use areas_steps::spans::mark_spans;
 
 // The number of areas, and that of region pairs: one more than the arrays hold where they are over that.
 pub struct Partition {

@@ -1,7 +1,7 @@
 use mathlib.Core.Path.{sym, _∙_}
 use native.Mathlib.Omega.{arith}
 use borrow.Author.Tests.{not-true, not-false}
-use Rattle.marking.proofs.Halves.{ends-bounded}
+use Rattle.areas_steps.proofs.Halves.{ends-bounded}
 use Rattle.assessments.proofs.Advancing.{advance-none, grown-none, advance-as}
 use Rattle.assessments.proofs.Stepping.{not-among, not-step, not-cut, is-step, arrives, fits-label-at, here-on, there-on, there-in, index-here}
 use Rattle.assessments.proofs.Stepping.{index-there, step-cut, on-map}
