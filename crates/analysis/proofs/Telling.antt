@@ -18,7 +18,7 @@ use Rattle.areas.specs.Assessments.{records, assess}
 use Rattle.areas.specs.Spans.{spanIn, spansIn}
 use Rattle.areas.proofs.Areas.{area-labels-length}
 use Rattle.areas.specs.Words.{word, labelsIn, labelled}
-use Rattle.components.proofs.LabelWords.{word-read, labels-read}
+use Rattle.areas_components.proofs.LabelWords.{word-read, labels-read}
 use Rattle.topology.specs.Listing.{Item}
 use Rattle.groups.specs.Listing as Rank
 use Rattle.groups.specs.Regions.{regionLabels, assessAt, bridgeAt}

@@ -18,11 +18,11 @@ use Rattle.areas.specs.Open.{openByte, named}
 use Rattle.areas.specs.Spans.{Sides}
 use Rattle.areas.proofs.Areas.{area-labels-length}
 use Rattle.areas.proofs.OpenLabels.{open-among, open-labels, open-count}
-use Rattle.components.specs.Dues.{dues}
-use Rattle.components.specs.Joining.{OpenBytesSound}
-use Rattle.components.specs.Numbered.{ComponentLabels}
-use Rattle.components.proofs.DueLaws.{dues-long}
-use Rattle.components.proofs.LabelWords.{bytes-length, sound-of}
+use Rattle.areas_components.specs.Dues.{dues}
+use Rattle.areas_components.specs.Joining.{OpenBytesSound}
+use Rattle.areas_components.specs.Numbered.{ComponentLabels}
+use Rattle.areas_components.proofs.DueLaws.{dues-long}
+use Rattle.areas_components.proofs.LabelWords.{bytes-length, sound-of}
 use Rattle.partition.specs.Partitioned.{AreasIn}
 
 -- a map that can be analysed has at most 1,048,576 cells

@@ -17,7 +17,7 @@ use Rattle.areas.proofs.Areas.{area-labels-length, label-at-most}
 use Rattle.areas.proofs.Assessments.{pair-labels}
 use Rattle.areas.proofs.Records.{records-iff}
 use Rattle.areas.specs.Words.{labelsIn, labelled}
-use Rattle.components.proofs.LabelWords.{area-count-few, area-labels-read}
+use Rattle.areas_components.proofs.LabelWords.{area-count-few, area-labels-read}
 use Rattle.assessments.specs.Recording.{assessed, recordsOf, Recorded}
 use Rattle.partition.specs.Partitioned.{AreasIn, RegionsInUse, Partitioned}
 use Rattle.partition.proofs.Labelling.{flat-long}

@@ -7,9 +7,9 @@ ghost use Rattle.areas.specs.Spans.{spansIn};
 ghost use Rattle.assessments.specs.Recording.{Arrays};
 ghost use Rattle.partition.specs.Partitioned.{Partitionable, AreasIn, Partitioned};
 use assessments::spans::assess_spans;
-use components::components;
-use components::write_dues;
-use components::zero_fill;
+use areas_components::components;
+use areas_components::write_dues;
+use areas_components::zero_fill;
 use areas_steps::spans::mark_spans;
 
 // The number of areas, and that of region pairs: one more than the arrays hold where they are over that.

@@ -10,7 +10,7 @@ ghost use Rattle.probe.specs.Records.{fitting, fitsAt, recordsAt, Loaded
 use crate::copy;
 use analysis::ChokesResult;
 use bridges::bridge_boundary_indices;
-use components::zero_fill;
+use areas_components::zero_fill;
 use wire::read_u32;
 use wire::size;
 

@@ -10,7 +10,7 @@ ghost use Rattle.probe.specs.Regions.{LabelsReady, regionWords, cellLabe
 use analysis::ANSWER_TOO_SHORT;
 use analysis::ChokesResult;
 use analysis::first_answer;
-use components::count_cells;
+use areas_components::count_cells;
 use format::HEADER_SIZE;
 use format::Header;
 use format::read_header;

@@ -1,0 +1,46 @@
+use mathlib.Core.Path.{refl}
+use Prim.Native.Nat.{_-_}
+use native.Mathlib.Omega.{arith}
+use borrow.Author.Needs.{needs}
+use Rattle.areas_components.proofs.RunLaws.{Running, running-start, running-small, running-room, running-next, running-end}
+use Rattle.areas_components.proofs.runs.run_parents.Statement.{statement}
+use Rattle.areas_components.proofs.runs.run_parents.Tie as tie
+
+abbrev Inv-loop : tie.InvT-loop
+Inv-loop work₀ base n first₀ joined₀ i₀ work first joined i = Running n base i first joined work₀ work
+
+abbrev μ-loop : tie.MeasureT-loop
+μ-loop work₀ base n first₀ joined₀ i₀ work first joined i = n - i
+
+loop-holds : tie.Need-loop-holds Inv-loop μ-loop
+loop-holds c = running-start _ _ _
+
+set-parent-requires : tie.Need-set-parent-requires Inv-loop μ-loop
+set-parent-requires c κs =
+    let in-loop = c .before .before .before in
+    let start = in-loop .before .before in
+    let pre = start .pre in
+    let loop = in-loop .loop in
+    let pick = c .before .pick in
+    let small = running-small (pre .0) (pre .1) (pre .2) (loop .inv) (omega arith) _ (pick .ensures) in
+    (running-room (pre .0) (pre .1) (pre .2) (loop .inv) (omega arith) _ (pick .ensures), omega (arith, small, pre))
+
+loop-again : tie.Need-loop-again Inv-loop μ-loop
+loop-again c =
+    let at-set-parent = c .before .before .before in
+    let at-pick = at-set-parent .before .before in
+    let in-loop = at-pick .before .before in
+    let start = in-loop .before .before in
+    let pre = start .pre in
+    let loop = in-loop .loop in
+    let pick = at-pick .pick in
+    let set = at-set-parent .set-parent in
+    running-next (pre .0) (pre .1) (pre .2) (loop .inv) (omega arith) _ (pick .ensures) _ (set .ensures) _ refl
+
+returns : tie.Need-returns Inv-loop μ-loop
+returns c = running-end (c .before .loop .inv) (λ l. omega arith)
+
+pub run-parents-spec : {M : Type 1} → statement M
+run-parents-spec =
+    tie.close (tie.spec Inv-loop μ-loop loop-holds (λ c κs. search needs) set-parent-requires (search needs) (search needs) (search needs)
+    (search needs) loop-again (λ c. search needs) returns)
