@@ -3,7 +3,7 @@ ghost use lib.ListN.{length};
 ghost use Rattle.grid.specs.Cells.{mapOf};
 ghost use Rattle.grid.specs.Directions.{directionsOf};
 ghost use Rattle.areas.specs.Spans.{spansIn};
-ghost use Rattle.assessments.specs.Recording.{Arrays};
+ghost use Rattle.areas_assessments.specs.Recording.{Arrays};
 ghost use Rattle.partition.specs.Partitioned.{Partitionable, Partitioned};
 ghost use Rattle.results.specs.Results.{maxPairs};
 ghost use Rattle.analysis.specs.Bridging.{fewPairs, Bridged, MarkedWithin};

@@ -18,7 +18,7 @@ use Rattle.areas.proofs.Assessments.{pair-labels}
 use Rattle.areas.proofs.Records.{records-iff}
 use Rattle.areas.specs.Words.{labelsIn, labelled}
 use Rattle.areas_components.proofs.LabelWords.{area-count-few, area-labels-read}
-use Rattle.assessments.specs.Recording.{assessed, recordsOf, Recorded}
+use Rattle.areas_assessments.specs.Recording.{assessed, recordsOf, Recorded}
 use Rattle.partition.specs.Partitioned.{AreasIn, RegionsInUse, Partitioned}
 use Rattle.partition.proofs.Labelling.{flat-long}
 

@@ -1,5 +1,5 @@
 use native.Mathlib.Omega.{arith}
-use Rattle.assessments.proofs.Recording.{zero-arrays}
+use Rattle.areas_assessments.proofs.Recording.{zero-arrays}
 use borrow.Author.Needs.{needs}
 use Rattle.analysis.proofs.bridged.analyse_many.Statement.{statement}
 use Rattle.analysis.proofs.bridged.analyse_many.Tie as tie

@@ -2,7 +2,7 @@ use mathlib.Core.Path.{refl}
 use native.Mathlib.Omega.{arith}
 use borrow.Author.Needs.{needs}
 use Rattle.grid.specs.Directions.{directionsOf}
-use Rattle.assessments.proofs.Recording.{zero-arrays}
+use Rattle.areas_assessments.proofs.Recording.{zero-arrays}
 use Rattle.analysis.proofs.Headed.{headed-laid, headed-cells}
 use Rattle.analysis.proofs.Mapped.{map-inside}
 use Rattle.analysis.proofs.OwnEnds.{own-partitionable}
