@@ -22,8 +22,8 @@ use Rattle.areas.proofs.Areas.{area-labels-length}
 use Rattle.walk.specs.Slices.{Owners}
 use Rattle.bridges.specs.Names.{Labelled}
 use Rattle.walk.specs.Marks.{bridgeMarks}
-use Rattle.partition.specs.Partitioned.{Partitioned}
-use Rattle.partition.specs.declared.Partition.{Partition}
+use Rattle.areas_partition.specs.Partitioned.{Partitioned}
+use Rattle.areas_partition.specs.declared.Partition.{Partition}
 use Rattle.analysis.specs.Bridging.{Bridged}
 
 module _ (ls before : List ℕ) where

@@ -13,7 +13,7 @@ use Rattle.format.specs.declared.header.Header.{Header}
 use Rattle.areas.specs.Spans.{SpansFit}
 use Rattle.checks.specs.Passed.{Laid}
 use Rattle.checks.proofs.Limits.{sections}
-use Rattle.partition.specs.Partitioned.{Partitionable}
+use Rattle.areas_partition.specs.Partitioned.{Partitionable}
 use Rattle.results.specs.Rules.{gridOf}
 use Rattle.results.specs.Results.{workSize}
 use Rattle.analysis.specs.Plans.{Leads}

@@ -24,8 +24,8 @@ use Rattle.links.specs.Limits.{Limits}
 use Rattle.ranks.specs.Tables.{Records, SpansOf, Identity}
 use Rattle.checks.specs.Checks.{firstRefusal}
 use Rattle.job.specs.Refusals.{reduceChecks, byListChecks}
-use Rattle.partition.specs.Partitioned.{Partitionable, Partitioned}
-use Rattle.partition.specs.declared.Partition.{Partition}
+use Rattle.areas_partition.specs.Partitioned.{Partitionable, Partitioned}
+use Rattle.areas_partition.specs.declared.Partition.{Partition}
 use Rattle.results.specs.Rules.{gridOf, listingOf}
 use Rattle.results.specs.Results.{workSize, maxPairs, ownEnds}
 use Rattle.analysis.specs.Bridging.{Bridged, MarkedWithin}

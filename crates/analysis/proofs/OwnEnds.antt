@@ -12,7 +12,7 @@ use Rattle.grid.specs.Cells.{Grid, mapOf}
 use Rattle.areas.specs.Areas.{areaLabels}
 use Rattle.areas.specs.Assessments.{records}
 use Rattle.areas.specs.Spans.{SpansFit, spansIn}
-use Rattle.partition.specs.Partitioned.{Partitionable}
+use Rattle.areas_partition.specs.Partitioned.{Partitionable}
 use Rattle.ranks.specs.Tables.{Records, Identity, SpansOf}
 use Rattle.results.specs.Rules.{gridOf}
 use Rattle.results.specs.Results.{ownEnds}

@@ -25,8 +25,8 @@ use Rattle.groups.specs.Regions.{regionLabels, assessAt, bridgeAt}
 use Rattle.groups.specs.Tables.{Counted, Paired, Bridged as BridgesOf}
 use Rattle.walk.specs.Marks.{bridgeMarks}
 use Rattle.measures.specs.Tables.{Labels}
-use Rattle.partition.specs.Partitioned.{Partitioned}
-use Rattle.partition.specs.declared.Partition.{Partition}
+use Rattle.areas_partition.specs.Partitioned.{Partitioned}
+use Rattle.areas_partition.specs.declared.Partition.{Partition}
 use Rattle.results.specs.Rules.{gridOf, listingOf}
 use Rattle.results.specs.Results.{labelsOf}
 use Rattle.analysis.specs.Bridging.{Bridged}

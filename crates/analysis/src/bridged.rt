@@ -4,12 +4,12 @@ ghost use Rattle.grid.specs.Cells.{mapOf};
 ghost use Rattle.grid.specs.Directions.{directionsOf};
 ghost use Rattle.areas.specs.Spans.{spansIn};
 ghost use Rattle.areas_assessments.specs.Recording.{Arrays};
-ghost use Rattle.partition.specs.Partitioned.{Partitionable, Partitioned};
+ghost use Rattle.areas_partition.specs.Partitioned.{Partitionable, Partitioned};
 ghost use Rattle.results.specs.Results.{maxPairs};
 ghost use Rattle.analysis.specs.Bridging.{fewPairs, Bridged, MarkedWithin};
 use bridges::bridge_boundary_indices;
-use partition::Partition;
-use partition::partition_by_spans;
+use areas_partition::Partition;
+use areas_partition::partition_by_spans;
 
 // "13 over 4,096 region pairs in all."
 pub const MAX_PAIRS: usize = 4_096;

@@ -26,8 +26,8 @@ use Rattle.areas.specs.Spans.{spanIn, spansIn}
 use Rattle.areas.proofs.Areas.{count-depends-on-the-set}
 use Rattle.areas.proofs.Assessments.{assess-same}
 use Rattle.areas.proofs.Listed.{eq-same, records-same}
-use Rattle.partition.specs.Partitioned.{Partitioned}
-use Rattle.partition.specs.declared.Partition.{Partition}
+use Rattle.areas_partition.specs.Partitioned.{Partitioned}
+use Rattle.areas_partition.specs.declared.Partition.{Partition}
 use Rattle.results.specs.Rules.{gridOf}
 use Rattle.results.specs.Results.{ownEnds}
 use Rattle.results.specs.Returns.{PairAnswer, many as over-limit, few as in-limit}

@@ -16,7 +16,7 @@ use format::Header;
 use format::read_header;
 use grid::neighbors::EIGHT;
 use job::check_reduce;
-use partition::partition_by_spans;
+use areas_partition::partition_by_spans;
 use wire::size;
 use wire::write_u32;
 

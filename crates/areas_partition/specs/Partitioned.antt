@@ -12,7 +12,7 @@ use Rattle.grid.specs.Directions.{IsDirection, directionsOf}
 use Rattle.areas.specs.Areas.{areaLabels, areaCount, labelAt}
 use Rattle.areas.specs.Assessments.{assess, records}
 use Rattle.areas.specs.Spans.{Sides, SpansFit, spanIn, spansIn}
-use Rattle.partition.specs.declared.Partition.{Partition}
+use Rattle.areas_partition.specs.declared.Partition.{Partition}
 
 -- a map of sides that can be analysed, a set of directions, spans on the map, and ten bytes a cell
 pub record Partitionable (width height : ℕ) (cells : List ℕ) (directions : ℕ) (ends : List ℕ) (count : ℕ) (work : List ℕ) : Type 0 where

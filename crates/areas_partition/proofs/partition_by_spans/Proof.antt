@@ -2,10 +2,10 @@ use Prim.Native.Nat.{_≤_}
 use lib.ListN.{length}
 use native.Mathlib.Omega.{arith}
 use borrow.Author.Needs.{needs}
-use Rattle.partition.proofs.Labelling.{few-cells}
-use Rattle.partition.proofs.Parting.{lent-long, room-after, all-parted}
-use Rattle.partition.proofs.partition_by_spans.Statement.{statement}
-use Rattle.partition.proofs.partition_by_spans.Tie as tie
+use Rattle.areas_partition.proofs.Labelling.{few-cells}
+use Rattle.areas_partition.proofs.Parting.{lent-long, room-after, all-parted}
+use Rattle.areas_partition.proofs.partition_by_spans.Statement.{statement}
+use Rattle.areas_partition.proofs.partition_by_spans.Tie as tie
 
 -- what the function is given and asked: the places since only say that its slices have lengths
 abbrev start-of : tie.After-slice-known6 → tie.Start

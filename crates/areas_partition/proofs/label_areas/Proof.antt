@@ -2,10 +2,10 @@ use Prim.Native.Nat.{_≤_}
 use native.Mathlib.Omega.{arith}
 use lib.ListN.{length}
 use Rattle.grid.specs.Cells.{mapOf}
-use Rattle.partition.proofs.Labelling.{few-cells, marked-open, marked-due, due-there, marked-sound, areas-in}
+use Rattle.areas_partition.proofs.Labelling.{few-cells, marked-open, marked-due, due-there, marked-sound, areas-in}
 use borrow.Author.Needs.{needs}
-use Rattle.partition.proofs.label_areas.Statement.{statement}
-use Rattle.partition.proofs.label_areas.Tie as tie
+use Rattle.areas_partition.proofs.label_areas.Statement.{statement}
+use Rattle.areas_partition.proofs.label_areas.Tie as tie
 
 write-dues-requires : tie.Need-write-dues-requires
 write-dues-requires c κs =

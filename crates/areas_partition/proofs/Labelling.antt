@@ -23,7 +23,7 @@ use Rattle.areas_components.specs.Joining.{OpenBytesSound}
 use Rattle.areas_components.specs.Numbered.{ComponentLabels}
 use Rattle.areas_components.proofs.DueLaws.{dues-long}
 use Rattle.areas_components.proofs.LabelWords.{bytes-length, sound-of}
-use Rattle.partition.specs.Partitioned.{AreasIn}
+use Rattle.areas_partition.specs.Partitioned.{AreasIn}
 
 -- a map that can be analysed has at most 1,048,576 cells
 pub few-cells : {width height : ℕ} → Sides width height → width * height ≤ 1048576

@@ -5,7 +5,7 @@ ghost use Rattle.grid.specs.Cells.{mapOf};
 ghost use Rattle.grid.specs.Directions.{directionsOf};
 ghost use Rattle.areas.specs.Spans.{spansIn};
 ghost use Rattle.areas_assessments.specs.Recording.{Arrays};
-ghost use Rattle.partition.specs.Partitioned.{Partitionable, AreasIn, Partitioned};
+ghost use Rattle.areas_partition.specs.Partitioned.{Partitionable, AreasIn, Partitioned};
 use areas_assessments::spans::assess_spans;
 use areas_components::components;
 use areas_components::write_dues;

@@ -19,8 +19,8 @@ use Rattle.areas.proofs.Records.{records-iff}
 use Rattle.areas.specs.Words.{labelsIn, labelled}
 use Rattle.areas_components.proofs.LabelWords.{area-count-few, area-labels-read}
 use Rattle.areas_assessments.specs.Recording.{assessed, recordsOf, Recorded}
-use Rattle.partition.specs.Partitioned.{AreasIn, RegionsInUse, Partitioned}
-use Rattle.partition.proofs.Labelling.{flat-long}
+use Rattle.areas_partition.specs.Partitioned.{AreasIn, RegionsInUse, Partitioned}
+use Rattle.areas_partition.proofs.Labelling.{flat-long}
 
 -- written over nothing
 over-nothing : (bs : List ℕ) → splice [] 0 bs ≡ bs
