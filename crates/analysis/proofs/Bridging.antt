@@ -19,9 +19,9 @@ use Rattle.areas.specs.Areas.{areaLabels}
 use Rattle.areas.specs.Spans.{spansIn}
 use Rattle.areas.specs.Assessments.{records}
 use Rattle.areas.proofs.Areas.{area-labels-length}
-use Rattle.walk.specs.Slices.{Owners}
+use Rattle.serial_walk.specs.Slices.{Owners}
 use Rattle.bridges.specs.Names.{Labelled}
-use Rattle.walk.specs.Marks.{bridgeMarks}
+use Rattle.serial_walk.specs.Marks.{bridgeMarks}
 use Rattle.areas_partition.specs.Partitioned.{Partitioned}
 use Rattle.areas_partition.specs.declared.Partition.{Partition}
 use Rattle.analysis.specs.Bridging.{Bridged}

@@ -23,7 +23,7 @@ use Rattle.topology.specs.Listing.{Item}
 use Rattle.groups.specs.Listing as Rank
 use Rattle.groups.specs.Regions.{regionLabels, assessAt, bridgeAt}
 use Rattle.groups.specs.Tables.{Counted, Paired, Bridged as BridgesOf}
-use Rattle.walk.specs.Marks.{bridgeMarks}
+use Rattle.serial_walk.specs.Marks.{bridgeMarks}
 use Rattle.measures.specs.Tables.{Labels}
 use Rattle.areas_partition.specs.Partitioned.{Partitioned}
 use Rattle.areas_partition.specs.declared.Partition.{Partition}

@@ -9,7 +9,7 @@ use Rattle.graph.specs.Records.{Record}
 use Rattle.grid.specs.Cells.{Grid}
 use Rattle.areas.specs.Areas.{areaLabels}
 use Rattle.areas.specs.Assessments.{records}
-use Rattle.walk.specs.Marks.{bridgeMarks}
+use Rattle.serial_walk.specs.Marks.{bridgeMarks}
 use Rattle.results.specs.Results.{maxPairs}
 
 -- the region pairs that a small map is first parted with room for

@@ -5,7 +5,7 @@ use Prim.Native.Nat.{ℕ, _*_, _≤_}
 use native.Mathlib.Omega.{arith}
 use native.Mathlib.Decide.{decLt}
 use lib.ListN.{length, replicate, length-replicate, getD-replicate, List·getD-eq-default}
-use Rattle.walk.specs.Slices.{Lent}
+use Rattle.serial_walk.specs.Slices.{Lent}
 
 -- n words for records, m for regions, and v where no record is chained
 module _ (K n m v : ℕ) (records : K ≤ n) (regions : 2 * K ≤ m) (near : m ≤ 8192) (none : K ≤ v) where

@@ -9,10 +9,10 @@ use lib.ListN.{length, set, length-set}
 use lib.Seq.{getD-set-same, getD-set-other}
 use Rattle.lists.specs.Rows.{at}
 use Rattle.wire.specs.Bytes.{splice, u32At, u32Bytes}
-use Rattle.walk.specs.Slices.{put}
+use Rattle.serial_walk.specs.Slices.{put}
 use Rattle.label_table.specs.Table.{Table, OnlyOf}
 use Rattle.bridges.specs.Names.{Labelled, LabelStands, Named, EndNumbers, Forgotten}
-use Rattle.walk.proofs.Puts.{put-at, put-off}
+use Rattle.serial_walk.proofs.Puts.{put-at, put-off}
 use Rattle.label_table.proofs.Table.{table-set, table-blank, word-cleared, all-cleared}
 
 -- one more label has a word: it had one, or gets the one of its place

@@ -12,8 +12,8 @@ use Rattle.graph.specs.Records.{recordsIn}
 use Rattle.graph.specs.Bridges.{isBridge}
 use Rattle.graph.proofs.Records.{records-length, records-at}
 use Rattle.graph.proofs.Renaming.{Occurs, Renaming, same-bridges}
-use Rattle.walk.specs.Slices.{Graph}
-use Rattle.walk.specs.Marks.{bridgeMarks}
+use Rattle.serial_walk.specs.Slices.{Graph}
+use Rattle.serial_walk.specs.Marks.{bridgeMarks}
 use Rattle.bridges.specs.Names.{Labelled, Named, EndNumbers}
 use Rattle.bridges.proofs.Names.{named-apart}
 

@@ -6,7 +6,7 @@ use lib.ListN.{replicate}
 use Rattle.lists.specs.Rows.{rows}
 use Rattle.graph.specs.Records.{recordsIn}
 use Rattle.graph.specs.Bridges.{isBridge}
-use Rattle.walk.specs.Marks.{bridgeMarks}
+use Rattle.serial_walk.specs.Marks.{bridgeMarks}
 
 rows-zero : (n : ℕ) → rows n (λ _. 0) ≡ replicate {A = ℕ} n 0
 unfolding rows

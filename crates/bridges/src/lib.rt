@@ -5,14 +5,14 @@ ghost use mathlib.Core.Path.{_≡_};
 ghost use Prim.Native.Nat.{ℕ, _+_, _*_, _≤_, _<_};
 ghost use lib.ListN.{length};
 ghost use Rattle.graph.specs.Records.{recordsIn};
-ghost use Rattle.walk.specs.Marks.{bridgeMarks};
+ghost use Rattle.serial_walk.specs.Marks.{bridgeMarks};
 ghost use Rattle.wire.specs.Bytes.{u32At};
 ghost use Rattle.bridges.specs.Names.{Labelled};
-ghost use Rattle.walk.specs.Slices.{Owners, Lent};
+ghost use Rattle.serial_walk.specs.Slices.{Owners, Lent};
 use numbering::forget_all;
 use numbering::number_all;
-use walk::full_graph;
-use walk::walk_all;
+use serial_walk::full_graph;
+use serial_walk::walk_all;
 
 // The most records of a walk on short arrays, which cost little to clear.
 const FEW: usize = 64;

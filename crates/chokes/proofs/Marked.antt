@@ -18,7 +18,7 @@ use Rattle.graph.specs.Records.{Record}
 use Rattle.graph.specs.Bridges.{isBridge, markOf}
 use Rattle.areas.specs.Assessments.{records}
 use Rattle.areas.specs.Spans.{spansIn}
-use Rattle.walk.specs.Marks.{bridgeMarks}
+use Rattle.serial_walk.specs.Marks.{bridgeMarks}
 use Rattle.checks.specs.Checks.{firstRefusal}
 use Rattle.job.specs.Refusals.{markChecks}
 use Rattle.results.specs.Rules.{gridOf}

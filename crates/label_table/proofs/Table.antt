@@ -10,9 +10,9 @@ use Rattle.wire.specs.Bytes.{splice, u32At, u32Bytes}
 use Rattle.wire.proofs.Parts.{length-splice, splice-before, splice-after, part-at}
 use Rattle.wire.proofs.Numbers.{length-bytes}
 use Rattle.wire.proofs.Words.{read-same, read-before, read-after, four-bytes}
-use Rattle.walk.specs.Slices.{put}
+use Rattle.serial_walk.specs.Slices.{put}
 use Rattle.label_table.specs.Table.{Table, OnlyOf}
-use Rattle.walk.proofs.Puts.{put-at, put-off}
+use Rattle.serial_walk.proofs.Puts.{put-at, put-off}
 
 module _ {start : List ℕ} {regions base : ℕ} {f : ℕ → ℕ} {work : List ℕ} (T : Table start regions base f work) (fits : base + 4 * regions ≤ length start)
     (x v : ℕ) (l : x < regions) (small : v < 0x1_0000_0000) where

@@ -12,8 +12,8 @@ use Rattle.areas.proofs.Words.{labels-same}
 use Rattle.lists.specs.Rows.{at}
 use Rattle.wire.specs.Bytes.{u32Bytes, splice}
 use Rattle.wire.proofs.Words.{four-bytes}
-use Rattle.walk.specs.Slices.{put}
-use Rattle.walk.proofs.Puts.{put-at, put-off}
+use Rattle.serial_walk.specs.Slices.{put}
+use Rattle.serial_walk.proofs.Puts.{put-at, put-off}
 use Rattle.label_table.proofs.Table.{table-set, table-blank, word-cleared, all-cleared}
 use Rattle.measures.specs.Tables.{LinkRegions, Labels, Written, Later, Cleared, tableNumber, RegionNumbers}
 

@@ -8,7 +8,7 @@ use lib.ListN.{length, getD, drop, replicate}
 use Rattle.lists.specs.Rows.{rows}
 use Rattle.wire.specs.Bytes.{splice, u32At}
 use Rattle.graph.specs.Records.{Record}
-use Rattle.walk.specs.Marks.{bridgeMarks}
+use Rattle.serial_walk.specs.Marks.{bridgeMarks}
 
 abbrev pub ownerAt : List ℕ → ℕ → ℕ
 ownerAt s k = u32At s (12 * k)

@@ -5,7 +5,7 @@ ghost use mathlib.Core.List.{_++_};
 ghost use Prim.Native.Nat.{ℕ, _+_, _*_, _≤_, _<_};
 ghost use lib.ListN.{length, drop, replicate};
 ghost use Rattle.wire.specs.Bytes.{splice};
-ghost use Rattle.walk.specs.Marks.{bridgeMarks};
+ghost use Rattle.serial_walk.specs.Marks.{bridgeMarks};
 ghost use Rattle.probe.specs.Records.{fitting, fitsAt, recordsAt, Loaded, MarksAnswer};
 use crate::copy;
 use analysis::ChokesResult;

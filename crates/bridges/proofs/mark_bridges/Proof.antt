@@ -3,8 +3,8 @@ use Rattle.bridges.proofs.mark_bridges.Statement.{statement}
 use Rattle.bridges.proofs.mark_bridges.Tie as tie
 use mathlib.Core.Path.{_∙_}
 use native.Mathlib.Omega.{arith}
-use Rattle.walk.proofs.Chains.{unlinked, linked-here}
-use Rattle.walk.proofs.Turn.{sized-as}
+use Rattle.serial_walk.proofs.Chains.{unlinked, linked-here}
+use Rattle.serial_walk.proofs.Turn.{sized-as}
 use Rattle.bridges.proofs.Names.{remembered, restored}
 use Rattle.bridges.proofs.Small.{small-graph, small-marks}
 
