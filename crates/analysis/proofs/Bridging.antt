@@ -20,7 +20,7 @@ use Rattle.areas.specs.Spans.{spansIn}
 use Rattle.areas.specs.Assessments.{records}
 use Rattle.areas.proofs.Areas.{area-labels-length}
 use Rattle.serial_walk.specs.Slices.{Owners}
-use Rattle.bridges.specs.Names.{Labelled}
+use Rattle.serial_bridges.specs.Names.{Labelled}
 use Rattle.serial_walk.specs.Marks.{bridgeMarks}
 use Rattle.areas_partition.specs.Partitioned.{Partitioned}
 use Rattle.areas_partition.specs.declared.Partition.{Partition}

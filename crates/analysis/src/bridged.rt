@@ -7,7 +7,7 @@ ghost use Rattle.areas_assessments.specs.Recording.{Arrays};
 ghost use Rattle.areas_partition.specs.Partitioned.{Partitionable, Partitioned};
 ghost use Rattle.results.specs.Results.{maxPairs};
 ghost use Rattle.analysis.specs.Bridging.{fewPairs, Bridged, MarkedWithin};
-use bridges::bridge_boundary_indices;
+use serial_bridges::bridge_boundary_indices;
 use areas_partition::Partition;
 use areas_partition::partition_by_spans;
 

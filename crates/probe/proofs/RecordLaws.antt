@@ -16,7 +16,7 @@ use Rattle.wire.proofs.Parts.{length-splice}
 use Rattle.wire.proofs.Words.{four-bytes}
 use Rattle.graph.specs.Records.{Record, recordIn, recordsIn}
 use Rattle.serial_walk.specs.Marks.{bridgeMarks}
-use Rattle.bridges.specs.Names.{Labelled}
+use Rattle.serial_bridges.specs.Names.{Labelled}
 use Rattle.serial_walk.specs.Slices.{Owners}
 use Rattle.probe.specs.Probe.{putFirst}
 use Rattle.probe.specs.Records.{ownerAt, leftAt, rightAt, recordsAt, fitting, fitsAt, Loaded, AllFit}

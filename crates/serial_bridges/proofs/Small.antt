@@ -14,8 +14,8 @@ use Rattle.graph.proofs.Records.{records-length, records-at}
 use Rattle.graph.proofs.Renaming.{Occurs, Renaming, same-bridges}
 use Rattle.serial_walk.specs.Slices.{Graph}
 use Rattle.serial_walk.specs.Marks.{bridgeMarks}
-use Rattle.bridges.specs.Names.{Labelled, Named, EndNumbers}
-use Rattle.bridges.proofs.Names.{named-apart}
+use Rattle.serial_bridges.specs.Names.{Labelled, Named, EndNumbers}
+use Rattle.serial_bridges.proofs.Names.{named-apart}
 
 module _ {K : ℕ} {lefts rights : List ℕ} {regions base : ℕ} {start work smallLefts smallRights : List ℕ} (L : Labelled K lefts rights regions)
     (N : EndNumbers K lefts rights regions base start work smallLefts smallRights K) where

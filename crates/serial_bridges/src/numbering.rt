@@ -4,7 +4,7 @@ ghost use mathlib.Core.List.{List};
 ghost use Prim.Native.Nat.{ℕ, _+_, _*_, _-_, _≤_, _<_};
 ghost use lib.ListN.{length};
 ghost use Rattle.wire.specs.Bytes.{splice, u32At, u32Bytes};
-ghost use Rattle.bridges.specs.Names.{Labelled, EndNumbers, Forgotten};
+ghost use Rattle.serial_bridges.specs.Names.{Labelled, EndNumbers, Forgotten};
 use label_table::put_word;
 use label_table::word_of;
 use wire::size;

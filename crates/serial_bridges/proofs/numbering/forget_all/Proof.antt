@@ -3,9 +3,9 @@ use mathlib.Core.List.{List}
 use lib.ListN.{length}
 use native.Mathlib.Omega.{arith}
 use Prim.Native.Nat.{ℕ, _-_, _≤_}
-use Rattle.bridges.specs.Names.{Forgotten}
-use Rattle.bridges.proofs.numbering.forget_all.Statement.{statement}
-use Rattle.bridges.proofs.numbering.forget_all.Tie as tie
+use Rattle.serial_bridges.specs.Names.{Forgotten}
+use Rattle.serial_bridges.proofs.numbering.forget_all.Statement.{statement}
+use Rattle.serial_bridges.proofs.numbering.forget_all.Tie as tie
 
 abbrev Inv-loop : tie.InvT-loop
 Inv-loop lefts rights count regions work₀ base k₀ work k = (k ≤ count) × (length work ≡ length work₀)

@@ -1,10 +1,10 @@
 use mathlib.Core.Path.{_≡_, subst, refl}
 use native.Mathlib.Omega.{arith}
 use Prim.Native.Nat.{_-_, _≤_}
-use Rattle.bridges.specs.Names.{EndNumbers}
-use Rattle.bridges.proofs.Names.{unnumbered}
-use Rattle.bridges.proofs.numbering.number_all.Statement.{statement}
-use Rattle.bridges.proofs.numbering.number_all.Tie as tie
+use Rattle.serial_bridges.specs.Names.{EndNumbers}
+use Rattle.serial_bridges.proofs.Names.{unnumbered}
+use Rattle.serial_bridges.proofs.numbering.number_all.Statement.{statement}
+use Rattle.serial_bridges.proofs.numbering.number_all.Tie as tie
 use lib.ListN.{length}
 
 abbrev Inv-loop : tie.InvT-loop

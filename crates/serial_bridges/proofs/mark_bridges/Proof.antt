@@ -1,12 +1,12 @@
 use borrow.Author.Needs.{needs}
-use Rattle.bridges.proofs.mark_bridges.Statement.{statement}
-use Rattle.bridges.proofs.mark_bridges.Tie as tie
+use Rattle.serial_bridges.proofs.mark_bridges.Statement.{statement}
+use Rattle.serial_bridges.proofs.mark_bridges.Tie as tie
 use mathlib.Core.Path.{_∙_}
 use native.Mathlib.Omega.{arith}
 use Rattle.serial_walk.proofs.Chains.{unlinked, linked-here}
 use Rattle.serial_walk.proofs.Turn.{sized-as}
-use Rattle.bridges.proofs.Names.{remembered, restored}
-use Rattle.bridges.proofs.Small.{small-graph, small-marks}
+use Rattle.serial_bridges.proofs.Names.{remembered, restored}
+use Rattle.serial_bridges.proofs.Small.{small-graph, small-marks}
 
 -- what the function is given and asked: the places since only say that its slices have lengths
 abbrev start-of : tie.After-slice-known11 → tie.Start

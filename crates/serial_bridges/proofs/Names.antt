@@ -11,7 +11,7 @@ use Rattle.lists.specs.Rows.{at}
 use Rattle.wire.specs.Bytes.{splice, u32At, u32Bytes}
 use Rattle.serial_walk.specs.Slices.{put}
 use Rattle.label_table.specs.Table.{Table, OnlyOf}
-use Rattle.bridges.specs.Names.{Labelled, LabelStands, Named, EndNumbers, Forgotten}
+use Rattle.serial_bridges.specs.Names.{Labelled, LabelStands, Named, EndNumbers, Forgotten}
 use Rattle.serial_walk.proofs.Puts.{put-at, put-off}
 use Rattle.label_table.proofs.Table.{table-set, table-blank, word-cleared, all-cleared}
 

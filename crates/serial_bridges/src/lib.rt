@@ -7,7 +7,7 @@ ghost use lib.ListN.{length};
 ghost use Rattle.graph.specs.Records.{recordsIn};
 ghost use Rattle.serial_walk.specs.Marks.{bridgeMarks};
 ghost use Rattle.wire.specs.Bytes.{u32At};
-ghost use Rattle.bridges.specs.Names.{Labelled};
+ghost use Rattle.serial_bridges.specs.Names.{Labelled};
 ghost use Rattle.serial_walk.specs.Slices.{Owners, Lent};
 use numbering::forget_all;
 use numbering::number_all;

@@ -2,8 +2,8 @@ use mathlib.Core.Path.{_≡_, refl, sym, _∙_}
 use native.Mathlib.Omega.{arith}
 use Prim.Native.Nat.{_+_, _-_}
 use borrow.Author.Needs.{needs}
-use Rattle.bridges.proofs.numbering.number_of.Statement.{statement}
-use Rattle.bridges.proofs.numbering.number_of.Tie as tie
+use Rattle.serial_bridges.proofs.numbering.number_of.Statement.{statement}
+use Rattle.serial_bridges.proofs.numbering.number_of.Tie as tie
 
 returns : tie.Need-returns
 returns c =

@@ -1,8 +1,8 @@
 use borrow.Author.Needs.{needs}
-use Rattle.bridges.proofs.bridge_boundary_indices.Statement.{statement}
-use Rattle.bridges.proofs.bridge_boundary_indices.Tie as tie
+use Rattle.serial_bridges.proofs.bridge_boundary_indices.Statement.{statement}
+use Rattle.serial_bridges.proofs.bridge_boundary_indices.Tie as tie
 use mathlib.Core.Path.{refl}
-use Rattle.bridges.proofs.Unmarked.{no-records}
+use Rattle.serial_bridges.proofs.Unmarked.{no-records}
 
 mark-few-requires : tie.Need-mark-few-requires
 mark-few-requires c κs = search needs
