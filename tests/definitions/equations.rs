@@ -25,7 +25,7 @@ use Rattle.position.specs.declared.Span.{Span}
 use Rattle.graph.specs.Parts.{componentOf}
 use Rattle.graph.specs.Labels.{count}
 use Rattle.grid.specs.Directions.{eight}
-use Rattle.links.specs.Limits.{limits000}
+use Rattle.serial_links.specs.Limits.{limits000}
 use Rattle.topology.specs.Anchors.{anchorsOf}
 use Rattle.topology.specs.Listing.{spanKey, endsKey}
 use Rattle.merging.specs.Keys.{sourceKey, sourcesKey, observationKey}

@@ -13,7 +13,7 @@ use Rattle.order.specs.Lists.{upFrom}
 use Rattle.position.specs.declared.Span.{Span}
 use Rattle.format.specs.Values.{Boundary, Job}
 use Rattle.format.specs.Encode.{encodeAnswer}
-use Rattle.links.specs.Limits.{Limits}
+use Rattle.serial_links.specs.Limits.{Limits}
 use Rattle.topology.specs.Anchors.{anchorsOf}
 use Rattle.groups.specs.Plan.{mergePlan}
 use Rattle.merging.specs.Copies.{canon, copiesOf}

@@ -16,8 +16,8 @@ use Rattle.format.specs.declared.header.Counts.{Counts}
 use Rattle.grid.specs.Cells.{Grid, mapOf}
 use Rattle.topology.specs.Anchors.{anchorsOf}
 use Rattle.topology.specs.Listing.{Item}
-use Rattle.links.specs.HeldLimits.{limitsOf}
-use Rattle.links.specs.declared.limits.Limits.{Limits as LimitsHeld}
+use Rattle.serial_links.specs.HeldLimits.{limitsOf}
+use Rattle.serial_links.specs.declared.limits.Limits.{Limits as LimitsHeld}
 use Rattle.groups.specs.Plan.{mergePlan}
 use Rattle.groups.specs.Tables.{Boundaries}
 use Rattle.candidates.specs.Owners.{Stored}

@@ -21,7 +21,7 @@ use Rattle.areas.specs.Assessments.{records}
 use Rattle.areas.specs.Spans.{spanIn}
 use Rattle.areas.specs.Words.{labelsIn, labelled}
 use Rattle.topology.specs.Anchors.{anchorsOf}
-use Rattle.links.specs.Limits.{Limits}
+use Rattle.serial_links.specs.Limits.{Limits}
 use Rattle.groups.specs.Listing.{noSpan}
 use Rattle.groups.specs.Regions.{regionLabels}
 use Rattle.groups.specs.Plan.{mergePlan}

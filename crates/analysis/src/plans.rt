@@ -2,7 +2,7 @@
 ghost use Prim.Native.Nat.{_≤_};
 ghost use Rattle.format.specs.Decode.{decode, decodeList};
 ghost use Rattle.grid.specs.Directions.{directionsOf};
-ghost use Rattle.links.specs.HeldLimits.{limitsOf};
+ghost use Rattle.serial_links.specs.HeldLimits.{limitsOf};
 ghost use Rattle.job.specs.Refusals.{reduceChecks, byListChecks};
 ghost use Rattle.results.specs.Results.{ownEnds};
 ghost use Rattle.analysis.specs.Plans.{Leads, PlanLeft};
@@ -15,7 +15,7 @@ use crate::result::first_answer;
 use format::read_header;
 use job::check_reduce;
 use job::check_reduce_by_list;
-use links::limits::Limits;
+use serial_links::limits::Limits;
 
 // The merges of a job by its boundaries' own ends: number 0 and the plan by rank, or a refusal. Left free: what `order` and `plan` hold
 // past the last boundary, and all that they hold after a refusal.

@@ -24,7 +24,7 @@ use Rattle.topology.specs.FullPair.{inPair, inPairs, touches, hasFullPair, noPa
 use Rattle.topology.specs.Listing.{Item}
 use Rattle.topology.proofs.Bases.{by-bases}
 use Rattle.topology.proofs.FullPair.{touches-iff, full-pair-iff}
-use Rattle.links.specs.Geometry.{squares, doubledCentre}
+use Rattle.serial_links.specs.Geometry.{squares, doubledCentre}
 use Rattle.position.specs.Order.{posSame}
 use Rattle.groups.specs.Listing.{noItem, spansOf, boundaryAt, endsAt}
 use Rattle.groups.specs.Regions.{regionLabels, regionCount, assessAt, touching}

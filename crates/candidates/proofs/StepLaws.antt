@@ -18,8 +18,8 @@ use Rattle.position.specs.Order.{posSame}
 use Rattle.position.specs.declared.Span.{Span}
 use Rattle.areas.specs.Spans.{spanIn}
 use Rattle.topology.specs.Numbers.{isFull}
-use Rattle.links.specs.Geometry.{squares, doubledCentre}
-use Rattle.links.specs.Held.{SpanBounded}
+use Rattle.serial_links.specs.Geometry.{squares, doubledCentre}
+use Rattle.serial_links.specs.Held.{SpanBounded}
 use Rattle.candidates.specs.Gives.{hasRegion, OwnBounded, joinsTwo}
 use Rattle.candidates.specs.Linkable.{canLink, Flags}
 use Rattle.candidates.specs.Next.{considered, nextAfter}

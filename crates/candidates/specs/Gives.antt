@@ -8,8 +8,8 @@ use lib.ListN.{length, getD}
 use Rattle.format.specs.Sizes.{baseSize}
 use Rattle.topology.specs.AnchorLoop.{AnchorsIn}
 use Rattle.areas.specs.Spans.{spanIn}
-use Rattle.links.specs.Geometry.{squares, doubledCentre}
-use Rattle.links.specs.Held.{SpanBounded}
+use Rattle.serial_links.specs.Geometry.{squares, doubledCentre}
+use Rattle.serial_links.specs.Held.{SpanBounded}
 
 -- the rank is marked, and the region is one of its pair
 abbrev pub hasRegion : List ℕ → List ℕ → List ℕ → ℕ → ℕ → Bool

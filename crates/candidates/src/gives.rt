@@ -6,7 +6,7 @@ ghost use Rattle.areas.specs.Words.{labelsIn};
 ghost use Rattle.topology.specs.AnchorLoop.{anchoredBy};
 ghost use Rattle.candidates.specs.Gives.{hasRegion, AnchorsOnMap, OwnBounded, TwoBelow, joinsTwo};
 use areas::spans::span_at;
-use links::geometry::centres_differ;
+use serial_links::geometry::centres_differ;
 use topology::anchored::is_anchored;
 use wire::size;
 

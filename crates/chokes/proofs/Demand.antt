@@ -11,7 +11,7 @@ use Rattle.grid.specs.Cells.{Grid}
 use Rattle.topology.specs.Anchors.{anchorsOf}
 use Rattle.topology.specs.Listing.{Item}
 use Rattle.grid.specs.Directions.{eight}
-use Rattle.links.specs.Limits.{Limits, limits000}
+use Rattle.serial_links.specs.Limits.{Limits, limits000}
 use Rattle.merging.specs.Groups.{Groups, noGroups, allGroups}
 use Rattle.merging.specs.Runs.{rulesAnswer}
 use Rattle.merging.specs.Relisted.{Relisted, DistinctEnds}

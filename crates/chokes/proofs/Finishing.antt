@@ -11,9 +11,9 @@ use Rattle.format.specs.Header.{headerAt}
 use Rattle.format.specs.Decode.{decode, decodeList}
 use Rattle.grid.specs.Directions.{eight, directionsOf}
 use Rattle.grid.proofs.Directions.{directions-eight, eight-closed}
-use Rattle.links.specs.Limits.{Limits, limits000}
-use Rattle.links.specs.HeldLimits.{limitsOf}
-use Rattle.links.specs.declared.limits.Limits.{Limits as LimitsHeld}
+use Rattle.serial_links.specs.Limits.{Limits, limits000}
+use Rattle.serial_links.specs.HeldLimits.{limitsOf}
+use Rattle.serial_links.specs.declared.limits.Limits.{Limits as LimitsHeld}
 use Rattle.answer.specs.Gathered.{PlacesOrder}
 use Rattle.checks.specs.Checks.{Check, firstRefusal}
 use Rattle.job.specs.Refusals.{jobChecks, reduceChecks, byListChecks}

@@ -9,7 +9,7 @@ use Rattle.position.specs.declared.Span.{Span}
 use Rattle.format.specs.Values.{Boundary, Job}
 use Rattle.format.specs.Decode.{decode, decodeList}
 use Rattle.areas.specs.Assessments.{records}
-use Rattle.links.specs.Limits.{Limits}
+use Rattle.serial_links.specs.Limits.{Limits}
 use Rattle.checks.specs.Checks.{Check, firstRefusal}
 use Rattle.job.specs.Refusals.{reduceChecks, byListChecks}
 use Rattle.order.specs.Pairs.{Pairs}

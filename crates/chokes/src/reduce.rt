@@ -12,7 +12,7 @@ use analysis::plan_reduce_by_list;
 use encoding::from_job::write_answer;
 use format::read_header;
 use grid::neighbors::EIGHT;
-use links::limits::Limits;
+use serial_links::limits::Limits;
 
 // Writes the answer of a plan where the slice has room for it.
 fn finish(job: &[u8], order: &[u32; 256], plan: &[u32; 256], answer: &mut [u8]) -> ChokesResult

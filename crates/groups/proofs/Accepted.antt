@@ -17,7 +17,7 @@ use Rattle.order.proofs.Keep.{keep-mem, keep-pairs}
 use Rattle.order.proofs.Numbers.{mem-has}
 use Rattle.position.specs.declared.WalkPosition.{WalkPosition}
 use Rattle.grid.specs.Cells.{Grid}
-use Rattle.links.specs.Limits.{Limits}
+use Rattle.serial_links.specs.Limits.{Limits}
 use Rattle.groups.specs.Tests.{every}
 use Rattle.topology.specs.Listing.{Item}
 use Rattle.groups.specs.Regions.{bridgeAt}

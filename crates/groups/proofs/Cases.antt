@@ -12,7 +12,7 @@ use Rattle.graph.specs.Parts.{componentOf}
 use Rattle.grid.specs.Cells.{Grid}
 use Rattle.grid.specs.Directions.{eight}
 use Rattle.areas.specs.Cases.{spanOf}
-use Rattle.links.specs.Limits.{limits000}
+use Rattle.serial_links.specs.Limits.{limits000}
 use Rattle.order.specs.Sorting.{sort}
 use Rattle.order.specs.Keys.{lexLe}
 use Rattle.topology.specs.Listing.{Item, endsKey, listing}

@@ -15,7 +15,7 @@ use Rattle.grid.specs.Cells.{Grid}
 use Rattle.areas.specs.Assessments.{RegionPair, Assessment}
 use Rattle.topology.specs.FullPair.{noPair, fullPair, otherRegion}
 use Rattle.topology.specs.Listing.{Item}
-use Rattle.links.specs.Limits.{Limits}
+use Rattle.serial_links.specs.Limits.{Limits}
 use Rattle.groups.specs.Regions.{assessAt}
 use Rattle.groups.specs.Links.{LinkAt, joins}
 use Rattle.groups.specs.Groups.{LinkGroup}

@@ -15,10 +15,10 @@ use Rattle.order.proofs.Numbers.{has-mem, mem-has}
 use Rattle.length.specs.Floats.{_⊕_, _⊖_}
 use Rattle.position.specs.declared.WalkPosition.{WalkPosition}
 use Rattle.grid.specs.Cells.{Grid, rampCell}
-use Rattle.links.specs.Limits.{Limits}
-use Rattle.links.specs.Geometry.{Vector, cellCentre, dot}
-use Rattle.links.specs.Link.{Link, Bounds}
-use Rattle.links.specs.Flat.{alongTolerance, acrossTolerance, cellReach, insideOn, insideBoth, insideFlat}
+use Rattle.serial_links.specs.Limits.{Limits}
+use Rattle.serial_links.specs.Geometry.{Vector, cellCentre, dot}
+use Rattle.serial_links.specs.Link.{Link, Bounds}
+use Rattle.serial_links.specs.Flat.{alongTolerance, acrossTolerance, cellReach, insideOn, insideBoth, insideFlat}
 use Rattle.topology.specs.RegionStats.{elevationKinds}
 use Rattle.topology.specs.Listing.{Item}
 use Rattle.topology.proofs.RegionStats.{region-cells-iff, ramp-iff}

@@ -18,7 +18,7 @@ use Rattle.topology.specs.FullPair.{touches, hasFullPair}
 use Rattle.topology.specs.Listing.{Item}
 use Rattle.topology.proofs.Anchors.{anchored-iff}
 use Rattle.topology.proofs.FullPair.{touches-iff, full-pair-iff}
-use Rattle.links.specs.Geometry.{DoubledPoint, apart, squares, doubledCentre}
+use Rattle.serial_links.specs.Geometry.{DoubledPoint, apart, squares, doubledCentre}
 use Rattle.groups.specs.Listing.{boundaryAt, endsAt}
 use Rattle.groups.specs.Regions.{regionLabels, assessAt}
 use Rattle.groups.specs.Links.{LinkAt, linkable, links, IsLink}

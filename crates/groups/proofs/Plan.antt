@@ -12,7 +12,7 @@ use Rattle.order.proofs.Members.{getD-mem}
 use Rattle.order.proofs.Numbers.{has-mem, mem-has}
 use Rattle.position.specs.declared.WalkPosition.{WalkPosition}
 use Rattle.grid.specs.Cells.{Grid}
-use Rattle.links.specs.Limits.{Limits}
+use Rattle.serial_links.specs.Limits.{Limits}
 use Rattle.groups.specs.Tests.{any}
 use Rattle.topology.specs.Listing.{Item}
 use Rattle.groups.specs.Groups.{LinkGroup, inAnyLinkGroup, LinkGroupsDisjoint}

@@ -18,7 +18,7 @@ use Rattle.length.specs.Floats.{_⊕_}
 use Rattle.length.specs.Total.{totalLe}
 use Rattle.length.proofs.Total.{total-order}
 use Rattle.format.specs.Bounds.{maxWidthBits}
-use Rattle.links.specs.Limits.{Limits, limits000}
+use Rattle.serial_links.specs.Limits.{Limits, limits000}
 use Rattle.topology.specs.Listing.{Item}
 use Rattle.groups.specs.Listing.{bitsAt}
 use Rattle.groups.specs.Representative.{widthAt, leastWidth, eligible, distanceTo, nearer, retained, IsRetained}

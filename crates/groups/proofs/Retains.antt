@@ -7,7 +7,7 @@ use native.Mathlib.Omega.{arith}
 use lib.ListN.{getD}
 use Rattle.order.specs.Sorting.{sort}
 use Rattle.order.specs.Pairs.{Pairs, more}
-use Rattle.links.specs.Limits.{Limits}
+use Rattle.serial_links.specs.Limits.{Limits}
 use Rattle.topology.specs.Listing.{Item}
 use Rattle.groups.specs.Representative.{eligible, retained, IsRetained}
 use Rattle.groups.specs.Retains.{Retains}

@@ -9,7 +9,7 @@ use Rattle.order.specs.Pairs.{none, more, Distinct}
 use Rattle.position.specs.declared.WalkPosition.{WalkPosition}
 use Rattle.grid.specs.Cells.{Grid}
 use Rattle.topology.specs.Listing.{Item}
-use Rattle.links.specs.Limits.{Limits}
+use Rattle.serial_links.specs.Limits.{Limits}
 use Rattle.groups.specs.Links.{LinkAt}
 use Rattle.groups.specs.Groups.{LinkGroup}
 use Rattle.groups.specs.ConnectedPart.{LinkJoins, Walk, here, onward, LinkOf, ConnectedPart}

@@ -14,8 +14,8 @@ use Rattle.position.specs.declared.WalkPosition.{WalkPosition}
 use Rattle.graph.proofs.Bridges.{bridge-iff}
 use Rattle.grid.specs.Cells.{Grid}
 use Rattle.areas.specs.Assessments.{records}
-use Rattle.links.specs.Limits.{Limits}
-use Rattle.links.specs.Measure.{Measured, empty, within, beyond, passing}
+use Rattle.serial_links.specs.Limits.{Limits}
+use Rattle.serial_links.specs.Measure.{Measured, empty, within, beyond, passing}
 use Rattle.topology.specs.Listing.{Item}
 use Rattle.groups.specs.Tests.{every}
 use Rattle.groups.specs.Listing.{spansOf}

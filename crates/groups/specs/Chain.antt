@@ -7,7 +7,7 @@ use Prim.Native.Nat.{ℕ, suc, _<_, _≤_}
 use lib.ListN.{length}
 use Rattle.grid.specs.Cells.{Grid}
 use Rattle.areas.specs.Assessments.{RegionPair, Assessment}
-use Rattle.links.specs.Limits.{Limits}
+use Rattle.serial_links.specs.Limits.{Limits}
 use Rattle.topology.specs.Listing.{Item}
 use Rattle.groups.specs.Regions.{assessAt}
 use Rattle.groups.specs.Links.{LinkAt}

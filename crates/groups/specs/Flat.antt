@@ -9,8 +9,8 @@ use Rattle.order.specs.Lists.{keep}
 use Rattle.position.specs.declared.WalkPosition.{WalkPosition}
 use Rattle.grid.specs.Cells.{Grid}
 use Rattle.topology.specs.RegionStats.{elevationKinds}
-use Rattle.links.specs.Limits.{Limits}
-use Rattle.links.specs.Parallel.{nearbyParallel}
+use Rattle.serial_links.specs.Limits.{Limits}
+use Rattle.serial_links.specs.Parallel.{nearbyParallel}
 use Rattle.groups.specs.Tests.{every}
 use Rattle.topology.specs.Listing.{Item}
 use Rattle.groups.specs.Listing.{endsAt}

@@ -7,11 +7,11 @@ use lib.Ieee.{Float, lt}
 use Rattle.length.specs.Floats.{_⊕_, _⊖_}
 use Rattle.position.specs.declared.WalkPosition.{WalkPosition}
 use Rattle.grid.specs.Cells.{Grid, rampCell, elevation}
-use Rattle.links.specs.Limits.{Limits}
-use Rattle.links.specs.Geometry.{Vector, cellCentre, dot}
-use Rattle.links.specs.Link.{Link, Bounds}
-use Rattle.links.specs.Flat.{alongTolerance, acrossTolerance, cellReach}
-use Rattle.links.specs.Parallel.{nearbyParallel}
+use Rattle.serial_links.specs.Limits.{Limits}
+use Rattle.serial_links.specs.Geometry.{Vector, cellCentre, dot}
+use Rattle.serial_links.specs.Link.{Link, Bounds}
+use Rattle.serial_links.specs.Flat.{alongTolerance, acrossTolerance, cellReach}
+use Rattle.serial_links.specs.Parallel.{nearbyParallel}
 use Rattle.topology.specs.Listing.{Item}
 use Rattle.groups.specs.Listing.{endsAt}
 use Rattle.groups.specs.Links.{LinkAt}

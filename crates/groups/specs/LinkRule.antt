@@ -9,7 +9,7 @@ use Rattle.position.specs.declared.WalkPosition.{WalkPosition}
 use Rattle.grid.specs.Cells.{Grid, indexOf}
 use Rattle.areas.specs.Areas.{labelAt}
 use Rattle.areas.specs.Assessments.{RegionPair, Assessment}
-use Rattle.links.specs.Geometry.{doubledCentre}
+use Rattle.serial_links.specs.Geometry.{doubledCentre}
 use Rattle.topology.specs.Listing.{Item}
 use Rattle.groups.specs.Listing.{boundaryAt, endsAt}
 use Rattle.groups.specs.Regions.{regionLabels, regionCount, assessAt}

@@ -13,7 +13,7 @@ use Rattle.position.specs.declared.WalkPosition.{WalkPosition}
 use Rattle.grid.specs.Cells.{Grid}
 use Rattle.topology.specs.FullPair.{touches, hasFullPair}
 use Rattle.topology.specs.Anchors.{isAnchored}
-use Rattle.links.specs.Geometry.{squares, doubledCentre}
+use Rattle.serial_links.specs.Geometry.{squares, doubledCentre}
 use Rattle.topology.specs.Listing.{Item}
 use Rattle.groups.specs.Listing.{boundaryAt, endsAt}
 use Rattle.groups.specs.Regions.{regionLabels, regionCount, assessAt, touching}

@@ -4,10 +4,10 @@ use mathlib.Core.Bool.{Bool}
 use mathlib.Core.List.{List}
 use Prim.Native.Nat.{ℕ}
 use Rattle.grid.specs.Cells.{Grid}
-use Rattle.links.specs.Limits.{Limits}
-use Rattle.links.specs.Link.{Side, Link, linkOf, widenedBy}
-use Rattle.links.specs.Measure.{Measured, extremes, judged, measured, passing}
-use Rattle.links.specs.Flat.{insideFlat}
+use Rattle.serial_links.specs.Limits.{Limits}
+use Rattle.serial_links.specs.Link.{Side, Link, linkOf, widenedBy}
+use Rattle.serial_links.specs.Measure.{Measured, extremes, judged, measured, passing}
+use Rattle.serial_links.specs.Flat.{insideFlat}
 use Rattle.topology.specs.Listing.{Item}
 use Rattle.groups.specs.Listing.{endsAt, bitsAt}
 use Rattle.groups.specs.Regions.{cellsOf}

@@ -6,7 +6,7 @@ use Prim.Native.Nat.{ℕ}
 use Rattle.order.specs.Lists.{has}
 use Rattle.position.specs.declared.WalkPosition.{WalkPosition}
 use Rattle.grid.specs.Cells.{Grid}
-use Rattle.links.specs.Limits.{Limits}
+use Rattle.serial_links.specs.Limits.{Limits}
 use Rattle.topology.specs.Listing.{Item}
 use Rattle.groups.specs.Groups.{LinkGroup}
 use Rattle.groups.specs.Flat.{accepted}

@@ -10,9 +10,9 @@ use Rattle.order.specs.Lists.{keep}
 use Rattle.order.specs.Sorting.{sort}
 use Rattle.length.specs.Floats.{_⊕_}
 use Rattle.length.specs.Total.{totalLe}
-use Rattle.links.specs.Limits.{Limits}
-use Rattle.links.specs.Geometry.{squares}
-use Rattle.links.specs.Sums.{addedTo, sumOf, noLater, distanceSum}
+use Rattle.serial_links.specs.Limits.{Limits}
+use Rattle.serial_links.specs.Geometry.{squares}
+use Rattle.serial_links.specs.Sums.{addedTo, sumOf, noLater, distanceSum}
 use Rattle.topology.specs.Listing.{Item}
 use Rattle.groups.specs.Listing.{endsAt, bitsAt}
 

@@ -9,9 +9,9 @@ use Rattle.order.specs.Sorting.{sort}
 use Rattle.length.specs.Total.{totalLe}
 use Rattle.position.specs.declared.WalkPosition.{WalkPosition}
 use Rattle.grid.specs.Cells.{Grid}
-use Rattle.links.specs.Limits.{Limits}
-use Rattle.links.specs.Geometry.{squares, centreDistance}
-use Rattle.links.specs.Sums.{addedTo, sumOf, ascendingSum}
+use Rattle.serial_links.specs.Limits.{Limits}
+use Rattle.serial_links.specs.Geometry.{squares, centreDistance}
+use Rattle.serial_links.specs.Sums.{addedTo, sumOf, ascendingSum}
 use Rattle.groups.specs.Tests.{every}
 use Rattle.topology.specs.Listing.{Item}
 use Rattle.groups.specs.Listing.{endsAt}

@@ -9,10 +9,10 @@ use Rattle.position.specs.declared.WalkPosition.{WalkPosition}
 use Rattle.graph.specs.Bridges.{Bridge}
 use Rattle.grid.specs.Cells.{Grid}
 use Rattle.areas.specs.Assessments.{records}
-use Rattle.links.specs.Limits.{Limits}
-use Rattle.links.specs.Geometry.{centreDistance}
-use Rattle.links.specs.Sums.{ascendingSum}
-use Rattle.links.specs.Measure.{measured, within}
+use Rattle.serial_links.specs.Limits.{Limits}
+use Rattle.serial_links.specs.Geometry.{centreDistance}
+use Rattle.serial_links.specs.Sums.{ascendingSum}
+use Rattle.serial_links.specs.Measure.{measured, within}
 use Rattle.topology.specs.Listing.{Item}
 use Rattle.groups.specs.Listing.{spansOf, endsAt}
 use Rattle.groups.specs.Regions.{cellsOf}

@@ -8,7 +8,7 @@ use lib.ListN.{length, getD}
 use Rattle.order.specs.Lists.{keep}
 use Rattle.grid.specs.Cells.{Grid}
 use Rattle.topology.specs.FullPair.{fullPair, otherRegion}
-use Rattle.links.specs.Limits.{Limits}
+use Rattle.serial_links.specs.Limits.{Limits}
 use Rattle.groups.specs.Tests.{every}
 use Rattle.topology.specs.Listing.{Item}
 use Rattle.groups.specs.Regions.{assessAt}

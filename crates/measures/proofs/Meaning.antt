@@ -13,13 +13,13 @@ use Rattle.lists.specs.Rows.{at}
 use Rattle.position.specs.declared.Span.{Span}
 use Rattle.grid.specs.Cells.{Grid}
 use Rattle.areas.specs.Spans.{spanIn}
-use Rattle.links.specs.Limits.{Limits}
-use Rattle.links.specs.Link.{Link, linkOf}
-use Rattle.links.specs.Measure.{Measured as Measure, measured, passing}
-use Rattle.links.specs.Flat.{insideFlat}
-use Rattle.links.specs.HeldLink.{side, linkAfter, measuredIn}
-use Rattle.links.specs.declared.link.Link.{Link as LinkHeld}
-use Rattle.links.proofs.Cells.{after-measured}
+use Rattle.serial_links.specs.Limits.{Limits}
+use Rattle.serial_links.specs.Link.{Link, linkOf}
+use Rattle.serial_links.specs.Measure.{Measured as Measure, measured, passing}
+use Rattle.serial_links.specs.Flat.{insideFlat}
+use Rattle.serial_links.specs.HeldLink.{side, linkAfter, measuredIn}
+use Rattle.serial_links.specs.declared.link.Link.{Link as LinkHeld}
+use Rattle.serial_links.proofs.Cells.{after-measured}
 use Rattle.topology.specs.RegionStats.{RegionStats, regionCells, regionStats, elevationKinds}
 use Rattle.topology.specs.Held.{statsIn, statsAfter, firstCells}
 use Rattle.topology.specs.declared.stats.RegionStats.{RegionStats as StatsHeld}

@@ -9,9 +9,9 @@ use Rattle.lists.specs.Rows.{at}
 use Rattle.wire.specs.Bytes.{u32At}
 use Rattle.position.specs.declared.Span.{Span}
 use Rattle.areas.specs.Spans.{spanIn}
-use Rattle.links.specs.Link.{linkOf}
-use Rattle.links.specs.Held.{SpanBounded}
-use Rattle.links.specs.HeldLink.{side, noCell}
+use Rattle.serial_links.specs.Link.{linkOf}
+use Rattle.serial_links.specs.Held.{SpanBounded}
+use Rattle.serial_links.specs.HeldLink.{side, noCell}
 use Rattle.measures.specs.Tables.{tableNumber}
 use Rattle.measures.specs.Judging.{CoordinatesBounded, valueIn}
 

@@ -5,10 +5,10 @@ use mathlib.Core.List.{List}
 use Prim.Native.Nat.{ℕ, _+_, _/_, _%_, _<_}
 use lib.Dec.{eqb}
 use Rattle.areas.specs.Words.{word, labelsIn}
-use Rattle.links.specs.Limits.{Limits}
-use Rattle.links.specs.HeldLink.{linkWithCell, linkAfter}
-use Rattle.links.specs.declared.link.Link.{Link as LinkHeld}
-use Rattle.links.proofs.Cells.{after-none, after-next}
+use Rattle.serial_links.specs.Limits.{Limits}
+use Rattle.serial_links.specs.HeldLink.{linkWithCell, linkAfter}
+use Rattle.serial_links.specs.declared.link.Link.{Link as LinkHeld}
+use Rattle.serial_links.proofs.Cells.{after-none, after-next}
 use Rattle.topology.proofs.CountLoop.{pass-next}
 use Rattle.measures.specs.Judging.{AllCells}
 use Rattle.measures.proofs.Turns.{no-cells}

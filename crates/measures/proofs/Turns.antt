@@ -17,10 +17,10 @@ use Rattle.grid.proofs.Index.{column-of, row-of, row-in}
 use Rattle.areas.specs.Areas.{labelAt}
 use Rattle.areas.specs.Words.{word, labelsIn}
 use Rattle.areas.proofs.Words.{label-in}
-use Rattle.links.specs.Limits.{Limits}
-use Rattle.links.specs.HeldLink.{noCell, linkWithCell, linkAfter}
-use Rattle.links.specs.declared.link.Link.{Link as LinkHeld}
-use Rattle.links.proofs.Cells.{after-none, after-next}
+use Rattle.serial_links.specs.Limits.{Limits}
+use Rattle.serial_links.specs.HeldLink.{noCell, linkWithCell, linkAfter}
+use Rattle.serial_links.specs.declared.link.Link.{Link as LinkHeld}
+use Rattle.serial_links.proofs.Cells.{after-none, after-next}
 use Rattle.topology.specs.Held.{CellRoom, NoCells, linkWithCell as withStats, statsAfter, firstCells}
 use Rattle.topology.specs.declared.stats.RegionStats.{RegionStats as StatsHeld}
 use Rattle.topology.proofs.Counting.{after-next as stats-next, after-room, cells-in, cells-out, cells-most}

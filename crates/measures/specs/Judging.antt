@@ -8,11 +8,11 @@ use lib.ListN.{length, getD}
 use Rattle.lists.specs.Rows.{at}
 use Rattle.grid.specs.Cells.{Grid}
 use Rattle.areas.specs.Spans.{spanIn}
-use Rattle.links.specs.Limits.{Limits}
-use Rattle.links.specs.Link.{Link, linkOf}
-use Rattle.links.specs.Measure.{passing}
-use Rattle.links.specs.HeldLink.{side, noCell, linkAfter, measuredIn}
-use Rattle.links.specs.declared.link.Link.{Link as LinkHeld}
+use Rattle.serial_links.specs.Limits.{Limits}
+use Rattle.serial_links.specs.Link.{Link, linkOf}
+use Rattle.serial_links.specs.Measure.{passing}
+use Rattle.serial_links.specs.HeldLink.{side, noCell, linkAfter, measuredIn}
+use Rattle.serial_links.specs.declared.link.Link.{Link as LinkHeld}
 use Rattle.topology.specs.RegionStats.{elevationKinds}
 use Rattle.topology.specs.Held.{statsIn, statsAfter, firstCells}
 use Rattle.topology.specs.declared.stats.RegionStats.{RegionStats as StatsHeld}

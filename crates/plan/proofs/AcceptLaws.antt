@@ -12,8 +12,8 @@ use lib.ListN.{length, getD}
 use Rattle.order.proofs.Bools.{and-parts}
 use Rattle.order.proofs.Keep.{keep-length}
 use Rattle.areas.specs.Spans.{spanIn}
-use Rattle.links.specs.Limits.{Limits}
-use Rattle.links.specs.Geometry.{centreDistance}
+use Rattle.serial_links.specs.Limits.{Limits}
+use Rattle.serial_links.specs.Geometry.{centreDistance}
 use Rattle.groups.specs.Tests.{every}
 use Rattle.groups.specs.Flat.{leastFlatSpans}
 use Rattle.plan.specs.declared.few.Few.{Few}

@@ -10,8 +10,8 @@ use Rattle.position.specs.declared.Span.{Span}
 use Rattle.position.specs.declared.WalkPosition.{WalkPosition}
 use Rattle.grid.specs.Cells.{Grid}
 use Rattle.areas.specs.Spans.{spanIn}
-use Rattle.links.specs.Limits.{Limits}
-use Rattle.links.specs.Parallel.{nearbyParallel}
+use Rattle.serial_links.specs.Limits.{Limits}
+use Rattle.serial_links.specs.Parallel.{nearbyParallel}
 use Rattle.topology.specs.Listing.{Item}
 use Rattle.groups.specs.Listing.{endsAt}
 use Rattle.groups.specs.Regions.{bridgeAt}

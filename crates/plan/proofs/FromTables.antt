@@ -12,8 +12,8 @@ use Rattle.lists.specs.Rows.{at, rows}
 use Rattle.lists.proofs.Rows.{length-rows, rows-at}
 use Rattle.position.specs.declared.WalkPosition.{WalkPosition}
 use Rattle.grid.specs.Cells.{Grid}
-use Rattle.links.specs.Held.{SpanBounded}
-use Rattle.links.specs.Limits.{Limits}
+use Rattle.serial_links.specs.Held.{SpanBounded}
+use Rattle.serial_links.specs.Limits.{Limits}
 use Rattle.topology.specs.FullPair.{fullPair}
 use Rattle.topology.specs.Listing.{Item}
 use Rattle.groups.specs.Regions.{assessAt}

@@ -13,7 +13,7 @@ use Rattle.graph.specs.Parts.{componentOf}
 use Rattle.position.specs.declared.WalkPosition.{WalkPosition}
 use Rattle.grid.specs.Cells.{Grid}
 use Rattle.topology.specs.Listing.{Item}
-use Rattle.links.specs.Limits.{Limits}
+use Rattle.serial_links.specs.Limits.{Limits}
 use Rattle.groups.specs.Links.{LinkAt, links}
 use Rattle.groups.specs.Groups.{LinkGroup, linkEdges, isJoined, groupAt}
 use Rattle.groups.specs.Serial.{acceptsSerial}

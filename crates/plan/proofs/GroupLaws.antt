@@ -22,10 +22,10 @@ use Rattle.areas.specs.Spans.{spanIn}
 use Rattle.areas.specs.Assessments.{RegionPair, regionPair}
 use Rattle.topology.specs.FullPair.{otherRegion}
 use Rattle.topology.specs.Listing.{Item}
-use Rattle.links.specs.Limits.{Limits}
-use Rattle.links.specs.Geometry.{centreDistance}
-use Rattle.links.specs.Parallel.{nearbyParallel}
-use Rattle.links.specs.Sums.{ascendingSum, distanceSum, noLater}
+use Rattle.serial_links.specs.Limits.{Limits}
+use Rattle.serial_links.specs.Geometry.{centreDistance}
+use Rattle.serial_links.specs.Parallel.{nearbyParallel}
+use Rattle.serial_links.specs.Sums.{ascendingSum, distanceSum, noLater}
 use Rattle.groups.specs.Tests.{every}
 use Rattle.groups.specs.Listing.{endsAt, bitsAt}
 use Rattle.groups.specs.Links.{LinkAt, joins}

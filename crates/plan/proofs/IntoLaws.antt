@@ -6,7 +6,7 @@ use Prim.Native.Nat.{ℕ}
 use borrow.Author.Tests.{eq-eqb, ne-eqb}
 use lib.Dec.{eqb}
 use Rattle.lists.specs.Rows.{at}
-use Rattle.links.specs.Limits.{Limits}
+use Rattle.serial_links.specs.Limits.{Limits}
 use Rattle.plan.specs.Arrays.{ranksIn, numbersIn}
 use Rattle.plan.specs.Shape.{retainedIn}
 use Rattle.plan.specs.Told.{serialIn, flatIn}

@@ -13,8 +13,8 @@ use Rattle.order.proofs.Bools.{by-test, clash, and-parts}
 use Rattle.order.proofs.Keep.{keep-mem, keep-length}
 use Rattle.order.proofs.Numbers.{up-mem, up-length}
 use Rattle.areas.specs.Spans.{spanIn}
-use Rattle.links.specs.Limits.{Limits}
-use Rattle.links.specs.Geometry.{centreDistance}
+use Rattle.serial_links.specs.Limits.{Limits}
+use Rattle.serial_links.specs.Geometry.{centreDistance}
 use Rattle.groups.specs.Tests.{every}
 use Rattle.groups.specs.Flat.{leastFlatSpans}
 use Rattle.plan.specs.declared.few.Few.{Few}

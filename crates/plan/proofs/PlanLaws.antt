@@ -8,7 +8,7 @@ use Rattle.order.specs.Lists.{keep}
 use Rattle.lists.specs.Rows.{at, rows}
 use Rattle.position.specs.declared.WalkPosition.{WalkPosition}
 use Rattle.grid.specs.Cells.{Grid}
-use Rattle.links.specs.Limits.{Limits}
+use Rattle.serial_links.specs.Limits.{Limits}
 use Rattle.topology.specs.Listing.{Item}
 use Rattle.groups.specs.Tests.{any}
 use Rattle.groups.specs.Links.{links}

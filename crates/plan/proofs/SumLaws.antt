@@ -25,11 +25,11 @@ use Rattle.sorting.specs.Between.{between}
 use Rattle.length.specs.Total.{totalKey, totalLe}
 use Rattle.areas.specs.Spans.{spanIn}
 use Rattle.position.specs.declared.Span.{Span}
-use Rattle.links.specs.Geometry.{centreDistance}
-use Rattle.links.specs.Sums.{noLater, sumOf, ascendingSum, distanceSum, Patterns}
-use Rattle.links.specs.Held.{Number}
-use Rattle.links.proofs.Numbers.{upward, upward-number, upward-bits, distance-upward, distance-fits, distance-sum-number}
-use Rattle.links.proofs.SumSteps.{Summed, summed-end}
+use Rattle.serial_links.specs.Geometry.{centreDistance}
+use Rattle.serial_links.specs.Sums.{noLater, sumOf, ascendingSum, distanceSum, Patterns}
+use Rattle.serial_links.specs.Held.{Number}
+use Rattle.serial_links.proofs.Numbers.{upward, upward-number, upward-bits, distance-upward, distance-fits, distance-sum-number}
+use Rattle.serial_links.proofs.SumSteps.{Summed, summed-end}
 use Rattle.plan.specs.declared.few.Few.{Few}
 use Rattle.plan.specs.Few.{fewAt, fewList}
 use Rattle.plan.specs.Shape.{gapIn, chainIn, sumIn, BitsOf}

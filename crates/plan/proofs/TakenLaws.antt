@@ -14,7 +14,7 @@ use Rattle.graph.specs.Parts.{componentOf}
 use Rattle.graph.specs.Labels.{begins}
 use Rattle.position.specs.declared.WalkPosition.{WalkPosition}
 use Rattle.grid.specs.Cells.{Grid}
-use Rattle.links.specs.Limits.{Limits}
+use Rattle.serial_links.specs.Limits.{Limits}
 use Rattle.topology.specs.Listing.{Item}
 use Rattle.groups.specs.Links.{LinkAt}
 use Rattle.groups.specs.Groups.{LinkGroup, linkEdges, isJoined, groupAt, groupsOf, inAnyLinkGroup}

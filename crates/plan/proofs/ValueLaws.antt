@@ -18,10 +18,10 @@ use Rattle.areas.specs.Spans.{spanIn}
 use Rattle.topology.specs.FullPair.{otherRegion}
 use Rattle.groups.specs.Tests.{every}
 use Rattle.order.proofs.Keep.{keep-length}
-use Rattle.links.specs.Limits.{Limits}
-use Rattle.links.specs.Sums.{noLater}
-use Rattle.links.specs.Held.{SpanBounded, Number}
-use Rattle.links.proofs.Numbers.{distance-number}
+use Rattle.serial_links.specs.Limits.{Limits}
+use Rattle.serial_links.specs.Sums.{noLater}
+use Rattle.serial_links.specs.Held.{SpanBounded, Number}
+use Rattle.serial_links.proofs.Numbers.{distance-number}
 use Rattle.plan.specs.declared.few.Few.{Few}
 use Rattle.plan.specs.Few.{fewOf, fewAt, fewList}
 use Rattle.plan.specs.Arrays.{joinsAt}

@@ -3,7 +3,7 @@ use Prim.Native.Nat.{ℕ, _<_, _≤_}
 use mathlib.Core.List.{List}
 use Rattle.lists.specs.Rows.{at}
 use Rattle.areas.specs.Spans.{spanIn}
-use Rattle.links.specs.Held.{SpanBounded}
+use Rattle.serial_links.specs.Held.{SpanBounded}
 use Rattle.plan.specs.declared.few.Few.{Few}
 use Rattle.plan.specs.Few.{fewAt}
 use Rattle.plan.specs.Arrays.{LinkRanks}

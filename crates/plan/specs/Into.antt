@@ -4,7 +4,7 @@ use mathlib.Core.List.{List}
 use Prim.Native.Nat.{ℕ}
 use lib.Dec.{eqb}
 use Rattle.lists.specs.Rows.{at}
-use Rattle.links.specs.Limits.{Limits}
+use Rattle.serial_links.specs.Limits.{Limits}
 use Rattle.plan.specs.Arrays.{isOn, ranksIn, numbersIn}
 use Rattle.plan.specs.Shape.{retainedIn}
 use Rattle.plan.specs.Told.{serialIn, flatIn}

@@ -6,7 +6,7 @@ use lib.ListN.{length, getD}
 use Rattle.position.specs.declared.WalkPosition.{WalkPosition}
 use Rattle.format.specs.Decode.{baseOf, baseRecords}
 use Rattle.grid.specs.Cells.{Grid}
-use Rattle.links.specs.Limits.{Limits}
+use Rattle.serial_links.specs.Limits.{Limits}
 use Rattle.topology.specs.Anchors.{anchorsOf}
 use Rattle.topology.specs.Listing.{Item}
 use Rattle.groups.specs.Plan.{mergePlan}

@@ -14,10 +14,10 @@ use Rattle.length.specs.Floats.{_⊕_}
 use Rattle.length.specs.Total.{totalLe}
 use Rattle.areas.specs.Spans.{spanIn}
 use Rattle.topology.specs.FullPair.{otherRegion}
-use Rattle.links.specs.Limits.{Limits}
-use Rattle.links.specs.Geometry.{squares, centreDistance}
-use Rattle.links.specs.Parallel.{nearbyParallel}
-use Rattle.links.specs.Sums.{addedTo, sumOf, noLater, ascendingSum, distanceSum}
+use Rattle.serial_links.specs.Limits.{Limits}
+use Rattle.serial_links.specs.Geometry.{squares, centreDistance}
+use Rattle.serial_links.specs.Parallel.{nearbyParallel}
+use Rattle.serial_links.specs.Sums.{addedTo, sumOf, noLater, ascendingSum, distanceSum}
 use Rattle.groups.specs.Tests.{every}
 use Rattle.plan.specs.Arrays.{isOn, joinsAt}
 

@@ -1,7 +1,7 @@
 // The rules on a group.
 ghost use mathlib.Core.Path.{_≡_};
 ghost use Prim.Native.Nat.{_≤_};
-ghost use Rattle.links.specs.HeldLimits.{limitsOf};
+ghost use Rattle.serial_links.specs.HeldLimits.{limitsOf};
 ghost use Rattle.plan.specs.Few.{fewList};
 ghost use Rattle.plan.specs.Told.{serialIn, flatIn};
 ghost use Rattle.plan.specs.Fitting.{RankFits, RanksFit, Links};
@@ -12,8 +12,8 @@ use crate::few::Few;
 use crate::path::all_on;
 use crate::path::group_end_nodes;
 use crate::path::group_is_simple_path;
-use links::limits::Chain;
-use links::limits::Limits;
+use serial_links::limits::Chain;
+use serial_links::limits::Limits;
 
 // Every link passes, and the group is a simple path that isn't too long.
 pub fn accepts_serial(

@@ -2,14 +2,14 @@
 ghost use mathlib.Core.Path.{_≡_};
 ghost use Prim.Native.Nat.{_<_};
 ghost use Rattle.groups.specs.Tests.{every};
-ghost use Rattle.links.specs.HeldLimits.{limitsOf};
+ghost use Rattle.serial_links.specs.HeldLimits.{limitsOf};
 ghost use Rattle.plan.specs.Few.{fewList};
 ghost use Rattle.plan.specs.Shape.{alikeIn, allAlikeIn};
 ghost use Rattle.plan.specs.Fitting.{RankFits, RanksFit};
 use crate::few::Few;
 use areas::spans::span_at;
-use links::limits::Limits;
-use links::parallel::SpanPair;
+use serial_links::limits::Limits;
+use serial_links::parallel::SpanPair;
 
 // The span of rank i with that of rank j.
 pub fn alike(limits: Limits, own: &[u32; 1024], i: usize, j: usize) -> bool

@@ -3,14 +3,14 @@ ghost use mathlib.Core.Path.{_≡_};
 ghost use Prim.Native.Nat.{_≤_};
 ghost use lib.ListN.{length};
 ghost use Rattle.areas.specs.Spans.{spanIn};
-ghost use Rattle.links.specs.Geometry.{centreDistance};
+ghost use Rattle.serial_links.specs.Geometry.{centreDistance};
 ghost use Rattle.plan.specs.Few.{fewList};
 ghost use Rattle.plan.specs.Shape.{gapIn, chainIn, BitsOf};
 ghost use Rattle.plan.specs.Fitting.{RankFits, LinkFits, Links};
 use crate::few::Few;
 use areas::spans::span_at;
-use links::geometry::centre_distance;
-use links::sums::sum_of_bits;
+use serial_links::geometry::centre_distance;
+use serial_links::sums::sum_of_bits;
 use sorting::numbers::sort_keys;
 use wire::size;
 

@@ -3,13 +3,13 @@ ghost use mathlib.Core.Path.{_≡_};
 ghost use Prim.Native.Nat.{_<_, _≤_};
 ghost use lib.ListN.{length};
 ghost use Rattle.lists.specs.Rows.{at};
-ghost use Rattle.links.specs.HeldLimits.{limitsOf};
+ghost use Rattle.serial_links.specs.HeldLimits.{limitsOf};
 ghost use Rattle.plan.specs.Arrays.{FirstAre};
 ghost use Rattle.plan.specs.Into.{serialInto, flatInto, goesTo};
 ghost use Rattle.plan.specs.Fitting.{Safe};
 use crate::judge::judge_flat;
 use crate::judge::judge_serial;
-use links::limits::Limits;
+use serial_links::limits::Limits;
 use wire::size;
 
 fn short(x: usize) -> u32

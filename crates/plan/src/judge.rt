@@ -2,7 +2,7 @@
 ghost use mathlib.Core.Path.{_≡_};
 ghost use mathlib.Core.Bool.{cond};
 ghost use Prim.Native.Nat.{_≤_};
-ghost use Rattle.links.specs.HeldLimits.{limitsOf};
+ghost use Rattle.serial_links.specs.HeldLimits.{limitsOf};
 ghost use Rattle.plan.specs.Arrays.{ranksIn, numbersIn};
 ghost use Rattle.plan.specs.Shape.{retainedIn};
 ghost use Rattle.plan.specs.Told.{serialIn, flatIn};
@@ -12,7 +12,7 @@ use crate::accept::accepts_serial;
 use crate::gather::links_of;
 use crate::gather::ranks_of;
 use crate::retain::representative;
-use links::limits::Limits;
+use serial_links::limits::Limits;
 
 // The retained rank of the serial group of part c, 256 if the rules refuse it.
 pub fn judge_serial(

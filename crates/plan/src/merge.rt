@@ -2,7 +2,7 @@
 ghost use mathlib.Core.Path.{_≡_};
 ghost use Prim.Native.Nat.{_≤_};
 ghost use lib.ListN.{length};
-ghost use Rattle.links.specs.HeldLimits.{limitsOf};
+ghost use Rattle.serial_links.specs.HeldLimits.{limitsOf};
 ghost use Rattle.plan.specs.Arrays.{LinkRanks};
 ghost use Rattle.plan.specs.Fitting.{RankedLinks, Safe};
 ghost use Rattle.plan.specs.Planning.{LinkComponents, SerialPlan, FlatPlan, PlanOf};
@@ -14,7 +14,7 @@ use crate::parts::mark_joined;
 use crate::parts::start;
 use crate::select::select_flat;
 use crate::select::select_serial;
-use links::limits::Limits;
+use serial_links::limits::Limits;
 
 // The parts of the chosen links, and the ranks that they join.
 fn join_chosen(

@@ -6,14 +6,14 @@ ghost use lib.Dec.{eqb};
 ghost use Rattle.lists.specs.Rows.{at};
 ghost use Rattle.order.specs.Lists.{keep};
 ghost use Rattle.groups.specs.Tests.{every};
-ghost use Rattle.links.specs.HeldLimits.{limitsOf};
+ghost use Rattle.serial_links.specs.HeldLimits.{limitsOf};
 ghost use Rattle.plan.specs.Few.{fewOf, fewList, near, nearLink};
 ghost use Rattle.plan.specs.Arrays.{isOn, joinsAt};
 ghost use Rattle.plan.specs.Shape.{endsIn, regularIn, outerIn, pathIn};
 ghost use Rattle.plan.specs.Fitting.{Slots};
 use crate::few::Few;
-use links::limits::GroupSize;
-use links::limits::Limits;
+use serial_links::limits::GroupSize;
+use serial_links::limits::Limits;
 use topology::pairs::other_region;
 use wire::size;
 

@@ -4,12 +4,12 @@ ghost use Prim.Native.Nat.{_≤_};
 ghost use lib.ListN.{length};
 ghost use Rattle.grid.specs.Cells.{mapOf};
 ghost use Rattle.areas.specs.Words.{labelsIn};
-ghost use Rattle.links.specs.HeldLimits.{limitsOf};
+ghost use Rattle.serial_links.specs.HeldLimits.{limitsOf};
 ghost use Rattle.plan.specs.Listed.{PlanInput};
 ghost use Rattle.plan.specs.Planned.{LinksFrom, PlanFrom};
 use crate::merge::merge_plan;
 use candidates::candidate_links;
-use links::limits::Limits;
+use serial_links::limits::Limits;
 use measures::measure_links;
 
 // The links with their marks, and the first pairs of the ranks. Gives how many links there are; the table is left as it was.

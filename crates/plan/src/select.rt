@@ -5,12 +5,12 @@ ghost use Prim.Native.Nat.{ℕ, _<_, _≤_};
 ghost use lib.Dec.{eqb};
 ghost use lib.ListN.{length};
 ghost use Rattle.lists.specs.Rows.{at};
-ghost use Rattle.links.specs.HeldLimits.{limitsOf};
+ghost use Rattle.serial_links.specs.HeldLimits.{limitsOf};
 ghost use Rattle.plan.specs.Arrays.{isOn, LinkRanks, FirstAre};
 ghost use Rattle.plan.specs.Shape.{bothOn, flatLinkIn};
 ghost use Rattle.plan.specs.Fitting.{RankFits, LinkFits};
 use crate::alike::alike;
-use links::limits::Limits;
+use serial_links::limits::Limits;
 use wire::size;
 
 fn mark(on: bool) -> u8

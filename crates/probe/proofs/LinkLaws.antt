@@ -22,14 +22,14 @@ use Rattle.format.specs.declared.records.BoundaryRecord.{BoundaryRecord}
 use Rattle.areas.specs.Words.{labelsIn}
 use Rattle.topology.specs.RegionStats.{regionCells}
 use Rattle.topology.specs.Held.{one, firstCells}
-use Rattle.links.specs.Limits.{Limits}
-use Rattle.links.specs.Link.{Side, Link, linkOf}
-use Rattle.links.specs.Measure.{Measured, measured}
-use Rattle.links.specs.Flat.{insideFlat}
-use Rattle.links.specs.Held.{SpanBounded}
-use Rattle.links.specs.HeldLink.{side, noCell, linkAfter, measuredIn}
-use Rattle.links.specs.declared.link.Link.{Link as LinkHeld}
-use Rattle.links.proofs.Cells.{after-measured}
+use Rattle.serial_links.specs.Limits.{Limits}
+use Rattle.serial_links.specs.Link.{Side, Link, linkOf}
+use Rattle.serial_links.specs.Measure.{Measured, measured}
+use Rattle.serial_links.specs.Flat.{insideFlat}
+use Rattle.serial_links.specs.Held.{SpanBounded}
+use Rattle.serial_links.specs.HeldLink.{side, noCell, linkAfter, measuredIn}
+use Rattle.serial_links.specs.declared.link.Link.{Link as LinkHeld}
+use Rattle.serial_links.proofs.Cells.{after-measured}
 use Rattle.measures.specs.Judging.{AllCells}
 use Rattle.analysis.specs.Plans.{Headed}
 use Rattle.analysis.proofs.Checked.{boundariesAt, canonical-on-map, on-map-bounded}

@@ -23,7 +23,7 @@ use Rattle.position.specs.declared.Span.{Span}
 use Rattle.format.specs.Values.{Job}
 use Rattle.format.specs.Header.{headerAt}
 use Rattle.format.specs.Decode.{decode, decodeList}
-use Rattle.links.specs.Limits.{Limits}
+use Rattle.serial_links.specs.Limits.{Limits}
 use Rattle.topology.specs.Anchors.{anchorsOf}
 use Rattle.groups.specs.Plan.{mergePlan}
 use Rattle.groups.proofs.Plan.{plan-below}

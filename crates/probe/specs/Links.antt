@@ -9,10 +9,10 @@ use Rattle.position.specs.Order.{canonical}
 use Rattle.format.specs.Sizes.{boundarySize}
 use Rattle.format.specs.Header.{countsAt, boundariesStart}
 use Rattle.format.specs.Records.{boundaryAt}
-use Rattle.links.specs.Limits.{Limits}
-use Rattle.links.specs.Link.{Side, linkOf}
-use Rattle.links.specs.Measure.{Measured, empty, within, beyond, measured}
-use Rattle.links.specs.Flat.{insideFlat}
+use Rattle.serial_links.specs.Limits.{Limits}
+use Rattle.serial_links.specs.Link.{Side, linkOf}
+use Rattle.serial_links.specs.Measure.{Measured, empty, within, beyond, measured}
+use Rattle.serial_links.specs.Flat.{insideFlat}
 use Rattle.topology.specs.RegionStats.{regionCells}
 use Rattle.topology.specs.Held.{one}
 use Rattle.probe.specs.Regions.{LabelsReady, cellLabels, Shown}

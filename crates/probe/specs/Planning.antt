@@ -14,7 +14,7 @@ use Rattle.format.specs.Sizes.{headerSize}
 use Rattle.format.specs.Header.{countsAt}
 use Rattle.format.specs.Decode.{decode, decodeList}
 use Rattle.areas.specs.Assessments.{records}
-use Rattle.links.specs.Limits.{Limits}
+use Rattle.serial_links.specs.Limits.{Limits}
 use Rattle.merging.specs.Follows.{placesOf}
 use Rattle.checks.specs.Checks.{Check, firstRefusal}
 use Rattle.job.specs.Refusals.{reduceChecks, byListChecks}

@@ -18,7 +18,7 @@ use Rattle.format.specs.Bounds.{maxWidthBits}
 use Rattle.format.specs.Values.{Boundary, Job}
 use Rattle.topology.specs.Anchors.{anchorsOf}
 use Rattle.topology.specs.Listing.{Item}
-use Rattle.links.specs.Limits.{Limits}
+use Rattle.serial_links.specs.Limits.{Limits}
 use Rattle.groups.specs.Groups as Link
 use Rattle.groups.specs.Links.{LinkAt}
 use Rattle.groups.specs.Listing.{bitsAt}

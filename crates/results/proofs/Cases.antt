@@ -26,7 +26,7 @@ use Rattle.graph.specs.Labels.{count}
 use Rattle.areas.specs.Areas.{areaLabels}
 use Rattle.areas.specs.Assessments.{records}
 use Rattle.grid.specs.Directions.{eight}
-use Rattle.links.specs.Limits.{limits000}
+use Rattle.serial_links.specs.Limits.{limits000}
 use Rattle.checks.specs.Checks.{Check, firstRefusal, each}
 use Rattle.checks.specs.Single.{listChecks, spanCheck, headerChecks, cellCheck, baseCheck, sumsFault, rampCheck, widthCheck, endsCheck, spanChecks}
 use Rattle.job.specs.Refusals.{reduceChecks, markChecks, byListChecks, boundaryChecks, jobChecks, layoutChecks, recordChecks, endsChecks}

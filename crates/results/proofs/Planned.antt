@@ -9,7 +9,7 @@ use Rattle.format.specs.Values.{Job}
 use Rattle.format.specs.Encode.{encodeAnswer}
 use Rattle.topology.specs.Anchors.{anchorsOf}
 use Rattle.topology.specs.Listing.{Item}
-use Rattle.links.specs.Limits.{Limits}
+use Rattle.serial_links.specs.Limits.{Limits}
 use Rattle.groups.specs.Groups as Link
 use Rattle.groups.specs.Flat.{accepted}
 use Rattle.groups.specs.Plan.{goesInto, mergePlan}

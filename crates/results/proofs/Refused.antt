@@ -16,7 +16,7 @@ use Rattle.format.specs.Header.{headerAt, offsetsOf}
 use Rattle.format.specs.Values.{Job}
 use Rattle.format.specs.Decode.{decode, decodeList, boundaryRecords, observationRecords, sourceCount}
 use Rattle.grid.specs.Directions.{eight}
-use Rattle.links.specs.Limits.{Limits, limits000}
+use Rattle.serial_links.specs.Limits.{Limits, limits000}
 use Rattle.position.specs.declared.Span.{Span}
 use Rattle.checks.specs.Checks.{Refusal, Check, check, firstRefusal, each}
 use Rattle.checks.specs.Single.{headerChecks, cellCheck, sumsFault, rampCheck}

@@ -11,7 +11,7 @@ use Rattle.position.specs.declared.Span.{Span}
 use Rattle.wire.specs.Bytes.{splice}
 use Rattle.format.specs.Values.{Job}
 use Rattle.areas.specs.Assessments.{records}
-use Rattle.links.specs.Limits.{Limits}
+use Rattle.serial_links.specs.Limits.{Limits}
 use Rattle.format.specs.Decode.{decode}
 use Rattle.job.specs.Refusals.{markChecks}
 use Rattle.checks.specs.Checks.{Check, check, firstRefusal}

@@ -8,7 +8,7 @@ use Rattle.order.proofs.Pairs.{pairs-map}
 use Rattle.format.specs.Values.{Job}
 use Rattle.topology.specs.Anchors.{anchorsOf}
 use Rattle.topology.specs.Listing.{Item}
-use Rattle.links.specs.Limits.{Limits}
+use Rattle.serial_links.specs.Limits.{Limits}
 use Rattle.groups.specs.Serial.{serialGroups}
 use Rattle.groups.specs.Flat.{flatGroups, accepted}
 use Rattle.groups.proofs.Accepted.{groups-disjoint, accepted-rising, accepted-below}

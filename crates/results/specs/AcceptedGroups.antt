@@ -8,7 +8,7 @@ use Rattle.order.specs.Pairs.{Pairs}
 use Rattle.position.specs.declared.Span.{Span}
 use Rattle.format.specs.Values.{Job}
 use Rattle.topology.specs.Anchors.{anchorsOf}
-use Rattle.links.specs.Limits.{Limits}
+use Rattle.serial_links.specs.Limits.{Limits}
 use Rattle.groups.specs.Groups as Link
 use Rattle.groups.specs.SerialGroup.{SerialGroup}
 use Rattle.groups.specs.FlatGroup.{FlatGroup}

@@ -2,7 +2,7 @@
 use mathlib.Core.List.{List}
 use Prim.Native.Nat.{ℕ}
 use Rattle.grid.specs.Directions.{eight}
-use Rattle.links.specs.Limits.{limits000}
+use Rattle.serial_links.specs.Limits.{limits000}
 use Rattle.results.specs.Results.{Outcome, reduceWith, reduceByListWith, markWith}
 
 unfoldable pub reduceResult : List ℕ → List ℕ → List ℕ → Outcome

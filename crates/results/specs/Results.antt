@@ -14,7 +14,7 @@ use Rattle.format.specs.Decode.{decode, decodeList}
 use Rattle.graph.specs.Bridges.{markOf}
 use Rattle.areas.specs.Areas.{areaLabels}
 use Rattle.areas.specs.Assessments.{records}
-use Rattle.links.specs.Limits.{Limits}
+use Rattle.serial_links.specs.Limits.{Limits}
 use Rattle.checks.specs.Checks.{Refusal, Check, check, firstRefusal}
 use Rattle.job.specs.Refusals.{reduceChecks, markChecks, byListChecks}
 use Rattle.merging.specs.Runs.{rulesAnswer}

@@ -7,7 +7,7 @@ use Rattle.format.specs.Values.{Job}
 use Rattle.grid.specs.Cells.{Grid}
 use Rattle.topology.specs.Anchors.{anchorsOf}
 use Rattle.topology.specs.Listing.{Item, listing}
-use Rattle.links.specs.Limits.{Limits}
+use Rattle.serial_links.specs.Limits.{Limits}
 use Rattle.groups.specs.Groups as Link
 use Rattle.groups.specs.Serial.{serialGroups}
 use Rattle.groups.specs.Flat.{flatGroups}

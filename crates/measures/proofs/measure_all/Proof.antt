@@ -5,7 +5,7 @@ use lib.ListN.{length}
 use borrow.Author.Needs.{needs}
 use Rattle.areas.specs.Words.{labelsIn}
 use Rattle.grid.specs.Cells.{Grid}
-use Rattle.links.specs.HeldLimits.{limitsOf}
+use Rattle.serial_links.specs.HeldLimits.{limitsOf}
 use Rattle.measures.specs.Judging.{EmptyLinks, Running, Judged}
 use Rattle.measures.proofs.Reading.{area}
 use Rattle.measures.proofs.Turns.{place-of, row-below, next-place, fill-start, fill-next, fill-end, pass-start, pass-end}

@@ -1,5 +1,5 @@
 use borrow.Author.Needs.{needs}
-use Rattle.links.specs.HeldLimits.{limitsOf}
+use Rattle.serial_links.specs.HeldLimits.{limitsOf}
 use Rattle.analysis.proofs.drawing.plan_by_list.Statement.{statement}
 use Rattle.analysis.proofs.drawing.plan_by_list.Tie as tie
 

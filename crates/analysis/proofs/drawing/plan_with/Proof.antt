@@ -4,7 +4,7 @@ use Rattle.analysis.proofs.Mapped.{map-inside}
 use Rattle.analysis.proofs.Matching.{matched-partitionable, matched-many, some-told, matched-drawn}
 use borrow.Author.Needs.{needs}
 use Rattle.grid.specs.Directions.{directionsOf}
-use Rattle.links.specs.HeldLimits.{limitsOf}
+use Rattle.serial_links.specs.HeldLimits.{limitsOf}
 use Rattle.analysis.proofs.drawing.plan_with.Statement.{statement}
 use Rattle.analysis.proofs.drawing.plan_with.Tie as tie
 

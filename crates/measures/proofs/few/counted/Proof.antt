@@ -1,6 +1,6 @@
 use Prim.Native.Nat.{_/_, _%_}
-use Rattle.links.specs.HeldLimits.{limitsOf}
-use Rattle.links.specs.HeldLink.{linkWithCell}
+use Rattle.serial_links.specs.HeldLimits.{limitsOf}
+use Rattle.serial_links.specs.HeldLink.{linkWithCell}
 use Rattle.topology.proofs.CountLoop.{left-out, put-in}
 use borrow.Author.Needs.{needs}
 use Rattle.measures.proofs.few.counted.Statement.{statement}

@@ -5,7 +5,7 @@ use lib.ListN.{length}
 use borrow.Author.Needs.{needs}
 use Rattle.areas.specs.Words.{labelsIn}
 use Rattle.lists.specs.Rows.{at}
-use Rattle.links.specs.HeldLimits.{limitsOf}
+use Rattle.serial_links.specs.HeldLimits.{limitsOf}
 use Rattle.measures.specs.Judging.{valueIn, Judged}
 use Rattle.measures.proofs.Reading.{area}
 use Rattle.measures.proofs.Meaning.{judge-start, judge-one, judge-end}

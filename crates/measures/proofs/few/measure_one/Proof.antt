@@ -2,7 +2,7 @@ use Prim.Native.Nat.{_-_, _≤_}
 use native.Mathlib.Omega.{arith}
 use borrow.Author.Needs.{needs}
 use Rattle.areas.specs.Words.{labelsIn}
-use Rattle.links.specs.HeldLimits.{limitsOf}
+use Rattle.serial_links.specs.HeldLimits.{limitsOf}
 use Rattle.measures.specs.Judging.{AllCells}
 use Rattle.measures.proofs.Singly.{one-start, one-next, one-end}
 use Rattle.measures.proofs.few.measure_one.Statement.{statement}

@@ -1,4 +1,4 @@
-use Rattle.links.specs.HeldLimits.{limitsOf}
+use Rattle.serial_links.specs.HeldLimits.{limitsOf}
 use Rattle.plan.specs.Few.{fewList}
 use Rattle.plan.proofs.AcceptLaws.{flat-no, flat-yes}
 use borrow.Author.Needs.{needs}

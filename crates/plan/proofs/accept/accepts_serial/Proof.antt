@@ -2,8 +2,8 @@ use mathlib.Core.Path.{sym, _∙_, subst}
 use Prim.Native.Nat.{ℕ}
 use native.Mathlib.Omega.{arith}
 use Rattle.areas.specs.Spans.{spanIn}
-use Rattle.links.specs.Geometry.{centreDistance}
-use Rattle.links.specs.HeldLimits.{limitsOf}
+use Rattle.serial_links.specs.Geometry.{centreDistance}
+use Rattle.serial_links.specs.HeldLimits.{limitsOf}
 use Rattle.plan.specs.Fitting.{RankFits}
 use Rattle.plan.specs.Few.{fewAt, fewList}
 use Rattle.plan.proofs.ShapeLaws.{listed-length, held-first, held-second}

@@ -1,6 +1,6 @@
 use mathlib.Core.Path.{refl, _∙_}
-use Rattle.links.specs.HeldLimits.{limitsOf}
-use Rattle.links.specs.Parallel.{nearbyParallel}
+use Rattle.serial_links.specs.HeldLimits.{limitsOf}
+use Rattle.serial_links.specs.Parallel.{nearbyParallel}
 use Rattle.plan.proofs.ValueLaws.{both, span-fits}
 use borrow.Author.Needs.{needs}
 use Rattle.plan.proofs.alike.alike.Statement.{statement}

@@ -2,7 +2,7 @@ use mathlib.Core.Path.{sym, _∙_}
 use Prim.Native.Nat.{ℕ}
 use mathlib.Core.Path.{subst}
 use Rattle.areas.specs.Spans.{spanIn}
-use Rattle.links.specs.Geometry.{centreDistance}
+use Rattle.serial_links.specs.Geometry.{centreDistance}
 use Rattle.plan.specs.Fitting.{RankFits}
 use Rattle.plan.proofs.ValueLaws.{both}
 use borrow.Author.Needs.{needs}

@@ -1,5 +1,5 @@
 use mathlib.Core.Path.{refl, _∙_}
-use Rattle.links.specs.Geometry.{centreDistance}
+use Rattle.serial_links.specs.Geometry.{centreDistance}
 use Rattle.plan.proofs.ValueLaws.{both, span-fits}
 use borrow.Author.Needs.{needs}
 use Rattle.plan.proofs.chain.rank_distance.Statement.{statement}

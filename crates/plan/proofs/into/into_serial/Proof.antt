@@ -1,7 +1,7 @@
 use Prim.Native.Nat.{_-_, _≤_}
 use native.Mathlib.Omega.{arith}
 use borrow.Author.Needs.{needs}
-use Rattle.links.specs.HeldLimits.{limitsOf}
+use Rattle.serial_links.specs.HeldLimits.{limitsOf}
 use Rattle.plan.specs.Arrays.{FirstAre}
 use Rattle.plan.specs.Into.{serialInto}
 use Rattle.plan.proofs.ArrayLaws.{filled-none, filled-next, filled-upto}

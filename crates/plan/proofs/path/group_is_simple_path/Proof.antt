@@ -2,7 +2,7 @@ use mathlib.Core.Path.{sym}
 use Prim.Native.Nat.{ℕ, _<_}
 use native.Mathlib.Omega.{arith}
 use mathlib.Core.Path.{subst}
-use Rattle.links.specs.HeldLimits.{limitsOf}
+use Rattle.serial_links.specs.HeldLimits.{limitsOf}
 use Rattle.plan.specs.Few.{fewList}
 use Rattle.plan.proofs.AcceptLaws.{ends-slots, path-as}
 use borrow.Author.Needs.{needs}

@@ -1,7 +1,7 @@
 use mathlib.Core.Path.{_∙_, ap}
 use lib.Ieee.{Float, le}
 use Rattle.length.specs.Floats.{_⊕_}
-use Rattle.links.specs.HeldLimits.{limitsOf}
+use Rattle.serial_links.specs.HeldLimits.{limitsOf}
 use borrow.Author.Needs.{needs}
 use Rattle.plan.proofs.retain.is_eligible.Statement.{statement}
 use Rattle.plan.proofs.retain.is_eligible.Tie as tie

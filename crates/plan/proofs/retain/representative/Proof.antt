@@ -1,4 +1,4 @@
-use Rattle.links.specs.HeldLimits.{limitsOf}
+use Rattle.serial_links.specs.HeldLimits.{limitsOf}
 use Rattle.plan.specs.Shape.{fineIn}
 use Rattle.plan.specs.Fitting.{RankFits}
 use Rattle.plan.specs.Few.{fewList}

@@ -2,8 +2,8 @@ use mathlib.Core.Path.{sym, _∙_, ap, subst}
 use Prim.Native.Nat.{ℕ, _-_}
 use borrow.Author.Needs.{needs}
 use Rattle.areas.specs.Spans.{spanIn}
-use Rattle.links.specs.Geometry.{centreDistance}
-use Rattle.links.proofs.SumSteps.{Summed, summed-start, summed-next}
+use Rattle.serial_links.specs.Geometry.{centreDistance}
+use Rattle.serial_links.proofs.SumSteps.{Summed, summed-start, summed-next}
 use Rattle.plan.specs.Fitting.{RankFits}
 use Rattle.plan.proofs.SumLaws.{distanceAt, sum-listed}
 use Rattle.plan.proofs.retain.sum_from.Statement.{statement}

@@ -5,7 +5,7 @@ use native.Mathlib.Omega.{arith}
 use borrow.Author.Needs.{needs}
 use mathlib.Core.Path.{subst}
 use Rattle.lists.specs.Rows.{at}
-use Rattle.links.specs.HeldLimits.{limitsOf}
+use Rattle.serial_links.specs.HeldLimits.{limitsOf}
 use Rattle.plan.specs.Arrays.{FirstAre}
 use Rattle.plan.specs.Shape.{flatLinkIn}
 use Rattle.plan.specs.Fitting.{RankFits}

@@ -1,7 +1,0 @@
-use Rattle.links.proofs.Widths.{no-nan}
-use borrow.Author.Needs.{needs}
-use Rattle.links.proofs.geometry.width_of.Statement.{statement}
-use Rattle.links.proofs.geometry.width_of.Tie as tie
-
-pub width-of-spec : {M : Type 1} → statement M
-width-of-spec = tie.close (tie.spec (λ c. no-nan _ (c .pre)) (λ c. search needs))

@@ -1,6 +1,0 @@
-use borrow.Author.Needs.{needs}
-use Rattle.links.proofs.link.enveloped.Statement.{statement}
-use Rattle.links.proofs.link.enveloped.Tie as tie
-
-pub enveloped-spec : {M : Type 1} → statement M
-enveloped-spec = tie.close (tie.spec (λ c κs. search needs) (λ c. simp (c .reach .ensures)))

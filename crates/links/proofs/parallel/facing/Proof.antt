@@ -1,8 +1,0 @@
-use Rattle.links.proofs.parallel.facing.Statement.{statement}
-use Rattle.links.proofs.parallel.facing.Tie as tie
-
-returns : tie.Need-returns
-returns c = simp (c .if1 .taken)
-
-pub facing-spec : {M : Type 1} → statement M
-facing-spec = tie.close (tie.spec returns (λ c. simp (c .if1 .left)))

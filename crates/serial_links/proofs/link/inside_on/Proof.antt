@@ -1,0 +1,11 @@
+use borrow.Author.Needs.{needs}
+use Rattle.serial_links.proofs.link.inside_on.Statement.{statement}
+use Rattle.serial_links.proofs.link.inside_on.Tie as tie
+
+returns : tie.Need-returns
+returns c =
+    let after-dot = c .before .before .before in
+    simp (after-dot .dot .ensures, c .before .before .reach .ensures)
+
+pub inside-on-spec : {M : Type 1} → statement M
+inside-on-spec = tie.close (tie.spec (λ c κs. search needs) (λ c κs. search needs) returns)
