@@ -11,7 +11,7 @@ ghost use Rattle.grid.specs.Directions.{directionsOf};
 ghost use Rattle.areas.specs.Spans.{SpansFit};
 ghost use Rattle.serial_links.specs.Limits as rules;
 ghost use Rattle.serial_links.specs.HeldLimits.{limitsOf};
-ghost use Rattle.candidates.specs.Owners.{Stored};
+ghost use Rattle.serial_candidates.specs.Owners.{Stored};
 ghost use Rattle.checks.specs.Checks.{firstRefusal};
 ghost use Rattle.job.specs.Refusals.{reduceChecks, byListChecks};
 ghost use Rattle.results.specs.Results.{workSize, ownEnds};

@@ -26,7 +26,7 @@ use Rattle.groups.specs.Links.{LinkAt, links}
 use Rattle.groups.specs.SimplePath.{noLink}
 use Rattle.groups.specs.Tables.{Paired, linkRow, linksIn, LinkTable}
 use Rattle.groups.proofs.Links.{links-rising}
-use Rattle.candidates.specs.Owners.{OwnersBelow}
+use Rattle.serial_candidates.specs.Owners.{OwnersBelow}
 use Rattle.measures.specs.Tables.{LinkRegions, Labels}
 use Rattle.measures.specs.Judging.{LinkEndsInside}
 use Rattle.plan.specs.Arrays.{LinkRanks}

@@ -14,9 +14,9 @@ use Rattle.areas.specs.Words.{labelsIn}
 use Rattle.areas.proofs.Words.{labels-same}
 use Rattle.topology.specs.Listing.{Item}
 use Rattle.groups.specs.Tables.{LinkTable}
-use Rattle.candidates.specs.Gives.{AnchorsOnMap, OwnBounded}
-use Rattle.candidates.specs.Owners.{Stored, OwnersBelow}
-use Rattle.candidates.specs.Top.{CandidateLinks}
+use Rattle.serial_candidates.specs.Gives.{AnchorsOnMap, OwnBounded}
+use Rattle.serial_candidates.specs.Owners.{Stored, OwnersBelow}
+use Rattle.serial_candidates.specs.Top.{CandidateLinks}
 use Rattle.measures.specs.Tables.{Labels, LinkRegions}
 use Rattle.measures.specs.Judging.{CoordinatesBounded, LinkEndsInside, Measured}
 use Rattle.measures.proofs.Reading.{span-bounded, area}

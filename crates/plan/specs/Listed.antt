@@ -11,7 +11,7 @@ use Rattle.topology.specs.AnchorLoop.{AnchorsIn}
 use Rattle.topology.specs.Listing.{Item}
 use Rattle.groups.specs.Regions.{regionLabels}
 use Rattle.groups.specs.Tables.{Boundaries, Counted, Paired, Bridged}
-use Rattle.candidates.specs.Owners.{Stored}
+use Rattle.serial_candidates.specs.Owners.{Stored}
 use Rattle.measures.specs.Tables.{Labels}
 use Rattle.measures.specs.Judging.{CoordinatesBounded}
 

@@ -8,7 +8,7 @@ ghost use Rattle.serial_links.specs.HeldLimits.{limitsOf};
 ghost use Rattle.plan.specs.Listed.{PlanInput};
 ghost use Rattle.plan.specs.Planned.{LinksFrom, PlanFrom};
 use crate::merge::merge_plan;
-use candidates::candidate_links;
+use serial_candidates::candidate_links;
 use serial_links::limits::Limits;
 use measures::measure_links;
 
