@@ -21,7 +21,7 @@ use Rattle.serial_links.specs.declared.limits.Limits.{Limits as LimitsHeld}
 use Rattle.groups.specs.Plan.{mergePlan}
 use Rattle.groups.specs.Tables.{Boundaries}
 use Rattle.serial_candidates.specs.Owners.{Stored}
-use Rattle.measures.specs.Judging.{CoordinatesBounded}
+use Rattle.serial_measures.specs.Judging.{CoordinatesBounded}
 use Rattle.ranks.specs.Tables.{Records, SpansOf, WidthsOf, RampsOf}
 use Rattle.results.specs.Rules.{gridOf, listingOf}
 use Rattle.analysis.specs.Plans.{planOf, RankedJob, PartitionTables}

@@ -24,7 +24,7 @@ use Rattle.groups.specs.Listing as Rank
 use Rattle.groups.specs.Regions.{regionLabels, assessAt, bridgeAt}
 use Rattle.groups.specs.Tables.{Counted, Paired, Bridged as BridgesOf}
 use Rattle.serial_walk.specs.Marks.{bridgeMarks}
-use Rattle.measures.specs.Tables.{Labels}
+use Rattle.serial_measures.specs.Tables.{Labels}
 use Rattle.areas_partition.specs.Partitioned.{Partitioned}
 use Rattle.areas_partition.specs.declared.Partition.{Partition}
 use Rattle.results.specs.Rules.{gridOf, listingOf}

@@ -30,7 +30,7 @@ use Rattle.merging.specs.Copies.{canon}
 use Rattle.merging.specs.Follows.{placesOf}
 use Rattle.merging.specs.Kept.{noBoundary}
 use Rattle.merging.specs.Planned.{planned}
-use Rattle.measures.specs.Tables.{Labels}
+use Rattle.serial_measures.specs.Tables.{Labels}
 use Rattle.ranks.specs.Tables.{Identity, SpansOf}
 use Rattle.checks.specs.Checks.{Check, firstRefusal}
 use Rattle.job.specs.Refusals.{boundaryChecks}

@@ -27,8 +27,8 @@ use Rattle.groups.specs.SimplePath.{noLink}
 use Rattle.groups.specs.Tables.{Paired, linkRow, linksIn, LinkTable}
 use Rattle.groups.proofs.Links.{links-rising}
 use Rattle.serial_candidates.specs.Owners.{OwnersBelow}
-use Rattle.measures.specs.Tables.{LinkRegions, Labels}
-use Rattle.measures.specs.Judging.{LinkEndsInside}
+use Rattle.serial_measures.specs.Tables.{LinkRegions, Labels}
+use Rattle.serial_measures.specs.Judging.{LinkEndsInside}
 use Rattle.plan.specs.Arrays.{LinkRanks}
 use Rattle.plan.proofs.FromTables.{is-link}
 

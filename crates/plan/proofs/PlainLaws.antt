@@ -12,7 +12,7 @@ use Rattle.areas.specs.Spans.{spanIn}
 use Rattle.topology.specs.Listing.{Item}
 use Rattle.groups.specs.Listing.{endsAt}
 use Rattle.groups.specs.Tables.{Boundaries}
-use Rattle.measures.specs.Judging.{CoordinatesBounded}
+use Rattle.serial_measures.specs.Judging.{CoordinatesBounded}
 
 module _ {l : List Item} {own bits ramps : List ℕ} (B : Boundaries l own bits ramps) where
   coordinate-of : (i : ℕ) → i < length l → (j : ℕ) → j < 4 → getD own (4 * i + j) 0 ≤ 8192

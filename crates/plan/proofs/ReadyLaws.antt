@@ -17,9 +17,9 @@ use Rattle.groups.specs.Tables.{LinkTable}
 use Rattle.serial_candidates.specs.Gives.{AnchorsOnMap, OwnBounded}
 use Rattle.serial_candidates.specs.Owners.{Stored, OwnersBelow}
 use Rattle.serial_candidates.specs.Top.{CandidateLinks}
-use Rattle.measures.specs.Tables.{Labels, LinkRegions}
-use Rattle.measures.specs.Judging.{CoordinatesBounded, LinkEndsInside, Measured}
-use Rattle.measures.proofs.Reading.{span-bounded, area}
+use Rattle.serial_measures.specs.Tables.{Labels, LinkRegions}
+use Rattle.serial_measures.specs.Judging.{CoordinatesBounded, LinkEndsInside, Measured}
+use Rattle.serial_measures.proofs.Reading.{span-bounded, area}
 use Rattle.plan.specs.Arrays.{LinkRanks}
 use Rattle.plan.specs.Fitting.{RankedLinks}
 use Rattle.plan.specs.Planning.{PlanOf}

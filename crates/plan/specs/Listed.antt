@@ -12,8 +12,8 @@ use Rattle.topology.specs.Listing.{Item}
 use Rattle.groups.specs.Regions.{regionLabels}
 use Rattle.groups.specs.Tables.{Boundaries, Counted, Paired, Bridged}
 use Rattle.serial_candidates.specs.Owners.{Stored}
-use Rattle.measures.specs.Tables.{Labels}
-use Rattle.measures.specs.Judging.{CoordinatesBounded}
+use Rattle.serial_measures.specs.Tables.{Labels}
+use Rattle.serial_measures.specs.Judging.{CoordinatesBounded}
 
 -- n boundaries, the regions of the cells, what each span does to them, and which ones are bridges
 pub record ListingTables (dirs : List ℕ) (g : Grid) (l : List Item) (n : ℕ) (own bits ramps labels removed separated owners lefts rights : List ℕ) (records : ℕ)

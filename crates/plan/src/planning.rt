@@ -10,7 +10,7 @@ ghost use Rattle.plan.specs.Planned.{LinksFrom, PlanFrom};
 use crate::merge::merge_plan;
 use serial_candidates::candidate_links;
 use serial_links::limits::Limits;
-use measures::measure_links;
+use serial_measures::measure_links;
 
 // The links with their marks, and the first pairs of the ranks. Gives how many links there are; the table is left as it was.
 fn measured_links(

@@ -30,7 +30,7 @@ use Rattle.serial_links.specs.Held.{SpanBounded}
 use Rattle.serial_links.specs.HeldLink.{side, noCell, linkAfter, measuredIn}
 use Rattle.serial_links.specs.declared.link.Link.{Link as LinkHeld}
 use Rattle.serial_links.proofs.Cells.{after-measured}
-use Rattle.measures.specs.Judging.{AllCells}
+use Rattle.serial_measures.specs.Judging.{AllCells}
 use Rattle.analysis.specs.Plans.{Headed}
 use Rattle.analysis.proofs.Checked.{boundariesAt, canonical-on-map, on-map-bounded}
 use Rattle.analysis.proofs.Headed.{headed-checked, headed-laid, counts-are, start-is, count-is}

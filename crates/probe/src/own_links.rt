@@ -22,7 +22,7 @@ use serial_links::limits::Limits;
 use serial_links::link::Link;
 use serial_links::link::Measured;
 use serial_links::link::link_of;
-use measures::few::measure_one;
+use serial_measures::few::measure_one;
 use wire::size;
 use wire::write_u32;
 use wire::write_u64;
