@@ -15,7 +15,7 @@ use Rattle.format.specs.Values.{Boundary, Job}
 use Rattle.format.specs.Encode.{encodeAnswer}
 use Rattle.serial_links.specs.Limits.{Limits}
 use Rattle.topology.specs.Anchors.{anchorsOf}
-use Rattle.groups.specs.Plan.{mergePlan}
+use Rattle.serial_groups.specs.Plan.{mergePlan}
 use Rattle.merging.specs.Copies.{canon, copiesOf}
 use Rattle.merging.specs.Kept.{noBoundary}
 use Rattle.merging.specs.Planned.{planned}

@@ -19,7 +19,7 @@ use Rattle.grid.specs.Cells.{Grid, size, mapOf}
 use Rattle.areas.specs.Spans.{spansIn, SpansFit}
 use Rattle.areas.specs.Assessments.{records}
 use Rattle.topology.specs.Anchors.{anchorsOf}
-use Rattle.groups.specs.Plan.{mergePlan}
+use Rattle.serial_groups.specs.Plan.{mergePlan}
 use Rattle.serial_links.specs.Limits.{Limits}
 use Rattle.ranks.specs.Tables.{Records, SpansOf, Identity}
 use Rattle.checks.specs.Checks.{firstRefusal}

@@ -18,8 +18,8 @@ use Rattle.topology.specs.Anchors.{anchorsOf}
 use Rattle.topology.specs.Listing.{Item}
 use Rattle.serial_links.specs.HeldLimits.{limitsOf}
 use Rattle.serial_links.specs.declared.limits.Limits.{Limits as LimitsHeld}
-use Rattle.groups.specs.Plan.{mergePlan}
-use Rattle.groups.specs.Tables.{Boundaries}
+use Rattle.serial_groups.specs.Plan.{mergePlan}
+use Rattle.serial_groups.specs.Tables.{Boundaries}
 use Rattle.serial_candidates.specs.Owners.{Stored}
 use Rattle.serial_measures.specs.Judging.{CoordinatesBounded}
 use Rattle.ranks.specs.Tables.{Records, SpansOf, WidthsOf, RampsOf}

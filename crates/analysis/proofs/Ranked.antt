@@ -30,7 +30,7 @@ use Rattle.areas.specs.Assessments.{records}
 use Rattle.areas.proofs.Areas.{labels-depend-on-the-set}
 use Rattle.areas.proofs.Listed.{perm-same, records-count}
 use Rattle.topology.specs.Listing.{Item, itemKey}
-use Rattle.groups.specs.Listing.{noSpan, noItem, spansOf}
+use Rattle.serial_groups.specs.Listing.{noSpan, noItem, spansOf}
 use Rattle.merging.specs.Copies.{canon, copiesOf}
 use Rattle.merging.specs.Kept.{noBoundary}
 use Rattle.merging.specs.Follows.{endsLe, placesOf}

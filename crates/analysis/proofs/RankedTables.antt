@@ -33,8 +33,8 @@ use Rattle.areas.specs.Spans.{spanIn, spansIn, SpansFit}
 use Rattle.areas.proofs.Areas.{labels-depend-on-the-set}
 use Rattle.areas.proofs.Listed.{eq-same, records-same}
 use Rattle.topology.specs.Listing.{Item}
-use Rattle.groups.specs.Listing as Rank
-use Rattle.groups.specs.Tables.{Boundaries}
+use Rattle.serial_groups.specs.Listing as Rank
+use Rattle.serial_groups.specs.Tables.{Boundaries}
 use Rattle.merging.specs.Copies.{canon}
 use Rattle.merging.specs.Kept.{noBoundary}
 use Rattle.merging.specs.Follows.{placesOf}

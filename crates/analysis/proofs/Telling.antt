@@ -20,9 +20,9 @@ use Rattle.areas.proofs.Areas.{area-labels-length}
 use Rattle.areas.specs.Words.{word, labelsIn, labelled}
 use Rattle.areas_components.proofs.LabelWords.{word-read, labels-read}
 use Rattle.topology.specs.Listing.{Item}
-use Rattle.groups.specs.Listing as Rank
-use Rattle.groups.specs.Regions.{regionLabels, assessAt, bridgeAt}
-use Rattle.groups.specs.Tables.{Counted, Paired, Bridged as BridgesOf}
+use Rattle.serial_groups.specs.Listing as Rank
+use Rattle.serial_groups.specs.Regions.{regionLabels, assessAt, bridgeAt}
+use Rattle.serial_groups.specs.Tables.{Counted, Paired, Bridged as BridgesOf}
 use Rattle.serial_walk.specs.Marks.{bridgeMarks}
 use Rattle.serial_measures.specs.Tables.{Labels}
 use Rattle.areas_partition.specs.Partitioned.{Partitioned}

@@ -22,10 +22,10 @@ use Rattle.areas.specs.Spans.{spanIn}
 use Rattle.areas.specs.Words.{labelsIn, labelled}
 use Rattle.topology.specs.Anchors.{anchorsOf}
 use Rattle.serial_links.specs.Limits.{Limits}
-use Rattle.groups.specs.Listing.{noSpan}
-use Rattle.groups.specs.Regions.{regionLabels}
-use Rattle.groups.specs.Plan.{mergePlan}
-use Rattle.groups.specs.Tables.{Counted, Paired, Bridged}
+use Rattle.serial_groups.specs.Listing.{noSpan}
+use Rattle.serial_groups.specs.Regions.{regionLabels}
+use Rattle.serial_groups.specs.Plan.{mergePlan}
+use Rattle.serial_groups.specs.Tables.{Counted, Paired, Bridged}
 use Rattle.merging.specs.Copies.{canon}
 use Rattle.merging.specs.Follows.{placesOf}
 use Rattle.merging.specs.Kept.{noBoundary}

@@ -13,12 +13,12 @@ use Rattle.areas.specs.Spans.{spanIn}
 use Rattle.serial_links.specs.Limits.{Limits}
 use Rattle.serial_links.specs.Parallel.{nearbyParallel}
 use Rattle.topology.specs.Listing.{Item}
-use Rattle.groups.specs.Listing.{endsAt}
-use Rattle.groups.specs.Regions.{bridgeAt}
-use Rattle.groups.specs.Links.{LinkAt}
-use Rattle.groups.specs.Serial.{serialLinks}
-use Rattle.groups.specs.Flat.{isLeft, alike, isFlatLink, flatLinks}
-use Rattle.groups.specs.Tables.{LinkTable, Bridged}
+use Rattle.serial_groups.specs.Listing.{endsAt}
+use Rattle.serial_groups.specs.Regions.{bridgeAt}
+use Rattle.serial_groups.specs.Links.{LinkAt}
+use Rattle.serial_groups.specs.Serial.{serialLinks}
+use Rattle.serial_groups.specs.Flat.{isLeft, alike, isFlatLink, flatLinks}
+use Rattle.serial_groups.specs.Tables.{LinkTable, Bridged}
 use Rattle.plan.specs.Arrays.{isOn, LinkRanks, FirstAre}
 use Rattle.plan.specs.Shape.{bothOn, alikeIn, flatLinkIn}
 use Rattle.plan.specs.Told.{FlatInside}

@@ -16,12 +16,12 @@ use Rattle.serial_links.specs.Held.{SpanBounded}
 use Rattle.serial_links.specs.Limits.{Limits}
 use Rattle.topology.specs.FullPair.{fullPair}
 use Rattle.topology.specs.Listing.{Item}
-use Rattle.groups.specs.Regions.{assessAt}
-use Rattle.groups.specs.Links.{LinkAt, links, IsLink}
-use Rattle.groups.specs.Measuring.{passes, staysInside}
-use Rattle.groups.specs.Flat.{isFlat}
-use Rattle.groups.specs.Tables.{Boundaries, FirstPairs, linkRow, linksIn, LinkTable}
-use Rattle.groups.proofs.Links.{link-iff}
+use Rattle.serial_groups.specs.Regions.{assessAt}
+use Rattle.serial_groups.specs.Links.{LinkAt, links, IsLink}
+use Rattle.serial_groups.specs.Measuring.{passes, staysInside}
+use Rattle.serial_groups.specs.Flat.{isFlat}
+use Rattle.serial_groups.specs.Tables.{Boundaries, FirstPairs, linkRow, linksIn, LinkTable}
+use Rattle.serial_groups.proofs.Links.{link-iff}
 use Rattle.plan.specs.Arrays.{LinkRanks}
 use Rattle.plan.specs.Told.{BoundaryTables, Passed, FlatInside}
 use Rattle.plan.specs.Fitting.{RankedLinks}

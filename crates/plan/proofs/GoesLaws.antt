@@ -14,12 +14,12 @@ use Rattle.position.specs.declared.WalkPosition.{WalkPosition}
 use Rattle.grid.specs.Cells.{Grid}
 use Rattle.topology.specs.Listing.{Item}
 use Rattle.serial_links.specs.Limits.{Limits}
-use Rattle.groups.specs.Links.{LinkAt, links}
-use Rattle.groups.specs.Groups.{LinkGroup, linkEdges, isJoined, groupAt}
-use Rattle.groups.specs.Serial.{acceptsSerial}
-use Rattle.groups.specs.Flat.{acceptsFlat}
-use Rattle.groups.specs.Representative.{retained}
-use Rattle.groups.specs.Tables.{linkRow, linksIn, LinkTable}
+use Rattle.serial_groups.specs.Links.{LinkAt, links}
+use Rattle.serial_groups.specs.Groups.{LinkGroup, linkEdges, isJoined, groupAt}
+use Rattle.serial_groups.specs.Serial.{acceptsSerial}
+use Rattle.serial_groups.specs.Flat.{acceptsFlat}
+use Rattle.serial_groups.specs.Representative.{retained}
+use Rattle.serial_groups.specs.Tables.{linkRow, linksIn, LinkTable}
 use Rattle.plan.specs.Arrays.{isOn, chosenFrom, partFrom, joinedFrom, inPart, linkInPart, ranksIn, numbersIn, LinkRanks, FirstAre}
 use Rattle.plan.specs.Shape.{retainedIn}
 use Rattle.plan.specs.Told.{BoundaryTables, Passed, serialIn, flatIn}

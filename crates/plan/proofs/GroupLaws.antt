@@ -26,16 +26,16 @@ use Rattle.serial_links.specs.Limits.{Limits}
 use Rattle.serial_links.specs.Geometry.{centreDistance}
 use Rattle.serial_links.specs.Parallel.{nearbyParallel}
 use Rattle.serial_links.specs.Sums.{ascendingSum, distanceSum, noLater}
-use Rattle.groups.specs.Tests.{every}
-use Rattle.groups.specs.Listing.{endsAt, bitsAt}
-use Rattle.groups.specs.Links.{LinkAt, joins}
-use Rattle.groups.specs.Measuring.{passes}
-use Rattle.groups.specs.Groups.{LinkGroup}
-use Rattle.groups.specs.SimplePath.{linksAt, degree, endsOf, isPath, noLink, outerRegion, simplePath}
-use Rattle.groups.specs.Serial.{rankDistance, chainSum, endDistance, acceptsSerial}
-use Rattle.groups.specs.Flat.{alike, acceptsFlat, leastFlatSpans}
-use Rattle.groups.specs.Representative.{leastWidth, distanceTo, nearer, eligible, retained, widthAt}
-use Rattle.groups.specs.Tables.{linkRow}
+use Rattle.serial_groups.specs.Tests.{every}
+use Rattle.serial_groups.specs.Listing.{endsAt, bitsAt}
+use Rattle.serial_groups.specs.Links.{LinkAt, joins}
+use Rattle.serial_groups.specs.Measuring.{passes}
+use Rattle.serial_groups.specs.Groups.{LinkGroup}
+use Rattle.serial_groups.specs.SimplePath.{linksAt, degree, endsOf, isPath, noLink, outerRegion, simplePath}
+use Rattle.serial_groups.specs.Serial.{rankDistance, chainSum, endDistance, acceptsSerial}
+use Rattle.serial_groups.specs.Flat.{alike, acceptsFlat, leastFlatSpans}
+use Rattle.serial_groups.specs.Representative.{leastWidth, distanceTo, nearer, eligible, retained, widthAt}
+use Rattle.serial_groups.specs.Tables.{linkRow}
 use Rattle.plan.specs.Arrays.{isOn, joinsAt}
 use Rattle.plan.specs.Shape.{degreeIn, endsIn, regularIn, gapIn, chainIn, outerIn, pathIn, alikeIn, allAlikeIn, leastIn, sumIn, nearerIn, fineIn}
 use Rattle.plan.specs.Shape.{eligibleIn, retainedIn}

@@ -20,12 +20,12 @@ use Rattle.areas.proofs.Records.{records-iff}
 use Rattle.areas.specs.Words.{word, labelsIn}
 use Rattle.areas.proofs.Words.{label-in}
 use Rattle.topology.specs.Listing.{Item}
-use Rattle.groups.specs.Listing.{noSpan, spansOf}
-use Rattle.groups.specs.Regions.{regionLabels, regionCount}
-use Rattle.groups.specs.Links.{LinkAt, links}
-use Rattle.groups.specs.SimplePath.{noLink}
-use Rattle.groups.specs.Tables.{Paired, linkRow, linksIn, LinkTable}
-use Rattle.groups.proofs.Links.{links-rising}
+use Rattle.serial_groups.specs.Listing.{noSpan, spansOf}
+use Rattle.serial_groups.specs.Regions.{regionLabels, regionCount}
+use Rattle.serial_groups.specs.Links.{LinkAt, links}
+use Rattle.serial_groups.specs.SimplePath.{noLink}
+use Rattle.serial_groups.specs.Tables.{Paired, linkRow, linksIn, LinkTable}
+use Rattle.serial_groups.proofs.Links.{links-rising}
 use Rattle.serial_candidates.specs.Owners.{OwnersBelow}
 use Rattle.serial_measures.specs.Tables.{LinkRegions, Labels}
 use Rattle.serial_measures.specs.Judging.{LinkEndsInside}

@@ -11,14 +11,14 @@ use Rattle.position.specs.declared.WalkPosition.{WalkPosition}
 use Rattle.grid.specs.Cells.{Grid}
 use Rattle.serial_links.specs.Limits.{Limits}
 use Rattle.topology.specs.Listing.{Item}
-use Rattle.groups.specs.Links.{LinkAt}
-use Rattle.groups.specs.Groups.{LinkGroup}
-use Rattle.groups.specs.Serial.{acceptsSerial, serialLinks}
-use Rattle.groups.specs.Flat.{acceptsFlat, flatLinks, accepted, isLeft}
-use Rattle.groups.specs.Representative.{retained}
-use Rattle.groups.specs.Plan.{mergePlan}
-use Rattle.groups.proofs.Accepted.{accepted-below}
-use Rattle.groups.proofs.Plan.{accepted-retained}
+use Rattle.serial_groups.specs.Links.{LinkAt}
+use Rattle.serial_groups.specs.Groups.{LinkGroup}
+use Rattle.serial_groups.specs.Serial.{acceptsSerial, serialLinks}
+use Rattle.serial_groups.specs.Flat.{acceptsFlat, flatLinks, accepted, isLeft}
+use Rattle.serial_groups.specs.Representative.{retained}
+use Rattle.serial_groups.specs.Plan.{mergePlan}
+use Rattle.serial_groups.proofs.Accepted.{accepted-below}
+use Rattle.serial_groups.proofs.Plan.{accepted-retained}
 use Rattle.plan.specs.Into.{goesTo}
 use Rattle.plan.proofs.TakenLaws.{ownGroup, taken, serialTaken, flatTaken, serial-any, serial-accepted, flat-accepted, plan-serial, plan-flat}
 use Rattle.plan.proofs.TakenLaws.{plan-stays}

@@ -10,8 +10,8 @@ use Rattle.order.proofs.Bools.{by-test}
 use Rattle.position.specs.declared.Span.{Span}
 use Rattle.areas.specs.Spans.{spanIn}
 use Rattle.topology.specs.Listing.{Item}
-use Rattle.groups.specs.Listing.{endsAt}
-use Rattle.groups.specs.Tables.{Boundaries}
+use Rattle.serial_groups.specs.Listing.{endsAt}
+use Rattle.serial_groups.specs.Tables.{Boundaries}
 use Rattle.serial_measures.specs.Judging.{CoordinatesBounded}
 
 module _ {l : List Item} {own bits ramps : List ℕ} (B : Boundaries l own bits ramps) where

@@ -10,13 +10,13 @@ use Rattle.position.specs.declared.WalkPosition.{WalkPosition}
 use Rattle.grid.specs.Cells.{Grid}
 use Rattle.serial_links.specs.Limits.{Limits}
 use Rattle.topology.specs.Listing.{Item}
-use Rattle.groups.specs.Tests.{any}
-use Rattle.groups.specs.Links.{links}
-use Rattle.groups.specs.Groups.{isJoined}
-use Rattle.groups.specs.Serial.{serialLinks}
-use Rattle.groups.specs.Flat.{flatLinks}
-use Rattle.groups.specs.Tables.{linksIn, LinkTable, Bridged}
-use Rattle.groups.specs.Plan.{mergePlan}
+use Rattle.serial_groups.specs.Tests.{any}
+use Rattle.serial_groups.specs.Links.{links}
+use Rattle.serial_groups.specs.Groups.{isJoined}
+use Rattle.serial_groups.specs.Serial.{serialLinks}
+use Rattle.serial_groups.specs.Flat.{flatLinks}
+use Rattle.serial_groups.specs.Tables.{linksIn, LinkTable, Bridged}
+use Rattle.serial_groups.specs.Plan.{mergePlan}
 use Rattle.plan.specs.Arrays.{LinkRanks, FirstAre}
 use Rattle.plan.specs.Told.{BoundaryTables, Passed, FlatInside}
 use Rattle.plan.specs.Into.{goesTo}

@@ -13,7 +13,7 @@ use Rattle.areas.specs.Spans.{Sides}
 use Rattle.areas.specs.Words.{labelsIn}
 use Rattle.areas.proofs.Words.{labels-same}
 use Rattle.topology.specs.Listing.{Item}
-use Rattle.groups.specs.Tables.{LinkTable}
+use Rattle.serial_groups.specs.Tables.{LinkTable}
 use Rattle.serial_candidates.specs.Gives.{AnchorsOnMap, OwnBounded}
 use Rattle.serial_candidates.specs.Owners.{Stored, OwnersBelow}
 use Rattle.serial_candidates.specs.Top.{CandidateLinks}

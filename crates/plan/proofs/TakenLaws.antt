@@ -16,14 +16,14 @@ use Rattle.position.specs.declared.WalkPosition.{WalkPosition}
 use Rattle.grid.specs.Cells.{Grid}
 use Rattle.serial_links.specs.Limits.{Limits}
 use Rattle.topology.specs.Listing.{Item}
-use Rattle.groups.specs.Links.{LinkAt}
-use Rattle.groups.specs.Groups.{LinkGroup, linkEdges, isJoined, groupAt, groupsOf, inAnyLinkGroup}
-use Rattle.groups.specs.Serial.{acceptsSerial, serialLinks, serialGroups}
-use Rattle.groups.specs.Flat.{acceptsFlat, flatLinks, flatGroups, accepted}
-use Rattle.groups.specs.Representative.{retained}
-use Rattle.groups.specs.Plan.{mergePlan}
-use Rattle.groups.proofs.Groups.{group-joined, group-covers}
-use Rattle.groups.proofs.Plan.{in-any, any-in, plan-member, plan-other}
+use Rattle.serial_groups.specs.Links.{LinkAt}
+use Rattle.serial_groups.specs.Groups.{LinkGroup, linkEdges, isJoined, groupAt, groupsOf, inAnyLinkGroup}
+use Rattle.serial_groups.specs.Serial.{acceptsSerial, serialLinks, serialGroups}
+use Rattle.serial_groups.specs.Flat.{acceptsFlat, flatLinks, flatGroups, accepted}
+use Rattle.serial_groups.specs.Representative.{retained}
+use Rattle.serial_groups.specs.Plan.{mergePlan}
+use Rattle.serial_groups.proofs.Groups.{group-joined, group-covers}
+use Rattle.serial_groups.proofs.Plan.{in-any, any-in, plan-member, plan-other}
 
 module _ (n : ℕ) (ks : List LinkAt) where
   -- the group of the rank's componentOf

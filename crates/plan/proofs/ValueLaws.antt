@@ -16,7 +16,7 @@ use Rattle.length.specs.Total.{totalLe}
 use Rattle.position.specs.declared.Span.{Span}
 use Rattle.areas.specs.Spans.{spanIn}
 use Rattle.topology.specs.FullPair.{otherRegion}
-use Rattle.groups.specs.Tests.{every}
+use Rattle.serial_groups.specs.Tests.{every}
 use Rattle.order.proofs.Keep.{keep-length}
 use Rattle.serial_links.specs.Limits.{Limits}
 use Rattle.serial_links.specs.Sums.{noLater}

@@ -11,10 +11,10 @@ use Rattle.order.proofs.Keep.{keep-ext, keep-keep, keep-map}
 use Rattle.order.proofs.Numbers.{up-mem}
 use Rattle.graph.specs.Path.{Edge}
 use Rattle.graph.specs.Parts.{componentOf}
-use Rattle.groups.specs.Tests.{any}
-use Rattle.groups.specs.Links.{LinkAt, joins}
-use Rattle.groups.specs.Groups.{LinkGroup, linkEdges, isJoined, groupAt}
-use Rattle.groups.specs.Tables.{linkRow}
+use Rattle.serial_groups.specs.Tests.{any}
+use Rattle.serial_groups.specs.Links.{LinkAt, joins}
+use Rattle.serial_groups.specs.Groups.{LinkGroup, linkEdges, isJoined, groupAt}
+use Rattle.serial_groups.specs.Tables.{linkRow}
 use Rattle.plan.specs.Arrays.{isOn, edgeRow, chosenFrom, partFrom, joinsAt, joinedFrom, inPart, linkInPart, ranksIn, numbersIn, LinkRanks, FirstAre}
 use Rattle.plan.specs.Told.{groupBy}
 

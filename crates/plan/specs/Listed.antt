@@ -9,8 +9,8 @@ use Rattle.areas.specs.Spans.{Sides}
 use Rattle.areas.specs.Words.{labelsIn}
 use Rattle.topology.specs.AnchorLoop.{AnchorsIn}
 use Rattle.topology.specs.Listing.{Item}
-use Rattle.groups.specs.Regions.{regionLabels}
-use Rattle.groups.specs.Tables.{Boundaries, Counted, Paired, Bridged}
+use Rattle.serial_groups.specs.Regions.{regionLabels}
+use Rattle.serial_groups.specs.Tables.{Boundaries, Counted, Paired, Bridged}
 use Rattle.serial_candidates.specs.Owners.{Stored}
 use Rattle.serial_measures.specs.Tables.{Labels}
 use Rattle.serial_measures.specs.Judging.{CoordinatesBounded}

@@ -9,8 +9,8 @@ use Rattle.grid.specs.Cells.{Grid}
 use Rattle.serial_links.specs.Limits.{Limits}
 use Rattle.topology.specs.Anchors.{anchorsOf}
 use Rattle.topology.specs.Listing.{Item}
-use Rattle.groups.specs.Plan.{mergePlan}
-use Rattle.groups.specs.Tables.{LinkTable}
+use Rattle.serial_groups.specs.Plan.{mergePlan}
+use Rattle.serial_groups.specs.Tables.{LinkTable}
 use Rattle.plan.specs.Arrays.{LinkRanks}
 use Rattle.plan.specs.Told.{BoundaryTables, Passed, FlatInside}
 use Rattle.plan.specs.Listed.{ListingTables}

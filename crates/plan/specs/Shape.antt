@@ -18,7 +18,7 @@ use Rattle.serial_links.specs.Limits.{Limits}
 use Rattle.serial_links.specs.Geometry.{squares, centreDistance}
 use Rattle.serial_links.specs.Parallel.{nearbyParallel}
 use Rattle.serial_links.specs.Sums.{addedTo, sumOf, noLater, ascendingSum, distanceSum}
-use Rattle.groups.specs.Tests.{every}
+use Rattle.serial_groups.specs.Tests.{every}
 use Rattle.plan.specs.Arrays.{isOn, joinsAt}
 
 module _ (firsts seconds : List ℕ) where

@@ -13,13 +13,13 @@ use Rattle.topology.specs.FullPair.{fullPair}
 use Rattle.topology.specs.Listing.{Item}
 use Rattle.serial_links.specs.Limits.{Limits}
 use Rattle.serial_links.specs.Geometry.{squares, centreDistance}
-use Rattle.groups.specs.Tests.{every}
-use Rattle.groups.specs.Listing.{endsAt, bitsAt}
-use Rattle.groups.specs.Regions.{assessAt}
-use Rattle.groups.specs.Measuring.{passes, staysInside}
-use Rattle.groups.specs.Groups.{LinkGroup}
-use Rattle.groups.specs.Flat.{leastFlatSpans, isFlat}
-use Rattle.groups.specs.Tables.{linkRow}
+use Rattle.serial_groups.specs.Tests.{every}
+use Rattle.serial_groups.specs.Listing.{endsAt, bitsAt}
+use Rattle.serial_groups.specs.Regions.{assessAt}
+use Rattle.serial_groups.specs.Measuring.{passes, staysInside}
+use Rattle.serial_groups.specs.Groups.{LinkGroup}
+use Rattle.serial_groups.specs.Flat.{leastFlatSpans, isFlat}
+use Rattle.serial_groups.specs.Tables.{linkRow}
 use Rattle.plan.specs.Arrays.{isOn}
 use Rattle.plan.specs.Shape.{endsIn, chainIn, pathIn, allAlikeIn}
 

@@ -25,8 +25,8 @@ use Rattle.format.specs.Header.{headerAt}
 use Rattle.format.specs.Decode.{decode, decodeList}
 use Rattle.serial_links.specs.Limits.{Limits}
 use Rattle.topology.specs.Anchors.{anchorsOf}
-use Rattle.groups.specs.Plan.{mergePlan}
-use Rattle.groups.proofs.Plan.{plan-below}
+use Rattle.serial_groups.specs.Plan.{mergePlan}
+use Rattle.serial_groups.proofs.Plan.{plan-below}
 use Rattle.merging.specs.Follows.{placesOf}
 use Rattle.checks.specs.Checks.{Check, firstRefusal}
 use Rattle.job.specs.Refusals.{reduceChecks, byListChecks}

@@ -19,21 +19,21 @@ use Rattle.format.specs.Values.{Boundary, Job}
 use Rattle.topology.specs.Anchors.{anchorsOf}
 use Rattle.topology.specs.Listing.{Item}
 use Rattle.serial_links.specs.Limits.{Limits}
-use Rattle.groups.specs.Groups as Link
-use Rattle.groups.specs.Links.{LinkAt}
-use Rattle.groups.specs.Listing.{bitsAt}
-use Rattle.groups.specs.Serial.{serialGroups}
-use Rattle.groups.specs.Flat.{flatGroups, accepted}
-use Rattle.groups.specs.Representative.{retained, IsRetained}
-use Rattle.groups.specs.ConnectedPart.{ConnectedPart}
-use Rattle.groups.specs.Retains.{Retains}
-use Rattle.groups.proofs.Representative.{Tolerant, some-eligible}
-use Rattle.groups.proofs.Accepted.{groups-disjoint}
-use Rattle.groups.proofs.Listing.{listing-perm}
-use Rattle.groups.proofs.ConnectedPart.{part-link}
-use Rattle.groups.proofs.SerialGroup.{serial-iff}
-use Rattle.groups.proofs.FlatGroup.{flat-iff}
-use Rattle.groups.proofs.Retains.{retains-iff}
+use Rattle.serial_groups.specs.Groups as Link
+use Rattle.serial_groups.specs.Links.{LinkAt}
+use Rattle.serial_groups.specs.Listing.{bitsAt}
+use Rattle.serial_groups.specs.Serial.{serialGroups}
+use Rattle.serial_groups.specs.Flat.{flatGroups, accepted}
+use Rattle.serial_groups.specs.Representative.{retained, IsRetained}
+use Rattle.serial_groups.specs.ConnectedPart.{ConnectedPart}
+use Rattle.serial_groups.specs.Retains.{Retains}
+use Rattle.serial_groups.proofs.Representative.{Tolerant, some-eligible}
+use Rattle.serial_groups.proofs.Accepted.{groups-disjoint}
+use Rattle.serial_groups.proofs.Listing.{listing-perm}
+use Rattle.serial_groups.proofs.ConnectedPart.{part-link}
+use Rattle.serial_groups.proofs.SerialGroup.{serial-iff}
+use Rattle.serial_groups.proofs.FlatGroup.{flat-iff}
+use Rattle.serial_groups.proofs.Retains.{retains-iff}
 use Rattle.merging.specs.Groups.{Group, allGroups, Disjoint}
 use Rattle.merging.specs.Copies.{canon}
 use Rattle.merging.specs.Runs.{Run, itemOf, itemsOf, canonItem, groupsOf}

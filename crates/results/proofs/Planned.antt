@@ -10,10 +10,10 @@ use Rattle.format.specs.Encode.{encodeAnswer}
 use Rattle.topology.specs.Anchors.{anchorsOf}
 use Rattle.topology.specs.Listing.{Item}
 use Rattle.serial_links.specs.Limits.{Limits}
-use Rattle.groups.specs.Groups as Link
-use Rattle.groups.specs.Flat.{accepted}
-use Rattle.groups.specs.Plan.{goesInto, mergePlan}
-use Rattle.groups.proofs.Accepted.{accepted-two}
+use Rattle.serial_groups.specs.Groups as Link
+use Rattle.serial_groups.specs.Flat.{accepted}
+use Rattle.serial_groups.specs.Plan.{goesInto, mergePlan}
+use Rattle.serial_groups.proofs.Accepted.{accepted-two}
 use Rattle.merging.specs.Copies.{copiesOf}
 use Rattle.merging.specs.Groups.{Group, noGroups, allGroups}
 use Rattle.merging.specs.Planned.{goes, planned}

@@ -9,10 +9,10 @@ use Rattle.format.specs.Values.{Job}
 use Rattle.topology.specs.Anchors.{anchorsOf}
 use Rattle.topology.specs.Listing.{Item}
 use Rattle.serial_links.specs.Limits.{Limits}
-use Rattle.groups.specs.Serial.{serialGroups}
-use Rattle.groups.specs.Flat.{flatGroups, accepted}
-use Rattle.groups.proofs.Accepted.{groups-disjoint, accepted-rising, accepted-below}
-use Rattle.groups.proofs.Plan.{accepted-retained}
+use Rattle.serial_groups.specs.Serial.{serialGroups}
+use Rattle.serial_groups.specs.Flat.{flatGroups, accepted}
+use Rattle.serial_groups.proofs.Accepted.{groups-disjoint, accepted-rising, accepted-below}
+use Rattle.serial_groups.proofs.Plan.{accepted-retained}
 use Rattle.merging.specs.Groups.{Group, allGroups, Good, Disjoint, WellGrouped}
 use Rattle.merging.specs.Runs.{Run, groupsOf, keptOf}
 use Rattle.merging.specs.Follows.{Follows}

@@ -9,10 +9,10 @@ use Rattle.position.specs.declared.Span.{Span}
 use Rattle.format.specs.Values.{Job}
 use Rattle.topology.specs.Anchors.{anchorsOf}
 use Rattle.serial_links.specs.Limits.{Limits}
-use Rattle.groups.specs.Groups as Link
-use Rattle.groups.specs.SerialGroup.{SerialGroup}
-use Rattle.groups.specs.FlatGroup.{FlatGroup}
-use Rattle.groups.specs.Retains.{Retains}
+use Rattle.serial_groups.specs.Groups as Link
+use Rattle.serial_groups.specs.SerialGroup.{SerialGroup}
+use Rattle.serial_groups.specs.FlatGroup.{FlatGroup}
+use Rattle.serial_groups.specs.Retains.{Retains}
 use Rattle.merging.specs.Groups.{Group, Disjoint}
 use Rattle.results.specs.Rules.{gridOf, listingOf}
 

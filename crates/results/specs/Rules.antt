@@ -8,10 +8,10 @@ use Rattle.grid.specs.Cells.{Grid}
 use Rattle.topology.specs.Anchors.{anchorsOf}
 use Rattle.topology.specs.Listing.{Item, listing}
 use Rattle.serial_links.specs.Limits.{Limits}
-use Rattle.groups.specs.Groups as Link
-use Rattle.groups.specs.Serial.{serialGroups}
-use Rattle.groups.specs.Flat.{flatGroups}
-use Rattle.groups.specs.Representative.{retained}
+use Rattle.serial_groups.specs.Groups as Link
+use Rattle.serial_groups.specs.Serial.{serialGroups}
+use Rattle.serial_groups.specs.Flat.{flatGroups}
+use Rattle.serial_groups.specs.Representative.{retained}
 use Rattle.merging.specs.Groups.{Group, Groups}
 use Rattle.merging.specs.Runs.{itemsOf, canonItem}
 

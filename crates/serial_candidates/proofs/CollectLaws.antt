@@ -16,8 +16,8 @@ use Rattle.order.specs.Lists.{keep, upFrom}
 use Rattle.order.proofs.Bools.{clash, and-parts, or-cases}
 use Rattle.order.proofs.Keep.{keep-append}
 use Rattle.topology.specs.AnchorLoop.{anchoredBy}
-use Rattle.groups.specs.Links.{LinkAt}
-use Rattle.groups.specs.Tables.{linksIn}
+use Rattle.serial_groups.specs.Links.{LinkAt}
+use Rattle.serial_groups.specs.Tables.{linksIn}
 use Rattle.graph.specs.Records.{recordIn}
 use Rattle.serial_candidates.specs.Owners.{OwnersBelow}
 use Rattle.serial_candidates.specs.Next.{nextAfter}

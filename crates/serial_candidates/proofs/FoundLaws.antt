@@ -26,10 +26,10 @@ use Rattle.topology.proofs.Bases.{by-bases}
 use Rattle.topology.proofs.FullPair.{touches-iff, full-pair-iff}
 use Rattle.serial_links.specs.Geometry.{squares, doubledCentre}
 use Rattle.position.specs.Order.{posSame}
-use Rattle.groups.specs.Listing.{noItem, spansOf, boundaryAt, endsAt}
-use Rattle.groups.specs.Regions.{regionLabels, regionCount, assessAt, touching}
-use Rattle.groups.specs.Links.{centresDiffer, linkable, linkAt, givesLink, links}
-use Rattle.groups.specs.Tables.{Paired, LinkTable}
+use Rattle.serial_groups.specs.Listing.{noItem, spansOf, boundaryAt, endsAt}
+use Rattle.serial_groups.specs.Regions.{regionLabels, regionCount, assessAt, touching}
+use Rattle.serial_groups.specs.Links.{centresDiffer, linkable, linkAt, givesLink, links}
+use Rattle.serial_groups.specs.Tables.{Paired, LinkTable}
 use Rattle.serial_candidates.specs.Gives.{hasRegion, joinsTwo}
 use Rattle.serial_candidates.specs.Found.{Given, found, foundLink, AllFound}
 use Rattle.serial_candidates.specs.declared.touching.Touching.{Touching}

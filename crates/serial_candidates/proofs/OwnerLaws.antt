@@ -20,10 +20,10 @@ use Rattle.position.specs.Order.{posSame}
 use Rattle.topology.specs.Numbers.{isFull}
 use Rattle.topology.specs.FullPair.{noPair, hasFullPair}
 use Rattle.topology.specs.Listing.{Item}
-use Rattle.groups.specs.Listing.{noItem, noSpan, spansOf}
-use Rattle.groups.specs.Regions.{assessAt}
-use Rattle.groups.specs.Links.{linkable}
-use Rattle.groups.specs.Tables.{Boundaries, Counted, Paired, FirstPairs}
+use Rattle.serial_groups.specs.Listing.{noItem, noSpan, spansOf}
+use Rattle.serial_groups.specs.Regions.{assessAt}
+use Rattle.serial_groups.specs.Links.{linkable}
+use Rattle.serial_groups.specs.Tables.{Boundaries, Counted, Paired, FirstPairs}
 use Rattle.serial_candidates.specs.Owners.{ownerRecords, Firsts}
 use Rattle.serial_candidates.specs.Linkable.{canLink}
 

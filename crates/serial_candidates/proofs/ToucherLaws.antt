@@ -27,9 +27,9 @@ use Rattle.areas.proofs.Records.{records-iff}
 use Rattle.topology.specs.FullPair.{touches}
 use Rattle.topology.proofs.FullPair.{touches-iff}
 use Rattle.topology.specs.Listing.{Item}
-use Rattle.groups.specs.Listing.{noSpan, spansOf}
-use Rattle.groups.specs.Regions.{assessAt, touching}
-use Rattle.groups.specs.Tables.{Paired}
+use Rattle.serial_groups.specs.Listing.{noSpan, spansOf}
+use Rattle.serial_groups.specs.Regions.{assessAt, touching}
+use Rattle.serial_groups.specs.Tables.{Paired}
 use Rattle.serial_candidates.specs.Owners.{inRecord}
 use Rattle.serial_candidates.specs.Touchers.{withOwner, touched, touchingAfter, touchers}
 use Rattle.serial_candidates.specs.declared.touching.Touching.{Touching}

@@ -7,8 +7,8 @@ use lib.Dec.{leb}
 use lib.ListN.{length, getD, set}
 use Rattle.order.specs.Lists.{keep, upFrom}
 use Rattle.topology.specs.AnchorLoop.{anchoredBy}
-use Rattle.groups.specs.Links.{LinkAt}
-use Rattle.groups.specs.Tables.{linksIn}
+use Rattle.serial_groups.specs.Links.{LinkAt}
+use Rattle.serial_groups.specs.Tables.{linksIn}
 use Rattle.graph.specs.Records.{recordIn}
 use Rattle.serial_candidates.specs.Touchers.{touchingAfter}
 use Rattle.serial_candidates.specs.Gives.{joinsTwo}

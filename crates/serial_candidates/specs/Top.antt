@@ -8,8 +8,8 @@ use Rattle.format.specs.Decode.{baseOf, baseRecords}
 use Rattle.grid.specs.Cells.{Grid}
 use Rattle.topology.specs.Anchors.{anchorsOf}
 use Rattle.topology.specs.Listing.{Item}
-use Rattle.groups.specs.Regions.{regionLabels}
-use Rattle.groups.specs.Tables.{Boundaries, Counted, Paired, FirstPairs, LinkTable}
+use Rattle.serial_groups.specs.Regions.{regionLabels}
+use Rattle.serial_groups.specs.Tables.{Boundaries, Counted, Paired, FirstPairs, LinkTable}
 
 -- of any listing that the arrays tell of: its links and first pairs
 pub record CandidateLinks (job : List ℕ) (start bases width : ℕ) (labels : List ℕ) (n : ℕ) (own ramps removed separated owners lefts rights : List ℕ)

@@ -25,11 +25,11 @@ use Rattle.topology.specs.Held.{statsIn, statsAfter, firstCells}
 use Rattle.topology.specs.declared.stats.RegionStats.{RegionStats as StatsHeld}
 use Rattle.topology.specs.Listing.{Item}
 use Rattle.topology.proofs.Counting.{after-all, cells-all}
-use Rattle.groups.specs.Listing.{endsAt, bitsAt}
-use Rattle.groups.specs.Regions.{regionLabels, cellsOf, statsOf}
-use Rattle.groups.specs.Measuring.{valueOf, measuredAt, passes, staysInside}
-use Rattle.groups.specs.Flat.{isFlat}
-use Rattle.groups.specs.Tables.{Boundaries, linkRow}
+use Rattle.serial_groups.specs.Listing.{endsAt, bitsAt}
+use Rattle.serial_groups.specs.Regions.{regionLabels, cellsOf, statsOf}
+use Rattle.serial_groups.specs.Measuring.{valueOf, measuredAt, passes, staysInside}
+use Rattle.serial_groups.specs.Flat.{isFlat}
+use Rattle.serial_groups.specs.Tables.{Boundaries, linkRow}
 use Rattle.serial_measures.specs.Judging.{valueIn, flatIn, linkNow, statsNow, Running, Judged, Measured}
 
 module _ {limits : Limits} {own bits regions firsts seconds : List ℕ} {g : Grid} {ls : List ℕ} where

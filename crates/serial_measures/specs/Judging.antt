@@ -17,10 +17,10 @@ use Rattle.topology.specs.RegionStats.{elevationKinds}
 use Rattle.topology.specs.Held.{statsIn, statsAfter, firstCells}
 use Rattle.topology.specs.declared.stats.RegionStats.{RegionStats as StatsHeld}
 use Rattle.topology.specs.Listing.{Item}
-use Rattle.groups.specs.Regions.{regionLabels}
-use Rattle.groups.specs.Measuring.{passes, staysInside}
-use Rattle.groups.specs.Flat.{isFlat}
-use Rattle.groups.specs.Tables.{Boundaries, linkRow}
+use Rattle.serial_groups.specs.Regions.{regionLabels}
+use Rattle.serial_groups.specs.Measuring.{passes, staysInside}
+use Rattle.serial_groups.specs.Flat.{isFlat}
+use Rattle.serial_groups.specs.Tables.{Boundaries, linkRow}
 
 -- each coordinate is at most 8 · 1,024, and each width at most that of a job
 pub record CoordinatesBounded (own bits : List ℕ) : Type 0 where

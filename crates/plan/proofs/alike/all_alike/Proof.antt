@@ -4,7 +4,7 @@ use native.Mathlib.Omega.{arith}
 use borrow.Author.Needs.{needs}
 use mathlib.Core.Path.{subst}
 use Rattle.serial_links.specs.HeldLimits.{limitsOf}
-use Rattle.groups.specs.Tests.{every}
+use Rattle.serial_groups.specs.Tests.{every}
 use Rattle.plan.specs.Shape.{alikeIn}
 use Rattle.plan.specs.Fitting.{RankFits}
 use Rattle.plan.specs.Few.{fewAt, fewList}
