@@ -25,9 +25,9 @@ use Rattle.serial_measures.specs.Judging.{CoordinatesBounded}
 use Rattle.ranks.specs.Tables.{Records, SpansOf, WidthsOf, RampsOf}
 use Rattle.results.specs.Rules.{gridOf, listingOf}
 use Rattle.analysis.specs.Plans.{planOf, RankedJob, PartitionTables}
-use Rattle.plan.specs.Listed.{ListingTables, PlanInput}
-use Rattle.plan.specs.Planned.{anchorsIn, PlanFrom}
-use Rattle.plan.proofs.PlainLaws.{plain-arrays}
+use Rattle.serial_plan.specs.Listed.{ListingTables, PlanInput}
+use Rattle.serial_plan.specs.Planned.{anchorsIn, PlanFrom}
+use Rattle.serial_plan.proofs.PlainLaws.{plain-arrays}
 use Rattle.analysis.proofs.Ranked.{ByRank}
 use Rattle.analysis.proofs.Checked.{boundariesAt, Checked, checked-sides}
 use Rattle.analysis.proofs.RankedTables.{job-records, listed-count, boundaries-ranked}

@@ -30,7 +30,7 @@ use format::Header;
 use format::SPAN_SIZE;
 use serial_links::limits::Limits;
 use places::ranks::sort_ranks;
-use plan::planning::plan_merges;
+use serial_plan::planning::plan_merges;
 use ranks::fill_identity;
 use ranks::fill_keys;
 use ranks::fill_ramps;
