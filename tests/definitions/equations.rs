@@ -28,12 +28,12 @@ use Rattle.grid.specs.Directions.{eight}
 use Rattle.serial_links.specs.Limits.{limits000}
 use Rattle.topology.specs.Anchors.{anchorsOf}
 use Rattle.topology.specs.Listing.{spanKey, endsKey}
-use Rattle.merging.specs.Keys.{sourceKey, sourcesKey, observationKey}
-use Rattle.merging.specs.Copies.{canonObservation, canon, copiesOf}
-use Rattle.merging.specs.Consolidation.{orItself, observed, consolidate}
-use Rattle.merging.specs.Groups.{allGroups}
-use Rattle.merging.specs.Kept.{membersOf, consolidated, slot, kept}
-use Rattle.merging.specs.Runs.{reduceRun, itemsOf, canonItem, groupsOf, keptOf}
+use Rattle.serial_merging.specs.Keys.{sourceKey, sourcesKey, observationKey}
+use Rattle.serial_merging.specs.Copies.{canonObservation, canon, copiesOf}
+use Rattle.serial_merging.specs.Consolidation.{orItself, observed, consolidate}
+use Rattle.serial_merging.specs.Groups.{allGroups}
+use Rattle.serial_merging.specs.Kept.{membersOf, consolidated, slot, kept}
+use Rattle.serial_merging.specs.Runs.{reduceRun, itemsOf, canonItem, groupsOf, keptOf}
 use Rattle.areas.specs.Areas.{areaLabels}
 use Rattle.results.specs.Rules.{rulesOn, rulesOf}
 use Rattle.results.specs.Results.{ownEnds, labelsOf, marksOf}

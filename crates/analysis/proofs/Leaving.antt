@@ -16,11 +16,11 @@ use Rattle.format.specs.Encode.{encodeAnswer}
 use Rattle.serial_links.specs.Limits.{Limits}
 use Rattle.topology.specs.Anchors.{anchorsOf}
 use Rattle.serial_groups.specs.Plan.{mergePlan}
-use Rattle.merging.specs.Copies.{canon, copiesOf}
-use Rattle.merging.specs.Kept.{noBoundary}
-use Rattle.merging.specs.Planned.{planned}
-use Rattle.merging.proofs.Copies.{copies-length}
-use Rattle.merging.proofs.Planned.{planned-ext}
+use Rattle.serial_merging.specs.Copies.{canon, copiesOf}
+use Rattle.serial_merging.specs.Kept.{noBoundary}
+use Rattle.serial_merging.specs.Planned.{planned}
+use Rattle.serial_merging.proofs.Copies.{copies-length}
+use Rattle.serial_merging.proofs.Planned.{planned-ext}
 use Rattle.answer.specs.Gathered.{PlacesOrder}
 use Rattle.checks.specs.Checks.{Check, firstRefusal}
 use Rattle.results.specs.Rules.{gridOf, listingOf}

@@ -31,13 +31,13 @@ use Rattle.areas.proofs.Areas.{labels-depend-on-the-set}
 use Rattle.areas.proofs.Listed.{perm-same, records-count}
 use Rattle.topology.specs.Listing.{Item, itemKey}
 use Rattle.serial_groups.specs.Listing.{noSpan, noItem, spansOf}
-use Rattle.merging.specs.Copies.{canon, copiesOf}
-use Rattle.merging.specs.Kept.{noBoundary}
-use Rattle.merging.specs.Follows.{endsLe, placesOf}
-use Rattle.merging.specs.Runs.{itemOf, itemsOf, canonItem}
-use Rattle.merging.proofs.Copies.{key-canon}
-use Rattle.merging.proofs.Kept.{copies-places}
-use Rattle.merging.proofs.Packed.{packFirst, packSecond, ends-packed, sort-alike}
+use Rattle.serial_merging.specs.Copies.{canon, copiesOf}
+use Rattle.serial_merging.specs.Kept.{noBoundary}
+use Rattle.serial_merging.specs.Follows.{endsLe, placesOf}
+use Rattle.serial_merging.specs.Runs.{itemOf, itemsOf, canonItem}
+use Rattle.serial_merging.proofs.Copies.{key-canon}
+use Rattle.serial_merging.proofs.Kept.{copies-places}
+use Rattle.serial_merging.proofs.Packed.{packFirst, packSecond, ends-packed, sort-alike}
 use Rattle.ranks.specs.Tables.{KeysOf}
 use Rattle.places.specs.Orders.{byTwo}
 use Rattle.results.specs.Rules.{listingOf}

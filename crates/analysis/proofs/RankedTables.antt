@@ -35,10 +35,10 @@ use Rattle.areas.proofs.Listed.{eq-same, records-same}
 use Rattle.topology.specs.Listing.{Item}
 use Rattle.serial_groups.specs.Listing as Rank
 use Rattle.serial_groups.specs.Tables.{Boundaries}
-use Rattle.merging.specs.Copies.{canon}
-use Rattle.merging.specs.Kept.{noBoundary}
-use Rattle.merging.specs.Follows.{placesOf}
-use Rattle.merging.specs.Runs.{canonItem}
+use Rattle.serial_merging.specs.Copies.{canon}
+use Rattle.serial_merging.specs.Kept.{noBoundary}
+use Rattle.serial_merging.specs.Follows.{placesOf}
+use Rattle.serial_merging.specs.Runs.{canonItem}
 use Rattle.ranks.specs.Tables.{Records, KeysOf, SpansOf, WidthsOf, RampsOf, Identity}
 use Rattle.places.specs.Orders.{byTwo}
 use Rattle.results.specs.Rules.{listingOf}

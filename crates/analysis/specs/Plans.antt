@@ -26,10 +26,10 @@ use Rattle.serial_groups.specs.Listing.{noSpan}
 use Rattle.serial_groups.specs.Regions.{regionLabels}
 use Rattle.serial_groups.specs.Plan.{mergePlan}
 use Rattle.serial_groups.specs.Tables.{Counted, Paired, Bridged}
-use Rattle.merging.specs.Copies.{canon}
-use Rattle.merging.specs.Follows.{placesOf}
-use Rattle.merging.specs.Kept.{noBoundary}
-use Rattle.merging.specs.Planned.{planned}
+use Rattle.serial_merging.specs.Copies.{canon}
+use Rattle.serial_merging.specs.Follows.{placesOf}
+use Rattle.serial_merging.specs.Kept.{noBoundary}
+use Rattle.serial_merging.specs.Planned.{planned}
 use Rattle.serial_measures.specs.Tables.{Labels}
 use Rattle.ranks.specs.Tables.{Identity, SpansOf}
 use Rattle.checks.specs.Checks.{Check, firstRefusal}

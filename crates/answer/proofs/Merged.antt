@@ -29,16 +29,16 @@ use Rattle.format.specs.declared.records.Source.{Source}
 use Rattle.format.specs.declared.records.BoundaryRecord.{BoundaryRecord}
 use Rattle.format.specs.declared.records.ObservationRecord.{ObservationRecord}
 use Rattle.places.specs.Orders.{byRun}
-use Rattle.merging.specs.Copies.{sortedSources, canon, canonObservation, sortedObservations}
-use Rattle.merging.specs.Consolidation.{orItself, observed, consolidate}
-use Rattle.merging.specs.Kept.{noBoundary, copyAt}
-use Rattle.merging.specs.Planned.{members, merged, planned}
-use Rattle.merging.specs.Sources.{ownSources}
+use Rattle.serial_merging.specs.Copies.{sortedSources, canon, canonObservation, sortedObservations}
+use Rattle.serial_merging.specs.Consolidation.{orItself, observed, consolidate}
+use Rattle.serial_merging.specs.Kept.{noBoundary, copyAt}
+use Rattle.serial_merging.specs.Planned.{members, merged, planned}
+use Rattle.serial_merging.specs.Sources.{ownSources}
 use Rattle.order.proofs.Gather.{gather-last}
-use Rattle.merging.proofs.Copies.{source-order, observation-order}
-use Rattle.merging.proofs.Packed.{sources-fit}
-use Rattle.merging.proofs.Planned.{merged-keeps}
-use Rattle.merging.specs.Keys.{observationKey}
+use Rattle.serial_merging.proofs.Copies.{source-order, observation-order}
+use Rattle.serial_merging.proofs.Packed.{sources-fit}
+use Rattle.serial_merging.proofs.Planned.{merged-keeps}
+use Rattle.serial_merging.specs.Keys.{observationKey}
 use Rattle.answer.specs.Packed.{sourcePack, packed}
 use Rattle.answer.specs.Squeezed.{partOf}
 use Rattle.answer.specs.Placed.{seenOf, observationOf, boundaryOf, itself, HoldsObservation, CopiesPlaced}

@@ -13,9 +13,9 @@ use Rattle.format.specs.Fits.{SourceFits}
 use Rattle.format.specs.declared.records.Source.{Source}
 use Rattle.length.specs.Total.{totalKey}
 use Rattle.topology.specs.Listing.{spanKey}
-use Rattle.merging.specs.Keys.{sourcesKey, observationKey}
-use Rattle.merging.specs.Copies.{sortedSources}
-use Rattle.merging.proofs.Packed.{sources-packed, sources-once}
+use Rattle.serial_merging.specs.Keys.{sourcesKey, observationKey}
+use Rattle.serial_merging.specs.Copies.{sortedSources}
+use Rattle.serial_merging.proofs.Packed.{sources-packed, sources-once}
 use Rattle.answer.specs.Packed.{sourcePack, packed}
 
 -- Sources sorted as numbers are the sorted sources.

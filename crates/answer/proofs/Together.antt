@@ -17,10 +17,10 @@ use Rattle.format.specs.Records.{sourceAt, boundaryAt, observationAt}
 use Rattle.format.specs.Decode.{sourceRecords}
 use Rattle.format.specs.Fits.{SourceFits}
 use Rattle.format.specs.declared.records.Source.{Source}
-use Rattle.merging.specs.Copies.{sortedSources, canon, canonObservation}
+use Rattle.serial_merging.specs.Copies.{sortedSources, canon, canonObservation}
 use Rattle.length.specs.Total.{totalKey}
 use Rattle.order.specs.Keys.{byKey}
-use Rattle.merging.specs.Keys.{observationKey}
+use Rattle.serial_merging.specs.Keys.{observationKey}
 use Rattle.places.specs.Orders.{restKey, placeKey, byRun}
 use Rattle.order.specs.Keys.{pack}
 use Rattle.answer.specs.Packed.{sourcePack, packed, KeysRead, KeyAt}
@@ -31,7 +31,7 @@ use Rattle.answer.specs.Placed.{observationFrom, boundaryOf, itself, Hol
 use Rattle.answer.specs.Placed.{observationRows}
 use Rattle.answer.proofs.Lays.{below-next}
 use Rattle.answer.proofs.Layouts.{below-none, apart-wider}
-use Rattle.merging.proofs.Packed.{sources-fit}
+use Rattle.serial_merging.proofs.Packed.{sources-fit}
 use Rattle.answer.proofs.Packs.{sorted-packed, observation-le}
 
 take-map : {A B : Type 0} (f : A → B) (n : ℕ) (l : List A) → take n (map f l) ≡ map f (take n l)

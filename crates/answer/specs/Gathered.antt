@@ -15,10 +15,10 @@ use Rattle.format.specs.Fits.{SourceFits}
 use Rattle.format.specs.declared.records.Source.{Source}
 use Rattle.format.specs.declared.records.BoundaryRecord.{BoundaryRecord}
 use Rattle.format.specs.declared.records.ObservationRecord.{ObservationRecord}
-use Rattle.merging.specs.Copies.{canon}
-use Rattle.merging.specs.Kept.{noBoundary}
-use Rattle.merging.specs.Planned.{planned}
-use Rattle.merging.specs.Sources.{ownSources}
+use Rattle.serial_merging.specs.Copies.{canon}
+use Rattle.serial_merging.specs.Kept.{noBoundary}
+use Rattle.serial_merging.specs.Planned.{planned}
+use Rattle.serial_merging.specs.Sources.{ownSources}
 use Rattle.answer.specs.Packed.{packed}
 use Rattle.answer.specs.Placed.{boundaryOf, HoldsObservation}
 

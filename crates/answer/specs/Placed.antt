@@ -12,7 +12,7 @@ use Rattle.format.specs.Fits.{SourceFits}
 use Rattle.format.specs.declared.records.Source.{Source}
 use Rattle.format.specs.declared.records.BoundaryRecord.{BoundaryRecord}
 use Rattle.format.specs.declared.records.ObservationRecord.{ObservationRecord}
-use Rattle.merging.specs.Copies.{canon, canonObservation}
+use Rattle.serial_merging.specs.Copies.{canon, canonObservation}
 use Rattle.answer.specs.Packed.{packed, KeyAt}
 use Rattle.answer.specs.Laying.{sumBelow, firstSeen, ownStart, ownCount, seenCount, citedCount, Countable, PlanRoom}
 use Rattle.answer.specs.Ranked.{RankRoom}

@@ -12,11 +12,11 @@ use Rattle.topology.specs.Anchors.{anchorsOf}
 use Rattle.topology.specs.Listing.{Item}
 use Rattle.grid.specs.Directions.{eight}
 use Rattle.serial_links.specs.Limits.{Limits, limits000}
-use Rattle.merging.specs.Groups.{Groups, noGroups, allGroups}
-use Rattle.merging.specs.Runs.{rulesAnswer}
-use Rattle.merging.specs.Relisted.{Relisted, DistinctEnds}
-use Rattle.merging.proofs.Independence.{groups-well}
-use Rattle.merging.proofs.Symmetric.{relisted-symmetric}
+use Rattle.serial_merging.specs.Groups.{Groups, noGroups, allGroups}
+use Rattle.serial_merging.specs.Runs.{rulesAnswer}
+use Rattle.serial_merging.specs.Relisted.{Relisted, DistinctEnds}
+use Rattle.serial_merging.proofs.Independence.{groups-well}
+use Rattle.serial_merging.proofs.Symmetric.{relisted-symmetric}
 use Rattle.results.specs.Rules.{gridOf, rulesOn, rulesOf}
 use Rattle.results.specs.Results.{Outcome, labelsOf, answerOf, reduceWith, reduceByListWith}
 use Rattle.results.specs.Calls.{reduceResult, reduceByListResult}

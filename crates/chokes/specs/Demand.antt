@@ -13,11 +13,11 @@ use Rattle.serial_links.specs.Limits.{Limits}
 use Rattle.checks.specs.Checks.{Check, firstRefusal}
 use Rattle.job.specs.Refusals.{reduceChecks, byListChecks}
 use Rattle.order.specs.Pairs.{Pairs}
-use Rattle.merging.specs.Groups.{Group, Groups, Disjoint, allGroups}
-use Rattle.merging.specs.Runs.{Run, Matched, groupsOf}
-use Rattle.merging.specs.Relisted.{Relisted}
-use Rattle.merging.specs.Merging.{MergeList, finish}
-use Rattle.merging.specs.Demand.{MergesOn, Independent}
+use Rattle.serial_merging.specs.Groups.{Group, Groups, Disjoint, allGroups}
+use Rattle.serial_merging.specs.Runs.{Run, Matched, groupsOf}
+use Rattle.serial_merging.specs.Relisted.{Relisted}
+use Rattle.serial_merging.specs.Merging.{MergeList, finish}
+use Rattle.serial_merging.specs.Demand.{MergesOn, Independent}
 use Rattle.results.specs.Rules.{gridOf, rulesOf}
 use Rattle.results.specs.Results.{Outcome, workSize, maxPairs, ownEnds, answerOf, reduced}
 

@@ -24,9 +24,9 @@ use Rattle.format.specs.Fits.{SourceFits}
 use Rattle.format.specs.declared.records.Source.{Source}
 use Rattle.format.specs.declared.records.BoundaryRecord.{BoundaryRecord}
 use Rattle.format.proofs.Distribution.{observed, own-and-observed}
-use Rattle.merging.specs.Kept.{noBoundary}
-use Rattle.merging.specs.Sources.{ownSources}
-use Rattle.merging.proofs.Lists.{flat-gather}
+use Rattle.serial_merging.specs.Kept.{noBoundary}
+use Rattle.serial_merging.specs.Sources.{ownSources}
+use Rattle.serial_merging.proofs.Lists.{flat-gather}
 use Rattle.answer.specs.Laying.{sumBelow}
 use Rattle.answer.specs.Packed.{sourcePack, packed}
 use Rattle.format.specs.Records.{observationWords}

@@ -25,11 +25,11 @@ use Rattle.checks.proofs.Adding.{sum-field}
 use Rattle.checks.proofs.Limits.{sections}
 use Rattle.job.proofs.Passing.{job-passed}
 use Rattle.job.proofs.Formed.{job-formed}
-use Rattle.merging.specs.Copies.{canon}
-use Rattle.merging.specs.Kept.{noBoundary}
+use Rattle.serial_merging.specs.Copies.{canon}
+use Rattle.serial_merging.specs.Kept.{noBoundary}
 use Rattle.answer.specs.Laying.{sumBelow, ownCount, seenCount, citedCount}
 use Rattle.answer.specs.Placed.{boundaryOf, boundaryRows, observationRows, JobPlaces}
-use Rattle.merging.specs.Planned.{planned}
+use Rattle.serial_merging.specs.Planned.{planned}
 use Rattle.answer.specs.Gathered.{PlacesOrder, copiesBy, keptBy}
 use Rattle.encoding.specs.Answered.{keptOf}
 use Rattle.answer.proofs.Decoded.{decoded}

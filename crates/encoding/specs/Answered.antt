@@ -12,9 +12,9 @@ use Rattle.answer.specs.Laying.{sumBelow, Apart}
 use Rattle.answer.specs.Ranked.{RankRoom}
 use Rattle.format.specs.Header.{countsAt, headerAt}
 use Rattle.format.specs.Decode.{decode}
-use Rattle.merging.specs.Copies.{canon}
-use Rattle.merging.specs.Kept.{noBoundary}
-use Rattle.merging.specs.Planned.{planned}
+use Rattle.serial_merging.specs.Copies.{canon}
+use Rattle.serial_merging.specs.Kept.{noBoundary}
+use Rattle.serial_merging.specs.Planned.{planned}
 use Rattle.gathering.specs.Room.{GatherRoom}
 use Rattle.format.specs.declared.header.Header.{Header}
 use Rattle.format.specs.declared.records.Source.{Source}

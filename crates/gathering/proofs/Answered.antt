@@ -19,9 +19,9 @@ use Rattle.format.specs.Fits.{SourceFits}
 use Rattle.format.specs.declared.records.Source.{Source}
 use Rattle.format.specs.declared.records.BoundaryRecord.{BoundaryRecord}
 use Rattle.format.specs.declared.records.ObservationRecord.{ObservationRecord}
-use Rattle.merging.specs.Kept.{noBoundary}
-use Rattle.merging.specs.Planned.{merged}
-use Rattle.merging.specs.Sources.{ownSources}
+use Rattle.serial_merging.specs.Kept.{noBoundary}
+use Rattle.serial_merging.specs.Planned.{merged}
+use Rattle.serial_merging.specs.Sources.{ownSources}
 use Rattle.answer.specs.Packed.{packed, sourcePack}
 use Rattle.answer.specs.Laying.{sumBelow}
 use Rattle.answer.specs.Placed.{CopiesPlaced, seenOf}

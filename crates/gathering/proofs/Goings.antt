@@ -15,7 +15,7 @@ use Rattle.lists.proofs.Rows.{sum-prefix}
 use Rattle.order.proofs.Keep.{keep-append}
 use Rattle.order.specs.Sorting.{sortOnce}
 use Rattle.sorting.specs.Between.{between, Front}
-use Rattle.merging.specs.Planned.{members}
+use Rattle.serial_merging.specs.Planned.{members}
 use Rattle.answer.specs.Laying.{sumBelow}
 use Rattle.answer.proofs.Lays.{below-next}
 use Rattle.gathering.specs.Runs.{Appended, going, ownAt, ownRun, ownWeight, into}

@@ -8,7 +8,7 @@ use lib.ListN.{length, getD, take}
 use Rattle.order.specs.Lists.{keep, gather, upFrom}
 use Rattle.order.specs.Sorting.{sort, sortOnce}
 use Rattle.places.specs.Orders.{byRun}
-use Rattle.merging.specs.Planned.{members}
+use Rattle.serial_merging.specs.Planned.{members}
 use Rattle.answer.specs.Laying.{sumBelow}
 use Rattle.answer.specs.Squeezed.{partOf}
 use Rattle.answer.specs.Gathered.{placesFrom}

@@ -27,7 +27,7 @@ use Rattle.serial_links.specs.Limits.{Limits}
 use Rattle.topology.specs.Anchors.{anchorsOf}
 use Rattle.serial_groups.specs.Plan.{mergePlan}
 use Rattle.serial_groups.proofs.Plan.{plan-below}
-use Rattle.merging.specs.Follows.{placesOf}
+use Rattle.serial_merging.specs.Follows.{placesOf}
 use Rattle.checks.specs.Checks.{Check, firstRefusal}
 use Rattle.job.specs.Refusals.{reduceChecks, byListChecks}
 use Rattle.job.proofs.Passing.{boundaries-passed}

@@ -15,7 +15,7 @@ use Rattle.format.specs.Header.{countsAt}
 use Rattle.format.specs.Decode.{decode, decodeList}
 use Rattle.areas.specs.Assessments.{records}
 use Rattle.serial_links.specs.Limits.{Limits}
-use Rattle.merging.specs.Follows.{placesOf}
+use Rattle.serial_merging.specs.Follows.{placesOf}
 use Rattle.checks.specs.Checks.{Check, firstRefusal}
 use Rattle.job.specs.Refusals.{reduceChecks, byListChecks}
 use Rattle.results.specs.Rules.{gridOf}

@@ -34,9 +34,9 @@ use Rattle.serial_groups.proofs.ConnectedPart.{part-link}
 use Rattle.serial_groups.proofs.SerialGroup.{serial-iff}
 use Rattle.serial_groups.proofs.FlatGroup.{flat-iff}
 use Rattle.serial_groups.proofs.Retains.{retains-iff}
-use Rattle.merging.specs.Groups.{Group, allGroups, Disjoint}
-use Rattle.merging.specs.Copies.{canon}
-use Rattle.merging.specs.Runs.{Run, itemOf, itemsOf, canonItem, groupsOf}
+use Rattle.serial_merging.specs.Groups.{Group, allGroups, Disjoint}
+use Rattle.serial_merging.specs.Copies.{canon}
+use Rattle.serial_merging.specs.Runs.{Run, itemOf, itemsOf, canonItem, groupsOf}
 use Rattle.results.specs.Rules.{gridOf, listingOf, groupOf, rulesOf}
 use Rattle.results.specs.AcceptedGroups.{SerialRanks, FlatRanks, AcceptedGroup, AcceptedGroups}
 use Rattle.results.proofs.Rules.{every-group}

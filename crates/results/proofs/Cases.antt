@@ -35,12 +35,12 @@ use Rattle.position.specs.declared.Span.{Span}
 use Rattle.format.specs.declared.records.Source.{Source}
 use Rattle.topology.specs.Anchors.{anchorsOf}
 use Rattle.topology.specs.Listing.{spanKey, endsKey}
-use Rattle.merging.specs.Keys.{sourceKey, sourcesKey, observationKey}
-use Rattle.merging.specs.Copies.{canonObservation, canon, copiesOf}
-use Rattle.merging.specs.Consolidation.{orItself, observed, consolidate}
-use Rattle.merging.specs.Groups.{Groups, noGroups, allGroups}
-use Rattle.merging.specs.Kept.{membersOf, consolidated, slot, kept}
-use Rattle.merging.specs.Runs.{Run, reduceRun, itemsOf, canonItem, groupsOf, keptOf, rulesAnswer}
+use Rattle.serial_merging.specs.Keys.{sourceKey, sourcesKey, observationKey}
+use Rattle.serial_merging.specs.Copies.{canonObservation, canon, copiesOf}
+use Rattle.serial_merging.specs.Consolidation.{orItself, observed, consolidate}
+use Rattle.serial_merging.specs.Groups.{Groups, noGroups, allGroups}
+use Rattle.serial_merging.specs.Kept.{membersOf, consolidated, slot, kept}
+use Rattle.serial_merging.specs.Runs.{Run, reduceRun, itemsOf, canonItem, groupsOf, keptOf, rulesAnswer}
 use Rattle.results.specs.Rules.{gridOf, rulesOn, rulesOf}
 use Rattle.results.specs.Results.{afterWork, Outcome, leftBy, workSize, ownEnds, labelsOf, answerOf, marksOf, reduced, reduceWith, reduceByListWith}
 use Rattle.results.specs.Calls.{reduceResult, reduceByListResult, markResult}

@@ -14,12 +14,12 @@ use Rattle.serial_groups.specs.Groups as Link
 use Rattle.serial_groups.specs.Flat.{accepted}
 use Rattle.serial_groups.specs.Plan.{goesInto, mergePlan}
 use Rattle.serial_groups.proofs.Accepted.{accepted-two}
-use Rattle.merging.specs.Copies.{copiesOf}
-use Rattle.merging.specs.Groups.{Group, noGroups, allGroups}
-use Rattle.merging.specs.Planned.{goes, planned}
-use Rattle.merging.specs.Runs.{Run, groupsOf, keptOf, rulesAnswer}
-use Rattle.merging.proofs.Independence.{groups-well}
-use Rattle.merging.proofs.Planned.{kept-planned, planned-ext}
+use Rattle.serial_merging.specs.Copies.{copiesOf}
+use Rattle.serial_merging.specs.Groups.{Group, noGroups, allGroups}
+use Rattle.serial_merging.specs.Planned.{goes, planned}
+use Rattle.serial_merging.specs.Runs.{Run, groupsOf, keptOf, rulesAnswer}
+use Rattle.serial_merging.proofs.Independence.{groups-well}
+use Rattle.serial_merging.proofs.Planned.{kept-planned, planned-ext}
 use Rattle.results.specs.Rules.{gridOf, listingOf, groupOf, rulesOf}
 use Rattle.results.specs.Results.{answerOf}
 use Rattle.results.proofs.Rules.{every-group, rules-well}

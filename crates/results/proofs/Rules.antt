@@ -13,12 +13,12 @@ use Rattle.serial_groups.specs.Serial.{serialGroups}
 use Rattle.serial_groups.specs.Flat.{flatGroups, accepted}
 use Rattle.serial_groups.proofs.Accepted.{groups-disjoint, accepted-rising, accepted-below}
 use Rattle.serial_groups.proofs.Plan.{accepted-retained}
-use Rattle.merging.specs.Groups.{Group, allGroups, Good, Disjoint, WellGrouped}
-use Rattle.merging.specs.Runs.{Run, groupsOf, keptOf}
-use Rattle.merging.specs.Follows.{Follows}
-use Rattle.merging.specs.Relisted.{Relisted, DistinctEnds}
-use Rattle.merging.specs.Demand.{Independent}
-use Rattle.merging.proofs.Independence.{kept-follows, demand-three}
+use Rattle.serial_merging.specs.Groups.{Group, allGroups, Good, Disjoint, WellGrouped}
+use Rattle.serial_merging.specs.Runs.{Run, groupsOf, keptOf}
+use Rattle.serial_merging.specs.Follows.{Follows}
+use Rattle.serial_merging.specs.Relisted.{Relisted, DistinctEnds}
+use Rattle.serial_merging.specs.Demand.{Independent}
+use Rattle.serial_merging.proofs.Independence.{kept-follows, demand-three}
 use Rattle.results.specs.Rules.{gridOf, groupOf, rulesOn, rulesOf}
 
 module _ (limits : Limits) (dirs : List ℕ) (j : Job) where

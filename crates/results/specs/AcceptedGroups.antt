@@ -13,7 +13,7 @@ use Rattle.serial_groups.specs.Groups as Link
 use Rattle.serial_groups.specs.SerialGroup.{SerialGroup}
 use Rattle.serial_groups.specs.FlatGroup.{FlatGroup}
 use Rattle.serial_groups.specs.Retains.{Retains}
-use Rattle.merging.specs.Groups.{Group, Disjoint}
+use Rattle.serial_merging.specs.Groups.{Group, Disjoint}
 use Rattle.results.specs.Rules.{gridOf, listingOf}
 
 module _ (limits : Limits) (dirs : List ℕ) (j : Job) (ss : List Span) where

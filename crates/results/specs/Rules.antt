@@ -12,8 +12,8 @@ use Rattle.serial_groups.specs.Groups as Link
 use Rattle.serial_groups.specs.Serial.{serialGroups}
 use Rattle.serial_groups.specs.Flat.{flatGroups}
 use Rattle.serial_groups.specs.Representative.{retained}
-use Rattle.merging.specs.Groups.{Group, Groups}
-use Rattle.merging.specs.Runs.{itemsOf, canonItem}
+use Rattle.serial_merging.specs.Groups.{Group, Groups}
+use Rattle.serial_merging.specs.Runs.{itemsOf, canonItem}
 
 abbrev pub gridOf : Job → Grid
 gridOf j = record { width = j .width; height = j .height; cells = j .cells }

@@ -6,8 +6,8 @@ use lib.Dec.{eqb}
 use lib.ListN.{length, getD}
 use Rattle.order.specs.Lists.{gather, upFrom, has}
 use Rattle.format.specs.Values.{Boundary}
-use Rattle.merging.specs.Consolidation.{consolidate}
-use Rattle.merging.specs.Groups.{Group}
+use Rattle.serial_merging.specs.Consolidation.{consolidate}
+use Rattle.serial_merging.specs.Groups.{Group}
 
 -- What `copyAt` gives past the last rank.
 abbrev pub noBoundary : Boundary

@@ -6,9 +6,9 @@ use lib.Dec.{eqb}
 use lib.ListN.{length}
 use Rattle.order.specs.Lists.{keep, upFrom, has}
 use Rattle.format.specs.Values.{Boundary}
-use Rattle.merging.specs.Consolidation.{consolidate}
-use Rattle.merging.specs.Groups.{Group}
-use Rattle.merging.specs.Kept.{copyAt}
+use Rattle.serial_merging.specs.Consolidation.{consolidate}
+use Rattle.serial_merging.specs.Groups.{Group}
+use Rattle.serial_merging.specs.Kept.{copyAt}
 
 -- The plan of groups: a member goes into the rank that its group retains, every other rank stays.
 unfoldable pub goes : List Group → ℕ → ℕ

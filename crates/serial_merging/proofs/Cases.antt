@@ -17,14 +17,14 @@ use Rattle.format.specs.declared.records.Source.{Source}
 use Rattle.format.proofs.AnswerTrip.{length-encodeAnswer}
 use Rattle.topology.specs.Listing.{Item, endsKey, spanKey}
 use Rattle.length.specs.Total.{totalKey}
-use Rattle.merging.specs.Keys.{sourceKey, sourcesKey, observationKey}
-use Rattle.merging.specs.Copies.{canonObservation, canon, copiesOf}
-use Rattle.merging.specs.Consolidation.{orItself, observed, consolidate}
-use Rattle.merging.specs.Groups.{Group, Groups, noGroups, allGroups, Good, WellGrouped}
-use Rattle.merging.specs.Kept.{noBoundary, copyAt, membersOf, consolidated, slot, kept}
-use Rattle.merging.specs.Runs.{reduceRun, groupsOf, keptOf, rulesAnswer}
-use Rattle.merging.specs.Follows.{Follows}
-use Rattle.merging.proofs.Following.{follows, follows-unique}
+use Rattle.serial_merging.specs.Keys.{sourceKey, sourcesKey, observationKey}
+use Rattle.serial_merging.specs.Copies.{canonObservation, canon, copiesOf}
+use Rattle.serial_merging.specs.Consolidation.{orItself, observed, consolidate}
+use Rattle.serial_merging.specs.Groups.{Group, Groups, noGroups, allGroups, Good, WellGrouped}
+use Rattle.serial_merging.specs.Kept.{noBoundary, copyAt, membersOf, consolidated, slot, kept}
+use Rattle.serial_merging.specs.Runs.{reduceRun, groupsOf, keptOf, rulesAnswer}
+use Rattle.serial_merging.specs.Follows.{Follows}
+use Rattle.serial_merging.proofs.Following.{follows, follows-unique}
 
 abbrev span : ℕ → ℕ → ℕ → ℕ → Span
 span a b c d = record { a = record { x = a; y = b }; b = record { x = c; y = d } }

@@ -21,18 +21,18 @@ use Rattle.order.proofs.Places.{places-told}
 use Rattle.order.proofs.Forgets.{sort-forgets-told}
 use Rattle.format.specs.Values.{Boundary}
 use Rattle.topology.specs.Listing.{endsKey}
-use Rattle.merging.specs.Copies.{canon, copiesOf}
-use Rattle.merging.specs.Consolidation.{consolidate}
-use Rattle.merging.specs.Groups.{Group, inAny, unmerged, Good, WellGrouped}
-use Rattle.merging.specs.Kept.{noBoundary, copyAt, membersOf, consolidated, kept}
-use Rattle.merging.specs.Follows.{replaced}
-use Rattle.merging.specs.Merging.{sameEnds, among, isMember, taken, left, MergeStep, Merges, done, merge, WholeGroups}
-use Rattle.merging.proofs.Lists.{apart-told, perm-eq}
-use Rattle.merging.proofs.Copies.{key-canon}
-use Rattle.merging.proofs.Consolidation.{consolidate-canon, consolidate-perm}
-use Rattle.merging.proofs.Groups.{retained-below, outside, disjoint-symm, any-false, any-perm, ranks-are, well-perm, Next, next-of}
-use Rattle.merging.proofs.Kept.{kept-whole, consolidated-key, slot-key, kept-pairs}
-use Rattle.merging.proofs.Ends.{Unlike}
+use Rattle.serial_merging.specs.Copies.{canon, copiesOf}
+use Rattle.serial_merging.specs.Consolidation.{consolidate}
+use Rattle.serial_merging.specs.Groups.{Group, inAny, unmerged, Good, WellGrouped}
+use Rattle.serial_merging.specs.Kept.{noBoundary, copyAt, membersOf, consolidated, kept}
+use Rattle.serial_merging.specs.Follows.{replaced}
+use Rattle.serial_merging.specs.Merging.{sameEnds, among, isMember, taken, left, MergeStep, Merges, done, merge, WholeGroups}
+use Rattle.serial_merging.proofs.Lists.{apart-told, perm-eq}
+use Rattle.serial_merging.proofs.Copies.{key-canon}
+use Rattle.serial_merging.proofs.Consolidation.{consolidate-canon, consolidate-perm}
+use Rattle.serial_merging.proofs.Groups.{retained-below, outside, disjoint-symm, any-false, any-perm, ranks-are, well-perm, Next, next-of}
+use Rattle.serial_merging.proofs.Kept.{kept-whole, consolidated-key, slot-key, kept-pairs}
+use Rattle.serial_merging.proofs.Ends.{Unlike}
 
 replaced-perm : (copies : List Boundary) {l m : List Group} → List·Permᴰ l m → List·Permᴰ (replaced copies l) (replaced copies m)
 unfolding replaced unmerged

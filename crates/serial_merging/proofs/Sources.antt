@@ -20,19 +20,19 @@ use Rattle.order.proofs.Once.{once-members}
 use Rattle.format.specs.Values.{Observation, Boundary}
 use Rattle.format.specs.Encode.{sourcesWith, sourcesOf}
 use Rattle.format.specs.declared.records.Source.{Source}
-use Rattle.merging.specs.Keys.{observationKey}
-use Rattle.merging.specs.Copies.{sortedObservations, canonObservation, canon, copiesOf}
-use Rattle.merging.specs.Consolidation.{orItself, observed, consolidate}
-use Rattle.merging.specs.Groups.{Group, inAny, unmerged, WellGrouped}
-use Rattle.merging.specs.Kept.{noBoundary, copyAt, membersOf, consolidated, kept}
-use Rattle.merging.specs.Follows.{replaced}
-use Rattle.merging.specs.Merging.{isMember, taken, left, MergeStep, Merges, done, merge, Throughout}
-use Rattle.merging.specs.Sources.{ownSources, SameSources}
-use Rattle.merging.proofs.Lists.{members-refl, members-eq, append-members, flat-gather, gather-changed}
-use Rattle.merging.proofs.Copies.{source-order}
-use Rattle.merging.proofs.Groups.{any-group}
-use Rattle.merging.proofs.Kept.{kept-whole}
-use Rattle.merging.proofs.Listings.{copies-perm}
+use Rattle.serial_merging.specs.Keys.{observationKey}
+use Rattle.serial_merging.specs.Copies.{sortedObservations, canonObservation, canon, copiesOf}
+use Rattle.serial_merging.specs.Consolidation.{orItself, observed, consolidate}
+use Rattle.serial_merging.specs.Groups.{Group, inAny, unmerged, WellGrouped}
+use Rattle.serial_merging.specs.Kept.{noBoundary, copyAt, membersOf, consolidated, kept}
+use Rattle.serial_merging.specs.Follows.{replaced}
+use Rattle.serial_merging.specs.Merging.{isMember, taken, left, MergeStep, Merges, done, merge, Throughout}
+use Rattle.serial_merging.specs.Sources.{ownSources, SameSources}
+use Rattle.serial_merging.proofs.Lists.{members-refl, members-eq, append-members, flat-gather, gather-changed}
+use Rattle.serial_merging.proofs.Copies.{source-order}
+use Rattle.serial_merging.proofs.Groups.{any-group}
+use Rattle.serial_merging.proofs.Kept.{kept-whole}
+use Rattle.serial_merging.proofs.Listings.{copies-perm}
 
 -- What keeps its members under canonical copies and consolidation keeps them under a merge, and in what is kept.
 module _ (q : Boundary → List Source) (copied : (b : Boundary) → SameMembers (q (canon b)) (q b))

@@ -10,11 +10,11 @@ use Rattle.order.proofs.Keys.{lex-order}
 use Rattle.position.specs.Order.{canonical}
 use Rattle.format.specs.Values.{Boundary}
 use Rattle.topology.specs.Listing.{endsKey}
-use Rattle.merging.specs.Copies.{canon}
-use Rattle.merging.specs.Merging.{sameEnds}
-use Rattle.merging.specs.Relisted.{DistinctEnds}
-use Rattle.merging.proofs.Keys.{span-inj}
-use Rattle.merging.proofs.Copies.{key-canon}
+use Rattle.serial_merging.specs.Copies.{canon}
+use Rattle.serial_merging.specs.Merging.{sameEnds}
+use Rattle.serial_merging.specs.Relisted.{DistinctEnds}
+use Rattle.serial_merging.proofs.Keys.{span-inj}
+use Rattle.serial_merging.proofs.Copies.{key-canon}
 
 abbrev pub Unlike : Boundary → Boundary → Type 0
 Unlike b c = sameEnds b c ≡ false

@@ -17,11 +17,11 @@ use Rattle.position.specs.declared.Span.{Span}
 use Rattle.position.proofs.Order.{canonical-swapped, canonical-again}
 use Rattle.format.specs.Values.{Observation, Boundary}
 use Rattle.topology.specs.Listing.{Item, endsKey, spanKey}
-use Rattle.merging.specs.Keys.{sourceKey, observationKey}
-use Rattle.merging.specs.Copies.{sortedSources, sortedObservations, canonObservation, canon, copiesOf}
-use Rattle.merging.specs.Runs.{canonItem}
-use Rattle.merging.specs.Relisted.{Turned, same, turned, LikeObservation, LikeBoundary, LikeItem}
-use Rattle.merging.proofs.Keys.{source-inj, observation-inj}
+use Rattle.serial_merging.specs.Keys.{sourceKey, observationKey}
+use Rattle.serial_merging.specs.Copies.{sortedSources, sortedObservations, canonObservation, canon, copiesOf}
+use Rattle.serial_merging.specs.Runs.{canonItem}
+use Rattle.serial_merging.specs.Relisted.{Turned, same, turned, LikeObservation, LikeBoundary, LikeItem}
+use Rattle.serial_merging.proofs.Keys.{source-inj, observation-inj}
 
 pub source-order : TotalOrder (byKey sourceKey)
 source-order = key-order sourceKey source-inj

@@ -3,11 +3,11 @@ use mathlib.Core.Path.{_≡_}
 use mathlib.Core.List.{List}
 use Rattle.format.specs.Values.{Boundary}
 use Rattle.topology.specs.Listing.{Item}
-use Rattle.merging.specs.Copies.{copiesOf}
-use Rattle.merging.specs.Groups.{Group, Groups, allGroups}
-use Rattle.merging.specs.Runs.{Run, groupsOf, keptOf, rulesAnswer}
-use Rattle.merging.specs.Merging.{Merges, MergeList, finish, Throughout, WholeGroups}
-use Rattle.merging.specs.Sources.{SameSources}
+use Rattle.serial_merging.specs.Copies.{copiesOf}
+use Rattle.serial_merging.specs.Groups.{Group, Groups, allGroups}
+use Rattle.serial_merging.specs.Runs.{Run, groupsOf, keptOf, rulesAnswer}
+use Rattle.serial_merging.specs.Merging.{Merges, MergeList, finish, Throughout, WholeGroups}
+use Rattle.serial_merging.specs.Sources.{SameSources}
 
 -- A list of merges that begins "with the job's boundaries in run B's listing".
 abbrev pub MergesOn : Run → List Group → List Boundary → Type 0

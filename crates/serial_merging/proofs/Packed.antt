@@ -18,7 +18,7 @@ use Rattle.format.specs.Values.{Boundary}
 use Rattle.format.specs.Fits.{SpanEncodable, SourceFits}
 use Rattle.format.specs.declared.records.Source.{Source}
 use Rattle.topology.specs.Listing.{spanKey, endsKey}
-use Rattle.merging.specs.Keys.{sourceKey, sourcesKey}
+use Rattle.serial_merging.specs.Keys.{sourceKey, sourcesKey}
 
 pub canonical-fits : (s : Span) → SpanEncodable s → SpanEncodable (canonical s)
 unfolding canonical

@@ -18,13 +18,13 @@ use Rattle.order.proofs.Forgets.{sort-forgets-told}
 use Rattle.position.specs.declared.Span.{Span}
 use Rattle.format.specs.Values.{Observation, Boundary}
 use Rattle.topology.specs.Listing.{Item, endsKey, listing}
-use Rattle.merging.specs.Copies.{canon, copiesOf}
-use Rattle.merging.specs.Groups.{Groups}
-use Rattle.merging.specs.Runs.{Run, Matched, itemOf, itemsOf, canonItem, groupsOf}
-use Rattle.merging.specs.Relisted.{same, LikeObservation, LikeBoundary, LikeItem, Relisted, matched, unmatched}
-use Rattle.merging.proofs.Lists.{apart-told}
-use Rattle.merging.proofs.Copies.{canon-like, item-like, key-canon}
-use Rattle.merging.proofs.Ends.{Unlike, unlike-symm, copies-unlike}
+use Rattle.serial_merging.specs.Copies.{canon, copiesOf}
+use Rattle.serial_merging.specs.Groups.{Groups}
+use Rattle.serial_merging.specs.Runs.{Run, Matched, itemOf, itemsOf, canonItem, groupsOf}
+use Rattle.serial_merging.specs.Relisted.{same, LikeObservation, LikeBoundary, LikeItem, Relisted, matched, unmatched}
+use Rattle.serial_merging.proofs.Lists.{apart-told}
+use Rattle.serial_merging.proofs.Copies.{canon-like, item-like, key-canon}
+use Rattle.serial_merging.proofs.Ends.{Unlike, unlike-symm, copies-unlike}
 
 abbrev boundariesOf : List Item → List Boundary
 boundariesOf items = map (λ (i : Item). i .boundary) items

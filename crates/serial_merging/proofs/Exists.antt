@@ -15,17 +15,17 @@ use Rattle.order.proofs.Keys.{key-preorder}
 use Rattle.order.proofs.Stable.{le-refl}
 use Rattle.format.specs.Values.{Boundary}
 use Rattle.topology.specs.Listing.{endsKey}
-use Rattle.merging.specs.Copies.{canon}
-use Rattle.merging.specs.Consolidation.{consolidate}
-use Rattle.merging.specs.Groups.{Group, Groups, noGroups, allGroups, inAny, unmerged, WellGrouped}
-use Rattle.merging.specs.Kept.{copyAt, consolidated}
-use Rattle.merging.specs.Follows.{replaced}
-use Rattle.merging.specs.Merging.{isMember, taken, left, MergeStep, Merges, done, merge, MergeList}
-use Rattle.merging.proofs.Lists.{perm-eq}
-use Rattle.merging.proofs.Copies.{key-canon}
-use Rattle.merging.proofs.Groups.{retained-below, outside, any-false, well-perm, Next, next-of}
-use Rattle.merging.proofs.Ends.{Unlike}
-use Rattle.merging.proofs.Merges.{member-canon, member-at, step, start, turned-round}
+use Rattle.serial_merging.specs.Copies.{canon}
+use Rattle.serial_merging.specs.Consolidation.{consolidate}
+use Rattle.serial_merging.specs.Groups.{Group, Groups, noGroups, allGroups, inAny, unmerged, WellGrouped}
+use Rattle.serial_merging.specs.Kept.{copyAt, consolidated}
+use Rattle.serial_merging.specs.Follows.{replaced}
+use Rattle.serial_merging.specs.Merging.{isMember, taken, left, MergeStep, Merges, done, merge, MergeList}
+use Rattle.serial_merging.proofs.Lists.{perm-eq}
+use Rattle.serial_merging.proofs.Copies.{key-canon}
+use Rattle.serial_merging.proofs.Groups.{retained-below, outside, any-false, well-perm, Next, next-of}
+use Rattle.serial_merging.proofs.Ends.{Unlike}
+use Rattle.serial_merging.proofs.Merges.{member-canon, member-at, step, start, turned-round}
 
 pub first-list : (gs : Groups) → MergeList gs (allGroups gs)
 unfolding allGroups

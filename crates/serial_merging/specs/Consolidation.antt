@@ -2,7 +2,7 @@
 use mathlib.Core.List.{List, [], _∷_}
 use Rattle.order.specs.Lists.{gather}
 use Rattle.format.specs.Values.{Observation, Boundary}
-use Rattle.merging.specs.Copies.{sortedSources, sortedObservations}
+use Rattle.serial_merging.specs.Copies.{sortedSources, sortedObservations}
 
 -- "a member without observations giving itself as one, with its own sources"
 unfoldable pub orItself : Boundary → List Observation → List Observation

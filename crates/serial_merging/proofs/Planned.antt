@@ -14,11 +14,11 @@ use Rattle.order.proofs.Keep.{keep-ext, keep-mem, mem-keep, keep-pairs}
 use Rattle.order.proofs.Pairs.{pairs-ext}
 use Rattle.order.proofs.Numbers.{up-mem, mem-up, up-strict, has-mem, mem-has, map-at}
 use Rattle.format.specs.Values.{Boundary}
-use Rattle.merging.specs.Consolidation.{consolidate}
-use Rattle.merging.specs.Groups.{Group, inAny, Disjoint, WellGrouped}
-use Rattle.merging.specs.Kept.{noBoundary, copyAt, membersOf, consolidated, slot, kept}
-use Rattle.merging.specs.Planned.{goes, members, merged, planned}
-use Rattle.merging.proofs.Groups.{any-group, ranks-are}
+use Rattle.serial_merging.specs.Consolidation.{consolidate}
+use Rattle.serial_merging.specs.Groups.{Group, inAny, Disjoint, WellGrouped}
+use Rattle.serial_merging.specs.Kept.{noBoundary, copyAt, membersOf, consolidated, slot, kept}
+use Rattle.serial_merging.specs.Planned.{goes, members, merged, planned}
+use Rattle.serial_merging.proofs.Groups.{any-group, ranks-are}
 
 abbrev Mine : List Group → Type 0
 Mine gs = (g : Group) → List·Memᴰ g gs → List·Memᴰ (g .retained) (g .ranks)

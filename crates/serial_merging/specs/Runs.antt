@@ -10,9 +10,9 @@ use Rattle.position.specs.declared.Span.{Span}
 use Rattle.format.specs.Values.{Boundary}
 use Rattle.format.specs.Encode.{encodeAnswer}
 use Rattle.topology.specs.Listing.{Item, listing}
-use Rattle.merging.specs.Copies.{canon, copiesOf}
-use Rattle.merging.specs.Groups.{Groups, noGroups, allGroups}
-use Rattle.merging.specs.Kept.{kept}
+use Rattle.serial_merging.specs.Copies.{canon, copiesOf}
+use Rattle.serial_merging.specs.Groups.{Groups, noGroups, allGroups}
+use Rattle.serial_merging.specs.Kept.{kept}
 
 -- The boundaries as they are listed, and the spans that the run partitions by.
 pub record Run : Type 0 where

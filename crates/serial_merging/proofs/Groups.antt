@@ -13,7 +13,7 @@ use Rattle.order.proofs.Members.{perm-mem}
 use Rattle.order.proofs.Pairs.{pairs-ext, perm-pairs}
 use Rattle.order.proofs.Keep.{keep-mem, mem-keep, keep-pairs}
 use Rattle.order.proofs.Numbers.{mem-up, up-strict, has-mem, mem-has}
-use Rattle.merging.specs.Groups.{Group, inAny, Good, Disjoint, WellGrouped}
+use Rattle.serial_merging.specs.Groups.{Group, inAny, Good, Disjoint, WellGrouped}
 
 pub retained-below : {n : ℕ} {g : Group} → Good n g → g .retained < n
 retained-below {g = g} good = good .below (g .retained) (good .mine)

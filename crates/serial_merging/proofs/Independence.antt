@@ -9,19 +9,19 @@ use Rattle.order.specs.Pairs.{Pairs, none}
 use Rattle.format.specs.Values.{Boundary}
 use Rattle.format.specs.Encode.{encodeAnswer}
 use Rattle.topology.specs.Listing.{Item, listing}
-use Rattle.merging.specs.Copies.{copiesOf}
-use Rattle.merging.specs.Groups.{Groups, allGroups, WellGrouped}
-use Rattle.merging.specs.Runs.{Run, itemsOf, canonItem, groupsOf, keptOf, rulesAnswer}
-use Rattle.merging.specs.Follows.{Follows}
-use Rattle.merging.specs.Relisted.{Relisted, DistinctEnds}
-use Rattle.merging.specs.Sources.{SameSources}
-use Rattle.merging.specs.Demand.{Independent}
-use Rattle.merging.proofs.Following.{follows, follows-unique}
-use Rattle.merging.proofs.Ends.{Unlike, distinct-unlike}
-use Rattle.merging.proofs.Listings.{listing-copies, copies-perm, copies-sorted, copies-apart, relisted-copies, relisted-unlike, same-copies, same-groups}
-use Rattle.merging.proofs.Merges.{merged-exact, finished}
-use Rattle.merging.proofs.Exists.{first-list, list-perm, steps}
-use Rattle.merging.proofs.Sources.{sources-canon, sources-perm, sources-refl, sources-sym, sources-trans, through, kept-sources}
+use Rattle.serial_merging.specs.Copies.{copiesOf}
+use Rattle.serial_merging.specs.Groups.{Groups, allGroups, WellGrouped}
+use Rattle.serial_merging.specs.Runs.{Run, itemsOf, canonItem, groupsOf, keptOf, rulesAnswer}
+use Rattle.serial_merging.specs.Follows.{Follows}
+use Rattle.serial_merging.specs.Relisted.{Relisted, DistinctEnds}
+use Rattle.serial_merging.specs.Sources.{SameSources}
+use Rattle.serial_merging.specs.Demand.{Independent}
+use Rattle.serial_merging.proofs.Following.{follows, follows-unique}
+use Rattle.serial_merging.proofs.Ends.{Unlike, distinct-unlike}
+use Rattle.serial_merging.proofs.Listings.{listing-copies, copies-perm, copies-sorted, copies-apart, relisted-copies, relisted-unlike, same-copies, same-groups}
+use Rattle.serial_merging.proofs.Merges.{merged-exact, finished}
+use Rattle.serial_merging.proofs.Exists.{first-list, list-perm, steps}
+use Rattle.serial_merging.proofs.Sources.{sources-canon, sources-perm, sources-refl, sources-sym, sources-trans, through, kept-sources}
 
 module _ (rules : List Item → Groups) (well : (items : List Item) → WellGrouped (length items) (allGroups (rules items))) where
   pub groups-well : (r : Run) → WellGrouped (length (copiesOf (r .boundaries))) (allGroups (groupsOf rules r))

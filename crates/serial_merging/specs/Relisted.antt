@@ -7,7 +7,7 @@ use Rattle.position.specs.Order.{canonical, swapped}
 use Rattle.position.specs.declared.Span.{Span}
 use Rattle.format.specs.Values.{Observation, Boundary}
 use Rattle.topology.specs.Listing.{Item}
-use Rattle.merging.specs.Runs.{Run, Matched, itemsOf}
+use Rattle.serial_merging.specs.Runs.{Run, Matched, itemsOf}
 
 -- "its ends either way round"
 pub data Turned : Span → Span → Type 0 where

@@ -7,7 +7,7 @@ use Rattle.order.specs.Keys.{Injective}
 use Rattle.topology.specs.Listing.{spanKey}
 use Rattle.length.specs.Total.{totalKey}
 use Rattle.length.proofs.Total.{total-key-inj}
-use Rattle.merging.specs.Keys.{sourceKey, sourcesKey, observationKey}
+use Rattle.serial_merging.specs.Keys.{sourceKey, sourcesKey, observationKey}
 
 pub span-inj : Injective spanKey
 unfolding spanKey

@@ -21,14 +21,14 @@ use Rattle.order.proofs.Stable.{sort-stable}
 use Rattle.order.proofs.Places.{sort-places}
 use Rattle.format.specs.Values.{Boundary}
 use Rattle.topology.specs.Listing.{endsKey}
-use Rattle.merging.specs.Copies.{canon, copiesOf}
-use Rattle.merging.specs.Consolidation.{consolidate}
-use Rattle.merging.specs.Groups.{Group, inAny, unmerged, Disjoint, WellGrouped}
-use Rattle.merging.specs.Kept.{noBoundary, copyAt, consolidated, slot, kept}
-use Rattle.merging.specs.Follows.{replaced, Earlier, placesOf}
-use Rattle.merging.proofs.Lists.{perm-eq}
-use Rattle.merging.proofs.Copies.{key-canon}
-use Rattle.merging.proofs.Groups.{retained-below, outside, disjoint-symm}
+use Rattle.serial_merging.specs.Copies.{canon, copiesOf}
+use Rattle.serial_merging.specs.Consolidation.{consolidate}
+use Rattle.serial_merging.specs.Groups.{Group, inAny, unmerged, Disjoint, WellGrouped}
+use Rattle.serial_merging.specs.Kept.{noBoundary, copyAt, consolidated, slot, kept}
+use Rattle.serial_merging.specs.Follows.{replaced, Earlier, placesOf}
+use Rattle.serial_merging.proofs.Lists.{perm-eq}
+use Rattle.serial_merging.proofs.Copies.{key-canon}
+use Rattle.serial_merging.proofs.Groups.{retained-below, outside, disjoint-symm}
 
 module _ (copies : List Boundary) where
   -- one group's part of the ranks, f giving what the others leave

@@ -7,9 +7,9 @@ use Rattle.order.proofs.Forgets.{sort-forgets}
 use Rattle.order.proofs.Once.{once-idem, once-forgets}
 use Rattle.position.proofs.Order.{canonical-again}
 use Rattle.format.specs.Values.{Observation, Boundary}
-use Rattle.merging.specs.Copies.{canonObservation, canon}
-use Rattle.merging.specs.Consolidation.{orItself, observed, consolidate}
-use Rattle.merging.proofs.Copies.{source-order, observation-order, observation-fixed, copied-fixed, sorted-again}
+use Rattle.serial_merging.specs.Copies.{canonObservation, canon}
+use Rattle.serial_merging.specs.Consolidation.{orItself, observed, consolidate}
+use Rattle.serial_merging.proofs.Copies.{source-order, observation-order, observation-fixed, copied-fixed, sorted-again}
 
 -- What a canonical copy gives.
 observed-fixed : (b : Boundary) (o : Observation) → List·Memᴰ o (observed (canon b)) → canonObservation o ≡ o

@@ -9,10 +9,10 @@ use Rattle.order.specs.Lists.{keep}
 use Rattle.format.specs.Values.{Boundary}
 use Rattle.format.specs.Encode.{encodeAnswer}
 use Rattle.topology.specs.Listing.{endsKey}
-use Rattle.merging.specs.Copies.{canon, copiesOf}
-use Rattle.merging.specs.Consolidation.{consolidate}
-use Rattle.merging.specs.Groups.{Group, Groups}
-use Rattle.merging.specs.Kept.{copyAt, membersOf}
+use Rattle.serial_merging.specs.Copies.{canon, copiesOf}
+use Rattle.serial_merging.specs.Consolidation.{consolidate}
+use Rattle.serial_merging.specs.Groups.{Group, Groups}
+use Rattle.serial_merging.specs.Kept.{copyAt, membersOf}
 
 -- Both have the same ends, in either order.
 abbrev pub sameEnds : Boundary → Boundary → Bool

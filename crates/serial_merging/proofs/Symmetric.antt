@@ -6,8 +6,8 @@ use Rattle.order.proofs.Shuffled.{shuffled-length}
 use Rattle.position.specs.declared.Span.{Span}
 use Rattle.format.specs.Values.{Observation, Boundary}
 use Rattle.topology.specs.Listing.{Item}
-use Rattle.merging.specs.Runs.{Run}
-use Rattle.merging.specs.Relisted.{Turned, same, turned, LikeObservation, LikeBoundary, LikeItem, Relisted, matched, unmatched}
+use Rattle.serial_merging.specs.Runs.{Run}
+use Rattle.serial_merging.specs.Relisted.{Turned, same, turned, LikeObservation, LikeBoundary, LikeItem, Relisted, matched, unmatched}
 
 shuffled-sym : {A : Type 0} {R : A → A → Type 0} → ((a b : A) → R a b → R b a) → {l m : List A} → Shuffled R l m → Shuffled R m l
 shuffled-sym f nil = nil

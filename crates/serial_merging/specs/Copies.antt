@@ -6,7 +6,7 @@ use Rattle.position.specs.Order.{canonical}
 use Rattle.format.specs.Values.{Observation, Boundary}
 use Rattle.format.specs.declared.records.Source.{Source}
 use Rattle.topology.specs.Listing.{endsKey}
-use Rattle.merging.specs.Keys.{sourceKey, observationKey}
+use Rattle.serial_merging.specs.Keys.{sourceKey, observationKey}
 
 -- 000's `sorted_sources`: each source once.
 abbrev pub sortedSources : List Source → List Source
