@@ -22,7 +22,7 @@ use Rattle.format.specs.declared.header.Counts.{Counts}
 use Rattle.format.specs.declared.header.Header.{Header}
 use Rattle.topology.specs.AnchorLoop.{AnchorsIn}
 use Rattle.topology.specs.Held.{isNone}
-use Rattle.ranks.specs.Tables.{KeysOf}
+use Rattle.serial_ranks.specs.Tables.{KeysOf}
 use Rattle.places.specs.Orders.{byTwo}
 use Rattle.checks.specs.Checks.{firstRefusal, each}
 use Rattle.checks.specs.Faults.{anchorFault}

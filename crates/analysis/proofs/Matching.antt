@@ -21,7 +21,7 @@ use Rattle.areas.specs.Assessments.{records}
 use Rattle.topology.specs.Anchors.{anchorsOf}
 use Rattle.serial_groups.specs.Plan.{mergePlan}
 use Rattle.serial_links.specs.Limits.{Limits}
-use Rattle.ranks.specs.Tables.{Records, SpansOf, Identity}
+use Rattle.serial_ranks.specs.Tables.{Records, SpansOf, Identity}
 use Rattle.checks.specs.Checks.{firstRefusal}
 use Rattle.job.specs.Refusals.{reduceChecks, byListChecks}
 use Rattle.areas_partition.specs.Partitioned.{Partitionable, Partitioned}

@@ -22,7 +22,7 @@ use Rattle.serial_groups.specs.Plan.{mergePlan}
 use Rattle.serial_groups.specs.Tables.{Boundaries}
 use Rattle.serial_candidates.specs.Owners.{Stored}
 use Rattle.serial_measures.specs.Judging.{CoordinatesBounded}
-use Rattle.ranks.specs.Tables.{Records, SpansOf, WidthsOf, RampsOf}
+use Rattle.serial_ranks.specs.Tables.{Records, SpansOf, WidthsOf, RampsOf}
 use Rattle.results.specs.Rules.{gridOf, listingOf}
 use Rattle.analysis.specs.Plans.{planOf, RankedJob, PartitionTables}
 use Rattle.serial_plan.specs.Listed.{ListingTables, PlanInput}

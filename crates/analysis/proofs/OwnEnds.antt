@@ -13,7 +13,7 @@ use Rattle.areas.specs.Areas.{areaLabels}
 use Rattle.areas.specs.Assessments.{records}
 use Rattle.areas.specs.Spans.{SpansFit, spansIn}
 use Rattle.areas_partition.specs.Partitioned.{Partitionable}
-use Rattle.ranks.specs.Tables.{Records, Identity, SpansOf}
+use Rattle.serial_ranks.specs.Tables.{Records, Identity, SpansOf}
 use Rattle.results.specs.Rules.{gridOf}
 use Rattle.results.specs.Results.{ownEnds}
 use Rattle.analysis.specs.Plans.{Leads, Headed, OwnJob, OwnEnds}

@@ -38,7 +38,7 @@ use Rattle.serial_merging.specs.Runs.{itemOf, itemsOf, canonItem}
 use Rattle.serial_merging.proofs.Copies.{key-canon}
 use Rattle.serial_merging.proofs.Kept.{copies-places}
 use Rattle.serial_merging.proofs.Packed.{packFirst, packSecond, ends-packed, sort-alike}
-use Rattle.ranks.specs.Tables.{KeysOf}
+use Rattle.serial_ranks.specs.Tables.{KeysOf}
 use Rattle.places.specs.Orders.{byTwo}
 use Rattle.results.specs.Rules.{listingOf}
 

@@ -39,7 +39,7 @@ use Rattle.serial_merging.specs.Copies.{canon}
 use Rattle.serial_merging.specs.Kept.{noBoundary}
 use Rattle.serial_merging.specs.Follows.{placesOf}
 use Rattle.serial_merging.specs.Runs.{canonItem}
-use Rattle.ranks.specs.Tables.{Records, KeysOf, SpansOf, WidthsOf, RampsOf, Identity}
+use Rattle.serial_ranks.specs.Tables.{Records, KeysOf, SpansOf, WidthsOf, RampsOf, Identity}
 use Rattle.places.specs.Orders.{byTwo}
 use Rattle.results.specs.Rules.{listingOf}
 use Rattle.results.specs.Results.{ownEnds}

@@ -31,7 +31,7 @@ use Rattle.serial_merging.specs.Follows.{placesOf}
 use Rattle.serial_merging.specs.Kept.{noBoundary}
 use Rattle.serial_merging.specs.Planned.{planned}
 use Rattle.serial_measures.specs.Tables.{Labels}
-use Rattle.ranks.specs.Tables.{Identity, SpansOf}
+use Rattle.serial_ranks.specs.Tables.{Identity, SpansOf}
 use Rattle.checks.specs.Checks.{Check, firstRefusal}
 use Rattle.job.specs.Refusals.{boundaryChecks}
 use Rattle.results.specs.Rules.{gridOf, listingOf}

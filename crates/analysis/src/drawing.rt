@@ -31,11 +31,11 @@ use format::SPAN_SIZE;
 use serial_links::limits::Limits;
 use places::ranks::sort_ranks;
 use serial_plan::planning::plan_merges;
-use ranks::fill_identity;
-use ranks::fill_keys;
-use ranks::fill_ramps;
-use ranks::fill_spans;
-use ranks::fill_widths;
+use serial_ranks::fill_identity;
+use serial_ranks::fill_keys;
+use serial_ranks::fill_ramps;
+use serial_ranks::fill_spans;
+use serial_ranks::fill_widths;
 use wire::size;
 
 // The places of a job's boundaries by rank.

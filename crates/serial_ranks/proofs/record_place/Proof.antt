@@ -1,9 +1,9 @@
 use mathlib.Core.Path.{refl}
 use native.Mathlib.Omega.{arith}
 use borrow.Author.Needs.{needs}
-use Rattle.ranks.proofs.Laws.{placed}
-use Rattle.ranks.proofs.record_place.Statement.{statement}
-use Rattle.ranks.proofs.record_place.Tie as tie
+use Rattle.serial_ranks.proofs.Laws.{placed}
+use Rattle.serial_ranks.proofs.record_place.Statement.{statement}
+use Rattle.serial_ranks.proofs.record_place.Tie as tie
 
 mul-result : tie.Need-mul-result
 mul-result c =

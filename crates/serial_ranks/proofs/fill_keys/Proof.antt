@@ -3,10 +3,10 @@ use Prim.Native.Nat.{_-_, _≤_}
 use native.Mathlib.Omega.{arith}
 use borrow.Author.Needs.{needs}
 use Rattle.position.specs.Order.{canonical}
-use Rattle.ranks.specs.Tables.{KeysOf}
-use Rattle.ranks.proofs.Laws.{keys-start, keys-next}
-use Rattle.ranks.proofs.fill_keys.Statement.{statement}
-use Rattle.ranks.proofs.fill_keys.Tie as tie
+use Rattle.serial_ranks.specs.Tables.{KeysOf}
+use Rattle.serial_ranks.proofs.Laws.{keys-start, keys-next}
+use Rattle.serial_ranks.proofs.fill_keys.Statement.{statement}
+use Rattle.serial_ranks.proofs.fill_keys.Tie as tie
 
 abbrev Inv-loop : tie.InvT-loop
 Inv-loop s at n first₀ second₀ i₀ first second i = KeysOf s at 40 i first second × (i ≤ n)

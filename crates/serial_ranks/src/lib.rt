@@ -5,7 +5,7 @@ ghost use lib.ListN.{length};
 ghost use Rattle.order.specs.Keys.{pack};
 ghost use Rattle.position.specs.Order.{canonical};
 ghost use Rattle.format.specs.Sizes.{boundarySize};
-ghost use Rattle.ranks.specs.Tables.{recordPlace, Records, putSpan, SpansOf, WidthsOf, RampsOf, KeysOf, Identity};
+ghost use Rattle.serial_ranks.specs.Tables.{recordPlace, Records, putSpan, SpansOf, WidthsOf, RampsOf, KeysOf, Identity};
 use format::BOUNDARY_SIZE;
 use format::read_span;
 use position::PixelPosition;

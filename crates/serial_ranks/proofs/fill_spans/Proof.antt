@@ -3,10 +3,10 @@ use Prim.Native.Nat.{_-_, _≤_}
 use native.Mathlib.Omega.{arith}
 use borrow.Author.Needs.{needs}
 use Rattle.position.specs.Order.{canonical}
-use Rattle.ranks.specs.Tables.{SpansOf}
-use Rattle.ranks.proofs.Laws.{spans-start, spans-next}
-use Rattle.ranks.proofs.fill_spans.Statement.{statement}
-use Rattle.ranks.proofs.fill_spans.Tie as tie
+use Rattle.serial_ranks.specs.Tables.{SpansOf}
+use Rattle.serial_ranks.proofs.Laws.{spans-start, spans-next}
+use Rattle.serial_ranks.proofs.fill_spans.Statement.{statement}
+use Rattle.serial_ranks.proofs.fill_spans.Tie as tie
 
 abbrev Inv-loop : tie.InvT-loop
 Inv-loop s at stride order n ends₀ i₀ ends i = SpansOf s at stride order i ends × (i ≤ n)

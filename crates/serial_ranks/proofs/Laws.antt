@@ -15,7 +15,7 @@ use Rattle.format.specs.Sizes.{boundarySize}
 use Rattle.format.specs.Records.{spanAt}
 use Rattle.areas.specs.Spans.{spanIn}
 use Rattle.order.specs.Keys.{pack}
-use Rattle.ranks.specs.Tables.{recordPlace, Records, putSpan, SpansOf, WidthsOf, RampsOf, KeysOf}
+use Rattle.serial_ranks.specs.Tables.{recordPlace, Records, putSpan, SpansOf, WidthsOf, RampsOf, KeysOf}
 use Rattle.lists.proofs.Rows.{zero-at}
 
 -- an array whose first i entries are those of f, with f i put at i

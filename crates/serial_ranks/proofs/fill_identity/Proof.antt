@@ -3,9 +3,9 @@ use Prim.Native.Nat.{ℕ, _-_, _≤_, _<_}
 use native.Mathlib.Omega.{arith}
 use lib.ListN.{length, getD, length-set}
 use borrow.Author.Needs.{needs}
-use Rattle.ranks.proofs.Laws.{identity-next}
-use Rattle.ranks.proofs.fill_identity.Statement.{statement}
-use Rattle.ranks.proofs.fill_identity.Tie as tie
+use Rattle.serial_ranks.proofs.Laws.{identity-next}
+use Rattle.serial_ranks.proofs.fill_identity.Statement.{statement}
+use Rattle.serial_ranks.proofs.fill_identity.Tie as tie
 
 abbrev Inv-loop : tie.InvT-loop
 Inv-loop order₀ i₀ order i = (length order ≡ 256) × ((k : ℕ) → k < i → getD order k 0 ≡ k) × (i ≤ 256)

@@ -1,8 +1,8 @@
 use mathlib.Core.Path.{refl}
-use Rattle.ranks.specs.Tables.{putSpan}
+use Rattle.serial_ranks.specs.Tables.{putSpan}
 use borrow.Author.Needs.{needs}
-use Rattle.ranks.proofs.put_span.Statement.{statement}
-use Rattle.ranks.proofs.put_span.Tie as tie
+use Rattle.serial_ranks.proofs.put_span.Statement.{statement}
+use Rattle.serial_ranks.proofs.put_span.Tie as tie
 
 returns : tie.Need-returns
 unfolding putSpan

@@ -2,10 +2,10 @@ use mathlib.Core.Path.{_≡_}
 use Prim.Native.Nat.{_-_, _≤_}
 use native.Mathlib.Omega.{arith}
 use borrow.Author.Needs.{needs}
-use Rattle.ranks.specs.Tables.{RampsOf}
-use Rattle.ranks.proofs.Laws.{ramps-start, ramps-next}
-use Rattle.ranks.proofs.fill_ramps.Statement.{statement}
-use Rattle.ranks.proofs.fill_ramps.Tie as tie
+use Rattle.serial_ranks.specs.Tables.{RampsOf}
+use Rattle.serial_ranks.proofs.Laws.{ramps-start, ramps-next}
+use Rattle.serial_ranks.proofs.fill_ramps.Statement.{statement}
+use Rattle.serial_ranks.proofs.fill_ramps.Tie as tie
 
 abbrev Inv-loop : tie.InvT-loop
 Inv-loop s at order n ramps₀ i₀ ramps i = RampsOf s at order i ramps × (i ≤ n)

@@ -2,10 +2,10 @@ use mathlib.Core.Path.{_≡_}
 use Prim.Native.Nat.{_-_, _≤_}
 use native.Mathlib.Omega.{arith}
 use borrow.Author.Needs.{needs}
-use Rattle.ranks.specs.Tables.{WidthsOf}
-use Rattle.ranks.proofs.Laws.{widths-start, widths-next}
-use Rattle.ranks.proofs.fill_widths.Statement.{statement}
-use Rattle.ranks.proofs.fill_widths.Tie as tie
+use Rattle.serial_ranks.specs.Tables.{WidthsOf}
+use Rattle.serial_ranks.proofs.Laws.{widths-start, widths-next}
+use Rattle.serial_ranks.proofs.fill_widths.Statement.{statement}
+use Rattle.serial_ranks.proofs.fill_widths.Tie as tie
 
 abbrev Inv-loop : tie.InvT-loop
 Inv-loop s at order n bits₀ i₀ bits i = WidthsOf s at order i bits × (i ≤ n)
