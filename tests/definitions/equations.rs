@@ -26,8 +26,8 @@ use Rattle.graph.specs.Parts.{componentOf}
 use Rattle.graph.specs.Labels.{count}
 use Rattle.grid.specs.Directions.{eight}
 use Rattle.serial_links.specs.Limits.{limits000}
-use Rattle.topology.specs.Anchors.{anchorsOf}
-use Rattle.topology.specs.Listing.{spanKey, endsKey}
+use Rattle.context.specs.Anchors.{anchorsOf}
+use Rattle.context.specs.Listing.{spanKey, endsKey}
 use Rattle.serial_merging.specs.Keys.{sourceKey, sourcesKey, observationKey}
 use Rattle.serial_merging.specs.Copies.{canonObservation, canon, copiesOf}
 use Rattle.serial_merging.specs.Consolidation.{orItself, observed, consolidate}

@@ -20,8 +20,8 @@ use Rattle.format.specs.Header.{headerAt, countsAt, mapCells, basesStart}
 use Rattle.format.specs.Decode.{decode}
 use Rattle.format.specs.declared.header.Counts.{Counts}
 use Rattle.format.specs.declared.header.Header.{Header}
-use Rattle.topology.specs.AnchorLoop.{AnchorsIn}
-use Rattle.topology.specs.Held.{isNone}
+use Rattle.context.specs.AnchorLoop.{AnchorsIn}
+use Rattle.context.specs.Held.{isNone}
 use Rattle.serial_ranks.specs.Tables.{KeysOf}
 use Rattle.places.specs.Orders.{byTwo}
 use Rattle.checks.specs.Checks.{firstRefusal, each}

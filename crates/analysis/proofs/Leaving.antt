@@ -14,7 +14,7 @@ use Rattle.position.specs.declared.Span.{Span}
 use Rattle.format.specs.Values.{Boundary, Job}
 use Rattle.format.specs.Encode.{encodeAnswer}
 use Rattle.serial_links.specs.Limits.{Limits}
-use Rattle.topology.specs.Anchors.{anchorsOf}
+use Rattle.context.specs.Anchors.{anchorsOf}
 use Rattle.serial_groups.specs.Plan.{mergePlan}
 use Rattle.serial_merging.specs.Copies.{canon, copiesOf}
 use Rattle.serial_merging.specs.Kept.{noBoundary}

@@ -18,7 +18,7 @@ use Rattle.format.proofs.ListTrip.{length-decodeList}
 use Rattle.grid.specs.Cells.{Grid, size, mapOf}
 use Rattle.areas.specs.Spans.{spansIn, SpansFit}
 use Rattle.areas.specs.Assessments.{records}
-use Rattle.topology.specs.Anchors.{anchorsOf}
+use Rattle.context.specs.Anchors.{anchorsOf}
 use Rattle.serial_groups.specs.Plan.{mergePlan}
 use Rattle.serial_links.specs.Limits.{Limits}
 use Rattle.serial_ranks.specs.Tables.{Records, SpansOf, Identity}

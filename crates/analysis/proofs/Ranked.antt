@@ -29,7 +29,7 @@ use Rattle.areas.specs.Areas.{areaLabels}
 use Rattle.areas.specs.Assessments.{records}
 use Rattle.areas.proofs.Areas.{labels-depend-on-the-set}
 use Rattle.areas.proofs.Listed.{perm-same, records-count}
-use Rattle.topology.specs.Listing.{Item, itemKey}
+use Rattle.context.specs.Listing.{Item, itemKey}
 use Rattle.serial_groups.specs.Listing.{noSpan, noItem, spansOf}
 use Rattle.serial_merging.specs.Copies.{canon, copiesOf}
 use Rattle.serial_merging.specs.Kept.{noBoundary}

@@ -32,7 +32,7 @@ use Rattle.position.specs.Bounds.{Bounded}
 use Rattle.areas.specs.Spans.{spanIn, spansIn, SpansFit}
 use Rattle.areas.proofs.Areas.{labels-depend-on-the-set}
 use Rattle.areas.proofs.Listed.{eq-same, records-same}
-use Rattle.topology.specs.Listing.{Item}
+use Rattle.context.specs.Listing.{Item}
 use Rattle.serial_groups.specs.Listing as Rank
 use Rattle.serial_groups.specs.Tables.{Boundaries}
 use Rattle.serial_merging.specs.Copies.{canon}

@@ -19,7 +19,7 @@ use Rattle.areas.specs.Spans.{spanIn, spansIn}
 use Rattle.areas.proofs.Areas.{area-labels-length}
 use Rattle.areas.specs.Words.{word, labelsIn, labelled}
 use Rattle.areas_components.proofs.LabelWords.{word-read, labels-read}
-use Rattle.topology.specs.Listing.{Item}
+use Rattle.context.specs.Listing.{Item}
 use Rattle.serial_groups.specs.Listing as Rank
 use Rattle.serial_groups.specs.Regions.{regionLabels, assessAt, bridgeAt}
 use Rattle.serial_groups.specs.Tables.{Counted, Paired, Bridged as BridgesOf}

@@ -20,7 +20,7 @@ use Rattle.grid.specs.Directions.{IsDirection, directionsOf}
 use Rattle.areas.specs.Assessments.{records}
 use Rattle.areas.specs.Spans.{spanIn}
 use Rattle.areas.specs.Words.{labelsIn, labelled}
-use Rattle.topology.specs.Anchors.{anchorsOf}
+use Rattle.context.specs.Anchors.{anchorsOf}
 use Rattle.serial_links.specs.Limits.{Limits}
 use Rattle.serial_groups.specs.Listing.{noSpan}
 use Rattle.serial_groups.specs.Regions.{regionLabels}

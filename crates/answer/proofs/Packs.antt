@@ -12,7 +12,7 @@ use Rattle.format.specs.Values.{Observation}
 use Rattle.format.specs.Fits.{SourceFits}
 use Rattle.format.specs.declared.records.Source.{Source}
 use Rattle.length.specs.Total.{totalKey}
-use Rattle.topology.specs.Listing.{spanKey}
+use Rattle.context.specs.Listing.{spanKey}
 use Rattle.serial_merging.specs.Keys.{sourcesKey, observationKey}
 use Rattle.serial_merging.specs.Copies.{sortedSources}
 use Rattle.serial_merging.proofs.Packed.{sources-packed, sources-once}

@@ -8,8 +8,8 @@ use Rattle.areas.specs.Words.{labelled}
 use Rattle.wire.specs.Bytes.{splice}
 use Rattle.format.specs.Values.{Base, Job}
 use Rattle.grid.specs.Cells.{Grid}
-use Rattle.topology.specs.Anchors.{anchorsOf}
-use Rattle.topology.specs.Listing.{Item}
+use Rattle.context.specs.Anchors.{anchorsOf}
+use Rattle.context.specs.Listing.{Item}
 use Rattle.grid.specs.Directions.{eight}
 use Rattle.serial_links.specs.Limits.{Limits, limits000}
 use Rattle.serial_merging.specs.Groups.{Groups, noGroups, allGroups}

@@ -20,8 +20,8 @@ use Rattle.format.specs.declared.header.Header.{Header}
 use Rattle.format.specs.declared.header.Counts.{Counts}
 use Rattle.format.specs.declared.records.BoundaryRecord.{BoundaryRecord}
 use Rattle.areas.specs.Words.{labelsIn}
-use Rattle.topology.specs.RegionStats.{regionCells}
-use Rattle.topology.specs.Held.{one, firstCells}
+use Rattle.context.specs.RegionStats.{regionCells}
+use Rattle.context.specs.Held.{one, firstCells}
 use Rattle.serial_links.specs.Limits.{Limits}
 use Rattle.serial_links.specs.Link.{Side, Link, linkOf}
 use Rattle.serial_links.specs.Measure.{Measured, measured}

@@ -24,7 +24,7 @@ use Rattle.format.specs.Values.{Job}
 use Rattle.format.specs.Header.{headerAt}
 use Rattle.format.specs.Decode.{decode, decodeList}
 use Rattle.serial_links.specs.Limits.{Limits}
-use Rattle.topology.specs.Anchors.{anchorsOf}
+use Rattle.context.specs.Anchors.{anchorsOf}
 use Rattle.serial_groups.specs.Plan.{mergePlan}
 use Rattle.serial_groups.proofs.Plan.{plan-below}
 use Rattle.serial_merging.specs.Follows.{placesOf}

@@ -12,12 +12,12 @@ use Rattle.format.specs.declared.header.Header.{Header}
 use Rattle.format.specs.declared.header.Counts.{Counts}
 use Rattle.areas.specs.Areas.{cellCount}
 use Rattle.areas.specs.Words.{labelsIn}
-use Rattle.topology.specs.RegionStats.{RegionStats, regionStats}
-use Rattle.topology.specs.Anchors.{anchorsOf, isAnchored}
-use Rattle.topology.specs.AnchorLoop.{AnchorsIn, anchoredBy}
-use Rattle.topology.specs.Held.{one, statsIn}
-use Rattle.topology.specs.declared.stats.RegionStats.{RegionStats as StatsHeld}
-use Rattle.topology.proofs.Bases.{by-bases}
+use Rattle.context.specs.RegionStats.{RegionStats, regionStats}
+use Rattle.context.specs.Anchors.{anchorsOf, isAnchored}
+use Rattle.context.specs.AnchorLoop.{AnchorsIn, anchoredBy}
+use Rattle.context.specs.Held.{one, statsIn}
+use Rattle.context.specs.declared.stats.RegionStats.{RegionStats as StatsHeld}
+use Rattle.context.proofs.Bases.{by-bases}
 use Rattle.checks.specs.Checks.{Refusal}
 use Rattle.results.specs.Rules.{gridOf}
 use Rattle.results.specs.Returns.{FirstAnswer, ready}

@@ -13,8 +13,8 @@ use Rattle.serial_links.specs.Limits.{Limits}
 use Rattle.serial_links.specs.Link.{Side, linkOf}
 use Rattle.serial_links.specs.Measure.{Measured, empty, within, beyond, measured}
 use Rattle.serial_links.specs.Flat.{insideFlat}
-use Rattle.topology.specs.RegionStats.{regionCells}
-use Rattle.topology.specs.Held.{one}
+use Rattle.context.specs.RegionStats.{regionCells}
+use Rattle.context.specs.Held.{one}
 use Rattle.probe.specs.Regions.{LabelsReady, cellLabels, Shown}
 
 -- a float's bits; one pattern for a NaN, which is unlike itself

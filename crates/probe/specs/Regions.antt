@@ -9,9 +9,9 @@ use Rattle.format.specs.Values.{Job}
 use Rattle.format.specs.Decode.{decode}
 use Rattle.areas.specs.Areas.{cellCount}
 use Rattle.areas.specs.Words.{labelsIn}
-use Rattle.topology.specs.RegionStats.{RegionStats, regionStats}
-use Rattle.topology.specs.Anchors.{anchorsOf, isAnchored}
-use Rattle.topology.specs.Held.{one}
+use Rattle.context.specs.RegionStats.{RegionStats, regionStats}
+use Rattle.context.specs.Anchors.{anchorsOf, isAnchored}
+use Rattle.context.specs.Held.{one}
 use Rattle.checks.specs.Checks.{firstRefusal}
 use Rattle.job.specs.Refusals.{reduceChecks}
 use Rattle.results.specs.Rules.{gridOf}

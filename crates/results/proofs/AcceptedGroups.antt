@@ -16,8 +16,8 @@ use Rattle.order.proofs.Pairs.{pairs-all, pairs-append, pairs-imp, pairs-map, p
 use Rattle.position.specs.declared.Span.{Span}
 use Rattle.format.specs.Bounds.{maxWidthBits}
 use Rattle.format.specs.Values.{Boundary, Job}
-use Rattle.topology.specs.Anchors.{anchorsOf}
-use Rattle.topology.specs.Listing.{Item}
+use Rattle.context.specs.Anchors.{anchorsOf}
+use Rattle.context.specs.Listing.{Item}
 use Rattle.serial_links.specs.Limits.{Limits}
 use Rattle.serial_groups.specs.Groups as Link
 use Rattle.serial_groups.specs.Links.{LinkAt}

@@ -33,8 +33,8 @@ use Rattle.job.specs.Refusals.{reduceChecks, markChecks, byListChecks, boundary
 use Rattle.position.specs.Order.{posSame, posLe, canonical}
 use Rattle.position.specs.declared.Span.{Span}
 use Rattle.format.specs.declared.records.Source.{Source}
-use Rattle.topology.specs.Anchors.{anchorsOf}
-use Rattle.topology.specs.Listing.{spanKey, endsKey}
+use Rattle.context.specs.Anchors.{anchorsOf}
+use Rattle.context.specs.Listing.{spanKey, endsKey}
 use Rattle.serial_merging.specs.Keys.{sourceKey, sourcesKey, observationKey}
 use Rattle.serial_merging.specs.Copies.{canonObservation, canon, copiesOf}
 use Rattle.serial_merging.specs.Consolidation.{orItself, observed, consolidate}

@@ -7,8 +7,8 @@ use lib.ListN.{length}
 use Rattle.position.specs.declared.Span.{Span}
 use Rattle.format.specs.Values.{Job}
 use Rattle.format.specs.Encode.{encodeAnswer}
-use Rattle.topology.specs.Anchors.{anchorsOf}
-use Rattle.topology.specs.Listing.{Item}
+use Rattle.context.specs.Anchors.{anchorsOf}
+use Rattle.context.specs.Listing.{Item}
 use Rattle.serial_links.specs.Limits.{Limits}
 use Rattle.serial_groups.specs.Groups as Link
 use Rattle.serial_groups.specs.Flat.{accepted}

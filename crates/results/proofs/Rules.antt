@@ -6,8 +6,8 @@ use lib.ListN.{length}
 use Rattle.order.specs.Pairs.{Pairs}
 use Rattle.order.proofs.Pairs.{pairs-map}
 use Rattle.format.specs.Values.{Job}
-use Rattle.topology.specs.Anchors.{anchorsOf}
-use Rattle.topology.specs.Listing.{Item}
+use Rattle.context.specs.Anchors.{anchorsOf}
+use Rattle.context.specs.Listing.{Item}
 use Rattle.serial_links.specs.Limits.{Limits}
 use Rattle.serial_groups.specs.Serial.{serialGroups}
 use Rattle.serial_groups.specs.Flat.{flatGroups, accepted}

@@ -7,7 +7,7 @@ use lib.ListN.{length}
 use Rattle.order.specs.Pairs.{Pairs}
 use Rattle.position.specs.declared.Span.{Span}
 use Rattle.format.specs.Values.{Job}
-use Rattle.topology.specs.Anchors.{anchorsOf}
+use Rattle.context.specs.Anchors.{anchorsOf}
 use Rattle.serial_links.specs.Limits.{Limits}
 use Rattle.serial_groups.specs.Groups as Link
 use Rattle.serial_groups.specs.SerialGroup.{SerialGroup}

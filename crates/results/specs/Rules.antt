@@ -5,8 +5,8 @@ use Rattle.position.specs.declared.Span.{Span}
 use Rattle.position.specs.declared.WalkPosition.{WalkPosition}
 use Rattle.format.specs.Values.{Job}
 use Rattle.grid.specs.Cells.{Grid}
-use Rattle.topology.specs.Anchors.{anchorsOf}
-use Rattle.topology.specs.Listing.{Item, listing}
+use Rattle.context.specs.Anchors.{anchorsOf}
+use Rattle.context.specs.Listing.{Item, listing}
 use Rattle.serial_links.specs.Limits.{Limits}
 use Rattle.serial_groups.specs.Groups as Link
 use Rattle.serial_groups.specs.Serial.{serialGroups}

@@ -15,7 +15,7 @@ use Rattle.lists.proofs.Rows.{rows-last, rows-same}
 use Rattle.order.specs.Lists.{keep, upFrom}
 use Rattle.order.proofs.Bools.{clash, and-parts, or-cases}
 use Rattle.order.proofs.Keep.{keep-append}
-use Rattle.topology.specs.AnchorLoop.{anchoredBy}
+use Rattle.context.specs.AnchorLoop.{anchoredBy}
 use Rattle.serial_groups.specs.Links.{LinkAt}
 use Rattle.serial_groups.specs.Tables.{linksIn}
 use Rattle.graph.specs.Records.{recordIn}

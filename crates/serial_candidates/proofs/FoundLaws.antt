@@ -18,12 +18,12 @@ use Rattle.format.specs.Decode.{baseOf, baseRecords}
 use Rattle.areas.specs.Spans.{spanIn}
 use Rattle.areas.specs.Assessments.{RegionPair}
 use Rattle.areas.proofs.Assessments.{pair-labels}
-use Rattle.topology.specs.Anchors.{anchorsOf, isAnchored}
-use Rattle.topology.specs.AnchorLoop.{anchoredBy}
-use Rattle.topology.specs.FullPair.{inPair, inPairs, touches, hasFullPair, noPair}
-use Rattle.topology.specs.Listing.{Item}
-use Rattle.topology.proofs.Bases.{by-bases}
-use Rattle.topology.proofs.FullPair.{touches-iff, full-pair-iff}
+use Rattle.context.specs.Anchors.{anchorsOf, isAnchored}
+use Rattle.context.specs.AnchorLoop.{anchoredBy}
+use Rattle.context.specs.FullPair.{inPair, inPairs, touches, hasFullPair, noPair}
+use Rattle.context.specs.Listing.{Item}
+use Rattle.context.proofs.Bases.{by-bases}
+use Rattle.context.proofs.FullPair.{touches-iff, full-pair-iff}
 use Rattle.serial_links.specs.Geometry.{squares, doubledCentre}
 use Rattle.position.specs.Order.{posSame}
 use Rattle.serial_groups.specs.Listing.{noItem, spansOf, boundaryAt, endsAt}

@@ -17,9 +17,9 @@ use Rattle.graph.specs.Records.{Record, recordIn, recordsIn, noRecord}
 use Rattle.grid.specs.Cells.{Grid}
 use Rattle.areas.specs.Assessments.{RegionPair, recordOf, owned, assess, records}
 use Rattle.position.specs.Order.{posSame}
-use Rattle.topology.specs.Numbers.{isFull}
-use Rattle.topology.specs.FullPair.{noPair, hasFullPair}
-use Rattle.topology.specs.Listing.{Item}
+use Rattle.context.specs.Numbers.{isFull}
+use Rattle.context.specs.FullPair.{noPair, hasFullPair}
+use Rattle.context.specs.Listing.{Item}
 use Rattle.serial_groups.specs.Listing.{noItem, noSpan, spansOf}
 use Rattle.serial_groups.specs.Regions.{assessAt}
 use Rattle.serial_groups.specs.Links.{linkable}

@@ -17,7 +17,7 @@ use borrow.Author.Tests.{ne-eqb}
 use Rattle.position.specs.Order.{posSame}
 use Rattle.position.specs.declared.Span.{Span}
 use Rattle.areas.specs.Spans.{spanIn}
-use Rattle.topology.specs.Numbers.{isFull}
+use Rattle.context.specs.Numbers.{isFull}
 use Rattle.serial_links.specs.Geometry.{squares, doubledCentre}
 use Rattle.serial_links.specs.Held.{SpanBounded}
 use Rattle.serial_candidates.specs.Gives.{hasRegion, OwnBounded, joinsTwo}

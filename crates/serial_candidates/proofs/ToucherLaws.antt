@@ -24,9 +24,9 @@ use Rattle.graph.specs.Records.{Record, recordIn, recordsIn}
 use Rattle.grid.specs.Cells.{Grid}
 use Rattle.areas.specs.Assessments.{Assessment, recordOf, regionsOf, assess, records}
 use Rattle.areas.proofs.Records.{records-iff}
-use Rattle.topology.specs.FullPair.{touches}
-use Rattle.topology.proofs.FullPair.{touches-iff}
-use Rattle.topology.specs.Listing.{Item}
+use Rattle.context.specs.FullPair.{touches}
+use Rattle.context.proofs.FullPair.{touches-iff}
+use Rattle.context.specs.Listing.{Item}
 use Rattle.serial_groups.specs.Listing.{noSpan, spansOf}
 use Rattle.serial_groups.specs.Regions.{assessAt, touching}
 use Rattle.serial_groups.specs.Tables.{Paired}

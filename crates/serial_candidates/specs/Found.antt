@@ -6,7 +6,7 @@ use Prim.Native.Nat.{ℕ, zero, suc, _+_, _*_, _<_, _≤_}
 use lib.Dec.{leb}
 use lib.ListN.{length, getD, set}
 use Rattle.order.specs.Lists.{keep, upFrom}
-use Rattle.topology.specs.AnchorLoop.{anchoredBy}
+use Rattle.context.specs.AnchorLoop.{anchoredBy}
 use Rattle.serial_groups.specs.Links.{LinkAt}
 use Rattle.serial_groups.specs.Tables.{linksIn}
 use Rattle.graph.specs.Records.{recordIn}

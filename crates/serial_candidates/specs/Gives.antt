@@ -6,7 +6,7 @@ use Prim.Native.Nat.{ℕ, _+_, _*_, _<_, _≤_}
 use lib.Dec.{eqb}
 use lib.ListN.{length, getD}
 use Rattle.format.specs.Sizes.{baseSize}
-use Rattle.topology.specs.AnchorLoop.{AnchorsIn}
+use Rattle.context.specs.AnchorLoop.{AnchorsIn}
 use Rattle.areas.specs.Spans.{spanIn}
 use Rattle.serial_links.specs.Geometry.{squares, doubledCentre}
 use Rattle.serial_links.specs.Held.{SpanBounded}

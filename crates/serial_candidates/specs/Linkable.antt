@@ -7,7 +7,7 @@ use lib.Dec.{eqb}
 use lib.ListN.{getD}
 use Rattle.position.specs.Order.{posSame}
 use Rattle.areas.specs.Spans.{spanIn}
-use Rattle.topology.specs.Numbers.{isFull}
+use Rattle.context.specs.Numbers.{isFull}
 
 -- distinct ends, no ramp and a full pair, by what arrays say of the rank
 unfoldable pub canLink : List ℕ → List ℕ → List ℕ → List ℕ → List ℕ → ℕ → Bool

@@ -6,8 +6,8 @@ use lib.ListN.{length}
 use Rattle.position.specs.declared.WalkPosition.{WalkPosition}
 use Rattle.format.specs.Decode.{baseOf, baseRecords}
 use Rattle.grid.specs.Cells.{Grid}
-use Rattle.topology.specs.Anchors.{anchorsOf}
-use Rattle.topology.specs.Listing.{Item}
+use Rattle.context.specs.Anchors.{anchorsOf}
+use Rattle.context.specs.Listing.{Item}
 use Rattle.serial_groups.specs.Regions.{regionLabels}
 use Rattle.serial_groups.specs.Tables.{Boundaries, Counted, Paired, FirstPairs, LinkTable}
 

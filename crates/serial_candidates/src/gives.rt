@@ -3,11 +3,11 @@ ghost use mathlib.Core.Path.{_≡_};
 ghost use mathlib.Core.Bool.{not, _&&_};
 ghost use Prim.Native.Nat.{_<_, _≤_};
 ghost use Rattle.areas.specs.Words.{labelsIn};
-ghost use Rattle.topology.specs.AnchorLoop.{anchoredBy};
+ghost use Rattle.context.specs.AnchorLoop.{anchoredBy};
 ghost use Rattle.serial_candidates.specs.Gives.{hasRegion, AnchorsOnMap, OwnBounded, TwoBelow, joinsTwo};
 use areas::spans::span_at;
 use serial_links::geometry::centres_differ;
-use topology::anchored::is_anchored;
+use context::anchored::is_anchored;
 use wire::size;
 
 // The rank can be linked, and the region is one of its pair.

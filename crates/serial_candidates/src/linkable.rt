@@ -4,7 +4,7 @@ ghost use mathlib.Core.Bool.{cond};
 ghost use Prim.Native.Nat.{_<_, _≤_};
 ghost use Rattle.serial_candidates.specs.Linkable.{canLink, Flags};
 use areas::spans::span_at;
-use topology::pairs::has_full_pair;
+use context::pairs::has_full_pair;
 
 // 1 if the rank has distinct ends, no ramp and a full pair, else 0.
 fn mark(

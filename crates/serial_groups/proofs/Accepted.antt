@@ -19,7 +19,7 @@ use Rattle.position.specs.declared.WalkPosition.{WalkPosition}
 use Rattle.grid.specs.Cells.{Grid}
 use Rattle.serial_links.specs.Limits.{Limits}
 use Rattle.serial_groups.specs.Tests.{every}
-use Rattle.topology.specs.Listing.{Item}
+use Rattle.context.specs.Listing.{Item}
 use Rattle.serial_groups.specs.Regions.{bridgeAt}
 use Rattle.serial_groups.specs.Links.{LinkAt, joins, links}
 use Rattle.serial_groups.specs.Measuring.{passes, staysInside}

@@ -15,7 +15,7 @@ use Rattle.areas.specs.Cases.{spanOf}
 use Rattle.serial_links.specs.Limits.{limits000}
 use Rattle.order.specs.Sorting.{sort}
 use Rattle.order.specs.Keys.{lexLe}
-use Rattle.topology.specs.Listing.{Item, endsKey, listing}
+use Rattle.context.specs.Listing.{Item, endsKey, listing}
 use Rattle.serial_groups.specs.Links.{LinkAt, links}
 use Rattle.serial_groups.specs.Serial.{chainSum, serialGroups}
 use Rattle.serial_groups.specs.Flat.{accepted}

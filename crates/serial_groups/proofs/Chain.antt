@@ -13,8 +13,8 @@ use Rattle.order.proofs.Pairs.{pairs-ext, pairs-at}
 use Rattle.order.proofs.Keep.{keep-mem, mem-keep, keep-pairs}
 use Rattle.grid.specs.Cells.{Grid}
 use Rattle.areas.specs.Assessments.{RegionPair, Assessment}
-use Rattle.topology.specs.FullPair.{noPair, fullPair, otherRegion}
-use Rattle.topology.specs.Listing.{Item}
+use Rattle.context.specs.FullPair.{noPair, fullPair, otherRegion}
+use Rattle.context.specs.Listing.{Item}
 use Rattle.serial_links.specs.Limits.{Limits}
 use Rattle.serial_groups.specs.Regions.{assessAt}
 use Rattle.serial_groups.specs.Links.{LinkAt, joins}

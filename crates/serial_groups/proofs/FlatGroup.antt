@@ -19,10 +19,10 @@ use Rattle.serial_links.specs.Limits.{Limits}
 use Rattle.serial_links.specs.Geometry.{Vector, cellCentre, dot}
 use Rattle.serial_links.specs.Link.{Link, Bounds}
 use Rattle.serial_links.specs.Flat.{alongTolerance, acrossTolerance, cellReach, insideOn, insideBoth, insideFlat}
-use Rattle.topology.specs.RegionStats.{elevationKinds}
-use Rattle.topology.specs.Listing.{Item}
-use Rattle.topology.proofs.RegionStats.{region-cells-iff, ramp-iff}
-use Rattle.topology.proofs.Elevations.{one-elevation-iff}
+use Rattle.context.specs.RegionStats.{elevationKinds}
+use Rattle.context.specs.Listing.{Item}
+use Rattle.context.proofs.RegionStats.{region-cells-iff, ramp-iff}
+use Rattle.context.proofs.Elevations.{one-elevation-iff}
 use Rattle.serial_groups.specs.Tests.{every}
 use Rattle.serial_groups.specs.Regions.{regionLabels, cellsOf, statsOf}
 use Rattle.serial_groups.specs.Links.{LinkAt, links}

@@ -14,10 +14,10 @@ use Rattle.position.specs.declared.PixelPosition.{PixelPosition}
 use Rattle.position.specs.declared.WalkPosition.{WalkPosition}
 use Rattle.grid.specs.Cells.{Grid}
 use Rattle.areas.specs.Assessments.{Assessment}
-use Rattle.topology.specs.FullPair.{touches, hasFullPair}
-use Rattle.topology.specs.Listing.{Item}
-use Rattle.topology.proofs.Anchors.{anchored-iff}
-use Rattle.topology.proofs.FullPair.{touches-iff, full-pair-iff}
+use Rattle.context.specs.FullPair.{touches, hasFullPair}
+use Rattle.context.specs.Listing.{Item}
+use Rattle.context.proofs.Anchors.{anchored-iff}
+use Rattle.context.proofs.FullPair.{touches-iff, full-pair-iff}
 use Rattle.serial_links.specs.Geometry.{DoubledPoint, apart, squares, doubledCentre}
 use Rattle.serial_groups.specs.Listing.{boundaryAt, endsAt}
 use Rattle.serial_groups.specs.Regions.{regionLabels, assessAt}

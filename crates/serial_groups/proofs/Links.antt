@@ -16,10 +16,10 @@ use Rattle.order.proofs.Keep.{keep-mem, mem-keep, keep-pairs}
 use Rattle.order.proofs.Numbers.{up-mem, mem-up, up-strict}
 use Rattle.position.specs.declared.WalkPosition.{WalkPosition}
 use Rattle.grid.specs.Cells.{Grid}
-use Rattle.topology.specs.FullPair.{touches}
-use Rattle.topology.specs.Anchors.{isAnchored}
+use Rattle.context.specs.FullPair.{touches}
+use Rattle.context.specs.Anchors.{isAnchored}
 use Rattle.serial_links.specs.Geometry.{squares, doubledCentre}
-use Rattle.topology.specs.Listing.{Item}
+use Rattle.context.specs.Listing.{Item}
 use Rattle.serial_groups.specs.Listing.{endsAt}
 use Rattle.serial_groups.specs.Regions.{regionLabels, regionCount, assessAt, touching}
 use Rattle.serial_groups.specs.Links.{LinkAt, centresDiffer, linkable, linkAt, givesLink, links, IsLink}

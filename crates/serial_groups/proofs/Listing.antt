@@ -9,7 +9,7 @@ use Rattle.position.specs.Order.{canonical}
 use Rattle.grid.specs.Cells.{Grid}
 use Rattle.areas.specs.Areas.{areaLabels, areaCount}
 use Rattle.areas.proofs.Areas.{labels-depend-on-the-set, count-depends-on-the-set}
-use Rattle.topology.specs.Listing.{Item, itemKey, listing}
+use Rattle.context.specs.Listing.{Item, itemKey, listing}
 use Rattle.serial_groups.specs.Listing.{spansOf}
 use Rattle.serial_groups.specs.Regions.{regionLabels, regionCount}
 

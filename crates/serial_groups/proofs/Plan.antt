@@ -14,7 +14,7 @@ use Rattle.position.specs.declared.WalkPosition.{WalkPosition}
 use Rattle.grid.specs.Cells.{Grid}
 use Rattle.serial_links.specs.Limits.{Limits}
 use Rattle.serial_groups.specs.Tests.{any}
-use Rattle.topology.specs.Listing.{Item}
+use Rattle.context.specs.Listing.{Item}
 use Rattle.serial_groups.specs.Groups.{LinkGroup, inAnyLinkGroup, LinkGroupsDisjoint}
 use Rattle.serial_groups.specs.Flat.{accepted}
 use Rattle.serial_groups.specs.Representative.{retained}

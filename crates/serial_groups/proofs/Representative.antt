@@ -19,7 +19,7 @@ use Rattle.length.specs.Total.{totalLe}
 use Rattle.length.proofs.Total.{total-order}
 use Rattle.format.specs.Bounds.{maxWidthBits}
 use Rattle.serial_links.specs.Limits.{Limits, limits000}
-use Rattle.topology.specs.Listing.{Item}
+use Rattle.context.specs.Listing.{Item}
 use Rattle.serial_groups.specs.Listing.{bitsAt}
 use Rattle.serial_groups.specs.Representative.{widthAt, leastWidth, eligible, distanceTo, nearer, retained, IsRetained}
 use Rattle.serial_groups.proofs.Wider.{finiteUp, wider}

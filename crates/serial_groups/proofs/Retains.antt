@@ -8,7 +8,7 @@ use lib.ListN.{getD}
 use Rattle.order.specs.Sorting.{sort}
 use Rattle.order.specs.Pairs.{Pairs, more}
 use Rattle.serial_links.specs.Limits.{Limits}
-use Rattle.topology.specs.Listing.{Item}
+use Rattle.context.specs.Listing.{Item}
 use Rattle.serial_groups.specs.Representative.{eligible, retained, IsRetained}
 use Rattle.serial_groups.specs.Retains.{Retains}
 use Rattle.serial_groups.proofs.Representative.{retained-mem, retained-is}

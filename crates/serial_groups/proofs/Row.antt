@@ -8,7 +8,7 @@ use lib.ListN.{length}
 use Rattle.order.specs.Pairs.{none, more, Distinct}
 use Rattle.position.specs.declared.WalkPosition.{WalkPosition}
 use Rattle.grid.specs.Cells.{Grid}
-use Rattle.topology.specs.Listing.{Item}
+use Rattle.context.specs.Listing.{Item}
 use Rattle.serial_links.specs.Limits.{Limits}
 use Rattle.serial_groups.specs.Links.{LinkAt}
 use Rattle.serial_groups.specs.Groups.{LinkGroup}

@@ -16,7 +16,7 @@ use Rattle.grid.specs.Cells.{Grid}
 use Rattle.areas.specs.Assessments.{records}
 use Rattle.serial_links.specs.Limits.{Limits}
 use Rattle.serial_links.specs.Measure.{Measured, empty, within, beyond, passing}
-use Rattle.topology.specs.Listing.{Item}
+use Rattle.context.specs.Listing.{Item}
 use Rattle.serial_groups.specs.Tests.{every}
 use Rattle.serial_groups.specs.Listing.{spansOf}
 use Rattle.serial_groups.specs.Regions.{assessAt, bridgeAt}

@@ -12,7 +12,7 @@ use Rattle.order.proofs.Bools.{and-parts, and-both}
 use Rattle.grid.specs.Cells.{Grid}
 use Rattle.serial_links.specs.Limits.{Limits}
 use Rattle.serial_groups.specs.Tests.{every}
-use Rattle.topology.specs.Listing.{Item}
+use Rattle.context.specs.Listing.{Item}
 use Rattle.serial_groups.specs.Groups.{LinkGroup}
 use Rattle.serial_groups.specs.SimplePath.{degree, endsOf, firstEnd, lastEnd, isPath, outerRegion, simplePath, IsSimplePath}
 use Rattle.serial_groups.proofs.Tests.{every-mem, mem-every}

@@ -8,7 +8,7 @@ use lib.ListN.{length}
 use Rattle.grid.specs.Cells.{Grid}
 use Rattle.areas.specs.Assessments.{RegionPair, Assessment}
 use Rattle.serial_links.specs.Limits.{Limits}
-use Rattle.topology.specs.Listing.{Item}
+use Rattle.context.specs.Listing.{Item}
 use Rattle.serial_groups.specs.Regions.{assessAt}
 use Rattle.serial_groups.specs.Links.{LinkAt}
 use Rattle.serial_groups.specs.Groups.{LinkGroup}

@@ -8,11 +8,11 @@ use lib.ListN.{length}
 use Rattle.order.specs.Lists.{keep}
 use Rattle.position.specs.declared.WalkPosition.{WalkPosition}
 use Rattle.grid.specs.Cells.{Grid}
-use Rattle.topology.specs.RegionStats.{elevationKinds}
+use Rattle.context.specs.RegionStats.{elevationKinds}
 use Rattle.serial_links.specs.Limits.{Limits}
 use Rattle.serial_links.specs.Parallel.{nearbyParallel}
 use Rattle.serial_groups.specs.Tests.{every}
-use Rattle.topology.specs.Listing.{Item}
+use Rattle.context.specs.Listing.{Item}
 use Rattle.serial_groups.specs.Listing.{endsAt}
 use Rattle.serial_groups.specs.Regions.{statsOf}
 use Rattle.serial_groups.specs.Links.{LinkAt, links}

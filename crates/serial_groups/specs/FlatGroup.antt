@@ -12,7 +12,7 @@ use Rattle.serial_links.specs.Geometry.{Vector, cellCentre, dot}
 use Rattle.serial_links.specs.Link.{Link, Bounds}
 use Rattle.serial_links.specs.Flat.{alongTolerance, acrossTolerance, cellReach}
 use Rattle.serial_links.specs.Parallel.{nearbyParallel}
-use Rattle.topology.specs.Listing.{Item}
+use Rattle.context.specs.Listing.{Item}
 use Rattle.serial_groups.specs.Listing.{endsAt}
 use Rattle.serial_groups.specs.Links.{LinkAt}
 use Rattle.serial_groups.specs.Measuring.{valueOf}

@@ -10,7 +10,7 @@ use Rattle.grid.specs.Cells.{Grid, indexOf}
 use Rattle.areas.specs.Areas.{labelAt}
 use Rattle.areas.specs.Assessments.{RegionPair, Assessment}
 use Rattle.serial_links.specs.Geometry.{doubledCentre}
-use Rattle.topology.specs.Listing.{Item}
+use Rattle.context.specs.Listing.{Item}
 use Rattle.serial_groups.specs.Listing.{boundaryAt, endsAt}
 use Rattle.serial_groups.specs.Regions.{regionLabels, regionCount, assessAt}
 use Rattle.serial_groups.specs.Links.{LinkAt}

@@ -11,10 +11,10 @@ use Rattle.order.specs.Lists.{keep, upFrom}
 use Rattle.position.specs.Order.{posSame}
 use Rattle.position.specs.declared.WalkPosition.{WalkPosition}
 use Rattle.grid.specs.Cells.{Grid}
-use Rattle.topology.specs.FullPair.{touches, hasFullPair}
-use Rattle.topology.specs.Anchors.{isAnchored}
+use Rattle.context.specs.FullPair.{touches, hasFullPair}
+use Rattle.context.specs.Anchors.{isAnchored}
 use Rattle.serial_links.specs.Geometry.{squares, doubledCentre}
-use Rattle.topology.specs.Listing.{Item}
+use Rattle.context.specs.Listing.{Item}
 use Rattle.serial_groups.specs.Listing.{boundaryAt, endsAt}
 use Rattle.serial_groups.specs.Regions.{regionLabels, regionCount, assessAt, touching}
 

@@ -5,7 +5,7 @@ use lib.ListN.{getD}
 use Rattle.position.specs.declared.PixelPosition.{PixelPosition}
 use Rattle.position.specs.declared.Span.{Span}
 use Rattle.format.specs.Values.{Boundary}
-use Rattle.topology.specs.Listing.{Item}
+use Rattle.context.specs.Listing.{Item}
 
 abbrev pub noPosition : PixelPosition
 noPosition = record { x = 0; y = 0 }

@@ -8,7 +8,7 @@ use Rattle.serial_links.specs.Limits.{Limits}
 use Rattle.serial_links.specs.Link.{Side, Link, linkOf, widenedBy}
 use Rattle.serial_links.specs.Measure.{Measured, extremes, judged, measured, passing}
 use Rattle.serial_links.specs.Flat.{insideFlat}
-use Rattle.topology.specs.Listing.{Item}
+use Rattle.context.specs.Listing.{Item}
 use Rattle.serial_groups.specs.Listing.{endsAt, bitsAt}
 use Rattle.serial_groups.specs.Regions.{cellsOf}
 use Rattle.serial_groups.specs.Links.{LinkAt}

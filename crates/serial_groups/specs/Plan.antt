@@ -7,7 +7,7 @@ use Rattle.order.specs.Lists.{has}
 use Rattle.position.specs.declared.WalkPosition.{WalkPosition}
 use Rattle.grid.specs.Cells.{Grid}
 use Rattle.serial_links.specs.Limits.{Limits}
-use Rattle.topology.specs.Listing.{Item}
+use Rattle.context.specs.Listing.{Item}
 use Rattle.serial_groups.specs.Groups.{LinkGroup}
 use Rattle.serial_groups.specs.Flat.{accepted}
 use Rattle.serial_groups.specs.Representative.{retained}

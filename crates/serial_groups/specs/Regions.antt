@@ -8,9 +8,9 @@ use Rattle.graph.specs.Bridges.{isBridge}
 use Rattle.grid.specs.Cells.{Grid}
 use Rattle.areas.specs.Areas.{areaLabels, areaCount}
 use Rattle.areas.specs.Assessments.{Assessment, assess, records}
-use Rattle.topology.specs.RegionStats.{RegionStats, regionCells, regionStats}
-use Rattle.topology.specs.FullPair.{touches}
-use Rattle.topology.specs.Listing.{Item}
+use Rattle.context.specs.RegionStats.{RegionStats, regionCells, regionStats}
+use Rattle.context.specs.FullPair.{touches}
+use Rattle.context.specs.Listing.{Item}
 use Rattle.serial_groups.specs.Listing.{noItem, spansOf}
 
 module _ (dirs : List ℕ) (g : Grid) (l : List Item) where

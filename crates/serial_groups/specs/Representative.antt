@@ -13,7 +13,7 @@ use Rattle.length.specs.Total.{totalLe}
 use Rattle.serial_links.specs.Limits.{Limits}
 use Rattle.serial_links.specs.Geometry.{squares}
 use Rattle.serial_links.specs.Sums.{addedTo, sumOf, noLater, distanceSum}
-use Rattle.topology.specs.Listing.{Item}
+use Rattle.context.specs.Listing.{Item}
 use Rattle.serial_groups.specs.Listing.{endsAt, bitsAt}
 
 abbrev pub widthAt : List Item → ℕ → Float

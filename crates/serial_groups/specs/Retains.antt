@@ -2,7 +2,7 @@
 use mathlib.Core.List.{List, List·Memᴰ}
 use Prim.Native.Nat.{ℕ, _≤_}
 use Rattle.serial_links.specs.Limits.{Limits}
-use Rattle.topology.specs.Listing.{Item}
+use Rattle.context.specs.Listing.{Item}
 use Rattle.serial_groups.specs.Representative.{eligible, IsRetained}
 
 pub record Retains (limits : Limits) (l : List Item) (is : List ℕ) (i : ℕ) : Type 0 where

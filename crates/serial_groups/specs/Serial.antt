@@ -13,7 +13,7 @@ use Rattle.serial_links.specs.Limits.{Limits}
 use Rattle.serial_links.specs.Geometry.{squares, centreDistance}
 use Rattle.serial_links.specs.Sums.{addedTo, sumOf, ascendingSum}
 use Rattle.serial_groups.specs.Tests.{every}
-use Rattle.topology.specs.Listing.{Item}
+use Rattle.context.specs.Listing.{Item}
 use Rattle.serial_groups.specs.Listing.{endsAt}
 use Rattle.serial_groups.specs.Regions.{bridgeAt}
 use Rattle.serial_groups.specs.Links.{LinkAt, links}

@@ -13,7 +13,7 @@ use Rattle.serial_links.specs.Limits.{Limits}
 use Rattle.serial_links.specs.Geometry.{centreDistance}
 use Rattle.serial_links.specs.Sums.{ascendingSum}
 use Rattle.serial_links.specs.Measure.{measured, within}
-use Rattle.topology.specs.Listing.{Item}
+use Rattle.context.specs.Listing.{Item}
 use Rattle.serial_groups.specs.Listing.{spansOf, endsAt}
 use Rattle.serial_groups.specs.Regions.{cellsOf}
 use Rattle.serial_groups.specs.Links.{LinkAt}

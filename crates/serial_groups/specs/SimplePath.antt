@@ -7,10 +7,10 @@ use lib.Dec.{leb, eqb}
 use lib.ListN.{length, getD}
 use Rattle.order.specs.Lists.{keep}
 use Rattle.grid.specs.Cells.{Grid}
-use Rattle.topology.specs.FullPair.{fullPair, otherRegion}
+use Rattle.context.specs.FullPair.{fullPair, otherRegion}
 use Rattle.serial_links.specs.Limits.{Limits}
 use Rattle.serial_groups.specs.Tests.{every}
-use Rattle.topology.specs.Listing.{Item}
+use Rattle.context.specs.Listing.{Item}
 use Rattle.serial_groups.specs.Regions.{assessAt}
 use Rattle.serial_groups.specs.Links.{LinkAt, joins}
 use Rattle.serial_groups.specs.Groups.{LinkGroup}

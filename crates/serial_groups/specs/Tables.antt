@@ -12,8 +12,8 @@ use Rattle.grid.specs.Cells.{Grid}
 use Rattle.position.specs.Bounds.{Bounded}
 use Rattle.areas.specs.Spans.{spanIn}
 use Rattle.areas.specs.Assessments.{records}
-use Rattle.topology.specs.FullPair.{fullPair}
-use Rattle.topology.specs.Listing.{Item}
+use Rattle.context.specs.FullPair.{fullPair}
+use Rattle.context.specs.Listing.{Item}
 use Rattle.serial_groups.specs.Listing.{spansOf, boundaryAt, endsAt, bitsAt}
 use Rattle.serial_groups.specs.Regions.{assessAt, bridgeAt}
 use Rattle.serial_groups.specs.Links.{LinkAt, links}

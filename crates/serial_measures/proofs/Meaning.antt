@@ -20,11 +20,11 @@ use Rattle.serial_links.specs.Flat.{insideFlat}
 use Rattle.serial_links.specs.HeldLink.{side, linkAfter, measuredIn}
 use Rattle.serial_links.specs.declared.link.Link.{Link as LinkHeld}
 use Rattle.serial_links.proofs.Cells.{after-measured}
-use Rattle.topology.specs.RegionStats.{RegionStats, regionCells, regionStats, elevationKinds}
-use Rattle.topology.specs.Held.{statsIn, statsAfter, firstCells}
-use Rattle.topology.specs.declared.stats.RegionStats.{RegionStats as StatsHeld}
-use Rattle.topology.specs.Listing.{Item}
-use Rattle.topology.proofs.Counting.{after-all, cells-all}
+use Rattle.context.specs.RegionStats.{RegionStats, regionCells, regionStats, elevationKinds}
+use Rattle.context.specs.Held.{statsIn, statsAfter, firstCells}
+use Rattle.context.specs.declared.stats.RegionStats.{RegionStats as StatsHeld}
+use Rattle.context.specs.Listing.{Item}
+use Rattle.context.proofs.Counting.{after-all, cells-all}
 use Rattle.serial_groups.specs.Listing.{endsAt, bitsAt}
 use Rattle.serial_groups.specs.Regions.{regionLabels, cellsOf, statsOf}
 use Rattle.serial_groups.specs.Measuring.{valueOf, measuredAt, passes, staysInside}

@@ -9,7 +9,7 @@ use Rattle.serial_links.specs.Limits.{Limits}
 use Rattle.serial_links.specs.HeldLink.{linkWithCell, linkAfter}
 use Rattle.serial_links.specs.declared.link.Link.{Link as LinkHeld}
 use Rattle.serial_links.proofs.Cells.{after-none, after-next}
-use Rattle.topology.proofs.CountLoop.{pass-next}
+use Rattle.context.proofs.CountLoop.{pass-next}
 use Rattle.serial_measures.specs.Judging.{AllCells}
 use Rattle.serial_measures.proofs.Turns.{no-cells}
 

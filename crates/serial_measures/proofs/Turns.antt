@@ -21,9 +21,9 @@ use Rattle.serial_links.specs.Limits.{Limits}
 use Rattle.serial_links.specs.HeldLink.{noCell, linkWithCell, linkAfter}
 use Rattle.serial_links.specs.declared.link.Link.{Link as LinkHeld}
 use Rattle.serial_links.proofs.Cells.{after-none, after-next}
-use Rattle.topology.specs.Held.{CellRoom, NoCells, linkWithCell as withStats, statsAfter, firstCells}
-use Rattle.topology.specs.declared.stats.RegionStats.{RegionStats as StatsHeld}
-use Rattle.topology.proofs.Counting.{after-next as stats-next, after-room, cells-in, cells-out, cells-most}
+use Rattle.context.specs.Held.{CellRoom, NoCells, linkWithCell as withStats, statsAfter, firstCells}
+use Rattle.context.specs.declared.stats.RegionStats.{RegionStats as StatsHeld}
+use Rattle.context.proofs.Counting.{after-next as stats-next, after-room, cells-in, cells-out, cells-most}
 use Rattle.serial_measures.specs.Tables.{tableNumber, RegionNumbers}
 use Rattle.serial_measures.specs.Judging.{valueIn, EmptyLinks, linkNow, statsNow, Running}
 

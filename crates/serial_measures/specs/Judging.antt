@@ -13,10 +13,10 @@ use Rattle.serial_links.specs.Link.{Link, linkOf}
 use Rattle.serial_links.specs.Measure.{passing}
 use Rattle.serial_links.specs.HeldLink.{side, noCell, linkAfter, measuredIn}
 use Rattle.serial_links.specs.declared.link.Link.{Link as LinkHeld}
-use Rattle.topology.specs.RegionStats.{elevationKinds}
-use Rattle.topology.specs.Held.{statsIn, statsAfter, firstCells}
-use Rattle.topology.specs.declared.stats.RegionStats.{RegionStats as StatsHeld}
-use Rattle.topology.specs.Listing.{Item}
+use Rattle.context.specs.RegionStats.{elevationKinds}
+use Rattle.context.specs.Held.{statsIn, statsAfter, firstCells}
+use Rattle.context.specs.declared.stats.RegionStats.{RegionStats as StatsHeld}
+use Rattle.context.specs.Listing.{Item}
 use Rattle.serial_groups.specs.Regions.{regionLabels}
 use Rattle.serial_groups.specs.Measuring.{passes, staysInside}
 use Rattle.serial_groups.specs.Flat.{isFlat}

@@ -14,9 +14,9 @@ use crate::link_at;
 use crate::passing_mark;
 use serial_links::limits::Limits;
 use serial_links::link::Link;
-use topology::stats::column_of;
-use topology::stats::region_stats;
-use topology::stats::row_of;
+use context::stats::column_of;
+use context::stats::region_stats;
+use context::stats::row_of;
 use wire::read_u32;
 
 // With one cell more, if it is of the link's region.

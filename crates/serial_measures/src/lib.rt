@@ -20,7 +20,7 @@ use label_table::word_of;
 use serial_links::limits::Limits;
 use serial_links::link::Link;
 use serial_links::link::link_of;
-use topology::stats::RegionStats;
+use context::stats::RegionStats;
 use wire::read_u32;
 use wire::size;
 

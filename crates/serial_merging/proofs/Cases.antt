@@ -15,7 +15,7 @@ use Rattle.format.specs.Values.{Ramp, Observation, Boundary}
 use Rattle.format.specs.Encode.{sourcesWith, sourcesOf, observationsOf, encodeAnswer}
 use Rattle.format.specs.declared.records.Source.{Source}
 use Rattle.format.proofs.AnswerTrip.{length-encodeAnswer}
-use Rattle.topology.specs.Listing.{Item, endsKey, spanKey}
+use Rattle.context.specs.Listing.{Item, endsKey, spanKey}
 use Rattle.length.specs.Total.{totalKey}
 use Rattle.serial_merging.specs.Keys.{sourceKey, sourcesKey, observationKey}
 use Rattle.serial_merging.specs.Copies.{canonObservation, canon, copiesOf}

@@ -16,7 +16,7 @@ use Rattle.position.specs.Order.{canonical}
 use Rattle.position.specs.declared.Span.{Span}
 use Rattle.position.proofs.Order.{canonical-swapped, canonical-again}
 use Rattle.format.specs.Values.{Observation, Boundary}
-use Rattle.topology.specs.Listing.{Item, endsKey, spanKey}
+use Rattle.context.specs.Listing.{Item, endsKey, spanKey}
 use Rattle.serial_merging.specs.Keys.{sourceKey, observationKey}
 use Rattle.serial_merging.specs.Copies.{sortedSources, sortedObservations, canonObservation, canon, copiesOf}
 use Rattle.serial_merging.specs.Runs.{canonItem}

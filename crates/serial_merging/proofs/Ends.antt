@@ -9,7 +9,7 @@ use Rattle.order.proofs.Pairs.{pairs-imp, pairs-map}
 use Rattle.order.proofs.Keys.{lex-order}
 use Rattle.position.specs.Order.{canonical}
 use Rattle.format.specs.Values.{Boundary}
-use Rattle.topology.specs.Listing.{endsKey}
+use Rattle.context.specs.Listing.{endsKey}
 use Rattle.serial_merging.specs.Copies.{canon}
 use Rattle.serial_merging.specs.Merging.{sameEnds}
 use Rattle.serial_merging.specs.Relisted.{DistinctEnds}

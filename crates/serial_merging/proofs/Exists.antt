@@ -14,7 +14,7 @@ use Rattle.order.proofs.Numbers.{mem-up, mem-has}
 use Rattle.order.proofs.Keys.{key-preorder}
 use Rattle.order.proofs.Stable.{le-refl}
 use Rattle.format.specs.Values.{Boundary}
-use Rattle.topology.specs.Listing.{endsKey}
+use Rattle.context.specs.Listing.{endsKey}
 use Rattle.serial_merging.specs.Copies.{canon}
 use Rattle.serial_merging.specs.Consolidation.{consolidate}
 use Rattle.serial_merging.specs.Groups.{Group, Groups, noGroups, allGroups, inAny, unmerged, WellGrouped}

@@ -8,7 +8,7 @@ use lib.ListN.{length, length-map}
 use Rattle.order.specs.Pairs.{Pairs, none}
 use Rattle.format.specs.Values.{Boundary}
 use Rattle.format.specs.Encode.{encodeAnswer}
-use Rattle.topology.specs.Listing.{Item, listing}
+use Rattle.context.specs.Listing.{Item, listing}
 use Rattle.serial_merging.specs.Copies.{copiesOf}
 use Rattle.serial_merging.specs.Groups.{Groups, allGroups, WellGrouped}
 use Rattle.serial_merging.specs.Runs.{Run, itemsOf, canonItem, groupsOf, keptOf, rulesAnswer}

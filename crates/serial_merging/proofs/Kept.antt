@@ -20,7 +20,7 @@ use Rattle.order.proofs.Sort.{sort-map}
 use Rattle.order.proofs.Stable.{sort-stable}
 use Rattle.order.proofs.Places.{sort-places}
 use Rattle.format.specs.Values.{Boundary}
-use Rattle.topology.specs.Listing.{endsKey}
+use Rattle.context.specs.Listing.{endsKey}
 use Rattle.serial_merging.specs.Copies.{canon, copiesOf}
 use Rattle.serial_merging.specs.Consolidation.{consolidate}
 use Rattle.serial_merging.specs.Groups.{Group, inAny, unmerged, Disjoint, WellGrouped}

@@ -4,7 +4,7 @@ use mathlib.Core.List.{[], _∷_}
 use Prim.Native.Nat.{ℕ}
 use native.Mathlib.Omega.{arith}
 use Rattle.order.specs.Keys.{Injective}
-use Rattle.topology.specs.Listing.{spanKey}
+use Rattle.context.specs.Listing.{spanKey}
 use Rattle.length.specs.Total.{totalKey}
 use Rattle.length.proofs.Total.{total-key-inj}
 use Rattle.serial_merging.specs.Keys.{sourceKey, sourcesKey, observationKey}

@@ -17,7 +17,7 @@ use Rattle.order.proofs.Stable.{sort-sorted}
 use Rattle.order.proofs.Forgets.{sort-forgets-told}
 use Rattle.position.specs.declared.Span.{Span}
 use Rattle.format.specs.Values.{Observation, Boundary}
-use Rattle.topology.specs.Listing.{Item, endsKey, listing}
+use Rattle.context.specs.Listing.{Item, endsKey, listing}
 use Rattle.serial_merging.specs.Copies.{canon, copiesOf}
 use Rattle.serial_merging.specs.Groups.{Groups}
 use Rattle.serial_merging.specs.Runs.{Run, Matched, itemOf, itemsOf, canonItem, groupsOf}

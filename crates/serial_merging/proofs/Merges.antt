@@ -20,7 +20,7 @@ use Rattle.order.proofs.Sort.{sort-fixed}
 use Rattle.order.proofs.Places.{places-told}
 use Rattle.order.proofs.Forgets.{sort-forgets-told}
 use Rattle.format.specs.Values.{Boundary}
-use Rattle.topology.specs.Listing.{endsKey}
+use Rattle.context.specs.Listing.{endsKey}
 use Rattle.serial_merging.specs.Copies.{canon, copiesOf}
 use Rattle.serial_merging.specs.Consolidation.{consolidate}
 use Rattle.serial_merging.specs.Groups.{Group, inAny, unmerged, Good, WellGrouped}

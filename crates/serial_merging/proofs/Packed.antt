@@ -17,7 +17,7 @@ use Rattle.position.specs.declared.Span.{Span}
 use Rattle.format.specs.Values.{Boundary}
 use Rattle.format.specs.Fits.{SpanEncodable, SourceFits}
 use Rattle.format.specs.declared.records.Source.{Source}
-use Rattle.topology.specs.Listing.{spanKey, endsKey}
+use Rattle.context.specs.Listing.{spanKey, endsKey}
 use Rattle.serial_merging.specs.Keys.{sourceKey, sourcesKey}
 
 pub canonical-fits : (s : Span) → SpanEncodable s → SpanEncodable (canonical s)

@@ -5,7 +5,7 @@ use Rattle.order.specs.Shuffled.{Shuffled, nil, next, swap, then}
 use Rattle.order.proofs.Shuffled.{shuffled-length}
 use Rattle.position.specs.declared.Span.{Span}
 use Rattle.format.specs.Values.{Observation, Boundary}
-use Rattle.topology.specs.Listing.{Item}
+use Rattle.context.specs.Listing.{Item}
 use Rattle.serial_merging.specs.Runs.{Run}
 use Rattle.serial_merging.specs.Relisted.{Turned, same, turned, LikeObservation, LikeBoundary, LikeItem, Relisted, matched, unmatched}
 

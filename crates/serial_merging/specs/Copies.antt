@@ -5,7 +5,7 @@ use Rattle.order.specs.Keys.{sortBy, sortOnceBy}
 use Rattle.position.specs.Order.{canonical}
 use Rattle.format.specs.Values.{Observation, Boundary}
 use Rattle.format.specs.declared.records.Source.{Source}
-use Rattle.topology.specs.Listing.{endsKey}
+use Rattle.context.specs.Listing.{endsKey}
 use Rattle.serial_merging.specs.Keys.{sourceKey, observationKey}
 
 -- 000's `sorted_sources`: each source once.

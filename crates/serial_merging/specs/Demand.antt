@@ -2,7 +2,7 @@
 use mathlib.Core.Path.{_≡_}
 use mathlib.Core.List.{List}
 use Rattle.format.specs.Values.{Boundary}
-use Rattle.topology.specs.Listing.{Item}
+use Rattle.context.specs.Listing.{Item}
 use Rattle.serial_merging.specs.Copies.{copiesOf}
 use Rattle.serial_merging.specs.Groups.{Group, Groups, allGroups}
 use Rattle.serial_merging.specs.Runs.{Run, groupsOf, keptOf, rulesAnswer}

@@ -3,7 +3,7 @@ use mathlib.Core.List.{List, [], _∷_, _++_}
 use Prim.Native.Nat.{ℕ}
 use Rattle.format.specs.Values.{Observation}
 use Rattle.format.specs.declared.records.Source.{Source}
-use Rattle.topology.specs.Listing.{spanKey}
+use Rattle.context.specs.Listing.{spanKey}
 use Rattle.length.specs.Total.{totalKey}
 
 unfoldable pub sourceKey : Source → List ℕ

@@ -8,7 +8,7 @@ use Rattle.order.specs.Keys.{byKey}
 use Rattle.order.specs.Lists.{keep}
 use Rattle.format.specs.Values.{Boundary}
 use Rattle.format.specs.Encode.{encodeAnswer}
-use Rattle.topology.specs.Listing.{endsKey}
+use Rattle.context.specs.Listing.{endsKey}
 use Rattle.serial_merging.specs.Copies.{canon, copiesOf}
 use Rattle.serial_merging.specs.Consolidation.{consolidate}
 use Rattle.serial_merging.specs.Groups.{Group, Groups}

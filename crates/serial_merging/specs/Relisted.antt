@@ -6,7 +6,7 @@ use Rattle.order.specs.Shuffled.{Shuffled}
 use Rattle.position.specs.Order.{canonical, swapped}
 use Rattle.position.specs.declared.Span.{Span}
 use Rattle.format.specs.Values.{Observation, Boundary}
-use Rattle.topology.specs.Listing.{Item}
+use Rattle.context.specs.Listing.{Item}
 use Rattle.serial_merging.specs.Runs.{Run, Matched, itemsOf}
 
 -- "its ends either way round"

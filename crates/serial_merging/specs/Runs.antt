@@ -9,7 +9,7 @@ use Rattle.position.specs.Order.{canonical}
 use Rattle.position.specs.declared.Span.{Span}
 use Rattle.format.specs.Values.{Boundary}
 use Rattle.format.specs.Encode.{encodeAnswer}
-use Rattle.topology.specs.Listing.{Item, listing}
+use Rattle.context.specs.Listing.{Item, listing}
 use Rattle.serial_merging.specs.Copies.{canon, copiesOf}
 use Rattle.serial_merging.specs.Groups.{Groups, noGroups, allGroups}
 use Rattle.serial_merging.specs.Kept.{kept}

@@ -12,7 +12,7 @@ use Rattle.grid.specs.Cells.{Grid}
 use Rattle.areas.specs.Spans.{spanIn}
 use Rattle.serial_links.specs.Limits.{Limits}
 use Rattle.serial_links.specs.Parallel.{nearbyParallel}
-use Rattle.topology.specs.Listing.{Item}
+use Rattle.context.specs.Listing.{Item}
 use Rattle.serial_groups.specs.Listing.{endsAt}
 use Rattle.serial_groups.specs.Regions.{bridgeAt}
 use Rattle.serial_groups.specs.Links.{LinkAt}

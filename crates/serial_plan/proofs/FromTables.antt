@@ -14,8 +14,8 @@ use Rattle.position.specs.declared.WalkPosition.{WalkPosition}
 use Rattle.grid.specs.Cells.{Grid}
 use Rattle.serial_links.specs.Held.{SpanBounded}
 use Rattle.serial_links.specs.Limits.{Limits}
-use Rattle.topology.specs.FullPair.{fullPair}
-use Rattle.topology.specs.Listing.{Item}
+use Rattle.context.specs.FullPair.{fullPair}
+use Rattle.context.specs.Listing.{Item}
 use Rattle.serial_groups.specs.Regions.{assessAt}
 use Rattle.serial_groups.specs.Links.{LinkAt, links, IsLink}
 use Rattle.serial_groups.specs.Measuring.{passes, staysInside}

@@ -12,7 +12,7 @@ use Rattle.order.proofs.Numbers.{up-mem}
 use Rattle.graph.specs.Parts.{componentOf}
 use Rattle.position.specs.declared.WalkPosition.{WalkPosition}
 use Rattle.grid.specs.Cells.{Grid}
-use Rattle.topology.specs.Listing.{Item}
+use Rattle.context.specs.Listing.{Item}
 use Rattle.serial_links.specs.Limits.{Limits}
 use Rattle.serial_groups.specs.Links.{LinkAt, links}
 use Rattle.serial_groups.specs.Groups.{LinkGroup, linkEdges, isJoined, groupAt}

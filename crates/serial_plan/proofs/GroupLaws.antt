@@ -20,8 +20,8 @@ use Rattle.position.specs.declared.Span.{Span}
 use Rattle.grid.specs.Cells.{Grid}
 use Rattle.areas.specs.Spans.{spanIn}
 use Rattle.areas.specs.Assessments.{RegionPair, regionPair}
-use Rattle.topology.specs.FullPair.{otherRegion}
-use Rattle.topology.specs.Listing.{Item}
+use Rattle.context.specs.FullPair.{otherRegion}
+use Rattle.context.specs.Listing.{Item}
 use Rattle.serial_links.specs.Limits.{Limits}
 use Rattle.serial_links.specs.Geometry.{centreDistance}
 use Rattle.serial_links.specs.Parallel.{nearbyParallel}

@@ -19,7 +19,7 @@ use Rattle.areas.proofs.Areas.{each-label-occurs}
 use Rattle.areas.proofs.Records.{records-iff}
 use Rattle.areas.specs.Words.{word, labelsIn}
 use Rattle.areas.proofs.Words.{label-in}
-use Rattle.topology.specs.Listing.{Item}
+use Rattle.context.specs.Listing.{Item}
 use Rattle.serial_groups.specs.Listing.{noSpan, spansOf}
 use Rattle.serial_groups.specs.Regions.{regionLabels, regionCount}
 use Rattle.serial_groups.specs.Links.{LinkAt, links}

@@ -9,7 +9,7 @@ use lib.ListN.{length, getD}
 use Rattle.order.proofs.Bools.{by-test}
 use Rattle.position.specs.declared.Span.{Span}
 use Rattle.areas.specs.Spans.{spanIn}
-use Rattle.topology.specs.Listing.{Item}
+use Rattle.context.specs.Listing.{Item}
 use Rattle.serial_groups.specs.Listing.{endsAt}
 use Rattle.serial_groups.specs.Tables.{Boundaries}
 use Rattle.serial_measures.specs.Judging.{CoordinatesBounded}

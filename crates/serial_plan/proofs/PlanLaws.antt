@@ -9,7 +9,7 @@ use Rattle.lists.specs.Rows.{at, rows}
 use Rattle.position.specs.declared.WalkPosition.{WalkPosition}
 use Rattle.grid.specs.Cells.{Grid}
 use Rattle.serial_links.specs.Limits.{Limits}
-use Rattle.topology.specs.Listing.{Item}
+use Rattle.context.specs.Listing.{Item}
 use Rattle.serial_groups.specs.Tests.{any}
 use Rattle.serial_groups.specs.Links.{links}
 use Rattle.serial_groups.specs.Groups.{isJoined}

@@ -12,7 +12,7 @@ use Rattle.grid.specs.Cells.{Grid, mapOf}
 use Rattle.areas.specs.Spans.{Sides}
 use Rattle.areas.specs.Words.{labelsIn}
 use Rattle.areas.proofs.Words.{labels-same}
-use Rattle.topology.specs.Listing.{Item}
+use Rattle.context.specs.Listing.{Item}
 use Rattle.serial_groups.specs.Tables.{LinkTable}
 use Rattle.serial_candidates.specs.Gives.{AnchorsOnMap, OwnBounded}
 use Rattle.serial_candidates.specs.Owners.{Stored, OwnersBelow}

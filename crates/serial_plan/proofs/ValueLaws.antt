@@ -15,7 +15,7 @@ use Rattle.order.specs.Sorting.{sort}
 use Rattle.length.specs.Total.{totalLe}
 use Rattle.position.specs.declared.Span.{Span}
 use Rattle.areas.specs.Spans.{spanIn}
-use Rattle.topology.specs.FullPair.{otherRegion}
+use Rattle.context.specs.FullPair.{otherRegion}
 use Rattle.serial_groups.specs.Tests.{every}
 use Rattle.order.proofs.Keep.{keep-length}
 use Rattle.serial_links.specs.Limits.{Limits}

@@ -7,8 +7,8 @@ use Rattle.format.specs.Sizes.{baseSize}
 use Rattle.grid.specs.Cells.{Grid, mapOf}
 use Rattle.areas.specs.Spans.{Sides}
 use Rattle.areas.specs.Words.{labelsIn}
-use Rattle.topology.specs.AnchorLoop.{AnchorsIn}
-use Rattle.topology.specs.Listing.{Item}
+use Rattle.context.specs.AnchorLoop.{AnchorsIn}
+use Rattle.context.specs.Listing.{Item}
 use Rattle.serial_groups.specs.Regions.{regionLabels}
 use Rattle.serial_groups.specs.Tables.{Boundaries, Counted, Paired, Bridged}
 use Rattle.serial_candidates.specs.Owners.{Stored}

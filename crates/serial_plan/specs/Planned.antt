@@ -7,8 +7,8 @@ use Rattle.position.specs.declared.WalkPosition.{WalkPosition}
 use Rattle.format.specs.Decode.{baseOf, baseRecords}
 use Rattle.grid.specs.Cells.{Grid}
 use Rattle.serial_links.specs.Limits.{Limits}
-use Rattle.topology.specs.Anchors.{anchorsOf}
-use Rattle.topology.specs.Listing.{Item}
+use Rattle.context.specs.Anchors.{anchorsOf}
+use Rattle.context.specs.Listing.{Item}
 use Rattle.serial_groups.specs.Plan.{mergePlan}
 use Rattle.serial_groups.specs.Tables.{LinkTable}
 use Rattle.serial_plan.specs.Arrays.{LinkRanks}

@@ -13,7 +13,7 @@ use Rattle.order.specs.Sorting.{sort}
 use Rattle.length.specs.Floats.{_⊕_}
 use Rattle.length.specs.Total.{totalLe}
 use Rattle.areas.specs.Spans.{spanIn}
-use Rattle.topology.specs.FullPair.{otherRegion}
+use Rattle.context.specs.FullPair.{otherRegion}
 use Rattle.serial_links.specs.Limits.{Limits}
 use Rattle.serial_links.specs.Geometry.{squares, centreDistance}
 use Rattle.serial_links.specs.Parallel.{nearbyParallel}

@@ -9,8 +9,8 @@ use Rattle.areas.specs.Assessments.{regionPair}
 use Rattle.lists.specs.Rows.{at}
 use Rattle.grid.specs.Cells.{Grid}
 use Rattle.areas.specs.Spans.{spanIn}
-use Rattle.topology.specs.FullPair.{fullPair}
-use Rattle.topology.specs.Listing.{Item}
+use Rattle.context.specs.FullPair.{fullPair}
+use Rattle.context.specs.Listing.{Item}
 use Rattle.serial_links.specs.Limits.{Limits}
 use Rattle.serial_links.specs.Geometry.{squares, centreDistance}
 use Rattle.serial_groups.specs.Tests.{every}

@@ -14,7 +14,7 @@ ghost use Rattle.serial_plan.specs.Fitting.{Slots};
 use crate::few::Few;
 use serial_links::limits::GroupSize;
 use serial_links::limits::Limits;
-use topology::pairs::other_region;
+use context::pairs::other_region;
 use wire::size;
 
 fn joins(first: u32, second: u32, i: u32) -> bool

@@ -1,7 +1,7 @@
 use Prim.Native.Nat.{_/_, _%_}
 use Rattle.serial_links.specs.HeldLimits.{limitsOf}
 use Rattle.serial_links.specs.HeldLink.{linkWithCell}
-use Rattle.topology.proofs.CountLoop.{left-out, put-in}
+use Rattle.context.proofs.CountLoop.{left-out, put-in}
 use borrow.Author.Needs.{needs}
 use Rattle.serial_measures.proofs.few.counted.Statement.{statement}
 use Rattle.serial_measures.proofs.few.counted.Tie as tie
