@@ -21,7 +21,7 @@ use Rattle.serial_merging.specs.Kept.{noBoundary}
 use Rattle.serial_merging.specs.Planned.{planned}
 use Rattle.serial_merging.proofs.Copies.{copies-length}
 use Rattle.serial_merging.proofs.Planned.{planned-ext}
-use Rattle.answer.specs.Gathered.{PlacesOrder}
+use Rattle.answer_sources.specs.Gathered.{PlacesOrder}
 use Rattle.checks.specs.Checks.{Check, firstRefusal}
 use Rattle.results.specs.Rules.{gridOf, listingOf}
 use Rattle.results.specs.Results.{workSize, answerOf, reduced, leftBy}

@@ -14,7 +14,7 @@ use Rattle.grid.proofs.Directions.{directions-eight, eight-closed}
 use Rattle.serial_links.specs.Limits.{Limits, limits000}
 use Rattle.serial_links.specs.HeldLimits.{limitsOf}
 use Rattle.serial_links.specs.declared.limits.Limits.{Limits as LimitsHeld}
-use Rattle.answer.specs.Gathered.{PlacesOrder}
+use Rattle.answer_sources.specs.Gathered.{PlacesOrder}
 use Rattle.checks.specs.Checks.{Check, firstRefusal}
 use Rattle.job.specs.Refusals.{jobChecks, reduceChecks, byListChecks}
 use Rattle.results.specs.Results.{ownEnds, reduced, reduceWith, reduceByListWith, leftBy}

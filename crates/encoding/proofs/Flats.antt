@@ -7,7 +7,7 @@ use lib.ListN.{length, getD, take, drop, length-append}
 use lib.Seq.{take-suc, take-length, take-append-seam, drop-append-add, getD-take, getD-drop}
 use Rattle.lists.specs.Rows.{rows, sum}
 use Rattle.lists.proofs.Flat.{flatMap-append}
-use Rattle.answer.specs.Laying.{sumBelow}
+use Rattle.answer_sources.specs.Laying.{sumBelow}
 use Rattle.encoding.specs.Pieces.{pieces}
 
 flat-one : {A B : Type 0} (f : A → List B) (x : A) → flatMap f (x ∷ []) ≡ f x

@@ -27,11 +27,11 @@ use Rattle.format.proofs.Distribution.{observed, own-and-observed}
 use Rattle.serial_merging.specs.Kept.{noBoundary}
 use Rattle.serial_merging.specs.Sources.{ownSources}
 use Rattle.serial_merging.proofs.Lists.{flat-gather}
-use Rattle.answer.specs.Laying.{sumBelow}
-use Rattle.answer.specs.Packed.{sourcePack, packed}
+use Rattle.answer_sources.specs.Laying.{sumBelow}
+use Rattle.answer_sources.specs.Packed.{sourcePack, packed}
 use Rattle.format.specs.Records.{observationWords}
-use Rattle.answer.specs.Placed.{HoldsObservation}
-use Rattle.answer.specs.Gathered.{noObservation, Gathered}
+use Rattle.answer_sources.specs.Placed.{HoldsObservation}
+use Rattle.answer_sources.specs.Gathered.{noObservation, Gathered}
 use Rattle.encoding.specs.Pieces.{pieces, keySource, keySpan, keyBits, keptRecord, keptPiece, keyPiece, runFrom, runLength, placeRun, placePiece}
 use Rattle.encoding.specs.Pieces.{runsFrom, elements, groupPiece, citedTotal, writtenBytes}
 use Rattle.encoding.proofs.Flats.{pieces-flat, flat-flat, below-sum, flat-part, flat-at, flat-within}

@@ -27,12 +27,12 @@ use Rattle.job.proofs.Passing.{job-passed}
 use Rattle.job.proofs.Formed.{job-formed}
 use Rattle.serial_merging.specs.Copies.{canon}
 use Rattle.serial_merging.specs.Kept.{noBoundary}
-use Rattle.answer.specs.Laying.{sumBelow, ownCount, seenCount, citedCount}
-use Rattle.answer.specs.Placed.{boundaryOf, boundaryRows, observationRows, JobPlaces}
+use Rattle.answer_sources.specs.Laying.{sumBelow, ownCount, seenCount, citedCount}
+use Rattle.answer_sources.specs.Placed.{boundaryOf, boundaryRows, observationRows, JobPlaces}
 use Rattle.serial_merging.specs.Planned.{planned}
-use Rattle.answer.specs.Gathered.{PlacesOrder, copiesBy, keptBy}
+use Rattle.answer_sources.specs.Gathered.{PlacesOrder, copiesBy, keptBy}
 use Rattle.encoding.specs.Answered.{keptOf}
-use Rattle.answer.proofs.Decoded.{decoded}
+use Rattle.answer_sources.proofs.Decoded.{decoded}
 
 -- Of counts that add up.
 module _ (s : List ℕ) (c : Counts) (f : FormedWith c s) (w : CountsAllowed c) where

@@ -8,11 +8,11 @@ use Rattle.wire.specs.Bytes.{splice}
 use Rattle.format.specs.Records.{sourceBytes, boundaryBytes, observationBytes, boundaryAt}
 use Rattle.format.specs.declared.records.BoundaryRecord.{BoundaryRecord}
 use Rattle.format.proofs.RecordTrips.{source-trip, boundary-trip, observation-trip}
-use Rattle.answer.specs.Laying.{sumBelow}
-use Rattle.answer.specs.Placed.{boundaryRows}
+use Rattle.answer_sources.specs.Laying.{sumBelow}
+use Rattle.answer_sources.specs.Placed.{boundaryRows}
 use Rattle.format.specs.Records.{observationWords}
 use Rattle.position.specs.declared.Span.{Span}
-use Rattle.answer.proofs.Lays.{below-next}
+use Rattle.answer_sources.proofs.Lays.{below-next}
 use Rattle.lists.specs.Rows.{sum, rows}
 use Rattle.lists.proofs.Rows.{sum-prefix}
 use Rattle.encoding.specs.Pieces.{pieces, keySource, keySpan, keyBits, keptRecord, keptPiece, keyPiece, runFrom, runLength, placeRun, placePiece}

@@ -8,9 +8,9 @@ use Rattle.format.specs.Encode.{encodeAnswer}
 use Rattle.format.specs.Values.{Boundary}
 use Rattle.format.specs.declared.records.Source.{Source}
 use Rattle.format.specs.declared.records.ObservationRecord.{ObservationRecord}
-use Rattle.answer.specs.Placed.{PlaceRoom, PlacedInside, JobPlaces, boundaryRows}
-use Rattle.answer.specs.Gathered.{PlacesOrder}
-use Rattle.answer.proofs.Layouts.{apart-none}
+use Rattle.answer_sources.specs.Placed.{PlaceRoom, PlacedInside, JobPlaces, boundaryRows}
+use Rattle.answer_sources.specs.Gathered.{PlacesOrder}
+use Rattle.answer_sources.proofs.Layouts.{apart-none}
 use Rattle.gathering.specs.Room.{GatherRoom}
 use Rattle.encoding.specs.Answered.{Answered, WorkRoom}
 

@@ -11,9 +11,9 @@ use Rattle.format.specs.Records.{sourceBytes}
 use Rattle.format.specs.Encode.{answerWords, encodeAnswer, observationsOf, sourcesOf}
 use Rattle.format.proofs.RecordTrips.{source-trip}
 use Rattle.format.proofs.AnswerTrip.{length-encodeAnswer, header-length}
-use Rattle.answer.specs.Laying.{sumBelow}
-use Rattle.answer.specs.Placed.{boundaryRows}
-use Rattle.answer.specs.Gathered.{Gathered}
+use Rattle.answer_sources.specs.Laying.{sumBelow}
+use Rattle.answer_sources.specs.Placed.{boundaryRows}
+use Rattle.answer_sources.specs.Gathered.{Gathered}
 use Rattle.encoding.specs.Pieces.{pieces, keptPiece, placePiece, elements, groupPiece, citedTotal, writtenBytes}
 use Rattle.encoding.specs.Answered.{Answered, Writable}
 use Rattle.encoding.proofs.Loops.{kept-long, places-long}

@@ -8,8 +8,8 @@ use Rattle.wire.specs.Bytes.{splice}
 use Rattle.format.specs.Sizes.{boundarySize}
 use Rattle.format.specs.Values.{Boundary}
 use Rattle.order.specs.Lists.{upFrom}
-use Rattle.answer.specs.Laying.{sumBelow, Apart}
-use Rattle.answer.specs.Ranked.{RankRoom}
+use Rattle.answer_sources.specs.Laying.{sumBelow, Apart}
+use Rattle.answer_sources.specs.Ranked.{RankRoom}
 use Rattle.format.specs.Header.{countsAt, headerAt}
 use Rattle.format.specs.Decode.{decode}
 use Rattle.serial_merging.specs.Copies.{canon}
@@ -21,8 +21,8 @@ use Rattle.format.specs.declared.records.Source.{Source}
 use Rattle.format.specs.declared.records.ObservationRecord.{ObservationRecord}
 use Rattle.checks.specs.Checks.{firstRefusal}
 use Rattle.job.specs.Refusals.{jobChecks}
-use Rattle.answer.specs.Placed.{CopiesPlaced, boundaryRows}
-use Rattle.answer.specs.Gathered.{PlacesOrder, Gathered}
+use Rattle.answer_sources.specs.Placed.{CopiesPlaced, boundaryRows}
+use Rattle.answer_sources.specs.Gathered.{PlacesOrder, Gathered}
 use Rattle.encoding.specs.Pieces.{pieces, elements, groupPiece}
 
 -- The length of the bytes is returned; they stand first if they fit, else nothing is written.

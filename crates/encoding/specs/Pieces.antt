@@ -13,8 +13,8 @@ use Rattle.format.specs.Decode.{rampOf}
 use Rattle.format.specs.Encode.{rampRecord, answerWords}
 use Rattle.format.specs.declared.records.Source.{Source}
 use Rattle.format.specs.declared.records.BoundaryRecord.{BoundaryRecord}
-use Rattle.answer.specs.Laying.{sumBelow}
-use Rattle.answer.specs.Squeezed.{partOf}
+use Rattle.answer_sources.specs.Laying.{sumBelow}
+use Rattle.answer_sources.specs.Squeezed.{partOf}
 use Rattle.format.specs.Records.{observationWords}
 
 -- n pieces, one after another.

@@ -11,11 +11,11 @@ ghost use Rattle.format.specs.declared.records.ObservationRecord.{ObservationRe
 ghost use Rattle.serial_merging.specs.Copies.{canon};
 ghost use Rattle.serial_merging.specs.Kept.{noBoundary};
 ghost use Rattle.serial_merging.specs.Planned.{planned};
-ghost use Rattle.answer.specs.Placed.{CopiesPlaced, boundaryRows};
-ghost use Rattle.answer.specs.Gathered.{keptBy};
+ghost use Rattle.answer_sources.specs.Placed.{CopiesPlaced, boundaryRows};
+ghost use Rattle.answer_sources.specs.Gathered.{keptBy};
 ghost use Rattle.encoding.specs.Answered.{Answered, Placeable, WorkRoom, Answerable, keptOf};
 use crate::whole::write_kept;
-use answer::placing::place_all;
+use answer_sources::placing::place_all;
 use format::Header;
 use format::MAX_BOUNDARIES;
 use format::MAX_OBSERVATIONS;

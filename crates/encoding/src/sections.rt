@@ -4,7 +4,7 @@ ghost use Prim.Native.Nat.{_+_, _*_, _≤_};
 ghost use lib.ListN.{length, getD};
 ghost use Rattle.wire.specs.Bytes.{splice};
 ghost use Rattle.format.specs.Sizes.{observationSize};
-ghost use Rattle.answer.specs.Placed.{boundaryRows};
+ghost use Rattle.answer_sources.specs.Placed.{boundaryRows};
 ghost use Rattle.encoding.specs.Pieces.{pieces, keptPiece, placePiece, groupPiece};
 ghost use Rattle.encoding.specs.Answered.{BoundaryRoom, SourceRoom};
 use crate::reads::index;

@@ -2,7 +2,7 @@
 ghost use mathlib.Core.Path.{_≡_};
 ghost use Prim.Native.Nat.{_*_, _≤_};
 ghost use lib.ListN.{length};
-ghost use Rattle.answer.specs.Laying.{sumBelow};
+ghost use Rattle.answer_sources.specs.Laying.{sumBelow};
 ghost use Rattle.encoding.specs.Pieces.{elements, citedTotal};
 use crate::reads::index;
 use crate::runs::run_length;

@@ -22,12 +22,12 @@ use Rattle.format.specs.declared.records.ObservationRecord.{ObservationRecord}
 use Rattle.serial_merging.specs.Kept.{noBoundary}
 use Rattle.serial_merging.specs.Planned.{merged}
 use Rattle.serial_merging.specs.Sources.{ownSources}
-use Rattle.answer.specs.Packed.{packed, sourcePack}
-use Rattle.answer.specs.Laying.{sumBelow}
-use Rattle.answer.specs.Placed.{CopiesPlaced, seenOf}
-use Rattle.answer.specs.Gathered.{copiesBy, keptBy, PlacesStand, Gathered}
-use Rattle.answer.proofs.Merged.{packed-append, kept-list, kept-at, merged-ends, merged-bits, merged-ramp, merged-fits, merged-own, merged-seen, stands-none}
-use Rattle.answer.proofs.Merged.{stands-append}
+use Rattle.answer_sources.specs.Packed.{packed, sourcePack}
+use Rattle.answer_sources.specs.Laying.{sumBelow}
+use Rattle.answer_sources.specs.Placed.{CopiesPlaced, seenOf}
+use Rattle.answer_sources.specs.Gathered.{copiesBy, keptBy, PlacesStand, Gathered}
+use Rattle.answer_sources.proofs.Merged.{packed-append, kept-list, kept-at, merged-ends, merged-bits, merged-ramp, merged-fits, merged-own, merged-seen, stands-none}
+use Rattle.answer_sources.proofs.Merged.{stands-append}
 use Rattle.gathering.specs.Runs.{Prefix, keptRanks, going, ownRun, seenRun, ownWeight, seenWeight, OwnsBy, SeensBy}
 use Rattle.gathering.proofs.Weights.{lower-all}
 

@@ -16,8 +16,8 @@ use Rattle.order.proofs.Keep.{keep-append}
 use Rattle.order.specs.Sorting.{sortOnce}
 use Rattle.sorting.specs.Between.{between, Front}
 use Rattle.serial_merging.specs.Planned.{members}
-use Rattle.answer.specs.Laying.{sumBelow}
-use Rattle.answer.proofs.Lays.{below-next}
+use Rattle.answer_sources.specs.Laying.{sumBelow}
+use Rattle.answer_sources.proofs.Lays.{below-next}
 use Rattle.gathering.specs.Runs.{Appended, going, ownAt, ownRun, ownWeight, into}
 use Rattle.gathering.specs.Room.{OwnRoom}
 use Rattle.gathering.proofs.Fills.{up-next, added-none, added-is, added-then, added-once}

@@ -8,7 +8,7 @@ use borrow.Author.Tests.{eq-eqb, ne-eqb}
 use lib.Dec.{eqb}
 use lib.ListN.{length, getD, set}
 use Rattle.order.specs.Lists.{keep, gather, upFrom}
-use Rattle.answer.specs.Laying.{sumBelow}
+use Rattle.answer_sources.specs.Laying.{sumBelow}
 use Rattle.gathering.specs.Runs.{Prefix, Appended, keptRanks, ownRun, seenRun, ownWeight, seenWeight, into, OwnsBy, SeensBy, gatheredTotal, seenTotal}
 use Rattle.gathering.proofs.Fills.{filled-start, filled-is, filled-put, filled-then}
 use Rattle.gathering.proofs.Goings.{keep-last}

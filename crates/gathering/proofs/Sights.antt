@@ -13,8 +13,8 @@ use Rattle.order.specs.Sorting.{sort}
 use Rattle.order.proofs.Numbers.{up-length}
 use Rattle.sorting.specs.Between.{between}
 use Rattle.places.specs.Orders.{byRun}
-use Rattle.answer.specs.Laying.{seenCount}
-use Rattle.answer.specs.Gathered.{placesFrom}
+use Rattle.answer_sources.specs.Laying.{seenCount}
+use Rattle.answer_sources.specs.Gathered.{placesFrom}
 use Rattle.gathering.specs.Runs.{Appended, going, placesAt, seenRun, seenWeight, into}
 use Rattle.gathering.specs.Room.{SeenRoom}
 use Rattle.gathering.proofs.Fills.{added-none, added-is, added-sorted}

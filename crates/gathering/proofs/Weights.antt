@@ -15,9 +15,9 @@ use Rattle.order.specs.Lists.{upFrom}
 use Rattle.order.proofs.Bools.{by-test}
 use Rattle.order.proofs.Members.{perm-mem, getD-mem}
 use Rattle.order.proofs.Numbers.{up-mem, map-up-at, up-length}
-use Rattle.answer.specs.Laying.{sumBelow, seenCount}
-use Rattle.answer.specs.Gathered.{PlacesOrder}
-use Rattle.answer.proofs.Layouts.{below-none}
+use Rattle.answer_sources.specs.Laying.{sumBelow, seenCount}
+use Rattle.answer_sources.specs.Gathered.{PlacesOrder}
+use Rattle.answer_sources.proofs.Layouts.{below-none}
 use Rattle.gathering.specs.Runs.{into, lower, ownWeight, seenWeight}
 use Rattle.gathering.specs.Room.{OwnsRoom, SeensRoom, GatherRoom}
 

@@ -3,8 +3,8 @@ use Prim.Native.Nat.{ℕ, _+_, _*_, _≤_, _<_}
 use mathlib.Core.List.{List}
 use lib.ListN.{length, getD}
 use Rattle.format.specs.Sizes.{boundarySize}
-use Rattle.answer.specs.Laying.{sumBelow, seenCount}
-use Rattle.answer.specs.Gathered.{PlacesOrder}
+use Rattle.answer_sources.specs.Laying.{sumBelow, seenCount}
+use Rattle.answer_sources.specs.Gathered.{PlacesOrder}
 use Rattle.gathering.specs.Runs.{ownWeight, seenWeight}
 
 -- Each rank's own sources are in `keys`.

@@ -9,9 +9,9 @@ use Rattle.order.specs.Lists.{keep, gather, upFrom}
 use Rattle.order.specs.Sorting.{sort, sortOnce}
 use Rattle.places.specs.Orders.{byRun}
 use Rattle.serial_merging.specs.Planned.{members}
-use Rattle.answer.specs.Laying.{sumBelow}
-use Rattle.answer.specs.Squeezed.{partOf}
-use Rattle.answer.specs.Gathered.{placesFrom}
+use Rattle.answer_sources.specs.Laying.{sumBelow}
+use Rattle.answer_sources.specs.Squeezed.{partOf}
+use Rattle.answer_sources.specs.Gathered.{placesFrom}
 
 -- The first n elements of l are xs.
 pub record Prefix (l : List ℕ) (n : ℕ) (xs : List ℕ) : Type 0 where

@@ -5,7 +5,7 @@ ghost use Prim.Native.Nat.{_+_, _≤_, _<_};
 ghost use lib.Dec.{eqb};
 ghost use lib.ListN.{length, getD};
 ghost use Rattle.order.specs.Lists.{gather};
-ghost use Rattle.answer.specs.Laying.{sumBelow};
+ghost use Rattle.answer_sources.specs.Laying.{sumBelow};
 ghost use Rattle.gathering.specs.Runs.{Appended, going, ownAt, ownRun, ownWeight, into, OwnsBy, gatheredTotal};
 ghost use Rattle.gathering.specs.Room.{OwnRoom, OwnsRoom};
 use crate::casts::counted;

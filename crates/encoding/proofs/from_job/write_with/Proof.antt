@@ -1,6 +1,6 @@
 use Rattle.encoding.proofs.Jobs.{Words, words-read, job-places, kept-is}
 use Rattle.encoding.proofs.Rooms.{place-room, gather-room, work-same, answered-same}
-use Rattle.answer.specs.Gathered.{PlacesOrder}
+use Rattle.answer_sources.specs.Gathered.{PlacesOrder}
 use Prim.Native.Nat.{ℕ}
 use mathlib.Core.Path.{sym, subst}
 use native.Mathlib.Omega.{arith}

@@ -1,5 +1,5 @@
 use Rattle.encoding.proofs.Loops.{Writes, writes-start, writes-next, writes-end, kept-is, kept-long}
-use Rattle.answer.specs.Placed.{boundaryRows}
+use Rattle.answer_sources.specs.Placed.{boundaryRows}
 use Rattle.encoding.specs.Pieces.{keptPiece}
 use Prim.Native.Nat.{_+_, _-_, _≤_}
 use native.Mathlib.Omega.{arith}

@@ -1,6 +1,6 @@
 use Rattle.gathering.proofs.Goings.{runs-start, runs-next, weight-next, runs-end, own-long, into-part}
 use Rattle.order.specs.Lists.{gather}
-use Rattle.answer.specs.Laying.{sumBelow}
+use Rattle.answer_sources.specs.Laying.{sumBelow}
 use Rattle.gathering.specs.Runs.{Appended, going, ownAt, ownWeight, into}
 use Prim.Native.Nat.{_+_, _-_, _≤_}
 use native.Mathlib.Omega.{arith}

@@ -1,4 +1,4 @@
-use Rattle.answer.specs.Laying.{seenCount}
+use Rattle.answer_sources.specs.Laying.{seenCount}
 use mathlib.Core.Path.{sym, _∙_, ap}
 use native.Mathlib.Omega.{arith}
 use lib.ListN.{length}

@@ -1,6 +1,6 @@
 use Rattle.gathering.proofs.Sights.{places-long}
 use Rattle.order.specs.Lists.{gather}
-use Rattle.answer.specs.Laying.{sumBelow, seenCount}
+use Rattle.answer_sources.specs.Laying.{sumBelow, seenCount}
 use Rattle.gathering.specs.Runs.{Appended, going, placesAt, seenWeight, into}
 use Rattle.gathering.proofs.Goings.{runs-start, runs-next, weight-next, runs-end, into-part}
 use Prim.Native.Nat.{_+_, _-_, _≤_}

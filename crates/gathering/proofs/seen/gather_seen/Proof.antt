@@ -1,5 +1,5 @@
 use native.Mathlib.Omega.{arith}
-use Rattle.answer.specs.Laying.{seenCount}
+use Rattle.answer_sources.specs.Laying.{seenCount}
 use Rattle.gathering.proofs.Sights.{seen-gathered}
 use borrow.Author.Needs.{needs}
 use Rattle.gathering.proofs.seen.gather_seen.Statement.{statement}

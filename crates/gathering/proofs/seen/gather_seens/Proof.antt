@@ -3,7 +3,7 @@ use Prim.Native.Nat.{_-_, _≤_}
 use native.Mathlib.Omega.{arith}
 use borrow.Author.Needs.{needs}
 use lib.ListN.{length}
-use Rattle.answer.specs.Laying.{seenCount}
+use Rattle.answer_sources.specs.Laying.{seenCount}
 use Rattle.gathering.specs.Runs.{SeensBy}
 use Rattle.gathering.proofs.Weights.{seens-room-same}
 use Rattle.gathering.proofs.Kepts.{seens-start, seens-counted, seens-end}
