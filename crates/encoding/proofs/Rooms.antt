@@ -11,7 +11,7 @@ use Rattle.format.specs.declared.records.ObservationRecord.{ObservationRecord}
 use Rattle.answer_sources.specs.Placed.{PlaceRoom, PlacedInside, JobPlaces, boundaryRows}
 use Rattle.answer_sources.specs.Gathered.{PlacesOrder}
 use Rattle.answer_sources.proofs.Layouts.{apart-none}
-use Rattle.gathering.specs.Room.{GatherRoom}
+use Rattle.answer_gathering.specs.Room.{GatherRoom}
 use Rattle.encoding.specs.Answered.{Answered, WorkRoom}
 
 -- New arrays, of a numbers and of b.

@@ -15,7 +15,7 @@ use Rattle.format.specs.Decode.{decode}
 use Rattle.serial_merging.specs.Copies.{canon}
 use Rattle.serial_merging.specs.Kept.{noBoundary}
 use Rattle.serial_merging.specs.Planned.{planned}
-use Rattle.gathering.specs.Room.{GatherRoom}
+use Rattle.answer_gathering.specs.Room.{GatherRoom}
 use Rattle.format.specs.declared.header.Header.{Header}
 use Rattle.format.specs.declared.records.Source.{Source}
 use Rattle.format.specs.declared.records.ObservationRecord.{ObservationRecord}

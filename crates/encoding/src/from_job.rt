@@ -20,7 +20,7 @@ use format::Header;
 use format::MAX_BOUNDARIES;
 use format::MAX_OBSERVATIONS;
 use format::MAX_SOURCES;
-use gathering::kept::gather_kept;
+use answer_gathering::kept::gather_kept;
 use wire::size;
 
 // The most sources of a small job, and the most places: boundaries and observations together.

@@ -1,0 +1,80 @@
+use Rattle.answer_sources.specs.Laying.{seenCount}
+use mathlib.Core.Path.{sym, _∙_, ap}
+use native.Mathlib.Omega.{arith}
+use lib.ListN.{length}
+use Rattle.format.specs.declared.records.BoundaryRecord.{BoundaryRecord}
+use Rattle.answer_gathering.proofs.Goings.{elsewhere, there}
+use Rattle.answer_gathering.proofs.Sights.{own-place, place-small, places-inside, seen-room, places-there}
+use borrow.Author.Needs.{needs}
+use Rattle.answer_gathering.proofs.seen.add_seen.Statement.{statement}
+use Rattle.answer_gathering.proofs.seen.add_seen.Tie as tie
+
+-- earlier places, each found by what it is
+abbrev start-of : tie.After-size → tie.Start
+start-of c = search
+
+returns : tie.Need-returns
+returns c = elsewhere _ _ _ (c .before .size .ensures .0) (c .if1 .taken)
+
+read-boundary-requires : tie.Need-read-boundary-requires
+read-boundary-requires c κs =
+    let start : tie.Start = search in
+    omega (arith, start .pre .0 .records-in, place-small (start .pre .0) (start .pre .1) (c .size2 .ensures .0))
+
+shared-slice-read-size : tie.Need-shared-slice-read-size
+shared-slice-read-size c =
+    let start : tie.Start = search in
+    omega (arith, start .pre .0 .firsts-room, start .pre .0 .few, place-small (start .pre .0) (start .pre .1) (c .before .before .size2 .ensures .0))
+
+add-places-requires : tie.Need-add-places-requires
+add-places-requires c κs =
+    let after-read-boundary : tie.After-read-boundary = search in
+    let after-size2 = after-read-boundary .before in
+    let goes = after-size2 .before .before in
+    let after-size = goes .before in
+    let start = start-of after-size in (
+      own-place (start .pre .0) (start .pre .1) (after-size2 .size2 .ensures .0),
+      places-inside (start .pre .0) (start .pre .1) (after-size2 .size2 .ensures .0) (c .before .before .size3 .ensures .0)
+          (c .before .size4 .ensures .0 ∙ ap (λ (r : BoundaryRecord). r .observations) (after-read-boundary .read-boundary .ensures)),
+      seen-room (start .pre .0) (start .pre .1) (after-size2 .size2 .ensures .0) (start .args .plan .now) (start .args .to)
+          (length (start .args .seen .now)) (c .before .size4 .result)
+          (c .before .size4 .ensures .0 ∙ ap (λ (r : BoundaryRecord). r .observations) (after-read-boundary .read-boundary .ensures))
+          (after-size .size .ensures .0) (goes .if1 .left) (start .pre .2),
+    )
+
+returns-2 : tie.Need-returns-2
+returns-2 c =
+    let after-size4 : tie.After-size4 = search in
+    let after-size3 = after-size4 .before in
+    let after-read-boundary = after-size3 .before .before in
+    let after-size2 = after-read-boundary .before in
+    let goes = after-size2 .before .before in
+    let after-size = goes .before in
+    let start = start-of after-size in
+    there (after-size .size .ensures .0) (goes .if1 .left)
+    (places-there (start .pre .0) (start .pre .1) (after-size2 .size2 .ensures .0) (start .args .among)
+    (c .before .before .add-places .ensures (start .args .firsts .now) (seenCount (start .args .job .now) (start .args .at))
+    (sym (after-size3 .size3 .ensures .0))
+    (sym (after-size4 .size4 .ensures .0 ∙ ap (λ (r : BoundaryRecord). r .observations) (after-read-boundary .read-boundary .ensures)))))
+
+pub add-seen-spec : {M : Type 1} → statement M
+add-seen-spec =
+    tie.close
+    (tie.spec
+    (λ c. search needs)
+    (λ c. search needs)
+    (λ c κs. search needs)
+    returns
+    (λ c. search needs)
+    (λ c. search needs)
+    (λ c κs. search needs)
+    (λ c. search needs)
+    (λ c. search needs)
+    read-boundary-requires
+    (λ c. search needs)
+    shared-slice-read-size
+    (λ c κs. search needs)
+    (λ c κs. search needs)
+    add-places-requires
+    (λ c. search needs)
+    returns-2)
