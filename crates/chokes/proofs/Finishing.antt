@@ -20,7 +20,7 @@ use Rattle.job.specs.Refusals.{jobChecks, reduceChecks, byListChecks}
 use Rattle.results.specs.Results.{ownEnds, reduced, reduceWith, reduceByListWith, leftBy}
 use Rattle.results.specs.Calls.{reduceResult, reduceByListResult}
 use Rattle.analysis.specs.Plans.{Leads, RankedBy, Made, PlanLeft, answerBytes, Finished}
-use Rattle.encoding.specs.Answered.{Answerable, Answered}
+use Rattle.answer_encoding.specs.Answered.{Answerable, Answered}
 use Rattle.results.proofs.Own.{boundary-count}
 use Rattle.analysis.proofs.Leaving.{bytesBy, ordered, left-finished}
 

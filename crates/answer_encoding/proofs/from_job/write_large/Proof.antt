@@ -1,0 +1,30 @@
+use Rattle.answer_encoding.proofs.Jobs.{counts-allowed}
+use Rattle.answer_encoding.proofs.Rooms.{work-room}
+use native.Mathlib.Omega.{arith}
+use borrow.Author.Needs.{needs}
+use Rattle.answer_encoding.proofs.from_job.write_large.Statement.{statement}
+use Rattle.answer_encoding.proofs.from_job.write_large.Tie as tie
+
+write-with-requires : tie.Need-write-with-requires
+write-with-requires c κs =
+    let start : tie.Start = search in
+    let w = counts-allowed (start .args .job .now) (start .pre .passed) (start .args .h) (start .pre .header) in
+    (start .pre, work-room 4096 1280 (omega (arith, w .sources)) (omega arith) (omega (arith, w .boundaries, w .observations)))
+
+pub write-large-spec : {M : Type 1} → statement M
+write-large-spec =
+    tie.close
+    (tie.spec
+    (λ c. search needs)
+    (λ c. search needs)
+    (λ c. search needs)
+    (λ c. search needs)
+    (λ c. search needs)
+    (λ c. search needs)
+    (λ c. search needs)
+    (λ c. search needs)
+    (λ c. search needs)
+    (λ c. search needs)
+    write-with-requires
+    (λ c. search needs)
+    (λ c. search needs))
