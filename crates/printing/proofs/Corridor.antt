@@ -9,10 +9,10 @@ use lib.Dec.{ltb}
 use lib.ListN.{length}
 use Rattle.wire.specs.Bytes.{words, part, number, bytes, numberAt}
 use Rattle.format.specs.Decode.{decodeAnswer}
-use Rattle.listing.specs.Lines.{answerLines}
-use Rattle.listing.specs.Answer.{answerText, answerWhole}
-use Rattle.listing.specs.Corridor.{corridorBytes, corridorText}
-use Rattle.listing.proofs.Cases.{corridor-listing}
+use Rattle.answer_text.specs.Lines.{answerLines}
+use Rattle.answer_text.specs.Answer.{answerText, answerWhole}
+use Rattle.answer_text.specs.Corridor.{corridorBytes, corridorText}
+use Rattle.answer_text.proofs.Cases.{corridor-listing}
 use Rattle.results.specs.Cases.{upright, corridorObservation, corridor, corridorAnswer}
 use Rattle.results.specs.Calls.{reduceResult}
 use Rattle.results.proofs.Cases.{corridor-case}

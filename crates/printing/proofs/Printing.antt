@@ -11,9 +11,9 @@ use Rattle.format.specs.Values.{Boundary}
 use Rattle.format.specs.Decode.{decodeAnswer}
 use Rattle.format.specs.Encode.{observationsOf, sourcesOf, answerWords, encodeAnswer}
 use Rattle.format.proofs.AnswerTrip.{length-encodeAnswer}
-use Rattle.listing.specs.Lines.{answerLines, refusedLine}
-use Rattle.listing.specs.Answer.{Writes, answerLength, answerText}
-use Rattle.listing.proofs.Sizing.{is-whole}
+use Rattle.answer_text.specs.Lines.{answerLines, refusedLine}
+use Rattle.answer_text.specs.Answer.{Writes, answerLength, answerText}
+use Rattle.answer_text.proofs.Sizing.{is-whole}
 use Rattle.results.specs.Results.{Outcome, leftBy}
 use Rattle.results.specs.Calls.{reduceResult}
 use Rattle.printing.specs.Printed.{printed}

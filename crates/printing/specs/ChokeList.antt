@@ -5,8 +5,8 @@ use mathlib.Core.Bool.{cond}
 use mathlib.Core.List.{List, [], _∷_, _++_}
 use lib.Dec.{ltb}
 use lib.ListN.{length, take, replicate}
-use Rattle.listing.specs.Lines.{newline}
-use Rattle.listing.specs.Answer.{Writes}
+use Rattle.answer_text.specs.Lines.{newline}
+use Rattle.answer_text.specs.Answer.{Writes}
 use Rattle.results.specs.Calls.{reduceResult}
 use Rattle.printing.specs.Printed.{printed}
 

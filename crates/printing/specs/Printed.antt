@@ -5,7 +5,7 @@ use mathlib.Core.List.{List}
 use lib.Dec.{eqb}
 use lib.ListN.{take}
 use Rattle.format.specs.Decode.{decodeAnswer}
-use Rattle.listing.specs.Lines.{answerLines, refusedLine}
+use Rattle.answer_text.specs.Lines.{answerLines, refusedLine}
 use Rattle.results.specs.Results.{Outcome}
 
 -- "a refusal prints `refused`, number, detail on one line"; else "kept: the number of boundaries. Then for each …", of the answer, whose length is the detail.

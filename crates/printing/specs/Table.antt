@@ -3,7 +3,7 @@ use mathlib.Core.Path.{_≡_}
 use Rattle.length.specs.Cases.{LengthCase}
 use Rattle.areas.specs.Cases.{CutCases}
 use Rattle.graph.specs.Cases.{BridgeCases}
-use Rattle.listing.specs.Corridor.{corridorText}
+use Rattle.answer_text.specs.Corridor.{corridorText}
 use Rattle.results.specs.Cases.{corridor, NegativeZeroCase, CountCase, OneCellCase, CorridorCase}
 use Rattle.printing.specs.ChokeList.{chokeList}
 

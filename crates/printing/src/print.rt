@@ -3,11 +3,11 @@ ghost use mathlib.Core.Path.{_≡_};
 ghost use Prim.Native.Nat.{_*_, _≤_};
 ghost use lib.ListN.{length};
 ghost use Rattle.results.specs.Calls.{reduceResult};
-ghost use Rattle.listing.specs.Answer.{Writes};
+ghost use Rattle.answer_text.specs.Answer.{Writes};
 ghost use Rattle.printing.specs.Printed.{printed};
 use chokes::chokes_reduce;
-use listing::write_listing;
-use listing::write_refused;
+use answer_text::write_listing;
+use answer_text::write_refused;
 
 // Runs Reduce on a job, with lent work and answer, and writes what is printed at the start of out; gives its length. Work and answer are
 // left as Reduce leaves them.

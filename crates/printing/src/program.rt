@@ -1,12 +1,12 @@
 // choke-list: a job from standard input, and what is printed for it to standard output.
 ghost use Prim.Native.Nat.{_≤_, _<_};
 ghost use lib.ListN.{length};
-ghost use Rattle.listing.specs.Answer.{Writes};
+ghost use Rattle.answer_text.specs.Answer.{Writes};
 ghost use Rattle.printing.specs.ChokeList.{mostInput, chokeList, PrintsRead};
 use crate::print::print_list;
 use libc::STDIN_FILENO;
 use libc::STDOUT_FILENO;
-use listing::write_text;
+use answer_text::write_text;
 
 // What choke-list prints for an input, written at the start of out; gives its length.
 fn choke_list(input: &[u8], out: &mut [u8; 196608]) -> usize

@@ -1,0 +1,50 @@
+use Rattle.answer_text.proofs.Writing.{room, next, done}
+use Rattle.answer_text.proofs.Pieces.{kept-start}
+use borrow.Author.Needs.{needs}
+use Rattle.answer_text.proofs.listing.write_kept.Statement.{statement}
+use Rattle.answer_text.proofs.listing.write_kept.Tie as tie
+
+-- earlier places, each found by what it is
+abbrev start-of : tie.After-write-text → tie.Start
+start-of c = search
+
+abbrev past-text-of : tie.After-write-word → tie.After-write-text
+past-text-of c = search
+
+write-text-requires : tie.Need-write-text-requires
+write-text-requires c κs =
+    let start : tie.Start = search in
+    room (kept-start (start .args .out .now) (start .args .at) (start .args .n) (start .pre))
+
+write-word-requires : tie.Need-write-word-requires
+write-word-requires c κs =
+    let past-text : tie.After-write-text = search in
+    let start = start-of past-text in
+    room (next (kept-start (start .args .out .now) (start .args .at) (start .args .n) (start .pre)) (past-text .write-text .ensures))
+
+write-byte-requires : tie.Need-write-byte-requires
+write-byte-requires c κs =
+    let past-word : tie.After-write-word = search in
+    let past-text = past-text-of past-word in
+    let start = start-of past-text in
+    room (next (next (kept-start (start .args .out .now) (start .args .at) (start .args .n) (start .pre)) (past-text .write-text .ensures))
+    (past-word .write-word .ensures))
+
+returns : tie.Need-returns
+returns c =
+    let past-word : tie.After-write-word = search in
+    let past-text = past-text-of past-word in
+    let start = start-of past-text in
+    done (next (next (next (kept-start (start .args .out .now) (start .args .at) (start .args .n) (start .pre)) (past-text .write-text .ensures))
+    (past-word .write-word .ensures)) (c .before .before .write-byte .ensures))
+
+pub write-kept-spec : {M : Type 1} → statement M
+write-kept-spec =
+    tie.close
+    (tie.spec
+    (λ c. search needs)
+    write-text-requires
+    write-word-requires
+    write-byte-requires
+    (λ c. search needs)
+    returns)
