@@ -19,10 +19,10 @@ use Rattle.checks.specs.declared.verdict.Verdict.the-variants.{Passed, JobTooSh
 use Rattle.checks.specs.declared.verdict.Verdict.the-variants.{AnchorOffMap}
 use Rattle.checks.specs.declared.verdict.Verdict.the-variants.{BadSums, BadRamp, BadWidth, EndOffMap, EndsCoincide, BadListLength, TooManySpans}
 use Rattle.checks.specs.declared.verdict.Verdict.the-variants.{SpanOffMap, SpanEndsCoincide}
-use Rattle.job.specs.Refusals.{jobChecks, boundaryChecks, reduceChecks, byListChecks, markChecks}
+use Rattle.checks_calls.specs.Refusals.{jobChecks, boundaryChecks, reduceChecks, byListChecks, markChecks}
 use Rattle.checks.proofs.Firsts.{none-left}
 use Rattle.checks.proofs.Limits.{cells-limit}
-use Rattle.job.proofs.Passing.{job-passed}
+use Rattle.checks_calls.proofs.Passing.{job-passed}
 use Rattle.results.specs.Results.{workSize}
 use Rattle.analysis.specs.Plans.{Headed, OwnJob}
 use Rattle.analysis.proofs.Headed.{headed-laid}

@@ -28,11 +28,11 @@ use Rattle.areas.specs.Spans.{SpanFits, Sides}
 use Rattle.checks.specs.Checks.{firstRefusal, each}
 use Rattle.checks.specs.Faults.{positionFault, endsFault, widthFault}
 use Rattle.checks.specs.Single.{sumsFault, cellCheck, baseCheck, rampCheck, widthCheck, spanChecks, endsCheck, spanCheck, listChecks}
-use Rattle.job.specs.Refusals.{layoutChecks, recordChecks, jobChecks, endsChecks, boundaryChecks, byListChecks}
+use Rattle.checks_calls.specs.Refusals.{layoutChecks, recordChecks, jobChecks, endsChecks, boundaryChecks, byListChecks}
 use Rattle.checks.proofs.Firsts.{none-left, none-right, none-head, each-none}
 use Rattle.checks.proofs.Limits.{sections}
-use Rattle.job.proofs.Passing.{job-passed}
-use Rattle.job.proofs.Formed.{job-formed}
+use Rattle.checks_calls.proofs.Passing.{job-passed}
+use Rattle.checks_calls.proofs.Formed.{job-formed}
 
 -- both ends are on a map of width by height cells
 pub record OnMap (width height : ℕ) (e : Span) : Type 0 where

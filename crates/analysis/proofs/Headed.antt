@@ -28,10 +28,10 @@ use Rattle.checks.specs.Checks.{firstRefusal, each}
 use Rattle.checks.specs.Faults.{anchorFault}
 use Rattle.checks.specs.Passed.{Laid}
 use Rattle.checks.specs.Single.{cellCheck, baseCheck}
-use Rattle.job.specs.Refusals.{jobChecks, layoutChecks, recordChecks, boundaryChecks}
+use Rattle.checks_calls.specs.Refusals.{jobChecks, layoutChecks, recordChecks, boundaryChecks}
 use Rattle.checks.proofs.Firsts.{none-left, none-right, none-head, each-none}
 use Rattle.checks.proofs.Limits.{cells-limit, sections}
-use Rattle.job.proofs.Passing.{boundaries-passed}
+use Rattle.checks_calls.proofs.Passing.{boundaries-passed}
 use Rattle.analysis.specs.Plans.{RankedBy, Headed}
 use Rattle.analysis.proofs.Checked.{boundariesAt, Checked, checked}
 use Rattle.analysis.proofs.RankedTables.{ranks-of}

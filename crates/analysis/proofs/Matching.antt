@@ -23,7 +23,7 @@ use Rattle.serial_groups.specs.Plan.{mergePlan}
 use Rattle.serial_links.specs.Limits.{Limits}
 use Rattle.serial_ranks.specs.Tables.{Records, SpansOf, Identity}
 use Rattle.checks.specs.Checks.{firstRefusal}
-use Rattle.job.specs.Refusals.{reduceChecks, byListChecks}
+use Rattle.checks_calls.specs.Refusals.{reduceChecks, byListChecks}
 use Rattle.areas_partition.specs.Partitioned.{Partitionable, Partitioned}
 use Rattle.areas_partition.specs.declared.Partition.{Partition}
 use Rattle.results.specs.Rules.{gridOf, listingOf}

@@ -33,7 +33,7 @@ use Rattle.serial_merging.specs.Planned.{planned}
 use Rattle.serial_measures.specs.Tables.{Labels}
 use Rattle.serial_ranks.specs.Tables.{Identity, SpansOf}
 use Rattle.checks.specs.Checks.{Check, firstRefusal}
-use Rattle.job.specs.Refusals.{boundaryChecks}
+use Rattle.checks_calls.specs.Refusals.{boundaryChecks}
 use Rattle.results.specs.Rules.{gridOf, listingOf}
 use Rattle.analysis.specs.Bridging.{PartedWithin}
 use Rattle.results.specs.Results.{workSize, maxPairs, labelsOf, reduced, leftBy}

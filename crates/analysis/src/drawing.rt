@@ -13,7 +13,7 @@ ghost use Rattle.serial_links.specs.Limits as rules;
 ghost use Rattle.serial_links.specs.HeldLimits.{limitsOf};
 ghost use Rattle.serial_candidates.specs.Owners.{Stored};
 ghost use Rattle.checks.specs.Checks.{firstRefusal};
-ghost use Rattle.job.specs.Refusals.{reduceChecks, byListChecks};
+ghost use Rattle.checks_calls.specs.Refusals.{reduceChecks, byListChecks};
 ghost use Rattle.results.specs.Results.{workSize, ownEnds};
 ghost use Rattle.analysis.specs.Bridging.{fewPairs, PairArrays};
 ghost use Rattle.analysis.specs.Plans.{planOf, Leads, RankedBy, Headed, OwnEnds, RankedJob, Plannable, EndsBy, SomeEnds, PartitionTables, SomeTold};

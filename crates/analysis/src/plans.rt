@@ -3,7 +3,7 @@ ghost use Prim.Native.Nat.{_≤_};
 ghost use Rattle.format.specs.Decode.{decode, decodeList};
 ghost use Rattle.grid.specs.Directions.{directionsOf};
 ghost use Rattle.serial_links.specs.HeldLimits.{limitsOf};
-ghost use Rattle.job.specs.Refusals.{reduceChecks, byListChecks};
+ghost use Rattle.checks_calls.specs.Refusals.{reduceChecks, byListChecks};
 ghost use Rattle.results.specs.Results.{ownEnds};
 ghost use Rattle.analysis.specs.Plans.{Leads, PlanLeft};
 use crate::drawing::order_boundaries;
@@ -13,8 +13,8 @@ use crate::result::ChokesResult;
 use crate::result::WORK_PER_CELL;
 use crate::result::first_answer;
 use format::read_header;
-use job::check_reduce;
-use job::check_reduce_by_list;
+use checks_calls::check_reduce;
+use checks_calls::check_reduce_by_list;
 use serial_links::limits::Limits;
 
 // The merges of a job by its boundaries' own ends: number 0 and the plan by rank, or a refusal. Left free: what `order` and `plan` hold

@@ -6,7 +6,7 @@ ghost use lib.ListN.{length};
 ghost use Rattle.format.specs.Decode.{decode};
 ghost use Rattle.checks.specs.Checks.{firstRefusal};
 ghost use Rattle.checks.specs.Verdict.{meaning, numberOf, detailOf};
-ghost use Rattle.job.specs.Refusals.{jobChecks};
+ghost use Rattle.checks_calls.specs.Refusals.{jobChecks};
 ghost use Rattle.results.specs.Returns.{FirstAnswer, PairAnswer};
 use crate::bridged::MAX_PAIRS;
 use checks::Verdict;

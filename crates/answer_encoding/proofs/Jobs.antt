@@ -20,11 +20,11 @@ use Rattle.format.specs.declared.header.Header.{Header}
 use Rattle.format.specs.declared.records.BoundaryRecord.{BoundaryRecord}
 use Rattle.format.specs.declared.records.ObservationRecord.{ObservationRecord}
 use Rattle.checks.specs.Checks.{firstRefusal}
-use Rattle.job.specs.Refusals.{jobChecks}
+use Rattle.checks_calls.specs.Refusals.{jobChecks}
 use Rattle.checks.proofs.Adding.{sum-field}
 use Rattle.checks.proofs.Limits.{sections}
-use Rattle.job.proofs.Passing.{job-passed}
-use Rattle.job.proofs.Formed.{job-formed}
+use Rattle.checks_calls.proofs.Passing.{job-passed}
+use Rattle.checks_calls.proofs.Formed.{job-formed}
 use Rattle.serial_merging.specs.Copies.{canon}
 use Rattle.serial_merging.specs.Kept.{noBoundary}
 use Rattle.answer_sources.specs.Laying.{sumBelow, ownCount, seenCount, citedCount}

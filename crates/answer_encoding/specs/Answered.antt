@@ -20,7 +20,7 @@ use Rattle.format.specs.declared.header.Header.{Header}
 use Rattle.format.specs.declared.records.Source.{Source}
 use Rattle.format.specs.declared.records.ObservationRecord.{ObservationRecord}
 use Rattle.checks.specs.Checks.{firstRefusal}
-use Rattle.job.specs.Refusals.{jobChecks}
+use Rattle.checks_calls.specs.Refusals.{jobChecks}
 use Rattle.answer_sources.specs.Placed.{CopiesPlaced, boundaryRows}
 use Rattle.answer_sources.specs.Gathered.{PlacesOrder, Gathered}
 use Rattle.answer_encoding.specs.Pieces.{pieces, elements, groupPiece}

@@ -16,7 +16,7 @@ use Rattle.serial_links.specs.HeldLimits.{limitsOf}
 use Rattle.serial_links.specs.declared.limits.Limits.{Limits as LimitsHeld}
 use Rattle.answer_sources.specs.Gathered.{PlacesOrder}
 use Rattle.checks.specs.Checks.{Check, firstRefusal}
-use Rattle.job.specs.Refusals.{jobChecks, reduceChecks, byListChecks}
+use Rattle.checks_calls.specs.Refusals.{jobChecks, reduceChecks, byListChecks}
 use Rattle.results.specs.Results.{ownEnds, reduced, reduceWith, reduceByListWith, leftBy}
 use Rattle.results.specs.Calls.{reduceResult, reduceByListResult}
 use Rattle.analysis.specs.Plans.{Leads, RankedBy, Made, PlanLeft, answerBytes, Finished}

@@ -20,7 +20,7 @@ use Rattle.areas.specs.Assessments.{records}
 use Rattle.areas.specs.Spans.{spansIn}
 use Rattle.serial_walk.specs.Marks.{bridgeMarks}
 use Rattle.checks.specs.Checks.{firstRefusal}
-use Rattle.job.specs.Refusals.{markChecks}
+use Rattle.checks_calls.specs.Refusals.{markChecks}
 use Rattle.results.specs.Rules.{gridOf}
 use Rattle.results.specs.Results.{workSize, maxPairs, ownEnds, marksOf, markWith, leftBy}
 use Rattle.results.specs.Returns.{PairAnswer, many, few}

@@ -11,7 +11,7 @@ use Rattle.format.specs.Decode.{decode, decodeList}
 use Rattle.areas.specs.Assessments.{records}
 use Rattle.serial_links.specs.Limits.{Limits}
 use Rattle.checks.specs.Checks.{Check, firstRefusal}
-use Rattle.job.specs.Refusals.{reduceChecks, byListChecks}
+use Rattle.checks_calls.specs.Refusals.{reduceChecks, byListChecks}
 use Rattle.order.specs.Pairs.{Pairs}
 use Rattle.serial_merging.specs.Groups.{Group, Groups, Disjoint, allGroups}
 use Rattle.serial_merging.specs.Runs.{Run, Matched, groupsOf}

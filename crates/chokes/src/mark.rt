@@ -18,7 +18,7 @@ use format::HEADER_SIZE;
 use format::Header;
 use format::read_header;
 use grid::neighbors::EIGHT;
-use job::check_mark;
+use checks_calls::check_mark;
 use wire::size;
 
 // Partitions a job by its boundaries' own ends; gives the number of region pairs.

@@ -29,8 +29,8 @@ use Rattle.serial_groups.specs.Plan.{mergePlan}
 use Rattle.serial_groups.proofs.Plan.{plan-below}
 use Rattle.serial_merging.specs.Follows.{placesOf}
 use Rattle.checks.specs.Checks.{Check, firstRefusal}
-use Rattle.job.specs.Refusals.{reduceChecks, byListChecks}
-use Rattle.job.proofs.Passing.{boundaries-passed}
+use Rattle.checks_calls.specs.Refusals.{reduceChecks, byListChecks}
+use Rattle.checks_calls.proofs.Passing.{boundaries-passed}
 use Rattle.results.specs.Rules.{gridOf, listingOf}
 use Rattle.results.specs.Results.{ownEnds}
 use Rattle.analysis.specs.Plans.{planOf, RankedBy, Headed, Made, PlanLeft}

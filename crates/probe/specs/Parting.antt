@@ -14,7 +14,7 @@ use Rattle.format.specs.Decode.{decode}
 use Rattle.areas.specs.Areas.{areaCount}
 use Rattle.areas.specs.Assessments.{assess, records}
 use Rattle.checks.specs.Checks.{firstRefusal}
-use Rattle.job.specs.Refusals.{reduceChecks}
+use Rattle.checks_calls.specs.Refusals.{reduceChecks}
 use Rattle.results.specs.Rules.{gridOf}
 use Rattle.results.specs.Results.{workSize, labelsOf, ownEnds}
 use Rattle.results.specs.Returns.{FirstAnswer}

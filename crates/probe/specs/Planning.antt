@@ -17,7 +17,7 @@ use Rattle.areas.specs.Assessments.{records}
 use Rattle.serial_links.specs.Limits.{Limits}
 use Rattle.serial_merging.specs.Follows.{placesOf}
 use Rattle.checks.specs.Checks.{Check, firstRefusal}
-use Rattle.job.specs.Refusals.{reduceChecks, byListChecks}
+use Rattle.checks_calls.specs.Refusals.{reduceChecks, byListChecks}
 use Rattle.results.specs.Rules.{gridOf}
 use Rattle.results.specs.Results.{workSize, maxPairs, labelsOf, reduced, leftBy, ownEnds}
 use Rattle.analysis.specs.Plans.{planOf}

@@ -6,7 +6,7 @@ use mathlib.Core.Option.{Option}
 use lib.Dec.{ltb, eqb}
 use lib.ListN.{length, drop}
 use Rattle.checks.specs.Checks.{Refusal, firstRefusal}
-use Rattle.job.specs.Refusals.{reduceChecks, markChecks, byListChecks}
+use Rattle.checks_calls.specs.Refusals.{reduceChecks, markChecks, byListChecks}
 
 -- The refusal that a call's input checks give: 0 Reduce, 1 Reduce by list, any other Mark.
 unfoldable pub checked : ℕ → List ℕ → List ℕ → Option Refusal

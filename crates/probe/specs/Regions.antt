@@ -13,7 +13,7 @@ use Rattle.context.specs.RegionStats.{RegionStats, regionStats}
 use Rattle.context.specs.Anchors.{anchorsOf, isAnchored}
 use Rattle.context.specs.Held.{one}
 use Rattle.checks.specs.Checks.{firstRefusal}
-use Rattle.job.specs.Refusals.{reduceChecks}
+use Rattle.checks_calls.specs.Refusals.{reduceChecks}
 use Rattle.results.specs.Rules.{gridOf}
 use Rattle.results.specs.Returns.{FirstAnswer}
 

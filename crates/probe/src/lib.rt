@@ -2,7 +2,7 @@
 ghost use mathlib.Core.Path.{_≡_};
 ghost use Rattle.probe.specs.Probe.{checked, putFirst};
 ghost use lib.ListN.{length};
-ghost use Rattle.job.specs.SpanEnds.{spanEnds};
+ghost use Rattle.checks_calls.specs.SpanEnds.{spanEnds};
 ghost use Rattle.checks.specs.Verdict.{meaning, numberOf, detailOf};
 use analysis::ChokesResult;
 use checks::Verdict;

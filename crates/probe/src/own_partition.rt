@@ -15,7 +15,7 @@ use format::HEADER_SIZE;
 use format::Header;
 use format::read_header;
 use grid::neighbors::EIGHT;
-use job::check_reduce;
+use checks_calls::check_reduce;
 use areas_partition::partition_by_spans;
 use wire::size;
 use wire::write_u32;

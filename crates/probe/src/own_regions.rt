@@ -14,7 +14,7 @@ use areas_components::count_cells;
 use format::HEADER_SIZE;
 use format::Header;
 use format::read_header;
-use job::check_reduce;
+use checks_calls::check_reduce;
 use context::anchored::is_anchored;
 use context::stats::region_stats;
 use wire::size;

@@ -29,7 +29,7 @@ use Rattle.grid.specs.Directions.{eight}
 use Rattle.serial_links.specs.Limits.{limits000}
 use Rattle.checks.specs.Checks.{Check, firstRefusal, each}
 use Rattle.checks.specs.Single.{listChecks, spanCheck, headerChecks, cellCheck, baseCheck, sumsFault, rampCheck, widthCheck, endsCheck, spanChecks}
-use Rattle.job.specs.Refusals.{reduceChecks, markChecks, byListChecks, boundaryChecks, jobChecks, layoutChecks, recordChecks, endsChecks}
+use Rattle.checks_calls.specs.Refusals.{reduceChecks, markChecks, byListChecks, boundaryChecks, jobChecks, layoutChecks, recordChecks, endsChecks}
 use Rattle.position.specs.Order.{posSame, posLe, canonical}
 use Rattle.position.specs.declared.Span.{Span}
 use Rattle.format.specs.declared.records.Source.{Source}

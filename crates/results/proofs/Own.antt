@@ -27,9 +27,9 @@ use Rattle.checks.specs.Checks.{firstRefusal}
 use Rattle.checks.specs.Faults.{endsFault, positionFault}
 use Rattle.checks.specs.Passed.{Laid}
 use Rattle.checks.specs.Single.{spanChecks, endsCheck}
-use Rattle.job.specs.Refusals.{jobChecks, endsChecks, boundaryChecks, markChecks}
+use Rattle.checks_calls.specs.Refusals.{jobChecks, endsChecks, boundaryChecks, markChecks}
 use Rattle.checks.proofs.Firsts.{none-right, none-head, each-none}
-use Rattle.job.proofs.Passing.{boundaries-passed}
+use Rattle.checks_calls.proofs.Passing.{boundaries-passed}
 use Rattle.results.specs.Results.{ownEnds}
 
 ends-with : (rs : List BoundaryRecord) (os : List ObservationRecord) (ss : List Source)

@@ -21,9 +21,9 @@ use Rattle.position.specs.declared.Span.{Span}
 use Rattle.checks.specs.Checks.{Refusal, Check, check, firstRefusal, each}
 use Rattle.checks.specs.Single.{headerChecks, cellCheck, sumsFault, rampCheck}
 use Rattle.checks.proofs.Firsts.{never, same-refusal, append-some}
-use Rattle.job.specs.Refusals.{reduceChecks, markChecks, byListChecks, jobChecks, layoutChecks}
-use Rattle.job.specs.Cases.{upToRamps, FirstWidth, PassesThree, bitsAt}
-use Rattle.job.proofs.Cases.{AllRefuse, Without, at, width-refused, count-refused, count-passes, all-refuse}
+use Rattle.checks_calls.specs.Refusals.{reduceChecks, markChecks, byListChecks, jobChecks, layoutChecks}
+use Rattle.checks_calls.specs.Cases.{upToRamps, FirstWidth, PassesThree, bitsAt}
+use Rattle.checks_calls.proofs.Cases.{AllRefuse, Without, at, width-refused, count-refused, count-passes, all-refuse}
 use Rattle.results.specs.Results.{workCheck, ownEnds, labelsOf, pairCheck, marksOf, markWith, afterWork, outcome, answerOf}
 use Rattle.results.specs.Results.{reduced, reduceWith, reduceByListWith}
 use Rattle.results.specs.Calls.{reduceResult, reduceByListResult, markResult}

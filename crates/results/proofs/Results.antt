@@ -13,7 +13,7 @@ use Rattle.format.specs.Values.{Job}
 use Rattle.areas.specs.Assessments.{records}
 use Rattle.serial_links.specs.Limits.{Limits}
 use Rattle.format.specs.Decode.{decode}
-use Rattle.job.specs.Refusals.{markChecks}
+use Rattle.checks_calls.specs.Refusals.{markChecks}
 use Rattle.checks.specs.Checks.{Check, check, firstRefusal}
 use Rattle.checks.proofs.Firsts.{stop, clear}
 use Rattle.results.specs.Rules.{gridOf}

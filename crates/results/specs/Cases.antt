@@ -5,7 +5,7 @@ use Prim.Native.Nat.{ℕ, _+_, _*_, _%_, _≤_, _<_}
 use lib.ListN.{length, drop, replicate}
 use Rattle.wire.specs.Bytes.{words, splice, u64Bytes}
 use Rattle.format.specs.Header.{headerAt}
-use Rattle.job.specs.Cases.{FirstWidth, PassesThree, bitsAt}
+use Rattle.checks_calls.specs.Cases.{FirstWidth, PassesThree, bitsAt}
 use Rattle.results.specs.Results.{Outcome, leftBy}
 use Rattle.results.specs.Calls.{reduceResult, reduceByListResult, markResult}
 

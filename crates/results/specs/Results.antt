@@ -16,7 +16,7 @@ use Rattle.areas.specs.Areas.{areaLabels}
 use Rattle.areas.specs.Assessments.{records}
 use Rattle.serial_links.specs.Limits.{Limits}
 use Rattle.checks.specs.Checks.{Refusal, Check, check, firstRefusal}
-use Rattle.job.specs.Refusals.{reduceChecks, markChecks, byListChecks}
+use Rattle.checks_calls.specs.Refusals.{reduceChecks, markChecks, byListChecks}
 use Rattle.serial_merging.specs.Runs.{rulesAnswer}
 use Rattle.results.specs.Rules.{gridOf, rulesOf}
 

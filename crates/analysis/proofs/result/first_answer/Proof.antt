@@ -8,8 +8,8 @@ use lib.ListN.{length}
 use Rattle.format.specs.Decode.{decode}
 use Rattle.checks.specs.Checks.{firstRefusal}
 use Rattle.checks.specs.Verdict.{meaning}
-use Rattle.job.specs.Refusals.{jobChecks}
-use Rattle.job.proofs.Passing.{declined, accepted, passes-none}
+use Rattle.checks_calls.specs.Refusals.{jobChecks}
+use Rattle.checks_calls.proofs.Passing.{declined, accepted, passes-none}
 use Rattle.results.specs.Returns.{refused, cramped, ready}
 use Rattle.analysis.proofs.Calling.{numbered, job-cells, job-long, header-there}
 use Rattle.analysis.proofs.result.first_answer.Statement.{statement}

@@ -3,7 +3,7 @@ use mathlib.Core.Option.{none}
 use native.Mathlib.Omega.{arith}
 use borrow.Author.Needs.{needs}
 use Rattle.checks.specs.Checks.{firstRefusal}
-use Rattle.job.specs.Refusals.{reduceChecks}
+use Rattle.checks_calls.specs.Refusals.{reduceChecks}
 use Rattle.results.proofs.Returns.{first-passed, first-room}
 use Rattle.analysis.specs.Plans.{Headed}
 use Rattle.analysis.proofs.Headed.{count-is}

@@ -6,7 +6,7 @@ use borrow.Author.Needs.{needs}
 use lib.ListN.{length}
 use Rattle.format.specs.Decode.{decode}
 use Rattle.checks.specs.Checks.{firstRefusal}
-use Rattle.job.specs.Refusals.{reduceChecks}
+use Rattle.checks_calls.specs.Refusals.{reduceChecks}
 use Rattle.results.specs.Results.{workSize}
 use Rattle.results.specs.Returns.{FirstAnswer}
 use Rattle.results.proofs.Returns.{first-of, first-passed, first-room}
