@@ -7,9 +7,9 @@ ghost use Rattle.areas_assessments.specs.Recording.{Arrays};
 ghost use Rattle.areas_partition.specs.Partitioned.{Partitionable, Partitioned};
 ghost use Rattle.results.specs.Results.{maxPairs};
 ghost use Rattle.analysis.specs.Bridging.{fewPairs, Bridged, MarkedWithin};
-use serial_bridges::bridge_boundary_indices;
 use areas_partition::Partition;
 use areas_partition::partition_by_spans;
+use serial_bridges::bridge_boundary_indices;
 
 // "13 over 4,096 region pairs in all."
 pub const MAX_PAIRS: usize = 4_096;

@@ -12,9 +12,9 @@ use crate::drawing::plan_own;
 use crate::result::ChokesResult;
 use crate::result::WORK_PER_CELL;
 use crate::result::first_answer;
-use format::read_header;
 use checks_calls::check_reduce;
 use checks_calls::check_reduce_by_list;
+use format::read_header;
 use serial_links::limits::Limits;
 
 // The merges of a job by its boundaries' own ends: number 0 and the plan by rank, or a refusal. Left free: what `order` and `plan` hold

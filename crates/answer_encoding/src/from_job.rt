@@ -15,12 +15,12 @@ ghost use Rattle.answer_sources.specs.Placed.{CopiesPlaced, boundaryRows};
 ghost use Rattle.answer_sources.specs.Gathered.{keptBy};
 ghost use Rattle.answer_encoding.specs.Answered.{Answered, Placeable, WorkRoom, Answerable, keptOf};
 use crate::whole::write_kept;
+use answer_gathering::kept::gather_kept;
 use answer_sources::placing::place_all;
 use format::Header;
 use format::MAX_BOUNDARIES;
 use format::MAX_OBSERVATIONS;
 use format::MAX_SOURCES;
-use answer_gathering::kept::gather_kept;
 use wire::size;
 
 // The most sources of a small job, and the most places: boundaries and observations together.

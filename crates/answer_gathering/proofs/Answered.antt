@@ -26,7 +26,8 @@ use Rattle.answer_sources.specs.Packed.{packed, sourcePack}
 use Rattle.answer_sources.specs.Laying.{sumBelow}
 use Rattle.answer_sources.specs.Placed.{CopiesPlaced, seenOf}
 use Rattle.answer_sources.specs.Gathered.{copiesBy, keptBy, PlacesStand, Gathered}
-use Rattle.answer_sources.proofs.Merged.{packed-append, kept-list, kept-at, merged-ends, merged-bits, merged-ramp, merged-fits, merged-own, merged-seen, stands-none}
+use Rattle.answer_sources.proofs.Merged.{packed-append, kept-list, kept-at, merged-ends, merged-bits, merged-ramp, merged-fits, merged-own, merged-seen}
+use Rattle.answer_sources.proofs.Merged.{stands-none}
 use Rattle.answer_sources.proofs.Merged.{stands-append}
 use Rattle.answer_gathering.specs.Runs.{Prefix, keptRanks, going, ownRun, seenRun, ownWeight, seenWeight, OwnsBy, SeensBy}
 use Rattle.answer_gathering.proofs.Weights.{lower-all}

@@ -9,7 +9,8 @@ use lib.Dec.{eqb}
 use lib.ListN.{length, getD, set}
 use Rattle.order.specs.Lists.{keep, gather, upFrom}
 use Rattle.answer_sources.specs.Laying.{sumBelow}
-use Rattle.answer_gathering.specs.Runs.{Prefix, Appended, keptRanks, ownRun, seenRun, ownWeight, seenWeight, into, OwnsBy, SeensBy, gatheredTotal, seenTotal}
+use Rattle.answer_gathering.specs.Runs.{Prefix, Appended, keptRanks, ownRun, seenRun, ownWeight, seenWeight, into, OwnsBy, SeensBy, gatheredTotal}
+use Rattle.answer_gathering.specs.Runs.{seenTotal}
 use Rattle.answer_gathering.proofs.Fills.{filled-start, filled-is, filled-put, filled-then}
 use Rattle.answer_gathering.proofs.Goings.{keep-last}
 use Rattle.answer_gathering.proofs.Weights.{lower-next, lower-all}

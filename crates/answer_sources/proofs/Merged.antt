@@ -46,7 +46,8 @@ use Rattle.answer_sources.specs.Gathered.{noObservation, copiesBy, keptB
 use Rattle.answer_sources.specs.Laying.{firstSeen}
 use Rattle.answer_sources.proofs.Packs.{sorted-packed}
 use Rattle.answer_sources.proofs.Together.{holds-le}
-use Rattle.answer_sources.proofs.Matched.{Matched, nil, next, matched-append, matched-length, matched-at, matched-by, matched-gather, matched-sort, matched-rows}
+use Rattle.answer_sources.proofs.Matched.{Matched, nil, next, matched-append, matched-length, matched-at, matched-by, matched-gather, matched-sort}
+use Rattle.answer_sources.proofs.Matched.{matched-rows}
 
 gather-map : {A B C : Type 0} (f : B → List C) (g : A → B) (l : List A) → gather f (map g l) ≡ gather (λ x. f (g x)) l
 unfolding gather

@@ -27,7 +27,8 @@ use Rattle.answer_sources.specs.Packed.{sourcePack, packed, KeysRead, Ke
 use Rattle.answer_sources.specs.Laying.{sumBelow, ownCount, seenCount, citedCount, ownStart, LaidAll}
 use Rattle.answer_sources.specs.Squeezed.{partOf, PartsRoom, Squeezed}
 use Rattle.answer_sources.specs.Ranked.{RankKeys}
-use Rattle.answer_sources.specs.Placed.{observationFrom, boundaryOf, itself, HoldsObservation, CopiesPlaced, PlacedInside, JobPlaces, PlaceRoom, boundaryRows}
+use Rattle.answer_sources.specs.Placed.{observationFrom, boundaryOf, itself, HoldsObservation, CopiesPlaced, PlacedInside, JobPlaces, PlaceRoom}
+use Rattle.answer_sources.specs.Placed.{boundaryRows}
 use Rattle.answer_sources.specs.Placed.{observationRows}
 use Rattle.answer_sources.proofs.Lays.{below-next}
 use Rattle.answer_sources.proofs.Layouts.{below-none, apart-wider}

@@ -14,11 +14,11 @@ use analysis::WORK_PER_CELL;
 use analysis::find_bridges;
 use analysis::first_answer;
 use analysis::own_ends;
+use checks_calls::check_mark;
 use format::HEADER_SIZE;
 use format::Header;
 use format::read_header;
 use grid::neighbors::EIGHT;
-use checks_calls::check_mark;
 use wire::size;
 
 // Partitions a job by its boundaries' own ends; gives the number of region pairs.

@@ -5,9 +5,9 @@ ghost use lib.ListN.{length};
 ghost use Rattle.results.specs.Calls.{reduceResult};
 ghost use Rattle.answer_text.specs.Answer.{Writes};
 ghost use Rattle.printing.specs.Printed.{printed};
-use chokes::chokes_reduce;
 use answer_text::write_listing;
 use answer_text::write_refused;
+use chokes::chokes_reduce;
 
 // Runs Reduce on a job, with lent work and answer, and writes what is printed at the start of out; gives its length. Work and answer are
 // left as Reduce leaves them.

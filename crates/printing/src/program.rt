@@ -4,9 +4,9 @@ ghost use lib.ListN.{length};
 ghost use Rattle.answer_text.specs.Answer.{Writes};
 ghost use Rattle.printing.specs.ChokeList.{mostInput, chokeList, PrintsRead};
 use crate::print::print_list;
+use answer_text::write_text;
 use libc::STDIN_FILENO;
 use libc::STDOUT_FILENO;
-use answer_text::write_text;
 
 // What choke-list prints for an input, written at the start of out; gives its length.
 fn choke_list(input: &[u8], out: &mut [u8; 196608]) -> usize

@@ -9,8 +9,8 @@ ghost use Rattle.serial_walk.specs.Marks.{bridgeMarks};
 ghost use Rattle.probe.specs.Records.{fitting, fitsAt, recordsAt, Loaded, MarksAnswer};
 use crate::copy;
 use analysis::ChokesResult;
-use serial_bridges::bridge_boundary_indices;
 use areas_components::zero_fill;
+use serial_bridges::bridge_boundary_indices;
 use wire::read_u32;
 use wire::size;
 

@@ -11,12 +11,12 @@ use analysis::ChokesResult;
 use analysis::WORK_PER_CELL;
 use analysis::first_answer;
 use analysis::own_ends;
+use areas_partition::partition_by_spans;
+use checks_calls::check_reduce;
 use format::HEADER_SIZE;
 use format::Header;
 use format::read_header;
 use grid::neighbors::EIGHT;
-use checks_calls::check_reduce;
-use areas_partition::partition_by_spans;
 use wire::size;
 use wire::write_u32;
 

@@ -11,12 +11,12 @@ use analysis::ANSWER_TOO_SHORT;
 use analysis::ChokesResult;
 use analysis::first_answer;
 use areas_components::count_cells;
-use format::HEADER_SIZE;
-use format::Header;
-use format::read_header;
 use checks_calls::check_reduce;
 use context::anchored::is_anchored;
 use context::stats::region_stats;
+use format::HEADER_SIZE;
+use format::Header;
+use format::read_header;
 use wire::size;
 use wire::write_u32;
 

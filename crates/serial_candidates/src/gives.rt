@@ -6,8 +6,8 @@ ghost use Rattle.areas.specs.Words.{labelsIn};
 ghost use Rattle.context.specs.AnchorLoop.{anchoredBy};
 ghost use Rattle.serial_candidates.specs.Gives.{hasRegion, AnchorsOnMap, OwnBounded, TwoBelow, joinsTwo};
 use areas::spans::span_at;
-use serial_links::geometry::centres_differ;
 use context::anchored::is_anchored;
+use serial_links::geometry::centres_differ;
 use wire::size;
 
 // The rank can be linked, and the region is one of its pair.

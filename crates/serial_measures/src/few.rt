@@ -12,11 +12,11 @@ use crate::flat_mark;
 use crate::inside_mark;
 use crate::link_at;
 use crate::passing_mark;
-use serial_links::limits::Limits;
-use serial_links::link::Link;
 use context::stats::column_of;
 use context::stats::region_stats;
 use context::stats::row_of;
+use serial_links::limits::Limits;
+use serial_links::link::Link;
 use wire::read_u32;
 
 // With one cell more, if it is of the link's region.

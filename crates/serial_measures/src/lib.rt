@@ -14,13 +14,13 @@ ghost use Rattle.serial_links.specs.Measure.{passing};
 ghost use Rattle.serial_measures.specs.Tables.{LinkRegions, Labels, Written, RegionNumbers, tableNumber};
 ghost use Rattle.serial_measures.specs.Judging.{CoordinatesBounded, LinkEndsInside, valueIn, flatIn, Judged, Measured};
 use areas::spans::span_at;
+use context::stats::RegionStats;
 use few::measure_few;
 use label_table::put_word;
 use label_table::word_of;
 use serial_links::limits::Limits;
 use serial_links::link::Link;
 use serial_links::link::link_of;
-use context::stats::RegionStats;
 use wire::read_u32;
 use wire::size;
 

@@ -18,7 +18,8 @@ use Rattle.serial_merging.specs.Sources.{SameSources}
 use Rattle.serial_merging.specs.Demand.{Independent}
 use Rattle.serial_merging.proofs.Following.{follows, follows-unique}
 use Rattle.serial_merging.proofs.Ends.{Unlike, distinct-unlike}
-use Rattle.serial_merging.proofs.Listings.{listing-copies, copies-perm, copies-sorted, copies-apart, relisted-copies, relisted-unlike, same-copies, same-groups}
+use Rattle.serial_merging.proofs.Listings.{listing-copies, copies-perm, copies-sorted, copies-apart, relisted-copies, relisted-unlike, same-copies}
+use Rattle.serial_merging.proofs.Listings.{same-groups}
 use Rattle.serial_merging.proofs.Merges.{merged-exact, finished}
 use Rattle.serial_merging.proofs.Exists.{first-list, list-perm, steps}
 use Rattle.serial_merging.proofs.Sources.{sources-canon, sources-perm, sources-refl, sources-sym, sources-trans, through, kept-sources}

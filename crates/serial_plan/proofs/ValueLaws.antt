@@ -25,7 +25,8 @@ use Rattle.serial_links.proofs.Numbers.{distance-number}
 use Rattle.serial_plan.specs.declared.few.Few.{Few}
 use Rattle.serial_plan.specs.Few.{fewOf, fewAt, fewList}
 use Rattle.serial_plan.specs.Arrays.{joinsAt}
-use Rattle.serial_plan.specs.Shape.{degreeIn, endsIn, regularIn, outerIn, alikeIn, allAlikeIn, gapIn, leastIn, sumIn, nearerIn, fineIn, eligibleIn, retainedIn}
+use Rattle.serial_plan.specs.Shape.{degreeIn, endsIn, regularIn, outerIn, alikeIn, allAlikeIn, gapIn, leastIn, sumIn, nearerIn, fineIn, eligibleIn}
+use Rattle.serial_plan.specs.Shape.{retainedIn}
 use Rattle.serial_plan.specs.Fitting.{RankFits}
 use Rattle.serial_plan.proofs.FewLaws.{Picked, listed-held}
 use Rattle.serial_plan.proofs.ShapeLaws.{listed-length, picked-listed, Each, each-listed, held-count}

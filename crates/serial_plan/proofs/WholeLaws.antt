@@ -15,7 +15,8 @@ use Rattle.serial_groups.specs.Tests.{any}
 use Rattle.serial_groups.specs.Links.{LinkAt, joins}
 use Rattle.serial_groups.specs.Groups.{LinkGroup, linkEdges, isJoined, groupAt}
 use Rattle.serial_groups.specs.Tables.{linkRow}
-use Rattle.serial_plan.specs.Arrays.{isOn, edgeRow, chosenFrom, partFrom, joinsAt, joinedFrom, inPart, linkInPart, ranksIn, numbersIn, LinkRanks, FirstAre}
+use Rattle.serial_plan.specs.Arrays.{isOn, edgeRow, chosenFrom, partFrom, joinsAt, joinedFrom, inPart, linkInPart, ranksIn, numbersIn, LinkRanks}
+use Rattle.serial_plan.specs.Arrays.{FirstAre}
 use Rattle.serial_plan.specs.Told.{groupBy}
 
 -- a mark is on just if what it marks holds

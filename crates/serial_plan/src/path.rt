@@ -12,9 +12,9 @@ ghost use Rattle.serial_plan.specs.Arrays.{isOn, joinsAt};
 ghost use Rattle.serial_plan.specs.Shape.{endsIn, regularIn, outerIn, pathIn};
 ghost use Rattle.serial_plan.specs.Fitting.{Slots};
 use crate::few::Few;
+use context::pairs::other_region;
 use serial_links::limits::GroupSize;
 use serial_links::limits::Limits;
-use context::pairs::other_region;
 use wire::size;
 
 fn joins(first: u32, second: u32, i: u32) -> bool

@@ -1,6 +1,7 @@
 use Prim.Native.Nat.{_+_}
 use native.Mathlib.Omega.{arith}
-use Rattle.areas_components.proofs.FindLaws.{Finding, finding-start, finding-falls, finding-room, finding-root, finding-next, finding-end, finding-second}
+use Rattle.areas_components.proofs.FindLaws.{Finding, finding-start, finding-falls, finding-room, finding-root, finding-next, finding-end}
+use Rattle.areas_components.proofs.FindLaws.{finding-second}
 use Rattle.areas_components.proofs.parents.find.Statement.{statement}
 use Rattle.areas_components.proofs.parents.find.Tie as tie
 
