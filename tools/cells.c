@@ -1,9 +1,8 @@
-/* The map's cells as SVG: a stroke one cell thick along each run of cells, one path for each area and each kind of ground. */
+/* The map's cells as SVG: a stroke one cell thick along each run of cells, gathered by area and by kind of ground. */
 #include "tool.h"
 
 #include <inttypes.h>
 #include <stdlib.h>
-#include <string.h>
 
 /* The most areas that are paths of their own; of the others those that no span touches are drawn together. */
 #define OWN_PATHS 400
@@ -11,24 +10,65 @@
 const char *const area_colours[AREA_COLOURS] = {"#7fb3d5", "#82c99a", "#f0c987", "#c9a6d9", "#e8a598",
                                                 "#8fd0cf", "#d9d37a", "#a9b8e8", "#e3a9c6", "#b5c98a"};
 
-/* A path that is being written: where its pen stands, in cells. */
-struct pen {
-    struct text d;
-    int64_t column, row;
-    int begun;
+/* A path of more runs than this is parted by tiles of so many cells: a browser draws a long path again for each part of the screen. */
+#define LONG_PATH 1000
+#define TILE 64
+
+/* A run of cells in a row. */
+struct strip {
+    uint16_t column, row, length;
 };
 
-static void add_run(struct pen *pen, uint32_t column, uint32_t row, uint32_t length)
+struct strips {
+    struct strip *at;
+    size_t count, room;
+};
+
+static void add_strip(struct strips *strips, uint32_t column, uint32_t row, uint32_t length)
 {
-    if (!pen->begun) {
-        say(&pen->d, "M%" PRIu32 " %" PRIu32 ".5", column, row);
-        pen->begun = 1;
-    } else {
-        say(&pen->d, "m%" PRId64 " %" PRId64, column - pen->column, row - pen->row);
+    struct strip *made;
+    if (strips->count == strips->room) {
+        strips->room = 2 * strips->room + 8;
+        strips->at = more_room(strips->at, strips->room * sizeof *strips->at);
     }
-    say(&pen->d, "h%" PRIu32, length);
-    pen->column = (int64_t)column + length;
-    pen->row = row;
+    made = &strips->at[strips->count++];
+    made->column = (uint16_t)column;
+    made->row = (uint16_t)row;
+    made->length = (uint16_t)length;
+}
+
+/* The tile of a run's first cell, rows of tiles first. */
+static int tile_of(const struct strip *strip)
+{
+    return strip->row / TILE * (int)(MOST_SIDE / TILE) + strip->column / TILE;
+}
+
+static int by_tile(const void *first, const void *second)
+{
+    const struct strip *a = first, *b = second;
+    int tiles = tile_of(a) - tile_of(b), rows = a->row - b->row;
+    return tiles != 0 ? tiles : rows != 0 ? rows : a->column - b->column;
+}
+
+/* The runs as paths, each beginning with a place and going on from where its pen stands; they are freed. */
+static void say_strips(struct text *text, struct strips *strips)
+{
+    size_t i;
+    int tiles = strips->count > LONG_PATH;
+    if (tiles) {
+        qsort(strips->at, strips->count, sizeof *strips->at, by_tile);
+    }
+    for (i = 0; i < strips->count; i++) {
+        const struct strip *s = &strips->at[i], *last = s - 1;
+        if (i == 0 || (tiles && tile_of(s) != tile_of(last))) {
+            say(text, "%s<path d=\"M%d %d.5", i > 0 ? "\"/>\n" : "", s->column, s->row);
+        } else {
+            say(text, "m%d %d", s->column - last->column - last->length, s->row - last->row);
+        }
+        say(text, "h%d", s->length);
+    }
+    say(text, strips->count > 0 ? "\"/>" : "");
+    free(strips->at);
 }
 
 static uint8_t cell_at(const struct job *job, uint32_t column, uint32_t row)
@@ -70,7 +110,7 @@ static uint32_t *choose_paths(const struct page *page, uint32_t *count)
     return path;
 }
 
-static void draw_runs(struct pen *pens, const struct page *page, const uint32_t *path)
+static void part_runs(struct strips *paths, const struct page *page, const uint32_t *path)
 {
     const struct job *job = &page->run->job;
     const uint32_t *labels = page->run->labels;
@@ -81,7 +121,7 @@ static void draw_runs(struct pen *pens, const struct page *page, const uint32_t 
             for (end = column + 1; end < job->width && labels[row * job->width + end] == label; end++) {
             }
             if (label != 0) {
-                add_run(&pens[path[label]], column, row, end - column);
+                add_strip(&paths[path[label]], column, row, end - column);
             }
         }
     }
@@ -91,44 +131,45 @@ static void draw_areas(struct text *text, const struct page *page)
 {
     uint32_t count, label;
     uint32_t *path = choose_paths(page, &count);
-    struct pen *pens = room(sizeof *pens * ((size_t)count + 1));
-    draw_runs(pens, page, path);
-    if (pens[0].begun) {
-        say(text, "<path stroke=\"#cfd2d6\" d=\"%s\"><title>one of %" PRIu32 " small areas that no %s touches</title></path>\n",
-            pens[0].d.at, page->run->areas - count, page->run->by_list ? "span" : "boundary");
-        free(pens[0].d.at);
+    struct strips *paths = room(sizeof *paths * ((size_t)count + 1));
+    part_runs(paths, page, path);
+    if (paths[0].count > 0) {
+        say(text, "<g stroke=\"#cfd2d6\"><title>one of %" PRIu32 " small areas that no %s touches</title>", page->run->areas - count,
+            page->run->by_list ? "span" : "boundary");
+        say_strips(text, &paths[0]);
+        say(text, "</g>\n");
     }
     for (label = 1; label <= page->run->areas; label++) {
         if (path[label] != 0) {
-            struct pen *pen = &pens[path[label]];
-            say(text, "<path stroke=\"%s\" d=\"%s\"><title>area %" PRIu32 ": %" PRIu32 " cells</title></path>\n",
-                area_colours[page->colours[label]], pen->d.at, label, page->areas[label].cells);
-            free(pen->d.at);
+            say(text, "<g stroke=\"%s\"><title>area %" PRIu32 ": %" PRIu32 " cells</title>",
+                area_colours[page->colours[label]], label, page->areas[label].cells);
+            say_strips(text, &paths[path[label]]);
+            say(text, "</g>\n");
         }
     }
-    free(pens);
+    free(paths);
     free(path);
 }
 
-/* A path of the walkable cells whose byte, masked, is `value`. */
+/* The cells whose byte, masked, is `value`. */
 static void draw_kind(struct text *text, const struct job *job, unsigned mask, unsigned value, const char *attributes)
 {
-    struct pen pen;
+    struct strips strips = {NULL, 0, 0};
     uint32_t row, column, end;
-    memset(&pen, 0, sizeof pen);
     for (row = 0; row < job->height; row++) {
         for (column = 0; column < job->width; column = end) {
             int in = (cell_at(job, column, row) & mask) == value;
             for (end = column + 1; end < job->width && ((cell_at(job, end, row) & mask) == value) == in; end++) {
             }
             if (in) {
-                add_run(&pen, column, row, end - column);
+                add_strip(&strips, column, row, end - column);
             }
         }
     }
-    if (pen.begun) {
-        say(text, "<path %s d=\"%s\"/>\n", attributes, pen.d.at);
-        free(pen.d.at);
+    if (strips.count > 0) {
+        say(text, "<g %s>", attributes);
+        say_strips(text, &strips);
+        say(text, "</g>\n");
     }
 }
 

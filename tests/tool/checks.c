@@ -211,3 +211,53 @@ int check_marks(const struct run *run, unsigned long *compared)
     *compared += run->job.count[BOUNDARIES];
     return memcmp(marks, expected, run->job.count[BOUNDARIES]) != 0;
 }
+
+/* Draws a path's runs; 1 where one leaves the map or meets a cell that is drawn. */
+static int draw_back(const struct job *job, const char *d, uint32_t *drawn, uint32_t label)
+{
+    long column = 0, row = 0, length;
+    while (*d != '"') {
+        int from_here = *d == 'm';
+        char *end;
+        long x = strtol(d + 1, &end, 10), y = strtol(end, &end, 10);
+        column = from_here ? column + x : x;
+        row = from_here ? row + y : y;
+        if (!from_here && (*d != 'M' || strncmp(end, ".5", 2) != 0)) {
+            return 1;
+        }
+        end += from_here ? 0 : 2;
+        if (*end != 'h' || row < 0 || row >= (long)job->height) {
+            return 1;
+        }
+        for (length = strtol(end + 1, &end, 10); length > 0; length--, column++) {
+            if (column < 0 || column >= (long)job->width || drawn[row * (long)job->width + column] != 0) {
+                return 1;
+            }
+            drawn[row * (long)job->width + column] = label;
+        }
+        d = end;
+    }
+    return 0;
+}
+
+int check_cells(const struct run *run, const char *page, unsigned long *compared)
+{
+    const char *at = strstr(page, "shape-rendering="), *end = strstr(page, "<g pointer-events=");
+    uint32_t *drawn = room(sizeof *drawn * run->job.count[CELLS]), label = 0, i;
+    int wrong = at == NULL || end == NULL;
+    while (!wrong && (at = strchr(at, '<')) < end) {
+        if (strncmp(at, "<title>", 7) == 0) {
+            /* An area by its label; those that are drawn together have none. */
+            label = strncmp(at + 7, "area ", 5) == 0 ? (uint32_t)strtoul(at + 12, NULL, 10) : UINT32_MAX;
+        } else if (strncmp(at, "<path d=\"", 9) == 0) {
+            wrong = draw_back(&run->job, at + 9, drawn, label);
+        }
+        at++;
+    }
+    for (i = 0; !wrong && i < run->job.count[CELLS]; i++) {
+        wrong = drawn[i] != run->labels[i] && (drawn[i] != UINT32_MAX || run->labels[i] == 0);
+        *compared += drawn[i] != 0;
+    }
+    free(drawn);
+    return wrong;
+}

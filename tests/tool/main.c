@@ -4,7 +4,7 @@
  *   main jobs N JOB ...      N jobs, changed or made by a fixed seed: explain, groups, marks and pages
  *   main drawings N FOLDER MAP ...   N changed drawings: what draw makes of them is accepted but for 12 and 13
  *   main arguments N WORD ...  N command lines of these words; the tool's status is 0, 1 or 2
- *   main page FILE           whether a page is well formed
+ *   main page FILE JOB       whether a page is well formed and draws the job's areas
  *   main make KIND           a job of 1,024 x 1,024 cells and 256 boundaries, noise or open, to standard output
  */
 #include "damages.h"
@@ -14,7 +14,7 @@
 
 int tool_main(int argc, char **argv);
 
-static unsigned long accepted, refused[24], merged, marked;
+static unsigned long accepted, refused[24], merged, marked, drawn;
 
 static struct bytes copy_of(const struct bytes *bytes)
 {
@@ -163,6 +163,8 @@ static const char *wrong_run(struct run *run)
         why = "the groups aren't what the answer has";
     } else if (run->result.number == CHOKES_OK && !run->by_list && check_marks(run, &marked) != 0) {
         why = "the marks aren't the bridges of the pairs";
+    } else if (run->labels != NULL && check_cells(run, page.at, &drawn) != 0) {
+        why = "the page draws other cells";
     } else {
         why = ill_formed(page.at);
     }
@@ -208,14 +210,14 @@ static int check_jobs(unsigned long count, char **names, int given_count)
     while (k > 0) {
         free(given[--k].at);
     }
-    printf("jobs: %lu, %lu accepted, %lu boundaries merged away, %lu marks held to the pairs; refused", count, accepted, merged,
-           marked);
+    printf("jobs: %lu, %lu accepted, %lu boundaries merged away, %lu marks held to the pairs, %lu cells read back; refused", count,
+           accepted, merged, marked, drawn);
     for (number = 1; number < 18; number++) {
         printf(" %u:%lu", number, refused[number]);
         missing |= refused[number] == 0 && number != 13;
     }
     printf("\n");
-    if (missing || accepted == 0 || merged == 0 || marked == 0) {
+    if (missing || accepted == 0 || merged == 0 || marked == 0 || drawn == 0) {
         printf("jobs: something never came up\n");
         return 1;
     }
@@ -348,20 +350,27 @@ static int make_large(const char *kind)
     return fflush(stdout) != 0;
 }
 
-static int check_page(const char *name)
+static int check_page(const char *name, const char *job)
 {
     struct bytes page;
+    struct run run;
     const char *why;
-    if (read_input(name, &page) != 0) {
+    memset(&run, 0, sizeof run);
+    if (read_input(name, &page) != 0 || read_input(job, &run.input) != 0) {
         return 1;
     }
     page.at = more_room(page.at, page.length + 1);
     page.at[page.length] = 0;
+    make_run(&run);
     why = ill_formed((char *)page.at);
+    if (why == NULL && (run.labels == NULL || check_cells(&run, (char *)page.at, &drawn) != 0 || drawn == 0)) {
+        why = "it draws other cells";
+    }
     if (why != NULL) {
         printf("%s: %s\n", name, why);
     }
     free(page.at);
+    end_run(&run);
     return why != NULL;
 }
 
@@ -380,8 +389,8 @@ int main(int argc, char **argv)
     if (argc > 3 && strcmp(argv[1], "arguments") == 0) {
         return check_arguments(count, argv + 3, argc - 3);
     }
-    if (argc == 3 && strcmp(argv[1], "page") == 0) {
-        return check_page(argv[2]);
+    if (argc == 4 && strcmp(argv[1], "page") == 0) {
+        return check_page(argv[2], argv[3]);
     }
     if (argc == 3 && strcmp(argv[1], "make") == 0) {
         return make_large(argv[2]);
