@@ -20,7 +20,11 @@ pub fn compare(
         if call != MARK && expected.refusal == NONE && expected.written.len() > most(&input.job) {
             return Err(format!("an answer of {} bytes", expected.written.len()));
         }
-        for [work, out] in lengths(&expected, rng) {
+        let mut lent_lengths = lengths(&expected, rng);
+        if call != MARK && expected.refusal == NONE && expected.pairs <= MOST_PAIRS {
+            lent_lengths.push([expected.work(), most(&input.job)]);
+        }
+        for [work, out] in lent_lengths {
             one(call, &expected, input, [work, out], lent, rng, tally)?;
         }
     }
@@ -28,7 +32,7 @@ pub fn compare(
 }
 
 /// CHOKES_ANSWER_BYTES of include/chokes.h, for the counts of a job.
-fn most(job: &[u8]) -> usize {
+pub fn most(job: &[u8]) -> usize {
     let [boundaries, observations, sources] =
         [12, 16, 20].map(|at| u32::from_le_bytes(job[at..at + 4].try_into().unwrap()) as usize);
     24 + 40 * boundaries + 28 * (observations + boundaries) + 16 * sources
