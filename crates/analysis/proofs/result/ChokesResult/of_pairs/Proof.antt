@@ -5,7 +5,7 @@ use Rattle.analysis.proofs.result.ChokesResult.of_pairs.Statement.{stat
 use Rattle.analysis.proofs.result.ChokesResult.of_pairs.Tie as tie
 
 returns : tie.Need-returns
-returns c = many (c .if1 .taken) refl refl
+returns c = many (omega (arith, c .if1 .taken)) refl refl
 
 returns-2 : tie.Need-returns-2
 returns-2 c = few (omega (arith, c .if1 .left)) refl refl
