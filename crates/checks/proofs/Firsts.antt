@@ -1,5 +1,5 @@
 -- The first check that holds: one after another, and number by number.
-use mathlib.Core.Path.{_≡_, refl, sym, _∙_}
+use mathlib.Core.Path.{_≡_, refl, sym, _∙_, ap}
 use mathlib.Core.Bool.{Bool, true, false, cond}
 use mathlib.Core.List.{List, [], _∷_, _++_}
 use mathlib.Core.Option.{Option, none, some}
@@ -113,3 +113,7 @@ pub clean-end : {f : ℕ → List Check} {n i : ℕ} → Clean f n i → n ≤ i
 clean-end {f} {n} {i} c h =
     let e : i ≡ n = omega (arith, c .below) in
     rw (sym e) (sym (c .clean))
+
+-- What a test answered of a record that was read holds of the record.
+pub told : {A : Type 0} (f : A → Bool) {a b : A} {t v : Bool} → a ≡ b → t ≡ f a → t ≡ v → f b ≡ v
+told f e g h = ap f (sym e) ∙ sym g ∙ h

@@ -1,8 +1,9 @@
 use mathlib.Core.List.{[]}
 use Prim.Native.Nat.{_-_}
-use native.Mathlib.Omega.{arith}
 use borrow.Author.Needs.{needs}
-use Rattle.checks.proofs.Firsts.{Clean, clean-start, clean-next, clean-found, clean-end, clear, stop}
+use Rattle.checks.proofs.Firsts.{Clean, clean-start, clean-next, clean-found, clean-end, clear, stop, told}
+use Rattle.format.specs.declared.records.BaseRecord.{BaseRecord}
+use Rattle.checks.specs.Faults.{anchorFault}
 use Rattle.checks.specs.Single.{baseCheck}
 use Rattle.checks.proofs.bases.check_bases.Statement.{statement}
 use Rattle.checks.proofs.bases.check_bases.Tie as tie
@@ -18,16 +19,40 @@ loop-holds c = clean-start _ _
 
 returns : tie.Need-returns Inv-loop μ-loop
 unfolding baseCheck
-returns c = clean-found (c .before .before .before .before .loop .inv) (omega arith) (stop 7 _ [] (cc))
+returns c =
+    let turning = c .before .before .before in
+    let in-loop = turning .before in
+    let start = in-loop .before .before in
+    clean-found (in-loop .loop .inv) (turning .loop-test .taken)
+    (stop 7 _ [] (told (λ (b : BaseRecord). anchorFault (start .args .width) (start .args .height) (b .anchor)) (c .before .before .read-base .ensures)
+    (c .before .anchor-fault .ensures) (c .if1 .taken)))
 
 loop-again : tie.Need-loop-again Inv-loop μ-loop
 unfolding baseCheck
-loop-again c = clean-next (c .before .before .before .before .loop .inv) (omega arith) (clear 7 _ (cc))
+loop-again c =
+    let turning = c .before .before .before in
+    let in-loop = turning .before in
+    let start = in-loop .before .before in
+    clean-next (in-loop .loop .inv) (turning .loop-test .taken)
+    (clear 7 _ (told (λ (b : BaseRecord). anchorFault (start .args .width) (start .args .height) (b .anchor)) (c .before .before .read-base .ensures)
+    (c .before .anchor-fault .ensures) (c .if1 .left)))
 
 returns-2 : tie.Need-returns-2 Inv-loop μ-loop
 returns-2 c = clean-end (c .before .loop .inv) (c .loop-test .left)
 
 pub check-bases-spec : {M : Type 1} → statement M
 check-bases-spec =
-    tie.close (tie.spec Inv-loop μ-loop loop-holds (search needs) (search needs) (λ c κs. search needs) (λ c κs. search needs) returns (search needs)
-    (search needs) loop-again returns-2)
+    tie.close
+    (tie.spec
+    Inv-loop
+    μ-loop
+    loop-holds
+    (λ c. search needs)
+    (λ c. search needs)
+    (λ c κs. search needs)
+    (λ c κs. search needs)
+    returns
+    (λ c. search needs)
+    (λ c. search needs)
+    loop-again
+    returns-2)
