@@ -5,7 +5,7 @@ ghost use lib.ListN.{length};
 ghost use Rattle.wire.specs.Bytes.{splice};
 ghost use Rattle.answer_text.specs.Digits.{lastDigits, digits, hexDigits};
 ghost use Rattle.answer_text.specs.Digits.{glyph as Digits·glyph};
-ghost use Rattle.answer_text.specs.Digits.{places as Digits·places};
+ghost use Rattle.answer_text.specs.Digits.{digitCount};
 ghost use Rattle.answer_text.specs.Answer.{TextRoom, Writes};
 
 fn glyph(d: u64) -> u8
@@ -17,7 +17,7 @@ fn glyph(d: u64) -> u8
 
 // How many decimal digits v has.
 fn places(v: u64) -> usize
-    ensures { λ r. ⌜ r ≡ Digits·places v ⌝ }
+    ensures { λ r. ⌜ r ≡ digitCount v ⌝ }
 {
     let mut k = 1;
     let mut rest = v;

@@ -21,7 +21,7 @@ use Rattle.format.specs.Records.{spanAt, baseAt, boundaryAt, sourceAt, spanByte
 use Rattle.format.specs.Header.{countsAt, headerAt, offsetsOf}
 use Rattle.format.specs.Decode.{decode, decodeList, jobWith, baseRecords, boundaryRecords, observationRecords, sourceRecords, decodeBoundaries, sourceCount}
 use Rattle.format.specs.Encode.{encodeAnswer, answerWords, encodeBoundaries, boundaryRecord, observationRecord, observationsOf, sourcesOf}
-use Rattle.graph.specs.Parts.{part as partOf}
+use Rattle.graph.specs.Parts.{componentOf}
 use Rattle.graph.specs.Labels.{count}
 use Rattle.areas.specs.Areas.{areaLabels}
 use Rattle.areas.specs.Assessments.{records}
@@ -44,7 +44,7 @@ use Rattle.serial_merging.specs.Runs.{Run, reduceRun, itemsOf, canonItem, group
 use Rattle.results.specs.Rules.{gridOf, rulesOn, rulesOf}
 use Rattle.results.specs.Results.{afterWork, Outcome, leftBy, workSize, ownEnds, labelsOf, answerOf, marksOf, reduced, reduceWith, reduceByListWith}
 use Rattle.results.specs.Calls.{reduceResult, reduceByListResult, markResult}
-use Rattle.results.specs.Cases.{oneCell, upright, observed as seenBytes, corridor, anchored, corridorAnswer, anchoredAnswer, leaves, Gives}
+use Rattle.results.specs.Cases.{oneCell, upright, corridorObservation, corridor, anchored, corridorAnswer, anchoredAnswer, leaves, Gives}
 use Rattle.results.specs.Cases.{oneSpan, OtherCalls, leavesOne, OneCellCase, CorridorCase}
 use Rattle.checks.proofs.Firsts.{append-none}
 use Rattle.results.proofs.Results.{reduced-success, mark-success}
@@ -111,23 +111,25 @@ anchored-job id = refl
 
 -- Labels and groups.
 job-labels : (bases : List Base) → labelsOf eight (job bases) (ownEnds (job bases)) ≡ 1 ∷ 2 ∷ 3 ∷ 3 ∷ []
-unfolding areaLabels partOf count upFrom
+unfolding areaLabels componentOf count upFrom
 job-labels bases = refl
 
 job-pairs : (bases : List Base) → length (records eight (gridOf (job bases)) (ownEnds (job bases))) ≡ 2
-unfolding records partOf count upFrom
+unfolding records componentOf count upFrom
 job-pairs bases = refl
 
 abbrev run : Run
 run = reduceRun (first ∷ second ∷ [])
 
 corridor-groups : groupsOf (rulesOf limits000 eight (job [])) run ≡ pair
-unfolding groupsOf itemsOf canonItem canon canonical posLe endsKey spanKey sourceKey sort insert sortOnce include lexLe rulesOn anchorsOf partOf count upFrom
+unfolding groupsOf itemsOf canonItem canon canonical posLe endsKey spanKey sourceKey sort insert sortOnce include lexLe rulesOn anchorsOf componentOf count
+    upFrom
     lengthOf ofInt ofBits toBits neg add sub mul div lt le
 corridor-groups = refl
 
 anchored-groups : (id : ℕ) → groupsOf (rulesOf limits000 eight (job (anchor id ∷ []))) run ≡ noGroups
-unfolding groupsOf itemsOf canonItem canon canonical posLe endsKey spanKey sourceKey sort insert sortOnce include lexLe rulesOn anchorsOf partOf count upFrom
+unfolding groupsOf itemsOf canonItem canon canonical posLe endsKey spanKey sourceKey sort insert sortOnce include lexLe rulesOn anchorsOf componentOf count
+    upFrom
     lengthOf ofInt ofBits toBits neg add sub mul div lt le
 anchored-groups id = refl
 
@@ -196,12 +198,12 @@ unfolding markChecks corridor reduceChecks boundaryChecks jobChecks layoutChecks
 corridor-marked = refl
 
 job-marks : marksOf eight (job []) ≡ 1 ∷ 1 ∷ []
-unfolding marksOf partOf count upFrom
+unfolding marksOf componentOf count upFrom
 job-marks = refl
 
 -- Two boundaries at one place: neither is a bridge.
 doubled-marks : marksOf eight (record { width = 4; height = 1; cells = 1 ∷ 1 ∷ 1 ∷ 1 ∷ []; bases = []; boundaries = first ∷ first ∷ [] }) ≡ 0 ∷ 0 ∷ []
-unfolding marksOf partOf count upFrom
+unfolding marksOf componentOf count upFrom
 doubled-marks = refl
 
 marks-left : (work marks : List ℕ) → 40 ≤ length work → 2 ≤ length marks
@@ -234,11 +236,11 @@ unfolding decodeList oneSpan spanAt numberAt bytes
 listed = refl
 
 listed-labels : labelsOf eight (job []) (column 8 ∷ []) ≡ 1 ∷ 2 ∷ 2 ∷ 2 ∷ []
-unfolding areaLabels partOf count upFrom
+unfolding areaLabels componentOf count upFrom
 listed-labels = refl
 
 listed-pairs : length (records eight (gridOf (job [])) (column 8 ∷ [])) ≡ 1
-unfolding records partOf count upFrom
+unfolding records componentOf count upFrom
 listed-pairs = refl
 
 listed-answer : answerOf limits000 eight (job []) (column 8 ∷ []) ≡ anchoredAnswer
@@ -313,7 +315,7 @@ unfolding words bytes
 six-words = refl
 
 one-label : (c : ℕ) → labelsOf eight (oneJob c) [] ≡ c % 2 ∷ []
-unfolding areaLabels partOf count upFrom
+unfolding areaLabels componentOf count upFrom
 one-label c = go (c % 2) refl (omega arith)
   where
     go : (b : ℕ) → c % 2 ≡ b → b < 2 → labelsOf eight (oneJob c) [] ≡ b ∷ []
@@ -366,7 +368,7 @@ unfolding corridor words upright bytes flatMap
 corridor-long = refl
 
 answer-long : length corridorAnswer ≡ 152
-unfolding corridorAnswer words upright seenBytes bytes flatMap
+unfolding corridorAnswer words upright corridorObservation bytes flatMap
 answer-long = refl
 
 pub corridor-case : CorridorCase

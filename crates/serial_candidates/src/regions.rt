@@ -4,7 +4,7 @@ ghost use Prim.Native.Nat.{_≤_, _<_};
 ghost use Rattle.serial_candidates.specs.Next.{lesserAbove, considered, nextAfter};
 
 // The least number above `after` of the two, where 0 is none yet.
-fn lesserAbove(after: u32, best: u32, x: u32) -> u32
+fn nearer(after: u32, best: u32, x: u32) -> u32
     ensures { λ r. ⌜ (r ≡ lesserAbove after best x) × (r < 4294967296) ⌝ }
 {
     if (after < x) & ((best == 0) | (x < best)) {
@@ -19,7 +19,7 @@ fn considered(after: u32, best: u32, mark: u8, lower: u32, higher: u32) -> u32
     ensures { λ r. ⌜ (r ≡ considered after best mark lower higher) × (r < 4294967296) ⌝ }
 {
     if mark == 1 {
-        return lesserAbove(after, lesserAbove(after, best, lower), higher);
+        return nearer(after, nearer(after, best, lower), higher);
     }
     best
 }

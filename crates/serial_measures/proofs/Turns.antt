@@ -21,7 +21,7 @@ use Rattle.serial_links.specs.Limits.{Limits}
 use Rattle.serial_links.specs.HeldLink.{noCell, linkWithCell, linkAfter}
 use Rattle.serial_links.specs.declared.link.Link.{Link as LinkHeld}
 use Rattle.serial_links.proofs.Cells.{after-none, after-next}
-use Rattle.context.specs.Held.{CellRoom, NoCells, linkWithCell as withStats, statsAfter, firstCells}
+use Rattle.context.specs.Held.{CellRoom, NoCells, statsWithCell, statsAfter, firstCells}
 use Rattle.context.specs.declared.stats.RegionStats.{RegionStats as StatsHeld}
 use Rattle.context.proofs.Counting.{after-next as stats-next, after-room, cells-in, cells-out, cells-most}
 use Rattle.serial_measures.specs.Tables.{tableNumber, RegionNumbers}
@@ -152,15 +152,15 @@ module _ {limits : Limits} {own bits regions firsts seconds : List ℕ} {g : Gri
           ∙ (after-next limits (valueIn own bits (at firsts j) (at seconds j)) (g .width) (firstCells ls (at regions j) i) i
           ∙ ap (λ (cs : List ℕ). linkAfter limits (valueIn own bits (at firsts j) (at seconds j)) (g .width) cs) more-cells)))
 
-      next-stats : (d : StatsHeld) → withStats (getD stats j d) x y (cellAt g i) ≡ statsNow limits own bits regions firsts seconds g ls j (i + 1)
+      next-stats : (d : StatsHeld) → statsWithCell (getD stats j d) x y (cellAt g i) ≡ statsNow limits own bits regions firsts seconds g ls j (i + 1)
       next-stats d =
-          ap (λ (t : StatsHeld). withStats t x y (cellAt g i)) (R .stats-is j d turn-on)
-          ∙ (ap (λ (z : ℕ). withStats (statsAfter g (firstCells ls (at regions j) i)) z y (cellAt g i)) column
-          ∙ (ap (λ (z : ℕ). withStats (statsAfter g (firstCells ls (at regions j) i)) (i % g .width) z (cellAt g i)) row
+          ap (λ (t : StatsHeld). statsWithCell t x y (cellAt g i)) (R .stats-is j d turn-on)
+          ∙ (ap (λ (z : ℕ). statsWithCell (statsAfter g (firstCells ls (at regions j) i)) z y (cellAt g i)) column
+          ∙ (ap (λ (z : ℕ). statsWithCell (statsAfter g (firstCells ls (at regions j) i)) (i % g .width) z (cellAt g i)) row
           ∙ (stats-next g (firstCells ls (at regions j) i) i ∙ ap (λ (cs : List ℕ). statsAfter g cs) more-cells)))
 
       pub turn-in : {a : LinkHeld} {b : StatsHeld} (d : LinkHeld) (f : StatsHeld) → a ≡ linkWithCell limits (getD table j d) x y
-          → b ≡ withStats (getD stats j f) x y (cellAt g i)
+          → b ≡ statsWithCell (getD stats j f) x y (cellAt g i)
           → Running limits own bits regions firsts seconds g ls links (i + 1) (set table j a) (set stats j b)
       turn-in {a} {b} d f p q = record {
         long = length-set table j a ∙ R .long;
