@@ -7,14 +7,19 @@ ghost use Rattle.format.specs.Fits.{CountsAllowed};
 ghost use Rattle.checks.specs.Single.{headerChecks};
 ghost use Rattle.checks.specs.Verdict.{meaning};
 use crate::verdict::Verdict;
+use format::BASE_SIZE;
+use format::BOUNDARY_SIZE;
 use format::Counts;
+use format::HEADER_SIZE;
 use format::Header;
 use format::MAX_BASES;
 use format::MAX_BOUNDARIES;
 use format::MAX_OBSERVATIONS;
 use format::MAX_SIDE;
 use format::MAX_SOURCES;
+use format::OBSERVATION_SIZE;
 use format::Offsets;
+use format::SOURCE_SIZE;
 
 fn side_fault(n: u32) -> bool
     ensures { λ r. ⌜ r ≡ sideFault n ⌝ }
@@ -50,18 +55,29 @@ fn same_offsets(o: Offsets, p: Offsets) -> bool
                     & ((o.sources == p.sources) & (o.total == p.total)))))
 }
 
-// What the counts give: sections without gaps from byte 48.
+// Sizes of the records in u32, as offsets are counted.
+const HEADER: u32 = HEADER_SIZE as u32;
+
+const BASE: u32 = BASE_SIZE as u32;
+
+const BOUNDARY: u32 = BOUNDARY_SIZE as u32;
+
+const OBSERVATION: u32 = OBSERVATION_SIZE as u32;
+
+const SOURCE: u32 = SOURCE_SIZE as u32;
+
+// What the counts give: sections without gaps from the end of the header.
 pub fn offsets_of(c: Counts) -> Offsets
     requires { ⌜ CountsAllowed c ⌝ }
     ensures { λ r. ⌜ r ≡ offsetsOf c ⌝ }
 {
-    let bases = 48 + c.width * c.height;
-    let boundaries = bases + c.bases * 12;
-    let observations = boundaries + c.boundaries * 40;
-    let sources = observations + c.observations * 28;
-    let total = sources + c.sources * 8;
+    let bases = HEADER + c.width * c.height;
+    let boundaries = bases + c.bases * BASE;
+    let observations = boundaries + c.boundaries * BOUNDARY;
+    let sources = observations + c.observations * OBSERVATION;
+    let total = sources + c.sources * SOURCE;
     Offsets {
-        cells: 48,
+        cells: HEADER,
         bases,
         boundaries,
         observations,

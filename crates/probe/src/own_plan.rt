@@ -12,6 +12,7 @@ use analysis::ANSWER_TOO_SHORT;
 use analysis::ChokesResult;
 use analysis::plan_reduce;
 use analysis::plan_reduce_by_list;
+use format::HEADER_SIZE;
 use format::read_header;
 use grid::neighbors::EIGHT;
 use serial_links::limits::Limits;
@@ -58,7 +59,7 @@ fn write_plan(order: &[u32; 256], plan: &[u32; 256], n: usize, out: &mut [u8])
 fn count_of(job: &[u8]) -> usize
     ensures { λ r. ⌜ CountOf (now (job .entry)) r ⌝ }
 {
-    if job.len() < 48 {
+    if job.len() < HEADER_SIZE {
         return 0;
     }
     let h = read_header(job);
