@@ -31,7 +31,7 @@ use Rattle.serial_merging.specs.Follows.{placesOf}
 use Rattle.serial_merging.specs.Kept.{noBoundary}
 use Rattle.serial_merging.specs.Planned.{planned}
 use Rattle.serial_measures.specs.Tables.{Labels}
-use Rattle.serial_ranks.specs.Tables.{Identity, SpansOf}
+use Rattle.serial_ranks.specs.Tables.{Identity, SpansOf, WidthsOf, RampsOf}
 use Rattle.checks.specs.Checks.{Check, firstRefusal}
 use Rattle.checks_calls.specs.Refusals.{boundaryChecks}
 use Rattle.results.specs.Rules.{gridOf, listingOf}
@@ -74,6 +74,12 @@ pub record OwnEnds (s ends : List ℕ) : Type 0 where
 pub record RankedJob (s : List ℕ) (h : Header) (order : List ℕ) : Type 0 where
   pub headed : Headed s h
   pub ranks : RankedBy (decode s) order
+
+-- ends, widths and ramps of its boundaries by rank, in arrays
+pub record RankTables (s order own bits ramps : List ℕ) : Type 0 where
+  pub ends : SpansOf s (boundariesStart (countsAt s 0)) boundarySize order (countsAt s 0 .boundaries) own
+  pub widths : WidthsOf s (boundariesStart (countsAt s 0)) order (countsAt s 0 .boundaries) bits
+  pub ramp-ends : RampsOf s (boundariesStart (countsAt s 0)) order (countsAt s 0 .boundaries) ramps
 
 -- and ten bytes of work a cell
 pub record Plannable (s : List ℕ) (h : Header) (order work : List ℕ) : Type 0 where

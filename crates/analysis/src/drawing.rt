@@ -16,7 +16,8 @@ ghost use Rattle.checks.specs.Checks.{firstRefusal};
 ghost use Rattle.checks_calls.specs.Refusals.{reduceChecks, byListChecks};
 ghost use Rattle.results.specs.Results.{workSize, ownEnds};
 ghost use Rattle.analysis.specs.Bridging.{fewPairs, PairArrays};
-ghost use Rattle.analysis.specs.Plans.{planOf, Leads, RankedBy, Headed, OwnEnds, RankedJob, Plannable, EndsBy, SomeEnds, PartitionTables, SomeTold};
+ghost use Rattle.analysis.specs.Plans.{RankTables, planOf, Leads, RankedBy, Headed, OwnEnds, RankedJob, Plannable, EndsBy, SomeEnds, PartitionTables};
+ghost use Rattle.analysis.specs.Plans.{SomeTold};
 ghost use Rattle.analysis.specs.Plans.{DrawnWithin};
 ghost use Rattle.analysis.specs.Plans.{Drawn};
 use crate::bridged::FEW_PAIRS;
@@ -67,6 +68,27 @@ pub fn own_ends(job: &[u8], h: Header, ends: &mut [u32; 1024])
     fill_spans(job, at, BOUNDARY_SIZE, &order, n, ends);
 }
 
+// Ends, widths and ramps of a job's boundaries by rank.
+fn fill_tables(
+    job: &[u8],
+    h: Header,
+    order: &[u32; 256],
+    own: &mut [u32; 1024],
+    bits: &mut [u64; 256],
+    ramps: &mut [u8; 256],
+)
+    requires { ⌜ RankedJob (now job) h (now order) × (length (now own) ≡ 1024) × (length (now bits) ≡ 256) × (length (now ramps) ≡ 256) ⌝ }
+    ensures { λ _. ⌜ RankTables (now (job .entry)) (now (order .entry)) (now (own .exit)) (now (bits .exit)) (now (ramps .exit)) ⌝ }
+{
+    let c = h.counts;
+    let o = h.offsets;
+    let count = size(c.boundaries);
+    let at = size(o.boundaries);
+    fill_spans(job, at, BOUNDARY_SIZE, order, count, own);
+    fill_widths(job, at, order, count, bits);
+    fill_ramps(job, at, order, count, ramps);
+}
+
 // The plan where the map is partitioned.
 fn plan_listing(
     limits: Limits,
@@ -97,13 +119,10 @@ fn plan_listing(
     let o = h.offsets;
     let n = size(c.width * c.height);
     let count = size(c.boundaries);
-    let at = size(o.boundaries);
     let mut own = [0u32; 1024];
-    fill_spans(job, at, BOUNDARY_SIZE, order, count, &mut own);
     let mut bits = [0u64; 256];
-    fill_widths(job, at, order, count, &mut bits);
     let mut ramps = [0u8; 256];
-    fill_ramps(job, at, order, count, &mut ramps);
+    fill_tables(job, h, order, &mut own, &mut bits, &mut ramps);
     plan_merges(
         limits,
         job,

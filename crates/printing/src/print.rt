@@ -5,6 +5,7 @@ ghost use lib.ListN.{length};
 ghost use Rattle.results.specs.Calls.{reduceResult};
 ghost use Rattle.answer_text.specs.Answer.{Writes};
 ghost use Rattle.printing.specs.Printed.{printed};
+use analysis::ChokesResult;
 use answer_text::write_listing;
 use answer_text::write_refused;
 use chokes::chokes_reduce;
@@ -19,7 +20,7 @@ pub fn print_list(job: &[u8], work: &mut [u8], answer: &mut [u8], out: &mut [u8]
     ensures lent { λ r. ⌜ (now (work .exit) ≡ reduceResult (now (job .entry)) (now (work .entry)) (now (answer .entry)) .work)
         × (now (answer .exit) ≡ reduceResult (now (job .entry)) (now (work .entry)) (now (answer .entry)) .out) ⌝ }
 {
-    let v = chokes_reduce(job, work, answer);
+    let v: ChokesResult = chokes_reduce(job, work, answer);
     let number = v.number;
     let detail = v.detail;
     if number != 0 {

@@ -17,12 +17,12 @@ fn verdict(call: u32, job: &[u8], list: &[u8]) -> Verdict
     ensures { λ r. ⌜ meaning r ≡ checked call (now (job .entry)) (now (list .entry)) ⌝ }
 {
     if call == 0 {
-        return job::check_reduce(job);
+        return checks_calls::check_reduce(job);
     }
     if call == 1 {
-        return job::check_reduce_by_list(job, list);
+        return checks_calls::check_reduce_by_list(job, list);
     }
-    job::check_mark(job)
+    checks_calls::check_mark(job)
 }
 
 // The input checks of a call: 0 Reduce, 1 Reduce by list, any other Mark.
@@ -62,5 +62,5 @@ pub extern "C" fn probe_span_ends<'a>(
     ensures { λ r. ⌜ (r ≡ length (spanEnds (now (job .entry)) (now (list .entry)) which i))
         × (now (out .exit) ≡ putFirst (now (out .entry)) (spanEnds (now (job .entry)) (now (list .entry)) which i)) ⌝ }
 {
-    copy(out, job::span_ends(job, list, which, i))
+    copy(out, checks_calls::span_ends(job, list, which, i))
 }
