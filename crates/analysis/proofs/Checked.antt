@@ -27,7 +27,7 @@ use Rattle.position.specs.Bounds.{Bounded}
 use Rattle.areas.specs.Spans.{SpanFits, Sides}
 use Rattle.checks.specs.Checks.{firstRefusal, each}
 use Rattle.checks.specs.Faults.{positionFault, endsFault, widthFault}
-use Rattle.checks.specs.Single.{sumsFault, cellCheck, baseCheck, rampCheck, widthCheck, spanChecks, endsCheck, spanCheck, listChecks}
+use Rattle.checks.specs.Single.{cellCheck, baseCheck, rampCheck, widthCheck, spanChecks, endsCheck, spanCheck, listChecks}
 use Rattle.checks_calls.specs.Refusals.{layoutChecks, recordChecks, jobChecks, endsChecks, boundaryChecks, byListChecks}
 use Rattle.checks.proofs.Firsts.{none-left, none-right, none-head, each-none}
 use Rattle.checks.proofs.Limits.{sections}
@@ -116,25 +116,25 @@ module _ (s : List ℕ) (c : Counts) (e : firstRefusal (recordChecks s c) ≡ no
   unfolding recordChecks
   after-ramps =
       let a = none-right (each (c .bases) (baseCheck s (c .width) (c .height) (basesStart c))) _ (none-right (each (mapCells c) (cellCheck s)) _ e) in
-      none-right (each (c .boundaries) (rampCheck s (boundariesStart c))) _ (none-head (sumsFault s c) 8 0 _ a .1)
+      none-right (each (c .boundaries) (rampCheck s (boundariesStart c))) _ (none-head _ _ a .1)
 
   widths-right : (k : ℕ) → k < c .boundaries → u64At s (boundariesStart c + k * boundarySize + 16) ≤ maxWidthBits
   unfolding widthCheck boundaryAt
   widths-right k h =
       let b = each-none (widthCheck s (boundariesStart c)) (c .boundaries) k h after-ramps in
-      let w : widthFault (u64At s (boundariesStart c + k * boundarySize + 16)) ≡ false = none-head _ 10 k _ b .0 in
+      let w : widthFault (u64At s (boundariesStart c + k * boundarySize + 16)) ≡ false = none-head _ _ b .0 in
       ltb-false maxWidthBits (u64At s (boundariesStart c + k * boundarySize + 16)) w
 
 -- the two checks of a span
 span-on : (past same : ℕ) (distinct : Bool) (width height : ℕ) (e : Span) (i : ℕ) → firstRefusal (spanChecks past same distinct width height e i) ≡ none
     → OnMap width height e
 unfolding spanChecks
-span-on past same distinct width height e i f = on-map width height e (none-head (endsFault width height e) past i _ f .0)
+span-on past same distinct width height e i f = on-map width height e (none-head _ _ f .0)
 
 span-apart : (past same : ℕ) (width height : ℕ) (e : Span) (i : ℕ) → firstRefusal (spanChecks past same true width height e i) ≡ none
     → posSame (e .a) (e .b) ≡ false
 unfolding spanChecks
-span-apart past same width height e i f = none-head (posSame (e .a) (e .b)) same i _ (none-head (endsFault width height e) past i _ f .1) .0
+span-apart past same width height e i f = none-head _ _ (none-head _ _ f .1) .0
 
 module _ (distinct : Bool) (s : List ℕ) (c : Counts) (e : firstRefusal (endsChecks distinct s c) ≡ none) (k : ℕ) (h : k < c .boundaries) where
   ends-passed : firstRefusal (spanChecks 11 12 distinct (c .width) (c .height) (spanAt s (boundariesStart c + k * boundarySize)) k) ≡ none
@@ -166,8 +166,8 @@ checked distinct s a e =
 pub list-checked : (t : List ℕ) (width height : ℕ) → firstRefusal (listChecks t width height) ≡ none → ListChecked width height t
 unfolding listChecks spanCheck
 list-checked t width height e =
-    let a = none-head _ 14 0 _ e in
-    let b = none-head (ltb maxSpans (length t / spanSize)) 15 (length t / spanSize) _ (a .1) in
+    let a = none-head _ _ e in
+    let b = none-head _ _ (a .1) in
     let f : (k : ℕ) → k < length t / spanSize → firstRefusal (spanChecks 16 17 true width height (spanAt t (k * spanSize)) k) ≡ none
     = λ k h. each-none (spanCheck t width height) (length t / spanSize) k h (b .1) in
     record {

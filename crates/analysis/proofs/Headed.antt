@@ -44,7 +44,7 @@ module _ (s : List ℕ) (c : Counts) (e : firstRefusal (recordChecks s c) ≡ no
   anchor-right k h =
       let a = none-right (each (mapCells c) (cellCheck s)) _ e in
       let b = none-left (each (c .bases) (baseCheck s (c .width) (c .height) (basesStart c))) _ a in
-      none-head _ 7 k _ (each-none (baseCheck s (c .width) (c .height) (basesStart c)) (c .bases) k h b) .0
+      none-head _ _ (each-none (baseCheck s (c .width) (c .height) (basesStart c)) (c .bases) k h b) .0
 
 anchor-on : (width height : ℕ) (p : WalkPosition) → anchorFault width height p ≡ false → isNone p ≡ false → p .y * width + p .x < width * height
 anchor-on width height p f n =

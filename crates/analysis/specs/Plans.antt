@@ -32,6 +32,7 @@ use Rattle.serial_merging.specs.Kept.{noBoundary}
 use Rattle.serial_merging.specs.Planned.{planned}
 use Rattle.serial_measures.specs.Tables.{Labels}
 use Rattle.serial_ranks.specs.Tables.{Identity, SpansOf, WidthsOf, RampsOf}
+use Rattle.checks.specs.Numbers.{answerTooShort}
 use Rattle.checks.specs.Checks.{Check, firstRefusal}
 use Rattle.checks_calls.specs.Refusals.{boundaryChecks}
 use Rattle.results.specs.Rules.{gridOf, listingOf}
@@ -146,4 +147,4 @@ answerBytes s order plan =
 pub record Finished (bytes before after : List ℕ) (number detail : ℕ) : Type 0 where
   pub long : detail ≡ length bytes
   pub written : length bytes ≤ length before → (number ≡ 0) × (after ≡ splice before 0 bytes)
-  pub unwritten : length before < length bytes → (number ≡ 22) × (after ≡ before)
+  pub unwritten : length before < length bytes → (number ≡ answerTooShort) × (after ≡ before)

@@ -10,20 +10,10 @@ ghost use Rattle.checks_calls.specs.Refusals.{jobChecks};
 ghost use Rattle.results.specs.Returns.{FirstAnswer, PairAnswer};
 use crate::bridged::MAX_PAIRS;
 use checks::Verdict;
+use checks::refusals::TOO_MANY_PAIRS;
+use checks::refusals::WORK_TOO_SHORT;
 use format::read_header;
 use wire::size;
-
-// "13 over 4,096 region pairs in all."
-pub const TOO_MANY_PAIRS: u32 = 13;
-
-// "21 work under ten bytes per cell."
-pub const WORK_TOO_SHORT: u32 = 21;
-
-// "22 answer slice too short (exact length needed)."
-pub const ANSWER_TOO_SHORT: u32 = 22;
-
-// "23 fewer mark bytes than boundaries."
-pub const MARKS_TOO_SHORT: u32 = 23;
 
 // "Work is a lent byte slice: ten bytes per cell."
 pub const WORK_PER_CELL: usize = 10;

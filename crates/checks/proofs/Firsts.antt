@@ -7,7 +7,9 @@ use Prim.Native.Nat.{ℕ, zero, suc, _+_, _<_, _≤_}
 use native.Mathlib.Decide.{ℕ-discrete}
 use native.Mathlib.Numerals.{add-one}
 use native.Mathlib.Omega.{arith}
-use Rattle.checks.specs.Checks.{Refusal, Check, check, firstRefusal, each}
+use Rattle.lists.specs.Rows.{All, none as all-none}
+use Rattle.lists.proofs.Each.{all-append}
+use Rattle.checks.specs.Checks.{Refusal, Check, firstRefusal, each}
 
 pub never : {X : Type 0} {r : Refusal} → _≡_ {A = Option Refusal} none (some r) → X
 never e = let z : _≡_ {A = ℕ} 0 1 = cc in absurd (omega arith)
@@ -16,22 +18,21 @@ pub same-refusal : {q r : Refusal} → _≡_ {A = Option Refusal} (some q) (some
 same-refusal e = cc
 
 -- A check that does not hold is passed over; one that holds decides.
-pub skip : {t : Bool} (n d : ℕ) (cs : List Check) → t ≡ false → firstRefusal (check t n d ∷ cs) ≡ firstRefusal cs
+pub skip : (c : Check) (cs : List Check) → c .holds ≡ false → firstRefusal (c ∷ cs) ≡ firstRefusal cs
 unfolding firstRefusal
-skip n d cs e = rw e
+skip c cs e = rw e
 
-pub stop : {t : Bool} (n d : ℕ) (cs : List Check) → t ≡ true → firstRefusal (check t n d ∷ cs) ≡ some (record { number = n; detail = d })
+pub stop : (c : Check) (cs : List Check) → c .holds ≡ true → firstRefusal (c ∷ cs) ≡ some (c .refusal)
 unfolding firstRefusal
-stop n d cs e = rw e
+stop c cs e = rw e
 
 -- Where no check of a list of one or two holds.
-pub clear : {t : Bool} (n d : ℕ) → t ≡ false → firstRefusal (check t n d ∷ []) ≡ none
+pub clear : (c : Check) → c .holds ≡ false → firstRefusal (c ∷ []) ≡ none
 unfolding firstRefusal
-clear n d e = rw e
+clear c e = skip c [] e
 
-pub clear-two : {t u : Bool} (n m d : ℕ) → t ≡ false → u ≡ false → firstRefusal (check t n d ∷ check u m d ∷ []) ≡ none
-unfolding firstRefusal
-clear-two n m d e f = rw (e, f)
+pub clear-two : (c d : Check) → c .holds ≡ false → d .holds ≡ false → firstRefusal (c ∷ d ∷ []) ≡ none
+clear-two c d e f = skip c _ e ∙ clear d f
 
 pub append-none : (a b : List Check) → firstRefusal a ≡ none → firstRefusal (a ++ b) ≡ firstRefusal b
 unfolding firstRefusal
@@ -64,10 +65,13 @@ none-left a b e = go (firstRefusal a) refl
 pub none-right : (a b : List Check) → firstRefusal (a ++ b) ≡ none → firstRefusal b ≡ none
 none-right a b e = sym (append-none a b (none-left a b e)) ∙ e
 
-pub none-head : (t : Bool) (n d : ℕ) (cs : List Check) → firstRefusal (check t n d ∷ cs) ≡ none → (t ≡ false) × (firstRefusal cs ≡ none)
+pub none-head : (c : Check) (cs : List Check) → firstRefusal (c ∷ cs) ≡ none → (c .holds ≡ false) × (firstRefusal cs ≡ none)
 unfolding firstRefusal
-none-head true n d cs e = never (sym e)
-none-head false n d cs e = (refl, e)
+none-head c cs e = go (c .holds) e
+  where
+    go : (t : Bool) → cond t (some (c .refusal)) (firstRefusal cs) ≡ none → (t ≡ false) × (firstRefusal cs ≡ none)
+    go true f = never (sym f)
+    go false f = (refl, f)
 
 -- The loop's next turn.
 pub each-next : (f : ℕ → List Check) (i : ℕ) → firstRefusal (each i f) ≡ none → firstRefusal (f i) ≡ none → firstRefusal (each (i + 1) f) ≡ none
@@ -93,6 +97,12 @@ each-none f (suc n) i h e = go (ℕ-discrete i n) (λ l. each-none f n i l (none
     go : Dec (i ≡ n) → (i < n → firstRefusal (f i) ≡ none) → firstRefusal (f i) ≡ none
     go (yes p) ih = rw p (none-right (each n f) (f n) e)
     go (no p) ih = ih (omega arith)
+
+-- What holds of the checks of every number holds of all.
+pub each-all : {P : Check → Type 0} (n : ℕ) (f : ℕ → List Check) → ((i : ℕ) → All P (f i)) → All P (each n f)
+unfolding each
+each-all zero f h = all-none
+each-all (suc n) f h = all-append (each-all n f h) (h n)
 
 -- A loop over the checks of 0 to n − 1 that has come to i: none before it holds.
 pub record Clean (f : ℕ → List Check) (n i : ℕ) : Type 0 where

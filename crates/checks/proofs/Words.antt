@@ -53,8 +53,8 @@ same-means o p e =
 pub header-passed : (h : Header) → firstRefusal (headerChecks h) ≡ none → (CountsAllowed (h .counts)) × (h .offsets ≡ offsetsOf (h .counts))
 unfolding headerChecks
 header-passed h e =
-    let a = none-head _ _ _ _ e in
-    let b = none-head _ _ _ _ (a .1) in
-    let c = none-head _ _ _ _ (b .1) in
-    let d = none-head _ _ _ _ (c .1) in
+    let a = none-head _ _ e in
+    let b = none-head _ _ (a .1) in
+    let c = none-head _ _ (b .1) in
+    let d = none-head _ _ (c .1) in
     (within (h .counts) (a .0) (b .0) (c .0), same-means (h .offsets) (offsetsOf (h .counts)) (not-false _ (d .0)))

@@ -37,6 +37,9 @@ endOffMap = 11
 abbrev pub endsCoincide : ℕ
 endsCoincide = 12
 
+abbrev pub tooManyPairs : ℕ
+tooManyPairs = 13
+
 abbrev pub badListLength : ℕ
 badListLength = 14
 
@@ -48,3 +51,12 @@ spanOffMap = 16
 
 abbrev pub spanEndsCoincide : ℕ
 spanEndsCoincide = 17
+
+abbrev pub workTooShort : ℕ
+workTooShort = 21
+
+abbrev pub answerTooShort : ℕ
+answerTooShort = 22
+
+abbrev pub marksTooShort : ℕ
+marksTooShort = 23

@@ -21,6 +21,7 @@ use Rattle.format.specs.declared.records.RampRecord.{RampRecord}
 use Rattle.format.specs.declared.records.BoundaryRecord.{BoundaryRecord}
 use Rattle.format.specs.declared.records.ObservationRecord.{ObservationRecord}
 use Rattle.format.proofs.JobTrip.{encode-decode}
+use Rattle.checks.specs.Numbers.{badSums}
 use Rattle.checks.specs.Checks.{check, firstRefusal, each}
 use Rattle.checks.specs.Faults.{rampFault}
 use Rattle.checks.specs.Single.{sumsFault, cellCheck, baseCheck, rampCheck, widthCheck}
@@ -38,7 +39,8 @@ zero-byte r e =
 -- What checks 8 and 9 leave.
 module _ (s : List ℕ) (c : Counts) (e : firstRefusal (recordChecks s c) ≡ none) where
   after-bases : firstRefusal
-      (check (sumsFault s c) 8 0 ∷ (each (c .boundaries) (rampCheck s (boundariesStart c)) ++ each (c .boundaries) (widthCheck s (boundariesStart c)))) ≡ none
+      (check (sumsFault s c) badSums 0 ∷ (each (c .boundaries) (rampCheck s (boundariesStart c)) ++ each (c .boundaries) (widthCheck s (boundariesStart c))))
+      ≡ none
   unfolding recordChecks
   after-bases = none-right (each (c .bases) (baseCheck s (c .width) (c .height) (basesStart c))) _ (none-right (each (mapCells c) (cellCheck s)) _ e)
 
@@ -47,16 +49,16 @@ module _ (s : List ℕ) (c : Counts) (e : firstRefusal (recordChecks s c) ≡ no
       (observationRecords s (observationsStart c) (c .observations)) ≡ c .sources)
   unfolding sumsFault
   sums-right =
-      let a = none-head (sumsFault s c) 8 0 _ after-bases in
+      let a = none-head _ _ after-bases in
       let b = and-parts _ _ (not-false _ (a .0)) in
       (eqb-true _ _ (b .0), eqb-true _ _ (b .1))
 
   zeros-right : (k : ℕ) → k < c .boundaries → boundaryAt s (boundariesStart c + k * boundarySize) .ramp .zero ≡ 0
   unfolding rampCheck
   zeros-right k h =
-      let a = none-head (sumsFault s c) 8 0 _ after-bases in
+      let a = none-head _ _ after-bases in
       let b = each-none (rampCheck s (boundariesStart c)) (c .boundaries) k h (none-left _ _ (a .1)) in
-      zero-byte (boundaryAt s (boundariesStart c + k * boundarySize) .ramp) (none-head _ 9 k _ b .0)
+      zero-byte (boundaryAt s (boundariesStart c + k * boundarySize) .ramp) (none-head _ _ b .0)
 
 pub job-formed : (s : List ℕ) → firstRefusal (jobChecks s) ≡ none → Formed s
 unfolding jobChecks headerAt

@@ -1,7 +1,7 @@
 -- One list of checks after another, as the code makes them; and what holds of a job that passes.
 use mathlib.Core.Path.{_≡_, refl, sym, _∙_, ap}
 use mathlib.Core.Bool.{Bool, true, false, not}
-use mathlib.Core.List.{List, [], _++_}
+use mathlib.Core.List.{List, _++_}
 use mathlib.Core.Option.{Option, none, some}
 use Prim.Native.Nat.{ℕ, _≤_}
 use native.Mathlib.Omega.{arith}
@@ -38,9 +38,9 @@ went-on {o} {t} a e f g = go o e f
 pub layout-passed : (s : List ℕ) → firstRefusal (layoutChecks s) ≡ none → (headerSize ≤ length s) × Laid s (headerAt s)
 unfolding layoutChecks offsetsOf
 layout-passed s e =
-    let a = none-head _ 1 0 _ e in
+    let a = none-head _ _ e in
     let words = header-passed (headerAt s) (none-left (headerChecks (headerAt s)) _ (a .1)) in
-    let len = none-head _ 5 0 [] (none-right (headerChecks (headerAt s)) _ (a .1)) in
+    let len = none-head _ _ (none-right (headerChecks (headerAt s)) _ (a .1)) in
     let whole : length s ≡ headerAt s .offsets .total = eqb-true _ _ (not-false _ (len .0)) in
     (ltb-false _ _ (a .0), record { within = words .0; offsets-right = words .1; whole = whole ∙ ap (λ (o : Offsets). o .total) (words .1) })
 

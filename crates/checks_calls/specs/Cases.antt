@@ -10,6 +10,7 @@ use Rattle.format.specs.Records.{boundaryAt}
 use Rattle.format.specs.Header.{headerAt, mapCells, basesStart, boundariesStart}
 use Rattle.format.specs.declared.header.Counts.{Counts}
 use Rattle.checks.specs.Checks.{Check, check, firstRefusal, each}
+use Rattle.checks.specs.Numbers.{badSums}
 use Rattle.checks.specs.Faults.{sizeFault, countFault, widthFault}
 use Rattle.checks.specs.Single.{cellCheck, baseCheck, sumsFault, rampCheck}
 use Rattle.checks_calls.specs.Refusals.{layoutChecks}
@@ -19,7 +20,7 @@ abbrev pub upToRamps : List ℕ → Counts → List Check
 upToRamps s c =
     each (mapCells c) (cellCheck s)
     ++ (each (c .bases) (baseCheck s (c .width) (c .height) (basesStart c))
-    ++ (check (sumsFault s c) 8 0
+    ++ (check (sumsFault s c) badSums 0
     ∷ each (c .boundaries) (rampCheck s (boundariesStart c))))
 
 -- The width bits of boundary i.

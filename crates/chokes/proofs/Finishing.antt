@@ -15,6 +15,7 @@ use Rattle.serial_links.specs.Limits.{Limits, limits000}
 use Rattle.serial_links.specs.HeldLimits.{limitsOf}
 use Rattle.serial_links.specs.declared.limits.Limits.{Limits as LimitsHeld}
 use Rattle.answer_sources.specs.Gathered.{PlacesOrder}
+use Rattle.checks.specs.Numbers.{answerTooShort}
 use Rattle.checks.specs.Checks.{Check, firstRefusal}
 use Rattle.checks_calls.specs.Refusals.{jobChecks, reduceChecks, byListChecks}
 use Rattle.results.specs.Results.{ownEnds, reduced, reduceWith, reduceByListWith, leftBy}
@@ -25,7 +26,7 @@ use Rattle.results.proofs.Own.{boundary-count}
 use Rattle.analysis.proofs.Leaving.{bytesBy, ordered, left-finished}
 
 -- what is written, or not
-pub finished-short : {bytes before after : List ℕ} {r : ℕ} → Answered bytes before after r → length before < r → Finished bytes before after 22 r
+pub finished-short : {bytes before after : List ℕ} {r : ℕ} → Answered bytes before after r → length before < r → Finished bytes before after answerTooShort r
 finished-short y l = record {
   long = y .long;
   written = λ h. absurd (omega (arith, y .long));

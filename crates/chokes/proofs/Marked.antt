@@ -19,6 +19,7 @@ use Rattle.graph.specs.Bridges.{isBridge, markOf}
 use Rattle.areas.specs.Assessments.{records}
 use Rattle.areas.specs.Spans.{spansIn}
 use Rattle.serial_walk.specs.Marks.{bridgeMarks}
+use Rattle.checks.specs.Numbers.{marksTooShort}
 use Rattle.checks.specs.Checks.{firstRefusal}
 use Rattle.checks_calls.specs.Refusals.{markChecks}
 use Rattle.results.specs.Rules.{gridOf}
@@ -61,7 +62,7 @@ module _ (dirs s work marks : List ℕ) where
     marked-many (few h p q) l = absurd (omega arith)
 
     -- 23
-    pub mark-no-room : pairs ≤ maxPairs → length marks < length (decode s .boundaries) → leftBy 23 0 after marks ≡ markWith dirs s work marks
+    pub mark-no-room : pairs ≤ maxPairs → length marks < length (decode s .boundaries) → leftBy marksTooShort 0 after marks ≡ markWith dirs s work marks
     mark-no-room h l = rw (y .work-is) (sym (mark-short dirs s work marks e w (parted-few y h) l))
 
     marks-copied : pairs ≤ maxPairs → (n : ℕ) → n ≤ 256 → n ≡ length (decode s .boundaries) → rows n (λ k. getD bridges k 0) ≡ marksOf dirs (decode s)

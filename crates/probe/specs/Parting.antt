@@ -13,6 +13,7 @@ use Rattle.format.specs.Header.{countsAt}
 use Rattle.format.specs.Decode.{decode}
 use Rattle.areas.specs.Areas.{areaCount}
 use Rattle.areas.specs.Assessments.{assess, records}
+use Rattle.checks.specs.Numbers.{tooManyPairs, answerTooShort}
 use Rattle.checks.specs.Checks.{firstRefusal}
 use Rattle.checks_calls.specs.Refusals.{reduceChecks}
 use Rattle.results.specs.Rules.{gridOf}
@@ -51,8 +52,8 @@ bytesOf count pairs = 8 + 8 * count + 12 * pairs
 
 -- over 4,096 pairs; an out that is too short, with the bytes that it should have; or the bytes, written at its start
 pub data PartitionBytes (count pairs : ℕ) (bytes out outEnd : List ℕ) (number detail : ℕ) : Type 0 where
-  many : 4096 < pairs → number ≡ 13 → detail ≡ 0 → outEnd ≡ out → PartitionBytes count pairs bytes out outEnd number detail
-  short : pairs ≤ 4096 → length out < bytesOf count pairs → number ≡ 22 → detail ≡ bytesOf count pairs → outEnd ≡ out
+  many : 4096 < pairs → number ≡ tooManyPairs → detail ≡ 0 → outEnd ≡ out → PartitionBytes count pairs bytes out outEnd number detail
+  short : pairs ≤ 4096 → length out < bytesOf count pairs → number ≡ answerTooShort → detail ≡ bytesOf count pairs → outEnd ≡ out
       → PartitionBytes count pairs bytes out outEnd number detail
   written : pairs ≤ 4096 → bytesOf count pairs ≤ length out → number ≡ 0 → detail ≡ bytesOf count pairs → outEnd ≡ splice out 0 bytes
       → PartitionBytes count pairs bytes out outEnd number detail

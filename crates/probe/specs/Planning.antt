@@ -16,6 +16,7 @@ use Rattle.format.specs.Decode.{decode, decodeList}
 use Rattle.areas.specs.Assessments.{records}
 use Rattle.serial_links.specs.Limits.{Limits}
 use Rattle.serial_merging.specs.Follows.{placesOf}
+use Rattle.checks.specs.Numbers.{answerTooShort}
 use Rattle.checks.specs.Checks.{Check, firstRefusal}
 use Rattle.checks_calls.specs.Refusals.{reduceChecks, byListChecks}
 use Rattle.results.specs.Rules.{gridOf}
@@ -75,8 +76,8 @@ pub data PlanAnswer (limits : Limits) (dirs : List ℕ) (checks : List Check) (j
     : Type 0 where
   refused : 0 < number → ((answer : List ℕ) → leftBy number detail workEnd answer ≡ reduced limits dirs checks j ss work answer) → outEnd ≡ out
       → PlanAnswer limits dirs checks j ss work out workEnd outEnd number detail
-  short : Parting dirs checks j ss work workEnd → length out < 4 * length (j .boundaries) → number ≡ 22 → detail ≡ 4 * length (j .boundaries) → outEnd ≡ out
-      → PlanAnswer limits dirs checks j ss work out workEnd outEnd number detail
+  short : Parting dirs checks j ss work workEnd → length out < 4 * length (j .boundaries) → number ≡ answerTooShort
+      → detail ≡ 4 * length (j .boundaries) → outEnd ≡ out → PlanAnswer limits dirs checks j ss work out workEnd outEnd number detail
   planned : Parting dirs checks j ss work workEnd → 4 * length (j .boundaries) ≤ length out → number ≡ 0 → detail ≡ 4 * length (j .boundaries)
       → PlanWords limits dirs j ss out outEnd
       → PlanAnswer limits dirs checks j ss work out workEnd outEnd number detail

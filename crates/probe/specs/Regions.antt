@@ -12,6 +12,7 @@ use Rattle.areas.specs.Words.{labelsIn}
 use Rattle.context.specs.RegionStats.{RegionStats, regionStats}
 use Rattle.context.specs.Anchors.{anchorsOf, isAnchored}
 use Rattle.context.specs.Held.{one}
+use Rattle.checks.specs.Numbers.{answerTooShort}
 use Rattle.checks.specs.Checks.{firstRefusal}
 use Rattle.checks_calls.specs.Refusals.{reduceChecks}
 use Rattle.results.specs.Rules.{gridOf}
@@ -36,5 +37,5 @@ cellLabels s labels = labelsIn labels (length (decode s .cells))
 -- a refusal as above; an out under n bytes; or these bytes at its start
 pub data Shown (s labels bytes : List ℕ) (n : ℕ) (out outEnd : List ℕ) (number detail : ℕ) : Type 0 where
   declined : 0 < number → LabelsReady s labels number detail → outEnd ≡ out → Shown s labels bytes n out outEnd number detail
-  short : LabelsReady s labels 0 0 → length out < n → number ≡ 22 → detail ≡ n → outEnd ≡ out → Shown s labels bytes n out outEnd number detail
+  short : LabelsReady s labels 0 0 → length out < n → number ≡ answerTooShort → detail ≡ n → outEnd ≡ out → Shown s labels bytes n out outEnd number detail
   told : LabelsReady s labels 0 0 → n ≤ length out → number ≡ 0 → detail ≡ n → outEnd ≡ splice out 0 bytes → Shown s labels bytes n out outEnd number detail

@@ -93,6 +93,6 @@ module _ (s : List ℕ) (e : firstRefusal (markChecks s) ≡ none) where
   ends-fit k h =
       let r = none-right (jobChecks s) _ e in
       let f = each-none (endsCheck true s (countsAt s 0 .width) (countsAt s 0 .height) (boundariesStart (countsAt s 0))) (countsAt s 0 .boundaries) k h r in
-      let a = none-head (endsFault (countsAt s 0 .width) (countsAt s 0 .height) (spanAt s (boundaryPlace s k))) 11 k _ f in
-      let b = none-head (posSame (spanAt s (boundaryPlace s k) .a) (spanAt s (boundaryPlace s k) .b)) 12 k [] (a .1) in
+      let a = none-head _ _ f in
+      let b = none-head _ _ (a .1) in
       canonical-fits (spanAt s (boundaryPlace s k)) (a .0) (b .0)

@@ -5,7 +5,7 @@ use mathlib.Core.List.{List, [], _∷_, _++_, flatMap}
 use mathlib.Core.Option.{Option, none, some}
 use Prim.Native.Nat.{ℕ, _<_}
 use native.Mathlib.Omega.{arith}
-use lib.Dec.{lit≤, ltb}
+use lib.Dec.{lit≤}
 use lib.ListN.{length}
 use Rattle.lists.specs.Rows.{All, none as all-none, more}
 use Rattle.lists.proofs.Each.{all-append}
@@ -18,13 +18,14 @@ use Rattle.format.specs.Decode.{decode, decodeList, boundaryRecords, observatio
 use Rattle.grid.specs.Directions.{eight}
 use Rattle.serial_links.specs.Limits.{Limits, limits000}
 use Rattle.position.specs.declared.Span.{Span}
-use Rattle.checks.specs.Checks.{Refusal, Check, check, firstRefusal, each}
+use Rattle.checks.specs.Numbers.{tooManyBoundaries, badLayout}
+use Rattle.checks.specs.Checks.{Refusal, Check, firstRefusal, each}
 use Rattle.checks.specs.Single.{headerChecks, cellCheck, sumsFault, rampCheck}
 use Rattle.checks.proofs.Firsts.{never, same-refusal, append-some}
 use Rattle.checks_calls.specs.Refusals.{reduceChecks, markChecks, byListChecks, jobChecks, layoutChecks}
 use Rattle.checks_calls.specs.Cases.{upToRamps, FirstWidth, PassesThree, bitsAt}
 use Rattle.checks_calls.proofs.Cases.{AllRefuse, Without, at, width-refused, count-refused, count-passes, all-refuse}
-use Rattle.results.specs.Results.{workCheck, ownEnds, labelsOf, pairCheck, marksOf, markWith, afterWork, outcome, answerOf}
+use Rattle.results.specs.Results.{workCheck, answerCheck, marksCheck, ownEnds, labelsOf, pairCheck, marksOf, markWith, afterWork, outcome, answerOf}
 use Rattle.results.specs.Results.{reduced, reduceWith, reduceByListWith}
 use Rattle.results.specs.Calls.{reduceResult, reduceByListResult, markResult}
 use Rattle.results.specs.Cases.{upright, negative, negativeZero, counted, AllCallsRefuse, NoCallGives, NegativeZeroCase, CountCase}
@@ -63,25 +64,25 @@ module _ (n : ℕ) (some-number : 0 < n) (work labels out written : List ℕ) (s
   outcome-without (some r) e f = found-without n es e f
 
 -- Up to 256 boundaries: a call does not give 4.
-reduced-without : (limits : Limits) (dirs : List ℕ) (checks : List Check) (j : Job) (ss : List Span) (work answer : List ℕ) → All (Without 4) checks
-    → reduced limits dirs checks j ss work answer .number ≡ 4 → ⊥
+reduced-without : (limits : Limits) (dirs : List ℕ) (checks : List Check) (j : Job) (ss : List Span) (work answer : List ℕ)
+    → All (Without tooManyBoundaries) checks → reduced limits dirs checks j ss work answer .number ≡ tooManyBoundaries → ⊥
 unfolding reduced
 reduced-without limits dirs checks j ss work answer h =
     let written = answerOf limits dirs j ss in
-    let later : List Check = pairCheck dirs j ss ∷ check (ltb (length answer) (length written)) 22 (length written) ∷ [] in
-    outcome-without 4 (omega arith) work (labelsOf dirs j ss) answer written (length written) (checks ++ (workCheck j work ∷ [])) later
-    (all-append h (at 21 refl all-none)) (at 13 refl (at 22 refl all-none)) (firstRefusal (checks ++ (workCheck j work ∷ []))) refl
+    let later : List Check = pairCheck dirs j ss ∷ answerCheck written answer ∷ [] in
+    outcome-without tooManyBoundaries (omega arith) work (labelsOf dirs j ss) answer written (length written) (checks ++ (workCheck j work ∷ [])) later
+    (all-append h (at refl all-none)) (at refl (at refl all-none)) (firstRefusal (checks ++ (workCheck j work ∷ []))) refl
 
-mark-without : (dirs s work marks : List ℕ) → All (Without 4) (markChecks s) → markWith dirs s work marks .number ≡ 4 → ⊥
+mark-without : (dirs s work marks : List ℕ) → All (Without tooManyBoundaries) (markChecks s) → markWith dirs s work marks .number ≡ tooManyBoundaries → ⊥
 unfolding markWith
 mark-without dirs s work marks h =
     let j = decode s in
-    let later : List Check = pairCheck dirs j (ownEnds j) ∷ check (ltb (length marks) (length (j .boundaries))) 23 0 ∷ [] in
+    let later : List Check = pairCheck dirs j (ownEnds j) ∷ marksCheck j marks ∷ [] in
     let earlier : List Check = markChecks s ++ (workCheck j work ∷ []) in
-    outcome-without 4 (omega arith) work (labelsOf dirs j (ownEnds j)) marks (marksOf dirs j) (length (j .boundaries)) earlier later
-    (all-append h (at 21 refl all-none)) (at 13 refl (at 23 refl all-none)) (firstRefusal earlier) refl
+    outcome-without tooManyBoundaries (omega arith) work (labelsOf dirs j (ownEnds j)) marks (marksOf dirs j) (length (j .boundaries)) earlier later
+    (all-append h (at refl all-none)) (at refl (at refl all-none)) (firstRefusal earlier) refl
 
-count-calls : (s : List ℕ) → headerAt s .counts .boundaries ≡ 256 → NoCallGives s 4
+count-calls : (s : List ℕ) → headerAt s .counts .boundaries ≡ 256 → NoCallGives s tooManyBoundaries
 unfolding reduceResult reduceByListResult markResult reduceWith reduceByListWith
 count-calls s e =
     let a = count-passes s (omega arith) in
@@ -126,7 +127,7 @@ over-count : headerAt (counted 257) .counts .boundaries ≡ 257
 unfolding counted words headerAt numberAt bytes flatMap
 over-count = refl
 
-just-refused : firstRefusal (jobChecks (counted 256)) ≡ some (record { number = 5; detail = 0 })
+just-refused : firstRefusal (jobChecks (counted 256)) ≡ some (record { number = badLayout; detail = 0 })
 unfolding jobChecks counted words layoutChecks headerChecks firstRefusal headerAt offsetsOf numberAt bytes flatMap
 just-refused = refl
 

@@ -12,6 +12,7 @@ use Rattle.position.specs.declared.Span.{Span}
 use Rattle.wire.specs.Bytes.{splice}
 use Rattle.format.specs.Values.{Job}
 use Rattle.areas.specs.Assessments.{records}
+use Rattle.checks.specs.Numbers.{tooManyPairs, workTooShort}
 use Rattle.checks.specs.Checks.{Refusal, Check, firstRefusal}
 use Rattle.checks.specs.Verdict.{passes, numberOf, detailOf}
 use Rattle.checks.proofs.Firsts.{skip, stop, clear, append-none, append-some}
@@ -59,25 +60,25 @@ module _ (dirs : List ℕ) (checks last : List Check) (j : Job) (ss : List Span)
   unfolding outcome
   first-return (refused p _ n d) h = refused-first (firstRefusal checks) refl p n d
   first-return (cramped e l n d) h =
-      let a : firstRefusal (checks ++ (workCheck j work ∷ [])) ≡ some (record { number = 21; detail = 0 })
-      = append-none checks _ e ∙ stop 21 0 [] (lt-ltb _ _ l) in
+      let a : firstRefusal (checks ++ (workCheck j work ∷ [])) ≡ some (record { number = workTooShort; detail = 0 })
+      = append-none checks _ e ∙ stop _ [] (lt-ltb _ _ l) in
       rw (a, n, d) refl
   first-return (ready _ _ n _) h = absurd (omega arith)
 
   module _ (e : firstRefusal checks ≡ none) (w : workSize j ≤ length work) where
     past-first : firstRefusal (checks ++ (workCheck j work ∷ [])) ≡ none
-    past-first = append-none checks _ e ∙ clear 21 0 (le-ltb _ _ w)
+    past-first = append-none checks _ e ∙ clear _ (le-ltb _ _ w)
 
     -- 13
-    pub pairs-return : maxPairs < length (records dirs (gridOf j) ss) → leftBy 13 0 (labelled (labelsOf dirs j ss) work) out ≡ called
+    pub pairs-return : maxPairs < length (records dirs (gridOf j) ss) → leftBy tooManyPairs 0 (labelled (labelsOf dirs j ss) work) out ≡ called
     unfolding outcome afterWork
     pairs-return h =
-        let b : firstRefusal (pairCheck dirs j ss ∷ last) ≡ some (record { number = 13; detail = 0 }) = stop 13 0 last (lt-ltb _ _ h) in
+        let b : firstRefusal (pairCheck dirs j ss ∷ last) ≡ some (record { number = tooManyPairs; detail = 0 }) = stop _ last (lt-ltb _ _ h) in
         rw (past-first, b) refl
 
     module _ (h : length (records dirs (gridOf j) ss) ≤ maxPairs) where
       past-pairs : firstRefusal (pairCheck dirs j ss ∷ last) ≡ firstRefusal last
-      past-pairs = skip 13 0 last (le-ltb _ _ h)
+      past-pairs = skip _ _ (le-ltb _ _ h)
 
       -- a refusal of the last checks
       pub last-return : {number detail : ℕ} → firstRefusal last ≡ some (record { number = number; detail = detail })

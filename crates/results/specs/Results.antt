@@ -15,6 +15,7 @@ use Rattle.graph.specs.Bridges.{markOf}
 use Rattle.areas.specs.Areas.{areaLabels}
 use Rattle.areas.specs.Assessments.{records}
 use Rattle.serial_links.specs.Limits.{Limits}
+use Rattle.checks.specs.Numbers.{tooManyPairs, workTooShort, answerTooShort, marksTooShort}
 use Rattle.checks.specs.Checks.{Refusal, Check, check, firstRefusal}
 use Rattle.checks_calls.specs.Refusals.{reduceChecks, markChecks, byListChecks}
 use Rattle.serial_merging.specs.Runs.{rulesAnswer}
@@ -54,7 +55,15 @@ module _ (work labels out written : List ℕ) (success : ℕ) where
 
 -- "21 work under ten bytes per cell."
 abbrev pub workCheck : Job → List ℕ → Check
-workCheck j work = check (ltb (length work) (workSize j)) 21 0
+workCheck j work = check (ltb (length work) (workSize j)) workTooShort 0
+
+-- "22 answer slice too short (exact length needed)."
+abbrev pub answerCheck : List ℕ → List ℕ → Check
+answerCheck written answer = check (ltb (length answer) (length written)) answerTooShort (length written)
+
+-- "23 fewer mark bytes than boundaries."
+abbrev pub marksCheck : Job → List ℕ → Check
+marksCheck j marks = check (ltb (length marks) (length (j .boundaries))) marksTooShort 0
 
 -- "*Reduce* takes a job and partitions by its boundaries' own ends."
 abbrev pub ownEnds : Job → List Span
@@ -66,7 +75,7 @@ module _ (dirs : List ℕ) where
   labelsOf j ss = areaLabels dirs (gridOf j) ss
 
   abbrev pub pairCheck : Job → List Span → Check
-  pairCheck j ss = check (ltb maxPairs (length (records dirs (gridOf j) ss))) 13 0
+  pairCheck j ss = check (ltb maxPairs (length (records dirs (gridOf j) ss))) tooManyPairs 0
 
   -- "*Mark* writes one byte per boundary of a job: 1 if it is in the bridge set below, else 0."
   unfoldable pub marksOf : Job → List ℕ
@@ -79,7 +88,7 @@ module _ (dirs : List ℕ) where
   markWith s work marks =
       let j = decode s in
       outcome work (labelsOf j (ownEnds j)) marks (marksOf j) (length (j .boundaries))
-      (pairCheck j (ownEnds j) ∷ check (ltb (length marks) (length (j .boundaries))) 23 0 ∷ [])
+      (pairCheck j (ownEnds j) ∷ marksCheck j marks ∷ [])
       (firstRefusal (markChecks s ++ (workCheck j work ∷ [])))
 
 module _ (limits : Limits) (dirs : List ℕ) where
@@ -91,7 +100,7 @@ module _ (limits : Limits) (dirs : List ℕ) where
   unfolding outcome firstRefusal
   reduced checks j ss work answer =
       outcome work (labelsOf dirs j ss) answer (answerOf j ss) (length (answerOf j ss))
-      (pairCheck dirs j ss ∷ check (ltb (length answer) (length (answerOf j ss))) 22 (length (answerOf j ss)) ∷ [])
+      (pairCheck dirs j ss ∷ answerCheck (answerOf j ss) answer ∷ [])
       (firstRefusal (checks ++ (workCheck j work ∷ [])))
 
   unfoldable pub reduceWith : List ℕ → List ℕ → List ℕ → Outcome

@@ -1,4 +1,3 @@
-use mathlib.Core.List.{[]}
 use Prim.Native.Nat.{_-_}
 use borrow.Author.Needs.{needs}
 use Rattle.checks.proofs.Firsts.{Clean, clean-start, clean-next, clean-found, clean-end, clear, stop, told}
@@ -24,7 +23,7 @@ returns c =
     let in-loop = turning .before in
     let start = in-loop .before .before in
     clean-found (in-loop .loop .inv) (turning .loop-test .taken)
-    (stop 7 _ [] (told (λ (b : BaseRecord). anchorFault (start .args .width) (start .args .height) (b .anchor)) (c .before .before .read-base .ensures)
+    (stop _ _ (told (λ (b : BaseRecord). anchorFault (start .args .width) (start .args .height) (b .anchor)) (c .before .before .read-base .ensures)
     (c .before .anchor-fault .ensures) (c .if1 .taken)))
 
 loop-again : tie.Need-loop-again Inv-loop μ-loop
@@ -34,7 +33,7 @@ loop-again c =
     let in-loop = turning .before in
     let start = in-loop .before .before in
     clean-next (in-loop .loop .inv) (turning .loop-test .taken)
-    (clear 7 _ (told (λ (b : BaseRecord). anchorFault (start .args .width) (start .args .height) (b .anchor)) (c .before .before .read-base .ensures)
+    (clear _ (told (λ (b : BaseRecord). anchorFault (start .args .width) (start .args .height) (b .anchor)) (c .before .before .read-base .ensures)
     (c .before .anchor-fault .ensures) (c .if1 .left)))
 
 returns-2 : tie.Need-returns-2 Inv-loop μ-loop

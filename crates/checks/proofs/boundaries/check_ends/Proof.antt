@@ -27,7 +27,7 @@ returns c =
     let in-loop = turning .before in
     let start = in-loop .before .before in
     clean-found (in-loop .loop .inv) (turning .loop-test .taken)
-    (stop 11 _ _ (told (λ (b : BoundaryRecord). endsFault (start .args .width) (start .args .height) (b .ends))
+    (stop _ _ (told (λ (b : BoundaryRecord). endsFault (start .args .width) (start .args .height) (b .ends))
     (after-read-boundary .read-boundary .ensures) (c .before .ends-fault .ensures) (c .if1 .taken)))
 
 returns-2 : tie.Need-returns-2 Inv-loop μ-loop
@@ -39,9 +39,9 @@ returns-2 c =
     let in-loop = turning .before in
     let start = in-loop .before .before in
     clean-found (in-loop .loop .inv) (turning .loop-test .taken)
-    (skip 11 _ _ (told (λ (b : BoundaryRecord). endsFault (start .args .width) (start .args .height) (b .ends))
+    (skip _ _ (told (λ (b : BoundaryRecord). endsFault (start .args .width) (start .args .height) (b .ends))
     (after-read-boundary .read-boundary .ensures) (after-ends-fault .ends-fault .ensures) (c .before .before .if1 .left))
-    ∙ stop 12 _ _ (told (λ (b : BoundaryRecord). start .args .distinct && posSame (b .ends .a) (b .ends .b)) (after-read-boundary .read-boundary .ensures)
+    ∙ stop _ _ (told (λ (b : BoundaryRecord). start .args .distinct && posSame (b .ends .a) (b .ends .b)) (after-read-boundary .read-boundary .ensures)
     (ap (λ (t : Bool). start .args .distinct && t) (c .before .coincides .ensures)) (c .if2 .taken)))
 
 loop-again : tie.Need-loop-again Inv-loop μ-loop
@@ -53,7 +53,7 @@ loop-again c =
     let in-loop = turning .before in
     let start = in-loop .before .before in
     clean-next (in-loop .loop .inv) (turning .loop-test .taken)
-    (clear-two 11 12 _ (told (λ (b : BoundaryRecord). endsFault (start .args .width) (start .args .height) (b .ends))
+    (clear-two _ _ (told (λ (b : BoundaryRecord). endsFault (start .args .width) (start .args .height) (b .ends))
     (after-read-boundary .read-boundary .ensures) (after-ends-fault .ends-fault .ensures) (c .before .before .if1 .left))
     (told (λ (b : BoundaryRecord). start .args .distinct && posSame (b .ends .a) (b .ends .b)) (after-read-boundary .read-boundary .ensures)
     (ap (λ (t : Bool). start .args .distinct && t) (c .before .coincides .ensures)) (c .if2 .left)))

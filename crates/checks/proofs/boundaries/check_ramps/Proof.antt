@@ -1,4 +1,3 @@
-use mathlib.Core.List.{[]}
 use Prim.Native.Nat.{_-_}
 use borrow.Author.Needs.{needs}
 use Rattle.checks.proofs.Firsts.{Clean, clean-start, clean-next, clean-found, clean-end, clear, stop, told}
@@ -23,7 +22,7 @@ returns c =
     let turning = c .before .before .before in
     let in-loop = turning .before in
     clean-found (in-loop .loop .inv) (turning .loop-test .taken)
-    (stop 9 _ [] (told (λ (b : BoundaryRecord). rampFault (b .ramp)) (c .before .before .read-boundary .ensures) (c .before .ramp-fault .ensures)
+    (stop _ _ (told (λ (b : BoundaryRecord). rampFault (b .ramp)) (c .before .before .read-boundary .ensures) (c .before .ramp-fault .ensures)
     (c .if1 .taken)))
 
 loop-again : tie.Need-loop-again Inv-loop μ-loop
@@ -32,7 +31,7 @@ loop-again c =
     let turning = c .before .before .before in
     let in-loop = turning .before in
     clean-next (in-loop .loop .inv) (turning .loop-test .taken)
-    (clear 9 _ (told (λ (b : BoundaryRecord). rampFault (b .ramp)) (c .before .before .read-boundary .ensures) (c .before .ramp-fault .ensures)
+    (clear _ (told (λ (b : BoundaryRecord). rampFault (b .ramp)) (c .before .before .read-boundary .ensures) (c .before .ramp-fault .ensures)
     (c .if1 .left)))
 
 returns-2 : tie.Need-returns-2 Inv-loop μ-loop

@@ -1,4 +1,3 @@
-use mathlib.Core.List.{[]}
 use Prim.Native.Nat.{_-_}
 use native.Mathlib.Omega.{arith}
 use borrow.Author.Needs.{needs}
@@ -21,13 +20,13 @@ returns : tie.Need-returns Inv-loop μ-loop
 unfolding cellCheck
 returns c =
     let inv = c .before .before .before .loop .inv in
-    clean-found inv (omega arith) (stop 6 _ [] (le-leb _ _ (c .if1 .taken)))
+    clean-found inv (omega arith) (stop _ _ (le-leb _ _ (c .if1 .taken)))
 
 loop-again : tie.Need-loop-again Inv-loop μ-loop
 unfolding cellCheck
 loop-again c =
     let inv = c .before .before .before .loop .inv in
-    clean-next inv (omega arith) (clear 6 _ (lt-leb _ _ (c .if1 .left)))
+    clean-next inv (omega arith) (clear _ (lt-leb _ _ (c .if1 .left)))
 
 returns-2 : tie.Need-returns-2 Inv-loop μ-loop
 returns-2 c = clean-end (c .before .loop .inv) (c .loop-test .left)

@@ -11,14 +11,14 @@ use Rattle.checks.proofs.header.check_header.Tie as tie
 
 returns : tie.Need-returns
 unfolding headerChecks
-returns c = sym (stop 2 0 _ (sym (c .before .size-fault .ensures) ∙ c .if1 .taken))
+returns c = sym (stop _ _ (sym (c .before .size-fault .ensures) ∙ c .if1 .taken))
 
 returns-2 : tie.Need-returns-2
 unfolding headerChecks
 returns-2 c =
     let after-size-fault = c .before .before .before in
-    sym (skip 2 0 _ (sym (after-size-fault .size-fault .ensures) ∙ c .before .before .if1 .left)
-    ∙ stop 3 0 _ (sym (c .before .count-fault .ensures) ∙ c .if2 .taken))
+    sym (skip _ _ (sym (after-size-fault .size-fault .ensures) ∙ c .before .before .if1 .left)
+    ∙ stop _ _ (sym (c .before .count-fault .ensures) ∙ c .if2 .taken))
 
 returns-3 : tie.Need-returns-3
 unfolding headerChecks
@@ -27,9 +27,9 @@ returns-3 c =
     let after-count-fault = if2-left .before in
     let if1-left = after-count-fault .before in
     let after-size-fault = if1-left .before in
-    sym (skip 2 0 _ (sym (after-size-fault .size-fault .ensures) ∙ if1-left .if1 .left)
-    ∙ skip 3 0 _ (sym (after-count-fault .count-fault .ensures) ∙ if2-left .if2 .left)
-    ∙ stop 4 _ _ (sym (c .before .before .boundary-count-fault .ensures) ∙ c .before .if3 .taken))
+    sym (skip _ _ (sym (after-size-fault .size-fault .ensures) ∙ if1-left .if1 .left)
+    ∙ skip _ _ (sym (after-count-fault .count-fault .ensures) ∙ if2-left .if2 .left)
+    ∙ stop _ _ (sym (c .before .before .boundary-count-fault .ensures) ∙ c .before .if3 .taken))
 
 offsets-of-requires : tie.Need-offsets-of-requires
 offsets-of-requires c κs =
@@ -49,10 +49,10 @@ returns-4 c =
     let if1-left = after-count-fault .before in
     let after-size-fault = if1-left .before in
     let start = after-size-fault .before .before .before in
-    sym (skip 2 0 _ (sym (after-size-fault .size-fault .ensures) ∙ if1-left .if1 .left)
-    ∙ skip 3 0 _ (sym (after-count-fault .count-fault .ensures) ∙ if2-left .if2 .left)
-    ∙ skip 4 (start .args .h .counts .boundaries) _ (sym (after-boundary-count-fault .boundary-count-fault .ensures) ∙ if3-left .if3 .left)
-    ∙ stop 5 0 _ (told (λ (p : Offsets). not (sameOffsets (start .args .h .offsets) p)) (c .before .before .offsets-of .ensures)
+    sym (skip _ _ (sym (after-size-fault .size-fault .ensures) ∙ if1-left .if1 .left)
+    ∙ skip _ _ (sym (after-count-fault .count-fault .ensures) ∙ if2-left .if2 .left)
+    ∙ skip _ _ (sym (after-boundary-count-fault .boundary-count-fault .ensures) ∙ if3-left .if3 .left)
+    ∙ stop _ _ (told (λ (p : Offsets). not (sameOffsets (start .args .h .offsets) p)) (c .before .before .offsets-of .ensures)
     (ap not (c .before .same-offsets .ensures)) (c .if4 .taken)))
 
 returns-5 : tie.Need-returns-5
@@ -65,10 +65,10 @@ returns-5 c =
     let if1-left = after-count-fault .before in
     let after-size-fault = if1-left .before in
     let start = after-size-fault .before .before .before in
-    sym (skip 2 0 _ (sym (after-size-fault .size-fault .ensures) ∙ if1-left .if1 .left)
-    ∙ skip 3 0 _ (sym (after-count-fault .count-fault .ensures) ∙ if2-left .if2 .left)
-    ∙ skip 4 (start .args .h .counts .boundaries) _ (sym (after-boundary-count-fault .boundary-count-fault .ensures) ∙ if3-left .if3 .left)
-    ∙ clear 5 0 (told (λ (p : Offsets). not (sameOffsets (start .args .h .offsets) p)) (c .before .before .offsets-of .ensures)
+    sym (skip _ _ (sym (after-size-fault .size-fault .ensures) ∙ if1-left .if1 .left)
+    ∙ skip _ _ (sym (after-count-fault .count-fault .ensures) ∙ if2-left .if2 .left)
+    ∙ skip _ _ (sym (after-boundary-count-fault .boundary-count-fault .ensures) ∙ if3-left .if3 .left)
+    ∙ clear _ (told (λ (p : Offsets). not (sameOffsets (start .args .h .offsets) p)) (c .before .before .offsets-of .ensures)
     (ap not (c .before .same-offsets .ensures)) (c .if4 .left)))
 
 pub check-header-spec : {M : Type 1} → statement M

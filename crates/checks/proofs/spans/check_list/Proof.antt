@@ -8,15 +8,15 @@ use Rattle.checks.proofs.spans.check_list.Tie as tie
 
 returns : tie.Need-returns
 unfolding listChecks
-returns c = sym (stop 14 0 _ (c .if1 .taken))
+returns c = sym (stop _ _ (c .if1 .taken))
 
 returns-2 : tie.Need-returns-2
 unfolding listChecks
-returns-2 c = sym (skip 14 0 _ (c .before .if1 .left) ∙ stop 15 _ _ (lt-ltb _ _ (c .if2 .taken)))
+returns-2 c = sym (skip _ _ (c .before .if1 .left) ∙ stop _ _ (lt-ltb _ _ (c .if2 .taken)))
 
 returns-3 : tie.Need-returns-3
 unfolding listChecks
-returns-3 c = c .check-spans .ensures ∙ sym (skip 14 0 _ (c .before .before .if1 .left) ∙ skip 15 _ _ (le-ltb _ _ (c .before .if2 .left)))
+returns-3 c = c .check-spans .ensures ∙ sym (skip _ _ (c .before .before .if1 .left) ∙ skip _ _ (le-ltb _ _ (c .before .if2 .left)))
 
 pub check-list-spec : {M : Type 1} → statement M
 check-list-spec = tie.close (tie.spec returns returns-2 (λ c κs. search needs) returns-3)

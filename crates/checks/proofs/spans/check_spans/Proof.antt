@@ -25,7 +25,7 @@ returns c =
     let in-loop = turning .before in
     let start = in-loop .before .before in
     clean-found (in-loop .loop .inv) (turning .loop-test .taken)
-    (stop 16 _ _ (told (λ (b : Span). endsFault (start .args .width) (start .args .height) b) (c .before .before .read-span .ensures)
+    (stop _ _ (told (λ (b : Span). endsFault (start .args .width) (start .args .height) b) (c .before .before .read-span .ensures)
     (c .before .ends-fault .ensures) (c .if1 .taken)))
 
 returns-2 : tie.Need-returns-2 Inv-loop μ-loop
@@ -37,9 +37,9 @@ returns-2 c =
     let in-loop = turning .before in
     let start = in-loop .before .before in
     clean-found (in-loop .loop .inv) (turning .loop-test .taken)
-    (skip 16 _ _ (told (λ (b : Span). endsFault (start .args .width) (start .args .height) b) (after-read-span .read-span .ensures)
+    (skip _ _ (told (λ (b : Span). endsFault (start .args .width) (start .args .height) b) (after-read-span .read-span .ensures)
     (after-ends-fault .ends-fault .ensures) (c .before .before .if1 .left))
-    ∙ stop 17 _ _ (told (λ (b : Span). posSame (b .a) (b .b)) (after-read-span .read-span .ensures) (c .before .coincides .ensures) (c .if2 .taken)))
+    ∙ stop _ _ (told (λ (b : Span). posSame (b .a) (b .b)) (after-read-span .read-span .ensures) (c .before .coincides .ensures) (c .if2 .taken)))
 
 loop-again : tie.Need-loop-again Inv-loop μ-loop
 unfolding spanCheck spanChecks
@@ -50,7 +50,7 @@ loop-again c =
     let in-loop = turning .before in
     let start = in-loop .before .before in
     clean-next (in-loop .loop .inv) (turning .loop-test .taken)
-    (clear-two 16 17 _ (told (λ (b : Span). endsFault (start .args .width) (start .args .height) b) (after-read-span .read-span .ensures)
+    (clear-two _ _ (told (λ (b : Span). endsFault (start .args .width) (start .args .height) b) (after-read-span .read-span .ensures)
     (after-ends-fault .ends-fault .ensures) (c .before .before .if1 .left))
     (told (λ (b : Span). posSame (b .a) (b .b)) (after-read-span .read-span .ensures) (c .before .coincides .ensures) (c .if2 .left)))
 

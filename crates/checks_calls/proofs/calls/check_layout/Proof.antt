@@ -7,6 +7,7 @@ use lib.Dec.{eqb}
 use lib.ListN.{length}
 use Rattle.format.specs.Header.{headerAt}
 use Rattle.format.specs.declared.header.Header.{Header}
+use Rattle.checks.specs.Numbers.{badLayout}
 use Rattle.checks.specs.Checks.{check, firstRefusal}
 use Rattle.checks.specs.Single.{headerChecks}
 use Rattle.checks.specs.Verdict.{meaning}
@@ -26,27 +27,27 @@ header-told c = c .check-header .ensures ∙ ap (λ (h : Header). firstRefusal (
 
 -- past the length and the header
 past-header : (c : tie.Else2) → let job = job-of (c .before .before .before) in
-    firstRefusal (layoutChecks job) ≡ firstRefusal (check (not (eqb (length job) (headerAt job .offsets .total))) 5 0 ∷ [])
+    firstRefusal (layoutChecks job) ≡ firstRefusal (check (not (eqb (length job) (headerAt job .offsets .total))) badLayout 0 ∷ [])
 unfolding layoutChecks
 past-header c =
-    skip 1 0 _ (le-ltb _ _ (c .before .before .before .before .if1 .left))
+    skip _ _ (le-ltb _ _ (c .before .before .before .before .if1 .left))
     ∙ append-none _ _ (went-on _ (header-told (c .before .before)) (c .before .passed .ensures) (c .if2 .left))
 
 returns : tie.Need-returns
 unfolding layoutChecks
-returns c = sym (stop 1 0 _ (lt-ltb _ _ (c .if1 .taken)))
+returns c = sym (stop _ _ (lt-ltb _ _ (c .if1 .taken)))
 
 returns-2 : tie.Need-returns-2
 unfolding layoutChecks
 returns-2 c =
     stopped _ _ (header-told (c .before .before)) (c .before .passed .ensures) (c .if2 .taken)
-    ∙ sym (skip 1 0 _ (le-ltb _ _ (c .before .before .before .before .if1 .left)))
+    ∙ sym (skip _ _ (le-ltb _ _ (c .before .before .before .before .if1 .left)))
 
 returns-3 : tie.Need-returns-3
-returns-3 c = sym (past-header (c .before .before .before) ∙ stop 5 0 _ (cc))
+returns-3 c = sym (past-header (c .before .before .before) ∙ stop _ _ (cc))
 
 returns-4 : tie.Need-returns-4
-returns-4 c = sym (past-header (c .before .before .before) ∙ clear 5 0 (cc))
+returns-4 c = sym (past-header (c .before .before .before) ∙ clear _ (cc))
 
 pub check-layout-spec : {M : Type 1} → statement M
 check-layout-spec =

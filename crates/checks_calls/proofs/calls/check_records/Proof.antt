@@ -4,6 +4,7 @@ use Prim.Native.Nat.{ℕ}
 use native.Mathlib.Omega.{arith}
 use Rattle.format.specs.Header.{mapCells, basesStart, boundariesStart}
 use Rattle.format.specs.declared.header.Counts.{Counts}
+use Rattle.checks.specs.Numbers.{badSums}
 use Rattle.checks.specs.Checks.{Check, check, firstRefusal, each}
 use Rattle.checks.specs.Single.{cellCheck, baseCheck, sumsFault, rampCheck, widthCheck}
 use Rattle.checks.specs.Verdict.{meaning}
@@ -30,7 +31,7 @@ module _ (s : List ℕ) (c : Counts) where
   widths = each (c .boundaries) (widthCheck s (boundariesStart c))
 
   abbrev after-bases : List Check
-  after-bases = check (sumsFault s c) 8 0 ∷ (ramps ++ widths)
+  after-bases = check (sumsFault s c) badSums 0 ∷ (ramps ++ widths)
 
 abbrev start-of : tie.After-size → tie.Start
 start-of c = c .before .before .before .before .before
@@ -66,7 +67,7 @@ past-bases c =
 
 past-sums : (c : tie.Else3) → firstRefusal (over (size-of (else1 (c .before .before))) recordChecks)
     ≡ firstRefusal (over (size-of (else1 (c .before .before))) ramps ++ over (size-of (else1 (c .before .before))) widths)
-past-sums c = past-bases (c .before .before) ∙ skip 8 0 _ (sym (c .before .sums-fault .ensures) ∙ c .if3 .left)
+past-sums c = past-bases (c .before .before) ∙ skip _ _ (sym (c .before .sums-fault .ensures) ∙ c .if3 .left)
 
 abbrev size-at : tie.After-size5 → tie.After-size
 size-at c = size-of (else1 (c .before .before .before .before))
@@ -94,7 +95,7 @@ returns-2 c =
     stopped _ _ (bases-told (c .before .before)) (c .before .passed2 .ensures) (c .if2 .taken) ∙ sym (past-cells (c .before .before .before .before .before))
 
 returns-3 : tie.Need-returns-3
-returns-3 c = sym (past-bases (c .before .before) ∙ stop 8 0 _ (sym (c .before .sums-fault .ensures) ∙ c .if3 .taken))
+returns-3 c = sym (past-bases (c .before .before) ∙ stop _ _ (sym (c .before .sums-fault .ensures) ∙ c .if3 .taken))
 
 check-ramps-requires : tie.Need-check-ramps-requires
 check-ramps-requires c κs = omega (arith, sections _ _ (start-of (size-at c) .pre) .boundaries-in)
