@@ -13,22 +13,21 @@ use Rattle.format.specs.Fits.{AnswerFits}
 use Rattle.format.specs.Records.{positionAt, spanAt, sourceAt, rampAt, boundaryAt, observationAt}
 use Rattle.format.specs.Decode.{boundaryRecords, observationRecords, sourceRecords, observationsWith, boundaryWith, boundariesWith, sourceCount}
 use Rattle.format.specs.Decode.{decodeBoundaries, decodeAnswer, rampOf}
+use Rattle.format.specs.Corridor.{upright, corridorObservation, corridorAnswer}
 use Rattle.format.proofs.AnswerTrip.{length-encodeAnswer, answer-words, decodeAnswer-encodeAnswer}
 use Rattle.answer_text.specs.Digits.{glyph, lastDigits, digitCountFrom, digitCount, digits, hexDigits}
 use Rattle.answer_text.specs.Lines.{fieldText, bitsText, endsText, rampText, sourceLine, sourceLines, observationFields, observationLine, observationText}
 use Rattle.answer_text.specs.Lines.{observationTexts, boundaryFields, boundaryLine, boundaryText, boundaryTexts, keptLine, answerLines}
 use Rattle.answer_text.specs.Answer.{answerLength, answerWhole, answerText}
-use Rattle.answer_text.specs.Corridor.{corridorBytes, corridorText}
+use Rattle.answer_text.specs.Corridor.{corridorText}
 use Rattle.answer_text.proofs.Sizing.{is-whole}
 
 -- "Here it prints": the corridor's answer, in a slice of three times its length.
-pub corridor-listing : answerText corridorBytes 456 ≡ corridorText
-unfolding answerText answerWhole corridorBytes corridorText words decodeAnswer decodeBoundaries boundariesWith boundaryWith observationsWith sourceCount
-    boundaryRecords
-    observationRecords sourceRecords rampOf positionAt spanAt sourceAt rampAt boundaryAt observationAt numberAt part number bytes rows sum flatMap glyph
-    lastDigits digitCountFrom digitCount digits hexDigits fieldText bitsText endsText rampText sourceLine sourceLines observationFields observationLine
-    observationText
-    observationTexts boundaryFields boundaryLine boundaryText boundaryTexts keptLine answerLines
+pub corridor-listing : answerText corridorAnswer 456 ≡ corridorText
+unfolding answerText answerWhole corridorAnswer upright corridorObservation corridorText words decodeAnswer decodeBoundaries boundariesWith boundaryWith
+    observationsWith sourceCount boundaryRecords observationRecords sourceRecords rampOf positionAt spanAt sourceAt rampAt boundaryAt observationAt numberAt
+    part number bytes rows sum flatMap glyph lastDigits digitCountFrom digitCount digits hexDigits fieldText bitsText endsText rampText sourceLine sourceLines
+    observationFields observationLine observationText observationTexts boundaryFields boundaryLine boundaryText boundaryTexts keptLine answerLines
 corridor-listing = refl
 
 module _ (bs : List Boundary) (f : AnswerFits bs) where

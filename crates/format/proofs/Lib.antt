@@ -11,3 +11,4 @@ pub mod JobTrip
 pub mod AnswerTrip
 pub mod JobFormed
 pub mod RampSides
+pub mod Corridor

@@ -7,3 +7,4 @@ pub mod Encode
 pub mod Decode
 pub mod Fits
 pub mod RampSides
+pub mod Corridor

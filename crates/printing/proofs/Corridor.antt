@@ -7,13 +7,13 @@ use native.Mathlib.Omega.{arith}
 use borrow.Author.Tests.{le-ltb}
 use lib.Dec.{ltb}
 use lib.ListN.{length}
-use Rattle.wire.specs.Bytes.{words, part, number, bytes, numberAt}
+use Rattle.wire.specs.Bytes.{part, number, bytes, numberAt}
 use Rattle.format.specs.Decode.{decodeAnswer}
+use Rattle.format.specs.Corridor.{upright, corridor, corridorAnswer}
 use Rattle.answer_text.specs.Lines.{answerLines}
 use Rattle.answer_text.specs.Answer.{answerText, answerWhole}
-use Rattle.answer_text.specs.Corridor.{corridorBytes, corridorText}
+use Rattle.answer_text.specs.Corridor.{corridorText}
 use Rattle.answer_text.proofs.Cases.{corridor-listing}
-use Rattle.results.specs.Cases.{upright, corridorObservation, corridor, corridorAnswer}
 use Rattle.results.specs.Calls.{reduceResult}
 use Rattle.results.proofs.Cases.{corridor-case}
 use Rattle.chokes.proofs.Demand.{first-written}
@@ -21,18 +21,13 @@ use Rattle.printing.specs.Printed.{printed}
 use Rattle.printing.specs.ChokeList.{lentWork, lentAnswer, mostInput, zeros, chokeList}
 use Rattle.printing.proofs.Reading.{length-zeros}
 
--- The answer that is listed is case 12's.
-pub same-answer : corridorBytes ≡ corridorAnswer
-unfolding corridorBytes corridorAnswer words upright corridorObservation bytes flatMap
-same-answer = refl
-
-corridor-whole : answerWhole corridorBytes 456 ≡ true
-unfolding answerWhole corridorBytes numberAt part number bytes flatMap
+corridor-whole : answerWhole corridorAnswer 456 ≡ true
+unfolding answerWhole corridorAnswer upright numberAt part number bytes flatMap
 corridor-whole = refl
 
-corridor-listed : answerLines (decodeAnswer corridorBytes) ≡ corridorText
+corridor-listed : answerLines (decodeAnswer corridorAnswer) ≡ corridorText
 unfolding answerText
-corridor-listed = ap (λ (b : Bool). cond b (answerLines (decodeAnswer corridorBytes)) []) (sym corridor-whole) ∙ corridor-listing
+corridor-listed = ap (λ (b : Bool). cond b (answerLines (decodeAnswer corridorAnswer)) []) (sym corridor-whole) ∙ corridor-listing
 
 -- Reduce on the corridor, whatever the lent slices hold: the eight lines.
 pub corridor-printed : (work answer : List ℕ) → 40 ≤ length work → 152 ≤ length answer → printed (reduceResult corridor work answer) ≡ corridorText
@@ -40,7 +35,7 @@ unfolding printed
 corridor-printed work answer w a =
     let fits : length corridorAnswer ≤ length answer = omega (arith, a, corridor-case .answer-long) in
     ap printed (corridor-case .reduced work answer w fits)
-    ∙ ap (λ (l : List ℕ). answerLines (decodeAnswer l)) (first-written answer corridorAnswer ∙ sym same-answer)
+    ∙ ap (λ (l : List ℕ). answerLines (decodeAnswer l)) (first-written answer corridorAnswer)
     ∙ corridor-listed
 
 -- So does the program, which lends more than that.

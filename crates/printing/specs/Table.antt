@@ -1,10 +1,11 @@
 -- "The table below is proved as a whole from the definitions": the twelve cases.
 use mathlib.Core.Path.{_≡_}
+use Rattle.format.specs.Corridor.{corridor}
 use Rattle.length.specs.Cases.{LengthCase}
 use Rattle.areas.specs.Cases.{CutCases}
 use Rattle.graph.specs.Cases.{BridgeCases}
 use Rattle.answer_text.specs.Corridor.{corridorText}
-use Rattle.results.specs.Cases.{corridor, NegativeZeroCase, CountCase, OneCellCase, CorridorCase}
+use Rattle.results.specs.Cases.{NegativeZeroCase, CountCase, OneCellCase, CorridorCase}
 use Rattle.printing.specs.ChokeList.{chokeList}
 
 pub record TwelveCases : Type 0 where

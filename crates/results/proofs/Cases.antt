@@ -16,10 +16,12 @@ use Rattle.order.specs.Keys.{lexLe}
 use Rattle.wire.specs.Bytes.{words, number, numberAt, bytes, splice}
 use Rattle.length.specs.Length.{lengthOf}
 use Rattle.length.specs.Total.{totalKey}
-use Rattle.format.specs.Values.{Base, Observation, Boundary, Job}
+use Rattle.format.specs.Values.{Base, Job}
 use Rattle.format.specs.Records.{spanAt, baseAt, boundaryAt, sourceAt, spanBytes, sourceBytes, boundaryBytes, observationBytes}
 use Rattle.format.specs.Header.{countsAt, headerAt, offsetsOf}
 use Rattle.format.specs.Decode.{decode, decodeList, jobWith, baseRecords, boundaryRecords, observationRecords, sourceRecords, decodeBoundaries, sourceCount}
+use Rattle.format.specs.Corridor.{uprightSpan, crossing, twoCrossings, fourCells, bothMerged, upright, corridorObservation, corridor, corridorAnswer}
+use Rattle.format.proofs.Corridor.{corridor-job, corridor-bytes}
 use Rattle.format.specs.Encode.{encodeAnswer, answerWords, encodeBoundaries, boundaryRecord, observationRecord, observationsOf, sourcesOf}
 use Rattle.graph.specs.Parts.{componentOf}
 use Rattle.graph.specs.Labels.{count}
@@ -32,7 +34,6 @@ use Rattle.checks.specs.Single.{listChecks, spanCheck, headerChecks, cellCheck,
 use Rattle.checks_calls.specs.Refusals.{reduceChecks, markChecks, byListChecks, boundaryChecks, jobChecks, layoutChecks, recordChecks, endsChecks}
 use Rattle.position.specs.Order.{posSame, posLe, canonical}
 use Rattle.position.specs.declared.Span.{Span}
-use Rattle.format.specs.declared.records.Source.{Source}
 use Rattle.context.specs.Anchors.{anchorsOf}
 use Rattle.context.specs.Listing.{spanKey, endsKey}
 use Rattle.serial_merging.specs.Keys.{sourceKey, sourcesKey, observationKey}
@@ -44,46 +45,17 @@ use Rattle.serial_merging.specs.Runs.{Run, reduceRun, itemsOf, canonItem, group
 use Rattle.results.specs.Rules.{gridOf, rulesOn, rulesOf}
 use Rattle.results.specs.Results.{afterWork, Outcome, leftBy, workSize, ownEnds, labelsOf, answerOf, marksOf, reduced, reduceWith, reduceByListWith}
 use Rattle.results.specs.Calls.{reduceResult, reduceByListResult, markResult}
-use Rattle.results.specs.Cases.{oneCell, upright, corridorObservation, corridor, anchored, corridorAnswer, anchoredAnswer, leaves, Gives}
+use Rattle.results.specs.Cases.{oneCell, anchored, anchoredAnswer, leaves, Gives}
 use Rattle.results.specs.Cases.{oneSpan, OtherCalls, leavesOne, OneCellCase, CorridorCase}
 use Rattle.checks.proofs.Firsts.{append-none}
 use Rattle.results.proofs.Results.{reduced-success, mark-success}
 
--- The corridor's boundaries.
-abbrev column : ℕ → Span
-column x = record { a = record { x = x; y = 0 }; b = record { x = x; y = 8 } }
-
-abbrev boundary : ℕ → List Source → List Observation → Boundary
-boundary x sources observations =
-    record {
-      ends = column x;
-      bits = 0x4020_0000_0000_0000;
-      ramp = record { end = 0; lower = 0; upper = 0; id = 0 };
-      sources = sources;
-      observations = observations;
-    }
-
-abbrev source : ℕ → ℕ → Source
-source m n = record { from = m; to = n }
-
-abbrev first : Boundary
-first = boundary 8 (source 1 2 ∷ []) []
-
-abbrev second : Boundary
-second = boundary 16 (source 2 1 ∷ []) []
-
+-- The corridor with these bases.
 abbrev job : List Base → Job
-job bases = record { width = 4; height = 1; cells = 1 ∷ 1 ∷ 1 ∷ 1 ∷ []; bases = bases; boundaries = first ∷ second ∷ [] }
+job bases = fourCells bases twoCrossings
 
 abbrev anchor : ℕ → Base
 anchor id = record { id = number (bytes 4 id); anchor = some (record { x = 1; y = 0 }) }
-
-abbrev seen : ℕ → ℕ → ℕ → Observation
-seen x m n = record { ends = column x; bits = 0x4020_0000_0000_0000; sources = source m n ∷ [] }
-
--- The two merged.
-abbrev merged : Boundary
-merged = boundary 8 (source 1 2 ∷ source 2 1 ∷ []) (seen 8 1 2 ∷ seen 16 2 1 ∷ [])
 
 abbrev pair : Groups
 pair = record { serial = []; flat = record { ranks = 0 ∷ 1 ∷ []; retained = 0 } ∷ [] }
@@ -98,11 +70,6 @@ anchored-passes : (id : ℕ) → firstRefusal (reduceChecks (anchored id)) ≡ n
 unfolding anchored reduceChecks boundaryChecks jobChecks layoutChecks headerChecks recordChecks each cellCheck baseCheck sumsFault rampCheck widthCheck
     endsChecks endsCheck spanChecks firstRefusal headerAt offsetsOf boundaryAt baseAt numberAt bytes boundaryRecords observationRecords sourceCount posSame
 anchored-passes id = refl
-
-corridor-job : decode corridor ≡ job []
-unfolding corridor decode jobWith decodeBoundaries numberAt bytes countsAt baseRecords baseAt boundaryRecords observationRecords sourceRecords boundaryAt
-    sourceAt
-corridor-job = refl
 
 anchored-job : (id : ℕ) → decode (anchored id) ≡ job (anchor id ∷ [])
 unfolding anchored decode jobWith decodeBoundaries numberAt bytes countsAt baseRecords baseAt boundaryRecords observationRecords sourceRecords boundaryAt
@@ -119,7 +86,7 @@ unfolding records componentOf count upFrom
 job-pairs bases = refl
 
 abbrev run : Run
-run = reduceRun (first ∷ second ∷ [])
+run = reduceRun twoCrossings
 
 corridor-groups : groupsOf (rulesOf limits000 eight (job [])) run ≡ pair
 unfolding groupsOf itemsOf canonItem canon canonical posLe endsKey spanKey sourceKey sort insert sortOnce include lexLe rulesOn anchorsOf componentOf count
@@ -134,24 +101,19 @@ unfolding groupsOf itemsOf canonItem canon canonical posLe endsKey spanKey sourc
 anchored-groups id = refl
 
 -- What is kept.
-pair-kept : kept (copiesOf (first ∷ second ∷ [])) (allGroups pair) ≡ merged ∷ []
+pair-kept : kept (copiesOf twoCrossings) (allGroups pair) ≡ bothMerged ∷ []
 unfolding keptOf allGroups kept slot consolidated consolidate membersOf observed orItself copiesOf canon canonObservation canonical posLe endsKey spanKey
     sourceKey
     sourcesKey observationKey totalKey sort insert sortOnce include lexLe gather upFrom has
 pair-kept = refl
 
-none-kept : kept (copiesOf (first ∷ second ∷ [])) (allGroups noGroups) ≡ first ∷ second ∷ []
+none-kept : kept (copiesOf twoCrossings) (allGroups noGroups) ≡ twoCrossings
 unfolding keptOf allGroups kept slot consolidated consolidate membersOf observed orItself copiesOf canon canonObservation canonical posLe endsKey spanKey
     sourceKey
     sourcesKey observationKey totalKey sort insert sortOnce include lexLe gather upFrom has
 none-kept = refl
 
-merged-bytes : encodeAnswer (merged ∷ []) ≡ corridorAnswer
-unfolding corridorAnswer encodeAnswer answerWords encodeBoundaries boundaryRecord observationRecord observationsOf sourcesOf boundaryBytes observationBytes
-    sourceBytes spanBytes bytes
-merged-bytes = refl
-
-both-bytes : encodeAnswer (first ∷ second ∷ []) ≡ anchoredAnswer
+both-bytes : encodeAnswer twoCrossings ≡ anchoredAnswer
 unfolding anchoredAnswer encodeAnswer answerWords encodeBoundaries boundaryRecord observationRecord observationsOf sourcesOf boundaryBytes observationBytes
     sourceBytes spanBytes bytes
 both-bytes = refl
@@ -160,19 +122,19 @@ both-bytes = refl
 abbrev answer : List ℕ → List ℕ
 answer s = answerOf limits000 eight (decode s) (ownEnds (decode s))
 
-corridor-answer : answer corridor ≡ corridorAnswer
+pub corridor-answer : answerOf limits000 eight (decode corridor) (ownEnds (decode corridor)) ≡ corridorAnswer
 unfolding rulesAnswer keptOf
 corridor-answer =
     ap (λ (j : Job). answerOf limits000 eight j (ownEnds j)) corridor-job
-    ∙ ap (λ (g : Groups). encodeAnswer (kept (copiesOf (first ∷ second ∷ [])) (allGroups g))) corridor-groups
+    ∙ ap (λ (g : Groups). encodeAnswer (kept (copiesOf twoCrossings) (allGroups g))) corridor-groups
     ∙ ap encodeAnswer pair-kept
-    ∙ merged-bytes
+    ∙ corridor-bytes
 
 anchored-answer : (id : ℕ) → answer (anchored id) ≡ anchoredAnswer
 unfolding rulesAnswer keptOf
 anchored-answer id =
     ap (λ (j : Job). answerOf limits000 eight j (ownEnds j)) (anchored-job id)
-    ∙ ap (λ (g : Groups). encodeAnswer (kept (copiesOf (first ∷ second ∷ [])) (allGroups g))) (anchored-groups id)
+    ∙ ap (λ (g : Groups). encodeAnswer (kept (copiesOf twoCrossings) (allGroups g))) (anchored-groups id)
     ∙ ap encodeAnswer none-kept
     ∙ both-bytes
 
@@ -202,7 +164,7 @@ unfolding marksOf componentOf count upFrom
 job-marks = refl
 
 -- Two boundaries at one place: neither is a bridge.
-doubled-marks : marksOf eight (record { width = 4; height = 1; cells = 1 ∷ 1 ∷ 1 ∷ 1 ∷ []; bases = []; boundaries = first ∷ first ∷ [] }) ≡ 0 ∷ 0 ∷ []
+doubled-marks : marksOf eight (fourCells [] (crossing (uprightSpan 8) [] [] ∷ crossing (uprightSpan 8) [] [] ∷ [])) ≡ 0 ∷ 0 ∷ []
 unfolding marksOf componentOf count upFrom
 doubled-marks = refl
 
@@ -231,19 +193,19 @@ unfolding byListChecks listChecks spanCheck oneSpan spanAt corridor reduceChecks
     observationRecords sourceCount posSame
 listed-passes = refl
 
-listed : decodeList oneSpan ≡ column 8 ∷ []
+listed : decodeList oneSpan ≡ uprightSpan 8 ∷ []
 unfolding decodeList oneSpan spanAt numberAt bytes
 listed = refl
 
-listed-labels : labelsOf eight (job []) (column 8 ∷ []) ≡ 1 ∷ 2 ∷ 2 ∷ 2 ∷ []
+listed-labels : labelsOf eight (job []) (uprightSpan 8 ∷ []) ≡ 1 ∷ 2 ∷ 2 ∷ 2 ∷ []
 unfolding areaLabels componentOf count upFrom
 listed-labels = refl
 
-listed-pairs : length (records eight (gridOf (job [])) (column 8 ∷ [])) ≡ 1
+listed-pairs : length (records eight (gridOf (job [])) (uprightSpan 8 ∷ [])) ≡ 1
 unfolding records componentOf count upFrom
 listed-pairs = refl
 
-listed-answer : answerOf limits000 eight (job []) (column 8 ∷ []) ≡ anchoredAnswer
+listed-answer : answerOf limits000 eight (job []) (uprightSpan 8 ∷ []) ≡ anchoredAnswer
 unfolding rulesAnswer keptOf groupsOf
 listed-answer = ap encodeAnswer none-kept ∙ both-bytes
 
@@ -251,16 +213,16 @@ list-left : (work out : List ℕ) → 40 ≤ length work → length anchoredAnsw
     → reduceByListResult corridor oneSpan work out ≡ leaves (length anchoredAnswer) (1 ∷ 2 ∷ 2 ∷ 2 ∷ []) anchoredAnswer work out
 unfolding reduceByListResult reduceByListWith labelled words
 list-left work out w o =
-    let few : length (records eight (gridOf (job [])) (column 8 ∷ [])) ≤ 4096 = rw listed-pairs (lit≤ tt) in
-    let fits : length (answerOf limits000 eight (job []) (column 8 ∷ [])) ≤ length out = rw listed-answer o in
+    let few : length (records eight (gridOf (job [])) (uprightSpan 8 ∷ [])) ≤ 4096 = rw listed-pairs (lit≤ tt) in
+    let fits : length (answerOf limits000 eight (job []) (uprightSpan 8 ∷ [])) ≤ length out = rw listed-answer o in
     ap (λ (j : Job). reduced limits000 eight (byListChecks corridor oneSpan) j (decodeList oneSpan) work out) corridor-job
     ∙ ap (λ (l : List Span). reduced limits000 eight (byListChecks corridor oneSpan) (job []) l work out) listed
-    ∙ reduced-success limits000 eight (byListChecks corridor oneSpan) (job []) (column 8 ∷ []) work out listed-passes w few fits
+    ∙ reduced-success limits000 eight (byListChecks corridor oneSpan) (job []) (uprightSpan 8 ∷ []) work out listed-passes w few fits
     ∙ ap (λ (l : List ℕ). record {
       number = 0;
-      detail = length (answerOf limits000 eight (job []) (column 8 ∷ []));
+      detail = length (answerOf limits000 eight (job []) (uprightSpan 8 ∷ []));
       work = labelled l work;
-      out = splice out 0 (answerOf limits000 eight (job []) (column 8 ∷ []));
+      out = splice out 0 (answerOf limits000 eight (job []) (uprightSpan 8 ∷ []));
     }) listed-labels
     ∙ ap (λ (l : List ℕ). leaves (length l) (1 ∷ 2 ∷ 2 ∷ 2 ∷ []) l work out) listed-answer
 

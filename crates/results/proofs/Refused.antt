@@ -14,6 +14,7 @@ use Rattle.wire.specs.Bytes.{words, numberAt, bytes}
 use Rattle.format.specs.Records.{boundaryAt}
 use Rattle.format.specs.Header.{headerAt, offsetsOf}
 use Rattle.format.specs.Values.{Job}
+use Rattle.format.specs.Corridor.{upright}
 use Rattle.format.specs.Decode.{decode, decodeList, boundaryRecords, observationRecords, sourceCount}
 use Rattle.grid.specs.Directions.{eight}
 use Rattle.serial_links.specs.Limits.{Limits, limits000}
@@ -28,7 +29,7 @@ use Rattle.checks_calls.proofs.Cases.{AllRefuse, Without, at, width-refused, co
 use Rattle.results.specs.Results.{workCheck, answerCheck, marksCheck, ownEnds, labelsOf, pairCheck, marksOf, markWith, afterWork, outcome, answerOf}
 use Rattle.results.specs.Results.{reduced, reduceWith, reduceByListWith}
 use Rattle.results.specs.Calls.{reduceResult, reduceByListResult, markResult}
-use Rattle.results.specs.Cases.{upright, negative, negativeZero, counted, AllCallsRefuse, NoCallGives, NegativeZeroCase, CountCase}
+use Rattle.results.specs.Cases.{negative, negativeZero, counted, AllCallsRefuse, NoCallGives, NegativeZeroCase, CountCase}
 
 -- What the checks of every call give, the calls give, before anything is written.
 calls-refuse : (s : List ℕ) (r : Refusal) → AllRefuse s r → AllCallsRefuse s (r .number) (r .detail)

@@ -5,6 +5,7 @@ use Prim.Native.Nat.{ℕ, _+_, _*_, _%_, _≤_, _<_}
 use lib.ListN.{length, drop, replicate}
 use Rattle.wire.specs.Bytes.{words, splice, u64Bytes}
 use Rattle.format.specs.Header.{headerAt}
+use Rattle.format.specs.Corridor.{upright, corridor, corridorAnswer}
 use Rattle.checks_calls.specs.Cases.{FirstWidth, PassesThree, bitsAt}
 use Rattle.results.specs.Results.{Outcome, leftBy}
 use Rattle.results.specs.Calls.{reduceResult, reduceByListResult, markResult}
@@ -14,36 +15,12 @@ unfoldable pub oneCell : ℕ → List ℕ
 unfolding words
 oneCell c = words (1 ∷ 1 ∷ 0 ∷ 0 ∷ 0 ∷ 0 ∷ 48 ∷ 49 ∷ 49 ∷ 49 ∷ 49 ∷ 49 ∷ []) ++ (c ∷ [])
 
--- A boundary record of the corridor: upright at a column, of width 8, with one source, no observation and no ramp.
-unfoldable pub upright : ℕ → ℕ → ℕ → List ℕ
-unfolding words
-upright x sources observations = words (x ∷ 0 ∷ x ∷ 8 ∷ []) ++ (u64Bytes 0x4020_0000_0000_0000 ++ words (sources ∷ observations ∷ 0 ∷ 0 ∷ []))
-
--- "4 × 1 walkable cells of elevation 0, no ramps, no bases, spans (8,0)-(8,8) with source 1 2 and (16,0)-(16,8) with source 2 1, widths 8"
-unfoldable pub corridor : List ℕ
-unfolding words upright
-corridor =
-    words (4 ∷ 1 ∷ 0 ∷ 2 ∷ 0 ∷ 2 ∷ 48 ∷ 52 ∷ 52 ∷ 132 ∷ 132 ∷ 148 ∷ [])
-    ++ ((1 ∷ 1 ∷ 1 ∷ 1 ∷ []) ++ (upright 8 1 0 ++ (upright 16 1 0 ++ words (1 ∷ 2 ∷ 2 ∷ 1 ∷ []))))
-
--- The same with a base, of any id, anchored in the second cell.
+-- The corridor with a base, of any id, anchored in the second cell.
 unfoldable pub anchored : ℕ → List ℕ
 unfolding words upright
 anchored id =
     words (4 ∷ 1 ∷ 1 ∷ 2 ∷ 0 ∷ 2 ∷ 48 ∷ 52 ∷ 64 ∷ 144 ∷ 144 ∷ 160 ∷ [])
     ++ ((1 ∷ 1 ∷ 1 ∷ 1 ∷ []) ++ (words (id ∷ 1 ∷ 0 ∷ []) ++ (upright 8 1 0 ++ (upright 16 1 0 ++ words (1 ∷ 2 ∷ 2 ∷ 1 ∷ [])))))
-
--- An observation of the corridor's answer.
-unfoldable pub corridorObservation : ℕ → List ℕ
-unfolding words
-corridorObservation x = words (x ∷ 0 ∷ x ∷ 8 ∷ []) ++ (u64Bytes 0x4020_0000_0000_0000 ++ words (1 ∷ []))
-
--- One boundary kept, with both sources and both boundaries as observations: 152 bytes.
-unfoldable pub corridorAnswer : List ℕ
-unfolding words upright corridorObservation
-corridorAnswer =
-    words (1 ∷ 2 ∷ 4 ∷ 64 ∷ 120 ∷ 152 ∷ [])
-    ++ (upright 8 2 2 ++ (corridorObservation 8 ++ (corridorObservation 16 ++ words (1 ∷ 2 ∷ 2 ∷ 1 ∷ 1 ∷ 2 ∷ 2 ∷ 1 ∷ []))))
 
 -- Two kept.
 unfoldable pub anchoredAnswer : List ℕ
