@@ -7,26 +7,22 @@ use Rattle.serial_measures.proofs.link_at.Tie as tie
 
 link-of-requires : tie.Need-link-of-requires
 link-of-requires c κs =
-    let after-span-at = c .before .before .before in
-    let after-size2 = after-span-at .before in
-    let after-size = after-size2 .before in
-    let start = after-size .before in
-    let p = (start .pre) in (
-      span-bounded (p .0) (after-size .size .result) (omega (arith, after-size .size .ensures .0, p .1))
-          (after-span-at .span-at .ensures),
-      span-bounded (p .0) (after-size2 .size2 .result) (omega (arith, after-size2 .size2 .ensures .0, p .2)) (c .before .span-at2 .ensures),
-      p .0 .width (after-size .size .result) (omega (arith, after-size .size .ensures .0, p .1)),
-      p .0 .width (after-size2 .size2 .result) (omega (arith, after-size2 .size2 .ensures .0, p .2)),
+    let first : tie.After-size = search in
+    let second : tie.After-size2 = search in
+    let p = first .before .pre in (
+      span-bounded (p .0) (first .size .result) (omega (arith, first .size .ensures .0, p .1)) (c .before .before .before .span-at .ensures),
+      span-bounded (p .0) (second .size2 .result) (omega (arith, second .size2 .ensures .0, p .2)) (c .before .span-at2 .ensures),
+      p .0 .width (first .size .result) (omega (arith, first .size .ensures .0, p .1)),
+      p .0 .width (second .size2 .result) (omega (arith, second .size2 .ensures .0, p .2)),
     )
 
 returns : tie.Need-returns
 returns c =
-    let after-span-at = c .before .before .before .before in
-    let after-size2 = after-span-at .before in
-    let after-size = after-size2 .before in
-    let start = after-size .before in
-    c .link-of .ensures ∙ same-value (start .args .own .now) (start .args .bits .now) (after-span-at .span-at .ensures) (c .before .before .span-at2 .ensures)
-    (after-size .size .ensures .0) (after-size2 .size2 .ensures .0)
+    let spanned : tie.After-span-at = search in
+    let first : tie.After-size = search in
+    let a = first .before .args in
+    c .link-of .ensures ∙ same-value (a .own .now) (a .bits .now) (spanned .span-at .ensures) (c .before .before .span-at2 .ensures)
+    (first .size .ensures .0) (spanned .before .size2 .ensures .0)
 
 pub link-at-spec : {M : Type 1} → statement M
 link-at-spec =

@@ -42,44 +42,60 @@ abbrev μ-loop3 : tie.MeasureT-loop3
 μ-loop3 cells width height work regions firsts seconds links own bits limits passing₀ flat₀ inside₀ n table stats k column row i m₀ passing flat inside
     m = links - m
 
+-- the start, a turn of each loop, and a cell that has a link's number
+abbrev Start : Type 0
+Start = tie.Start Inv-loop μ-loop Inv-loop2 μ-loop2 Inv-loop3 μ-loop3
+
+abbrev Filling : Type 0
+Filling = tie.In-loop Inv-loop μ-loop Inv-loop2 μ-loop2 Inv-loop3 μ-loop3
+
+abbrev Passing : Type 0
+Passing = tie.In-loop2 Inv-loop μ-loop Inv-loop2 μ-loop2 Inv-loop3 μ-loop3
+
+abbrev Judging : Type 0
+Judging = tie.In-loop3 Inv-loop μ-loop Inv-loop2 μ-loop2 Inv-loop3 μ-loop3
+
+abbrev Sized : Type 0
+Sized = tie.After-size Inv-loop μ-loop Inv-loop2 μ-loop2 Inv-loop3 μ-loop3
+
 -- the start, from a turn of each loop
-abbrev asked : tie.At-loop Inv-loop μ-loop Inv-loop2 μ-loop2 Inv-loop3 μ-loop3 → tie.Start Inv-loop μ-loop Inv-loop2 μ-loop2 Inv-loop3 μ-loop3
+abbrev asked : tie.At-loop Inv-loop μ-loop Inv-loop2 μ-loop2 Inv-loop3 μ-loop3 → Start
 asked c = c .before .before .before .before .before .before .before .before
 
-abbrev asked2 : tie.At-loop2 Inv-loop μ-loop Inv-loop2 μ-loop2 Inv-loop3 μ-loop3 → tie.Start Inv-loop μ-loop Inv-loop2 μ-loop2 Inv-loop3 μ-loop3
-asked2 c = c .before .before .before .before .before .before .before .before .before .before
+abbrev asked2 : tie.At-loop2 Inv-loop μ-loop Inv-loop2 μ-loop2 Inv-loop3 μ-loop3 → Start
+asked2 c = asked (c .before .before)
 
-abbrev asked3 : tie.At-loop3 Inv-loop μ-loop Inv-loop2 μ-loop2 Inv-loop3 μ-loop3 → tie.Start Inv-loop μ-loop Inv-loop2 μ-loop2 Inv-loop3 μ-loop3
-asked3 c = c .before .before .before .before .before .before .before .before .before .before .before .before
+abbrev asked3 : tie.At-loop3 Inv-loop μ-loop Inv-loop2 μ-loop2 Inv-loop3 μ-loop3 → Start
+asked3 c = asked2 (c .before .before)
 
--- the link of a turn is one of the arrays
-small : (c : tie.In-loop Inv-loop μ-loop Inv-loop2 μ-loop2 Inv-loop3 μ-loop3) → c .before .loop .k < 256
-small c = omega (arith, c .loop-test .taken, asked (c .before) .pre .4 .few)
+-- the link of a turn is one of the list, and of the arrays
+small : (c : Filling) → (c .before .loop .k < asked (c .before) .args .links) × (c .before .loop .k < 256)
+small c = (c .loop-test .taken, omega (arith, c .loop-test .taken, asked (c .before) .pre .4 .few))
 
-small3 : (c : tie.In-loop3 Inv-loop μ-loop Inv-loop2 μ-loop2 Inv-loop3 μ-loop3) → c .before .loop3 .m < 256
-small3 c = omega (arith, c .loop3-test .taken, asked3 (c .before) .pre .4 .few)
+small3 : (c : Judging) → (c .before .loop3 .m < asked3 (c .before) .args .links) × (c .before .loop3 .m < 256)
+small3 c = (c .loop3-test .taken, omega (arith, c .loop3-test .taken, asked3 (c .before) .pre .4 .few))
 
 -- the cells, and that a turn's is one of them, in a row of the map
-abbrev map-of : tie.Start Inv-loop μ-loop Inv-loop2 μ-loop2 Inv-loop3 μ-loop3 → Grid
+abbrev map-of : Start → Grid
 map-of s = record { width = s .args .width; height = s .args .height; cells = s .args .cells .now }
 
-cells-few : (s : tie.Start Inv-loop μ-loop Inv-loop2 μ-loop2 Inv-loop3 μ-loop3) → length (s .args .cells .now) ≤ 1048576
+cells-few : (s : Start) → length (s .args .cells .now) ≤ 1048576
 cells-few s = area (s .pre .0 .wide) (s .pre .0 .high) (s .pre .1)
 
-on : (c : tie.In-loop2 Inv-loop μ-loop Inv-loop2 μ-loop2 Inv-loop3 μ-loop3) → c .before .loop2 .i < length (asked2 (c .before) .args .cells .now)
+on : (c : Passing) → c .before .loop2 .i < length (asked2 (c .before) .args .cells .now)
 on c = omega (arith, c .loop2-test .taken)
 
-low : (c : tie.In-loop2 Inv-loop μ-loop Inv-loop2 μ-loop2 Inv-loop3 μ-loop3) → c .before .loop2 .row < 1024
+low : (c : Passing) → c .before .loop2 .row < 1024
 low c =
     let s = asked2 (c .before) in
     let inv = c .before .loop2 .inv in
     omega (arith, row-below (map-of s) (s .pre .1) (inv .1) (inv .2) (on c), s .pre .0 .high)
 
--- the cell has a link's number: the turn, and the link, which is one of the arrays
-abbrev turn-of : tie.After-size Inv-loop μ-loop Inv-loop2 μ-loop2 Inv-loop3 μ-loop3 → tie.In-loop2 Inv-loop μ-loop Inv-loop2 μ-loop2 Inv-loop3 μ-loop3
+-- the turn of a cell that has a link's number; the link is one of the arrays
+abbrev turn-of : Sized → Passing
 turn-of c = c .before .before .before .before .before
 
-numbered : (c : tie.After-size Inv-loop μ-loop Inv-loop2 μ-loop2 Inv-loop3 μ-loop3) → c .size .result < 256
+numbered : (c : Sized) → c .size .result < 256
 numbered c =
     let turn = turn-of c in
     let N = asked2 (turn .before) .pre .4 in
@@ -92,15 +108,15 @@ numbered c =
 
 link-at-requires-2 : tie.Need-link-at-requires-2 Inv-loop μ-loop Inv-loop2 μ-loop2 Inv-loop3 μ-loop3
 link-at-requires-2 c κs =
-    let turning = c .before .before in
+    let turning : Filling = search in
     let k = turning .before .loop .k in
     let p = asked (turning .before) .pre in
     (p .2, p .3 .first k (turning .loop-test .taken), p .3 .second k (turning .loop-test .taken))
 
 loop-again : tie.Need-loop-again Inv-loop μ-loop Inv-loop2 μ-loop2 Inv-loop3 μ-loop3
 loop-again c =
-    let turning = c .before .before .before in
-    (omega (arith, turning .loop-test .taken), fill-next (turning .before .loop .inv .1) (small turning) (c .link-at2 .ensures))
+    let turning : Filling = search in
+    (omega (arith, turning .loop-test .taken), fill-next (turning .before .loop .inv .1) (small turning .1) (c .link-at2 .ensures))
 
 loop2-holds : tie.Need-loop2-holds Inv-loop μ-loop Inv-loop2 μ-loop2 Inv-loop3 μ-loop3
 loop2-holds c =
@@ -111,13 +127,13 @@ loop2-holds c =
 
 number-at-requires : tie.Need-number-at-requires Inv-loop μ-loop Inv-loop2 μ-loop2 Inv-loop3 μ-loop3
 number-at-requires c κs =
-    let turn = c .before .before in
+    let turn : Passing = search in
     let start = asked2 (turn .before) in
     (on turn, cells-few start, start .pre .4 .room, start .pre .4 .most (turn .before .loop2 .i) (on turn))
 
 loop2-again : tie.Need-loop2-again Inv-loop μ-loop Inv-loop2 μ-loop2 Inv-loop3 μ-loop3
 loop2-again c =
-    let turn = c .before .before .before .before in
+    let turn : Passing = search in
     let inv = turn .before .loop2 .inv in
     let number = c .before .number-at in
     let p = next-place (inv .1) (inv .2) (c .before .before .next-column .ensures) (c .before .before .before .next-row .ensures) in (
@@ -129,7 +145,7 @@ loop2-again c =
 
 with-requires : tie.Need-with-requires Inv-loop μ-loop Inv-loop2 μ-loop2 Inv-loop3 μ-loop3
 with-requires c κs =
-    let sized = c .before .before .before .before in
+    let sized : Sized = search in
     let turn = turn-of sized in
     let start = asked2 (turn .before) in
     let inv = turn .before .loop2 .inv in
@@ -142,7 +158,7 @@ with-requires c κs =
 
 loop2-again-2 : tie.Need-loop2-again-2 Inv-loop μ-loop Inv-loop2 μ-loop2 Inv-loop3 μ-loop3
 loop2-again-2 c =
-    let sized = c .before .before .before .before .before in
+    let sized : Sized = search in
     let numbers = sized .before .before in
     let turn = turn-of sized in
     let start = asked2 (turn .before) in
@@ -167,7 +183,7 @@ loop3-again : tie.Need-loop3-again Inv-loop μ-loop Inv-loop2 μ-loop2 Inv-loop3
 loop3-again c =
     let flat = c .before .before in
     let marked = flat .before .before .before in
-    let turn = marked .before .before in
+    let turn : Judging = search in
     let inv = turn .before .loop3 .inv in (
       omega (arith, turn .loop3-test .taken),
       inv .1,
@@ -194,54 +210,54 @@ measure-all-spec =
     (λ c κs. (c .before .before .before .before .before .pre .2, omega arith, omega arith))
     (λ c κs. search needs)
     (λ c. (omega arith, fill-start _ _ _ _ _))
-    (λ c. omega (arith, small c))
-    (λ c. omega (arith, small c))
-    (λ c. omega (arith, small (c .before)))
-    (λ c. omega (arith, small (c .before)))
+    (λ c. omega (arith, small (search)))
+    (λ c. omega (arith, small (search)))
+    (λ c. omega (arith, small (search)))
+    (λ c. omega (arith, small (search)))
     link-at-requires-2
-    (λ c. omega (arith, small (c .before .before .before)))
-    (λ c. omega (arith, small (c .before .before .before)))
-    (λ c. omega (arith, small (c .before .before .before)))
-    (λ c. omega (arith, c .before .before .before .loop-test .taken))
+    (λ c. omega (arith, small (search)))
+    (λ c. omega (arith, small (search)))
+    (λ c. omega (arith, small (search)))
+    (λ c. omega (arith, small (search)))
     loop-again
     loop2-holds
     (λ c κs. (c .before .loop2 .inv .2, low c))
     (λ c κs. c .before .before .loop2 .inv .2)
-    (λ c. omega (arith, on (c .before .before), cells-few (asked2 (c .before .before .before))))
+    (λ c. omega (arith, on (search), cells-few (search)))
     number-at-requires
-    (λ c. omega (arith, on (c .before .before .before .before)))
+    (λ c. omega (arith, on (search)))
     loop2-again
     (λ c. omega (arith, c .if1 .left))
     (λ c κs. search needs)
     (λ c. omega (arith, c .size .ensures .1))
-    (λ c. omega (arith, numbered c))
+    (λ c. omega (arith, numbered (search)))
     (λ c κs. search needs)
     (λ c. omega (arith, c .before .before .size .ensures .1))
-    (λ c. omega (arith, numbered (c .before .before)))
+    (λ c. omega (arith, numbered (search)))
     (λ c. omega (arith, c .before .before .size .ensures .1))
-    (λ c. omega (arith, numbered (c .before .before)))
-    (λ c. omega (arith, on (c .before .before .before .before .before .before .before .before .before)))
+    (λ c. omega (arith, numbered (search)))
+    (λ c. omega (arith, on (search)))
     with-requires
     (λ c. omega (arith, c .before .before .before .before .before .size .ensures .1))
-    (λ c. omega (arith, numbered (c .before .before .before .before .before)))
-    (λ c. omega (arith, on (c .before .before .before .before .before .before .before .before .before .before)))
+    (λ c. omega (arith, numbered (search)))
+    (λ c. omega (arith, on (search)))
     loop2-again-2
     loop3-holds
-    (λ c. omega (arith, small3 c))
-    (λ c. omega (arith, small3 c))
+    (λ c. omega (arith, small3 (search)))
+    (λ c. omega (arith, small3 (search)))
     (λ c κs. search needs)
-    (λ c. omega (arith, small3 (c .before .before)))
-    (λ c. omega (arith, small3 (c .before .before)))
-    (λ c. omega (arith, small3 (c .before .before)))
-    (λ c. omega (arith, small3 (c .before .before .before)))
-    (λ c. omega (arith, small3 (c .before .before .before)))
+    (λ c. omega (arith, small3 (search)))
+    (λ c. omega (arith, small3 (search)))
+    (λ c. omega (arith, small3 (search)))
+    (λ c. omega (arith, small3 (search)))
+    (λ c. omega (arith, small3 (search)))
     (λ c κs. search needs)
-    (λ c. omega (arith, small3 (c .before .before .before .before .before)))
-    (λ c. omega (arith, small3 (c .before .before .before .before .before)))
-    (λ c. omega (arith, small3 (c .before .before .before .before .before)))
+    (λ c. omega (arith, small3 (search)))
+    (λ c. omega (arith, small3 (search)))
+    (λ c. omega (arith, small3 (search)))
     (λ c κs. search needs)
-    (λ c. omega (arith, small3 (c .before .before .before .before .before .before .before)))
-    (λ c. omega (arith, small3 (c .before .before .before .before .before .before .before)))
-    (λ c. omega (arith, c .before .before .before .before .before .before .before .loop3-test .taken))
+    (λ c. omega (arith, small3 (search)))
+    (λ c. omega (arith, small3 (search)))
+    (λ c. omega (arith, small3 (search)))
     loop3-again
     returns)

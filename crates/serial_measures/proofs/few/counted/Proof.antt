@@ -13,10 +13,9 @@ returns c =
 
 returns-2 : tie.Need-returns-2
 returns-2 c =
-    let if1-left = c .before .before .before in
-    let start = if1-left .before in
-    let a = start .args in
-    put-in (a .inside) (linkWithCell (limitsOf (a .limits)) (a .link)) (a .link) (a .i % a .width) (a .i / a .width) (if1-left .if1 .left) (c .at .ensures)
+    let inside = c .before .before .before in
+    let a = inside .before .args in
+    put-in (a .inside) (linkWithCell (limitsOf (a .limits)) (a .link)) (a .link) (a .i % a .width) (a .i / a .width) (inside .if1 .left) (c .at .ensures)
     (c .before .before .column-of .ensures .0) (c .before .row-of .ensures .0)
 
 pub counted-spec : {M : Type 1} → statement M

@@ -22,13 +22,16 @@ abbrev μ-loop : tie.MeasureT-loop
 μ-loop cells width height work regions firsts seconds links own bits limits passing₀ flat₀ inside₀ n k₀ passing flat inside k =
     links - k
 
--- the start, from a turn
+-- a turn, and the start from one
+abbrev Turn : Type 0
+Turn = tie.In-loop Inv-loop μ-loop
+
 abbrev asked : tie.At-loop Inv-loop μ-loop → tie.Start Inv-loop μ-loop
 asked c = c .before .before .before .before .before .before
 
--- the turn's link is one of the arrays
-small : (c : tie.In-loop Inv-loop μ-loop) → c .before .loop .k < 256
-small c = omega (arith, c .loop-test .taken, asked (c .before) .pre .4)
+-- the turn's link is one of the list, and of the arrays
+within : (c : Turn) → (c .before .loop .k < asked (c .before) .args .links) × (c .before .loop .k < 256)
+within c = (c .loop-test .taken, omega (arith, c .loop-test .taken, asked (c .before) .pre .4))
 
 -- the labels of all cells are there
 labels-there : (s : tie.Start Inv-loop μ-loop) →
@@ -37,22 +40,21 @@ labels-there s = let p = s .pre in (p .0 .columns, area (p .0 .wide) (p .0 .high
 
 link-at-requires : tie.Need-link-at-requires Inv-loop μ-loop
 link-at-requires c κs =
-    let turning = c .before .before .before in
+    let turning : Turn = search in
     let k = turning .before .loop .k in
     let p = asked (turning .before) .pre in
     (p .2, p .3 .first k (turning .loop-test .taken), p .3 .second k (turning .loop-test .taken))
 
 loop-again : tie.Need-loop-again Inv-loop μ-loop
 loop-again c =
-    let measured = c .before .before .before .before in
-    let begun = measured .before in
-    let turning = begun .before .before .before .before in
+    let measured : tie.After-measure-one Inv-loop μ-loop = search in
+    let turning : Turn = search in
     let a = asked (turning .before) .args in
     let l = turning .before .loop in (
       omega (arith, turning .loop-test .taken),
-      judge-one (labels-many (a .work .now) (length (a .cells .now))) (small turning) (l .inv .1)
+      judge-one (labels-many (a .work .now) (length (a .cells .now))) (within turning .1) (l .inv .1)
           (measured .measure-one .ensures (valueIn (a .own .now) (a .bits .now) (at (a .firsts .now) (l .k)) (at (a .seconds .now) (l .k)))
-          (begun .link-at .ensures))
+          (measured .before .link-at .ensures))
           (c .before .before .before .region-stats .ensures (a .height)) (c .before .before .passing-mark .ensures) (c .before .flat-mark .ensures)
           (c .inside-mark .ensures),
     )
@@ -70,22 +72,22 @@ measure-few-spec =
     Inv-loop
     μ-loop
     (λ c. (omega arith, judge-start _))
-    (λ c. omega (arith, small c))
-    (λ c. omega (arith, small c))
-    (λ c. omega (arith, small (c .before)))
-    (λ c. omega (arith, small (c .before)))
-    (λ c. omega (arith, small (c .before .before)))
-    (λ c. omega (arith, small (c .before .before)))
+    (λ c. omega (arith, within (search)))
+    (λ c. omega (arith, within (search)))
+    (λ c. omega (arith, within (search)))
+    (λ c. omega (arith, within (search)))
+    (λ c. omega (arith, within (search)))
+    (λ c. omega (arith, within (search)))
     link-at-requires
-    (λ c κs. labels-there (asked (c .before .before .before .before .before)))
-    (λ c κs. labels-there (asked (c .before .before .before .before .before .before)))
+    (λ c κs. labels-there (search))
+    (λ c κs. labels-there (search))
     (λ c κs. search needs)
-    (λ c. omega (arith, small (c .before .before .before .before .before .before .before)))
+    (λ c. omega (arith, within (search)))
     (λ c κs. search needs)
-    (λ c. omega (arith, small (c .before .before .before .before .before .before .before .before)))
+    (λ c. omega (arith, within (search)))
     (λ c κs. search needs)
-    (λ c. omega (arith, small (c .before .before .before .before .before .before .before .before .before)))
-    (λ c. omega (arith, small (c .before .before .before .before .before .before .before .before .before)))
-    (λ c. omega (arith, c .before .before .before .before .before .before .before .before .before .loop-test .taken))
+    (λ c. omega (arith, within (search)))
+    (λ c. omega (arith, within (search)))
+    (λ c. omega (arith, within (search)))
     loop-again
     returns)
