@@ -6,7 +6,7 @@ use Rattle.wire.proofs.read_u32.Tie as tie
 
 returns : tie.Need-returns
 returns c =
-    let start = c .before .before .before .before .before .before .before .before .before in
+    let start : tie.Start = search in
     omega (arith, four-bytes (start .args .s .now) (start .args .at) (search needs))
 
 pub read-u32-spec : {M : Type 1} → statement M

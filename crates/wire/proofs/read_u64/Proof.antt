@@ -6,7 +6,7 @@ use Rattle.wire.proofs.read_u64.Tie as tie
 
 returns : tie.Need-returns
 returns c =
-    let start = c .before .before .before .before .before in
+    let start : tie.Start = search in
     omega (arith, number-join 4 4 (start .args .s .now) (start .args .at) (omega arith))
 
 pub read-u64-spec : {M : Type 1} → statement M

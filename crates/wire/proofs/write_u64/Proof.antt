@@ -10,10 +10,10 @@ use Rattle.wire.proofs.write_u64.Tie as tie
 
 returns : tie.Need-returns
 returns c =
-    let after-write-u32 = c .before .before .before .before .before .before in
-    let start = after-write-u32 .before .before .before in
+    let low-written : tie.After-write-u32 = search in
+    let start : tie.Start = search in
     let a = start .args in
-    let first = after-write-u32 .write-u32 .ensures in
+    let first = low-written .write-u32 .ensures in
     c .before .before .write-u322 .ensures
     ∙ ap (λ (l : List ℕ). splice l (a .at + 4) (u32Bytes (a .v / 0x1_0000_0000))) first
     ∙ two-writes (a .s .now) (a .at) (a .v) (omega arith)

@@ -4,7 +4,7 @@ use Rattle.grid.proofs.cells.walkable_at.Tie as tie
 
 returns : tie.Need-returns
 returns c =
-    let start = c .before .before .before in
+    let start : tie.Start = search in
     λ g e. c .is-walkable .ensures g (start .args .i) (rw e)
 
 pub walkable-at-spec : {M : Type 1} → statement M

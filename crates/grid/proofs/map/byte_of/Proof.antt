@@ -7,7 +7,7 @@ use Rattle.grid.proofs.map.byte_of.Tie as tie
 
 returns : tie.Need-returns
 returns c =
-    let start = c .before .before .before .before .before in
+    let start : tie.Start = search in
     c .byte-at .ensures ∙ sym (ap (λ (o : CellIndex). byteOf (start .args .cells .now) (indexIn o)) (c .before .before .found .given .1))
 
 pub byte-of-spec : {M : Type 1} → statement M

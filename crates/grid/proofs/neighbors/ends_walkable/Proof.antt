@@ -22,24 +22,27 @@ walkable-at-requires c κs = let start = c .before .before in rw (c .index .ensu
 
 neighbor-requires : tie.Need-neighbor-requires
 neighbor-requires c κs =
-    let p = c .before .before .before .pre in
+    let start : tie.Start = search in
+    let p = start .pre in
     let m = leads-means _ _ _ (p .2) in
     omega (arith, place-column (p .0), place-row (p .0))
 
 -- the cell beyond
 beyond : (c : tie.After-neighbor) → let s = c .before .before .before .before in c .neighbor .result ≡ neighbour (grid-of s) (cell-of s) (s .args .d)
 beyond c =
-    let start = c .before .before .before .before in
+    let start : tie.Start = search in
     c .neighbor .ensures (grid-of start) (cell-of start) refl (place-column (start .pre .0)) (place-row (start .pre .0))
 
 walkable-at-requires-2 : tie.Need-walkable-at-requires-2
 walkable-at-requires-2 c κs =
-    let p = c .before .before .before .before .pre in
+    let start : tie.Start = search in
+    let p = start .pre in
     rw (beyond c) (neighbour-on _ (p .0 .whole) _ _ (place-on (p .0)) (p .2))
 
 returns : tie.Need-returns
 returns c =
-    let g = grid-of (c .before .before .before .before .before) in
+    let start : tie.Start = search in
+    let g = grid-of start in
     λ k j e f.
     rw (e, f) (ap₂ _&&_ (c .before .before .walkable-at .ensures g refl ∙ ap (walkable g) (c .before .before .before .index .ensures g refl))
     (c .walkable-at2 .ensures g refl ∙ ap (walkable g) (beyond (c .before))))

@@ -36,21 +36,24 @@ walkable-at-requires c κs =
 
 across-requires : tie.Need-across-requires
 across-requires c κs =
-    let m = keeps (c .before .before .before) in
-    let p = c .before .before .before .pre .0 in omega (arith, place-column p, place-row p)
+    let start : tie.Start = search in
+    let m = keeps start in
+    let p = start .pre .0 in omega (arith, place-column p, place-row p)
 
 across-is : (c : tie.After-across) → let s = c .before .before .before .before in c .across .result ≡ across (grid-of s) (cell-of s) (s .args .d)
 across-is c =
-    let start = c .before .before .before .before in
+    let start : tie.Start = search in
     c .across .ensures (grid-of start) (cell-of start) refl (place-column (start .pre .0)) (place-row (start .pre .0))
 
 walkable-at-requires-2 : tie.Need-walkable-at-requires-2
 walkable-at-requires-2 c κs =
-    let p = c .before .before .before .before .pre in rw (across-is c) (across-on _ (p .0 .whole) _ _ (place-on (p .0)) (p .2))
+    let start : tie.Start = search in
+    let p = start .pre in rw (across-is c) (across-on _ (p .0 .whole) _ _ (place-on (p .0)) (p .2))
 
 returns : tie.Need-returns
 returns c =
-    let g = grid-of (c .before .before .before .before .before) in
+    let start : tie.Start = search in
+    let g = grid-of start in
     λ k j e f.
     rw (e, f) (ap₂ _&&_ (c .before .before .walkable-at .ensures g refl ∙ ap (walkable g) (beside-is (c .before .before .before)))
     (c .walkable-at2 .ensures g refl ∙ ap (walkable g) (across-is (c .before))))

@@ -29,27 +29,29 @@ returns : tie.Need-returns
 returns c = nowhere _ _ _ (leads-told (c .before) ∙ not-true _ (c .if1 .taken))
 
 ends-walkable-requires : tie.Need-ends-walkable-requires
-ends-walkable-requires c κs = let p = c .before .before .before .pre in (p .0, p .1, leads c)
+ends-walkable-requires c κs = let start : tie.Start = search in (start .pre .0, start .pre .1, leads c)
 
 returns-2 : tie.Need-returns-2
 returns-2 c = blocked _ _ _ (leads (c .before .before)) (sym (c .before .ends-walkable .ensures _ _ refl refl) ∙ not-true _ (c .if2 .taken))
 
 returns-3 : tie.Need-returns-3
 returns-3 c =
-    let ends = c .before .before .before in
+    let ends : tie.After-ends-walkable = search in
     straight _ _ _ (leads (ends .before)) (sym (ends .ends-walkable .ensures _ _ refl refl) ∙ not-false _ (c .before .before .if2 .left))
     (sym (c .before .is-diagonal .ensures) ∙ not-true _ (c .if3 .taken))
 
 sides-walkable-requires : tie.Need-sides-walkable-requires
 sides-walkable-requires c κs =
-    let on = c .before .before .before .before in
-    let p = on .before .before .before .pre in
+    let on : tie.Else1 = search in
+    let start : tie.Start = search in
+    let p = start .pre in
     (p .0, p .1, leads on)
 
 returns-4 : tie.Need-returns-4
 returns-4 c =
-    let ends = c .before .before .before .before in
-    slanting _ _ _ (leads (ends .before)) (sym (ends .ends-walkable .ensures _ _ refl refl) ∙ not-false _ (c .before .before .before .if2 .left))
+    let ends : tie.After-ends-walkable = search in
+    let walked : tie.Else2 = search in
+    slanting _ _ _ (leads (ends .before)) (sym (ends .ends-walkable .ensures _ _ refl refl) ∙ not-false _ (walked .if2 .left))
     (sym (c .before .before .is-diagonal .ensures) ∙ not-false _ (c .before .if3 .left)) (c .sides-walkable .ensures _ _ refl refl)
 
 pub step-at-spec : {M : Type 1} → statement M

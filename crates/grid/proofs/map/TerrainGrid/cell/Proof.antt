@@ -7,7 +7,7 @@ use Rattle.grid.proofs.map.TerrainGrid.cell.Tie as tie
 
 returns : tie.Need-returns
 returns c =
-    let start = c .before .before .before in
+    let start : tie.Start = search in
     λ g w h e.
     c .byte-of .ensures ∙ byte-on g (start .args .position) (start .args .cells .now) (indexIn (c .before .index .result)) e (c .before .index .ensures g w h)
 

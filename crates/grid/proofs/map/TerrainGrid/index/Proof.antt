@@ -22,21 +22,21 @@ mul-t10 c =
 
 add-t12 : tie.Need-add-t12
 add-t12 c =
-    let after-wide = c .before .before in
-    let y : after-wide .wide .result ≤ 4294967295 = omega (arith, after-wide .wide .ensures .1) in
+    let widened = c .before .before in
+    let y : widened .wide .result ≤ 4294967295 = omega (arith, widened .wide .ensures .1) in
     let w : c .before .wide2 .result ≤ 4294967295 = omega (arith, c .before .wide2 .ensures .1) in
     omega (arith, mul-le-mul y w, c .wide3 .ensures .1)
 
 returns-3 : tie.Need-returns-3
 returns-3 c =
-    let after-wide = c .before .before in
-    let start = after-wide .before .before .before in
+    let widened = c .before .before in
+    let start : tie.Start = search in
     λ g e f.
     let p = start .args .position in
     let x = c .wide3 .ensures .0 in
     let w = c .before .wide2 .ensures .0 ∙ sym e in
-    let y = after-wide .wide .ensures .0 in
-    let z : some (after-wide .wide .result * c .before .wide2 .result + c .wide3 .result) ≡ some (p .y * g .width + p .x) = rw (x, w, y) in
+    let y = widened .wide .ensures .0 in
+    let z : some (widened .wide .result * c .before .wide2 .result + c .wide3 .result) ≡ some (p .y * g .width + p .x) = rw (x, w, y) in
     z ∙ on-map g p (omega arith) (omega arith)
 
 pub index-spec : {M : Type 1} → statement M
