@@ -16,7 +16,7 @@ use Rattle.format.specs.Decode.{decodeBoundaries, decodeAnswer, rampOf}
 use Rattle.format.specs.Corridor.{upright, corridorObservation, corridorAnswer}
 use Rattle.format.proofs.AnswerTrip.{length-encodeAnswer, answer-words, decodeAnswer-encodeAnswer}
 use Rattle.answer_text.specs.Digits.{glyph, lastDigits, digitCountFrom, digitCount, digits, hexDigits}
-use Rattle.answer_text.specs.Lines.{fieldText, bitsText, endsText, rampText, sourceLine, sourceLines, observationFields, observationLine, observationText}
+use Rattle.answer_text.specs.Lines.{fieldText, bitsText, fourFields, pairLine, sourceLines, headText, observationFields, observationLine, observationText}
 use Rattle.answer_text.specs.Lines.{observationTexts, boundaryFields, boundaryLine, boundaryText, boundaryTexts, keptLine, answerLines}
 use Rattle.answer_text.specs.Answer.{answerLength, answerWhole, answerText}
 use Rattle.answer_text.specs.Corridor.{corridorText}
@@ -26,7 +26,7 @@ use Rattle.answer_text.proofs.Sizing.{is-whole}
 pub corridor-listing : answerText corridorAnswer 456 ≡ corridorText
 unfolding answerText answerWhole corridorAnswer upright corridorObservation corridorText words decodeAnswer decodeBoundaries boundariesWith boundaryWith
     observationsWith sourceCount boundaryRecords observationRecords sourceRecords rampOf positionAt spanAt sourceAt rampAt boundaryAt observationAt numberAt
-    part number bytes rows sum flatMap glyph lastDigits digitCountFrom digitCount digits hexDigits fieldText bitsText endsText rampText sourceLine sourceLines
+    part number bytes rows sum flatMap glyph lastDigits digitCountFrom digitCount digits hexDigits fieldText bitsText fourFields pairLine sourceLines headText
     observationFields observationLine observationText observationTexts boundaryFields boundaryLine boundaryText boundaryTexts keptLine answerLines
 corridor-listing = refl
 

@@ -5,14 +5,10 @@ use Prim.Native.Nat.{ℕ, suc, _+_, _≤_, _<_, _^_}
 use native.Mathlib.Omega.{arith}
 use lib.ListN.{length, length-append}
 use Rattle.position.specs.declared.Span.{Span}
-use Rattle.format.specs.Decode.{rampOf}
-use Rattle.format.specs.declared.records.BoundaryRecord.{BoundaryRecord}
-use Rattle.format.specs.declared.records.ObservationRecord.{ObservationRecord}
-use Rattle.format.specs.declared.records.RampRecord.{RampRecord}
-use Rattle.format.specs.declared.records.Source.{Source}
+use Rattle.format.specs.Values.{Ramp}
 use Rattle.answer_text.specs.Digits.{digits, hexDigits}
-use Rattle.answer_text.specs.Lines.{space, newline, fieldText, bitsText, endsText, rampText, sourceLine, observationFields, boundaryFields, keptLine}
-use Rattle.answer_text.specs.Lines.{refusedLine}
+use Rattle.answer_text.specs.Lines.{space, newline, fieldText, bitsText, fourFields, endsText, rampText, pairLine, headText, observationFields}
+use Rattle.answer_text.specs.Lines.{boundaryFields, keptLine, refusedLine}
 use Rattle.answer_text.specs.Answer.{TextRoom}
 use Rattle.answer_text.proofs.Writing.{Left, start}
 use Rattle.answer_text.proofs.Spelling.{places-most, length-digits, length-hexDigits}
@@ -26,42 +22,34 @@ module _ (out : List ℕ) (at : ℕ) where
   unfolding bitsText
   bits-start v h = start _ (ap (λ (t : List ℕ). space ∷ t) (append-nil (hexDigits v))) h
 
-  pub ends-start : (e : Span) → TextRoom (endsText e) out at
-      → Left (endsText e) out at (fieldText (e .a .x) ∷ fieldText (e .a .y) ∷ fieldText (e .b .x) ∷ fieldText (e .b .y) ∷ []) out at
-  unfolding endsText
-  ends-start e h = start _ (ap (λ (t : List ℕ). fieldText (e .a .x) ++ (fieldText (e .a .y) ++ (fieldText (e .b .x) ++ t))) (append-nil (fieldText (e .b .y))))
-      h
+  pub four-start : (a b c d : ℕ) → TextRoom (fourFields a b c d) out at
+      → Left (fourFields a b c d) out at (fieldText a ∷ fieldText b ∷ fieldText c ∷ fieldText d ∷ []) out at
+  unfolding fourFields
+  four-start a b c d h = start _ (ap (λ (t : List ℕ). fieldText a ++ (fieldText b ++ (fieldText c ++ t))) (append-nil (fieldText d))) h
 
-  pub ramp-start : (r : RampRecord) → TextRoom (rampText (rampOf r)) out at
-      → Left (rampText (rampOf r)) out at (fieldText (r .end) ∷ fieldText (r .lower) ∷ fieldText (r .upper) ∷ fieldText (r .id) ∷ []) out at
-  unfolding rampText rampOf
-  ramp-start r h = start _ (ap (λ (t : List ℕ). fieldText (r .end) ++ (fieldText (r .lower) ++ (fieldText (r .upper) ++ t))) (append-nil (fieldText (r .id)))) h
+  pub pair-start : (name : List ℕ) (a b : ℕ) → TextRoom (pairLine name a b) out at
+      → Left (pairLine name a b) out at (name ∷ fieldText a ∷ fieldText b ∷ newline ∷ []) out at
+  unfolding pairLine
+  pair-start name a b h = start _ refl h
 
-  pub source-start : (s : Source) → TextRoom (sourceLine s) out at
-      → Left (sourceLine s) out at ((115 ∷ []) ∷ fieldText (s .from) ∷ fieldText (s .to) ∷ newline ∷ []) out at
-  unfolding sourceLine
-  source-start s h = start _ refl h
+  pub head-start : (letter : ℕ) (e : Span) (bits n : ℕ) → TextRoom (headText letter e bits n) out at
+      → Left (headText letter e bits n) out at ((letter ∷ []) ∷ endsText e ∷ bitsText bits ∷ fieldText n ∷ []) out at
+  unfolding headText
+  head-start letter e bits n h = start _ (ap (λ (t : List ℕ). letter ∷ (endsText e ++ (bitsText bits ++ t))) (append-nil (fieldText n))) h
 
-  pub observation-start : (o : ObservationRecord) (n : ℕ) → TextRoom (observationFields (o .ends) (o .bits) n) out at
-      → Left (observationFields (o .ends) (o .bits) n) out at
-      ((111 ∷ []) ∷ endsText (o .ends) ∷ bitsText (o .bits) ∷ fieldText n ∷ newline ∷ []) out at
+  pub observation-start : (e : Span) (bits n : ℕ) → TextRoom (observationFields e bits n) out at
+      → Left (observationFields e bits n) out at (headText 111 e bits n ∷ newline ∷ []) out at
   unfolding observationFields
-  observation-start o n h = start _ refl h
+  observation-start e bits n h = start _ refl h
 
-  pub boundary-start : (b : BoundaryRecord) (n m : ℕ) → TextRoom (boundaryFields (b .ends) (b .bits) n m (rampOf (b .ramp))) out at
-      → Left (boundaryFields (b .ends) (b .bits) n m (rampOf (b .ramp))) out at
-      ((98 ∷ []) ∷ endsText (b .ends) ∷ bitsText (b .bits) ∷ fieldText n ∷ fieldText m ∷ rampText (rampOf (b .ramp)) ∷ newline ∷ []) out at
+  pub boundary-start : (e : Span) (bits n m : ℕ) (r : Ramp) → TextRoom (boundaryFields e bits n m r) out at
+      → Left (boundaryFields e bits n m r) out at (headText 98 e bits n ∷ fieldText m ∷ rampText r ∷ newline ∷ []) out at
   unfolding boundaryFields
-  boundary-start b n m h = start _ refl h
+  boundary-start e bits n m r h = start _ refl h
 
   pub kept-start : (n : ℕ) → TextRoom (keptLine n) out at → Left (keptLine n) out at ((107 ∷ 101 ∷ 112 ∷ 116 ∷ []) ∷ fieldText n ∷ newline ∷ []) out at
   unfolding keptLine
   kept-start n h = start _ refl h
-
-  pub refused-start : (n d : ℕ) → TextRoom (refusedLine n d) out at
-      → Left (refusedLine n d) out at ((114 ∷ 101 ∷ 102 ∷ 117 ∷ 115 ∷ 101 ∷ 100 ∷ []) ∷ fieldText n ∷ fieldText d ∷ newline ∷ []) out at
-  unfolding refusedLine
-  refused-start n d h = start _ refl h
 
 -- How long they are at most.
 pub length-field : (k v : ℕ) → v < 10 ^ (k + 1) → length (fieldText v) ≤ k + 2
@@ -83,10 +71,18 @@ pub length-bits : (v : ℕ) → length (bitsText v) ≡ 17
 unfolding bitsText
 length-bits v = omega (arith, length-hexDigits v)
 
+pub pair-length : (name : List ℕ) (a b : ℕ) → length (pairLine name a b) ≡ length name + length (fieldText a) + length (fieldText b) + 1
+unfolding pairLine
+pair-length name a b =
+    omega (
+      arith,
+      length-append name (fieldText a ++ (fieldText b ++ newline)),
+      length-append (fieldText a) (fieldText b ++ newline),
+      length-append (fieldText b) newline,
+    )
+
 pub refused-length : (n d : ℕ) → n < 4_294_967_296 → d < 18_446_744_073_709_551_616 → length (refusedLine n d) ≤ 40
-unfolding refusedLine
-refused-length n d h k =
-    omega (arith, word-length n h, long-length d k, length-append (fieldText n) (fieldText d ++ newline), length-append (fieldText d) newline)
+refused-length n d h k = omega (arith, word-length n h, long-length d k, pair-length (114 ∷ 101 ∷ 102 ∷ 117 ∷ 115 ∷ 101 ∷ 100 ∷ []) n d)
 
 pub refused-room : (n d : ℕ) (out : List ℕ) → n < 4_294_967_296 → d < 18_446_744_073_709_551_616 → 40 ≤ length out → TextRoom (refusedLine n d) out 0
 refused-room n d out h k l = omega (arith, refused-length n d h k)

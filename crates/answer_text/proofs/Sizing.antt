@@ -23,20 +23,29 @@ use Rattle.format.specs.declared.records.ObservationRecord.{ObservationRecord}
 use Rattle.format.specs.declared.records.Source.{Source}
 use Rattle.format.proofs.Distribution.{length-observationsWith, length-boundariesWith}
 use Rattle.format.proofs.BoundaryTrips.{decoded-within}
-use Rattle.answer_text.specs.Lines.{newline, fieldText, bitsText, endsText, rampText, sourceLine, sourceLines, observationFields, observationLine}
-use Rattle.answer_text.specs.Lines.{observationText, observationTexts, boundaryFields, boundaryLine, boundaryText, boundaryTexts, keptLine, answerLines}
+use Rattle.answer_text.specs.Lines.{newline, fieldText, bitsText, fourFields, endsText, rampText, sourceLine, sourceLines, headText}
+use Rattle.answer_text.specs.Lines.{observationFields, observationLine, observationText, observationTexts, boundaryFields, boundaryLine, boundaryText}
+use Rattle.answer_text.specs.Lines.{boundaryTexts, keptLine, answerLines}
 use Rattle.answer_text.specs.Answer.{Writes, answerLength, answerWhole, answerText}
 use Rattle.answer_text.proofs.Writing.{Left, start}
-use Rattle.answer_text.proofs.Pieces.{word-length, byte-length, length-bits}
+use Rattle.answer_text.proofs.Pieces.{word-length, byte-length, length-bits, pair-length}
+
+four-most : (a b c d : ℕ)
+    → length (fourFields a b c d) ≡ length (fieldText a) + length (fieldText b) + length (fieldText c) + length (fieldText d)
+unfolding fourFields
+four-most a b c d =
+    omega (
+      arith,
+      length-append (fieldText a) (fieldText b ++ (fieldText c ++ fieldText d)),
+      length-append (fieldText b) (fieldText c ++ fieldText d),
+      length-append (fieldText c) (fieldText d),
+    )
 
 ends-most : (e : Span) → SpanEncodable e → length (endsText e) ≤ 44
-unfolding endsText
 ends-most e f =
     omega (
       arith,
-      length-append (fieldText (e .a .x)) (fieldText (e .a .y) ++ (fieldText (e .b .x) ++ fieldText (e .b .y))),
-      length-append (fieldText (e .a .y)) (fieldText (e .b .x) ++ fieldText (e .b .y)),
-      length-append (fieldText (e .b .x)) (fieldText (e .b .y)),
+      four-most (e .a .x) (e .a .y) (e .b .x) (e .b .y),
       word-length (e .a .x) (f .a .x),
       word-length (e .a .y) (f .a .y),
       word-length (e .b .x) (f .b .x),
@@ -44,13 +53,10 @@ ends-most e f =
     )
 
 ramp-most : (r : Ramp) → RampFits r → length (rampText r) ≤ 23
-unfolding rampText
 ramp-most r f =
     omega (
       arith,
-      length-append (fieldText (r .end)) (fieldText (r .lower) ++ (fieldText (r .upper) ++ fieldText (r .id))),
-      length-append (fieldText (r .lower)) (fieldText (r .upper) ++ fieldText (r .id)),
-      length-append (fieldText (r .upper)) (fieldText (r .id)),
+      four-most (r .end) (r .lower) (r .upper) (r .id),
       byte-length (r .end) (f .end),
       byte-length (r .lower) (f .lower),
       byte-length (r .upper) (f .upper),
@@ -58,32 +64,28 @@ ramp-most r f =
     )
 
 source-most : (s : Source) → SourceFits s → length (sourceLine s) ≤ 24
-unfolding sourceLine
-source-most s f = omega (
-  arith,
-  length-append (fieldText (s .from)) (fieldText (s .to) ++ newline),
-  length-append (fieldText (s .to)) newline,
-  word-length (s .from) (f .from),
-  word-length (s .to) (f .to),
-)
+source-most s f = omega (arith, pair-length (115 ∷ []) (s .from) (s .to), word-length (s .from) (f .from), word-length (s .to) (f .to))
 
 sources-most : (ss : List Source) → All SourceFits ss → length (sourceLines ss) ≤ length ss * 24
 unfolding sourceLines flatMap
 sources-most [] h = omega arith
 sources-most (s ∷ ss) (more p h) = omega (arith, length-append (sourceLine s) (sourceLines ss), source-most s p, sources-most ss h)
 
-observation-most : (e : Span) (bits n : ℕ) → SpanEncodable e → n < 4_294_967_296 → length (observationFields e bits n) ≤ 74
-unfolding observationFields
-observation-most e bits n f h =
+head-most : (letter : ℕ) (e : Span) (bits n : ℕ) → SpanEncodable e → n < 4_294_967_296 → length (headText letter e bits n) ≤ 73
+unfolding headText
+head-most letter e bits n f h =
     omega (
       arith,
-      length-append (endsText e) (bitsText bits ++ (fieldText n ++ newline)),
-      length-append (bitsText bits) (fieldText n ++ newline),
-      length-append (fieldText n) newline,
+      length-append (endsText e) (bitsText bits ++ fieldText n),
+      length-append (bitsText bits) (fieldText n),
       ends-most e f,
       length-bits bits,
       word-length n h,
     )
+
+observation-most : (e : Span) (bits n : ℕ) → SpanEncodable e → n < 4_294_967_296 → length (observationFields e bits n) ≤ 74
+unfolding observationFields
+observation-most e bits n f h = omega (arith, length-append (headText 111 e bits n) newline, head-most 111 e bits n f h)
 
 boundary-most : (e : Span) (bits n m : ℕ) (r : Ramp) → SpanEncodable e → n < 4_294_967_296 → m < 4_294_967_296 → RampFits r
     → length (boundaryFields e bits n m r) ≤ 108
@@ -91,14 +93,10 @@ unfolding boundaryFields
 boundary-most e bits n m r f h k g =
     omega (
       arith,
-      length-append (endsText e) (bitsText bits ++ (fieldText n ++ (fieldText m ++ (rampText r ++ newline)))),
-      length-append (bitsText bits) (fieldText n ++ (fieldText m ++ (rampText r ++ newline))),
-      length-append (fieldText n) (fieldText m ++ (rampText r ++ newline)),
+      length-append (headText 98 e bits n) (fieldText m ++ (rampText r ++ newline)),
       length-append (fieldText m) (rampText r ++ newline),
       length-append (rampText r) newline,
-      ends-most e f,
-      length-bits bits,
-      word-length n h,
+      head-most 98 e bits n f h,
       word-length m k,
       ramp-most r g,
     )

@@ -23,25 +23,37 @@ unfoldable pub bitsText : ℕ → List ℕ
 unfolding hexDigits
 bitsText v = space ∷ hexDigits v
 
--- The column and row of each end.
-unfoldable pub endsText : Span → List ℕ
+-- Four numbers.
+unfoldable pub fourFields : ℕ → ℕ → ℕ → ℕ → List ℕ
 unfolding fieldText
-endsText e = fieldText (e .a .x) ++ (fieldText (e .a .y) ++ (fieldText (e .b .x) ++ fieldText (e .b .y)))
+fourFields a b c d = fieldText a ++ (fieldText b ++ (fieldText c ++ fieldText d))
+
+-- The column and row of each end.
+abbrev pub endsText : Span → List ℕ
+endsText e = fourFields (e .a .x) (e .a .y) (e .b .x) (e .b .y)
 
 -- "ramp end, lower, upper, id"
-unfoldable pub rampText : Ramp → List ℕ
+abbrev pub rampText : Ramp → List ℕ
+rampText r = fourFields (r .end) (r .lower) (r .upper) (r .id)
+
+-- A line of two numbers after a name.
+unfoldable pub pairLine : List ℕ → ℕ → ℕ → List ℕ
 unfolding fieldText
-rampText r = fieldText (r .end) ++ (fieldText (r .lower) ++ (fieldText (r .upper) ++ fieldText (r .id)))
+pairLine name a b = name ++ (fieldText a ++ (fieldText b ++ newline))
 
 -- "s: a source."
-unfoldable pub sourceLine : Source → List ℕ
-unfolding fieldText
-sourceLine s = 115 ∷ (fieldText (s .from) ++ (fieldText (s .to) ++ newline))
+abbrev pub sourceLine : Source → List ℕ
+sourceLine s = pairLine (115 ∷ []) (s .from) (s .to)
+
+-- What an o line and a b line begin with: a letter, ends, bits, and a number of sources.
+unfoldable pub headText : ℕ → Span → ℕ → ℕ → List ℕ
+unfolding fourFields bitsText fieldText
+headText letter ends bits n = letter ∷ (endsText ends ++ (bitsText bits ++ fieldText n))
 
 -- An o line of these ends and bits, and of this many sources.
 unfoldable pub observationFields : Span → ℕ → ℕ → List ℕ
-unfolding endsText bitsText fieldText
-observationFields ends bits n = 111 ∷ (endsText ends ++ (bitsText bits ++ (fieldText n ++ newline)))
+unfolding headText
+observationFields ends bits n = headText 111 ends bits n ++ newline
 
 -- "o: ends, bits, sources."
 unfoldable pub observationLine : Observation → List ℕ
@@ -50,8 +62,8 @@ observationLine o = observationFields (o .ends) (o .bits) (length (o .sources))
 
 -- A b line of these ends and bits, of this many own sources and observations, and of this ramp.
 unfoldable pub boundaryFields : Span → ℕ → ℕ → ℕ → Ramp → List ℕ
-unfolding endsText bitsText fieldText rampText
-boundaryFields ends bits n m ramp = 98 ∷ (endsText ends ++ (bitsText bits ++ (fieldText n ++ (fieldText m ++ (rampText ramp ++ newline)))))
+unfolding headText fieldText fourFields
+boundaryFields ends bits n m ramp = headText 98 ends bits n ++ (fieldText m ++ (rampText ramp ++ newline))
 
 -- "b: ends, width bits, own sources, observations, ramp end, lower, upper, id."
 unfoldable pub boundaryLine : Boundary → List ℕ
@@ -59,7 +71,7 @@ unfolding boundaryFields
 boundaryLine b = boundaryFields (b .ends) (b .bits) (length (b .sources)) (length (b .observations)) (b .ramp)
 
 unfoldable pub sourceLines : List Source → List ℕ
-unfolding flatMap sourceLine
+unfolding flatMap pairLine
 sourceLines ss = flatMap sourceLine ss
 
 -- "each observation followed by its sources"
@@ -91,6 +103,5 @@ unfolding keptLine boundaryTexts
 answerLines bs = keptLine (length bs) ++ boundaryTexts bs
 
 -- "a refusal prints `refused`, number, detail on one line"
-unfoldable pub refusedLine : ℕ → ℕ → List ℕ
-unfolding fieldText
-refusedLine n d = (114 ∷ 101 ∷ 102 ∷ 117 ∷ 115 ∷ 101 ∷ 100 ∷ []) ++ (fieldText n ++ (fieldText d ++ newline))
+abbrev pub refusedLine : ℕ → ℕ → List ℕ
+refusedLine n d = pairLine (114 ∷ 101 ∷ 102 ∷ 117 ∷ 115 ∷ 101 ∷ 100 ∷ []) n d

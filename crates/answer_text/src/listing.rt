@@ -4,7 +4,7 @@ ghost use lib.ListN.{length};
 ghost use Rattle.answer_text.specs.Lines.{keptLine, refusedLine};
 ghost use Rattle.answer_text.specs.Answer.{TextRoom, Writes, answerText};
 use crate::lines::write_byte;
-use crate::lines::write_field;
+use crate::lines::write_pair;
 use crate::lines::write_text;
 use crate::lines::write_word;
 use crate::walk::Cursor;
@@ -65,8 +65,5 @@ pub fn write_refused(number: u32, detail: u64, out: &mut [u8]) -> usize
     ensures { λ r. ⌜ Writes (refusedLine number detail) (now (out .entry)) 0 (now (out .exit)) r ⌝ }
     ensures fits { λ r. ⌜ r ≤ 40 ⌝ }
 {
-    let end1 = write_text(b"refused", out, 0);
-    let end2 = write_word(number, out, end1);
-    let end3 = write_field(detail, out, end2);
-    write_byte(b'\n', out, end3)
+    write_pair(b"refused", number as u64, detail, out, 0)
 }

@@ -10,5 +10,5 @@ use Rattle.results.specs.Results.{Outcome}
 
 -- "a refusal prints `refused`, number, detail on one line"; else "kept: the number of boundaries. Then for each …", of the answer, whose length is the detail.
 unfoldable pub printed : Outcome → List ℕ
-unfolding answerLines decodeAnswer refusedLine
+unfolding answerLines decodeAnswer
 printed o = cond (eqb (o .number) 0) (answerLines (decodeAnswer (take (o .detail) (o .out)))) (refusedLine (o .number) (o .detail))

@@ -10,21 +10,24 @@ start-of c = search
 
 write-byte-requires : tie.Need-write-byte-requires
 write-byte-requires c κs =
-    let start = c .before .before in
-    room (bits-start (start .args .out .now) (start .args .at) (start .args .v) (start .pre))
+    let start : tie.Start = search in
+    room (bits-start (start .args .out .now) _ _ (start .pre))
 
 write-hex-requires : tie.Need-write-hex-requires
 write-hex-requires c κs =
-    let past-byte : tie.After-write-byte = search in
-    let start = start-of past-byte in
-    room (next (bits-start (start .args .out .now) (start .args .at) (start .args .v) (start .pre)) (past-byte .write-byte .ensures))
+    let space-written : tie.After-write-byte = search in
+    room (next (bits-start _ _ _ (start-of space-written .pre)) (space-written .write-byte .ensures))
 
 returns : tie.Need-returns
 returns c =
-    let past-byte : tie.After-write-byte = search in
-    let start = start-of past-byte in
-    done (next (next (bits-start (start .args .out .now) (start .args .at) (start .args .v) (start .pre)) (past-byte .write-byte .ensures))
-    (c .before .before .write-hex .ensures))
+    let space-written : tie.After-write-byte = search in
+    done (next (next (bits-start _ _ _ (start-of space-written .pre)) (space-written .write-byte .ensures)) (c .before .before .write-hex .ensures))
 
 pub write-bits-spec : {M : Type 1} → statement M
-write-bits-spec = tie.close (tie.spec write-byte-requires write-hex-requires (λ c. search needs) returns)
+write-bits-spec =
+    tie.close
+    (tie.spec
+    write-byte-requires
+    write-hex-requires
+    (λ c. search needs)
+    returns)

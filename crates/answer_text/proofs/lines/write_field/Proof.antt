@@ -10,22 +10,24 @@ start-of c = search
 
 write-byte-requires : tie.Need-write-byte-requires
 write-byte-requires c κs =
-    let start = c .before .before in
-    room (field-start (start .args .out .now) (start .args .at) (start .args .v) (start .pre))
+    let start : tie.Start = search in
+    room (field-start (start .args .out .now) _ _ (start .pre))
 
 write-decimal-requires : tie.Need-write-decimal-requires
 write-decimal-requires c κs =
-    let past-byte : tie.After-write-byte = search in
-    let start = start-of past-byte in
-    room (next (field-start (start .args .out .now) (start .args .at) (start .args .v) (start .pre)) (past-byte .write-byte .ensures))
+    let space-written : tie.After-write-byte = search in
+    room (next (field-start _ _ _ (start-of space-written .pre)) (space-written .write-byte .ensures))
 
 returns : tie.Need-returns
 returns c =
-    let past-byte : tie.After-write-byte = search in
-    let start = start-of past-byte in
-    done (next (next (field-start (start .args .out .now) (start .args .at) (start .args .v) (start .pre)) (past-byte .write-byte .ensures))
-    (c .before .before .write-decimal .ensures))
+    let space-written : tie.After-write-byte = search in
+    done (next (next (field-start _ _ _ (start-of space-written .pre)) (space-written .write-byte .ensures)) (c .before .before .write-decimal .ensures))
 
 pub write-field-spec : {M : Type 1} → statement M
 write-field-spec =
-    tie.close (tie.spec write-byte-requires write-decimal-requires (λ c. search needs) returns)
+    tie.close
+    (tie.spec
+    write-byte-requires
+    write-decimal-requires
+    (λ c. search needs)
+    returns)

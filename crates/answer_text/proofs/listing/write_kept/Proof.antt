@@ -8,35 +8,31 @@ use Rattle.answer_text.proofs.listing.write_kept.Tie as tie
 abbrev start-of : tie.After-write-text → tie.Start
 start-of c = search
 
-abbrev past-text-of : tie.After-write-word → tie.After-write-text
-past-text-of c = search
+abbrev name-written-of : tie.After-write-word → tie.After-write-text
+name-written-of c = search
 
 write-text-requires : tie.Need-write-text-requires
 write-text-requires c κs =
     let start : tie.Start = search in
-    room (kept-start (start .args .out .now) (start .args .at) (start .args .n) (start .pre))
+    room (kept-start (start .args .out .now) _ _ (start .pre))
 
 write-word-requires : tie.Need-write-word-requires
 write-word-requires c κs =
-    let past-text : tie.After-write-text = search in
-    let start = start-of past-text in
-    room (next (kept-start (start .args .out .now) (start .args .at) (start .args .n) (start .pre)) (past-text .write-text .ensures))
+    let name-written : tie.After-write-text = search in
+    room (next (kept-start _ _ _ (start-of name-written .pre)) (name-written .write-text .ensures))
 
 write-byte-requires : tie.Need-write-byte-requires
 write-byte-requires c κs =
-    let past-word : tie.After-write-word = search in
-    let past-text = past-text-of past-word in
-    let start = start-of past-text in
-    room (next (next (kept-start (start .args .out .now) (start .args .at) (start .args .n) (start .pre)) (past-text .write-text .ensures))
-    (past-word .write-word .ensures))
+    let count-written : tie.After-write-word = search in
+    let name-written = name-written-of count-written in
+    room (next (next (kept-start _ _ _ (start-of name-written .pre)) (name-written .write-text .ensures)) (count-written .write-word .ensures))
 
 returns : tie.Need-returns
 returns c =
-    let past-word : tie.After-write-word = search in
-    let past-text = past-text-of past-word in
-    let start = start-of past-text in
-    done (next (next (next (kept-start (start .args .out .now) (start .args .at) (start .args .n) (start .pre)) (past-text .write-text .ensures))
-    (past-word .write-word .ensures)) (c .before .before .write-byte .ensures))
+    let count-written : tie.After-write-word = search in
+    let name-written = name-written-of count-written in
+    done (next (next (next (kept-start _ _ _ (start-of name-written .pre)) (name-written .write-text .ensures)) (count-written .write-word .ensures))
+    (c .before .before .write-byte .ensures))
 
 pub write-kept-spec : {M : Type 1} → statement M
 write-kept-spec =
