@@ -14,6 +14,7 @@ use Rattle.order.specs.Sorting.{sort}
 use Rattle.order.proofs.Bools.{or-parts}
 use Rattle.wire.specs.Bytes.{splice}
 use Rattle.position.specs.declared.WalkPosition.{WalkPosition}
+use Rattle.format.specs.Bounds.{maxBases}
 use Rattle.format.specs.Sizes.{baseSize, boundarySize}
 use Rattle.format.specs.Records.{baseAt}
 use Rattle.format.specs.Header.{headerAt, countsAt, mapCells, basesStart}
@@ -73,6 +74,9 @@ module _ {s : List ℕ} {h : Header} (d : Headed s h) where
 
   pub bases-start : h .offsets .bases ≡ basesStart (countsAt s 0)
   bases-start = sections s h headed-laid .bases-at ∙ ap basesStart counts-are
+
+  pub bases-few : countsAt s 0 .bases ≤ maxBases
+  bases-few = subst (λ (c : Counts). c .bases ≤ maxBases) counts-are (headed-laid .within .bases)
 
   pub bases-inside : basesStart (countsAt s 0) + countsAt s 0 .bases * baseSize ≤ length s
   bases-inside =

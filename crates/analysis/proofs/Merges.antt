@@ -15,6 +15,7 @@ use Rattle.format.specs.declared.header.Header.{Header}
 use Rattle.format.specs.declared.header.Counts.{Counts}
 use Rattle.grid.specs.Cells.{Grid, mapOf}
 use Rattle.context.specs.Anchors.{anchorsOf}
+use Rattle.context.specs.AnchorLoop.{anchorsIn}
 use Rattle.context.specs.Listing.{Item}
 use Rattle.serial_links.specs.HeldLimits.{limitsOf}
 use Rattle.serial_links.specs.declared.limits.Limits.{Limits as LimitsHeld}
@@ -26,12 +27,12 @@ use Rattle.serial_ranks.specs.Tables.{Records, SpansOf, WidthsOf, RampsOf}
 use Rattle.results.specs.Rules.{gridOf, listingOf}
 use Rattle.analysis.specs.Plans.{planOf, RankedJob, PartitionTables}
 use Rattle.serial_plan.specs.Listed.{ListingTables, PlanInput}
-use Rattle.serial_plan.specs.Planned.{anchorsIn, PlanFrom}
+use Rattle.serial_plan.specs.Planned.{PlanFrom}
 use Rattle.serial_plan.proofs.PlainLaws.{plain-arrays}
 use Rattle.analysis.proofs.Ranked.{ByRank}
 use Rattle.analysis.proofs.Checked.{boundariesAt, Checked, checked-sides}
 use Rattle.analysis.proofs.RankedTables.{job-records, listed-count, boundaries-ranked}
-use Rattle.analysis.proofs.Headed.{headed-checked, headed-laid, counts-are, count-is, start-is, bases-start, bases-inside, anchors-in}
+use Rattle.analysis.proofs.Headed.{headed-checked, headed-laid, counts-are, count-is, start-is, bases-start, bases-few, bases-inside, anchors-in}
 use Rattle.analysis.proofs.Mapped.{map-cells, map-long, map-is}
 
 -- a job's ranks as the laws take them
@@ -108,6 +109,7 @@ module _ {s : List ℕ} {h : Header} {order : List ℕ} (p : RankedJob s h order
         sides = checked-sides c;
         whole = cells-whole;
         labels = t .labels;
+        few-bases = bases-few (p .headed);
         there = bases-inside (p .headed);
         anchors = rw cells-whole (anchors-in (p .headed));
         plain = plain;

@@ -1,14 +1,17 @@
--- Anchors, base by base: the steps of the search, and that it finds what `isAnchored` says.
+-- The labels of anchors, base by base, and that a region is anchored exactly if it is among them.
 use mathlib.Core.Path.{_≡_, refl, sym, _∙_, ap}
-use mathlib.Core.Bool.{Bool, true, false, cond, not, _&&_, _||_}
-use mathlib.Core.List.{List, [], _∷_, _++_, map, append-nil, append-assoc}
+use mathlib.Core.Bool.{Bool, true, false, cond, _||_}
+use mathlib.Core.List.{List, [], _∷_, _++_, map, map-append, append-nil, append-assoc}
 use mathlib.Core.Option.{none, some}
-use Prim.Native.Nat.{ℕ, zero, suc, _+_, _*_, _<_}
+use Prim.Native.Nat.{ℕ, zero, suc, _+_, _*_, _<_, _≤_}
 use native.Mathlib.Numerals.{add-one}
+use native.Mathlib.Omega.{arith}
 use lib.Dec.{eqb}
+use lib.ListN.{length, getD, set, take, length-set}
+use lib.Seq.{take-length, take-suc-set}
 use Rattle.lists.specs.Rows.{rows}
 use Rattle.lists.proofs.Rows.{rows-last}
-use Rattle.order.specs.Lists.{gather}
+use Rattle.order.specs.Lists.{gather, has}
 use Rattle.position.specs.declared.WalkPosition.{WalkPosition}
 use Rattle.format.specs.Sizes.{baseSize}
 use Rattle.format.specs.Records.{baseAt}
@@ -20,76 +23,83 @@ use Rattle.areas.specs.Words.{word, labelsIn}
 use Rattle.areas.proofs.Words.{label-in}
 use Rattle.context.specs.Anchors.{optional, anchorsOf, isAnchored}
 use Rattle.context.specs.Held.{isNone}
-use Rattle.context.specs.AnchorLoop.{Hit, anchorHit, anchoredBy}
+use Rattle.context.specs.AnchorLoop.{Hit, anchorsIn, anchorLabels, LabelAdded, LabelsRead}
 
 pub mul-as : {a b y w : ℕ} → a ≡ y → b ≡ w → a * b ≡ y * w
 mul-as e f = rw (e, f)
 
-pub not-hit : (ls : List ℕ) (width : ℕ) (p : WalkPosition) (r : ℕ) → isNone p ≡ true → false ≡ anchorHit ls width p r
-not-hit ls width p r h = rw h
-
-pub hit : (s : List ℕ) (n width : ℕ) (p : WalkPosition) (r : ℕ) {v i : ℕ} → isNone p ≡ false → p .y * width + p .x < n → v ≡ word s i → i ≡ p .y * width + p .x
-    → eqb r v ≡ anchorHit (labelsIn s n) width p r
-hit s n width p r {v} {i} h l e f = let k : v ≡ labelAt (labelsIn s n) (p .y * width + p .x) = e
-    ∙ (ap (word s) f ∙ sym (label-in s n (p .y * width + p .x) l)) in rw h (ap (eqb r) k)
-
-pub base-next : (job : List ℕ) (at i width : ℕ) (ls : List ℕ) (r : ℕ) {b : BaseRecord} {h found : Bool} → b ≡ baseAt job (at + i * baseSize)
-    → h ≡ anchorHit ls width (b .anchor) r
-    → found ≡ anchoredBy job at i width ls r → (h || found) ≡ anchoredBy job at (i + 1) width ls r
-unfolding anchoredBy
-base-next job at i width ls r {b} {h} {found} e f g =
-    rw add-one (let k : h ≡ anchorHit ls width (baseAt job (at + i * baseSize) .anchor) r = f ∙ ap (λ (x : BaseRecord). anchorHit ls width (x .anchor) r) e in
-    rw (k, g))
-
 pub hit-as : {b d : BaseRecord} {width n : ℕ} → b ≡ d → Hit (d .anchor) width n → Hit (b .anchor) width n
 hit-as e h = rw e h
 
-pub at-end : (job : List ℕ) (at width : ℕ) (ls : List ℕ) (r : ℕ) {i count : ℕ} {found : Bool} → i ≡ count → found ≡ anchoredBy job at i width ls r
-    → found ≡ anchoredBy job at count width ls r
-at-end job at width ls r e h = rw e at h
+-- no label is added where there is no anchor
+pub none-added : {width : ℕ} {ls : List ℕ} {p : WalkPosition} {anchors : List ℕ} {found : ℕ} → isNone p ≡ true
+    → LabelAdded width ls p anchors found anchors found
+unfolding anchorOf
+none-added {anchors = anchors} {found} h = record { kept = refl; most = omega arith; read = rw h (sym (append-nil (take found anchors))) }
 
-module _ (g : Grid) (ls : List ℕ) (r : ℕ) where
-  or-assoc : (a b c : Bool) → ((a || b) || c) ≡ (a || (b || c))
-  or-assoc true b c = refl
-  or-assoc false b c = refl
+-- the label at the place of the anchor's cell is added
+pub one-added : (s : List ℕ) {n width : ℕ} {p : WalkPosition} {anchors : List ℕ} {found v i : ℕ} → isNone p ≡ false → p .y * width + p .x < n
+    → found < length anchors → v ≡ word s i → i ≡ p .y * width + p .x → LabelAdded width (labelsIn s n) p anchors found (set anchors found v) (found + 1)
+unfolding anchorOf
+one-added s {n} {width} {p} {anchors} {found} {v} h on room e f = record {
+  kept = length-set anchors found v;
+  most = omega arith;
+  read = rw (h, add-one) (take-suc-set anchors found v room ∙ ap (λ (x : ℕ). take found anchors ++ (x ∷ [])) label);
+}
+  where
+    label : v ≡ labelAt (labelsIn s n) (p .y * width + p .x)
+    label = e ∙ (ap (word s) f ∙ sym (label-in s n (p .y * width + p .x) on))
 
-  or-swap : (a b : Bool) → (a || b) ≡ (b || a)
-  or-swap true true = refl
-  or-swap true false = refl
-  or-swap false true = refl
-  or-swap false false = refl
+anchors-append : (bs : List BaseRecord) (b : BaseRecord)
+    → anchorsOf (map baseOf (bs ++ (b ∷ []))) ≡ anchorsOf (map baseOf bs) ++ optional (anchorOf (b .anchor))
+unfolding anchorsOf gather baseOf
+anchors-append [] b = append-nil (optional (anchorOf (b .anchor)))
+anchors-append (d ∷ ds) b = ap (λ (l : List WalkPosition). optional (anchorOf (d .anchor)) ++ l) (anchors-append ds b)
+    ∙ sym (append-assoc (optional (anchorOf (d .anchor))) (anchorsOf (map baseOf ds)) (optional (anchorOf (b .anchor))))
 
-  found-append : (ps qs : List WalkPosition) → isAnchored g ls (ps ++ qs) r ≡ (isAnchored g ls ps r || isAnchored g ls qs r)
-  unfolding isAnchored
-  found-append [] qs = refl
-  found-append (p ∷ ps) qs = ap (λ (t : Bool). eqb r (labelAt ls (p .y * g .width + p .x)) || t) (found-append ps qs)
-      ∙ sym (or-assoc (eqb r (labelAt ls (p .y * g .width + p .x))) (isAnchored g ls ps r) (isAnchored g ls qs r))
+-- with one base more
+anchors-next : (job : List ℕ) (at i : ℕ) → anchorsIn job at (i + 1) ≡ anchorsIn job at i ++ optional (anchorOf (baseAt job (at + i * baseSize) .anchor))
+unfolding baseRecords
+anchors-next job at i =
+    let base : ℕ → BaseRecord = λ k. baseAt job (at + k * baseSize) in
+    rw add-one (ap (λ (l : List BaseRecord). anchorsOf (map baseOf l)) (rows-last i base) ∙ anchors-append (rows i base) (base i))
 
-  anchors-append : (bs : List BaseRecord) (b : BaseRecord)
-      → anchorsOf (map baseOf (bs ++ (b ∷ []))) ≡ anchorsOf (map baseOf bs) ++ optional (anchorOf (b .anchor))
-  unfolding anchorsOf gather baseOf
-  anchors-append [] b = append-nil (optional (anchorOf (b .anchor)))
-  anchors-append (d ∷ ds) b = ap (λ (l : List WalkPosition). optional (anchorOf (d .anchor)) ++ l) (anchors-append ds b)
-      ∙ sym (append-assoc (optional (anchorOf (d .anchor))) (anchorsOf (map baseOf ds)) (optional (anchorOf (b .anchor))))
+pub read-next : (job : List ℕ) (at i width : ℕ) (ls : List ℕ) {b : BaseRecord} {before after : List ℕ} {found r : ℕ} → b ≡ baseAt job (at + i * baseSize)
+    → take found before ≡ anchorLabels width ls (anchorsIn job at i) → LabelAdded width ls (b .anchor) before found after r
+    → take r after ≡ anchorLabels width ls (anchorsIn job at (i + 1))
+read-next job at i width ls {b} {before} {after} {found} {r} e f a =
+    let label : WalkPosition → ℕ = λ p. labelAt ls (p .y * width + p .x) in
+    let last : BaseRecord → List WalkPosition = λ d. optional (anchorOf (d .anchor)) in
+    a .read
+    ∙ (ap (λ (l : List ℕ). l ++ anchorLabels width ls (last b)) f
+    ∙ (sym (map-append label (anchorsIn job at i) (last b))
+    ∙ (ap (λ (d : BaseRecord). anchorLabels width ls (anchorsIn job at i ++ last d)) e ∙ ap (anchorLabels width ls) (sym (anchors-next job at i)))))
 
-  one-anchor : (p : WalkPosition) → isAnchored g ls (optional (anchorOf p)) r ≡ anchorHit ls (g .width) p r
-  unfolding isAnchored anchorOf
-  one-anchor p = go (isNone p)
-    where
-      go : (t : Bool) → isAnchored g ls (optional (cond t none (some p))) r ≡ (not t && eqb r (labelAt ls (p .y * g .width + p .x)))
-      go true = refl
-      go false = or-swap (eqb r (labelAt ls (p .y * g .width + p .x))) false
+pub all-read : {job : List ℕ} {at i count width : ℕ} {ls anchors : List ℕ} {found : ℕ} → i ≡ count → found ≤ length anchors
+    → take found anchors ≡ anchorLabels width ls (anchorsIn job at i) → LabelsRead job at count width ls anchors found
+all-read {job} {at} {width = width} {ls} e f h = record { fits = f; read = h ∙ ap (λ (k : ℕ). anchorLabels width ls (anchorsIn job at k)) e }
 
-  -- the search finds what the rule says
-  pub by-bases : (job : List ℕ) (at n : ℕ) → anchoredBy job at n (g .width) ls r ≡ isAnchored g ls (anchorsOf (map baseOf (baseRecords job at n))) r
-  unfolding anchoredBy baseRecords rows anchorsOf gather isAnchored
-  by-bases job at zero = refl
-  by-bases job at (suc k) =
-      let f : ℕ → BaseRecord = λ j. baseAt job (at + j * baseSize) in
-      let hitK : Bool = anchorHit ls (g .width) (f k .anchor) r in
-      let e : isAnchored g ls (anchorsOf (map baseOf (rows (suc k) f))) r ≡ (isAnchored g ls (anchorsOf (map baseOf (rows k f))) r || hitK) =
-      ap (λ (l : List BaseRecord). isAnchored g ls (anchorsOf (map baseOf l)) r) (rows-last k f)
-      ∙ (ap (λ (l : List WalkPosition). isAnchored g ls l r) (anchors-append (rows k f) (f k))
-      ∙ (found-append (anchorsOf (map baseOf (rows k f))) (optional (anchorOf (f k .anchor)))
-      ∙ ap (λ (t : Bool). isAnchored g ls (anchorsOf (map baseOf (rows k f))) r || t) (one-anchor (f k .anchor)))) in
-      ap (λ (t : Bool). hitK || t) (by-bases job at k) ∙ (or-swap hitK (isAnchored g ls (anchorsOf (map baseOf (rows k f))) r) ∙ sym e)
+-- the search, one label after another
+has-last : (r : ℕ) (l : List ℕ) (i : ℕ) → i < length l → (eqb r (getD l i 0) || has r (take i l)) ≡ has r (take (suc i) l)
+unfolding has
+has-last r [] i h = absurd (omega arith)
+has-last r (x ∷ xs) zero h = refl
+has-last r (x ∷ xs) (suc i) h = turned (eqb r (getD xs i 0)) (eqb r x) (has r (take i xs))
+    ∙ ap (λ (t : Bool). eqb r x || t) (has-last r xs i (omega arith))
+  where
+    turned : (a b c : Bool) → (a || (b || c)) ≡ (b || (a || c))
+    turned true true c = refl
+    turned true false c = refl
+    turned false b c = refl
+
+pub has-next : (r : ℕ) (l : List ℕ) (i : ℕ) {found : Bool} → i < length l → found ≡ has r (take i l) → (eqb r (getD l i 0) || found) ≡ has r (take (i + 1) l)
+has-next r l i h e = rw (add-one, e) (has-last r l i h)
+
+pub has-all : (r : ℕ) (l : List ℕ) {i : ℕ} {found : Bool} → i ≡ length l → found ≡ has r (take i l) → found ≡ has r l
+has-all r l {i} e h = h ∙ ap (has r) (ap (λ (k : ℕ). take k l) e ∙ take-length l)
+
+-- it finds what the rule says
+pub among-anchored : (g : Grid) (ls : List ℕ) (ps : List WalkPosition) (r : ℕ) → has r (anchorLabels (g .width) ls ps) ≡ isAnchored g ls ps r
+unfolding has isAnchored
+among-anchored g ls [] r = refl
+among-anchored g ls (p ∷ ps) r = ap (λ (t : Bool). eqb r (labelAt ls (p .y * g .width + p .x)) || t) (among-anchored g ls ps r)

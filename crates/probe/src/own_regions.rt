@@ -12,6 +12,7 @@ use analysis::first_answer;
 use areas_components::count_cells;
 use checks::refusals::ANSWER_TOO_SHORT;
 use checks_calls::check_reduce;
+use context::anchored::anchor_labels;
 use context::anchored::is_anchored;
 use context::stats::region_stats;
 use format::HEADER_SIZE;
@@ -58,7 +59,17 @@ fn tell_region(job: &[u8], h: Header, labels: &[u8], region: u32, out: &mut [u8]
     let n = size(width * c.height);
     let counted = count_cells(labels, n, region);
     let s = region_stats(&job[HEADER_SIZE..HEADER_SIZE + n], width, labels, region);
-    let anchored = is_anchored(job, size(o.bases), size(c.bases), width, labels, n, region);
+    let mut anchors = [0u32; 256];
+    let found = anchor_labels(
+        job,
+        size(o.bases),
+        size(c.bases),
+        width,
+        labels,
+        n,
+        &mut anchors,
+    );
+    let anchored = is_anchored(&anchors[..found], region);
     let ws = [
         counted,
         s.cells,

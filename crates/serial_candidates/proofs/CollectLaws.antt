@@ -12,10 +12,9 @@ use lib.ListN.{length, getD, set, length-set, replicate, length-replicate}
 use lib.Seq.{getD-set-same, getD-set-other}
 use Rattle.lists.specs.Rows.{rows}
 use Rattle.lists.proofs.Rows.{rows-last, rows-same}
-use Rattle.order.specs.Lists.{keep, upFrom}
+use Rattle.order.specs.Lists.{keep, upFrom, has}
 use Rattle.order.proofs.Bools.{clash, and-parts, or-cases}
 use Rattle.order.proofs.Keep.{keep-append}
-use Rattle.context.specs.AnchorLoop.{anchoredBy}
 use Rattle.serial_groups.specs.Links.{LinkAt}
 use Rattle.serial_groups.specs.Tables.{linksIn}
 use Rattle.graph.specs.Records.{recordIn}
@@ -130,7 +129,7 @@ record Shown (d : Given) (r : ℕ) : Type 0 where
 shown : (d : Given) (r : ℕ) → found d r ≡ true → Shown d r
 unfolding found joinsTwo
 shown d r h =
-    let p = and-parts (not (anchoredBy (d .job) (d .start) (d .bases) (d .width) (d .labels) r)) _ h .1 in
+    let p = and-parts (not (has r (d .anchors))) _ h .1 in
     let q = and-parts (eqb (seen d r .count) 2) _ p in
     let u = and-parts (hasRegion (d .marks) (d .lowers) (d .highers) r (seen d r .first) && hasRegion (d .marks) (d .lowers) (d .highers) r (seen d r .second))
     _ (q .1) .0 in
@@ -269,11 +268,11 @@ pub two-below : (owners lefts rights : List ℕ) {n k : ℕ} (r : ℕ) {t : Touc
 two-below owners lefts rights r h e = record { both = rw e (λ q. let w = two-ranks owners lefts rights r h q in (w .0, w .1)) }
 
 pub gives-found : (d : Given) (r : ℕ) {t : Touching} {b : Bool} → t ≡ seen d r
-    → b ≡ (not (anchoredBy (d .job) (d .start) (d .bases) (d .width) (d .labels) r) && joinsTwo (d .own) (d .marks) (d .lowers) (d .highers) r (t .count)
+    → b ≡ (not (has r (d .anchors)) && joinsTwo (d .own) (d .marks) (d .lowers) (d .highers) r (t .count)
     (t .first) (t .second)) → b ≡ found d r
 unfolding found
 gives-found d r e g = g ∙ ap
-    (λ (t : Touching). not (anchoredBy (d .job) (d .start) (d .bases) (d .width) (d .labels) r) && joinsTwo (d .own) (d .marks) (d .lowers) (d .highers) r
+    (λ (t : Touching). not (has r (d .anchors)) && joinsTwo (d .own) (d .marks) (d .lowers) (d .highers) r
     (t .count) (t .first) (t .second)) e
 
 pub added-one : {d : Given} {r count : ℕ} {rs fs ss : List ℕ} {t : Touching} → t ≡ seen d r → found d r ≡ true

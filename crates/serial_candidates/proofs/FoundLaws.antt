@@ -7,22 +7,21 @@ use native.Mathlib.Omega.{arith}
 use borrow.Author.Tests.{eqb-true}
 use lib.Dec.{eqb}
 use lib.ListN.{length, getD}
-use Rattle.order.specs.Lists.{keep, upFrom}
+use Rattle.order.specs.Lists.{keep, upFrom, has}
 use Rattle.order.proofs.Bools.{clash, and-parts}
 use Rattle.order.proofs.Members.{getD-mem, map-ext}
 use Rattle.order.proofs.Keep.{keep-mem, keep-ext}
 use Rattle.order.proofs.Numbers.{up-mem}
 use Rattle.position.specs.declared.WalkPosition.{WalkPosition}
 use Rattle.grid.specs.Cells.{Grid}
-use Rattle.format.specs.Decode.{baseOf, baseRecords}
 use Rattle.areas.specs.Spans.{spanIn}
 use Rattle.areas.specs.Assessments.{RegionPair}
 use Rattle.areas.proofs.Assessments.{pair-labels}
-use Rattle.context.specs.Anchors.{anchorsOf, isAnchored}
-use Rattle.context.specs.AnchorLoop.{anchoredBy}
+use Rattle.context.specs.Anchors.{isAnchored}
+use Rattle.context.specs.AnchorLoop.{anchorLabels}
 use Rattle.context.specs.FullPair.{inPair, inPairs, touches, hasFullPair, noPair}
 use Rattle.context.specs.Listing.{Item}
-use Rattle.context.proofs.Bases.{by-bases}
+use Rattle.context.proofs.Bases.{among-anchored}
 use Rattle.context.proofs.FullPair.{touches-iff, full-pair-iff}
 use Rattle.serial_links.specs.Geometry.{squares, doubledCentre}
 use Rattle.position.specs.Order.{posSame}
@@ -42,9 +41,7 @@ pub record Tells (dirs : List ℕ) (g : Grid) (anchors : List WalkPosition) (l :
   pub firsts : (i : ℕ) → i < length l → (getD (d .lowers) i 0 ≡ getD (assessAt dirs g l i .pairs) 0 noPair .lower)
       × (getD (d .highers) i 0 ≡ getD (assessAt dirs g l i .pairs) 0 noPair .higher)
   pub paired : Paired dirs g l (d .owners) (d .lefts) (d .rights) (d .count)
-  pub labelled : d .labels ≡ regionLabels dirs g l
-  pub wide : d .width ≡ g .width
-  pub based : anchors ≡ anchorsOf (map baseOf (baseRecords (d .job) (d .start) (d .bases)))
+  pub anchored : d .anchors ≡ anchorLabels (g .width) (regionLabels dirs g l) anchors
 
 -- a region among the only pair is one of its two
 only-pair : (r : ℕ) (ps : List RegionPair) → length ps ≡ 1 → inPairs r ps ≡ true → (eqb r (getD ps 0 noPair .lower) || eqb r (getD ps 0 noPair .higher)) ≡ true
@@ -117,19 +114,15 @@ module _ (dirs : List ℕ) (g : Grid) (anchors : List WalkPosition) (l : List It
           ∙ ap (λ (x : Bool). (linkable dirs g l a && linkable dirs g l b) && x) c)
       go false e = refl
 
-  anchored-is : (r : ℕ) → anchoredBy (d .job) (d .start) (d .bases) (d .width) (d .labels) r ≡ isAnchored g (regionLabels dirs g l) anchors r
-  anchored-is r =
-      ap (λ (x : ℕ). anchoredBy (d .job) (d .start) (d .bases) x (d .labels) r) (w .wide)
-      ∙ (ap (λ (x : List ℕ). anchoredBy (d .job) (d .start) (d .bases) (g .width) x r) (w .labelled)
-      ∙ (by-bases g (regionLabels dirs g l) r (d .job) (d .start) (d .bases)
-      ∙ ap (λ (x : List WalkPosition). isAnchored g (regionLabels dirs g l) x r) (sym (w .based))))
+  anchored-is : (r : ℕ) → has r (d .anchors) ≡ isAnchored g (regionLabels dirs g l) anchors r
+  anchored-is r = ap (has r) (w .anchored) ∙ among-anchored g (regionLabels dirs g l) anchors r
 
   pub found-is : (r : ℕ) → found d r ≡ givesLink dirs g anchors l r
   unfolding found givesLink linkAt
   found-is r =
-      ap (λ (t : Touching). not (anchoredBy (d .job) (d .start) (d .bases) (d .width) (d .labels) r) && joinsTwo (d .own) (d .marks) (d .lowers) (d .highers) r
+      ap (λ (t : Touching). not (has r (d .anchors)) && joinsTwo (d .own) (d .marks) (d .lowers) (d .highers) r
       (t .count) (t .first) (t .second)) (touching-held dirs g l (w .paired) r)
-      ∙ (both r (anchoredBy (d .job) (d .start) (d .bases) (d .width) (d .labels) r)
+      ∙ (both r (has r (d .anchors))
       ∙ ap (λ (x : Bool). (not x && eqb (length (touching dirs g l r)) 2)
       && ((linkable dirs g l (getD (touching dirs g l r) 0 0) && linkable dirs g l (getD (touching dirs g l r) 1 0)) && centresDiffer l
       (getD (touching dirs g l r) 0 0) (getD (touching dirs g l r) 1 0))) (anchored-is r))

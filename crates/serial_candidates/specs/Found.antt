@@ -5,8 +5,7 @@ use mathlib.Core.List.{List, map}
 use Prim.Native.Nat.{ℕ, zero, suc, _+_, _*_, _<_, _≤_}
 use lib.Dec.{leb}
 use lib.ListN.{length, getD, set}
-use Rattle.order.specs.Lists.{keep, upFrom}
-use Rattle.context.specs.AnchorLoop.{anchoredBy}
+use Rattle.order.specs.Lists.{keep, upFrom, has}
 use Rattle.serial_groups.specs.Links.{LinkAt}
 use Rattle.serial_groups.specs.Tables.{linksIn}
 use Rattle.graph.specs.Records.{recordIn}
@@ -14,13 +13,9 @@ use Rattle.serial_candidates.specs.Touchers.{touchingAfter}
 use Rattle.serial_candidates.specs.Gives.{joinsTwo}
 use Rattle.serial_candidates.specs.declared.touching.Touching.{Touching}
 
--- what is read: bases, the labels of cells, ends, marks, first pairs and records
+-- what is read: labels of anchors, ends, marks, first pairs and records
 pub record Given : Type 0 where
-  pub job : List ℕ
-  pub start : ℕ
-  pub bases : ℕ
-  pub width : ℕ
-  pub labels : List ℕ
+  pub anchors : List ℕ
   pub own : List ℕ
   pub marks : List ℕ
   pub lowers : List ℕ
@@ -30,14 +25,10 @@ pub record Given : Type 0 where
   pub rights : List ℕ
   pub count : ℕ
 
-abbrev pub given : List ℕ → ℕ → ℕ → ℕ → List ℕ → List ℕ → List ℕ → List ℕ → List ℕ → List ℕ → List ℕ → List ℕ → ℕ → Given
-given job start bases width labels own marks lowers highers owners lefts rights count =
+abbrev pub given : List ℕ → List ℕ → List ℕ → List ℕ → List ℕ → List ℕ → List ℕ → List ℕ → ℕ → Given
+given anchors own marks lowers highers owners lefts rights count =
     record {
-      job = job;
-      start = start;
-      bases = bases;
-      width = width;
-      labels = labels;
+      anchors = anchors;
       own = own;
       marks = marks;
       lowers = lowers;
@@ -53,8 +44,8 @@ seen d r = touchingAfter (recordIn (d .owners) (d .lefts) (d .rights)) r (d .cou
 
 -- the region gives a link
 unfoldable pub found : Given → ℕ → Bool
-unfolding anchoredBy joinsTwo touchingAfter
-found d r = not (anchoredBy (d .job) (d .start) (d .bases) (d .width) (d .labels) r) && joinsTwo (d .own) (d .marks) (d .lowers) (d .highers) r
+unfolding has joinsTwo touchingAfter
+found d r = not (has r (d .anchors)) && joinsTwo (d .own) (d .marks) (d .lowers) (d .highers) r
     (seen d r .count) (seen d r .first) (seen d r .second)
 
 -- the link

@@ -2,11 +2,9 @@
 use mathlib.Core.Path.{_≡_}
 use mathlib.Core.Bool.{Bool, not, _&&_, _||_}
 use mathlib.Core.List.{List}
-use Prim.Native.Nat.{ℕ, _+_, _*_, _<_, _≤_}
+use Prim.Native.Nat.{ℕ, _<_}
 use lib.Dec.{eqb}
-use lib.ListN.{length, getD}
-use Rattle.format.specs.Sizes.{baseSize}
-use Rattle.context.specs.AnchorLoop.{AnchorsIn}
+use lib.ListN.{getD}
 use Rattle.areas.specs.Spans.{spanIn}
 use Rattle.serial_links.specs.Geometry.{squares, doubledCentre}
 use Rattle.serial_links.specs.Held.{SpanBounded}
@@ -30,10 +28,3 @@ joinsTwo own marks lowers highers r count first second =
     eqb count 2
     && ((hasRegion marks lowers highers r first && hasRegion marks lowers highers r second) && not
     (eqb (squares (doubledCentre (spanIn own first)) (doubledCentre (spanIn own second))) 0))
-
--- the bases and labels are there, and each anchor is one of the cells
-pub record AnchorsOnMap (job : List ℕ) (start bases width : ℕ) (labels : List ℕ) (cells : ℕ) : Type 0 where
-  pub there : start + bases * baseSize ≤ length job
-  pub few : cells ≤ 1048576
-  pub labelled : cells * 4 ≤ length labels
-  pub anchors : AnchorsIn job start bases width cells

@@ -2,9 +2,8 @@
 ghost use mathlib.Core.Path.{_≡_};
 ghost use mathlib.Core.Bool.{true};
 ghost use Prim.Native.Nat.{_<_, _≤_};
-ghost use Rattle.areas.specs.Words.{labelsIn};
 ghost use Rattle.serial_candidates.specs.Owners.{Stored, OwnersBelow};
-ghost use Rattle.serial_candidates.specs.Gives.{AnchorsOnMap, OwnBounded};
+ghost use Rattle.serial_candidates.specs.Gives.{OwnBounded};
 ghost use Rattle.serial_candidates.specs.Found.{given, found, LinkAdded, AllFound};
 use crate::gives::gives_link;
 use crate::regions::next_region;
@@ -12,12 +11,7 @@ use crate::touching::touching_of;
 
 // Adds the region's link, if it gives one. Gives how many there are then.
 fn consider(
-    job: &[u8],
-    bases_at: usize,
-    bases: usize,
-    width: u32,
-    labels: &[u8],
-    cells: usize,
+    anchors: &[u32],
     n: usize,
     own: &[u32; 1024],
     linkables: &[u8; 256],
@@ -33,12 +27,12 @@ fn consider(
     firsts: &mut [u32; 256],
     seconds: &mut [u32; 256],
 ) -> usize
-    requires { ⌜ AnchorsOnMap (now job) «bases_at» bases width (now labels) cells × (n ≤ 256) × OwnBounded (now own) n
+    requires { ⌜ (n ≤ 256) × OwnBounded (now own) n
         × Stored (now owners) (now lefts) (now rights) records × OwnersBelow (now owners) records n
-        × (found (given (now job) «bases_at» bases width (labelsIn (now labels) cells) (now own) (now linkables) (now lowers) (now highers) (now owners)
+        × (found (given (now anchors) (now own) (now linkables) (now lowers) (now highers) (now owners)
         (now lefts) (now rights) records) region ≡ true → count < 256) ⌝ }
     ensures { λ r. ⌜ LinkAdded
-        (given (now (job .entry)) «bases_at» bases width (labelsIn (now (labels .entry)) cells) (now (own .entry)) (now (linkables .entry))
+        (given (now (anchors .entry)) (now (own .entry)) (now (linkables .entry))
         (now (lowers .entry)) (now (highers .entry)) (now (owners .entry)) (now (lefts .entry)) (now (rights .entry)) records) region count
         (now (regions .entry)) (now (firsts .entry)) (now (seconds .entry)) r (now (regions .exit)) (now (firsts .exit)) (now (seconds .exit)) ⌝ }
 {
@@ -46,12 +40,7 @@ fn consider(
     let first = t.first;
     let second = t.second;
     if gives_link(
-        job,
-        bases_at,
-        bases,
-        width,
-        labels,
-        cells,
+        anchors,
         n,
         own,
         linkables,
@@ -72,12 +61,7 @@ fn consider(
 
 // The links of all regions in the pairs of marked ranks. Gives how many there are.
 pub fn collect(
-    job: &[u8],
-    bases_at: usize,
-    bases: usize,
-    width: u32,
-    labels: &[u8],
-    cells: usize,
+    anchors: &[u32],
     n: usize,
     own: &[u32; 1024],
     linkables: &[u8; 256],
@@ -91,10 +75,10 @@ pub fn collect(
     firsts: &mut [u32; 256],
     seconds: &mut [u32; 256],
 ) -> usize
-    requires { ⌜ AnchorsOnMap (now job) «bases_at» bases width (now labels) cells × (n ≤ 256) × OwnBounded (now own) n
+    requires { ⌜ (n ≤ 256) × OwnBounded (now own) n
         × Stored (now owners) (now lefts) (now rights) records × OwnersBelow (now owners) records n ⌝ }
     ensures { λ r. ⌜ AllFound
-        (given (now (job .entry)) «bases_at» bases width (labelsIn (now (labels .entry)) cells) (now (own .entry)) (now (linkables .entry))
+        (given (now (anchors .entry)) (now (own .entry)) (now (linkables .entry))
         (now (lowers .entry)) (now (highers .entry)) (now (owners .entry)) (now (lefts .entry)) (now (rights .entry)) records) (now (regions .exit))
         (now (firsts .exit)) (now (seconds .exit)) r ⌝ }
 {
@@ -106,12 +90,7 @@ pub fn collect(
     let mut region = next_region(n, linkables, lowers, highers, after);
     while region != 0 {
         count = consider(
-            job,
-            bases_at,
-            bases,
-            width,
-            labels,
-            cells,
+            anchors,
             n,
             own,
             linkables,

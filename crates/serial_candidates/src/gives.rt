@@ -2,9 +2,8 @@
 ghost use mathlib.Core.Path.{_≡_};
 ghost use mathlib.Core.Bool.{not, _&&_};
 ghost use Prim.Native.Nat.{_<_, _≤_};
-ghost use Rattle.areas.specs.Words.{labelsIn};
-ghost use Rattle.context.specs.AnchorLoop.{anchoredBy};
-ghost use Rattle.serial_candidates.specs.Gives.{hasRegion, AnchorsOnMap, OwnBounded, TwoBelow, joinsTwo};
+ghost use Rattle.order.specs.Lists.{has};
+ghost use Rattle.serial_candidates.specs.Gives.{hasRegion, OwnBounded, TwoBelow, joinsTwo};
 use areas::spans::span_at;
 use context::anchored::is_anchored;
 use serial_links::geometry::centres_differ;
@@ -49,14 +48,9 @@ pub fn joins_two(
     (one & other) & centres_differ(span_at(own, i), span_at(own, j))
 }
 
-// The region gives a link: no anchor lies in it, and it joins two ranks.
+// The region gives a link: it is none of the anchors' labels, and it joins two ranks.
 pub fn gives_link(
-    job: &[u8],
-    bases_at: usize,
-    bases: usize,
-    width: u32,
-    labels: &[u8],
-    cells: usize,
+    anchors: &[u32],
     n: usize,
     own: &[u32; 1024],
     linkables: &[u8; 256],
@@ -67,11 +61,11 @@ pub fn gives_link(
     second: u32,
     region: u32,
 ) -> bool
-    requires { ⌜ AnchorsOnMap (now job) «bases_at» bases width (now labels) cells × (n ≤ 256) × OwnBounded (now own) n × TwoBelow count first second n ⌝ }
-    ensures { λ r. ⌜ r ≡ not (anchoredBy (now (job .entry)) «bases_at» bases width (labelsIn (now (labels .entry)) cells) region) && joinsTwo (now (own .entry))
+    requires { ⌜ (n ≤ 256) × OwnBounded (now own) n × TwoBelow count first second n ⌝ }
+    ensures { λ r. ⌜ r ≡ not (has region (now (anchors .entry))) && joinsTwo (now (own .entry))
         (now (linkables .entry)) (now (lowers .entry)) (now (highers .entry)) region count first second ⌝ }
 {
-    let anchored = is_anchored(job, bases_at, bases, width, labels, cells, region);
+    let anchored = is_anchored(anchors, region);
     let joins = joins_two(
         n,
         own,

@@ -1,8 +1,7 @@
 // The links between boundaries that regions give: 000's `candidate_links`, without its measures.
 ghost use Prim.Native.Nat.{_≤_};
-ghost use Rattle.areas.specs.Words.{labelsIn};
 ghost use Rattle.serial_candidates.specs.Owners.{Stored, OwnersBelow};
-ghost use Rattle.serial_candidates.specs.Gives.{AnchorsOnMap, OwnBounded};
+ghost use Rattle.serial_candidates.specs.Gives.{OwnBounded};
 ghost use Rattle.serial_candidates.specs.Top.{CandidateLinks};
 
 pub mod pairs; // how many pairs each rank has, and its first one
@@ -16,14 +15,9 @@ use collect::collect;
 use linkable::find_linkables;
 use pairs::first_pairs;
 
-// The links, by rising regions, and the first pairs of the ranks. Gives how many links there are.
+// The links, by rising regions, and the first pairs of the ranks, from the labels of the anchors' cells. Gives how many links there are.
 pub fn candidate_links(
-    job: &[u8],
-    bases_at: usize,
-    bases: usize,
-    width: u32,
-    labels: &[u8],
-    cells: usize,
+    anchors: &[u32],
     n: usize,
     own: &[u32; 1024],
     ramps: &[u8; 256],
@@ -40,9 +34,9 @@ pub fn candidate_links(
     firsts: &mut [u32; 256],
     seconds: &mut [u32; 256],
 ) -> usize
-    requires { ⌜ AnchorsOnMap (now job) «bases_at» bases width (now labels) cells × (n ≤ 256) × OwnBounded (now own) n
+    requires { ⌜ (n ≤ 256) × OwnBounded (now own) n
         × Stored (now owners) (now lefts) (now rights) records × OwnersBelow (now owners) records n ⌝ }
-    ensures { λ r. ⌜ CandidateLinks (now (job .entry)) «bases_at» bases width (labelsIn (now (labels .entry)) cells) n (now (own .entry)) (now (ramps .entry))
+    ensures { λ r. ⌜ CandidateLinks (now (anchors .entry)) n (now (own .entry)) (now (ramps .entry))
         (now (removed .entry)) (now (separated .entry)) (now (owners .entry)) (now (lefts .entry)) (now (rights .entry)) records (now (counts .exit))
         (now (lowers .exit)) (now (highers .exit)) (now (regions .exit)) (now (firsts .exit)) (now (seconds .exit)) r ⌝ }
 {
@@ -50,12 +44,7 @@ pub fn candidate_links(
     first_pairs(owners, lefts, rights, records, counts, lowers, highers);
     find_linkables(n, own, ramps, removed, separated, counts, &mut linkables);
     collect(
-        job,
-        bases_at,
-        bases,
-        width,
-        labels,
-        cells,
+        anchors,
         n,
         own,
         &linkables,

@@ -12,9 +12,11 @@ use Rattle.grid.specs.Cells.{Grid, mapOf}
 use Rattle.areas.specs.Spans.{Sides}
 use Rattle.areas.specs.Words.{labelsIn}
 use Rattle.areas.proofs.Words.{labels-same}
+use Rattle.context.specs.AnchorLoop.{AnchorsOnMap, anchorsIn, anchorLabels, LabelsRead}
 use Rattle.context.specs.Listing.{Item}
+use Rattle.serial_groups.specs.Regions.{regionLabels}
 use Rattle.serial_groups.specs.Tables.{LinkTable}
-use Rattle.serial_candidates.specs.Gives.{AnchorsOnMap, OwnBounded}
+use Rattle.serial_candidates.specs.Gives.{OwnBounded}
 use Rattle.serial_candidates.specs.Owners.{Stored, OwnersBelow}
 use Rattle.serial_candidates.specs.Top.{CandidateLinks}
 use Rattle.serial_measures.specs.Tables.{Labels, LinkRegions}
@@ -25,7 +27,7 @@ use Rattle.serial_plan.specs.Fitting.{RankedLinks}
 use Rattle.serial_plan.specs.Planning.{PlanOf}
 use Rattle.serial_plan.proofs.FromTables.{told, plannable, ranked, passed, flat-inside}
 use Rattle.serial_plan.specs.Listed.{ListingTables, PlanInput}
-use Rattle.serial_plan.specs.Planned.{anchorsIn, LinksFrom, PlanFrom}
+use Rattle.serial_plan.specs.Planned.{LinksFrom, PlanFrom}
 use Rattle.serial_plan.proofs.LinkLaws.{regions-are, ranks-are, owners-are}
 
 -- the first bytes, as they are lent
@@ -50,11 +52,14 @@ module _ {job : List ℕ} {start bases : ℕ} {cells : List ℕ} {width height n
   few : n ≤ 256
   few = omega (arith, R .listed .told .few, R .listed .count)
 
-  on-map : AnchorsOnMap job start bases width (lent work (length cells)) (length cells)
-  on-map = record {
+  -- what `anchor_labels` asks for
+  pub readable : AnchorsOnMap job start bases width (lent work (length cells)) (length cells)
+  readable = record {
     there = R .there;
-    few = area (R .sides .wide) (R .sides .high) (R .whole);
-    labelled = lent-long work (length cells) (omega (arith, R .labels .room));
+    mapped = record {
+      few = area (R .sides .wide) (R .sides .high) (R .whole);
+      labelled = lent-long work (length cells) (omega (arith, R .labels .room));
+    };
     anchors = R .anchors;
   }
 
@@ -65,22 +70,21 @@ module _ {job : List ℕ} {start bases : ℕ} {cells : List ℕ} {width height n
   owned = subst (OwnersBelow owners records) (R .listed .count) (owners-are (R .dirs) (mapOf width height cells) (R .items) (R .listed .paired))
 
   -- what `candidate_links` asks for
-  pub findable : AnchorsOnMap job start bases width (lent work (length cells)) (length cells) × (n ≤ 256) × OwnBounded own n
-      × Stored owners lefts rights records
-      × OwnersBelow owners records n
-  findable = (on-map, few, own-bounded, R .stored, owned)
+  pub findable : (n ≤ 256) × OwnBounded own n × Stored owners lefts rights records × OwnersBelow owners records n
+  findable = (few, own-bounded, R .stored, owned)
 
-  module _ {counts lowers highers regions firsts seconds : List ℕ} {r : ℕ}
-      (A : CandidateLinks job start bases width (labelsIn (lent work (length cells)) (length cells)) n own ramps removed separated owners lefts rights records
-      counts
-      lowers highers regions firsts seconds r) where
+  module _ {array : List ℕ} {found : ℕ} (L : LabelsRead job start bases width (labelsIn (lent work (length cells)) (length cells)) array found)
+      {counts lowers highers regions firsts seconds : List ℕ} {r : ℕ}
+      (A : CandidateLinks (take found array) n own ramps removed separated owners lefts rights records counts lowers highers regions firsts
+      seconds r) where
     -- the links of a listing that the arrays tell of
     linked : (dirs : List ℕ) (anchors : List WalkPosition) (l : List Item) (marks : List ℕ)
         → ListingTables dirs (mapOf width height cells) l n own bits ramps (labelsIn work (length cells)) removed separated owners lefts rights records marks
         → anchors ≡ anchorsIn job start bases → LinkTable dirs (mapOf width height cells) anchors l regions firsts seconds r
     linked dirs anchors l marks h e =
-        A .linked dirs (mapOf width height cells) anchors l bits (h .count) (h .told) (h .counted) (h .paired) (lent-labels work (length cells) ∙ h .labelled)
-        refl e
+        A .linked dirs (mapOf width height cells) anchors l bits (h .count) (h .told) (h .counted) (h .paired)
+        (L .read ∙ (ap (λ (ls : List ℕ). anchorLabels width ls (anchorsIn job start bases)) (lent-labels work (length cells) ∙ h .labelled)
+        ∙ ap (anchorLabels width (regionLabels dirs (mapOf width height cells) l)) (sym e)))
 
     own-links : LinkTable (R .dirs) (mapOf width height cells) (anchorsIn job start bases) (R .items) regions firsts seconds r
     own-links = linked (R .dirs) (anchorsIn job start bases) (R .items) (R .marks) (R .listed) refl

@@ -3,6 +3,7 @@ use mathlib.Core.Path.{_≡_}
 use mathlib.Core.List.{List}
 use Prim.Native.Nat.{ℕ, _+_, _*_, _≤_}
 use lib.ListN.{length}
+use Rattle.format.specs.Bounds.{maxBases}
 use Rattle.format.specs.Sizes.{baseSize}
 use Rattle.grid.specs.Cells.{Grid, mapOf}
 use Rattle.areas.specs.Spans.{Sides}
@@ -25,12 +26,13 @@ pub record ListingTables (dirs : List ℕ) (g : Grid) (l : List Item) (n : ℕ) 
   pub paired : Paired dirs g l owners lefts rights records
   pub bridged : Bridged dirs g l marks
 
--- a map with labels in bytes, bases with their anchors on it, arrays of plain numbers, room for the records, and some listing that they tell of
+-- a map with labels in bytes, not too many bases with their anchors on it, arrays of plain numbers, room for the records, and some listing that they tell of
 pub record PlanInput (job : List ℕ) (start bases : ℕ) (cells : List ℕ) (width height n : ℕ) (own bits ramps work removed separated owners lefts rights : List ℕ)
     (records : ℕ) : Type 0 where
   pub sides : Sides width height
   pub whole : length cells ≡ width * height
   pub labels : Labels work (length cells)
+  pub few-bases : bases ≤ maxBases
   pub there : start + bases * baseSize ≤ length job
   pub anchors : AnchorsIn job start bases width (length cells)
   pub plain : CoordinatesBounded own bits

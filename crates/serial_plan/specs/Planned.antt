@@ -1,23 +1,18 @@
 -- The links of a listing with their marks, and the merge plan, by arrays.
 use mathlib.Core.Path.{_≡_}
-use mathlib.Core.List.{List, map}
+use mathlib.Core.List.{List}
 use Prim.Native.Nat.{ℕ, _<_}
 use lib.ListN.{length, getD}
 use Rattle.position.specs.declared.WalkPosition.{WalkPosition}
-use Rattle.format.specs.Decode.{baseOf, baseRecords}
 use Rattle.grid.specs.Cells.{Grid}
 use Rattle.serial_links.specs.Limits.{Limits}
-use Rattle.context.specs.Anchors.{anchorsOf}
+use Rattle.context.specs.AnchorLoop.{anchorsIn}
 use Rattle.context.specs.Listing.{Item}
 use Rattle.serial_groups.specs.Plan.{mergePlan}
 use Rattle.serial_groups.specs.Tables.{LinkTable}
 use Rattle.serial_plan.specs.Arrays.{LinkRanks}
 use Rattle.serial_plan.specs.Told.{BoundaryTables, Passed, FlatInside}
 use Rattle.serial_plan.specs.Listed.{ListingTables}
-
--- the anchors of a job's bases
-abbrev pub anchorsIn : List ℕ → ℕ → ℕ → List WalkPosition
-anchorsIn job start bases = anchorsOf (map baseOf (baseRecords job start bases))
 
 -- the links of the listing, the first pairs of its boundaries, which links pass, and which are flat
 pub record LinksTold (limits : Limits) (dirs : List ℕ) (g : Grid) (anchors : List WalkPosition) (l : List Item) (n : ℕ)

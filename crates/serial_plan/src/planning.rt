@@ -8,6 +8,7 @@ ghost use Rattle.serial_links.specs.HeldLimits.{limitsOf};
 ghost use Rattle.serial_plan.specs.Listed.{PlanInput};
 ghost use Rattle.serial_plan.specs.Planned.{LinksFrom, PlanFrom};
 use crate::merge::merge_plan;
+use context::anchored::anchor_labels;
 use serial_candidates::candidate_links;
 use serial_links::limits::Limits;
 use serial_measures::measure_links;
@@ -49,15 +50,20 @@ fn measured_links(
         (now (regions .exit)) (now (firsts .exit)) (now (seconds .exit)) (now (passing .exit)) (now (flat .exit)) r ⌝ }
 {
     let m = cells.len();
+    let mut anchors = [0u32; 256];
     let mut counts = [0u32; 256];
     let mut inside = [0u8; 256];
-    let links = candidate_links(
+    let anchored = anchor_labels(
         job,
         bases_at,
         bases,
         width,
         &work[0..4 * m],
         m,
+        &mut anchors,
+    );
+    let links = candidate_links(
+        &anchors[..anchored],
         n,
         own,
         ramps,

@@ -1,11 +1,12 @@
-use mathlib.Core.Path.{_∙_, ap}
+use mathlib.Core.Path.{sym, _∙_, ap}
 use mathlib.Core.List.{List}
 use native.Mathlib.Omega.{arith}
+use lib.Seq.{length-take-le}
 use Rattle.wire.specs.Bytes.{words, splice}
 use Rattle.analysis.proofs.Headed.{headed-laid, headed-cells}
 use Rattle.analysis.proofs.Mapped.{map-inside, map-long}
 use Rattle.analysis.proofs.Calling.{headed-work}
-use Rattle.probe.proofs.RegionLaws.{bases-there, anchors-there, region-told}
+use Rattle.probe.proofs.RegionLaws.{anchors-there, region-told}
 use borrow.Author.Needs.{needs}
 use Rattle.probe.proofs.own_regions.tell_region.Statement.{statement}
 use Rattle.probe.proofs.own_regions.tell_region.Tie as tie
@@ -14,6 +15,14 @@ use Rattle.probe.proofs.own_regions.tell_region.Tie as tie
 abbrev start-of : tie.After-slice-known → tie.Start
 start-of c = c .before .before .before
 
+-- the start, past the number of cells
+abbrev asked : tie.After-size → tie.Start
+asked c = start-of (c .before .before .before .before)
+
+-- where the number of cells is known, from the labels of the anchors
+abbrev sized : tie.After-anchor-labels → tie.After-size
+sized c = c .before .before .before .before .before .before .before
+
 mul-size : tie.Need-mul-size
 mul-size c =
     let start = start-of (c .before .before .before) in
@@ -21,51 +30,55 @@ mul-size c =
 
 count-cells-requires : tie.Need-count-cells-requires
 count-cells-requires c κs =
-    let start = start-of (c .before .before .before .before) in
-    let d = start .pre .0 in
+    let d = asked c .pre .0 in
     let n = c .size .ensures .0 in
-    (omega (arith, n, headed-cells d), omega (arith, n, headed-work d, start .pre .1))
+    (omega (arith, n, headed-cells d), omega (arith, n, headed-work d, asked c .pre .1))
 
 part-region-stats-end : tie.Need-part-region-stats-end
 part-region-stats-end c =
-    let start = start-of (c .before .before .before .before .before) in
-    let d = start .pre .0 in omega (arith, map-inside (d .header) (headed-laid d) _ (c .before .size .ensures .0))
+    let d = asked (c .before) .pre .0 in omega (arith, map-inside (d .header) (headed-laid d) _ (c .before .size .ensures .0))
 
 region-stats-requires : tie.Need-region-stats-requires
 region-stats-requires c κs =
-    let start = start-of (c .before .before .before .before .before .before) in
-    let d = start .pre .0 in
-    let long = map-long (d .header) (headed-laid d) _ (c .before .before .size .ensures .0) in
-    (omega (arith, headed-laid d .within .width-some), omega (arith, long, headed-cells d), omega (arith, long, headed-work d, start .pre .1))
+    let cells = c .before .before in
+    let d = asked cells .pre .0 in
+    let long = map-long (d .header) (headed-laid d) _ (cells .size .ensures .0) in
+    (omega (arith, headed-laid d .within .width-some), omega (arith, long, headed-cells d), omega (arith, long, headed-work d, asked cells .pre .1))
 
-is-anchored-requires : tie.Need-is-anchored-requires
-is-anchored-requires c κs =
-    let after-size = c .before .before .before .before .before in
-    let start = start-of (after-size .before .before .before .before) in
-    let d = start .pre .0 in
-    let n = after-size .size .ensures .0 in
-    let at = c .before .size2 .ensures .0 in
-    let count = c .size3 .ensures .0 in
-    (bases-there d at count n, omega (arith, n, headed-cells d), omega (arith, n, headed-work d, start .pre .1), anchors-there d at count n)
+anchor-labels-requires : tie.Need-anchor-labels-requires
+anchor-labels-requires c κs =
+    let counted = c .before in
+    let cells = counted .before .before .before .before .before in
+    let d = asked cells .pre .0 in
+    let n = cells .size .ensures .0 in
+    let there = anchors-there d (counted .before .size2 .ensures .0) (counted .size3 .ensures .0) n (asked cells .args .labels .now)
+    (omega (arith, n, headed-work d, asked cells .pre .1)) in
+    (there .0, omega (arith, there .1))
+
+room : tie.Need-slice-aggregate-is-anchored
+room c = let read = c .before .before .anchor-labels in sym (length-take-le (read .result) _ (read .ensures .fits))
+
+write-words-requires : tie.Need-write-words-requires
+write-words-requires c κs =
+    let start = asked (sized (c .before .before .before .before .before .before .before)) in
+    (omega arith, omega (arith, start .pre .2))
 
 returns : tie.Need-returns
 returns c =
-    let after-flag2 = c .before .before .before .before .before in
-    let after-flag = after-flag2 .before in
-    let after-is-anchored = after-flag .before in
-    let at-size3 = after-is-anchored .before in
-    let at-size2 = at-size3 .before in
-    let at-region-stats = at-size2 .before in
-    let at-count-cells = at-region-stats .before .before in
-    let at-size = at-count-cells .before in
-    let start = at-size .before .before .before .before .before .before .before in
+    let told-anchored = c .before .before .before .before .before in
+    let told-ramp = told-anchored .before in
+    let anchored = told-ramp .before in
+    let read = anchored .before .before .before in
+    let counted = read .before .before in
+    let measured = counted .before .before in
+    let cells = sized read in
+    let start = asked cells in
     let given = start .args in
     c .before .before .write-words .ensures
     ∙ ap (λ (l : List _). splice (given .out .now) 0 (words l))
-    (region-told (start .pre .0) (at-size2 .size2 .ensures .0) (at-size3 .size3 .ensures .0) (at-size .size .ensures .0) (given .labels .now) (given .region)
-    (at-count-cells .count-cells .ensures) (at-region-stats .region-stats .ensures)
-    (after-is-anchored .is-anchored .ensures) (after-flag .flag .ensures)
-    (after-flag2 .flag2 .ensures))
+    (region-told (start .pre .0) (counted .before .size2 .ensures .0) (counted .size3 .ensures .0) (cells .size .ensures .0) (given .labels .now)
+    (given .region) (measured .before .before .count-cells .ensures) (measured .region-stats .ensures) (read .anchor-labels .ensures)
+    (anchored .is-anchored .ensures) (told-ramp .flag .ensures) (told-anchored .flag2 .ensures))
 
 pub tell-region-spec : {M : Type 1} → statement M
 tell-region-spec =
@@ -81,10 +94,14 @@ tell-region-spec =
     region-stats-requires
     (λ c κs. search needs)
     (λ c κs. search needs)
-    is-anchored-requires
+    (λ c. search needs)
+    anchor-labels-requires
+    (λ c. search needs)
+    room
+    (λ c κs. search needs)
     (λ c κs. search needs)
     (λ c κs. search needs)
     (λ c. search needs)
-    (λ c κs. search needs)
+    write-words-requires
     (λ c. search needs)
     returns)

@@ -1,7 +1,6 @@
 use mathlib.Core.Path.{_≡_, refl, sym, _∙_}
 use native.Mathlib.Omega.{arith}
 use Prim.Native.Nat.{_<_}
-use Rattle.areas.specs.Words.{labelsIn}
 use Rattle.serial_candidates.specs.Next.{nextAfter}
 use Rattle.serial_candidates.specs.Found.{Given, given, Collected}
 use Rattle.serial_candidates.proofs.CollectLaws.{collected-start, above, has-room, collected-next, collected-all, left, less-left}
@@ -10,23 +9,23 @@ use Rattle.serial_candidates.proofs.collect.collect.Statement.{statemen
 use Rattle.serial_candidates.proofs.collect.collect.Tie as tie
 
 abbrev Inv-loop : tie.InvT-loop
-Inv-loop job bases-at bases width labels cells n own linkables lowers highers owners lefts rights records regions₀ firsts₀ seconds₀ count₀ after₀ region₀
+Inv-loop anchors n own linkables lowers highers owners lefts rights records regions₀ firsts₀ seconds₀ count₀ after₀ region₀
     regions firsts seconds count after region = (region ≡ nextAfter linkables lowers highers after n) × (region < 4294967296)
-    × Collected (given job bases-at bases width (labelsIn labels cells) own linkables lowers highers owners lefts rights records) n after count regions firsts
+    × Collected (given anchors own linkables lowers highers owners lefts rights records) n after count regions firsts
     seconds
 
 abbrev μ-loop : tie.MeasureT-loop
-μ-loop job bases-at bases width labels cells n own linkables lowers highers owners lefts rights records regions₀ firsts₀ seconds₀ count₀ after₀ region₀ regions
+μ-loop anchors n own linkables lowers highers owners lefts rights records regions₀ firsts₀ seconds₀ count₀ after₀ region₀ regions
     firsts seconds count after region = left region
 
 -- what the function is given and asked: the places since only say that its slices have lengths
-abbrev start-of : tie.After-shared-slice-known5 Inv-loop μ-loop → tie.Start Inv-loop μ-loop
-start-of c = c .before .before .before .before .before
+abbrev start-of : tie.After-shared-slice-known4 Inv-loop μ-loop → tie.Start Inv-loop μ-loop
+start-of c = c .before .before .before .before
 
 -- what links are found from
 abbrev facts : tie.Start Inv-loop μ-loop → Given
 facts start = let a = start .args in
-    given (a .job .now) (a .bases-at) (a .bases) (a .width) (labelsIn (a .labels .now) (a .cells)) (a .own .now) (a .linkables .now) (a .lowers .now)
+    given (a .anchors .now) (a .own .now) (a .linkables .now) (a .lowers .now)
     (a .highers .now) (a .owners .now) (a .lefts .now) (a .rights .now) (a .records)
 
 -- the start, from the loop
@@ -36,7 +35,7 @@ asked c = start-of (c .before .before .before .before .before)
 loop-holds : tie.Need-loop-holds Inv-loop μ-loop
 loop-holds c =
     let start = start-of (c .before .before .before .before) in
-    (c .next-region .ensures .0, c .next-region .ensures .1, collected-start (facts start) (start .args .n) (start .pre .4) 256 refl)
+    (c .next-region .ensures .0, c .next-region .ensures .1, collected-start (facts start) (start .args .n) (start .pre .3) 256 refl)
 
 consider-requires : tie.Need-consider-requires Inv-loop μ-loop
 consider-requires c κs =
@@ -46,7 +45,7 @@ consider-requires c κs =
     let start = asked at-loop in
     let p = start .pre in
     let later = above (facts start) (start .args .n) (m .inv .0) (turning .loop-test .taken) in
-    (p .0, p .1, p .2, p .3, p .4, has-room (facts start) (start .args .n) (p .4) (p .1) (m .inv .2) (m .region) later)
+    (p .0, p .1, p .2, p .3, has-room (facts start) (start .args .n) (p .3) (p .0) (m .inv .2) (m .region) later)
 
 loop-less : tie.Need-loop-less Inv-loop μ-loop
 loop-less c =
@@ -62,7 +61,7 @@ loop-again c =
     let p = asked at-loop .pre in (
       c .next-region2 .ensures .0,
       c .next-region2 .ensures .1,
-      collected-next (p .4) (p .1) (inv .2) (inv .0) (omega (arith, turning .loop-test .taken)) (c .before .consider .ensures),
+      collected-next (p .3) (p .0) (inv .2) (inv .0) (omega (arith, turning .loop-test .taken)) (c .before .consider .ensures),
     )
 
 returns : tie.Need-returns Inv-loop μ-loop
@@ -70,7 +69,7 @@ returns c =
     let p = asked (c .before) .pre in
     let m = c .before .loop in
     let none : m .region ≡ 0 = omega (arith, c .loop-test .left) in
-    collected-all (p .4) (p .1) (m .inv .2) (sym (m .inv .0) ∙ none)
+    collected-all (p .3) (p .0) (m .inv .2) (sym (m .inv .0) ∙ none)
 
 pub collect-spec : {M : Type 1} → statement M
 collect-spec =
