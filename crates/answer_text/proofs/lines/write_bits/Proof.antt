@@ -8,11 +8,6 @@ use Rattle.answer_text.proofs.lines.write_bits.Tie as tie
 abbrev start-of : tie.After-write-byte → tie.Start
 start-of c = search
 
-write-byte-requires : tie.Need-write-byte-requires
-write-byte-requires c κs =
-    let start : tie.Start = search in
-    room (bits-start (start .args .out .now) _ _ (start .pre))
-
 write-hex-requires : tie.Need-write-hex-requires
 write-hex-requires c κs =
     let space-written : tie.After-write-byte = search in
@@ -27,7 +22,7 @@ pub write-bits-spec : {M : Type 1} → statement M
 write-bits-spec =
     tie.close
     (tie.spec
-    write-byte-requires
+    (λ c κs. search (room, bits-start))
     write-hex-requires
     (λ c. search needs)
     returns)

@@ -14,11 +14,6 @@ head-written-of c = search
 abbrev count-written-of : tie.After-write-ramp → tie.After-write-count
 count-written-of c = search
 
-write-head-requires : tie.Need-write-head-requires
-write-head-requires c κs =
-    let start : tie.Start = search in
-    room (boundary-start (start .args .out .now) _ _ _ _ _ _ (start .pre))
-
 write-count-requires : tie.Need-write-count-requires
 write-count-requires c κs =
     let head-written : tie.After-write-head = search in
@@ -50,7 +45,7 @@ pub write-boundary-line-spec : {M : Type 1} → statement M
 write-boundary-line-spec =
     tie.close
     (tie.spec
-    write-head-requires
+    (λ c κs. search (room, boundary-start))
     write-count-requires
     write-ramp-requires
     write-byte-requires

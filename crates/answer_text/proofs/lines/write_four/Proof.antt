@@ -14,11 +14,6 @@ a-written-of c = search
 abbrev b-written-of : tie.After-write-word3 → tie.After-write-word2
 b-written-of c = search
 
-write-word-requires : tie.Need-write-word-requires
-write-word-requires c κs =
-    let start : tie.Start = search in
-    room (four-start (start .args .out .now) _ _ _ _ _ (start .pre))
-
 write-word-requires-2 : tie.Need-write-word-requires-2
 write-word-requires-2 c κs =
     let a-written : tie.After-write-word = search in
@@ -50,7 +45,7 @@ pub write-four-spec : {M : Type 1} → statement M
 write-four-spec =
     tie.close
     (tie.spec
-    write-word-requires
+    (λ c κs. search (room, four-start))
     write-word-requires-2
     write-word-requires-3
     write-word-requires-4

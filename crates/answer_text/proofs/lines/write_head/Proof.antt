@@ -14,11 +14,6 @@ letter-written-of c = search
 abbrev ends-written-of : tie.After-write-bits → tie.After-write-ends
 ends-written-of c = search
 
-write-byte-requires : tie.Need-write-byte-requires
-write-byte-requires c κs =
-    let start : tie.Start = search in
-    room (head-start (start .args .out .now) _ _ _ _ _ (start .pre))
-
 write-ends-requires : tie.Need-write-ends-requires
 write-ends-requires c κs =
     let letter-written : tie.After-write-byte = search in
@@ -50,7 +45,7 @@ pub write-head-spec : {M : Type 1} → statement M
 write-head-spec =
     tie.close
     (tie.spec
-    write-byte-requires
+    (λ c κs. search (room, head-start))
     write-ends-requires
     write-bits-requires
     write-count-requires

@@ -8,11 +8,6 @@ use Rattle.answer_text.proofs.lines.write_observation_line.Tie as tie
 abbrev start-of : tie.After-write-head → tie.Start
 start-of c = search
 
-write-head-requires : tie.Need-write-head-requires
-write-head-requires c κs =
-    let start : tie.Start = search in
-    room (observation-start (start .args .out .now) _ _ _ _ (start .pre))
-
 write-byte-requires : tie.Need-write-byte-requires
 write-byte-requires c κs =
     let head-written : tie.After-write-head = search in
@@ -27,7 +22,7 @@ pub write-observation-line-spec : {M : Type 1} → statement M
 write-observation-line-spec =
     tie.close
     (tie.spec
-    write-head-requires
+    (λ c κs. search (room, observation-start))
     write-byte-requires
     (λ c. search needs)
     returns)

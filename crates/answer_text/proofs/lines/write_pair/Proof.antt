@@ -14,11 +14,6 @@ name-written-of c = search
 abbrev a-written-of : tie.After-write-field2 → tie.After-write-field
 a-written-of c = search
 
-write-text-requires : tie.Need-write-text-requires
-write-text-requires c κs =
-    let start : tie.Start = search in
-    room (pair-start (start .args .out .now) _ _ _ _ (start .pre))
-
 write-field-requires : tie.Need-write-field-requires
 write-field-requires c κs =
     let name-written : tie.After-write-text = search in
@@ -50,7 +45,7 @@ pub write-pair-spec : {M : Type 1} → statement M
 write-pair-spec =
     tie.close
     (tie.spec
-    write-text-requires
+    (λ c κs. search (room, pair-start))
     write-field-requires
     write-field-requires-2
     write-byte-requires

@@ -11,11 +11,6 @@ start-of c = search
 abbrev name-written-of : tie.After-write-word → tie.After-write-text
 name-written-of c = search
 
-write-text-requires : tie.Need-write-text-requires
-write-text-requires c κs =
-    let start : tie.Start = search in
-    room (kept-start (start .args .out .now) _ _ (start .pre))
-
 write-word-requires : tie.Need-write-word-requires
 write-word-requires c κs =
     let name-written : tie.After-write-text = search in
@@ -39,7 +34,7 @@ write-kept-spec =
     tie.close
     (tie.spec
     (λ c. search needs)
-    write-text-requires
+    (λ c κs. search (room, kept-start))
     write-word-requires
     write-byte-requires
     (λ c. search needs)
