@@ -8,33 +8,29 @@ use Rattle.serial_walk.proofs.Turn.{sized-as}
 use Rattle.serial_bridges.proofs.Names.{remembered, restored}
 use Rattle.serial_bridges.proofs.Small.{small-graph, small-marks}
 
--- what the function is given and asked: the places since only say that its slices have lengths
-abbrev start-of : tie.After-slice-known11 → tie.Start
-start-of c = c .before .before .before .before .before .before .before .before .before .before .before .before .before .before
-
 -- back from the end to each call, and to the start
 abbrev walked : tie.After-slice-known23 → tie.After-walk-all
-walked c = c .before .before .before .before .before .before .before .before .before .before .before .before .before .before
+walked c = search
 
 abbrev linked : tie.After-walk-all → tie.After-full-graph
-linked c = c .before .before .before .before .before .before .before .before .before .before .before .before .before .before .before .before .before .before
+linked c = search
 
 abbrev numbered : tie.After-full-graph → tie.After-number-all
-numbered c = c .before .before .before .before .before .before .before .before .before .before .before .before
+numbered c = search
 
 abbrev asked : tie.After-number-all → tie.Start
-asked c = start-of (c .before .before .before .before)
+asked c = search
 
 full-graph-requires : tie.Need-full-graph-requires
 full-graph-requires c κs =
-    let numbers = c .before .before .before .before .before .before .before .before .before .before .before in
+    let numbers : tie.After-number-all = search in
     let p = asked numbers .pre in
     let l = p .5 in
     (small-graph (p .2) (numbers .number-all .ensures) _ (l .enough) (l .near), unlinked (l .heads-are) (l .left-nexts-are) (l .right-nexts-are) (l .unchained))
 
 walk-all-requires : tie.Need-walk-all-requires
 walk-all-requires c κs =
-    let chains = c .before .before .before .before .before .before .before .before .before .before .before .before .before .before .before .before .before in
+    let chains : tie.After-full-graph = search in
     let numbers = numbered chains in
     let p = asked numbers .pre in
     let l = p .5 in
@@ -50,7 +46,8 @@ walk-all-requires c κs =
 
 forget-all-requires : tie.Need-forget-all-requires
 forget-all-requires c κs =
-    let numbers = numbered (linked (c .before .before .before .before .before .before .before .before .before .before .before)) in
+    let marks : tie.After-walk-all = search in
+    let numbers = numbered (linked marks) in
     let p = asked numbers .pre in
     (p .2, omega (arith, p .3, numbers .number-all .kept))
 

@@ -4,13 +4,9 @@ use Rattle.serial_bridges.proofs.mark_many.Tie as tie
 use native.Mathlib.Omega.{arith}
 use Rattle.serial_bridges.proofs.Lent.{cleared}
 
--- what the function is given and asked: the places since only say that its slices have lengths
-abbrev start-of : tie.After-slice-known → tie.Start
-start-of c = c .before .before .before .before
-
 mark-bridges-requires : tie.Need-mark-bridges-requires
 mark-bridges-requires c κs =
-    let start = start-of (c .before .before .before .before .before .before .before .before .before .before .before .before) in
+    let start : tie.Start = search in
     let p = start .pre in (
       p .0,
       p .1,

@@ -17,20 +17,23 @@ abbrev μ-loop : tie.MeasureT-loop
 loop-holds : tie.Need-loop-holds Inv-loop μ-loop
 loop-holds c = (keys-start (c .before .pre .2) (c .before .pre .3), omega arith)
 
+-- the start
+abbrev Start : Type 0
+Start = tie.Start Inv-loop μ-loop
+
 loop-again : tie.Need-loop-again Inv-loop μ-loop
 loop-again c =
-    let after-read-span = c .before .before .before in
-    let turning = after-read-span .before in
-    let in-loop = turning .before in
-    let start = in-loop .before .before in (
-      keys-next (in-loop .loop .inv .0) (omega (arith, turning .loop-test .taken, start .pre .0))
-          (c .before .before .canonical .ensures ∙ ap canonical (after-read-span .read-span .ensures)) (c .before .pack .ensures) (c .pack2 .ensures),
+    let read = c .before .before .before in
+    let turning = read .before in
+    let start : Start = search in (
+      keys-next (turning .before .loop .inv .0) (omega (arith, turning .loop-test .taken, start .pre .0))
+          (c .before .before .canonical .ensures ∙ ap canonical (read .read-span .ensures)) (c .before .pack .ensures) (c .pack2 .ensures),
       omega (arith, turning .loop-test .taken),
     )
 
 returns : tie.Need-returns Inv-loop μ-loop
 returns c =
-    let start = c .before .before .before in
+    let start : Start = search in
     let inv = c .before .loop .inv in
     let e : c .before .loop .i ≡ start .args .n = omega (arith, inv .1, c .loop-test .left) in rw (← e) (inv .0)
 

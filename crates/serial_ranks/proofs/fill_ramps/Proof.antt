@@ -13,18 +13,21 @@ Inv-loop s at order n ramps₀ i₀ ramps i = RampsOf s at order i ramps × (i �
 abbrev μ-loop : tie.MeasureT-loop
 μ-loop s at order n ramps₀ i₀ ramps i = n - i
 
+-- the start
+abbrev Start : Type 0
+Start = tie.Start Inv-loop μ-loop
+
 loop-again : tie.Need-loop-again Inv-loop μ-loop
 loop-again c =
     let turning = c .before .before in
-    let in-loop = turning .before in
-    let start = in-loop .before .before in (
-      ramps-next (in-loop .loop .inv .0) (omega (arith, turning .loop-test .taken, start .pre .0 .few)) (c .before .record-place .ensures .0),
+    let start : Start = search in (
+      ramps-next (turning .before .loop .inv .0) (omega (arith, turning .loop-test .taken, start .pre .0 .few)) (c .before .record-place .ensures .0),
       omega (arith, turning .loop-test .taken),
     )
 
 returns : tie.Need-returns Inv-loop μ-loop
 returns c =
-    let start = c .before .before .before in
+    let start : Start = search in
     let inv = c .before .loop .inv in
     let e : c .before .loop .i ≡ start .args .n = omega (arith, inv .1, c .loop-test .left) in rw (← e) (inv .0)
 

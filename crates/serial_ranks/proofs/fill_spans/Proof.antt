@@ -14,21 +14,24 @@ Inv-loop s at stride order n ends₀ i₀ ends i = SpansOf s at stride order i e
 abbrev μ-loop : tie.MeasureT-loop
 μ-loop s at stride order n ends₀ i₀ ends i = n - i
 
+-- the start
+abbrev Start : Type 0
+Start = tie.Start Inv-loop μ-loop
+
 loop-again : tie.Need-loop-again Inv-loop μ-loop
 loop-again c =
-    let after-record-place = c .before .before .before .before in
-    let turning = after-record-place .before in
-    let in-loop = turning .before in
-    let start = in-loop .before .before .before in
+    let start : Start = search in
+    let turning : tie.In-loop Inv-loop μ-loop = search in
+    let placed : tie.After-record-place Inv-loop μ-loop = search in
     rw (c .put-span .ensures) (
-      spans-next (in-loop .loop .inv .0) (omega (arith, turning .loop-test .taken, start .pre .0 .few)) (after-record-place .record-place .ensures .0)
+      spans-next (turning .before .loop .inv .0) (omega (arith, turning .loop-test .taken, start .pre .0 .few)) (placed .record-place .ensures .0)
           (c .before .canonical .ensures ∙ ap canonical (c .before .before .read-span .ensures)),
       omega (arith, turning .loop-test .taken),
     )
 
 returns : tie.Need-returns Inv-loop μ-loop
 returns c =
-    let start = c .before .before .before .before in
+    let start : Start = search in
     let inv = c .before .loop .inv in
     let e : c .before .loop .i ≡ start .args .n = omega (arith, inv .1, c .loop-test .left) in rw (← e) (inv .0)
 

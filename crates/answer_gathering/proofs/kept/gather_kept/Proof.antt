@@ -4,9 +4,12 @@ use borrow.Author.Needs.{needs}
 use Rattle.answer_gathering.proofs.kept.gather_kept.Statement.{statement}
 use Rattle.answer_gathering.proofs.kept.gather_kept.Tie as tie
 
--- what the function is given and asked: the places since only say that its slices have lengths
-abbrev start-of : tie.After-slice-known7 → tie.Start
-start-of c = c .before .before .before .before .before .before .before .before .before .before .before .before .before .before .before
+-- back from the second call to the first, and to the start
+abbrev seen : tie.After-gather-owns → tie.After-gather-seens
+seen c = search
+
+abbrev start-of : tie.After-gather-seens → tie.Start
+start-of c = search
 
 gather-seens-requires : tie.Need-gather-seens-requires
 gather-seens-requires c κs =
@@ -20,11 +23,11 @@ gather-owns-requires c κs =
 
 returns : tie.Need-returns
 returns c =
-    let after-gather-owns : tie.After-gather-owns = search in
-    let after-gather-seens = after-gather-owns .before .before .before .before .before .before .before .before .before .before .before in
-    let start = start-of (after-gather-seens .before .before .before .before) in
+    let owns : tie.After-gather-owns = search in
+    let seens = seen owns in
+    let start = start-of seens in
     λ os ss p. gathered p (start .args .order .now) (start .args .plan .now) (order-inside (start .args .order .now) (start .args .n) (start .pre .ordered))
-    (after-gather-owns .gather-owns .ensures) (after-gather-seens .gather-seens .ensures) (owns-room (start .pre) .small) (seens-room (start .pre) .small)
+    (owns .gather-owns .ensures) (seens .gather-seens .ensures) (owns-room (start .pre) .small) (seens-room (start .pre) .small)
 
 pub gather-kept-spec : {M : Type 1} → statement M
 gather-kept-spec =

@@ -21,33 +21,33 @@ shared-slice-read-size c =
 
 shared-slice-read-size-2 : tie.Need-shared-slice-read-size-2
 shared-slice-read-size-2 c =
-    let after-size2 : tie.After-size2 = search in
-    let start = start-of (after-size2 .before .before .before) in
-    omega (arith, start .pre .0 .counts-room, after-size2 .size2 .ensures .0, start .pre .0 .order-in _ (start .pre .1), start .pre .0 .few)
+    let rank : tie.After-size2 = search in
+    let start = start-of (rank .before .before .before) in
+    omega (arith, start .pre .0 .counts-room, rank .size2 .ensures .0, start .pre .0 .order-in _ (start .pre .1), start .pre .0 .few)
 
 append-keys-requires : tie.Need-append-keys-requires
 append-keys-requires c κs =
-    let after-size3 : tie.After-size3 = search in
-    let after-size2 = after-size3 .before .before in
-    let goes = after-size2 .before .before in
-    let after-size = goes .before in
-    let start = start-of after-size in (
-      own-inside (start .pre .0) (start .pre .1) (after-size2 .size2 .ensures .0) (after-size3 .size3 .ensures .0) (c .before .size4 .ensures .0),
-      own-room (start .pre .0) (start .pre .1) (after-size2 .size2 .ensures .0) (after-size3 .size3 .ensures .0) (c .before .size4 .ensures .0)
-          (start .args .plan .now) (start .args .to) (length (start .args .owned .now)) (after-size .size .ensures .0) (goes .if1 .left) (start .pre .2),
+    let first : tie.After-size3 = search in
+    let rank = first .before .before in
+    let goes = rank .before .before in
+    let aim = goes .before in
+    let start = start-of aim in (
+      own-inside (start .pre .0) (start .pre .1) (rank .size2 .ensures .0) (first .size3 .ensures .0) (c .before .size4 .ensures .0),
+      own-room (start .pre .0) (start .pre .1) (rank .size2 .ensures .0) (first .size3 .ensures .0) (c .before .size4 .ensures .0)
+          (start .args .plan .now) (start .args .to) (length (start .args .owned .now)) (aim .size .ensures .0) (goes .if1 .left) (start .pre .2),
     )
 
 returns-2 : tie.Need-returns-2
 returns-2 c =
-    let after-size4 : tie.After-size4 = search in
-    let after-size3 = after-size4 .before .before in
-    let after-size2 = after-size3 .before .before in
-    let goes = after-size2 .before .before in
-    let after-size = goes .before in
-    let start = start-of after-size in
-    there (after-size .size .ensures .0) (goes .if1 .left)
+    let many : tie.After-size4 = search in
+    let first = many .before .before in
+    let rank = first .before .before in
+    let goes = rank .before .before in
+    let aim = goes .before in
+    let start = start-of aim in
+    there (aim .size .ensures .0) (goes .if1 .left)
     (added-is (c .before .before .append-keys .ensures) refl
-    (own-part (start .pre .0) (start .pre .1) (after-size2 .size2 .ensures .0) (after-size3 .size3 .ensures .0) (after-size4 .size4 .ensures .0)))
+    (own-part (start .pre .0) (start .pre .1) (rank .size2 .ensures .0) (first .size3 .ensures .0) (many .size4 .ensures .0)))
 
 pub add-own-spec : {M : Type 1} → statement M
 add-own-spec =

@@ -49,8 +49,8 @@ add-own-requires c κs =
 
 loop-again : tie.Need-loop-again Inv-loop μ-loop
 loop-again c =
-    let after-add-own = c .before .before in
-    let turning = after-add-own .before .before in
+    let added = c .before .before in
+    let turning = added .before .before in
     let in-loop = turning .before in
     let start = start-of in-loop in
     let inv = in-loop .loop .inv in
@@ -61,9 +61,9 @@ loop-again c =
     let base = start .args .base in (
       omega arith,
       runs-next (ownAt base order (start .args .starts .now) counts keys) plan (in-loop .loop .j) (start .args .i) (inv .1)
-          (after-add-own .add-own .ensures),
+          (added .add-own .ensures),
       weight-next (ownAt base order (start .args .starts .now) counts keys) plan (in-loop .loop .j) (start .args .i) (inv .1)
-          (after-add-own .add-own .ensures) (ownWeight base order counts) (own-long (start .pre .0) (in-loop .loop .j) (turning .loop-test .taken)) (inv .2),
+          (added .add-own .ensures) (ownWeight base order counts) (own-long (start .pre .0) (in-loop .loop .j) (turning .loop-test .taken)) (inv .2),
     )
 
 same-length : tie.Need-same-length Inv-loop μ-loop

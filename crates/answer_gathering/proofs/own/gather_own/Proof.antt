@@ -10,22 +10,22 @@ start-of c = search
 
 sort-unique-requires : tie.Need-sort-unique-requires
 sort-unique-requires c κs =
-    let after-add-owns : tie.After-add-owns = search in
-    let start = start-of after-add-owns in (
-      omega (arith, after-add-owns .add-owns .ensures .0 .ends),
-      omega (arith, after-add-owns .add-owns .ensures .1, start .pre .1, after-add-owns .add-owns .ensures .0 .long),
-      omega (arith, after-add-owns .add-owns .ensures .1, start .pre .2),
+    let added : tie.After-add-owns = search in
+    let start = start-of added in (
+      omega (arith, added .add-owns .ensures .0 .ends),
+      omega (arith, added .add-owns .ensures .1, start .pre .1, added .add-owns .ensures .0 .long),
+      omega (arith, added .add-owns .ensures .1, start .pre .2),
     )
 
 returns : tie.Need-returns
 returns c =
-    let after-sort-unique : tie.After-sort-unique = search in
-    let after-add-owns = after-sort-unique .before .before .before .before .before in
-    let start = start-of after-add-owns in (
+    let unique : tie.After-sort-unique = search in
+    let added : tie.After-add-owns = search in
+    let start = start-of added in (
       own-gathered (start .args .base) (start .args .order .now) (start .args .plan .now) (start .args .starts .now) (start .args .counts .now)
-          (start .args .keys .now) (start .args .n) (start .args .i) (after-add-owns .add-owns .ensures .0) (omega (arith, start .pre .1))
-          (after-sort-unique .sort-unique .ensures) (omega arith),
-      omega (arith, after-add-owns .add-owns .ensures .1, after-sort-unique .sort-unique .ensures .within),
+          (start .args .keys .now) (start .args .n) (start .args .i) (added .add-owns .ensures .0) (omega (arith, start .pre .1))
+          (unique .sort-unique .ensures) (omega arith),
+      omega (arith, added .add-owns .ensures .1, unique .sort-unique .ensures .within),
     )
 
 pub gather-own-spec : {M : Type 1} → statement M

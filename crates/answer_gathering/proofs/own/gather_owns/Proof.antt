@@ -40,11 +40,11 @@ add-k c =
 
 loop-again : tie.Need-loop-again Inv-loop μ-loop
 loop-again c =
-    let after-own-rank : tie.After-own-rank Inv-loop μ-loop = search in
-    let in-loop = after-own-rank .before .before .before .before .before .before in
+    let ranked : tie.After-own-rank Inv-loop μ-loop = search in
+    let in-loop : tie.At-loop Inv-loop μ-loop = search in
     let inv = in-loop .loop .inv in (
       omega arith,
-      owns-counted (in-loop .loop .k) (c .counted .ensures .0) (after-own-rank .own-rank .ensures),
+      owns-counted (in-loop .loop .k) (c .counted .ensures .0) (ranked .own-rank .ensures),
       omega (arith, inv .2),
       omega (arith, inv .3),
       omega (arith, inv .4),

@@ -5,9 +5,9 @@ use Rattle.answer_gathering.proofs.seen.add_places.Tie as tie
 
 returns : tie.Need-returns
 returns c =
-    let if1-taken : tie.Then1 = search in
-    let start = if1-taken .before .before in
-    λ firsts count e f. places-some _ (start .args .among) firsts count e f (if1-taken .if1 .taken) (c .before .before .append-places .ensures)
+    let some-seen : tie.Then1 = search in
+    let start = some-seen .before .before in
+    λ firsts count e f. places-some _ (start .args .among) firsts count e f (some-seen .if1 .taken) (c .before .before .append-places .ensures)
 
 returns-2 : tie.Need-returns-2
 returns-2 c = λ firsts count e f. places-alone _ _ firsts count e f _ _ (c .before .if1 .left) (c .if2 .taken)

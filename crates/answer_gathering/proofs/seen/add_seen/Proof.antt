@@ -28,34 +28,34 @@ shared-slice-read-size c =
 
 add-places-requires : tie.Need-add-places-requires
 add-places-requires c κs =
-    let after-read-boundary : tie.After-read-boundary = search in
-    let after-size2 = after-read-boundary .before in
-    let goes = after-size2 .before .before in
-    let after-size = goes .before in
-    let start = start-of after-size in (
-      own-place (start .pre .0) (start .pre .1) (after-size2 .size2 .ensures .0),
-      places-inside (start .pre .0) (start .pre .1) (after-size2 .size2 .ensures .0) (c .before .before .size3 .ensures .0)
-          (c .before .size4 .ensures .0 ∙ ap (λ (r : BoundaryRecord). r .observations) (after-read-boundary .read-boundary .ensures)),
-      seen-room (start .pre .0) (start .pre .1) (after-size2 .size2 .ensures .0) (start .args .plan .now) (start .args .to)
+    let boundary : tie.After-read-boundary = search in
+    let rank = boundary .before in
+    let goes = rank .before .before in
+    let aim = goes .before in
+    let start = start-of aim in (
+      own-place (start .pre .0) (start .pre .1) (rank .size2 .ensures .0),
+      places-inside (start .pre .0) (start .pre .1) (rank .size2 .ensures .0) (c .before .before .size3 .ensures .0)
+          (c .before .size4 .ensures .0 ∙ ap (λ (r : BoundaryRecord). r .observations) (boundary .read-boundary .ensures)),
+      seen-room (start .pre .0) (start .pre .1) (rank .size2 .ensures .0) (start .args .plan .now) (start .args .to)
           (length (start .args .seen .now)) (c .before .size4 .result)
-          (c .before .size4 .ensures .0 ∙ ap (λ (r : BoundaryRecord). r .observations) (after-read-boundary .read-boundary .ensures))
-          (after-size .size .ensures .0) (goes .if1 .left) (start .pre .2),
+          (c .before .size4 .ensures .0 ∙ ap (λ (r : BoundaryRecord). r .observations) (boundary .read-boundary .ensures))
+          (aim .size .ensures .0) (goes .if1 .left) (start .pre .2),
     )
 
 returns-2 : tie.Need-returns-2
 returns-2 c =
-    let after-size4 : tie.After-size4 = search in
-    let after-size3 = after-size4 .before in
-    let after-read-boundary = after-size3 .before .before in
-    let after-size2 = after-read-boundary .before in
-    let goes = after-size2 .before .before in
-    let after-size = goes .before in
-    let start = start-of after-size in
-    there (after-size .size .ensures .0) (goes .if1 .left)
-    (places-there (start .pre .0) (start .pre .1) (after-size2 .size2 .ensures .0) (start .args .among)
+    let many : tie.After-size4 = search in
+    let first = many .before in
+    let boundary = first .before .before in
+    let rank = boundary .before in
+    let goes = rank .before .before in
+    let aim = goes .before in
+    let start = start-of aim in
+    there (aim .size .ensures .0) (goes .if1 .left)
+    (places-there (start .pre .0) (start .pre .1) (rank .size2 .ensures .0) (start .args .among)
     (c .before .before .add-places .ensures (start .args .firsts .now) (seenCount (start .args .job .now) (start .args .at))
-    (sym (after-size3 .size3 .ensures .0))
-    (sym (after-size4 .size4 .ensures .0 ∙ ap (λ (r : BoundaryRecord). r .observations) (after-read-boundary .read-boundary .ensures)))))
+    (sym (first .size3 .ensures .0))
+    (sym (many .size4 .ensures .0 ∙ ap (λ (r : BoundaryRecord). r .observations) (boundary .read-boundary .ensures)))))
 
 pub add-seen-spec : {M : Type 1} → statement M
 add-seen-spec =

@@ -50,8 +50,8 @@ add-seen-requires c κs =
 
 loop-again : tie.Need-loop-again Inv-loop μ-loop
 loop-again c =
-    let after-add-seen = c .before .before in
-    let in-loop = after-add-seen .before .before .before in
+    let added = c .before .before in
+    let in-loop = added .before .before .before in
     let start = start-of in-loop in
     let inv = in-loop .loop .inv in
     let firsts = start .args .firsts .now in
@@ -63,9 +63,9 @@ loop-again c =
     let at = start .args .at in (
       omega arith,
       runs-next (placesAt base order firsts (seenCount job at) among) plan (in-loop .loop .j) (start .args .i) (inv .1)
-          (after-add-seen .add-seen .ensures),
+          (added .add-seen .ensures),
       weight-next (placesAt base order firsts (seenCount job at) among) plan (in-loop .loop .j) (start .args .i) (inv .1)
-          (after-add-seen .add-seen .ensures) (seenWeight order (seenCount job at)) (places-long base order firsts (seenCount job at) among (in-loop .loop .j))
+          (added .add-seen .ensures) (seenWeight order (seenCount job at)) (places-long base order firsts (seenCount job at) among (in-loop .loop .j))
           (inv .2),
     )
 

@@ -47,11 +47,11 @@ add-i c =
 
 loop-again : tie.Need-loop-again Inv-loop μ-loop
 loop-again c =
-    let after-seen-rank : tie.After-seen-rank Inv-loop μ-loop = search in
-    let in-loop = after-seen-rank .before .before .before .before .before in
+    let ranked : tie.After-seen-rank Inv-loop μ-loop = search in
+    let in-loop : tie.At-loop Inv-loop μ-loop = search in
     let inv = in-loop .loop .inv in (
       omega arith,
-      seens-counted (in-loop .loop .k) (c .counted .ensures .0) (after-seen-rank .seen-rank .ensures),
+      seens-counted (in-loop .loop .k) (c .counted .ensures .0) (ranked .seen-rank .ensures),
       omega (arith, inv .2),
       omega (arith, inv .3),
       omega (arith, inv .4),

@@ -80,28 +80,28 @@ add-lay-observations c =
 
 lay-observations-requires : tie.Need-lay-observations-requires Inv-loop μ-loop
 lay-observations-requires c κs =
-    let after-size = c .before .before in
-    let read = after-size .before .read-boundary .ensures in
-    room-for (given after-size .pre .0) (at-loop after-size .loop .inv .1) (after-size .before .before .loop-test .taken)
-    (ap (λ (r : BoundaryRecord). r .sources) read) (after-size .size .ensures .0 ∙ ap (λ (r : BoundaryRecord). r .observations) read) refl
+    let sized = c .before .before in
+    let read = sized .before .read-boundary .ensures in
+    room-for (given sized .pre .0) (at-loop sized .loop .inv .1) (sized .before .before .loop-test .taken)
+    (ap (λ (r : BoundaryRecord). r .sources) read) (sized .size .ensures .0 ∙ ap (λ (r : BoundaryRecord). r .observations) read) refl
 
 add-p : tie.Need-add-p Inv-loop μ-loop
 add-p c =
-    let after-size : tie.After-size Inv-loop μ-loop = search in
+    let sized : tie.After-size Inv-loop μ-loop = search in
     omega (
       arith,
-      few after-size .1,
-      after-size .size .ensures .0 ∙ ap (λ (r : BoundaryRecord). r .observations) (after-size .before .read-boundary .ensures),
+      few sized .1,
+      sized .size .ensures .0 ∙ ap (λ (r : BoundaryRecord). r .observations) (sized .before .read-boundary .ensures),
     )
 
 loop-again : tie.Need-loop-again Inv-loop μ-loop
 loop-again c =
-    let after-lay-observations : tie.After-lay-observations Inv-loop μ-loop = search in
-    let after-size : tie.After-size Inv-loop μ-loop = search in
-    let read = after-size .before .read-boundary .ensures in
-    let inv = at-loop after-size .loop .inv in
-    let next = layout-next (given after-size .pre .0) (inv .1) (after-size .before .before .loop-test .taken) (ap (λ (r : BoundaryRecord). r .sources) read)
-    (after-size .size .ensures .0 ∙ ap (λ (r : BoundaryRecord). r .observations) read) (after-lay-observations .lay-observations .ensures)
+    let laid : tie.After-lay-observations Inv-loop μ-loop = search in
+    let sized : tie.After-size Inv-loop μ-loop = search in
+    let read = sized .before .read-boundary .ensures in
+    let inv = at-loop sized .loop .inv in
+    let next = layout-next (given sized .pre .0) (inv .1) (sized .before .before .loop-test .taken) (ap (λ (r : BoundaryRecord). r .sources) read)
+    (sized .size .ensures .0 ∙ ap (λ (r : BoundaryRecord). r .observations) read) (laid .lay-observations .ensures)
     (inv .2) (inv .3) (inv .4) in
     (omega arith, next .0, next .1, next .2, next .3)
 

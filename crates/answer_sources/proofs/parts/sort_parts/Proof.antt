@@ -41,17 +41,17 @@ slice-read-size c =
 
 sort-unique-requires : tie.Need-sort-unique-requires Inv-loop μ-loop
 sort-unique-requires c κs =
-    let after-size = started c in
-    let pre = given (turning after-size) .pre in
-    let inv = turning after-size .before .loop .inv in (
+    let begun = started c in
+    let pre = given (turning begun) .pre in
+    let inv = turning begun .before .loop .inv in (
       omega arith,
-      omega (arith, part-within (pre .clear) (inv .1), after-size .size .ensures .0, c .size2 .ensures .0, (inv .1) .keys-long),
+      omega (arith, part-within (pre .clear) (inv .1), begun .size .ensures .0, c .size2 .ensures .0, (inv .1) .keys-long),
       omega (
         arith,
         same (pre .clear) (inv .1),
-        after-size .size .ensures .0,
+        begun .size .ensures .0,
         c .size2 .ensures .0,
-        pre .spare-room (turning after-size .before .loop .q),
+        pre .spare-room (turning begun .before .loop .q),
         inv .2,
       ),
     )
@@ -69,15 +69,15 @@ slice-write-counts c =
 
 loop-again : tie.Need-loop-again Inv-loop μ-loop
 loop-again c =
-    let after-sort-unique = sorted c in
-    let after-size2 = after-sort-unique .before in
-    let after-size = started after-size2 in
-    let turns = turning after-size in
+    let unique = sorted c in
+    let counted = unique .before in
+    let begun = started counted in
+    let turns = turning begun in
     let pre = given turns .pre in
     let inv = turns .before .loop .inv in (
       omega (arith, turns .loop-test .taken),
-      squeezed-next (pre .clear) (inv .1) (omega (arith, turns .loop-test .taken, pre .counts-room, (inv .1) .counts-long)) (after-size .size .ensures .0)
-          (omega (arith, after-size2 .size2 .ensures .0)) (after-sort-unique .sort-unique .ensures) refl (omega arith),
+      squeezed-next (pre .clear) (inv .1) (omega (arith, turns .loop-test .taken, pre .counts-room, (inv .1) .counts-long)) (begun .size .ensures .0)
+          (omega (arith, counted .size2 .ensures .0)) (unique .sort-unique .ensures) refl (omega arith),
       omega (arith, inv .2),
     )
 

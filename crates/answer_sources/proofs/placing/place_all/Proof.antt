@@ -46,21 +46,21 @@ rank-boundaries-requires c κs =
 
 same-length : tie.Need-same-length
 same-length c =
-    let after-rank-boundaries : tie.After-rank-boundaries = search in
-    let after-sort-parts = sorted (first-ranked (after-rank-boundaries .before) .before) in
-    omega (arith, after-sort-parts .sort-parts .ensures .keys-long, keys-read (laid (after-sort-parts .before)) .read-keys .ensures .long)
+    let all-ranked : tie.After-rank-boundaries = search in
+    let parts = sorted (first-ranked (all-ranked .before) .before) in
+    omega (arith, parts .sort-parts .ensures .keys-long, keys-read (laid (parts .before)) .read-keys .ensures .long)
 
 returns : tie.Need-returns
 returns c =
-    let after-rank-boundaries : tie.After-rank-boundaries = search in
-    let after-rank-observations = first-ranked (after-rank-boundaries .before) in
-    let after-sort-parts = sorted (after-rank-observations .before) in
-    let after-lay-boundaries = laid (after-sort-parts .before) in
-    let after-read-keys = keys-read after-lay-boundaries in
-    let start = given after-read-keys in (
-      placed (start .pre .0) (after-read-keys .read-keys .ensures) (after-lay-boundaries .lay-boundaries .ensures) (after-sort-parts .sort-parts .ensures)
-          (after-rank-observations .rank-observations .ensures) (after-rank-boundaries .rank-boundaries .ensures),
-      placed-inside (start .pre .0) (after-lay-boundaries .lay-boundaries .ensures) (after-sort-parts .sort-parts .ensures),
+    let all-ranked : tie.After-rank-boundaries = search in
+    let seen-ranked = first-ranked (all-ranked .before) in
+    let parts = sorted (seen-ranked .before) in
+    let layout = laid (parts .before) in
+    let keyed = keys-read layout in
+    let start = given keyed in (
+      placed (start .pre .0) (keyed .read-keys .ensures) (layout .lay-boundaries .ensures) (parts .sort-parts .ensures)
+          (seen-ranked .rank-observations .ensures) (all-ranked .rank-boundaries .ensures),
+      placed-inside (start .pre .0) (layout .lay-boundaries .ensures) (parts .sort-parts .ensures),
     )
 
 pub place-all-spec : {M : Type 1} → statement M

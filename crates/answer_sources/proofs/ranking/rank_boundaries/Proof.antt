@@ -29,15 +29,6 @@ given c = search
 inside : (c : tie.In-loop Inv-loop μ-loop) → given c .args .at + (c .before .loop .p + 1) * boundarySize ≤ length (given c .args .job .now)
 inside c = omega (arith, given c .pre .0, c .loop-test .taken)
 
-mul-read-boundary : tie.Need-mul-read-boundary Inv-loop μ-loop
-mul-read-boundary c = omega (arith, inside c)
-
-add-read-boundary : tie.Need-add-read-boundary Inv-loop μ-loop
-add-read-boundary c = omega (arith, inside c)
-
-read-boundary-requires : tie.Need-read-boundary-requires Inv-loop μ-loop
-read-boundary-requires c κs = omega (arith, inside c)
-
 add-rank-one : tie.Need-add-rank-one Inv-loop μ-loop
 add-rank-one c =
     let turning : tie.In-loop Inv-loop μ-loop = search in
@@ -51,22 +42,13 @@ rank-one-requires c κs =
 loop-again : tie.Need-loop-again Inv-loop μ-loop
 loop-again c =
     let turning : tie.In-loop Inv-loop μ-loop = search in
-    let after-read-boundary : tie.After-read-boundary Inv-loop μ-loop = search in
-    let after-rank-one : tie.After-rank-one Inv-loop μ-loop = search in
-    let read = after-read-boundary .read-boundary .ensures in (
+    let recorded : tie.After-read-boundary Inv-loop μ-loop = search in
+    let ranked : tie.After-rank-one Inv-loop μ-loop = search in
+    let read = recorded .read-boundary .ensures in (
       omega (arith, turning .loop-test .taken),
-      ranked-next (turning .before .loop .inv .1) (after-rank-one .rank-one .ensures) (omega arith) (ap (λ (r : BoundaryRecord). r .ends) read)
+      ranked-next (turning .before .loop .inv .1) (ranked .rank-one .ensures) (omega arith) (ap (λ (r : BoundaryRecord). r .ends) read)
           (ap (λ (r : BoundaryRecord). r .bits) read),
     )
-
-same-length : tie.Need-same-length Inv-loop μ-loop
-same-length c = omega (arith, (c .before .loop .inv .1) .first-long)
-
-same-length-2 : tie.Need-same-length-2 Inv-loop μ-loop
-same-length-2 c = omega (arith, (c .before .loop .inv .1) .second-long)
-
-same-length-3 : tie.Need-same-length-3 Inv-loop μ-loop
-same-length-3 c = omega (arith, (c .before .loop .inv .1) .third-long)
 
 returns : tie.Need-returns Inv-loop μ-loop
 returns c =
@@ -80,15 +62,15 @@ rank-boundaries-spec =
     Inv-loop
     μ-loop
     loop-holds
-    mul-read-boundary
-    add-read-boundary
-    read-boundary-requires
+    (λ c. omega (arith, inside c))
+    (λ c. omega (arith, inside c))
+    (λ c κs. omega (arith, inside c))
     add-rank-one
     rank-one-requires
     (λ c. search needs)
     (λ c. search needs)
     loop-again
-    same-length
-    same-length-2
-    same-length-3
+    (λ c. omega (arith, c .before .loop .inv .1 .first-long))
+    (λ c. omega (arith, c .before .loop .inv .1 .second-long))
+    (λ c. omega (arith, c .before .loop .inv .1 .third-long))
     returns)

@@ -30,15 +30,6 @@ given c = search
 inside : (c : tie.In-loop Inv-loop μ-loop) → given c .args .at + (c .before .loop .p + 1) * observationSize ≤ length (given c .args .job .now)
 inside c = omega (arith, given c .pre .0, c .loop-test .taken)
 
-mul-read-observation : tie.Need-mul-read-observation Inv-loop μ-loop
-mul-read-observation c = omega (arith, inside c)
-
-add-read-observation : tie.Need-add-read-observation Inv-loop μ-loop
-add-read-observation c = omega (arith, inside c)
-
-read-observation-requires : tie.Need-read-observation-requires Inv-loop μ-loop
-read-observation-requires c κs = omega (arith, inside c)
-
 rank-one-requires : tie.Need-rank-one-requires Inv-loop μ-loop
 rank-one-requires c κs =
     let turning : tie.In-loop Inv-loop μ-loop = search in
@@ -47,22 +38,13 @@ rank-one-requires c κs =
 loop-again : tie.Need-loop-again Inv-loop μ-loop
 loop-again c =
     let turning : tie.In-loop Inv-loop μ-loop = search in
-    let after-read-observation : tie.After-read-observation Inv-loop μ-loop = search in
-    let after-rank-one : tie.After-rank-one Inv-loop μ-loop = search in
-    let read = after-read-observation .read-observation .ensures in (
+    let recorded : tie.After-read-observation Inv-loop μ-loop = search in
+    let ranked : tie.After-rank-one Inv-loop μ-loop = search in
+    let read = recorded .read-observation .ensures in (
       omega (arith, turning .loop-test .taken),
-      ranked-next (turning .before .loop .inv .1) (after-rank-one .rank-one .ensures) (omega arith) (ap (λ (r : ObservationRecord). r .ends) read)
+      ranked-next (turning .before .loop .inv .1) (ranked .rank-one .ensures) (omega arith) (ap (λ (r : ObservationRecord). r .ends) read)
           (ap (λ (r : ObservationRecord). r .bits) read),
     )
-
-same-length : tie.Need-same-length Inv-loop μ-loop
-same-length c = omega (arith, (c .before .loop .inv .1) .first-long)
-
-same-length-2 : tie.Need-same-length-2 Inv-loop μ-loop
-same-length-2 c = omega (arith, (c .before .loop .inv .1) .second-long)
-
-same-length-3 : tie.Need-same-length-3 Inv-loop μ-loop
-same-length-3 c = omega (arith, (c .before .loop .inv .1) .third-long)
 
 returns : tie.Need-returns Inv-loop μ-loop
 returns c =
@@ -76,14 +58,14 @@ rank-observations-spec =
     Inv-loop
     μ-loop
     loop-holds
-    mul-read-observation
-    add-read-observation
-    read-observation-requires
+    (λ c. omega (arith, inside c))
+    (λ c. omega (arith, inside c))
+    (λ c κs. omega (arith, inside c))
     rank-one-requires
     (λ c. search needs)
     (λ c. search needs)
     loop-again
-    same-length
-    same-length-2
-    same-length-3
+    (λ c. omega (arith, c .before .loop .inv .1 .first-long))
+    (λ c. omega (arith, c .before .loop .inv .1 .second-long))
+    (λ c. omega (arith, c .before .loop .inv .1 .third-long))
     returns)

@@ -14,40 +14,42 @@ Inv-loop lefts rights count regions work₀ base k₀ work k = (k ≤ count) × 
 abbrev μ-loop : tie.MeasureT-loop
 μ-loop lefts rights count regions work₀ base k₀ work k = count - k
 
--- what the function is given and asked: the places since only say that its slices have lengths
-abbrev start-of : tie.After-slice-known Inv-loop μ-loop → tie.Start Inv-loop μ-loop
-start-of c = c .before .before .before
+-- the start, and a turn
+abbrev Start : Type 0
+Start = tie.Start Inv-loop μ-loop
+
+abbrev Turn : Type 0
+Turn = tie.In-loop Inv-loop μ-loop
 
 forget-record-requires : tie.Need-forget-record-requires Inv-loop μ-loop
 forget-record-requires c κs =
-    let start = start-of (c .before .before .before) in
+    let start : Start = search in
     (c .before .loop-test .taken, start .pre .0, omega (arith, start .pre .1, c .before .before .loop .inv .1))
 
 add-k : tie.Need-add-k Inv-loop μ-loop
 add-k c =
-    let turning = c .before .before .before .before in
-    let start = start-of (turning .before .before) in
+    let turning : Turn = search in
+    let start : Start = search in
     omega (arith, turning .loop-test .taken, start .pre .0 .few)
 
 loop-less : tie.Need-loop-less Inv-loop μ-loop
 loop-less c =
-    let turning = c .before .before .before .before in
+    let turning : Turn = search in
     omega (arith, turning .loop-test .taken)
 
 loop-again : tie.Need-loop-again Inv-loop μ-loop
 loop-again c =
-    let at-forget-record = c .before .before in
-    let turning = at-forget-record .before .before in
-    let in-loop = turning .before in
-    let inv = in-loop .loop .inv in (
+    let turning : Turn = search in
+    let inv = turning .before .loop .inv in
+    let forgotten = c .before .before .forget-record in (
       omega (arith, turning .loop-test .taken),
-      at-forget-record .forget-record .kept .1 .1 .1 .1 .1 .0 ∙ inv .1,
-      λ s f. at-forget-record .forget-record .ensures s (inv .2 s f),
+      forgotten .kept .1 .1 .1 .1 .1 .0 ∙ inv .1,
+      λ s f. forgotten .ensures s (inv .2 s f),
     )
 
 returns : tie.Need-returns Inv-loop μ-loop
 returns c =
-    let start = start-of (c .before .before) in
+    let start : Start = search in
     let inv = c .before .loop .inv in
     λ s f. subst (Forgotten _ _ _ _ _ s _) (let z : c .before .loop .k ≡ start .args .count = omega (arith, inv .0, c .loop-test .left) in z) (inv .2 s f)
 

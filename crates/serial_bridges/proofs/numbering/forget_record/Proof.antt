@@ -6,13 +6,9 @@ use borrow.Author.Needs.{needs}
 use Rattle.serial_bridges.proofs.numbering.forget_record.Statement.{statement}
 use Rattle.serial_bridges.proofs.numbering.forget_record.Tie as tie
 
--- what the function is given and asked: the places since only say that its slices have lengths
-abbrev start-of : tie.After-slice-known → tie.Start
-start-of c = c .before .before .before
-
 put-word-requires : tie.Need-put-word-requires
 put-word-requires c κs =
-    let start = start-of (c .before .before .before) in
+    let start : tie.Start = search in
     let p = start .pre in
     let k = start .args .k in
     let t = ap (at (start .args .lefts .now)) (c .before .before .size .ensures .0) in
@@ -20,21 +16,21 @@ put-word-requires c κs =
 
 put-word-requires-2 : tie.Need-put-word-requires-2
 put-word-requires-2 c κs =
-    let at-put-word = c .before .before .before .before in
-    let after-size = at-put-word .before .before .before in
-    let start = start-of (after-size .before) in
+    let cleared : tie.After-put-word = search in
+    let sized : tie.After-size = search in
+    let start : tie.Start = search in
     let p = start .pre in
     let k = start .args .k in
-    let t = ap (at (start .args .rights .now)) (after-size .size .ensures .0) in
-    (omega (arith, t, p .1 .right-from k (p .0)), omega (arith, t, p .1 .right-to k (p .0), p .2, at-put-word .put-word .kept .0))
+    let t = ap (at (start .args .rights .now)) (sized .size .ensures .0) in
+    (omega (arith, t, p .1 .right-from k (p .0)), omega (arith, t, p .1 .right-to k (p .0), p .2, cleared .put-word .kept .0))
 
 returns : tie.Need-returns
 returns c =
-    let after-put-word = c .before .before .before .before .before .before .before in
-    let after-size = after-put-word .before .before .before in
-    let start-2 = start-of (after-size .before) in
-    let p = start-2 .pre in
-    λ start f. forgotten-at (after-size .size .ensures .0) (p .0) (p .1) (p .2) f (after-put-word .put-word .ensures) (c .before .before .put-word2 .ensures)
+    let cleared : tie.After-put-word = search in
+    let sized : tie.After-size = search in
+    let asked : tie.Start = search in
+    let p = asked .pre in
+    λ start f. forgotten-at (sized .size .ensures .0) (p .0) (p .1) (p .2) f (cleared .put-word .ensures) (c .before .before .put-word2 .ensures)
 
 pub forget-record-spec : {M : Type 1} → statement M
 forget-record-spec =

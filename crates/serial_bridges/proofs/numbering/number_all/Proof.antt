@@ -15,49 +15,50 @@ Inv-loop lefts rights count regions work₀ base small-lefts₀ small-rights₀ 
 abbrev μ-loop : tie.MeasureT-loop
 μ-loop lefts rights count regions work₀ base small-lefts₀ small-rights₀ k₀ work small-lefts small-rights k = count - k
 
--- what the function is given and asked: the places since only say that its slices have lengths
-abbrev start-of : tie.After-slice-known3 Inv-loop μ-loop → tie.Start Inv-loop μ-loop
-start-of c = c .before .before .before .before .before
+-- the start, and a turn
+abbrev Start : Type 0
+Start = tie.Start Inv-loop μ-loop
+
+abbrev Turn : Type 0
+Turn = tie.In-loop Inv-loop μ-loop
 
 loop-holds : tie.Need-loop-holds Inv-loop μ-loop
 loop-holds c =
-    let start = start-of c in
+    let start : Start = search in
     (omega arith, refl, refl, unnumbered (start .args .work .now) (start .pre .2) (start .pre .3) (start .pre .4))
 
 number-record-requires : tie.Need-number-record-requires Inv-loop μ-loop
 number-record-requires c κs =
-    let turning = c .before .before .before in
-    let in-loop = turning .before in
-    let start = start-of (in-loop .before) in
-    let inv = in-loop .loop .inv in
+    let turning : Turn = search in
+    let start : Start = search in
+    let inv = turning .before .loop .inv in
     (turning .loop-test .taken, start .pre .0, omega (arith, start .pre .1, inv .3 .table .as-long), inv .3 .lefts-are, inv .3 .rights-are)
 
 add-k : tie.Need-add-k Inv-loop μ-loop
 add-k c =
-    let turning = c .before .before .before .before .before .before .before .before .before .before in
-    let start = start-of (turning .before .before) in
+    let turning : Turn = search in
+    let start : Start = search in
     omega (arith, turning .loop-test .taken, start .pre .0 .few)
 
 loop-less : tie.Need-loop-less Inv-loop μ-loop
 loop-less c =
-    let turning = c .before .before .before .before .before .before .before .before .before .before in
+    let turning : Turn = search in
     omega (arith, turning .loop-test .taken)
 
 loop-again : tie.Need-loop-again Inv-loop μ-loop
 loop-again c =
-    let at-number-record = c .before .before .before .before .before .before in
-    let turning = at-number-record .before .before .before .before in
-    let in-loop = turning .before in
-    let inv = in-loop .loop .inv in (
+    let turning : Turn = search in
+    let inv = turning .before .loop .inv in
+    let numbered = c .before .before .before .before .before .before .number-record in (
       omega (arith, turning .loop-test .taken),
-      omega (arith, at-number-record .number-record .kept, inv .1),
-      omega (arith, at-number-record .number-record .kept, inv .2),
-      at-number-record .number-record .ensures _ (inv .3),
+      omega (arith, numbered .kept, inv .1),
+      omega (arith, numbered .kept, inv .2),
+      numbered .ensures _ (inv .3),
     )
 
 returns : tie.Need-returns Inv-loop μ-loop
 returns c =
-    let start = start-of (c .before .before) in
+    let start : Start = search in
     let inv = c .before .loop .inv in
     subst (EndNumbers _ _ _ _ _ _ _ _ _) (let z : c .before .loop .k ≡ start .args .count = omega (arith, inv .0, c .loop-test .left) in z) (inv .3)
 

@@ -7,8 +7,8 @@ use Rattle.serial_links.proofs.geometry.squares.Tie as tie
 returns : tie.Need-returns
 unfolding squares
 returns c =
-    let after-apart = c .before .before .before in
-    (simp (after-apart .apart .ensures .0, c .before .before .square .ensures .0, c .before .apart2 .ensures .0, c .square2 .ensures .0), omega arith)
+    let across = c .before .before .before in
+    (simp (across .apart .ensures .0, c .before .before .square .ensures .0, c .before .apart2 .ensures .0, c .square2 .ensures .0), omega arith)
 
 pub squares-spec : {M : Type 1} → statement M
 squares-spec =

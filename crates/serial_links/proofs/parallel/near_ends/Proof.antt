@@ -4,8 +4,7 @@ use Rattle.serial_links.proofs.parallel.near_ends.Tie as tie
 
 returns : tie.Need-returns
 returns c =
-    let after-point-distance = c .before .before .before in
-    simp (after-point-distance .point-distance .ensures, c .before .point-distance2 .ensures)
+    simp (c .before .before .before .point-distance .ensures, c .before .point-distance2 .ensures)
 
 pub near-ends-spec : {M : Type 1} → statement M
 near-ends-spec = tie.close (tie.spec (λ c κs. search needs) (λ c κs. search needs) returns)

@@ -15,22 +15,24 @@ Inv-loop lefts rights count heads₀ left-nexts₀ right-nexts₀ k₀ heads lef
 abbrev μ-loop : tie.MeasureT-loop
 μ-loop lefts rights count heads₀ left-nexts₀ right-nexts₀ k₀ heads left-nexts right-nexts k = k
 
--- what the function is given and asked: the places since only say that its slices have lengths
-abbrev start-of : tie.After-slice-known3 Inv-loop μ-loop → tie.Start Inv-loop μ-loop
-start-of c = c .before .before .before .before .before
+-- the start, and a turn
+abbrev Start : Type 0
+Start = tie.Start Inv-loop μ-loop
+
+abbrev Turn : Type 0
+Turn = tie.In-loop Inv-loop μ-loop
 
 loop-holds : tie.Need-loop-holds Inv-loop μ-loop
 loop-holds c =
-    let start = start-of c in
+    let start : Start = search in
     (omega arith, refl, refl, start .pre .1)
 
 link-record-requires : tie.Need-link-record-requires Inv-loop μ-loop
 link-record-requires c κs =
-    let turning = c .before .before .before in
-    let in-loop = turning .before in
-    let start = start-of (in-loop .before) in
-    let inv = in-loop .loop .inv in
-    let k = in-loop .loop .k in
+    let turning : Turn = search in
+    let start : Start = search in
+    let inv = turning .before .loop .inv in
+    let k = turning .before .loop .k in
     let l : k - 1 < start .args .count = omega (arith, inv .0, turning .loop-test .taken) in
     let G = start .pre .0 in
     let N = inv .3 in (
@@ -44,21 +46,20 @@ link-record-requires c κs =
 
 loop-again : tie.Need-loop-again Inv-loop μ-loop
 loop-again c =
-    let at-link-record = c .before .before .before .before .before .before in
-    let turning = at-link-record .before .before .before .before in
-    let in-loop = turning .before in
-    let start = start-of (in-loop .before) in
-    let k = in-loop .loop .k in
-    let l : k - 1 < start .args .count = omega (arith, in-loop .loop .inv .0, turning .loop-test .taken) in
+    let linked : tie.After-link-record Inv-loop μ-loop = search in
+    let turning : Turn = search in
+    let start : Start = search in
     let a = start .args in
-    let m = in-loop .loop in
-    let e = at-link-record .link-record .ensures in
+    let m = turning .before .loop in
+    let k = m .k in
+    let l : k - 1 < a .count = omega (arith, m .inv .0, turning .loop-test .taken) in
+    let e = linked .link-record .ensures in
     let n : IncidenceLists (a .count) (length (a .heads .now)) (a .lefts .now) (a .rights .now) (m .heads) (m .left-nexts) (m .right-nexts) (k - 1 + 1)
     = subst (IncidenceLists (a .count) (length (a .heads .now)) (a .lefts .now) (a .rights .now) (m .heads) (m .left-nexts) (m .right-nexts))
     (let z : k ≡ k - 1 + 1 = omega (arith, turning .loop-test .taken) in z) (m .inv .3) in (
       omega arith,
-      omega (arith, at-link-record .link-record .kept, m .inv .1),
-      omega (arith, at-link-record .link-record .kept, m .inv .2),
+      omega (arith, linked .link-record .kept, m .inv .1),
+      omega (arith, linked .link-record .kept, m .inv .2),
       linked-as _ _ _ _ _ _ _ _ _ _ _ (e .0) (e .1 .0) (e .1 .1)
           (linked-one (a .count) (length (a .heads .now)) (a .lefts .now) (a .rights .now) (m .heads) (m .left-nexts) (m .right-nexts) (k - 1) (start .pre .0) n
           l),
@@ -66,7 +67,7 @@ loop-again c =
 
 returns : tie.Need-returns Inv-loop μ-loop
 returns c =
-    let start = start-of (c .before .before) in
+    let start : Start = search in
     subst (IncidenceLists (start .args .count) (length (start .args .heads .now)) (start .args .lefts .now) (start .args .rights .now) (c .before .loop .heads)
     (c .before .loop .left-nexts) (c .before .loop .right-nexts))
     (let z : c .before .loop .k ≡ 0 = omega (arith, c .loop-test .left) in z) (c .before .loop .inv .3)

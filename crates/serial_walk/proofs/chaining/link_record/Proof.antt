@@ -6,42 +6,38 @@ use Rattle.serial_walk.proofs.chaining.link_record.Statement.{statement
 use Rattle.serial_walk.proofs.chaining.link_record.Tie as tie
 use lib.ListN.{length-set}
 
--- what the function is given and asked: the places since only say that its slices have lengths
-abbrev start-of : tie.After-slice-known3 → tie.Start
-start-of c = c .before .before .before .before .before
-
 slice-read-left-nexts : tie.Need-slice-read-left-nexts
 slice-read-left-nexts c =
-    let after-size2 = c .before .before .before in
-    let after-size = after-size2 .before .before in
-    let start = start-of (after-size .before) in
-    omega (arith, after-size2 .size2 .ensures .0, ap (at (start .args .lefts .now)) (after-size .size .ensures .0), start .pre .4)
+    let left : tie.After-size2 = search in
+    let sized : tie.After-size = search in
+    let start : tie.Start = search in
+    omega (arith, left .size2 .ensures .0, ap (at (start .args .lefts .now)) (sized .size .ensures .0), start .pre .4)
 
 slice-read-right-nexts : tie.Need-slice-read-right-nexts
 slice-read-right-nexts c =
-    let after-size = c .before .before .before .before .before .before in
-    let start = start-of (after-size .before) in
-    omega (arith, c .before .before .size3 .ensures .0, ap (at (start .args .rights .now)) (after-size .size .ensures .0), start .pre .5)
+    let sized : tie.After-size = search in
+    let start : tie.Start = search in
+    omega (arith, c .before .before .size3 .ensures .0, ap (at (start .args .rights .now)) (sized .size .ensures .0), start .pre .5)
 
 slice-write-heads : tie.Need-slice-write-heads
 slice-write-heads c =
-    let after-size2 = c .before .before .before .before in
-    let after-size = after-size2 .before .before in
-    let start = start-of (after-size .before) in
-    omega (arith, after-size2 .size2 .ensures .0, ap (at (start .args .lefts .now)) (after-size .size .ensures .0), start .pre .4)
+    let left : tie.After-size2 = search in
+    let sized : tie.After-size = search in
+    let start : tie.Start = search in
+    omega (arith, left .size2 .ensures .0, ap (at (start .args .lefts .now)) (sized .size .ensures .0), start .pre .4)
 
 slice-write-heads-2 : tie.Need-slice-write-heads-2
 slice-write-heads-2 c =
-    let after-size = c .before .before .before .before .before .before in
-    let start = start-of (after-size .before) in
-    simp length-set (omega (arith, c .before .before .size3 .ensures .0, ap (at (start .args .rights .now)) (after-size .size .ensures .0), start .pre .5))
+    let sized : tie.After-size = search in
+    let start : tie.Start = search in
+    simp length-set (omega (arith, c .before .before .size3 .ensures .0, ap (at (start .args .rights .now)) (sized .size .ensures .0), start .pre .5))
 
 returns : tie.Need-returns
 returns c =
-    let after-size2 = c .before .before .before .before in
-    let after-size = after-size2 .before .before in
-    let e = after-size .size .ensures .0 in
-    let l = after-size2 .size2 .ensures .0 in
+    let left : tie.After-size2 = search in
+    let sized : tie.After-size = search in
+    let e = sized .size .ensures .0 in
+    let l = left .size2 .ensures .0 in
     let r = c .before .before .size3 .ensures .0 in
     (rw (l, e), (rw (r, e), rw (l, r, e)))
 

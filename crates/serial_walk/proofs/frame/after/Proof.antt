@@ -4,22 +4,18 @@ use Rattle.lists.specs.Rows.{at}
 use Rattle.serial_walk.proofs.frame.after.Statement.{statement}
 use Rattle.serial_walk.proofs.frame.after.Tie as tie
 
--- what the function is given and asked: the places since only say that its slices have lengths
-abbrev start-of : tie.After-shared-slice-known3 → tie.Start
-start-of c = c .before .before .before
-
 returns : tie.Need-returns
 returns c =
-    let after-size = c .before .before .before .before in
-    let start = start-of (after-size .before) in
-    let e = after-size .size .ensures .0 in
+    let sized : tie.After-size = search in
+    let start : tie.Start = search in
+    let e = sized .size .ensures .0 in
     (λ z. ap (at (start .args .left-nexts .now)) e, λ n. absurd (n (ap (at (start .args .lefts .now)) (sym e) ∙ c .before .if1 .taken)))
 
 returns-2 : tie.Need-returns-2
 returns-2 c =
-    let after-size = c .before .before .before .before in
-    let start = start-of (after-size .before) in
-    let e = after-size .size .ensures .0 in
+    let sized : tie.After-size = search in
+    let start : tie.Start = search in
+    let e = sized .size .ensures .0 in
     (λ z. absurd (c .before .if1 .left (ap (at (start .args .lefts .now)) e ∙ z)), λ n. ap (at (start .args .right-nexts .now)) e)
 
 pub after-spec : {M : Type 1} → statement M

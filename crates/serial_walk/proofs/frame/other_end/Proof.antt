@@ -8,16 +8,16 @@ use Rattle.serial_walk.proofs.frame.other_end.Tie as tie
 
 returns : tie.Need-returns
 returns c =
-    let after-size = c .before .before .before .before in
-    let start = after-size .before .before .before in
-    let e = after-size .size .ensures .0 in
+    let sized : tie.After-size = search in
+    let start : tie.Start = search in
+    let e = sized .size .ensures .0 in
     forth (ap (at (start .args .lefts .now)) (sym e) ∙ c .before .if1 .taken) (ap (at (start .args .rights .now)) (sym e))
 
 returns-2 : tie.Need-returns-2
 returns-2 c =
-    let after-size = c .before .before .before .before in
-    let start = after-size .before .before .before in
-    let e = after-size .size .ensures .0 in
+    let sized : tie.After-size = search in
+    let start : tie.Start = search in
+    let e = sized .size .ensures .0 in
     back (ap (at (start .args .lefts .now)) (sym e))
     (⊎-elim (λ z. absurd (c .before .if1 .left (ap (at (start .args .lefts .now)) e ∙ z))) (λ z. z) (start .pre .2))
 

@@ -32,30 +32,40 @@ abbrev μ-walk : tie.MeasureT-walk
 μ-walk owners lefts rights count heads left-nexts right-nexts disc₀ stack₀ parents₀ nexts₀ lows₀ marks₀ r root start time₀ h₀ disc stack parents nexts lows
     marks time h = zeroCount (at disc) (length disc) + zeroCount (at disc) (length disc) + h
 
--- what the function is given and asked: the places since only say that its slices have lengths
-abbrev start-of : tie.After-slice-known5 Inv-loop μ-loop Inv-walk μ-walk → tie.Start Inv-loop μ-loop Inv-walk μ-walk
-start-of c = c .before .before .before .before .before .before .before .before .before .before .before
+-- the start; where the root is entered
+abbrev Start : Type 0
+Start = tie.Start Inv-loop μ-loop Inv-walk μ-walk
 
--- a turn of the walk; the start
+abbrev Rooted : Type 0
+Rooted = tie.After-enter Inv-loop μ-loop Inv-walk μ-walk
+
+abbrev begun : Rooted → Start
+begun c = search
+
+-- a turn of the walk; its test passed; the start
 abbrev Outer : Type 0
 Outer = tie.At-walk Inv-loop μ-loop Inv-walk μ-walk
 
-abbrev asked : Outer → tie.Start Inv-loop μ-loop Inv-walk μ-walk
-asked c = start-of
-    (c .before .before .before .before .before .before .before .before .before .before
-    .before .before .before .before .before .before .before .before)
+abbrev High : Type 0
+High = tie.In-walk Inv-loop μ-loop Inv-walk μ-walk
+
+abbrev rooted-in : Outer → Rooted
+rooted-in c = search
+
+abbrev asked : Outer → Start
+asked c = begun (rooted-in c)
 
 -- a turn of the inner loop; the walk's test before it, passed; the turn of the walk; the start
 abbrev Inner : Type 0
 Inner = tie.At-loop Inv-loop μ-loop Inv-walk μ-walk
 
-abbrev high-in : Inner → tie.In-walk Inv-loop μ-loop Inv-walk μ-walk
+abbrev high-in : Inner → High
 high-in c = c .before .before .before .before .before .before
 
 abbrev outer : Inner → Outer
 outer c = high-in c .before
 
-abbrev start-in : Inner → tie.Start Inv-loop μ-loop Inv-walk μ-walk
+abbrev start-in : Inner → Start
 start-in c = asked (outer c)
 
 -- where the inner loop has stopped; its last turn
@@ -69,11 +79,17 @@ last c = c .before .before
 abbrev Found : Type 0
 Found = tie.Then4 Inv-loop μ-loop Inv-walk μ-walk
 
-abbrev found-before-save : tie.After-save Inv-loop μ-loop Inv-walk μ-walk → Found
-found-before-save c = c .before .before .before .before .before
+abbrev Saved : Type 0
+Saved = tie.After-save Inv-loop μ-loop Inv-walk μ-walk
 
-abbrev save-before-enter : tie.After-opened2 Inv-loop μ-loop Inv-walk μ-walk → tie.After-save Inv-loop μ-loop Inv-walk μ-walk
-save-before-enter c = c .before .before .before .before .before .before .before .before .before .before
+abbrev found-in : Saved → Found
+found-in c = search
+
+abbrev Entered : Type 0
+Entered = tie.After-enter2 Inv-loop μ-loop Inv-walk μ-walk
+
+abbrev saved-in : Entered → Saved
+saved-in c = search
 
 -- how the inner loop stopped
 stopped : (c : Met) →
@@ -123,29 +139,30 @@ next-one c =
 
 add-time : tie.Need-add-time Inv-loop μ-loop Inv-walk μ-walk
 add-time c =
-    let s = start-of c .pre .0 in
+    let start : Start = search in
+    let s = start .pre .0 in
     omega (arith, s .walk .count, s .sized .disc-are, s .graph .near)
 
 enter-requires : tie.Need-enter-requires Inv-loop μ-loop Inv-walk μ-walk
 enter-requires c κs =
-    let p = start-of (c .before .before .before .before .before .before) .pre in
+    let start : Start = search in
+    let p = start .pre in
     let s = slots (p .0 .sized) 0 (omega (arith, p .2)) in
     (omega (arith, c .opened .ensures .0, p .2, p .0 .sized .disc-are), s .0, s .1, s .2, s .3)
 
 walk-holds : tie.Need-walk-holds Inv-loop μ-loop Inv-walk μ-walk
 walk-holds c =
-    let after-enter = c .before .before .before .before .before .before .before .before .before .before in
-    let start = start-of (after-enter .before .before .before .before .before .before .before) in
-    let e = after-enter .enter .ensures in
-    let o = after-enter .before .opened .ensures in
-    let a = start .args in
-    let p = start .pre in
+    let entered : Rooted = search in
+    let e = entered .enter .ensures in
+    let o = entered .before .opened .ensures in
+    let a = begun entered .args in
+    let p = begun entered .pre in
     recast _ _ _ _ _ _ _ _ (e .0 ∙ set-as (a .disc .now) (o .0) (o .3)) (e .1 ∙ set-as (a .stack .now) refl (o .0))
     (e .2 ∙ set-as (a .parents .now) refl (o .1)) (e .3 ∙ set-as (a .nexts .now) refl (o .2)) (e .4 ∙ set-as (a .lows .now) refl (o .3)) refl refl refl
     (rooted (p .0) (a .root) (at (a .heads .now) (a .root)) (omega (arith, p .2, p .0 .sized .disc-are)) (p .3) (p .4) (p .1 .head (a .root) (p .2)))
 
 -- the slots of the frame on top
-top-slots : (c : tie.In-walk Inv-loop μ-loop Inv-walk μ-walk) →
+top-slots : (c : High) →
     (c .before .walk .h - 1 < length (c .before .walk .stack)) × (c .before .walk .h - 1 < length (c .before .walk .parents))
     × (c .before .walk .h - 1 < length (c .before .walk .nexts)) × (c .before .walk .h - 1 < length (c .before .walk .lows))
 top-slots c =
@@ -154,13 +171,13 @@ top-slots c =
 
 loop-holds : tie.Need-loop-holds Inv-loop μ-loop Inv-walk μ-walk
 loop-holds c =
-    let turning = c .before .before .before .before .before in
+    let turning : High = search in
     let e = c .load .ensures in
     take (c .load .result) (unrolled (turning .before .walk .inv) (turning .walk-test .taken)) (e .0) (e .1) (e .2) (e .3)
 
 other-end-requires : tie.Need-other-end-requires Inv-loop μ-loop Inv-walk μ-walk
 other-end-requires c κs =
-    let turn = c .before .before .before .before in
+    let turn : Inner = search in
     let start = start-in turn in
     let k : turn .loop .f .next < start .args .count = omega (arith, c .before .before .if1 .left) in
     (omega (arith, start .pre .0 .graph .lefts-are), omega (arith, start .pre .0 .graph .rights-are), turn .loop .inv .touching k)
@@ -177,7 +194,8 @@ time-of-requires c κs =
 
 after-requires : tie.Need-after-requires Inv-loop μ-loop Inv-walk μ-walk
 after-requires c κs =
-    let p = start-in (c .before .before .before .before) .pre in
+    let turn : Inner = search in
+    let p = start-in turn .pre in
     let k = c .before .before .if1 .left in
     chain-in (p .0 .graph) (p .1) (c .if2 .f .next)
     (⊎-elim (λ w. omega (arith, k, ap (λ (x : Frame). x .next) (w .6), w .5 .ensures .2)) (λ w. omega (arith, k, ap (λ (x : Frame). x .next) (w .1)))
@@ -212,18 +230,18 @@ after-requires-2 c κs =
 
 save-requires : tie.Need-save-requires Inv-loop μ-loop Inv-walk μ-walk
 save-requires c κs =
-    let s = top-slots (high-in (last (c .before .before .before .before .before))) in
+    let s = top-slots (search) in
     (s .2, s .3)
 
 opened-requires-2 : tie.Need-opened-requires-2 Inv-loop μ-loop Inv-walk μ-walk
 opened-requires-2 c κs =
-    let found = found-before-save (c .before .before .before .before .before .before .before .before .before) in
+    let found : Found = search in
     stopped (found .before) .within (found .if4 .taken)
 
 enter-requires-2 : tie.Need-enter-requires-2 Inv-loop μ-loop Inv-walk μ-walk
 enter-requires-2 c κs =
-    let saved = save-before-enter c in
-    let found = found-before-save saved in
+    let found : Found = search in
+    let saved : Saved = search in
     let m = outer (last (found .before)) .walk in
     let v = stopped (found .before) in
     let j = found .if4 .taken in
@@ -237,19 +255,19 @@ enter-requires-2 c κs =
 
 add-h : tie.Need-add-h Inv-loop μ-loop Inv-walk μ-walk
 add-h c =
-    let opened = c .before .before .before .before .before .before .before .before .before .before .before in
-    let turn = last (found-before-save (save-before-enter opened) .before) in
+    let found : Found = search in
+    let turn = last (found .before) in
     omega (arith, high (outer turn .walk .inv), start-in turn .pre .0 .graph .near)
 
 walk-less : tie.Need-walk-less Inv-loop μ-loop Inv-walk μ-walk
 walk-less c =
-    let opened = c .before .before .before .before .before .before .before .before .before .before .before in
-    let found = found-before-save (save-before-enter opened) in
+    let found : Found = search in
+    let entered : Entered = search in
     let m = outer (last (found .before)) .walk in
     let v = stopped (found .before) in
     let j = found .if4 .taken in
-    let o = opened .opened2 .ensures in
-    let e = c .before .before .before .before .before .before .before .before .before .before .enter2 .ensures .0 ∙ set-as (m .disc) (o .0) (o .3) in
+    let o = entered .before .opened2 .ensures in
+    let e = entered .enter2 .ensures .0 ∙ set-as (m .disc) (o .0) (o .3) in
     omega (
       arith,
       ap (λ (x : List ℕ). zeroCount (at x) (length x)) e,
@@ -258,10 +276,11 @@ walk-less c =
 
 walk-again : tie.Need-walk-again Inv-loop μ-loop Inv-walk μ-walk
 walk-again c =
-    let opened = c .before .before .before .before .before .before .before .before .before .before .before in
-    let saved = save-before-enter opened in
+    let entered : Entered = search in
+    let opened = entered .before in
+    let saved = saved-in entered in
+    let found = found-in saved in
     let moved = saved .before in
-    let found = found-before-save saved in
     let met = found .before in
     let turn = last met in
     let inv = turn .loop .inv in
@@ -274,7 +293,7 @@ walk-again c =
     let v = stopped met in
     let j = found .if4 .taken in
     let o = opened .opened2 .ensures in
-    let e = c .before .before .before .before .before .before .before .before .before .before .enter2 .ensures in
+    let e = entered .enter2 .ensures in
     let s = saved .save .ensures in
     let n = moved .next-record2 .ensures in
     let k : f .next < a .count = omega (arith, v .is j, j) in
@@ -294,15 +313,19 @@ walk-again-2 c =
     emptied-at (outer turn .walk .inv) (turn .loop .f) (high-in turn .walk-test .taken) (c .if5 .taken) (turn .loop .inv)
     (stopped (c .before .before) .all (c .before .if4 .left))
 
+-- no region was found, and there is a frame below
+abbrev Lower : Type 0
+Lower = tie.Else5 Inv-loop μ-loop Inv-walk μ-walk
+
 leave-requires : tie.Need-leave-requires Inv-loop μ-loop Inv-walk μ-walk
 leave-requires c κs =
-    let lower = c .before .before .before .before in
+    let lower : Lower = search in
     let turn = last (lower .before .before) in
     leaving (outer turn .walk .inv) (turn .loop .f) (high-in turn .walk-test .taken) (lower .if5 .left) (turn .loop .inv)
 
 walk-again-3 : tie.Need-walk-again-3 Inv-loop μ-loop Inv-walk μ-walk
 walk-again-3 c =
-    let lower = c .before .before .before .before .before .before .before in
+    let lower : Lower = search in
     let met = lower .before .before in
     let turn = last met in
     let e = c .before .before .leave .ensures in
@@ -323,11 +346,11 @@ walk-spec =
     Inv-walk
     μ-walk
     add-time
-    (λ c κs. start-of (c .before .before .before .before .before) .pre .2)
+    (λ c κs. let start : Start = search in start .pre .2)
     enter-requires
     walk-holds
     (λ c. omega arith)
-    (λ c κs. top-slots (c .before .before .before .before))
+    (λ c κs. top-slots (search))
     loop-holds
     other-end-requires
     time-of-requires
@@ -339,17 +362,17 @@ walk-spec =
     after-requires-2
     (λ c κs. search needs)
     save-requires
-    (λ c. omega (arith, timely (outer (last (found-before-save (c .before .before .before .before) .before)) .walk .inv)))
+    (λ c. let turn : Outer = search in omega (arith, timely (turn .walk .inv)))
     opened-requires-2
     enter-requires-2
     add-h
     walk-less
     walk-again
-    (λ c. omega (arith, high-in (last (c .before .before)) .walk-test .taken))
+    (λ c. let high : High = search in omega (arith, high .walk-test .taken))
     walk-again-2
-    (λ c. omega (arith, c .before .before .before .before .if5 .left))
+    (λ c. let lower : Lower = search in omega (arith, lower .if5 .left))
     leave-requires
-    (λ c. omega (arith, high-in (last (c .before .before .before .before .before .before .before .before .before)) .walk-test .taken))
+    (λ c. let high : High = search in omega (arith, high .walk-test .taken))
     walk-again-3
     (λ c. c .before .walk .inv .sized .disc-are ∙ sym (asked (c .before) .pre .0 .sized .disc-are))
     (λ c. c .before .walk .inv .sized .stack-are ∙ sym (asked (c .before) .pre .0 .sized .stack-are))

@@ -6,19 +6,17 @@ use Rattle.serial_links.proofs.link.Link.measured.Tie as tie
 
 returns-2 : tie.Need-returns-2
 returns-2 c =
-    let after-longitudinal-envelope = c .before .before .before .before in
-    let after-transverse-envelope = after-longitudinal-envelope .before in
-    let if1-left = after-transverse-envelope .before in
-    within-both _ _ (not-false _ (if1-left .if1 .left)) (after-transverse-envelope .transverse-envelope .ensures)
-    (after-longitudinal-envelope .longitudinal-envelope .ensures) (c .if2 .taken)
+    let long : tie.After-longitudinal-envelope = search in
+    let across = long .before in
+    within-both _ _ (not-false _ (across .before .if1 .left)) (across .transverse-envelope .ensures)
+    (long .longitudinal-envelope .ensures) (c .if2 .taken)
 
 returns-3 : tie.Need-returns-3
 returns-3 c =
-    let after-longitudinal-envelope = c .before .before .before .before in
-    let after-transverse-envelope = after-longitudinal-envelope .before in
-    let if1-left = after-transverse-envelope .before in
-    beyond-one _ _ (not-false _ (if1-left .if1 .left)) (after-transverse-envelope .transverse-envelope .ensures)
-    (after-longitudinal-envelope .longitudinal-envelope .ensures) (c .if2 .left)
+    let long : tie.After-longitudinal-envelope = search in
+    let across = long .before in
+    beyond-one _ _ (not-false _ (across .before .if1 .left)) (across .transverse-envelope .ensures)
+    (long .longitudinal-envelope .ensures) (c .if2 .left)
 
 pub measured-spec : {M : Type 1} → statement M
 measured-spec =

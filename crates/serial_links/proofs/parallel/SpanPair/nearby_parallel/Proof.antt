@@ -6,15 +6,13 @@ use Rattle.serial_links.proofs.parallel.SpanPair.nearby_parallel.Tie as
 
 span-length-requires : tie.Need-span-length-requires
 span-length-requires c κs =
-    let after-canonical = c .before .before .before .before .before in
-    let start = after-canonical .before in
-    bounded-as (after-canonical .canonical .ensures) (canonical-bounded (start .pre .0))
+    let first : tie.After-canonical = search in
+    bounded-as (first .canonical .ensures) (canonical-bounded (first .before .pre .0))
 
 span-length-requires-2 : tie.Need-span-length-requires-2
 span-length-requires-2 c κs =
-    let after-canonical2 = c .before .before .before .before .before in
-    let start = after-canonical2 .before .before in
-    bounded-as (after-canonical2 .canonical2 .ensures) (canonical-bounded (start .pre .1))
+    let second : tie.After-canonical2 = search in
+    bounded-as (second .canonical2 .ensures) (canonical-bounded (second .before .before .pre .1))
 
 returns : tie.Need-returns
 returns c =
@@ -39,11 +37,11 @@ returns c =
 
 near-ends-requires : tie.Need-near-ends-requires
 near-ends-requires c κs =
-    let after-canonical2 = c .before .before .before .before .before .before .before .before .before in
-    let after-canonical = after-canonical2 .before in
-    let start = after-canonical .before in (
-      bounded-as (after-canonical .canonical .ensures) (canonical-bounded (start .pre .0)),
-      bounded-as (c .facing .ensures) (facing-bounded _ (bounded-as (after-canonical2 .canonical2 .ensures) (canonical-bounded (start .pre .1)))),
+    let first : tie.After-canonical = search in
+    let second : tie.After-canonical2 = search in
+    let p = first .before .pre in (
+      bounded-as (first .canonical .ensures) (canonical-bounded (p .0)),
+      bounded-as (c .facing .ensures) (facing-bounded _ (bounded-as (second .canonical2 .ensures) (canonical-bounded (p .1)))),
     )
 
 returns-2 : tie.Need-returns-2
