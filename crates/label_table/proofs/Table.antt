@@ -14,6 +14,13 @@ use Rattle.serial_walk.specs.Slices.{put}
 use Rattle.label_table.specs.Table.{Table, OnlyOf}
 use Rattle.serial_walk.proofs.Puts.{put-at, put-off}
 
+-- a word written, or read, at a place that is reckoned in another way
+pub put-at-place : (work bytes : List ℕ) {out : List ℕ} {i j : ℕ} → out ≡ splice work i bytes → i ≡ j → out ≡ splice work j bytes
+put-at-place work bytes e s = e ∙ ap (λ (i : ℕ). splice work i bytes) s
+
+pub read-at-place : (work : List ℕ) {r i j : ℕ} → r ≡ u32At work i → i ≡ j → r ≡ u32At work j
+read-at-place work e s = e ∙ ap (u32At work) s
+
 module _ {start : List ℕ} {regions base : ℕ} {f : ℕ → ℕ} {work : List ℕ} (T : Table start regions base f work) (fits : base + 4 * regions ≤ length start)
     (x v : ℕ) (l : x < regions) (small : v < 0x1_0000_0000) where
   room : base + 4 * x + length (u32Bytes v) ≤ length work

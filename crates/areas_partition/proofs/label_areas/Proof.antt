@@ -9,8 +9,8 @@ use Rattle.areas_partition.proofs.label_areas.Tie as tie
 
 write-dues-requires : tie.Need-write-dues-requires
 write-dues-requires c κs =
-    let marked-spans = c .before .before .before in
-    let start = marked-spans .before .before .before .before in
+    let marked-spans : tie.After-mark-spans = search in
+    let start : tie.Start = search in
     let p = start .pre in
     let g = mapOf (start .args .width) (start .args .height) (start .args .cells .now) in
     let opened = marked-open _ g _ _ _ (p .room) (omega arith) (marked-spans .mark-spans .ensures) in
@@ -18,9 +18,9 @@ write-dues-requires c κs =
 
 components-requires : tie.Need-components-requires
 components-requires c κs =
-    let dues-written = c .before .before .before in
-    let marked-spans = dues-written .before .before .before .before in
-    let start = marked-spans .before .before .before .before in
+    let dues-written : tie.After-write-dues = search in
+    let marked-spans : tie.After-mark-spans = search in
+    let start : tie.Start = search in
     let p = start .pre in
     let g = mapOf (start .args .width) (start .args .height) (start .args .cells .now) in
     let opened = marked-open _ g _ _ _ (p .room) (omega arith) (marked-spans .mark-spans .ensures) in
@@ -33,9 +33,9 @@ components-requires c κs =
 
 returns : tie.Need-returns
 returns c =
-    let dues-written = c .before .before .before .before .before .before in
-    let marked-spans = dues-written .before .before .before .before in
-    let start = marked-spans .before .before .before .before in
+    let dues-written : tie.After-write-dues = search in
+    let marked-spans : tie.After-mark-spans = search in
+    let start : tie.Start = search in
     let p = start .pre in
     let g = mapOf (start .args .width) (start .args .height) (start .args .cells .now) in
     let opened = marked-open _ g _ _ _ (p .room) (omega arith) (marked-spans .mark-spans .ensures) in

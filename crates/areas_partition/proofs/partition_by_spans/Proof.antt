@@ -7,14 +7,14 @@ use Rattle.areas_partition.proofs.Parting.{lent-long, room-after, all-p
 use Rattle.areas_partition.proofs.partition_by_spans.Statement.{statement}
 use Rattle.areas_partition.proofs.partition_by_spans.Tie as tie
 
--- what the function is given and asked: the places since only say that its slices have lengths
-abbrev start-of : tie.After-slice-known6 → tie.Start
-start-of c = c .before .before .before .before .before .before .before
+-- the cells are few
+few : (start : tie.Start) → length (start .args .cells .now) ≤ 1048576
+few start = omega (arith, start .pre .0 .whole, few-cells (start .pre .0 .sides))
 
 assess-spans-requires : tie.Need-assess-spans-requires
 assess-spans-requires c κs =
-    let labelled = c .before .before .before .before .before .before .before .before .before in
-    let start = start-of (labelled .before .before) in
+    let labelled : tie.After-label-areas = search in
+    let start : tie.Start = search in
     let p = start .pre .0 in (
       record {
         sides = p .sides;
@@ -26,36 +26,29 @@ assess-spans-requires c κs =
       start .pre .1,
     )
 
--- the cells are few
-few : (c : tie.After-slice-known6) → length (start-of c .args .cells .now) ≤ 1048576
-few c = omega (arith, start-of c .pre .0 .whole, few-cells (start-of c .pre .0 .sides))
-
 mul-zero-fill : tie.Need-mul-zero-fill
 mul-zero-fill c =
-    let assessed = c .before .before .before .before .before .before .before .before .before .before .before in
-    let labelled = assessed .before .before .before .before .before .before .before .before .before .before in
-    omega (arith, few (labelled .before .before))
+    let start : tie.Start = search in
+    omega (arith, few start)
 
 mul-zero-fill-2 : tie.Need-mul-zero-fill-2
 mul-zero-fill-2 c =
-    let assessed = c .before .before .before .before .before .before .before .before .before .before .before in
-    let labelled = assessed .before .before .before .before .before .before .before .before .before .before in
-    omega (arith, few (labelled .before .before))
+    let start : tie.Start = search in
+    omega (arith, few start)
 
 zero-fill-requires : tie.Need-zero-fill-requires
 zero-fill-requires c κs =
-    let assessed = c .before .before .before .before .before .before .before .before .before .before .before in
-    let labelled = assessed .before .before .before .before .before .before .before .before .before .before in
-    let start = start-of (labelled .before .before) in
+    let labelled : tie.After-label-areas = search in
+    let start : tie.Start = search in
     (omega arith, room-after _ _ _ (labelled .label-areas .ensures) (start .pre .0 .room))
 
 returns : tie.Need-returns
 returns c =
-    let assessed = c .before .before .before .before .before .before .before .before .before .before .before .before .before .before in
-    let labelled = assessed .before .before .before .before .before .before .before .before .before .before in
-    let start = start-of (labelled .before .before) in
+    let assessed : tie.After-assess-spans = search in
+    let labelled : tie.After-label-areas = search in
+    let start : tie.Start = search in
     let p = start .pre .0 in
-    all-parted _ _ _ _ (omega (arith, p .whole, few-cells (p .sides))) (p .whole) (labelled .label-areas .ensures)
+    all-parted _ _ _ _ (few start) (p .whole) (labelled .label-areas .ensures)
     (assessed .assess-spans .ensures) (c .before .before .zero-fill .ensures) (omega arith) (omega arith)
 
 pub partition-by-spans-spec : {M : Type 1} → statement M

@@ -10,7 +10,7 @@ use Rattle.areas.proofs.geometry.cut_by.Tie as tie
 returns : tie.Need-returns
 unfolding cutBy
 returns c =
-    let start = c .before .before .before in
+    let start : tie.Start = search in
     λ g i j e f h k.
     c .cuts .ensures
     ∙ ap₂ (cuts (start .args .span)) (c .before .before .cell-center .ensures .0 g i e f) (c .before .cell-center2 .ensures .0 g j h k)

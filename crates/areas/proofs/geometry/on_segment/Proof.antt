@@ -6,13 +6,13 @@ use Rattle.areas.proofs.geometry.on_segment.Tie as tie
 returns : tie.Need-returns
 unfolding onSegment
 returns c =
-    let after-min = c .before .before .before in
-    let after-cross-minus = after-min .before in
-    let after-cross-plus = after-cross-minus .before in
+    let lesser-told : tie.After-min = search in
+    let minus-told : tie.After-cross-minus = search in
+    let plus-told : tie.After-cross-plus = search in
     simp (
-      after-cross-plus .cross-plus .ensures,
-      after-cross-minus .cross-minus .ensures,
-      after-min .min .ensures,
+      plus-told .cross-plus .ensures,
+      minus-told .cross-minus .ensures,
+      lesser-told .min .ensures,
       c .before .before .max .ensures,
       c .before .min2 .ensures,
       c .max2 .ensures,

@@ -8,8 +8,8 @@ use Rattle.areas.proofs.geometry.strictly_opposite.Tie as tie
 returns : tie.Need-returns
 unfolding opposite
 returns c =
-    let after-below = c .before .before .before in
-    ap₂ _||_ (ap₂ _&&_ (after-below .below .ensures) (c .before .before .above .ensures))
+    let below-told : tie.After-below = search in
+    ap₂ _||_ (ap₂ _&&_ (below-told .below .ensures) (c .before .before .above .ensures))
     (ap₂ _&&_ (c .before .above2 .ensures) (c .below2 .ensures))
 
 pub strictly-opposite-spec : {M : Type 1} → statement M
