@@ -7,20 +7,20 @@ use Rattle.areas_components.proofs.components.Tie as tie
 
 join-all-requires : tie.Need-join-all-requires
 join-all-requires c κs =
-    let at-run-parents = c .before .before .before in
-    let start = at-run-parents .before .before .before .before in
-    let runs = at-run-parents .run-parents in
+    let in-runs : tie.After-run-parents = search in
+    let start : tie.Start = search in
+    let runs = in-runs .run-parents in
     let pre = start .pre in
     due-joinable _ refl (pre .0 .1) (pre .0 .2) (pre .0 .3) (pre .1 .0) (pre .1 .1) (runs .ensures .0) (runs .ensures .1)
     (omega arith) (pre .0 .0)
 
 number-requires : tie.Need-number-requires
 number-requires c κs =
-    let at-join-all = c .before .before .before in
-    let at-run-parents = at-join-all .before .before .before .before in
-    let start = at-run-parents .before .before .before .before in
-    let join = at-join-all .join-all in
-    let runs = at-run-parents .run-parents in
+    let all-joined : tie.After-join-all = search in
+    let in-runs : tie.After-run-parents = search in
+    let start : tie.Start = search in
+    let join = all-joined .join-all in
+    let runs = in-runs .run-parents in
     let pre = start .pre in
     let forest = joined _ refl (pre .0 .1) (pre .0 .2) (pre .0 .3) (pre .1 .0) (pre .1 .1) (runs .ensures .0) (runs .ensures .1)
     (join .ensures) in
@@ -28,12 +28,12 @@ number-requires c κs =
 
 returns : tie.Need-returns
 returns c =
-    let at-join-all = c .before .before .before .before .before .before in
-    let at-run-parents = at-join-all .before .before .before .before in
-    let start = at-run-parents .before .before .before .before in
+    let all-joined : tie.After-join-all = search in
+    let in-runs : tie.After-run-parents = search in
+    let start : tie.Start = search in
     let number = c .before .before .number in
-    let join = at-join-all .join-all in
-    let runs = at-run-parents .run-parents in
+    let join = all-joined .join-all in
+    let runs = in-runs .run-parents in
     let pre = start .pre in
     whole _ refl (pre .0 .1) (pre .0 .2) (pre .0 .3) (pre .1 .0) (pre .1 .1) (runs .ensures .0) (runs .ensures .1)
     (join .ensures) (number .ensures)

@@ -7,7 +7,7 @@ use Rattle.areas_components.proofs.dues.byte_before.Tie as tie
 
 returns-2 : tie.Need-returns-2
 returns-2 c =
-    let start = c .before .before .before in
+    let start : tie.Start = search in
     let args = start .args in
     c .byte-at .ensures ∙ before-next (args .work .now) (args .base) (args .n) (start .pre) (args .k) (omega arith)
 

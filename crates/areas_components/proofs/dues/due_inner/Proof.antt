@@ -9,7 +9,7 @@ use Rattle.areas_components.proofs.dues.due_inner.Tie as tie
 
 returns : tie.Need-returns
 returns c =
-    let start = c .before .before .before .before .before .before in
+    let start : tie.Start = search in
     let args = start .args in
     let w = args .work .now in
     let at = args .base + args .i in

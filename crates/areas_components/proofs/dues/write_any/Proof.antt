@@ -16,7 +16,7 @@ loop-holds c = writing-start _ (c .before .pre .1)
 
 due-any-requires : tie.Need-due-any-requires Inv-loop μ-loop
 due-any-requires c κs =
-    let start = c .before .before .before .before in
+    let start : tie.Start Inv-loop μ-loop = search in
     let writing = c .before .before .loop .inv in
     let pre = start .pre in
     (omega (arith, writing .long, pre .0), omega (arith, pre .2, pre .3))

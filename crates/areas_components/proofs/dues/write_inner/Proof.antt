@@ -16,7 +16,7 @@ loop-holds c = writing-start _ (c .before .pre .2)
 
 due-inner-requires : tie.Need-due-inner-requires Inv-loop μ-loop
 due-inner-requires c κs =
-    let start = c .before .before .before .before in
+    let start : tie.Start Inv-loop μ-loop = search in
     let writing = c .before .before .loop .inv in
     let pre = start .pre in
     (omega (arith, writing .long, pre .0), omega (arith, writing .above, pre .1), omega (arith, pre .3))

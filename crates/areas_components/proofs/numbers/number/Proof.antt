@@ -18,7 +18,7 @@ loop-holds c = numbering-start _ _ _
 
 number-cell-requires : tie.Need-number-cell-requires Inv-loop μ-loop
 number-cell-requires c κs =
-    let start = c .before .before .before .before .before in
+    let start : tie.Start Inv-loop μ-loop = search in
     let numbering = c .before .before .loop .inv in
     let pre = start .pre in
     let room = numbering-room numbering (pre .0) (pre .1) (pre .2) (omega arith) in
@@ -27,8 +27,8 @@ number-cell-requires c κs =
 
 loop-again : tie.Need-loop-again Inv-loop μ-loop
 loop-again c =
-    let in-loop = c .before .before .before .before .before in
-    let start = in-loop .before .before .before in
+    let in-loop : tie.At-loop Inv-loop μ-loop = search in
+    let start : tie.Start Inv-loop μ-loop = search in
     let call = c .before .before .number-cell in
     let numbering = in-loop .loop .inv in
     let pre = start .pre in

@@ -6,13 +6,13 @@ use Rattle.areas_components.proofs.parents.join_if.Tie as tie
 
 join-requires : tie.Need-join-requires
 join-requires c κs =
-    let start = c .before .before .before in
+    let start : tie.Start = search in
     (start .pre .0, start .pre .1 (c .before .if1 .taken))
 
 returns : tie.Need-returns
 returns c =
-    let if1-taken = c .before .before .before .before in
-    joined-on (if1-taken .if1 .taken) (c .before .before .join .ensures)
+    let turned-on : tie.Then1 = search in
+    joined-on (turned-on .if1 .taken) (c .before .before .join .ensures)
 
 returns-2 : tie.Need-returns-2
 returns-2 c =

@@ -6,15 +6,15 @@ use Rattle.areas_components.proofs.parents.link.Tie as tie
 
 find-requires-2 : tie.Need-find-requires-2
 find-requires-2 c κs =
-    let left-found = c .before .before .before in
-    let start = left-found .before .before .before in
+    let left-found : tie.After-find = search in
+    let start : tie.Start = search in
     left-found .find .ensures .usable (start .args .j) (start .pre .1)
 
 set-parent-requires : tie.Need-set-parent-requires
 set-parent-requires c κs =
-    let right-found = c .before .before .before .before in
-    let left-found = right-found .before .before .before .before in
-    let start = left-found .before .before .before in (
+    let right-found : tie.After-find2 = search in
+    let left-found : tie.After-find = search in
+    let start : tie.Start = search in (
       right-room (start .pre .0) (start .pre .1) (left-found .find .ensures) (right-found .find2 .ensures),
       omega (arith, left-found .find .ensures .below, start .pre .0 .small),
     )
@@ -22,17 +22,17 @@ set-parent-requires c κs =
 returns : tie.Need-returns
 returns c =
     let set = c .before .before in
-    let right-found = set .before .before .before .before .before in
-    let left-found = right-found .before .before .before .before in
-    let start = left-found .before .before .before in
+    let right-found : tie.After-find2 = search in
+    let left-found : tie.After-find = search in
+    let start : tie.Start = search in
     joined-left (start .pre .0) (start .pre .1) (left-found .find .ensures) (right-found .find2 .ensures)
     (omega (arith, left-found .find .ensures .below, start .pre .0 .small)) (omega arith) _ (set .set-parent .ensures)
 
 set-parent-requires-2 : tie.Need-set-parent-requires-2
 set-parent-requires-2 c κs =
-    let right-found = c .before .before .before .before .before in
-    let left-found = right-found .before .before .before .before in
-    let start = left-found .before .before .before in (
+    let right-found : tie.After-find2 = search in
+    let left-found : tie.After-find = search in
+    let start : tie.Start = search in (
       left-room (start .pre .0) (start .pre .1) (left-found .find .ensures) (right-found .find2 .ensures),
       omega (arith, right-found .find2 .ensures .below, start .pre .1 .small),
     )
@@ -40,17 +40,17 @@ set-parent-requires-2 c κs =
 returns-2 : tie.Need-returns-2
 returns-2 c =
     let set = c .before .before in
-    let right-found = set .before .before .before .before .before .before in
-    let left-found = right-found .before .before .before .before in
-    let start = left-found .before .before .before in
+    let right-found : tie.After-find2 = search in
+    let left-found : tie.After-find = search in
+    let start : tie.Start = search in
     joined-right (start .pre .0) (start .pre .1) (left-found .find .ensures) (right-found .find2 .ensures)
     (omega (arith, right-found .find2 .ensures .below, start .pre .1 .small)) (omega arith) _ (set .set-parent2 .ensures)
 
 returns-3 : tie.Need-returns-3
 returns-3 c =
-    let right-found = c .before .before .before .before in
-    let left-found = right-found .before .before .before .before in
-    let start = left-found .before .before .before in
+    let right-found : tie.After-find2 = search in
+    let left-found : tie.After-find = search in
+    let start : tie.Start = search in
     joined-same (start .pre .0) (start .pre .1) (left-found .find .ensures) (right-found .find2 .ensures) (λ l. omega arith) (λ l. omega arith)
 
 pub link-spec : {M : Type 1} → statement M

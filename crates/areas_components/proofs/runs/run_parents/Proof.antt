@@ -27,14 +27,14 @@ set-parent-requires c κs =
 
 loop-again : tie.Need-loop-again Inv-loop μ-loop
 loop-again c =
-    let at-set-parent = c .before .before .before in
-    let at-pick = at-set-parent .before .before in
-    let in-loop = at-pick .before .before in
-    let start = in-loop .before .before in
+    let parent-set = c .before .before .before in
+    let picked : tie.After-pick Inv-loop μ-loop = search in
+    let in-loop : tie.At-loop Inv-loop μ-loop = search in
+    let start : tie.Start Inv-loop μ-loop = search in
     let pre = start .pre in
     let loop = in-loop .loop in
-    let pick = at-pick .pick in
-    let set = at-set-parent .set-parent in
+    let pick = picked .pick in
+    let set = parent-set .set-parent in
     running-next (pre .0) (pre .1) (pre .2) (loop .inv) (omega arith) _ (pick .ensures) _ (set .ensures) _ refl
 
 returns : tie.Need-returns Inv-loop μ-loop

@@ -12,39 +12,42 @@ Inv-loop work₀ base n width i₀ work i = Joining n width base i work₀ work
 abbrev μ-loop : tie.MeasureT-loop
 μ-loop work₀ base n width i₀ work i = n - i
 
+abbrev Start : Type 0
+Start = tie.Start Inv-loop μ-loop
+
 loop-holds : tie.Need-loop-holds Inv-loop μ-loop
 loop-holds c = joining-start (c .before .pre)
 
 join-block-requires : tie.Need-join-block-requires Inv-loop μ-loop
 join-block-requires c κs =
-    let start = c .before .before .before .before in
+    let start : Start = search in
     let joining = c .before .before .loop .inv in
     (joinable-kept (start .pre) (joining .kept) (joining .usable), omega arith)
 
 loop-again : tie.Need-loop-again Inv-loop μ-loop
 loop-again c =
-    let in-loop = c .before .before .before .before .before in
-    let start = in-loop .before .before in
+    let in-loop : tie.At-loop Inv-loop μ-loop = search in
+    let start : Start = search in
     let loop = in-loop .loop in
     c .before .before .join-block .ensures (start .args .work .now) (loop .inv)
 
 join-some-requires : tie.Need-join-some-requires Inv-loop μ-loop
 join-some-requires c κs =
-    let start = c .before .before .before .before in
+    let start : Start = search in
     let joining = c .before .before .loop .inv in
     (joinable-kept (start .pre) (joining .kept) (joining .usable), joining .below, omega arith)
 
 same-length : tie.Need-same-length Inv-loop μ-loop
 same-length c =
-    let in-loop = c .before .before .before .before .before in
-    let start = in-loop .before .before in
+    let in-loop : tie.At-loop Inv-loop μ-loop = search in
+    let start : Start = search in
     let loop = in-loop .loop in
     c .before .before .join-some .ensures (start .args .work .now) (loop .inv) .kept .size
 
 returns : tie.Need-returns Inv-loop μ-loop
 returns c =
-    let in-loop = c .before .before .before .before .before in
-    let start = in-loop .before .before in
+    let in-loop : tie.At-loop Inv-loop μ-loop = search in
+    let start : Start = search in
     let loop = in-loop .loop in
     joining-end (start .pre .room) (c .before .before .join-some .ensures (start .args .work .now) (loop .inv)) (λ l. omega arith)
 

@@ -13,36 +13,36 @@ join-if-requires c κs =
 
 join-if-requires-2 : tie.Need-join-if-requires-2
 join-if-requires-2 c κs =
-    let first = c .before .before .before in
-    let start = first .before .before .before in
+    let first : tie.After-join-if = search in
+    let start : tie.Start = search in
     asked _ _ _ (start .pre .3) (λ m u. first .join-if .ensures .usable m u) 1 (omega arith) refl
     (to-left _ _ (start .pre .0))
 
 join-if-requires-3 : tie.Need-join-if-requires-3
 join-if-requires-3 c κs =
-    let second = c .before .before .before in
-    let first = second .before .before .before .before in
-    let start = first .before .before .before in
+    let second : tie.After-join-if2 = search in
+    let first : tie.After-join-if = search in
+    let start : tie.Start = search in
     asked _ _ _ (start .pre .3)
     (λ m u. second .join-if2 .ensures .usable m (first .join-if .ensures .usable m u)) 2 (omega arith) refl
     (to-below _ _)
 
 join-if-requires-4 : tie.Need-join-if-requires-4
 join-if-requires-4 c κs =
-    let third = c .before .before .before in
-    let second = third .before .before .before .before in
-    let first = second .before .before .before .before in
-    let start = first .before .before .before in
+    let third : tie.After-join-if3 = search in
+    let second : tie.After-join-if2 = search in
+    let first : tie.After-join-if = search in
+    let start : tie.Start = search in
     asked _ _ _ (start .pre .3)
     (λ m u. third .join-if3 .ensures .usable m (second .join-if2 .ensures .usable m (first .join-if .ensures .usable m u))) 3
     (omega arith) refl (to-last _ _)
 
 returns : tie.Need-returns
 returns c =
-    let third = c .before .before .before .before .before .before in
-    let second = third .before .before .before .before in
-    let first = second .before .before .before .before in
-    let start = first .before .before .before in
+    let third : tie.After-join-if3 = search in
+    let second : tie.After-join-if2 = search in
+    let first : tie.After-join-if = search in
+    let start : tie.Start = search in
     let byte = start .args .byte in
     joined-from _ _ _
     (as-bit _ byte _ 0 (first-bit byte) (to-right _ _) (first .join-if .ensures))

@@ -5,7 +5,7 @@ use Rattle.areas_components.proofs.steps.join_block.Tie as tie
 
 returns : tie.Need-returns
 returns c =
-    let start = c .before .before .before .before in
+    let start : tie.Start = search in
     λ r h. joining-skip 64 (start .pre .0) (start .pre .1) (c .before .clear .ensures (c .if1 .taken)) h
 
 pub join-block-spec : {M : Type 1} → statement M

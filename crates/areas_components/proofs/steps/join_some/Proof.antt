@@ -24,8 +24,9 @@ join-cell-requires c κs =
 
 loop-again : tie.Need-loop-again Inv-loop μ-loop
 loop-again c =
-    let loop = c .before .before .before .before .before .before in
-    partly-next (loop .loop .inv) (omega arith) (loop .before .before .pre .2) (c .before .before .join-cell .ensures)
+    let loop : tie.At-loop Inv-loop μ-loop = search in
+    let start : tie.Start Inv-loop μ-loop = search in
+    partly-next (loop .loop .inv) (omega arith) (start .pre .2) (c .before .before .join-cell .ensures)
 
 returns : tie.Need-returns Inv-loop μ-loop
 returns c = partly-end (c .before .loop .inv) (λ l. omega arith)

@@ -15,15 +15,19 @@ byte-of-requires : tie.Need-byte-of-requires
 byte-of-requires c κs = omega (arith, on-map (c .before))
 
 slice-read-close-byte : tie.Need-slice-read-close-byte
-slice-read-close-byte c = let start = c .before .before .before in omega (arith, on-map start, c .before .byte-of .ensures)
+slice-read-close-byte c =
+    let start : tie.Start = search in
+    omega (arith, on-map start, c .before .byte-of .ensures)
 
 slice-write-work : tie.Need-slice-write-work
-slice-write-work c = let start = c .before .before .before .before in omega (arith, on-map start, c .before .before .byte-of .ensures)
+slice-write-work c =
+    let start : tie.Start = search in
+    omega (arith, on-map start, c .before .before .byte-of .ensures)
 
 returns : tie.Need-returns
 returns c =
-    let after-byte-of = c .before .before in
-    let start = after-byte-of .before .before in
+    let byte-known = c .before .before in
+    let start : tie.Start = search in
     let p = start .pre in
     λ g dirs ss before m hf.
     let col = map-column m _ _ (p .3) (p .4) in
@@ -31,7 +35,7 @@ returns c =
     let on = map-on m _ _ (p .3) (p .4) in
     let r = rank-at g (start .args .span) _ col row in
     let size = map-size m in
-    let at = after-byte-of .byte-of .ensures in
+    let at = byte-known .byte-of .ensures in
     let b = ap (λ (k : ℕ). getD (start .args .work .now) k 0) at ∙ hf .left _ on (omega arith) in
     rw at (half-set g (m .whole) (sides-of m (p .0)) _ _ _ on (omega arith) r (c .close-byte .ensures g dirs ss _ m col row b) hf)
 

@@ -59,17 +59,17 @@ add-c c =
 
 loop-again : tie.Need-loop-again Inv-loop μ-loop
 loop-again c =
-    let at-close-line = c .before .before in
-    let in-loop = at-close-line .before .before .before in
+    let line-closed = c .before .before in
+    let in-loop : tie.At-loop Inv-loop μ-loop = search in
     let inv = in-loop .loop .inv in (
       omega arith,
-      at-close-line .close-line .kept .1 .1 .1 .1 .0 ∙ inv .1,
-      λ g dirs ss b m hf. at-close-line .close-line .ensures g dirs ss b m (inv .2 g dirs ss b m hf),
+      line-closed .close-line .kept .1 .1 .1 .1 .0 ∙ inv .1,
+      λ g dirs ss b m hf. line-closed .close-line .ensures g dirs ss b m (inv .2 g dirs ss b m hf),
     )
 
 returns : tie.Need-returns Inv-loop μ-loop
 returns c =
-    let start = c .before .before .before .before in
+    let start : tie.Start Inv-loop μ-loop = search in
     let e = ap (λ (r : CellRange). r .last) (c .before .before .strip-axis .ensures) in
     let past = c .loop-test .left in
     λ g dirs ss b m hf.

@@ -62,8 +62,9 @@ close-cell-requires c κs =
 
 add-cm : tie.Need-add-cm Inv-loop μ-loop
 add-cm c =
-    let turning = c .before .before .before .before .before in
-    omega (arith, turning .loop-test .taken, last-on (turning .before .before))
+    let turning : tie.In-loop Inv-loop μ-loop = search in
+    let range-known : tie.After-strip-minor Inv-loop μ-loop = search in
+    omega (arith, turning .loop-test .taken, last-on range-known)
 
 loop-again : tie.Need-loop-again Inv-loop μ-loop
 loop-again c =

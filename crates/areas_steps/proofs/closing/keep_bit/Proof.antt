@@ -21,7 +21,7 @@ use Rattle.areas_steps.proofs.closing.keep_bit.Tie as tie
 leads : (c : tie.Else2) → let a = c .before .before .before .args in (0 < a .position .x + a .d % 3) × (a .position .x + a .d % 3 ≤ a .width)
     × (0 < a .position .y + a .d / 3) × (a .position .y + a .d / 3 ≤ a .height)
 leads c =
-    let start = c .before .before .before in
+    let start : tie.Start = search in
     let a = start .args in
     let g = gridOf (a .width) (a .height) [] in
     leads-at _ _ _ _ _ (start .pre .2)
@@ -54,7 +54,7 @@ place-to-requires c κs = let p = leads c in omega arith
 
 cut-by-requires : tie.Need-cut-by-requires
 cut-by-requires c κs =
-    let start = c .before .before .before .before in
+    let start : tie.Start = search in
     let a = start .args in
     let g = gridOf (a .width) (a .height) [] in
     let col = column-of g _ _ (start .pre .2) in
@@ -69,7 +69,7 @@ returns-3 c = (λ g i t m e f ld eb. kept-cut t _ (cut-told (c .before) g i m e 
 
 returns-4 : tie.Need-returns-4
 returns-4 c =
-    let some = c .before .before .before .before .before in
+    let some : tie.Else1 = search in
     (λ g i t m e f ld eb. kept-whole _ t _ (some .if1 .left) eb (cut-told (c .before) g i m e f ∙ c .if3 .left), omega arith)
 
 pub keep-bit-spec : {M : Type 1} → statement M

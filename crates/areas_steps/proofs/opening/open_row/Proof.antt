@@ -21,6 +21,9 @@ Inv-loop cells width height directions y work₀ base x₀ work x = (x ≤ width
 abbrev μ-loop : tie.MeasureT-loop
 μ-loop cells width height directions y work₀ base x₀ work x = width - x
 
+abbrev Start : Type 0
+Start = tie.Start Inv-loop μ-loop
+
 loop-holds : tie.Need-loop-holds Inv-loop μ-loop
 loop-holds c =
     let start = c .before .before in
@@ -28,26 +31,26 @@ loop-holds c =
 
 byte-of-requires : tie.Need-byte-of-requires Inv-loop μ-loop
 byte-of-requires c κs =
-    let start = c .before .before .before .before in
+    let start : Start = search in
     let on = place-in (start .args .width) (start .args .height) (c .before .loop .x) (start .args .y) (c .loop-test .taken) (start .pre .3) in
     omega (arith, c .before .loop .inv .1)
 
 open-byte-requires : tie.Need-open-byte-requires Inv-loop μ-loop
 open-byte-requires c κs =
-    let start = c .before .before .before .before .before in
+    let start : Start = search in
     record { wide = omega arith; high = omega arith; whole = start .pre .1; column = c .before .loop-test .taken; row = start .pre .3 }
 
 slice-write-work : tie.Need-slice-write-work Inv-loop μ-loop
 slice-write-work c =
     let in-loop = c .before .before .before in
-    let start = in-loop .before .before .before in
+    let start : Start = search in
     let on = place-in (start .args .width) (start .args .height) (in-loop .loop .x) (start .args .y) (c .before .before .loop-test .taken) (start .pre .3) in
     omega (arith, in-loop .loop .inv .1, c .before .byte-of .ensures)
 
 loop-again : tie.Need-loop-again Inv-loop μ-loop
 loop-again c =
     let in-loop = c .before .before .before in
-    let start = in-loop .before .before .before in
+    let start : Start = search in
     let inv = in-loop .loop .inv in
     let x = in-loop .loop .x in
     let w = start .args .width in
@@ -66,7 +69,7 @@ loop-again c =
 
 returns : tie.Need-returns Inv-loop μ-loop
 returns c =
-    let start = c .before .before .before .before in
+    let start : Start = search in
     let inv = c .before .loop .inv in
     let z = inv .0 in
     λ b h. held-count ((start .args .y + 1) * start .args .width)

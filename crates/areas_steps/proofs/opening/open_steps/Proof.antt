@@ -25,24 +25,24 @@ loop-holds c = (omega arith, refl, held-count _ (sym (zero-mul (c .before .befor
 
 open-row-requires : tie.Need-open-row-requires Inv-loop μ-loop
 open-row-requires c κs =
-    let start = c .before .before .before .before .before in
+    let start : tie.Start Inv-loop μ-loop = search in
     (start .pre .0, start .pre .1, omega (arith, c .before .before .loop .inv .1), c .before .loop-test .taken)
 
 loop-again : tie.Need-loop-again Inv-loop μ-loop
 loop-again c =
-    let at-open-row = c .before .before in
-    let turning = at-open-row .before .before in
-    let in-loop = turning .before in
-    let start = in-loop .before .before .before in
+    let row-opened = c .before .before in
+    let turning : tie.In-loop Inv-loop μ-loop = search in
+    let in-loop : tie.At-loop Inv-loop μ-loop = search in
+    let start : tie.Start Inv-loop μ-loop = search in
     let inv = in-loop .loop .inv in (
       omega (arith, turning .loop-test .taken),
-      at-open-row .open-row .kept .1 .1 .1 .1 .1 .0 ∙ inv .1,
-      at-open-row .open-row .ensures (start .args .work .now) (inv .2),
+      row-opened .open-row .kept .1 .1 .1 .1 .1 .0 ∙ inv .1,
+      row-opened .open-row .ensures (start .args .work .now) (inv .2),
     )
 
 returns : tie.Need-returns Inv-loop μ-loop
 returns c =
-    let start = c .before .before .before .before in
+    let start : tie.Start Inv-loop μ-loop = search in
     let inv = c .before .loop .inv in
     let w = start .args .width in
     let h = start .args .height in
