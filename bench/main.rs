@@ -207,7 +207,7 @@ fn cards(what: &str, draft: &Draft) {
         }));
     }
     let areas = expected.written.len() / expect::CARD;
-    row(&format!("{what}, {areas} cards"), rust, library);
+    row(&format!("{what}, areas: {areas}"), rust, library);
 }
 
 /// The times of a whole call from bytes to bytes, the two sides in turn.
