@@ -2,6 +2,7 @@
 //! far. And how often each number came, printed at the end of a run.
 
 use crate::checks::{Refusal, CARDS, MARK};
+use crate::expect::CARD;
 use std::sync::atomic::{AtomicU64, AtomicU8, Ordering::Relaxed};
 use std::sync::Once;
 
@@ -47,7 +48,7 @@ pub fn note(call: u32, (number, detail): Refusal, job: &[u8], work: &[u8], out: 
         return;
     }
     if call == CARDS {
-        let cards = || out[..detail as usize].chunks_exact(40);
+        let cards = || out[..detail as usize].chunks_exact(CARD);
         let ramps = cards().filter(|card| word(card, 5) == 1).count();
         let several = |card: &&[u8]| (6..10).filter(|&i| word(card, i) > 0).count() > 1;
         set(KEPT + 16 * ramps.min(15) + cards().filter(several).count().min(15));
