@@ -41,6 +41,7 @@ pub fn random(rng: &mut Rng) -> Draft {
             5 => true,
             _ => *cell & RAMP != 0,
         };
+        // Now and then holes, or nothing that is walkable.
         let blocked = kind == 6 && rng.one_in(3) || kind == 7;
         let rest = *cell & if blocked { 2 } else { 2 | WALKABLE };
         *cell = rest | u8::from(ramp) * RAMP | elevation << 3;
