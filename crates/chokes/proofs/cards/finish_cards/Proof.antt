@@ -1,4 +1,3 @@
-use mathlib.Core.Path.{refl}
 use native.Mathlib.Omega.{arith}
 use borrow.Author.Needs.{needs}
 use Rattle.analysis.proofs.Headed.{headed-laid, headed-cells}
@@ -20,7 +19,7 @@ mul-size c = omega (arith, headed-cells (start-of c .pre .headed))
 returns : tie.Need-returns
 returns c =
     let sized = c .before in
-    cards-short (given sized .pre) (sized .size2 .ensures .0) refl (c .if1 .taken)
+    cards-short (given sized .pre) (sized .size2 .ensures .0) (omega arith) (omega (arith, c .if1 .taken))
 
 part-write-cards-end : tie.Need-part-write-cards-end
 part-write-cards-end c =
@@ -32,13 +31,13 @@ write-cards-requires : tie.Need-write-cards-requires
 write-cards-requires c κs =
     let roomy = c .before .before in
     let sized = roomy .before in
-    cards-fillable (given sized .pre) (sized .before .size .ensures .0) (sized .size2 .ensures .0) (roomy .if1 .left)
+    cards-fillable (given sized .pre) (sized .before .size .ensures .0) (sized .size2 .ensures .0) (omega (arith, roomy .if1 .left))
 
 returns-2 : tie.Need-returns-2
 returns-2 c =
     let roomy = c .before .before .before .before .before in
     let sized = roomy .before in
-    cards-whole (given sized .pre) (sized .before .size .ensures .0) (sized .size2 .ensures .0) refl (roomy .if1 .left)
+    cards-whole (given sized .pre) (sized .before .size .ensures .0) (sized .size2 .ensures .0) (omega arith) (omega (arith, roomy .if1 .left))
     (c .before .before .write-cards .ensures)
 
 pub finish-cards-spec : {M : Type 1} → statement M
