@@ -39,7 +39,7 @@ extern "C" {
 #define CHOKES_VERSION                                                                         \
     CHOKES_VERSION_NUMBER(CHOKES_VERSION_MAJOR, CHOKES_VERSION_MINOR, CHOKES_VERSION_PATCH)
 
-/* bench/run measures less than 390,000 on x86-64. */
+/* bench/run measures less than 391,000 on x86-64. */
 #define CHOKES_STACK_BYTES 409600
 
 /* What a call gives back: CHOKES_OK with a length or count, or a refusal with its detail, which is 0
