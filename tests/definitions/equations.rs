@@ -62,6 +62,8 @@ base i x y = record { id = i; anchor = some (record { x = x; y = y }) }
 
 const LABELLING: &str = "areaLabels componentOf count upFrom";
 const MARKING: &str = "marksOf componentOf count upFrom";
+/// Cards are computed of maps of so many cells at the most: of 40 the prover runs out of steps.
+const CARDED: usize = 20;
 /// Of the labels that the equation before has found.
 const CARDING: &str = "cards cardBytes cardWords regionStats words flatMap bytes upFrom";
 const KEEPING: &str = "rulesOn anchorsOf keptOf groupsOf itemsOf canonItem allGroups kept slot \
@@ -223,7 +225,7 @@ impl Job {
         }
     }
 
-    /// The job and its four equations; how many boundaries the Rust merged away.
+    /// The job and its equations, that of cards if the map is small; how many boundaries the Rust merged away.
     fn equations(&self, k: usize) -> (String, usize) {
         let grid = api::grid(self.width, self.height, &self.cells);
         let own = |b: &TopologyBoundary| {
@@ -253,6 +255,12 @@ impl Job {
         let regions: Vec<_> = (1..).map_while(|label| context.region(label)).collect();
         let cards = list(regions.iter().flat_map(words), |word| word.to_string());
         let labels = list(partition.labels(), u32::to_string);
+        let carded = equation(
+            "cards",
+            &format!("cards (gridOf job{k}) ({labels}) {}", regions.len()),
+            format!("words ({cards})"),
+            CARDING,
+        );
         let text = [
             job,
             equation(
@@ -267,12 +275,7 @@ impl Job {
                 list(marks, |mark| mark.to_string()),
                 MARKING,
             ),
-            equation(
-                "cards",
-                &format!("cards (gridOf job{k}) ({labels}) {}", regions.len()),
-                format!("words ({cards})"),
-                CARDING,
-            ),
+            if self.cells.len() <= CARDED { carded } else { String::new() },
             equation(
                 "kept",
                 &format!(
