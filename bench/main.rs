@@ -5,7 +5,8 @@
 //! `quick` leaves out the largest maps, and `grow` all but the families that grow, which are also
 //! plotted to docs/benchmark.svg. Times are in milliseconds, the least of several runs. Of a whole call the Rust's time begins with
 //! the job's bytes and ends with the answer's, as the library's does; of a partition it is that of
-//! `partition_by_spans` alone, where the library checks the job besides.
+//! `partition_by_spans` alone, where the library checks the job besides; of area cards that of
+//! `partition_by_spans` and `PartitionContext::new`, where the library checks the job and writes bytes.
 
 #[path = "../tests/driver/calls.rs"]
 #[allow(dead_code, unused_imports)]
@@ -34,16 +35,16 @@ mod rng;
 mod rust;
 mod stack;
 
-use checks::{Refusal, BY_LIST, MARK, REDUCE};
+use checks::{Refusal, BY_LIST, CALLS, CARDS, MARK, REDUCE};
 use draft::{Boundary, Draft, Input};
 use expect::Expected;
 use maps::Shape;
-use oracle::api;
+use oracle::api::{self, Context};
 use rng::Rng;
 use std::hint::black_box;
 use std::time::{Duration, Instant};
 
-const CALLS: [&str; 3] = ["Reduce", "Reduce by list", "Mark"];
+const NAMES: [&str; 4] = ["Reduce", "Reduce by list", "Mark", "Area cards"];
 /// The largest answer of any job.
 const ANSWER: usize = 1 << 18;
 /// How often the two sides take turns.
@@ -185,6 +186,30 @@ fn partition(what: &str, draft: &Draft) {
     row(what, rust, library);
 }
 
+/// Area cards, the two sides in turn.
+fn cards(what: &str, draft: &Draft) {
+    let mut lent = Lent::new(draft);
+    let expected = Expected::of(CARDS, &lent.input.job, &lent.input.list);
+    lent.out.resize(expected.written.len(), 0);
+    let length = expected.written.len() as u64;
+    assert!(lent.call(CARDS) == (0, length), "the cards of {what} are written");
+    assert!(lent.out == expected.written, "the two sides agree on {what}");
+    let ready = rust::job(&lent.input.job);
+    let spans = ready.own_spans();
+    let (mut rust, mut library) = (f64::INFINITY, f64::INFINITY);
+    for _ in 0..ROUNDS {
+        rust = rust.min(least(|| {
+            let partition = ready.partition(black_box(&spans));
+            drop(black_box(Context::new(&ready.grid, &partition, &ready.bases)));
+        }));
+        library = library.min(least(|| {
+            black_box(lent.call(CARDS));
+        }));
+    }
+    let areas = expected.written.len() / expect::CARD;
+    row(&format!("{what}, areas: {areas}"), rust, library);
+}
+
 /// The times of a whole call from bytes to bytes, the two sides in turn.
 fn timed(call: u32, what: &str, lent: &mut Lent) -> (f64, f64) {
     let expected = Expected::of(call, &lent.input.job, &lent.input.list);
@@ -202,7 +227,7 @@ fn timed(call: u32, what: &str, lent: &mut Lent) -> (f64, f64) {
 
 fn whole(call: u32, what: &str, draft: &Draft) {
     let (rust, library) = timed(call, what, &mut Lent::new(draft));
-    row(&format!("{}, {what}", CALLS[call as usize]), rust, library);
+    row(&format!("{}, {what}", NAMES[call as usize]), rust, library);
 }
 
 /// Where a call's time goes: the checks, the partition with its region pairs, and the bridges.
@@ -283,12 +308,13 @@ fn stacks() {
         ("1,000 sources of one boundary that are spread eight times", grow::deepest()),
     ];
     for (what, draft) in &jobs {
-        for call in [REDUCE, BY_LIST, MARK] {
+        for call in CALLS {
             let mut lent = Lent::new(draft);
+            lent.out.resize(ANSWER.max(expect::CARD * lent.work.len() / expect::WORK), 0);
             let used = stack::used(&mut || {
                 black_box(lent.call(call));
             });
-            println!("{:>10}  {}, {what}", used, CALLS[call as usize]);
+            println!("{:>10}  {}, {what}", used, NAMES[call as usize]);
         }
     }
 }
@@ -343,6 +369,16 @@ fn main() {
                 whole(call, &what, &job(side, Shape::Open, boundaries, sources));
             }
         }
+    }
+    head("area cards");
+    for &side in sides {
+        for boundaries in [4, 256] {
+            let what = format!("{side} × {side}, {boundaries} boundaries");
+            cards(&what, &job(side, Shape::Open, boundaries, 8));
+        }
+    }
+    if !quick {
+        cards("1,024 × 1,024, every second cell", &across(1024, Shape::Checkerboard, 0));
     }
     head("parts of a call");
     for (side, boundaries) in [(64, 4), (64, 256), (largest, 256)] {

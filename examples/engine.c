@@ -1,11 +1,12 @@
-/* How an engine uses the three calls.
+/* How an engine uses the four calls.
  *
  *   engine [JOB]
  *
  * Without a file it builds the corridor of docs/FORMAT.md in memory. There are two ways to lend an
  * answer slice, and it shows both: Reduce gets a short one, and a longer one when refusal 22 says how
  * long; Reduce by list gets one that is always enough, by CHOKES_ANSWER_BYTES. It prints the kept
- * list, the marks, and whether Reduce by list with the boundaries' own ends gives the same answer. */
+ * list, the marks, whether Reduce by list with the boundaries' own ends gives the same answer, and the
+ * cards of the areas. */
 #include "chokes.h"
 
 #include <inttypes.h>
@@ -13,8 +14,8 @@
 #include <stdlib.h>
 #include <string.h>
 
-#if CHOKES_VERSION_MAJOR != 1 || CHOKES_VERSION < CHOKES_VERSION_NUMBER(1, 0, 0)
-#error "this engine is written for version 1.0.0 of chokes"
+#if CHOKES_VERSION_MAJOR != 1 || CHOKES_VERSION < CHOKES_VERSION_NUMBER(1, 1, 0)
+#error "this engine is written for version 1.1.0 of chokes"
 #endif
 
 #define FIRST_ANSWER_BYTES 64
@@ -150,6 +151,32 @@ static void print_answer(const uint8_t *answer)
     }
 }
 
+/* Area cards. Asked with no slice the call says how long the cards are; a map without a walkable cell
+ * has none, and the first call succeeds. Prints of each area its label and the ten words of its card. */
+static void print_cards(const uint8_t *job, size_t length, uint8_t *work, size_t work_length)
+{
+    struct chokes_result result = chokes_area_cards(job, length, work, work_length, NULL, 0);
+    size_t cards_length = 0, at;
+    uint8_t *cards = NULL;
+    if (result.number == CHOKES_SLICE_TOO_SHORT) {
+        cards_length = (size_t)result.detail;
+        cards = room(cards_length);
+        result = chokes_area_cards(job, length, work, work_length, cards, cards_length);
+    }
+    accepted("Area cards", result);
+    printf("cards %lu\n", (unsigned long)(cards_length / CHOKES_CARD_BYTES));
+    for (at = 0; at < cards_length; at += 4) {
+        if (at % CHOKES_CARD_BYTES == 0) {
+            printf("c %lu", (unsigned long)(at / CHOKES_CARD_BYTES + 1));
+        }
+        printf(" %u", (unsigned)word(cards, at));
+        if ((at + 4) % CHOKES_CARD_BYTES == 0) {
+            printf("\n");
+        }
+    }
+    free(cards);
+}
+
 /* The boundaries' own ends as a list of spans. */
 static uint8_t *own_spans(const uint8_t *job, uint32_t boundaries)
 {
@@ -205,6 +232,7 @@ int main(int argc, char **argv)
            listed.detail == result.detail && memcmp(answer, again, (size_t)result.detail) == 0
                ? "the same answer"
                : "another answer");
+    print_cards(job, length, work, work_length);
     free(again);
     free(list);
     free(marks);

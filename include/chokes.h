@@ -1,15 +1,15 @@
-/* The choke analyser: three calls on byte slices.
+/* The choke analyser: four calls on byte slices.
  *
  * Link with libchokes.a (./library builds it). docs/FORMAT.md has the forms of a job, a span list, an
- * answer, marks and work byte by byte, and every refusal with an example; every field is
+ * answer, marks, cards and work byte by byte, and every refusal with an example; every field is
  * little-endian. CHANGELOG.md has what an engine has to change from version to version.
  *
  * A slice is passed as its start and its length in bytes. It need not be aligned. Any slice may be
  * empty: with length 0 its start is not looked at and may be NULL. The slices that a call is lent may
  * not overlap one another. A call reads the job and the list and writes nothing but work and the
- * answer or the marks, and what those held before has no part in the result; it allocates nothing,
- * keeps nothing after it returns, and always returns. Calls that write to slices of their own may run
- * at the same time, and may read one job or list.
+ * answer, the marks or the cards, and what those held before has no part in the result; it allocates
+ * nothing, keeps nothing after it returns, and always returns. Calls that write to slices of their own
+ * may run at the same time, and may read one job or list.
  *
  * Stack: lend CHOKES_STACK_BYTES of it. That is more than was measured, and not proved.
  */
@@ -26,20 +26,20 @@ extern "C" {
 /* The version. MAJOR goes up where an engine has to change something, MINOR where there is more to use,
  * PATCH otherwise. #if can read all of them, so that an engine can stop a build with another header:
  *
- *   #if CHOKES_VERSION_MAJOR != 1 || CHOKES_VERSION < CHOKES_VERSION_NUMBER(1, 0, 0)
- *   #error "this engine is written for version 1.0.0 of chokes"
+ *   #if CHOKES_VERSION_MAJOR != 1 || CHOKES_VERSION < CHOKES_VERSION_NUMBER(1, 1, 0)
+ *   #error "this engine is written for version 1.1.0 of chokes"
  *   #endif
  *
  * The library itself can't be asked: use the header that ./library left beside it. */
 #define CHOKES_VERSION_MAJOR 1
-#define CHOKES_VERSION_MINOR 0
+#define CHOKES_VERSION_MINOR 1
 #define CHOKES_VERSION_PATCH 0
 #define CHOKES_VERSION_NUMBER(major, minor, patch)                                             \
     ((major) * 1000000L + (minor) * 1000L + (patch))
 #define CHOKES_VERSION                                                                         \
     CHOKES_VERSION_NUMBER(CHOKES_VERSION_MAJOR, CHOKES_VERSION_MINOR, CHOKES_VERSION_PATCH)
 
-/* bench/run measures less than 389,000 on x86-64. */
+/* bench/run measures less than 391,000 on x86-64. */
 #define CHOKES_STACK_BYTES 409600
 
 /* What a call gives back: CHOKES_OK with a length or count, or a refusal with its detail, which is 0
@@ -49,14 +49,15 @@ struct chokes_result {
     uint64_t detail;
 };
 
-/* Success (detail: the answer's length in bytes; for Mark the number of boundaries). */
+/* Success (detail: the answer's length in bytes; for Mark the number of boundaries; for Area cards the
+ * bytes that were written). */
 #define CHOKES_OK 0u
 
 /* Refusals from the input. In brackets what the detail is, where there is one: a count, or the index
- * of the first offender, from 0. The answer or the marks are unchanged; so is work, but for 13, after
- * which it holds the labels. Mark and Reduce make 1 to 13, Reduce by list all but 12. Tested in this
- * order: 1 to 10, then 11 and 12 boundary by boundary, 14, 15, then 16 and 17 span by span, 21, 13,
- * and 22 or 23. */
+ * of the first offender, from 0. The answer, the marks or the cards are unchanged; so is work, but for
+ * 13, after which it holds the labels. Mark, Reduce and Area cards make 1 to 13, Reduce by list all but
+ * 12. Tested in this order: 1 to 10, then 11 and 12 boundary by boundary, 14, 15, then 16 and 17 span by
+ * span, 21, 13, and 22, 23 or 31. */
 #define CHOKES_JOB_TOO_SHORT 1u      /* under 48 bytes */
 #define CHOKES_BAD_SIDES 2u          /* width or height not 1 to 1,024 */
 #define CHOKES_TOO_MANY_RECORDS 3u   /* over 256 bases, 1,024 observations or 4,096 sources */
@@ -78,11 +79,12 @@ struct chokes_result {
 #define CHOKES_SPAN_OFF_MAP 16u      /* span end past width x 8 or height x 8 (span) */
 #define CHOKES_SPAN_ENDS_COINCIDE 17u /* span's ends coincide (span) */
 
-/* Refusals from the state. The answer or the marks are unchanged; so is work after 21, and after 22
- * and 23 it holds the labels. */
+/* Refusals from the state. The answer, the marks or the cards are unchanged; so is work after 21, and
+ * after 22, 23 and 31 it holds the labels. */
 #define CHOKES_WORK_TOO_SHORT 21u    /* work under ten bytes per cell */
 #define CHOKES_ANSWER_TOO_SHORT 22u  /* answer slice too short (exact length needed) */
 #define CHOKES_MARKS_TOO_SHORT 23u   /* fewer mark bytes than boundaries */
+#define CHOKES_SLICE_TOO_SHORT 31u   /* the slice for cards is too short (exact length needed) */
 
 /* Bytes of the records. */
 #define CHOKES_JOB_HEADER_BYTES 48u
@@ -92,6 +94,7 @@ struct chokes_result {
 #define CHOKES_SOURCE_BYTES 8u
 #define CHOKES_SPAN_BYTES 16u
 #define CHOKES_ANSWER_HEADER_BYTES 24u
+#define CHOKES_CARD_BYTES 40u
 
 /* Bits of a cell; bits 3 and 4 are its elevation, 0 to 3. */
 #define CHOKES_CELL_WALKABLE 1u
@@ -120,7 +123,7 @@ struct chokes_result {
      (size_t)CHOKES_SOURCE_BYTES * (size_t)(sources))
 
 /* Bytes of work to lend for a map whose sides are within the limit: ten for each cell. After a success,
- * or refusals 13, 22 and 23, it holds a u32 label for each cell in row order, 0 for a blocked one and
+ * or refusals 13, 22, 23 and 31, it holds a u32 label for each cell in row order, 0 for a blocked one and
  * else its region's number from 1, then zeros; bytes past this number are unchanged. */
 #define CHOKES_WORK_BYTES(width, height) ((size_t)10 * (size_t)(width) * (size_t)(height))
 
@@ -133,6 +136,11 @@ struct chokes_result {
      (size_t)CHOKES_OBSERVATION_BYTES * ((size_t)(observations) + (size_t)(boundaries)) +      \
      (size_t)CHOKES_SOURCE_BYTES * 2 * (size_t)(sources))
 
+/* Bytes of cards that are enough for any job of these sides, each within its limit: every area has a
+ * cell. Most jobs have few areas; refusal 31 says how many bytes their cards take. */
+#define CHOKES_CARDS_BYTES(width, height)                                                      \
+    ((size_t)CHOKES_CARD_BYTES * (size_t)(width) * (size_t)(height))
+
 /* Enough for any job. */
 #define CHOKES_MOST_JOB_BYTES                                                                  \
     CHOKES_JOB_BYTES(CHOKES_MOST_SIDE, CHOKES_MOST_SIDE, CHOKES_MOST_BASES,                    \
@@ -140,6 +148,7 @@ struct chokes_result {
 #define CHOKES_MOST_WORK_BYTES CHOKES_WORK_BYTES(CHOKES_MOST_SIDE, CHOKES_MOST_SIDE)
 #define CHOKES_MOST_ANSWER_BYTES                                                               \
     CHOKES_ANSWER_BYTES(CHOKES_MOST_BOUNDARIES, CHOKES_MOST_OBSERVATIONS, CHOKES_MOST_SOURCES)
+#define CHOKES_MOST_CARDS_BYTES CHOKES_CARDS_BYTES(CHOKES_MOST_SIDE, CHOKES_MOST_SIDE)
 
 /* Mark: a byte for each boundary of the job, 1 if it is a bridge, else 0. The map is parted by the
  * boundaries' own ends. Bytes of the slice past the last boundary's are unchanged. */
@@ -158,6 +167,13 @@ struct chokes_result chokes_reduce_by_list(const uint8_t *job, size_t job_length
                                            const uint8_t *list, size_t list_length, uint8_t *work,
                                            size_t work_length, uint8_t *answer,
                                            size_t answer_length);
+
+/* Area cards: for each area of the job, by label, ten u32: cells; least column and row, greatest column
+ * and row, in pixels; 1 or 0 for a ramp; cells of each of the four elevations. The map is parted by the
+ * boundaries' own ends. Success: the bytes written, 40 for each area; bytes of the slice past those are
+ * unchanged. */
+struct chokes_result chokes_area_cards(const uint8_t *job, size_t job_length, uint8_t *work,
+                                       size_t work_length, uint8_t *cards, size_t cards_length);
 
 #ifdef __cplusplus
 }

@@ -128,6 +128,43 @@ struct chokes_result mark(const struct run *run, uint8_t *marks)
     return result;
 }
 
+/* A job of the same map whose boundaries are the spans of the list: it is parted as the list parts the map. */
+static struct bytes job_of_spans(const struct run *run)
+{
+    const uint32_t cells = run->job.count[CELLS], spans = span_count(run);
+    const uint32_t first = CHOKES_JOB_HEADER_BYTES + cells, total = first + CHOKES_BOUNDARY_BYTES * spans;
+    const uint32_t header[12] = {run->job.width, run->job.height, 0, spans, 0, 0,
+                                 CHOKES_JOB_HEADER_BYTES, first, first, total, total, total};
+    struct bytes job;
+    uint32_t i;
+    job.length = total;
+    job.at = room(total);
+    for (i = 0; i < 12; i++) {
+        put_word(job.at, 4 * (size_t)i, header[i]);
+    }
+    memcpy(job.at + CHOKES_JOB_HEADER_BYTES, run->input.at + CHOKES_JOB_HEADER_BYTES, cells);
+    for (i = 0; i < spans; i++) {
+        memcpy(job.at + first + CHOKES_BOUNDARY_BYTES * (size_t)i, span_at(run, i), CHOKES_SPAN_BYTES);
+    }
+    return job;
+}
+
+struct chokes_result area_cards(const struct run *run, struct bytes *cards)
+{
+    size_t lent = work_bytes(&run->job);
+    uint8_t *work = room(lent);
+    struct bytes job = run->by_list ? job_of_spans(run) : run->input;
+    struct chokes_result result;
+    cards->length = CHOKES_CARD_BYTES * (size_t)run->areas;
+    cards->at = room(cards->length);
+    result = chokes_area_cards(job.at, job.length, work, lent, cards->at, cards->length);
+    free(work);
+    if (run->by_list) {
+        free(job.at);
+    }
+    return result;
+}
+
 static void read_labels(struct run *run)
 {
     uint32_t i, cells = run->job.count[CELLS];

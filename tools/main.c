@@ -9,7 +9,8 @@ static const char help[] =
     "\n"
     "  chokes list JOB [SPANS]      the kept boundaries, as choke-list prints them\n"
     "  chokes marks JOB             a line 'm MARK AX AY BX BY' for each boundary, MARK 1 for a bridge\n"
-    "  chokes areas JOB [SPANS]     a line 'a LABEL CELLS LEFT TOP RIGHT BOTTOM' for each area, the box in cells\n"
+    "  chokes areas JOB [SPANS]     a line 'a LABEL CELLS LEFT TOP RIGHT BOTTOM RAMP E0 E1 E2 E3' for each area: the box in\n"
+    "                               cells, RAMP 1 if a cell is a ramp, and how many cells have elevation 0, 1, 2 and 3\n"
     "  chokes explain JOB [SPANS]   accepted, with the counts; or what is wrong, where, and what is allowed\n"
     "  chokes view JOB [SPANS]      a page (HTML) with the map; write it to a file and open that in a browser\n"
     "  chokes draw MAP JOB          makes a job of a text drawing\n"
@@ -63,11 +64,18 @@ static int marks(struct text *text, const struct run *run)
 
 static int areas(struct text *text, const struct run *run)
 {
-    if (run->result.number != CHOKES_OK) {
-        return say_refusal(text, run->result);
+    struct bytes made = {NULL, 0};
+    struct chokes_result result = run->result;
+    if (result.number == CHOKES_OK) {
+        result = area_cards(run, &made);
     }
-    print_areas(text, run);
-    return ACCEPTED;
+    if (result.number == CHOKES_OK) {
+        print_areas(text, &made);
+    } else {
+        say_refusal(text, result);
+    }
+    free(made.at);
+    return result.number == CHOKES_OK ? ACCEPTED : REFUSED;
 }
 
 /* Runs a command on its inputs. */

@@ -71,15 +71,19 @@ struct area *measure_areas(const struct run *run)
     return areas;
 }
 
-void print_areas(struct text *text, const struct run *run)
+void print_areas(struct text *text, const struct bytes *cards)
 {
-    struct area *areas = measure_areas(run);
-    uint32_t label;
-    say(text, "areas %" PRIu32 "\n", run->areas);
-    for (label = 1; label <= run->areas; label++) {
-        const struct area *a = &areas[label];
-        say(text, "a %" PRIu32 " %" PRIu32 " %" PRIu32 " %" PRIu32 " %" PRIu32 " %" PRIu32 "\n",
-            label, a->cells, a->left, a->top, a->right, a->bottom);
+    size_t label, count = cards->length / CHOKES_CARD_BYTES, i;
+    say(text, "areas %lu\n", (unsigned long)count);
+    for (label = 1; label <= count; label++) {
+        const uint8_t *card = cards->at + CHOKES_CARD_BYTES * (label - 1);
+        /* A card's box ends at the far edge of its last cell. */
+        say(text, "a %lu %" PRIu32 " %" PRIu32 " %" PRIu32 " %" PRIu32 " %" PRIu32, (unsigned long)label,
+            word(card, 0), word(card, 4) / CELL_PIXELS, word(card, 8) / CELL_PIXELS,
+            word(card, 12) / CELL_PIXELS - 1, word(card, 16) / CELL_PIXELS - 1);
+        for (i = 20; i < CHOKES_CARD_BYTES; i += 4) {
+            say(text, " %" PRIu32, word(card, i));
+        }
+        say(text, "\n");
     }
-    free(areas);
 }

@@ -101,6 +101,8 @@ void make_run(struct run *run);
 struct chokes_result reduce(const struct run *run, const struct bytes *job, struct bytes *answer);
 /* Mark: its result, with a byte for each boundary in marks[MOST_BOUNDARIES]. */
 struct chokes_result mark(const struct run *run, uint8_t *marks);
+/* Area cards of the map as the run parts it, which was accepted: its result and the cards, to be freed. */
+struct chokes_result area_cards(const struct run *run, struct bytes *cards);
 void end_run(struct run *run);
 
 /* answer.c: the answer's records in their order. */
@@ -119,7 +121,8 @@ int next_kept(struct reader *reader, struct kept *kept);
 /* print.c */
 void print_list(struct text *text, const uint8_t *answer);
 void print_marks(struct text *text, const struct run *run, const uint8_t *marks, uint32_t count);
-void print_areas(struct text *text, const struct run *run);
+/* A line for each card. */
+void print_areas(struct text *text, const struct bytes *cards);
 
 struct area {
     uint32_t cells, left, top, right, bottom;

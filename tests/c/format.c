@@ -29,9 +29,9 @@ struct bytes {
     uint8_t at[ROOM];
 };
 
-/* The five dumps, by the word after 'hex'. */
-enum { JOB, ANSWER, WORK, MARKS, LIST, DUMPS };
-static const char *const dump_names[DUMPS] = {"job", "answer", "work", "marks", "list"};
+/* The dumps, by the word after 'hex'. */
+enum { JOB, ANSWER, WORK, MARKS, CARDS, LIST, DUMPS };
+static const char *const dump_names[DUMPS] = {"job", "answer", "work", "marks", "cards", "list"};
 static struct bytes dumps[DUMPS];
 static int dump_seen[DUMPS];
 
@@ -50,19 +50,21 @@ static const struct {
     REFUSAL(CHOKES_TOO_MANY_PAIRS),    REFUSAL(CHOKES_BAD_LIST_LENGTH),
     REFUSAL(CHOKES_TOO_MANY_SPANS),    REFUSAL(CHOKES_SPAN_OFF_MAP),
     REFUSAL(CHOKES_SPAN_ENDS_COINCIDE), REFUSAL(CHOKES_WORK_TOO_SHORT),
-    REFUSAL(CHOKES_ANSWER_TOO_SHORT),  REFUSAL(CHOKES_MARKS_TOO_SHORT)};
+    REFUSAL(CHOKES_ANSWER_TOO_SHORT),  REFUSAL(CHOKES_MARKS_TOO_SHORT),
+    REFUSAL(CHOKES_SLICE_TOO_SHORT)};
 #define REFUSALS (sizeof refusals / sizeof refusals[0])
 static int row_seen[REFUSALS];
 
-enum { MARK, REDUCE, BY_LIST, CALLS };
+enum { MARK, REDUCE, BY_LIST, AREA_CARDS, CALLS };
+#define NUMBERS 32
 /* What the table has for each refusal: the place in the order of each call, 0 if there is none, and whether work then
  * holds labels. */
 static unsigned long places[REFUSALS][CALLS];
 static int labels_then[REFUSALS];
 static int order_seen[CALLS];
-static const char *const call_names[CALLS] = {"mark", "reduce", "by-list"};
+static const char *const call_names[CALLS] = {"mark", "reduce", "by-list", "cards"};
 /* Which numbers each call gave in the trials. */
-static unsigned long given[CALLS][24];
+static unsigned long given[CALLS][NUMBERS];
 static unsigned long trials, pairs;
 
 /* Lines of single faults. */
@@ -176,7 +178,7 @@ static void row_columns(const char *row, size_t i)
             }
         }
     }
-    column(row, 8, text, sizeof text);
+    column(row, 5 + CALLS, text, sizeof text);
     labels_then[i] = strcmp(text, "labels") == 0;
     if (!labels_then[i] && strcmp(text, "unchanged") != 0) {
         fail("neither labels nor unchanged");
@@ -214,7 +216,7 @@ static void table_row(char *line)
 /* Rows of the order of tests: | call | numbers |, those in brackets at one place. They are those of the table. */
 static void order_row(char *line)
 {
-    static const char *const rows[CALLS] = {"| Mark | 1 ", "| Reduce | 1 ", "| Reduce by list | 1 "};
+    static const char *const rows[CALLS] = {"| Mark | 1 ", "| Reduce | 1 ", "| Reduce by list | 1 ", "| Area cards | 1 "};
     unsigned long place = 0, tests = 0;
     size_t i;
     int call = 0, bracket = 0;
@@ -248,7 +250,7 @@ static void order_row(char *line)
 /* The slices of a trial: those that are read, and the lengths of those that are written. */
 struct trial {
     struct bytes job, list;
-    unsigned long work, answer, marks;
+    unsigned long work, answer, marks, cards;
 };
 
 static void set_length(struct bytes *bytes, unsigned long length)
@@ -315,6 +317,9 @@ static char *read_changes(char *text, struct trial *trial)
         } else if (strncmp(text, "marks", 5) == 0) {
             length = &trial->marks;
             text += 5;
+        } else if (strncmp(text, "cards", 5) == 0) {
+            length = &trial->cards;
+            text += 5;
         } else {
             fail("no line of a trial");
         }
@@ -367,7 +372,7 @@ static void labelled(const uint8_t *work, const uint8_t *job, size_t cells)
 static void run(int call, const struct trial *trial, unsigned long expected, unsigned long detail)
 {
     static uint8_t work[ROOM], out[ROOM];
-    const size_t out_length = call == MARK ? trial->marks : trial->answer;
+    const size_t out_length = call == MARK ? trial->marks : call == AREA_CARDS ? trial->cards : trial->answer;
     struct chokes_result said;
     memset(work, UNTOUCHED, sizeof work);
     memset(out, UNTOUCHED, sizeof out);
@@ -375,6 +380,8 @@ static void run(int call, const struct trial *trial, unsigned long expected, uns
         said = chokes_mark(trial->job.at, trial->job.length, work, trial->work, out, out_length);
     } else if (call == REDUCE) {
         said = chokes_reduce(trial->job.at, trial->job.length, work, trial->work, out, out_length);
+    } else if (call == AREA_CARDS) {
+        said = chokes_area_cards(trial->job.at, trial->job.length, work, trial->work, out, out_length);
     } else {
         said = chokes_reduce_by_list(trial->job.at, trial->job.length, trial->list.at, trial->list.length, work,
                                      trial->work, out, out_length);
@@ -390,8 +397,8 @@ static void run(int call, const struct trial *trial, unsigned long expected, uns
     } else {
         untouched(work, 0, sizeof work, "work is changed");
     }
-    untouched(out, said.number == CHOKES_OK ? (size_t)said.detail : 0, sizeof out, "answer or marks are changed");
-    if (said.number < 24) {
+    untouched(out, said.number == CHOKES_OK ? (size_t)said.detail : 0, sizeof out, "answer, marks or cards are changed");
+    if (said.number < NUMBERS) {
         given[call][said.number]++;
     }
 }
@@ -404,6 +411,7 @@ static void start(struct trial *trial)
     trial->work = (unsigned long)CHOKES_WORK_BYTES(4, 1);
     trial->answer = (unsigned long)dumps[ANSWER].length;
     trial->marks = (unsigned long)dumps[MARKS].length;
+    trial->cards = (unsigned long)dumps[CARDS].length;
 }
 
 /* Whether a line is for the call. */
@@ -612,7 +620,7 @@ static void own_ends(uint8_t *list)
 /* The dumps against the file and the calls. */
 static void compare(const char *name)
 {
-    static uint8_t bytes[ROOM], work[ROOM], marks[ROOM];
+    static uint8_t bytes[ROOM], work[ROOM], marks[ROOM], cards[ROOM];
     struct chokes_result said;
     FILE *file = fopen(name, "rb");
     size_t length;
@@ -647,6 +655,13 @@ static void compare(const char *name)
     }
     same("Mark's marks", marks, (size_t)said.detail, MARKS);
     same("Mark's work", work, CHOKES_WORK_BYTES(4, 1), WORK);
+    memset(work, UNTOUCHED, sizeof work);
+    said = chokes_area_cards(dumps[JOB].at, dumps[JOB].length, work, CHOKES_WORK_BYTES(4, 1), cards, sizeof cards);
+    if (said.number != CHOKES_OK) {
+        fail("Area cards refuses the job of the dump");
+    }
+    same("Area cards' cards", cards, (size_t)said.detail, CARDS);
+    same("Area cards' work", work, CHOKES_WORK_BYTES(4, 1), WORK);
 }
 
 /* That every number that the table has for a call was given by an example of it, and no other; but for 13, which the

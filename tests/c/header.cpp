@@ -1,4 +1,4 @@
-// chokes.h from C++: the constants at compile time, and the three calls on the corridor, which the program reads.
+// chokes.h from C++: the constants at compile time, and the four calls on the corridor, which the program reads.
 #include "chokes.h"
 
 #include <cstdio>
@@ -13,6 +13,7 @@ static_assert(sizeof(chokes_result::number) == 4 && sizeof(chokes_result::detail
 static_assert(CHOKES_JOB_BYTES(4, 1, 0, 2, 0, 2) == 148, "the corridor's length");
 static_assert(CHOKES_MOST_JOB_BYTES == 1123376 && CHOKES_MOST_WORK_BYTES == 10485760 && CHOKES_MOST_ANSWER_BYTES == 111640,
               "the lengths that docs/FORMAT.md names");
+static_assert(CHOKES_CARDS_BYTES(4, 1) == 160 && CHOKES_MOST_CARDS_BYTES == 41943040, "the lengths of cards");
 static_assert(CHOKES_CELL_ELEVATION(0x1f) == 3 && CHOKES_CELL_ELEVATION(0x07) == 0, "bits 3 and 4 of a cell");
 
 int main(int argc, char **argv)
@@ -38,10 +39,14 @@ int main(int argc, char **argv)
                                                        work.size(), again.data(), again.size());
     const chokes_result marked =
         chokes_mark(job.data(), job.size(), work.data(), work.size(), marks.data(), marks.size());
+    std::vector<std::uint8_t> cards(CHOKES_CARDS_BYTES(4, 1));
+    const chokes_result carded =
+        chokes_area_cards(job.data(), job.size(), work.data(), work.size(), cards.data(), cards.size());
     const chokes_result refused = chokes_reduce(job.data(), job.size(), work.data(), work.size(), nullptr, 0);
     if (reduced.number != CHOKES_OK || reduced.detail != 152 || answer[0] != 1 || listed.number != CHOKES_OK ||
         again != answer || marked.number != CHOKES_OK || marked.detail != 2 ||
-        marks != std::vector<std::uint8_t>{1, 1} || refused.number != CHOKES_ANSWER_TOO_SHORT || refused.detail != 152) {
+        marks != std::vector<std::uint8_t>{1, 1} || carded.number != CHOKES_OK || carded.detail != 120 || cards[80] != 2 ||
+        refused.number != CHOKES_ANSWER_TOO_SHORT || refused.detail != 152) {
         std::printf("other results from C++\n");
         return 1;
     }

@@ -3,8 +3,8 @@
  *
  *   lengths [JOBS]
  *
- * The answer slice has just the length that the macro gives, so that 22 is a fault. The lengths of work and of the job are
- * the macros' too. */
+ * The answer slice has just the length that the macro gives, so that 22 is a fault. The lengths of work, of cards and of the
+ * job are the macros' too. */
 #include "chokes.h"
 #include "words.h"
 
@@ -31,8 +31,8 @@ static struct {
     uint32_t seen_sources[CHOKES_MOST_OBSERVATIONS];
 } drawn;
 
-static uint8_t *job, *list, *work, *answer;
-static unsigned long merged_jobs, answers, gained_sources, gained_observations;
+static uint8_t *job, *list, *work, *answer, *cards;
+static unsigned long merged_jobs, answers, gained_sources, gained_observations, written_cards;
 
 /* At most `most` more sources, by a limit for the whole job. */
 static uint32_t some_sources(uint32_t most)
@@ -169,12 +169,32 @@ static void one(unsigned long number, size_t length, int by_list, uint32_t spans
     gained_sources += word(answer, 8) > drawn.sources;
 }
 
+/* Area cards with just the length that its macro gives: every cell is on a card. */
+static void cards_of(unsigned long number, size_t length)
+{
+    const size_t enough = CHOKES_WORK_BYTES(drawn.width, drawn.height);
+    const size_t most = CHOKES_CARDS_BYTES(drawn.width, drawn.height);
+    const struct chokes_result said = chokes_area_cards(job, length, work, enough, cards, most);
+    size_t at, cells = 0;
+    if (said.number != CHOKES_OK || said.detail > most || said.detail % CHOKES_CARD_BYTES != 0) {
+        fail("no cards within CHOKES_CARDS_BYTES", number);
+    }
+    for (at = 0; at < said.detail; at += CHOKES_CARD_BYTES) {
+        cells += word(cards, at);
+    }
+    if (cells != (size_t)drawn.width * drawn.height) {
+        fail("the cards have other cells than the map", number);
+    }
+    written_cards += (unsigned long)(said.detail / CHOKES_CARD_BYTES);
+}
+
 /* That the macro is 24 + 40 B + 28 (O + B) + 16 S, as docs/FORMAT.md and tests/driver/whole.rs have it: with none, and with
  * one of each. */
 static void as_written(void)
 {
     if (CHOKES_ANSWER_BYTES(0, 0, 0) != 24 || CHOKES_ANSWER_BYTES(1, 0, 0) != 24 + 40 + 28 ||
         CHOKES_ANSWER_BYTES(0, 1, 0) != 24 + 28 || CHOKES_ANSWER_BYTES(0, 0, 1) != 24 + 16 ||
+        CHOKES_CARDS_BYTES(2, 3) != 240 || CHOKES_MOST_CARDS_BYTES != 41943040 ||
         CHOKES_MOST_ANSWER_BYTES != 111640 || CHOKES_MOST_WORK_BYTES != 10485760 || CHOKES_MOST_JOB_BYTES != 1123376) {
         printf("lengths: a macro of chokes.h gives another length than docs/FORMAT.md\n");
         exit(1);
@@ -189,7 +209,8 @@ int main(int argc, char **argv)
     list = malloc((size_t)CHOKES_MOST_SPANS * CHOKES_SPAN_BYTES);
     work = malloc(CHOKES_MOST_WORK_BYTES);
     answer = malloc(CHOKES_MOST_ANSWER_BYTES);
-    if (job == NULL || list == NULL || work == NULL || answer == NULL) {
+    cards = malloc(CHOKES_MOST_CARDS_BYTES);
+    if (job == NULL || list == NULL || work == NULL || answer == NULL || cards == NULL) {
         printf("lengths: no memory\n");
         return 1;
     }
@@ -205,6 +226,7 @@ int main(int argc, char **argv)
         one(number, length, 0, 0);
         one(number, length, 1, drawn.boundaries);
         one(number, length, 1, below(drawn.boundaries + 1));
+        cards_of(number, length);
         if (drawn.boundaries == CHOKES_MOST_BOUNDARIES) {
             largest++;
         }
@@ -213,9 +235,10 @@ int main(int argc, char **argv)
     free(list);
     free(work);
     free(answer);
+    free(cards);
     printf("%lu answers within CHOKES_ANSWER_BYTES: %lu merged, %lu with more sources than came in, %lu with more "
-           "observations; %lu jobs of 256 boundaries\n",
-           answers, merged_jobs, gained_sources, gained_observations, largest);
+           "observations; %lu jobs of 256 boundaries; %lu cards within CHOKES_CARDS_BYTES\n",
+           answers, merged_jobs, gained_sources, gained_observations, largest, written_cards);
     if (largest == 0 || gained_sources == 0 || gained_observations == 0 || merged_jobs == 0) {
         printf("lengths: failed, none of one kind\n");
         return 1;

@@ -8,6 +8,7 @@
 #define CELLS 4
 #define JOB_BYTES 148
 #define ANSWER_BYTES 152
+#define CARDS_BYTES (3 * (size_t)CHOKES_CARD_BYTES)
 
 static int failures;
 
@@ -69,6 +70,91 @@ static void corridor_answer(uint8_t *answer)
     put_words(answer, 0, words, ANSWER_BYTES / 4);
 }
 
+/* Its cards: the last area has two cells. */
+static void corridor_cards(uint8_t *cards)
+{
+    static const uint32_t words[30] = {1, 0,  0, 8,  8, 0, 1, 0, 0, 0,
+                                       1, 8,  0, 16, 8, 0, 1, 0, 0, 0,
+                                       2, 16, 0, 32, 8, 0, 2, 0, 0, 0};
+    put_words(cards, 0, words, 30);
+}
+
+/* Area cards of the corridor, of maps with ramps and elevations, and of one without an area. */
+static void area_cards(void)
+{
+    static const uint8_t labels[CELLS * 4] = {1, 0, 0, 0, 2, 0, 0, 0, 3, 0, 0, 0, 3};
+    static const uint8_t zeros[CELLS * 6] = {0};
+    /* Two rows: a ramp of elevation 1, one of 2, a blocked ramp of 3, one of 3; below it blocked, 0, 3, a ramp of 3. */
+    static const uint32_t header[12] = {4, 2, 0, 0, 0, 0, 48, 56, 56, 56, 56, 56};
+    static const uint8_t levels[8] = {0x0d, 0x11, 0x1c, 0x19, 0x1e, 0x03, 0x19, 0x1d};
+    static const uint32_t levelled[10] = {6, 0, 0, 32, 16, 1, 1, 1, 1, 3};
+    static const uint8_t flat[8] = {0x1c, 0x00, 0x01, 0x01, 0x06, 0x00, 0x01, 0x03};
+    static const uint32_t flattened[10] = {4, 16, 0, 32, 16, 0, 4, 0, 0, 0};
+    uint8_t job[JOB_BYTES], map[56], work[CHOKES_WORK_BYTES(CELLS, 2) + 1], before[sizeof work];
+    uint8_t cards[CARDS_BYTES + 7], expected[CARDS_BYTES + 7], untouched[CARDS_BYTES + 7];
+    const size_t enough = CHOKES_WORK_BYTES(CELLS, 1), both = CHOKES_WORK_BYTES(CELLS, 2);
+
+    corridor(job);
+    memset(work, 0xA5, sizeof work);
+    memcpy(before, work, sizeof work);
+    memset(cards, 0xA5, sizeof cards);
+    memcpy(untouched, cards, sizeof cards);
+    memcpy(expected, cards, sizeof cards);
+    corridor_cards(expected);
+
+    expect("cards, work one byte short", chokes_area_cards(job, sizeof job, work, enough - 1, cards, sizeof cards),
+           CHOKES_WORK_TOO_SHORT, 0);
+    expect("cards, 21 before 31", chokes_area_cards(job, sizeof job, work, enough - 1, cards, 0), CHOKES_WORK_TOO_SHORT, 0);
+    expect_bytes("work that is too short for cards", work, before, sizeof work);
+    expect("no bytes for cards", chokes_area_cards(job, sizeof job, work, enough, cards, 0), CHOKES_SLICE_TOO_SHORT, 120);
+    memcpy(work, before, sizeof work);
+    expect("cards one byte short", chokes_area_cards(job, sizeof job, work, sizeof work, cards, CARDS_BYTES - 1),
+           CHOKES_SLICE_TOO_SHORT, CARDS_BYTES);
+    expect_bytes("labels after 31", work, labels, sizeof labels);
+    expect_bytes("zeros after 31", work + sizeof labels, zeros, sizeof zeros);
+    expect_bytes("work past ten bytes a cell after 31", work + enough, before + enough, sizeof work - enough);
+    expect_bytes("cards after 31", cards, untouched, sizeof cards);
+
+    memcpy(work, before, sizeof work);
+    expect("cards", chokes_area_cards(job, sizeof job, work, sizeof work, cards, sizeof cards), CHOKES_OK, CARDS_BYTES);
+    expect_bytes("the corridor's three cards, and what follows them", cards, expected, sizeof cards);
+    expect_bytes("labels after cards", work, labels, sizeof labels);
+    expect_bytes("zeros after cards", work + sizeof labels, zeros, sizeof zeros);
+    expect_bytes("work past ten bytes a cell after cards", work + enough, before + enough, sizeof work - enough);
+    memcpy(cards, untouched, sizeof cards);
+    expect("cards in just their length", chokes_area_cards(job, sizeof job, work, enough, cards, CARDS_BYTES), CHOKES_OK,
+           CARDS_BYTES);
+    expect_bytes("those cards, and what follows them", cards, expected, sizeof cards);
+
+    put_words(map, 0, header, 12);
+    memcpy(map + 48, levels, sizeof levels);
+    memcpy(cards, untouched, sizeof cards);
+    memcpy(expected, untouched, sizeof expected);
+    put_words(expected, 0, levelled, 10);
+    expect("cards of ramps and elevations", chokes_area_cards(map, sizeof map, work, both, cards, sizeof cards), CHOKES_OK,
+           CHOKES_CARD_BYTES);
+    expect_bytes("a card of every elevation", cards, expected, sizeof cards);
+    memcpy(map + 48, flat, sizeof flat);
+    memcpy(cards, untouched, sizeof cards);
+    put_words(expected, 0, flattened, 10);
+    expect("cards beside blocked ramps", chokes_area_cards(map, sizeof map, work, both, cards, sizeof cards), CHOKES_OK,
+           CHOKES_CARD_BYTES);
+    expect_bytes("a card without the blocked cells", cards, expected, sizeof cards);
+    memset(map + 48, 0x1e, 8);
+    memcpy(cards, untouched, sizeof cards);
+    expect("cards of a map that is blocked", chokes_area_cards(map, sizeof map, work, both, cards, sizeof cards), CHOKES_OK, 0);
+    expect("those in no bytes", chokes_area_cards(map, sizeof map, work, both, NULL, 0), CHOKES_OK, 0);
+    expect_bytes("no card", cards, untouched, sizeof cards);
+
+    memcpy(work, before, sizeof work);
+    memcpy(job + 60, job + 52, 8);
+    expect("cards, coincident ends", chokes_area_cards(job, sizeof job, work, enough, cards, 0), CHOKES_ENDS_COINCIDE, 0);
+    job[49] = 0x20;
+    expect("cards, a bad cell", chokes_area_cards(job, sizeof job, work, enough, cards, 0), CHOKES_BAD_CELL, 1);
+    expect_bytes("refusals leave work as it is", work, before, sizeof work);
+    expect_bytes("and the cards", cards, untouched, sizeof cards);
+}
+
 /* Every slice may be NULL with length 0. */
 static void without_start(void)
 {
@@ -88,6 +174,7 @@ static void without_start(void)
     expect("Reduce, nothing at all", chokes_reduce(NULL, 0, NULL, 0, NULL, 0), CHOKES_JOB_TOO_SHORT, 0);
     expect("Reduce by list, nothing at all", chokes_reduce_by_list(NULL, 0, NULL, 0, NULL, 0, NULL, 0),
            CHOKES_JOB_TOO_SHORT, 0);
+    expect("Area cards, nothing at all", chokes_area_cards(NULL, 0, NULL, 0, NULL, 0), CHOKES_JOB_TOO_SHORT, 0);
     expect("no job", chokes_reduce(NULL, 0, work, enough, answer, sizeof answer), CHOKES_JOB_TOO_SHORT, 0);
 
     expect("Mark, no work", chokes_mark(job, sizeof job, NULL, 0, NULL, 0), CHOKES_WORK_TOO_SHORT, 0);
@@ -95,6 +182,9 @@ static void without_start(void)
     expect("Reduce by list, no work", chokes_reduce_by_list(job, sizeof job, NULL, 0, NULL, 0, NULL, 0),
            CHOKES_WORK_TOO_SHORT, 0);
 
+    expect("Area cards, no work", chokes_area_cards(job, sizeof job, NULL, 0, NULL, 0), CHOKES_WORK_TOO_SHORT, 0);
+
+    expect("no cards", chokes_area_cards(job, sizeof job, work, enough, NULL, 0), CHOKES_SLICE_TOO_SHORT, CARDS_BYTES);
     expect("no answer", chokes_reduce(job, sizeof job, work, enough, NULL, 0), CHOKES_ANSWER_TOO_SHORT,
            ANSWER_BYTES);
     expect("no answer for no boundary", chokes_reduce(bare, sizeof bare, work, enough, NULL, 0),
@@ -127,12 +217,13 @@ static void without_start(void)
 static void not_aligned(void)
 {
     static const uint8_t both[2] = {1, 1};
-    static uint8_t job[JOB_BYTES + 8], list[2 * CHOKES_SPAN_BYTES + 8], marks[2 + 8];
-    static uint8_t work[CHOKES_WORK_BYTES(CELLS, 1) + 8], answer[ANSWER_BYTES + 8], expected[ANSWER_BYTES];
+    static uint8_t job[JOB_BYTES + 8], list[2 * CHOKES_SPAN_BYTES + 8], marks[2 + 8], cards[CARDS_BYTES + 8];
+    static uint8_t work[CHOKES_WORK_BYTES(CELLS, 1) + 8], answer[ANSWER_BYTES + 8], expected[ANSWER_BYTES], three[CARDS_BYTES];
     const size_t enough = CHOKES_WORK_BYTES(CELLS, 1);
     size_t at;
 
     corridor_answer(expected);
+    corridor_cards(three);
     for (at = 0; at < 8; at++) {
         corridor(job + at);
         memcpy(list + at, job + at + 52, CHOKES_SPAN_BYTES);
@@ -152,6 +243,10 @@ static void not_aligned(void)
         expect("Mark, not aligned", chokes_mark(job + at, JOB_BYTES, work + at, enough, marks + at, 2),
                CHOKES_OK, 2);
         expect_bytes("its marks", marks + at, both, sizeof both);
+        memset(cards, 0xA5, sizeof cards);
+        expect("Area cards, not aligned",
+               chokes_area_cards(job + at, JOB_BYTES, work + at, enough, cards + at, CARDS_BYTES), CHOKES_OK, CARDS_BYTES);
+        expect_bytes("its cards", cards + at, three, sizeof three);
     }
 }
 
@@ -190,21 +285,27 @@ static void too_many_pairs(void)
     }
     memset(out, 0xA5, sizeof out);
     memset(untouched, 0xA5, sizeof untouched);
-    for (i = 0; i < 3; i++) {
+    for (i = 0; i < 4; i++) {
         struct chokes_result said;
         memset(work, 0xA5, sizeof work);
         if (i == 0) {
             said = chokes_mark(job, sizeof job, work, sizeof work, out, sizeof out);
         } else if (i == 1) {
             said = chokes_reduce(job, sizeof job, work, sizeof work, out, sizeof out);
-        } else {
+        } else if (i == 2) {
             said = chokes_reduce_by_list(job, sizeof job, list, sizeof list, work, sizeof work, out, sizeof out);
+        } else {
+            /* Too few bytes for its 4,369 cards, which comes after 13. */
+            said = chokes_area_cards(job, sizeof job, work, sizeof work, out, sizeof out);
         }
         expect("over 4,096 region pairs", said, CHOKES_TOO_MANY_PAIRS, 0);
         expect_bytes("labels after 13, zeros, and work past them", work, expected, sizeof expected);
-        expect_bytes("answer and marks after 13", out, untouched, sizeof out);
+        expect_bytes("answer, marks and cards after 13", out, untouched, sizeof out);
     }
-    /* 13 comes after 21, and before 22 and 23. */
+    /* 13 comes after 21, and before 22, 23 and 31. */
+    expect("13 before 31", chokes_area_cards(job, sizeof job, work, sizeof work, out, 0), CHOKES_TOO_MANY_PAIRS, 0);
+    expect("21 before 13 in Area cards", chokes_area_cards(job, sizeof job, work, sizeof work - 4, out, sizeof out),
+           CHOKES_WORK_TOO_SHORT, 0);
     expect("13 before 23", chokes_mark(job, sizeof job, work, sizeof work, out, 0), CHOKES_TOO_MANY_PAIRS, 0);
     expect("13 before 22", chokes_reduce(job, sizeof job, work, sizeof work, out, 0), CHOKES_TOO_MANY_PAIRS, 0);
     expect("13 before 22, by list",
@@ -300,6 +401,7 @@ int main(void)
     expect_bytes("refusals leave work as it is", work, before, sizeof work);
     expect_bytes("and the answer", answer, expected, sizeof expected);
 
+    area_cards();
     without_start();
     not_aligned();
     too_many_pairs();

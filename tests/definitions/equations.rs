@@ -2,14 +2,14 @@
 //! what the Rust gave.
 
 use oracle::api::{
-    self, Context, PixelPosition, RampBoundary, RampSide, TopologyBase, TopologyBoundary,
+    self, Context, PixelPosition, RampBoundary, RampSide, Region, TopologyBase, TopologyBoundary,
     TopologyObservation, WalkPosition,
 };
 
 /// The names that the equations compute with, and short ones for values.
 const HEAD: &str = "\
 use mathlib.Core.Path.{_≡_, refl}
-use mathlib.Core.List.{List, [], _∷_}
+use mathlib.Core.List.{List, [], _∷_, flatMap}
 use mathlib.Core.Option.{some}
 use Prim.Native.Nat.{ℕ}
 use lib.Ieee.{neg, add, sub, mul, div, lt, le, ofBits, ofInt, toBits}
@@ -35,7 +35,10 @@ use Rattle.serial_merging.specs.Groups.{allGroups}
 use Rattle.serial_merging.specs.Kept.{membersOf, consolidated, slot, kept}
 use Rattle.serial_merging.specs.Runs.{reduceRun, itemsOf, canonItem, groupsOf, keptOf}
 use Rattle.areas.specs.Areas.{areaLabels}
-use Rattle.results.specs.Rules.{rulesOn, rulesOf}
+use Rattle.results.specs.Rules.{gridOf, rulesOn, rulesOf}
+use Rattle.wire.specs.Bytes.{words, bytes}
+use Rattle.context.specs.RegionStats.{regionStats}
+use Rattle.context.specs.Cards.{cards, cardBytes, cardWords}
 use Rattle.results.specs.Results.{ownEnds, labelsOf, marksOf}
 
 abbrev span : ℕ → ℕ → ℕ → ℕ → Span
@@ -59,6 +62,10 @@ base i x y = record { id = i; anchor = some (record { x = x; y = y }) }
 
 const LABELLING: &str = "areaLabels componentOf count upFrom";
 const MARKING: &str = "marksOf componentOf count upFrom";
+/// Cards are computed of maps of so many cells at the most: of 40 the prover runs out of steps.
+const CARDED: usize = 20;
+/// Of the labels that the equation before has found.
+const CARDING: &str = "cards cardBytes cardWords regionStats words flatMap bytes upFrom";
 const KEEPING: &str = "rulesOn anchorsOf keptOf groupsOf itemsOf canonItem allGroups kept slot \
     consolidated consolidate membersOf observed orItself copiesOf canon canonObservation canonical \
     posLe endsKey spanKey sourceKey sourcesKey observationKey totalKey sort insert sortOnce include \
@@ -100,6 +107,13 @@ fn list<T>(values: impl IntoIterator<Item = T>, write: impl Fn(T) -> String) -> 
 
 fn span([a, b]: [PixelPosition; 2]) -> String {
     format!("(span {} {} {} {})", a.x, a.y, b.x, b.y)
+}
+
+/// The ten words of an area's card.
+fn words(region: &Region) -> Vec<u32> {
+    let numbers = [region.cells as u32].into_iter().chain(region.bounds.map(|edge| edge as u32));
+    let ramp = [u32::from(region.has_ramp)].into_iter();
+    numbers.chain(ramp).chain(region.elevation_counts.map(|count| count as u32)).collect()
 }
 
 fn sources(sources: &[[u32; 2]]) -> String {
@@ -211,7 +225,7 @@ impl Job {
         }
     }
 
-    /// The job and its three equations; how many boundaries the Rust merged away.
+    /// The job and its equations, that of cards if the map is small; how many boundaries the Rust merged away.
     fn equations(&self, k: usize) -> (String, usize) {
         let grid = api::grid(self.width, self.height, &self.cells);
         let own = |b: &TopologyBoundary| {
@@ -238,12 +252,21 @@ impl Job {
         };
         let own_ends = format!("(ownEnds job{k})");
         let marks = (0..spans.len()).map(|i| u8::from(bridges.contains(&i)));
+        let regions: Vec<_> = (1..).map_while(|label| context.region(label)).collect();
+        let cards = list(regions.iter().flat_map(words), |word| word.to_string());
+        let labels = list(partition.labels(), u32::to_string);
+        let carded = equation(
+            "cards",
+            &format!("cards (gridOf job{k}) ({labels}) {}", regions.len()),
+            format!("words ({cards})"),
+            CARDING,
+        );
         let text = [
             job,
             equation(
                 "labels",
                 &format!("labelsOf eight job{k} {own_ends}"),
-                list(partition.labels(), u32::to_string),
+                labels.clone(),
                 LABELLING,
             ),
             equation(
@@ -252,6 +275,7 @@ impl Job {
                 list(marks, |mark| mark.to_string()),
                 MARKING,
             ),
+            if self.cells.len() <= CARDED { carded } else { String::new() },
             equation(
                 "kept",
                 &format!(

@@ -1,15 +1,16 @@
 //! The functions of the proved static libraries. All of them have to be there: tests/libraries fails where one is
 //! missing, and so does linking.
 
-use crate::checks::{Refusal, BY_LIST, MARK};
+use crate::checks::{Refusal, BY_LIST, CARDS, MARK};
 
-/// A call on job, list, work and the slice that it writes, the answer or the marks.
+/// A call on job, list, work and the slice that it writes: the answer, the marks or the cards.
 pub type Whole = fn(&[u8], &[u8], &mut [u8], &mut [u8]) -> Refusal;
 
 pub fn whole(call: u32) -> Whole {
     match call {
         BY_LIST => library::reduce_by_list,
         MARK => library::mark,
+        CARDS => library::area_cards,
         _ => library::reduce,
     }
 }
@@ -107,6 +108,14 @@ mod library {
             answer: Out,
             answer_len: usize,
         ) -> CallResult;
+        fn chokes_area_cards(
+            job: In,
+            job_len: usize,
+            work: Out,
+            work_len: usize,
+            cards: Out,
+            cards_len: usize,
+        ) -> CallResult;
     }
 
     /// A slice as the two arguments that it is passed as.
@@ -159,6 +168,10 @@ mod library {
 
     pub fn reduce_by_list(job: &[u8], list: &[u8], work: &mut [u8], answer: &mut [u8]) -> Refusal {
         call!(chokes_reduce_by_list read job read list write work write answer).pair()
+    }
+
+    pub fn area_cards(job: &[u8], _: &[u8], work: &mut [u8], cards: &mut [u8]) -> Refusal {
+        call!(chokes_area_cards read job write work write cards).pair()
     }
 }
 

@@ -4,6 +4,8 @@
 pub const REDUCE: u32 = 0;
 pub const BY_LIST: u32 = 1;
 pub const MARK: u32 = 2;
+pub const CARDS: u32 = 3;
+pub const CALLS: [u32; 4] = [REDUCE, BY_LIST, MARK, CARDS];
 
 /// Bytes of the header, and of a record of each section.
 pub const HEADER: usize = 48;
@@ -153,6 +155,15 @@ fn job_faults(call: u32, job: &[u8], faults: &mut Faults) {
     }
     let coincide = (call != BY_LIST).then_some(12);
     faults.note_ends(11, coincide, [word(0), word(1)], &boundaries);
+}
+
+/// The walkable cells of a job, as far as there are bytes where the sides place them.
+pub fn walkable(job: &[u8]) -> usize {
+    if job.len() < HEADER {
+        return 0;
+    }
+    let layout = Layout::new(|i| field(job, 4 * i, 4));
+    layout.section(job, 0).iter().filter(|&&cell| cell & 1 == 1).count()
 }
 
 /// The ends of span i: of the job's boundaries where `which` is 0, else of the list. Empty past

@@ -265,7 +265,7 @@ fn sizes(rng: &mut Rng) -> Sizes {
     }
 }
 
-/// A draft of given sides and counts that all three calls accept.
+/// A draft of given sides and counts that all four calls accept.
 pub fn valid(sides: [u32; 2], counts: [usize; 5], rng: &mut Rng) -> Draft {
     let [bases, boundaries, observations, sources, spans] = counts;
     let [width, height] = sides;
@@ -278,7 +278,7 @@ pub fn valid(sides: [u32; 2], counts: [usize; 5], rng: &mut Rng) -> Draft {
     draft
 }
 
-/// A random draft that all three calls accept.
+/// A random draft that all four calls accept.
 pub fn random(rng: &mut Rng) -> Draft {
     let sizes = sizes(rng);
     let counts = [sizes.bases, sizes.boundaries, sizes.observations, sizes.sources, sizes.spans];

@@ -1,10 +1,11 @@
 //! Small families of inputs, each run whole.
 
 use crate::calls;
-use crate::checks::{self, BY_LIST, HEADER, MARK, NONE, REDUCE, SPAN};
-use crate::compare::compare;
+use crate::checks::{self, BY_LIST, CALLS, CARDS, HEADER, MARK, NONE, REDUCE, SPAN};
+use crate::compare::{checked, compare};
 use crate::damage::{damage, REFUSALS};
 use crate::draft::{valid, Draft, Input, Patch, LARGEST_WIDTH, NO_ANCHOR};
+use crate::expect::Expected;
 use crate::memory::Guarded;
 use crate::rng::Rng;
 use crate::run::{hex, Run};
@@ -216,8 +217,9 @@ fn pairs(run: &mut Run, rounds: usize) {
     }
 }
 
-/// Lengths that pass 32 bits: a job that is right in its low 32 bits only, and lists of over
-/// 2^32 spans. The pages are zeros that nothing has to hold.
+/// Lengths that pass 32 bits: a job that is right in its low 32 bits only, lists of over 2^32 spans,
+/// and a slice for cards that is too short in its low 32 bits only. The pages are zeros that nothing
+/// has to hold.
 fn huge(run: &mut Run) {
     let mut rng = run.next_case();
     let input = small(&mut rng).input();
@@ -231,22 +233,31 @@ fn huge(run: &mut Run) {
     long[..input.job.len()].copy_from_slice(&input.job);
     let list = list.last(spans * SPAN + 8);
     let expect = |call: u32, job: &[u8], list: &[u8], refusal: checks::Refusal| {
-        let got = calls::check(call, job, list);
+        let got = checked(call, job, list);
         if got != refusal {
             let lengths = format!("job of {} bytes, list of {}", job.len(), list.len());
             let difference = format!("call {call}, {lengths}: expected {refusal:?}, got {got:?}");
             run.report(&difference, &hex("as it was", &input));
         }
     };
-    for call in [REDUCE, BY_LIST, MARK] {
+    for call in CALLS {
         expect(call, long, &input.list, (5, 0));
         expect(call, &long[..more], &input.list, (5, 0));
         expect(call, &long[..more + HEADER - 1], &input.list, (5, 0));
     }
-    for call in [REDUCE, MARK] {
+    for call in [REDUCE, MARK, CARDS] {
         expect(call, &input.job, list, NONE);
     }
     expect(BY_LIST, &input.job, list, (14, 0));
     expect(BY_LIST, &input.job, &list[8..], (15, spans as u64));
     expect(BY_LIST, &input.job, &list[8 + 3 * SPAN..], (15, 1 << 32));
+
+    let expected = Expected::of(CARDS, &input.job, &[]);
+    let (mut work, cards) = (vec![0; expected.work()], &mut list[..more + 1]);
+    let said = calls::whole(CARDS)(&input.job, &[], &mut work, cards);
+    let length = expected.written.len();
+    if said != (0, length as u64) || cards[..length] != expected.written {
+        let difference = format!("Area cards, a slice of 2^32 + 1 bytes: got {said:?}");
+        run.report(&difference, &hex("as it was", &input));
+    }
 }

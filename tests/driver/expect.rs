@@ -1,6 +1,6 @@
 //! What each call must leave: the paper's checks first, then what the Rust finds.
 
-use crate::checks::{self, Refusal, BY_LIST, MARK, NONE, SPAN};
+use crate::checks::{self, Refusal, BY_LIST, CARDS, MARK, NONE, SPAN};
 use crate::rust::{self, Job};
 use oracle::api::SpanPartition;
 
@@ -8,6 +8,17 @@ use oracle::api::SpanPartition;
 pub const MOST_PAIRS: usize = 4096;
 /// Bytes of work for each cell.
 pub const WORK: usize = 10;
+/// Bytes of a card.
+pub const CARD: usize = 40;
+
+/// The refusal of a slice that is too short for what a call writes, so many bytes.
+pub fn too_short(call: u32, length: usize) -> Refusal {
+    match call {
+        MARK => (23, 0),
+        CARDS => (31, length as u64),
+        _ => (22, length as u64),
+    }
+}
 
 /// What an input settles of a call, whatever slices are lent.
 pub struct Expected {
@@ -16,11 +27,11 @@ pub struct Expected {
     pub cells: usize,
     pub labels: Vec<u32>,
     pub pairs: usize,
-    /// The answer's bytes, or the marks.
+    /// The answer's bytes, the marks, or the cards.
     pub written: Vec<u8>,
 }
 
-/// Result, work and answer or marks at the end of a call.
+/// Result, work and answer, marks or cards at the end of a call.
 #[derive(PartialEq)]
 pub struct Left {
     pub result: Refusal,
@@ -65,6 +76,8 @@ impl Expected {
         } else if call == MARK {
             let bridges = job.bridges(&partition);
             (0..job.boundaries.len()).map(|i| u8::from(bridges.contains(&i))).collect()
+        } else if call == CARDS {
+            job.cards(&partition)
         } else {
             rust::answer(&job.kept(&partition))
         };
@@ -96,11 +109,7 @@ impl Expected {
         if self.pairs > MOST_PAIRS {
             (13, 0)
         } else if out.len() < length {
-            if self.call == MARK {
-                (23, 0)
-            } else {
-                (22, length as u64)
-            }
+            too_short(self.call, length)
         } else {
             out[..length].copy_from_slice(&self.written);
             (0, length as u64)

@@ -9,7 +9,7 @@ use crate::orders::{numbers, Order, ORDERS};
 use crate::rng::Rng;
 use crate::run::Run;
 use crate::tally::Tally;
-use crate::{corridors, merging, partition, records, regions, slanted, whole};
+use crate::{cards, corridors, merging, partition, records, regions, slanted, whole};
 
 /// How many cases of a family are run in a round, and what one is.
 struct Family {
@@ -17,9 +17,9 @@ struct Family {
     case: fn(&mut Run, &mut Rng),
 }
 
-pub const NAMES: [&str; 5] = ["damaged", "maps", "records", "corridors", "slanted"];
+pub const NAMES: [&str; 6] = ["damaged", "maps", "records", "corridors", "slanted", "cards"];
 
-const FAMILIES: [Family; 5] = [
+const FAMILIES: [Family; 6] = [
     // Damaged inputs.
     Family { share: 80, case: |run, rng| run.draft(&damaged(rng), rng, compare) },
     // Maps and spans of many shapes.
@@ -30,6 +30,8 @@ const FAMILIES: [Family; 5] = [
     Family { share: 8, case: |run, rng| run.draft(&corridors::random(rng), rng, merging::compare) },
     // Slanted corridors at the limits of 000.
     Family { share: 4, case: |run, rng| run.draft(&slanted::random(rng), rng, slanted::compare) },
+    // Ramps and elevations of areas.
+    Family { share: 4, case: |run, rng| run.draft(&cards::random(rng), rng, cards::compare) },
 ];
 
 /// Runs a case by its number, where it is of these families.
@@ -108,6 +110,14 @@ pub fn limits(run: &mut Run) {
     for shape in 0..6 {
         let mut rng = run.next_case();
         run.records(&records::shaped(shape, 4096, &mut rng));
+    }
+    for sides in [[1, 1], [1, 1024], [1024, 1024]] {
+        let mut rng = run.next_case();
+        let mut draft = maps::with_spans(sides, Shape::Noise, 4, &mut rng);
+        run.draft(&draft, &mut rng, cards::compare);
+        // Nothing is walkable.
+        draft.cells.iter_mut().for_each(|cell| *cell &= 30);
+        run.draft(&draft, &mut rng, cards::compare);
     }
 }
 

@@ -1,5 +1,6 @@
 //! What the Rust knows of a region and of a link, as the library's functions tell it.
 
+use crate::rust::card_words;
 use oracle::api::{Context, Measured, SpanPartition};
 
 /// The words of a region: its area's cells; cells, box, ramp and cells of each elevation; anchored.
@@ -8,10 +9,7 @@ pub fn region_words(partition: &SpanPartition, context: &Context, label: u32) ->
     let mut words = [0; 12];
     words[0] = area.map_or(0, |area| area.cell_count as u32);
     if let Some(region) = context.region(label) {
-        words[1] = region.cells as u32;
-        words[2..6].copy_from_slice(&region.bounds.map(|pixels| pixels as u32));
-        words[6] = u32::from(region.has_ramp);
-        words[7..11].copy_from_slice(&region.elevation_counts.map(|cells| cells as u32));
+        words[1..11].copy_from_slice(&card_words(&region));
     }
     words[11] = u32::from(context.anchored().contains(&label));
     words

@@ -21,10 +21,10 @@ pub struct Slices<'a> {
 }
 
 impl Lent {
-    /// Room for the largest job, list, work and answer of a run.
+    /// Room for the largest job, list, work and answer or cards of a run.
     pub fn new() -> Self {
         let room = |size| Guarded::new(size).expect("room for the slices of a call");
-        Self { rooms: [1 << 21, 1 << 17, 11 << 20, 1 << 18].map(|size| Room::Guarded(room(size))) }
+        Self { rooms: [1 << 21, 1 << 17, 11 << 20, 41 << 20].map(|size| Room::Guarded(room(size))) }
     }
 
     pub fn on_heap() -> Self {

@@ -9,7 +9,7 @@
 //!     driver record FILE SEED
 //!
 //! `random` is the random cases alone; `family` those of one family: damaged, maps, records,
-//! corridors or slanted. `heap` is random cases with every slice an allocation of its own and of
+//! corridors, slanted or cards. `heap` is random cases with every slice an allocation of its own and of
 //! just its length, for valgrind.
 //! `record` writes the list that crates/replay reads (record.rs).
 //! Every run prints its seed; `case` runs one random case of a seed again. Exit status 0 means
@@ -17,6 +17,7 @@
 //! tally.rs and coverage.rs ask for, in the others some comparison of each kind that they have.
 
 mod calls;
+mod cards;
 mod checks;
 mod compare;
 mod corridors;
@@ -52,7 +53,7 @@ use regions::{ENVELOPES, LINKS, REGIONS};
 use run::Run;
 use std::process::exit;
 use std::time::{Duration, Instant};
-use tally::{CHECKS, KINDS, PARTITIONS, PLANS, RECORDS, RELISTINGS, WHOLE};
+use tally::{CHECKS, KINDS, PARTITIONS, PLANS, RECORDS, RELISTINGS, STATED, WHOLE};
 
 const QUICK_SEED: u64 = 1;
 const QUICK_CASES: u64 = 100_000;
@@ -124,7 +125,14 @@ fn main() {
                 eprintln!("case {case} is of the exhaustive families, which a whole run repeats");
                 exit(2);
             }
-            let of_each = if run.tally.count(RECORDS) > 0 { &[RECORDS][..] } else { &WHOLE };
+            let had = |kind: &str| run.tally.count(kind) > 0;
+            let of_each = if had(RECORDS) {
+                &[RECORDS][..]
+            } else if had(WHOLE[0]) {
+                &WHOLE
+            } else {
+                &WHOLE[3..]
+            };
             end(run.tally.none_of(of_each), &format!("seed {seed} case {number}: nothing differs"))
         }
         ["record", file, seed] => record::record(file, parse(seed)),
@@ -135,10 +143,13 @@ fn main() {
 /// The kinds of comparison that a family has.
 fn kinds(family: &str) -> &'static [&'static str] {
     match family {
-        "damaged" => &[CHECKS, WHOLE[0], WHOLE[1], WHOLE[2]],
-        "maps" => &[PARTITIONS, REGIONS, WHOLE[0], WHOLE[1], WHOLE[2]],
+        "damaged" => &[CHECKS, WHOLE[0], WHOLE[1], WHOLE[2], WHOLE[3]],
+        "maps" => &[PARTITIONS, REGIONS, WHOLE[0], WHOLE[1], WHOLE[2], WHOLE[3]],
         "records" => &[RECORDS],
-        _ => &[PLANS, RELISTINGS, REGIONS, LINKS, ENVELOPES, WHOLE[0], WHOLE[1], WHOLE[2]],
+        "cards" => &[WHOLE[3], STATED],
+        _ => {
+            &[PLANS, RELISTINGS, REGIONS, LINKS, ENVELOPES, WHOLE[0], WHOLE[1], WHOLE[2], WHOLE[3]]
+        }
     }
 }
 

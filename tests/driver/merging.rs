@@ -9,7 +9,7 @@ use crate::lent::Lent;
 use crate::regions;
 use crate::rng::Rng;
 use crate::rust::Group;
-use crate::tally::{Tally, CALLS, PLANS, RELISTINGS, WHOLE};
+use crate::tally::{Tally, NAMES, PLANS, RELISTINGS, WHOLE};
 use crate::values::{self, sorted_ends, Boundary, Values};
 use crate::whole;
 
@@ -60,7 +60,7 @@ fn plan(
     }
     if *lent.out != bytes[..] {
         let words = lent.out.chunks_exact(4).map(|word| word[0]).collect::<Vec<_>>();
-        return Err(format!("plan of {}: expected {goes:?}, got {words:?}", CALLS[call as usize]));
+        return Err(format!("plan of {}: expected {goes:?}, got {words:?}", NAMES[call as usize]));
     }
     expect::fill_work(labels, &mut work);
     lent.check("plan", &input.job, &input.list, &work, Some(&bytes))
@@ -111,13 +111,13 @@ fn same(
     let lent = lent.lend(&input.job, &input.list, &work, &vec![0x99; answer.len()]);
     let said = calls::whole(call)(lent.job, lent.list, lent.work, lent.out);
     tally.see(WHOLE[call as usize]);
-    if answer.len() > whole::most(&input.job) {
+    if whole::most(call, &input.job).is_some_and(|most| answer.len() > most) {
         return Err(format!("an answer of {} bytes", answer.len()));
     }
     if said == (0, answer.len() as u64) && *lent.out == *answer {
         return Ok(());
     }
-    let name = CALLS[call as usize];
+    let name = NAMES[call as usize];
     Err(format!("{name}: a relisting gives another answer, {said:?} for {}", answer.len()))
 }
 
@@ -156,7 +156,7 @@ pub fn note(call: u32, accepted: &Accepted, groups: &[Group], tally: &mut Tally)
     tally.see("runs that may merge");
     for group in groups {
         let kind = if group.serial { "serial" } else { "flat" };
-        tally.see(&format!("{kind} groups of {}, {}", group.members.len(), CALLS[call as usize]));
+        tally.see(&format!("{kind} groups of {}, {}", group.members.len(), NAMES[call as usize]));
         let [centres, ends] = extent(accepted, group);
         if group.serial && centres == 384.0 {
             tally.see("serial groups at 384.0");

@@ -2,18 +2,20 @@
 //! oracle and the checks of the paper alone; and what replay prints of it.
 //!
 //! The list is records one after another, numbers little-endian, each after its length (u32). A
-//! record's first byte is its kind. Kind 3 is an input: the lengths of job and list (u32 each), job,
-//! list. Kinds 0 to 2 are a call on the input before it (Reduce, Reduce by list, Mark): the lengths
-//! of work and of answer or marks (u32 each), the byte that both are filled with before the call,
-//! the number (u32) and detail (u64), then work and answer or marks as the call must leave them.
+//! record's first byte is its kind. Kind 4 is an input: the lengths of job and list (u32 each), job,
+//! list. Kinds 0 to 3 are a call on the input before it (Reduce, Reduce by list, Mark, Area cards): the
+//! lengths of work and of answer, marks or cards (u32 each), the byte that both are filled with before
+//! the call, the number (u32) and detail (u64), then work and answer, marks or cards as the call must
+//! leave them.
 //! Bytes are written as pieces: how many bytes a piece makes (u16), how many it repeats for that
 //! (u8), and those.
 
-use crate::checks::{BY_LIST, MARK, NONE, REDUCE};
+use crate::cards;
+use crate::checks::{BY_LIST, CALLS, CARDS, NONE, REDUCE};
 use crate::corridors;
 use crate::damage::{self, REFUSALS};
 use crate::draft::{self, Boundary, Draft, Input};
-use crate::expect::{self, Expected, MOST_PAIRS};
+use crate::expect::{self, too_short, Expected, CARD, MOST_PAIRS};
 use crate::maps;
 use crate::merging;
 use crate::rng::Rng;
@@ -23,14 +25,14 @@ use std::collections::BTreeMap;
 use std::fs;
 use std::process::exit;
 
-const INPUT: u8 = 3;
+const INPUT: u8 = 4;
 /// The calls' names as replay prints them.
-const NAMES: [&str; 3] = ["reduce", "reduce by list", "mark"];
-/// The longest record, job, list, work and answer or marks that replay takes.
+const NAMES: [&str; 4] = ["reduce", "reduce by list", "mark", "area cards"];
+/// The longest record, job, list, work and answer, marks or cards that replay takes.
 const LONGEST: usize = 65_536;
 
 /// What the list must have at least so often.
-const WANTED: [(&str, u64); 24] = [
+const WANTED: [(&str, u64); 30] = [
     ("serial groups of 3, Reduce", 10),
     ("serial groups of 4, Reduce", 10),
     ("serial groups of 3, Reduce by list", 10),
@@ -55,6 +57,12 @@ const WANTED: [(&str, u64); 24] = [
     ("relistings", 20),
     ("inputs of over 4,096 region pairs", 1),
     ("slices longer than asked", 100),
+    ("cards of no area", 5),
+    ("cards of over 256 areas", 1),
+    ("cards with a ramp and without", 20),
+    ("cards of several elevations", 20),
+    ("cards of elevation 3", 20),
+    ("cards at the map's far corner", 20),
 ];
 
 #[derive(Default)]
@@ -64,6 +72,8 @@ struct List {
     /// Calls by call and number.
     counts: BTreeMap<(u32, u32), u64>,
     inputs: u64,
+    /// The last input's job.
+    job: Vec<u8>,
 }
 
 /// Writes the list of a seed to `file`, and to standard output what replay prints of it; what is in
@@ -73,6 +83,7 @@ pub fn record(file: &str, seed: u64) {
     damaged(&mut list, seed);
     on_maps(&mut list, seed);
     on_corridors(&mut list, seed);
+    on_cards(&mut list, seed);
     thresholds(&mut list);
     many_pairs(&mut list, seed);
     list.print();
@@ -112,7 +123,7 @@ fn damaged(list: &mut List, seed: u64) {
             draft
         });
         list.input(&input);
-        for call in [REDUCE, BY_LIST, MARK] {
+        for call in CALLS {
             let expected = Expected::of(call, &input.job, &input.list);
             let least = if expected.refusal == NONE { expected.work() } else { 0 };
             let lengths = [least + rng.below(40), rng.below(40) + expected.written.len()];
@@ -128,6 +139,22 @@ fn on_maps(list: &mut List, seed: u64) {
         let most = if i < 145 { 1000 } else { 6000 };
         let input = small(&mut rng, most, maps::random);
         list.whole(&input, &mut rng);
+    }
+}
+
+/// Ramps and elevations of areas, for Area cards alone: slices of just the length that is asked, one
+/// byte or card short, empty, or longer.
+fn on_cards(list: &mut List, seed: u64) {
+    for i in 0..60 {
+        let mut rng = Rng::of_case(seed, 6 << 32 | i);
+        let input = small(&mut rng, 400, cards::random);
+        let expected = Expected::of(CARDS, &input.job, &input.list);
+        let (work, cards) = (expected.work(), expected.written.len());
+        list.input(&input);
+        let short = cards.saturating_sub(rng.pick(&[1, 1, CARD, cards]));
+        for out in [cards, short, cards + 1 + rng.below(50)] {
+            list.call(CARDS, &expected, [work + rng.below(2), out], rng.byte());
+        }
     }
 }
 
@@ -222,6 +249,7 @@ impl List {
         pieces(&input.list, &mut bytes);
         self.push(&bytes);
         self.inputs += 1;
+        self.job.clone_from(&input.job);
     }
 
     /// A call on slices of these lengths, filled with a byte.
@@ -242,6 +270,9 @@ impl List {
         if number == 0 && work > expected.work() && out > expected.written.len() {
             self.tally.see("slices longer than asked");
         }
+        if call == CARDS && number == 0 {
+            cards::note(&self.job, &left.out[..detail as usize], &mut self.tally);
+        }
     }
 
     fn push(&mut self, record: &[u8]) {
@@ -250,10 +281,13 @@ impl List {
         self.bytes.extend(record);
     }
 
-    /// An input and the three calls on it: on slices of just the length that is asked, and on others.
+    /// An input and the four calls on it: on slices of just the length that is asked, and on others.
     fn whole(&mut self, input: &Input, rng: &mut Rng) {
         self.exact(input, rng);
-        for call in [REDUCE, BY_LIST, MARK] {
+        let mut own = Rng::new(!self.inputs);
+        for call in CALLS {
+            // Area cards has numbers of its own, so that what the others get is as without it.
+            let rng = if call == CARDS { &mut own } else { &mut *rng };
             let expected = Expected::of(call, &input.job, &input.list);
             let (work, out) = (expected.work(), expected.written.len());
             let longer = [work + 1 + rng.below(20), out + 1 + rng.below(20)];
@@ -268,10 +302,12 @@ impl List {
         }
     }
 
-    /// An input and the three calls on it, on slices of just the length that is asked.
+    /// An input and the four calls on it, on slices of just the length that is asked.
     fn exact(&mut self, input: &Input, rng: &mut Rng) {
         self.input(input);
-        for call in [REDUCE, BY_LIST, MARK] {
+        let mut own = Rng::new(self.inputs);
+        for call in CALLS {
+            let rng = if call == CARDS { &mut own } else { &mut *rng };
             let expected = Expected::of(call, &input.job, &input.list);
             let lengths = [expected.work(), expected.written.len()];
             self.call(call, &expected, lengths, rng.byte());
@@ -309,7 +345,7 @@ impl List {
     fn missing(&self) -> Vec<String> {
         let mut missing = Vec::new();
         for (call, name) in (0..).zip(NAMES) {
-            let late = if call == MARK { 23 } else { 22 };
+            let late = too_short(call, 0).0;
             let made = REFUSALS.into_iter().filter(|&number| makes(call as usize, number));
             for number in made.chain([0, 13, 21, late]) {
                 let count = self.counts.get(&(call, number)).copied().unwrap_or(0);

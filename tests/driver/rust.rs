@@ -2,8 +2,8 @@
 
 use crate::checks::{BASE, BOUNDARY, HEADER, OBSERVATION, SOURCE};
 use oracle::api::{
-    self, Context, PixelPosition, RampBoundary, RampSide, SpanPartition, TerrainGrid, TopologyBase,
-    TopologyBoundary, TopologyObservation, WalkPosition,
+    self, Context, PixelPosition, RampBoundary, RampSide, Region, SpanPartition, TerrainGrid,
+    TopologyBase, TopologyBoundary, TopologyObservation, WalkPosition,
 };
 use std::collections::BTreeSet;
 
@@ -37,6 +37,16 @@ impl Job {
     /// The boundaries that are kept.
     pub fn kept(&self, partition: &SpanPartition) -> Vec<TopologyBoundary> {
         Context::new(&self.grid, partition, &self.bases).collapse(&self.boundaries)
+    }
+
+    /// A card for each area, by label.
+    pub fn cards(&self, partition: &SpanPartition) -> Vec<u8> {
+        let context = Context::new(&self.grid, partition, &self.bases);
+        let cards = partition.areas().iter().zip(1..).flat_map(|(area, label)| {
+            assert_eq!(area.id, label, "areas by label");
+            card_words(&context.region(label).expect("an area has a region"))
+        });
+        cards.flat_map(u32::to_le_bytes).collect()
     }
 
     /// The partition by the boundaries' own ends, and the boundaries that are kept.
@@ -81,6 +91,18 @@ pub struct Group {
     pub serial: bool,
     pub members: Vec<usize>,
     pub retained: usize,
+}
+
+/// The words of a region's card: cells, least and greatest column and row, ramp, cells of each
+/// elevation.
+pub fn card_words(region: &Region) -> [u32; 10] {
+    let count = |cells: usize| u32::try_from(cells).expect("a count of cells");
+    let [left, top, right, bottom] = region.bounds.map(|pixels| {
+        assert_eq!(f64::from(pixels as u32), pixels, "a box of whole pixels");
+        pixels as u32
+    });
+    let [e0, e1, e2, e3] = region.elevation_counts.map(count);
+    [count(region.cells), left, top, right, bottom, region.has_ramp.into(), e0, e1, e2, e3]
 }
 
 /// Reads fields one after another.

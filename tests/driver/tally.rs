@@ -1,15 +1,18 @@
 //! What a run has seen, so that it can't pass by testing nothing.
 
-use crate::checks::{Refusal, BY_LIST, MARK};
+use crate::checks::{Refusal, BY_LIST};
 use crate::damage::REFUSALS;
+use crate::expect::too_short;
 use crate::measures;
 use crate::regions::{ENVELOPES, LINKS, REGIONS};
 use std::collections::BTreeMap;
 
-pub const CALLS: [&str; 3] = ["Reduce", "Reduce by list", "Mark"];
+pub const NAMES: [&str; 4] = ["Reduce", "Reduce by list", "Mark", "Area cards"];
 const NUMBERS: usize = 18;
 /// The refusals of whole calls, beside success and those of the checks.
-const LATE: [u32; 4] = [13, 21, 22, 23];
+const LATE: [u32; 5] = [13, 21, 22, 23, 31];
+/// What can come before 31 on a map with a walkable cell.
+const BEFORE_31: [u32; 13] = [2, 3, 4, 5, 6, 7, 8, 9, 10, 11, 12, 21, 13];
 
 /// What is held to the library's functions, by kind: a run that should have some of a kind and has none fails.
 pub const CHECKS: &str = "inputs whose checks are compared";
@@ -19,15 +22,21 @@ pub const RECORDS: &str = "record lists compared";
 pub const PLANS: &str = "plans compared";
 pub const RELISTINGS: &str = "relistings";
 /// Those on relistings among them.
-pub const WHOLE: [&str; 3] =
-    ["calls of Reduce compared", "calls of Reduce by list compared", "calls of Mark compared"];
-pub const KINDS: [&str; 13] = [
+pub const WHOLE: [&str; 4] = [
+    "calls of Reduce compared",
+    "calls of Reduce by list compared",
+    "calls of Mark compared",
+    "calls of Area cards compared",
+];
+/// Cards whose every word was held to what the paper says of the job's bytes and labels.
+pub const STATED: &str = "cards stated anew";
+pub const KINDS: [&str; 15] = [
     CHECKS, PARTS[0], PARTS[1], PARTITIONS, RECORDS, PLANS, RELISTINGS, REGIONS, LINKS, ENVELOPES,
-    WHOLE[0], WHOLE[1], WHOLE[2],
+    WHOLE[0], WHOLE[1], WHOLE[2], WHOLE[3], STATED,
 ];
 
 /// What a whole run must have seen at least once.
-const WANTED: [&str; 30] = [
+const WANTED: [&str; 37] = [
     "partitions held to the definitions",
     "partitions with a span that cuts nothing",
     "partitions with a span that goes round",
@@ -58,19 +67,28 @@ const WANTED: [&str; 30] = [
     "links within",
     "links beyond",
     "links outside the flat envelope",
+    "cards of no area",
+    "cards of over 256 areas",
+    "cards of 524,288 areas",
+    "cards with a ramp and without",
+    "cards of several elevations",
+    "cards of elevation 3",
+    "cards at the map's far corner",
 ];
 
 #[derive(Default)]
 pub struct Tally {
     /// For each call and refusal: how often seen, and how often with a later fault besides.
-    seen: [[u64; NUMBERS]; 3],
-    ordered: [[u64; NUMBERS]; 3],
+    seen: [[u64; NUMBERS]; 4],
+    ordered: [[u64; NUMBERS]; 4],
     /// For each call and refusal, a bit for each later fault it was seen with.
-    pairs: [[u32; NUMBERS]; 3],
+    pairs: [[u32; NUMBERS]; 4],
     /// Inputs on which the Rust's own checks were compared, and those that it refused.
     pub rust: [u64; 2],
     /// For each call, how often a whole call was to end with each number.
-    whole: [[u64; 24]; 3],
+    whole: [[u64; 32]; 4],
+    /// How often each number came though the card slice was too short for one card as well.
+    short_cards: [u64; 32],
     seen_besides: BTreeMap<String, u64>,
 }
 
@@ -120,6 +138,10 @@ impl Tally {
         self.whole[call][number as usize] += 1;
     }
 
+    pub fn note_short_cards(&mut self, number: u32) {
+        self.short_cards[number as usize] += 1;
+    }
+
     pub fn note(&mut self, call: usize, faults: &[Refusal]) {
         let first = faults.first().map_or(0, |fault| fault.0 as usize);
         self.seen[call][first] += 1;
@@ -132,10 +154,13 @@ impl Tally {
 
     pub fn print(&self) {
         println!(
-            "{} inputs, three calls each; times seen, of these with a later fault",
+            "{} inputs, four calls each; times seen, of these with a later fault",
             self.count(CHECKS)
         );
-        println!("{:>8}{:>24}{:>24}{:>24}", "refusal", CALLS[0], CALLS[1], CALLS[2]);
+        let line = |name: &str, columns: [String; 4]| {
+            println!("{name:>8}{}", columns.map(|column| format!("{column:>24}")).concat());
+        };
+        line("refusal", NAMES.map(str::to_string));
         for number in std::iter::once(0).chain(REFUSALS) {
             let row = |call: usize| match number {
                 0 => format!("{}", self.seen[call][0]),
@@ -146,7 +171,7 @@ impl Tally {
                 }
             };
             let name = if number == 0 { "none".to_string() } else { number.to_string() };
-            println!("{name:>8}{:>24}{:>24}{:>24}", row(0), row(1), row(2));
+            line(&name, [0, 1, 2, 3].map(row));
         }
         let pairs: u32 = self.pairs.iter().flatten().map(|bits| bits.count_ones()).sum();
         println!("pairs of a refusal and a later fault, over the calls: {pairs}");
@@ -157,11 +182,13 @@ impl Tally {
     pub fn print_whole(&self) {
         println!("whole calls compared, those on relistings among them: {}", self.calls());
         println!("whole calls by number, without relistings");
-        for (call, name) in CALLS.iter().enumerate() {
+        for (call, name) in NAMES.iter().enumerate() {
             let refused: u64 = (1..=17).filter(|&n| n != 13).map(|n| self.whole[call][n]).sum();
             let late = LATE.map(|n| format!(", {n}: {}", self.whole[call][n as usize])).concat();
             println!("{name:>16}  0: {}{late}, refused before: {refused}", self.whole[call][0]);
         }
+        let before = BEFORE_31.map(|n| format!(" {n}: {}", self.short_cards[n as usize])).join(",");
+        println!("with too short a card slice besides:{before}");
         for (what, count) in &self.seen_besides {
             println!("{count:>8} {what}");
         }
@@ -170,14 +197,15 @@ impl Tally {
     /// What the comparisons beyond the checks should have seen and did not.
     fn missing_besides(&self) -> Vec<String> {
         let mut missing = self.none_of(&KINDS);
-        for (call, name) in CALLS.iter().enumerate() {
-            let late = if call as u32 == MARK { 23 } else { 22 };
-            for number in [0, 13, 21, late] {
-                if self.whole[call][number] == 0 {
+        for (call, name) in NAMES.iter().enumerate() {
+            for number in [0, 13, 21, too_short(call as u32, 0).0] {
+                if self.whole[call][number as usize] == 0 {
                     missing.push(format!("{name}: no whole call ended with {number}"));
                 }
             }
         }
+        let alone = BEFORE_31.into_iter().filter(|&n| self.short_cards[n as usize] == 0);
+        missing.extend(alone.map(|n| format!("Area cards: {n} was never seen before 31")));
         let unseen = WANTED.iter().filter(|&&what| self.count(what) == 0);
         missing.extend(unseen.map(|what| format!("never: {what}")));
         missing.extend(measures::missing(self));
@@ -187,7 +215,7 @@ impl Tally {
     /// What the run should have seen and did not.
     pub fn missing(&self) -> Vec<String> {
         let mut missing = Vec::new();
-        for (call, name) in CALLS.iter().enumerate() {
+        for (call, name) in NAMES.iter().enumerate() {
             if self.seen[call][0] == 0 {
                 missing.push(format!("{name}: no input passed"));
             }

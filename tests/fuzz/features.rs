@@ -1,12 +1,13 @@
 //! What the library returned, as coverage: libFuzzer keeps an input that sets a counter not set so
 //! far. And how often each number came, printed at the end of a run.
 
-use crate::checks::{Refusal, MARK};
+use crate::checks::{Refusal, CARDS, MARK};
+use crate::expect::CARD;
 use std::sync::atomic::{AtomicU64, AtomicU8, Ordering::Relaxed};
 use std::sync::Once;
 
-/// Counters of a call: numbers, details by number, kept and merged boundaries, observations more
-/// than the job's, labels.
+/// Counters of a call: numbers, details by number, kept and merged boundaries or areas with a ramp and
+/// of several elevations, observations more than the job's, labels.
 const EACH: usize = 1024;
 const DETAILS: usize = 32;
 const KEPT: usize = DETAILS + 32 * 16;
@@ -14,10 +15,10 @@ const OBSERVED: usize = KEPT + 16 * 16;
 const LABELS: usize = OBSERVED + 16;
 
 #[link_section = "__libfuzzer_extra_counters"]
-static COUNTERS: [AtomicU8; 3 * EACH] = [const { AtomicU8::new(0) }; 3 * EACH];
+static COUNTERS: [AtomicU8; 4 * EACH] = [const { AtomicU8::new(0) }; 4 * EACH];
 
 /// Calls by call and number, and answers with fewer boundaries than the job.
-static NUMBERS: [[AtomicU64; 32]; 3] = [const { [const { AtomicU64::new(0) }; 32] }; 3];
+static NUMBERS: [[AtomicU64; 32]; 4] = [const { [const { AtomicU64::new(0) }; 32] }; 4];
 static MERGED: AtomicU64 = AtomicU64::new(0);
 
 extern "C" {
@@ -33,7 +34,7 @@ pub fn note(call: u32, (number, detail): Refusal, job: &[u8], work: &[u8], out: 
     NUMBERS[call as usize][number].fetch_add(1, Relaxed);
     set(number);
     set(DETAILS + 16 * number + log(detail).min(15));
-    if [0, 13, 22, 23].contains(&number) {
+    if [0, 13, 22, 23, 31].contains(&number) {
         let labels = (0..work.len() / 10).map(|cell| word(work, cell)).max().unwrap_or(0);
         set(LABELS + (labels as usize).min(16 + log(labels.into())));
     }
@@ -44,6 +45,13 @@ pub fn note(call: u32, (number, detail): Refusal, job: &[u8], work: &[u8], out: 
     if call == MARK {
         let bridges = out[..boundaries].iter().filter(|&&mark| mark == 1).count();
         set(KEPT + 16 * bridges.min(15) + boundaries.min(15));
+        return;
+    }
+    if call == CARDS {
+        let cards = || out[..detail as usize].chunks_exact(CARD);
+        let ramps = cards().filter(|card| word(card, 5) == 1).count();
+        let several = |card: &&[u8]| (6..10).filter(|&i| word(card, i) > 0).count() > 1;
+        set(KEPT + 16 * ramps.min(15) + cards().filter(several).count().min(15));
         return;
     }
     let [kept, observations] = [0, 1].map(|i| word(out, i) as usize);

@@ -1,6 +1,6 @@
-//! The three calls of include/chokes.h.
+//! The four calls of include/chokes.h.
 
-use crate::checks::{Refusal, BY_LIST, MARK};
+use crate::checks::{Refusal, BY_LIST, CARDS, MARK};
 
 #[repr(C)]
 struct CallResult {
@@ -36,9 +36,17 @@ extern "C" {
         answer: *mut u8,
         answer_length: usize,
     ) -> CallResult;
+    fn chokes_area_cards(
+        job: *const u8,
+        job_length: usize,
+        work: *mut u8,
+        work_length: usize,
+        cards: *mut u8,
+        cards_length: usize,
+    ) -> CallResult;
 }
 
-/// A call on job, list, work and the slice that it writes, the answer or the marks.
+/// A call on job, list, work and the slice that it writes: the answer, the marks or the cards.
 pub fn call(call: u32, job: &[u8], list: &[u8], work: &mut [u8], out: &mut [u8]) -> Refusal {
     let (j, jn, l, ln) = (job.as_ptr(), job.len(), list.as_ptr(), list.len());
     let (w, wn, o, on) = (work.as_mut_ptr(), work.len(), out.as_mut_ptr(), out.len());
@@ -47,6 +55,7 @@ pub fn call(call: u32, job: &[u8], list: &[u8], work: &mut [u8], out: &mut [u8])
         match call {
             BY_LIST => chokes_reduce_by_list(j, jn, l, ln, w, wn, o, on),
             MARK => chokes_mark(j, jn, w, wn, o, on),
+            CARDS => chokes_area_cards(j, jn, w, wn, o, on),
             _ => chokes_reduce(j, jn, w, wn, o, on),
         }
     };

@@ -1,4 +1,4 @@
-//! A libFuzzer target: the three calls of the static library on each input, held to what the checks
+//! A libFuzzer target: the four calls of the static library on each input, held to what the checks
 //! of the paper and the real Rust say that they leave. The Rust is compiled with coverage counters;
 //! what the library returns counts as coverage as well (`features`).
 
@@ -35,14 +35,14 @@ mod mutate;
 mod nearest;
 
 use case::Case;
-use checks::{BY_LIST, MARK, NONE, REDUCE};
+use checks::{CALLS, NONE};
 use expect::{Expected, MOST_PAIRS};
 use lent::Lent;
 use rng::Rng;
 use std::cell::RefCell;
 use std::slice;
 
-const NAMES: [&str; 3] = ["Reduce", "Reduce by list", "Mark"];
+const NAMES: [&str; 4] = ["Reduce", "Reduce by list", "Mark", "Area cards"];
 
 extern "C" {
     fn LLVMFuzzerMutate(data: *mut u8, size: usize, most: usize) -> usize;
@@ -61,7 +61,7 @@ pub unsafe extern "C" fn LLVMFuzzerTestOneInput(data: *const u8, size: usize) ->
     let bytes = if size == 0 { &[] } else { slice::from_raw_parts(data, size) };
     let case = Case::read(bytes);
     LENT.with_borrow_mut(|lent| {
-        for call in [REDUCE, BY_LIST, MARK] {
+        for call in CALLS {
             let expected = Expected::of(call, &case.input.job, &case.input.list);
             for lengths in lengths(&expected, case.lengths) {
                 if let Err(difference) = one(call, &expected, &case, lengths, lent) {
@@ -73,7 +73,7 @@ pub unsafe extern "C" fn LLVMFuzzerTestOneInput(data: *const u8, size: usize) ->
     0
 }
 
-/// Lengths of work and of answer or marks: just what is asked, and those that the case chooses.
+/// Lengths of work and of answer, marks or cards: just what is asked, and those that the case chooses.
 fn lengths(expected: &Expected, choice: u8) -> Vec<[usize; 2]> {
     let (work, out) = (expected.work(), expected.written.len());
     let [more, less] = [choice / 8, choice / 64].map(usize::from);
@@ -93,7 +93,7 @@ fn lengths(expected: &Expected, choice: u8) -> Vec<[usize; 2]> {
     vec![[work, out], other]
 }
 
-/// One call, compared whole: number, detail, and every byte of work and of answer or marks.
+/// One call, compared whole: number, detail, and every byte of work and of answer, marks or cards.
 fn one(
     call: u32,
     expected: &Expected,

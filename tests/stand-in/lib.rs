@@ -13,8 +13,8 @@ mod known;
 #[allow(dead_code)]
 mod rust;
 
-use checks::{Refusal, BY_LIST, HEADER, MARK, NONE, REDUCE, SPAN};
-use expect::{Accepted, Expected, MOST_PAIRS, WORK};
+use checks::{Refusal, BY_LIST, CARDS, HEADER, MARK, NONE, REDUCE, SPAN};
+use expect::{Accepted, Expected, CARD, MOST_PAIRS, WORK};
 use oracle::api::{Context, SpanPartition};
 use oracle::fault;
 use std::collections::BTreeMap;
@@ -276,6 +276,103 @@ pub extern "C" fn probe_link(
     })
 }
 
+/// Whether the slice that is written is too short, with the faults of cards.
+fn too_short(call: u32, expected: &Expected, length: usize) -> bool {
+    let needed = expected.written.len();
+    if call == CARDS && length == needed && needed > 0 && fault::on("cards_exact_refused") {
+        return true;
+    }
+    if call == CARDS && length == 0 && fault::on("cards_empty_refused") {
+        return true;
+    }
+    length < needed
+}
+
+/// The refusal of a slice that is too short, with the faults of cards.
+fn late(call: u32, expected: &Expected) -> Refusal {
+    let (number, detail) = expect::too_short(call, expected.written.len());
+    if call == CARDS && fault::on("cards_detail_one_more") {
+        return (number, detail + CARD as u64);
+    }
+    if call == CARDS && fault::on("cards_detail_in_areas") {
+        return (number, detail / CARD as u64);
+    }
+    if call == CARDS && fault::on("cards_22") {
+        return (22, detail);
+    }
+    (number, detail)
+}
+
+/// The faults of the cards' words.
+fn card_faults(job: &[u8], labels: &[u32], cards: &mut Vec<u8>) {
+    let words = cards.chunks_exact(4).map(|word| u32::from_le_bytes(word.try_into().unwrap()));
+    let mut words: Vec<u32> = words.collect();
+    let blocked: Vec<u8> = labels
+        .iter()
+        .zip(&job[HEADER..])
+        .filter(|(&label, _)| label == 0)
+        .map(|(_, &cell)| cell)
+        .collect();
+    if fault::on("cards_from_label_0") && !blocked.is_empty() {
+        let mut none = [0; 10];
+        none[0] = blocked.len() as u32;
+        words.splice(0..0, none);
+        words.truncate(cards.len() / 4);
+    }
+    for (i, card) in words.chunks_exact_mut(10).enumerate() {
+        if fault::on("cards_column_without_8") {
+            card[3] -= 8;
+        }
+        if fault::on("cards_row_without_8") {
+            card[4] -= 8;
+        }
+        if fault::on("cards_box_in_cells") {
+            card[1..5].iter_mut().for_each(|edge| *edge /= 8);
+        }
+        if fault::on("cards_least_and_greatest_swapped") {
+            card[1..5].rotate_left(2);
+        }
+        if fault::on("cards_rows_before_columns") {
+            card.swap(1, 2);
+            card.swap(3, 4);
+        }
+        if fault::on("cards_ramp_dropped") {
+            card[5] = 0;
+        }
+        if fault::on("cards_ramp_last") {
+            card[5..].rotate_left(1);
+        }
+        if fault::on("cards_levels_modulo_2") {
+            card[6] += card[8];
+            card[7] += card[9];
+            card[8..].fill(0);
+        }
+        if fault::on("cards_level_3_left_out") {
+            card[9] = 0;
+        }
+        if fault::on("cards_blocked_in_first") && i == 0 {
+            card[0] += blocked.len() as u32;
+        }
+        if fault::on("cards_blocked_levels_in_first") && i == 0 {
+            blocked.iter().for_each(|cell| card[6 + usize::from(cell >> 3 & 3)] += 1);
+        }
+        if fault::on("cards_blocked_ramp_in_first") && i == 0 {
+            card[5] |= u32::from(blocked.iter().any(|cell| cell & 4 != 0));
+        }
+    }
+    if fault::on("cards_one_late") && !words.is_empty() {
+        words.rotate_right(10);
+    }
+    if fault::on("cards_last_cell_forgotten") && labels.last().is_some_and(|&label| label > 0) {
+        let last = labels.last().map_or(0, |&label| label as usize);
+        words[10 * (last - 1)] -= 1;
+    }
+    *cards = words.iter().flat_map(|word| word.to_le_bytes()).collect();
+    if fault::on("cards_bytes_turned") {
+        cards.chunks_exact_mut(4).for_each(|word| word.reverse());
+    }
+}
+
 /// A whole call, with faults of its order and of what it leaves.
 fn whole(call: u32, job: &[u8], list: &[u8], work: &mut [u8], out: &mut [u8]) -> CallResult {
     let refused = refusal(call, job, list);
@@ -285,14 +382,17 @@ fn whole(call: u32, job: &[u8], list: &[u8], work: &mut [u8], out: &mut [u8]) ->
         }
         return result(refused);
     }
-    let expected = Expected::of(call, job, list);
-    let late = if call == MARK { (23, 0) } else { (22, expected.written.len() as u64) };
+    let mut expected = Expected::of(call, job, list);
+    if call == CARDS {
+        card_faults(job, &expected.labels, &mut expected.written);
+    }
+    let late = late(call, &expected);
     let unmerged = || {
         let accepted = expect::accepted(call, job, list).ok().expect("no refusal");
         let count = accepted.job.boundaries.len();
         24 + 40 * count as u64
     };
-    let short = out.len() < expected.written.len();
+    let short = too_short(call, &expected, out.len());
     if short && fault::on("short_answer_before_work") {
         return result(late);
     }
@@ -306,20 +406,38 @@ fn whole(call: u32, job: &[u8], list: &[u8], work: &mut [u8], out: &mut [u8]) ->
         if !fault::on("work_whole_at_13") {
             fill(&expected.labels, work);
         }
+        if call == CARDS && out.len() < CARD && fault::on("cards_31_before_13") {
+            let areas = expected.labels.iter().copied().max().unwrap_or(0);
+            return result((31, CARD as u64 * u64::from(areas)));
+        }
         return result((13, 0));
     }
     fill(&expected.labels, work);
     if short {
-        if fault::on("header_before_length_test") && out.len() >= 24 && call != MARK {
+        let answers = call == REDUCE || call == BY_LIST;
+        if fault::on("header_before_length_test") && out.len() >= 24 && answers {
             out[..24].copy_from_slice(&expected.written[..24]);
         }
-        if call != MARK && fault::on("unmerged_length_told") {
+        if answers && fault::on("unmerged_length_told") {
             return result((22, unmerged()));
+        }
+        if call == CARDS && fault::on("cards_that_fit_written") {
+            let fitting = out.len() / CARD * CARD;
+            out[..fitting].copy_from_slice(&expected.written[..fitting]);
         }
         return result(late);
     }
     let length = expected.written.len();
+    let stale: Vec<u8> = out[..length].iter().skip(20).step_by(CARD).copied().collect();
     out[..length].copy_from_slice(&expected.written);
+    if call == CARDS && fault::on("cards_not_cleared") {
+        // What the ramp's word held before stays in it.
+        let ramps = out[..length].iter_mut().skip(20).step_by(CARD);
+        ramps.zip(stale).for_each(|(ramp, before)| *ramp |= before);
+    }
+    if call == CARDS && fault::on("cards_counted_not_bytes") {
+        return result((0, (length / CARD) as u64));
+    }
     if call == MARK && fault::on("marks_turned") {
         out[..length].iter_mut().for_each(|mark| *mark ^= 1);
     }
@@ -377,4 +495,16 @@ pub extern "C" fn chokes_reduce_by_list(
     al: usize,
 ) -> CallResult {
     whole(BY_LIST, read(job, jl), read(list, ll), write(work, wl), write(answer, al))
+}
+
+#[no_mangle]
+pub extern "C" fn chokes_area_cards(
+    job: In,
+    jl: usize,
+    work: Out,
+    wl: usize,
+    cards: Out,
+    cl: usize,
+) -> CallResult {
+    whole(CARDS, read(job, jl), &[], write(work, wl), write(cards, cl))
 }

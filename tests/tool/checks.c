@@ -212,6 +212,32 @@ int check_marks(const struct run *run, unsigned long *compared)
     return memcmp(marks, expected, run->job.count[BOUNDARIES]) != 0;
 }
 
+int check_cards(const struct run *run, unsigned long *compared)
+{
+    struct area *areas = measure_areas(run);
+    uint32_t(*rest)[5] = room(sizeof *rest * ((size_t)run->areas + 1)), i, label;
+    struct bytes cards;
+    struct chokes_result result = area_cards(run, &cards);
+    int wrong = result.number != CHOKES_OK || result.detail != 40 * (uint64_t)run->areas;
+    for (i = 0; i < run->job.count[CELLS]; i++) {
+        const uint8_t cell = run->input.at[CHOKES_JOB_HEADER_BYTES + i];
+        rest[run->labels[i]][0] |= (cell & CHOKES_CELL_RAMP) != 0;
+        rest[run->labels[i]][1 + CHOKES_CELL_ELEVATION(cell)]++;
+    }
+    for (label = 1; !wrong && label <= run->areas; label++) {
+        const struct area *a = &areas[label];
+        const uint32_t first[5] = {a->cells, 8 * a->left, 8 * a->top, 8 * a->right + 8, 8 * a->bottom + 8};
+        for (i = 0; i < 10; i++) {
+            wrong |= word(cards.at, 40 * (size_t)(label - 1) + 4 * (size_t)i) != (i < 5 ? first[i] : rest[label][i - 5]);
+        }
+        *compared += 1;
+    }
+    free(areas);
+    free(rest);
+    free(cards.at);
+    return wrong;
+}
+
 /* Draws a path's runs; 1 where one leaves the map or meets a cell that is drawn. */
 static int draw_back(const struct job *job, const char *d, uint32_t *drawn, uint32_t label)
 {

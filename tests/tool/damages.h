@@ -9,6 +9,8 @@ int check_damages(void);
 int check_groups(const struct run *run);
 /* 0 where the marks are the bridges of the pairs; counts those that were compared. */
 int check_marks(const struct run *run, unsigned long *compared);
+/* 0 where the cards are what the labels and the job's cells say; counts those that were compared. */
+int check_cards(const struct run *run, unsigned long *compared);
 /* 0 where the page's paths, read back, draw every walkable cell once and in its area; counts the cells. */
 int check_cells(const struct run *run, const char *page, unsigned long *compared);
 

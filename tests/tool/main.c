@@ -14,7 +14,7 @@
 
 int tool_main(int argc, char **argv);
 
-static unsigned long accepted, refused[24], merged, marked, drawn;
+static unsigned long accepted, refused[24], merged, marked, carded, drawn;
 
 static struct bytes copy_of(const struct bytes *bytes)
 {
@@ -163,6 +163,8 @@ static const char *wrong_run(struct run *run)
         why = "the groups aren't what the answer has";
     } else if (run->result.number == CHOKES_OK && !run->by_list && check_marks(run, &marked) != 0) {
         why = "the marks aren't the bridges of the pairs";
+    } else if (run->result.number == CHOKES_OK && check_cards(run, &carded) != 0) {
+        why = "the cards aren't what the labels and cells say";
     } else if (run->labels != NULL && check_cells(run, page.at, &drawn) != 0) {
         why = "the page draws other cells";
     } else {
@@ -210,14 +212,14 @@ static int check_jobs(unsigned long count, char **names, int given_count)
     while (k > 0) {
         free(given[--k].at);
     }
-    printf("jobs: %lu, %lu accepted, %lu boundaries merged away, %lu marks held to the pairs, %lu cells read back; refused", count,
-           accepted, merged, marked, drawn);
+    printf("jobs: %lu, %lu accepted, %lu boundaries merged away, %lu marks held to the pairs, %lu cards to the labels, "
+           "%lu cells read back; refused", count, accepted, merged, marked, carded, drawn);
     for (number = 1; number < 18; number++) {
         printf(" %u:%lu", number, refused[number]);
         missing |= refused[number] == 0 && number != 13;
     }
     printf("\n");
-    if (missing || accepted == 0 || merged == 0 || marked == 0 || drawn == 0) {
+    if (missing || accepted == 0 || merged == 0 || marked == 0 || carded == 0 || drawn == 0) {
         printf("jobs: something never came up\n");
         return 1;
     }

@@ -24,7 +24,7 @@ use Rattle.serial_bridges.specs.Names.{Labelled}
 use Rattle.serial_walk.specs.Marks.{bridgeMarks}
 use Rattle.areas_partition.specs.Partitioned.{Partitioned}
 use Rattle.areas_partition.specs.declared.Partition.{Partition}
-use Rattle.analysis.specs.Bridging.{Bridged}
+use Rattle.analysis.specs.Bridging.{Bridged, AreasWithin}
 
 module _ (ls before : List ℕ) where
   abbrev zeros : List ℕ
@@ -117,3 +117,7 @@ module _ {most : ℕ} {dirs : List ℕ} {g : Grid} {ends : List ℕ} {count : �
 
   pub bridged : {marks : List ℕ} → marks ≡ bridgeMarks (recordsIn owners lefts rights (p .pairs)) 256 → Bridged most dirs g (spansIn ends count) marks
   bridged e = λ few. e ∙ ap (λ rs. bridgeMarks rs 256) (r .records-are few)
+
+  -- what it says of the areas
+  pub areas-within : AreasWithin most dirs g (spansIn ends count) before work (p .areas) (p .pairs)
+  areas-within = record { work-is = r .work-is; over = r .over; pairs-are = r .pairs-are; told = λ few. r .areas-are }

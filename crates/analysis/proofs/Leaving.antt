@@ -5,7 +5,7 @@ use mathlib.Core.Logic.{by-cases}
 use mathlib.Core.List.{List, map}
 use mathlib.Core.Option.{none}
 use Prim.Native.Nat.{ℕ, _≤_, _<_}
-use native.Mathlib.Decide.{decLt, ℕ-discrete}
+use native.Mathlib.Decide.{ℕ-discrete}
 use native.Mathlib.Omega.{arith}
 use borrow.Author.Tests.{eq-eqb, ne-eqb}
 use lib.ListN.{length, getD}
@@ -22,15 +22,16 @@ use Rattle.serial_merging.specs.Planned.{planned}
 use Rattle.serial_merging.proofs.Copies.{copies-length}
 use Rattle.serial_merging.proofs.Planned.{planned-ext}
 use Rattle.answer_sources.specs.Gathered.{PlacesOrder}
+use Rattle.checks.specs.Numbers.{answerTooShort}
 use Rattle.checks.specs.Checks.{Check, firstRefusal}
 use Rattle.results.specs.Rules.{gridOf, listingOf}
 use Rattle.results.specs.Results.{workSize, answerOf, reduced, leftBy}
-use Rattle.results.specs.Returns.{FirstAnswer, PairAnswer, many, few}
-use Rattle.analysis.specs.Plans.{planOf, RankedBy, Drawn, Made, PlanLeft, Finished}
+use Rattle.results.specs.Returns.{FirstAnswer, PairAnswer, many, few, Finished}
+use Rattle.analysis.specs.Plans.{planOf, RankedBy, Drawn, Made, PlanLeft}
 use Rattle.analysis.proofs.Within.{parted-many, parted-few}
 use Rattle.results.proofs.Planned.{matched-answer, unmatched-answer}
 use Rattle.analysis.proofs.Ranked.{ByRank, places-perm, places-ranked, copies-ranked}
-use Rattle.results.proofs.Results.{reduced-first, reduced-many, reduced-short, reduced-success}
+use Rattle.results.proofs.Results.{reduced-first, reduced-many, reduced-finished}
 
 module _ {limits : Limits} {dirs : List ℕ} {checks : List Check} {j : Job} {ss : List Span} {before order plan : List ℕ} {number detail : ℕ} where
   -- a refusal of the input, and 21
@@ -85,23 +86,10 @@ module _ (j : Job) (order : List ℕ) (k : RankedBy j order) where
 
 module _ {limits : Limits} {dirs : List ℕ} {checks : List Check} {j : Job} {ss : List Span} {before after order plan : List ℕ} {zero : ℕ}
     (y : Made limits dirs checks j ss before after order plan zero) where
-  abbrev written : List ℕ
-  written = answerOf limits dirs j ss
-
   -- 22, or success
-  pub left-finished : {answer out : List ℕ} {number detail : ℕ} → Finished (bytesBy (j .boundaries) order plan) answer out number detail
+  pub left-finished : {answer out : List ℕ} {number detail : ℕ} → Finished answerTooShort (bytesBy (j .boundaries) order plan) answer out number detail
       → leftBy number detail after out ≡ reduced limits dirs checks j ss before answer
   left-finished {answer} {out} {number} {detail} f =
-      let z : Finished written answer out number detail =
-      subst (λ (bs : List ℕ). Finished bs answer out number detail) (answer-bytes j order (y .ranks) limits dirs ss plan (y .plan-is)) f in
-      by-cases (decLt (length answer) (length written)) (short z) (λ h. fits z (omega arith))
-    where
-      short : Finished written answer out number detail → length answer < length written
-          → leftBy number detail after out ≡ reduced limits dirs checks j ss before answer
-      short z h = rw (z .unwritten h .0, z .unwritten h .1, z .long, y .work-is)
-          (sym (reduced-short limits dirs checks j ss before answer (y .passed) (y .room) (y .few) h))
-
-      fits : Finished written answer out number detail → length written ≤ length answer
-          → leftBy number detail after out ≡ reduced limits dirs checks j ss before answer
-      fits z h = rw (z .written h .0, z .written h .1, z .long, y .work-is)
-          (sym (reduced-success limits dirs checks j ss before answer (y .passed) (y .room) (y .few) h))
+      rw (y .work-is)
+      (reduced-finished limits dirs checks j ss before answer (y .passed) (y .room) (y .few)
+      (subst (λ (bs : List ℕ). Finished answerTooShort bs answer out number detail) (answer-bytes j order (y .ranks) limits dirs ss plan (y .plan-is)) f))

@@ -9,7 +9,7 @@ use Rattle.format.specs.Header.{countsAt}
 use Rattle.format.specs.Decode.{decode}
 use Rattle.format.specs.declared.header.Header.{Header}
 use Rattle.grid.specs.Cells.{Grid, mapOf}
-use Rattle.areas.specs.Areas.{areaLabels}
+use Rattle.areas.specs.Areas.{areaLabels, areaCount}
 use Rattle.areas.specs.Assessments.{records}
 use Rattle.areas.specs.Spans.{SpansFit, spansIn}
 use Rattle.areas_partition.specs.Partitioned.{Partitionable}
@@ -17,7 +17,7 @@ use Rattle.serial_ranks.specs.Tables.{Records, Identity, SpansOf}
 use Rattle.results.specs.Rules.{gridOf}
 use Rattle.results.specs.Results.{ownEnds}
 use Rattle.analysis.specs.Plans.{Leads, Headed, OwnJob, OwnEnds}
-use Rattle.analysis.proofs.RankedTables.{own-listed-fit, own-labels-listed, own-records-listed}
+use Rattle.analysis.proofs.RankedTables.{own-listed-fit, own-labels-listed, own-areas-listed, own-records-listed}
 use Rattle.analysis.proofs.Headed.{headed-checked, headed-laid, counts-are, count-is, start-is, keys-in}
 use Rattle.analysis.proofs.Mapped.{map-is, map-partitionable}
 
@@ -66,3 +66,9 @@ module _ {s : List ℕ} {h : Header} {work : List ℕ} (m : OwnJob s h work) {n 
       ap (λ (g : Grid). records dirs g (spansIn ends count)) own-map
       ∙ (ap (records dirs (gridOf (decode s))) own-count
       ∙ sym (own-records-listed (headed-checked (m .headed)) (o .identity) ends (o .spans) dirs (gridOf (decode s))))
+
+  pub own-areas : (dirs : List ℕ) → areaCount dirs grid (spansIn ends count) ≡ areaCount dirs (gridOf (decode s)) (ownEnds (decode s))
+  own-areas dirs =
+      ap (λ (g : Grid). areaCount dirs g (spansIn ends count)) own-map
+      ∙ (ap (areaCount dirs (gridOf (decode s))) own-count
+      ∙ sym (own-areas-listed (headed-checked (m .headed)) (o .identity) ends (o .spans) dirs (gridOf (decode s))))

@@ -26,11 +26,11 @@ use Rattle.format.proofs.Distribution.{map-boundariesWith}
 use Rattle.format.proofs.BoundaryTrips.{decoded-ends}
 use Rattle.format.proofs.ListTrip.{length-decodeList}
 use Rattle.grid.specs.Cells.{Grid}
-use Rattle.areas.specs.Areas.{areaLabels}
+use Rattle.areas.specs.Areas.{areaLabels, areaCount}
 use Rattle.areas.specs.Assessments.{records}
 use Rattle.position.specs.Bounds.{Bounded}
 use Rattle.areas.specs.Spans.{spanIn, spansIn, SpansFit}
-use Rattle.areas.proofs.Areas.{labels-depend-on-the-set}
+use Rattle.areas.proofs.Areas.{labels-depend-on-the-set, count-depends-on-the-set}
 use Rattle.areas.proofs.Listed.{eq-same, records-same}
 use Rattle.context.specs.Listing.{Item}
 use Rattle.serial_groups.specs.Listing as Rank
@@ -272,6 +272,9 @@ module _ {distinct : Bool} {s : List ℕ} (c : Checked distinct s) {order : List
 
   pub own-labels-listed : (dirs : List ℕ) (g : Grid) → areaLabels dirs g (ownEnds (decode s)) ≡ areaLabels dirs g (spansIn ends count)
   own-labels-listed dirs g = labels-depend-on-the-set dirs g (ownEnds (decode s)) (spansIn ends count) (eq-same canonical-own)
+
+  pub own-areas-listed : (dirs : List ℕ) (g : Grid) → areaCount dirs g (ownEnds (decode s)) ≡ areaCount dirs g (spansIn ends count)
+  own-areas-listed dirs g = count-depends-on-the-set dirs g (ownEnds (decode s)) (spansIn ends count) (eq-same canonical-own)
 
   pub own-records-listed : (dirs : List ℕ) (g : Grid) → records dirs g (ownEnds (decode s)) ≡ records dirs g (spansIn ends count)
   own-records-listed dirs g = records-same dirs g (ownEnds (decode s)) (spansIn ends count) canonical-own

@@ -7,7 +7,7 @@ use Rattle.areas.specs.Words.{labelled}
 use Rattle.position.specs.declared.Span.{Span}
 use Rattle.graph.specs.Records.{Record}
 use Rattle.grid.specs.Cells.{Grid}
-use Rattle.areas.specs.Areas.{areaLabels}
+use Rattle.areas.specs.Areas.{areaLabels, areaCount}
 use Rattle.areas.specs.Assessments.{records}
 use Rattle.serial_walk.specs.Marks.{bridgeMarks}
 use Rattle.results.specs.Results.{maxPairs}
@@ -37,3 +37,8 @@ pub record PartedWithin (most : ℕ) (ls : List ℕ) (rs : List Record) (Told : 
 abbrev pub MarkedWithin : ℕ → List ℕ → Grid → List Span → List ℕ → List ℕ → List ℕ → ℕ → Type 0
 MarkedWithin most dirs g ss marks before work pairs =
     PartedWithin most (areaLabels dirs g ss) (records dirs g ss) (marks ≡ bridgeMarks (records dirs g ss) 256) before work pairs
+
+-- a map parted by spans, with the number of its areas
+abbrev pub AreasWithin : ℕ → List ℕ → Grid → List Span → List ℕ → List ℕ → ℕ → ℕ → Type 0
+AreasWithin most dirs g ss before work areas pairs =
+    PartedWithin most (areaLabels dirs g ss) (records dirs g ss) (areas ≡ areaCount dirs g ss) before work pairs

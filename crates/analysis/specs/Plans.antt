@@ -7,7 +7,7 @@ use Prim.Native.Nat.{ℕ, _≤_, _<_}
 use lib.Dec.{eqb}
 use lib.ListN.{length, getD}
 use Rattle.order.specs.Lists.{upFrom}
-use Rattle.wire.specs.Bytes.{AreBytes, splice}
+use Rattle.wire.specs.Bytes.{AreBytes}
 use Rattle.position.specs.Order.{canonical}
 use Rattle.position.specs.declared.Span.{Span}
 use Rattle.format.specs.Values.{Job}
@@ -32,7 +32,6 @@ use Rattle.serial_merging.specs.Kept.{noBoundary}
 use Rattle.serial_merging.specs.Planned.{planned}
 use Rattle.serial_measures.specs.Tables.{Labels}
 use Rattle.serial_ranks.specs.Tables.{Identity, SpansOf, WidthsOf, RampsOf}
-use Rattle.checks.specs.Numbers.{answerTooShort}
 use Rattle.checks.specs.Checks.{Check, firstRefusal}
 use Rattle.checks_calls.specs.Refusals.{boundaryChecks}
 use Rattle.results.specs.Rules.{gridOf, listingOf}
@@ -142,9 +141,3 @@ abbrev pub answerBytes : List ℕ → List ℕ → List ℕ → List ℕ
 answerBytes s order plan =
     encodeAnswer (planned (map (λ i. canon (getD (decode s .boundaries) (getD order i 0) noBoundary)) (upFrom 0 (countsAt s 0 .boundaries)))
     (λ i. getD plan i 0))
-
--- an answer's bytes in a slice that may be too short, as number and detail say
-pub record Finished (bytes before after : List ℕ) (number detail : ℕ) : Type 0 where
-  pub long : detail ≡ length bytes
-  pub written : length bytes ≤ length before → (number ≡ 0) × (after ≡ splice before 0 bytes)
-  pub unwritten : length before < length bytes → (number ≡ answerTooShort) × (after ≡ before)

@@ -60,3 +60,6 @@ answerTooShort = 22
 
 abbrev pub marksTooShort : ℕ
 marksTooShort = 23
+
+abbrev pub sliceTooShort : ℕ
+sliceTooShort = 31

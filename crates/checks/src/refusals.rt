@@ -38,3 +38,5 @@ pub const WORK_TOO_SHORT: u32 = 21;
 pub const ANSWER_TOO_SHORT: u32 = 22;
 
 pub const MARKS_TOO_SHORT: u32 = 23;
+
+pub const SLICE_TOO_SHORT: u32 = 31;

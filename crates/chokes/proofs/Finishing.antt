@@ -19,21 +19,24 @@ use Rattle.checks.specs.Numbers.{answerTooShort}
 use Rattle.checks.specs.Checks.{Check, firstRefusal}
 use Rattle.checks_calls.specs.Refusals.{jobChecks, reduceChecks, byListChecks}
 use Rattle.results.specs.Results.{ownEnds, reduced, reduceWith, reduceByListWith, leftBy}
+use Rattle.results.specs.Returns.{Finished}
 use Rattle.results.specs.Calls.{reduceResult, reduceByListResult}
-use Rattle.analysis.specs.Plans.{Leads, RankedBy, Made, PlanLeft, answerBytes, Finished}
+use Rattle.analysis.specs.Plans.{Leads, RankedBy, Made, PlanLeft, answerBytes}
 use Rattle.answer_encoding.specs.Answered.{Answerable, Answered}
 use Rattle.results.proofs.Own.{boundary-count}
 use Rattle.analysis.proofs.Leaving.{bytesBy, ordered, left-finished}
 
 -- what is written, or not
-pub finished-short : {bytes before after : List ℕ} {r : ℕ} → Answered bytes before after r → length before < r → Finished bytes before after answerTooShort r
+pub finished-short : {bytes before after : List ℕ} {r : ℕ} → Answered bytes before after r → length before < r
+    → Finished answerTooShort bytes before after answerTooShort r
 finished-short y l = record {
   long = y .long;
   written = λ h. absurd (omega (arith, y .long));
   unwritten = λ h. (refl, y .unwritten h);
 }
 
-pub finished-whole : {bytes before after : List ℕ} {r : ℕ} → Answered bytes before after r → r ≤ length before → Finished bytes before after 0 r
+pub finished-whole : {bytes before after : List ℕ} {r : ℕ} → Answered bytes before after r → r ≤ length before
+    → Finished answerTooShort bytes before after 0 r
 finished-whole y l = record {
   long = y .long;
   written = λ h. (refl, y .written h);
@@ -48,9 +51,10 @@ answerable s order e k = record { passed = e; header = refl; ordered = subst (λ
 bytes-here : (s order plan : List ℕ) → answerBytes s order plan ≡ bytesBy (decode s .boundaries) order plan
 bytes-here s order plan = rw (boundary-count s) refl
 
-module _ (s order plan : List ℕ) {answer out : List ℕ} {number detail : ℕ} (f : Finished (answerBytes s order plan) answer out number detail) where
-  same-bytes : Finished (bytesBy (decode s .boundaries) order plan) answer out number detail
-  same-bytes = subst (λ (bs : List ℕ). Finished bs answer out number detail) (bytes-here s order plan) f
+module _ (s order plan : List ℕ) {answer out : List ℕ} {number detail : ℕ}
+    (f : Finished answerTooShort (answerBytes s order plan) answer out number detail) where
+  same-bytes : Finished answerTooShort (bytesBy (decode s .boundaries) order plan) answer out number detail
+  same-bytes = subst (λ (bs : List ℕ). Finished answerTooShort bs answer out number detail) (bytes-here s order plan) f
 
   pub reduce-finished : {work after : List ℕ} {zero : ℕ} → Made limits000 eight (reduceChecks s) (decode s) (ownEnds (decode s)) work after order plan zero
       → leftBy number detail after out ≡ reduceResult s work answer

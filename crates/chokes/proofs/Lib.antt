@@ -9,3 +9,4 @@ pub mod DemandTwo
 pub mod Answers
 pub mod Making
 pub mod Instance
+pub mod Carded

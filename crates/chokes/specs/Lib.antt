@@ -5,3 +5,4 @@ pub mod DemandOne
 pub mod DemandTwo
 pub mod Answers
 pub mod Instance
+pub mod Carding

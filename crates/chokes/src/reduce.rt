@@ -3,7 +3,9 @@ ghost use mathlib.Core.Path.{_≡_};
 ghost use Rattle.format.specs.Header.{headerAt};
 ghost use Rattle.results.specs.Calls.{reduceResult, reduceByListResult};
 ghost use Rattle.results.specs.Results.{leftBy};
-ghost use Rattle.analysis.specs.Plans.{answerBytes, Finished};
+ghost use Rattle.results.specs.Returns.{Finished};
+ghost use Rattle.checks.specs.Numbers.{answerTooShort};
+ghost use Rattle.analysis.specs.Plans.{answerBytes};
 ghost use Rattle.answer_encoding.specs.Answered.{Answerable};
 use analysis::ChokesResult;
 use analysis::plan_reduce;
@@ -17,8 +19,8 @@ use serial_links::limits::Limits;
 // Writes the answer of a plan where the slice has room for it.
 fn finish(job: &[u8], order: &[u32; 256], plan: &[u32; 256], answer: &mut [u8]) -> ChokesResult
     requires { ⌜ Answerable (now job) (headerAt (now job)) (now order) ⌝ }
-    ensures { λ r. ⌜ Finished (answerBytes (now (job .entry)) (now (order .entry)) (now (plan .entry))) (now (answer .entry)) (now (answer .exit)) (r .number)
-        (r .detail) ⌝ }
+    ensures { λ r. ⌜ Finished answerTooShort (answerBytes (now (job .entry)) (now (order .entry)) (now (plan .entry))) (now (answer .entry))
+        (now (answer .exit)) (r .number) (r .detail) ⌝ }
 {
     let room = answer.len();
     let h = read_header(job);

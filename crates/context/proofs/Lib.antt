@@ -7,4 +7,7 @@ pub mod Cases
 pub mod Counting
 pub mod Bases
 pub mod CountLoop
+pub mod Along
 pub mod ElevationBits
+pub mod Cards
+pub mod CardCases

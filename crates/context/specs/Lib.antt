@@ -6,3 +6,6 @@ pub mod Listing
 pub mod Held
 pub mod Numbers
 pub mod AnchorLoop
+pub mod Cards
+pub mod Card
+pub mod CardCases

@@ -1,7 +1,7 @@
 // Statistics of regions: 001's `RegionStats`.
 ghost use mathlib.Core.Path.{_≡_};
 ghost use mathlib.Core.Bool.{cond};
-ghost use Prim.Native.Nat.{ℕ, _*_, _/_, _%_, _<_, _≤_, max};
+ghost use Prim.Native.Nat.{ℕ, _+_, _*_, _/_, _%_, _<_, _≤_, max};
 ghost use lib.ListN.{length};
 ghost use Rattle.areas.specs.Words.{labelsIn};
 ghost use Rattle.context.specs.RegionStats.{elevations, elevationKinds, regionStats};
@@ -37,7 +37,8 @@ fn greater(x: u32, y: u32) -> u32
     if x < y { y } else { x }
 }
 
-fn one(t: bool) -> u32
+// 1 or 0.
+pub fn one(t: bool) -> u32
     ensures { λ r. ⌜ (r ≡ one t) × (r ≤ 1) ⌝ }
 {
     if t { 1 } else { 0 }
@@ -116,6 +117,27 @@ pub fn row_of(i: usize, width: u32) -> u32
     ensures { λ r. ⌜ (r ≡ i / width) × (r < 1048576) ⌝ }
 {
     (i as u32) / width
+}
+
+// The column of the next cell, and its row.
+pub fn next_column(column: u32, width: u32) -> u32
+    requires { ⌜ column < width ⌝ }
+    ensures { λ r. ⌜ (column + 1 ≡ width → r ≡ 0) × ((column + 1 ≡ width → ⊥) → r ≡ column + 1) ⌝ }
+{
+    if column + 1 == width {
+        return 0;
+    }
+    column + 1
+}
+
+pub fn next_row(column: u32, row: u32, width: u32) -> u32
+    requires { ⌜ (column < width) × (row < 1048576) ⌝ }
+    ensures { λ r. ⌜ (column + 1 ≡ width → r ≡ row + 1) × ((column + 1 ≡ width → ⊥) → r ≡ row) ⌝ }
+{
+    if column + 1 == width {
+        return row + 1;
+    }
+    row
 }
 
 // One cell more, if it is of the region.

@@ -18,6 +18,8 @@ pub const REDUCE_BY_LIST: u8 = 1;
 
 pub const MARK: u8 = 2;
 
+pub const AREA_CARDS: u8 = 3;
+
 // Bytes before those of work.
 const FIELDS: usize = 22;
 
@@ -35,7 +37,10 @@ fn make(kind: u8, job: &[u8], list: &[u8], work: &mut [u8], out: &mut [u8]) -> C
     if kind == REDUCE_BY_LIST {
         return chokes::chokes_reduce_by_list(job, list, work, out);
     }
-    chokes::chokes_mark(job, work, out)
+    if kind == MARK {
+        return chokes::chokes_mark(job, work, out);
+    }
+    chokes::chokes_area_cards(job, work, out)
 }
 
 // Fills the slices that are lent, and the others with what was recorded; false where the item is
@@ -119,7 +124,7 @@ fn run_in(item: &[u8], job: &[u8], list: &[u8], w: usize, o: usize) -> u32
 
 // Makes the call of an item and compares.
 pub fn replay_call(item: &[u8], job: &[u8], list: &[u8]) -> Outcome
-    ensures { λ r. ⌜ (r .kind < 3) × (r .number < 24) ⌝ }
+    ensures { λ r. ⌜ (r .kind < 4) × (r .number < 32) ⌝ }
 {
     let none = Outcome {
         kind: 0,
@@ -131,10 +136,10 @@ pub fn replay_call(item: &[u8], job: &[u8], list: &[u8]) -> Outcome
     }
     let kind = item[0];
     let number = read_u32(item, 10);
-    if MARK < kind {
+    if AREA_CARDS < kind {
         return none;
     }
-    if 23 < number {
+    if 31 < number {
         return none;
     }
     let d = run_in(

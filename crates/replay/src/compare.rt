@@ -20,7 +20,7 @@ pub const TOO_LONG: u32 = 7;
 
 pub const AT_END: u32 = 8;
 
-// SAME just where number, detail, work and answer or marks are those that were recorded.
+// SAME just where number, detail, work and answer, marks or cards are those that were recorded.
 pub fn difference(
     number: u32,
     detail: u64,

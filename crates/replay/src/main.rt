@@ -15,7 +15,7 @@ use compare::NOT_WHOLE;
 use compare::SAME;
 
 // The kind of an item that is an input; those below it are calls.
-const INPUT: u8 = 3;
+const INPUT: u8 = 4;
 
 // The lengths of the job and of the list behind it that are held, the calls made, and whether to
 // go on.
@@ -45,7 +45,7 @@ fn stop(counts: &[u64], s: State, why: u32) -> State
 
 // Makes a call and counts it, or says what differs.
 fn make_call(item: &[u8], held: &[u8], counts: &mut [u64], s: State) -> State
-    requires { ⌜ (s .job + s .list ≤ length (now held)) × (72 ≤ length (now counts)) ⌝ }
+    requires { ⌜ (s .job + s .list ≤ length (now held)) × (128 ≤ length (now counts)) ⌝ }
     ensures { λ r. ⌜ r .job + r .list ≤ s .job + s .list ⌝ }
 {
     let j = s.job;
@@ -65,7 +65,7 @@ fn make_call(item: &[u8], held: &[u8], counts: &mut [u64], s: State) -> State
 
 // Does what an item says.
 fn act(kind: u8, item: &[u8], held: &mut [u8], counts: &mut [u64], s: State) -> State
-    requires { ⌜ (s .job + s .list ≤ length (now held)) × (72 ≤ length (now counts)) ⌝ }
+    requires { ⌜ (s .job + s .list ≤ length (now held)) × (128 ≤ length (now counts)) ⌝ }
     ensures { λ r. ⌜ r .job + r .list ≤ length (now (held .exit)) ⌝ }
 {
     if kind == INPUT {
@@ -86,7 +86,7 @@ fn act(kind: u8, item: &[u8], held: &mut [u8], counts: &mut [u64], s: State) -> 
 
 // Reads an item and does what it says.
 fn step(item: &mut [u8], held: &mut [u8], counts: &mut [u64], s: State) -> State
-    requires { ⌜ (s .job + s .list ≤ length (now held)) × (72 ≤ length (now counts)) ⌝ }
+    requires { ⌜ (s .job + s .list ≤ length (now held)) × (128 ≤ length (now counts)) ⌝ }
     ensures { λ r. ⌜ r .job + r .list ≤ length (now (held .exit)) ⌝ }
 {
     let got = reading::read_item(item);
@@ -99,7 +99,7 @@ fn step(item: &mut [u8], held: &mut [u8], counts: &mut [u64], s: State) -> State
 
 // Nothing says that the input ends, so the steps are counted down from more than a list has.
 fn replay(item: &mut [u8], held: &mut [u8], counts: &mut [u64])
-    requires { ⌜ 72 ≤ length (now counts) ⌝ }
+    requires { ⌜ 128 ≤ length (now counts) ⌝ }
 {
     let mut s = State {
         job: 0,
@@ -117,6 +117,6 @@ fn replay(item: &mut [u8], held: &mut [u8], counts: &mut [u64])
 fn main() {
     let mut item = io::large_buffer();
     let mut held = io::large_buffer();
-    let mut counts = [0u64; 72];
+    let mut counts = [0u64; 128];
     replay(&mut item, &mut held, &mut counts);
 }

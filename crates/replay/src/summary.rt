@@ -12,7 +12,7 @@ use libc::STDOUT_FILENO;
 use wire::size;
 
 // Numbers that a call may end with, and a call's place among the counts.
-pub const NUMBERS: usize = 24;
+pub const NUMBERS: usize = 32;
 
 // One more, as far as it goes.
 pub fn next(x: u64) -> u64 {
@@ -26,9 +26,9 @@ fn place(kind: u8) -> usize
 }
 
 pub fn count(counts: &mut [u64], kind: u8, number: u32)
-    requires { ⌜ (kind < 3) × (number < 24) × (72 ≤ length (now counts)) ⌝ }
+    requires { ⌜ (kind < 4) × (number < 32) × (128 ≤ length (now counts)) ⌝ }
 {
-    let i = place(kind) * 24 + size(number);
+    let i = place(kind) * 32 + size(number);
     counts[i] = next(counts[i]);
 }
 
@@ -37,8 +37,10 @@ fn write_name(kind: usize) {
         io::write_all(STDOUT_FILENO, b"reduce ");
     } else if kind == 1 {
         io::write_all(STDOUT_FILENO, b"reduce by list ");
-    } else {
+    } else if kind == 2 {
         io::write_all(STDOUT_FILENO, b"mark ");
+    } else {
+        io::write_all(STDOUT_FILENO, b"area cards ");
     }
 }
 
@@ -47,8 +49,8 @@ fn print_count(at: usize, n: u64) {
     if n == 0 {
         return;
     }
-    write_name(at / 24);
-    io::print_decimal(STDOUT_FILENO, (at % 24) as u64);
+    write_name(at / 32);
+    io::print_decimal(STDOUT_FILENO, (at % 32) as u64);
     io::write_all(STDOUT_FILENO, b": ");
     io::print_decimal(STDOUT_FILENO, n);
     io::write_all(STDOUT_FILENO, b"\n");

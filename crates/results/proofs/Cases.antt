@@ -36,6 +36,9 @@ use Rattle.position.specs.Order.{posSame, posLe, canonical}
 use Rattle.position.specs.declared.Span.{Span}
 use Rattle.context.specs.Anchors.{anchorsOf}
 use Rattle.context.specs.Listing.{spanKey, endsKey}
+use Rattle.context.specs.RegionStats.{regionStats}
+use Rattle.context.specs.Cards.{cards, cardBytes, cardWords}
+use Rattle.checks.specs.Numbers.{sliceTooShort}
 use Rattle.serial_merging.specs.Keys.{sourceKey, sourcesKey, observationKey}
 use Rattle.serial_merging.specs.Copies.{canonObservation, canon, copiesOf}
 use Rattle.serial_merging.specs.Consolidation.{orItself, observed, consolidate}
@@ -44,11 +47,12 @@ use Rattle.serial_merging.specs.Kept.{membersOf, consolidated, slot, kept}
 use Rattle.serial_merging.specs.Runs.{Run, reduceRun, itemsOf, canonItem, groupsOf, keptOf, rulesAnswer}
 use Rattle.results.specs.Rules.{gridOf, rulesOn, rulesOf}
 use Rattle.results.specs.Results.{afterWork, Outcome, leftBy, workSize, ownEnds, labelsOf, answerOf, marksOf, reduced, reduceWith, reduceByListWith}
-use Rattle.results.specs.Calls.{reduceResult, reduceByListResult, markResult}
+use Rattle.results.specs.Results.{cardsOf, cardsWith}
+use Rattle.results.specs.Calls.{reduceResult, reduceByListResult, markResult, cardsResult}
 use Rattle.results.specs.Cases.{oneCell, anchored, anchoredAnswer, leaves, Gives}
-use Rattle.results.specs.Cases.{oneSpan, OtherCalls, leavesOne, OneCellCase, CorridorCase}
+use Rattle.results.specs.Cases.{oneSpan, corridorCards, OtherCalls, leavesOne, OneCellCase, CorridorCase}
 use Rattle.checks.proofs.Firsts.{append-none}
-use Rattle.results.proofs.Results.{reduced-success, mark-success}
+use Rattle.results.proofs.Results.{writing-success, reduced-success, mark-success}
 
 -- The corridor with these bases.
 abbrev job : List Base → Job
@@ -186,6 +190,25 @@ marks-left work marks w m =
     ∙ ap (λ (l : List ℕ). record { number = 0; detail = 2; work = labelled l work; out = splice marks 0 (marksOf eight (job [])) }) (job-labels [])
     ∙ ap (λ (l : List ℕ). leaves 2 (1 ∷ 2 ∷ 3 ∷ 3 ∷ []) l work marks) job-marks
 
+-- The corridor's cards.
+job-cards : cardsOf eight (job []) ≡ corridorCards
+unfolding cardsOf cards cardBytes cardWords regionStats corridorCards words flatMap bytes componentOf count upFrom areaLabels
+job-cards = refl
+
+cards-left : (work out : List ℕ) → 40 ≤ length work → 120 ≤ length out
+    → cardsResult corridor work out ≡ leaves 120 (1 ∷ 2 ∷ 3 ∷ 3 ∷ []) corridorCards work out
+unfolding cardsResult cardsWith labelled words corridorCards bytes
+cards-left work out w m =
+    let d = corridor-job in
+    let few : length (records eight (gridOf (decode corridor)) (ownEnds (decode corridor))) ≤ 4096 = rw (d, job-pairs []) (lit≤ tt) in
+    let room : workSize (decode corridor) ≤ length work = rw d w in
+    let fits : length (cardsOf eight (decode corridor)) ≤ length out = rw (d, job-cards) m in
+    writing-success eight sliceTooShort (cardsOf eight (decode corridor)) (reduceChecks corridor) (decode corridor) (ownEnds (decode corridor)) work out
+    corridor-passes room few fits
+    ∙ ap (λ (j : Job). leftBy 0 (length (cardsOf eight j)) (labelled (labelsOf eight j (ownEnds j)) work) (splice out 0 (cardsOf eight j))) d
+    ∙ ap (λ (l : List ℕ). leftBy 0 (length (cardsOf eight (job []))) (labelled l work) (splice out 0 (cardsOf eight (job [])))) (job-labels [])
+    ∙ ap (λ (l : List ℕ). leaves (length l) (1 ∷ 2 ∷ 3 ∷ 3 ∷ []) l work out) job-cards
+
 -- The corridor by a list of one span.
 listed-passes : firstRefusal (byListChecks corridor oneSpan) ≡ none
 unfolding byListChecks listChecks spanCheck oneSpan spanAt corridor reduceChecks boundaryChecks jobChecks layoutChecks headerChecks recordChecks each cellCheck
@@ -227,7 +250,7 @@ list-left work out w o =
     ∙ ap (λ (l : List ℕ). leaves (length l) (1 ∷ 2 ∷ 2 ∷ 2 ∷ []) l work out) listed-answer
 
 pub other-calls : OtherCalls
-other-calls = record { marks = marks-left; by-list = list-left }
+other-calls = record { marks = marks-left; by-list = list-left; cards = cards-left }
 
 -- What is written goes to the first bytes, and the later ones are as they were.
 tail-left : afterWork [] [] (9 ∷ 8 ∷ 7 ∷ []) (1 ∷ []) 1 none .out ≡ 1 ∷ 8 ∷ 7 ∷ []

@@ -5,7 +5,7 @@ use mathlib.Core.List.{List, [], _∷_, _++_, flatMap}
 use mathlib.Core.Option.{Option, none, some}
 use Prim.Native.Nat.{ℕ, _<_}
 use native.Mathlib.Omega.{arith}
-use lib.Dec.{lit≤}
+use lib.Dec.{lit≤, eqb}
 use lib.ListN.{length}
 use Rattle.lists.specs.Rows.{All, none as all-none, more}
 use Rattle.lists.proofs.Each.{all-append}
@@ -17,27 +17,28 @@ use Rattle.format.specs.Values.{Job}
 use Rattle.format.specs.Corridor.{upright}
 use Rattle.format.specs.Decode.{decode, decodeList, boundaryRecords, observationRecords, sourceCount}
 use Rattle.grid.specs.Directions.{eight}
-use Rattle.serial_links.specs.Limits.{Limits, limits000}
+use Rattle.serial_links.specs.Limits.{limits000}
 use Rattle.position.specs.declared.Span.{Span}
-use Rattle.checks.specs.Numbers.{tooManyBoundaries, badLayout}
+use Rattle.checks.specs.Numbers.{tooManyBoundaries, badLayout, answerTooShort, sliceTooShort}
 use Rattle.checks.specs.Checks.{Refusal, Check, firstRefusal, each}
 use Rattle.checks.specs.Single.{headerChecks, cellCheck, sumsFault, rampCheck}
 use Rattle.checks.proofs.Firsts.{never, same-refusal, append-some}
 use Rattle.checks_calls.specs.Refusals.{reduceChecks, markChecks, byListChecks, jobChecks, layoutChecks}
 use Rattle.checks_calls.specs.Cases.{upToRamps, FirstWidth, PassesThree, bitsAt}
 use Rattle.checks_calls.proofs.Cases.{AllRefuse, Without, at, width-refused, count-refused, count-passes, all-refuse}
-use Rattle.results.specs.Results.{workCheck, answerCheck, marksCheck, ownEnds, labelsOf, pairCheck, marksOf, markWith, afterWork, outcome, answerOf}
-use Rattle.results.specs.Results.{reduced, reduceWith, reduceByListWith}
-use Rattle.results.specs.Calls.{reduceResult, reduceByListResult, markResult}
+use Rattle.results.specs.Results.{workCheck, roomCheck, marksCheck, ownEnds, labelsOf, pairCheck, marksOf, markWith, afterWork, outcome, answerOf}
+use Rattle.results.specs.Results.{writing, cardsOf, cardsWith, reduced, reduceWith, reduceByListWith}
+use Rattle.results.specs.Calls.{reduceResult, reduceByListResult, markResult, cardsResult}
 use Rattle.results.specs.Cases.{negative, negativeZero, counted, AllCallsRefuse, NoCallGives, NegativeZeroCase, CountCase}
 
 -- What the checks of every call give, the calls give, before anything is written.
 calls-refuse : (s : List ℕ) (r : Refusal) → AllRefuse s r → AllCallsRefuse s (r .number) (r .detail)
-unfolding reduceResult reduceByListResult markResult reduceWith reduceByListWith markWith reduced outcome
+unfolding reduceResult reduceByListResult markResult cardsResult reduceWith reduceByListWith markWith cardsWith reduced writing outcome
 calls-refuse s r a = record {
   reduce = λ work answer. rw (append-some _ _ _ (a .reduce));
   by-list = λ list work answer. rw (append-some _ _ _ (a .by-list list));
   mark = λ work marks. rw (append-some _ _ _ (a .mark));
+  cards = λ work cards. rw (append-some _ _ _ (a .reduce));
 }
 
 -- The refusal that is found is of a check that holds.
@@ -65,14 +66,14 @@ module _ (n : ℕ) (some-number : 0 < n) (work labels out written : List ℕ) (s
   outcome-without (some r) e f = found-without n es e f
 
 -- Up to 256 boundaries: a call does not give 4.
-reduced-without : (limits : Limits) (dirs : List ℕ) (checks : List Check) (j : Job) (ss : List Span) (work answer : List ℕ)
-    → All (Without tooManyBoundaries) checks → reduced limits dirs checks j ss work answer .number ≡ tooManyBoundaries → ⊥
-unfolding reduced
-reduced-without limits dirs checks j ss work answer h =
-    let written = answerOf limits dirs j ss in
-    let later : List Check = pairCheck dirs j ss ∷ answerCheck written answer ∷ [] in
-    outcome-without tooManyBoundaries (omega arith) work (labelsOf dirs j ss) answer written (length written) (checks ++ (workCheck j work ∷ [])) later
-    (all-append h (at refl all-none)) (at refl (at refl all-none)) (firstRefusal (checks ++ (workCheck j work ∷ []))) refl
+writing-without : (dirs : List ℕ) (short : ℕ) (bytes : List ℕ) (checks : List Check) (j : Job) (ss : List Span) (work out : List ℕ)
+    → eqb short tooManyBoundaries ≡ false → All (Without tooManyBoundaries) checks
+    → writing dirs short bytes checks j ss work out .number ≡ tooManyBoundaries → ⊥
+unfolding writing
+writing-without dirs short bytes checks j ss work out n h =
+    let later : List Check = pairCheck dirs j ss ∷ roomCheck short bytes out ∷ [] in
+    outcome-without tooManyBoundaries (omega arith) work (labelsOf dirs j ss) out bytes (length bytes) (checks ++ (workCheck j work ∷ [])) later
+    (all-append h (at refl all-none)) (at refl (at n all-none)) (firstRefusal (checks ++ (workCheck j work ∷ []))) refl
 
 mark-without : (dirs s work marks : List ℕ) → All (Without tooManyBoundaries) (markChecks s) → markWith dirs s work marks .number ≡ tooManyBoundaries → ⊥
 unfolding markWith
@@ -84,13 +85,18 @@ mark-without dirs s work marks h =
     (all-append h (at refl all-none)) (at refl (at refl all-none)) (firstRefusal earlier) refl
 
 count-calls : (s : List ℕ) → headerAt s .counts .boundaries ≡ 256 → NoCallGives s tooManyBoundaries
-unfolding reduceResult reduceByListResult markResult reduceWith reduceByListWith
+unfolding reduceResult reduceByListResult markResult cardsResult reduceWith reduceByListWith reduced cardsWith
 count-calls s e =
     let a = count-passes s (omega arith) in
+    let j = decode s in
+    let ends = ownEnds j in
     record {
-      reduce = λ work answer. reduced-without limits000 eight (reduceChecks s) (decode s) (ownEnds (decode s)) work answer (a .reduce);
-      by-list = λ list work answer. reduced-without limits000 eight (byListChecks s list) (decode s) (decodeList list) work answer (a .by-list list);
+      reduce = λ work answer. writing-without eight answerTooShort (answerOf limits000 eight j ends) (reduceChecks s) j ends work answer refl (a .reduce);
+      by-list = λ list work answer.
+          writing-without eight answerTooShort (answerOf limits000 eight j (decodeList list)) (byListChecks s list) j (decodeList list) work answer refl
+          (a .by-list list);
       mark = λ work marks. mark-without eight s work marks (a .mark);
+      cards = λ work cards. writing-without eight sliceTooShort (cardsOf eight j) (reduceChecks s) j ends work cards refl (a .reduce);
     }
 
 -- The jobs that show them.

@@ -1,8 +1,11 @@
 -- What the calls leave at each of their returns.
 use mathlib.Core.Path.{_≡_, sym}
+use mathlib.Core.Logic.{by-cases}
 use mathlib.Core.List.{List, [], _∷_}
 use mathlib.Core.Option.{none}
 use Prim.Native.Nat.{ℕ, _≤_, _<_}
+use native.Mathlib.Decide.{decLt}
+use native.Mathlib.Omega.{arith}
 use borrow.Author.Tests.{le-ltb, lt-ltb}
 use lib.ListN.{length}
 use Rattle.areas.specs.Words.{labelled}
@@ -17,42 +20,77 @@ use Rattle.checks.specs.Numbers.{tooManyPairs, answerTooShort, marksTooShort}
 use Rattle.checks.specs.Checks.{Check, firstRefusal}
 use Rattle.checks.proofs.Firsts.{stop, clear}
 use Rattle.results.specs.Rules.{gridOf}
-use Rattle.results.specs.Results.{workSize, ownEnds, answerCheck, marksCheck, marksOf, markWith, maxPairs, labelsOf, answerOf, reduced, leftBy}
-use Rattle.results.specs.Returns.{FirstAnswer}
+use Rattle.results.specs.Results.{workSize, ownEnds, marksOf, markWith, maxPairs, labelsOf, roomCheck, marksCheck, writing, answerOf, reduced, leftBy}
+use Rattle.results.specs.Returns.{FirstAnswer, Finished}
 use Rattle.results.proofs.Returns.{first-return, pairs-return, last-return, success-return}
 
-module _ (limits : Limits) (dirs : List ℕ) (checks : List Check) (j : Job) (ss : List Span) (work answer : List ℕ) where
-  abbrev bytes : List ℕ
-  bytes = answerOf limits dirs j ss
-
+-- A call that writes bytes of a length that is known.
+module _ (dirs : List ℕ) (short : ℕ) (bytes : List ℕ) (checks : List Check) (j : Job) (ss : List Span) (work out : List ℕ) where
   abbrev room : List Check
-  room = answerCheck bytes answer ∷ []
+  room = roomCheck short bytes out ∷ []
 
   -- a refusal of the input, and 21
-  pub reduced-first : {number detail : ℕ} → FirstAnswer (firstRefusal checks) (workSize j) (length work) number detail → 0 < number
-      → leftBy number detail work answer ≡ reduced limits dirs checks j ss work answer
-  unfolding reduced
-  reduced-first f h = first-return dirs checks room j ss work answer bytes (length bytes) f h
+  pub writing-first : {number detail : ℕ} → FirstAnswer (firstRefusal checks) (workSize j) (length work) number detail → 0 < number
+      → leftBy number detail work out ≡ writing dirs short bytes checks j ss work out
+  unfolding writing
+  writing-first f h = first-return dirs checks room j ss work out bytes (length bytes) f h
 
   module _ (e : firstRefusal checks ≡ none) (w : workSize j ≤ length work) where
     abbrev worked : List ℕ
     worked = labelled (labelsOf dirs j ss) work
 
     -- 13
-    pub reduced-many : maxPairs < length (records dirs (gridOf j) ss) → leftBy tooManyPairs 0 worked answer ≡ reduced limits dirs checks j ss work answer
-    unfolding reduced
-    reduced-many h = pairs-return dirs checks room j ss work answer bytes (length bytes) e w h
+    pub writing-many : maxPairs < length (records dirs (gridOf j) ss) → leftBy tooManyPairs 0 worked out ≡ writing dirs short bytes checks j ss work out
+    unfolding writing
+    writing-many h = pairs-return dirs checks room j ss work out bytes (length bytes) e w h
 
     module _ (p : length (records dirs (gridOf j) ss) ≤ maxPairs) where
-      -- 22
-      pub reduced-short : length answer < length bytes → reduced limits dirs checks j ss work answer ≡ leftBy answerTooShort (length bytes) worked answer
-      unfolding reduced
-      reduced-short a = sym (last-return dirs checks room j ss work answer bytes (length bytes) e w p (stop _ [] (lt-ltb _ _ a)))
+      -- too short a slice
+      pub writing-short : length out < length bytes → writing dirs short bytes checks j ss work out ≡ leftBy short (length bytes) worked out
+      unfolding writing
+      writing-short a = sym (last-return dirs checks room j ss work out bytes (length bytes) e w p (stop _ [] (lt-ltb _ _ a)))
 
+      pub writing-success : length bytes ≤ length out
+          → writing dirs short bytes checks j ss work out ≡ leftBy 0 (length bytes) worked (splice out 0 bytes)
+      unfolding writing
+      writing-success a = sym (success-return dirs checks room j ss work out bytes (length bytes) e w p (clear _ (le-ltb _ _ a)))
+
+      -- one of the two
+      pub writing-finished : {after : List ℕ} {number detail : ℕ} → Finished short bytes out after number detail
+          → leftBy number detail worked after ≡ writing dirs short bytes checks j ss work out
+      writing-finished f = by-cases (decLt (length out) (length bytes))
+          (λ h. rw (f .unwritten h .0, f .unwritten h .1, f .long) (sym (writing-short h)))
+          (λ h. let l : length bytes ≤ length out = omega arith in rw (f .written l .0, f .written l .1, f .long) (sym (writing-success l)))
+
+-- Reduce and Reduce by list.
+module _ (limits : Limits) (dirs : List ℕ) (checks : List Check) (j : Job) (ss : List Span) (work answer : List ℕ) where
+  abbrev bytes : List ℕ
+  bytes = answerOf limits dirs j ss
+
+  -- a refusal of the input, and 21
+  pub reduced-first : {number detail : ℕ} → FirstAnswer (firstRefusal checks) (workSize j) (length work) number detail → 0 < number
+      → leftBy number detail work answer ≡ reduced limits dirs checks j ss work answer
+  unfolding reduced
+  reduced-first f h = writing-first dirs answerTooShort bytes checks j ss work answer f h
+
+  module _ (e : firstRefusal checks ≡ none) (w : workSize j ≤ length work) where
+    -- 13
+    pub reduced-many : maxPairs < length (records dirs (gridOf j) ss)
+        → leftBy tooManyPairs 0 (labelled (labelsOf dirs j ss) work) answer ≡ reduced limits dirs checks j ss work answer
+    unfolding reduced
+    reduced-many h = writing-many dirs answerTooShort bytes checks j ss work answer e w h
+
+    module _ (p : length (records dirs (gridOf j) ss) ≤ maxPairs) where
       pub reduced-success : length bytes ≤ length answer
-          → reduced limits dirs checks j ss work answer ≡ leftBy 0 (length bytes) worked (splice answer 0 bytes)
+          → reduced limits dirs checks j ss work answer ≡ leftBy 0 (length bytes) (labelled (labelsOf dirs j ss) work) (splice answer 0 bytes)
       unfolding reduced
-      reduced-success a = sym (success-return dirs checks room j ss work answer bytes (length bytes) e w p (clear _ (le-ltb _ _ a)))
+      reduced-success a = writing-success dirs answerTooShort bytes checks j ss work answer e w p a
+
+      -- 22, or success
+      pub reduced-finished : {after : List ℕ} {number detail : ℕ} → Finished answerTooShort bytes answer after number detail
+          → leftBy number detail (labelled (labelsOf dirs j ss) work) after ≡ reduced limits dirs checks j ss work answer
+      unfolding reduced
+      reduced-finished f = writing-finished dirs answerTooShort bytes checks j ss work answer e w p f
 
 module _ (dirs s work marks : List ℕ) where
   abbrev ends : List Span

@@ -8,7 +8,7 @@ use Rattle.format.specs.Header.{headerAt}
 use Rattle.format.specs.Corridor.{upright, corridor, corridorAnswer}
 use Rattle.checks_calls.specs.Cases.{FirstWidth, PassesThree, bitsAt}
 use Rattle.results.specs.Results.{Outcome, leftBy}
-use Rattle.results.specs.Calls.{reduceResult, reduceByListResult, markResult}
+use Rattle.results.specs.Calls.{reduceResult, reduceByListResult, markResult, cardsResult}
 
 -- A map of 1 × 1 cells with no boundaries.
 unfoldable pub oneCell : ℕ → List ℕ
@@ -44,24 +44,36 @@ unfoldable pub oneSpan : List ℕ
 unfolding words
 oneSpan = words (8 ∷ 0 ∷ 8 ∷ 8 ∷ [])
 
--- The other two calls on the corridor: both boundaries are bridges; and where spans and boundaries differ in number, sorted copies and no merge.
+-- The corridor's cards: cells, box, ramp, cells of each elevation.
+unfoldable pub corridorCards : List ℕ
+unfolding words
+corridorCards =
+    words (1 ∷ 0 ∷ 0 ∷ 8 ∷ 8 ∷ 0 ∷ 1 ∷ 0 ∷ 0 ∷ 0 ∷ [])
+    ++ (words (1 ∷ 8 ∷ 0 ∷ 16 ∷ 8 ∷ 0 ∷ 1 ∷ 0 ∷ 0 ∷ 0 ∷ []) ++ words (2 ∷ 16 ∷ 0 ∷ 32 ∷ 8 ∷ 0 ∷ 2 ∷ 0 ∷ 0 ∷ 0 ∷ []))
+
+-- The other calls on the corridor: both boundaries are bridges; and where spans and boundaries differ in number, sorted copies and no merge.
 pub record OtherCalls : Type 0 where
   pub marks : (work marks : List ℕ) → 40 ≤ length work → 2 ≤ length marks
       → markResult corridor work marks ≡ leaves 2 (1 ∷ 2 ∷ 3 ∷ 3 ∷ []) (1 ∷ 1 ∷ []) work marks
   pub by-list : (work answer : List ℕ) → 40 ≤ length work → length anchoredAnswer ≤ length answer
       → reduceByListResult corridor oneSpan work answer ≡ leaves (length anchoredAnswer) (1 ∷ 2 ∷ 2 ∷ 2 ∷ []) anchoredAnswer work answer
+  -- Area cards on it: three areas, the last of two cells
+  pub cards : (work cards : List ℕ) → 40 ≤ length work → 120 ≤ length cards
+      → cardsResult corridor work cards ≡ leaves 120 (1 ∷ 2 ∷ 3 ∷ 3 ∷ []) corridorCards work cards
 
 -- Every call gives this refusal, whatever list and slices it has, and leaves the slices as they were.
 pub record AllCallsRefuse (job : List ℕ) (number detail : ℕ) : Type 0 where
   pub reduce : (work answer : List ℕ) → reduceResult job work answer ≡ leftBy number detail work answer
   pub by-list : (list work answer : List ℕ) → reduceByListResult job list work answer ≡ leftBy number detail work answer
   pub mark : (work marks : List ℕ) → markResult job work marks ≡ leftBy number detail work marks
+  pub cards : (work cards : List ℕ) → cardsResult job work cards ≡ leftBy number detail work cards
 
 -- No call gives this number, whatever list and slices it has.
 pub record NoCallGives (job : List ℕ) (number : ℕ) : Type 0 where
   pub reduce : (work answer : List ℕ) → reduceResult job work answer .number ≡ number → ⊥
   pub by-list : (list work answer : List ℕ) → reduceByListResult job list work answer .number ≡ number → ⊥
   pub mark : (work marks : List ℕ) → markResult job work marks .number ≡ number → ⊥
+  pub cards : (work cards : List ℕ) → cardsResult job work cards .number ≡ number → ⊥
 
 -- The bits of -0: the sign alone.
 abbrev pub negativeZero : ℕ

@@ -1,4 +1,4 @@
--- What each call leaves: its result, and work and answer or marks at exit, whole, for every state at entry.
+-- What each call leaves: its result, and work and answer, marks or cards at exit, whole, for every state at entry.
 use mathlib.Core.Bool.{cond}
 use mathlib.Core.List.{List, [], _∷_, _++_, map}
 use mathlib.Core.Option.{Option, none, some}
@@ -12,10 +12,11 @@ use Rattle.wire.specs.Bytes.{splice}
 use Rattle.format.specs.Values.{Boundary, Job}
 use Rattle.format.specs.Decode.{decode, decodeList}
 use Rattle.graph.specs.Bridges.{markOf}
-use Rattle.areas.specs.Areas.{areaLabels}
+use Rattle.areas.specs.Areas.{areaLabels, areaCount}
 use Rattle.areas.specs.Assessments.{records}
+use Rattle.context.specs.Cards.{cards}
 use Rattle.serial_links.specs.Limits.{Limits}
-use Rattle.checks.specs.Numbers.{tooManyPairs, workTooShort, answerTooShort, marksTooShort}
+use Rattle.checks.specs.Numbers.{tooManyPairs, workTooShort, answerTooShort, marksTooShort, sliceTooShort}
 use Rattle.checks.specs.Checks.{Refusal, Check, check, firstRefusal}
 use Rattle.checks_calls.specs.Refusals.{reduceChecks, markChecks, byListChecks}
 use Rattle.serial_merging.specs.Runs.{rulesAnswer}
@@ -57,9 +58,9 @@ module _ (work labels out written : List ℕ) (success : ℕ) where
 abbrev pub workCheck : Job → List ℕ → Check
 workCheck j work = check (ltb (length work) (workSize j)) workTooShort 0
 
--- "22 answer slice too short (exact length needed)."
-abbrev pub answerCheck : List ℕ → List ℕ → Check
-answerCheck written answer = check (ltb (length answer) (length written)) answerTooShort (length written)
+-- A slice that is too short for the bytes, by a number of its own: 22 for an answer, 31 for others. "(detail: exact length needed)"
+abbrev pub roomCheck : ℕ → List ℕ → List ℕ → Check
+roomCheck short bytes out = check (ltb (length out) (length bytes)) short (length bytes)
 
 -- "23 fewer mark bytes than boundaries."
 abbrev pub marksCheck : Job → List ℕ → Check
@@ -76,6 +77,25 @@ module _ (dirs : List ℕ) where
 
   abbrev pub pairCheck : Job → List Span → Check
   pairCheck j ss = check (ltb maxPairs (length (records dirs (gridOf j) ss))) tooManyPairs 0
+
+  -- A call that writes so many bytes: the checks of the input, then 21; 13, and its own number where the slice is too short, with the exact length
+  -- needed; then the bytes, with their length.
+  unfoldable pub writing : ℕ → List ℕ → List Check → Job → List Span → List ℕ → List ℕ → Outcome
+  unfolding outcome firstRefusal
+  writing short bytes checks j ss work out =
+      outcome work (labelsOf j ss) out bytes (length bytes)
+      (pairCheck j ss ∷ roomCheck short bytes out ∷ [])
+      (firstRefusal (checks ++ (workCheck j work ∷ [])))
+
+  -- "partitions as Reduce does, and writes for each label in order ten u32"
+  unfoldable pub cardsOf : Job → List ℕ
+  unfolding cards areaCount
+  cardsOf j = cards (gridOf j) (labelsOf j (ownEnds j)) (areaCount dirs (gridOf j) (ownEnds j))
+
+  -- "A card slice that is too short is declined with 31, the needed length as detail, in the place of 22."
+  unfoldable pub cardsWith : List ℕ → List ℕ → List ℕ → Outcome
+  unfolding writing cardsOf
+  cardsWith s work out = writing sliceTooShort (cardsOf (decode s)) (reduceChecks s) (decode s) (ownEnds (decode s)) work out
 
   -- "*Mark* writes one byte per boundary of a job: 1 if it is in the bridge set below, else 0."
   unfoldable pub marksOf : Job → List ℕ
@@ -95,13 +115,10 @@ module _ (limits : Limits) (dirs : List ℕ) where
   abbrev pub answerOf : Job → List Span → List ℕ
   answerOf j ss = rulesAnswer (rulesOf limits dirs j) (record { boundaries = j .boundaries; spans = ss })
 
-  -- The checks of the input, then 21; 13 and 22; then the answer, with its length.
+  -- "22 answer slice too short (detail: exact length needed)."
   unfoldable pub reduced : List Check → Job → List Span → List ℕ → List ℕ → Outcome
-  unfolding outcome firstRefusal
-  reduced checks j ss work answer =
-      outcome work (labelsOf dirs j ss) answer (answerOf j ss) (length (answerOf j ss))
-      (pairCheck dirs j ss ∷ answerCheck (answerOf j ss) answer ∷ [])
-      (firstRefusal (checks ++ (workCheck j work ∷ [])))
+  unfolding writing
+  reduced checks j ss work answer = writing dirs answerTooShort (answerOf j ss) checks j ss work answer
 
   unfoldable pub reduceWith : List ℕ → List ℕ → List ℕ → Outcome
   unfolding reduced

@@ -1,4 +1,4 @@
--- The pass over the cells: where the next cell lies, and what a cell does to the links.
+-- The pass over the cells: what a cell does to the links.
 use mathlib.Core.Path.{_≡_, refl, sym, _∙_, ap, subst}
 use mathlib.Core.Logic.{by-cases}
 use mathlib.Core.Bool.{false}
@@ -13,7 +13,7 @@ use lib.Seq.{getD-set-same, getD-set-other}
 use Rattle.lists.specs.Rows.{at}
 use Rattle.order.specs.Lists.{keep, upFrom}
 use Rattle.grid.specs.Cells.{Grid, Whole, size, cellAt}
-use Rattle.grid.proofs.Index.{column-of, row-of, row-in}
+use Rattle.grid.proofs.Index.{row-in}
 use Rattle.areas.specs.Areas.{labelAt}
 use Rattle.areas.specs.Words.{word, labelsIn}
 use Rattle.areas.proofs.Words.{label-in}
@@ -23,30 +23,14 @@ use Rattle.serial_links.specs.declared.link.Link.{Link as LinkHeld}
 use Rattle.serial_links.proofs.Cells.{after-none, after-next}
 use Rattle.context.specs.Held.{CellRoom, NoCells, statsWithCell, statsAfter, firstCells}
 use Rattle.context.specs.declared.stats.RegionStats.{RegionStats as StatsHeld}
+use Rattle.context.proofs.Along.{place-of}
 use Rattle.context.proofs.Counting.{after-next as stats-next, after-room, cells-in, cells-out, cells-most}
 use Rattle.serial_measures.specs.Tables.{tableNumber, RegionNumbers}
 use Rattle.serial_measures.specs.Judging.{valueIn, EmptyLinks, linkNow, statsNow, Running}
 
--- the cell of a column and a row
-pub place-of : (g : Grid) {x y i : ℕ} → y * g .width + x ≡ i → x < g .width → (x ≡ i % g .width) × (y ≡ i / g .width)
-place-of g {x} {y} e l = (sym (column-of g x y l) ∙ ap (λ (z : ℕ). z % g .width) e, sym (row-of g x y l) ∙ ap (λ (z : ℕ). z / g .width) e)
-
+-- a cell of the map is in one of its rows
 pub row-below : (g : Grid) {x y i : ℕ} → Whole g → y * g .width + x ≡ i → x < g .width → i < size g → y < g .height
 row-below g {x} {y} {i} w e l on = omega (arith, place-of g e l .1, row-in g w i on)
-
-pub next-place : {x y w i c r : ℕ} → y * w + x ≡ i → x < w → (x + 1 ≡ w → c ≡ 0) × ((x + 1 ≡ w → ⊥) → c ≡ x + 1) → (x + 1 ≡ w → r ≡ y + 1)
-    × ((x + 1 ≡ w → ⊥) → r ≡ y)
-    → (r * w + c ≡ i + 1) × (c < w)
-next-place {x} {y} {w} {i} {c} {r} e l p q =
-    by-cases (ℕ-discrete (x + 1) w)
-    (λ h.
-    let a = p .0 h in
-    let m : r * w ≡ (y + 1) * w = ap (λ (z : ℕ). z * w) (q .0 h) in
-    (omega (arith, m, a, h, e), omega (arith, a, l)))
-    (λ h.
-    let a = p .1 h in
-    let m : r * w ≡ y * w = ap (λ (z : ℕ). z * w) (q .1 h) in
-    (omega (arith, m, a, e), omega (arith, a, h, l)))
 
 -- the links without a cell
 pub fill-start : (own bits firsts seconds : List ℕ) (v : LinkHeld) → EmptyLinks own bits firsts seconds 0 (replicate 256 v)

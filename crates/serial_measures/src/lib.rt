@@ -15,6 +15,8 @@ ghost use Rattle.serial_measures.specs.Tables.{LinkRegions, Labels, Writ
 ghost use Rattle.serial_measures.specs.Judging.{CoordinatesBounded, LinkEndsInside, valueIn, flatIn, Judged, Measured};
 use areas::spans::span_at;
 use context::stats::RegionStats;
+use context::stats::next_column;
+use context::stats::next_row;
 use few::measure_few;
 use label_table::put_word;
 use label_table::word_of;
@@ -76,27 +78,6 @@ fn link_at(own: &[u32; 1024], bits: &[u64; 256], first: u32, second: u32) -> Lin
     let i = size(first);
     let j = size(second);
     link_of(span_at(own, i), bits[i], span_at(own, j), bits[j])
-}
-
-// The column of the next cell, and its row.
-fn next_column(column: u32, width: u32) -> u32
-    requires { ⌜ column < width ⌝ }
-    ensures { λ r. ⌜ (column + 1 ≡ width → r ≡ 0) × ((column + 1 ≡ width → ⊥) → r ≡ column + 1) ⌝ }
-{
-    if column + 1 == width {
-        return 0;
-    }
-    column + 1
-}
-
-fn next_row(column: u32, row: u32, width: u32) -> u32
-    requires { ⌜ (column < width) × (row < 1024) ⌝ }
-    ensures { λ r. ⌜ (column + 1 ≡ width → r ≡ row + 1) × ((column + 1 ≡ width → ⊥) → r ≡ row) ⌝ }
-{
-    if column + 1 == width {
-        return row + 1;
-    }
-    row
 }
 
 // 1 for a link that passes.

@@ -6,9 +6,10 @@ use borrow.Author.Needs.{needs}
 use Rattle.areas.specs.Words.{labelsIn}
 use Rattle.grid.specs.Cells.{Grid}
 use Rattle.serial_links.specs.HeldLimits.{limitsOf}
+use Rattle.context.proofs.Along.{place-of, next-place}
 use Rattle.serial_measures.specs.Judging.{EmptyLinks, Running, Judged}
 use Rattle.serial_measures.proofs.Reading.{area}
-use Rattle.serial_measures.proofs.Turns.{place-of, row-below, next-place, fill-start, fill-next, fill-end, pass-start, pass-end}
+use Rattle.serial_measures.proofs.Turns.{row-below, fill-start, fill-next, fill-end, pass-start, pass-end}
 use Rattle.serial_measures.proofs.Turns.{turn-out, turn-on, turn-room, turn-in}
 use Rattle.serial_measures.proofs.Meaning.{judge-start, judge-row, judge-end}
 use Rattle.serial_measures.proofs.measure_all.Statement.{statement}
@@ -221,7 +222,7 @@ measure-all-spec =
     (λ c. omega (arith, small (search)))
     loop-again
     loop2-holds
-    (λ c κs. (c .before .loop2 .inv .2, low c))
+    (λ c κs. (c .before .loop2 .inv .2, omega (arith, low c)))
     (λ c κs. c .before .before .loop2 .inv .2)
     (λ c. omega (arith, on (search), cells-few (search)))
     number-at-requires

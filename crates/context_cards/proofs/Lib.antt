@@ -1,0 +1,4 @@
+pub mod Writing
+pub mod Reading
+pub mod Bounds
+pub mod Turns
