@@ -1,4 +1,5 @@
 pub mod Bools
+pub mod Tests
 pub mod Members
 pub mod Pairs
 pub mod Distinct

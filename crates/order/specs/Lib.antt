@@ -5,3 +5,4 @@ pub mod Lists
 pub mod Pairs
 pub mod Shuffled
 pub mod Merge
+pub mod Tests

@@ -18,7 +18,7 @@ use Rattle.order.proofs.Numbers.{mem-has}
 use Rattle.position.specs.declared.WalkPosition.{WalkPosition}
 use Rattle.grid.specs.Cells.{Grid}
 use Rattle.serial_links.specs.Limits.{Limits}
-use Rattle.serial_groups.specs.Tests.{every}
+use Rattle.order.specs.Tests.{every}
 use Rattle.context.specs.Listing.{Item}
 use Rattle.serial_groups.specs.Regions.{bridgeAt}
 use Rattle.serial_groups.specs.Links.{LinkAt, joins, links}
@@ -27,7 +27,7 @@ use Rattle.serial_groups.specs.Groups.{LinkGroup, isJoined, groupsOf, in
 use Rattle.serial_groups.specs.SimplePath.{simplePath, IsSimplePath}
 use Rattle.serial_groups.specs.Serial.{chainSum, endDistance, acceptsSerial, serialLinks, serialGroups}
 use Rattle.serial_groups.specs.Flat.{leastFlatSpans, alike, isFlat, acceptsFlat, isFlatLink, flatLinks, flatGroups, accepted}
-use Rattle.serial_groups.proofs.Tests.{mem-any, any-mem}
+use Rattle.order.proofs.Tests.{mem-any, any-mem}
 use Rattle.serial_groups.proofs.Links.{link-iff}
 use Rattle.serial_groups.proofs.SimplePath.{simple-path-iff, path-two}
 use Rattle.serial_groups.proofs.Groups.{group-below, group-joined, group-rising, groups-apart, group-links, link-within}

@@ -23,7 +23,7 @@ use Rattle.serial_groups.specs.SimplePath.{linksAt, degree, endsOf, firs
 use Rattle.serial_groups.specs.LinkRule.{Touches, FullPair}
 use Rattle.serial_groups.specs.ConnectedPart.{LinkJoins, LinkOf}
 use Rattle.serial_groups.specs.Chain.{JoinedByOne, JoinedByTwo, Beyond, Chain}
-use Rattle.serial_groups.proofs.Tests.{two-members}
+use Rattle.order.proofs.Tests.{two-members}
 use Rattle.serial_groups.proofs.Links.{pair-iff}
 use Rattle.serial_groups.proofs.ConnectedPart.{joins-iff}
 

@@ -13,7 +13,7 @@ use Rattle.serial_groups.specs.Links.{LinkAt, joins}
 use Rattle.serial_groups.specs.Groups.{LinkGroup, linkEdge, linkEdges, isJoined, groupsOf}
 use Rattle.serial_groups.specs.ConnectedPart.{LinkJoins, Walk, LinkOf, ConnectedPart}
 use Rattle.serial_groups.specs.ConnectedPart as Words
-use Rattle.serial_groups.proofs.Tests.{any-mem, either-iff}
+use Rattle.order.proofs.Tests.{any-mem, either-iff}
 use Rattle.serial_groups.proofs.Groups.{group-some, group-pairs, group-rising, group-joined, group-part, group-covers, group-links, link-within, joined}
 
 -- the test of a link's ranks

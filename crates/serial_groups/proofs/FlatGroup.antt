@@ -23,7 +23,7 @@ use Rattle.context.specs.RegionStats.{elevationKinds}
 use Rattle.context.specs.Listing.{Item}
 use Rattle.context.proofs.RegionStats.{region-cells-iff, ramp-iff}
 use Rattle.context.proofs.Elevations.{one-elevation-iff}
-use Rattle.serial_groups.specs.Tests.{every}
+use Rattle.order.specs.Tests.{every}
 use Rattle.serial_groups.specs.Regions.{regionLabels, cellsOf, statsOf}
 use Rattle.serial_groups.specs.Links.{LinkAt, links}
 use Rattle.serial_groups.specs.Measuring.{valueOf, staysInside}
@@ -34,7 +34,7 @@ use Rattle.serial_groups.specs.Flat.{alike, isFlat, acceptsFlat, isLeft,
 use Rattle.serial_groups.specs.LinkRule.{LiesIn}
 use Rattle.serial_groups.specs.ConnectedPart.{ConnectedPart}
 use Rattle.serial_groups.specs.FlatGroup.{StaysOn, InEnvelope, FlatRegion, LeftBySerial, FlatLink, FlatGroup}
-use Rattle.serial_groups.proofs.Tests.{every-mem, mem-every, mem-any, any-mem}
+use Rattle.order.proofs.Tests.{every-mem, mem-every, mem-any, any-mem}
 use Rattle.serial_groups.proofs.LinkRule.{gives-iff}
 use Rattle.serial_groups.proofs.SerialGroup.{chosen-parts, simple-chain, chain-simple, serial-iff}
 

@@ -20,7 +20,7 @@ use Rattle.graph.proofs.Paths.{path-kept, path-edge}
 use Rattle.graph.proofs.Parts.{part-path, part-iff, part-le, part-idem}
 use Rattle.serial_groups.specs.Links.{LinkAt, joins}
 use Rattle.serial_groups.specs.Groups.{LinkGroup, linkEdge, linkEdges, isJoined, groupAt, groupsOf, LinkGroupsDisjoint}
-use Rattle.serial_groups.proofs.Tests.{mem-any}
+use Rattle.order.proofs.Tests.{mem-any}
 
 module _ (n : ℕ) (ks : List LinkAt) where
   abbrev member : ℕ → ℕ → Bool

@@ -23,7 +23,7 @@ use Rattle.serial_groups.specs.Listing.{boundaryAt, endsAt}
 use Rattle.serial_groups.specs.Regions.{regionLabels, assessAt}
 use Rattle.serial_groups.specs.Links.{LinkAt, linkable, links, IsLink}
 use Rattle.serial_groups.specs.LinkRule.{Touches, Linkable, Gives}
-use Rattle.serial_groups.proofs.Tests.{either-iff}
+use Rattle.order.proofs.Tests.{either-iff}
 use Rattle.serial_groups.proofs.Links.{link-iff}
 
 touches-words : (a : Assessment) (r : ℕ) → (touches a r ≡ true) ↔ Touches a r

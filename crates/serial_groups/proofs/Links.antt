@@ -23,7 +23,7 @@ use Rattle.context.specs.Listing.{Item}
 use Rattle.serial_groups.specs.Listing.{endsAt}
 use Rattle.serial_groups.specs.Regions.{regionLabels, regionCount, assessAt, touching}
 use Rattle.serial_groups.specs.Links.{LinkAt, centresDiffer, linkable, linkAt, givesLink, links, IsLink}
-use Rattle.serial_groups.proofs.Tests.{two-members}
+use Rattle.order.proofs.Tests.{two-members}
 
 -- the members of a list of two
 pub pair-iff : {A : Type 0} (x y z : A) → List·Memᴰ z (x ∷ y ∷ []) ↔ ((z ≡ x) ⊎ (z ≡ y))

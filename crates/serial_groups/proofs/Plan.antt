@@ -13,13 +13,13 @@ use Rattle.order.proofs.Numbers.{has-mem, mem-has}
 use Rattle.position.specs.declared.WalkPosition.{WalkPosition}
 use Rattle.grid.specs.Cells.{Grid}
 use Rattle.serial_links.specs.Limits.{Limits}
-use Rattle.serial_groups.specs.Tests.{any}
+use Rattle.order.specs.Tests.{any}
 use Rattle.context.specs.Listing.{Item}
 use Rattle.serial_groups.specs.Groups.{LinkGroup, inAnyLinkGroup, LinkGroupsDisjoint}
 use Rattle.serial_groups.specs.Flat.{accepted}
 use Rattle.serial_groups.specs.Representative.{retained}
 use Rattle.serial_groups.specs.Plan.{goesInto, mergePlan}
-use Rattle.serial_groups.proofs.Tests.{any-mem, mem-any}
+use Rattle.order.proofs.Tests.{any-mem, mem-any}
 use Rattle.serial_groups.proofs.Accepted.{groups-disjoint, accepted-below, accepted-two}
 use Rattle.serial_groups.proofs.Representative.{retained-mem}
 

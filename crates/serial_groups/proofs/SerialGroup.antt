@@ -17,7 +17,7 @@ use Rattle.areas.specs.Assessments.{records}
 use Rattle.serial_links.specs.Limits.{Limits}
 use Rattle.serial_links.specs.Measure.{Measured, empty, within, beyond, passing}
 use Rattle.context.specs.Listing.{Item}
-use Rattle.serial_groups.specs.Tests.{every}
+use Rattle.order.specs.Tests.{every}
 use Rattle.serial_groups.specs.Listing.{spansOf}
 use Rattle.serial_groups.specs.Regions.{assessAt, bridgeAt}
 use Rattle.serial_groups.specs.Links.{LinkAt, links}
@@ -29,7 +29,7 @@ use Rattle.serial_groups.specs.LinkRule.{Touches, FullPair, Gives}
 use Rattle.serial_groups.specs.ConnectedPart.{LinkJoins, LinkOf, ConnectedPart}
 use Rattle.serial_groups.specs.Chain.{Chain}
 use Rattle.serial_groups.specs.SerialGroup.{SerialLink, Passes, SerialGroup}
-use Rattle.serial_groups.proofs.Tests.{every-mem, mem-every}
+use Rattle.order.proofs.Tests.{every-mem, mem-every}
 use Rattle.serial_groups.proofs.Links.{links-rising}
 use Rattle.serial_groups.proofs.SimplePath.{simple-path-iff}
 use Rattle.serial_groups.proofs.LinkRule.{gives-iff}

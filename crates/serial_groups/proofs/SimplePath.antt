@@ -11,11 +11,11 @@ use lib.ListN.{length}
 use Rattle.order.proofs.Bools.{and-parts, and-both}
 use Rattle.grid.specs.Cells.{Grid}
 use Rattle.serial_links.specs.Limits.{Limits}
-use Rattle.serial_groups.specs.Tests.{every}
+use Rattle.order.specs.Tests.{every}
 use Rattle.context.specs.Listing.{Item}
 use Rattle.serial_groups.specs.Groups.{LinkGroup}
 use Rattle.serial_groups.specs.SimplePath.{degree, endsOf, firstEnd, lastEnd, isPath, outerRegion, simplePath, IsSimplePath}
-use Rattle.serial_groups.proofs.Tests.{every-mem, mem-every}
+use Rattle.order.proofs.Tests.{every-mem, mem-every}
 use Rattle.order.proofs.Keep.{keep-length}
 
 module _ (limits : Limits) (dirs : List ℕ) (g : Grid) (l : List Item) (least : ℕ) (a : LinkGroup) where

@@ -11,7 +11,7 @@ use Rattle.grid.specs.Cells.{Grid}
 use Rattle.context.specs.RegionStats.{elevationKinds}
 use Rattle.serial_links.specs.Limits.{Limits}
 use Rattle.serial_links.specs.Parallel.{nearbyParallel}
-use Rattle.serial_groups.specs.Tests.{every}
+use Rattle.order.specs.Tests.{every}
 use Rattle.context.specs.Listing.{Item}
 use Rattle.serial_groups.specs.Listing.{endsAt}
 use Rattle.serial_groups.specs.Regions.{statsOf}

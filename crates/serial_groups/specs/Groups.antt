@@ -7,7 +7,7 @@ use Rattle.order.specs.Lists.{keep, upFrom, has}
 use Rattle.graph.specs.Path.{Edge}
 use Rattle.graph.specs.Parts.{componentOf}
 use Rattle.graph.specs.Labels.{begins}
-use Rattle.serial_groups.specs.Tests.{any}
+use Rattle.order.specs.Tests.{any}
 use Rattle.serial_groups.specs.Links.{LinkAt, joins}
 
 -- ranks in ascending order, and the links between them

@@ -12,7 +12,8 @@ use Rattle.length.specs.Floats.{_⊕_}
 use Rattle.length.specs.Total.{totalLe}
 use Rattle.serial_links.specs.Limits.{Limits}
 use Rattle.serial_links.specs.Geometry.{squares}
-use Rattle.serial_links.specs.Sums.{addedTo, sumOf, noLater, distanceSum}
+use Rattle.serial_sums.specs.Sums.{addedTo, sumOf, noLater}
+use Rattle.serial_links.specs.Sums.{distanceSum}
 use Rattle.context.specs.Listing.{Item}
 use Rattle.serial_groups.specs.Listing.{endsAt, bitsAt}
 

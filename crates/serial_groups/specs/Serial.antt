@@ -11,8 +11,8 @@ use Rattle.position.specs.declared.WalkPosition.{WalkPosition}
 use Rattle.grid.specs.Cells.{Grid}
 use Rattle.serial_links.specs.Limits.{Limits}
 use Rattle.serial_links.specs.Geometry.{squares, centreDistance}
-use Rattle.serial_links.specs.Sums.{addedTo, sumOf, ascendingSum}
-use Rattle.serial_groups.specs.Tests.{every}
+use Rattle.serial_sums.specs.Sums.{addedTo, sumOf, ascendingSum}
+use Rattle.order.specs.Tests.{every}
 use Rattle.context.specs.Listing.{Item}
 use Rattle.serial_groups.specs.Listing.{endsAt}
 use Rattle.serial_groups.specs.Regions.{bridgeAt}

@@ -11,7 +11,7 @@ use Rattle.grid.specs.Cells.{Grid}
 use Rattle.areas.specs.Assessments.{records}
 use Rattle.serial_links.specs.Limits.{Limits}
 use Rattle.serial_links.specs.Geometry.{centreDistance}
-use Rattle.serial_links.specs.Sums.{ascendingSum}
+use Rattle.serial_sums.specs.Sums.{ascendingSum}
 use Rattle.serial_links.specs.Measure.{measured, within}
 use Rattle.context.specs.Listing.{Item}
 use Rattle.serial_groups.specs.Listing.{spansOf, endsAt}

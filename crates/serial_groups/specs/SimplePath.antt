@@ -9,7 +9,7 @@ use Rattle.order.specs.Lists.{keep}
 use Rattle.grid.specs.Cells.{Grid}
 use Rattle.context.specs.FullPair.{fullPair, otherRegion}
 use Rattle.serial_links.specs.Limits.{Limits}
-use Rattle.serial_groups.specs.Tests.{every}
+use Rattle.order.specs.Tests.{every}
 use Rattle.context.specs.Listing.{Item}
 use Rattle.serial_groups.specs.Regions.{assessAt}
 use Rattle.serial_groups.specs.Links.{LinkAt, joins}

@@ -17,7 +17,8 @@ use Rattle.serial_links.specs.Link.{Side, Link, widenedBy, linkOf}
 use Rattle.serial_links.specs.Measure.{empty, within, beyond, extremes, judged, measured, passing, transverseLimit, longitudinalLimit}
 use Rattle.serial_links.specs.Flat.{insideFlat}
 use Rattle.serial_links.specs.Parallel.{nearbyParallel}
-use Rattle.serial_links.specs.Sums.{addedTo, sumOf, ascendingSum, distanceSum}
+use Rattle.serial_sums.specs.Sums.{addedTo, sumOf, ascendingSum}
+use Rattle.serial_links.specs.Sums.{distanceSum}
 
 abbrev pub span : ℕ → ℕ → ℕ → ℕ → Span
 span ax ay bx by = record { a = record { x = ax; y = ay }; b = record { x = bx; y = by } }

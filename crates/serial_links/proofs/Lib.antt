@@ -6,7 +6,6 @@ mod Slanted
 pub mod Numbers
 mod Squares
 mod Alike
-pub mod SumSteps
 mod Measures
 mod Flags
 mod Widths

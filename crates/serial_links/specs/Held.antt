@@ -1,8 +1,7 @@
 -- Points, directions and bounds as the code holds them, and the spans that a map can have.
 use Prim.Native.Nat.{ℕ}
-use mathlib.Core.Bool.{not, cond}
-use lib.Dec.{T}
-use lib.Ieee.{Float, binary64, ofBits, lt, isNan}
+use mathlib.Core.Bool.{cond}
+use lib.Ieee.{Float, binary64, ofBits, lt}
 use Rattle.position.specs.Order.{swapped}
 use Rattle.position.specs.Bounds.{Bounded}
 use Rattle.position.specs.declared.Span.{Span}
@@ -38,10 +37,6 @@ centreAt column row = record { x = wholeFloat column ⊗ float8 ⊕ float4; y = 
 -- Bounds with the ends of a span on a direction.
 abbrev pub withEnds : Bounds → Span → Vector → Bounds
 withEnds b s v = widened (widened b (dot (pointOf (s .a)) v)) (dot (pointOf (s .b)) v)
-
--- No NaN, so that it has bits of its own.
-abbrev pub Number : Float → Type 0
-Number x = T (not (isNan x))
 
 -- `facing` by the dot product.
 abbrev pub facingBy : Float → Span → Span

@@ -13,7 +13,7 @@ use lib.Seq.{getD-set-same, getD-set-other}
 use Rattle.lists.specs.Rows.{at}
 use Rattle.order.specs.Lists.{keep, upFrom}
 use Rattle.graph.specs.Parts.{join, componentOf}
-use Rattle.serial_groups.specs.Tests.{any}
+use Rattle.order.specs.Tests.{any}
 use Rattle.serial_plan.specs.Arrays.{isOn, edgeRow, chosenFrom, partFrom, joinsAt, joinedFrom, FirstAre}
 use Rattle.order.proofs.SortedFirst.{up-down}
 

@@ -12,6 +12,7 @@ use Rattle.lists.specs.Rows.{at}
 use Rattle.order.specs.Lists.{keep}
 use Rattle.order.specs.Sorting.{insert, sort}
 use Rattle.order.proofs.Keep.{keep-mem, keep-ext, keep-map}
+use Rattle.order.proofs.Tests.{every-ext, every-map}
 use Rattle.order.proofs.Members.{perm-mem, map-ext, getD-mem}
 use Rattle.order.proofs.Sort.{sort-perm}
 use Rattle.length.specs.Floats.{_⊕_}
@@ -25,8 +26,9 @@ use Rattle.context.specs.Listing.{Item}
 use Rattle.serial_links.specs.Limits.{Limits}
 use Rattle.serial_links.specs.Geometry.{centreDistance}
 use Rattle.serial_links.specs.Parallel.{nearbyParallel}
-use Rattle.serial_links.specs.Sums.{ascendingSum, distanceSum, noLater}
-use Rattle.serial_groups.specs.Tests.{every}
+use Rattle.serial_sums.specs.Sums.{ascendingSum, noLater}
+use Rattle.serial_links.specs.Sums.{distanceSum}
+use Rattle.order.specs.Tests.{every}
 use Rattle.serial_groups.specs.Listing.{endsAt, bitsAt}
 use Rattle.serial_groups.specs.Links.{LinkAt, joins}
 use Rattle.serial_groups.specs.Measuring.{passes}
@@ -41,22 +43,6 @@ use Rattle.serial_plan.specs.Shape.{degreeIn, endsIn, regularIn, gapIn, 
 use Rattle.serial_plan.specs.Shape.{eligibleIn, retainedIn}
 use Rattle.serial_plan.specs.Told.{groupBy, BoundaryTables, Passed, serialIn, flatIn}
 use Rattle.serial_plan.proofs.ShapeLaws.{at-each}
-
-pub every-ext : {A : Type 0} (t u : A → Bool) (l : List A) → ((y : A) → List·Memᴰ y l → t y ≡ u y) → every t l ≡ every u l
-unfolding every
-every-ext t u [] f = refl
-every-ext t u (x ∷ xs) f =
-    let a : t x ≡ u x = f x (List·Memᴰ·head refl) in
-    let b : every t xs ≡ every u xs = every-ext t u xs (λ y m. f y (List·Memᴰ·tail m)) in
-    rw (a, b)
-
-every-map : {A B : Type 0} (f : A → B) (t : B → Bool) (u : A → Bool) (l : List A) → ((y : A) → List·Memᴰ y l → t (f y) ≡ u y) → every t (map f l) ≡ every u l
-unfolding every
-every-map f t u [] h = refl
-every-map f t u (x ∷ xs) h =
-    let a : t (f x) ≡ u x = h x (List·Memᴰ·head refl) in
-    let b : every t (map f xs) ≡ every u xs = every-map f t u xs (λ y m. h y (List·Memᴰ·tail m)) in
-    rw (a, b)
 
 map-both : {A B C : Type 0} (f : A → B) (h : B → C) (u : A → C) (l : List A) → ((y : A) → List·Memᴰ y l → h (f y) ≡ u y) → map h (map f l) ≡ map u l
 map-both f h u l e = map-map h f l ∙ map-ext (λ y. h (f y)) u l e

@@ -10,7 +10,7 @@ use Rattle.position.specs.declared.WalkPosition.{WalkPosition}
 use Rattle.grid.specs.Cells.{Grid}
 use Rattle.serial_links.specs.Limits.{Limits}
 use Rattle.context.specs.Listing.{Item}
-use Rattle.serial_groups.specs.Tests.{any}
+use Rattle.order.specs.Tests.{any}
 use Rattle.serial_groups.specs.Links.{links}
 use Rattle.serial_groups.specs.Groups.{isJoined}
 use Rattle.serial_groups.specs.Serial.{serialLinks}

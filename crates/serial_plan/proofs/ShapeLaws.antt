@@ -9,7 +9,7 @@ use lib.ListN.{length, getD, length-map}
 use Rattle.order.specs.Lists.{keep, upFrom}
 use Rattle.order.proofs.Keep.{keep-mem}
 use Rattle.order.proofs.Numbers.{up-length}
-use Rattle.serial_groups.specs.Tests.{every}
+use Rattle.order.specs.Tests.{every}
 use Rattle.serial_plan.specs.declared.few.Few.{Few}
 use Rattle.serial_plan.specs.declared.path.Near.{Near}
 use Rattle.serial_plan.specs.Few.{firstOf, fewOf, fewAt, fewList, near}

@@ -26,10 +26,13 @@ use Rattle.length.specs.Total.{totalKey, totalLe}
 use Rattle.areas.specs.Spans.{spanIn}
 use Rattle.position.specs.declared.Span.{Span}
 use Rattle.serial_links.specs.Geometry.{centreDistance}
-use Rattle.serial_links.specs.Sums.{noLater, sumOf, ascendingSum, distanceSum, Patterns}
-use Rattle.serial_links.specs.Held.{Number}
-use Rattle.serial_links.proofs.Numbers.{upward, upward-number, upward-bits, distance-upward, distance-fits, distance-sum-number}
-use Rattle.serial_links.proofs.SumSteps.{Summed, summed-end}
+use Rattle.serial_sums.specs.Sums.{noLater, sumOf, ascendingSum, Patterns}
+use Rattle.serial_links.specs.Sums.{distanceSum}
+use Rattle.serial_sums.specs.Numbers.{Number}
+use Rattle.serial_sums.specs.Numbers.{upward}
+use Rattle.serial_sums.proofs.Numbers.{upward-number, upward-bits}
+use Rattle.serial_links.proofs.Numbers.{distance-upward, distance-fits, distance-sum-number}
+use Rattle.serial_sums.proofs.SumSteps.{Summed, summed-end}
 use Rattle.serial_plan.specs.declared.few.Few.{Few}
 use Rattle.serial_plan.specs.Few.{fewAt, fewList}
 use Rattle.serial_plan.specs.Shape.{gapIn, chainIn, sumIn, BitsOf}

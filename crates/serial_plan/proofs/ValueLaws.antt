@@ -16,11 +16,12 @@ use Rattle.length.specs.Total.{totalLe}
 use Rattle.position.specs.declared.Span.{Span}
 use Rattle.areas.specs.Spans.{spanIn}
 use Rattle.context.specs.FullPair.{otherRegion}
-use Rattle.serial_groups.specs.Tests.{every}
+use Rattle.order.specs.Tests.{every}
 use Rattle.order.proofs.Keep.{keep-length}
 use Rattle.serial_links.specs.Limits.{Limits}
-use Rattle.serial_links.specs.Sums.{noLater}
-use Rattle.serial_links.specs.Held.{SpanBounded, Number}
+use Rattle.serial_sums.specs.Sums.{noLater}
+use Rattle.serial_sums.specs.Numbers.{Number}
+use Rattle.serial_links.specs.Held.{SpanBounded}
 use Rattle.serial_links.proofs.Numbers.{distance-number}
 use Rattle.serial_plan.specs.declared.few.Few.{Few}
 use Rattle.serial_plan.specs.Few.{fewOf, fewAt, fewList}

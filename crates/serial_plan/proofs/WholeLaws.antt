@@ -11,7 +11,7 @@ use Rattle.order.proofs.Keep.{keep-ext, keep-keep, keep-map}
 use Rattle.order.proofs.Numbers.{up-mem}
 use Rattle.graph.specs.Path.{Edge}
 use Rattle.graph.specs.Parts.{componentOf}
-use Rattle.serial_groups.specs.Tests.{any}
+use Rattle.order.specs.Tests.{any}
 use Rattle.serial_groups.specs.Links.{LinkAt, joins}
 use Rattle.serial_groups.specs.Groups.{LinkGroup, linkEdges, isJoined, groupAt}
 use Rattle.serial_groups.specs.Tables.{linkRow}

@@ -9,7 +9,7 @@ use Rattle.lists.specs.Rows.{at}
 use Rattle.order.specs.Lists.{keep, upFrom}
 use Rattle.graph.specs.Path.{Edge}
 use Rattle.graph.specs.Parts.{componentOf}
-use Rattle.serial_groups.specs.Tests.{any}
+use Rattle.order.specs.Tests.{any}
 
 abbrev pub isOn : List ℕ → ℕ → Bool
 isOn xs i = eqb (at xs i) 1

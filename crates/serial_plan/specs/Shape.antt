@@ -17,8 +17,9 @@ use Rattle.context.specs.FullPair.{otherRegion}
 use Rattle.serial_links.specs.Limits.{Limits}
 use Rattle.serial_links.specs.Geometry.{squares, centreDistance}
 use Rattle.serial_links.specs.Parallel.{nearbyParallel}
-use Rattle.serial_links.specs.Sums.{addedTo, sumOf, noLater, ascendingSum, distanceSum}
-use Rattle.serial_groups.specs.Tests.{every}
+use Rattle.serial_sums.specs.Sums.{addedTo, sumOf, noLater, ascendingSum}
+use Rattle.serial_links.specs.Sums.{distanceSum}
+use Rattle.order.specs.Tests.{every}
 use Rattle.serial_plan.specs.Arrays.{isOn, joinsAt}
 
 module _ (firsts seconds : List ℕ) where

@@ -13,7 +13,7 @@ use Rattle.context.specs.FullPair.{fullPair}
 use Rattle.context.specs.Listing.{Item}
 use Rattle.serial_links.specs.Limits.{Limits}
 use Rattle.serial_links.specs.Geometry.{squares, centreDistance}
-use Rattle.serial_groups.specs.Tests.{every}
+use Rattle.order.specs.Tests.{every}
 use Rattle.serial_groups.specs.Listing.{endsAt, bitsAt}
 use Rattle.serial_groups.specs.Regions.{assessAt}
 use Rattle.serial_groups.specs.Measuring.{passes, staysInside}

@@ -1,7 +1,7 @@
 // Members that are nearby and parallel.
 ghost use mathlib.Core.Path.{_≡_};
 ghost use Prim.Native.Nat.{_<_};
-ghost use Rattle.serial_groups.specs.Tests.{every};
+ghost use Rattle.order.specs.Tests.{every};
 ghost use Rattle.serial_links.specs.HeldLimits.{limitsOf};
 ghost use Rattle.serial_plan.specs.Few.{fewList};
 ghost use Rattle.serial_plan.specs.Shape.{alikeIn, allAlikeIn};

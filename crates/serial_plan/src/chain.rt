@@ -10,7 +10,7 @@ ghost use Rattle.serial_plan.specs.Fitting.{RankFits, LinkFits, Links};
 use crate::few::Few;
 use areas::spans::span_at;
 use serial_links::geometry::centre_distance;
-use serial_links::sums::sum_of_bits;
+use serial_sums::sum_of_bits;
 use sorting::numbers::sort_keys;
 use wire::size;
 

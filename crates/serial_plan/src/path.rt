@@ -5,7 +5,7 @@ ghost use Prim.Native.Nat.{_<_, _≤_};
 ghost use lib.Dec.{eqb};
 ghost use Rattle.lists.specs.Rows.{at};
 ghost use Rattle.order.specs.Lists.{keep};
-ghost use Rattle.serial_groups.specs.Tests.{every};
+ghost use Rattle.order.specs.Tests.{every};
 ghost use Rattle.serial_links.specs.HeldLimits.{limitsOf};
 ghost use Rattle.serial_plan.specs.Few.{fewOf, fewList, near, nearLink};
 ghost use Rattle.serial_plan.specs.Arrays.{isOn, joinsAt};

@@ -6,7 +6,7 @@ ghost use lib.ListN.{getD};
 ghost use Rattle.order.specs.Lists.{keep};
 ghost use Rattle.order.specs.Sorting.{sort};
 ghost use Rattle.length.specs.Total.{totalLe};
-ghost use Rattle.serial_links.specs.Held.{Number};
+ghost use Rattle.serial_sums.specs.Numbers.{Number};
 ghost use Rattle.serial_links.specs.HeldLimits.{limitsOf};
 ghost use Rattle.serial_plan.specs.Few.{fewOf, fewList};
 ghost use Rattle.serial_plan.specs.Shape.{leastIn, sumIn, nearerIn, fineIn, retainedIn};
@@ -17,7 +17,7 @@ use length::floats::total_le;
 use serial_links::geometry::width_of;
 use serial_links::limits::Limits;
 use serial_links::limits::Member;
-use serial_links::sums::no_later;
+use serial_sums::no_later;
 
 // The pattern that comes no later by totalOrder, of two widths.
 fn lesser(a: u64, b: u64) -> u64

@@ -4,7 +4,7 @@ use native.Mathlib.Omega.{arith}
 use borrow.Author.Needs.{needs}
 use mathlib.Core.Path.{subst}
 use Rattle.serial_links.specs.HeldLimits.{limitsOf}
-use Rattle.serial_groups.specs.Tests.{every}
+use Rattle.order.specs.Tests.{every}
 use Rattle.serial_plan.specs.Shape.{alikeIn}
 use Rattle.serial_plan.specs.Fitting.{RankFits}
 use Rattle.serial_plan.specs.Few.{fewAt, fewList}

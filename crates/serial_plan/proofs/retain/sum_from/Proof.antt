@@ -3,7 +3,7 @@ use Prim.Native.Nat.{ℕ, _-_}
 use borrow.Author.Needs.{needs}
 use Rattle.areas.specs.Spans.{spanIn}
 use Rattle.serial_links.specs.Geometry.{centreDistance}
-use Rattle.serial_links.proofs.SumSteps.{Summed, summed-start, summed-next}
+use Rattle.serial_sums.proofs.SumSteps.{Summed, summed-start, summed-next}
 use Rattle.serial_plan.specs.Fitting.{RankFits}
 use Rattle.serial_plan.proofs.SumLaws.{distanceAt, sum-listed}
 use Rattle.serial_plan.proofs.retain.sum_from.Statement.{statement}
