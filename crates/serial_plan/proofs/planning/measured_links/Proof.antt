@@ -6,39 +6,32 @@ use Rattle.serial_plan.proofs.ReadyLaws.{readable, findable, measurable
 use Rattle.serial_plan.proofs.planning.measured_links.Statement.{statement}
 use Rattle.serial_plan.proofs.planning.measured_links.Tie as tie
 
--- what the function is given and asked: the places since only say that its slices have lengths
-abbrev start-of : tie.After-shared-slice-known5 → tie.Start
-start-of c = c .before .before .before .before .before .before
-
--- the start, past the labels of the anchors
+-- the start, from where the labels of the anchors are read
 abbrev asked : tie.After-anchor-labels → tie.Start
-asked c = start-of (c .before .before .before .before)
-
--- where these were read, from the links found
-abbrev labelled : tie.After-candidate-links → tie.After-anchor-labels
-labelled c = c .before .before .before .before .before .before .before .before .before
+asked c = search
 
 anchor-labels-requires : tie.Need-anchor-labels-requires
-anchor-labels-requires c κs = let start = start-of (c .before .before .before) in (readable (start .pre), omega (arith, start .pre .few-bases))
+anchor-labels-requires c κs = let start : tie.Start = search in (readable (start .pre), omega (arith, start .pre .few-bases))
 
 room : tie.Need-slice-aggregate-candidate-links
-room c = let read = c .before .before .anchor-labels in sym (length-take-le (read .result) _ (read .ensures .fits))
+room c = let labels : tie.After-anchor-labels = search in sym (length-take-le (labels .anchor-labels .result) _ (labels .anchor-labels .ensures .fits))
 
 candidate-links-requires : tie.Need-candidate-links-requires
-candidate-links-requires c κs = findable (asked (c .before .before .before .before .before .before .before .before) .pre)
+candidate-links-requires c κs = let start : tie.Start = search in findable (start .pre)
 
 measure-links-requires : tie.Need-measure-links-requires
 measure-links-requires c κs =
-    let linked = c .before .before .before .before .before .before .before in
-    measurable (asked (labelled linked) .pre) (labelled linked .anchor-labels .ensures) (linked .candidate-links .ensures)
+    let linked : tie.After-candidate-links = search in
+    let labels : tie.After-anchor-labels = search in
+    measurable (asked labels .pre) (labels .anchor-labels .ensures) (linked .candidate-links .ensures)
 
 returns : tie.Need-returns
 returns c =
-    let measured = c .before .before in
-    let linked = measured .before .before .before .before .before .before .before .before in (
+    let measured : tie.After-measure-links = search in
+    let linked : tie.After-candidate-links = search in
+    let labels : tie.After-anchor-labels = search in (
       measured .measure-links .ensures .0,
-      links-found (asked (labelled linked) .pre) (labelled linked .anchor-labels .ensures) (linked .candidate-links .ensures)
-          (measured .measure-links .ensures .1),
+      links-found (asked labels .pre) (labels .anchor-labels .ensures) (linked .candidate-links .ensures) (measured .measure-links .ensures .1),
     )
 
 pub measured-links-spec : {M : Type 1} → statement M

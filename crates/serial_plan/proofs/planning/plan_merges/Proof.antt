@@ -5,15 +5,15 @@ use Rattle.serial_plan.proofs.planning.plan_merges.Tie as tie
 
 merge-plan-requires : tie.Need-merge-plan-requires
 merge-plan-requires c κs =
-    let at-measured-links = c .before .before .before .before .before .before .before .before .before .before in
-    let start = at-measured-links .before .before .before .before .before .before .before .before .before .before .before .before .before .before .before in
+    let measured : tie.After-measured-links = search in
+    let start : tie.Start = search in
     let p = start .pre in
-    (p .0, fit (p .1) (at-measured-links .measured-links .ensures .1 .ranked), p .2)
+    (p .0, fit (p .1) (measured .measured-links .ensures .1 .ranked), p .2)
 
 returns : tie.Need-returns
 returns c =
-    let at-measured-links = c .before .before .before .before .before .before .before .before .before .before .before in
-    (at-measured-links .measured-links .ensures .0, planned (at-measured-links .measured-links .ensures .1) (c .merge-plan .ensures))
+    let measured : tie.After-measured-links = search in
+    (measured .measured-links .ensures .0, planned (measured .measured-links .ensures .1) (c .merge-plan .ensures))
 
 pub plan-merges-spec : {M : Type 1} → statement M
 plan-merges-spec =
