@@ -6,30 +6,32 @@ use borrow.Author.Needs.{needs}
 use Rattle.analysis.proofs.bridged.analyse.Statement.{statement}
 use Rattle.analysis.proofs.bridged.analyse.Tie as tie
 
--- what the function is given and asked: the places since only say that its slices have lengths
-abbrev start-of : tie.After-slice-known4 → tie.Start
-start-of c = c .before .before .before .before .before
+-- where the areas are parted, from where their number is compared; the start, from there
+abbrev parted : tie.After-slice-known8 → tie.After-partition-by-spans
+parted c = c .before .before .before .before .before .before .before .before
+
+abbrev start-of : tie.After-partition-by-spans → tie.Start
+start-of c = c .before .before .before .before .before .before .before .before .before .before .before .before
 
 returns : tie.Need-returns
 returns c =
-    let after-partition-by-spans = c .before .before .before .before .before .before .before .before .before in
-    let r = after-partition-by-spans .partition-by-spans .ensures in (r, unbridged r (c .if1 .taken))
+    let r = parted (c .before) .partition-by-spans .ensures in
+    (r, unbridged r (c .if1 .taken))
 
 mul-bridge-boundary-indices : tie.Need-mul-bridge-boundary-indices
 mul-bridge-boundary-indices c =
-    let listed = c .before .before .before .before .before .before .before .before .before .before in
-    let start = start-of (listed .before .before .before .before .before .before .before .before .before .before) in
-    let p = start .pre .0 in omega (arith, p .whole, mul-le-mul (p .sides .wide) (p .sides .high))
+    let few : tie.Else1 = search in
+    let p = start-of (parted (few .before)) .pre .0 in
+    omega (arith, p .whole, mul-le-mul (p .sides .wide) (p .sides .high))
 
 bridge-boundary-indices-requires : tie.Need-bridge-boundary-indices-requires
 bridge-boundary-indices-requires c κs =
-    let if1-left = c .before .before .before .before .before in
-    let after-partition-by-spans = if1-left .before .before .before .before .before .before .before .before .before in
-    let start = start-of (after-partition-by-spans .before .before .before .before .before .before .before) in
-    let p = start .pre in
-    let r = after-partition-by-spans .partition-by-spans .ensures in
-    let k = after-partition-by-spans .partition-by-spans .kept in
-    let few = if1-left .if1 .left in (
+    let compared : tie.Else1 = search in
+    let parts = parted (compared .before) in
+    let p = start-of parts .pre in
+    let r = parts .partition-by-spans .ensures in
+    let k = parts .partition-by-spans .kept in
+    let few = compared .if1 .left in (
       owners-in r (p .0 .few) few,
       omega (arith, few, k .1 .1 .1 .1 .1 .1 .1 .1 .1 .0, p .1 .owners-are),
       labels-in r _ refl (p .1 .few) (k .1 .1 .1 .1 .1 .1 .1 .1 .1 .1 .0) (k .1 .1 .1 .1 .1 .1 .1 .1 .1 .1 .1 .0 ∙ p .1 .rights-are) few,
@@ -39,9 +41,9 @@ bridge-boundary-indices-requires c κs =
 
 returns-2 : tie.Need-returns-2
 returns-2 c =
-    let after-partition-by-spans =
-    c .before .before .before .before .before .before .before .before .before .before .before .before .before .before .before .before .before in
-    let r = after-partition-by-spans .partition-by-spans .ensures in let e = c .before .before .bridge-boundary-indices .ensures in
+    let few : tie.Else1 = search in
+    let r = parted (few .before) .partition-by-spans .ensures in
+    let e = c .before .before .bridge-boundary-indices .ensures in
     (rw (e .1) r, bridged r (e .0))
 
 pub analyse-spec : {M : Type 1} → statement M

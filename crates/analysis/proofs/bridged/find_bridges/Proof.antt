@@ -6,13 +6,13 @@ use Rattle.analysis.proofs.bridged.find_bridges.Tie as tie
 
 returns-2 : tie.Need-returns-2
 returns-2 c =
-    let after-analyse-few = c .before .before .before in
-    parted-wider (after-analyse-few .analyse-few .ensures) (omega arith) (omega arith)
+    let tried : tie.After-analyse-few = search in
+    parted-wider (tried .analyse-few .ensures) (omega arith) (omega arith)
 
 returns-3 : tie.Need-returns-3
 returns-3 c =
-    let after-analyse-few = c .before .before .before .before .before .before .before .before in
-    parted-again (after-analyse-few .analyse-few .ensures) (c .before .before .analyse-many2 .ensures)
+    let tried : tie.After-analyse-few = search in
+    parted-again (tried .analyse-few .ensures) (c .before .before .analyse-many2 .ensures)
 
 pub find-bridges-spec : {M : Type 1} → statement M
 find-bridges-spec =

@@ -3,13 +3,9 @@ use Rattle.serial_links.specs.HeldLimits.{limitsOf}
 use Rattle.analysis.proofs.drawing.plan_by_list.Statement.{statement}
 use Rattle.analysis.proofs.drawing.plan_by_list.Tie as tie
 
--- what the function is given and asked: the places since only say that its slices have lengths
-abbrev start-of : tie.After-slice-known → tie.Start
-start-of c = c .before .before .before
-
 returns-2 : tie.Need-returns-2
 returns-2 c =
-    let start = start-of (c .before .before .before .before .before .before .before .before) in
+    let start : tie.Start = search in
     c .before .before .plan-unmatched .ensures (limitsOf (start .args .limits))
 
 pub plan-by-list-spec : {M : Type 1} → statement M

@@ -8,7 +8,7 @@ use Rattle.analysis.proofs.drawing.plan_few.Tie as tie
 
 plan-with-requires : tie.Need-plan-with-requires
 plan-with-requires c κs =
-    let start = c .before .before .before .before .before .before .before in
+    let start : tie.Start = search in
     let p = start .pre in
     (p .0, p .1, p .2, record { owners-are = refl; rights-are = refl; few = omega (arith, length-replicate {A = ℕ} 64 0) }, p .3, p .4, p .5)
 

@@ -8,12 +8,12 @@ use Rattle.analysis.proofs.drawing.plan_listing.Statement.{statement}
 use Rattle.analysis.proofs.drawing.plan_listing.Tie as tie
 
 -- what the function is given and asked: the places since only say that its slices have lengths
-abbrev start-of : tie.After-shared-slice-known4 → tie.Start
-start-of c = c .before .before .before .before .before
+abbrev start-of : tie.After-size → tie.Start
+start-of c = c .before .before .before .before .before .before .before .before .before
 
 mul-size : tie.Need-mul-size
 mul-size c =
-    let start = start-of (c .before .before .before) in
+    let start : tie.Start = search in
     omega (arith, headed-cells (start .pre .0 .headed))
 
 fill-tables-requires : tie.Need-fill-tables-requires
@@ -34,7 +34,7 @@ plan-merges-requires c κs =
     let filled : tie.After-fill-tables = search in
     let counted : tie.After-size2 = search in
     let walked : tie.After-size = search in
-    let start = start-of (walked .before .before .before .before) in
+    let start = start-of walked in
     let tables = filled .fill-tables .ensures in (
       start .pre .4,
       ready (start .pre .0) (tables .ends) (tables .widths) (tables .ramp-ends) (start .pre .1 .are) _ _ _ (started .size3 .ensures .0)
@@ -50,7 +50,7 @@ returns c =
     let filled : tie.After-fill-tables = search in
     let counted : tie.After-size2 = search in
     let walked : tie.After-size = search in
-    let start = start-of (walked .before .before .before .before) in
+    let start = start-of walked in
     let tables = filled .fill-tables .ensures in (
       planned .plan-merges .ensures .0,
       (

@@ -8,7 +8,7 @@ use Rattle.analysis.proofs.drawing.plan_many.Tie as tie
 
 plan-with-requires : tie.Need-plan-with-requires
 plan-with-requires c κs =
-    let start = c .before .before .before .before .before .before .before in
+    let start : tie.Start = search in
     let p = start .pre in (
       p .0,
       p .1,

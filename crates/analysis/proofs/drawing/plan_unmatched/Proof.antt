@@ -9,42 +9,50 @@ use Rattle.analysis.proofs.drawing.plan_unmatched.Statement.{statement}
 use Rattle.analysis.proofs.drawing.plan_unmatched.Tie as tie
 
 -- what the function is given and asked: the places since only say that its slices have lengths
-abbrev start-of : tie.After-slice-known → tie.Start
-start-of c = c .before .before .before
+abbrev start-of : tie.After-size → tie.Start
+start-of c = c .before .before .before .before .before .before
+
+-- where the size of the map is known, from where the order is written; that place, from where the spans are
+abbrev sized : tie.After-fill-identity → tie.After-size
+sized c = c .before .before
+
+abbrev ordered : tie.After-fill-spans → tie.After-fill-identity
+ordered c = c .before .before .before
 
 mul-size : tie.Need-mul-size
 mul-size c =
-    let start = start-of (c .before .before) in
+    let start : tie.Start = search in
     omega (arith, headed-cells (start .pre .0))
 
 fill-spans-requires : tie.Need-fill-spans-requires
 fill-spans-requires c κs =
-    let start = start-of (c .before .before .before .before .before .before .before) in
-    (list-unmatched-records (start .pre .0) _ (start .pre .2) _ (start .pre .3) (c .before .before .fill-identity .ensures), refl)
+    let order = c .before .before in
+    let start = start-of (sized order) in
+    (list-unmatched-records (start .pre .0) _ (start .pre .2) _ (start .pre .3) (order .fill-identity .ensures), refl)
 
 part-find-bridges-end : tie.Need-part-find-bridges-end
 part-find-bridges-end c =
-    let after-size = c .before .before .before .before .before in
-    let start = start-of (after-size .before .before .before) in
-    omega (arith, map-inside (start .pre .0 .header) (headed-laid (start .pre .0)) _ (after-size .size .ensures .0))
+    let size = sized (ordered c) in
+    let headed = start-of size .pre .0 in
+    omega (arith, map-inside (headed .header) (headed-laid headed) _ (size .size .ensures .0))
 
 find-bridges-requires : tie.Need-find-bridges-requires
 find-bridges-requires c κs =
-    let after-fill-spans = c .before .before .before .before in
-    let after-fill-identity = after-fill-spans .before .before .before in
-    let after-size = after-fill-identity .before .before in
-    let start = start-of (after-size .before .before .before) in
-    unmatched-partitionable (start .pre .0) _ (start .pre .2) _ (start .pre .3) (after-fill-identity .fill-identity .ensures)
-    (after-fill-spans .fill-spans .ensures) _ (after-size .size .ensures .0) (start .pre .6) (start .pre .1)
+    let spans : tie.After-fill-spans = search in
+    let order = ordered spans in
+    let size = sized order in
+    let start = start-of size in
+    unmatched-partitionable (start .pre .0) _ (start .pre .2) _ (start .pre .3) (order .fill-identity .ensures)
+    (spans .fill-spans .ensures) _ (size .size .ensures .0) (start .pre .6) (start .pre .1)
 
 returns : tie.Need-returns
 returns c =
-    let after-fill-spans = c .before .before .before .before .before .before .before in
-    let after-fill-identity = after-fill-spans .before .before .before in
-    let after-size = after-fill-identity .before .before in
-    let start = start-of (after-size .before .before .before) in
-    λ l. unmatched-drawn (start .pre .0) _ (start .pre .2) _ (start .pre .3) (after-fill-identity .fill-identity .ensures)
-    (after-fill-spans .fill-spans .ensures) _ (after-size .size .ensures .0) l (directionsOf (start .args .directions)) (start .pre .4)
+    let spans : tie.After-fill-spans = search in
+    let order = ordered spans in
+    let size = sized order in
+    let start = start-of size in
+    λ l. unmatched-drawn (start .pre .0) _ (start .pre .2) _ (start .pre .3) (order .fill-identity .ensures)
+    (spans .fill-spans .ensures) _ (size .size .ensures .0) l (directionsOf (start .args .directions)) (start .pre .4)
     (c .before .before .find-bridges .ensures)
 
 pub plan-unmatched-spec : {M : Type 1} → statement M

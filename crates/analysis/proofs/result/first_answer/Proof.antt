@@ -28,14 +28,17 @@ job-passes c = start-of c .pre .0 (passed c)
 cells : (c : tie.After-read-header) → c .read-header .result .counts .width * c .read-header .result .counts .height ≤ 1_048_576
 cells c = job-cells _ (job-passes (c .before)) (c .read-header .ensures)
 
+-- where the header is read, from where the size of the map is known
+abbrev header : tie.After-size → tie.After-read-header
+header c = c .before .before .before
+
 abbrev went-on : tie.After-size → tie.Else1
-went-on c = c .before .before .before .before
+went-on c = header c .before
 
 asked : (c : tie.After-size)
     → start-of (went-on c) .args .each * length (decode (start-of (went-on c) .args .job .now) .cells) ≡ start-of (went-on c) .args .each * c .size .result
 asked c =
-    let read = c .before .before .before in
-    ap (λ (n : ℕ). start-of (went-on c) .args .each * n) (job-long _ (job-passes (went-on c)) (read .read-header .ensures) ∙ sym (c .size .ensures .0))
+    ap (λ (n : ℕ). start-of (went-on c) .args .each * n) (job-long _ (job-passes (went-on c)) (header c .read-header .ensures) ∙ sym (c .size .ensures .0))
 
 returns : tie.Need-returns
 returns c =
@@ -53,15 +56,19 @@ mul-size c = omega (arith, cells (c .before .before))
 
 mul-if2 : tie.Need-mul-if2
 mul-if2 c =
-    let few : c .size .result ≤ 1_048_576 = omega (arith, cells (c .before .before .before), c .size .ensures .0) in
+    let few : c .size .result ≤ 1_048_576 = omega (arith, cells (header c), c .size .ensures .0) in
     let most = mul-le-mul (start-of (went-on c) .pre .1) few in
     omega (arith, most)
 
 returns-2 : tie.Need-returns-2
-returns-2 c = cramped (passed (went-on (c .before))) (omega (arith, asked (c .before), c .if2 .taken)) refl refl
+returns-2 c =
+    let size = c .before in
+    cramped (passed (went-on size)) (omega (arith, asked size, c .if2 .taken)) refl refl
 
 returns-3 : tie.Need-returns-3
-returns-3 c = ready (passed (went-on (c .before))) (omega (arith, asked (c .before), c .if2 .left)) refl refl
+returns-3 c =
+    let size = c .before in
+    ready (passed (went-on size)) (omega (arith, asked size, c .if2 .left)) refl refl
 
 pub first-answer-spec : {M : Type 1} → statement M
 first-answer-spec =
