@@ -7,24 +7,30 @@ use Rattle.answer_encoding.proofs.from_job.write_placed.Tie as tie
 abbrev known : tie.After-gather-kept → tie.After-slice-known5
 known c = search
 
-abbrev start-of : tie.After-gather-kept → tie.Start
-start-of c = known c .before .before .before .before .before .before .before .before .before .before .before .before .before
+abbrev start-of : tie.After-slice-known5 → tie.Start
+start-of c = search
+
+abbrev given : tie.After-gather-kept → tie.Start
+given c = start-of (known c)
 
 abbrev lent : tie.After-write-kept-arg3 → tie.After-seen
 lent c = search
 
+abbrev kept : tie.After-seen → tie.After-gather-kept
+kept c = search
+
 abbrev gathered : tie.After-write-kept-arg3 → tie.After-gather-kept
-gathered c = lent c .before .before .before .before .before .before .before .before
+gathered c = kept (lent c)
 
 write-kept-requires : tie.Need-write-kept-requires
 write-kept-requires c κs =
-    let after-gather-kept = gathered c in
-    let start = start-of after-gather-kept in
+    let found = gathered c in
+    let start = given found in
     record {
       n = start .args .n;
       ks = _;
-      many = sym (after-gather-kept .gather-kept .ensures (start .pre .os) (start .pre .ss) (start .pre .placed) .1);
-      gathered = after-gather-kept .gather-kept .ensures (start .pre .os) (start .pre .ss) (start .pre .placed) .0;
+      many = sym (found .gather-kept .ensures (start .pre .os) (start .pre .ss) (start .pre .placed) .1);
+      gathered = found .gather-kept .ensures (start .pre .os) (start .pre .ss) (start .pre .placed) .0;
       limit = start .pre .room .few;
       inside = start .pre .room .records-in;
       keys-few = start .pre .keys-few;
@@ -32,11 +38,11 @@ write-kept-requires c κs =
 
 returns : tie.Need-returns
 returns c =
-    let after-gather-kept = gathered (c .before .before .before) in
-    let start = start-of after-gather-kept in
+    let found = gathered (c .before .before .before) in
+    let start = given found in
     λ os ss p.
-    c .before .before .write-kept .ensures (start .args .n) _ (sym (after-gather-kept .gather-kept .ensures os ss p .1))
-    (after-gather-kept .gather-kept .ensures os ss p .0)
+    c .before .before .write-kept .ensures (start .args .n) _ (sym (found .gather-kept .ensures os ss p .1))
+    (found .gather-kept .ensures os ss p .0)
 
 pub write-placed-spec : {M : Type 1} → statement M
 write-placed-spec =

@@ -10,16 +10,16 @@ use Rattle.answer_encoding.proofs.records.write_boundary.Tie as tie
 
 returns : tie.Need-returns
 returns c =
-    let after-write-u322 : tie.After-write-u322 = search in
-    let after-write-u32 = after-write-u322 .before .before .before .before in
-    let after-write-u64 = after-write-u32 .before .before .before .before in
-    let after-write-span = after-write-u64 .before .before .before .before in
-    let after-canonical = after-write-span .before in
-    let start = after-canonical .before .before .before .before in
+    let seen : tie.After-write-u322 = search in
+    let own : tie.After-write-u32 = search in
+    let bits : tie.After-write-u64 = search in
+    let span : tie.After-write-span = search in
+    let ends = span .before in
+    let start = ends .before .before .before .before in
     let s = start .args .s .now in
     boundary-written s (start .args .at) (start .args .x) (start .args .own) (start .args .seen) (omega arith)
-    (after-write-span .write-span .ensures ∙ ap (λ (e : Span). splice s (start .args .at) (spanBytes e)) (after-canonical .canonical .ensures))
-    (after-write-u64 .write-u64 .ensures) (after-write-u32 .write-u32 .ensures) (after-write-u322 .write-u322 .ensures)
+    (span .write-span .ensures ∙ ap (λ (e : Span). splice s (start .args .at) (spanBytes e)) (ends .canonical .ensures))
+    (bits .write-u64 .ensures) (own .write-u32 .ensures) (seen .write-u322 .ensures)
     (c .before .before .write-ramp .ensures)
 
 pub write-boundary-spec : {M : Type 1} → statement M

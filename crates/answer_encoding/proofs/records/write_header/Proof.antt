@@ -6,15 +6,15 @@ use Rattle.answer_encoding.proofs.records.write_header.Tie as tie
 
 returns : tie.Need-returns
 returns c =
-    let after-write-u325 : tie.After-write-u325 = search in
-    let after-write-u324 = after-write-u325 .before .before .before .before in
-    let after-write-u323 = after-write-u324 .before .before .before .before in
-    let after-write-u322 = after-write-u323 .before .before .before .before in
-    let after-write-u32 = after-write-u322 .before .before .before .before in
-    let start = after-write-u32 .before .before .before in
-    header-written (start .args .s .now) (start .args .b) (start .args .o) (start .args .n) (omega arith) (after-write-u32 .write-u32 .ensures)
-    (after-write-u322 .write-u322 .ensures) (after-write-u323 .write-u323 .ensures) (after-write-u324 .write-u324 .ensures)
-    (after-write-u325 .write-u325 .ensures) (c .before .before .write-u326 .ensures)
+    let fifth : tie.After-write-u325 = search in
+    let fourth : tie.After-write-u324 = search in
+    let third : tie.After-write-u323 = search in
+    let second : tie.After-write-u322 = search in
+    let first : tie.After-write-u32 = search in
+    let start = first .before .before .before in
+    header-written (start .args .s .now) (start .args .b) (start .args .o) (start .args .n) (omega arith) (first .write-u32 .ensures)
+    (second .write-u322 .ensures) (third .write-u323 .ensures) (fourth .write-u324 .ensures)
+    (fifth .write-u325 .ensures) (c .before .before .write-u326 .ensures)
 
 pub write-header-spec : {M : Type 1} → statement M
 write-header-spec =

@@ -6,12 +6,12 @@ use Rattle.answer_encoding.proofs.records.write_source.Tie as tie
 
 returns : tie.Need-returns
 returns c =
-    let after-low : tie.After-low = search in
-    let after-write-u32 = after-low .before .before .before .before in
-    let after-high = after-write-u32 .before in
-    let start = after-high .before .before .before in
-    source-written (start .args .s .now) (start .args .at) (start .args .key) (omega arith) (after-high .high .ensures) (after-low .low .ensures)
-    (after-write-u32 .write-u32 .ensures) (c .before .before .write-u322 .ensures)
+    let low : tie.After-low = search in
+    let written : tie.After-write-u32 = search in
+    let high = written .before in
+    let start = high .before .before .before in
+    source-written (start .args .s .now) (start .args .at) (start .args .key) (omega arith) (high .high .ensures) (low .low .ensures)
+    (written .write-u32 .ensures) (c .before .before .write-u322 .ensures)
 
 pub write-source-spec : {M : Type 1} → statement M
 write-source-spec =

@@ -22,15 +22,15 @@ write-source-requires c κs =
 
 loop-again : tie.Need-loop-again Inv-loop μ-loop
 loop-again c =
-    let after-long : tie.After-long Inv-loop μ-loop = search in
-    let in-loop = after-long .before .before .before in
+    let key : tie.After-long Inv-loop μ-loop = search in
+    let in-loop = key .before .before .before in
     let start = in-loop .before .before .before in
     let keys = start .args .keys .now in
     let from = start .args .from in (
       omega arith,
       writes-next _ _ (in-loop .loop .inv .1) (omega (arith, run-long keys from (in-loop .loop .i + 1)))
           (omega (arith, run-long keys from (in-loop .loop .i))) (c .before .before .write-source .ensures)
-          (key-is keys (from + in-loop .loop .i) (after-long .long .ensures)),
+          (key-is keys (from + in-loop .loop .i) (key .long .ensures)),
     )
 
 same-length : tie.Need-same-length Inv-loop μ-loop

@@ -56,11 +56,11 @@ add-k c =
 
 loop-again : tie.Need-loop-again Inv-loop μ-loop
 loop-again c =
-    let after-word2 : tie.After-word2 Inv-loop μ-loop = search in
-    let after-word = after-word2 .before in
-    let after-read-boundary = after-word .before .before in
-    let after-index = after-read-boundary .before in
-    let in-loop = after-index .before .before in
+    let seen : tie.After-word2 Inv-loop μ-loop = search in
+    let own = seen .before in
+    let boundary = own .before .before in
+    let rank = boundary .before in
+    let in-loop = rank .before .before in
     let start = start-of in-loop in
     let seens = start .args .seens .now in
     let kept = start .args .kept .now in
@@ -71,8 +71,8 @@ loop-again c =
       writes-next _ _ (in-loop .loop .inv .1)
           (omega (arith, start .pre .room, kept-long (boundaryRows job at) kept owns seens (in-loop .loop .k + 1)))
           (omega (arith, kept-long (boundaryRows job at) kept owns seens (in-loop .loop .k))) (c .before .before .write-boundary .ensures)
-          (kept-is job at kept owns seens (in-loop .loop .k) (after-read-boundary .read-boundary .ensures) (after-index .index .ensures .0)
-          (after-word .word .ensures) (after-word2 .word2 .ensures)),
+          (kept-is job at kept owns seens (in-loop .loop .k) (boundary .read-boundary .ensures) (rank .index .ensures .0)
+          (own .word .ensures) (seen .word2 .ensures)),
     )
 
 same-length : tie.Need-same-length Inv-loop μ-loop

@@ -15,10 +15,6 @@ Inv-loop s₀ to count seen first second third starts counts keys q₀ s q = (q 
 abbrev μ-loop : tie.MeasureT-loop
 μ-loop s₀ to count seen first second third starts counts keys q₀ s q = count - q
 
--- what the function is given and asked: the places since only say that its slices have lengths
-abbrev start-of : tie.After-shared-slice-known7 Inv-loop μ-loop → tie.Start Inv-loop μ-loop
-start-of c = c .before .before .before .before .before .before .before .before
-
 loop-holds : tie.Need-loop-holds Inv-loop μ-loop
 loop-holds c = (omega arith, writes-start _ _ _)
 
@@ -29,9 +25,9 @@ write-place-requires c κs =
 
 loop-again : tie.Need-loop-again Inv-loop μ-loop
 loop-again c =
-    let after-index : tie.After-index Inv-loop μ-loop = search in
-    let in-loop = after-index .before .before in
-    let start = start-of (in-loop .before) in
+    let place : tie.After-index Inv-loop μ-loop = search in
+    let in-loop = place .before .before in
+    let start : tie.Start Inv-loop μ-loop = search in
     let second = start .args .second .now in
     let starts = start .args .starts .now in
     let counts = start .args .counts .now in
@@ -42,7 +38,7 @@ loop-again c =
       omega arith,
       writes-next _ _ (in-loop .loop .inv .1) (omega (arith, places-long first second third starts counts keys seen (in-loop .loop .q + 1)))
           (omega (arith, places-long first second third starts counts keys seen (in-loop .loop .q))) (c .before .before .write-place .ensures)
-          (ap (placePiece first second third starts counts keys) (after-index .index .ensures .0)),
+          (ap (placePiece first second third starts counts keys) (place .index .ensures .0)),
     )
 
 same-length : tie.Need-same-length Inv-loop μ-loop

@@ -11,10 +11,6 @@ Inv-loop seen n starts counts keys t₀ i₀ t i = Cited seen starts counts keys
 abbrev μ-loop : tie.MeasureT-loop
 μ-loop seen n starts counts keys t₀ i₀ t i = n - i
 
--- what the function is given and asked: the places since only say that its slices have lengths
-abbrev start-of : tie.After-shared-slice-known4 Inv-loop μ-loop → tie.Start Inv-loop μ-loop
-start-of c = c .before .before .before .before
-
 loop-holds : tie.Need-loop-holds Inv-loop μ-loop
 loop-holds c = cited-start _ _ _ _ _
 
@@ -26,7 +22,7 @@ add-t c =
 loop-again : tie.Need-loop-again Inv-loop μ-loop
 loop-again c =
     let in-loop : tie.At-loop Inv-loop μ-loop = search in
-    let start = start-of (in-loop .before) in
+    let start : tie.Start Inv-loop μ-loop = search in
     cited-next (start .args .seen .now) (start .args .starts .now) (start .args .counts .now) (start .args .keys .now) (c .before .index .result)
     (c .run-length .result) (omega arith) (in-loop .loop .inv) (c .before .before .loop-test .taken) (c .before .index .ensures .0) (c .run-length .ensures)
 

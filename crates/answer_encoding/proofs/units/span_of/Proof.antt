@@ -6,8 +6,8 @@ use Rattle.answer_encoding.proofs.units.span_of.Tie as tie
 returns : tie.Need-returns
 unfolding keySpan
 returns c =
-    let after-high = c .before .before .before in
-    cc (after-high .high .ensures, c .before .before .low .ensures, c .before .high2 .ensures, c .low2 .ensures)
+    let high = c .before .before .before in
+    cc (high .high .ensures, c .before .before .low .ensures, c .before .high2 .ensures, c .low2 .ensures)
 
 pub span-of-spec : {M : Type 1} → statement M
 span-of-spec =

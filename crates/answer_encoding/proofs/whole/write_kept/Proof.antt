@@ -93,43 +93,49 @@ write-header-requires c κs = (omega arith, omega (arith, few (c .before .before
 
 write-boundaries-requires : tie.Need-write-boundaries-requires
 write-boundaries-requires c κs =
-    let pre = given (summed (c .before .before)) .pre in
-    record { inside = record-in pre; room = omega (arith, c .before .before .answer .given); limit = count-few pre }
+    let rest = c .before .before in
+    let pre = given (summed rest) .pre in
+    record { inside = record-in pre; room = omega (arith, rest .answer .given); limit = count-few pre }
 
 write-observations-requires : tie.Need-write-observations-requires
-write-observations-requires c κs = (
-  omega (arith, headed (c .before .before) .answer .given, c .before .before .answer2 .given),
-  omega (arith, few (summed (headed (c .before .before))) .1),
-)
+write-observations-requires c κs =
+    let rest = c .before .before in
+    let whole = headed rest in
+    (omega (arith, whole .answer .given, rest .answer2 .given), omega (arith, few (summed whole) .1))
 
 write-sources-requires : tie.Need-write-sources-requires
-write-sources-requires c κs = record {
-  limit = count-few (given (counted (c .before .before)) .pre);
-  own-limit = own-few (given (counted (c .before .before)) .pre);
-  seen-limit = seen-few (given (counted (c .before .before)) .pre);
-  room = omega (
-    arith,
-    headed (placed (c .before .before)) .answer .given,
-    placed (c .before .before) .answer2 .given,
-    c .before .before .answer3 .given,
-    sources-long (given (counted (c .before .before)) .pre) (counted (c .before .before) .before .before .sum-first .ensures)
-        (counted (c .before .before) .before .sum-first2 .ensures) (counted (c .before .before) .sum-runs .ensures .0),
-  );
-}
+write-sources-requires c κs =
+    let fits : tie.Else1 = search in
+    let rest = c .before .before in
+    let all = counted rest in
+    let pre = given all .pre in
+    record {
+      limit = count-few pre;
+      own-limit = own-few pre;
+      seen-limit = seen-few pre;
+      room = omega (
+        arith,
+        headed (placed rest) .answer .given,
+        placed rest .answer2 .given,
+        rest .answer3 .given,
+        fits .if1 .left,
+        sources-long pre (all .before .before .sum-first .ensures) (all .before .sum-first2 .ensures) (all .sum-runs .ensures .0),
+      );
+    }
 
 returns-2 : tie.Need-returns-2
 returns-2 c =
-    let after-write-observations : tie.After-write-observations = search in
-    let after-write-boundaries : tie.After-write-boundaries = search in
-    let after-write-header : tie.After-write-header = search in
-    let fits = after-write-header .before .before in
+    let observed : tie.After-write-observations = search in
+    let bounded : tie.After-write-boundaries = search in
+    let begun : tie.After-write-header = search in
+    let fits = begun .before .before in
     let all = fits .before in
     let observations = all .before .before .sum-first .ensures in
     let owns = all .before .sum-first2 .ensures in
     λ n ks e g. full-answer (given all .pre) observations owns (all .sum-runs .ensures .0) refl e g (omega (arith, fits .if1 .left))
     (all-written (given all .pre) observations owns (all .sum-runs .ensures .0) (given all .args .answer .now) (omega (arith, fits .if1 .left))
-    (after-write-header .write-header .ensures) (after-write-boundaries .write-boundaries .ensures)
-    (after-write-observations .write-observations .ensures) (c .before .before .write-sources .ensures))
+    (begun .write-header .ensures) (bounded .write-boundaries .ensures)
+    (observed .write-observations .ensures) (c .before .before .write-sources .ensures))
 
 pub write-kept-spec : {M : Type 1} → statement M
 write-kept-spec =

@@ -25,19 +25,22 @@ answered : (c : tie.After-first-answer)
     (length (start-of c .args .work .now)) (c .first-answer .result .number) (c .first-answer .result .detail)
 answered c = first-of (c .before .check-reduce .ensures) (c .first-answer .ensures)
 
--- past the checks and 21
+-- past the checks and 21: the first answer, and what the function is given
+abbrev first : tie.Else1 → tie.After-first-answer
+first c = c .before .before
+
 abbrev given : tie.Else1 → tie.Start
-given c = start-of (c .before .before)
+given c = start-of (first c)
 
 passed : (c : tie.Else1) → firstRefusal (reduceChecks (given c .args .job .now)) ≡ none
-passed c = first-passed (answered (c .before .before)) (omega (arith, c .if1 .left))
+passed c = first-passed (answered (first c)) (omega (arith, c .if1 .left))
 
 room : (c : tie.Else1) → workSize (decode (given c .args .job .now)) ≤ length (given c .args .work .now)
-room c = first-room (answered (c .before .before)) (omega (arith, c .if1 .left))
+room c = first-room (answered (first c)) (omega (arith, c .if1 .left))
 
 read : (c : tie.After-read-header) → OwnJob (given (c .before) .args .job .now) (c .read-header .result) (given (c .before) .args .work .now)
 read c =
-    let bytes = c .before .before .before .before .before .before .before in
+    let bytes : tie.After-shared-slice-known = search in
     reduce-own (λ i. bytes .shared-slice-known .given i .fits) (passed (c .before)) (c .read-header .ensures) (room (c .before))
 
 -- the map is parted
@@ -65,19 +68,19 @@ part-areas-requires c κs = (read (c .before), leads-eight)
 
 returns-2 : tie.Need-returns-2
 returns-2 c =
-    let found = c .before .before .before .before .before in
+    let found : tie.After-part-areas = search in
     let went-on = header found .before in
     cards-many _ _ _ _ (passed went-on) (room went-on) (found .part-areas .ensures) (c .before .before .of-pairs .ensures) (c .if2 .taken) ∙ cards-as _ _ _
 
 finish-cards-requires : tie.Need-finish-cards-requires
 finish-cards-requires c κs =
-    let few-pairs = c .before .before in
+    let few-pairs : tie.Else2 = search in
     let found = parted few-pairs in
     cells-labelled _ _ _ (found .part-areas .ensures) (few few-pairs) (read (header found) .headed)
 
 returns-3 : tie.Need-returns-3
 returns-3 c =
-    let few-pairs = c .before .before .before .before .before in
+    let few-pairs : tie.Else2 = search in
     let found = parted few-pairs in
     let went-on = header found .before in
     cards-done _ _ _ _ (passed went-on) (room went-on) (found .part-areas .ensures) (few few-pairs) (read (header found) .headed)

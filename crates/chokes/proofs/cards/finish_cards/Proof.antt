@@ -29,13 +29,13 @@ part-write-cards-end c =
 
 write-cards-requires : tie.Need-write-cards-requires
 write-cards-requires c κs =
-    let roomy = c .before .before in
+    let roomy : tie.Else1 = search in
     let sized = roomy .before in
     cards-fillable (given sized .pre) (sized .before .size .ensures .0) (sized .size2 .ensures .0) (omega (arith, roomy .if1 .left))
 
 returns-2 : tie.Need-returns-2
 returns-2 c =
-    let roomy = c .before .before .before .before .before in
+    let roomy : tie.Else1 = search in
     let sized = roomy .before in
     cards-whole (given sized .pre) (sized .before .size .ensures .0) (sized .size2 .ensures .0) (omega arith) (omega (arith, roomy .if1 .left))
     (c .before .before .write-cards .ensures)

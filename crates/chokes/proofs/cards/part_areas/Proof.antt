@@ -23,7 +23,9 @@ mul-size : tie.Need-mul-size
 mul-size c = omega (arith, headed-cells (start-of c .pre .0 .headed))
 
 own-ends-requires : tie.Need-own-ends-requires
-own-ends-requires c κs = (start-of (c .before .before .before) .pre .0 .headed, refl)
+own-ends-requires c κs =
+    let start : tie.Start = search in
+    (start .pre .0 .headed, refl)
 
 part-find-areas-end : tie.Need-part-find-areas-end
 part-find-areas-end c =
@@ -32,14 +34,14 @@ part-find-areas-end c =
 
 find-areas-requires : tie.Need-find-areas-requires
 find-areas-requires c κs =
-    let ended = c .before .before .before in
+    let ended : tie.After-own-ends = search in
     own-partitionable (given ended .pre .0) (sized ended .before .size .ensures .0) (sized ended .size2 .ensures .0) (ended .own-ends .ensures)
     (given ended .pre .1)
 
 returns : tie.Need-returns
 returns c =
     let found = c .before .before in
-    let ended = found .before .before .before .before in
+    let ended : tie.After-own-ends = search in
     own-found (given ended .pre .0) (sized ended .before .size .ensures .0) (sized ended .size2 .ensures .0) (ended .own-ends .ensures)
     (directionsOf (given ended .args .directions)) (found .find-areas .ensures)
 

@@ -12,32 +12,40 @@ use Rattle.chokes.proofs.mark.analyse_boundaries.Tie as tie
 abbrev start-of : tie.After-struct-known → tie.Start
 start-of c = c .before .before .before .before
 
+-- the ends are in the array
+abbrev sized : tie.After-own-ends → tie.After-size2
+sized c = c .before .before
+
+abbrev given : tie.After-own-ends → tie.Start
+given c = start-of (sized c .before .before)
+
 mul-size : tie.Need-mul-size
 mul-size c = omega (arith, headed-cells (start-of c .pre .0 .headed))
 
 own-ends-requires : tie.Need-own-ends-requires
-own-ends-requires c κs = (start-of (c .before .before .before) .pre .0 .headed, refl)
+own-ends-requires c κs =
+    let start : tie.Start = search in
+    (start .pre .0 .headed, refl)
 
 part-find-bridges-end : tie.Need-part-find-bridges-end
 part-find-bridges-end c =
-    let after-size = c .before .before .before in
-    let headed = start-of (after-size .before) .pre .0 .headed in
-    omega (arith, map-inside (headed .header) (headed-laid headed) _ (after-size .size .ensures .0))
+    let headed = given c .pre .0 .headed in
+    omega (arith, map-inside (headed .header) (headed-laid headed) _ (sized c .before .size .ensures .0))
 
 find-bridges-requires : tie.Need-find-bridges-requires
 find-bridges-requires c κs =
-    let after-own-ends = c .before .before .before .before in
-    let after-size2 = after-own-ends .before .before in
-    let start = start-of (after-size2 .before .before) in
-    own-partitionable (start .pre .0) (after-size2 .before .size .ensures .0) (after-size2 .size2 .ensures .0) (after-own-ends .own-ends .ensures)
+    let ended : tie.After-own-ends = search in
+    let sizes = sized ended in
+    let start = given ended in
+    own-partitionable (start .pre .0) (sizes .before .size .ensures .0) (sizes .size2 .ensures .0) (ended .own-ends .ensures)
     (start .pre .1)
 
 returns : tie.Need-returns
 returns c =
-    let after-own-ends = c .before .before .before .before .before .before .before in
-    let after-size2 = after-own-ends .before .before in
-    let start = start-of (after-size2 .before .before) in
-    own-analysed (start .pre .0) (after-size2 .before .size .ensures .0) (after-size2 .size2 .ensures .0) (after-own-ends .own-ends .ensures)
+    let ended : tie.After-own-ends = search in
+    let sizes = sized ended in
+    let start = given ended in
+    own-analysed (start .pre .0) (sizes .before .size .ensures .0) (sizes .size2 .ensures .0) (ended .own-ends .ensures)
     (directionsOf (start .args .directions)) (c .before .before .find-bridges .ensures)
 
 pub analyse-boundaries-spec : {M : Type 1} → statement M

@@ -25,20 +25,26 @@ answered : (c : tie.After-first-answer) → FirstAnswer (firstRefusal (markCheck
     (length (start-of c .args .work .now)) (c .first-answer .result .number) (c .first-answer .result .detail)
 answered c = first-of (c .before .check-mark .ensures) (c .first-answer .ensures)
 
--- past the checks and 21
+-- past the checks and 21: the first answer, and what the function is given
+abbrev first : tie.Else1 → tie.After-first-answer
+first c = c .before .before
+
 abbrev given : tie.Else1 → tie.Start
-given c = start-of (c .before .before)
+given c = start-of (first c)
 
 passed : (c : tie.Else1) → firstRefusal (markChecks (given c .args .job .now)) ≡ none
-passed c = first-passed (answered (c .before .before)) (omega (arith, c .if1 .left))
+passed c = first-passed (answered (first c)) (omega (arith, c .if1 .left))
 
 room : (c : tie.Else1) → workSize (decode (given c .args .job .now)) ≤ length (given c .args .work .now)
-room c = first-room (answered (c .before .before)) (omega (arith, c .if1 .left))
+room c = first-room (answered (first c)) (omega (arith, c .if1 .left))
 
 read : (c : tie.After-read-header) → OwnJob (given (c .before) .args .job .now) (c .read-header .result) (given (c .before) .args .work .now)
 read c =
-    let bytes = c .before .before .before .before .before .before .before in
+    let bytes : tie.After-shared-slice-known = search in
     mark-own (λ i. bytes .shared-slice-known .given i .fits) (passed (c .before)) (c .read-header .ensures) (room (c .before))
+
+abbrev header-of : tie.After-analyse-boundaries → tie.After-read-header
+header-of c = c .before .before .before
 
 -- past 13
 abbrev analysed : tie.Else2 → tie.After-analyse-boundaries
@@ -48,7 +54,7 @@ few : (c : tie.Else2) → analysed c .analyse-boundaries .result ≤ maxPairs
 few c = pairs-few (c .before .before .of-pairs .ensures) (omega (arith, c .if2 .left))
 
 abbrev header : tie.Else2 → tie.After-read-header
-header c = analysed c .before .before .before
+header c = header-of (analysed c)
 
 first-answer-requires : tie.Need-first-answer-requires
 first-answer-requires c κs = (λ e. mark-job _ (sym (c .check-mark .ensures) ∙ e), omega arith)
@@ -64,32 +70,34 @@ analyse-boundaries-requires c κs = (read (c .before .before), leads-eight)
 
 returns-2 : tie.Need-returns-2
 returns-2 c =
-    let after-analyse-boundaries = c .before .before .before .before .before in
-    let went-on = after-analyse-boundaries .before .before .before .before in
-    marked-many _ _ _ _ (passed went-on) (room went-on) (after-analyse-boundaries .analyse-boundaries .ensures) (c .before .before .of-pairs .ensures)
+    let found : tie.After-analyse-boundaries = search in
+    let went-on = header-of found .before in
+    marked-many _ _ _ _ (passed went-on) (room went-on) (found .analyse-boundaries .ensures) (c .before .before .of-pairs .ensures)
     (c .if2 .taken) ∙ mark-as _ _ _
 
 returns-3 : tie.Need-returns-3
 returns-3 c =
-    let few-pairs = c .before .before .before in
+    let few-pairs : tie.Else2 = search in
     let went-on = header few-pairs .before in
     mark-no-room _ _ _ _ (passed went-on) (room went-on) (analysed few-pairs .analyse-boundaries .ensures) (few few-pairs)
     (omega (arith, c .if3 .taken, mark-count (read (header few-pairs) .headed) (c .before .size .ensures .0))) ∙ mark-as _ _ _
 
 copy-first-requires : tie.Need-copy-first-requires
 copy-first-requires c κs =
-    let after-size = c .before .before .before in
-    (mark-few (read (header (after-size .before .before)) .headed) (after-size .size .ensures .0), c .before .before .if3 .left)
+    let wide : tie.Else3 = search in
+    let size = wide .before in
+    let few-pairs : tie.Else2 = search in
+    (mark-few (read (header few-pairs) .headed) (size .size .ensures .0), wide .if3 .left)
 
 returns-4 : tie.Need-returns-4
 returns-4 c =
-    let wide = c .before .before .before .before .before in
-    let after-size = wide .before in
-    let few-pairs = after-size .before .before in
+    let wide : tie.Else3 = search in
+    let size = wide .before in
+    let few-pairs : tie.Else2 = search in
     let went-on = header few-pairs .before in
     let headed = read (header few-pairs) .headed in
     mark-done _ _ _ _ (passed went-on) (room went-on) (analysed few-pairs .analyse-boundaries .ensures) (few few-pairs)
-    (mark-few headed (after-size .size .ensures .0)) (mark-count headed (after-size .size .ensures .0)) (wide .if3 .left)
+    (mark-few headed (size .size .ensures .0)) (mark-count headed (size .size .ensures .0)) (wide .if3 .left)
     (c .before .before .copy-first .ensures)
     ∙ mark-as _ _ _
 

@@ -10,18 +10,18 @@ read-header-requires c κs = header-there _ (c .before .before .pre .passed)
 
 write-answer-requires : tie.Need-write-answer-requires
 write-answer-requires c κs =
-    let start = c .before .before .before .before in
+    let start : tie.Start = search in
     rw (c .before .read-header .ensures) (start .pre)
 
 returns : tie.Need-returns
 returns c =
-    let after-write-answer = c .before .before .before in
-    finished-short (after-write-answer .write-answer .ensures) (omega (arith, c .if1 .taken))
+    let written : tie.After-write-answer = search in
+    finished-short (written .write-answer .ensures) (omega (arith, c .if1 .taken))
 
 returns-2 : tie.Need-returns-2
 returns-2 c =
-    let after-write-answer = c .before .before .before in
-    finished-whole (after-write-answer .write-answer .ensures) (omega (arith, c .if1 .left))
+    let written : tie.After-write-answer = search in
+    finished-whole (written .write-answer .ensures) (omega (arith, c .if1 .left))
 
 pub finish-spec : {M : Type 1} → statement M
 finish-spec =
