@@ -52,14 +52,17 @@ slice-write-out c = omega (arith, c .before .before .loop .inv .same)
 
 loop-again : tie.Need-loop-again Inv-loop μ-loop
 loop-again c =
-    let if1-left = c .before .before .before in
-    started-next (c .before .before .loop .inv) (c .before .loop-test .taken) (if1-left .if1 .left)
+    let turn = c .before in
+    let head = turn .before in
+    started-next (head .loop .inv) (turn .loop-test .taken) (head .before .if1 .left)
 
 same-length : tie.Need-same-length Inv-loop μ-loop
 same-length c = c .before .loop .inv .same
 
 returns-2 : tie.Need-returns-2 Inv-loop μ-loop
-returns-2 c = (refl, started-end (c .before .loop .inv) (c .loop-test .left) (c .before .before .if1 .left))
+returns-2 c =
+    let head = c .before in
+    (refl, started-end (head .loop .inv) (c .loop-test .left) (head .before .if1 .left))
 
 pub copy-spec : {M : Type 1} → statement M
 copy-spec =

@@ -8,17 +8,16 @@ use Rattle.probe.proofs.probe_span_ends.Statement.{statement}
 use Rattle.probe.proofs.probe_span_ends.Tie as tie
 
 -- what the function is given and asked: the places since only say that its slices have lengths
-abbrev start-of : tie.After-slice-known → tie.Start
-start-of c = c .before .before .before
+abbrev start-of : tie.After-span-ends → tie.Start
+start-of c = search
 
 returns : tie.Need-returns
 returns c =
-    let after-copy = c .before .before in
-    let after-span-ends = after-copy .before in
-    let start = start-of (after-span-ends .before .before) in (
-      after-copy .copy .ensures .0 ∙ ap (λ (l : List ℕ). length l) (after-span-ends .span-ends .ensures .bytes-are),
-      after-copy .copy .ensures .1
-          ∙ ap (putFirst (start .args .out .now)) (after-span-ends .span-ends .ensures .bytes-are),
+    let copied = c .before .before in
+    let ends = copied .before in
+    let bytes = ends .span-ends .ensures .bytes-are in (
+      copied .copy .ensures .0 ∙ ap (λ (l : List ℕ). length l) bytes,
+      copied .copy .ensures .1 ∙ ap (putFirst (start-of ends .args .out .now)) bytes,
     )
 
 pub probe-span-ends-spec : {M : Type 1} → statement M

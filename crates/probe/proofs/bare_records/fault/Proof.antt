@@ -19,16 +19,18 @@ loop-holds c = (omega arith, λ k h. absurd (omega arith))
 
 returns : tie.Need-returns Inv-loop μ-loop
 returns c =
-    let in-loop = c .before .before .before in
-    (omega arith, in-loop .loop .inv .1, λ h. sym (c .before .record-fits .ensures) ∙ not-true _ (c .if1 .taken))
+    let judged = c .before in
+    let head = judged .before .before in
+    (omega arith, head .loop .inv .1, λ h. sym (judged .record-fits .ensures) ∙ not-true _ (c .if1 .taken))
 
 loop-again : tie.Need-loop-again Inv-loop μ-loop
 loop-again c =
-    let in-loop = c .before .before .before in
-    let start = in-loop .before .before in (
+    let judged = c .before in
+    let head = judged .before .before in
+    let start = head .before .before in (
       omega arith,
-      fit-next (start .args .records .now) (start .args .regions) (in-loop .loop .k) (in-loop .loop .inv .1)
-          (sym (c .before .record-fits .ensures) ∙ not-false _ (c .if1 .left)),
+      fit-next (start .args .records .now) (start .args .regions) (head .loop .k) (head .loop .inv .1)
+          (sym (judged .record-fits .ensures) ∙ not-false _ (c .if1 .left)),
     )
 
 returns-2 : tie.Need-returns-2 Inv-loop μ-loop

@@ -17,7 +17,15 @@ abbrev μ-loop : tie.MeasureT-loop
 
 -- what the function is given and asked: the places since only say that its slices have lengths
 abbrev start-of : tie.After-slice-known3 Inv-loop μ-loop → tie.Start Inv-loop μ-loop
-start-of c = c .before .before .before .before
+start-of c = search
+
+-- the turn, from where the three words of a record are read
+abbrev turn-of : tie.After-read-u323 Inv-loop μ-loop → tie.At-loop Inv-loop μ-loop
+turn-of c = c .before .before .before .before
+
+-- the start, from where the turns end
+abbrev asked : tie.After-loop Inv-loop μ-loop → tie.Start Inv-loop μ-loop
+asked c = start-of (c .before .before)
 
 loop-holds : tie.Need-loop-holds Inv-loop μ-loop
 loop-holds c =
@@ -30,52 +38,39 @@ loop-holds c =
     )
 
 slice-write-owners : tie.Need-slice-write-owners Inv-loop μ-loop
-slice-write-owners c =
-    let in-loop = c .before .before .before .before in
-    omega (arith, in-loop .loop .inv .3 .owners-are)
+slice-write-owners c = omega (arith, turn-of c .loop .inv .3 .owners-are)
 
 slice-write-lefts : tie.Need-slice-write-lefts Inv-loop μ-loop
-slice-write-lefts c =
-    let in-loop = c .before .before .before .before in
-    omega (arith, in-loop .loop .inv .3 .lefts-are)
+slice-write-lefts c = omega (arith, turn-of c .loop .inv .3 .lefts-are)
 
 slice-write-rights : tie.Need-slice-write-rights Inv-loop μ-loop
-slice-write-rights c =
-    let in-loop = c .before .before .before .before in
-    omega (arith, in-loop .loop .inv .3 .rights-are)
+slice-write-rights c = omega (arith, turn-of c .loop .inv .3 .rights-are)
 
 loop-again : tie.Need-loop-again Inv-loop μ-loop
 loop-again c =
-    let in-loop = c .before .before .before .before in
-    let inv = in-loop .loop .inv in (
+    let second = c .before in
+    let inv = turn-of c .loop .inv in (
       omega arith,
       inv .1,
       inv .2,
-      loaded-next (inv .3) (omega (arith, inv .1)) (c .before .before .read-u32 .ensures) (c .before .read-u322 .ensures)
-          (c .read-u323 .ensures),
+      loaded-next (inv .3) (omega (arith, inv .1)) (second .before .read-u32 .ensures) (second .read-u322 .ensures) (c .read-u323 .ensures),
     )
 
 same-length : tie.Need-same-length Inv-loop μ-loop
-same-length c =
-    let start = start-of (c .before .before) in
-    c .before .loop .inv .3 .owners-are ∙ sym (start .pre .2)
+same-length c = c .before .loop .inv .3 .owners-are ∙ sym (asked c .pre .2)
 
 same-length-2 : tie.Need-same-length-2 Inv-loop μ-loop
-same-length-2 c =
-    let start = start-of (c .before .before) in
-    c .before .loop .inv .3 .lefts-are ∙ sym (start .pre .3)
+same-length-2 c = c .before .loop .inv .3 .lefts-are ∙ sym (asked c .pre .3)
 
 same-length-3 : tie.Need-same-length-3 Inv-loop μ-loop
-same-length-3 c =
-    let start = start-of (c .before .before) in
-    c .before .loop .inv .3 .rights-are ∙ sym (start .pre .4)
+same-length-3 c = c .before .loop .inv .3 .rights-are ∙ sym (asked c .pre .4)
 
 returns : tie.Need-returns Inv-loop μ-loop
 returns c =
-    let start = start-of (c .before .before) in
-    let z : c .before .loop .k ≡ start .args .n = omega arith in
-    subst (λ (j : ℕ). Loaded (start .args .records .now) j (c .before .loop .owners) (c .before .loop .lefts) (c .before .loop .rights)) z
-    (c .before .loop .inv .3)
+    let given = asked c .args in
+    let last = c .before .loop in
+    let z : last .k ≡ given .n = omega arith in
+    subst (λ (j : ℕ). Loaded (given .records .now) j (last .owners) (last .lefts) (last .rights)) z (last .inv .3)
 
 pub load-spec : {M : Type 1} → statement M
 load-spec =

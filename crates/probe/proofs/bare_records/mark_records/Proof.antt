@@ -5,19 +5,26 @@ use Rattle.probe.proofs.bare_records.mark_records.Statement.{statement}
 use Rattle.probe.proofs.bare_records.mark_records.Tie as tie
 
 -- what the function is given and asked: the places since only say that its slices have lengths
-abbrev start-of : tie.After-slice-known2 → tie.Start
-start-of c = c .before .before .before
+abbrev start-of : tie.After-load → tie.Start
+start-of c = search
+
+-- where the records are loaded, from where the scratch is zeroed; that place, from where the arrays are lent
+abbrev loaded : tie.After-zero-fill → tie.After-load
+loaded c = search
+
+abbrev zeroed : tie.After-found → tie.After-zero-fill
+zeroed c = search
 
 bridge-boundary-indices-requires : tie.Need-bridge-boundary-indices-requires
 bridge-boundary-indices-requires c κs =
-    let after-zero-fill = c .before .before .before .before .before .before .before in
-    let after-load = after-zero-fill .before .before .before .before .before in
-    let start = start-of (after-load .before .before .before .before) in
+    let zeros = zeroed c in
+    let records = loaded zeros in
+    let start = start-of records in
     let w = start .args .work .now in
     let regions = start .args .regions in
     let p = start .pre in
-    let l = after-load .load .ensures in
-    let z = after-zero-fill .zero-fill .ensures in (
+    let l = records .load .ensures in
+    let z = zeros .zero-fill .ensures in (
       loaded-owners regions l (p .2),
       omega (arith, l .owners-are, p .0),
       loaded-labels l (p .0) (p .2),
@@ -27,19 +34,19 @@ bridge-boundary-indices-requires c κs =
 
 slice-aggregate-copy : tie.Need-slice-aggregate-copy
 slice-aggregate-copy c =
-    let after-bridge-boundary-indices = c .before .before .before .before in
-    found-length _ (after-bridge-boundary-indices .bridge-boundary-indices .ensures .0)
+    let bridges : tie.After-bridge-boundary-indices = search in
+    found-length _ (bridges .bridge-boundary-indices .ensures .0)
 
 returns : tie.Need-returns
 returns c =
-    let after-bridge-boundary-indices = c .before .before .before .before .before .before .before in
-    let after-zero-fill = after-bridge-boundary-indices .before .before .before .before .before .before .before .before in
-    let after-load = after-zero-fill .before .before .before .before .before in
-    let start = start-of (after-load .before .before .before .before) in
+    let bridges : tie.After-bridge-boundary-indices = search in
+    let zeros = zeroed (bridges .before) in
+    let records = loaded zeros in
+    let start = start-of records in
     let a = start .args in
-    let b = after-bridge-boundary-indices .bridge-boundary-indices .ensures in (
-      zero-end (a .work .now) (a .regions) (b .1) (after-zero-fill .zero-fill .ensures),
-      marks-end (a .marks .now) (after-load .load .ensures) (b .0) (start .pre .4) (c .before .before .copy .ensures .1),
+    let b = bridges .bridge-boundary-indices .ensures in (
+      zero-end (a .work .now) (a .regions) (b .1) (zeros .zero-fill .ensures),
+      marks-end (a .marks .now) (records .load .ensures) (b .0) (start .pre .4) (c .before .before .copy .ensures .1),
     )
 
 pub mark-records-spec : {M : Type 1} → statement M

@@ -1,9 +1,21 @@
 use mathlib.Core.Path.{refl}
 use native.Mathlib.Omega.{arith}
-use Rattle.probe.specs.Records.{uneven, many, unfit, short, marked}
+use Prim.Native.Nat.{_/_}
+use lib.ListN.{length}
+use Rattle.probe.specs.Records.{AllFit, uneven, many, unfit, short, marked}
 use borrow.Author.Needs.{needs}
 use Rattle.probe.proofs.bare_records.probe_bridges.Statement.{statement}
 use Rattle.probe.proofs.bare_records.probe_bridges.Tie as tie
+
+-- what the function is given; past the number of records, from where they fit
+abbrev given : tie.Else3 → tie.Start
+given c = search
+
+abbrev few-of : tie.Else3 → tie.Else2
+few-of c = c .before .before
+
+all-fit : (c : tie.Else3) → AllFit (given c .args .records .now) (length (given c .args .work .now) / 4) (length (given c .args .records .now) / 12)
+all-fit c = λ k h. let found = c .before .fault .ensures in found .1 k (omega (arith, h, c .if3 .left, found .0))
 
 returns : tie.Need-returns
 returns c = uneven (c .if1 .taken) (record { number-is = refl; detail-is = refl; work-kept = refl; marks-kept = refl })
@@ -13,47 +25,43 @@ returns-2 c = many (omega (arith, c .before .if1 .left)) (c .if2 .taken) (record
 
 returns-3 : tie.Need-returns-3
 returns-3 c =
-    let if1-left = c .before .before .before in
-    unfit _ (if1-left .if1 .left) (c .before .before .if2 .left) (c .if3 .taken) (c .before .fault .ensures .1) (c .before .fault .ensures .2 (c .if3 .taken))
+    let found = c .before in
+    let few = found .before in
+    let first = found .fault .ensures in
+    unfit _ (few .before .if1 .left) (few .if2 .left) (c .if3 .taken) (first .1) (first .2 (c .if3 .taken))
     (record { number-is = refl; detail-is = refl; work-kept = refl; marks-kept = refl })
 
 returns-4 : tie.Need-returns-4
 returns-4 c =
-    let after-fault = c .before .before in
-    let if2-left = after-fault .before in
-    let if1-left = if2-left .before in
-    short (if1-left .if1 .left) (if2-left .if2 .left)
-    (λ k h. after-fault .fault .ensures .1 k (omega (arith, h, c .before .if3 .left, after-fault .fault .ensures .0))) (c .if4 .taken)
+    let fits = c .before in
+    let few = few-of fits in
+    short (few .before .if1 .left) (few .if2 .left) (all-fit fits) (c .if4 .taken)
     (record { number-is = refl; detail-is = refl; work-kept = refl; marks-kept = refl })
 
 mark-records-requires : tie.Need-mark-records-requires
 mark-records-requires c κs =
-    let if3-left = c .before .before .before in
-    let after-fault = if3-left .before in
-    let if2-left = after-fault .before in
-    let if1-left = if2-left .before in (
-      if2-left .if2 .left,
-      omega (arith, if1-left .if1 .left),
-      (λ k h. after-fault .fault .ensures .1 k (omega (arith, h, if3-left .if3 .left, after-fault .fault .ensures .0))),
+    let wide = c .before .before in
+    let fits = wide .before in
+    let few = few-of fits in (
+      few .if2 .left,
+      omega (arith, few .before .if1 .left),
+      all-fit fits,
       omega arith,
-      c .before .before .if4 .left,
+      wide .if4 .left,
     )
 
 returns-5 : tie.Need-returns-5
 returns-5 c =
-    let after-mark-records = c .before .before .before .before in
-    let if4-left = after-mark-records .before .before .before in
-    let if3-left = if4-left .before in
-    let after-fault = if3-left .before in
-    let if2-left = after-fault .before in
-    let if1-left = if2-left .before in
-    marked (if1-left .if1 .left) (if2-left .if2 .left)
-    (λ k h. after-fault .fault .ensures .1 k (omega (arith, h, if3-left .if3 .left, after-fault .fault .ensures .0))) (if4-left .if4 .left)
+    let marks : tie.After-mark-records = search in
+    let wide = marks .before .before .before in
+    let fits = wide .before in
+    let few = few-of fits in
+    marked (few .before .if1 .left) (few .if2 .left) (all-fit fits) (wide .if4 .left)
     (record {
       number-is = refl;
       detail-is = refl;
-      work-is = after-mark-records .mark-records .ensures .0;
-      marks-are = after-mark-records .mark-records .ensures .1;
+      work-is = marks .mark-records .ensures .0;
+      marks-are = marks .mark-records .ensures .1;
     })
 
 pub probe-bridges-spec : {M : Type 1} → statement M

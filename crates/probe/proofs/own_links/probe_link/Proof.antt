@@ -15,9 +15,9 @@ use Rattle.probe.proofs.RegionLaws.{ready-now}
 use Rattle.probe.proofs.own_links.probe_link.Statement.{statement}
 use Rattle.probe.proofs.own_links.probe_link.Tie as tie
 
--- past the checks and 21
+-- past the checks and 21: what the function is given
 abbrev given : tie.Else1 → tie.Start
-given c = c .before .before .before .before .before .before
+given c = search
 
 passed : (c : tie.Else1) → firstRefusal (reduceChecks (given c .args .job .now)) ≡ none
 passed c = first-passed (c .before .before .unready .ensures) (omega (arith, c .if1 .left))
@@ -27,8 +27,15 @@ ready c = ready-now (c .before .before .unready .ensures) (omega (arith, c .if1 
 
 read : (c : tie.After-read-header) → Headed (given (c .before) .args .job .now) (c .read-header .result)
 read c =
-    let bytes = c .before .before .before .before .before .before in
+    let bytes : tie.After-shared-slice-known = search in
     reduce-headed (λ i. bytes .shared-slice-known .given i .fits) (passed (c .before)) (c .read-header .ensures)
+
+-- past the test of the first region, from where the slice is wide enough; where the header is read, from there
+abbrev in-first : tie.Else4 → tie.Else2
+in-first c = c .before .before
+
+abbrev header-of : tie.Else2 → tie.After-read-header
+header-of c = c .before .before
 
 returns : tie.Need-returns
 returns c = refused (c .if1 .taken) (c .before .before .unready .ensures) refl
@@ -48,40 +55,40 @@ returns-3 c =
 
 returns-4 : tie.Need-returns-4
 returns-4 c =
-    let in-first = c .before .before in
-    let header = in-first .before .before in
+    let second = c .before in
+    let first = second .before in
+    let header = header-of first in
     let count = count-is (read header) in
-    known (omega (arith, in-first .if2 .left, count)) (omega (arith, c .before .if3 .left, count))
+    known (omega (arith, first .if2 .left, count)) (omega (arith, second .if3 .left, count))
     (short (ready (header .before)) (c .if4 .taken) refl refl refl)
 
 tell-link-requires : tie.Need-tell-link-requires
 tell-link-requires c κs =
-    let wide = c .before .before .before .before in
-    let in-second = wide .before in
-    let in-first = in-second .before in
-    let header = in-first .before .before in
+    let sized = c .before in
+    let wide : tie.Else4 = search in
+    let first = in-first wide in
+    let header = header-of first in
     let went-on = header .before in (
       read header,
-      omega (arith, c .before .before .size .ensures .0, in-first .if2 .left),
-      omega (arith, c .before .size2 .ensures .0, in-second .if3 .left),
+      omega (arith, sized .before .size .ensures .0, first .if2 .left),
+      omega (arith, sized .size2 .ensures .0, wide .before .if3 .left),
       first-room (went-on .before .before .unready .ensures) (omega (arith, went-on .if1 .left)),
       omega (arith, wide .if4 .left),
     )
 
 returns-5 : tie.Need-returns-5
 returns-5 c =
-    let after-size2 = c .before .before .before .before in
-    let after-size = after-size2 .before in
-    let after-of-000 = after-size .before in
-    let wide = after-of-000 .before in
-    let in-second = wide .before in
-    let in-first = in-second .before in
-    let header = in-first .before .before in
+    let told-at : tie.After-tell-link = search in
+    let second-sized : tie.After-size2 = search in
+    let first-sized = second-sized .before in
+    let limits = first-sized .before in
+    let wide = limits .before in
+    let first = in-first wide in
+    let header = header-of first in
     let count = count-is (read header) in
-    known (omega (arith, in-first .if2 .left, count)) (omega (arith, in-second .if3 .left, count))
+    known (omega (arith, first .if2 .left, count)) (omega (arith, wide .before .if3 .left, count))
     (told (ready (header .before)) (omega (arith, wide .if4 .left)) refl refl
-    (link-named _ _ _ _ (after-of-000 .of-000 .ensures) (after-size .size .ensures .0) (after-size2 .size2 .ensures .0)
-    (c .before .before .tell-link .ensures)))
+    (link-named _ _ _ _ (limits .of-000 .ensures) (first-sized .size .ensures .0) (second-sized .size2 .ensures .0) (told-at .tell-link .ensures)))
 
 pub probe-link-spec : {M : Type 1} → statement M
 probe-link-spec =

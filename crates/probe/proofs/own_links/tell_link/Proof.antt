@@ -10,43 +10,48 @@ use Rattle.probe.proofs.own_links.tell_link.Statement.{statement}
 use Rattle.probe.proofs.own_links.tell_link.Tie as tie
 
 -- what the function is given and asked: the places since only say that its slices have lengths
-abbrev start-of : tie.After-slice-known → tie.Start
-start-of c = c .before .before .before
+abbrev start-of : tie.After-struct-known → tie.Start
+start-of c = search
+
+-- the start, from where the link is measured
+abbrev asked : tie.After-measured → tie.Start
+asked c = search
 
 mul-size : tie.Need-mul-size
-mul-size c = omega (arith, headed-cells (start-of (c .before .before) .pre .0))
+mul-size c = omega (arith, headed-cells (start-of c .pre .0))
 
 measure-one-requires : tie.Need-measure-one-requires
 measure-one-requires c κs =
-    let pre = start-of (c .before .before .before .before) .pre in
-    let n = c .before .size .ensures .0 in
+    let cells = c .before in
+    let pre = start-of (cells .before) .pre in
+    let n = cells .size .ensures .0 in
     (omega (arith, headed-laid (pre .0) .within .width-some), omega (arith, n, headed-cells (pre .0)), omega (arith, n, headed-work (pre .0), pre .3))
 
 write-link-requires : tie.Need-write-link-requires
 write-link-requires c κs =
-    let after-measured = c .before .before .before .before .before .before .before in
-    omega (arith, start-of (after-measured .before .before .before .before .before .before) .pre .4)
+    let measured : tie.After-measured = search in
+    omega (arith, asked measured .pre .4)
 
 returns : tie.Need-returns
 returns c =
-    let after-flag = c .before .before .before .before in
-    let after-bits-of2 = after-flag .before in
-    let after-longitudinal-of = after-bits-of2 .before in
-    let after-bits-of = after-longitudinal-of .before in
-    let after-transverse-of = after-bits-of .before in
-    let after-kind-of = after-transverse-of .before in
-    let after-measured = after-kind-of .before in
-    let after-measure-one = after-measured .before in
-    let after-link-between = after-measure-one .before in
-    let after-size = after-link-between .before in
-    let start = start-of (after-size .before .before .before) in
+    let written = c .before .before in
+    let flagged = written .before .before in
+    let along-bits = flagged .before in
+    let along = along-bits .before in
+    let across-bits = along .before in
+    let across = across-bits .before in
+    let kind = across .before in
+    let measured = kind .before in
+    let measure = measured .before in
+    let between = measure .before in
+    let start = asked measured in
     let given = start .args in
-    c .before .before .write-link .ensures
+    written .write-link .ensures
     ∙ ap (splice (given .out .now) 0)
-    (link-told (start .pre .0) (after-size .size .ensures .0) (given .labels .now) (given .region) (given .first) (given .second) _
-    (after-link-between .link-between .ensures) (after-measure-one .measure-one .ensures) (after-measured .measured .ensures) (after-kind-of .kind-of .ensures)
-    (after-bits-of .bits-of .ensures ∙ ap floatBits (after-transverse-of .transverse-of .ensures))
-    (after-bits-of2 .bits-of2 .ensures ∙ ap floatBits (after-longitudinal-of .longitudinal-of .ensures)) (after-flag .flag .ensures))
+    (link-told (start .pre .0) (between .before .size .ensures .0) (given .labels .now) (given .region) (given .first) (given .second) _
+    (between .link-between .ensures) (measure .measure-one .ensures) (measured .measured .ensures) (kind .kind-of .ensures)
+    (across-bits .bits-of .ensures ∙ ap floatBits (across .transverse-of .ensures))
+    (along-bits .bits-of2 .ensures ∙ ap floatBits (along .longitudinal-of .ensures)) (flagged .flag .ensures))
 
 pub tell-link-spec : {M : Type 1} → statement M
 tell-link-spec =

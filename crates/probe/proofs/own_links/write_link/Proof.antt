@@ -5,12 +5,12 @@ use Rattle.probe.proofs.own_links.write_link.Tie as tie
 
 returns : tie.Need-returns
 returns c =
-    let after-write-u642 = c .before .before .before .before .before .before in
-    let at-write-u64 = after-write-u642 .before .before .before .before in
-    let at-write-u32 = at-write-u64 .before .before .before .before in
-    let start = at-write-u32 .before .before .before in
-    four-writes (start .args .out .now) _ _ _ _ (start .pre) (at-write-u32 .write-u32 .ensures) (at-write-u64 .write-u64 .ensures)
-    (after-write-u642 .write-u642 .ensures) (c .before .before .write-u322 .ensures)
+    let along : tie.After-write-u642 = search in
+    let across : tie.After-write-u64 = search in
+    let kind : tie.After-write-u32 = search in
+    let start = kind .before .before .before in
+    four-writes (start .args .out .now) _ _ _ _ (start .pre) (kind .write-u32 .ensures) (across .write-u64 .ensures) (along .write-u642 .ensures)
+    (c .before .before .write-u322 .ensures)
 
 pub write-link-spec : {M : Type 1} → statement M
 write-link-spec =

@@ -10,49 +10,61 @@ use Rattle.probe.proofs.PartingLaws.{all-parted}
 use Rattle.probe.proofs.own_partition.partition_job.Statement.{statement}
 use Rattle.probe.proofs.own_partition.partition_job.Tie as tie
 
+-- what the function is given and asked: the places since only say that its slices have lengths
 abbrev start-of : tie.After-struct-known → tie.Start
-start-of c = c .before .before .before .before .before
+start-of c = search
+
+-- the start, from where the cells and the boundaries are counted
+abbrev asked : tie.After-size2 → tie.Start
+asked c = start-of (c .before .before)
+
+-- where they are counted, from where the ends are known
+abbrev counted : tie.After-own-ends → tie.After-size2
+counted c = c .before .before
+
+-- where the ends are known, from where the partition's arrays are lent
+abbrev ended : tie.After-rights → tie.After-own-ends
+ended c = search
+
+-- where the partition is made, from where it is to be written
+abbrev parted : tie.After-write-partition-arg → tie.After-partition-by-spans
+parted c = search
 
 mul-size : tie.Need-mul-size
 mul-size c = omega (arith, headed-cells (start-of c .pre .0 .headed))
 
 own-ends-requires : tie.Need-own-ends-requires
-own-ends-requires c κs = (start-of (c .before .before .before) .pre .0 .headed, refl)
+own-ends-requires c κs = (asked (c .before) .pre .0 .headed, refl)
 
 part-partition-by-spans-end : tie.Need-part-partition-by-spans-end
 part-partition-by-spans-end c =
-    let after-size = c .before .before .before in
-    let headed = start-of (after-size .before) .pre .0 .headed in
-    omega (arith, map-inside (headed .header) (headed-laid headed) _ (after-size .size .ensures .0))
+    let numbers = counted c in
+    let headed = asked numbers .pre .0 .headed in
+    omega (arith, map-inside (headed .header) (headed-laid headed) _ (numbers .before .size .ensures .0))
 
 partition-by-spans-requires : tie.Need-partition-by-spans-requires
 partition-by-spans-requires c κs =
-    let after-own-ends = c .before .before .before .before .before .before .before .before in
-    let after-size2 = after-own-ends .before .before in
-    let start = start-of (after-size2 .before .before) in (
-      own-partitionable (start .pre .0) (after-size2 .before .size .ensures .0) (after-size2 .size2 .ensures .0) (after-own-ends .own-ends .ensures)
-          (start .pre .1),
+    let ends = ended c in
+    let numbers = counted ends in
+    let start = asked numbers in (
+      own-partitionable (start .pre .0) (numbers .before .size .ensures .0) (numbers .size2 .ensures .0) (ends .own-ends .ensures) (start .pre .1),
       zero-arrays 4096 (omega arith),
     )
 
 write-partition-requires : tie.Need-write-partition-requires
 write-partition-requires c κs =
-    let after-partition-by-spans = c .before .before .before .before .before .before .before .before .before .before .before .before .before in
-    let after-size2 = after-partition-by-spans .before .before .before .before .before .before .before .before .before .before .before in
-    let headed = start-of (after-size2 .before .before) .pre .0 .headed in
-    omega (arith, after-size2 .size2 .ensures .0, headed-laid headed .within .boundaries)
+    let numbers = counted (ended (parted c .before)) in
+    omega (arith, numbers .size2 .ensures .0, headed-laid (asked numbers .pre .0 .headed) .within .boundaries)
 
 returns : tie.Need-returns
 returns c =
-    let after-write-partition = c .before .before in
-    let after-work = after-write-partition .before .before .before .before .before .before .before .before .before .before .before .before .before in
-    let after-partition-by-spans = after-work .before in
-    let after-own-ends = after-partition-by-spans .before .before .before .before .before .before .before .before .before in
-    let after-size2 = after-own-ends .before .before in
-    let start = start-of (after-size2 .before .before) in
-    all-parted (start .pre .0) (after-size2 .before .size .ensures .0) (after-size2 .size2 .ensures .0) (after-own-ends .own-ends .ensures)
-    (directionsOf (start .args .directions)) (after-partition-by-spans .partition-by-spans .ensures)
-    (after-write-partition .write-partition .ensures)
+    let written = c .before .before in
+    let spans = parted (written .before) in
+    let ends = ended (spans .before) in
+    let numbers = counted ends in
+    let start = asked numbers in
+    all-parted (start .pre .0) (numbers .before .size .ensures .0) (numbers .size2 .ensures .0) (ends .own-ends .ensures)
+    (directionsOf (start .args .directions)) (spans .partition-by-spans .ensures) (written .write-partition .ensures)
 
 pub partition-job-spec : {M : Type 1} → statement M
 partition-job-spec =

@@ -18,7 +18,7 @@ use Rattle.probe.proofs.own_partition.probe_partition.Statement.{statem
 use Rattle.probe.proofs.own_partition.probe_partition.Tie as tie
 
 abbrev start-of : tie.After-first-answer → tie.Start
-start-of c = c .before .before .before .before .before
+start-of c = search
 
 answered : (c : tie.After-first-answer) → FirstAnswer (firstRefusal (reduceChecks (start-of c .args .job .now)))
     (workSize (decode (start-of c .args .job .now))) (length (start-of c .args .work .now)) (c .first-answer .result .number) (c .first-answer .result .detail)
@@ -45,16 +45,16 @@ read-header-requires c κs = header-there _ (reduce-job _ (passed c))
 
 partition-job-requires : tie.Need-partition-job-requires
 partition-job-requires c κs =
-    let after-read-header = c .before .before in
-    let went-on = after-read-header .before in
-    let bytes = went-on .before .before .before .before .before .before in
-    (reduce-own (λ i. bytes .shared-slice-known .given i .fits) (passed went-on) (after-read-header .read-header .ensures) (room went-on), leads-eight)
+    let header = c .before .before in
+    let went-on = header .before in
+    let bytes : tie.After-shared-slice-known = search in
+    (reduce-own (λ i. bytes .shared-slice-known .given i .fits) (passed went-on) (header .read-header .ensures) (room went-on), leads-eight)
 
 returns-2 : tie.Need-returns-2
 returns-2 c =
-    let after-partition-job = c .before .before .before .before in
-    let went-on = after-partition-job .before .before .before .before in
-    parted (passed went-on) (room went-on) (parted-eight (after-partition-job .partition-job .ensures))
+    let written : tie.After-partition-job = search in
+    let went-on : tie.Else1 = search in
+    parted (passed went-on) (room went-on) (parted-eight (written .partition-job .ensures))
 
 pub probe-partition-spec : {M : Type 1} → statement M
 probe-partition-spec =

@@ -16,27 +16,31 @@ Inv-loop removed separated count out₀ i₀ out i =
 abbrev μ-loop : tie.MeasureT-loop
 μ-loop removed separated count out₀ i₀ out i = count - i
 
+-- where the first word of an area is written, and its turn
+abbrev First : Type 0
+First = tie.After-write-u32 Inv-loop μ-loop
+
+abbrev turn-of : First → tie.At-loop Inv-loop μ-loop
+turn-of c = c .before .before .before .before
+
 loop-holds : tie.Need-loop-holds Inv-loop μ-loop
-loop-holds c = (omega arith, c .before .pre .0, c .before .pre .1, filled-start 8 _ _ _ 8)
+loop-holds c = let p = c .before .pre in (omega arith, p .0, p .1, filled-start 8 _ _ _ 8)
 
 write-u32-requires-2 : tie.Need-write-u32-requires-2 Inv-loop μ-loop
 write-u32-requires-2 c κs =
-    let at-write-u32 = c .before .before .before .before in
-    let at-loop = at-write-u32 .before .before .before .before in
-    omega (arith, at-write-u32 .write-u32 .kept .0, at-loop .loop .inv .3 .long)
+    let first : First = search in
+    omega (arith, first .write-u32 .kept .0, turn-of first .loop .inv .3 .long)
 
 loop-again : tie.Need-loop-again Inv-loop μ-loop
 loop-again c =
-    let after-write-u32 = c .before .before .before .before .before .before .before in
-    let at-loop = after-write-u32 .before .before .before .before in
-    let turn = at-loop .loop in
+    let first : First = search in
+    let turn = turn-of first .loop in
     let room : 8 + 8 * turn .i + 8 ≤ length (turn .out) = omega (arith, turn .inv .3 .long) in (
       omega arith,
       turn .inv .1,
       turn .inv .2,
       filled-next 8 _ _ (8 + 8 * turn .i) (turn .inv .3) (omega arith) refl
-          (after-two (turn .out) (8 + 8 * turn .i) _ _ room (after-write-u32 .write-u32 .ensures)
-          (c .before .before .write-u322 .ensures)),
+          (after-two (turn .out) (8 + 8 * turn .i) _ _ room (first .write-u32 .ensures) (c .before .before .write-u322 .ensures)),
     )
 
 same-length : tie.Need-same-length Inv-loop μ-loop
@@ -44,8 +48,9 @@ same-length c = c .before .loop .inv .3 .long
 
 returns : tie.Need-returns Inv-loop μ-loop
 returns c =
-    let start = c .before .before .before in
-    let e : c .before .loop .i ≡ start .args .count = omega arith in rw (← e) (c .before .loop .inv .3 .is)
+    let turn = c .before in
+    let start = turn .before .before in
+    let e : turn .loop .i ≡ start .args .count = omega arith in rw (← e) (turn .loop .inv .3 .is)
 
 pub write-counts-spec : {M : Type 1} → statement M
 write-counts-spec =

@@ -11,7 +11,7 @@ use Rattle.probe.proofs.own_partition.write_partition.Statement.{statem
 use Rattle.probe.proofs.own_partition.write_partition.Tie as tie
 
 abbrev start-of : tie.Else1 → tie.Start
-start-of c = c .before .before .before .before
+start-of c = search
 
 -- past 13
 few : (c : tie.Else1) → start-of c .args .pairs ≤ 4096
@@ -30,25 +30,27 @@ returns-2 : tie.Need-returns-2
 returns-2 c = short (few (c .before)) (c .if2 .taken) refl refl refl
 
 cast-write-u32 : tie.Need-cast-write-u32
-cast-write-u32 c = omega (arith, few (c .before .before .before .before .before .before))
+cast-write-u32 c =
+    let wide : tie.Else1 = search in
+    omega (arith, few wide)
 
 write-records-requires : tie.Need-write-records-requires
 write-records-requires c κs =
-    let few-pairs = c .before .before .before .before .before .before .before .before .before .before .before .before .before .before in
+    let few-pairs : tie.Else1 = search in
     (few few-pairs, search needs, search needs)
 
 returns-3 : tie.Need-returns-3
 returns-3 c =
-    let after-write-counts = c .before .before .before .before .before .before in
-    let after-write-u322 = after-write-counts .before .before .before .before in
-    let after-write-u32 = after-write-u322 .before .before .before .before in
-    let wide = after-write-u32 .before .before in
+    let counts : tie.After-write-counts = search in
+    let pairs : tie.After-write-u322 = search in
+    let areas : tie.After-write-u32 = search in
+    let wide = areas .before .before in
     let given = start-of (wide .before) .args in
     let long = length-blocks 8 (λ i. countBytes (getD (given .removed .now) i 0) (getD (given .separated .now) i 0)) (λ i. length-two _ _) (given .count) in
     let room = wide .if2 .left in
     written (few (wide .before)) (omega (arith, room)) refl refl
-    (after-head (given .out .now) (given .areas) (given .pairs) _ _ long (omega (arith, room)) (after-write-u32 .write-u32 .ensures)
-    (after-write-u322 .write-u322 .ensures) (after-write-counts .write-counts .ensures) (c .before .before .write-records .ensures))
+    (after-head (given .out .now) (given .areas) (given .pairs) _ _ long (omega (arith, room)) (areas .write-u32 .ensures)
+    (pairs .write-u322 .ensures) (counts .write-counts .ensures) (c .before .before .write-records .ensures))
 
 pub write-partition-spec : {M : Type 1} → statement M
 write-partition-spec =

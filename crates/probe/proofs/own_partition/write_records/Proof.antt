@@ -17,27 +17,41 @@ Inv-loop owners lefts rights pairs at out₀ k₀ out k =
 abbrev μ-loop : tie.MeasureT-loop
 μ-loop owners lefts rights pairs at out₀ k₀ out k = pairs - k
 
+-- where the word of the owner is written, that of the left label, and the turn
+abbrev Turn : Type 0
+Turn = tie.At-loop Inv-loop μ-loop
+
+abbrev Owner : Type 0
+Owner = tie.After-write-u32 Inv-loop μ-loop
+
+abbrev Left : Type 0
+Left = tie.After-write-u322 Inv-loop μ-loop
+
+abbrev turn-of : Owner → Turn
+turn-of c = c .before .before .before .before
+
+abbrev owner-of : Left → Owner
+owner-of c = search
+
 loop-holds : tie.Need-loop-holds Inv-loop μ-loop
-loop-holds c = (omega arith, c .before .pre .0, c .before .pre .1, c .before .pre .2, filled-start 12 _ _ _ _)
+loop-holds c = let p = c .before .pre in (omega arith, p .0, p .1, p .2, filled-start 12 _ _ _ _)
 
 write-u32-requires-2 : tie.Need-write-u32-requires-2 Inv-loop μ-loop
 write-u32-requires-2 c κs =
-    let at-write-u32 = c .before .before .before .before in
-    let at-loop = at-write-u32 .before .before .before .before in
-    omega (arith, at-write-u32 .write-u32 .kept .0, at-loop .loop .inv .4 .long)
+    let owner : Owner = search in
+    omega (arith, owner .write-u32 .kept .0, turn-of owner .loop .inv .4 .long)
 
 write-u32-requires-3 : tie.Need-write-u32-requires-3 Inv-loop μ-loop
 write-u32-requires-3 c κs =
-    let at-write-u322 = c .before .before .before .before in
-    let at-write-u32 = at-write-u322 .before .before .before .before .before in
-    let at-loop = at-write-u32 .before .before .before .before in
-    omega (arith, at-write-u322 .write-u322 .kept .0, at-write-u32 .write-u32 .kept .0, at-loop .loop .inv .4 .long)
+    let left : Left = search in
+    let owner = owner-of left in
+    omega (arith, left .write-u322 .kept .0, owner .write-u32 .kept .0, turn-of owner .loop .inv .4 .long)
 
 loop-again : tie.Need-loop-again Inv-loop μ-loop
 loop-again c =
-    let after-write-u322 = c .before .before .before .before .before .before .before in
-    let at-write-u32 = after-write-u322 .before .before .before .before .before in
-    let at-loop = at-write-u32 .before .before .before .before in
+    let left : Left = search in
+    let owner = owner-of left in
+    let at-loop = turn-of owner in
     let start = at-loop .before .before in
     let turn = at-loop .loop in
     let place = start .args .at + 12 * turn .k in
@@ -47,8 +61,7 @@ loop-again c =
       turn .inv .2,
       turn .inv .3,
       filled-next 12 _ _ place (turn .inv .4) (omega arith) refl
-          (after-three (turn .out) place _ _ _ room (at-write-u32 .write-u32 .ensures)
-          (after-write-u322 .write-u322 .ensures) (c .before .before .write-u323 .ensures)),
+          (after-three (turn .out) place _ _ _ room (owner .write-u32 .ensures) (left .write-u322 .ensures) (c .before .before .write-u323 .ensures)),
     )
 
 same-length : tie.Need-same-length Inv-loop μ-loop
@@ -56,8 +69,9 @@ same-length c = c .before .loop .inv .4 .long
 
 returns : tie.Need-returns Inv-loop μ-loop
 returns c =
-    let start = c .before .before .before in
-    let e : c .before .loop .k ≡ start .args .pairs = omega arith in rw (← e) (c .before .loop .inv .4 .is)
+    let turn = c .before in
+    let start = turn .before .before in
+    let e : turn .loop .k ≡ start .args .pairs = omega arith in rw (← e) (turn .loop .inv .4 .is)
 
 pub write-records-spec : {M : Type 1} → statement M
 write-records-spec =

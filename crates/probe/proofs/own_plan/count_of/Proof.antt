@@ -9,26 +9,25 @@ use Rattle.probe.proofs.own_plan.count_of.Tie as tie
 returns-2 : tie.Need-returns-2
 unfolding headerAt
 returns-2 c =
-    let after-read-header = c .before .before .before in
+    let header : tie.After-read-header = search in
     record {
       few = omega arith;
       is = λ l f. absurd (omega (
         arith,
         c .if2 .taken,
         c .before .size .ensures .0,
-        ap (λ (x : Header). x .counts .boundaries)
-            (after-read-header .read-header .ensures),
+        ap (λ (x : Header). x .counts .boundaries) (header .read-header .ensures),
       ));
     }
 
 returns-3 : tie.Need-returns-3
 unfolding headerAt
 returns-3 c =
-    let after-read-header = c .before .before .before in
+    let header : tie.After-read-header = search in
     record {
       few = omega arith;
       is = λ l f. c .before .size .ensures .0
-          ∙ ap (λ (x : Header). x .counts .boundaries) (after-read-header .read-header .ensures);
+          ∙ ap (λ (x : Header). x .counts .boundaries) (header .read-header .ensures);
     }
 
 pub count-of-spec : {M : Type 1} → statement M

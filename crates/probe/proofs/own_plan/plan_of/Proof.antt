@@ -5,13 +5,13 @@ use Rattle.probe.proofs.own_plan.plan_of.Tie as tie
 
 returns : tie.Need-returns
 returns c =
-    let if1-taken = c .before .before .before .before .before .before in
-    plan-own _ _ _ _ _ (if1-taken .if1 .taken) (c .before .before .plan-reduce .ensures)
+    let own : tie.Then1 = search in
+    plan-own _ _ _ _ _ (own .if1 .taken) (c .before .before .plan-reduce .ensures)
 
 returns-2 : tie.Need-returns-2
 returns-2 c =
-    let if1-left = c .before .before .before .before .before .before in
-    plan-listed _ _ _ _ _ (if1-left .if1 .left) (c .before .before .plan-reduce-by-list .ensures)
+    let listed : tie.Else1 = search in
+    plan-listed _ _ _ _ _ (listed .if1 .left) (c .before .before .plan-reduce-by-list .ensures)
 
 pub plan-of-spec : {M : Type 1} → statement M
 plan-of-spec =

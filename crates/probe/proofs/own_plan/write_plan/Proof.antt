@@ -16,39 +16,54 @@ Inv-loop order plan n out₀ i₀ out i =
 abbrev μ-loop : tie.MeasureT-loop
 μ-loop order plan n out₀ i₀ out i = n - i
 
+-- the turn, and where the place of the word is known; the place of what is written
+abbrev Turn : Type 0
+Turn = tie.At-loop Inv-loop μ-loop
+
+abbrev Placed : Type 0
+Placed = tie.After-size Inv-loop μ-loop
+
+abbrev Valued : Type 0
+Valued = tie.After-size2 Inv-loop μ-loop
+
+abbrev turn-of : Placed → Turn
+turn-of c = c .before .before .before
+
+abbrev placed-of : Valued → Placed
+placed-of c = c .before .before
+
 loop-holds : tie.Need-loop-holds Inv-loop μ-loop
-loop-holds c = (omega arith, c .before .pre .0, c .before .pre .1, c .before .pre .2, c .before .pre .3, words-start _)
+loop-holds c = let p = c .before .pre in (omega arith, p .0, p .1, p .2, p .3, words-start _)
 
 element-copy-out-write-u32 : tie.Need-element-copy-out-write-u32 Inv-loop μ-loop
 element-copy-out-write-u32 c =
-    let in-loop = c .before .before .before .before .before .before in
-    let turn = in-loop .loop in omega
-    (arith, c .before .size2 .ensures .0, turn .inv .3 .below (turn .i) (omega arith))
+    let valued = c .before in
+    let turn = turn-of (placed-of valued) .loop in
+    omega (arith, valued .size2 .ensures .0, turn .inv .3 .below (turn .i) (omega arith))
 
 write-u32-requires : tie.Need-write-u32-requires Inv-loop μ-loop
 write-u32-requires c κs =
-    let after-size = c .before .before .before .before in
-    let in-loop = after-size .before .before .before in
-    let turn = in-loop .loop in omega
-    (arith, after-size .size .ensures .0, turn .inv .2 .below (turn .i) (omega arith), turn .inv .5 .long)
+    let placed = placed-of (c .before .before) in
+    let turn = turn-of placed .loop in
+    omega (arith, placed .size .ensures .0, turn .inv .2 .below (turn .i) (omega arith), turn .inv .5 .long)
 
 loop-again : tie.Need-loop-again Inv-loop μ-loop
 loop-again c =
-    let after-size2 = c .before .before .before .before .before in
-    let after-size = after-size2 .before .before in
-    let at-loop-test = after-size .before .before in
-    let at-loop = at-loop-test .before in
+    let written = c .before .before in
+    let valued : Valued = search in
+    let placed = placed-of valued in
+    let at-loop = turn-of placed in
     let start = at-loop .before .before in
     let turn = at-loop .loop in
-    let to = after-size2 .size2 .ensures .0 in (
+    let to = valued .size2 .ensures .0 in (
       omega arith,
       turn .inv .1,
       turn .inv .2,
       turn .inv .3,
       turn .inv .4,
-      words-next _ _ (turn .inv .2) (turn .inv .5) (at-loop-test .loop-test .taken) (turn .inv .4)
-          (after-size .size .ensures .0) (ap (λ (x : ℕ). getD (start .args .order .now) x 0) to)
-          (c .before .before .write-u32 .ensures),
+      words-next _ _ (turn .inv .2) (turn .inv .5) (placed .before .before .loop-test .taken) (turn .inv .4)
+          (placed .size .ensures .0) (ap (λ (x : ℕ). getD (start .args .order .now) x 0) to)
+          (written .write-u32 .ensures),
     )
 
 same-length : tie.Need-same-length Inv-loop μ-loop

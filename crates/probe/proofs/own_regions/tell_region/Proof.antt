@@ -12,21 +12,19 @@ use Rattle.probe.proofs.own_regions.tell_region.Statement.{statement}
 use Rattle.probe.proofs.own_regions.tell_region.Tie as tie
 
 -- what the function is given and asked: the places since only say that its slices have lengths
-abbrev start-of : tie.After-slice-known → tie.Start
-start-of c = c .before .before .before
+abbrev start-of : tie.After-struct-known → tie.Start
+start-of c = search
 
 -- the start, past the number of cells
 abbrev asked : tie.After-size → tie.Start
-asked c = start-of (c .before .before .before .before)
+asked c = start-of (c .before)
 
 -- where the number of cells is known, from the labels of the anchors
 abbrev sized : tie.After-anchor-labels → tie.After-size
-sized c = c .before .before .before .before .before .before .before
+sized c = search
 
 mul-size : tie.Need-mul-size
-mul-size c =
-    let start = start-of (c .before .before .before) in
-    omega (arith, headed-cells (start .pre .0))
+mul-size c = omega (arith, headed-cells (start-of c .pre .0))
 
 count-cells-requires : tie.Need-count-cells-requires
 count-cells-requires c κs =
@@ -36,7 +34,9 @@ count-cells-requires c κs =
 
 part-region-stats-end : tie.Need-part-region-stats-end
 part-region-stats-end c =
-    let d = asked (c .before) .pre .0 in omega (arith, map-inside (d .header) (headed-laid d) _ (c .before .size .ensures .0))
+    let cells = c .before in
+    let d = asked cells .pre .0 in
+    omega (arith, map-inside (d .header) (headed-laid d) _ (cells .size .ensures .0))
 
 region-stats-requires : tie.Need-region-stats-requires
 region-stats-requires c κs =
@@ -48,7 +48,7 @@ region-stats-requires c κs =
 anchor-labels-requires : tie.Need-anchor-labels-requires
 anchor-labels-requires c κs =
     let counted = c .before in
-    let cells = counted .before .before .before .before .before in
+    let cells : tie.After-size = search in
     let d = asked cells .pre .0 in
     let n = cells .size .ensures .0 in
     let there = anchors-there d (counted .before .size2 .ensures .0) (counted .size3 .ensures .0) n (asked cells .args .labels .now)
@@ -60,15 +60,16 @@ room c = let read = c .before .before .anchor-labels in sym (length-take-le (rea
 
 write-words-requires : tie.Need-write-words-requires
 write-words-requires c κs =
-    let start = asked (sized (c .before .before .before .before .before .before .before)) in
+    let read : tie.After-anchor-labels = search in
+    let start = asked (sized read) in
     (omega arith, omega (arith, start .pre .2))
 
 returns : tie.Need-returns
 returns c =
-    let told-anchored = c .before .before .before .before .before in
+    let told-anchored : tie.After-flag2 = search in
     let told-ramp = told-anchored .before in
     let anchored = told-ramp .before in
-    let read = anchored .before .before .before in
+    let read : tie.After-anchor-labels = search in
     let counted = read .before .before in
     let measured = counted .before .before in
     let cells = sized read in

@@ -28,7 +28,7 @@ write-u32-requires c κs =
 
 loop-again : tie.Need-loop-again Inv-loop μ-loop
 loop-again c =
-    let in-loop = c .before .before .before .before .before .before in
+    let in-loop : tie.At-loop Inv-loop μ-loop = search in
     let turn = in-loop .loop in (
       omega arith,
       turn .inv .1,
@@ -42,7 +42,7 @@ same-length c = c .before .loop .inv .3 .long
 
 returns : tie.Need-returns Inv-loop μ-loop
 returns c =
-    let start = c .before .before .before .before in
+    let start : tie.Start Inv-loop μ-loop = search in
     filled-words (start .args .ws .now) (c .before .loop .inv .3) (omega arith)
 
 pub write-words-spec : {M : Type 1} → statement M
