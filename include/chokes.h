@@ -33,7 +33,7 @@ extern "C" {
  * The library itself can't be asked: use the header that ./library left beside it. */
 #define CHOKES_VERSION_MAJOR 1
 #define CHOKES_VERSION_MINOR 1
-#define CHOKES_VERSION_PATCH 0
+#define CHOKES_VERSION_PATCH 1
 #define CHOKES_VERSION_NUMBER(major, minor, patch)                                             \
     ((major) * 1000000L + (minor) * 1000L + (patch))
 #define CHOKES_VERSION                                                                         \

@@ -1,7 +1,8 @@
 //! The functions of the proved static libraries. All of them have to be there: tests/libraries fails where one is
 //! missing, and so does linking.
 
-use crate::checks::{Refusal, BY_LIST, CARDS, MARK};
+use crate::checks::{Refusal, BY_LIST, CARDS, MARK, REDUCE};
+use std::sync::OnceLock;
 
 /// A call on job, list, work and the slice that it writes: the answer, the marks or the cards.
 pub type Whole = fn(&[u8], &[u8], &mut [u8], &mut [u8]) -> Refusal;
@@ -13,6 +14,19 @@ pub fn whole(call: u32) -> Whole {
         CARDS => library::area_cards,
         _ => library::reduce,
     }
+}
+
+/// What is told of every call as it ends: which call, its result, work, and the slice that it writes.
+pub type Watch = fn(u32, Refusal, &[u8], &[u8]);
+/// None but in a run that wants to be told.
+pub static WATCH: OnceLock<Watch> = OnceLock::new();
+
+/// The result of a call, once it was told.
+fn told(call: u32, result: Refusal, work: &[u8], out: &[u8]) -> Refusal {
+    if let Some(watch) = WATCH.get() {
+        watch(call, result, work, out);
+    }
+    result
 }
 
 pub use library::{bridges, check, partition, plan, span_ends};
@@ -159,19 +173,23 @@ mod library {
     }
 
     pub fn mark(job: &[u8], _: &[u8], work: &mut [u8], marks: &mut [u8]) -> Refusal {
-        call!(chokes_mark read job write work write marks).pair()
+        let said = call!(chokes_mark read job write work write marks).pair();
+        told(MARK, said, work, marks)
     }
 
     pub fn reduce(job: &[u8], _: &[u8], work: &mut [u8], answer: &mut [u8]) -> Refusal {
-        call!(chokes_reduce read job write work write answer).pair()
+        let said = call!(chokes_reduce read job write work write answer).pair();
+        told(REDUCE, said, work, answer)
     }
 
     pub fn reduce_by_list(job: &[u8], list: &[u8], work: &mut [u8], answer: &mut [u8]) -> Refusal {
-        call!(chokes_reduce_by_list read job read list write work write answer).pair()
+        let said = call!(chokes_reduce_by_list read job read list write work write answer).pair();
+        told(BY_LIST, said, work, answer)
     }
 
     pub fn area_cards(job: &[u8], _: &[u8], work: &mut [u8], cards: &mut [u8]) -> Refusal {
-        call!(chokes_area_cards read job write work write cards).pair()
+        let said = call!(chokes_area_cards read job write work write cards).pair();
+        told(CARDS, said, work, cards)
     }
 }
 

@@ -226,7 +226,7 @@ fn huge(run: &mut Run) {
     let (more, spans) = (1 << 32, (1 << 32) + 3);
     let rooms = (Guarded::new(more + input.job.len()), Guarded::new(spans * SPAN + 8));
     let (Some(mut job), Some(mut list)) = rooms else {
-        println!("no room for slices of over 2^32 bytes: these lengths were not tried");
+        eprintln!("no room for slices of over 2^32 bytes: these lengths were not tried");
         return;
     };
     let long = job.last(more + input.job.len());

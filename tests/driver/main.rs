@@ -6,16 +6,21 @@
 //!     driver heap CASES SEED
 //!     driver family NAME CASES SEED
 //!     driver case SEED NUMBER
+//!     driver lengths [CASES SEED]
+//!     driver bytes CALLS SEED [BYTE]
 //!     driver record FILE SEED
 //!
 //! `random` is the random cases alone; `family` those of one family: damaged, maps, records,
 //! corridors, slanted or cards. `heap` is random cases with every slice an allocation of its own and of
 //! just its length, for valgrind.
+//! `lengths` is the lengths and totals alone, with so many random ones (lengths.rs); `bytes` writes what so many calls
+//! leave to standard output, compared with nothing, and with BYTE says which call left that byte (bytes.rs).
 //! `record` writes the list that crates/replay reads (record.rs).
 //! Every run prints its seed; `case` runs one random case of a seed again. Exit status 0 means
 //! that nothing differed and that everything that should occur did: in `quick` and `long` all that
 //! tally.rs and coverage.rs ask for, in the others some comparison of each kind that they have.
 
+mod bytes;
 mod calls;
 mod cards;
 mod checks;
@@ -29,6 +34,7 @@ mod exhaustive;
 mod expect;
 mod families;
 mod known;
+mod lengths;
 mod lent;
 mod maps;
 mod measures;
@@ -49,6 +55,7 @@ mod tally;
 mod values;
 mod whole;
 
+use lengths::{LENGTHS, TOTALS};
 use regions::{ENVELOPES, LINKS, REGIONS};
 use run::Run;
 use std::process::exit;
@@ -89,6 +96,7 @@ fn main() {
             families::limits(&mut run);
             families::sizes(&mut run);
             families::sorts(&mut run);
+            lengths::compare(&mut run, lengths::CASES);
             let done = format!("seed {seed}: {done} random cases, nothing differs");
             end(run.tally.none_of(&KINDS), &done)
         }
@@ -97,6 +105,8 @@ fn main() {
             while done < parse(cases) {
                 done = families::round(&mut run, done);
             }
+            let mut rng = run.start(0);
+            lengths::random(&mut run, parse(cases), &mut rng);
             run.tally.print_whole();
             let done = format!("seed {seed}: {done} random cases on the heap, nothing differs");
             end(run.tally.none_of(&KINDS), &done)
@@ -135,6 +145,10 @@ fn main() {
             };
             end(run.tally.none_of(of_each), &format!("seed {seed} case {number}: nothing differs"))
         }
+        ["lengths"] => lengths(lengths::CASES, lengths::SEED),
+        ["lengths", cases, seed] => lengths(parse(cases), parse(seed)),
+        ["bytes", calls, seed] => bytes::write(parse(calls), parse(seed), None),
+        ["bytes", calls, seed, byte] => bytes::write(parse(calls), parse(seed), Some(parse(byte))),
         ["record", file, seed] => record::record(file, parse(seed)),
         _ => usage(),
     }
@@ -153,6 +167,21 @@ fn kinds(family: &str) -> &'static [&'static str] {
     }
 }
 
+/// The lengths and totals alone.
+fn lengths(cases: u64, seed: u64) -> ! {
+    let (start, mut run) = (Instant::now(), Run::new(seed));
+    lengths::compare(&mut run, cases);
+    run.tally.print_besides();
+    let mut missing = run.tally.none_of(&[LENGTHS, TOTALS]);
+    missing.extend(lengths::missing(&run.tally));
+    let [lengths, totals] = [LENGTHS, TOTALS].map(|kind| run.tally.count(kind));
+    let time = start.elapsed().as_secs_f64();
+    end(
+        missing,
+        &format!("seed {seed}: {lengths} lengths, {totals} totals, nothing differs; {time:.1} s"),
+    )
+}
+
 /// Ends the run with what it did, and with status 1 where it left out what it should have tested.
 fn end(missing: Vec<String>, done: &str) -> ! {
     if missing.is_empty() {
@@ -167,7 +196,8 @@ fn end(missing: Vec<String>, done: &str) -> ! {
 fn usage() -> ! {
     eprintln!("usage: driver quick | long [CASES | SECONDSs | CALLScalls] [SEED]");
     eprintln!("       driver random CASES SEED | heap CASES SEED | family NAME CASES SEED");
-    eprintln!("       driver case SEED NUMBER | record FILE SEED");
+    eprintln!("       driver case SEED NUMBER | lengths [CASES SEED] | record FILE SEED");
+    eprintln!("       driver bytes CALLS SEED [BYTE]");
     exit(2)
 }
 
@@ -196,6 +226,7 @@ fn whole(seed: u64, limit: Limit, rounds: usize) {
     families::limits(&mut run);
     families::sizes(&mut run);
     families::sorts(&mut run);
+    lengths::compare(&mut run, lengths::CASES);
     let mut done = 0;
     while match limit {
         Limit::Cases(cases) => done < cases,

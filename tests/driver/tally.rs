@@ -3,6 +3,7 @@
 use crate::checks::{Refusal, BY_LIST};
 use crate::damage::REFUSALS;
 use crate::expect::too_short;
+use crate::lengths::{self, LENGTHS, TOTALS};
 use crate::measures;
 use crate::regions::{ENVELOPES, LINKS, REGIONS};
 use std::collections::BTreeMap;
@@ -30,9 +31,9 @@ pub const WHOLE: [&str; 4] = [
 ];
 /// Cards whose every word was held to what the paper says of the job's bytes and labels.
 pub const STATED: &str = "cards stated anew";
-pub const KINDS: [&str; 15] = [
+pub const KINDS: [&str; 17] = [
     CHECKS, PARTS[0], PARTS[1], PARTITIONS, RECORDS, PLANS, RELISTINGS, REGIONS, LINKS, ENVELOPES,
-    WHOLE[0], WHOLE[1], WHOLE[2], WHOLE[3], STATED,
+    WHOLE[0], WHOLE[1], WHOLE[2], WHOLE[3], STATED, LENGTHS, TOTALS,
 ];
 
 /// What a whole run must have seen at least once.
@@ -189,6 +190,11 @@ impl Tally {
         }
         let before = BEFORE_31.map(|n| format!(" {n}: {}", self.short_cards[n as usize])).join(",");
         println!("with too short a card slice besides:{before}");
+        self.print_besides();
+    }
+
+    /// What was counted by its name.
+    pub fn print_besides(&self) {
         for (what, count) in &self.seen_besides {
             println!("{count:>8} {what}");
         }
@@ -209,6 +215,7 @@ impl Tally {
         let unseen = WANTED.iter().filter(|&&what| self.count(what) == 0);
         missing.extend(unseen.map(|what| format!("never: {what}")));
         missing.extend(measures::missing(self));
+        missing.extend(lengths::missing(self));
         missing
     }
 

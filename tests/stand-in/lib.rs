@@ -4,6 +4,9 @@
 #[path = "../driver/checks.rs"]
 #[allow(dead_code)]
 mod checks;
+#[path = "../oracle/exact_length.rs"]
+#[allow(dead_code)]
+mod exact_length;
 #[path = "../driver/expect.rs"]
 #[allow(dead_code)]
 mod expect;
@@ -14,6 +17,7 @@ mod known;
 mod rust;
 
 use checks::{Refusal, BY_LIST, CARDS, HEADER, MARK, NONE, REDUCE, SPAN};
+use exact_length::half_root;
 use expect::{Accepted, Expected, CARD, MOST_PAIRS, WORK};
 use oracle::api::{Context, SpanPartition};
 use oracle::fault;
@@ -274,6 +278,177 @@ pub extern "C" fn probe_link(
         let link = links.iter().find(|link| link.region == region && link.boundaries == both);
         link.map_or(vec![0xFF; 24], known::link_bytes)
     })
+}
+
+/// The bits of an f64, and 1 if it is exact, 0 if not, 2 if there is none.
+#[repr(C)]
+pub struct Marked {
+    bits: u64,
+    exact: u32,
+}
+
+const NO_LENGTH: Marked = Marked { bits: 0, exact: 2 };
+
+fn marked(value: f64, exact: bool) -> Marked {
+    Marked { bits: value.to_bits(), exact: u32::from(exact) }
+}
+
+/// The greatest whole number whose square is at most d, by halving.
+fn root(d: u32) -> u64 {
+    let (mut low, mut high) = (0, 1 << 16);
+    while high - low > 1 {
+        let middle = (low + high) / 2;
+        if middle * middle <= u64::from(d) {
+            low = middle;
+        } else {
+            high = middle;
+        }
+    }
+    low
+}
+
+/// The same by Newton's steps.
+fn root_by_steps(d: u32) -> u64 {
+    let (d, mut root) = (u64::from(d), u64::from(d).max(1));
+    while root * root > d {
+        root = (root + d / root) / 2;
+    }
+    root
+}
+
+/// Whether d is a square, with the faults of the mark.
+fn is_exact(d: u32) -> bool {
+    let root = root(d);
+    let rest = u64::from(d) - root * root;
+    if fault::on("same_length_mark_by_steps") {
+        return root_by_steps(d).pow(2) == u64::from(d);
+    }
+    if fault::on("same_length_mark_by_f64") {
+        // Below 2^53 the f64 root is whole just where the root is.
+        return f64::from(d).sqrt().fract() == 0.0;
+    }
+    if fault::on("length_mark_with_rest_1") {
+        return rest <= 1;
+    }
+    if fault::on("length_mark_below_a_square") {
+        return rest == 0 || rest == 2 * root;
+    }
+    if fault::on("length_mark_of_even_roots") {
+        return rest == 0 && root % 2 == 0;
+    }
+    if fault::on("length_mark_not_of_0") {
+        return rest == 0 && d > 0;
+    }
+    if fault::on("length_mark_not_of_the_greatest") {
+        return rest == 0 && root < 23_170;
+    }
+    rest == 0
+}
+
+/// The length of d, with the faults of its value.
+fn length(d: u32) -> f64 {
+    let value = half_root(u64::from(d));
+    if d % 1009 == 500 && fault::on("length_one_unit_more") {
+        return value.next_up();
+    }
+    if d % 65_521 == 65_520 && fault::on("length_one_unit_less") {
+        return value.next_down();
+    }
+    if d == 0 && fault::on("length_of_0_negative") {
+        return -value;
+    }
+    value
+}
+
+/// Whether d is taken, with the faults of the limit.
+fn taken(d: u32) -> bool {
+    let most = 1 << 29;
+    if d == most && fault::on("length_of_the_greatest_refused") {
+        return false;
+    }
+    d <= most
+}
+
+#[no_mangle]
+pub extern "C" fn probe_length(d: u32) -> Marked {
+    if !taken(d) && fault::on("length_refused_as_inexact") {
+        return marked(0.0, false);
+    }
+    if taken(d) {
+        marked(length(d), is_exact(d))
+    } else {
+        NO_LENGTH
+    }
+}
+
+/// The parts in the order in which they are added, with the faults of that order.
+fn ordered(parts: &[u32]) -> Vec<u32> {
+    let mut parts = parts.to_vec();
+    if fault::on("total_in_listed_order") {
+        return parts;
+    }
+    // Two add up alike either way round.
+    if fault::on("same_total_of_two_as_listed") && parts.len() == 2 {
+        return parts;
+    }
+    parts.sort_by(|&d, &e| length(d).total_cmp(&length(e)));
+    if fault::on("total_descending") {
+        parts.reverse();
+    }
+    if fault::on("total_least_last") {
+        parts.rotate_left(1);
+    }
+    if fault::on("total_of_equal_parts_once") {
+        parts.dedup();
+    }
+    parts
+}
+
+/// The mark of a total of parts in ascending order, which were listed so; with its faults.
+fn total_is_exact(parts: &[u32], listed: &[u32], value: f64) -> bool {
+    if fault::on("total_mark_by_or") {
+        return parts.iter().any(|&d| is_exact(d));
+    }
+    if fault::on("total_mark_by_last") {
+        return listed.last().is_some_and(|&d| is_exact(d));
+    }
+    if fault::on("total_mark_by_greatest") {
+        return parts.last().is_some_and(|&d| is_exact(d));
+    }
+    if fault::on("total_mark_without_least") {
+        return parts[parts.len().min(2) - 1..].iter().all(|&d| is_exact(d));
+    }
+    if fault::on("total_mark_by_moved") {
+        let moved = parts.iter().zip(listed).filter(|(d, e)| d != e);
+        return moved.into_iter().all(|(&d, _)| is_exact(d));
+    }
+    if fault::on("total_mark_of_rounded") {
+        return (2.0 * value).fract() == 0.0;
+    }
+    // It does not matter in which order they are asked.
+    if fault::on("same_total_mark_from_greatest") {
+        return !parts.iter().rev().any(|&d| !is_exact(d));
+    }
+    parts.iter().all(|&d| is_exact(d))
+}
+
+#[no_mangle]
+pub extern "C" fn probe_chain(count: u32, d: u32, e: u32, f: u32) -> Marked {
+    let all = [d, e, f];
+    if count == 4 && fault::on("total_of_four_taken") {
+        return probe_chain(3, d, e, f);
+    }
+    if !(1..=3).contains(&count) {
+        return NO_LENGTH;
+    }
+    let listed = &all[..count as usize];
+    let looked_at = if fault::on("total_refused_beyond_count") { &all[..] } else { listed };
+    if !looked_at.iter().all(|&d| taken(d)) {
+        return NO_LENGTH;
+    }
+    let parts = ordered(listed);
+    let value = parts[1..].iter().fold(length(parts[0]), |sum, &d| sum + length(d));
+    marked(value, total_is_exact(&parts, listed, value))
 }
 
 /// Whether the slice that is written is too short, with the faults of cards.

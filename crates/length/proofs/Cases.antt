@@ -6,7 +6,7 @@ use Prim.Native.Nat.{ℕ}
 use lib.Ieee.{binary64, ofBits, ofInt}
 use Rattle.order.specs.Sorting.{sort, insert}
 use Rattle.length.specs.Root.{wholeRoot, restOf, isSquare}
-use Rattle.length.specs.Length.{lengthOf}
+use Rattle.length.specs.Length.{lengthOf, lengthAt}
 use Rattle.length.specs.Total.{totalLe}
 use Rattle.length.specs.Cases.{LengthCase}
 
@@ -25,6 +25,12 @@ rests = refl
 squares : map isSquare (0 ∷ 1 ∷ 2 ∷ 99 ∷ 100 ∷ 101 ∷ []) ≡ true ∷ true ∷ false ∷ false ∷ true ∷ false ∷ []
 unfolding isSquare
 squares = refl
+
+-- the marks of lengths: of squares, and of numbers beside them
+marks : map (λ (d : ℕ). lengthAt d .exact) (0 ∷ 1 ∷ 2 ∷ 3 ∷ 4 ∷ 5 ∷ 9 ∷ 99 ∷ 100 ∷ 101 ∷ [])
+    ≡ true ∷ true ∷ false ∷ false ∷ true ∷ false ∷ true ∷ false ∷ true ∷ false ∷ []
+unfolding isSquare
+marks = refl
 
 -- √2 ÷ 2 is rounded up, √3 ÷ 2 down; the longest length
 irrational : map lengthOf (2 ∷ 3 ∷ 0x2000_0000 ∷ []) ≡ map (ofBits binary64) (0x3FE6_A09E_667F_3BCD ∷ 0x3FEB_B67A_E858_4CAA ∷ 0x40C6_A09E_667F_3BCD ∷ [])

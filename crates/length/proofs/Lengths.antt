@@ -12,7 +12,7 @@ use lib.Ieee.{Float, fin, binary64, fits, round, div, ofInt, ofBits, size}
 use lib.Ieee.Digits.{size-lt, size-le, size-reaches}
 use lib.Ieee.Exact.{HasValue}
 use lib.Ieee.Fits.{round-fits}
-use Rattle.length.specs.Root.{Rooted, wholeRoot, restOf, isSquare}
+use Rattle.length.specs.Root.{Rooted, Square, wholeRoot, restOf, isSquare}
 use Rattle.length.specs.Nearest.{NearestLength, ExactRoot}
 use Rattle.length.specs.Length.{rootPlaces, halved, lengthOf, lengthAt}
 use Rattle.length.specs.declared.Length.{Length}
@@ -135,3 +135,7 @@ length-exact d D = (there, λ e. is-square d (exact-square d (lengthOf d) (lengt
         let k = square-is d e in
         let s = k .0 in
         subst (λ (z : ℕ). ExactRoot z (lengthOf z)) (k .1) (half-exact s (lengthOf (s * s)) (length-half s (subst (λ (z : ℕ). z ≤ 2 ^ 29) (sym (k .1)) D)))
+
+-- the mark, both ways: true exactly if d is the square of a whole number, and on a map exactly if the value is √d ÷ 2 itself
+pub exact-iff : (d : ℕ) → ((lengthAt d .exact ≡ true) ↔ Square d) × (d ≤ 2 ^ 29 → (lengthAt d .exact ≡ true) ↔ ExactRoot d (lengthAt d .value))
+exact-iff d = ((square-is d, is-square d), length-exact d)

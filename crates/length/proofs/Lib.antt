@@ -1,13 +1,13 @@
 mod Picks
 mod Powers
-mod Squares
+pub mod Squares
 mod Digits
 pub mod Roots
-mod Values
+pub mod Values
 mod Unique
 mod Exact
 mod Near
-mod Quotient
+pub mod Quotient
 mod Doubling
 mod Loop
 pub mod Lengths

@@ -33,3 +33,11 @@ or-right false h = h
 pub or-parts : (s t : Bool) → s || t ≡ false → (s ≡ false) × (t ≡ false)
 or-parts true t h = clash refl h
 or-parts false t h = (refl, h)
+
+pub and-assoc : (p q r : Bool) → (p && (q && r)) ≡ ((p && q) && r)
+and-assoc true q r = refl
+and-assoc false q r = refl
+
+pub and-true : (p : Bool) → (p && true) ≡ p
+and-true true = refl
+and-true false = refl

@@ -4,3 +4,4 @@ pub mod PartingLaws
 pub mod PlanningLaws
 pub mod RegionLaws
 pub mod LinkLaws
+pub mod LengthLaws

@@ -5,3 +5,4 @@ pub mod Parting
 pub mod Planning
 pub mod Regions
 pub mod Links
+pub mod Lengths

@@ -30,7 +30,7 @@ use wire::write_u64;
 // No boundary has that place.
 const NO_BOUNDARY: u32 = 24;
 
-fn bits_of(x: f64) -> u64
+pub fn bits_of(x: f64) -> u64
     ensures { λ r. ⌜ r ≡ floatBits x ⌝ }
 {
     if x == x {

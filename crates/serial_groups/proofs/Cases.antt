@@ -1,9 +1,12 @@
 -- Small maps, by computing. The corridor of document 01: 4 × 1 walkable cells of elevation 0, spans (8,0)-(8,8) and (16,0)-(16,8) of width 8.
 use mathlib.Core.Path.{_≡_, refl}
+use mathlib.Core.Bool.{true, false}
 use mathlib.Core.List.{List, [], _∷_, map}
 use Prim.Native.Nat.{ℕ}
 use lib.Ieee.{binary64, neg, add, sub, mul, div, lt, le, ofBits, ofInt, toBits}
 use Rattle.order.specs.Lists.{upFrom}
+use Rattle.order.specs.Tests.{every}
+use Rattle.length.specs.Root.{isSquare}
 use Rattle.length.specs.Length.{lengthOf}
 use Rattle.position.specs.declared.WalkPosition.{WalkPosition}
 use Rattle.position.specs.declared.Span.{Span}
@@ -13,11 +16,12 @@ use Rattle.grid.specs.Cells.{Grid}
 use Rattle.grid.specs.Directions.{eight}
 use Rattle.areas.specs.Cases.{spanOf}
 use Rattle.serial_links.specs.Limits.{limits000}
+use Rattle.serial_links.specs.Geometry.{squares}
 use Rattle.order.specs.Sorting.{sort}
 use Rattle.order.specs.Keys.{lexLe}
 use Rattle.context.specs.Listing.{Item, endsKey, listing}
 use Rattle.serial_groups.specs.Links.{LinkAt, links}
-use Rattle.serial_groups.specs.Serial.{chainSum, serialGroups}
+use Rattle.serial_groups.specs.Serial.{chainSum, chainTotal, serialGroups}
 use Rattle.serial_groups.specs.Flat.{accepted}
 use Rattle.serial_groups.specs.Representative.{eligible, retained}
 use Rattle.serial_groups.specs.Plan.{mergePlan}
@@ -133,6 +137,14 @@ ascending : chainSum uneven (record { ranks = 0 ∷ 1 ∷ 2 ∷ 3 ∷ []; links 
     0x4006_4E53_B70C_FC9C
 unfolding chainSum lengthOf ofBits toBits add
 ascending = refl
+
+-- of its links the last alone is exact; the chain of that one is exact, and none with another
+exact-links :
+    map (λ (ks : List LinkAt). chainTotal uneven (record { ranks = []; links = ks }) .exact)
+    ((linkOver 4 2 3 ∷ []) ∷ (linkOver 2 0 1 ∷ linkOver 4 2 3 ∷ []) ∷ (linkOver 4 2 3 ∷ linkOver 3 1 2 ∷ []) ∷ [])
+    ≡ true ∷ false ∷ false ∷ []
+unfolding every isSquare squares
+exact-links = refl
 
 -- "A sum or end distance of exactly 384.0 passes; 384.5 doesn't": spans of a hall of 51 × 1 cells, the last of the second list aslant
 abbrev hall : Grid

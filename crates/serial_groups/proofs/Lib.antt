@@ -11,6 +11,7 @@ pub mod LinkRule
 pub mod ConnectedPart
 pub mod Chain
 pub mod SerialGroup
+pub mod ChainTotal
 pub mod FlatGroup
 pub mod Retains
 pub mod Row

@@ -7,11 +7,13 @@ use lib.ListN.{length}
 use Rattle.order.specs.Lists.{keep}
 use Rattle.order.specs.Sorting.{sort}
 use Rattle.length.specs.Total.{totalLe}
+use Rattle.length.specs.declared.Length.{Length}
 use Rattle.position.specs.declared.WalkPosition.{WalkPosition}
 use Rattle.grid.specs.Cells.{Grid}
 use Rattle.serial_links.specs.Limits.{Limits}
-use Rattle.serial_links.specs.Geometry.{squares, centreDistance}
+use Rattle.serial_links.specs.Geometry.{squares, centreDistance, centreLength}
 use Rattle.serial_sums.specs.Sums.{addedTo, sumOf, ascendingSum}
+use Rattle.serial_sums.specs.Totals.{allExact}
 use Rattle.order.specs.Tests.{every}
 use Rattle.context.specs.Listing.{Item}
 use Rattle.serial_groups.specs.Listing.{endsAt}
@@ -34,6 +36,16 @@ chainSum l a = ascendingSum (map (λ (k : LinkAt). rankDistance l (k .first) (k 
 unfoldable pub endDistance : List Item → LinkGroup → Float
 unfolding endsOf squares
 endDistance l a = rankDistance l (firstEnd a) (lastEnd a)
+
+-- The same with their marks. Document 02: "a chain's total is said to be exact exactly if each part is".
+abbrev pub rankLength : List Item → ℕ → ℕ → Length
+rankLength l i j = centreLength (endsAt l i) (endsAt l j)
+
+abbrev pub chainTotal : List Item → LinkGroup → Length
+chainTotal l a = record { value = chainSum l a; exact = allExact (map (λ (k : LinkAt). rankLength l (k .first) (k .second)) (a .links)) }
+
+abbrev pub endLength : List Item → LinkGroup → Length
+endLength l a = rankLength l (firstEnd a) (lastEnd a)
 
 unfoldable pub acceptsSerial : Limits → List ℕ → Grid → List Item → LinkGroup → Bool
 unfolding every passes simplePath chainSum endDistance

@@ -2,23 +2,23 @@
 -- The corridor: 4 × 1 cells, spans (8,0)-(8,8) and (16,0)-(16,8) of width 8, and between them the region of cell 1.
 use mathlib.Core.Path.{_≡_, refl}
 use mathlib.Core.Bool.{true, false}
-use mathlib.Core.List.{List, [], _∷_, map}
+use mathlib.Core.List.{[], _∷_, map}
 use Prim.Native.Nat.{ℕ}
-use lib.Ieee.{Float, binary64, neg, add, sub, mul, div, lt, le, ofBits, ofInt, toBits}
-use Rattle.order.specs.Sorting.{sort}
+use lib.Ieee.{neg, add, sub, mul, div, lt, le, ofBits, ofInt}
+use Rattle.order.specs.Tests.{every}
+use Rattle.length.specs.Root.{isSquare}
 use Rattle.length.specs.Length.{lengthOf}
 use Rattle.length.specs.Floats.{wholeFloat}
-use Rattle.length.specs.Total.{totalLe}
 use Rattle.position.specs.Order.{canonical}
 use Rattle.position.specs.declared.Span.{Span}
 use Rattle.serial_links.specs.Limits.{limits000}
-use Rattle.serial_links.specs.Geometry.{Vector, squares, centreDistance}
+use Rattle.serial_links.specs.Geometry.{Vector, squares, centreDistance, centreLength}
 use Rattle.serial_links.specs.Link.{Side, Link, widenedBy, linkOf}
 use Rattle.serial_links.specs.Measure.{empty, within, beyond, extremes, judged, measured, passing, transverseLimit, longitudinalLimit}
 use Rattle.serial_links.specs.Flat.{insideFlat}
 use Rattle.serial_links.specs.Parallel.{nearbyParallel}
-use Rattle.serial_sums.specs.Sums.{addedTo, sumOf, ascendingSum}
-use Rattle.serial_links.specs.Sums.{distanceSum}
+use Rattle.serial_sums.specs.Sums.{addedTo, sumOf}
+use Rattle.serial_links.specs.Sums.{distanceSum, distanceTotal}
 
 abbrev pub span : ℕ → ℕ → ℕ → ℕ → Span
 span ax ay bx by = record { a = record { x = ax; y = ay }; b = record { x = bx; y = by } }
@@ -51,7 +51,7 @@ corridor-link :
     corridor
     ≡ record {
       centre = vector 8 4;
-      distance = wholeFloat 8;
+      distance = record { value = wholeFloat 8; exact = true };
       unit = vector 1 0;
       normal = record { x = neg (wholeFloat 0); y = wholeFloat 1 };
       spanUnit = vector 0 1;
@@ -60,7 +60,7 @@ corridor-link :
       across = record { low = neg (wholeFloat 16); high = neg (wholeFloat 8) };
       minWidth = wholeFloat 8;
     }
-unfolding linkOf canonical widenedBy lengthOf squares ofInt ofBits neg add sub mul div lt
+unfolding linkOf canonical widenedBy lengthOf isSquare squares ofInt ofBits neg add sub mul div lt
 corridor-link = refl
 
 -- both envelopes of cell 1 are 8, within 28
@@ -110,15 +110,19 @@ parallels :
 unfolding nearbyParallel canonical lengthOf squares ofInt ofBits neg add sub mul div lt le
 parallels = refl
 
--- the lengths √10 ÷ 2, √2 ÷ 2, 1 ÷ 2 add up to another f64 as they are listed than in ascending order
-abbrev lengths : List Float
-lengths = map lengthOf (10 ∷ 2 ∷ 1 ∷ [])
-
-in-order : (sumOf lengths ≡ ofBits binary64 0x4006_4E53_B70C_FC9D) × (ascendingSum lengths ≡ ofBits binary64 0x4006_4E53_B70C_FC9C)
-unfolding sumOf ascendingSum addedTo sort totalLe toBits lengthOf ofBits add
-in-order = (refl, refl)
-
 -- from the first of three spans: 0 + 8 + 16
 corridor-sum : distanceSum first (first ∷ second ∷ span 24 0 24 8 ∷ []) ≡ wholeFloat 24
 unfolding distanceSum sumOf addedTo lengthOf squares ofInt add
 corridor-sum = refl
+
+-- centres 8 pixels apart; 1 and 1; 3 and 4
+marks :
+    map (λ (s : Span). centreLength first s .exact) (second ∷ span 9 1 9 9 ∷ span 11 4 11 12 ∷ []) ≡ true ∷ false ∷ true ∷ []
+unfolding isSquare squares
+marks = refl
+
+-- from the first of three spans: 0, 8 and 16 are exact; with the one aslant the sum is not
+corridor-totals :
+    map (λ (s : Span). distanceTotal first (first ∷ second ∷ s ∷ []) .exact) (span 24 0 24 8 ∷ span 24 1 24 9 ∷ []) ≡ true ∷ false ∷ []
+unfolding every isSquare squares
+corridor-totals = refl

@@ -4,6 +4,7 @@ use mathlib.Core.Bool.{Bool, true, false, _&&_}
 use mathlib.Core.List.{List, [], _∷_, _++_, map, map-append}
 use Prim.Native.Nat.{ℕ, _/_, _%_}
 use lib.Ieee.{Float}
+use Rattle.order.proofs.Bools.{and-assoc, and-true}
 use Rattle.serial_links.specs.Limits.{Limits}
 use Rattle.serial_links.specs.Geometry.{cellCentre}
 use Rattle.serial_links.specs.Link.{Link, Bounds, noBounds, widened, widenedBy, boundsOf}
@@ -19,14 +20,6 @@ widened-last b (u ∷ us) v = widened-last (widened b u) us v
 
 pub bounds-last : (f : ℕ → Float) (cs : List ℕ) (c : ℕ) → boundsOf (map f (cs ++ (c ∷ []))) ≡ widened (boundsOf (map f cs)) (f c)
 bounds-last f cs c = ap boundsOf (map-append f cs (c ∷ [])) ∙ widened-last noBounds (map f cs) (f c)
-
-and-assoc : (p q r : Bool) → (p && (q && r)) ≡ ((p && q) && r)
-and-assoc true q r = refl
-and-assoc false q r = refl
-
-and-true : (p : Bool) → (p && true) ≡ p
-and-true true = refl
-and-true false = refl
 
 module _ (limits : Limits) (k : Link) (columns : ℕ) where
   -- one cell more, at the end

@@ -4,6 +4,7 @@ pub mod Cells
 mod Cases
 mod Slanted
 pub mod Numbers
+pub mod Marks
 mod Squares
 mod Alike
 mod Measures

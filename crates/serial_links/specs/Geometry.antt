@@ -1,8 +1,9 @@
 -- Points, centres and distances.
 use Prim.Native.Nat.{ℕ, _+_, _-_, _*_, _/_, _%_}
 use lib.Ieee.{Float, binary64, neg, ofBits}
-use Rattle.length.specs.Length.{lengthOf}
+use Rattle.length.specs.Length.{lengthOf, lengthAt}
 use Rattle.length.specs.Floats.{_⊕_, _⊖_, _⊗_, _⊘_, wholeFloat, absOf}
+use Rattle.length.specs.declared.Length.{Length}
 use Rattle.position.specs.declared.PixelPosition.{PixelPosition}
 use Rattle.position.specs.declared.Span.{Span}
 
@@ -88,3 +89,13 @@ centreDistance s t = distance (doubledCentre s) (doubledCentre t)
 
 abbrev pub spanLength : Span → Float
 spanLength s = pointDistance (s .a) (s .b)
+
+-- The same with their marks. Document 02: "The length routine now also says whether √D ÷ 2 is met exactly".
+abbrev pub lengthBetween : DoubledPoint → DoubledPoint → Length
+lengthBetween p q = lengthAt (squares p q)
+
+abbrev pub pointLength : PixelPosition → PixelPosition → Length
+pointLength p q = lengthBetween (doubledPoint p) (doubledPoint q)
+
+abbrev pub centreLength : Span → Span → Length
+centreLength s t = lengthBetween (doubledCentre s) (doubledCentre t)

@@ -6,9 +6,10 @@ use mathlib.Core.List.{List, [], _∷_}
 use Prim.Native.Nat.{ℕ}
 use lib.Ieee.{Float, inf, binary64, ofBits}
 use Rattle.length.specs.Floats.{minOf, maxOf}
+use Rattle.length.specs.declared.Length.{Length}
 use Rattle.position.specs.Order.{canonical}
 use Rattle.position.specs.declared.Span.{Span}
-use Rattle.serial_links.specs.Geometry.{Vector, pointOf, centreOf, towards, scaled, turned, dot, centreDistance, spanLength}
+use Rattle.serial_links.specs.Geometry.{Vector, pointOf, centreOf, towards, scaled, turned, dot, centreDistance, centreLength, spanLength}
 
 -- What a link sees of a boundary: its ends, and its width as f64 bits.
 pub record Side : Type 0 where
@@ -42,8 +43,8 @@ boundsOf vs = widenedBy noBounds vs
 pub record Link : Type 0 where
   -- the first centre
   pub centre : Vector
-  -- center_distance
-  pub distance : Float
+  -- center_distance, with its mark
+  pub distance : Length
   -- from the first centre to the second, and across that
   pub unit : Vector
   pub normal : Vector
@@ -74,7 +75,7 @@ endBounds s t v =
 unfoldable pub linkOf : Side → Side → Link
 linkOf first second = record {
   centre = centreOf (first .span);
-  distance = centreDistance (first .span) (second .span);
+  distance = centreLength (first .span) (second .span);
   unit = linkDirection (first .span) (second .span);
   normal = turned (linkDirection (first .span) (second .span));
   spanUnit = spanDirection (first .span);

@@ -39,7 +39,7 @@ abbrev pub transverseLimit : Limits → Link → Float
 transverseLimit limits link = oneAndHalf ⊗ link .minWidth ⊕ limits .geometry
 
 abbrev pub longitudinalLimit : Limits → Link → Float
-longitudinalLimit limits link = link .distance ⊕ link .minWidth ⊘ two ⊕ limits .geometry
+longitudinalLimit limits link = link .distance .value ⊕ link .minWidth ⊘ two ⊕ limits .geometry
 
 -- Document 01: "The measured link is empty, or within, or beyond, the last two carrying both envelopes": the transverse and the longitudinal one.
 pub data Measured : Type 0 where

@@ -6,12 +6,12 @@ ghost use lib.Dec.{eqb};
 ghost use lib.Ieee.{binary64, ofBits};
 ghost use Rattle.position.specs.Order.{canonical};
 ghost use Rattle.position.specs.Bounds.{Bounded};
-ghost use Rattle.length.specs.Length.{lengthOf};
-ghost use Rattle.serial_links.specs.Geometry.{apart, squares, centreOf, pointOf, pointDistance, centreDistance, doubledCentre, towards, scaled, turned};
+ghost use Rattle.serial_links.specs.Geometry.{apart, squares, centreOf, pointOf, pointLength, centreLength, doubledCentre, towards, scaled, turned};
 ghost use Rattle.serial_links.specs.Geometry.{dot};
 ghost use Rattle.serial_links.specs.Geometry.{reach};
 ghost use Rattle.serial_links.specs.Link.{widened, endBounds, noBounds, linkDirection, spanDirection};
 ghost use Rattle.serial_links.specs.Held.{SpanBounded, doubled, vector, heldPoint, heldRange, range, centreAt, withEnds};
+use length::Length;
 use length::floats::abs;
 use length::floats::max;
 use length::floats::min;
@@ -54,14 +54,6 @@ fn squares(ax: u32, ay: u32, bx: u32, by: u32) -> u32
     square(apart(ax, bx)) + square(apart(ay, by))
 }
 
-fn distance(d: u32) -> f64
-    requires { ⌜ d ≤ 536870912 ⌝ }
-    ensures { λ r. ⌜ r ≡ lengthOf d ⌝ }
-{
-    let l = length_of(d);
-    l.value
-}
-
 fn centre_squares(first: Span, second: Span) -> u32
     requires { ⌜ SpanBounded first × SpanBounded second ⌝ }
     ensures { λ r. ⌜ (r ≡ squares (doubledCentre first) (doubledCentre second)) × (r ≤ 536870912) ⌝ }
@@ -74,11 +66,11 @@ fn centre_squares(first: Span, second: Span) -> u32
 }
 
 // How far the centres of two spans are apart.
-pub fn centre_distance(first: Span, second: Span) -> f64
+pub fn centre_distance(first: Span, second: Span) -> Length
     requires { ⌜ SpanBounded first × SpanBounded second ⌝ }
-    ensures { λ r. ⌜ r ≡ centreDistance first second ⌝ }
+    ensures { λ r. ⌜ r ≡ centreLength first second ⌝ }
 {
-    distance(centre_squares(first, second))
+    length_of(centre_squares(first, second))
 }
 
 // The centres of two spans differ.
@@ -90,11 +82,11 @@ pub fn centres_differ(first: Span, second: Span) -> bool
 }
 
 // How far two positions are apart.
-pub fn point_distance(p: PixelPosition, q: PixelPosition) -> f64
+pub fn point_distance(p: PixelPosition, q: PixelPosition) -> Length
     requires { ⌜ Bounded p × Bounded q ⌝ }
-    ensures { λ r. ⌜ r ≡ pointDistance p q ⌝ }
+    ensures { λ r. ⌜ r ≡ pointLength p q ⌝ }
 {
-    distance(squares(2 * p.x, 2 * p.y, 2 * q.x, 2 * q.y))
+    length_of(squares(2 * p.x, 2 * p.y, 2 * q.x, 2 * q.y))
 }
 
 // The bits of a number from +0 to 16,384 are no NaN's.
@@ -226,7 +218,9 @@ pub fn link_direction(first: Span, second: Span) -> Point
     ensures { λ r. ⌜ r ≡ heldPoint (linkDirection first second) ⌝ }
 {
     let length = centre_distance(first, second);
-    centre_of(first).towards(centre_of(second)).scaled(length)
+    centre_of(first)
+        .towards(centre_of(second))
+        .scaled(length.value)
 }
 
 // From the earlier end of a span to the later, by its length.
@@ -236,5 +230,5 @@ pub fn span_direction(s: Span) -> Point
 {
     let t = s.canonical();
     let length = point_distance(t.a, t.b);
-    point_of(t.a).towards(point_of(t.b)).scaled(length)
+    point_of(t.a).towards(point_of(t.b)).scaled(length.value)
 }

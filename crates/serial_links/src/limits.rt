@@ -8,6 +8,7 @@ ghost use Rattle.serial_links.specs.Limits.{limits000};
 ghost use Rattle.serial_links.specs.HeldLimits.{limitsOf};
 use crate::link::Link;
 use crate::parallel::SpanPair;
+use length::Length;
 
 pub struct Limits {
     pub least_spans: u32,
@@ -27,8 +28,8 @@ pub struct GroupSize {
 
 // The sum of a serial group's centre distances, and the distance of its ends.
 pub struct Chain {
-    pub sum: f64,
-    pub ends: f64,
+    pub sum: Length,
+    pub ends: Length,
 }
 
 // A member of a group, by its width.
@@ -54,9 +55,11 @@ impl Chain {
     pub const MAX_CHAIN_DISTANCE_PIXELS: f64 = 384.0;
 
     pub fn short(self, limits: Limits) -> bool
-        ensures { λ r. ⌜ r ≡ le (self .sum) (limitsOf limits .chain) && le (self .ends) (limitsOf limits .chain) ⌝ }
+        ensures { λ r. ⌜ r ≡ le (self .sum .value) (limitsOf limits .chain) && le (self .ends .value) (limitsOf limits .chain) ⌝ }
     {
-        (self.sum <= limits.chain) & (self.ends <= limits.chain)
+        let sum = self.sum;
+        let ends = self.ends;
+        (sum.value <= limits.chain) & (ends.value <= limits.chain)
     }
 }
 

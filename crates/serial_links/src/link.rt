@@ -18,6 +18,7 @@ use crate::geometry::link_direction;
 use crate::geometry::span_direction;
 use crate::geometry::width_of;
 use crate::limits::Limits;
+use length::Length;
 use length::floats::max;
 use length::floats::min;
 use position::Span;
@@ -25,7 +26,7 @@ use position::Span;
 pub struct Link {
     pub centre_x: f64,
     pub centre_y: f64,
-    pub distance: f64,
+    pub distance: Length,
     pub unit_x: f64,
     pub unit_y: f64,
     pub normal_x: f64,
@@ -219,8 +220,9 @@ impl Link {
         let transverse = self.transverse_envelope();
         let longitudinal = self.longitudinal_envelope();
         let width = self.min_width;
+        let distance = self.distance;
         if (transverse <= 1.5 * width + limits.geometry)
-            & (longitudinal <= self.distance + width / 2.0 + limits.geometry)
+            & (longitudinal <= distance.value + width / 2.0 + limits.geometry)
         {
             Measured::Within(transverse, longitudinal)
         } else {

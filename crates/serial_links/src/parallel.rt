@@ -1,6 +1,6 @@
 // Nearby and parallel spans: 000's `nearby_parallel_spans`.
 ghost use mathlib.Core.Path.{_≡_};
-ghost use Rattle.serial_links.specs.Geometry.{spanLength};
+ghost use Rattle.serial_links.specs.Geometry.{pointLength};
 ghost use Rattle.serial_links.specs.Parallel.{spanVector, nearEnds, nearbyParallel};
 ghost use Rattle.serial_links.specs.Held.{SpanBounded, heldPoint, facingBy};
 ghost use Rattle.serial_links.specs.HeldLimits.{limitsOf};
@@ -8,6 +8,7 @@ use crate::geometry::Point;
 use crate::geometry::point_distance;
 use crate::geometry::point_of;
 use crate::limits::Limits;
+use length::Length;
 use length::floats::abs;
 use position::Span;
 
@@ -24,9 +25,9 @@ fn span_vector(s: Span) -> Point
     point_of(s.a).towards(point_of(s.b))
 }
 
-fn span_length(s: Span) -> f64
+fn span_length(s: Span) -> Length
     requires { ⌜ SpanBounded s ⌝ }
-    ensures { λ r. ⌜ r ≡ spanLength s ⌝ }
+    ensures { λ r. ⌜ r ≡ pointLength (s .a) (s .b) ⌝ }
 {
     point_distance(s.a, s.b)
 }
@@ -36,7 +37,9 @@ fn near_ends(limits: Limits, a: Span, b: Span) -> bool
     requires { ⌜ SpanBounded a × SpanBounded b ⌝ }
     ensures { λ r. ⌜ r ≡ nearEnds (limitsOf limits) a b ⌝ }
 {
-    (point_distance(a.a, b.a) <= limits.duplicate) & (point_distance(a.b, b.b) <= limits.duplicate)
+    let first = point_distance(a.a, b.a);
+    let second = point_distance(a.b, b.b);
+    (first.value <= limits.duplicate) & (second.value <= limits.duplicate)
 }
 
 // b, the other way round if the dot product is negative.
@@ -65,7 +68,9 @@ impl SpanPair {
         let a = self.first.canonical();
         let b = self.second.canonical();
         let dot = span_vector(a).dot(span_vector(b));
-        if abs(dot) / span_length(a) / span_length(b) < limits.cosine {
+        let first = span_length(a);
+        let second = span_length(b);
+        if abs(dot) / first.value / second.value < limits.cosine {
             return false;
         }
         near_ends(limits, a, facing(dot, b))

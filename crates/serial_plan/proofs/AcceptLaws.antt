@@ -13,13 +13,15 @@ use Rattle.order.proofs.Bools.{and-parts}
 use Rattle.order.proofs.Keep.{keep-length}
 use Rattle.areas.specs.Spans.{spanIn}
 use Rattle.serial_links.specs.Limits.{Limits}
-use Rattle.serial_links.specs.Geometry.{centreDistance}
+use Rattle.length.specs.declared.Length.{Length}
+use Rattle.serial_sums.specs.Totals.{lengthValue}
+use Rattle.serial_links.specs.Geometry.{centreDistance, centreLength}
 use Rattle.order.specs.Tests.{every}
 use Rattle.serial_groups.specs.Flat.{leastFlatSpans}
 use Rattle.serial_plan.specs.declared.few.Few.{Few}
 use Rattle.serial_plan.specs.Few.{fewOf, fewAt, fewList}
 use Rattle.serial_plan.specs.Arrays.{isOn}
-use Rattle.serial_plan.specs.Shape.{degreeIn, endsIn, regularIn, outerIn, pathIn, chainIn, allAlikeIn}
+use Rattle.serial_plan.specs.Shape.{degreeIn, endsIn, regularIn, outerIn, pathIn, chainIn, chainTotalIn, allAlikeIn}
 use Rattle.serial_plan.specs.Told.{serialIn, flatIn}
 use Rattle.serial_plan.proofs.ShapeLaws.{listed-length, held-count, held-first, held-second, kept-slots}
 use Rattle.serial_plan.proofs.ValueLaws.{both}
@@ -105,13 +107,13 @@ module _ (limits : Limits) (own lowers highers regions firsts seconds : List ℕ
   pub serial-path : (a : Bool) {b : Bool} (rs js : List ℕ) → b ≡ path rs js → not (a && b) ≡ false → path rs js ≡ true
   serial-path a {b} rs js e n = sym e ∙ and-parts a b (not-false (a && b) n) .1
 
-  pub serial-yes : (passing rs js : List ℕ) {a b r : Bool} {x y : Float} → a ≡ every (isOn passing) js → b ≡ path rs js → not (a && b) ≡ false →
-      r ≡ le x (limits .chain) && le y (limits .chain) → x ≡ chainIn firsts seconds own js
-      → y ≡ centreDistance (spanIn own (getD (endsIn firsts seconds rs js) 0 0)) (spanIn own (getD (endsIn firsts seconds rs js) 1 0)) →
+  pub serial-yes : (passing rs js : List ℕ) {a b r : Bool} {x y : Length} → a ≡ every (isOn passing) js → b ≡ path rs js → not (a && b) ≡ false →
+      r ≡ le (x .value) (limits .chain) && le (y .value) (limits .chain) → x ≡ chainTotalIn firsts seconds own js
+      → y ≡ centreLength (spanIn own (getD (endsIn firsts seconds rs js) 0 0)) (spanIn own (getD (endsIn firsts seconds rs js) 1 0)) →
       r ≡ serialIn limits own lowers highers regions firsts seconds passing rs js
   unfolding serialIn
   serial-yes passing rs js {a} {b} {r} {x} {y} ea eb n er ex ey =
-      er ∙ (both (λ (s t : Float). le s (limits .chain) && le t (limits .chain)) ex ey
+      er ∙ (both (λ (s t : Float). le s (limits .chain) && le t (limits .chain)) (ap lengthValue ex) (ap lengthValue ey)
       ∙ ap (λ (t : Bool). t && (le (chainIn firsts seconds own js) (limits .chain) && le
       (centreDistance (spanIn own (getD (endsIn firsts seconds rs js) 0 0)) (spanIn own (getD (endsIn firsts seconds rs js) 1 0))) (limits .chain)))
       (sym (not-false (a && b) n) ∙ both _&&_ ea eb))

@@ -1,7 +1,7 @@
 -- The rules on a group, by arrays.
 use mathlib.Core.Path.{_≡_, refl, sym, _∙_, ap}
 use mathlib.Core.Bool.{Bool, true, false, not, _&&_}
-use mathlib.Core.List.{List, [], _∷_, map, map-map, List·Memᴰ, List·Memᴰ·head, List·Memᴰ·tail, Permᴰ·symm}
+use mathlib.Core.List.{List, [], _∷_, map, map-map, List·Memᴰ}
 use Prim.Native.Nat.{ℕ, suc, _<_}
 use native.Mathlib.Omega.{arith}
 use borrow.Author.Tests.{eqb-true}
@@ -10,13 +10,14 @@ use lib.Ieee.{Float, binary64, le, ofBits}
 use lib.ListN.{length, getD, length-map}
 use Rattle.lists.specs.Rows.{at}
 use Rattle.order.specs.Lists.{keep}
-use Rattle.order.specs.Sorting.{insert, sort}
+use Rattle.order.specs.Sorting.{sort}
 use Rattle.order.proofs.Keep.{keep-mem, keep-ext, keep-map}
 use Rattle.order.proofs.Tests.{every-ext, every-map}
-use Rattle.order.proofs.Members.{perm-mem, map-ext, getD-mem}
-use Rattle.order.proofs.Sort.{sort-perm}
+use Rattle.order.proofs.Members.{map-ext, getD-mem}
+use Rattle.order.proofs.Sort.{sort-ext}
 use Rattle.length.specs.Floats.{_⊕_}
 use Rattle.length.specs.Total.{totalLe}
+use Rattle.length.specs.declared.Length.{Length}
 use Rattle.position.specs.declared.Span.{Span}
 use Rattle.grid.specs.Cells.{Grid}
 use Rattle.areas.specs.Spans.{spanIn}
@@ -24,9 +25,10 @@ use Rattle.areas.specs.Assessments.{RegionPair, regionPair}
 use Rattle.context.specs.FullPair.{otherRegion}
 use Rattle.context.specs.Listing.{Item}
 use Rattle.serial_links.specs.Limits.{Limits}
-use Rattle.serial_links.specs.Geometry.{centreDistance}
+use Rattle.serial_links.specs.Geometry.{centreDistance, centreLength}
 use Rattle.serial_links.specs.Parallel.{nearbyParallel}
 use Rattle.serial_sums.specs.Sums.{ascendingSum, noLater}
+use Rattle.serial_sums.specs.Totals.{allExact}
 use Rattle.serial_links.specs.Sums.{distanceSum}
 use Rattle.order.specs.Tests.{every}
 use Rattle.serial_groups.specs.Listing.{endsAt, bitsAt}
@@ -34,12 +36,13 @@ use Rattle.serial_groups.specs.Links.{LinkAt, joins}
 use Rattle.serial_groups.specs.Measuring.{passes}
 use Rattle.serial_groups.specs.Groups.{LinkGroup}
 use Rattle.serial_groups.specs.SimplePath.{linksAt, degree, endsOf, isPath, noLink, outerRegion, simplePath}
-use Rattle.serial_groups.specs.Serial.{rankDistance, chainSum, endDistance, acceptsSerial}
+use Rattle.serial_groups.specs.Serial.{rankDistance, chainSum, endDistance, rankLength, chainTotal, acceptsSerial}
 use Rattle.serial_groups.specs.Flat.{alike, acceptsFlat, leastFlatSpans}
 use Rattle.serial_groups.specs.Representative.{leastWidth, distanceTo, nearer, eligible, retained, widthAt}
 use Rattle.serial_groups.specs.Tables.{linkRow}
 use Rattle.serial_plan.specs.Arrays.{isOn, joinsAt}
-use Rattle.serial_plan.specs.Shape.{degreeIn, endsIn, regularIn, gapIn, chainIn, outerIn, pathIn, alikeIn, allAlikeIn, leastIn, sumIn, nearerIn, fineIn}
+use Rattle.serial_plan.specs.Shape.{degreeIn, endsIn, regularIn, gapIn, chainIn, gapLengthIn, chainTotalIn}
+use Rattle.serial_plan.specs.Shape.{outerIn, pathIn, alikeIn, allAlikeIn, leastIn, sumIn, nearerIn, fineIn}
 use Rattle.serial_plan.specs.Shape.{eligibleIn, retainedIn}
 use Rattle.serial_plan.specs.Told.{groupBy, BoundaryTables, Passed, serialIn, flatIn}
 use Rattle.serial_plan.proofs.ShapeLaws.{at-each}
@@ -152,21 +155,6 @@ module _ (regions firsts seconds rs js : List ℕ) where
             let q : one 1 ≡ other 1 = outer-at 1 (omega arith) in
             rw (p, q)
 
-insert-ext : {A : Type 0} (p q : A → A → Bool) (x : A) (s : List A) → ((y : A) → List·Memᴰ y s → p x y ≡ q x y) → insert p x s ≡ insert q x s
-unfolding insert
-insert-ext p q x [] f = refl
-insert-ext p q x (y ∷ ys) f =
-    let a : p x y ≡ q x y = f y (List·Memᴰ·head refl) in
-    let b : insert p x ys ≡ insert q x ys = insert-ext p q x ys (λ z m. f z (List·Memᴰ·tail m)) in
-    rw (a, b)
-
-pub sort-ext : {A : Type 0} (p q : A → A → Bool) (l : List A) → ((x y : A) → List·Memᴰ x l → List·Memᴰ y l → p x y ≡ q x y) → sort p l ≡ sort q l
-unfolding sort
-sort-ext p q [] f = refl
-sort-ext p q (x ∷ xs) f =
-    ap (insert p x) (sort-ext p q xs (λ y z m k. f y z (List·Memᴰ·tail m) (List·Memᴰ·tail k)))
-    ∙ insert-ext p q x (sort q xs) (λ y m. f x y (List·Memᴰ·head refl) (List·Memᴰ·tail (perm-mem (Permᴰ·symm (sort-perm q xs)) m)))
-
 module _ {dirs : List ℕ} {g : Grid} {l : List Item} {n : ℕ} {own bits lowers highers : List ℕ} (told : BoundaryTables dirs g l n own bits lowers highers)
     (rs : List ℕ)
     (inside : (i : ℕ) → List·Memᴰ i rs → i < n) where
@@ -222,6 +210,20 @@ module _ {dirs : List ℕ} {g : Grid} {l : List Item} {n : ℕ} {own bits lowers
           (λ k m. let w = joined k (below k m) in
           ap (λ (s : Span). centreDistance s (endsAt l (at seconds k))) (told .ends (at firsts k) (w .0))
           ∙ ap (centreDistance (spanIn own (at firsts k))) (told .ends (at seconds k) (w .1))))
+
+      -- with its mark
+      pub chain-total-by : chainTotal l (groupBy regions firsts seconds rs js) ≡ chainTotalIn firsts seconds own js
+      chain-total-by = λ i. record { value = chain-is i; exact = ap allExact lengths i }
+        where
+          length-of : LinkAt → Length
+          length-of k = rankLength l (k .first) (k .second)
+
+          lengths : map length-of (map (linkRow regions firsts seconds) js) ≡ map (gapLengthIn firsts seconds own) js
+          lengths =
+              map-both (linkRow regions firsts seconds) length-of (gapLengthIn firsts seconds own) js
+              (λ k m. let w = joined k (below k m) in
+              ap (λ (s : Span). centreLength s (endsAt l (at seconds k))) (told .ends (at firsts k) (w .0))
+              ∙ ap (centreLength (spanIn own (at firsts k))) (told .ends (at seconds k) (w .1)))
 
       end-below : (j : ℕ) → getD (endsIn firsts seconds rs js) j 0 < n
       unfolding endsIn

@@ -13,6 +13,7 @@ use Rattle.lists.specs.Rows.{at}
 use Rattle.order.specs.Lists.{keep, upFrom}
 use Rattle.order.specs.Sorting.{sort}
 use Rattle.length.specs.Total.{totalLe}
+use Rattle.length.specs.declared.Length.{Length}
 use Rattle.position.specs.declared.Span.{Span}
 use Rattle.areas.specs.Spans.{spanIn}
 use Rattle.context.specs.FullPair.{otherRegion}
@@ -20,13 +21,12 @@ use Rattle.order.specs.Tests.{every}
 use Rattle.order.proofs.Keep.{keep-length}
 use Rattle.serial_links.specs.Limits.{Limits}
 use Rattle.serial_sums.specs.Sums.{noLater}
-use Rattle.serial_sums.specs.Numbers.{Number}
+use Rattle.serial_sums.specs.Totals.{lengthValue}
 use Rattle.serial_links.specs.Held.{SpanBounded}
-use Rattle.serial_links.proofs.Numbers.{distance-number}
 use Rattle.serial_plan.specs.declared.few.Few.{Few}
 use Rattle.serial_plan.specs.Few.{fewOf, fewAt, fewList}
 use Rattle.serial_plan.specs.Arrays.{joinsAt}
-use Rattle.serial_plan.specs.Shape.{degreeIn, endsIn, regularIn, outerIn, alikeIn, allAlikeIn, gapIn, leastIn, sumIn, nearerIn, fineIn, eligibleIn}
+use Rattle.serial_plan.specs.Shape.{degreeIn, endsIn, regularIn, outerIn, alikeIn, allAlikeIn, leastIn, sumTotalIn, nearerIn, fineIn, eligibleIn}
 use Rattle.serial_plan.specs.Shape.{retainedIn}
 use Rattle.serial_plan.specs.Fitting.{RankFits}
 use Rattle.serial_plan.proofs.FewLaws.{Picked, listed-held}
@@ -45,9 +45,6 @@ choose-no a b e = rw e
 pub span-fits : {own : List ℕ} {i x : ℕ} {s : Span} → RankFits own x → i ≡ x → s ≡ spanIn own i → SpanBounded s
 span-fits {own} w e q = subst SpanBounded (sym (q ∙ ap (spanIn own) e)) (w .bounded)
 
-pub gap-number : (firsts seconds own : List ℕ) (k : ℕ) {x : Float} → x ≡ gapIn firsts seconds own k → Number x
-gap-number firsts seconds own k e = subst Number (sym e) (distance-number (spanIn own (at firsts k)) (spanIn own (at seconds k)))
-
 pub least-listed : (bits : List ℕ) (f : Few) {k x : ℕ} → SortedFirst totalLe (λ i. at bits (fewAt f i)) (f .count) k x → k ≡ 0 → x ≡ leastIn bits (fewList f)
 unfolding leastIn fewList
 least-listed bits f p e = first-end totalLe (λ i. at bits (fewAt f i)) (f .count) p e
@@ -57,9 +54,10 @@ pub first-listed : (le : ℕ → ℕ → Bool) (f : Few) {k x : ℕ} → SortedF
 unfolding fewList
 first-listed le f p e = first-end le (fewAt f) (f .count) p e
 
-pub nearer-as : (own rs : List ℕ) (i j : ℕ) {x y : Float} {b : Bool} → x ≡ sumIn own rs i → y ≡ sumIn own rs j → b ≡ noLater x y → b ≡ nearerIn own rs i j
+pub nearer-as : (own rs : List ℕ) (i j : ℕ) {x y : Length} {b : Bool} → x ≡ sumTotalIn own rs i → y ≡ sumTotalIn own rs j
+    → b ≡ noLater (x .value) (y .value) → b ≡ nearerIn own rs i j
 unfolding nearerIn
-nearer-as own rs i j {x} {y} ex ey e = e ∙ both noLater ex ey
+nearer-as own rs i j {x} {y} ex ey e = e ∙ both noLater (ap lengthValue ex) (ap lengthValue ey)
 
 pub all-alike-whole : (limits : Limits) (own : List ℕ) (f : Few) {k : ℕ} {b : Bool}
     → Each (λ i. every (alikeIn limits own i) (fewList f)) (fewAt f) (f .count) k b → k ≡ 0 → b ≡ allAlikeIn limits own (fewList f)

@@ -1,24 +1,25 @@
 -- Groups by arrays: rs are the ranks of a group, js the numbers of its links.
-use mathlib.Core.Path.{_≡_}
 use mathlib.Core.Bool.{Bool, not, _&&_}
 use mathlib.Core.List.{List, map}
 use Prim.Native.Nat.{ℕ, suc}
 use lib.Dec.{leb, eqb}
-use lib.Ieee.{Float, binary64, le, ofBits, toBits}
-use lib.ListN.{length, getD, take}
+use lib.Ieee.{Float, binary64, le, ofBits}
+use lib.ListN.{length, getD}
 use Rattle.areas.specs.Assessments.{regionPair}
 use Rattle.lists.specs.Rows.{at}
 use Rattle.order.specs.Lists.{keep}
 use Rattle.order.specs.Sorting.{sort}
 use Rattle.length.specs.Floats.{_⊕_}
 use Rattle.length.specs.Total.{totalLe}
+use Rattle.length.specs.declared.Length.{Length}
 use Rattle.areas.specs.Spans.{spanIn}
 use Rattle.context.specs.FullPair.{otherRegion}
 use Rattle.serial_links.specs.Limits.{Limits}
-use Rattle.serial_links.specs.Geometry.{squares, centreDistance}
+use Rattle.serial_links.specs.Geometry.{squares, centreDistance, centreLength}
 use Rattle.serial_links.specs.Parallel.{nearbyParallel}
 use Rattle.serial_sums.specs.Sums.{addedTo, sumOf, noLater, ascendingSum}
-use Rattle.serial_links.specs.Sums.{distanceSum}
+use Rattle.serial_sums.specs.Totals.{allExact}
+use Rattle.serial_links.specs.Sums.{distanceSum, distanceTotal}
 use Rattle.order.specs.Tests.{every}
 use Rattle.serial_plan.specs.Arrays.{isOn, joinsAt}
 
@@ -45,10 +46,12 @@ module _ (firsts seconds : List ℕ) where
   unfolding ascendingSum sumOf addedTo sort totalLe squares spanIn
   chainIn own js = ascendingSum (map (gapIn own) js)
 
--- an array of sixteen, of which the first are the bits of the numbers of xs
-pub record BitsOf (f : ℕ → Float) (xs : List ℕ) (bits : List ℕ) : Type 0 where
-  pub size : length bits ≡ 16
-  pub first : take (length xs) bits ≡ map (λ k. toBits binary64 (f k)) xs
+  -- the same with their marks
+  abbrev pub gapLengthIn : List ℕ → ℕ → Length
+  gapLengthIn own k = centreLength (spanIn own (at firsts k)) (spanIn own (at seconds k))
+
+  abbrev pub chainTotalIn : List ℕ → List ℕ → Length
+  chainTotalIn own js = record { value = chainIn own js; exact = allExact (map (gapLengthIn own) js) }
 
 module _ (lowers highers regions firsts seconds : List ℕ) where
   -- the region on the other side of an end
@@ -81,6 +84,10 @@ leastIn bits rs = getD (sort totalLe (map (at bits) rs)) 0 0
 unfoldable pub sumIn : List ℕ → List ℕ → ℕ → Float
 unfolding distanceSum sumOf addedTo squares spanIn
 sumIn own rs i = distanceSum (spanIn own i) (map (spanIn own) rs)
+
+-- the same with its mark
+abbrev pub sumTotalIn : List ℕ → List ℕ → ℕ → Length
+sumTotalIn own rs i = record { value = sumIn own rs i; exact = distanceTotal (spanIn own i) (map (spanIn own) rs) .exact }
 
 unfoldable pub nearerIn : List ℕ → List ℕ → ℕ → ℕ → Bool
 unfolding sumIn totalLe

@@ -9,15 +9,17 @@ ghost use Rattle.length.specs.Total.{totalLe};
 ghost use Rattle.serial_sums.specs.Numbers.{Number};
 ghost use Rattle.serial_links.specs.HeldLimits.{limitsOf};
 ghost use Rattle.serial_plan.specs.Few.{fewOf, fewList};
-ghost use Rattle.serial_plan.specs.Shape.{leastIn, sumIn, nearerIn, fineIn, retainedIn};
+ghost use Rattle.serial_plan.specs.Shape.{leastIn, sumTotalIn, nearerIn, fineIn, retainedIn};
 ghost use Rattle.serial_plan.specs.Fitting.{RankFits, WidthFits, RanksFit, Widths};
 use crate::chain::rank_distance;
 use crate::few::Few;
+use length::Length;
 use length::floats::total_le;
 use serial_links::geometry::width_of;
 use serial_links::limits::Limits;
 use serial_links::limits::Member;
 use serial_sums::no_later;
+use serial_sums::plus;
 
 // The pattern that comes no later by totalOrder, of two widths.
 fn lesser(a: u64, b: u64) -> u64
@@ -69,14 +71,14 @@ fn eligible(limits: Limits, bits: &[u64; 256], least: f64, ranks: Few) -> Few
 }
 
 // The sum of the distances from rank i to all the ranks.
-fn sum_from(own: &[u32; 1024], ranks: Few, i: usize) -> f64
+fn sum_from(own: &[u32; 1024], ranks: Few, i: usize) -> Length
     requires { ⌜ (1 ≤ ranks .count) × RanksFit (now own) ranks × RankFits (now own) i ⌝ }
-    ensures { λ r. ⌜ (r ≡ sumIn (now (own .entry)) (fewList ranks) i) × Number r ⌝ }
+    ensures { λ r. ⌜ (r ≡ sumTotalIn (now (own .entry)) (fewList ranks) i) × Number (r .value) ⌝ }
 {
     let mut total = rank_distance(own, i, ranks.index(0));
     let mut j: u32 = 1;
     while j < ranks.count {
-        total = total + rank_distance(own, i, ranks.index(j));
+        total = plus(total, rank_distance(own, i, ranks.index(j)));
         j += 1;
     }
     total

@@ -1,2 +1,5 @@
 pub mod Numbers
 pub mod SumSteps
+pub mod PartLaws
+pub mod Totals
+mod Cases

@@ -52,7 +52,7 @@ returns-2 c =
     let w = rooted d r (found .ensures) in
     is-length d _ (entry .pre)
     (root-halved d (r .root) (root-pos d (r .root) (r .rem) w (omega (arith, some .if1 .left))) (entry .pre) (omega (arith, w .sum)))
-    (sym (eq-eqb (r .rem) 0 (c .before .if2 .taken)) ∙ ap (λ (x : Root). eqb (x .rem) 0) (found .ensures))
+    (sym (eq-eqb (r .rem) 0 (omega (arith, c .before .if2 .taken))) ∙ ap (λ (x : Root). eqb (x .rem) 0) (found .ensures))
 
 loop-holds : tie.Need-loop-holds Inv-loop μ-loop
 loop-holds c =
@@ -107,7 +107,7 @@ returns-3 c =
     is-length (entry .args .d) _ (entry .pre)
     (finish _ _ _ _ _ g (omega (arith, f .ensures .least)) (omega arith) (omega arith)
     (entry .pre))
-    (sym (ne-eqb (found .result .rem) 0 (turn .before .if2 .left)) ∙ ap (λ (x : Root). eqb (x .rem) 0) (found .ensures))
+    (sym (ne-eqb (found .result .rem) 0 (λ z. omega (arith, z, turn .before .if2 .left))) ∙ ap (λ (x : Root). eqb (x .rem) 0) (found .ensures))
 
 pub length-of-spec : {M : Type 1} → statement M
 length-of-spec =

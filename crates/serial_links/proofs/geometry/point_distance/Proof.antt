@@ -12,4 +12,4 @@ point-distance-spec =
     (λ c. search needs)
     (λ c κs. search needs)
     (λ c κs. search needs)
-    (λ c. simp (c .distance .ensures, c .before .squares .ensures .0)))
+    (λ c. simp (c .length-of .ensures, c .before .squares .ensures .0)))

@@ -2,7 +2,7 @@ use mathlib.Core.Path.{sym, _∙_, subst}
 use Prim.Native.Nat.{ℕ}
 use native.Mathlib.Omega.{arith}
 use Rattle.areas.specs.Spans.{spanIn}
-use Rattle.serial_links.specs.Geometry.{centreDistance}
+use Rattle.serial_links.specs.Geometry.{centreLength}
 use Rattle.serial_links.specs.HeldLimits.{limitsOf}
 use Rattle.serial_plan.specs.Fitting.{RankFits}
 use Rattle.serial_plan.specs.Few.{fewAt, fewList}
@@ -68,7 +68,7 @@ returns-2 c =
     (fewList (a .ranks)) (fewList (a .links)) (path .before .all-on .ensures) (path .group-is-simple-path .ensures) (two .before .if1 .left) (c .short .ensures)
     (sum .chain-sum .ensures)
     (c .before .rank-distance .ensures
-    ∙ both (λ (i j : ℕ). centreDistance (spanIn (a .own .now) i) (spanIn (a .own .now) j))
+    ∙ both (λ (i j : ℕ). centreLength (spanIn (a .own .now) i) (spanIn (a .own .now) j))
     (first .index .ensures .0 ∙ held-first _ (two .group-end-nodes .ensures)) (second .index2 .ensures .0 ∙ held-second _ (two .group-end-nodes .ensures)))
 
 pub accepts-serial-spec : {M : Type 1} → statement M

@@ -2,7 +2,7 @@ use mathlib.Core.Path.{sym, _∙_}
 use Prim.Native.Nat.{ℕ}
 use mathlib.Core.Path.{subst}
 use Rattle.areas.specs.Spans.{spanIn}
-use Rattle.serial_links.specs.Geometry.{centreDistance}
+use Rattle.serial_links.specs.Geometry.{centreLength}
 use Rattle.serial_plan.specs.Fitting.{RankFits}
 use Rattle.serial_plan.proofs.ValueLaws.{both}
 use borrow.Author.Needs.{needs}
@@ -22,7 +22,7 @@ returns c =
     let after-size = c .before .before .before in
     let start = after-size .before .before in
     let own = start .args .own .now in
-    c .rank-distance .ensures ∙ both (λ (i j : ℕ). centreDistance (spanIn own i) (spanIn own j)) (after-size .size .ensures .0) (c .before .size2 .ensures .0)
+    c .rank-distance .ensures ∙ both (λ (i j : ℕ). centreLength (spanIn own i) (spanIn own j)) (after-size .size .ensures .0) (c .before .size2 .ensures .0)
 
 pub gap-spec : {M : Type 1} → statement M
 gap-spec =
