@@ -15,15 +15,11 @@ use Rattle.order.proofs.Members.{getD-mem, mem-getD}
 use Rattle.order.proofs.Tests.{every-mem, mem-every}
 use Rattle.length.specs.Length.{lengthAt}
 use Rattle.length.specs.declared.Length.{Length}
-use Rattle.serial_sums.specs.Parts.{PartValue, PartsOf, TotalOfParts}
+use Rattle.serial_sums.specs.Parts.{PartsOf, TotalOfParts}
 use Rattle.serial_sums.specs.declared.Parts.{Parts}
-use Rattle.serial_sums.proofs.Numbers.{length-upward, length-fits}
 use Rattle.serial_sums.proofs.SumSteps.{firsts-up}
 use Rattle.probe.specs.Lengths.{lengthWords, noLength, onMap, lengthAnswer, totalAnswer, chainAnswer}
 use Rattle.probe.specs.declared.own_lengths.ProbeLength.{ProbeLength}
-
-pub length-part : (d : ℕ) {x : Length} → x ≡ lengthAt d → PartValue (x .value)
-length-part d e = subst (λ (y : Length). PartValue (y .value)) (sym e) (record { up = length-upward d; held = length-fits d })
 
 pub off-map : (d : ℕ) {r : ProbeLength} → 2 ^ 29 < d → r ≡ noLength → r ≡ lengthAnswer d
 off-map d h e = let k = lt-leb d (2 ^ 29) h in rw k e

@@ -1,12 +1,12 @@
 -- Distances and their sums are no NaNs.
 use mathlib.Core.List.{List, [], _∷_, map}
 use lib.Dec.{T}
-use lib.Ieee.{Float, binary64, fits}
+use lib.Ieee.{Float}
 use Rattle.length.specs.Floats.{_⊕_}
 use Rattle.position.specs.declared.Span.{Span}
 use Rattle.serial_sums.specs.Numbers.{Number, upward}
 use Rattle.serial_sums.specs.Sums.{addedTo, sumOf}
-use Rattle.serial_sums.proofs.Numbers.{upward-number, sum-upward, length-upward, length-fits}
+use Rattle.serial_sums.proofs.Numbers.{upward-number, sum-upward, length-upward}
 use Rattle.serial_links.specs.Geometry.{centreDistance, doubledCentre, squares}
 use Rattle.serial_links.specs.Sums.{distanceSum}
 
@@ -16,18 +16,11 @@ added-upward s x [] h = h
 added-upward s x (m ∷ ms) h = added-upward s (x ⊕ centreDistance s m) ms
     (sum-upward x (centreDistance s m) h (length-upward (squares (doubledCentre s) (doubledCentre m))))
 
--- what `no_later` asks of distances and of their sums
-pub distance-upward : (s t : Span) → T (upward (centreDistance s t))
+-- what `no_later` asks of a sum of distances
+distance-upward : (s t : Span) → T (upward (centreDistance s t))
 distance-upward s t = length-upward (squares (doubledCentre s) (doubledCentre t))
-
-pub distance-number : (s t : Span) → Number (centreDistance s t)
-distance-number s t = upward-number (centreDistance s t) (distance-upward s t)
 
 pub distance-sum-number : (s m : Span) (ms : List Span) → Number (distanceSum s (m ∷ ms))
 unfolding distanceSum sumOf
 distance-sum-number s m ms = upward-number (addedTo (centreDistance s m) (map (centreDistance s) ms))
     (added-upward s (centreDistance s m) ms (distance-upward s m))
-
--- a distance is an f64
-pub distance-fits : (s t : Span) → T (fits binary64 (centreDistance s t))
-distance-fits s t = length-fits (squares (doubledCentre s) (doubledCentre t))

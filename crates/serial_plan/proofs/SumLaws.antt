@@ -16,9 +16,10 @@ use Rattle.serial_sums.specs.Totals.{lengthValue, allExact, totalOf}
 use Rattle.serial_sums.specs.Parts.{PartValue, PartsOf, TotalOfParts}
 use Rattle.serial_sums.specs.declared.Parts.{Parts}
 use Rattle.serial_sums.proofs.SumSteps.{SummedLengths, lengths-end}
-use Rattle.serial_links.specs.Geometry.{centreLength}
+use Rattle.serial_sums.proofs.PartLaws.{length-part}
+use Rattle.serial_links.specs.Geometry.{squares, doubledCentre, centreLength}
 use Rattle.serial_links.specs.Sums.{distanceSum}
-use Rattle.serial_links.proofs.Numbers.{distance-upward, distance-fits, distance-sum-number}
+use Rattle.serial_links.proofs.Numbers.{distance-sum-number}
 use Rattle.serial_links.proofs.Marks.{distance-total-is}
 use Rattle.serial_plan.specs.declared.few.Few.{Few}
 use Rattle.serial_plan.specs.Few.{fewAt, fewList}
@@ -34,10 +35,7 @@ module _ (firsts seconds own : List ℕ) where
   gapAt f j = gap (fewAt f j)
 
   pub gap-value : (k : ℕ) {x : Length} → x ≡ gap k → PartValue (x .value)
-  gap-value k e =
-      let s = spanIn own (at firsts k) in
-      let t = spanIn own (at seconds k) in
-      subst (λ (y : Length). PartValue (y .value)) (sym e) (record { up = distance-upward s t; held = distance-fits s t })
+  gap-value k e = length-part (squares (doubledCentre (spanIn own (at firsts k))) (doubledCentre (spanIn own (at seconds k)))) e
 
   pub gaps-end : (f : Few) {p : Parts} {j : ℕ} → PartsOf p (map (gapAt f) (upFrom 0 j)) → j ≡ f .count → PartsOf p (map gap (fewList f))
   unfolding fewList

@@ -25,6 +25,7 @@ use Rattle.order.proofs.Numbers.{up-length, up-last}
 use Rattle.order.proofs.Sort.{sort-perm, sort-map, sort-ext}
 use Rattle.order.proofs.Tests.{every-last}
 use Rattle.sorting.specs.Between.{between}
+use Rattle.length.specs.Length.{lengthAt}
 use Rattle.length.specs.Total.{totalKey, totalLe}
 use Rattle.length.specs.declared.Length.{Length}
 use Rattle.serial_sums.specs.Numbers.{Number}
@@ -32,7 +33,11 @@ use Rattle.serial_sums.specs.Sums.{noLater, sumOf, ascendingSum, Pattern
 use Rattle.serial_sums.specs.Totals.{lengthValue, isExact, allExact, ascendingTotal}
 use Rattle.serial_sums.specs.Parts.{PartValue, valueBits, PartsOf, WithPart}
 use Rattle.serial_sums.specs.declared.Parts.{Parts}
-use Rattle.serial_sums.proofs.Numbers.{upward-number, upward-bits}
+use Rattle.serial_sums.proofs.Numbers.{upward-number, upward-bits, length-upward, length-fits}
+
+-- a length's value may be a part
+pub length-part : (d : ℕ) {x : Length} → x ≡ lengthAt d → PartValue (x .value)
+length-part d e = subst (λ (y : Length). PartValue (y .value)) (sym e) (record { up = length-upward d; held = length-fits d })
 
 pub part-number : {x : Float} → PartValue x → Number x
 part-number {x} p = upward-number x (p .up)

@@ -8,10 +8,10 @@ use Rattle.analysis.proofs.bridged.analyse.Tie as tie
 
 -- where the areas are parted, from where their number is compared; the start, from there
 abbrev parted : tie.After-slice-known8 → tie.After-partition-by-spans
-parted c = c .before .before .before .before .before .before .before .before
+parted c = search
 
 abbrev start-of : tie.After-partition-by-spans → tie.Start
-start-of c = c .before .before .before .before .before .before .before .before .before .before .before .before
+start-of c = search
 
 returns : tie.Need-returns
 returns c =

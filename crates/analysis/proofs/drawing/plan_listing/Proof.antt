@@ -9,7 +9,7 @@ use Rattle.analysis.proofs.drawing.plan_listing.Tie as tie
 
 -- what the function is given and asked: the places since only say that its slices have lengths
 abbrev start-of : tie.After-size → tie.Start
-start-of c = c .before .before .before .before .before .before .before .before .before
+start-of c = search
 
 mul-size : tie.Need-mul-size
 mul-size c =

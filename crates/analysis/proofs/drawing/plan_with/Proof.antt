@@ -10,14 +10,14 @@ use Rattle.analysis.proofs.drawing.plan_with.Tie as tie
 
 -- what the function is given and asked: the places since only say that its slices have lengths
 abbrev start-of : tie.After-size → tie.Start
-start-of c = c .before .before .before .before .before .before .before .before
+start-of c = search
 
 -- where both sizes are known, from where the areas are found; that place, from where their number is compared
 abbrev sized : tie.After-analyse → tie.After-size2
-sized c = c .before .before .before .before .before .before .before .before .before
+sized c = search
 
 abbrev analysed : tie.After-slice-known8 → tie.After-analyse
-analysed c = c .before .before .before .before .before .before .before .before
+analysed c = search
 
 mul-size : tie.Need-mul-size
 mul-size c =

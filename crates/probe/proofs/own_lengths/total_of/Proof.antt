@@ -5,8 +5,8 @@ use borrow.Author.Needs.{needs}
 use lib.ListN.{getD}
 use Rattle.order.specs.Lists.{upFrom}
 use Rattle.serial_sums.specs.Parts.{PartsOf}
-use Rattle.serial_sums.proofs.PartLaws.{parts-start, parts-count, parts-next}
-use Rattle.probe.proofs.LengthLaws.{lengthTerm, length-part, one-off-map, all-on-map, first-more}
+use Rattle.serial_sums.proofs.PartLaws.{length-part, parts-start, parts-count, parts-next}
+use Rattle.probe.proofs.LengthLaws.{lengthTerm, one-off-map, all-on-map, first-more}
 use Rattle.probe.proofs.own_lengths.total_of.Statement.{statement}
 use Rattle.probe.proofs.own_lengths.total_of.Tie as tie
 
