@@ -2,8 +2,7 @@
 use mathlib.Core.Path.{_≡_, refl, sym, _∙_, ap, subst}
 use mathlib.Core.Logic.{by-cases}
 use mathlib.Core.Bool.{Bool, true, false, cond, _&&_}
-use mathlib.Core.List.{List, [], _∷_, List·Memᴰ, List·Memᴰ·head, List·Memᴰ·tail, List·Memᴰ·not-nil, Memᴰ·cast, List·Permᴰ, List·Permᴰ·nil, List·Permᴰ·cons}
-use mathlib.Core.List.{List·Permᴰ·swap, List·Permᴰ·trans, Permᴰ·map}
+use mathlib.Core.List.{List, [], _∷_, List·Memᴰ, List·Memᴰ·head, List·Memᴰ·tail, List·Memᴰ·not-nil, Memᴰ·cast, List·Permᴰ, Permᴰ·map}
 use Prim.Native.Nat.{ℕ, _+_, _*_, _-_, _≤_, _<_}
 use native.Mathlib.Omega.{arith}
 use native.Mathlib.Nat.{mul-le-mul-right}
@@ -12,6 +11,7 @@ use lib.ListN.{length}
 use Rattle.order.specs.Lists.{upFrom, has}
 use Rattle.order.specs.Pairs.{none, more, Distinct}
 use Rattle.order.proofs.Bools.{by-test, and-parts, and-both}
+use Rattle.order.proofs.Members.{perm-length}
 use Rattle.order.proofs.Keep.{keep-mem, keep-pairs, keep-perm}
 use Rattle.order.proofs.Gather.{gather-mem, mem-gather, gather-pairs}
 use Rattle.order.proofs.Numbers.{up-mem, mem-up, up-strict, has-mem, mem-has}
@@ -37,12 +37,6 @@ use Rattle.areas.proofs.StripCells.{axis-on, minor-on, in-within, cut-in, cell-
 use Rattle.areas_assessments.specs.Visits.{isCutIn, cutIn, cutFrom, cutBeside, cutAlong}
 
 -- an assessment does not depend on the order of the steps
-perm-length : {A : Type 0} {l m : List A} → List·Permᴰ l m → length l ≡ length m
-perm-length List·Permᴰ·nil = refl
-perm-length (List·Permᴰ·cons e p) = omega (arith, perm-length p)
-perm-length (List·Permᴰ·swap e f) = refl
-perm-length (List·Permᴰ·trans p q) = perm-length p ∙ perm-length q
-
 pub assessment-perm : (ls : List ℕ) {es fs : List Edge} → List·Permᴰ es fs → assessment ls es ≡ assessment ls fs
 unfolding assessment
 assessment-perm ls p =

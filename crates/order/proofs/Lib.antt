@@ -18,3 +18,4 @@ pub mod Cases
 pub mod Merge
 pub mod Packed
 pub mod SortedFirst
+pub mod Swaps

@@ -17,6 +17,13 @@ module _ {A : Type 0} where
   perm-mem (List·Permᴰ·swap e f) (List·Memᴰ·tail (List·Memᴰ·tail h)) = List·Memᴰ·tail (List·Memᴰ·tail h)
   perm-mem (List·Permᴰ·trans p q) h = perm-mem q (perm-mem p h)
 
+  -- a permutation is as long as the list
+  pub perm-length : {l m : List A} → List·Permᴰ l m → length l ≡ length m
+  perm-length List·Permᴰ·nil = refl
+  perm-length (List·Permᴰ·cons e p) = omega (arith, perm-length p)
+  perm-length (List·Permᴰ·swap e f) = refl
+  perm-length (List·Permᴰ·trans p q) = perm-length p ∙ perm-length q
+
   -- a permutation has the members of the list
   pub perm-members : {l m : List A} → List·Permᴰ l m → SameMembers l m
   perm-members p y = (λ h. perm-mem p h, λ h. perm-mem (Permᴰ·symm p) h)
