@@ -3,10 +3,10 @@ use mathlib.Core.Path.{_≡_, refl, sym, _∙_, ap, subst}
 use mathlib.Core.Bool.{Bool, true, cond}
 use mathlib.Core.List.{List}
 use mathlib.Core.Option.{none}
-use Prim.Native.Nat.{ℕ, _+_, _*_, _-_, _/_, _≤_, _<_}
+use Prim.Native.Nat.{ℕ, _+_, _*_, _-_, _/_, _≤_}
 use native.Mathlib.Omega.{arith}
 use borrow.Author.Tests.{ne-eqb}
-use lib.ListN.{length, getD, take, drop}
+use lib.ListN.{length, take, drop}
 use Rattle.areas.specs.Words.{labelled}
 use Rattle.position.specs.declared.Span.{Span}
 use Rattle.format.specs.Sizes.{boundarySize, spanSize}
@@ -21,6 +21,7 @@ use Rattle.areas.specs.Assessments.{records}
 use Rattle.context.specs.Anchors.{anchorsOf}
 use Rattle.serial_groups.specs.Plan.{mergePlan}
 use Rattle.serial_links.specs.Limits.{Limits}
+use Rattle.serial_candidates.specs.Owners.{Stored}
 use Rattle.serial_ranks.specs.Tables.{Records, SpansOf, Identity}
 use Rattle.checks.specs.Checks.{firstRefusal}
 use Rattle.checks_calls.specs.Refusals.{reduceChecks, byListChecks}
@@ -29,9 +30,10 @@ use Rattle.areas_partition.specs.declared.Partition.{Partition}
 use Rattle.results.specs.Rules.{gridOf, listingOf}
 use Rattle.results.specs.Results.{workSize, maxPairs, ownEnds}
 use Rattle.analysis.specs.Bridging.{Bridged, MarkedWithin}
-use Rattle.analysis.specs.Plans.{planOf, Leads, Headed, RankedJob, Plannable, EndsBy, SomeEnds, PartitionTables, SomeTold, DrawnWithin, Drawn}
+use Rattle.analysis.specs.Plans.{planOf, RankedBy, Leads, Headed, RankedJob, EndsBy, SomeEnds, SomeTold, TabledWithin, Drawn}
+use Rattle.analysis.proofs.Within.{parted-few}
 use Rattle.analysis.proofs.Ranked.{ByRank}
-use Rattle.analysis.proofs.Checked.{boundariesAt, Checked, ListChecked, checked, by-list-checked}
+use Rattle.analysis.proofs.Checked.{boundariesAt, ListChecked, checked, by-list-checked}
 use Rattle.analysis.proofs.RankedTables.{order-in, own-ends-ranked, list-ends-ranked, own-ends-fit, list-ends-fit, own-matched, list-matched}
 use Rattle.analysis.proofs.RankedTables.{list-records, labels-listed, records-listed}
 use Rattle.analysis.proofs.Headed.{headed-checked, headed-laid, headed-cells, counts-are, count-is, start-is}
@@ -51,57 +53,45 @@ module _ {s : List ℕ} {h : Header} (d : Headed s h) (n : ℕ) (e : n ≡ h .co
   cells-few = omega (arith, ap length (map-cells (d .header) (headed-laid d) n e), map-long (d .header) (headed-laid d) n e, headed-cells d)
 
 -- as many spans as boundaries
-module _ {s : List ℕ} {h : Header} {order before : List ℕ} (p : Plannable s h order before) (n : ℕ) (e : n ≡ h .counts .width * h .counts .height) (count : ℕ)
-    (f : count ≡ h .counts .boundaries) where
-  abbrev d : Headed s h
-  d = p .job .headed
+module _ {s : List ℕ} {h : Header} (d : Headed s h) (n : ℕ) (e : n ≡ h .counts .width * h .counts .height) (count : ℕ) (f : count ≡ h .counts .boundaries) where
+  pub matched-partitionable : {directions : ℕ} → Leads directions → {ends work : List ℕ}
+      → SpansFit (h .counts .width) (h .counts .height) ends (h .counts .boundaries) → workSize (decode s) ≤ length work
+      → Partitionable (h .counts .width) (h .counts .height) (take (48 + n - 48) (drop 48 s)) directions ends count work
+  matched-partitionable k t room =
+      map-partitionable (d .header) (headed-laid d) n e k (rw f t) (omega (arith, f, headed-laid d .within .boundaries)) room
 
-  c : Checked (p .job .headed .distinct) s
-  c = headed-checked (p .job .headed)
-
-  pub matched-partitionable : {directions : ℕ} → Leads directions → {ends : List ℕ}
-      → SpansFit (h .counts .width) (h .counts .height) ends (h .counts .boundaries)
-      → Partitionable (h .counts .width) (h .counts .height) (take (48 + n - 48) (drop 48 s)) directions ends count before
-  matched-partitionable k {ends} t =
-      map-partitionable (d .header) (headed-laid d) n e k (rw f t) (omega (arith, f, headed-laid d .within .boundaries)) (p .room)
-
-  module _ {dirs : List ℕ} {most : ℕ} {ends after removed separated owners lefts rights : List ℕ} {q : Partition}
+  module _ {dirs : List ℕ} {most : ℕ} {ends before after removed separated owners lefts rights marks : List ℕ} {q : Partition}
       (r : Partitioned most dirs (mapOf (h .counts .width) (h .counts .height) (take (48 + n - 48) (drop 48 s))) ends count before after removed separated
-      owners lefts rights q) where
+      owners lefts rights q)
+      (b : Bridged most dirs (mapOf (h .counts .width) (h .counts .height) (take (48 + n - 48) (drop 48 s))) (spansIn ends count) marks)
+      (small : most ≤ 4096) where
     standard : Partitioned most dirs (gridOf (decode s)) ends (countsAt s 0 .boundaries) before after removed separated owners lefts rights q
     standard = on-job d n e (λ g k. Partitioned most dirs g ends k before after removed separated owners lefts rights q) (f ∙ count-is d) r
 
-    -- over `most`
-    pub matched-many : (limits : Limits) (plan : List ℕ) → most < q .pairs → (ss : List Span) → EndsBy s order ends ss
-        → DrawnWithin limits dirs most (decode s) ss before after plan (q .pairs)
-    matched-many limits plan l ss m = record {
-      work-is = told-work c (plan-ranks (p .job)) m standard;
-      over = told-over c (plan-ranks (p .job)) m standard;
-      pairs-are = told-pairs c (plan-ranks (p .job)) m standard;
-      told = λ few. absurd (omega (arith, told-few c (plan-ranks (p .job)) m standard few));
-    }
+    marked : Bridged most dirs (gridOf (decode s)) (spansIn ends (countsAt s 0 .boundaries)) marks
+    marked = on-job d n e (λ g k. Bridged most dirs g (spansIn ends k) marks) (f ∙ count-is d) b
 
-    module _ (small : most ≤ 4096) {marks : List ℕ}
-        (b : Bridged most dirs (mapOf (h .counts .width) (h .counts .height) (take (48 + n - 48) (drop 48 s))) (spansIn ends count) marks)
-        (l : q .pairs ≤ most) where
-      matched-told : (ss : List Span) → EndsBy s order ends ss → PartitionTables dirs s after removed separated owners lefts rights (q .pairs) marks ss
-      matched-told ss m = told c (plan-ranks (p .job)) m standard (cells-few d n e) small l
-          (on-job d n e (λ g k. Bridged most dirs g (spansIn ends k) marks) (f ∙ count-is d) b)
+    pub matched-tabled : (order : List ℕ) (ss : List Span) → RankedBy (decode s) order → EndsBy s order ends ss
+        → TabledWithin dirs most s ss before after removed separated owners lefts rights marks (q .pairs)
+    matched-tabled order ss ranks m =
+        let c = headed-checked d in
+        let k : ByRank (decode s .boundaries) order = record { each = ranks } in
+        record {
+          work-is = told-work c k m standard;
+          over = told-over c k m standard;
+          pairs-are = told-pairs c k m standard;
+          told = λ few. told c k m standard (cells-few d n e) small (told-few c k m standard few) marked;
+        }
 
-      pub some-told : SomeEnds s order ends → SomeTold s after removed separated owners lefts rights (q .pairs) marks
-      some-told m = record { dirs = dirs; spans = m .spans; are = matched-told (m .spans) (m .are) }
+-- what planning asks of the tables
+pub some-told : {s order ends dirs : List ℕ} {most : ℕ} {before work removed separated owners lefts rights marks : List ℕ} {pairs : ℕ} → pairs ≤ most
+    → ((ss : List Span) → EndsBy s order ends ss → TabledWithin dirs most s ss before work removed separated owners lefts rights marks pairs)
+    → SomeEnds s order ends → SomeTold s work removed separated owners lefts rights pairs marks
+some-told {dirs = dirs} l y m = let t = y (m .spans) (m .are) in record { dirs = dirs; spans = m .spans; are = t .told (parted-few t l) }
 
-      pub matched-drawn : (limits : Limits) {work : List ℕ} (plan : List ℕ) → work ≡ after
-          → ((ss : List Span) → PartitionTables dirs s after removed separated owners lefts rights (q .pairs) marks ss → (i : ℕ)
-          → i < length (decode s .boundaries)
-          → getD plan i 0 ≡ planOf limits dirs (decode s) ss i)
-          → (ss : List Span) → EndsBy s order ends ss → DrawnWithin limits dirs most (decode s) ss before work plan (q .pairs)
-      matched-drawn limits plan w t ss m = record {
-        work-is = w ∙ told-work c (plan-ranks (p .job)) m standard;
-        over = told-over c (plan-ranks (p .job)) m standard;
-        pairs-are = told-pairs c (plan-ranks (p .job)) m standard;
-        told = λ few. t ss (matched-told ss m);
-      }
+pub stored : {owners lefts rights : List ℕ} {most pairs : ℕ} → pairs ≤ most → most ≤ 4096 → length owners ≡ most → length lefts ≡ most → length rights ≡ most
+    → Stored owners lefts rights pairs
+stored l f a b c = record { few = omega arith; in-owners = omega arith; in-lefts = omega arith; in-rights = omega arith }
 
 -- the boundaries' own ends
 module _ {s : List ℕ} {h : Header} {order : List ℕ} (p : RankedJob s h order) (at n : ℕ) (a : at ≡ h .offsets .boundaries) (e : n ≡ h .counts .boundaries)

@@ -1,5 +1,5 @@
 -- A partition with room for few region pairs, and one after it with room for more.
-use mathlib.Core.Path.{_∙_, ap}
+use mathlib.Core.Path.{_≡_, _∙_, ap}
 use mathlib.Core.Logic.{by-cases}
 use mathlib.Core.List.{List}
 use Prim.Native.Nat.{ℕ, _≤_, _<_}
@@ -18,6 +18,14 @@ module _ {most : ℕ} {ls : List ℕ} {rs : List Record} {Told : Type 0} {before
 
   pub parted-few : pairs ≤ most → length rs ≤ most
   parted-few h = by-cases (decLt most (length rs)) (λ l. let z = y .over l in absurd (omega arith)) (λ l. omega arith)
+
+  -- nothing is told where they are over `most`
+  pub parted-over : {Then : Type 0} → most < pairs → PartedWithin most ls rs Then before work pairs
+  parted-over h = record { work-is = y .work-is; over = y .over; pairs-are = y .pairs-are; told = λ few. absurd (omega (arith, y .pairs-are few)) }
+
+  -- what follows from what is told, the work being as it was
+  pub parted-then : {Then : Type 0} {after : List ℕ} → after ≡ work → (Told → Then) → PartedWithin most ls rs Then before after pairs
+  parted-then e f = record { work-is = e ∙ y .work-is; over = y .over; pairs-are = y .pairs-are; told = λ few. f (y .told few) }
 
   -- more room would not have been used
   pub parted-wider : {more : ℕ} → most ≤ more → pairs ≤ most → PartedWithin more ls rs Told before work pairs

@@ -10,7 +10,6 @@ use Rattle.grid.specs.Cells.{Grid}
 use Rattle.areas.specs.Areas.{areaLabels, areaCount}
 use Rattle.areas.specs.Assessments.{records}
 use Rattle.serial_walk.specs.Marks.{bridgeMarks}
-use Rattle.results.specs.Results.{maxPairs}
 
 -- the region pairs that a small map is first parted with room for
 abbrev pub fewPairs : ℕ
@@ -19,12 +18,6 @@ fewPairs = 64
 -- the marks of the boundaries, where the pairs are at most `most`
 abbrev pub Bridged : ℕ → List ℕ → Grid → List Span → List ℕ → Type 0
 Bridged most dirs g ss marks = length (records dirs g ss) ≤ most → marks ≡ bridgeMarks (records dirs g ss) 256
-
--- three arrays of one length, at most as many as the pairs that a call takes
-pub record PairArrays (owners lefts rights : List ℕ) : Type 0 where
-  pub owners-are : length owners ≡ length lefts
-  pub rights-are : length rights ≡ length lefts
-  pub few : length lefts ≤ maxPairs
 
 -- the work has the labels ls, and pairs is the number of the region pairs rs, or one more than `most` where they are over it; where they are not, Told holds
 pub record PartedWithin (most : ℕ) (ls : List ℕ) (rs : List Record) (Told : Type 0) (before work : List ℕ) (pairs : ℕ) : Type 0 where

@@ -109,7 +109,13 @@ pub record SomeTold (s work removed separated owners lefts rights : List ℕ) (p
   pub spans : List Span
   pub are : PartitionTables dirs s work removed separated owners lefts rights pairs marks spans
 
--- a job partitioned by the spans with room for `most` region pairs: the work, their number (one more than `most` where they are over it), and the plan
+-- a job partitioned by the spans with room for `most` region pairs: the work, their number (one more than `most` where they are over it), and the tables
+abbrev pub TabledWithin : List ℕ → ℕ → List ℕ → List Span → List ℕ → List ℕ → List ℕ → List ℕ → List ℕ → List ℕ → List ℕ → List ℕ → ℕ → Type 0
+TabledWithin dirs most s ss before work removed separated owners lefts rights marks pairs =
+    PartedWithin most (labelsOf dirs (decode s) ss) (records dirs (gridOf (decode s)) ss)
+    (PartitionTables dirs s work removed separated owners lefts rights pairs marks ss) before work pairs
+
+-- the same, with the plan in place of the tables
 abbrev pub DrawnWithin : Limits → List ℕ → ℕ → Job → List Span → List ℕ → List ℕ → List ℕ → ℕ → Type 0
 DrawnWithin limits dirs most j ss before work plan pairs =
     PartedWithin most (labelsOf dirs j ss) (records dirs (gridOf j) ss) ((i : ℕ) → i < length (j .boundaries) → getD plan i 0 ≡ planOf limits dirs j ss i)

@@ -9,17 +9,16 @@ ghost use Rattle.format.specs.Sizes.{spanSize};
 ghost use Rattle.format.specs.Decode.{decode, decodeList};
 ghost use Rattle.grid.specs.Directions.{directionsOf};
 ghost use Rattle.areas.specs.Spans.{SpansFit};
+ghost use Rattle.areas_assessments.specs.Recording.{Arrays};
 ghost use Rattle.serial_links.specs.Limits as rules;
 ghost use Rattle.serial_links.specs.HeldLimits.{limitsOf};
 ghost use Rattle.serial_candidates.specs.Owners.{Stored};
 ghost use Rattle.checks.specs.Checks.{firstRefusal};
 ghost use Rattle.checks_calls.specs.Refusals.{reduceChecks, byListChecks};
 ghost use Rattle.results.specs.Results.{workSize, ownEnds};
-ghost use Rattle.analysis.specs.Bridging.{fewPairs, PairArrays};
+ghost use Rattle.analysis.specs.Bridging.{fewPairs};
 ghost use Rattle.analysis.specs.Plans.{RankTables, planOf, Leads, RankedBy, Headed, OwnEnds, RankedJob, Plannable, EndsBy, SomeEnds, PartitionTables};
-ghost use Rattle.analysis.specs.Plans.{SomeTold};
-ghost use Rattle.analysis.specs.Plans.{DrawnWithin};
-ghost use Rattle.analysis.specs.Plans.{Drawn};
+ghost use Rattle.analysis.specs.Plans.{SomeTold, TabledWithin, DrawnWithin, Drawn};
 use crate::bridged::FEW_PAIRS;
 use crate::bridged::MAX_PAIRS;
 use crate::bridged::analyse;
@@ -147,35 +146,31 @@ fn plan_listing(
     );
 }
 
-// Partitions a job by as many spans as it has boundaries, by rank, and plans its merges where the arrays have room for the region pairs; gives their number.
-fn plan_with(
-    limits: Limits,
+// Partitions a job by as many spans as it has boundaries, by rank, and marks bridges where the arrays have room for the region pairs; gives their number.
+fn part_by_rank(
     directions: u32,
     job: &[u8],
     h: Header,
     ends: &[u32; 1024],
-    order: &[u32; 256],
     work: &mut [u8],
+    removed: &mut [u32; 256],
+    separated: &mut [u32; 256],
     owners: &mut [u32],
     lefts: &mut [u32],
     rights: &mut [u32],
-    plan: &mut [u32; 256],
+    marks: &mut [u8; 256],
 ) -> usize
-    requires { ⌜ Plannable (now job) h (now order) (now work) × SpansFit (h .counts .width) (h .counts .height) (now ends) (h .counts .boundaries)
-        × SomeEnds (now job) (now order) (now ends) × PairArrays (now owners) (now lefts) (now rights) × (length (now plan) ≡ 256) × (limits .«most_spans» ≤ 16)
-        × Leads directions ⌝ }
-    ensures { λ r. ⌜ ((ss : List Span) → EndsBy (now (job .entry)) (now (order .entry)) (now (ends .entry)) ss
-        → DrawnWithin (limitsOf limits) (directionsOf directions) (length (now (lefts .entry))) (decode (now (job .entry))) ss (now (work .entry))
-        (now (work .exit)) (now (plan .exit)) r) ⌝ }
-    ensures whole { λ _. ⌜ length (now (plan .exit)) ≡ 256 ⌝ }
+    requires { ⌜ Headed (now job) h × (workSize (decode (now job)) ≤ length (now work))
+        × SpansFit (h .counts .width) (h .counts .height) (now ends) (h .counts .boundaries)
+        × Arrays (length (now lefts)) (now removed) (now separated) (now owners) (now lefts) (now rights) × Leads directions ⌝ }
+    ensures { λ r. ⌜ ((order : List ℕ) (ss : List Span) → RankedBy (decode (now (job .entry))) order
+        → EndsBy (now (job .entry)) order (now (ends .entry)) ss
+        → TabledWithin (directionsOf directions) (length (now (lefts .entry))) (now (job .entry)) ss (now (work .entry)) (now (work .exit))
+        (now (removed .exit)) (now (separated .exit)) (now (owners .exit)) (now (lefts .exit)) (now (rights .exit)) (now (marks .exit)) r) ⌝ }
 {
     let c = h.counts;
     let n = size(c.width * c.height);
     let count = size(c.boundaries);
-    let most = lefts.len();
-    let mut removed = [0u32; 256];
-    let mut separated = [0u32; 256];
-    let mut marks = [0u8; 256];
     let p = analyse(
         &job[HEADER_SIZE..HEADER_SIZE + n],
         c.width,
@@ -184,36 +179,17 @@ fn plan_with(
         ends,
         count,
         work,
-        &mut removed,
-        &mut separated,
+        removed,
+        separated,
         owners,
         lefts,
         rights,
-        &mut marks,
+        marks,
     );
-    let pairs = p.pairs;
-    if most < pairs {
-        return pairs;
-    }
-    plan_listing(
-        limits,
-        job,
-        h,
-        order,
-        work,
-        &removed,
-        &separated,
-        owners,
-        lefts,
-        rights,
-        pairs,
-        &marks,
-        plan,
-    );
-    pairs
+    p.pairs
 }
 
-// The same, with room for few region pairs.
+// Partitions a job with room for few region pairs, and plans its merges where they are no more; gives their number.
 fn plan_few(
     limits: Limits,
     directions: u32,
@@ -231,22 +207,44 @@ fn plan_few(
         (now (plan .exit)) r) ⌝ }
     ensures whole { λ _. ⌜ length (now (plan .exit)) ≡ 256 ⌝ }
 {
+    let mut removed = [0u32; 256];
+    let mut separated = [0u32; 256];
     let mut owners = [0u32; FEW_PAIRS];
     let mut lefts = [0u32; FEW_PAIRS];
     let mut rights = [0u32; FEW_PAIRS];
-    plan_with(
-        limits,
+    let mut marks = [0u8; 256];
+    let pairs = part_by_rank(
         directions,
         job,
         h,
         ends,
-        order,
         work,
+        &mut removed,
+        &mut separated,
         &mut owners,
         &mut lefts,
         &mut rights,
+        &mut marks,
+    );
+    if FEW_PAIRS < pairs {
+        return pairs;
+    }
+    plan_listing(
+        limits,
+        job,
+        h,
+        order,
+        work,
+        &removed,
+        &separated,
+        &owners,
+        &lefts,
+        &rights,
+        pairs,
+        &marks,
         plan,
-    )
+    );
+    pairs
 }
 
 // The same, with room for as many as a call takes.
@@ -266,22 +264,44 @@ fn plan_many(
         → Drawn (limitsOf limits) (directionsOf directions) (decode (now (job .entry))) ss (now (work .entry)) (now (work .exit)) (now (plan .exit))
         r) ⌝ }
 {
+    let mut removed = [0u32; 256];
+    let mut separated = [0u32; 256];
     let mut owners = [0u32; MAX_PAIRS];
     let mut lefts = [0u32; MAX_PAIRS];
     let mut rights = [0u32; MAX_PAIRS];
-    plan_with(
-        limits,
+    let mut marks = [0u8; 256];
+    let pairs = part_by_rank(
         directions,
         job,
         h,
         ends,
-        order,
         work,
+        &mut removed,
+        &mut separated,
         &mut owners,
         &mut lefts,
         &mut rights,
+        &mut marks,
+    );
+    if MAX_PAIRS < pairs {
+        return pairs;
+    }
+    plan_listing(
+        limits,
+        job,
+        h,
+        order,
+        work,
+        &removed,
+        &separated,
+        &owners,
+        &lefts,
+        &rights,
+        pairs,
+        &marks,
         plan,
-    )
+    );
+    pairs
 }
 
 // The same, with as much room as the region pairs take.
