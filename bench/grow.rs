@@ -104,6 +104,15 @@ pub fn deepest() -> Draft {
     draft
 }
 
+/// The same of an observation.
+pub fn deepest_observed() -> Draft {
+    let mut draft = deepest();
+    let sources = std::mem::take(&mut draft.boundaries[0].sources);
+    draft.boundaries[0].observations = 1;
+    draft.observations = vec![Observation { ends: [8; 4], bits: 0, sources }];
+    draft
+}
+
 /// Observations of one boundary in an order, with as many sources each.
 fn observations(side: u32, count: usize, order: Order, each: u32) -> Draft {
     let mut rng = Rng::new(23);

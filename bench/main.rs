@@ -1,9 +1,10 @@
 //! Times the proved library and the real Rust on the same inputs, and measures the library's stack.
 //!
-//!     bench [quick | grow]
+//!     bench [quick | grow | own | stack]
 //!
 //! `quick` leaves out the largest maps, and `grow` all but the families that grow, which are also
-//! plotted to docs/benchmark.svg. Times are in milliseconds, the least of several runs. Of a whole call the Rust's time begins with
+//! plotted to docs/benchmark.svg; `own` is the rows of own sources alone, `stack` the stack.
+//! Times are in milliseconds, the least of several runs. Of a whole call the Rust's time begins with
 //! the job's bytes and ends with the answer's, as the library's does; of a partition it is that of
 //! `partition_by_spans` alone, where the library checks the job besides; of area cards that of
 //! `partition_by_spans` and `PartitionContext::new`, where the library checks the job and writes bytes.
@@ -21,11 +22,16 @@ mod draft;
 #[allow(dead_code)]
 mod expect;
 mod grow;
+#[path = "../tests/driver/heads.rs"]
+#[allow(dead_code)]
+mod heads;
 #[path = "../tests/driver/maps.rs"]
 #[allow(dead_code)]
 mod maps;
 #[path = "../tests/driver/orders.rs"]
+#[allow(dead_code)]
 mod orders;
+mod own;
 mod plot;
 #[path = "../tests/driver/rng.rs"]
 #[allow(dead_code)]
@@ -33,6 +39,9 @@ mod rng;
 #[path = "../tests/driver/rust.rs"]
 #[allow(dead_code)]
 mod rust;
+#[path = "../tests/driver/splits.rs"]
+#[allow(dead_code)]
+mod splits;
 mod stack;
 
 use checks::{Refusal, BY_LIST, CALLS, CARDS, MARK, REDUCE};
@@ -210,11 +219,35 @@ fn cards(what: &str, draft: &Draft) {
     row(&format!("{what}, areas: {areas}"), rust, library);
 }
 
+/// That both sides give the same number for a call, and the same answer.
+fn agree(call: u32, what: &str, lent: &mut Lent) {
+    let expected = Expected::of(call, &lent.input.job, &lent.input.list);
+    let left = expected.left(&lent.work, &lent.out);
+    assert!(lent.call(call) == left.result, "the two sides agree on {what}");
+    assert!(lent.out == left.out, "the two sides write the same of {what}");
+}
+
+/// The times of Reduce on some jobs, of which each run takes the next; the two sides in turn.
+fn timed_in_turn(what: &str, lent: &mut [Lent]) -> (f64, f64) {
+    lent.iter_mut().for_each(|lent| agree(REDUCE, what, lent));
+    let (mut rust, mut library) = (f64::INFINITY, f64::INFINITY);
+    let (count, mut turns) = (lent.len(), [0, 0]);
+    for _ in 0..ROUNDS {
+        rust = rust.min(least(|| {
+            turns[0] += 1;
+            drop(black_box(by_rust(REDUCE, &lent[turns[0] % count].input)));
+        }));
+        library = library.min(least(|| {
+            turns[1] += 1;
+            black_box(lent[turns[1] % count].call(REDUCE));
+        }));
+    }
+    (rust, library)
+}
+
 /// The times of a whole call from bytes to bytes, the two sides in turn.
 fn timed(call: u32, what: &str, lent: &mut Lent) -> (f64, f64) {
-    let expected = Expected::of(call, &lent.input.job, &lent.input.list);
-    let number = expected.left(&lent.work, &lent.out).result.0;
-    assert!(lent.call(call).0 == number, "the two sides agree on {what}");
+    agree(call, what, lent);
     let (mut rust, mut library) = (f64::INFINITY, f64::INFINITY);
     for _ in 0..ROUNDS {
         rust = rust.min(least(|| drop(black_box(by_rust(call, &lent.input)))));
@@ -306,6 +339,11 @@ fn stacks() {
         ("4,096 region pairs", maps::many_pairs(4096, &mut rng)),
         ("64 × 64, 4 boundaries", job(64, Shape::Noise, 4, 8)),
         ("1,000 sources of one boundary that are spread eight times", grow::deepest()),
+        ("1,000 sources of one observation that are spread eight times", grow::deepest_observed()),
+        (
+            "4,096 own sources in the worst order for the splits",
+            own::of_one(4096, orders::Listing::Worst, &mut rng),
+        ),
     ];
     for (what, draft) in &jobs {
         for call in CALLS {
@@ -324,6 +362,7 @@ fn growing() {
     let families = grow::families();
     grow::print(&families);
     grow::sorts();
+    own::rows();
     std::fs::write("docs/benchmark.svg", plot::svg(&families)).expect("docs can be written");
 }
 
@@ -334,6 +373,9 @@ fn main() {
     }
     if std::env::args().any(|argument| argument == "stack") {
         return stacks();
+    }
+    if std::env::args().any(|argument| argument == "own") {
+        return own::rows();
     }
     let sides: &[u32] = if quick { &[64, 256] } else { &[64, 256, 1024] };
     let largest = sides[sides.len() - 1];

@@ -1,5 +1,5 @@
-/* Calls the static library from C: document 01's corridor, refusals of each kind of slice, slices that are
- * empty and have no start, slices that are not aligned, and a job of too many region pairs. */
+/* Calls the static library from C: document 01's corridor, refusals of each kind of slice, own sources that are to be
+ * sorted, slices that are empty and have no start, slices that are not aligned, and a job of too many region pairs. */
 #include "chokes.h"
 
 #include <stdio.h>
@@ -153,6 +153,51 @@ static void area_cards(void)
     expect("cards, a bad cell", chokes_area_cards(job, sizeof job, work, enough, cards, 0), CHOKES_BAD_CELL, 1);
     expect_bytes("refusals leave work as it is", work, before, sizeof work);
     expect_bytes("and the cards", cards, untouched, sizeof cards);
+}
+
+/* Two boundaries that are merged, with own sources out of order and doubles within each and over both; the first has an
+ * observation and the second stands as one. The answer is sorted in slices of just its length and of more, and a slice
+ * that is a byte short stays as it is. */
+static void own_sources(void)
+{
+    enum { JOB = 248, ANSWER = 192 };
+    static const uint32_t header[12] = {4, 1, 0, 2, 1, 11, 48, 52, 52, 132, 160, JOB};
+    static const uint32_t records[27] = {8,  0, 8,  8, 0, 0x40200000, 5, 1, 0, 0,
+                                         16, 0, 16, 8, 0, 0x40200000, 3, 0, 0, 0,
+                                         0,  0, 8,  8, 0, 0x40200000, 3};
+    static const uint32_t sources[22] = {5, 1, UINT32_MAX, 0, 1, 2, 5, 1, 0, UINT32_MAX,
+                                         9, 9, 3, 3, 9, 9, 1, 2, 5, 0, 1, 2};
+    static const uint32_t words[ANSWER / 4] = {
+        1,  2, 9,  64, 120, ANSWER,
+        8,  0, 8,  8,  0,   0x40200000, 5, 2, 0, 0,
+        0,  0, 8,  8,  0,   0x40200000, 2,
+        16, 0, 16, 8,  0,   0x40200000, 2,
+        0,  UINT32_MAX, 1, 2, 5, 0, 5, 1, UINT32_MAX, 0, 3, 3, 9, 9, 1, 2, 5, 0};
+    static const size_t lengths[3] = {ANSWER - 1, ANSWER, ANSWER + 16};
+    const size_t enough = CHOKES_WORK_BYTES(CELLS, 1);
+    uint8_t job[JOB], list[2 * CHOKES_SPAN_BYTES], work[CHOKES_WORK_BYTES(CELLS, 1)];
+    uint8_t answer[ANSWER + 24], untouched[ANSWER + 24], expected[ANSWER + 24];
+    size_t i;
+
+    put_words(job, 0, header, 12);
+    memset(job + 48, 1, CELLS);
+    put_words(job, 52, records, 27);
+    put_words(job, 160, sources, 22);
+    put_words(list, 0, records, 4);
+    put_words(list, CHOKES_SPAN_BYTES, records + 10, 4);
+    memset(untouched, 0xA5, sizeof untouched);
+    memset(expected, 0xA5, sizeof expected);
+    put_words(expected, 0, words, ANSWER / 4);
+    for (i = 0; i < 6; i++) {
+        const size_t length = lengths[i / 2];
+        const int fits = length >= ANSWER;
+        struct chokes_result said;
+        memset(answer, 0xA5, sizeof answer);
+        said = i % 2 == 0 ? chokes_reduce(job, sizeof job, work, enough, answer, length)
+                          : chokes_reduce_by_list(job, sizeof job, list, sizeof list, work, enough, answer, length);
+        expect("own sources", said, fits ? CHOKES_OK : CHOKES_ANSWER_TOO_SHORT, ANSWER);
+        expect_bytes("own sources in the answer", answer, fits ? expected : untouched, sizeof answer);
+    }
 }
 
 /* Every slice may be NULL with length 0. */
@@ -402,6 +447,7 @@ int main(void)
     expect_bytes("and the answer", answer, expected, sizeof expected);
 
     area_cards();
+    own_sources();
     without_start();
     not_aligned();
     too_many_pairs();

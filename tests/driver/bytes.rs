@@ -95,6 +95,7 @@ pub fn write(least: u64, seed: u64, wanted: Option<u64>) -> ! {
     families::limits(&mut run);
     families::sizes(&mut run);
     families::sorts(&mut run);
+    families::own_sources(&mut run);
     while calls() < least {
         done = families::round(&mut run, done);
     }

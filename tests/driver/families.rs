@@ -9,7 +9,7 @@ use crate::orders::{numbers, Order, ORDERS};
 use crate::rng::Rng;
 use crate::run::Run;
 use crate::tally::Tally;
-use crate::{cards, corridors, merging, partition, records, regions, slanted, whole};
+use crate::{cards, corridors, merging, own, partition, records, regions, slanted, sorting, whole};
 
 /// How many cases of a family are run in a round, and what one is.
 struct Family {
@@ -17,9 +17,10 @@ struct Family {
     case: fn(&mut Run, &mut Rng),
 }
 
-pub const NAMES: [&str; 6] = ["damaged", "maps", "records", "corridors", "slanted", "cards"];
+pub const NAMES: [&str; 8] =
+    ["damaged", "maps", "records", "corridors", "slanted", "cards", "own-orders", "one-head"];
 
-const FAMILIES: [Family; 6] = [
+const FAMILIES: [Family; 8] = [
     // Damaged inputs.
     Family { share: 80, case: |run, rng| run.draft(&damaged(rng), rng, compare) },
     // Maps and spans of many shapes.
@@ -32,6 +33,10 @@ const FAMILIES: [Family; 6] = [
     Family { share: 4, case: |run, rng| run.draft(&slanted::random(rng), rng, slanted::compare) },
     // Ramps and elevations of areas.
     Family { share: 4, case: |run, rng| run.draft(&cards::random(rng), rng, cards::compare) },
+    // Own sources in many orders, with doubles.
+    Family { share: 8, case: |run, rng| run.draft(&own::random(rng), rng, sorting::compare) },
+    // Own sources of one head of the library's table.
+    Family { share: 4, case: |run, rng| run.draft(&own::one_head(rng), rng, sorting::compare) },
 ];
 
 /// Runs a case by its number, where it is of these families.
@@ -180,6 +185,15 @@ pub fn sorts(run: &mut Run) {
             draft.sources = (0..count as u32 * each).map(|_| [0, rng.within(0, 2)]).collect();
             run.draft(&draft, &mut rng, merging::compare);
         }
+    }
+}
+
+/// Own sources of one boundary and of four that are merged, in every order and in numbers about each limit.
+pub fn own_sources(run: &mut Run) {
+    for (listing, count, members) in own::each() {
+        let mut rng = run.next_case();
+        let draft = own::one(listing, count, members, &mut rng);
+        run.draft(&draft, &mut rng, sorting::compare);
     }
 }
 

@@ -11,7 +11,7 @@
 //!     driver record FILE SEED
 //!
 //! `random` is the random cases alone; `family` those of one family: damaged, maps, records,
-//! corridors, slanted or cards. `heap` is random cases with every slice an allocation of its own and of
+//! corridors, slanted, cards, own-orders or one-head. `heap` is random cases with every slice an allocation of its own and of
 //! just its length, for valgrind.
 //! `lengths` is the lengths and totals alone, with so many random ones (lengths.rs); `bytes` writes what so many calls
 //! leave to standard output, compared with nothing, and with BYTE says which call left that byte (bytes.rs).
@@ -33,6 +33,7 @@ mod draft;
 mod exhaustive;
 mod expect;
 mod families;
+mod heads;
 mod known;
 mod lengths;
 mod lent;
@@ -41,6 +42,7 @@ mod measures;
 mod memory;
 mod merging;
 mod orders;
+mod own;
 mod partition;
 mod record;
 mod records;
@@ -51,6 +53,8 @@ mod rust;
 mod shrink;
 mod slanted;
 mod smoke;
+mod sorting;
+mod splits;
 mod tally;
 mod values;
 mod whole;
@@ -67,6 +71,8 @@ const QUICK_CASES: u64 = 100_000;
 const LONG_SEED: u64 = 2;
 /// So many slanted corridors meet each limit on each side.
 const ENOUGH_SLANTED: u64 = 2000;
+/// So many jobs about own sources reach all that is counted of them.
+const ENOUGH_OWN: u64 = 20_000;
 const LONG: Limit = Limit::Time(Duration::from_secs(600));
 
 enum Limit {
@@ -96,6 +102,7 @@ fn main() {
             families::limits(&mut run);
             families::sizes(&mut run);
             families::sorts(&mut run);
+            families::own_sources(&mut run);
             lengths::compare(&mut run, lengths::CASES);
             let done = format!("seed {seed}: {done} random cases, nothing differs");
             end(run.tally.none_of(&KINDS), &done)
@@ -126,6 +133,9 @@ fn main() {
             let mut missing = run.tally.none_of(kinds(name));
             if name == "slanted" && parse(cases) >= ENOUGH_SLANTED {
                 missing.extend(measures::missing(&run.tally));
+            }
+            if matches!(name, "own-orders" | "one-head") && parse(cases) >= ENOUGH_OWN {
+                missing.extend(sorting::missing(&run.tally, name == "one-head"));
             }
             end(missing, &done)
         }
@@ -161,6 +171,7 @@ fn kinds(family: &str) -> &'static [&'static str] {
         "maps" => &[PARTITIONS, REGIONS, WHOLE[0], WHOLE[1], WHOLE[2], WHOLE[3]],
         "records" => &[RECORDS],
         "cards" => &[WHOLE[3], STATED],
+        "own-orders" | "one-head" => &WHOLE,
         _ => {
             &[PLANS, RELISTINGS, REGIONS, LINKS, ENVELOPES, WHOLE[0], WHOLE[1], WHOLE[2], WHOLE[3]]
         }
@@ -226,6 +237,7 @@ fn whole(seed: u64, limit: Limit, rounds: usize) {
     families::limits(&mut run);
     families::sizes(&mut run);
     families::sorts(&mut run);
+    families::own_sources(&mut run);
     lengths::compare(&mut run, lengths::CASES);
     let mut done = 0;
     while match limit {

@@ -6,6 +6,7 @@ use crate::expect::too_short;
 use crate::lengths::{self, LENGTHS, TOTALS};
 use crate::measures;
 use crate::regions::{ENVELOPES, LINKS, REGIONS};
+use crate::sorting;
 use std::collections::BTreeMap;
 
 pub const NAMES: [&str; 4] = ["Reduce", "Reduce by list", "Mark", "Area cards"];
@@ -216,6 +217,8 @@ impl Tally {
         missing.extend(unseen.map(|what| format!("never: {what}")));
         missing.extend(measures::missing(self));
         missing.extend(lengths::missing(self));
+        missing.extend(sorting::missing(self, false));
+        missing.extend(sorting::missing(self, true));
         missing
     }
 

@@ -7,12 +7,14 @@ use std::sync::atomic::{AtomicU64, AtomicU8, Ordering::Relaxed};
 use std::sync::Once;
 
 /// Counters of a call: numbers, details by number, kept and merged boundaries or areas with a ramp and
-/// of several elevations, observations more than the job's, labels.
+/// of several elevations, observations more than the job's, labels, the most own sources of a kept boundary, doubles left out.
 const EACH: usize = 1024;
 const DETAILS: usize = 32;
 const KEPT: usize = DETAILS + 32 * 16;
 const OBSERVED: usize = KEPT + 16 * 16;
 const LABELS: usize = OBSERVED + 16;
+const OWN: usize = LABELS + 64;
+const DOUBLES: usize = OWN + 16;
 
 #[link_section = "__libfuzzer_extra_counters"]
 static COUNTERS: [AtomicU8; 4 * EACH] = [const { AtomicU8::new(0) }; 4 * EACH];
@@ -20,6 +22,8 @@ static COUNTERS: [AtomicU8; 4 * EACH] = [const { AtomicU8::new(0) }; 4 * EACH];
 /// Calls by call and number, and answers with fewer boundaries than the job.
 static NUMBERS: [[AtomicU64; 32]; 4] = [const { [const { AtomicU64::new(0) }; 32] }; 4];
 static MERGED: AtomicU64 = AtomicU64::new(0);
+/// Answers that leave out doubles of own sources, and those with over 48 own sources of a boundary.
+static OF_OWN: [AtomicU64; 2] = [const { AtomicU64::new(0) }; 2];
 
 extern "C" {
     fn atexit(function: extern "C" fn()) -> i32;
@@ -61,6 +65,19 @@ pub fn note(call: u32, (number, detail): Refusal, job: &[u8], work: &[u8], out: 
     if merged > 0 {
         MERGED.fetch_add(1, Relaxed);
     }
+    let came = own(&job[word(job, 8) as usize..], boundaries);
+    let [came, left] = [came, own(&out[24..], kept)];
+    let most = left.iter().copied().max().unwrap_or(0);
+    let doubles = came.iter().sum::<u64>().wrapping_sub(left.iter().sum());
+    set(OWN + log(most).min(15));
+    set(DOUBLES + log(doubles).min(15));
+    OF_OWN[0].fetch_add(u64::from(doubles > 0), Relaxed);
+    OF_OWN[1].fetch_add(u64::from(most > 48), Relaxed);
+}
+
+/// The numbers of own sources of so many boundary records.
+fn own(records: &[u8], count: usize) -> Vec<u64> {
+    (0..count).map(|i| word(&records[40 * i..], 6).into()).collect()
 }
 
 /// Binary digits.
@@ -83,5 +100,10 @@ extern "C" fn print() {
         let seen: Vec<_> = seen.iter().map(|(i, count)| format!("{i}: {count}")).collect();
         eprintln!("calls of {name} by number: {}", seen.join(", "));
     }
-    eprintln!("calls: {calls}; answers with merges: {}", MERGED.load(Relaxed));
+    let [merged, doubles, many] =
+        [&MERGED, &OF_OWN[0], &OF_OWN[1]].map(|count| count.load(Relaxed));
+    eprintln!(
+        "calls: {calls}; answers with merges: {merged}; without doubles of own sources that came: {doubles}; \
+         with over 48 own sources of a boundary: {many}"
+    );
 }

@@ -4,6 +4,7 @@ use crate::case::Case;
 use crate::damage::{self, REFUSALS};
 use crate::draft::{Boundary, Draft};
 use crate::nearest::{mend, nearest};
+use crate::orders::{sources, LISTINGS};
 use crate::rng::Rng;
 
 /// The nearest job that is accepted, changed a little where asked, and damaged one time in eight.
@@ -14,12 +15,13 @@ pub fn mutate(case: &mut Case, change: bool, rng: &mut Rng) {
     let mut draft = nearest(&case.input);
     let changes = if change { rng.pick(&[1, 1, 1, 2, 3, 5]) } else { 0 };
     for _ in 0..changes {
-        match rng.below(8) {
+        match rng.below(9) {
             0 | 1 => terrain(&mut draft, rng),
             2 => bases(&mut draft, rng),
             3 | 4 => boundaries(&mut draft, rng),
             5 => fields(&mut draft, rng),
             6 => spans(&mut draft, rng),
+            7 => own_sources(&mut draft, rng),
             _ => records(&mut draft, rng),
         }
         mend(&mut draft);
@@ -173,5 +175,33 @@ fn records(draft: &mut Draft, rng: &mut Rng) {
             let (observations, sources) = (rng.below(8), rng.below(16));
             draft.share(observations, sources, rng);
         }
+    }
+}
+
+/// Where the own sources of a boundary are among all.
+fn own(draft: &Draft, boundary: usize) -> std::ops::Range<usize> {
+    let before = &draft.boundaries[..boundary];
+    let seen: usize = before.iter().map(|boundary| boundary.observations as usize).sum();
+    let own: u32 = before.iter().map(|boundary| boundary.sources).sum();
+    let observed: u32 = draft.observations[..seen].iter().map(|seen| seen.sources).sum();
+    let start = (own + observed) as usize;
+    start..start + draft.boundaries[boundary].sources as usize
+}
+
+/// The own sources of a boundary: others in an order, or besides them those of another boundary or their own again.
+fn own_sources(draft: &mut Draft, rng: &mut Rng) {
+    if draft.boundaries.is_empty() {
+        return;
+    }
+    let [i, j] = [0; 2].map(|_| rng.below(draft.boundaries.len()));
+    let (place, other) = (own(draft, i), own(draft, j));
+    let list = match rng.below(3) {
+        0 => sources(rng.pick(&[3, 12, 13, 24, 64, 65, 200]), rng.pick(&LISTINGS), rng),
+        1 => [&draft.sources[place.clone()], &draft.sources[other]].concat(),
+        _ => draft.sources[place.clone()].repeat(2),
+    };
+    if draft.sources.len() - place.len() + list.len() <= 1500 {
+        draft.boundaries[i].sources = list.len() as u32;
+        draft.sources.splice(place, list);
     }
 }

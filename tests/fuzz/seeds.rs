@@ -7,6 +7,7 @@
 #[allow(dead_code)]
 mod checks;
 #[path = "../driver/corridors.rs"]
+#[allow(dead_code)]
 mod corridors;
 #[path = "../driver/damage.rs"]
 #[allow(dead_code)]
@@ -14,15 +15,27 @@ mod damage;
 #[path = "../driver/draft.rs"]
 #[allow(dead_code)]
 mod draft;
+#[path = "../driver/heads.rs"]
+#[allow(dead_code)]
+mod heads;
 #[path = "../driver/maps.rs"]
 #[allow(dead_code)]
 mod maps;
+#[path = "../driver/orders.rs"]
+#[allow(dead_code)]
+mod orders;
+#[path = "../driver/own.rs"]
+#[allow(dead_code)]
+mod own;
 #[path = "../driver/rng.rs"]
 #[allow(dead_code)]
 mod rng;
 #[path = "../driver/rust.rs"]
 #[allow(dead_code)]
 mod rust;
+#[path = "../driver/splits.rs"]
+#[allow(dead_code)]
+mod splits;
 #[path = "../driver/values.rs"]
 #[allow(dead_code)]
 mod values;
@@ -65,7 +78,7 @@ fn main() -> io::Result<()> {
     Ok(())
 }
 
-/// Drafts damaged for each refusal, maps, corridors, and region pairs at their limit and one over.
+/// Drafts damaged for each refusal, maps, corridors, own sources, and region pairs at their limit and one over.
 fn drafts() -> Vec<(u64, Draft)> {
     let mut drafts = Vec::new();
     let mut make = |number: u64, draft: &dyn Fn(&mut Rng) -> Draft| {
@@ -80,6 +93,8 @@ fn drafts() -> Vec<(u64, Draft)> {
     }
     (0..100).for_each(|i| make(2 << 32 | i, &maps::random));
     (0..100).for_each(|i| make(4 << 32 | i, &corridors::random));
+    (0..60).for_each(|i| make(7 << 32 | i, &own::random));
+    (0..20).for_each(|i| make(8 << 32 | i, &own::one_head));
     for pairs in [4096, 4097] {
         make(5 << 32 | pairs as u64, &|rng| maps::many_pairs(pairs, rng));
     }

@@ -15,18 +15,27 @@ mod damage;
 mod draft;
 #[path = "../driver/expect.rs"]
 mod expect;
+#[path = "../driver/heads.rs"]
+#[allow(dead_code)]
+mod heads;
 #[path = "../driver/lent.rs"]
 #[allow(dead_code)]
 mod lent;
 #[path = "../driver/memory.rs"]
 #[allow(dead_code)]
 mod memory;
+#[path = "../driver/orders.rs"]
+#[allow(dead_code)]
+mod orders;
 #[path = "../driver/rng.rs"]
 #[allow(dead_code)]
 mod rng;
 #[path = "../driver/rust.rs"]
 #[allow(dead_code)]
 mod rust;
+#[path = "../driver/splits.rs"]
+#[allow(dead_code)]
+mod splits;
 
 mod case;
 mod features;

@@ -10,11 +10,21 @@ mod exact_length;
 #[path = "../driver/expect.rs"]
 #[allow(dead_code)]
 mod expect;
+#[path = "../driver/heads.rs"]
+#[allow(dead_code)]
+mod heads;
 #[path = "../driver/known.rs"]
 mod known;
+mod own;
+#[path = "../driver/rng.rs"]
+#[allow(dead_code)]
+mod rng;
 #[path = "../driver/rust.rs"]
 #[allow(dead_code)]
 mod rust;
+#[path = "../driver/splits.rs"]
+#[allow(dead_code)]
+mod splits;
 
 use checks::{Refusal, BY_LIST, CARDS, HEADER, MARK, NONE, REDUCE, SPAN};
 use exact_length::half_root;
@@ -561,6 +571,10 @@ fn whole(call: u32, job: &[u8], list: &[u8], work: &mut [u8], out: &mut [u8]) ->
     if call == CARDS {
         card_faults(job, &expected.labels, &mut expected.written);
     }
+    let answers = call == REDUCE || call == BY_LIST;
+    if answers && expected.pairs <= MOST_PAIRS {
+        own::faults(call, job, list, &mut expected.written);
+    }
     let late = late(call, &expected);
     let unmerged = || {
         let accepted = expect::accepted(call, job, list).ok().expect("no refusal");
@@ -589,12 +603,23 @@ fn whole(call: u32, job: &[u8], list: &[u8], work: &mut [u8], out: &mut [u8]) ->
     }
     fill(&expected.labels, work);
     if short {
-        let answers = call == REDUCE || call == BY_LIST;
         if fault::on("header_before_length_test") && out.len() >= 24 && answers {
             out[..24].copy_from_slice(&expected.written[..24]);
         }
         if answers && fault::on("unmerged_length_told") {
             return result((22, unmerged()));
+        }
+        if answers && fault::on("own_written_before_length_test") {
+            // The first source, where it fits.
+            let word =
+                |at: usize| u32::from_le_bytes(expected.written[at..at + 4].try_into().unwrap());
+            let from = word(16) as usize;
+            if word(8) > 0 && from + 8 <= out.len() {
+                out[from..from + 8].copy_from_slice(&expected.written[from..from + 8]);
+            }
+        }
+        if answers && job[20] > 1 && fault::on("own_one_more_told") {
+            return result((late.0, late.1 + 8));
         }
         if call == CARDS && fault::on("cards_that_fit_written") {
             let fitting = out.len() / CARD * CARD;

@@ -41,7 +41,7 @@ below-sum h [] d g e = refl
 below-sum h (x ∷ l) d g e = let a = e 0 (omega arith) in let b = below-sum h l d (λ k. g (suc k)) (λ k i. e (suc k) (omega arith)) in omega arith
 
 -- A member's piece, where it stands.
-pub flat-part : {A B : Type 0} (f : A → List B) (l : List A) (d : A) (g : ℕ → ℕ) (k : ℕ) → k < length l
+flat-part : {A B : Type 0} (f : A → List B) (l : List A) (d : A) (g : ℕ → ℕ) (k : ℕ) → k < length l
     → ((i : ℕ) → i < length l → g i ≡ length (f (getD l i d)))
     → take (length (f (getD l k d))) (drop (sumBelow g k) (flatMap f l)) ≡ f (getD l k d)
 unfolding flatMap sum rows

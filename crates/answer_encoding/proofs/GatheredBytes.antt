@@ -6,12 +6,12 @@ use Prim.Native.Nat.{ℕ, _+_, _-_, _/_, _%_, _<_}
 use native.Mathlib.Omega.{arith}
 use borrow.Author.Tests.{ltb-true, ltb-false, lt-ltb, le-ltb}
 use lib.Dec.{ltb}
-use lib.ListN.{length, getD, take, drop, length-map, List·getD-map}
+use lib.ListN.{length, getD, length-map, List·getD-map}
 use lib.Seq.{getD-take}
 use Rattle.wire.specs.Bytes.{u32Bytes}
 use Rattle.wire.proofs.Parts.{part-at}
 use Rattle.lists.specs.Rows.{All, sum}
-use Rattle.lists.proofs.Each.{all-at, all-take, all-drop}
+use Rattle.lists.proofs.Each.{all-at}
 use Rattle.lists.proofs.Flat.{flatMap-append, length-flatMap}
 use Rattle.order.specs.Keys.{pack}
 use Rattle.length.specs.Total.{totalKey}
@@ -27,14 +27,14 @@ use Rattle.format.proofs.Distribution.{observed, own-and-observed}
 use Rattle.serial_merging.specs.Kept.{noBoundary}
 use Rattle.serial_merging.specs.Sources.{ownSources}
 use Rattle.serial_merging.proofs.Lists.{flat-gather}
-use Rattle.answer_sources.specs.Laying.{sumBelow}
+use Rattle.answer_sources.specs.Laying.{sumBelow, elements}
 use Rattle.answer_sources.specs.Packed.{sourcePack, packed}
 use Rattle.format.specs.Records.{observationWords}
-use Rattle.answer_sources.specs.Placed.{HoldsObservation}
+use Rattle.answer_sources.specs.Placed.{boundaryRows, HoldsObservation}
 use Rattle.answer_sources.specs.Gathered.{noObservation, Gathered}
 use Rattle.answer_encoding.specs.Pieces.{pieces, keySource, keySpan, keyBits, keptRecord, keptPiece, keyPiece, runFrom, runLength, placeRun, placePiece}
-use Rattle.answer_encoding.specs.Pieces.{runsFrom, elements, groupPiece, citedTotal, writtenBytes}
-use Rattle.answer_encoding.proofs.Flats.{pieces-flat, flat-flat, below-sum, flat-part, flat-at, flat-within}
+use Rattle.answer_encoding.specs.Pieces.{runsFrom, ownPiece, groupPiece, citedTotal, writtenBytes}
+use Rattle.answer_encoding.proofs.Flats.{pieces-flat, flat-flat, below-sum, flat-at, flat-within}
 use Rattle.answer_encoding.proofs.Lengths.{part-short}
 
 -- Packed numbers are told apart again.
@@ -77,7 +77,7 @@ abbrev noSource : Source
 noSource = record { from = 0; to = 0 }
 
 -- The numbers of sources are their bytes.
-pub keys-flat : (keys : List ℕ) (from n : ℕ) (ss : List Source) → All SourceFits ss → n ≡ length ss
+keys-flat : (keys : List ℕ) (from n : ℕ) (ss : List Source) → All SourceFits ss → n ≡ length ss
     → ((i : ℕ) → i < length ss → getD keys (from + i) 0 ≡ getD (packed ss) i 0) → runFrom keys from n ≡ flatMap sourceBytes ss
 unfolding keyPiece packed sourcePack
 keys-flat keys from n ss f e h =
@@ -105,8 +105,8 @@ module _ {first second third starts counts keys : List ℕ} {p : ℕ} {o : Obser
       keys-flat keys (getD starts p 0) (runLength starts counts keys p) (o .sources) (h .fits) run-count
       (λ i l. sym (part-at keys (getD starts p 0) (getD counts p 0) i (omega (arith, s .0, run-count))) ∙ ap (λ (t : List ℕ). getD t i 0) (h .run))
 
-module _ {bs : ℕ → BoundaryRecord} {n : ℕ} {ks : List Boundary} {kept owns seens owned seen first second third starts counts keys : List ℕ}
-    (g : Gathered bs n ks kept owns seens owned seen first second third starts counts keys) where
+module _ {s : List ℕ} {at from n : ℕ} {ks : List Boundary} {kept owns seens owned seen first second third starts counts keys : List ℕ}
+    (g : Gathered s at from n ks kept owns seens owned seen first second third starts counts keys) where
   abbrev os : List Observation
   os = observationsOf ks
 
@@ -147,10 +147,10 @@ module _ {bs : ℕ → BoundaryRecord} {n : ℕ} {ks : List Boundary} {kept owns
       omega (arith, a, cited-sum, own-and-observed ks)
 
   -- The three sections.
-  kept-bytes : pieces (length ks) (keptPiece bs kept owns seens) ≡ flatMap (λ (b : Boundary). boundaryBytes (boundaryRecord b)) ks
+  kept-bytes : pieces (length ks) (keptPiece (boundaryRows s at) kept owns seens) ≡ flatMap (λ (b : Boundary). boundaryBytes (boundaryRecord b)) ks
   unfolding keptPiece keptRecord boundaryRecord
   kept-bytes =
-      pieces-flat (λ (b : Boundary). boundaryBytes (boundaryRecord b)) ks noBoundary (keptPiece bs kept owns seens) (length ks) refl
+      pieces-flat (λ (b : Boundary). boundaryBytes (boundaryRecord b)) ks noBoundary (keptPiece (boundaryRows s at) kept owns seens) (length ks) refl
       (λ k h.
       let e = sym (g .ends-are k h) in
       let w = sym (g .bits-are k h) in
@@ -170,26 +170,6 @@ module _ {bs : ℕ → BoundaryRecord} {n : ℕ} {ks : List Boundary} {kept owns
     abbrev here : Boundary
     here = getD ks k noBoundary
 
-    own-fit : All SourceFits (here .sources)
-    own-fit =
-        subst (λ (l : List Source). All SourceFits l)
-        (ap (λ (l : List Source). take (length (here .sources)) (drop (sumBelow (elements owns) k) l)) own-flat
-        ∙ flat-part (λ (b : Boundary). b .sources) ks noBoundary (elements owns) k h own-at)
-        (all-take (length (here .sources)) (all-drop (sumBelow (elements owns) k) (g .own-fits)))
-
-    own-key : (i : ℕ) → i < length (here .sources) → getD owned (sumBelow (elements owns) k + i) 0 ≡ getD (packed (here .sources)) i 0
-    unfolding packed sourcePack
-    own-key i l =
-        let j = sumBelow (elements owns) k + i in
-        let w = flat-within (λ (b : Boundary). b .sources) ks noBoundary (elements owns) k h own-at in
-        let m : j < length (ownSources ks) = omega (arith, w, ap length own-flat) in
-        sym (getD-take (length (ownSources ks)) owned j 0 m)
-        ∙ ap (λ (t : List ℕ). getD t j 0) (g .own-there)
-        ∙ List·getD-map sourcePack (ownSources ks) j noSource
-        ∙ ap sourcePack (ap (λ (t : List Source). getD t j noSource) own-flat
-        ∙ flat-at (λ (b : Boundary). b .sources) ks noBoundary (elements owns) k h own-at i noSource l)
-        ∙ sym (List·getD-map sourcePack (here .sources) i noSource)
-
     seen-run : (i : ℕ) → i < length (here .observations)
         → placeRun starts counts keys (getD seen (sumBelow (elements seens) k + i) 0) ≡ flatMap sourceBytes (getD (here .observations) i noObservation .sources)
     unfolding observationsOf
@@ -200,34 +180,35 @@ module _ {bs : ℕ → BoundaryRecord} {n : ℕ} {ks : List Boundary} {kept owns
         ∙ ap (λ (o : Observation). flatMap sourceBytes (o .sources))
         (flat-at (λ (b : Boundary). b .observations) ks noBoundary (elements seens) k h seen-at i noObservation l)
 
-    group-bytes : groupPiece owns seens owned seen starts counts keys k ≡ flatMap sourceBytes (sourcesWith here)
-    unfolding groupPiece sourcesWith
+    group-bytes : groupPiece s from owns seens owned seen starts counts keys k ≡ flatMap sourceBytes (sourcesWith here)
+    unfolding groupPiece ownPiece sourcesWith
     group-bytes =
         ap (λ (t : List ℕ). t ++ runsFrom seen starts counts keys (sumBelow (elements seens) k) (getD seens k 0))
-        (keys-flat owned (sumBelow (elements owns) k) (getD owns k 0) (here .sources) own-fit (own-at k h) own-key)
+        (ap (flatMap sourceBytes) (g .own-there k h))
         ∙ ap (λ (t : List ℕ). flatMap sourceBytes (here .sources) ++ t)
         (pieces-flat (λ (o : Observation). flatMap sourceBytes (o .sources)) (here .observations) noObservation
         (λ i. placeRun starts counts keys (getD seen (sumBelow (elements seens) k + i) 0)) (getD seens k 0) (seen-at k h) seen-run
         ∙ sym (flat-flat sourceBytes (λ (o : Observation). o .sources) (here .observations)))
         ∙ sym (flatMap-append sourceBytes (here .sources) (flatMap (λ (o : Observation). o .sources) (here .observations)))
 
-  pub source-bytes : pieces (length ks) (groupPiece owns seens owned seen starts counts keys) ≡ flatMap sourceBytes (sourcesOf ks)
+  pub source-bytes : pieces (length ks) (groupPiece s from owns seens owned seen starts counts keys) ≡ flatMap sourceBytes (sourcesOf ks)
   unfolding sourcesOf
   source-bytes =
-      pieces-flat (λ (b : Boundary). flatMap sourceBytes (sourcesWith b)) ks noBoundary (groupPiece owns seens owned seen starts counts keys) (length ks) refl
-      group-bytes
+      pieces-flat (λ (b : Boundary). flatMap sourceBytes (sourcesWith b)) ks noBoundary (groupPiece s from owns seens owned seen starts counts keys)
+      (length ks) refl group-bytes
       ∙ sym (flat-flat sourceBytes sourcesWith ks)
 
   -- All bytes.
-  pub answer-bytes : (count : ℕ) → length ks ≡ count → writtenBytes bs count kept owns seens owned seen first second third starts counts keys ≡ encodeAnswer ks
+  pub answer-bytes : (count : ℕ) → length ks ≡ count
+      → writtenBytes s at from count kept owns seens owned seen first second third starts counts keys ≡ encodeAnswer ks
   unfolding writtenBytes encodeAnswer encodeBoundaries
   answer-bytes count e =
-      ap (λ (n : ℕ). writtenBytes bs n kept owns seens owned seen first second third starts counts keys) (sym e)
+      ap (λ (n : ℕ). writtenBytes s at from n kept owns seens owned seen first second third starts counts keys) (sym e)
       ∙ ap
       (λ (m : ℕ).
       flatMap u32Bytes (answerWords (length ks) m (sumBelow (elements owns) (length ks) + citedTotal seen starts counts keys m))
-      ++ (pieces (length ks) (keptPiece bs kept owns seens)
+      ++ (pieces (length ks) (keptPiece (boundaryRows s at) kept owns seens)
       ++ (pieces m (λ q. placePiece first second third starts counts keys (getD seen q 0))
-      ++ pieces (length ks) (groupPiece owns seens owned seen starts counts keys))))
+      ++ pieces (length ks) (groupPiece s from owns seens owned seen starts counts keys))))
       seen-sum
       ∙ (λ i. flatMap u32Bytes (answerWords (length ks) (length os) (sources-sum i)) ++ (kept-bytes i ++ (seen-bytes i ++ source-bytes i)))

@@ -8,7 +8,7 @@ use Rattle.wire.specs.Bytes.{splice}
 use Rattle.format.specs.Records.{sourceBytes, boundaryBytes, observationBytes, boundaryAt}
 use Rattle.format.specs.declared.records.BoundaryRecord.{BoundaryRecord}
 use Rattle.format.proofs.RecordTrips.{source-trip, boundary-trip, observation-trip}
-use Rattle.answer_sources.specs.Laying.{sumBelow}
+use Rattle.answer_sources.specs.Laying.{sumBelow, elements}
 use Rattle.answer_sources.specs.Placed.{boundaryRows}
 use Rattle.format.specs.Records.{observationWords}
 use Rattle.position.specs.declared.Span.{Span}
@@ -16,10 +16,11 @@ use Rattle.answer_sources.proofs.Lays.{below-next}
 use Rattle.lists.specs.Rows.{sum, rows}
 use Rattle.lists.proofs.Rows.{sum-prefix}
 use Rattle.answer_encoding.specs.Pieces.{pieces, keySource, keySpan, keyBits, keptRecord, keptPiece, keyPiece, runFrom, runLength, placeRun, placePiece}
-use Rattle.answer_encoding.specs.Pieces.{runsFrom, elements, groupPiece, citedTotal}
-use Rattle.answer_encoding.specs.Answered.{RunsWritten, SourceRoom}
+use Rattle.answer_encoding.specs.Pieces.{runsFrom, ownPiece, groupPiece, citedTotal}
+use Rattle.answer_encoding.specs.Answered.{RunsWritten, OwnPieceRoom, SourceRoom}
 use Rattle.answer_encoding.proofs.Writing.{pieces-none, length-next, piece-written, length-written, length-even, length-fewer}
 use Rattle.answer_encoding.proofs.Lengths.{part-short}
+use Rattle.answer_encoding.proofs.Owns.{own-long}
 use Rattle.format.proofs.Writes.{then-write}
 
 -- The first i pieces stand from `at` on.
@@ -159,9 +160,9 @@ module _ (seen starts counts keys : List ℕ) where
   cited-end {n} {i} r l = let e : i ≡ n = omega (arith, r .below-count) in (r .value ∙ ap (citedTotal seen starts counts keys) e, omega (arith, r .small))
 
 -- Each boundary's sources.
-module _ (owns seens owned seen starts counts keys : List ℕ) where
+module _ (job : List ℕ) (from : ℕ) (owns seens owned seen starts counts keys : List ℕ) where
   abbrev pub groupAt : ℕ → List ℕ
-  groupAt k = groupPiece owns seens owned seen starts counts keys k
+  groupAt k = groupPiece job from owns seens owned seen starts counts keys k
 
   pub record Grouping (s : List ℕ) (at k n : ℕ) (t : List ℕ) (to a q : ℕ) : Type 0 where
     pub below-count : k ≤ n
@@ -175,9 +176,9 @@ module _ (owns seens owned seen starts counts keys : List ℕ) where
   grouping-start s at n = record { below-count = omega arith; writes = writes-start s at groupAt; place = omega arith; owns-are = refl; seens-are = refl }
 
 -- One boundary more.
-module _ {owns seens owned seen starts counts keys : List ℕ} where
-  module _ {s t : List ℕ} {at k n to a q : ℕ} (r : Grouping owns seens owned seen starts counts keys s at k n t to a q)
-      (h : SourceRoom n owns seens owned seen starts counts keys at s) (l : k < n)
+module _ {job : List ℕ} {from : ℕ} {owns seens owned seen starts counts keys : List ℕ} where
+  module _ {s t : List ℕ} {at k n to a q : ℕ} (r : Grouping job from owns seens owned seen starts counts keys s at k n t to a q)
+      (h : SourceRoom job from n owns seens owned seen starts counts keys at s) (l : k < n)
       {own m : ℕ} (e : own ≡ getD owns k 0) (f : m ≡ getD seens k 0) where
     pub own-sum : a + own ≡ sumBelow (elements owns) (k + 1)
     own-sum = omega (arith, r .owns-are, below-next (elements owns) k)
@@ -185,56 +186,64 @@ module _ {owns seens owned seen starts counts keys : List ℕ} where
     pub seen-sum : q + m ≡ sumBelow (elements seens) (k + 1)
     seen-sum = omega (arith, r .seens-are, below-next (elements seens) k)
 
+    own-within : a + own ≤ sumBelow (elements owns) n
+    own-within = omega (arith, own-sum, sum-prefix (k + 1) n (elements owns) (omega arith))
+
     pub own-few : a + own ≤ 4096
-    own-few = omega (arith, own-sum, sum-prefix (k + 1) n (elements owns) (omega arith), h .own-limit)
+    own-few = omega (arith, own-within, h .own-limit)
 
     pub seen-few : q + m ≤ 1280
     seen-few = omega (arith, seen-sum, sum-prefix (k + 1) n (elements seens) (omega arith), h .seen-limit)
 
-    group-is : runFrom owned a own ++ runsFrom seen starts counts keys q m ≡ groupPiece owns seens owned seen starts counts keys k
+    group-is : ownPiece job from owned a own ++ runsFrom seen starts counts keys q m ≡ groupAt job from owns seens owned seen starts counts keys k
     unfolding groupPiece
     group-is =
-        ap (λ (z : ℕ). runFrom owned z own ++ runsFrom seen starts counts keys q m) (r .owns-are)
-        ∙ ap (λ (z : ℕ). runFrom owned (sumBelow (elements owns) k) z ++ runsFrom seen starts counts keys q m) e
-        ∙ ap (λ (z : ℕ). runFrom owned (sumBelow (elements owns) k) (getD owns k 0) ++ runsFrom seen starts counts keys z m) (r .seens-are)
-        ∙ ap (λ (z : ℕ). runFrom owned (sumBelow (elements owns) k) (getD owns k 0) ++ runsFrom seen starts counts keys (sumBelow (elements seens) k) z) f
+        ap (λ (z : ℕ). ownPiece job from owned z own ++ runsFrom seen starts counts keys q m) (r .owns-are)
+        ∙ ap (λ (z : ℕ). ownPiece job from owned (sumBelow (elements owns) k) z ++ runsFrom seen starts counts keys q m) e
+        ∙ ap (λ (z : ℕ). ownPiece job from owned (sumBelow (elements owns) k) (getD owns k 0) ++ runsFrom seen starts counts keys z m) (r .seens-are)
+        ∙ ap (λ (z : ℕ). ownPiece job from owned (sumBelow (elements owns) k) (getD owns k 0)
+        ++ runsFrom seen starts counts keys (sumBelow (elements seens) k) z) f
 
-    group-long : length (pieces (k + 1) (groupPiece owns seens owned seen starts counts keys)) ≡ length
-        (pieces k (groupPiece owns seens owned seen starts counts keys)) + (own * 8 + length (runsFrom seen starts counts keys q m))
+    group-long : length (pieces (k + 1) (groupAt job from owns seens owned seen starts counts keys))
+        ≡ length (pieces k (groupAt job from owns seens owned seen starts counts keys)) + (own * 8 + length (runsFrom seen starts counts keys q m))
     group-long = omega (
       arith,
-      length-next k (groupPiece owns seens owned seen starts counts keys),
+      length-next k (groupAt job from owns seens owned seen starts counts keys),
       ap length group-is,
-      length-append (runFrom owned a own) (runsFrom seen starts counts keys q m),
-      run-long owned a own,
+      length-append (ownPiece job from owned a own) (runsFrom seen starts counts keys q m),
+      own-long job from owned a own,
     )
 
-    group-fits : at + length (pieces (k + 1) (groupPiece owns seens owned seen starts counts keys)) ≤ length s
-    group-fits = omega (arith, length-fewer (groupPiece owns seens owned seen starts counts keys) (k + 1) n (omega arith), h .room)
+    group-fits : at + length (pieces (k + 1) (groupAt job from owns seens owned seen starts counts keys)) ≤ length s
+    group-fits = omega (arith, length-fewer (groupAt job from owns seens owned seen starts counts keys) (k + 1) n (omega arith), h .room)
 
-    pub own-room : to + own * 8 ≤ length t
-    own-room = omega (arith, group-fits, group-long, r .place, r .writes .long)
+    pub own-room : {p : ℕ} → p ≡ to → OwnPieceRoom job from owned a own p t
+    own-room g = record {
+      limit = own-few;
+      inside = λ i b. h .own-inside (a + i) (omega (arith, own-within));
+      room = omega (arith, group-fits, group-long, r .place, r .writes .long);
+    }
 
-    module _ {u : List ℕ} (w : u ≡ splice t to (runFrom owned a own)) where
-      pub own-kept : length u ≡ length t
-      own-kept = length-written t to (runFrom owned a own) (omega (arith, run-long owned a own, own-room)) w
+    module _ {u : List ℕ} (w : u ≡ splice t to (ownPiece job from owned a own)) where
+      own-fits : to + length (ownPiece job from owned a own) ≤ length t
+      own-fits = omega (arith, own-long job from owned a own, own-room refl .room)
 
       pub seen-room : to + own * 8 + length (runsFrom seen starts counts keys q m) ≤ length u
-      seen-room = omega (arith, own-kept, group-fits, group-long, r .place, r .writes .long)
+      seen-room = omega (arith, length-written t to (ownPiece job from owned a own) own-fits w, group-fits, group-long, r .place, r .writes .long)
 
       pub grouping-next : {v : List ℕ} {end : ℕ} → RunsWritten u (to + own * 8) (runsFrom seen starts counts keys q m) v end
-          → Grouping owns seens owned seen starts counts keys s at (k + 1) n v end (a + own) (q + m)
+          → Grouping job from owns seens owned seen starts counts keys s at (k + 1) n v end (a + own) (q + m)
       grouping-next x = record {
         below-count = omega arith;
-        writes = writes-next to (runFrom owned a own ++ runsFrom seen starts counts keys q m) (r .writes) group-fits (r .place)
-            (then-write t to (runFrom owned a own) (runsFrom seen starts counts keys q m) (omega (arith, run-long owned a own, own-room))
-            (omega (arith, run-long owned a own)) w (x .wrote))
+        writes = writes-next to (ownPiece job from owned a own ++ runsFrom seen starts counts keys q m) (r .writes) group-fits (r .place)
+            (then-write t to (ownPiece job from owned a own) (runsFrom seen starts counts keys q m) own-fits
+            (omega (arith, own-long job from owned a own)) w (x .wrote))
             group-is;
         place = omega (arith, x .end, group-long, r .place);
         owns-are = own-sum;
         seens-are = seen-sum;
       }
 
-  pub grouping-end : {s t : List ℕ} {at k n to a q : ℕ} → Grouping owns seens owned seen starts counts keys s at k n t to a q → n ≤ k
-      → t ≡ splice s at (pieces n (groupPiece owns seens owned seen starts counts keys))
+  pub grouping-end : {s t : List ℕ} {at k n to a q : ℕ} → Grouping job from owns seens owned seen starts counts keys s at k n t to a q → n ≤ k
+      → t ≡ splice s at (pieces n (groupAt job from owns seens owned seen starts counts keys))
   grouping-end r l = writes-end (r .writes) (r .below-count) l

@@ -5,25 +5,23 @@ use mathlib.Core.Option.{none}
 use Prim.Native.Nat.{ℕ, _+_, _*_, _≤_, _<_}
 use lib.ListN.{length, getD, replicate}
 use Rattle.wire.specs.Bytes.{splice}
-use Rattle.format.specs.Sizes.{boundarySize}
+use Rattle.format.specs.Sizes.{boundarySize, sourceSize}
 use Rattle.format.specs.Values.{Boundary}
 use Rattle.order.specs.Lists.{upFrom}
-use Rattle.answer_sources.specs.Laying.{sumBelow, Apart}
+use Rattle.answer_sources.specs.Laying.{sumBelow, elements, seenCount, Apart}
 use Rattle.answer_sources.specs.Ranked.{RankRoom}
 use Rattle.format.specs.Header.{countsAt, headerAt}
-use Rattle.format.specs.Decode.{decode}
+use Rattle.format.specs.Decode.{decode, sourceRecords}
 use Rattle.serial_merging.specs.Copies.{canon}
 use Rattle.serial_merging.specs.Kept.{noBoundary}
 use Rattle.serial_merging.specs.Planned.{planned}
-use Rattle.answer_gathering.specs.Room.{GatherRoom}
 use Rattle.format.specs.declared.header.Header.{Header}
-use Rattle.format.specs.declared.records.Source.{Source}
-use Rattle.format.specs.declared.records.ObservationRecord.{ObservationRecord}
 use Rattle.checks.specs.Checks.{firstRefusal}
 use Rattle.checks_calls.specs.Refusals.{jobChecks}
-use Rattle.answer_sources.specs.Placed.{CopiesPlaced, boundaryRows}
+use Rattle.answer_sources.specs.Placed.{CopiesPlaced, PlacedInside, boundaryRows, observationRows}
+use Rattle.answer_sources.specs.Standing.{Standing}
 use Rattle.answer_sources.specs.Gathered.{PlacesOrder, Gathered}
-use Rattle.answer_encoding.specs.Pieces.{pieces, elements, groupPiece}
+use Rattle.answer_encoding.specs.Pieces.{pieces, groupPiece}
 
 -- The length of the bytes is returned; they stand first if they fit, else nothing is written.
 pub record Answered (bytes before after : List ℕ) (r : ℕ) : Type 0 where
@@ -32,11 +30,11 @@ pub record Answered (bytes before after : List ℕ) (r : ℕ) : Type 0 where
   pub unwritten : length before < length bytes → after ≡ before
 
 -- Some boundaries were gathered, their records are in the job, and all sums are small.
-pub record Writable (s : List ℕ) (at count : ℕ) (kept owns seens owned seen first second third starts counts keys : List ℕ) : Type 0 where
+pub record Writable (s : List ℕ) (at from count : ℕ) (kept owns seens owned seen first second third starts counts keys : List ℕ) : Type 0 where
   pub n : ℕ
   pub ks : List Boundary
   pub many : length ks ≡ count
-  pub gathered : Gathered (boundaryRows s at) n ks kept owns seens owned seen first second third starts counts keys
+  pub gathered : Gathered s at from n ks kept owns seens owned seen first second third starts counts keys
   pub limit : n ≤ 256
   pub inside : at + n * boundarySize ≤ length s
   pub keys-few : length keys ≤ 4096
@@ -47,36 +45,62 @@ pub record BoundaryRoom (s : List ℕ) (at count : ℕ) (kept : List ℕ) (to : 
   pub room : to + count * boundarySize ≤ length t
   pub limit : count ≤ 256
 
--- Room for all the sources, which are few.
-pub record SourceRoom (count : ℕ) (owns seens owned seen starts counts keys : List ℕ) (to : ℕ) (t : List ℕ) : Type 0 where
+-- Own sources to be written at `to`: n places from a on, each of a source in the job.
+pub record OwnPieceRoom (s : List ℕ) (from : ℕ) (owned : List ℕ) (a n to : ℕ) (t : List ℕ) : Type 0 where
+  pub limit : a + n ≤ 4096
+  pub inside : (i : ℕ) → i < n → from + (getD owned (a + i) 0 + 1) * sourceSize ≤ length s
+  pub room : to + n * sourceSize ≤ length t
+
+-- Room for all the sources, which are few, and own ones in the job.
+pub record SourceRoom (s : List ℕ) (from count : ℕ) (owns seens owned seen starts counts keys : List ℕ) (to : ℕ) (t : List ℕ) : Type 0 where
   pub limit : count ≤ 256
   pub own-limit : sumBelow (elements owns) count ≤ 4096
+  pub own-inside : (q : ℕ) → q < sumBelow (elements owns) count → from + (getD owned q 0 + 1) * sourceSize ≤ length s
   pub seen-limit : sumBelow (elements seens) count ≤ 1280
-  pub room : to + length (pieces count (groupPiece owns seens owned seen starts counts keys)) ≤ length t
+  pub room : to + length (pieces count (groupPiece s from owns seens owned seen starts counts keys)) ≤ length t
 
 -- The bytes stand from `at` on and end at r.
 pub record RunsWritten (before : List ℕ) (at : ℕ) (bytes after : List ℕ) (r : ℕ) : Type 0 where
   pub wrote : after ≡ splice before at bytes
   pub end : r ≡ at + length bytes
 
--- A job's boundaries by place, with room for what is gathered of them, in new arrays for what is kept of each.
-pub record Placeable (s : List ℕ) (at base n : ℕ) (order firsts first second third starts counts keys spare owned seen places : List ℕ) : Type 0 where
-  pub os : ℕ → ObservationRecord
-  pub ss : List Source
-  pub placed : CopiesPlaced (boundaryRows s at) os ss base n firsts first second third starts counts keys
-  pub room : GatherRoom s at base n order firsts starts counts keys spare (replicate 256 0) (replicate 256 0) (replicate 256 0) owned seen places
-  pub keys-few : length keys ≤ 4096
-
--- Room to work out the answer of n boundaries, m observations and `count` sources.
-pub record WorkRoom (n m count : ℕ) (keys spare owned starts counts first second third seen places : List ℕ) : Type 0 where
+-- Room for what is worked out by place of n boundaries, m observations and `count` sources.
+pub record WorkRoom (n m count : ℕ) (firsts first second third starts counts keys : List ℕ) : Type 0 where
   pub keys-room : count ≤ length keys
   pub keys-few : length keys ≤ 4096
-  pub spare-room : count ≤ length spare
-  pub owned-room : count ≤ length owned
+  pub firsts-room : n ≤ length firsts
   pub starts-room : m + n ≤ length starts
   pub counts-room : m + n ≤ length counts
   pub clear : Apart starts counts 0
   pub ranks : RankRoom first second third (m + n)
+
+-- That room for the job of a header.
+abbrev pub RoomFor : Header → (firsts first second third starts counts keys : List ℕ) → Type 0
+RoomFor h = WorkRoom (h .counts .boundaries) (h .counts .observations) (h .counts .sources)
+
+-- What is worked out by place of a job: n boundaries from `at`, m observations from `ats` and `count` sources from `from`.
+pub record WorkedOut (s : List ℕ) (at n ats m from count : ℕ) (order plan stands firsts first second third starts counts keys : List ℕ) : Type 0 where
+  pub standing : Standing order plan (seenCount s at) n stands
+  pub placed : CopiesPlaced (boundaryRows s at) (observationRows s ats) (sourceRecords s from count) m n stands firsts first second third starts counts keys
+  pub inside : PlacedInside (boundaryRows s at) (observationRows s ats) (sourceRecords s from count) m n count firsts starts
+  pub keys-few : length keys ≤ 4096
+  pub firsts-room : n ≤ length firsts
+  pub starts-room : m + n ≤ length starts
+
+-- This of the job of a header.
+abbrev pub WorkedFor : List ℕ → Header → (order plan stands firsts first second third starts counts keys : List ℕ) → Type 0
+WorkedFor s h =
+    WorkedOut s (h .offsets .boundaries) (h .counts .boundaries) (h .offsets .observations) (h .counts .observations) (h .offsets .sources)
+    (h .counts .sources)
+
+-- New arrays to gather n boundaries, m observations and `count` sources in, by so many heads: four for each place.
+pub record GatherArrays (n m count heads : ℕ) (links owned seen places : List ℕ) : Type 0 where
+  pub most : ℕ
+  pub heads-are : heads ≡ 4 * most
+  pub most-room : count ≤ most
+  pub most-few : most ≤ 4096
+  pub links-new : links ≡ replicate (6 * most) 0
+  pub owned-new : owned ≡ replicate most 0
   pub seen-room : m + n ≤ length seen
   pub places-room : m + n ≤ length places
 

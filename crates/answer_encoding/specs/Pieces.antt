@@ -13,9 +13,13 @@ use Rattle.format.specs.Decode.{rampOf}
 use Rattle.format.specs.Encode.{rampRecord, answerWords}
 use Rattle.format.specs.declared.records.Source.{Source}
 use Rattle.format.specs.declared.records.BoundaryRecord.{BoundaryRecord}
-use Rattle.answer_sources.specs.Laying.{sumBelow}
-use Rattle.answer_sources.specs.Squeezed.{partOf}
 use Rattle.format.specs.Records.{observationWords}
+use Rattle.order.specs.Keys.{sortBy}
+use Rattle.serial_merging.specs.Keys.{sourceKey}
+use Rattle.answer_sorting.specs.Parts.{placedSources}
+use Rattle.answer_sources.specs.Laying.{sumBelow, elements}
+use Rattle.answer_sources.specs.Placed.{boundaryRows}
+use Rattle.answer_sources.specs.Squeezed.{partOf}
 
 -- n pieces, one after another.
 unfoldable pub pieces : ℕ → (ℕ → List ℕ) → List ℕ
@@ -65,27 +69,29 @@ placePiece first second third starts counts keys p =
 abbrev pub runsFrom : (seen starts counts keys : List ℕ) (from n : ℕ) → List ℕ
 runsFrom seen starts counts keys from n = pieces n (λ i. placeRun starts counts keys (getD seen (from + i) 0))
 
-abbrev pub elements : List ℕ → ℕ → ℕ
-elements l k = getD l k 0
+-- The bytes of own sources, sorted: of the job's from `from` on those whose places stand in `owned` from a on, n of them.
+unfoldable pub ownPiece : (s : List ℕ) (from : ℕ) (owned : List ℕ) (a n : ℕ) → List ℕ
+ownPiece s from owned a n = flatMap sourceBytes (sortBy sourceKey (placedSources s from owned a n))
 
 -- "Each boundary's own, then those of its observations."
-unfoldable pub groupPiece : (owns seens owned seen starts counts keys : List ℕ) → ℕ → List ℕ
-groupPiece owns seens owned seen starts counts keys k =
-    runFrom owned (sumBelow (elements owns) k) (getD owns k 0) ++ runsFrom seen starts counts keys (sumBelow (elements seens) k) (getD seens k 0)
+unfoldable pub groupPiece : (s : List ℕ) (from : ℕ) (owns seens owned seen starts counts keys : List ℕ) → ℕ → List ℕ
+groupPiece s from owns seens owned seen starts counts keys k =
+    ownPiece s from owned (sumBelow (elements owns) k) (getD owns k 0) ++ runsFrom seen starts counts keys (sumBelow (elements seens) k) (getD seens k 0)
 
 -- How many sources the first n of the observations have.
 abbrev pub citedTotal : (seen starts counts keys : List ℕ) → ℕ → ℕ
 citedTotal seen starts counts keys n = sumBelow (λ q. runLength starts counts keys (getD seen q 0)) n
 
 -- An answer's sections: boundaries, observations, sources.
-abbrev pub sectionBytes : (bs : ℕ → BoundaryRecord) (count : ℕ) (kept owns seens owned seen first second third starts counts keys : List ℕ) → List ℕ
-sectionBytes bs count kept owns seens owned seen first second third starts counts keys =
-    pieces count (keptPiece bs kept owns seens)
+abbrev pub sectionBytes : (s : List ℕ) (at from count : ℕ) (kept owns seens owned seen first second third starts counts keys : List ℕ) → List ℕ
+sectionBytes s at from count kept owns seens owned seen first second third starts counts keys =
+    pieces count (keptPiece (boundaryRows s at) kept owns seens)
     ++ (pieces (sumBelow (elements seens) count) (λ q. placePiece first second third starts counts keys (getD seen q 0))
-    ++ pieces count (groupPiece owns seens owned seen starts counts keys))
+    ++ pieces count (groupPiece s from owns seens owned seen starts counts keys))
 
-unfoldable pub writtenBytes : (bs : ℕ → BoundaryRecord) (count : ℕ) (kept owns seens owned seen first second third starts counts keys : List ℕ) → List ℕ
-writtenBytes bs count kept owns seens owned seen first second third starts counts keys =
+-- The header's words, then the sections.
+unfoldable pub writtenBytes : (s : List ℕ) (at from count : ℕ) (kept owns seens owned seen first second third starts counts keys : List ℕ) → List ℕ
+writtenBytes s at from count kept owns seens owned seen first second third starts counts keys =
     flatMap u32Bytes (answerWords count (sumBelow (elements seens) count)
     (sumBelow (elements owns) count + citedTotal seen starts counts keys (sumBelow (elements seens) count)))
-    ++ sectionBytes bs count kept owns seens owned seen first second third starts counts keys
+    ++ sectionBytes s at from count kept owns seens owned seen first second third starts counts keys

@@ -20,3 +20,15 @@ pub fn long(xs: &[u64], i: usize) -> u64
 {
     if i < xs.len() { xs[i] } else { 0 }
 }
+
+fn short(xs: &[u16], i: usize) -> u16
+    ensures { λ r. ⌜ r ≡ getD (now (xs .entry)) i 0 ⌝ }
+{
+    if i < xs.len() { xs[i] } else { 0 }
+}
+
+pub fn place(xs: &[u16], i: usize) -> usize
+    ensures { λ r. ⌜ (r ≡ getD (now (xs .entry)) i 0) × (r < 0x1_0000) ⌝ }
+{
+    short(xs, i) as usize
+}

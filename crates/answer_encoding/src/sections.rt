@@ -7,12 +7,12 @@ ghost use Rattle.format.specs.Sizes.{observationSize};
 ghost use Rattle.answer_sources.specs.Placed.{boundaryRows};
 ghost use Rattle.answer_encoding.specs.Pieces.{pieces, keptPiece, placePiece, groupPiece};
 ghost use Rattle.answer_encoding.specs.Answered.{BoundaryRoom, SourceRoom};
+use crate::own::write_own;
 use crate::reads::index;
 use crate::reads::long;
 use crate::reads::word;
 use crate::records::write_boundary;
 use crate::runs::run_length;
-use crate::runs::write_run;
 use crate::runs::write_runs;
 use crate::units::bits_of;
 use crate::units::span_of;
@@ -112,18 +112,20 @@ pub fn write_sources(
     s: &mut [u8],
     at: usize,
     count: usize,
+    job: &[u8],
+    from: usize,
     owns: &[u32],
     seens: &[u32],
-    owned: &[u64],
+    owned: &[u16],
     seen: &[u32],
     starts: &[u32],
     counts: &[u32],
     keys: &[u64],
 )
-    requires { ⌜ SourceRoom count (now owns) (now seens) (now owned) (now seen) (now starts) (now counts) (now keys) at (now s) ⌝ }
+    requires { ⌜ SourceRoom (now job) from count (now owns) (now seens) (now owned) (now seen) (now starts) (now counts) (now keys) at (now s) ⌝ }
     ensures { λ _. ⌜ now (s .exit) ≡ splice (now (s .entry)) at
-        (pieces count (groupPiece (now (owns .entry)) (now (seens .entry)) (now (owned .entry)) (now (seen .entry)) (now (starts .entry))
-        (now (counts .entry)) (now (keys .entry)))) ⌝ }
+        (pieces count (groupPiece (now (job .entry)) from (now (owns .entry)) (now (seens .entry)) (now (owned .entry)) (now (seen .entry))
+        (now (starts .entry)) (now (counts .entry)) (now (keys .entry)))) ⌝ }
 {
     let mut to = at;
     let mut a: usize = 0;
@@ -132,7 +134,7 @@ pub fn write_sources(
     while k < count {
         let own = index(owns, k);
         let n = index(seens, k);
-        write_run(s, to, owned, a, own);
+        write_own(s, to, job, from, owned, a, own);
         to = write_runs(s, to + own * SOURCE_SIZE, seen, q, n, starts, counts, keys);
         a += own;
         q += n;

@@ -2,8 +2,8 @@
 ghost use mathlib.Core.Path.{_≡_};
 ghost use Prim.Native.Nat.{_*_, _≤_};
 ghost use lib.ListN.{length};
-ghost use Rattle.answer_sources.specs.Laying.{sumBelow};
-ghost use Rattle.answer_encoding.specs.Pieces.{elements, citedTotal};
+ghost use Rattle.answer_sources.specs.Laying.{sumBelow, elements};
+ghost use Rattle.answer_encoding.specs.Pieces.{citedTotal};
 use crate::reads::index;
 use crate::runs::run_length;
 

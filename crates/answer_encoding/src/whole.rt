@@ -5,7 +5,6 @@ ghost use Prim.Native.Nat.{ℕ};
 ghost use lib.ListN.{length};
 ghost use Rattle.format.specs.Values.{Boundary};
 ghost use Rattle.format.specs.Encode.{encodeAnswer};
-ghost use Rattle.answer_sources.specs.Placed.{boundaryRows};
 ghost use Rattle.answer_sources.specs.Gathered.{Gathered};
 ghost use Rattle.answer_encoding.specs.Answered.{Answered, Writable};
 use crate::records::write_header;
@@ -23,11 +22,12 @@ use format::SOURCE_SIZE;
 pub fn write_kept(
     job: &[u8],
     at: usize,
+    from: usize,
     count: usize,
     kept: &[u32],
     owns: &[u32],
     seens: &[u32],
-    owned: &[u64],
+    owned: &[u16],
     seen: &[u32],
     first: &[u64],
     second: &[u64],
@@ -37,10 +37,10 @@ pub fn write_kept(
     keys: &[u64],
     answer: &mut [u8],
 ) -> usize
-    requires { ⌜ Writable (now job) at count (now kept) (now owns) (now seens) (now owned) (now seen) (now first) (now second) (now third) (now starts)
-        (now counts) (now keys) ⌝ }
+    requires { ⌜ Writable (now job) at from count (now kept) (now owns) (now seens) (now owned) (now seen) (now first) (now second) (now third)
+        (now starts) (now counts) (now keys) ⌝ }
     ensures { λ r. ⌜ ((n : ℕ) (ks : List Boundary) → length ks ≡ count
-        → Gathered (boundaryRows (now (job .entry)) at) n ks (now (kept .entry)) (now (owns .entry)) (now (seens .entry)) (now (owned .entry))
+        → Gathered (now (job .entry)) at from n ks (now (kept .entry)) (now (owns .entry)) (now (seens .entry)) (now (owned .entry))
         (now (seen .entry)) (now (first .entry)) (now (second .entry)) (now (third .entry)) (now (starts .entry)) (now (counts .entry))
         (now (keys .entry)) → Answered (encodeAnswer ks) (now (answer .entry)) (now (answer .exit)) r) ⌝ }
 {
@@ -79,6 +79,8 @@ pub fn write_kept(
         answer,
         runs,
         count,
+        job,
+        from,
         owns,
         seens,
         owned,

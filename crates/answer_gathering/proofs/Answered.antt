@@ -1,44 +1,69 @@
 -- What is gathered is what an answer is written from.
 use mathlib.Core.Path.{_≡_, refl, sym, _∙_, ap, subst}
-use mathlib.Core.List.{List, [], _∷_, _++_, map, flatMap, List·Memᴰ, List·Memᴰ·head, List·Memᴰ·tail}
+use mathlib.Core.Bool.{true, false}
+use mathlib.Core.List.{List, [], _∷_, map, flatMap, List·Memᴰ, List·Memᴰ·head, List·Memᴰ·tail}
 use Prim.Native.Nat.{ℕ, _≤_, _<_}
 use native.Mathlib.Omega.{arith}
-use borrow.Author.Tests.{eqb-true}
+use borrow.Author.Tests.{eqb-true, eq-eqb, ne-eqb}
 use lib.Dec.{eqb}
-use lib.ListN.{length, getD, take, length-map}
+use lib.ListN.{length, getD, length-map, length-append}
 use lib.Seq.{getD-take}
-use Rattle.lists.specs.Rows.{All, none}
-use Rattle.lists.proofs.Each.{all-append}
+use Rattle.lists.specs.Rows.{rows, sum}
+use Rattle.lists.proofs.Rows.{rows-same, length-rows}
 use Rattle.order.specs.Lists.{gather, upFrom}
+use Rattle.order.specs.Keys.{sortBy, byKey}
 use Rattle.order.proofs.Members.{getD-mem}
 use Rattle.order.proofs.Keep.{keep-mem}
+use Rattle.order.proofs.Merge.{sort-length}
 use Rattle.order.proofs.Numbers.{up-mem, map-at}
 use Rattle.format.specs.Values.{Boundary}
 use Rattle.format.specs.Encode.{observationsOf}
-use Rattle.format.specs.Fits.{SourceFits}
+use Rattle.format.specs.Decode.{sourceRecords}
 use Rattle.format.specs.declared.records.Source.{Source}
 use Rattle.format.specs.declared.records.BoundaryRecord.{BoundaryRecord}
 use Rattle.format.specs.declared.records.ObservationRecord.{ObservationRecord}
 use Rattle.serial_merging.specs.Kept.{noBoundary}
-use Rattle.serial_merging.specs.Planned.{merged}
+use Rattle.serial_merging.specs.Keys.{sourceKey}
+use Rattle.serial_merging.specs.Planned.{members, merged}
 use Rattle.serial_merging.specs.Sources.{ownSources}
-use Rattle.answer_sources.specs.Packed.{packed, sourcePack}
-use Rattle.answer_sources.specs.Laying.{sumBelow}
-use Rattle.answer_sources.specs.Placed.{CopiesPlaced, seenOf}
+use Rattle.answer_sorting.specs.Parts.{placedSources}
+use Rattle.answer_sources.specs.Laying.{sumBelow, elements, seenCount}
+use Rattle.answer_sources.specs.Placed.{CopiesPlaced, boundaryRows}
+use Rattle.answer_sources.specs.Standing.{Standing}
 use Rattle.answer_sources.specs.Gathered.{copiesBy, keptBy, PlacesStand, Gathered}
-use Rattle.answer_sources.proofs.Merged.{packed-append, kept-list, kept-at, merged-ends, merged-bits, merged-ramp, merged-fits, merged-own, merged-seen}
-use Rattle.answer_sources.proofs.Merged.{stands-none}
-use Rattle.answer_sources.proofs.Merged.{stands-append}
-use Rattle.answer_gathering.specs.Runs.{Prefix, keptRanks, going, ownRun, seenRun, ownWeight, seenWeight, OwnsBy, SeensBy}
+use Rattle.answer_sources.proofs.Merged.{kept-list, kept-at, merged-ends, merged-bits, merged-ramp, merged-own, merged-seen, member-below}
+use Rattle.answer_sources.proofs.Merged.{stands-none, stands-append}
+use Rattle.answer_gathering.specs.Runs.{Prefix, keptRanks, going, ownRun, seenRun, seenWeight, OwnsBy, SeensBy}
+use Rattle.answer_gathering.proofs.Sights.{standing-is}
 use Rattle.answer_gathering.proofs.Weights.{lower-all}
 
-packed-long : (l : List Source) → length l ≡ length (packed l)
-unfolding packed
-packed-long l = sym (length-map l sourcePack)
+-- How many own sources boundaries have, one after another.
+own-lengths : (l : List Boundary) → length (ownSources l) ≡ sumBelow (λ q. length (getD l q noBoundary .sources)) (length l)
+unfolding ownSources gather rows sum
+own-lengths [] = refl
+own-lengths (b ∷ l) = omega (arith, length-append (b .sources) (ownSources l), own-lengths l)
 
-module _ {bs : ℕ → BoundaryRecord} {os : ℕ → ObservationRecord} {ss : List Source} {base n : ℕ} {firsts first second third starts counts keys : List ℕ}
-    (placed : CopiesPlaced bs os ss base n firsts first second third starts counts keys) (order plan : List ℕ)
-    (inside : (j : ℕ) → j < n → getD order j 0 < n) where
+-- One of several that observed nothing is marked.
+module _ {order plan stands : List ℕ} {seen : ℕ → ℕ} {n : ℕ} (standing : Standing order plan seen n stands) (i : ℕ) (h : i < n) where
+  goes-there : (j : ℕ) → List·Memᴰ j (going plan n i) → getD plan j 0 ≡ i
+  unfolding members
+  goes-there j m = eqb-true (getD plan j 0) i (keep-mem (λ k. eqb (getD plan k 0) i) (upFrom 0 n) m .1)
+
+  stands-itself : (length (going plan n i) ≡ 1 → ⊥) → (j : ℕ) → List·Memᴰ j (going plan n i) → seen (getD order j 0) ≡ 0 → getD stands (getD order j 0) 0 ≡ 1
+  stands-itself d j m e =
+      let t : eqb (seen (getD order j 0)) 0 ≡ true = eq-eqb (seen (getD order j 0)) 0 e in
+      let f : eqb (length (going plan n i)) 1 ≡ false = ne-eqb (length (going plan n i)) 1 d in
+      standing-is standing (member-below (λ k. getD plan k 0) n i j m) (goes-there j m) h ∙ rw (t, f) refl
+
+module _ (s : List ℕ) (at from count : ℕ) {os : ℕ → ObservationRecord} {base n : ℕ} {stands firsts first second third starts counts keys : List ℕ}
+    (placed : CopiesPlaced (boundaryRows s at) os (sourceRecords s from count) base n stands firsts first second third starts counts keys)
+    (order plan : List ℕ) (inside : (j : ℕ) → j < n → getD order j 0 < n) (standing : Standing order plan (seenCount s at) n stands) where
+  abbrev bs : ℕ → BoundaryRecord
+  bs = boundaryRows s at
+
+  abbrev ss : List Source
+  ss = sourceRecords s from count
+
   -- What goes into rank i.
   abbrev whole : ℕ → Boundary
   whole i = merged (copiesBy bs os ss order n) (going plan n i) i
@@ -46,17 +71,14 @@ module _ {bs : ℕ → BoundaryRecord} {os : ℕ → ObservationRecord} {ss : Li
   abbrev Stays : ℕ → Type 0
   Stays i = (i < n) × (getD plan i 0 ≡ i)
 
-  own-run : (i : ℕ) → Stays i → packed (whole i .sources) ≡ ownRun base order plan starts counts keys n i
+  own-run : (i : ℕ) → Stays i → ownRun s at from base order plan starts n i ≡ whole i .sources
   unfolding ownRun
-  own-run i h = merged-own placed order inside (λ j. getD plan j 0) i (h .0) (h .1)
-
-  own-fits : (i : ℕ) → Stays i → All SourceFits (whole i .sources)
-  own-fits i h = merged-fits placed order inside (λ j. getD plan j 0) i (h .0) (h .1)
+  own-run i h = sym (merged-own s from count placed order inside (λ j. getD plan j 0) i (h .0) (h .1))
 
   seen-run : (i : ℕ) → Stays i → PlacesStand first second third starts counts keys
-      (seenRun base order plan firsts first second third starts counts keys (seenOf bs os ss) n i) (whole i .observations)
+      (seenRun base order plan firsts first second third starts counts keys (seenCount s at) n i) (whole i .observations)
   unfolding seenRun
-  seen-run i h = merged-seen placed order inside (λ j. getD plan j 0) i (h .0) (h .1)
+  seen-run i h = merged-seen placed order inside (λ j. getD plan j 0) i (h .0) (h .1) (stands-itself standing i (h .0))
 
   ranks-stay : (i : ℕ) → List·Memᴰ i (keptRanks plan n) → Stays i
   unfolding keptRanks
@@ -65,28 +87,17 @@ module _ {bs : ℕ → BoundaryRecord} {os : ℕ → ObservationRecord} {ss : Li
       let u = up-mem 0 n (k .0) in
       (omega (arith, u .1), eqb-true (getD plan i 0) i (k .1))
 
-  owns-are : (l : List ℕ) → ((i : ℕ) → List·Memᴰ i l → Stays i) → packed (ownSources (map whole l)) ≡ gather (ownRun base order plan starts counts keys n) l
-  unfolding ownSources gather packed
-  owns-are [] h = refl
-  owns-are (i ∷ l) h = packed-append (whole i .sources) (ownSources (map whole l))
-      ∙ (ap (λ (t : List ℕ). t ++ packed (ownSources (map whole l))) (own-run i (h i (List·Memᴰ·head refl)))
-      ∙ ap (λ (t : List ℕ). ownRun base order plan starts counts keys n i ++ t) (owns-are l (λ j m. h j (List·Memᴰ·tail m))))
-
-  owns-fit : (l : List ℕ) → ((i : ℕ) → List·Memᴰ i l → Stays i) → All SourceFits (ownSources (map whole l))
-  unfolding ownSources gather
-  owns-fit [] h = none
-  owns-fit (i ∷ l) h = all-append (own-fits i (h i (List·Memᴰ·head refl))) (owns-fit l (λ j m. h j (List·Memᴰ·tail m)))
-
   seens-are : (l : List ℕ) → ((i : ℕ) → List·Memᴰ i l → Stays i)
-      → PlacesStand first second third starts counts keys (gather (seenRun base order plan firsts first second third starts counts keys (seenOf bs os ss) n) l)
+      → PlacesStand first second third starts counts keys (gather (seenRun base order plan firsts first second third starts counts keys (seenCount s at) n) l)
       (observationsOf (map whole l))
   unfolding observationsOf flatMap gather
   seens-are [] h = stands-none
   seens-are (i ∷ l) h = stands-append (seen-run i (h i (List·Memᴰ·head refl))) (seens-are l (λ j m. h j (List·Memᴰ·tail m)))
 
-  module _ {k r a b : ℕ} {kept owns seens owned seen : List ℕ} (o : OwnsBy base order plan starts counts keys n n k a kept owns owned)
-      (s : SeensBy base order plan firsts first second third starts counts keys (seenOf bs os ss) n n r b seens seen)
-      (small : sumBelow (ownWeight base order counts) n ≤ 4096) (few : sumBelow (seenWeight order (seenOf bs os ss)) n ≤ 1280) where
+  module _ {heads k r a b : ℕ} {kept owns seens links owned seen : List ℕ}
+      (o : OwnsBy s at from base order plan starts heads n n k a kept owns links owned)
+      (e : SeensBy base order plan firsts first second third starts counts keys (seenCount s at) n n r b seens seen)
+      (few : sumBelow (seenWeight order (seenCount s at)) n ≤ 1280) where
     abbrev ranks : List ℕ
     ranks = keptRanks plan n
 
@@ -99,6 +110,9 @@ module _ {bs : ℕ → BoundaryRecord} {os : ℕ → ObservationRecord} {ss : Li
 
     ks-long : length ks ≡ length ranks
     ks-long = ap length ks-are ∙ length-map ranks whole
+
+    ks-many : k ≡ length ks
+    ks-many = o .kept-there .many ∙ (length-map ranks (λ j. getD order j 0) ∙ sym ks-long)
 
     rank-at : (q : ℕ) → q < length ks → Stays (getD ranks q 0)
     rank-at q h = ranks-stay (getD ranks q 0) (getD-mem ranks 0 q (omega (arith, h, ks-long)))
@@ -114,44 +128,53 @@ module _ {bs : ℕ → BoundaryRecord} {os : ℕ → ObservationRecord} {ss : Li
         let d : q < m = omega (arith, c, g .many, length-map ranks f) in
         sym (getD-take m l q 0 d) ∙ (ap (λ (t : List ℕ). getD t q 0) (g .there) ∙ map-at f ranks q 0 0 c)
 
-    owns-long : length (ownSources ks) ≡ a
-    owns-long = packed-long (ownSources ks)
-        ∙ (ap length (ap (λ (l : List Boundary). packed (ownSources l)) ks-are ∙ owns-are ranks ranks-stay) ∙ sym (o .owned-there .many))
-
-    stands-all : PlacesStand first second third starts counts keys
-        (gather (seenRun base order plan firsts first second third starts counts keys (seenOf bs os ss) n) ranks) (observationsOf ks)
-    stands-all = subst (λ (l : List Boundary).
-        PlacesStand first second third starts counts keys
-        (gather (seenRun base order plan firsts first second third starts counts keys (seenOf bs os ss) n) ranks)
-        (observationsOf l)) (sym ks-are) (seens-are ranks ranks-stay)
-
-    seens-long : length (observationsOf ks) ≡ b
-    seens-long = sym (stands-all .many) ∙ sym (s .seen-there .many)
-
     kept-is : (q : ℕ) → q < length ks → getD kept q 0 ≡ getD order (getD ranks q 0) 0
     kept-is q h = filled-at (λ j. getD order j 0) (o .kept-there) q h
 
-    pub gathered : Gathered bs n ks kept owns seens owned seen first second third starts counts keys × (k ≡ length ks)
+    own-are : (q : ℕ) → q < length ks
+        → sortBy sourceKey (placedSources s from owned (sumBelow (elements owns) q) (getD owns q 0)) ≡ getD ks q noBoundary .sources
+    own-are q h =
+        o .owned-there q (omega (arith, ks-many, h))
+        ∙ (own-run (getD ranks q 0) (rank-at q h) ∙ ap (λ (z : Boundary). z .sources) (sym (ks-at q h)))
+
+    own-many : (q : ℕ) → q < length ks → getD owns q 0 ≡ length (getD ks q noBoundary .sources)
+    own-many q h =
+        let l = placedSources s from owned (sumBelow (elements owns) q) (getD owns q 0) in
+        sym (sort-length (byKey sourceKey) l ∙ length-rows (getD owns q 0) _) ∙ ap length (own-are q h)
+
+    owns-long : length (ownSources ks) ≡ a
+    owns-long =
+        own-lengths ks
+        ∙ (ap sum (rows-same (length ks) (λ q. length (getD ks q noBoundary .sources)) (elements owns) (λ q h. sym (own-many q h)))
+        ∙ (ap (sumBelow (elements owns)) (sym ks-many) ∙ o .total))
+
+    stands-all : PlacesStand first second third starts counts keys
+        (gather (seenRun base order plan firsts first second third starts counts keys (seenCount s at) n) ranks) (observationsOf ks)
+    stands-all = subst (λ (l : List Boundary).
+        PlacesStand first second third starts counts keys
+        (gather (seenRun base order plan firsts first second third starts counts keys (seenCount s at) n) ranks)
+        (observationsOf l)) (sym ks-are) (seens-are ranks ranks-stay)
+
+    seens-long : length (observationsOf ks) ≡ b
+    seens-long = sym (stands-all .many) ∙ sym (e .seen-there .many)
+
+    pub gathered : Gathered s at from n ks kept owns seens owned seen first second third starts counts keys × (k ≡ length ks)
     gathered = (
       record {
-        few = omega (arith, ks-long, o .few, o .kept-there .many, length-map ranks (λ j. getD order j 0));
+        few = omega (arith, ks-many, o .few);
         place-in = λ q h. rw (kept-is q h) (inside (getD ranks q 0) (rank-at q h .0));
         ends-are = λ q h. rw (kept-is q h, ks-at q h) (merged-ends bs os ss order (λ j. getD plan j 0) n (getD ranks q 0) (rank-at q h .0) (rank-at q h .1));
         bits-are = λ q h. rw (kept-is q h, ks-at q h) (merged-bits bs os ss order (λ j. getD plan j 0) n (getD ranks q 0) (rank-at q h .0) (rank-at q h .1));
         ramp-is = λ q h. rw (kept-is q h, ks-at q h) (merged-ramp bs os ss order (λ j. getD plan j 0) n (getD ranks q 0) (rank-at q h .0) (rank-at q h .1));
-        own-count = λ q h.
-            filled-at (λ j. length (ownRun base order plan starts counts keys n j)) (o .owns-there) q h
-            ∙ (sym (ap length (own-run (getD ranks q 0) (rank-at q h)))
-            ∙ (sym (packed-long (whole (getD ranks q 0) .sources)) ∙ ap (λ (z : Boundary). length (z .sources)) (sym (ks-at q h))));
+        own-count = own-many;
         seen-count = λ q h.
-            filled-at (λ j. length (seenRun base order plan firsts first second third starts counts keys (seenOf bs os ss) n j)) (s .seens-there) q h
+            filled-at (λ j. length (seenRun base order plan firsts first second third starts counts keys (seenCount s at) n j)) (e .seens-there) q h
             ∙ (seen-run (getD ranks q 0) (rank-at q h) .many ∙ ap (λ (z : Boundary). length (z .observations)) (sym (ks-at q h)));
-        own-room = omega (arith, owns-long, o .room, lower-all plan (ownWeight base order counts) n n, small);
-        own-there = ap (λ (m : ℕ). take m owned) owns-long
-            ∙ (o .owned-there .there ∙ sym (ap (λ (l : List Boundary). packed (ownSources l)) ks-are ∙ owns-are ranks ranks-stay));
-        own-fits = rw ks-are (owns-fit ranks ranks-stay);
-        seen-room = omega (arith, seens-long, s .room, lower-all plan (seenWeight order (seenOf bs os ss)) n n, few);
-        seen-there = rw (seens-long, s .seen-there .there) stands-all;
+        own-room = omega (arith, owns-long, o .linked .few, o .linked .small);
+        own-there = own-are;
+        own-inside = λ q h. o .inside q (omega (arith, owns-long, h));
+        seen-room = omega (arith, seens-long, e .room, lower-all plan (seenWeight order (seenCount s at)) n n, few);
+        seen-there = rw (seens-long, e .seen-there .there) stands-all;
       },
-      o .kept-there .many ∙ (length-map ranks (λ j. getD order j 0) ∙ sym ks-long),
+      ks-many,
     )

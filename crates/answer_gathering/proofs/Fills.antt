@@ -5,17 +5,16 @@ use mathlib.Core.List.{List, [], _∷_, _++_, append-assoc, append-nil}
 use Prim.Native.Nat.{ℕ, _+_, _-_, _≤_, _<_}
 use native.Mathlib.Numerals.{add-one}
 use native.Mathlib.Omega.{arith}
-use lib.Dec.{leb}
-use lib.ListN.{length, getD, set, take, drop, length-append, length-set}
+use lib.ListN.{length, set, take, drop, length-append, length-set}
 use lib.Seq.{take-suc-set, length-take-le, take-take, take-add, take-at, drop-at}
 use Rattle.wire.specs.Bytes.{part, splice}
-use Rattle.wire.proofs.Parts.{part-cons, part-join, length-splice, take-splice}
+use Rattle.wire.proofs.Parts.{length-splice, take-splice}
 use Rattle.order.specs.Lists.{upFrom}
-use Rattle.order.specs.Sorting.{sort, sortOnce}
+use Rattle.order.specs.Sorting.{sort}
 use Rattle.order.proofs.Merge.{sort-length}
-use Rattle.sorting.specs.Between.{between, Front}
+use Rattle.sorting.specs.Between.{between}
+use Rattle.answer_sources.proofs.Stands.{up-next}
 use Rattle.answer_gathering.specs.Runs.{Prefix, Appended}
-use Rattle.order.proofs.Numbers.{up-last}
 
 pub filled-start : (l : List ℕ) → Prefix l 0 []
 filled-start l = record { many = refl; there = refl }
@@ -45,7 +44,7 @@ added-is {l} {m} {xs} {ys} {n} {r} {s} f e h = record {
   there = ap (λ (k : ℕ). take k m) (sym e) ∙ (f .there ∙ ap (λ (t : List ℕ). take n l ++ t) h);
 }
 
-pub added-put : {l m xs : List ℕ} {n r : ℕ} (v : ℕ) → Appended l n xs m r → r < length m → Appended l n (xs ++ (v ∷ [])) (set m r v) (r + 1)
+added-put : {l m xs : List ℕ} {n r : ℕ} (v : ℕ) → Appended l n xs m r → r < length m → Appended l n (xs ++ (v ∷ [])) (set m r v) (r + 1)
 added-put {l} {m} {xs} {n} {r} v f h = record {
   long = length-set m r v ∙ f .long;
   ends = omega (arith, f .ends, length-append xs (v ∷ []));
@@ -59,33 +58,12 @@ added-then {l} {xs = xs} {ys = ys} {n = n} f g = record {
   there = g .there ∙ (ap (λ (t : List ℕ). t ++ ys) (f .there) ∙ append-assoc (take n l) xs ys);
 }
 
-part-none : (s : List ℕ) (a : ℕ) → part s a 0 ≡ []
-unfolding part
-part-none s a = refl
-
-part-last : (s : List ℕ) (a k : ℕ) → a + k < length s → part s a (k + 1) ≡ part s a k ++ (getD s (a + k) 0 ∷ [])
-part-last s a k h =
-    part-join s a k 1
-    ∙ ap (λ (t : List ℕ). part s a k ++ t) (part-cons s (a + k) 0 h ∙ ap (λ (t : List ℕ). getD s (a + k) 0 ∷ t) (part-none s (a + k + 1)))
-
-pub up-next : (a n : ℕ) → upFrom a (n + 1) ≡ upFrom a n ++ ((a + n) ∷ [])
-up-next a n = rw add-one (up-last a n)
-
 -- One more of a run.
-pub keys-next : {l m : List ℕ} {to r : ℕ} (keys : List ℕ) (a k : ℕ) → Appended l to (part keys a k) m r → r ≡ to + k → to + k < length m → a + k < length keys
-    → Appended l to (part keys a (k + 1)) (set m (to + k) (getD keys (a + k) 0)) (to + (k + 1))
-keys-next {l} {m} {to} {r} keys a k f e h b =
-    let g : Appended l to (part keys a k) m (to + k) = added-is f e refl in
-    added-is (added-put (getD keys (a + k) 0) g h) (omega arith) (sym (part-last keys a k b))
-
 pub places-next : {l m : List ℕ} {to r : ℕ} (p k : ℕ) → Appended l to (upFrom p k) m r → r ≡ to + k → to + k < length m
     → Appended l to (upFrom p (k + 1)) (set m (to + k) (p + k)) (to + (k + 1))
 places-next {l} {m} {to} {r} p k f e h =
     let g : Appended l to (upFrom p k) m (to + k) = added-is f e refl in
     added-is (added-put (p + k) g h) (omega arith) (sym (up-next p k))
-
-pub keys-start : (keys l : List ℕ) (a to : ℕ) → Appended l to (part keys a 0) l (to + 0)
-keys-start keys l a to = added-is (added-none l to) (omega arith) (sym (part-none keys a))
 
 pub places-start : (l : List ℕ) (p to : ℕ) → Appended l to (upFrom p 0) l (to + 0)
 unfolding upFrom
@@ -109,26 +87,11 @@ module _ {l₀ l ys : List ℕ} {from to : ℕ} (f : Appended l₀ from ys l to)
       let e : from ≤ to = omega (arith, f .ends) in
       sym (take-take from to l e) ∙ (ap (take from) (f .there) ∙ take-at (take from l₀) ys from front-long)
 
-  pub last-there : between l from to ≡ ys
+  last-there : between l from to ≡ ys
   unfolding part
   last-there =
       sym (drop-at (take from l) (take (to - from) (drop from l)) from (ap length first-same ∙ front-long))
       ∙ (ap (drop from) joined ∙ drop-at (take from l₀) ys from front-long)
-
-  pub added-once : {m : List ℕ} {r : ℕ} → Front l from to (sortOnce leb (between l from to)) m r → length m ≡ length l → Appended l₀ from (sortOnce leb ys) m r
-  unfolding part
-  added-once {m} {r} g d =
-      let z : sortOnce leb (between l from to) ≡ sortOnce leb ys = ap (sortOnce leb) last-there in
-      let e : from + (r - from) ≡ r = omega (arith, g .ends) in
-      record {
-        long = d ∙ f .long;
-        ends = g .ends ∙ ap (λ (t : List ℕ). from + length t) z;
-        there =
-            ap (λ (k : ℕ). take k m) (sym e)
-            ∙ (take-add from (r - from) m
-            ∙ (ap (λ (t : List ℕ). t ++ take (r - from) (drop from m)) (g .earlier ∙ first-same)
-            ∙ ap (λ (t : List ℕ). take from l₀ ++ t) (g .holds ∙ z)));
-      }
 
   pub added-sorted : (le : ℕ → ℕ → Bool) {m : List ℕ} → to ≤ length l → m ≡ splice l from (sort le (between l from to)) → Appended l₀ from (sort le ys) m to
   added-sorted le {m} b e =

@@ -2,22 +2,21 @@
 use mathlib.Core.Path.{_≡_, refl, sym, _∙_, ap}
 use mathlib.Core.Logic.{by-cases}
 use mathlib.Core.Bool.{Bool, true, false, cond}
-use mathlib.Core.List.{List, _∷_, map, Permᴰ·symm, Permᴰ·map, List·Memᴰ, map-map}
-use Prim.Native.Nat.{ℕ, zero, suc, _+_, _≤_, _<_}
+use mathlib.Core.List.{List, _∷_, map, Permᴰ·map, map-map}
+use Prim.Native.Nat.{ℕ, zero, suc, _+_, _≤_}
 use native.Mathlib.Decide.{ℕ-discrete}
 use native.Mathlib.Omega.{arith}
 use borrow.Author.Tests.{eq-eqb, ne-eqb, lt-ltb, le-ltb, ltb-false, ltb-true}
 use lib.Dec.{eqb, ltb}
-use lib.ListN.{length, getD, length-map}
+use lib.ListN.{length, getD}
 use Rattle.lists.specs.Rows.{rows, sum}
 use Rattle.lists.proofs.Rows.{sum-last, rows-same, sum-perm}
 use Rattle.order.specs.Lists.{upFrom}
 use Rattle.order.proofs.Bools.{by-test}
-use Rattle.order.proofs.Members.{perm-mem, getD-mem}
-use Rattle.order.proofs.Numbers.{up-mem, map-up-at, up-length}
-use Rattle.answer_sources.specs.Laying.{sumBelow, seenCount}
+use Rattle.answer_sources.specs.Laying.{sumBelow, ownCount, seenCount}
 use Rattle.answer_sources.specs.Gathered.{PlacesOrder}
 use Rattle.answer_sources.proofs.Layouts.{below-none}
+use Rattle.answer_sources.proofs.Stands.{place-below}
 use Rattle.answer_gathering.specs.Runs.{into, lower, ownWeight, seenWeight}
 use Rattle.answer_gathering.specs.Room.{OwnsRoom, SeensRoom, GatherRoom}
 
@@ -66,59 +65,49 @@ rows-up f a (suc n) =
 below-up : (f : ℕ → ℕ) (n : ℕ) → sumBelow f n ≡ sum (map f (upFrom 0 n))
 below-up f n = ap sum (sym (rows-up f 0 n ∙ rows-same n (λ k. f (0 + k)) f (λ k h. ap f (let d : 0 + k ≡ k = omega arith in d))))
 
-pub below-order : (order : List ℕ) (n : ℕ) → PlacesOrder order n → (f : ℕ → ℕ) → sumBelow (λ j. f (getD order j 0)) n ≡ sumBelow f n
+below-order : (order : List ℕ) (n : ℕ) → PlacesOrder order n → (f : ℕ → ℕ) → sumBelow (λ j. f (getD order j 0)) n ≡ sumBelow f n
 below-order order n p f =
     below-up (λ j. f (getD order j 0)) n
     ∙ (sym (ap sum (map-map f (λ j. getD order j 0) (upFrom 0 n)))
     ∙ (sym (sum-perm (Permᴰ·map f p)) ∙ sym (below-up f n)))
 
-pub order-inside : (order : List ℕ) (n : ℕ) → PlacesOrder order n → (j : ℕ) → j < n → getD order j 0 < n
-order-inside order n p j h =
-    let e : getD (map (λ i. getD order i 0) (upFrom 0 n)) j 0 ≡ getD order j 0 = map-up-at (λ i. getD order i 0) 0 n j 0 h
-    ∙ ap (λ (k : ℕ). getD order k 0) (let d : 0 + j ≡ j = omega arith in d) in
-    let l : length (map (λ i. getD order i 0) (upFrom 0 n)) ≡ n = length-map (upFrom 0 n) (λ i. getD order i 0) ∙ up-length 0 n in
-    let m : List·Memᴰ (getD (map (λ i. getD order i 0) (upFrom 0 n)) j 0) (map (λ i. getD order i 0) (upFrom 0 n)) =
-    getD-mem (map (λ i. getD order i 0) (upFrom 0 n)) 0 j (omega (arith, l)) in
-    let u = up-mem 0 n (perm-mem (Permᴰ·symm p) m) in
-    omega (arith, u .1, e)
-
 below-suc : (f : ℕ → ℕ) (n : ℕ) → sumBelow (λ j. suc (f j)) n ≡ n + sumBelow f n
 below-suc f zero = omega (arith, below-none f, below-none (λ j. suc (f j)))
 below-suc f (suc n) = omega (arith, below-suc f n, sum-last n f, sum-last n (λ j. suc (f j)))
 
-module _ {s : List ℕ} {at base n : ℕ} {order firsts starts counts keys spare kept owns seens owned seen places : List ℕ}
-    (room : GatherRoom s at base n order firsts starts counts keys spare kept owns seens owned seen places) where
-  own-weight : sumBelow (ownWeight base order counts) n ≡ sumBelow (λ b. getD counts (base + b) 0) n
-  own-weight = below-order order n (room .ordered) (λ b. getD counts (base + b) 0)
+module _ {s : List ℕ} {at n from base heads : ℕ} {order plan stands firsts starts links kept owns seens owned seen places : List ℕ}
+    (room : GatherRoom s at n from base heads order plan stands firsts starts links kept owns seens owned seen places) where
+  own-weight : sumBelow (ownWeight s at order) n ≡ sumBelow (ownCount s at) n
+  own-weight = below-order order n (room .ordered) (ownCount s at)
 
   seen-weight : sumBelow (seenWeight order (seenCount s at)) n ≤ base + n
   seen-weight = omega (arith, below-order order n (room .ordered) (seenCount s at), below-suc (λ j. seenCount s at (getD order j 0)) n, room .seen-small)
 
-  pub owns-room : OwnsRoom base order starts counts keys spare kept owns owned n
+  pub owns-room : OwnsRoom s at from base order starts heads kept owns n
   owns-room = record {
     own = record {
       few = room .few;
-      order-in = order-inside order n (room .ordered);
+      order-in = place-below order n (room .ordered);
+      records-in = room .records-in;
       starts-room = room .starts-room;
-      counts-room = room .counts-room;
-      inside = room .parts-in;
+      inside = room .own-in;
+      small = room .own-few;
     };
-    small = rw own-weight (room .own-small);
-    spare-room = rw own-weight (room .spare-room);
-    owned-room = rw own-weight (room .owned-room);
+    owned-room = rw own-weight (room .own-small);
     kept-room = room .kept-room;
     owns-room = room .owns-room;
   }
 
-  pub seens-room : SeensRoom s at base order firsts seens seen places n
+  pub seens-room : SeensRoom s at base order plan stands firsts seens seen places n
   seens-room = record {
     own = record {
       few = room .few;
       base-few = room .base-few;
-      order-in = order-inside order n (room .ordered);
+      order-in = place-below order n (room .ordered);
       records-in = room .records-in;
       firsts-room = room .firsts-room;
       places-in = room .places-in;
+      standing = room .standing;
     };
     small = omega (arith, seen-weight, room .few, room .base-few);
     seens-room = room .seens-room;
@@ -127,21 +116,19 @@ module _ {s : List ℕ} {at base n : ℕ} {order firsts starts counts keys spare
   }
 
 -- Room stays room in lists that are as long.
-pub owns-room-same : {base : ℕ} {order starts counts keys spare kept owns owned spare′ kept′ owns′ owned′ : List ℕ} {n : ℕ}
-    → OwnsRoom base order starts counts keys spare kept owns owned n
-    → length spare′ ≡ length spare → length kept′ ≡ length kept → length owns′ ≡ length owns → length owned′ ≡ length owned
-    → OwnsRoom base order starts counts keys spare′ kept′ owns′ owned′ n
-owns-room-same r a b c d = record {
+pub owns-room-same : {s order starts kept owns kept′ owns′ : List ℕ} {at from base heads n : ℕ} → OwnsRoom s at from base order starts heads kept owns n
+    → length kept′ ≡ length kept → length owns′ ≡ length owns → OwnsRoom s at from base order starts heads kept′ owns′ n
+owns-room-same r a b = record {
   own = r .own;
-  small = r .small;
-  spare-room = omega (arith, r .spare-room, a);
-  owned-room = omega (arith, r .owned-room, d);
-  kept-room = omega (arith, r .kept-room, b);
-  owns-room = omega (arith, r .owns-room, c);
+  owned-room = r .owned-room;
+  kept-room = omega (arith, r .kept-room, a);
+  owns-room = omega (arith, r .owns-room, b);
 }
 
-pub seens-room-same : {s order firsts seens seen spare seens′ seen′ spare′ : List ℕ} {at base n : ℕ} → SeensRoom s at base order firsts seens seen spare n
-    → length seens′ ≡ length seens → length seen′ ≡ length seen → length spare′ ≡ length spare → SeensRoom s at base order firsts seens′ seen′ spare′ n
+pub seens-room-same : {s order plan stands firsts seens seen spare seens′ seen′ spare′ : List ℕ} {at base n : ℕ}
+    → SeensRoom s at base order plan stands firsts seens seen spare n
+    → length seens′ ≡ length seens → length seen′ ≡ length seen → length spare′ ≡ length spare
+    → SeensRoom s at base order plan stands firsts seens′ seen′ spare′ n
 seens-room-same r a b c = record {
   own = r .own;
   small = r .small;

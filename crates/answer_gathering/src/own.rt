@@ -1,20 +1,23 @@
-// The own sources of those that go into each kept rank.
+// Of the own sources of those that go into each kept rank, the places of the first of each kind.
 ghost use mathlib.Core.Bool.{cond};
-ghost use mathlib.Core.List.{[]};
-ghost use Prim.Native.Nat.{_+_, _≤_, _<_};
+ghost use Prim.Native.Nat.{_+_, _*_, _≤_, _<_};
 ghost use lib.Dec.{eqb};
-ghost use lib.ListN.{length, getD};
-ghost use Rattle.order.specs.Lists.{gather};
-ghost use Rattle.answer_sources.specs.Laying.{sumBelow};
-ghost use Rattle.answer_gathering.specs.Runs.{Appended, going, ownAt, ownRun, ownWeight, into, OwnsBy, gatheredTotal};
+ghost use lib.ListN.{getD};
+ghost use Rattle.answer_firsts.specs.Links.{Linked};
+ghost use Rattle.answer_sources.specs.Laying.{sumBelow, elements};
+ghost use Rattle.answer_gathering.specs.Runs.{ownWeight, into, FirstsBy, OwnsBy};
 ghost use Rattle.answer_gathering.specs.Room.{OwnRoom, OwnsRoom};
 use crate::casts::counted;
-use crate::runs::append_keys;
-use sorting::numbers::sort_unique;
+use answer_firsts::finding::add_places;
+use format::BOUNDARY_SIZE;
+use format::read_boundary;
 use wire::size;
 
-// The own sources of rank j, if it goes into rank i: where they end.
+// The own sources of rank j, if it goes into rank i: those of a kind without a number from `first` on get the next numbers.
 fn add_own(
+    job: &[u8],
+    at: usize,
+    from: usize,
     order: &[u32; 256],
     plan: &[u32; 256],
     n: usize,
@@ -22,114 +25,125 @@ fn add_own(
     i: usize,
     base: usize,
     starts: &[u32],
-    counts: &[u32],
-    keys: &[u64],
-    owned: &mut [u64],
-    to: usize,
+    heads: usize,
+    first: usize,
+    count: usize,
+    links: &mut [u16],
+    owned: &mut [u16],
 ) -> usize
-    requires { ⌜ OwnRoom base (now order) (now starts) (now counts) (now keys) n × (j < n)
-        × (to + into (now plan) (ownWeight base (now order) (now counts)) i j ≤ length (now owned)) ⌝ }
-    ensures { λ r. ⌜ Appended (now (owned .entry)) to
-        (cond (eqb (getD (now (plan .entry)) j 0) i) (ownAt base (now (order .entry)) (now (starts .entry)) (now (counts .entry)) (now (keys .entry)) j) [])
-        (now (owned .exit)) r ⌝ }
+    requires { ⌜ OwnRoom (now job) at from base (now order) (now starts) n × (j < n)
+        × (4 * (first + sumBelow (into (now plan) (ownWeight (now job) at (now order)) i) n) ≤ heads)
+        × FirstsBy (now job) at from base (now order) (now plan) (now starts) heads first i j count (now owned) (now links) (now owned) ⌝ }
+    ensures { λ r. ⌜ FirstsBy (now (job .entry)) at from base (now (order .entry)) (now (plan .entry)) (now (starts .entry)) heads first i (j + 1) r
+        (now (owned .entry)) (now (links .exit)) (now (owned .exit)) ⌝ }
 {
     if size(plan[j]) != i {
-        return to;
+        return count;
     }
-    let p = base + size(order[j]);
-    append_keys(keys, size(starts[p]), size(counts[p]), owned, to)
+    let b = size(order[j]);
+    let p = size(starts[base + b]);
+    let x = read_boundary(job, at + b * BOUNDARY_SIZE);
+    add_places(
+        job,
+        from,
+        p,
+        size(x.sources),
+        heads,
+        first,
+        count,
+        links,
+        owned,
+    )
 }
 
-// The own sources of all that go into rank i.
+// The own sources of all that go into rank i, numbered from `first` on.
 fn add_owns(
+    job: &[u8],
+    at: usize,
+    from: usize,
     order: &[u32; 256],
     plan: &[u32; 256],
     n: usize,
     i: usize,
     base: usize,
     starts: &[u32],
-    counts: &[u32],
-    keys: &[u64],
-    owned: &mut [u64],
-    from: usize,
+    heads: usize,
+    first: usize,
+    links: &mut [u16],
+    owned: &mut [u16],
 ) -> usize
-    requires { ⌜ OwnRoom base (now order) (now starts) (now counts) (now keys) n
-        × (from + sumBelow (into (now plan) (ownWeight base (now order) (now counts)) i) n ≤ length (now owned)) ⌝ }
-    ensures { λ r. ⌜ Appended (now (owned .entry)) from
-        (gather (ownAt base (now (order .entry)) (now (starts .entry)) (now (counts .entry)) (now (keys .entry))) (going (now (plan .entry)) n i))
-        (now (owned .exit)) r × (r ≤ from + sumBelow (into (now (plan .entry)) (ownWeight base (now (order .entry)) (now (counts .entry))) i) n) ⌝ }
+    requires { ⌜ OwnRoom (now job) at from base (now order) (now starts) n
+        × (4 * (first + sumBelow (into (now plan) (ownWeight (now job) at (now order)) i) n) ≤ heads)
+        × Linked heads (now job) from first first (now links) (now owned) ⌝ }
+    ensures { λ r. ⌜ FirstsBy (now (job .entry)) at from base (now (order .entry)) (now (plan .entry)) (now (starts .entry)) heads first i n r
+        (now (owned .entry)) (now (links .exit)) (now (owned .exit)) ⌝ }
 {
-    let mut to = from;
+    let mut count = first;
     let mut j: usize = 0;
     while j < n {
-        to = add_own(order, plan, n, j, i, base, starts, counts, keys, owned, to);
+        count = add_own(
+            job,
+            at,
+            from,
+            order,
+            plan,
+            n,
+            j,
+            i,
+            base,
+            starts,
+            heads,
+            first,
+            count,
+            links,
+            owned,
+        );
         j += 1;
     }
-    to
+    count
 }
 
-// These, sorted and each once.
-fn gather_own(
-    order: &[u32; 256],
-    plan: &[u32; 256],
-    n: usize,
-    i: usize,
-    base: usize,
-    starts: &[u32],
-    counts: &[u32],
-    keys: &[u64],
-    spare: &mut [u64],
-    owned: &mut [u64],
-    from: usize,
-) -> usize
-    requires { ⌜ OwnRoom base (now order) (now starts) (now counts) (now keys) n
-        × (from + sumBelow (into (now plan) (ownWeight base (now order) (now counts)) i) n ≤ length (now owned))
-        × (from + sumBelow (into (now plan) (ownWeight base (now order) (now counts)) i) n ≤ length (now spare)) ⌝ }
-    ensures { λ r. ⌜ Appended (now (owned .entry)) from
-        (ownRun base (now (order .entry)) (now (plan .entry)) (now (starts .entry)) (now (counts .entry)) (now (keys .entry)) n i) (now (owned .exit)) r
-        × (r ≤ from + sumBelow (into (now (plan .entry)) (ownWeight base (now (order .entry)) (now (counts .entry))) i) n) ⌝ }
-{
-    let end = add_owns(order, plan, n, i, base, starts, counts, keys, owned, from);
-    sort_unique(owned, spare, from, end)
-}
-
-// One rank more: of a kept one its place, how many own sources it has, and these.
+// One rank more: of a kept one its place, how many kinds of own sources it has, and their places.
 fn own_rank(
+    job: &[u8],
+    at: usize,
+    from: usize,
     order: &[u32; 256],
     plan: &[u32; 256],
     n: usize,
     i: usize,
     base: usize,
     starts: &[u32],
-    counts: &[u32],
-    keys: &[u64],
-    spare: &mut [u64],
+    heads: usize,
+    links: &mut [u16],
     kept: &mut [u32],
     owns: &mut [u32],
-    owned: &mut [u64],
+    owned: &mut [u16],
     k: usize,
     a: usize,
 ) -> usize
-    requires { ⌜ OwnsRoom base (now order) (now starts) (now counts) (now keys) (now spare) (now kept) (now owns) (now owned) n × (i < n)
-        × OwnsBy base (now order) (now plan) (now starts) (now counts) (now keys) n i k a (now kept) (now owns) (now owned) ⌝ }
-    ensures { λ r. ⌜ OwnsBy base (now (order .entry)) (now (plan .entry)) (now (starts .entry)) (now (counts .entry)) (now (keys .entry)) n (i + 1)
-        (k + cond (eqb (getD (now (plan .entry)) i 0) i) 1 0) r (now (kept .exit)) (now (owns .exit)) (now (owned .exit)) ⌝ }
+    requires { ⌜ OwnsRoom (now job) at from base (now order) (now starts) heads (now kept) (now owns) n × (i < n)
+        × OwnsBy (now job) at from base (now order) (now plan) (now starts) heads n i k a (now kept) (now owns) (now links) (now owned) ⌝ }
+    ensures { λ r. ⌜ OwnsBy (now (job .entry)) at from base (now (order .entry)) (now (plan .entry)) (now (starts .entry)) heads n (i + 1)
+        (k + cond (eqb (getD (now (plan .entry)) i 0) i) 1 0) r (now (kept .exit)) (now (owns .exit)) (now (links .exit)) (now (owned .exit)) ⌝ }
 {
     if size(plan[i]) != i {
         return a;
     }
-    let r = gather_own(
+    let r = add_owns(
+        job,
+        at,
+        from,
         order,
         plan,
         n,
         i,
         base,
         starts,
-        counts,
-        keys,
-        spare,
-        owned,
+        heads,
         a,
+        links,
+        owned,
     );
     kept[k] = order[i];
     owns[k] = (r - a) as u32;
@@ -138,42 +152,46 @@ fn own_rank(
 
 // The own sources of every kept rank: how many are kept.
 pub fn gather_owns(
+    job: &[u8],
+    at: usize,
+    from: usize,
     order: &[u32; 256],
     plan: &[u32; 256],
     n: usize,
     base: usize,
     starts: &[u32],
-    counts: &[u32],
-    keys: &[u64],
-    spare: &mut [u64],
+    heads: usize,
+    links: &mut [u16],
     kept: &mut [u32],
     owns: &mut [u32],
-    owned: &mut [u64],
+    owned: &mut [u16],
 ) -> usize
-    requires { ⌜ OwnsRoom base (now order) (now starts) (now counts) (now keys) (now spare) (now kept) (now owns) (now owned) n ⌝ }
-    ensures { λ r. ⌜ OwnsBy base (now (order .entry)) (now (plan .entry)) (now (starts .entry)) (now (counts .entry)) (now (keys .entry)) n n r
-        (gatheredTotal base (now (order .entry)) (now (plan .entry)) (now (starts .entry)) (now (counts .entry)) (now (keys .entry)) n) (now (kept .exit))
-        (now (owns .exit)) (now (owned .exit)) ⌝ }
+    requires { ⌜ OwnsRoom (now job) at from base (now order) (now starts) heads (now kept) (now owns) n
+        × Linked heads (now job) from 0 0 (now links) (now owned) ⌝ }
+    ensures { λ r. ⌜ OwnsBy (now (job .entry)) at from base (now (order .entry)) (now (plan .entry)) (now (starts .entry)) heads n n r
+        (sumBelow (elements (now (owns .exit))) r) (now (kept .exit)) (now (owns .exit)) (now (links .exit)) (now (owned .exit)) ⌝ }
 {
     let mut k: usize = 0;
-    let mut a: usize = 0;
+    let mut end: usize = 0;
     let mut i: usize = 0;
     while i < n {
-        a = own_rank(
+        end = own_rank(
+            job,
+            at,
+            from,
             order,
             plan,
             n,
             i,
             base,
             starts,
-            counts,
-            keys,
-            spare,
+            heads,
+            links,
             kept,
             owns,
             owned,
             k,
-            a,
+            end,
         );
         k += counted(plan[i], i);
         i += 1;

@@ -1,22 +1,8 @@
 // Numbers written after those that are there.
 ghost use Prim.Native.Nat.{_+_, _≤_};
 ghost use lib.ListN.{length};
-ghost use Rattle.wire.specs.Bytes.{part};
 ghost use Rattle.order.specs.Lists.{upFrom};
 ghost use Rattle.answer_gathering.specs.Runs.{Appended};
-
-// The m keys from a on, after the first `to` of `owned`: where they end.
-pub fn append_keys(keys: &[u64], a: usize, m: usize, owned: &mut [u64], to: usize) -> usize
-    requires { ⌜ (a + m ≤ length (now keys)) × (to + m ≤ length (now owned)) ⌝ }
-    ensures { λ r. ⌜ Appended (now (owned .entry)) to (part (now (keys .entry)) a m) (now (owned .exit)) r ⌝ }
-{
-    let mut k: usize = 0;
-    while k < m {
-        owned[to + k] = keys[a + k];
-        k += 1;
-    }
-    to + m
-}
 
 // The m places from p on, after the first `to` of `seen`: where they end.
 pub fn append_places(p: usize, m: usize, seen: &mut [u32], to: usize) -> usize

@@ -1,13 +1,11 @@
 // The places of what those observed that go into each kept rank.
-ghost use mathlib.Core.Path.{_≡_};
 ghost use mathlib.Core.Bool.{cond};
-ghost use mathlib.Core.List.{List, []};
-ghost use Prim.Native.Nat.{ℕ, _+_, _≤_, _<_};
+ghost use mathlib.Core.List.{[], _∷_};
+ghost use Prim.Native.Nat.{_+_, _≤_, _<_};
 ghost use lib.Dec.{eqb};
 ghost use lib.ListN.{length, getD};
-ghost use Rattle.order.specs.Lists.{gather};
+ghost use Rattle.order.specs.Lists.{gather, upFrom};
 ghost use Rattle.answer_sources.specs.Laying.{sumBelow, seenCount};
-ghost use Rattle.answer_sources.specs.Gathered.{placesFrom};
 ghost use Rattle.answer_gathering.specs.Runs.{Appended, going, placesAt, seenRun, seenWeight, into, SeensBy, seenTotal};
 ghost use Rattle.answer_gathering.specs.Room.{SeenRoom, SeensRoom};
 use crate::casts::counted;
@@ -17,41 +15,23 @@ use format::read_boundary;
 use places::places::sort_places;
 use wire::size;
 
-// How many ranks go into rank i.
-fn count_going(plan: &[u32; 256], n: usize, i: usize) -> usize
-    requires { ⌜ n ≤ 256 ⌝ }
-    ensures { λ r. ⌜ r ≡ length (going (now (plan .entry)) n i) ⌝ }
-{
-    let mut count: usize = 0;
-    let mut j: usize = 0;
-    while j < n {
-        count += counted(plan[j], i);
-        j += 1;
-    }
-    count
-}
-
-// The places of the m observations of the boundary at place b, the first at p: itself where it observed nothing and isn't alone.
-fn add_places(
+// The places of the m observations of the boundary at place b, the first at p: itself where it stands as one.
+fn add_seen_places(
     base: usize,
     b: usize,
     p: usize,
     m: usize,
-    among: usize,
+    stand: u32,
     seen: &mut [u32],
     to: usize,
 ) -> usize
     requires { ⌜ (base + b < 1280) × (p + m ≤ 1280) × (to + m + 1 ≤ length (now seen)) ⌝ }
-    ensures { λ r. ⌜ ((firsts : List ℕ) (count : ℕ → ℕ) → getD firsts b 0 ≡ p → count b ≡ m
-        → Appended (now (seen .entry)) to (placesFrom base firsts count (eqb among 1) b) (now (seen .exit)) r) ⌝ }
+    ensures { λ r. ⌜ Appended (now (seen .entry)) to (cond (eqb stand 1) ((base + b) ∷ []) (upFrom p m)) (now (seen .exit)) r ⌝ }
 {
-    if m != 0 {
-        return append_places(p, m, seen, to);
+    if stand == 1 {
+        return append_places(base + b, 1, seen, to);
     }
-    if among == 1 {
-        return to;
-    }
-    append_places(base + b, 1, seen, to)
+    append_places(p, m, seen, to)
 }
 
 // The places of what rank j observed, if it goes into rank i.
@@ -64,15 +44,16 @@ fn add_seen(
     j: usize,
     i: usize,
     base: usize,
+    stands: &[u32; 256],
     firsts: &[u32],
-    among: usize,
     seen: &mut [u32],
     to: usize,
 ) -> usize
-    requires { ⌜ SeenRoom (now job) at base (now order) (now firsts) n × (j < n)
+    requires { ⌜ SeenRoom (now job) at base (now order) (now plan) (now stands) (now firsts) n × (j < n) × (i < n)
         × (to + into (now plan) (seenWeight (now order) (seenCount (now job) at)) i j ≤ length (now seen)) ⌝ }
     ensures { λ r. ⌜ Appended (now (seen .entry)) to
-        (cond (eqb (getD (now (plan .entry)) j 0) i) (placesAt base (now (order .entry)) (now (firsts .entry)) (seenCount (now (job .entry)) at) among j)
+        (cond (eqb (getD (now (plan .entry)) j 0) i) (placesAt base (now (order .entry)) (now (firsts .entry)) (seenCount (now (job .entry)) at)
+        (length (going (now (plan .entry)) n i)) j)
         []) (now (seen .exit)) r ⌝ }
 {
     if size(plan[j]) != i {
@@ -80,12 +61,12 @@ fn add_seen(
     }
     let b = size(order[j]);
     let x = read_boundary(job, at + b * BOUNDARY_SIZE);
-    add_places(
+    add_seen_places(
         base,
         b,
         size(firsts[b]),
         size(x.observations),
-        among,
+        stands[b],
         seen,
         to,
     )
@@ -100,21 +81,35 @@ fn add_seens(
     n: usize,
     i: usize,
     base: usize,
+    stands: &[u32; 256],
     firsts: &[u32],
-    among: usize,
     seen: &mut [u32],
     from: usize,
 ) -> usize
-    requires { ⌜ SeenRoom (now job) at base (now order) (now firsts) n
+    requires { ⌜ SeenRoom (now job) at base (now order) (now plan) (now stands) (now firsts) n × (i < n)
         × (from + sumBelow (into (now plan) (seenWeight (now order) (seenCount (now job) at)) i) n ≤ length (now seen)) ⌝ }
     ensures { λ r. ⌜ Appended (now (seen .entry)) from
-        (gather (placesAt base (now (order .entry)) (now (firsts .entry)) (seenCount (now (job .entry)) at) among) (going (now (plan .entry)) n i))
+        (gather (placesAt base (now (order .entry)) (now (firsts .entry)) (seenCount (now (job .entry)) at)
+        (length (going (now (plan .entry)) n i))) (going (now (plan .entry)) n i))
         (now (seen .exit)) r × (r ≤ from + sumBelow (into (now (plan .entry)) (seenWeight (now (order .entry)) (seenCount (now (job .entry)) at)) i) n) ⌝ }
 {
     let mut to = from;
     let mut j: usize = 0;
     while j < n {
-        to = add_seen(job, at, order, plan, n, j, i, base, firsts, among, seen, to);
+        to = add_seen(
+            job,
+            at,
+            order,
+            plan,
+            n,
+            j,
+            i,
+            base,
+            stands,
+            firsts,
+            seen,
+            to,
+        );
         j += 1;
     }
     to
@@ -129,6 +124,7 @@ fn gather_seen(
     n: usize,
     i: usize,
     base: usize,
+    stands: &[u32; 256],
     firsts: &[u32],
     first: &[u64],
     second: &[u64],
@@ -140,7 +136,7 @@ fn gather_seen(
     spare: &mut [u32],
     from: usize,
 ) -> usize
-    requires { ⌜ SeenRoom (now job) at base (now order) (now firsts) n
+    requires { ⌜ SeenRoom (now job) at base (now order) (now plan) (now stands) (now firsts) n × (i < n)
         × (from + sumBelow (into (now plan) (seenWeight (now order) (seenCount (now job) at)) i) n ≤ length (now seen))
         × (from + sumBelow (into (now plan) (seenWeight (now order) (seenCount (now job) at)) i) n ≤ length (now spare)) ⌝ }
     ensures { λ r. ⌜ Appended (now (seen .entry)) from
@@ -148,8 +144,7 @@ fn gather_seen(
         (now (starts .entry)) (now (counts .entry)) (now (keys .entry)) (seenCount (now (job .entry)) at) n i) (now (seen .exit)) r
         × (r ≤ from + sumBelow (into (now (plan .entry)) (seenWeight (now (order .entry)) (seenCount (now (job .entry)) at)) i) n) ⌝ }
 {
-    let among = count_going(plan, n, i);
-    let end = add_seens(job, at, order, plan, n, i, base, firsts, among, seen, from);
+    let end = add_seens(job, at, order, plan, n, i, base, stands, firsts, seen, from);
     sort_places(
         seen,
         spare,
@@ -174,6 +169,7 @@ fn seen_rank(
     n: usize,
     i: usize,
     base: usize,
+    stands: &[u32; 256],
     firsts: &[u32],
     first: &[u64],
     second: &[u64],
@@ -187,7 +183,7 @@ fn seen_rank(
     k: usize,
     a: usize,
 ) -> usize
-    requires { ⌜ SeensRoom (now job) at base (now order) (now firsts) (now seens) (now seen) (now spare) n × (i < n)
+    requires { ⌜ SeensRoom (now job) at base (now order) (now plan) (now stands) (now firsts) (now seens) (now seen) (now spare) n × (i < n)
         × SeensBy base (now order) (now plan) (now firsts) (now first) (now second) (now third) (now starts) (now counts) (now keys)
         (seenCount (now job) at) n i k a (now seens) (now seen) ⌝ }
     ensures { λ r. ⌜ SeensBy base (now (order .entry)) (now (plan .entry)) (now (firsts .entry)) (now (first .entry)) (now (second .entry)) (now (third .entry))
@@ -205,6 +201,7 @@ fn seen_rank(
         n,
         i,
         base,
+        stands,
         firsts,
         first,
         second,
@@ -228,6 +225,7 @@ pub fn gather_seens(
     plan: &[u32; 256],
     n: usize,
     base: usize,
+    stands: &[u32; 256],
     firsts: &[u32],
     first: &[u64],
     second: &[u64],
@@ -239,7 +237,7 @@ pub fn gather_seens(
     seen: &mut [u32],
     spare: &mut [u32],
 ) -> usize
-    requires { ⌜ SeensRoom (now job) at base (now order) (now firsts) (now seens) (now seen) (now spare) n ⌝ }
+    requires { ⌜ SeensRoom (now job) at base (now order) (now plan) (now stands) (now firsts) (now seens) (now seen) (now spare) n ⌝ }
     ensures { λ r. ⌜ SeensBy base (now (order .entry)) (now (plan .entry)) (now (firsts .entry)) (now (first .entry)) (now (second .entry)) (now (third .entry))
         (now (starts .entry)) (now (counts .entry)) (now (keys .entry)) (seenCount (now (job .entry)) at) n n r
         (seenTotal base (now (order .entry)) (now (plan .entry)) (now (firsts .entry)) (now (first .entry)) (now (second .entry)) (now (third .entry))
@@ -257,6 +255,7 @@ pub fn gather_seens(
             n,
             i,
             base,
+            stands,
             firsts,
             first,
             second,

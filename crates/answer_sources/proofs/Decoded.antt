@@ -17,7 +17,7 @@ use Rattle.answer_sources.specs.Laying.{sumBelow, ownStart, firstSeen, s
 use Rattle.answer_sources.specs.Placed.{ownOf, seenOf, citedOf, observationFrom, observationOf, boundaryOf, boundaryRows, observationRows}
 
 -- n rows from row o on.
-rows-part : {A : Type 0} (m o n : ℕ) (f : ℕ → A) → o + n ≤ m → take n (drop o (rows m f)) ≡ rows n (λ k. f (o + k))
+pub rows-part : {A : Type 0} (m o n : ℕ) (f : ℕ → A) → o + n ≤ m → take n (drop o (rows m f)) ≡ rows n (λ k. f (o + k))
 rows-part m o n f h =
     let e : m ≡ o + (n + (m - (o + n))) = omega arith in
     ap (λ (z : ℕ). take n (drop o (rows z f))) e

@@ -9,7 +9,8 @@ use lib.ListN.{length, getD, set, length-set, replicate}
 use lib.Seq.{getD-set-same, getD-set-other}
 use Rattle.lists.specs.Rows.{rows, sum}
 use Rattle.lists.proofs.Rows.{sum-last, sum-prefix, zero-at}
-use Rattle.answer_sources.specs.Laying.{sumBelow, Apart, Lays, LayRoom, LaidOut, Layout, LaidAll, Countable, PlanRoom, ownCount, seenCount, citedCount}
+use Rattle.answer_sources.specs.Laying.{sumBelow, Apart, Lays, LayRoom, LaidOut, Layout, LaidAll, Countable, PlanRoom, ownCount, seenCount}
+use Rattle.answer_sources.specs.Laying.{citedCount, stood}
 use Rattle.answer_sources.proofs.Lays.{below-next, apart-next}
 
 pub below-none : (f : ℕ → ℕ) → sumBelow f 0 ≡ 0
@@ -19,9 +20,12 @@ below-none f = refl
 below-suc : (f : ℕ → ℕ) (i : ℕ) → sumBelow f (suc i) ≡ sumBelow f i + f i
 below-suc f i = sum-last i f
 
-pub layout-start : (s : List ℕ) (at ats : ℕ) {base n : ℕ} {firsts starts counts : List ℕ} → PlanRoom base n firsts starts counts
-    → Layout (ownCount s at) (seenCount s at) (citedCount s ats) base n firsts starts counts 0 0 0
-layout-start s at ats g = record {
+pub apart-wider : {starts counts : List ℕ} {r t : ℕ} → Apart starts counts r → r ≤ t → Apart starts counts t
+apart-wider a h = record { ends = λ q. omega (arith, a .ends q); apart = a .apart }
+
+pub layout-start : (stands s : List ℕ) (at ats : ℕ) {base n : ℕ} {firsts starts counts : List ℕ} → PlanRoom base n firsts starts counts
+    → Layout stands (ownCount s at) (seenCount s at) (citedCount s ats) base n firsts starts counts 0 0 0
+layout-start stands s at ats g = record {
   place = sym (below-none (seenCount s at));
   running = omega (arith, below-none (ownCount s at), below-none (citedCount s ats));
   laid = record {
@@ -38,8 +42,8 @@ layout-start s at ats g = record {
 }
 
 -- What the limits leave at boundary b.
-module _ {s : List ℕ} {at n ats base : ℕ} (g : Countable s at n ats base) {firsts starts counts : List ℕ} {b p run : ℕ}
-    (l : Layout (ownCount s at) (seenCount s at) (citedCount s ats) base n firsts starts counts b p run) (h : b < n) where
+module _ {stands s : List ℕ} {at n ats base : ℕ} (g : Countable s at n ats base) {firsts starts counts : List ℕ} {b p run : ℕ}
+    (l : Layout stands (ownCount s at) (seenCount s at) (citedCount s ats) base n firsts starts counts b p run) (h : b < n) where
   pub observations-below : p + seenCount s at b ≤ base
   observations-below =
       let m = sum-prefix (b + 1) n (seenCount s at) (omega arith) in
@@ -70,19 +74,19 @@ module _ {s : List ℕ} {at n ats base : ℕ} (g : Countable s at n ats base) {f
   pub own-place : base + b < 1280
   own-place = omega (arith, g .boundary-limit, g .observation-limit)
 
-  -- the room for its observations, once its own sources are laid
-  pub room-for : {v w r : ℕ} → v ≡ ownCount s at b → w ≡ seenCount s at b → r ≡ run + v
+  -- the room for its observations, once its own sources are laid: o of them, of which v are a part
+  pub room-for : {o v w r : ℕ} → o ≡ ownCount s at b → v ≤ o → w ≡ seenCount s at b → r ≡ run + o
       → LayRoom s ats p w r (set starts (base + b) run) (set counts (base + b) v)
-  room-for {v} {w} {r} x y z = record {
+  room-for {o} {v} {w} {r} x u y z = record {
     inside = rw y observations-inside;
     starts-room = simp length-set (omega (arith, l .starts-room, observations-below));
     counts-room = simp length-set (omega (arith, l .counts-room, observations-below));
     small = rw (z, x, y) sources-fit;
-    clear = rw z (apart-next v (l .clear) (omega (arith, l .starts-room)) (omega (arith, l .counts-room)));
+    clear = apart-wider (apart-next v (l .clear) (omega (arith, l .starts-room)) (omega (arith, l .counts-room))) (omega (arith, u, z));
   }
 
-  module _ {v w r : ℕ} {starts′ counts′ : List ℕ} (x : v ≡ ownCount s at b) (y : w ≡ seenCount s at b)
-      (t : Lays (citedCount s ats) p w (run + v) (set starts (base + b) run) (set counts (base + b) v) starts′ counts′ r) where
+  module _ {o v w r : ℕ} {starts′ counts′ : List ℕ} (x : o ≡ ownCount s at b) (u : v ≡ stood stands (ownCount s at) b) (y : w ≡ seenCount s at b)
+      (t : Lays (citedCount s ats) p w (run + o) (set starts (base + b) run) (set counts (base + b) v) starts′ counts′ r) where
     abbrev own : ℕ → ℕ
     own = ownCount s at
 
@@ -121,7 +125,7 @@ module _ {s : List ℕ} {at n ats base : ℕ} (g : Countable s at n ats base) {f
     cited-new : (k : ℕ) → k < seen b → (getD starts′ (p + k) 0 ≡ sumBelow own (suc b) + sumBelow cited (p + k)) × (getD counts′ (p + k) 0 ≡ cited (p + k))
     cited-new k i = (omega (arith, t .start-there k (rw y i), l .running, below-suc own b, x), t .count-there k (rw y i))
 
-    laid-next : LaidOut own seen cited base (b + 1) (set firsts b p) starts′ counts′
+    laid-next : LaidOut stands own seen cited base (b + 1) (set firsts b p) starts′ counts′
     laid-next = record {
       first-there = λ c i.
           by-cases (ℕ-discrete c b)
@@ -133,7 +137,7 @@ module _ {s : List ℕ} {at n ats base : ℕ} (g : Countable s at n ats base) {f
           (λ d. own-kept c d .0 ∙ l .laid .own-start c (omega arith));
       own-count = λ c i.
           by-cases (ℕ-discrete c b)
-          (λ e. rw e (own-new .1 ∙ x))
+          (λ e. rw e (own-new .1 ∙ u))
           (λ d. own-kept c d .1 ∙ l .laid .own-count c (omega arith));
       cited-start = λ c k i j.
           by-cases (ℕ-discrete c b)
@@ -147,7 +151,7 @@ module _ {s : List ℕ} {at n ats base : ℕ} (g : Countable s at n ats base) {f
 
     -- the layout of one more, in lists that are as long
     pub layout-next : {f i j : ℕ} → length firsts ≡ f → length starts ≡ i → length counts ≡ j
-        → Layout own seen cited base n (set firsts b p) starts′ counts′ (b + 1) (p + w) r × (length (set firsts b p) ≡ f) × (length starts′ ≡ i)
+        → Layout stands own seen cited base n (set firsts b p) starts′ counts′ (b + 1) (p + w) r × (length (set firsts b p) ≡ f) × (length starts′ ≡ i)
         × (length counts′ ≡ j)
     layout-next d e f = (
       record {
@@ -164,17 +168,14 @@ module _ {s : List ℕ} {at n ats base : ℕ} (g : Countable s at n ats base) {f
       t .counts-long ∙ length-set counts (base + b) v ∙ f,
     )
 
-pub apart-wider : {starts counts : List ℕ} {r t : ℕ} → Apart starts counts r → r ≤ t → Apart starts counts t
-apart-wider a h = record { ends = λ q. omega (arith, a .ends q); apart = a .apart }
-
-pub layout-end : {s : List ℕ} {at n ats base : ℕ} → Countable s at n ats base → {firsts starts counts : List ℕ} {b p run : ℕ}
-    → Layout (ownCount s at) (seenCount s at) (citedCount s ats) base n firsts starts counts b p run → b ≤ n → n ≤ b
-    → LaidAll (ownCount s at) (seenCount s at) (citedCount s ats) base n firsts starts counts
-layout-end {s} {at} {n} {ats} {base} g {firsts} {starts} {counts} {b} {p} {run} l h k =
+pub layout-end : {stands s : List ℕ} {at n ats base : ℕ} → Countable s at n ats base → {firsts starts counts : List ℕ} {b p run : ℕ}
+    → Layout stands (ownCount s at) (seenCount s at) (citedCount s ats) base n firsts starts counts b p run → b ≤ n → n ≤ b
+    → LaidAll stands (ownCount s at) (seenCount s at) (citedCount s ats) base n firsts starts counts
+layout-end {stands} {s} {at} {n} {ats} {base} g {firsts} {starts} {counts} {b} {p} {run} l h k =
     let e : b ≡ n = omega arith in
     let d : run ≡ sumBelow (ownCount s at) n + sumBelow (citedCount s ats) (sumBelow (seenCount s at) n) = rw (← e, ← l .place) (l .running) in
     record {
-      laid = subst (λ (z : ℕ). LaidOut (ownCount s at) (seenCount s at) (citedCount s ats) base z firsts starts counts) e (l .laid);
+      laid = subst (λ (z : ℕ). LaidOut stands (ownCount s at) (seenCount s at) (citedCount s ats) base z firsts starts counts) e (l .laid);
       clear = apart-wider (l .clear) (omega (arith, d));
     }
 

@@ -1,3 +1,4 @@
+pub mod Stands
 pub mod KeysRead
 pub mod Lays
 pub mod Layouts

@@ -1,30 +1,30 @@
 -- What a kept rank's merged boundary has, of the arrays that hold the canonical copies.
 use mathlib.Core.Path.{_≡_, refl, sym, _∙_, ap, subst}
 use mathlib.Core.Bool.{Bool, true, false, cond, not, _&&_}
-use mathlib.Core.List.{List, [], _∷_, _++_, map, append-nil, map-append, List·Memᴰ, List·Memᴰ·head, List·Memᴰ·tail, List·Memᴰ·not-nil, List·Permᴰ}
+use mathlib.Core.List.{List, [], _∷_, _++_, map, append-nil, List·Memᴰ, List·Memᴰ·head, List·Memᴰ·tail, List·Memᴰ·not-nil, List·Permᴰ}
 use mathlib.Core.List.{List·Permᴰ·nil, List·Permᴰ·trans, Permᴰ·refl, Permᴰ·symm, Permᴰ·append-left, Permᴰ·append-right}
-use Prim.Native.Nat.{ℕ, zero, suc, _+_, _<_}
-use native.Mathlib.Numerals.{add-one}
+use Prim.Native.Nat.{ℕ, zero, suc, _+_, _*_, _<_}
 use native.Mathlib.Omega.{arith}
 use borrow.Author.Tests.{eqb-true, eq-eqb, ne-eqb}
-use lib.Dec.{eqb, leb}
-use lib.ListN.{length, getD, length-map}
-use Rattle.lists.specs.Rows.{rows, All, none}
-use Rattle.lists.proofs.Each.{all-append}
+use lib.Dec.{eqb}
+use lib.ListN.{length, getD, take, drop, length-map}
+use Rattle.lists.specs.Rows.{rows}
 use Rattle.lists.proofs.Rows.{map-rows}
-use Rattle.order.specs.Sorting.{sort, sortOnce}
-use Rattle.order.specs.Lists.{keep, gather, upFrom}
-use Rattle.order.proofs.Keep.{keep-mem, mem-keep, keep-append}
-use Rattle.order.proofs.Members.{map-ext, perm-mem}
-use Rattle.order.proofs.Numbers.{up-mem, mem-up, up-length, map-up-at, up-last, map-at}
-use Rattle.order.proofs.Once.{once-idem}
 use Rattle.order.specs.Keys.{byKey}
+use Rattle.order.specs.Lists.{keep, gather, upFrom}
+use Rattle.order.specs.Pairs.{SameMembers}
+use Rattle.order.specs.Sorting.{sort}
+use Rattle.order.proofs.Bools.{clash}
 use Rattle.order.proofs.Forgets.{sort-forgets}
+use Rattle.order.proofs.Gather.{gather-mem, mem-gather, gather-ext}
+use Rattle.order.proofs.Keep.{keep-mem, mem-keep}
+use Rattle.order.proofs.Members.{map-ext, perm-mem}
+use Rattle.order.proofs.Numbers.{up-mem, mem-up, up-length, map-up-at, map-at}
+use Rattle.order.proofs.Once.{once-idem, once-ext, once-members}
 use Rattle.order.proofs.Sort.{sort-perm}
 use Rattle.position.specs.Order.{canonical}
 use Rattle.format.specs.Values.{Observation, Boundary}
-use Rattle.format.specs.Decode.{rampOf}
-use Rattle.format.specs.Fits.{SourceFits}
+use Rattle.format.specs.Decode.{rampOf, sourceRecords}
 use Rattle.format.specs.declared.records.Source.{Source}
 use Rattle.format.specs.declared.records.BoundaryRecord.{BoundaryRecord}
 use Rattle.format.specs.declared.records.ObservationRecord.{ObservationRecord}
@@ -32,20 +32,14 @@ use Rattle.places.specs.Orders.{byRun}
 use Rattle.serial_merging.specs.Copies.{sortedSources, canon, canonObservation, sortedObservations}
 use Rattle.serial_merging.specs.Consolidation.{orItself, observed, consolidate}
 use Rattle.serial_merging.specs.Kept.{noBoundary, copyAt}
-use Rattle.serial_merging.specs.Planned.{members, merged, planned}
-use Rattle.serial_merging.specs.Sources.{ownSources}
-use Rattle.order.proofs.Gather.{gather-last}
-use Rattle.serial_merging.proofs.Copies.{source-order, observation-order}
-use Rattle.serial_merging.proofs.Packed.{sources-fit}
-use Rattle.serial_merging.proofs.Planned.{merged-keeps}
 use Rattle.serial_merging.specs.Keys.{observationKey}
-use Rattle.answer_sources.specs.Packed.{sourcePack, packed}
-use Rattle.answer_sources.specs.Squeezed.{partOf}
-use Rattle.answer_sources.specs.Placed.{seenOf, observationOf, boundaryOf, itself, HoldsObservation, CopiesPlaced}
+use Rattle.serial_merging.specs.Planned.{members, merged, planned}
+use Rattle.serial_merging.proofs.Copies.{source-order, observation-order}
+use Rattle.serial_merging.proofs.Planned.{merged-keeps}
+use Rattle.answer_sources.specs.Placed.{ownOf, seenOf, observationOf, boundaryOf, itself, HoldsObservation, CopiesPlaced}
 use Rattle.answer_sources.specs.Gathered.{noObservation, copiesBy, keptBy, placesFrom, PlacesStand}
 use Rattle.answer_sources.specs.Laying.{firstSeen}
-use Rattle.answer_sources.proofs.Packs.{sorted-packed}
-use Rattle.answer_sources.proofs.Together.{holds-le}
+use Rattle.answer_sources.proofs.Together.{records-part, records-length, holds-le}
 use Rattle.answer_sources.proofs.Matched.{Matched, nil, next, matched-append, matched-length, matched-at, matched-by, matched-gather, matched-sort}
 use Rattle.answer_sources.proofs.Matched.{matched-rows}
 
@@ -53,23 +47,6 @@ gather-map : {A B C : Type 0} (f : B → List C) (g : A → B) (l : List A) → 
 unfolding gather
 gather-map f g [] = refl
 gather-map f g (x ∷ xs) = ap (λ t. f (g x) ++ t) (gather-map f g xs)
-
-gather-all : {A B : Type 0} {P : B → Type 0} (f : A → List B) (l : List A) → ((x : A) → List·Memᴰ x l → All P (f x)) → All P (gather f l)
-unfolding gather
-gather-all f [] h = none
-gather-all f (x ∷ xs) h = all-append (h x (List·Memᴰ·head refl)) (gather-all f xs (λ y m. h y (List·Memᴰ·tail m)))
-
--- The numbers of sources joined are their numbers joined.
-pub packed-append : (ss ts : List Source) → packed (ss ++ ts) ≡ packed ss ++ packed ts
-unfolding packed
-packed-append [] ts = refl
-packed-append (s ∷ ss) ts = ap (λ (t : List ℕ). sourcePack s ∷ t) (packed-append ss ts)
-
-gather-packed : {A : Type 0} (f : A → List Source) (g : A → List ℕ) (l : List A) → ((x : A) → List·Memᴰ x l → packed (f x) ≡ g x)
-    → packed (gather f l) ≡ gather g l
-unfolding gather packed
-gather-packed f g [] h = refl
-gather-packed f g (x ∷ xs) h = packed-append (f x) (gather f xs) ∙ rw (h x (List·Memᴰ·head refl), gather-packed f g xs (λ y m. h y (List·Memᴰ·tail m))) refl
 
 -- A list of one member that has i.
 only-member : {A : Type 0} {i : A} {l : List A} → List·Memᴰ i l → length l ≡ 1 → l ≡ i ∷ []
@@ -153,32 +130,43 @@ module _ (bs : ℕ → BoundaryRecord) (os : ℕ → ObservationRecord) (ss : Li
             ∙ ap (λ (l : List ℕ). sortedSources (gather own (map copyOf l))) (sym (member-only plan n i h stays (eqb-true (length (members plan n i)) 1 e)))
         go false e = ap (λ (l : List Boundary). sortedSources (gather own l)) copies-are
 
--- What the arrays hold of it.
-module _ {bs : ℕ → BoundaryRecord} {os : ℕ → ObservationRecord} {ss : List Source} {base n : ℕ} {firsts first second third starts counts keys : List ℕ}
-    (placed : CopiesPlaced bs os ss base n firsts first second third starts counts keys)
+-- A sorted list has the members of the list, so that sorting first changes nothing.
+sorted-members : {A : Type 0} (f : A → List Source) (l : List A) → SameMembers (gather (λ x. sortedSources (f x)) l) (gather f l)
+sorted-members f l y = (
+  λ h. let r = gather-mem (λ x. sortedSources (f x)) l h in mem-gather f (r .1) (once-members source-order (f (r .0)) y .0 (r .2)),
+  λ h. let r = gather-mem f l h in mem-gather (λ x. sortedSources (f x)) (r .1) (once-members source-order (f (r .0)) y .1 (r .2)),
+)
+
+-- The own sources of a rank as the job has them.
+abbrev pub ownPart : (s : List ℕ) (from base : ℕ) (order starts : List ℕ) (own : ℕ → ℕ) → ℕ → List Source
+ownPart s from base order starts own j = sourceRecords s (from + getD starts (base + getD order j 0) 0 * 8) (own (getD order j 0))
+
+module _ (s : List ℕ) (from count : ℕ) {bs : ℕ → BoundaryRecord} {os : ℕ → ObservationRecord} {base n : ℕ}
+    {stands firsts first second third starts counts keys : List ℕ}
+    (placed : CopiesPlaced bs os (sourceRecords s from count) base n stands firsts first second third starts counts keys)
     (order : List ℕ) (inside : (j : ℕ) → j < n → getD order j 0 < n) (plan : ℕ → ℕ) (i : ℕ) (h : i < n) (stays : plan i ≡ i) where
-  own-fit : (j : ℕ) → List·Memᴰ j (members plan n i) → All SourceFits (copyOf bs os ss order j .sources)
-  unfolding itself
-  own-fit j m = placed .itself-there (getD order j 0) (inside j (member-below plan n i j m)) .fits
+  own-is : (j : ℕ) → List·Memᴰ j (members plan n i)
+      → copyOf bs os (sourceRecords s from count) order j .sources
+      ≡ sortedSources (ownPart s from base order starts (ownOf bs os (sourceRecords s from count)) j)
+  unfolding canon boundaryOf
+  own-is j m =
+      let b = getD order j 0 in
+      let own = bs b .sources in
+      let below = inside j (member-below plan n i j m) in
+      ap sortedSources
+      (ap (λ (k : ℕ). take own (drop k (sourceRecords s from count))) (sym (placed .own-start b below))
+      ∙ sym (records-part s from count (getD starts (base + b) 0) own (omega (arith, placed .own-in b below, records-length s from count))))
 
-  own-run : (j : ℕ) → List·Memᴰ j (members plan n i) → packed (copyOf bs os ss order j .sources) ≡ partOf keys starts counts (base + getD order j 0)
-  unfolding itself
-  own-run j m = sym (placed .itself-there (getD order j 0) (inside j (member-below plan n i j m)) .run)
-
-  all-fit : All SourceFits (gather (λ j. copyOf bs os ss order j .sources) (members plan n i))
-  all-fit = gather-all (λ j. copyOf bs os ss order j .sources) (members plan n i) own-fit
-
-  pub merged-fits : All SourceFits (merged (copiesBy bs os ss order n) (members plan n i) i .sources)
-  merged-fits = rw (merged-sources bs os ss order plan n i h stays) (sources-fit (gather (λ j. copyOf bs os ss order j .sources) (members plan n i)) all-fit)
-
-  -- The members' own sources, sorted as numbers and each once.
-  pub merged-own : packed (merged (copiesBy bs os ss order n) (members plan n i) i .sources) ≡ sortOnce leb
-      (gather (λ j. partOf keys starts counts (base + getD order j 0)) (members plan n i))
+  -- The members' own sources, sorted and each once.
+  pub merged-own : merged (copiesBy bs os (sourceRecords s from count) order n) (members plan n i) i .sources
+      ≡ sortedSources (gather (ownPart s from base order starts (ownOf bs os (sourceRecords s from count))) (members plan n i))
   merged-own =
-      ap packed (merged-sources bs os ss order plan n i h stays)
-      ∙ sym (sorted-packed (gather (λ j. copyOf bs os ss order j .sources) (members plan n i)) all-fit)
-      ∙ ap (sortOnce leb) (gather-packed (λ j. copyOf bs os ss order j .sources) (λ j. partOf keys starts counts (base + getD order j 0)) (members plan n i)
-      own-run)
+      let ss = sourceRecords s from count in
+      let part : ℕ → List Source = ownPart s from base order starts (ownOf bs os ss) in
+      merged-sources bs os ss order plan n i h stays
+      ∙ ap sortedSources (gather-ext (λ j. copyOf bs os ss order j .sources) (λ j. sortedSources (part j)) (members plan n i) own-is)
+      ∙ once-ext source-order (gather (λ j. sortedSources (part j)) (members plan n i)) (gather part (members plan n i))
+      (sorted-members part (members plan n i))
 
 module _ {first second third starts counts keys : List ℕ} where
   stands-matched : {l : List ℕ} {m : List Observation} → PlacesStand first second third starts counts keys l m
@@ -235,28 +223,30 @@ module _ (bs : ℕ → BoundaryRecord) (os : ℕ → ObservationRecord) (ss : Li
       (sort-perm (byKey observationKey) (rows (seenOf bs os ss b) seenAt)))
 
 -- The places of what a boundary gives.
-module _ {R : ℕ → Observation → Type 0} (c : Boundary) (a w : ℕ) (f : ℕ → Observation) (r : R w (itself c)) where
-  given-matched : (m : ℕ) → ((k : ℕ) → k < m → R (a + k) (f k)) → Matched R (cond (eqb m 0 && true) (w ∷ []) (upFrom a m)) (orItself c (rows m f))
+module _ {R : ℕ → Observation → Type 0} (c : Boundary) (a w : ℕ) (f : ℕ → Observation) where
+  given-matched : (m : ℕ) → (m ≡ 0 → R w (itself c)) → ((k : ℕ) → k < m → R (a + k) (f k))
+      → Matched R (cond (eqb m 0 && true) (w ∷ []) (upFrom a m)) (orItself c (rows m f))
   unfolding itself orItself rows
-  given-matched zero h = next r nil
-  given-matched (suc m) h = rw (ne-eqb (suc m) 0 (λ e. omega arith)) (matched-rows a (suc m) f h)
+  given-matched zero r h = next (r refl) nil
+  given-matched (suc m) r h = rw (ne-eqb (suc m) 0 (λ e. omega arith)) (matched-rows a (suc m) f h)
 
 seen-alone : (t : Bool) (l m : List ℕ) → cond (t && false) l m ≡ m
 seen-alone true l m = refl
 seen-alone false l m = refl
 
-module _ {bs : ℕ → BoundaryRecord} {os : ℕ → ObservationRecord} {ss : List Source} {base n : ℕ} {firsts first second third starts counts keys : List ℕ}
-    (placed : CopiesPlaced bs os ss base n firsts first second third starts counts keys) where
+module _ {bs : ℕ → BoundaryRecord} {os : ℕ → ObservationRecord} {ss : List Source} {base n : ℕ}
+    {stands firsts first second third starts counts keys : List ℕ}
+    (placed : CopiesPlaced bs os ss base n stands firsts first second third starts counts keys) where
   seen-holds : (b : ℕ) → b < n → (k : ℕ) → k < seenOf bs os ss b
       → HoldsObservation first second third starts counts keys (getD firsts b 0 + k) (seenAt bs os ss b k)
   seen-holds b h k l = rw (placed .first-there b h) (placed .seen-there b k h l)
 
-  -- of a boundary that others go into, or that goes into another
-  places-given : (b : ℕ) → b < n
+  -- of a boundary that others go into, or that goes into another: it stands as an observation where it has none
+  places-given : (b : ℕ) → b < n → (seenOf bs os ss b ≡ 0 → getD stands b 0 ≡ 1)
       → Matched (HoldsObservation first second third starts counts keys) (placesFrom base firsts (seenOf bs os ss) false b) (given bs os ss b)
   unfolding placesFrom
-  places-given b h = given-matched (canon (boundaryOf bs os ss b)) (getD firsts b 0) (base + b) (seenAt bs os ss b) (placed .itself-there b h)
-      (seenOf bs os ss b) (seen-holds b h)
+  places-given b h t = given-matched (canon (boundaryOf bs os ss b)) (getD firsts b 0) (base + b) (seenAt bs os ss b) (seenOf bs os ss b)
+      (λ e. placed .itself-there b h (t e)) (seen-holds b h)
 
   places-alone : (b : ℕ) → b < n
       → Matched (HoldsObservation first second third starts counts keys) (placesFrom base firsts (seenOf bs os ss) true b)
@@ -281,10 +271,14 @@ module _ {bs : ℕ → BoundaryRecord} {os : ℕ → ObservationRecord} {ss : Li
         rw (append-nil (placesFrom base firsts (seenOf bs os ss) true (getD order i 0)), copy-at bs os ss order n i h, seen-sorted bs os ss (getD order i 0))
         (sorted-matched (places-alone (getD order i 0) (inside i h)))
 
-    all-given : Matched (HoldsObservation first second third starts counts keys) (placesOf false (members plan n i))
+    -- those without observations of their own stand as observations
+    abbrev Stood : Type 0
+    Stood = (j : ℕ) → List·Memᴰ j (members plan n i) → seenOf bs os ss (getD order j 0) ≡ 0 → getD stands (getD order j 0) 0 ≡ 1
+
+    all-given : Stood → Matched (HoldsObservation first second third starts counts keys) (placesOf false (members plan n i))
         (gather (λ j. given bs os ss (getD order j 0)) (members plan n i))
-    all-given = matched-gather (λ j. placesFrom base firsts (seenOf bs os ss) false (getD order j 0)) (λ j. given bs os ss (getD order j 0)) (members plan n i)
-        (λ j m. places-given (getD order j 0) (inside j (member-below plan n i j m)))
+    all-given t = matched-gather (λ j. placesFrom base firsts (seenOf bs os ss) false (getD order j 0)) (λ j. given bs os ss (getD order j 0))
+        (members plan n i) (λ j m. places-given (getD order j 0) (inside j (member-below plan n i j m)) (t j m))
 
     given-observed : sortedObservations (gather (λ j. given bs os ss (getD order j 0)) (members plan n i)) ≡ sortedObservations
         (gather observed (map (copyAt (copiesBy bs os ss order n)) (members plan n i)))
@@ -296,12 +290,12 @@ module _ {bs : ℕ → BoundaryRecord} {os : ℕ → ObservationRecord} {ss : Li
         ∙ ap (λ (l : List Boundary). sortedObservations (gather observed l)) (sym (copies-are bs os ss order plan n i h stays))
 
     -- The members' places in order stand for the merged boundary's observations.
-    pub merged-seen : PlacesStand first second third starts counts keys
+    pub merged-seen : ((length (members plan n i) ≡ 1 → ⊥) → Stood) → PlacesStand first second third starts counts keys
         (sort (byRun first second third starts counts keys)
         (gather (λ j. placesFrom base firsts (seenOf bs os ss) (eqb (length (members plan n i)) 1) (getD order j 0)) (members plan n i)))
         (merged (copiesBy bs os ss order n) (members plan n i) i .observations)
     unfolding merged consolidate
-    merged-seen = matched-stands (go (eqb (length (members plan n i)) 1) refl)
+    merged-seen t = matched-stands (go (eqb (length (members plan n i)) 1) refl)
       where
         go : (t : Bool) → eqb (length (members plan n i)) 1 ≡ t
             → Matched (HoldsObservation first second third starts counts keys)
@@ -312,39 +306,4 @@ module _ {bs : ℕ → BoundaryRecord} {os : ℕ → ObservationRecord} {ss : Li
         go false e = subst (λ (l : List Observation).
             Matched (HoldsObservation first second third starts counts keys)
             (sort (byRun first second third starts counts keys) (placesOf false (members plan n i))) l)
-            given-observed (sorted-matched all-given)
-
--- One boundary more.
-pub own-last : (ks : List Boundary) (k : Boundary) → ownSources (ks ++ (k ∷ [])) ≡ ownSources ks ++ k .sources
-unfolding ownSources
-own-last ks k = gather-last (λ (b : Boundary). b .sources) ks k
-
--- What is kept of the ranks below i.
-module _ (bs : ℕ → BoundaryRecord) (os : ℕ → ObservationRecord) (ss : List Source) (order plan : List ℕ) (n : ℕ) where
-  abbrev one : ℕ → Boundary
-  one j = merged (copiesBy bs os ss order n) (members (λ j. getD plan j 0) n j) j
-
-  abbrev stay : ℕ → Bool
-  stay j = eqb (getD plan j 0) j
-
-  unfoldable pub keptTo : ℕ → List Boundary
-  unfolding keep upFrom merged members
-  keptTo i = map (λ j. merged (copiesBy bs os ss order n) (members (λ j. getD plan j 0) n j) j) (keep (λ j. eqb (getD plan j 0) j) (upFrom 0 i))
-
-  pub kept-none : keptTo 0 ≡ []
-  unfolding keptTo keep upFrom
-  kept-none = refl
-
-  kept-next : (i : ℕ) (t : Bool) → eqb (getD plan i 0) i ≡ t
-      → keptTo (i + 1) ≡ keptTo i ++ cond t (merged (copiesBy bs os ss order n) (members (λ j. getD plan j 0) n i) i ∷ []) []
-  unfolding keptTo keep
-  kept-next i t e =
-      ap keptTo (add-one i)
-      ∙ ap (λ (l : List ℕ). map one (keep stay l)) (up-last 0 i ∙ ap (λ (z : ℕ). upFrom 0 i ++ (z ∷ [])) (let z : 0 + i ≡ i = omega arith in z))
-      ∙ ap (map one) (keep-append stay (upFrom 0 i) (i ∷ []))
-      ∙ map-append one (keep stay (upFrom 0 i)) (keep stay (i ∷ []))
-      ∙ ap (λ (l : List Boundary). map one (keep stay (upFrom 0 i)) ++ l) (ap (λ (b : Bool). map one (cond b (i ∷ []) [])) e ∙ go t)
-    where
-      go : (t : Bool) → map one (cond t (i ∷ []) []) ≡ cond t (one i ∷ []) []
-      go true = refl
-      go false = refl
+            given-observed (sorted-matched (all-given (t (λ o. clash (eq-eqb (length (members plan n i)) 1 o) e))))

@@ -1,64 +1,52 @@
 -- What the stages leave, taken together.
-use mathlib.Core.Path.{_≡_, refl, sym, _∙_, ap, subst}
-use mathlib.Core.List.{List, [], _∷_, map}
-use Prim.Native.Nat.{ℕ, zero, suc, _+_, _*_, _≤_, _<_}
+use mathlib.Core.Path.{_≡_, sym, _∙_, ap, subst}
+use mathlib.Core.List.{List, _∷_}
+use Prim.Native.Nat.{ℕ, suc, _+_, _*_, _≤_, _<_}
 use native.Mathlib.Omega.{arith}
+use borrow.Author.Tests.{eq-eqb}
 use lib.Dec.{leb}
 use lib.ListN.{length, getD, take, drop}
 use Rattle.lists.specs.Rows.{All}
-use Rattle.lists.proofs.Rows.{sum-last, sum-prefix}
-use Rattle.lists.proofs.Each.{all-take, all-drop, all-rows}
-use Rattle.wire.specs.Bytes.{part}
-use Rattle.wire.proofs.Parts.{part-part}
+use Rattle.lists.proofs.Rows.{length-rows, rows-same, sum-prefix}
+use Rattle.lists.proofs.Each.{all-take, all-drop}
+use Rattle.wire.specs.Bytes.{AreBytes}
 use Rattle.order.specs.Sorting.{sortOnce}
 use Rattle.position.specs.declared.Span.{Span}
 use Rattle.format.specs.Values.{Observation}
 use Rattle.format.specs.Records.{sourceAt, boundaryAt, observationAt}
 use Rattle.format.specs.Decode.{sourceRecords}
 use Rattle.format.specs.Fits.{SourceFits}
-use Rattle.format.specs.declared.records.Source.{Source}
+use Rattle.format.proofs.RecordTrips.{source-trip}
+use Rattle.format.proofs.RowTrips.{rows-fit}
 use Rattle.serial_merging.specs.Copies.{sortedSources, canon, canonObservation}
 use Rattle.length.specs.Total.{totalKey}
 use Rattle.order.specs.Keys.{byKey}
 use Rattle.serial_merging.specs.Keys.{observationKey}
 use Rattle.places.specs.Orders.{restKey, placeKey, byRun}
 use Rattle.order.specs.Keys.{pack}
-use Rattle.answer_sources.specs.Packed.{sourcePack, packed, KeysRead, KeyAt}
+use Rattle.answer_sources.specs.Packed.{packed, KeyAt}
 use Rattle.answer_sources.specs.Laying.{sumBelow, ownCount, seenCount, citedCount, ownStart, LaidAll}
-use Rattle.answer_sources.specs.Squeezed.{partOf, PartsRoom, Squeezed}
+use Rattle.answer_sources.specs.Squeezed.{partOf, KeysRoom, KeysRead, PartsRoom, Squeezed}
 use Rattle.answer_sources.specs.Ranked.{RankKeys}
 use Rattle.answer_sources.specs.Placed.{observationFrom, boundaryOf, itself, HoldsObservation, CopiesPlaced, PlacedInside, JobPlaces, PlaceRoom}
-use Rattle.answer_sources.specs.Placed.{boundaryRows}
-use Rattle.answer_sources.specs.Placed.{observationRows}
+use Rattle.answer_sources.specs.Placed.{boundaryRows, observationRows}
 use Rattle.answer_sources.proofs.Lays.{below-next}
-use Rattle.answer_sources.proofs.Layouts.{below-none, apart-wider}
+use Rattle.answer_sources.proofs.Decoded.{rows-part}
+use Rattle.answer_sources.proofs.Layouts.{apart-wider}
 use Rattle.serial_merging.proofs.Packed.{sources-fit}
 use Rattle.answer_sources.proofs.Packs.{sorted-packed, observation-le}
 
-take-map : {A B : Type 0} (f : A → B) (n : ℕ) (l : List A) → take n (map f l) ≡ map f (take n l)
-take-map f zero l = refl
-take-map f (suc n) [] = refl
-take-map f (suc n) (x ∷ l) = ap (λ t. f x ∷ t) (take-map f n l)
+-- Sources from a place on are a part of all.
+pub records-part : (s : List ℕ) (from count a c : ℕ) → a + c ≤ count
+    → sourceRecords s (from + a * 8) c ≡ take c (drop a (sourceRecords s from count))
+unfolding sourceRecords
+records-part s from count a c h =
+    rows-same c (λ k. sourceAt s (from + a * 8 + k * 8)) (λ k. sourceAt s (from + (a + k) * 8)) (λ k l. ap (sourceAt s) (omega arith))
+    ∙ sym (rows-part count a c (λ k. sourceAt s (from + k * 8)) h)
 
-drop-map : {A B : Type 0} (f : A → B) (n : ℕ) (l : List A) → drop n (map f l) ≡ map f (drop n l)
-drop-map f zero l = refl
-drop-map f (suc n) [] = refl
-drop-map f (suc n) (x ∷ l) = drop-map f n l
-
-below-most : (n : ℕ) (f g : ℕ → ℕ) → ((i : ℕ) → i < n → f i ≤ g i) → sumBelow f n ≤ sumBelow g n
-below-most zero f g h = omega (arith, below-none f, below-none g)
-below-most (suc n) f g h = omega (arith, sum-last n f, sum-last n g, h n (omega arith), below-most n f g (λ i l. h i (omega arith)))
-
--- A part of the numbers is of the sources there.
-part-packed : (ss : List Source) (keys : List ℕ) (n a m : ℕ) → take n keys ≡ packed ss → a + m ≤ n → part keys a m ≡ packed (take m (drop a ss))
-unfolding part packed
-part-packed ss keys n a m e h =
-    let z : 0 + a ≡ a = omega arith in
-    ap (λ (k : ℕ). part keys k m) (sym z)
-    ∙ sym (part-part keys 0 n a m h)
-    ∙ ap (λ (l : List ℕ). take m (drop a l)) e
-    ∙ ap (take m) (drop-map sourcePack a ss)
-    ∙ take-map sourcePack m (drop a ss)
+pub records-length : (s : List ℕ) (from count : ℕ) → length (sourceRecords s from count) ≡ count
+unfolding sourceRecords
+records-length s from count = length-rows count (λ k. sourceAt s (from + k * 8))
 
 module _ {s : List ℕ} {at n ats m from count : ℕ} (j : JobPlaces s at n ats m from count) where
   total : sumBelow (ownCount s at) n + sumBelow (citedCount s ats) (sumBelow (seenCount s at) n) ≡ count
@@ -70,17 +58,27 @@ module _ {s : List ℕ} {at n ats m from count : ℕ} (j : JobPlaces s at n ats 
   pub observations-inside : ats + m * 28 ≤ length s
   observations-inside = omega (arith, j .observations-add, j .countable .observations-in)
 
-  -- Room to sort the parts, once they are laid.
-  pub parts-room : {keys₀ keys spare firsts₀ firsts starts₀ starts counts₀ counts f g h : List ℕ}
-      → PlaceRoom n m count keys₀ spare firsts₀ starts₀ counts₀ f g h → KeysRead s from count keys₀ keys
-      → LaidAll (ownCount s at) (seenCount s at) (citedCount s ats) m n firsts starts counts → length starts ≡ length starts₀ → length counts ≡ length counts₀
-      → PartsRoom keys spare starts counts (m + n)
-  parts-room r k l x y = record {
-    starts-room = omega (arith, r .plan .starts-room);
-    counts-room = omega (arith, r .plan .counts-room);
-    clear = apart-wider (l .clear) (omega (arith, total, k .long, r .keys-room));
-    spare-room = λ q. omega (arith, l .clear .ends q, total, r .spare-room);
-  }
+  -- Room to read and to sort the parts, once they are laid.
+  module _ {stands keys₀ spare firsts₀ firsts starts₀ starts counts₀ counts f g h : List ℕ} (r : PlaceRoom n m count keys₀ spare firsts₀ starts₀ counts₀ f g h)
+      (l : LaidAll stands (ownCount s at) (seenCount s at) (citedCount s ats) m n firsts starts counts)
+      (x : length starts ≡ length starts₀) (y : length counts ≡ length counts₀) where
+    pub keys-room : KeysRoom s from (m + n) keys₀ starts counts
+    keys-room = record {
+      total = count;
+      starts-room = omega (arith, r .plan .starts-room, x);
+      counts-room = omega (arith, r .plan .counts-room, y);
+      clear = apart-wider (l .clear) (omega (arith, total));
+      keys-room = r .keys-room;
+      sources-in = j .sources-in;
+    }
+
+    pub parts-room : {keys : List ℕ} → KeysRead s from (m + n) starts counts keys₀ keys → PartsRoom keys spare starts counts (m + n)
+    parts-room k = record {
+      starts-room = omega (arith, r .plan .starts-room, x);
+      counts-room = omega (arith, r .plan .counts-room, y);
+      clear = apart-wider (l .clear) (omega (arith, total, k .long, r .keys-room));
+      spare-room = λ q. omega (arith, l .clear .ends q, total, r .spare-room);
+    }
 
   own-end : (b : ℕ) → b < n → ownStart (ownCount s at) (seenCount s at) (citedCount s ats) b + ownCount s at b ≤ count
   own-end b h =
@@ -100,14 +98,15 @@ module _ {s : List ℕ} {at n ats m from count : ℕ} (j : JobPlaces s at n ats 
       let z = sum-prefix (p + 1) m (citedCount s ats) (omega arith) in
       omega (arith, below-next (citedCount s ats) p, j .sources-add)
 
-  module _ {keys₀ keys₁ keys₂ firsts starts counts₁ counts₂ f₀ g₀ h₀ f₁ g₁ h₁ f₂ g₂ h₂ : List ℕ}
-      (k : KeysRead s from count keys₀ keys₁) (l : LaidAll (ownCount s at) (seenCount s at) (citedCount s ats) m n firsts starts counts₁)
+  module _ {stands keys₀ keys₁ keys₂ firsts starts counts₁ counts₂ f₀ g₀ h₀ f₁ g₁ h₁ f₂ g₂ h₂ : List ℕ} (bytes : AreBytes s)
+      (k : KeysRead s from (m + n) starts counts₁ keys₀ keys₁)
+      (l : LaidAll stands (ownCount s at) (seenCount s at) (citedCount s ats) m n firsts starts counts₁)
       (q : Squeezed starts keys₁ counts₁ keys₂ counts₂ (m + n))
       (r : RankKeys (λ i. observationAt s (ats + i * 28) .ends) (λ i. observationAt s (ats + i * 28) .bits) 0 m f₀ g₀ h₀ f₁ g₁ h₁)
       (t : RankKeys (λ i. boundaryAt s (at + i * 40) .ends) (λ i. boundaryAt s (at + i * 40) .bits) m n f₁ g₁ h₁ f₂ g₂ h₂) where
     all-fit : All SourceFits (sourceRecords s from count)
     unfolding sourceRecords
-    all-fit = all-rows count (λ i. sourceAt s (from + i * 8)) (k .fits)
+    all-fit = rows-fit source-trip count s from bytes (j .sources-in)
 
     part-fit : (a c : ℕ) → All SourceFits (take c (drop a (sourceRecords s from count)))
     part-fit a c = all-take c (all-drop a all-fit)
@@ -117,8 +116,7 @@ module _ {s : List ℕ} {at n ats m from count : ℕ} (j : JobPlaces s at n ats 
         → partOf keys₂ starts counts₂ w ≡ packed (sortedSources (take c (drop a (sourceRecords s from count))))
     run-of w a c h x y z =
         q .done w h
-        ∙ ap (sortOnce leb) (ap (λ (i : ℕ). part keys₁ i (getD counts₁ w 0)) x ∙ ap (part keys₁ a) y
-        ∙ part-packed (sourceRecords s from count) keys₁ count a c (k .there) z)
+        ∙ ap (sortOnce leb) (k .there w h ∙ (λ i. packed (sourceRecords s (from + x i * 8) (y i))) ∙ ap packed (records-part s from count a c z))
         ∙ sorted-packed (take c (drop a (sourceRecords s from count))) (part-fit a c)
 
     key-kept : (p : ℕ) (e : Span) (bits : ℕ) → p < m → KeyAt f₁ g₁ h₁ (0 + p) e bits → KeyAt f₂ g₂ h₂ p e bits
@@ -133,14 +131,14 @@ module _ {s : List ℕ} {at n ats m from count : ℕ} (j : JobPlaces s at n ats 
           second-fits = i .second-fits;
         }
 
-    itself-holds : (b : ℕ) → b < n
+    itself-holds : (b : ℕ) → b < n → getD stands b 0 ≡ 1
         → HoldsObservation f₂ g₂ h₂ starts counts₂ keys₂ (m + b)
         (itself (canon (boundaryOf (boundaryRows s at) (observationRows s ats) (sourceRecords s from count) b)))
     unfolding itself canon boundaryOf
-    itself-holds b h = record {
+    itself-holds b h o = record {
       key = t .there b h;
       run = run-of (m + b) (ownStart (ownCount s at) (seenCount s at) (citedCount s ats) b) (ownCount s at b) (omega arith) (l .laid .own-start b h)
-          (l .laid .own-count b h) (own-end b h);
+          (l .laid .own-count b h ∙ rw (eq-eqb (getD stands b 0) 1 o)) (own-end b h);
       fits = sources-fit (take (ownCount s at b) (drop (ownStart (ownCount s at) (seenCount s at) (citedCount s ats) b) (sourceRecords s from count)))
           (part-fit (ownStart (ownCount s at) (seenCount s at) (citedCount s ats) b) (ownCount s at b));
     }
@@ -161,26 +159,26 @@ module _ {s : List ℕ} {at n ats m from count : ℕ} (j : JobPlaces s at n ats 
               (part-fit (sumBelow (ownCount s at) (suc b) + sumBelow (citedCount s ats) p) (citedCount s ats p));
         }
 
-    pub placed : CopiesPlaced (boundaryRows s at) (observationRows s ats) (sourceRecords s from count) m n firsts f₂ g₂ h₂ starts counts₂ keys₂
-    placed = record { first-there = l .laid .first-there; itself-there = itself-holds; seen-there = seen-holds }
+    pub placed : CopiesPlaced (boundaryRows s at) (observationRows s ats) (sourceRecords s from count) m n stands firsts f₂ g₂ h₂ starts counts₂ keys₂
+    placed = record {
+      first-there = l .laid .first-there;
+      own-start = l .laid .own-start;
+      own-in = λ b h. omega (arith, own-end b h, l .laid .own-start b h, records-length s from count);
+      itself-there = itself-holds;
+      seen-there = seen-holds;
+    }
 
   -- where they are
-  module _ {keys₁ keys₂ firsts starts counts₁ counts₂ : List ℕ}
-      (l : LaidAll (ownCount s at) (seenCount s at) (citedCount s ats) m n firsts starts counts₁)
-      (q : Squeezed starts keys₁ counts₁ keys₂ counts₂ (m + n)) where
-    own-less : (b : ℕ) → b < n → getD counts₂ (m + b) 0 ≤ ownCount s at b
-    own-less b h = omega (arith, q .less (m + b), l .laid .own-count b h)
-
-    pub placed-inside : PlacedInside (boundaryRows s at) (observationRows s ats) (sourceRecords s from count) m n count firsts starts counts₂
-    placed-inside = record {
-      part-in = λ w. omega (arith, q .less w, l .clear .ends w, total);
-      own-most = own-less;
-      own-room = omega (arith, below-most n (λ b. getD counts₂ (m + b) 0) (ownCount s at) own-less, j .sources-add);
-      seen-in = λ b h.
-          let y = sum-prefix (b + 1) n (seenCount s at) (omega arith) in
-          omega (arith, below-next (seenCount s at) b, l .laid .first-there b h, j .observations-add);
-      seen-room = omega (arith, j .observations-add);
-    }
+  pub placed-inside : {stands firsts starts counts : List ℕ} → LaidAll stands (ownCount s at) (seenCount s at) (citedCount s ats) m n firsts starts counts
+      → PlacedInside (boundaryRows s at) (observationRows s ats) (sourceRecords s from count) m n count firsts starts
+  placed-inside l = record {
+    own-in = λ b h. omega (arith, own-end b h, l .laid .own-start b h);
+    own-room = omega (arith, j .sources-add);
+    seen-in = λ b h.
+        let y = sum-prefix (b + 1) n (seenCount s at) (omega arith) in
+        omega (arith, below-next (seenCount s at) b, l .laid .first-there b h, j .observations-add);
+    seen-room = omega (arith, j .observations-add);
+  }
 
 -- Places that stand for observations are ordered as these are.
 module _ {first second third starts counts keys : List ℕ} where

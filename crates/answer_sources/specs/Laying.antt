@@ -2,15 +2,21 @@
 use mathlib.Core.Path.{_≡_}
 use mathlib.Core.Logic.{_≢_, _⊎_}
 use mathlib.Core.List.{List}
+use mathlib.Core.Bool.{cond}
 use Prim.Native.Nat.{ℕ, suc, _+_, _*_, _≤_, _<_}
+use lib.Dec.{eqb}
 use lib.ListN.{length, getD}
 use Rattle.lists.specs.Rows.{rows, sum}
 use Rattle.format.specs.Sizes.{boundarySize, observationSize}
 use Rattle.format.specs.Records.{boundaryAt, observationAt}
 
--- The sum of f over the numbers sumBelow k.
+-- The sum of f over the numbers below k.
 abbrev pub sumBelow : (ℕ → ℕ) → ℕ → ℕ
 sumBelow f k = sum (rows k f)
+
+-- The element at a place.
+abbrev pub elements : List ℕ → ℕ → ℕ
+elements l k = getD l k 0
 
 -- By place: a boundary's own sources and its observations, an observation's sources, how many there are of each.
 abbrev pub ownCount : List ℕ → ℕ → ℕ → ℕ
@@ -21,6 +27,14 @@ seenCount s at b = boundaryAt s (at + b * boundarySize) .observations
 
 abbrev pub citedCount : List ℕ → ℕ → ℕ → ℕ
 citedCount s at p = observationAt s (at + p * observationSize) .sources
+
+-- How many sources n boundaries and m observations have in all.
+abbrev pub sourcesIn : (s : List ℕ) (at n ats m : ℕ) → ℕ
+sourcesIn s at n ats m = sumBelow (ownCount s at) n + sumBelow (citedCount s ats) m
+
+-- How many of its own sources a boundary stands with as an observation: all or none.
+abbrev pub stood : (stands : List ℕ) (own : ℕ → ℕ) → ℕ → ℕ
+stood stands own b = cond (eqb (getD stands b 0) 1) (own b) 0
 
 -- No two parts overlap, and all end by `run`.
 pub record Apart (starts counts : List ℕ) (run : ℕ) : Type 0 where
@@ -60,11 +74,12 @@ ownStart own seen cited b = sumBelow own b + sumBelow cited (firstSeen seen b)
 abbrev pub citedStart : (own cited : ℕ → ℕ) → ℕ → ℕ → ℕ
 citedStart own cited b p = sumBelow own (suc b) + sumBelow cited p
 
--- The parts of the first n boundaries and of their observations: an observation's at its place, a boundary's own at `base` and its place.
-pub record LaidOut (own seen cited : ℕ → ℕ) (base n : ℕ) (firsts starts counts : List ℕ) : Type 0 where
+-- The parts of the first n boundaries and of their observations: an observation's at its place, a boundary's own at `base` and its place,
+-- which is empty where it doesn't stand as an observation.
+pub record LaidOut (stands : List ℕ) (own seen cited : ℕ → ℕ) (base n : ℕ) (firsts starts counts : List ℕ) : Type 0 where
   pub first-there : (b : ℕ) → b < n → getD firsts b 0 ≡ firstSeen seen b
   pub own-start : (b : ℕ) → b < n → getD starts (base + b) 0 ≡ ownStart own seen cited b
-  pub own-count : (b : ℕ) → b < n → getD counts (base + b) 0 ≡ own b
+  pub own-count : (b : ℕ) → b < n → getD counts (base + b) 0 ≡ stood stands own b
   pub cited-start : (b k : ℕ) → b < n → k < seen b → getD starts (firstSeen seen b + k) 0 ≡ citedStart own cited b (firstSeen seen b + k)
   pub cited-count : (b k : ℕ) → b < n → k < seen b → getD counts (firstSeen seen b + k) 0 ≡ cited (firstSeen seen b + k)
 
@@ -85,16 +100,16 @@ pub record PlanRoom (base n : ℕ) (firsts starts counts : List ℕ) : Type 0 wh
   pub clear : Apart starts counts 0
 
 -- The parts of the first b of n boundaries: their observations end at place p, their sources at `run`.
-pub record Layout (own seen cited : ℕ → ℕ) (base n : ℕ) (firsts starts counts : List ℕ) (b p run : ℕ) : Type 0 where
+pub record Layout (stands : List ℕ) (own seen cited : ℕ → ℕ) (base n : ℕ) (firsts starts counts : List ℕ) (b p run : ℕ) : Type 0 where
   pub place : p ≡ sumBelow seen b
   pub running : run ≡ sumBelow own b + sumBelow cited p
-  pub laid : LaidOut own seen cited base b firsts starts counts
+  pub laid : LaidOut stands own seen cited base b firsts starts counts
   pub clear : Apart starts counts run
   pub firsts-room : n ≤ length firsts
   pub starts-room : base + n ≤ length starts
   pub counts-room : base + n ≤ length counts
 
 -- The parts of all n boundaries, among as many numbers as there are sources.
-pub record LaidAll (own seen cited : ℕ → ℕ) (base n : ℕ) (firsts starts counts : List ℕ) : Type 0 where
-  pub laid : LaidOut own seen cited base n firsts starts counts
+pub record LaidAll (stands : List ℕ) (own seen cited : ℕ → ℕ) (base n : ℕ) (firsts starts counts : List ℕ) : Type 0 where
+  pub laid : LaidOut stands own seen cited base n firsts starts counts
   pub clear : Apart starts counts (sumBelow own n + sumBelow cited (sumBelow seen n))

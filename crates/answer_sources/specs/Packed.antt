@@ -18,12 +18,6 @@ sourcePack s = pack (s .from) (s .to)
 unfoldable pub packed : List Source → List ℕ
 packed ss = map sourcePack ss
 
--- The numbers of the n sources from `at` on stand first in keys.
-pub record KeysRead (s : List ℕ) (at n : ℕ) (before keys : List ℕ) : Type 0 where
-  pub long : length keys ≡ length before
-  pub there : take n keys ≡ packed (sourceRecords s at n)
-  pub fits : (k : ℕ) → k < n → SourceFits (sourceAt s (at + k * sourceSize))
-
 -- At place p: the ends, packed, and where the width stands in the total order.
 pub record KeyAt (first second third : List ℕ) (p : ℕ) (e : Span) (bits : ℕ) : Type 0 where
   pub first-is : getD first p 0 ≡ pack (e .a .x) (e .a .y)

@@ -56,21 +56,24 @@ pub record HoldsObservation (first second third starts counts keys : List ℕ) (
   pub run : partOf keys starts counts p ≡ packed (o .sources)
   pub fits : All SourceFits (o .sources)
 
--- The canonical copies of n boundaries: each one's observations at their places, and each as an observation at `base` and its place.
+-- The canonical copies of n boundaries: where each one's own sources start among all, each one's observations at their places, and each
+-- that stands as an observation at `base` and its place.
 pub record CopiesPlaced (bs : ℕ → BoundaryRecord) (os : ℕ → ObservationRecord) (ss : List Source) (base n : ℕ)
-    (firsts first second third starts counts keys : List ℕ) : Type 0 where
+    (stands firsts first second third starts counts keys : List ℕ) : Type 0 where
   pub first-there : (b : ℕ) → b < n → getD firsts b 0 ≡ firstSeen (seenOf bs os ss) b
-  pub itself-there : (b : ℕ) → b < n → HoldsObservation first second third starts counts keys (base + b) (itself (canon (boundaryOf bs os ss b)))
+  pub own-start : (b : ℕ) → b < n → getD starts (base + b) 0 ≡ ownStart (ownOf bs os ss) (seenOf bs os ss) (citedOf bs os ss) b
+  pub own-in : (b : ℕ) → b < n → getD starts (base + b) 0 + ownOf bs os ss b ≤ length ss
+  pub itself-there : (b : ℕ) → b < n → getD stands b 0 ≡ 1
+      → HoldsObservation first second third starts counts keys (base + b) (itself (canon (boundaryOf bs os ss b)))
   pub seen-there : (b k : ℕ) → b < n → k < seenOf bs os ss b
       → HoldsObservation first second third starts counts keys (firstSeen (seenOf bs os ss) b + k)
       (canonObservation (observationOf bs os ss b (firstSeen (seenOf bs os ss) b + k)))
 
--- All parts are in the first `count` numbers, sorting made no own part longer, and the places of observations are sumBelow `base`.
-pub record PlacedInside (bs : ℕ → BoundaryRecord) (os : ℕ → ObservationRecord) (ss : List Source) (base n count : ℕ) (firsts starts counts : List ℕ) : Type
+-- All own sources are among the first `count`, and the places of observations are below `base`.
+pub record PlacedInside (bs : ℕ → BoundaryRecord) (os : ℕ → ObservationRecord) (ss : List Source) (base n count : ℕ) (firsts starts : List ℕ) : Type
     0 where
-  pub part-in : (q : ℕ) → getD starts q 0 + getD counts q 0 ≤ count
-  pub own-most : (b : ℕ) → b < n → getD counts (base + b) 0 ≤ ownOf bs os ss b
-  pub own-room : sumBelow (λ b. getD counts (base + b) 0) n ≤ count
+  pub own-in : (b : ℕ) → b < n → getD starts (base + b) 0 + ownOf bs os ss b ≤ count
+  pub own-room : sumBelow (ownOf bs os ss) n ≤ count
   pub seen-in : (b : ℕ) → b < n → getD firsts b 0 + seenOf bs os ss b ≤ base
   pub seen-room : sumBelow (seenOf bs os ss) n ≤ base
 

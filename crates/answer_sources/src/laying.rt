@@ -1,5 +1,8 @@
 // Where each boundary's own sources and each observation's sources stand.
-ghost use Prim.Native.Nat.{_+_, _*_};
+ghost use mathlib.Core.Path.{_≡_};
+ghost use mathlib.Core.Bool.{cond};
+ghost use Prim.Native.Nat.{_+_, _*_, _≤_};
+ghost use lib.Dec.{eqb};
 ghost use Rattle.answer_sources.specs.Laying.{ownCount, seenCount, citedCount, LayRoom, Lays, Countable, PlanRoom, LaidAll};
 use format::BOUNDARY_SIZE;
 use format::OBSERVATION_SIZE;
@@ -33,21 +36,32 @@ fn lay_observations(
     r
 }
 
+// How many of a boundary's own sources it stands with as an observation.
+fn stood_with(own: u32, stands: u32) -> u32
+    ensures { λ r. ⌜ (r ≡ cond (eqb stands 1) own 0) × (r ≤ own) ⌝ }
+{
+    if stands == 1 {
+        return own;
+    }
+    0
+}
+
 // The sources of the n boundaries and of their observations: for each where they start and how many there are, at an observation's
-// place and at `base` and a boundary's; and each boundary's first observation.
+// place and at `base` and a boundary's, where one that doesn't stand as an observation has none; and each boundary's first observation.
 pub fn lay_boundaries(
     job: &[u8],
     at: usize,
     n: usize,
     ats: usize,
     base: usize,
+    stands: &[u32; 256],
     firsts: &mut [u32],
     starts: &mut [u32],
     counts: &mut [u32],
 )
     requires { ⌜ Countable (now job) at n ats base × PlanRoom base n (now firsts) (now starts) (now counts) ⌝ }
-    ensures { λ _. ⌜ LaidAll (ownCount (now (job .entry)) at) (seenCount (now (job .entry)) at) (citedCount (now (job .entry)) ats) base n (now (firsts .exit))
-        (now (starts .exit)) (now (counts .exit)) ⌝ }
+    ensures { λ _. ⌜ LaidAll (now (stands .entry)) (ownCount (now (job .entry)) at) (seenCount (now (job .entry)) at) (citedCount (now (job .entry)) ats)
+        base n (now (firsts .exit)) (now (starts .exit)) (now (counts .exit)) ⌝ }
 {
     let mut run: u32 = 0;
     let mut p: usize = 0;
@@ -58,7 +72,7 @@ pub fn lay_boundaries(
         let seen = size(x.observations);
         firsts[b] = p as u32;
         starts[base + b] = run;
-        counts[base + b] = own;
+        counts[base + b] = stood_with(own, stands[b]);
         run = lay_observations(job, ats, p, seen, run + own, starts, counts);
         p += seen;
         b += 1;

@@ -1,5 +1,7 @@
-// All that is worked out of a job by place: where each one's sources stand in `keys`, sorted and each once, and what observations are ordered by.
+// All that is worked out of a job by place: where each one's sources stand, those of observations sorted and each once in `keys`, and what
+// observations are ordered by. Own sources of boundaries that don't stand as observations are not read.
 ghost use Rattle.format.specs.Decode.{sourceRecords};
+ghost use Rattle.answer_sources.specs.Laying.{sourcesIn};
 ghost use Rattle.answer_sources.specs.Placed.{CopiesPlaced, PlacedInside, JobPlaces, PlaceRoom, boundaryRows, observationRows};
 use crate::keys::read_keys;
 use crate::laying::lay_boundaries;
@@ -14,7 +16,7 @@ pub fn place_all(
     ats: usize,
     m: usize,
     from: usize,
-    count: usize,
+    stands: &[u32; 256],
     keys: &mut [u64],
     spare: &mut [u64],
     firsts: &mut [u32],
@@ -24,16 +26,17 @@ pub fn place_all(
     second: &mut [u64],
     third: &mut [u64],
 )
-    requires { ⌜ JobPlaces (now job) at n ats m from count
-        × PlaceRoom n m count (now keys) (now spare) (now firsts) (now starts) (now counts) (now first) (now second) (now third) ⌝ }
-    ensures { λ _. ⌜ CopiesPlaced (boundaryRows (now (job .entry)) at) (observationRows (now (job .entry)) ats) (sourceRecords (now (job .entry)) from count) m
-        n
-        (now (firsts .exit)) (now (first .exit)) (now (second .exit)) (now (third .exit)) (now (starts .exit)) (now (counts .exit)) (now (keys .exit)) ⌝ }
+    requires { ⌜ JobPlaces (now job) at n ats m from (sourcesIn (now job) at n ats m)
+        × PlaceRoom n m (sourcesIn (now job) at n ats m) (now keys) (now spare) (now firsts) (now starts) (now counts) (now first) (now second) (now third) ⌝ }
+    ensures { λ _. ⌜ CopiesPlaced (boundaryRows (now (job .entry)) at) (observationRows (now (job .entry)) ats)
+        (sourceRecords (now (job .entry)) from (sourcesIn (now (job .entry)) at n ats m)) m n (now (stands .entry)) (now (firsts .exit)) (now (first .exit))
+        (now (second .exit)) (now (third .exit)) (now (starts .exit)) (now (counts .exit)) (now (keys .exit)) ⌝ }
     ensures inside { λ _. ⌜ PlacedInside (boundaryRows (now (job .entry)) at) (observationRows (now (job .entry)) ats)
-        (sourceRecords (now (job .entry)) from count) m n count (now (firsts .exit)) (now (starts .exit)) (now (counts .exit)) ⌝ }
+        (sourceRecords (now (job .entry)) from (sourcesIn (now (job .entry)) at n ats m)) m n (sourcesIn (now (job .entry)) at n ats m) (now (firsts .exit))
+        (now (starts .exit)) ⌝ }
 {
-    read_keys(job, from, count, keys);
-    lay_boundaries(job, at, n, ats, m, firsts, starts, counts);
+    lay_boundaries(job, at, n, ats, m, stands, firsts, starts, counts);
+    read_keys(job, from, starts, counts, m + n, keys);
     sort_parts(keys, spare, starts, counts, m + n);
     rank_observations(job, ats, m, first, second, third);
     rank_boundaries(job, at, n, m, first, second, third);

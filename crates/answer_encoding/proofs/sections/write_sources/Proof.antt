@@ -1,4 +1,5 @@
 use Rattle.answer_encoding.proofs.Loops.{Grouping, grouping-start, own-few, seen-few, own-room, seen-room, grouping-next, grouping-end}
+use mathlib.Core.Path.{refl}
 use Prim.Native.Nat.{_+_, _-_, _*_, _≤_}
 use lib.ListN.{length}
 use native.Mathlib.Omega.{arith}
@@ -7,10 +8,11 @@ use Rattle.answer_encoding.proofs.sections.write_sources.Statement.{sta
 use Rattle.answer_encoding.proofs.sections.write_sources.Tie as tie
 
 abbrev Inv-loop : tie.InvT-loop
-Inv-loop s₀ at count owns seens owned seen starts counts keys to₀ a₀ q₀ k₀ s to a q k = Grouping owns seens owned seen starts counts keys s₀ at k count s to a q
+Inv-loop s₀ at count job from owns seens owned seen starts counts keys to₀ a₀ q₀ k₀ s to a q k =
+    Grouping job from owns seens owned seen starts counts keys s₀ at k count s to a q
 
 abbrev μ-loop : tie.MeasureT-loop
-μ-loop s₀ at count owns seens owned seen starts counts keys to₀ a₀ q₀ k₀ s to a q k = count - k
+μ-loop s₀ at count job from owns seens owned seen starts counts keys to₀ a₀ q₀ k₀ s to a q k = count - k
 
 -- how far both counts go, once they are read
 few : (c : tie.After-index2 Inv-loop μ-loop)
@@ -22,13 +24,18 @@ few c =
     let turns = c .before .before .loop-test .taken in
     let own = c .before .index .ensures .0 in
     let seen = c .index2 .ensures .0 in
-    (own-few inv (start .pre) turns own seen, seen-few inv (start .pre) turns own seen, own-room inv (start .pre) turns own seen)
+    (own-few inv (start .pre) turns own seen, seen-few inv (start .pre) turns own seen, own-room inv (start .pre) turns own seen refl .room)
 
 loop-holds : tie.Need-loop-holds Inv-loop μ-loop
-loop-holds c = grouping-start _ _ _ _ _ _ _ _ _ _
+loop-holds c = grouping-start _ _ _ _ _ _ _ _ _ _ _ _
 
-write-run-requires : tie.Need-write-run-requires Inv-loop μ-loop
-write-run-requires c κs = let w = few (search) in (w .2, omega (arith, w .0), omega (arith, w .0))
+write-own-requires : tie.Need-write-own-requires Inv-loop μ-loop
+write-own-requires c κs =
+    let start : tie.Start Inv-loop μ-loop = search in
+    let both-read : tie.After-index2 Inv-loop μ-loop = search in
+    let turning = both-read .before .before in
+    own-room (turning .before .loop .inv) (start .pre) (turning .loop-test .taken) (both-read .before .index .ensures .0) (both-read .index2 .ensures .0)
+    (omega arith)
 
 mul-write-runs : tie.Need-mul-write-runs Inv-loop μ-loop
 mul-write-runs c = omega arith
@@ -40,10 +47,10 @@ write-runs-requires : tie.Need-write-runs-requires Inv-loop μ-loop
 write-runs-requires c κs =
     let start : tie.Start Inv-loop μ-loop = search in
     let both-read : tie.After-index2 Inv-loop μ-loop = search in
-    let own-written : tie.After-write-run Inv-loop μ-loop = search in
+    let own-written : tie.After-write-own Inv-loop μ-loop = search in
     let turning = both-read .before .before in (
       seen-room (turning .before .loop .inv) (start .pre) (turning .loop-test .taken) (both-read .before .index .ensures .0) (both-read .index2 .ensures .0)
-          (own-written .write-run .ensures),
+          (own-written .write-own .ensures),
       omega (arith, few both-read .1),
       omega (arith, few both-read .1),
     )
@@ -63,10 +70,10 @@ loop-again : tie.Need-loop-again Inv-loop μ-loop
 loop-again c =
     let start : tie.Start Inv-loop μ-loop = search in
     let both-read : tie.After-index2 Inv-loop μ-loop = search in
-    let own-written : tie.After-write-run Inv-loop μ-loop = search in
+    let own-written : tie.After-write-own Inv-loop μ-loop = search in
     let turning = both-read .before .before in
     grouping-next (turning .before .loop .inv) (start .pre) (turning .loop-test .taken) (both-read .before .index .ensures .0)
-    (both-read .index2 .ensures .0) (own-written .write-run .ensures) (c .before .before .write-runs .ensures)
+    (both-read .index2 .ensures .0) (own-written .write-own .ensures) (c .before .before .write-runs .ensures)
 
 same-length : tie.Need-same-length Inv-loop μ-loop
 same-length c = c .before .loop .inv .writes .long
@@ -83,7 +90,7 @@ write-sources-spec =
     loop-holds
     (λ c κs. search needs)
     (λ c κs. search needs)
-    write-run-requires
+    write-own-requires
     mul-write-runs
     add-write-runs
     write-runs-requires

@@ -1,5 +1,5 @@
 use Rattle.checks.proofs.Adding.{Added, added-start, added-next, added-end}
-use Rattle.answer_encoding.specs.Pieces.{elements}
+use Rattle.answer_sources.specs.Laying.{elements}
 use Prim.Native.Nat.{_-_}
 use native.Mathlib.Omega.{arith}
 use borrow.Author.Needs.{needs}

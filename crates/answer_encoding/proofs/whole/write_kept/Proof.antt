@@ -1,4 +1,4 @@
-use Rattle.answer_encoding.proofs.Wholes.{count-few, seen-few, own-few, record-in, sources-long, all-written, short-answer, full-answer}
+use Rattle.answer_encoding.proofs.Wholes.{count-few, seen-few, own-few, own-inside, record-in, sources-long, all-written, short-answer, full-answer}
 use mathlib.Core.Path.{refl}
 use Prim.Native.Nat.{_*_, _≤_}
 use native.Mathlib.Omega.{arith}
@@ -112,6 +112,7 @@ write-sources-requires c κs =
     record {
       limit = count-few pre;
       own-limit = own-few pre;
+      own-inside = own-inside pre;
       seen-limit = seen-few pre;
       room = omega (
         arith,

@@ -1,4 +1,5 @@
-use Rattle.answer_gathering.proofs.Weights.{owns-room, seens-room, order-inside}
+use Rattle.answer_sources.proofs.Stands.{place-below}
+use Rattle.answer_gathering.proofs.Weights.{owns-room, seens-room}
 use Rattle.answer_gathering.proofs.Answered.{gathered}
 use borrow.Author.Needs.{needs}
 use Rattle.answer_gathering.proofs.kept.gather_kept.Statement.{statement}
@@ -19,15 +20,16 @@ gather-seens-requires c κs =
 gather-owns-requires : tie.Need-gather-owns-requires
 gather-owns-requires c κs =
     let start : tie.Start = search in
-    owns-room (start .pre)
+    (owns-room (start .pre), start .pre .linked)
 
 returns : tie.Need-returns
 returns c =
     let owns : tie.After-gather-owns = search in
     let seens = seen owns in
     let start = start-of seens in
-    λ os ss p. gathered p (start .args .order .now) (start .args .plan .now) (order-inside (start .args .order .now) (start .args .n) (start .pre .ordered))
-    (owns .gather-owns .ensures) (seens .gather-seens .ensures) (owns-room (start .pre) .small) (seens-room (start .pre) .small)
+    λ os count p. gathered (start .args .job .now) (start .args .at) (start .args .from) count p (start .args .order .now) (start .args .plan .now)
+    (place-below (start .args .order .now) (start .args .n) (start .pre .ordered)) (start .pre .standing) (owns .gather-owns .ensures)
+    (seens .gather-seens .ensures) (seens-room (start .pre) .small)
 
 pub gather-kept-spec : {M : Type 1} → statement M
 gather-kept-spec =

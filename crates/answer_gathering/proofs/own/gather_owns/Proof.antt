@@ -10,19 +10,20 @@ use Rattle.answer_gathering.proofs.own.gather_owns.Statement.{statement
 use Rattle.answer_gathering.proofs.own.gather_owns.Tie as tie
 
 abbrev Inv-loop : tie.InvT-loop
-Inv-loop order plan n base starts counts keys spare₀ kept₀ owns₀ owned₀ k₀ a₀ i₀ spare kept owns owned k a i = (i ≤ n)
-    × OwnsBy base order plan starts counts keys n i k a kept owns owned × (length spare ≡ length spare₀) × (length kept ≡ length kept₀)
-    × (length owns ≡ length owns₀) × (length owned ≡ length owned₀)
+Inv-loop job at from order plan n base starts heads links₀ kept₀ owns₀ owned₀ k₀ a₀ i₀ links kept owns owned k a i = (i ≤ n)
+    × OwnsBy job at from base order plan starts heads n i k a kept owns links owned × (length kept ≡ length kept₀) × (length owns ≡ length owns₀)
 
 abbrev μ-loop : tie.MeasureT-loop
-μ-loop order plan n base starts counts keys spare₀ kept₀ owns₀ owned₀ k₀ a₀ i₀ spare kept owns owned k a i = n - i
+μ-loop job at from order plan n base starts heads links₀ kept₀ owns₀ owned₀ k₀ a₀ i₀ links kept owns owned k a i = n - i
 
 -- earlier places, each found by what it is
 abbrev start-of : tie.At-loop Inv-loop μ-loop → tie.Start Inv-loop μ-loop
 start-of c = search
 
 loop-holds : tie.Need-loop-holds Inv-loop μ-loop
-loop-holds c = (omega arith, owns-start _ _ _ _ _ _ _ _ _ _, refl, refl, refl, refl)
+loop-holds c =
+    let start : tie.Start Inv-loop μ-loop = search in
+    (omega arith, owns-start _ _ _ _ _ _ _ _ _ _ _ (start .pre .1), refl, refl)
 
 own-rank-requires : tie.Need-own-rank-requires Inv-loop μ-loop
 own-rank-requires c κs =
@@ -30,13 +31,13 @@ own-rank-requires c κs =
     let in-loop = turning .before in
     let start = start-of in-loop in
     let inv = in-loop .loop .inv in
-    (owns-room-same (start .pre) (inv .2) (inv .3) (inv .4) (inv .5), turning .loop-test .taken, inv .1)
+    (owns-room-same (start .pre .0) (inv .2) (inv .3), turning .loop-test .taken, inv .1)
 
 add-k : tie.Need-add-k Inv-loop μ-loop
 add-k c =
     let in-loop : tie.At-loop Inv-loop μ-loop = search in
     let start = start-of in-loop in
-    omega (arith, c .counted .ensures .1, in-loop .loop .inv .1 .few, start .pre .own .few)
+    omega (arith, c .counted .ensures .1, in-loop .loop .inv .1 .few, start .pre .0 .own .few)
 
 loop-again : tie.Need-loop-again Inv-loop μ-loop
 loop-again c =
@@ -47,26 +48,35 @@ loop-again c =
       owns-counted (in-loop .loop .k) (c .counted .ensures .0) (ranked .own-rank .ensures),
       omega (arith, inv .2),
       omega (arith, inv .3),
-      omega (arith, inv .4),
-      omega (arith, inv .5),
     )
 
 same-length : tie.Need-same-length Inv-loop μ-loop
-same-length c = c .before .loop .inv .2
+same-length c =
+    let in-loop : tie.At-loop Inv-loop μ-loop = search in
+    let start = start-of in-loop in
+    omega (arith, start .pre .1 .cells-long, in-loop .loop .inv .1 .linked .cells-long)
 
 same-length-2 : tie.Need-same-length-2 Inv-loop μ-loop
-same-length-2 c = c .before .loop .inv .3
+same-length-2 c =
+    let in-loop : tie.At-loop Inv-loop μ-loop = search in
+    in-loop .loop .inv .2
 
 same-length-3 : tie.Need-same-length-3 Inv-loop μ-loop
-same-length-3 c = c .before .loop .inv .4
+same-length-3 c =
+    let in-loop : tie.At-loop Inv-loop μ-loop = search in
+    in-loop .loop .inv .3
 
 same-length-4 : tie.Need-same-length-4 Inv-loop μ-loop
-same-length-4 c = c .before .loop .inv .5
+same-length-4 c =
+    let in-loop : tie.At-loop Inv-loop μ-loop = search in
+    let start = start-of in-loop in
+    omega (arith, start .pre .1 .places-long, in-loop .loop .inv .1 .linked .places-long)
 
 returns : tie.Need-returns Inv-loop μ-loop
 returns c =
-    let inv = c .before .loop .inv in
-    owns-end _ _ _ _ _ _ _ (inv .1) (inv .0) (omega arith)
+    let in-loop : tie.At-loop Inv-loop μ-loop = search in
+    let inv = in-loop .loop .inv in
+    owns-end _ _ _ _ _ _ _ _ _ (inv .1) (inv .0) (omega arith)
 
 pub gather-owns-spec : {M : Type 1} → statement M
 gather-owns-spec =

@@ -17,38 +17,38 @@ room c =
 returns : tie.Need-returns
 returns c =
     let start : tie.Start = search in
-    owns-skip _ _ _ _ _ _ _ (start .pre .2) (c .before .size .ensures .0) (c .if1 .taken)
+    owns-skip _ _ _ _ _ _ _ _ _ (start .pre .2) (c .before .size .ensures .0) (c .if1 .taken)
 
-gather-own-requires : tie.Need-gather-own-requires
-gather-own-requires c κs =
+add-owns-requires : tie.Need-add-owns-requires
+add-owns-requires c κs =
     let start : tie.Start = search in
-    let fit = owns-fit (start .pre .2) in
-    (start .pre .0 .own, omega (arith, start .pre .0 .owned-room), omega (arith, start .pre .0 .spare-room))
+    (start .pre .0 .own, omega (arith, owns-fit (start .pre .2), start .pre .0 .owned-room), start .pre .2 .linked)
 
 slice-write-kept : tie.Need-slice-write-kept
 slice-write-kept c = omega (arith, room (search) .0)
 
 sub-owns : tie.Need-sub-owns
 sub-owns c =
-    let gathered : tie.After-gather-own = search in
-    omega (arith, gathered .gather-own .ensures .0 .ends)
+    let added : tie.After-add-owns = search in
+    omega (arith, added .add-owns .ensures .firsts .low)
 
 cast-owns : tie.Need-cast-owns
 cast-owns c =
-    let gathered : tie.After-gather-own = search in
-    let start : tie.Start = search in
-    omega (arith, gathered .gather-own .ensures .1, owns-fit (start .pre .2), start .pre .0 .small)
+    let added : tie.After-add-owns = search in
+    let linked = added .add-owns .ensures .firsts .linked in
+    omega (arith, linked .few, linked .small)
 
 slice-write-owns : tie.Need-slice-write-owns
 slice-write-owns c = omega (arith, room (search) .1)
 
 returns-2 : tie.Need-returns-2
 returns-2 c =
-    let gathered : tie.After-gather-own = search in
+    let added : tie.After-add-owns = search in
     let stays : tie.After-size = search in
     let start : tie.Start = search in
-    owns-keep _ _ _ _ _ _ _ (start .pre .2) (stays .size .ensures .0) (gathered .before .before .before .if1 .left) (gathered .gather-own .ensures .0)
-    (gathered .gather-own .ensures .1) (room start .0) (room start .1) refl refl
+    let job : tie.After-shared-slice-known = search in
+    owns-keep _ _ _ _ _ _ _ _ _ (start .pre .2) (stays .size .ensures .0) (added .before .before .before .if1 .left)
+    (λ i. omega (arith, job .shared-slice-known .given i)) (added .add-owns .ensures) (room start .0) (room start .1) refl (omega arith)
 
 pub own-rank-spec : {M : Type 1} → statement M
 own-rank-spec =
@@ -58,7 +58,7 @@ own-rank-spec =
     (λ c. search needs)
     (λ c κs. search needs)
     returns
-    gather-own-requires
+    add-owns-requires
     (λ c. search needs)
     (λ c. search needs)
     (λ c. search needs)

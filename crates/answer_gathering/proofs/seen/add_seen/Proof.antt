@@ -1,5 +1,4 @@
-use Rattle.answer_sources.specs.Laying.{seenCount}
-use mathlib.Core.Path.{sym, _∙_, ap}
+use mathlib.Core.Path.{refl, _∙_, ap}
 use native.Mathlib.Omega.{arith}
 use lib.ListN.{length}
 use Rattle.format.specs.declared.records.BoundaryRecord.{BoundaryRecord}
@@ -26,20 +25,28 @@ shared-slice-read-size c =
     let start : tie.Start = search in
     omega (arith, start .pre .0 .firsts-room, start .pre .0 .few, place-small (start .pre .0) (start .pre .1) (c .before .before .size2 .ensures .0))
 
-add-places-requires : tie.Need-add-places-requires
-add-places-requires c κs =
-    let boundary : tie.After-read-boundary = search in
+element-copy-out-add-seen-places : tie.Need-element-copy-out-add-seen-places
+element-copy-out-add-seen-places c =
+    let rank : tie.After-size2 = search in
+    let start = start-of (rank .before .before .before) in
+    omega (arith, start .pre .0 .few, start .pre .1, place-small (start .pre .0) (start .pre .1) (rank .size2 .ensures .0))
+
+add-seen-places-requires : tie.Need-add-seen-places-requires
+add-seen-places-requires c κs =
+    let many : tie.After-size4 = search in
+    let first = many .before in
+    let boundary = first .before .before in
     let rank = boundary .before in
     let goes = rank .before .before in
     let aim = goes .before in
     let start = start-of aim in (
       own-place (start .pre .0) (start .pre .1) (rank .size2 .ensures .0),
-      places-inside (start .pre .0) (start .pre .1) (rank .size2 .ensures .0) (c .before .before .size3 .ensures .0)
-          (c .before .size4 .ensures .0 ∙ ap (λ (r : BoundaryRecord). r .observations) (boundary .read-boundary .ensures)),
-      seen-room (start .pre .0) (start .pre .1) (rank .size2 .ensures .0) (start .args .plan .now) (start .args .to)
-          (length (start .args .seen .now)) (c .before .size4 .result)
-          (c .before .size4 .ensures .0 ∙ ap (λ (r : BoundaryRecord). r .observations) (boundary .read-boundary .ensures))
-          (aim .size .ensures .0) (goes .if1 .left) (start .pre .2),
+      places-inside (start .pre .0) (start .pre .1) (rank .size2 .ensures .0) (first .size3 .ensures .0)
+          (many .size4 .ensures .0 ∙ ap (λ (r : BoundaryRecord). r .observations) (boundary .read-boundary .ensures)),
+      seen-room (start .pre .0) (start .pre .1) (rank .size2 .ensures .0) (start .args .to)
+          (length (start .args .seen .now)) (many .size4 .result)
+          (many .size4 .ensures .0 ∙ ap (λ (r : BoundaryRecord). r .observations) (boundary .read-boundary .ensures))
+          (aim .size .ensures .0) (goes .if1 .left) (start .pre .3),
     )
 
 returns-2 : tie.Need-returns-2
@@ -52,10 +59,9 @@ returns-2 c =
     let aim = goes .before in
     let start = start-of aim in
     there (aim .size .ensures .0) (goes .if1 .left)
-    (places-there (start .pre .0) (start .pre .1) (rank .size2 .ensures .0) (start .args .among)
-    (c .before .before .add-places .ensures (start .args .firsts .now) (seenCount (start .args .job .now) (start .args .at))
-    (sym (first .size3 .ensures .0))
-    (sym (many .size4 .ensures .0 ∙ ap (λ (r : BoundaryRecord). r .observations) (boundary .read-boundary .ensures)))))
+    (places-there (start .pre .0) (start .pre .1) (rank .size2 .ensures .0) (aim .size .ensures .0) (goes .if1 .left) (start .pre .2)
+    (first .size3 .ensures .0) (many .size4 .ensures .0 ∙ ap (λ (r : BoundaryRecord). r .observations) (boundary .read-boundary .ensures)) refl
+    (c .before .before .add-seen-places .ensures))
 
 pub add-seen-spec : {M : Type 1} → statement M
 add-seen-spec =
@@ -75,6 +81,8 @@ add-seen-spec =
     shared-slice-read-size
     (λ c κs. search needs)
     (λ c κs. search needs)
-    add-places-requires
+    (λ c. search needs)
+    element-copy-out-add-seen-places
+    add-seen-places-requires
     (λ c. search needs)
     returns-2)

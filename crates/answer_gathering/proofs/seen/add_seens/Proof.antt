@@ -4,18 +4,19 @@ use Rattle.answer_sources.specs.Laying.{sumBelow, seenCount}
 use Rattle.answer_gathering.specs.Runs.{Appended, going, placesAt, seenWeight, into}
 use Rattle.answer_gathering.proofs.Goings.{runs-start, runs-next, weight-next, runs-end, into-part}
 use Prim.Native.Nat.{_+_, _-_, _≤_}
+use lib.ListN.{length}
 use native.Mathlib.Omega.{arith}
 use borrow.Author.Needs.{needs}
 use Rattle.answer_gathering.proofs.seen.add_seens.Statement.{statement}
 use Rattle.answer_gathering.proofs.seen.add_seens.Tie as tie
 
 abbrev Inv-loop : tie.InvT-loop
-Inv-loop job at order plan n i base firsts among seen₀ from to₀ j₀ seen to j = (j ≤ n)
-    × Appended seen₀ from (gather (placesAt base order firsts (seenCount job at) among) (going plan j i)) seen to
+Inv-loop job at order plan n i base stands firsts seen₀ from to₀ j₀ seen to j = (j ≤ n)
+    × Appended seen₀ from (gather (placesAt base order firsts (seenCount job at) (length (going plan n i))) (going plan j i)) seen to
     × (to ≤ from + sumBelow (into plan (seenWeight order (seenCount job at)) i) j)
 
 abbrev μ-loop : tie.MeasureT-loop
-μ-loop job at order plan n i base firsts among seen₀ from to₀ j₀ seen to j = n - j
+μ-loop job at order plan n i base stands firsts seen₀ from to₀ j₀ seen to j = n - j
 
 -- earlier places, each found by what it is
 abbrev start-of : tie.At-loop Inv-loop μ-loop → tie.Start Inv-loop μ-loop
@@ -27,7 +28,7 @@ loop-holds c =
       omega arith,
       runs-start
           (placesAt (start .args .base) (start .args .order .now) (start .args .firsts .now) (seenCount (start .args .job .now) (start .args .at))
-          (start .args .among)) (start .args .plan .now) (start .args .i) _ _,
+          (length (going (start .args .plan .now) (start .args .n) (start .args .i)))) (start .args .plan .now) (start .args .i) _ _,
       omega arith,
     )
 
@@ -38,12 +39,13 @@ add-seen-requires c κs =
     let inv = in-loop .loop .inv in (
       start .pre .0,
       c .before .loop-test .taken,
+      start .pre .1,
       omega (
         arith,
         inv .2,
         into-part (start .args .plan .now) (seenWeight (start .args .order .now) (seenCount (start .args .job .now) (start .args .at)))
             (start .args .i) (in-loop .loop .j) (start .args .n) (c .before .loop-test .taken),
-        start .pre .1,
+        start .pre .2,
         inv .1 .long,
       ),
     )
@@ -58,7 +60,7 @@ loop-again c =
     let order = start .args .order .now in
     let plan = start .args .plan .now in
     let job = start .args .job .now in
-    let among = start .args .among in
+    let among = length (going plan (start .args .n) (start .args .i)) in
     let base = start .args .base in
     let at = start .args .at in (
       omega arith,
@@ -77,7 +79,8 @@ returns c =
     let start : tie.Start Inv-loop μ-loop = search in
     let inv = c .before .loop .inv in
     let job = start .args .job .now in
-    runs-end (placesAt (start .args .base) (start .args .order .now) (start .args .firsts .now) (seenCount job (start .args .at)) (start .args .among))
+    runs-end (placesAt (start .args .base) (start .args .order .now) (start .args .firsts .now) (seenCount job (start .args .at))
+    (length (going (start .args .plan .now) (start .args .n) (start .args .i))))
     (seenWeight (start .args .order .now) (seenCount job (start .args .at))) (start .args .plan .now) (start .args .i) (c .before .loop .j) (start .args .n)
     (inv .1) (inv .2) (inv .0) (omega arith)
 

@@ -14,21 +14,20 @@ sort-places-requires c κs =
     let added : tie.After-add-seens = search in
     let start = start-of added in (
       omega (arith, added .add-seens .ensures .0 .ends),
-      omega (arith, added .add-seens .ensures .1, start .pre .1, added .add-seens .ensures .0 .long),
-      omega (arith, added .add-seens .ensures .1, start .pre .2),
+      omega (arith, added .add-seens .ensures .1, start .pre .2, added .add-seens .ensures .0 .long),
+      omega (arith, added .add-seens .ensures .1, start .pre .3),
     )
 
 returns : tie.Need-returns
 returns c =
     let sorted : tie.After-sort-places = search in
     let added : tie.After-add-seens = search in
-    let counted = added .before .before in
     let start = start-of added in (
       seen-gathered (start .args .base) (start .args .order .now) (start .args .plan .now) (start .args .firsts .now) (start .args .first .now)
           (start .args .second .now) (start .args .third .now) (start .args .starts .now) (start .args .counts .now) (start .args .keys .now)
-          (seenCount (start .args .job .now) (start .args .at)) (start .args .n) (start .args .i) (counted .count-going .ensures)
-          (added .add-seens .ensures .0) (omega (arith, start .pre .1))
-          (omega (arith, added .add-seens .ensures .1, start .pre .1, added .add-seens .ensures .0 .long))
+          (seenCount (start .args .job .now) (start .args .at)) (start .args .n) (start .args .i)
+          (added .add-seens .ensures .0) (omega (arith, start .pre .2))
+          (omega (arith, added .add-seens .ensures .1, start .pre .2, added .add-seens .ensures .0 .long))
           (sorted .sort-places .ensures),
       added .add-seens .ensures .1,
     )
@@ -37,7 +36,6 @@ pub gather-seen-spec : {M : Type 1} → statement M
 gather-seen-spec =
     tie.close
     (tie.spec
-    (λ c κs. search needs)
     (λ c κs. search needs)
     sort-places-requires
     (λ c. search needs)

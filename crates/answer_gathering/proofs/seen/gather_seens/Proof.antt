@@ -11,12 +11,12 @@ use Rattle.answer_gathering.proofs.seen.gather_seens.Statement.{stateme
 use Rattle.answer_gathering.proofs.seen.gather_seens.Tie as tie
 
 abbrev Inv-loop : tie.InvT-loop
-Inv-loop job at order plan n base firsts first second third starts counts keys seens₀ seen₀ spare₀ k₀ a₀ i₀ seens seen spare k a i = (i ≤ n)
+Inv-loop job at order plan n base stands firsts first second third starts counts keys seens₀ seen₀ spare₀ k₀ a₀ i₀ seens seen spare k a i = (i ≤ n)
     × SeensBy base order plan firsts first second third starts counts keys (seenCount job at) n i k a seens seen × (length seens ≡ length seens₀)
     × (length seen ≡ length seen₀) × (length spare ≡ length spare₀)
 
 abbrev μ-loop : tie.MeasureT-loop
-μ-loop job at order plan n base firsts first second third starts counts keys seens₀ seen₀ spare₀ k₀ a₀ i₀ seens seen spare k a i = n - i
+μ-loop job at order plan n base stands firsts first second third starts counts keys seens₀ seen₀ spare₀ k₀ a₀ i₀ seens seen spare k a i = n - i
 
 -- earlier places, each found by what it is
 abbrev start-of : tie.At-loop Inv-loop μ-loop → tie.Start Inv-loop μ-loop

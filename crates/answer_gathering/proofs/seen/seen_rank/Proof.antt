@@ -20,7 +20,7 @@ gather-seen-requires : tie.Need-gather-seen-requires
 gather-seen-requires c κs =
     let start : tie.Start = search in
     let fit = seens-fit (start .pre .2) in
-    (start .pre .0 .own, omega (arith, start .pre .0 .seen-room), omega (arith, start .pre .0 .spare-room))
+    (start .pre .0 .own, start .pre .1, omega (arith, start .pre .0 .seen-room), omega (arith, start .pre .0 .spare-room))
 
 sub-seens : tie.Need-sub-seens
 sub-seens c =

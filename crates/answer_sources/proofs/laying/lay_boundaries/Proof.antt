@@ -1,7 +1,9 @@
 use mathlib.Core.Path.{_≡_, refl, _∙_, ap}
-use Prim.Native.Nat.{_+_, _-_, _≤_, _<_}
+use mathlib.Core.Bool.{cond}
+use Prim.Native.Nat.{ℕ, _+_, _-_, _≤_, _<_}
+use lib.Dec.{eqb}
 use native.Mathlib.Omega.{arith}
-use lib.ListN.{length}
+use lib.ListN.{length, getD}
 use borrow.Author.Needs.{needs}
 use Rattle.format.specs.declared.records.BoundaryRecord.{BoundaryRecord}
 use Rattle.answer_sources.specs.Laying.{Layout, ownCount, seenCount, citedCount}
@@ -10,12 +12,12 @@ use Rattle.answer_sources.proofs.laying.lay_boundaries.Statement.{state
 use Rattle.answer_sources.proofs.laying.lay_boundaries.Tie as tie
 
 abbrev Inv-loop : tie.InvT-loop
-Inv-loop job at n ats base firsts₀ starts₀ counts₀ run₀ p₀ b₀ firsts starts counts run p b = (b ≤ n)
-    × Layout (ownCount job at) (seenCount job at) (citedCount job ats) base n firsts starts counts b p run × (length firsts ≡ length firsts₀)
+Inv-loop job at n ats base stands firsts₀ starts₀ counts₀ run₀ p₀ b₀ firsts starts counts run p b = (b ≤ n)
+    × Layout stands (ownCount job at) (seenCount job at) (citedCount job ats) base n firsts starts counts b p run × (length firsts ≡ length firsts₀)
     × (length starts ≡ length starts₀) × (length counts ≡ length counts₀)
 
 abbrev μ-loop : tie.MeasureT-loop
-μ-loop job at n ats base firsts₀ starts₀ counts₀ run₀ p₀ b₀ firsts starts counts run p b = n - b
+μ-loop job at n ats base stands firsts₀ starts₀ counts₀ run₀ p₀ b₀ firsts starts counts run p b = n - b
 
 -- what the function is given and asked
 abbrev start-of : tie.In-loop Inv-loop μ-loop → tie.Start Inv-loop μ-loop
@@ -41,7 +43,7 @@ few c =
 loop-holds : tie.Need-loop-holds Inv-loop μ-loop
 loop-holds c =
     let start : tie.Start Inv-loop μ-loop = search in
-    (omega arith, layout-start _ _ _ (start .pre .1), refl, refl, refl)
+    (omega arith, layout-start _ _ _ _ (start .pre .1), refl, refl, refl)
 
 mul-read-boundary : tie.Need-mul-read-boundary Inv-loop μ-loop
 mul-read-boundary c = omega (arith, start-of c .pre .0 .boundaries-in)
@@ -64,26 +66,36 @@ add-starts c = omega (arith, few c .0)
 slice-write-starts : tie.Need-slice-write-starts Inv-loop μ-loop
 slice-write-starts c = omega (arith, few c .3)
 
+copy-stands : tie.Need-element-copy-out-stood-with Inv-loop μ-loop
+copy-stands c = omega (arith, c .before .before .loop-test .taken, given c .pre .0 .boundary-limit)
+
 add-counts : tie.Need-add-counts Inv-loop μ-loop
-add-counts c = omega (arith, few c .0)
+add-counts c =
+    let sized : tie.After-size Inv-loop μ-loop = search in
+    omega (arith, few sized .0)
 
 slice-write-counts : tie.Need-slice-write-counts Inv-loop μ-loop
-slice-write-counts c = omega (arith, few c .4)
+slice-write-counts c =
+    let sized : tie.After-size Inv-loop μ-loop = search in
+    omega (arith, few sized .4)
 
 add-lay-observations : tie.Need-add-lay-observations Inv-loop μ-loop
 add-lay-observations c =
+    let sized : tie.After-size Inv-loop μ-loop = search in
     omega (
       arith,
-      own-fits (given c .pre .0) (at-loop c .loop .inv .1) (c .before .before .loop-test .taken),
-      ap (λ (r : BoundaryRecord). r .sources) (c .before .read-boundary .ensures),
+      own-fits (given sized .pre .0) (at-loop sized .loop .inv .1) (sized .before .before .loop-test .taken),
+      ap (λ (r : BoundaryRecord). r .sources) (sized .before .read-boundary .ensures),
     )
 
 lay-observations-requires : tie.Need-lay-observations-requires Inv-loop μ-loop
 lay-observations-requires c κs =
-    let sized = c .before .before in
+    let stood : tie.After-stood-with Inv-loop μ-loop = search in
+    let sized : tie.After-size Inv-loop μ-loop = search in
     let read = sized .before .read-boundary .ensures in
     room-for (given sized .pre .0) (at-loop sized .loop .inv .1) (sized .before .before .loop-test .taken)
-    (ap (λ (r : BoundaryRecord). r .sources) read) (sized .size .ensures .0 ∙ ap (λ (r : BoundaryRecord). r .observations) read) refl
+    (ap (λ (r : BoundaryRecord). r .sources) read) (stood .stood-with .ensures .1)
+    (sized .size .ensures .0 ∙ ap (λ (r : BoundaryRecord). r .observations) read) refl
 
 add-p : tie.Need-add-p Inv-loop μ-loop
 add-p c =
@@ -97,10 +109,13 @@ add-p c =
 loop-again : tie.Need-loop-again Inv-loop μ-loop
 loop-again c =
     let laid : tie.After-lay-observations Inv-loop μ-loop = search in
+    let stood : tie.After-stood-with Inv-loop μ-loop = search in
     let sized : tie.After-size Inv-loop μ-loop = search in
     let read = sized .before .read-boundary .ensures in
     let inv = at-loop sized .loop .inv in
-    let next = layout-next (given sized .pre .0) (inv .1) (sized .before .before .loop-test .taken) (ap (λ (r : BoundaryRecord). r .sources) read)
+    let sources = ap (λ (r : BoundaryRecord). r .sources) read in
+    let next = layout-next (given sized .pre .0) (inv .1) (sized .before .before .loop-test .taken) sources
+    (stood .stood-with .ensures .0 ∙ ap (λ (k : ℕ). cond (eqb (getD (given sized .args .stands .now) (at-loop sized .loop .b) 0) 1) k 0) sources)
     (sized .size .ensures .0 ∙ ap (λ (r : BoundaryRecord). r .observations) read) (laid .lay-observations .ensures)
     (inv .2) (inv .3) (inv .4) in
     (omega arith, next .0, next .1, next .2, next .3)
@@ -137,6 +152,9 @@ lay-boundaries-spec =
     add-starts
     (λ c. search needs)
     slice-write-starts
+    (λ c. search needs)
+    copy-stands
+    (λ c κs. search needs)
     add-counts
     (λ c. search needs)
     slice-write-counts
