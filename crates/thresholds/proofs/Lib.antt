@@ -1,0 +1,5 @@
+pub mod Faulty
+mod Of000
+mod Fields
+mod Written
+pub mod Blocks
