@@ -10,7 +10,7 @@ returns : tie.Need-returns
 returns c =
     let at-refused = c .before .before in
     let at-reduce = at-refused .before .before .before .before .before .before .before in
-    let start = at-reduce .before .before .before .before .before .before .before in
+    let start : tie.Start = search in
     let lent = start .args in
     let e = at-reduce .chokes-reduce .ensures in
     let w = at-refused .write-refused in (
@@ -21,7 +21,7 @@ returns c =
 slice-reshare-prefix-write-listing : tie.Need-slice-reshare-prefix-write-listing
 slice-reshare-prefix-write-listing c =
     let at-reduce = c .before .before .before .before .before in
-    let start = at-reduce .before .before .before .before .before .before .before in
+    let start : tie.Start = search in
     let lent = start .args in
     let fits = detail-fits (lent .job .now) (lent .thresholds .now) (lent .work .now) (lent .answer .now) (at-reduce .chokes-reduce .ensures) (c .if1 .left) in
     omega (arith, fits, at-reduce .chokes-reduce .kept .1 .1 .0)
@@ -29,7 +29,7 @@ slice-reshare-prefix-write-listing c =
 slice-aggregate-write-listing : tie.Need-slice-aggregate-write-listing
 slice-aggregate-write-listing c =
     let at-reduce = c .before .before .before .before .before .before in
-    let start = at-reduce .before .before .before .before .before .before .before in
+    let start : tie.Start = search in
     let lent = start .args in
     let fits = detail-fits (lent .job .now) (lent .thresholds .now) (lent .work .now) (lent .answer .now) (at-reduce .chokes-reduce .ensures) (c .before .if1 .left) in
     sym (length-take-le _ _ (omega (arith, fits, at-reduce .chokes-reduce .kept .1 .1 .0)))
@@ -38,7 +38,7 @@ returns-2 : tie.Need-returns-2
 returns-2 c =
     let at-listing = c .before .before in
     let at-reduce = at-listing .before .before .before .before .before .before .before .before in
-    let start = at-reduce .before .before .before .before .before .before .before in
+    let start : tie.Start = search in
     let lent = start .args in
     let e = at-reduce .chokes-reduce .ensures in
     let w = at-listing .write-listing in
