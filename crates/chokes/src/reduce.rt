@@ -80,15 +80,7 @@ pub extern "C" fn chokes_reduce_by_list(
     let limits = read_limits(thresholds);
     let mut order = [0u32; 256];
     let mut plan = [0u32; 256];
-    let r = plan_reduce_by_list(
-        limits,
-        EIGHT,
-        job,
-        list,
-        work,
-        &mut order,
-        &mut plan,
-    );
+    let r = plan_reduce_by_list(limits, EIGHT, job, list, work, &mut order, &mut plan);
     if 0 < r.number {
         return r;
     }

@@ -1,10 +1,10 @@
 -- The block of source document 000 at the start of a slice, or not.
-use mathlib.Core.Path.{_≡_, refl, sym, _∙_}
-use mathlib.Core.List.{List}
-use Prim.Native.Nat.{ℕ, _≤_, _<_}
+use mathlib.Core.Path.{_≡_, refl, sym, _∙_, ap}
+use mathlib.Core.List.{List, _++_}
+use Prim.Native.Nat.{ℕ, _+_, _≤_, _<_}
 use native.Mathlib.Omega.{arith}
 use borrow.Author.Tests.{lt-ltb, le-ltb}
-use lib.ListN.{length}
+use lib.ListN.{length, drop}
 use Rattle.wire.specs.Bytes.{splice}
 use Rattle.thresholds.specs.Block.{block000}
 use Rattle.thresholds.proofs.Blocks.{block-000}
@@ -21,4 +21,5 @@ pub block-put : (s : List ℕ) {t : List ℕ} {r : ℕ} → 64 ≤ length s → 
 unfolding putFirst lengthWhereFits splice
 block-put s h e f =
     let room = le-ltb (length s) (length block000) (omega (arith, block-000 .long)) in
-    (rw room (f ∙ sym (block-000 .long)), rw room e)
+    let first : 0 + length block000 ≡ length block000 = omega arith in
+    (rw room (f ∙ sym (block-000 .long)), rw room (e ∙ ap (λ (n : ℕ). block000 ++ drop n s) first))
