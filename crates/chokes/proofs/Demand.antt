@@ -75,10 +75,9 @@ module _ (block dirs : List ℕ) where
       ap (λ (g : Grid). rulesOn limits dirs g (anchorsOf (a .bases))) (s .grid)
       ∙ ap (λ (bs : List Base). rulesOn limits dirs (gridOf b) (anchorsOf bs)) (s .bases)
 
-  -- Demand 3. For every run A and run B, each a Reduce or a Reduce by list that is accepted (`Made`), with one block of thresholds, on one map with the same bases (`SameMap`), no two
-  -- boundaries of A with the same ends in either order (`DistinctEnds`), and B's listing another one of A's boundaries and spans (`Relisted`: any
-  -- order, "its ends
-  -- either way round", "an observation takes its sources along", sources and observations shuffled).
+  -- Demand 3. For every run A and run B, each a Reduce or a Reduce by list that is accepted (`Made`), with one block of thresholds, on one map with the same
+  -- bases (`SameMap`), no two boundaries of A with the same ends in either order (`DistinctEnds`), and B's listing another one of A's boundaries and spans
+  -- (`Relisted`: any order, "its ends either way round", "an observation takes its sources along", sources and observations shuffled).
   pub same-bytes : (a b : Made block dirs) → SameMap (jobOf (a .call)) (jobOf (b .call)) → DistinctEnds (jobOf (a .call) .boundaries)
       → Relisted (runOf (a .call)) (runOf (b .call)) → SameBytes block dirs a b
   unfolding runOf

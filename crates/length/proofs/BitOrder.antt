@@ -146,7 +146,8 @@ range-iff most b some finite wide = (
         let v = bits-value b k in
         let w = bits-value most finite in
         let p = positive-of-value (ofBits binary64 b) (count (field b) (digits b)) (2 ^ low binary64) v (omega arith) in
-        let q = positive-of-value (ofBits binary64 most) (count (field most) (digits most)) (2 ^ low binary64) w (counts (field most) (digits most) (omega arith)) in
+        let some-units = counts (field most) (digits most) (omega arith) in
+        let q = positive-of-value (ofBits binary64 most) (count (field most) (digits most)) (2 ^ low binary64) w some-units in
         let t : T (le (ofBits binary64 b) (ofBits binary64 most)) = rw e tt in
         let h = values-of-le (ofBits binary64 b) (ofBits binary64 most) (count (field b) (digits b)) (2 ^ low binary64)
         (count (field most) (digits most)) (2 ^ low binary64) p q v w t in

@@ -74,9 +74,13 @@ module _ (job block work answer : List ℕ) {number detail : ℕ} {work′ answe
     detail-is = ap (λ (o : Outcome). o .detail) e ∙ demand-two .reduce job block work answer zero-given .detail
 
     pub detail-fits : detail ≤ length answer
-    detail-fits = let d = ap (λ (o : Outcome). o .detail) e in let s = demand-one .reduce job block work answer .success zero-given in omega (arith, d, s .0, s .1)
+    detail-fits =
+        let d = ap (λ (o : Outcome). o .detail) e in
+        let s = demand-one .reduce job block work answer .success zero-given in
+        omega (arith, d, s .0, s .1)
 
-    pub listed-text : (out : List ℕ) → 3 * length answer ≤ length out → answerText (take detail answer′) (length out) ≡ printed (reduceResult job block work answer)
+    pub listed-text : (out : List ℕ) → 3 * length answer ≤ length out
+        → answerText (take detail answer′) (length out) ≡ printed (reduceResult job block work answer)
     unfolding printed
     listed-text out room =
         ap (λ (l : List ℕ). answerText l (length out)) first-bytes

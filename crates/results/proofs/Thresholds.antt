@@ -4,6 +4,10 @@ use mathlib.Core.Bool.{true, false}
 use mathlib.Core.List.{List, _∷_}
 use mathlib.Core.Option.{some}
 use Prim.Native.Nat.{ℕ}
+use native.Mathlib.Omega.{arith}
+use lib.Ieee.{binary64}
+use lib.Ieee.Bits.{ofBits-fits}
+use Rattle.wire.specs.Bytes.{u64At}
 use Rattle.position.specs.declared.Span.{Span}
 use Rattle.format.specs.Values.{Job}
 use Rattle.format.specs.Decode.{decode, decodeList}
@@ -13,7 +17,10 @@ use Rattle.checks.specs.Numbers.{badThresholds}
 use Rattle.checks.specs.Checks.{Check, firstRefusal}
 use Rattle.checks.proofs.Firsts.{skip, stop, append-some}
 use Rattle.checks_calls.specs.Refusals.{reduceChecks, byListChecks}
-use Rattle.thresholds.specs.Block.{blockFault, limitsIn, thresholdsCheck}
+use Rattle.thresholds.specs.Block.{blockAt, blockFault, limitsIn, thresholdsCheck}
+use Rattle.thresholds.proofs.Faulty.{block-right}
+use Rattle.length.proofs.BitOrder.{bits-up}
+use Rattle.serial_groups.proofs.Representative.{Tolerant}
 use Rattle.results.specs.Results.{leftBy, ownEnds, outcome, writing, reduced, reduceWith, reduceByListWith}
 use Rattle.results.specs.Calls.{reduceResult, reduceByListResult}
 use Rattle.results.specs.Cases.{ThresholdsFirst}
@@ -44,3 +51,10 @@ thresholds-first block e = record {
   reduce = λ job work answer. reduced-bad (limitsIn block) eight block (reduceChecks job) (decode job) (ownEnds (decode job)) work answer e;
   by-list = λ job list work answer. reduced-bad (limitsIn block) eight block (byListChecks job list) (decode job) (decodeList list) work answer e;
 }
+
+-- the width tolerance of an admitted block is finite and not negative, +0 too, so that some member of a group is eligible (`accepted-representative`)
+pub block-tolerant : (block : List ℕ) → blockFault block ≡ false → Tolerant (limitsIn block)
+unfolding limitsIn blockAt
+block-tolerant block h =
+    let w = block-right block h .ranges .width in
+    record { finite = bits-up (u64At block 24) (omega (arith, w)); held = ofBits-fits binary64 (u64At block 24) }

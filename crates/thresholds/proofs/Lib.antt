@@ -1,5 +1,4 @@
 pub mod Faulty
 mod Of000
-mod Fields
 mod Written
 pub mod Blocks

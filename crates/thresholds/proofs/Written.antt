@@ -7,10 +7,10 @@ use lib.Ieee.{Float, binary64, ofBits}
 use lib.ListN.{length}
 use Rattle.wire.specs.Bytes.{splice, u32Bytes, u64Bytes, words}
 use Rattle.format.proofs.Writes.{then-write}
+use Rattle.format.proofs.Fields.{fields-long, field-first, field-more}
 use Rattle.serial_links.specs.Limits.{Limits}
 use Rattle.thresholds.specs.declared.block.Block.{Block}
 use Rattle.thresholds.specs.Block.{blockSize, blockAt, headBytes, numberBytes, blockBytes, limitsIn}
-use Rattle.thresholds.proofs.Fields.{fields-long, field-first, field-more}
 
 module _ (s : List ℕ) (b : Block) (room : blockSize ≤ length s) where
   pub head-written : {t1 t2 t3 t4 : List ℕ} {j1 j2 j3 j4 v1 v2 v3 v4 : ℕ}

@@ -41,7 +41,8 @@ returns-2 : tie.Need-returns-2
 returns-2 c =
     let planned : tie.After-plan-reduce-by-list = search in
     let given = limited planned in
-    (left-eight (given .read-limits .ensures) (planned .plan-reduce-by-list .ensures)) .refused (c .if2 .taken) _ ∙ by-list-as _ _ _ _ _ (admitted (given .before))
+    (left-eight (given .read-limits .ensures) (planned .plan-reduce-by-list .ensures)) .refused (c .if2 .taken) _
+    ∙ by-list-as _ _ _ _ _ (admitted (given .before))
 
 finish-requires : tie.Need-finish-requires
 finish-requires c κs =

@@ -14,7 +14,8 @@ returns c =
     let lent = start .args in
     let e = at-reduce .chokes-reduce .ensures in
     let w = at-refused .write-refused in (
-      same-text (refused-text (lent .job .now) (lent .thresholds .now) (lent .work .now) (lent .answer .now) e (at-refused .before .before .if1 .taken)) (w .ensures .0),
+      same-text (refused-text (lent .job .now) (lent .thresholds .now) (lent .work .now) (lent .answer .now) e (at-refused .before .before .if1 .taken))
+          (w .ensures .0),
       (omega (arith, w .ensures .1, w .kept .1 .1 .0, start .pre .1), left-by (lent .job .now) (lent .thresholds .now) (lent .work .now) (lent .answer .now) e),
     )
 
@@ -31,7 +32,8 @@ slice-aggregate-write-listing c =
     let at-reduce = c .before .before .before .before .before .before in
     let start : tie.Start = search in
     let lent = start .args in
-    let fits = detail-fits (lent .job .now) (lent .thresholds .now) (lent .work .now) (lent .answer .now) (at-reduce .chokes-reduce .ensures) (c .before .if1 .left) in
+    let e = at-reduce .chokes-reduce .ensures in
+    let fits = detail-fits (lent .job .now) (lent .thresholds .now) (lent .work .now) (lent .answer .now) e (c .before .if1 .left) in
     sym (length-take-le _ _ (omega (arith, fits, at-reduce .chokes-reduce .kept .1 .1 .0)))
 
 returns-2 : tie.Need-returns-2
