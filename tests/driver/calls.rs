@@ -4,8 +4,9 @@
 use crate::checks::{Refusal, BY_LIST, CARDS, MARK, REDUCE};
 use std::sync::OnceLock;
 
-/// A call on job, list, work and the slice that it writes: the answer, the marks or the cards.
-pub type Whole = fn(&[u8], &[u8], &mut [u8], &mut [u8]) -> Refusal;
+/// A call on job, list, block of thresholds, work and the slice that it writes: the answer, the marks or the cards.
+/// Mark and Area cards take no block.
+pub type Whole = fn(&[u8], &[u8], &[u8], &mut [u8], &mut [u8]) -> Refusal;
 
 pub fn whole(call: u32) -> Whole {
     match call {
@@ -29,7 +30,7 @@ fn told(call: u32, result: Refusal, work: &[u8], out: &[u8]) -> Refusal {
     result
 }
 
-pub use library::{bridges, check, partition, plan, span_ends};
+pub use library::{bridges, check, partition, plan, span_ends, thresholds_of_000};
 
 /// The libraries' own declarations. Of a slice its start is passed, then its length; the slices
 /// are lent for the call and overlap nowhere.
@@ -92,6 +93,7 @@ mod library {
             out: Out,
             out_len: usize,
         ) -> CallResult;
+        fn probe_thresholds(block: Out, block_len: usize) -> u64;
     }
 
     #[link(name = "chokes")]
@@ -107,6 +109,8 @@ mod library {
         fn chokes_reduce(
             job: In,
             job_len: usize,
+            thresholds: In,
+            thresholds_len: usize,
             work: Out,
             work_len: usize,
             answer: Out,
@@ -117,6 +121,8 @@ mod library {
             job_len: usize,
             list: In,
             list_len: usize,
+            thresholds: In,
+            thresholds_len: usize,
             work: Out,
             work_len: usize,
             answer: Out,
@@ -172,22 +178,46 @@ mod library {
         call!(probe_plan read job read list number which write work write out).pair()
     }
 
-    pub fn mark(job: &[u8], _: &[u8], work: &mut [u8], marks: &mut [u8]) -> Refusal {
+    /// 64, where the block of 000 then begins the slice; 0 where that is shorter.
+    pub fn thresholds_of_000(block: &mut [u8]) -> u64 {
+        call!(probe_thresholds write block)
+    }
+
+    pub fn mark(job: &[u8], _: &[u8], _: &[u8], work: &mut [u8], marks: &mut [u8]) -> Refusal {
         let said = call!(chokes_mark read job write work write marks).pair();
         told(MARK, said, work, marks)
     }
 
-    pub fn reduce(job: &[u8], _: &[u8], work: &mut [u8], answer: &mut [u8]) -> Refusal {
-        let said = call!(chokes_reduce read job write work write answer).pair();
+    pub fn reduce(
+        job: &[u8],
+        _: &[u8],
+        block: &[u8],
+        work: &mut [u8],
+        answer: &mut [u8],
+    ) -> Refusal {
+        let said = call!(chokes_reduce read job read block write work write answer).pair();
         told(REDUCE, said, work, answer)
     }
 
-    pub fn reduce_by_list(job: &[u8], list: &[u8], work: &mut [u8], answer: &mut [u8]) -> Refusal {
-        let said = call!(chokes_reduce_by_list read job read list write work write answer).pair();
-        told(BY_LIST, said, work, answer)
+    pub fn reduce_by_list(
+        job: &[u8],
+        list: &[u8],
+        block: &[u8],
+        work: &mut [u8],
+        answer: &mut [u8],
+    ) -> Refusal {
+        let said =
+            call!(chokes_reduce_by_list read job read list read block write work write answer);
+        told(BY_LIST, said.pair(), work, answer)
     }
 
-    pub fn area_cards(job: &[u8], _: &[u8], work: &mut [u8], cards: &mut [u8]) -> Refusal {
+    pub fn area_cards(
+        job: &[u8],
+        _: &[u8],
+        _: &[u8],
+        work: &mut [u8],
+        cards: &mut [u8],
+    ) -> Refusal {
         let said = call!(chokes_area_cards read job write work write cards).pair();
         told(CARDS, said, work, cards)
     }

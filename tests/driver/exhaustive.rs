@@ -97,10 +97,10 @@ fn single_bytes(run: &mut Run) {
         (0..bytes.len()).flat_map(at).collect()
     };
     for job in vary(&whole.job) {
-        run.input(&Input { job, list: whole.list.clone() }, &mut rng);
+        run.input(&Input { job, ..whole.clone() }, &mut rng);
     }
     for list in vary(&whole.list) {
-        run.input(&Input { job: whole.job.clone(), list }, &mut rng);
+        run.input(&Input { list, ..whole.clone() }, &mut rng);
     }
 }
 
@@ -252,9 +252,9 @@ fn huge(run: &mut Run) {
     expect(BY_LIST, &input.job, &list[8..], (15, spans as u64));
     expect(BY_LIST, &input.job, &list[8 + 3 * SPAN..], (15, 1 << 32));
 
-    let expected = Expected::of(CARDS, &input.job, &[]);
+    let expected = Expected::of(CARDS, &input.job, &[], &[]);
     let (mut work, cards) = (vec![0; expected.work()], &mut list[..more + 1]);
-    let said = calls::whole(CARDS)(&input.job, &[], &mut work, cards);
+    let said = calls::whole(CARDS)(&input.job, &[], &[], &mut work, cards);
     let length = expected.written.len();
     if said != (0, length as u64) || cards[..length] != expected.written {
         let difference = format!("Area cards, a slice of 2^32 + 1 bytes: got {said:?}");

@@ -11,7 +11,7 @@
 //!     driver record FILE SEED
 //!
 //! `random` is the random cases alone; `family` those of one family: damaged, maps, records,
-//! corridors, slanted, cards, own-orders or one-head. `heap` is random cases with every slice an allocation of its own and of
+//! corridors, slanted, cards, own-orders, one-head or thresholds. `heap` is random cases with every slice an allocation of its own and of
 //! just its length, for valgrind.
 //! `lengths` is the lengths and totals alone, with so many random ones (lengths.rs); `bytes` writes what so many calls
 //! leave to standard output, compared with nothing, and with BYTE says which call left that byte (bytes.rs).
@@ -20,6 +20,7 @@
 //! that nothing differed and that everything that should occur did: in `quick` and `long` all that
 //! tally.rs and coverage.rs ask for, in the others some comparison of each kind that they have.
 
+mod blocks;
 mod bytes;
 mod calls;
 mod cards;
@@ -56,9 +57,11 @@ mod smoke;
 mod sorting;
 mod splits;
 mod tally;
+mod thresholds;
 mod values;
 mod whole;
 
+use blocks::WRITTEN;
 use lengths::{LENGTHS, TOTALS};
 use regions::{ENVELOPES, LINKS, REGIONS};
 use run::Run;
@@ -103,6 +106,7 @@ fn main() {
             families::sizes(&mut run);
             families::sorts(&mut run);
             families::own_sources(&mut run);
+            blocks::of_000(&mut run);
             lengths::compare(&mut run, lengths::CASES);
             let done = format!("seed {seed}: {done} random cases, nothing differs");
             end(run.tally.none_of(&KINDS), &done)
@@ -172,6 +176,7 @@ fn kinds(family: &str) -> &'static [&'static str] {
         "records" => &[RECORDS],
         "cards" => &[WHOLE[3], STATED],
         "own-orders" | "one-head" => &WHOLE,
+        "thresholds" => &[WRITTEN, RELISTINGS, WHOLE[0], WHOLE[1], WHOLE[2], WHOLE[3]],
         _ => {
             &[PLANS, RELISTINGS, REGIONS, LINKS, ENVELOPES, WHOLE[0], WHOLE[1], WHOLE[2], WHOLE[3]]
         }
@@ -238,6 +243,7 @@ fn whole(seed: u64, limit: Limit, rounds: usize) {
     families::sizes(&mut run);
     families::sorts(&mut run);
     families::own_sources(&mut run);
+    blocks::of_000(&mut run);
     lengths::compare(&mut run, lengths::CASES);
     let mut done = 0;
     while match limit {

@@ -124,7 +124,7 @@ fn damaged(list: &mut List, seed: u64) {
         });
         list.input(&input);
         for call in CALLS {
-            let expected = Expected::of(call, &input.job, &input.list);
+            let expected = Expected::of(call, &input.job, &input.list, &input.thresholds);
             let least = if expected.refusal == NONE { expected.work() } else { 0 };
             let lengths = [least + rng.below(40), rng.below(40) + expected.written.len()];
             list.call(call, &expected, lengths, rng.byte());
@@ -148,7 +148,7 @@ fn on_cards(list: &mut List, seed: u64) {
     for i in 0..60 {
         let mut rng = Rng::of_case(seed, 6 << 32 | i);
         let input = small(&mut rng, 400, cards::random);
-        let expected = Expected::of(CARDS, &input.job, &input.list);
+        let expected = Expected::of(CARDS, &input.job, &input.list, &input.thresholds);
         let (work, cards) = (expected.work(), expected.written.len());
         list.input(&input);
         let short = cards.saturating_sub(rng.pick(&[1, 1, CARD, cards]));
@@ -165,7 +165,8 @@ fn on_corridors(list: &mut List, seed: u64) {
         let input = small(&mut rng, 2000, corridors::random);
         let merges = list.note(&input);
         list.whole(&input, &mut rng);
-        let accepted = expect::accepted(BY_LIST, &input.job, &input.list).is_ok();
+        let accepted =
+            expect::accepted(BY_LIST, &input.job, &input.list, &input.thresholds).is_ok();
         let values = accepted.then(|| Values::read(&input)).filter(Values::distinct_ends);
         if let Some(values) = values.filter(|_| merges) {
             list.tally.see("relistings");
@@ -288,7 +289,7 @@ impl List {
         for call in CALLS {
             // Area cards has numbers of its own, so that what the others get is as without it.
             let rng = if call == CARDS { &mut own } else { &mut *rng };
-            let expected = Expected::of(call, &input.job, &input.list);
+            let expected = Expected::of(call, &input.job, &input.list, &input.thresholds);
             let (work, out) = (expected.work(), expected.written.len());
             let longer = [work + 1 + rng.below(20), out + 1 + rng.below(20)];
             let lengths = match rng.below(8) {
@@ -308,7 +309,7 @@ impl List {
         let mut own = Rng::new(self.inputs);
         for call in CALLS {
             let rng = if call == CARDS { &mut own } else { &mut *rng };
-            let expected = Expected::of(call, &input.job, &input.list);
+            let expected = Expected::of(call, &input.job, &input.list, &input.thresholds);
             let lengths = [expected.work(), expected.written.len()];
             self.call(call, &expected, lengths, rng.byte());
         }
@@ -318,8 +319,9 @@ impl List {
     fn note(&mut self, input: &Input) -> bool {
         let mut merges = false;
         for call in [REDUCE, BY_LIST] {
-            let Ok(accepted) = expect::accepted(call, &input.job, &input.list) else { continue };
-            let groups = accepted.job.groups(&accepted.partition);
+            let read = expect::accepted(call, &input.job, &input.list, &input.thresholds);
+            let Ok(accepted) = read else { continue };
+            let groups = accepted.groups();
             merging::note(call, &accepted, &groups, &mut self.tally);
             merges |= !groups.is_empty();
         }
@@ -328,8 +330,8 @@ impl List {
 
     /// The sizes of the groups that Reduce merges.
     fn groups(&self, input: &Input) -> Vec<usize> {
-        let Ok(accepted) = expect::accepted(REDUCE, &input.job, &[]) else { return vec![] };
-        let groups = accepted.job.groups(&accepted.partition);
+        let read = expect::accepted(REDUCE, &input.job, &[], &input.thresholds);
+        let groups = read.map_or(vec![], |accepted| accepted.groups());
         groups.iter().map(|group| group.members.len()).collect()
     }
 

@@ -126,5 +126,6 @@ impl Run {
 
 pub fn hex(title: &str, input: &Input) -> String {
     let digits = |bytes: &[u8]| bytes.iter().map(|byte| format!("{byte:02x}")).collect::<String>();
-    format!("{title}\njob  {}\nlist {}\n", digits(&input.job), digits(&input.list))
+    let [job, list, block] = [&input.job, &input.list, &input.thresholds].map(|part| digits(part));
+    format!("{title}\njob  {job}\nlist {list}\nblock {block}\n")
 }

@@ -11,6 +11,7 @@ use crate::measures::{self, Limit, Link};
 use crate::merging;
 use crate::rng::Rng;
 use crate::tally::Tally;
+use crate::thresholds;
 use crate::values::shuffled;
 use std::sync::OnceLock;
 
@@ -105,7 +106,7 @@ fn about(rng: &mut Rng, most: u32) -> i32 {
 }
 
 fn links(draft: &Draft) -> Vec<Link> {
-    let read = || expect::accepted(REDUCE, &draft.input().job, &[]);
+    let read = || expect::accepted(REDUCE, &draft.input().job, &[], &thresholds::OF_000);
     oracle::count::uncounted(read).map_or(vec![], |accepted| measures::links(&accepted))
 }
 
@@ -380,11 +381,11 @@ pub fn compare(
     rng: &mut Rng,
     tally: &mut Tally,
 ) -> Result<(), String> {
-    let read = || expect::accepted(REDUCE, &input.job, &[]);
+    let read = || expect::accepted(REDUCE, &input.job, &[], &input.thresholds);
     if let Ok(accepted) = oracle::count::uncounted(read) {
         measures::note(&accepted, tally);
         if let Some(merges) = measures::foretold(&accepted) {
-            let groups = oracle::count::uncounted(|| accepted.job.groups(&accepted.partition));
+            let groups = oracle::count::uncounted(|| accepted.groups());
             tally.see("slanted: runs whose merging was foretold");
             if groups.is_empty() == merges {
                 return Err(format!("measures: the Rust has {} groups", groups.len()));
