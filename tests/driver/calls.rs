@@ -2,6 +2,8 @@
 //! missing, and so does linking.
 
 use crate::checks::{Refusal, BY_LIST, CARDS, MARK, REDUCE};
+#[cfg(without_blocks)]
+use crate::thresholds::OF_000;
 use std::sync::OnceLock;
 
 /// A call on job, list, block of thresholds, work and the slice that it writes: the answer, the marks or the cards.
@@ -106,6 +108,20 @@ mod library {
             marks: Out,
             marks_len: usize,
         ) -> CallResult;
+        fn chokes_area_cards(
+            job: In,
+            job_len: usize,
+            work: Out,
+            work_len: usize,
+            cards: Out,
+            cards_len: usize,
+        ) -> CallResult;
+    }
+
+    // Before version 2 the two took no block of thresholds.
+    #[link(name = "chokes")]
+    #[cfg(not(without_blocks))]
+    extern "C" {
         fn chokes_reduce(
             job: In,
             job_len: usize,
@@ -128,13 +144,28 @@ mod library {
             answer: Out,
             answer_len: usize,
         ) -> CallResult;
-        fn chokes_area_cards(
+    }
+
+    #[link(name = "chokes")]
+    #[cfg(without_blocks)]
+    extern "C" {
+        fn chokes_reduce(
             job: In,
             job_len: usize,
             work: Out,
             work_len: usize,
-            cards: Out,
-            cards_len: usize,
+            answer: Out,
+            answer_len: usize,
+        ) -> CallResult;
+        fn chokes_reduce_by_list(
+            job: In,
+            job_len: usize,
+            list: In,
+            list_len: usize,
+            work: Out,
+            work_len: usize,
+            answer: Out,
+            answer_len: usize,
         ) -> CallResult;
     }
 
@@ -178,6 +209,13 @@ mod library {
         call!(probe_plan read job read list number which write work write out).pair()
     }
 
+    /// The result of a call that takes no block, where the numbers of 000 are wanted.
+    #[cfg(without_blocks)]
+    fn taking_none(block: &[u8], said: CallResult) -> CallResult {
+        assert_eq!(block, OF_000, "such a library has these alone");
+        said
+    }
+
     /// 64, where the block of 000 then begins the slice; 0 where that is shorter.
     pub fn thresholds_of_000(block: &mut [u8]) -> u64 {
         call!(probe_thresholds write block)
@@ -195,8 +233,11 @@ mod library {
         work: &mut [u8],
         answer: &mut [u8],
     ) -> Refusal {
-        let said = call!(chokes_reduce read job read block write work write answer).pair();
-        told(REDUCE, said, work, answer)
+        #[cfg(not(without_blocks))]
+        let said = call!(chokes_reduce read job read block write work write answer);
+        #[cfg(without_blocks)]
+        let said = taking_none(block, call!(chokes_reduce read job write work write answer));
+        told(REDUCE, said.pair(), work, answer)
     }
 
     pub fn reduce_by_list(
@@ -206,8 +247,14 @@ mod library {
         work: &mut [u8],
         answer: &mut [u8],
     ) -> Refusal {
+        #[cfg(not(without_blocks))]
         let said =
             call!(chokes_reduce_by_list read job read list read block write work write answer);
+        #[cfg(without_blocks)]
+        let said = taking_none(
+            block,
+            call!(chokes_reduce_by_list read job read list write work write answer),
+        );
         told(BY_LIST, said.pair(), work, answer)
     }
 

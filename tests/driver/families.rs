@@ -218,5 +218,9 @@ fn damaged(rng: &mut Rng) -> Draft {
     for _ in 0..rng.pick(&[0, 1, 1, 1, 2, 2, 2, 3]) {
         damage::damage(rng.pick(kinds), &mut draft, rng);
     }
+    if rng.one_in(16) {
+        let blocks = damage::blocks(&draft.thresholds);
+        draft.thresholds.clone_from(&blocks[rng.below(blocks.len())]);
+    }
     draft
 }

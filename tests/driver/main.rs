@@ -6,6 +6,7 @@
 //!     driver heap CASES SEED
 //!     driver family NAME CASES SEED
 //!     driver case SEED NUMBER
+//!     driver blocks SEED
 //!     driver lengths [CASES SEED]
 //!     driver bytes CALLS SEED [BYTE]
 //!     driver record FILE SEED
@@ -13,6 +14,7 @@
 //! `random` is the random cases alone; `family` those of one family: damaged, maps, records,
 //! corridors, slanted, cards, own-orders, one-head or thresholds. `heap` is random cases with every slice an allocation of its own and of
 //! just its length, for valgrind.
+//! `blocks` is what is run whole of blocks of thresholds (blocks.rs);
 //! `lengths` is the lengths and totals alone, with so many random ones (lengths.rs); `bytes` writes what so many calls
 //! leave to standard output, compared with nothing, and with BYTE says which call left that byte (bytes.rs).
 //! `record` writes the list that crates/replay reads (record.rs).
@@ -49,6 +51,7 @@ mod record;
 mod records;
 mod regions;
 mod rng;
+mod rows;
 mod run;
 mod rust;
 mod shrink;
@@ -61,7 +64,7 @@ mod thresholds;
 mod values;
 mod whole;
 
-use blocks::WRITTEN;
+use blocks::{OWN, WRITTEN};
 use lengths::{LENGTHS, TOTALS};
 use regions::{ENVELOPES, LINKS, REGIONS};
 use run::Run;
@@ -76,6 +79,8 @@ const LONG_SEED: u64 = 2;
 const ENOUGH_SLANTED: u64 = 2000;
 /// So many jobs about own sources reach all that is counted of them.
 const ENOUGH_OWN: u64 = 20_000;
+/// So many jobs with blocks of their own meet each limit, and have groups of every size.
+const ENOUGH_BLOCKS: u64 = 20_000;
 const LONG: Limit = Limit::Time(Duration::from_secs(600));
 
 enum Limit {
@@ -106,7 +111,7 @@ fn main() {
             families::sizes(&mut run);
             families::sorts(&mut run);
             families::own_sources(&mut run);
-            blocks::of_000(&mut run);
+            blocks::all(&mut run);
             lengths::compare(&mut run, lengths::CASES);
             let done = format!("seed {seed}: {done} random cases, nothing differs");
             end(run.tally.none_of(&KINDS), &done)
@@ -141,6 +146,11 @@ fn main() {
             if matches!(name, "own-orders" | "one-head") && parse(cases) >= ENOUGH_OWN {
                 missing.extend(sorting::missing(&run.tally, name == "one-head"));
             }
+            if name == "thresholds" && parse(cases) >= ENOUGH_BLOCKS {
+                coverage::print();
+                missing.extend(blocks::missing(&run.tally, false));
+                missing.extend(coverage::missing_at_limits());
+            }
             end(missing, &done)
         }
         ["case", seed, number] => {
@@ -158,6 +168,14 @@ fn main() {
                 &WHOLE[3..]
             };
             end(run.tally.none_of(of_each), &format!("seed {seed} case {number}: nothing differs"))
+        }
+        ["blocks", seed] => {
+            let (start, mut run) = (Instant::now(), Run::new(parse(seed)));
+            blocks::all(&mut run);
+            run.tally.print_whole();
+            let time = start.elapsed().as_secs_f64();
+            let done = format!("seed {seed}: blocks, nothing differs; {time:.1} s");
+            end(run.tally.none_of(&[OWN, CHECKS, WHOLE[0], WHOLE[1], WHOLE[2], WHOLE[3]]), &done)
         }
         ["lengths"] => lengths(lengths::CASES, lengths::SEED),
         ["lengths", cases, seed] => lengths(parse(cases), parse(seed)),
@@ -212,8 +230,8 @@ fn end(missing: Vec<String>, done: &str) -> ! {
 fn usage() -> ! {
     eprintln!("usage: driver quick | long [CASES | SECONDSs | CALLScalls] [SEED]");
     eprintln!("       driver random CASES SEED | heap CASES SEED | family NAME CASES SEED");
-    eprintln!("       driver case SEED NUMBER | lengths [CASES SEED] | record FILE SEED");
-    eprintln!("       driver bytes CALLS SEED [BYTE]");
+    eprintln!("       driver case SEED NUMBER | blocks SEED | lengths [CASES SEED]");
+    eprintln!("       driver record FILE SEED | bytes CALLS SEED [BYTE]");
     exit(2)
 }
 
@@ -243,7 +261,7 @@ fn whole(seed: u64, limit: Limit, rounds: usize) {
     families::sizes(&mut run);
     families::sorts(&mut run);
     families::own_sources(&mut run);
-    blocks::of_000(&mut run);
+    blocks::all(&mut run);
     lengths::compare(&mut run, lengths::CASES);
     let mut done = 0;
     while match limit {

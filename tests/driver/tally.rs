@@ -1,6 +1,6 @@
 //! What a run has seen, so that it can't pass by testing nothing.
 
-use crate::blocks::{OWN, WRITTEN};
+use crate::blocks::{self, OWN, WRITTEN};
 use crate::checks::{takes_block, Refusal, BY_LIST};
 use crate::damage::REFUSALS;
 use crate::expect::too_short;
@@ -241,6 +241,7 @@ impl Tally {
         missing.extend(alone.map(|n| format!("Area cards: {n} was never seen before 31")));
         let unseen = WANTED.iter().filter(|&&what| self.count(what) == 0);
         missing.extend(unseen.map(|what| format!("never: {what}")));
+        missing.extend(blocks::missing(self, true));
         missing.extend(measures::missing(self));
         missing.extend(lengths::missing(self));
         missing.extend(sorting::missing(self, false));
