@@ -81,12 +81,17 @@ fn admitted(rng: &mut Rng) -> Thresholds {
     of_measures(if rng.one_in(2) { rng.pick(&SIZES) } else { sizes }, measures)
 }
 
+/// The limits that a job's own measures just meet.
+fn own(draft: &Draft) -> measures::Own {
+    let read = || expect::accepted(REDUCE, &draft.input().job, &[], &OF_000);
+    let own = oracle::count::uncounted(read).map(|accepted| measures::own(&accepted));
+    own.unwrap_or_default()
+}
+
 /// Numbers for a job: of one or a few the limit that a measure of the job just meets, or a unit in the last place to either
 /// side of it; the others as wide as may be, those of 000, or any.
 fn about(draft: &Draft, rng: &mut Rng) -> Thresholds {
-    let read = || expect::accepted(REDUCE, &draft.input().job, &[], &OF_000);
-    let own = oracle::count::uncounted(read).map(|accepted| measures::own(&accepted));
-    let own = own.unwrap_or_default();
+    let own = own(draft);
     let mut numbers = match rng.below(6) {
         0..=2 => WIDEST,
         3 | 4 => Thresholds::DECLARED,
@@ -103,19 +108,24 @@ fn about(draft: &Draft, rng: &mut Rng) -> Thresholds {
         _ => rng.pick(&sizes),
     };
     let mut measures = measures(&numbers);
-    // Without a serial group what is flat is seen.
-    if rng.one_in(3) {
-        measures[0] = 0.0;
-    }
     let met = [own.chain, own.width, own.geometry, own.duplicate, own.envelope, own.cosine];
-    for _ in 0..rng.pick(&[1, 1, 1, 2, 3]) {
+    for round in 0..rng.pick(&[1, 1, 1, 2, 3]) {
         let i = rng.below(6);
+        // Without a serial group what is flat is seen.
+        if round == 0 && rng.below(3) < if i < 3 { 1 } else { 2 } {
+            measures[0] = 0.0;
+        }
         if !met[i].is_empty() {
-            let bits = rng.pick(&met[i]).to_bits() as i64 + rng.pick(&[0, 0, 1, -1]);
-            measures[i] = f64::from_bits(bits.clamp(0, MEASURES[i].1.to_bits() as i64) as u64);
+            measures[i] = next_to(&met[i], MEASURES[i].1, rng);
         }
     }
     of_measures([numbers.least, numbers.most], measures)
+}
+
+/// A limit that one of these just meets, or a unit in the last place to either side of it.
+fn next_to(met: &[f64], most: f64, rng: &mut Rng) -> f64 {
+    let bits = rng.pick(met).to_bits() as i64 + rng.pick(&[0, 0, 1, -1]);
+    f64::from_bits(bits.clamp(0, most.to_bits() as i64) as u64)
 }
 
 /// A job that may merge, with a block of its own.
@@ -124,7 +134,7 @@ pub fn random(rng: &mut Rng) -> Draft {
         0 | 1 => corridors::random(rng),
         2 | 3 => slanted::random(rng),
         4 => maps::random(rng),
-        5 => in_line(rng).unwrap_or_else(|| row(3, RAMP, false, rng)),
+        5 => return chain(rng).unwrap_or_else(|| row(3, RAMP, false, rng)),
         _ => {
             let (count, cell) = (rng.pick(&[2, 2, 3, 3, 4, 4, 5, 6]), rng.pick(&[FLAT, RAMP]));
             let count = if rng.one_in(3) { rng.within(2, 17) as usize } else { count };
@@ -137,17 +147,28 @@ pub fn random(rng: &mut Rng) -> Draft {
     draft
 }
 
-/// A chain whose centres lie in line, so many times one step apart: the sum of its distances and the distance of its ends
-/// are equal but for rounding.
-fn in_line(rng: &mut Rng) -> Option<Draft> {
-    let step = [rng.within(8, 20) as i32, rng.within(1, 20) as i32];
-    let steps = (0..rng.within(2, 4)).map(|_| {
-        let times = rng.within(1, 4) as i32;
-        step.map(|at| 2 * at * times)
+/// A chain that its sum or its ends alone can turn down, with a limit next to one of these. Its centres are any steps apart,
+/// so that the order of the sum tells, or so many times one step: then sum and ends are equal but for rounding.
+fn chain(rng: &mut Rng) -> Option<Draft> {
+    let step = |rng: &mut Rng| [rng.within(8, 20) as i32, rng.within(0, 20) as i32];
+    let (in_line, one) = (rng.one_in(2), step(rng));
+    let count = if in_line { rng.within(2, 4) } else { rng.within(3, 9) };
+    let steps = (0..count).map(|_| {
+        let (times, any) = (rng.within(1, 4) as i32, step(rng));
+        if in_line {
+            one.map(|at| 2 * at * times)
+        } else {
+            [2 * any[0], any[1] * rng.pick(&[1, -1])]
+        }
     });
     let steps: Vec<_> = steps.collect();
     let mut draft = (0..8).find_map(|_| slanted::by_steps(&steps, rng))?;
     turned(&mut draft, rng);
+    let met = own(&draft).chain;
+    if !met.is_empty() {
+        let numbers = Thresholds { chain: next_to(&met, LARGEST, rng), ..WIDEST };
+        draft.thresholds = block(&numbers).to_vec();
+    }
     Some(draft)
 }
 

@@ -49,7 +49,7 @@ const FAMILIES: [Family; 9] = [
     // Own sources of one head of the library's table.
     Family { share: 4, case: |run, rng| run.draft(&own::one_head(rng), rng, sorting::compare) },
     // Other thresholds than those of 000.
-    Family { share: 8, case: |run, rng| run.draft(&blocks::random(rng), rng, blocks::compare) },
+    Family { share: 16, case: |run, rng| run.draft(&blocks::random(rng), rng, blocks::compare) },
 ];
 
 /// Runs a case by its number, where it is of these families.

@@ -73,7 +73,7 @@ use std::time::{Duration, Instant};
 use tally::{CHECKS, KINDS, PARTITIONS, PLANS, RECORDS, RELISTINGS, STATED, WHOLE};
 
 const QUICK_SEED: u64 = 1;
-const QUICK_CASES: u64 = 100_000;
+const QUICK_CASES: u64 = 80_000;
 const LONG_SEED: u64 = 2;
 /// So many slanted corridors meet each limit on each side.
 const ENOUGH_SLANTED: u64 = 2000;

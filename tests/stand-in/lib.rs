@@ -1,6 +1,7 @@
 //! Stands for the proved libraries: the same C functions, from the oracle, with faults that can be
 //! switched on by name. It shows that the driver finds each of them; no part of the product.
 
+mod blocks;
 #[path = "../driver/checks.rs"]
 #[allow(dead_code)]
 mod checks;
@@ -580,8 +581,19 @@ fn whole(
     work: &mut [u8],
     out: &mut [u8],
 ) -> CallResult {
-    let bad = checks::takes_block(call) && checks::bad_block(block);
-    let refused = if bad { (32, 0) } else { refusal(call, job, list) };
+    let mut refused = refusal(call, job, list);
+    let mut taken = vec![];
+    if checks::takes_block(call) {
+        refused = blocks::refusal(block, refused);
+        taken = blocks::taken(block);
+    }
+    let block = &taken[..];
+    if refused.0 == 32 && fault::on("block_tested_after_work") {
+        let good = Expected::of(call, job, list, &OF_000);
+        if good.refusal == NONE && work.len() < good.work() {
+            return result((21, 0));
+        }
+    }
     if refused != NONE {
         if fault::on("work_cleared_on_refusal") {
             work.fill(0);
@@ -704,7 +716,9 @@ pub extern "C" fn chokes_reduce(
     al: usize,
 ) -> CallResult {
     let block = read(thresholds, tl);
-    whole(REDUCE, read(job, jl), &[], block, write(work, wl), write(answer, al))
+    let said = whole(REDUCE, read(job, jl), &[], block, write(work, wl), write(answer, al));
+    blocks::touch(thresholds, tl);
+    said
 }
 
 #[no_mangle]
@@ -721,7 +735,9 @@ pub extern "C" fn chokes_reduce_by_list(
     al: usize,
 ) -> CallResult {
     let (list, block) = (read(list, ll), read(thresholds, tl));
-    whole(BY_LIST, read(job, jl), list, block, write(work, wl), write(answer, al))
+    let said = whole(BY_LIST, read(job, jl), list, block, write(work, wl), write(answer, al));
+    blocks::touch(thresholds, tl);
+    said
 }
 
 #[no_mangle]
