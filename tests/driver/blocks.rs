@@ -7,7 +7,7 @@ use crate::damage::{self, REFUSALS};
 use crate::draft::{valid, Draft, Input};
 use crate::expect::{self, Accepted, Expected};
 use crate::lent::Lent;
-use crate::memory::Guarded;
+use crate::memory::{Guarded, Room};
 use crate::merging;
 use crate::rng::Rng;
 use crate::rows::{row, turned, upright, FLAT, RAMP};
@@ -467,22 +467,24 @@ fn late(input: &Input, lent: &mut Lent, rng: &mut Rng, tally: &mut Tally) -> Res
     Ok(())
 }
 
-/// The library's own block of 000, on slices of many lengths.
+/// The library's own block of 000, on slices of many lengths: at a page that can't be touched, and allocated.
 pub fn of_000(run: &mut Run) {
     let mut rng = run.next_case();
-    let mut room = Guarded::new(2 * BLOCK).expect("room for a block");
-    for length in 0..=2 * BLOCK {
-        let slice = room.last(length);
-        let fill = rng.byte();
-        slice.fill(fill);
-        let mut after = vec![fill; length];
-        let written = if length < BLOCK { 0 } else { BLOCK };
-        after[..written].copy_from_slice(&OF_000[..written]);
-        let said = calls::thresholds_of_000(slice);
-        run.tally.see(OWN);
-        if said != written as u64 || *slice != after[..] {
-            let difference = format!("the block of 000 in {length} bytes: {said}, {slice:?}");
-            run.report(&difference, &hex("its block", &Input::default()));
+    let guarded = Guarded::new(2 * BLOCK).expect("room for a block");
+    for mut room in [Room::Guarded(guarded), Room::Heap(Box::default())] {
+        for length in 0..=2 * BLOCK {
+            let slice = room.last(length);
+            let fill = rng.byte();
+            slice.fill(fill);
+            let mut after = vec![fill; length];
+            let written = if length < BLOCK { 0 } else { BLOCK };
+            after[..written].copy_from_slice(&OF_000[..written]);
+            let said = calls::thresholds_of_000(slice);
+            run.tally.see(OWN);
+            if said != written as u64 || *slice != after[..] {
+                let difference = format!("the block of 000 in {length} bytes: {said}, {slice:?}");
+                run.report(&difference, &hex("its block", &Input::default()));
+            }
         }
     }
 }

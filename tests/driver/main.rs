@@ -122,6 +122,7 @@ fn main() {
                 done = families::round(&mut run, done);
             }
             let mut rng = run.start(0);
+            blocks::of_000(&mut run);
             lengths::random(&mut run, parse(cases), &mut rng);
             run.tally.print_whole();
             let done = format!("seed {seed}: {done} random cases on the heap, nothing differs");
