@@ -361,8 +361,15 @@ pub fn worked(run: &mut Run) {
         (8, FLAT, Thresholds { duplicate: 111.5, ..flat_only(2, 8) }, None),
     ];
     for (count, cell, numbers, serial) in cases {
-        let draft = Draft { thresholds: block(&numbers).to_vec(), ..upright(count, cell) };
-        known(run, &draft, count, serial);
+        let draft = Draft { thresholds: block(&numbers).to_vec(), ..upright(1, count, cell) };
+        known(run, &draft, &serial.map_or(vec![], |serial| vec![(count, serial)]));
+    }
+    // As many boundaries as there may be: in chains of the largest size, and in one chain.
+    for (cell, chain, serial) in [(RAMP, LARGEST, true), (FLAT, 0.0, false)] {
+        let thresholds = block(&Thresholds { chain, ..WIDEST }).to_vec();
+        let sixteen = Draft { thresholds: thresholds.clone(), ..upright(MOST, MOST, cell) };
+        known(run, &sixteen, &[(MOST, serial); MOST]);
+        known(run, &Draft { thresholds, ..upright(1, MOST * MOST, cell) }, &[]);
     }
     ends_apart(run);
 }
@@ -379,12 +386,12 @@ fn ends_apart(run: &mut Run) {
     {
         let numbers = Thresholds { chain, geometry: LARGEST, ..Thresholds::DECLARED };
         let draft = Draft { thresholds: block(&numbers).to_vec(), ..draft.clone() };
-        known(run, &draft, 3, serial);
+        known(run, &draft, &serial.map_or(vec![], |serial| vec![(3, serial)]));
     }
 }
 
-/// A job all of whose spans are one group of this kind, or none.
-fn known(run: &mut Run, draft: &Draft, count: usize, serial: Option<bool>) {
+/// A job with groups of just these sizes, serial or not.
+fn known(run: &mut Run, draft: &Draft, wanted: &[(usize, bool)]) {
     let mut rng = run.next_case();
     let input = draft.input();
     let read = || {
@@ -393,7 +400,6 @@ fn known(run: &mut Run, draft: &Draft, count: usize, serial: Option<bool>) {
         groups.iter().map(|group| (group.members.len(), group.serial)).collect::<Vec<_>>()
     };
     let groups = oracle::count::uncounted(read);
-    let wanted: Vec<_> = serial.into_iter().map(|serial| (count, serial)).collect();
     if groups != wanted {
         let difference = format!("a worked case: expected {wanted:?}, the Rust has {groups:?}");
         run.report(&difference, &hex("as it was", &input));

@@ -267,8 +267,8 @@ fn near_cosine(accepted: &Accepted, nodes: [usize; 2], numbers: &Thresholds) -> 
     apart.iter().all(|&apart| apart <= numbers.duplicate).then_some(cosine)
 }
 
-/// Whether a run merges, where the measures settle it: a chain of spans over ramps, or two spans on flat ground, with no
-/// anchors and every region of the map in the chain.
+/// Whether a run merges, where the measures settle it: a chain of spans over ramps, or on flat ground one whose links are all
+/// flat or none, with no anchors and every region of the map in the chain.
 fn foretold(accepted: &Accepted) -> Option<bool> {
     let (groups, numbers) = (groups(links(accepted)), &accepted.numbers);
     let [links] = &groups[..] else { return None };
@@ -295,14 +295,21 @@ fn foretold(accepted: &Accepted) -> Option<bool> {
     };
     match (count, ramps.first()) {
         _ if ramps.len() != 1 => None,
-        (2, Some((false, _))) => {
-            // Each with each in both orders, and with itself: rounding may tell them apart.
-            let [one, two] = links[0].nodes;
-            let parallel = [[one, one], [one, two], [two, one], [two, two]].iter().all(|&pair| {
-                let cosine = near_cosine(accepted, pair, numbers);
-                cosine.is_some_and(|cosine| cosine >= numbers.cosine)
-            });
-            Some(serial() || parallel && inside(&links[0], &LIMITS[2..]))
+        (2.., Some((false, _))) => {
+            let near = |pair: [usize; 2]| {
+                near_cosine(accepted, pair, numbers).is_some_and(|cosine| cosine >= numbers.cosine)
+            };
+            let flat = |link: &&Link| near(link.nodes) && inside(link, &LIMITS[2..]);
+            match links.iter().filter(flat).count() {
+                _ if serial() => Some(true),
+                0 => Some(false),
+                // Each with each in both orders, and with itself: rounding may tell them apart.
+                all if all == links.len() => {
+                    let each = (0..count).flat_map(|one| (0..count).map(move |two| [one, two]));
+                    Some(count <= numbers.most && each.into_iter().all(near))
+                }
+                _ => None,
+            }
         }
         (2.., Some((true, _))) => Some(serial()),
         _ => None,

@@ -94,23 +94,25 @@ pub fn turned(draft: &mut Draft, rng: &mut Rng) {
     draft.share(observations, sources, rng);
 }
 
-/// Upright spans 16 pixels apart across a corridor of one row, from left to right.
-pub fn upright(count: usize, cell: u8) -> Draft {
-    let width = 2 * count as u32 + 2;
-    let ends = |i: u32| [16 * i + 16, 0, 16 * i + 16, 8];
-    let boundary = |i: u32| Boundary {
-        ends: ends(i),
+/// So many corridors of one row, with a row of wall between, each with so many upright spans 16 pixels apart.
+pub fn upright(corridors: usize, count: usize, cell: u8) -> Draft {
+    let (width, height) = (2 * count as u32 + 2, 2 * corridors as u32 - 1);
+    let places = || (0..corridors as u32).flat_map(|j| (0..count as u32).map(move |i| (i, j)));
+    let ends = |(i, j): (u32, u32)| [16 * i + 16, 16 * j, 16 * i + 16, 16 * j + 8];
+    let boundary = |place: (u32, u32)| Boundary {
+        ends: ends(place),
         bits: 8.0_f64.to_bits(),
         sources: 1,
         ..Boundary::default()
     };
+    let open = |at: u32| if at / width % 2 == 0 { cell } else { 0 };
     Draft {
         width,
-        height: 1,
-        cells: vec![cell; width as usize],
-        boundaries: (0..count as u32).map(boundary).collect(),
-        sources: (0..count as u32).map(|i| [i, 7]).collect(),
-        list: (0..count as u32).map(ends).collect(),
+        height,
+        cells: (0..width * height).map(open).collect(),
+        boundaries: places().map(boundary).collect(),
+        sources: places().map(|(i, j)| [i, j]).collect(),
+        list: places().map(ends).collect(),
         ..Draft::default()
     }
 }
