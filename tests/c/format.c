@@ -484,9 +484,6 @@ static void run(int call, const struct trial *trial, unsigned long expected, uns
         untouched(work, 0, sizeof work, "work is changed");
     }
     untouched(out, said.number == CHOKES_OK ? (size_t)said.detail : 0, sizeof out, "answer, marks or cards are changed");
-    if (said.number < NUMBERS) {
-        given[call][said.number]++;
-    }
 }
 
 /* The corridor, and enough of everything. */
@@ -533,6 +530,9 @@ static void trial_line(char *line)
     for (call = 0; call < CALLS; call++) {
         if (is_for(line, call)) {
             run(call, &trial, expected, detail);
+            if (expected < NUMBERS) {
+                given[call][expected]++;
+            }
             trials++;
             ran = 1;
         }
