@@ -388,6 +388,8 @@ static int wrong_hints(void)
                                         "Whether anchors and ends lie on the map can't be told until its sides are right."};
     static const char *const laid[] = {"refused 5 0\n", "offset of the cells", "(5)", "length\n",
                                        "Cells and records can't be told until"};
+    static const char *const both[] = {"refused 32 0\n", "The block of thresholds has 3 bytes", "2 more to mend", "offset of the cells",
+                                       "(5)", "length\n", "Cells and records can't be told until"};
     struct run run;
     int wrong;
     memset(&run, 0, sizeof run);
@@ -404,7 +406,14 @@ static int wrong_hints(void)
     run.input = whole_job();
     put_word(run.input.at, 24, 1);
     run.input.length = 300;
-    return wrong + wrong_words_of(&run, laid, sizeof laid / sizeof *laid);
+    wrong += wrong_words_of(&run, laid, sizeof laid / sizeof *laid);
+    /* The same after a block that is wrong: the job's header is still told. */
+    run.input = whole_job();
+    put_word(run.input.at, 24, 1);
+    run.input.length = 300;
+    run.thresholds = thresholds_of_000();
+    run.thresholds.length = 3;
+    return wrong + wrong_words_of(&run, both, sizeof both / sizeof *both);
 }
 
 int check_damages(void)
@@ -425,7 +434,7 @@ int check_damages(void)
     for (i = 0; i < 4 * blocks; i++) {
         wrong += wrong_block(&block_damages[i / 4], i % 4 / 2, i % 2);
     }
-    printf("explain: %lu kinds of damage, %lu of a block, %d told wrongly\n", (unsigned long)count + 7, (unsigned long)blocks + 1,
+    printf("explain: %lu kinds of damage, %lu of a block, %d told wrongly\n", (unsigned long)count + 7, (unsigned long)blocks + 2,
            wrong);
     return wrong != 0;
 }
