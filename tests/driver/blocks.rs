@@ -24,13 +24,13 @@ use std::collections::BTreeSet;
 /// Kinds of comparison: a run that has none of one fails.
 pub const OWN: &str = "blocks of 000 compared";
 pub const WRITTEN: &str = "answers of the Rust with other numbers written into it";
-/// Both kinds of answers of it.
-const WRITTEN_MERGED: [&str; 2] = ["of these with a group", "of these without one"];
+const WRITTEN_MERGED: [&str; 2] =
+    ["answers of that Rust with a group", "answers of that Rust without one"];
 
 const LARGEST: f64 = 16_384.0;
 /// Sizes at the ends of their range, and those of 000.
 const SIZES: [[usize; 2]; 4] = [[2, 2], [2, 16], [16, 16], [3, 4]];
-/// The most members of a group, and one more.
+/// The most members of a group.
 const MOST: usize = 16;
 /// What can come after 32 once the checks pass.
 const AFTER_32: [u32; 3] = [21, 13, 22];
