@@ -417,8 +417,12 @@ fn stacks() {
             let used = stack::used(&mut || {
                 black_box(lent.call(call));
             });
-            let most = DECLARED.most;
-            println!("{:>10}  {}, {what}, groups of up to {most}", used, NAMES[call as usize]);
+            let name = NAMES[call as usize];
+            if of_000 {
+                println!("{used:>10}  {name}, {what}");
+            } else {
+                println!("{used:>10}  {name}, {what}, groups of up to {}", DECLARED.most);
+            }
         }
     }
 }
