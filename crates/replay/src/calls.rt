@@ -106,14 +106,7 @@ fn run(
 }
 
 // Makes the call of an item on slices of these lengths; gives what differs.
-fn run_in(
-    item: &[u8],
-    job: &[u8],
-    list: &[u8],
-    thresholds: &[u8],
-    w: usize,
-    o: usize,
-) -> u32
+fn run_in(item: &[u8], job: &[u8], list: &[u8], thresholds: &[u8], w: usize, o: usize) -> u32
     requires { ⌜ 22 ≤ length (now item) ⌝ }
 {
     let mut work = io::large_buffer();
