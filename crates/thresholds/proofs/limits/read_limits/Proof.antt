@@ -1,5 +1,5 @@
 use native.Mathlib.Omega.{arith}
-use Rattle.thresholds.proofs.Faulty.{block-right, read-ranges}
+use Rattle.thresholds.proofs.Faulty.{RightRanges, block-right, read-ranges}
 use Rattle.thresholds.proofs.Written.{limits-read}
 use Rattle.thresholds.proofs.limits.read_limits.Statement.{statement}
 use Rattle.thresholds.proofs.limits.read_limits.Tie as tie
@@ -9,41 +9,29 @@ read-block-requires c κs =
     let start : tie.Start = search in
     omega (arith, block-right (start .args .block .now) (start .pre) .long)
 
-chain : tie.Need-width-of-requires
-chain c κs =
+-- the numbers that were read are in their ranges
+ranges : (c : tie.After-read-block) → RightRanges (c .read-block .result)
+ranges c =
     let start : tie.Start = search in
-    let read : tie.After-read-block = search in
-    omega (arith, read-ranges (start .args .block .now) (read .read-block .ensures) (start .pre) .chain)
+    read-ranges (start .args .block .now) (c .read-block .ensures) (start .pre)
+
+chain : tie.Need-width-of-requires
+chain c κs = omega (arith, ranges c .chain)
 
 width : tie.Need-width-of-requires-2
-width c κs =
-    let start : tie.Start = search in
-    let read : tie.After-read-block = search in
-    omega (arith, read-ranges (start .args .block .now) (read .read-block .ensures) (start .pre) .width)
+width c κs = let read : tie.After-read-block = search in omega (arith, ranges read .width)
 
 geometry : tie.Need-width-of-requires-3
-geometry c κs =
-    let start : tie.Start = search in
-    let read : tie.After-read-block = search in
-    omega (arith, read-ranges (start .args .block .now) (read .read-block .ensures) (start .pre) .geometry)
+geometry c κs = let read : tie.After-read-block = search in omega (arith, ranges read .geometry)
 
 duplicate : tie.Need-width-of-requires-4
-duplicate c κs =
-    let start : tie.Start = search in
-    let read : tie.After-read-block = search in
-    omega (arith, read-ranges (start .args .block .now) (read .read-block .ensures) (start .pre) .duplicate)
+duplicate c κs = let read : tie.After-read-block = search in omega (arith, ranges read .duplicate)
 
 envelope : tie.Need-width-of-requires-5
-envelope c κs =
-    let start : tie.Start = search in
-    let read : tie.After-read-block = search in
-    omega (arith, read-ranges (start .args .block .now) (read .read-block .ensures) (start .pre) .envelope)
+envelope c κs = let read : tie.After-read-block = search in omega (arith, ranges read .envelope)
 
 cosine : tie.Need-width-of-requires-6
-cosine c κs =
-    let start : tie.Start = search in
-    let read : tie.After-read-block = search in
-    omega (arith, read-ranges (start .args .block .now) (read .read-block .ensures) (start .pre) .cosine)
+cosine c κs = let read : tie.After-read-block = search in omega (arith, ranges read .cosine)
 
 returns : tie.Need-returns
 returns c =
