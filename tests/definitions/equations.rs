@@ -48,9 +48,11 @@ use Rattle.length.specs.Length.{lengthOf}
 use Rattle.length.specs.Total.{totalKey}
 use Rattle.format.specs.Values.{Base, Ramp, Observation, Boundary, Job}
 use Rattle.format.specs.declared.records.Source.{Source}
-use Rattle.format.specs.Records.{spanAt, baseAt, rampAt, boundaryAt, observationAt, sourceAt, spanBytes, rampBytes, sourceBytes, boundaryBytes, observationBytes}
+use Rattle.format.specs.Records.{spanAt, baseAt, rampAt, boundaryAt, observationAt, sourceAt}
+use Rattle.format.specs.Records.{spanBytes, rampBytes, sourceBytes, boundaryBytes, observationBytes}
 use Rattle.format.specs.Header.{countsAt, headerAt, offsetsOf}
-use Rattle.format.specs.Decode.{decode, decodeList, jobWith, baseRecords, boundaryRecords, observationRecords, sourceRecords, decodeBoundaries, sourceCount}
+use Rattle.format.specs.Decode.{decode, decodeList, jobWith, baseRecords, boundaryRecords, observationRecords, sourceRecords}
+use Rattle.format.specs.Decode.{decodeBoundaries, sourceCount}
 use Rattle.format.specs.Encode.{encodeAnswer, answerWords, encodeBoundaries, boundaryRecord, observationRecord, observationsOf, sourcesOf}
 use Rattle.position.specs.Order.{posSame, posLe, canonical}
 use Rattle.position.specs.declared.Span.{Span}
@@ -188,8 +190,8 @@ fn admitted() -> Vec<Thresholds> {
 
 /// A whole call, from bytes to bytes, besides what REFUSING and KEEPING open.
 const CALLING: &str = "afterWork labelled splice limitsIn byListChecks listChecks spanCheck headerChecks recordChecks each cellCheck \
-    baseCheck sumsFault rampCheck widthCheck endsChecks endsCheck spanChecks headerAt offsetsOf spanAt rampAt boundaryAt observationAt baseAt bytes words flatMap \
-    boundaryRecords observationRecords sourceCount posSame decode decodeList jobWith decodeBoundaries countsAt baseRecords sourceRecords \
+    baseCheck sumsFault rampCheck widthCheck endsChecks endsCheck spanChecks headerAt offsetsOf spanAt rampAt boundaryAt observationAt baseAt bytes \
+    words flatMap boundaryRecords observationRecords sourceCount posSame decode decodeList jobWith decodeBoundaries countsAt baseRecords sourceRecords \
     sourceAt areaLabels records rulesAnswer encodeAnswer answerWords encodeBoundaries boundaryRecord observationRecord observationsOf \
     sourcesOf rampBytes boundaryBytes observationBytes sourceBytes spanBytes";
 /// Whole calls are computed of maps of so many cells at the most.
