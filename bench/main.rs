@@ -1,9 +1,11 @@
 //! Times the proved library and the real Rust on the same inputs, and measures the library's stack.
 //!
-//!     bench [quick | grow | own | stack]
+//!     bench [quick | grow | own | stack | chains]
 //!
 //! `quick` leaves out the largest maps, and `grow` all but the families that grow, which are also
-//! plotted to docs/benchmark.svg; `own` is the rows of own sources alone, `stack` the stack.
+//! plotted to docs/benchmark.svg; `own` is the rows of own sources alone, `stack` the stack, `chains` the rows of long chains.
+//! The Rust has its eight numbers as constants, and the library is lent a block of just those (`DECLARED`), which every draft
+//! has. Built with the numbers of 000 the program times all rows, built with a larger group those of long chains alone (bench/run).
 //! Times are in milliseconds, the least of several runs. Of a whole call the Rust's time begins with
 //! the job's bytes and ends with the answer's, as the library's does; of a partition it is that of
 //! `partition_by_spans` alone, where the library checks the job besides; of area cards that of
@@ -18,9 +20,6 @@ mod checks;
 #[path = "../tests/driver/draft.rs"]
 #[allow(dead_code)]
 mod draft;
-#[path = "../tests/driver/expect.rs"]
-#[allow(dead_code)]
-mod expect;
 mod grow;
 #[path = "../tests/driver/heads.rs"]
 #[allow(dead_code)]
@@ -43,19 +42,29 @@ mod rust;
 #[allow(dead_code)]
 mod splits;
 mod stack;
+#[path = "../tests/driver/thresholds.rs"]
+#[allow(dead_code)]
+mod thresholds;
 
 use checks::{Refusal, BY_LIST, CALLS, CARDS, MARK, REDUCE};
 use draft::{Boundary, Draft, Input};
-use expect::Expected;
 use maps::Shape;
 use oracle::api::{self, Context};
+use oracle::thresholds::Thresholds;
 use rng::Rng;
 use std::hint::black_box;
 use std::time::{Duration, Instant};
 
 const NAMES: [&str; 4] = ["Reduce", "Reduce by list", "Mark", "Area cards"];
+/// The numbers that stand in the Rust.
+const DECLARED: Thresholds = Thresholds::DECLARED;
+/// The largest group of 000.
+const LARGEST_OF_000: usize = 4;
 /// The largest answer of any job.
 const ANSWER: usize = 1 << 18;
+/// Bytes of work for each cell, and of a card.
+const WORK: usize = 10;
+const CARD: usize = 40;
 /// How often the two sides take turns.
 const ROUNDS: usize = 5;
 
@@ -90,12 +99,13 @@ struct Lent {
 
 impl Lent {
     fn new(draft: &Draft) -> Self {
-        let work = vec![0; expect::WORK * (draft.width * draft.height) as usize];
+        let work = vec![0; WORK * (draft.width * draft.height) as usize];
         Self { input: draft.input(), work, out: vec![0; ANSWER] }
     }
 
     fn call(&mut self, call: u32) -> Refusal {
-        calls::whole(call)(&self.input.job, &self.input.list, &mut self.work, &mut self.out)
+        let Input { job, list, thresholds } = &self.input;
+        calls::whole(call)(job, list, thresholds, &mut self.work, &mut self.out)
     }
 }
 
@@ -160,6 +170,36 @@ fn bands() -> Draft {
     draft
 }
 
+/// 16 corridors of six rows on a map of 256 cells a side, each crossed by 16 boundaries that follow one another: with a largest
+/// group of 16 every chain is merged.
+fn chains() -> Draft {
+    let (side, mut rng) = (256, Rng::new(37));
+    let mut draft = maps::with_spans([side, side], Shape::Open, 0, &mut rng);
+    for (cell, i) in draft.cells.iter_mut().zip(0..) {
+        *cell = u8::from(i / side % 16 < 6);
+    }
+    draft.bases.clear();
+    let places = (0..16).flat_map(|band| (0..16).map(move |i| (band, 200 + 96 * i)));
+    draft.boundaries = places.map(|(band, x)| across_band(x, 128 * band)).collect();
+    draft.list = draft.boundaries.iter().map(|boundary| boundary.ends).collect();
+    draft
+}
+
+/// One corridor of six rows, crossed by 256 boundaries that follow one another: too many for any group.
+fn one_chain() -> Draft {
+    let mut draft = maps::with_spans([1024, 6], Shape::Open, 0, &mut Rng::new(41));
+    draft.cells.fill(1);
+    draft.bases.clear();
+    draft.boundaries = (0..256).map(|i| across_band(16 + 32 * i, 0)).collect();
+    draft.list = draft.boundaries.iter().map(|boundary| boundary.ends).collect();
+    draft
+}
+
+/// A boundary across a corridor of six rows.
+fn across_band(x: u32, y: u32) -> Boundary {
+    Boundary { ends: [x, y, x, y + 48], bits: 48.0_f64.to_bits(), ..Boundary::default() }
+}
+
 /// Partition, links and groups; and what the library's plan takes beyond its partition, against what
 /// the Rust takes after its own, which merges besides. The two are run in turn.
 fn plans(what: &str, draft: &Draft) {
@@ -198,11 +238,10 @@ fn partition(what: &str, draft: &Draft) {
 /// Area cards, the two sides in turn.
 fn cards(what: &str, draft: &Draft) {
     let mut lent = Lent::new(draft);
-    let expected = Expected::of(CARDS, &lent.input.job, &lent.input.list);
-    lent.out.resize(expected.written.len(), 0);
-    let length = expected.written.len() as u64;
-    assert!(lent.call(CARDS) == (0, length), "the cards of {what} are written");
-    assert!(lent.out == expected.written, "the two sides agree on {what}");
+    let expected = by_rust(CARDS, &lent.input);
+    lent.out.resize(expected.len(), 0);
+    assert!(lent.call(CARDS) == (0, expected.len() as u64), "the cards of {what} are written");
+    assert!(lent.out == expected, "the two sides agree on {what}");
     let ready = rust::job(&lent.input.job);
     let spans = ready.own_spans();
     let (mut rust, mut library) = (f64::INFINITY, f64::INFINITY);
@@ -215,16 +254,18 @@ fn cards(what: &str, draft: &Draft) {
             black_box(lent.call(CARDS));
         }));
     }
-    let areas = expected.written.len() / expect::CARD;
+    let areas = expected.len() / CARD;
     row(&format!("{what}, areas: {areas}"), rust, library);
 }
 
-/// That both sides give the same number for a call, and the same answer.
+/// That a call succeeds with what the Rust makes of the job.
 fn agree(call: u32, what: &str, lent: &mut Lent) {
-    let expected = Expected::of(call, &lent.input.job, &lent.input.list);
-    let left = expected.left(&lent.work, &lent.out);
-    assert!(lent.call(call) == left.result, "the two sides agree on {what}");
-    assert!(lent.out == left.out, "the two sides write the same of {what}");
+    let expected = by_rust(call, &lent.input);
+    let length = expected.len();
+    let after = lent.out[length..].to_vec();
+    assert!(lent.call(call) == (0, length as u64), "the two sides agree on {what}");
+    assert!(lent.out[..length] == expected, "the two sides write the same of {what}");
+    assert!(lent.out[length..] == after, "nothing else is written of {what}");
 }
 
 /// The times of Reduce on some jobs, of which each run takes the next; the two sides in turn.
@@ -293,7 +334,7 @@ fn parts(what: &str, draft: &Draft) {
     whole(REDUCE, what, draft);
 }
 
-/// What the Rust makes of a job: the answer's bytes, or the marks.
+/// What the Rust makes of a job: the answer's bytes, the marks, or the cards.
 fn by_rust(call: u32, input: &Input) -> Vec<u8> {
     let job = rust::job(&input.job);
     let spans = if call == BY_LIST { rust::spans(&input.list, 16) } else { job.own_spans() };
@@ -301,8 +342,30 @@ fn by_rust(call: u32, input: &Input) -> Vec<u8> {
     if call == MARK {
         let bridges = job.bridges(&partition);
         (0..spans.len()).map(|i| u8::from(bridges.contains(&i))).collect()
+    } else if call == CARDS {
+        job.cards(&partition)
     } else {
         rust::answer(&job.kept(&partition))
+    }
+}
+
+/// Chains of many boundaries, by a largest group that merges those of 16 or merges none.
+fn long_chains() {
+    let Thresholds { most, chain, .. } = DECLARED;
+    head(&format!(
+        "chains of many boundaries, groups of up to {most}, chains up to {chain} pixels"
+    ));
+    let jobs = [
+        ("256 × 256, 16 chains of 16", chains(), if most < 16 { 256 } else { 16 }),
+        ("1,024 × 6, one chain of 256", one_chain(), 256),
+    ];
+    for (what, draft, kept) in &jobs {
+        for call in [REDUCE, BY_LIST] {
+            let mut lent = Lent::new(draft);
+            let (rust, library) = timed(call, what, &mut lent);
+            assert_eq!(lent.out[..4], u32::to_le_bytes(*kept), "kept boundaries of {what}");
+            row(&format!("{}, {what}: {kept} kept", NAMES[call as usize]), rust, library);
+        }
     }
 }
 
@@ -334,6 +397,7 @@ fn bridges() {
 fn stacks() {
     println!("\nstack of a call, bytes beyond an empty thread's");
     let mut rng = Rng::new(3);
+    let long = [("16 chains of 16", chains()), ("one chain of 256", one_chain())];
     let jobs = [
         ("1,024 × 1,024, 256 boundaries, 4,096 sources", job(1024, Shape::Open, 256, 4096)),
         ("4,096 region pairs", maps::many_pairs(4096, &mut rng)),
@@ -345,14 +409,20 @@ fn stacks() {
             own::of_one(4096, orders::Listing::Worst, &mut rng),
         ),
     ];
-    for (what, draft) in &jobs {
-        for call in CALLS {
+    let of_000 = DECLARED.most == LARGEST_OF_000;
+    for (what, draft) in long.iter().chain(jobs.iter().filter(|_| of_000)) {
+        for call in CALLS.into_iter().filter(|&call| of_000 || call == REDUCE || call == BY_LIST) {
             let mut lent = Lent::new(draft);
-            lent.out.resize(ANSWER.max(expect::CARD * lent.work.len() / expect::WORK), 0);
+            lent.out.resize(ANSWER.max(CARD * lent.work.len() / WORK), 0);
             let used = stack::used(&mut || {
                 black_box(lent.call(call));
             });
-            println!("{:>10}  {}, {what}", used, NAMES[call as usize]);
+            let name = NAMES[call as usize];
+            if of_000 {
+                println!("{used:>10}  {name}, {what}");
+            } else {
+                println!("{used:>10}  {name}, {what}, groups of up to {}", DECLARED.most);
+            }
         }
     }
 }
@@ -367,15 +437,27 @@ fn growing() {
 }
 
 fn main() {
-    let quick = std::env::args().any(|argument| argument == "quick");
-    if std::env::args().any(|argument| argument == "grow") {
+    let named = |name: &str| std::env::args().any(|argument| argument == name);
+    let quick = named("quick");
+    if DECLARED.most != LARGEST_OF_000 {
+        if !named("stack") {
+            long_chains();
+        }
+        return if !named("chains") {
+            stacks()
+        };
+    }
+    if named("grow") {
         return growing();
     }
-    if std::env::args().any(|argument| argument == "stack") {
+    if named("stack") {
         return stacks();
     }
-    if std::env::args().any(|argument| argument == "own") {
+    if named("own") {
         return own::rows();
+    }
+    if named("chains") {
+        return long_chains();
     }
     let sides: &[u32] = if quick { &[64, 256] } else { &[64, 256, 1024] };
     let largest = sides[sides.len() - 1];
@@ -412,6 +494,7 @@ fn main() {
             }
         }
     }
+    long_chains();
     head("area cards");
     for &side in sides {
         for boundaries in [4, 256] {

@@ -1,12 +1,15 @@
 /* How an engine uses the four calls.
  *
- *   engine [JOB]
+ *   engine [--thresholds BLOCK | --larger-units] [JOB]
  *
  * Without a file it builds the corridor of docs/FORMAT.md in memory. There are two ways to lend an
  * answer slice, and it shows both: Reduce gets a short one, and a longer one when refusal 22 says how
  * long; Reduce by list gets one that is always enough, by CHOKES_ANSWER_BYTES. It prints the kept
  * list, the marks, whether Reduce by list with the boundaries' own ends gives the same answer, and the
- * cards of the areas. */
+ * cards of the areas.
+ *
+ * What is merged is decided by a block of thresholds: that of source document 000, or that in the file
+ * BLOCK (tools/ makes one of numbers), or one that is written here, in larger_units. */
 #include "chokes.h"
 
 #include <inttypes.h>
@@ -14,8 +17,8 @@
 #include <stdlib.h>
 #include <string.h>
 
-#if CHOKES_VERSION_MAJOR != 1 || CHOKES_VERSION < CHOKES_VERSION_NUMBER(1, 1, 0)
-#error "this engine is written for version 1.1.0 of chokes"
+#if CHOKES_VERSION_MAJOR != 2 || CHOKES_VERSION < CHOKES_VERSION_NUMBER(2, 0, 0)
+#error "this engine is written for version 2.0.0 of chokes"
 #endif
 
 #define FIRST_ANSWER_BYTES 64
@@ -32,6 +35,15 @@ static void put(uint8_t *bytes, size_t at, uint32_t value)
     bytes[at + 1] = (uint8_t)(value >> 8);
     bytes[at + 2] = (uint8_t)(value >> 16);
     bytes[at + 3] = (uint8_t)(value >> 24);
+}
+
+/* An f64 by its bits. */
+static void put_f64(uint8_t *bytes, size_t at, double value)
+{
+    uint64_t bits;
+    memcpy(&bits, &value, sizeof bits);
+    put(bytes, at, (uint32_t)bits);
+    put(bytes, at + 4, (uint32_t)(bits >> 32));
 }
 
 static void *room(size_t size)
@@ -70,23 +82,55 @@ static uint8_t *corridor(size_t *length)
     return job;
 }
 
+/* A studio's own thresholds. They start from those of 000, so that what is not written stays as it is
+ * there: here the smallest group and the cosine. Lengths are doubled, for units twice as large, and a
+ * group may have up to eight boundaries. */
+static void larger_units(uint8_t *block)
+{
+    put(block, CHOKES_THRESHOLDS_LARGEST_AT, 8);
+    put_f64(block, CHOKES_THRESHOLDS_CHAIN_AT, 768.0);
+    put_f64(block, CHOKES_THRESHOLDS_WIDTH_AT, 16.0);
+    put_f64(block, CHOKES_THRESHOLDS_GEOMETRY_AT, 32.0);
+    put_f64(block, CHOKES_THRESHOLDS_FLAT_DUPLICATE_AT, 256.0);
+    put_f64(block, CHOKES_THRESHOLDS_FLAT_ENVELOPE_AT, 64.0);
+}
+
 /* A file's bytes. Of one that is longer than any job one byte more than that is enough to have it
  * refused as the whole would be. */
 static uint8_t *from_file(const char *name, size_t *length)
 {
     FILE *file = fopen(name, "rb");
-    uint8_t *job = room(CHOKES_MOST_JOB_BYTES + 1);
+    uint8_t *bytes = room(CHOKES_MOST_JOB_BYTES + 1);
     if (file == NULL) {
         fprintf(stderr, "engine: %s can't be opened\n", name);
         exit(1);
     }
-    *length = fread(job, 1, CHOKES_MOST_JOB_BYTES + 1, file);
+    *length = fread(bytes, 1, CHOKES_MOST_JOB_BYTES + 1, file);
     if (ferror(file)) {
         fprintf(stderr, "engine: %s can't be read\n", name);
         exit(1);
     }
     fclose(file);
-    return job;
+    return bytes;
+}
+
+/* The block that the arguments name, and how many of them do so. */
+static uint8_t *thresholds_of(int argc, char **argv, size_t *length, int *used)
+{
+    static const uint8_t of_000[CHOKES_THRESHOLDS_BYTES] = CHOKES_THRESHOLDS_OF_000;
+    uint8_t *block;
+    if (argc > 2 && strcmp(argv[1], "--thresholds") == 0) {
+        *used = 2;
+        return from_file(argv[2], length);
+    }
+    *length = sizeof of_000;
+    block = room(sizeof of_000);
+    memcpy(block, of_000, sizeof of_000);
+    *used = argc > 1 && strcmp(argv[1], "--larger-units") == 0;
+    if (*used != 0) {
+        larger_units(block);
+    }
+    return block;
 }
 
 /* How much to lend for a job. Its header may say anything, so nothing is worked out from counts that the
@@ -191,23 +235,30 @@ static uint8_t *own_spans(const uint8_t *job, uint32_t boundaries)
 
 int main(int argc, char **argv)
 {
-    size_t length, work_length, enough, answer_length = FIRST_ANSWER_BYTES, list_length;
-    uint8_t *job = argc > 1 ? from_file(argv[1], &length) : corridor(&length);
-    uint8_t *work, *answer, *again, *marks, *list;
+    size_t length, block_length, work_length, enough, answer_length = FIRST_ANSWER_BYTES, list_length;
+    uint8_t *job, *block, *work, *answer, *again, *marks, *list;
     struct chokes_result result, listed;
     uint32_t boundaries, i;
+    int used;
 
+    block = thresholds_of(argc, argv, &block_length, &used);
+    if (argc > used + 2) {
+        fprintf(stderr, "usage: engine [--thresholds BLOCK | --larger-units] [JOB]\n");
+        return 2;
+    }
+    job = argc > used + 1 ? from_file(argv[used + 1], &length) : corridor(&length);
     lengths(job, length, &work_length, &enough);
     work = room(work_length);
 
     /* Reduce. Where the slice is too short nothing is written to it, and the detail is the length. */
     answer = room(answer_length);
-    result = chokes_reduce(job, length, work, work_length, answer, answer_length);
+    result = chokes_reduce(job, length, block, block_length, work, work_length, answer, answer_length);
     if (result.number == CHOKES_ANSWER_TOO_SHORT) {
         free(answer);
         answer_length = (size_t)result.detail;
         answer = room(answer_length);
-        result = chokes_reduce(job, length, work, work_length, answer, answer_length);
+        result =
+            chokes_reduce(job, length, block, block_length, work, work_length, answer, answer_length);
     }
     accepted("Reduce", result);
     print_answer(answer);
@@ -226,7 +277,8 @@ int main(int argc, char **argv)
     list = own_spans(job, boundaries);
     list_length = CHOKES_SPAN_BYTES * (size_t)boundaries;
     again = room(enough);
-    listed = chokes_reduce_by_list(job, length, list, list_length, work, work_length, again, enough);
+    listed = chokes_reduce_by_list(job, length, list, list_length, block, block_length, work,
+                                   work_length, again, enough);
     accepted("Reduce by list", listed);
     printf("by list: %s\n",
            listed.detail == result.detail && memcmp(answer, again, (size_t)result.detail) == 0
@@ -238,6 +290,7 @@ int main(int argc, char **argv)
     free(marks);
     free(answer);
     free(work);
+    free(block);
     free(job);
     return 0;
 }

@@ -1,15 +1,15 @@
 /* The choke analyser: four calls on byte slices.
  *
- * Link with libchokes.a (./library builds it). docs/FORMAT.md has the forms of a job, a span list, an
- * answer, marks, cards and work byte by byte, and every refusal with an example; every field is
- * little-endian. CHANGELOG.md has what an engine has to change from version to version.
+ * Link with libchokes.a (./library builds it). docs/FORMAT.md has the forms of a job, a span list, a
+ * block of thresholds, an answer, marks, cards and work byte by byte, and every refusal with an example;
+ * every field is little-endian. CHANGELOG.md has what an engine has to change from version to version.
  *
  * A slice is passed as its start and its length in bytes. It need not be aligned. Any slice may be
  * empty: with length 0 its start is not looked at and may be NULL. The slices that a call is lent may
- * not overlap one another. A call reads the job and the list and writes nothing but work and the
- * answer, the marks or the cards, and what those held before has no part in the result; it allocates
- * nothing, keeps nothing after it returns, and always returns. Calls that write to slices of their own
- * may run at the same time, and may read one job or list.
+ * not overlap one another. A call reads the job, the list and the thresholds and writes nothing but work
+ * and the answer, the marks or the cards, and what those held before has no part in the result; it
+ * allocates nothing, keeps nothing after it returns, and always returns. Calls that write to slices of
+ * their own may run at the same time, and may read one job, list or block of thresholds.
  *
  * Stack: lend CHOKES_STACK_BYTES of it. That is more than was measured, and not proved.
  */
@@ -26,14 +26,14 @@ extern "C" {
 /* The version. MAJOR goes up where an engine has to change something, MINOR where there is more to use,
  * PATCH otherwise. #if can read all of them, so that an engine can stop a build with another header:
  *
- *   #if CHOKES_VERSION_MAJOR != 1 || CHOKES_VERSION < CHOKES_VERSION_NUMBER(1, 1, 0)
- *   #error "this engine is written for version 1.1.0 of chokes"
+ *   #if CHOKES_VERSION_MAJOR != 2 || CHOKES_VERSION < CHOKES_VERSION_NUMBER(2, 0, 0)
+ *   #error "this engine is written for version 2.0.0 of chokes"
  *   #endif
  *
  * The library itself can't be asked: use the header that ./library left beside it. */
-#define CHOKES_VERSION_MAJOR 1
-#define CHOKES_VERSION_MINOR 1
-#define CHOKES_VERSION_PATCH 2
+#define CHOKES_VERSION_MAJOR 2
+#define CHOKES_VERSION_MINOR 0
+#define CHOKES_VERSION_PATCH 0
 #define CHOKES_VERSION_NUMBER(major, minor, patch)                                             \
     ((major) * 1000000L + (minor) * 1000L + (patch))
 #define CHOKES_VERSION                                                                         \
@@ -55,9 +55,9 @@ struct chokes_result {
 
 /* Refusals from the input. In brackets what the detail is, where there is one: a count, or the index
  * of the first offender, from 0. The answer, the marks or the cards are unchanged; so is work, but for
- * 13, after which it holds the labels. Mark, Reduce and Area cards make 1 to 13, Reduce by list all but
- * 12. Tested in this order: 1 to 10, then 11 and 12 boundary by boundary, 14, 15, then 16 and 17 span by
- * span, 21, 13, and 22, 23 or 31. */
+ * 13, after which it holds the labels. Mark and Area cards make 1 to 13, Reduce 32 and 1 to 13, Reduce by
+ * list 32 and 1 to 17 without 12. Tested in this order: 32, 1 to 10, then 11 and 12 boundary by boundary,
+ * 14, 15, then 16 and 17 span by span, 21, 13, and 22, 23 or 31. */
 #define CHOKES_JOB_TOO_SHORT 1u      /* under 48 bytes */
 #define CHOKES_BAD_SIDES 2u          /* width or height not 1 to 1,024 */
 #define CHOKES_TOO_MANY_RECORDS 3u   /* over 256 bases, 1,024 observations or 4,096 sources */
@@ -78,6 +78,9 @@ struct chokes_result {
 #define CHOKES_TOO_MANY_SPANS 15u    /* over 256 spans (count) */
 #define CHOKES_SPAN_OFF_MAP 16u      /* span end past width x 8 or height x 8 (span) */
 #define CHOKES_SPAN_ENDS_COINCIDE 17u /* span's ends coincide (span) */
+#define CHOKES_BAD_THRESHOLDS 32u    /* a block of thresholds of another length, header or range than
+                                        below; tested before 1, so that a bad block with a bad job
+                                        gives 32. Detail 0 */
 
 /* Refusals from the state. The answer, the marks or the cards are unchanged; so is work after 21, and
  * after 22, 23 and 31 it holds the labels. */
@@ -95,6 +98,7 @@ struct chokes_result {
 #define CHOKES_SPAN_BYTES 16u
 #define CHOKES_ANSWER_HEADER_BYTES 24u
 #define CHOKES_CARD_BYTES 40u
+#define CHOKES_THRESHOLDS_BYTES 64u
 
 /* Bits of a cell; bits 3 and 4 are its elevation, 0 to 3. */
 #define CHOKES_CELL_WALKABLE 1u
@@ -105,7 +109,8 @@ struct chokes_result {
 /* Column and row of a base without an anchor. */
 #define CHOKES_NO_ANCHOR 4294967295u
 
-/* The most that a job or list may have: cells on a side, records of each kind, spans, region pairs. */
+/* The most that a job or list may have: cells on a side, records of each kind, spans, region pairs; and
+ * the most boundaries that a block of thresholds may let into one group. */
 #define CHOKES_MOST_SIDE 1024u
 #define CHOKES_MOST_BASES 256u
 #define CHOKES_MOST_BOUNDARIES 256u
@@ -113,6 +118,62 @@ struct chokes_result {
 #define CHOKES_MOST_SOURCES 4096u
 #define CHOKES_MOST_SPANS 256u
 #define CHOKES_MOST_PAIRS 4096u
+#define CHOKES_MOST_GROUP 16u
+
+/* The block of thresholds: the eight numbers by which Reduce and Reduce by list tell which boundaries
+ * are merged. Mark and Area cards merge nothing and take no block. It is 64 bytes, little-endian; the
+ * lengths are in pixels, 8 a cell:
+ *
+ *   at        field           allowed             000    what it limits
+ *    0   u32  count           8                   8      (how many numbers there are)
+ *    4   u32  offset          8                   8      (where they begin)
+ *    8   u32  smallest        2 to largest        3      fewest boundaries of a serial group
+ *   12   u32  largest         smallest to 16      4      most boundaries of a serial or a flat group
+ *   16   f64  chain           +0 to 16,384        384.0  of a serial group: the distances from centre to
+ *                                                        centre in all, and that of the outermost
+ *   24   f64  width           +0 to 16,384        8.0    how much wider than the narrowest member the
+ *                                                        one that is kept may be
+ *   32   f64  geometry        +0 to 16,384        16.0   of a serial group: how much larger than widths
+ *                                                        and distance allow an area between may measure
+ *   40   f64  flat duplicate  +0 to 16,384        128.0  of a flat group: how far apart the ends of any
+ *                                                        two members may be
+ *   48   f64  flat envelope   +0 to 16,384        32.0   of a flat group: how far past its two spans an
+ *                                                        area between may reach
+ *   56   f64  cosine          +0 to 1             0.966  of a flat group: the least cosine of the angle
+ *                                                        of any two members; 000 has that of 15 degrees
+ *
+ * A flat group has 2 to largest boundaries, whatever the smallest is. A distance, sum or reach that is
+ * just the limit passes. An f64 is in its range if its bits, as a whole number, are not over those of the
+ * upper end, 0x40D0000000000000 or 0x3FF0000000000000: both ends are allowed; -0, negative numbers,
+ * infinities and NaN are not.
+ *
+ * A call only reads the block: it may be const, may serve any number of calls, at the same time too, and
+ * need not be aligned. CHOKES_THRESHOLDS_OF_000 has the numbers of source document 000:
+ *
+ *   static const uint8_t thresholds[CHOKES_THRESHOLDS_BYTES] = CHOKES_THRESHOLDS_OF_000;
+ *
+ * For others start from it and write over the fields that differ; examples/engine.c does so. */
+#define CHOKES_THRESHOLDS_SMALLEST_AT 8u
+#define CHOKES_THRESHOLDS_LARGEST_AT 12u
+#define CHOKES_THRESHOLDS_CHAIN_AT 16u
+#define CHOKES_THRESHOLDS_WIDTH_AT 24u
+#define CHOKES_THRESHOLDS_GEOMETRY_AT 32u
+#define CHOKES_THRESHOLDS_FLAT_DUPLICATE_AT 40u
+#define CHOKES_THRESHOLDS_FLAT_ENVELOPE_AT 48u
+#define CHOKES_THRESHOLDS_COSINE_AT 56u
+#define CHOKES_THRESHOLDS_OF_000                                                               \
+    {                                                                                          \
+        8, 0, 0, 0, /* count */                                                                \
+        8, 0, 0, 0, /* offset */                                                               \
+        3, 0, 0, 0, /* smallest */                                                             \
+        4, 0, 0, 0, /* largest */                                                              \
+        0, 0, 0, 0, 0, 0, 0x78, 0x40, /* chain: 384.0 */                                       \
+        0, 0, 0, 0, 0, 0, 0x20, 0x40, /* width: 8.0 */                                         \
+        0, 0, 0, 0, 0, 0, 0x30, 0x40, /* geometry: 16.0 */                                     \
+        0, 0, 0, 0, 0, 0, 0x60, 0x40, /* flat duplicate: 128.0 */                              \
+        0, 0, 0, 0, 0, 0, 0x40, 0x40, /* flat envelope: 32.0 */                                \
+        0x15, 0xBF, 0x48, 0x47, 0xDD, 0xE8, 0xEE, 0x3F /* cosine: 0.9659258262890683 */        \
+    }
 
 /* Bytes of a job with these counts, each within its limit above. */
 #define CHOKES_JOB_BYTES(width, height, bases, boundaries, observations, sources)              \
@@ -155,17 +216,20 @@ struct chokes_result {
 struct chokes_result chokes_mark(const uint8_t *job, size_t job_length, uint8_t *work,
                                  size_t work_length, uint8_t *marks, size_t marks_length);
 
-/* Reduce: the kept boundaries of the job, the map parted by the boundaries' own ends. Bytes of the
- * answer slice past the answer's length are unchanged. */
-struct chokes_result chokes_reduce(const uint8_t *job, size_t job_length, uint8_t *work,
-                                   size_t work_length, uint8_t *answer, size_t answer_length);
+/* Reduce: the kept boundaries of the job, merged by the thresholds, a block as above; the map parted by
+ * the boundaries' own ends. Bytes of the answer slice past the answer's length are unchanged. */
+struct chokes_result chokes_reduce(const uint8_t *job, size_t job_length,
+                                   const uint8_t *thresholds, size_t thresholds_length,
+                                   uint8_t *work, size_t work_length, uint8_t *answer,
+                                   size_t answer_length);
 
 /* Reduce by list: as Reduce, the map parted by the spans of a list, four u32 each, and not by the
  * boundaries' ends, which may coincide. Where there are as many spans as boundaries, span i belongs to
- * boundary i; otherwise nothing is merged. */
+ * boundary i; otherwise nothing is merged, whatever the thresholds are. */
 struct chokes_result chokes_reduce_by_list(const uint8_t *job, size_t job_length,
-                                           const uint8_t *list, size_t list_length, uint8_t *work,
-                                           size_t work_length, uint8_t *answer,
+                                           const uint8_t *list, size_t list_length,
+                                           const uint8_t *thresholds, size_t thresholds_length,
+                                           uint8_t *work, size_t work_length, uint8_t *answer,
                                            size_t answer_length);
 
 /* Area cards: for each area of the job, by label, ten u32: cells; least column and row, greatest column

@@ -1,5 +1,5 @@
-//! Tries all threes of centre distances whose sum is about 384: in any order the f64 sum is on the
-//! same side of 384. A distance is half the root of a sum of two squares, D.
+//! Tries all threes of centre distances whose sum is about 384, the chain limit of 000: in any order the f64 sum is on
+//! the same side of 384. A distance is half the root of a sum of two squares, D.
 
 #[path = "oracle/exact_length.rs"]
 #[allow(dead_code)]

@@ -18,7 +18,7 @@ static void say_others(struct text *text, const struct faults *faults)
     uint64_t all = 0;
     size_t i;
     unsigned number;
-    for (number = 1; number < 18; number++) {
+    for (number = 1; number < NUMBERS; number++) {
         all += faults->found[number];
     }
     if (all > 1) {
@@ -29,7 +29,7 @@ static void say_others(struct text *text, const struct faults *faults)
         say(text, "\n%s (%u)\n", f->words, f->number);
         say_fault(text, f);
     }
-    for (number = 1; number < 18; number++) {
+    for (number = 1; number < NUMBERS; number++) {
         if (faults->found[number] > TOLD) {
             say(text, "\nand %" PRIu64 " more faults of number %u\n", faults->found[number] - TOLD, number);
         }
@@ -39,19 +39,23 @@ static void say_others(struct text *text, const struct faults *faults)
     }
 }
 
+void say_faults(struct text *text, const struct faults *faults, struct chokes_result result)
+{
+    say(text, "refused %" PRIu32 " %" PRIu64 "\n\n", result.number, result.detail);
+    if (faults->count == 0 || faults->at[0].number != result.number || faults->at[0].detail != result.detail) {
+        say(text, "This tool can't tell why.\n");
+    } else {
+        say(text, "%s\n", faults->at[0].words);
+        say_fault(text, &faults->at[0]);
+        say_others(text, faults);
+    }
+}
+
 static void explain_refusal(struct text *text, const struct run *run)
 {
     struct faults faults;
     find_faults(&faults, run);
-    say(text, "refused %" PRIu32 " %" PRIu64 "\n\n", run->result.number, run->result.detail);
-    if (faults.count == 0 || faults.at[0].number != run->result.number ||
-        faults.at[0].detail != run->result.detail) {
-        say(text, "This tool can't tell why.\n");
-    } else {
-        say(text, "%s\n", faults.at[0].words);
-        say_fault(text, &faults.at[0]);
-        say_others(text, &faults);
-    }
+    say_faults(text, &faults, run->result);
     free(faults.at);
 }
 
@@ -90,6 +94,13 @@ static void explain_success(struct text *text, const struct run *run)
     if (run->by_list) {
         say_count(text, "spans", span_count(run));
     }
+    say(text, "  %-13s", "thresholds");
+    if (are_of_000(&run->thresholds)) {
+        say(text, "those of 000");
+    } else {
+        say_thresholds(text, &run->thresholds);
+    }
+    say(text, "\n");
     say_count(text, "areas", run->areas);
     say(text, "  %-13s%" PRIu64 " (at most 4096 are allowed)\n", "area pairs", pairs);
     if (!run->by_list && mark(run, marks).number == CHOKES_OK) {

@@ -142,6 +142,7 @@ static void length_fault(struct faults *faults, const struct job *job)
 
 void header_faults(struct faults *faults, const struct job *job)
 {
+    const size_t before = faults->count;
     int i;
     if (!job->header) {
         struct fault *f = add_fault(faults, CHOKES_JOB_TOO_SHORT, 0);
@@ -164,7 +165,7 @@ void header_faults(struct faults *faults, const struct job *job)
         faults->hidden = "What comes after the header can't be told until the whole file is there.";
         return;
     }
-    if (faults->count > 0 && !job->readable) {
+    if (faults->count > before && !job->readable) {
         faults->hidden = "Where the records stand can't be told until the header is right.";
         return;
     }
@@ -223,6 +224,7 @@ static void pair_fault(struct faults *faults, const struct run *run)
 void find_faults(struct faults *faults, const struct run *run)
 {
     memset(faults, 0, sizeof *faults);
+    block_faults(faults, &run->thresholds);
     header_faults(faults, &run->job);
     record_faults(faults, &run->job, run->by_list);
     if (run->by_list) {

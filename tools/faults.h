@@ -1,4 +1,4 @@
-/* What the checks of a job and of a list share. */
+/* What the checks of a job, of a list and of a block of thresholds share. */
 #ifndef CHOKES_FAULTS_H
 #define CHOKES_FAULTS_H
 
@@ -8,6 +8,7 @@
 
 /* A fault to fill in, or NULL where enough of its number are told. */
 struct fault *add_fault(struct faults *faults, unsigned number, uint64_t detail);
+void block_faults(struct faults *faults, const struct bytes *block);
 void header_faults(struct faults *faults, const struct job *job);
 void record_faults(struct faults *faults, const struct job *job, int by_list);
 void end_faults(struct faults *faults, const struct job *job, int by_list);

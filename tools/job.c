@@ -89,10 +89,13 @@ static struct chokes_result call(const struct run *run, const struct bytes *job,
                                  struct bytes *answer)
 {
     size_t lent = work_bytes(&run->job);
+    const struct bytes *block = &run->thresholds;
     return run->by_list
-               ? chokes_reduce_by_list(job->at, job->length, run->list.at, run->list.length, work,
-                                       lent, answer->at, answer->length)
-               : chokes_reduce(job->at, job->length, work, lent, answer->at, answer->length);
+               ? chokes_reduce_by_list(job->at, job->length, run->list.at, run->list.length,
+                                       block->at, block->length, work, lent, answer->at,
+                                       answer->length)
+               : chokes_reduce(job->at, job->length, block->at, block->length, work, lent,
+                               answer->at, answer->length);
 }
 
 static struct chokes_result call_with_room(const struct run *run, const struct bytes *job,
@@ -179,6 +182,9 @@ static void read_labels(struct run *run)
 
 void make_run(struct run *run)
 {
+    if (run->thresholds.at == NULL) {
+        run->thresholds = thresholds_of_000();
+    }
     open_job(&run->job, &run->input);
     run->work = room(work_bytes(&run->job));
     run->result = call_with_room(run, &run->input, run->work, &run->answer);
@@ -191,6 +197,7 @@ void end_run(struct run *run)
 {
     free(run->input.at);
     free(run->list.at);
+    free(run->thresholds.at);
     free(run->work);
     free(run->answer.at);
     free(run->labels);

@@ -20,10 +20,14 @@
 #define MOST_OBSERVATIONS 1024u
 #define MOST_SOURCES 4096u
 #define MOST_SPANS 256u
+#define LEAST_GROUP 2u
+#define MOST_GROUP 16u
 #define CELL_PIXELS 8u
 #define NO_ANCHOR 0xFFFFFFFFu
 /* The bits of 16,384. */
 #define MOST_WIDTH_BITS 0x40D0000000000000u
+/* The bits of 1. */
+#define MOST_COSINE_BITS 0x3FF0000000000000u
 
 #ifdef __GNUC__
 #define LIKE_PRINTF(string, first) __attribute__((format(printf, string, first)))
@@ -82,7 +86,7 @@ void canonical_ends(const uint8_t *record, uint32_t *ends);
 
 /* Inputs, and what Reduce or Reduce by list said of them. */
 struct run {
-    struct bytes input, list;
+    struct bytes input, list, thresholds; /* without thresholds make_run takes those of 000 */
     int by_list;
     struct job job;
     struct chokes_result result;
@@ -153,14 +157,14 @@ struct groups {
 /* 0, or 1 where the answer isn't what the groups give. */
 int find_groups(const struct run *run, struct groups *groups);
 
-/* faults.c, records.c, spans.c: what is wrong with an input, in the order of the checks. */
+/* thresholds.c, faults.c, records.c, spans.c: what is wrong with an input, in the order of the checks. */
 enum place { NOWHERE, AT_CELL, AT_SPAN, AT_POINT };
 
 struct fault {
     unsigned number;
     uint64_t detail;
     char words[320], record[96], field[64], found[128], allowed[160];
-    const char *input; /* "job" or "span list" */
+    const char *input; /* "job", "span list" or "block of thresholds" */
     uint64_t byte;
     int has_byte;
     enum place place;
@@ -169,11 +173,13 @@ struct fault {
 
 /* The most faults of a number that are told one by one. */
 #define TOLD 20
+/* One more than the greatest number of a fault. */
+#define NUMBERS (CHOKES_BAD_THRESHOLDS + 1)
 
 struct faults {
     struct fault *at;
     size_t count;
-    uint64_t found[18]; /* how many there are of each number */
+    uint64_t found[NUMBERS]; /* how many there are of each number */
     const char *hidden; /* what can't be told until these are mended, or NULL */
 };
 
@@ -182,6 +188,21 @@ void find_faults(struct faults *faults, const struct run *run);
 
 /* explain.c */
 void explain(struct text *text, const struct run *run);
+/* The refusal, and the faults of the inputs, of which the first is to be the one that was refused. */
+void say_faults(struct text *text, const struct faults *faults, struct chokes_result result);
+
+/* thresholds.c */
+/* The block, to be freed. */
+struct bytes thresholds_of_000(void);
+int are_of_000(const struct bytes *block);
+/* The numbers of a block that is accepted, in one line; in a line each, as arguments of make_thresholds with their meaning. */
+void say_thresholds(struct text *text, const struct bytes *block);
+void print_thresholds(struct text *text, const struct bytes *block);
+/* The block of 000 with the numbers of arguments NAME=NUMBER written over; 1 with a line on standard error where one is wrong. */
+int make_thresholds(char **arguments, int count, uint8_t *block);
+/* 'chokes thresholds' with such arguments, and with a file; their status. */
+int write_thresholds(char **arguments, int count);
+int tell_thresholds(const char *name);
 
 /* view.c, map.c, tables.c */
 struct page {

@@ -144,6 +144,11 @@ static void say_summary(struct text *text, const struct page *page)
     } else if (page->run->by_list) {
         say(text, " The map is parted by a list of spans; there are not as many as boundaries, so nothing is merged.");
     }
+    if (!are_of_000(&page->run->thresholds)) {
+        say(text, " The thresholds are not those of 000: ");
+        say_thresholds(text, &page->run->thresholds);
+        say(text, ".");
+    }
     say(text, "</p>\n");
 }
 

@@ -1,6 +1,7 @@
-/* Holds docs/FORMAT.md to the library: the dumps of the corridor to the job file and to what the calls write; every line
- * of its examples of refusals, and any two lines of its list of single faults together, to what the call gives back and
- * leaves; its table of refusals to chokes.h and to those calls.
+/* Holds docs/FORMAT.md to the library: the dumps of the corridor to the job file and to what the calls write; that of the
+ * thresholds to chokes.h, and its table of their fields to both and to what the calls take and refuse at each end of a range;
+ * every line of its examples of refusals, and any two lines of its list of single faults together, to what the call gives back
+ * and leaves; its table of refusals to chokes.h and to those calls.
  *
  *   format FORMAT.md JOB */
 #include "chokes.h"
@@ -30,8 +31,8 @@ struct bytes {
 };
 
 /* The dumps, by the word after 'hex'. */
-enum { JOB, ANSWER, WORK, MARKS, CARDS, LIST, DUMPS };
-static const char *const dump_names[DUMPS] = {"job", "answer", "work", "marks", "cards", "list"};
+enum { JOB, ANSWER, WORK, MARKS, CARDS, LIST, THRESHOLDS, DUMPS };
+static const char *const dump_names[DUMPS] = {"job", "answer", "work", "marks", "cards", "list", "thresholds"};
 static struct bytes dumps[DUMPS];
 static int dump_seen[DUMPS];
 
@@ -51,12 +52,12 @@ static const struct {
     REFUSAL(CHOKES_TOO_MANY_SPANS),    REFUSAL(CHOKES_SPAN_OFF_MAP),
     REFUSAL(CHOKES_SPAN_ENDS_COINCIDE), REFUSAL(CHOKES_WORK_TOO_SHORT),
     REFUSAL(CHOKES_ANSWER_TOO_SHORT),  REFUSAL(CHOKES_MARKS_TOO_SHORT),
-    REFUSAL(CHOKES_SLICE_TOO_SHORT)};
+    REFUSAL(CHOKES_SLICE_TOO_SHORT),   REFUSAL(CHOKES_BAD_THRESHOLDS)};
 #define REFUSALS (sizeof refusals / sizeof refusals[0])
 static int row_seen[REFUSALS];
 
 enum { MARK, REDUCE, BY_LIST, AREA_CARDS, CALLS };
-#define NUMBERS 32
+#define NUMBERS 33
 /* What the table has for each refusal: the place in the order of each call, 0 if there is none, and whether work then
  * holds labels. */
 static unsigned long places[REFUSALS][CALLS];
@@ -65,7 +66,18 @@ static int order_seen[CALLS];
 static const char *const call_names[CALLS] = {"mark", "reduce", "by-list", "cards"};
 /* Which numbers each call gave in the trials. */
 static unsigned long given[CALLS][NUMBERS];
-static unsigned long trials, pairs;
+static unsigned long trials, pairs, ranges;
+
+/* The fields of a block of thresholds, as the table has them: the least and the most, as bits for an f64, or the row that has
+ * the number. */
+#define FIELDS 16
+static struct field {
+    size_t at, size;
+    uint64_t least, most, own;
+    const struct field *least_of, *most_of;
+} fields[FIELDS];
+static size_t field_count;
+static int in_thresholds;
 
 /* Lines of single faults. */
 #define FAULTS 64
@@ -213,10 +225,75 @@ static void table_row(char *line)
     fail("chokes.h has no refusal of this name");
 }
 
+/* A number in a column, as the bits of an f64 or as it is; a column that names another field has none. Commas part thousands. */
+static int column_number(const char *row, int which, size_t size, uint64_t *value)
+{
+    char text[32], *end;
+    double read;
+    column(row, which, text, sizeof text);
+    if (!isdigit((unsigned char)text[0])) {
+        return 0;
+    }
+    while ((end = strchr(text, ',')) != NULL) {
+        memmove(end, end + 1, strlen(end));
+    }
+    read = strtod(text, &end);
+    if (*end != '\0') {
+        fail("no number");
+    }
+    *value = (uint64_t)read;
+    if (size == 8) {
+        memcpy(value, &read, sizeof read);
+    }
+    return 1;
+}
+
+/* Rows of the table of thresholds: | at | field, type | least | most | 32 | number of 000 | what it limits |. The least of one
+ * size is the other's, and so is the most. */
+static void field_row(const char *line)
+{
+    struct field *field = &fields[field_count];
+    char text[64];
+    uint64_t value;
+    if (!in_thresholds || strncmp(line, "| ", 2) != 0 || !isdigit((unsigned char)line[2])) {
+        return;
+    }
+    if (field_count == FIELDS) {
+        fail("too many fields");
+    }
+    column(line, 2, text, sizeof text);
+    field->size = strstr(text, ", f64") != NULL ? 8 : 4;
+    if ((strstr(text, ", u32") != NULL) == (field->size == 8)) {
+        fail("neither u32 nor f64");
+    }
+    if (!column_number(line, 1, 4, &value) || !column_number(line, 6, field->size, &field->own)) {
+        fail("no offset, or no number of 000");
+    }
+    field->at = (size_t)value;
+    if (!column_number(line, 5, 4, &value) || value != CHOKES_BAD_THRESHOLDS) {
+        fail("another refusal than 32");
+    }
+    if (!column_number(line, 3, field->size, &field->least)) {
+        column(line, 3, text, sizeof text);
+        if (strcmp(text, "smallest") != 0 || field->at != CHOKES_THRESHOLDS_LARGEST_AT || field_count == 0) {
+            fail("no least");
+        }
+        field->least_of = field - 1;
+    }
+    if (!column_number(line, 4, field->size, &field->most)) {
+        column(line, 4, text, sizeof text);
+        if (strcmp(text, "largest") != 0 || field->at != CHOKES_THRESHOLDS_SMALLEST_AT || field_count + 1 == FIELDS) {
+            fail("no most");
+        }
+        field->most_of = field + 1;
+    }
+    field_count++;
+}
+
 /* Rows of the order of tests: | call | numbers |, those in brackets at one place. They are those of the table. */
 static void order_row(char *line)
 {
-    static const char *const rows[CALLS] = {"| Mark | 1 ", "| Reduce | 1 ", "| Reduce by list | 1 ", "| Area cards | 1 "};
+    static const char *const rows[CALLS] = {"| Mark | 1 ", "| Reduce | 32 ", "| Reduce by list | 32 ", "| Area cards | 1 "};
     unsigned long place = 0, tests = 0;
     size_t i;
     int call = 0, bracket = 0;
@@ -226,7 +303,7 @@ static void order_row(char *line)
     if (call == CALLS) {
         return;
     }
-    line += strlen(rows[call]) - 2;
+    line += strcspn(line + 1, "|") + 3;
     for (; *line != '|'; line += strspn(line, " ")) {
         bracket = bracket || *line == '(';
         place += bracket && *line != '(' ? 0 : 1;
@@ -249,7 +326,7 @@ static void order_row(char *line)
 
 /* The slices of a trial: those that are read, and the lengths of those that are written. */
 struct trial {
-    struct bytes job, list;
+    struct bytes job, list, thresholds;
     unsigned long work, answer, marks, cards;
 };
 
@@ -264,7 +341,7 @@ static void set_length(struct bytes *bytes, unsigned long length)
     bytes->length = length;
 }
 
-/* The bytes after 'job[N]' or 'list[N]' go there; after 'job[N]+' they are put in before it. */
+/* The bytes after 'job[N]', 'list[N]' or 'thresholds[N]' go there; after 'job[N]+' they are put in before it. */
 static char *change(struct bytes *bytes, char *text)
 {
     size_t at = number(&text);
@@ -308,6 +385,9 @@ static char *read_changes(char *text, struct trial *trial)
         } else if (strncmp(text, "list", 4) == 0) {
             bytes = &trial->list;
             text += 4;
+        } else if (strncmp(text, "thresholds", 10) == 0) {
+            bytes = &trial->thresholds;
+            text += 10;
         } else if (strncmp(text, "work", 4) == 0) {
             length = &trial->work;
             text += 4;
@@ -368,24 +448,30 @@ static void labelled(const uint8_t *work, const uint8_t *job, size_t cells)
     }
 }
 
+static struct chokes_result make(int call, const struct trial *trial, uint8_t *work, uint8_t *out)
+{
+    const struct bytes *job = &trial->job, *list = &trial->list, *block = &trial->thresholds;
+    if (call == MARK) {
+        return chokes_mark(job->at, job->length, work, trial->work, out, trial->marks);
+    }
+    if (call == AREA_CARDS) {
+        return chokes_area_cards(job->at, job->length, work, trial->work, out, trial->cards);
+    }
+    if (call == REDUCE) {
+        return chokes_reduce(job->at, job->length, block->at, block->length, work, trial->work, out, trial->answer);
+    }
+    return chokes_reduce_by_list(job->at, job->length, list->at, list->length, block->at, block->length, work, trial->work,
+                                 out, trial->answer);
+}
+
 /* One call of a trial: what it gives back, and what it may write then. */
 static void run(int call, const struct trial *trial, unsigned long expected, unsigned long detail)
 {
     static uint8_t work[ROOM], out[ROOM];
-    const size_t out_length = call == MARK ? trial->marks : call == AREA_CARDS ? trial->cards : trial->answer;
     struct chokes_result said;
     memset(work, UNTOUCHED, sizeof work);
     memset(out, UNTOUCHED, sizeof out);
-    if (call == MARK) {
-        said = chokes_mark(trial->job.at, trial->job.length, work, trial->work, out, out_length);
-    } else if (call == REDUCE) {
-        said = chokes_reduce(trial->job.at, trial->job.length, work, trial->work, out, out_length);
-    } else if (call == AREA_CARDS) {
-        said = chokes_area_cards(trial->job.at, trial->job.length, work, trial->work, out, out_length);
-    } else {
-        said = chokes_reduce_by_list(trial->job.at, trial->job.length, trial->list.at, trial->list.length, work,
-                                     trial->work, out, out_length);
-    }
+    said = make(call, trial, work, out);
     if (said.number != expected || said.detail != detail) {
         printf("%s gives %lu %lu; ", call_names[call], (unsigned long)said.number, (unsigned long)said.detail);
         fail("another number or detail");
@@ -398,9 +484,6 @@ static void run(int call, const struct trial *trial, unsigned long expected, uns
         untouched(work, 0, sizeof work, "work is changed");
     }
     untouched(out, said.number == CHOKES_OK ? (size_t)said.detail : 0, sizeof out, "answer, marks or cards are changed");
-    if (said.number < NUMBERS) {
-        given[call][said.number]++;
-    }
 }
 
 /* The corridor, and enough of everything. */
@@ -408,6 +491,7 @@ static void start(struct trial *trial)
 {
     trial->job = dumps[JOB];
     trial->list = dumps[LIST];
+    trial->thresholds = dumps[THRESHOLDS];
     trial->work = (unsigned long)CHOKES_WORK_BYTES(4, 1);
     trial->answer = (unsigned long)dumps[ANSWER].length;
     trial->marks = (unsigned long)dumps[MARKS].length;
@@ -419,6 +503,7 @@ static int is_for(const char *line, int call)
 {
     const size_t length = strcspn(line, " ");
     return (length == 3 && strncmp(line, "all", 3) == 0) ||
+           (length == 4 && strncmp(line, "both", 4) == 0 && (call == REDUCE || call == BY_LIST)) ||
            (strlen(call_names[call]) == length && strncmp(line, call_names[call], length) == 0);
 }
 
@@ -445,6 +530,9 @@ static void trial_line(char *line)
     for (call = 0; call < CALLS; call++) {
         if (is_for(line, call)) {
             run(call, &trial, expected, detail);
+            if (expected < NUMBERS) {
+                given[call][expected]++;
+            }
             trials++;
             ran = 1;
         }
@@ -552,8 +640,12 @@ static void document_line(char *line, int kind, struct bytes *dump, int carry_ou
     if (kind == DUMP && !carry_out) {
         dump_line(line, dump);
     } else if (kind == TEXT && !carry_out) {
+        if (strncmp(line, "## ", 3) == 0) {
+            in_thresholds = strstr(line, "The thresholds") != NULL;
+        }
         table_row(line);
         order_row(line);
+        field_row(line);
     } else if ((kind == TRIALS || kind == SINGLE) && carry_out) {
         trial_line(line);
         if (kind == SINGLE) {
@@ -617,9 +709,82 @@ static void own_ends(uint8_t *list)
     memcpy(list + CHOKES_SPAN_BYTES, dumps[JOB].at + first + CHOKES_BOUNDARY_BYTES, CHOKES_SPAN_BYTES);
 }
 
+/* A block with this number in a field, and in the one beside it if that is given: whether both calls take it. */
+static void try_number(const struct field *field, uint64_t value, const struct field *beside, uint64_t other, int taken)
+{
+    static struct trial trial;
+    static uint8_t work[ROOM], out[ROOM];
+    const struct field *const both[2] = {field, beside};
+    const uint64_t values[2] = {value, other};
+    int i;
+    start(&trial);
+    for (i = 0; i < (beside != NULL ? 2 : 1); i++) {
+        put(trial.thresholds.at, both[i]->at, (uint32_t)values[i]);
+        if (both[i]->size == 8) {
+            put(trial.thresholds.at, both[i]->at + 4, (uint32_t)(values[i] >> 32));
+        }
+    }
+    for (i = 0; i < 2; i++) {
+        const int call = i == 0 ? REDUCE : BY_LIST;
+        if (!taken) {
+            run(call, &trial, CHOKES_BAD_THRESHOLDS, 0);
+        } else if (make(call, &trial, work, out).number != CHOKES_OK) {
+            printf("byte %lu, 0x%lx: ", (unsigned long)field->at, (unsigned long)value);
+            fail("a threshold within its range is refused");
+        }
+        ranges++;
+    }
+}
+
+/* Both ends of a field's range, and what is just past them; the ends of a size for each number that the other may be. */
+static void try_range(const struct field *field)
+{
+    const struct field *beside = field->least_of != NULL ? field->least_of : field->most_of;
+    const uint64_t first = beside == NULL ? 0 : field->least_of != NULL ? beside->least : field->least;
+    const uint64_t last = beside == NULL ? 0 : field->least_of != NULL ? field->most : beside->most;
+    uint64_t other;
+    for (other = first; other <= last; other++) {
+        const uint64_t least = field->least_of != NULL ? other : field->least, most = field->most_of != NULL ? other : field->most;
+        try_number(field, least, beside, other, 1);
+        try_number(field, most, beside, other, 1);
+        try_number(field, most + 1, beside, other, 0);
+        /* Below +0 comes -0. */
+        try_number(field, field->size == 8 && least == 0 ? UINT64_C(1) << 63 : least - 1, beside, other, 0);
+    }
+}
+
+/* The table of the thresholds against their dump, the dump against chokes.h, and the ranges against the calls. */
+static void thresholds(void)
+{
+    static const uint8_t of_000[] = CHOKES_THRESHOLDS_OF_000;
+    size_t i, at = 0;
+    same("CHOKES_THRESHOLDS_OF_000", of_000, sizeof of_000, THRESHOLDS);
+    for (i = 0; i < field_count; i++) {
+        const struct field *field = &fields[i];
+        uint64_t found;
+        if (field->at != at || at + field->size > CHOKES_THRESHOLDS_BYTES) {
+            fail("the fields of the thresholds do not follow one another");
+        }
+        found = word(dumps[THRESHOLDS].at, at);
+        if (field->size == 8) {
+            found |= (uint64_t)word(dumps[THRESHOLDS].at, at + 4) << 32;
+        }
+        if (found != field->own) {
+            printf("byte %lu: ", (unsigned long)at);
+            fail("another number of 000 in the table than in the dump");
+        }
+        at += field->size;
+        try_range(field);
+    }
+    if (at != CHOKES_THRESHOLDS_BYTES) {
+        fail("the fields of the thresholds are not all its bytes");
+    }
+}
+
 /* The dumps against the file and the calls. */
 static void compare(const char *name)
 {
+    static const uint8_t block[CHOKES_THRESHOLDS_BYTES] = CHOKES_THRESHOLDS_OF_000;
     static uint8_t bytes[ROOM], work[ROOM], marks[ROOM], cards[ROOM];
     struct chokes_result said;
     FILE *file = fopen(name, "rb");
@@ -633,7 +798,8 @@ static void compare(const char *name)
     same(name, bytes, length, JOB);
     own_ends(bytes);
     same("the list of the boundaries' own ends", bytes, CHOKES_SPAN_BYTES * 2, LIST);
-    said = chokes_reduce(dumps[JOB].at, dumps[JOB].length, work, CHOKES_WORK_BYTES(4, 1), bytes, sizeof bytes);
+    said = chokes_reduce(dumps[JOB].at, dumps[JOB].length, block, sizeof block, work, CHOKES_WORK_BYTES(4, 1), bytes,
+                         sizeof bytes);
     if (said.number != CHOKES_OK) {
         fail("Reduce refuses the job of the dump");
     }
@@ -641,8 +807,8 @@ static void compare(const char *name)
     same("Reduce's work", work, CHOKES_WORK_BYTES(4, 1), WORK);
     memset(bytes, UNTOUCHED, sizeof bytes);
     memset(work, UNTOUCHED, sizeof work);
-    said = chokes_reduce_by_list(dumps[JOB].at, dumps[JOB].length, dumps[LIST].at, dumps[LIST].length, work,
-                                 CHOKES_WORK_BYTES(4, 1), bytes, sizeof bytes);
+    said = chokes_reduce_by_list(dumps[JOB].at, dumps[JOB].length, dumps[LIST].at, dumps[LIST].length, block, sizeof block,
+                                 work, CHOKES_WORK_BYTES(4, 1), bytes, sizeof bytes);
     if (said.number != CHOKES_OK) {
         fail("Reduce by list refuses the job or the list of the dumps");
     }
@@ -721,10 +887,11 @@ int main(int argc, char **argv)
     read_document(0);
     bytes = all_there();
     compare(argv[2]);
+    thresholds();
     read_document(1);
     all_given();
     all_pairs();
-    printf("%s: %lu bytes of dumps, %lu calls of its examples, %lu of two faults, and %lu refusals are as it says\n",
-           document, (unsigned long)bytes, trials, pairs, (unsigned long)REFUSALS);
+    printf("%s: %lu bytes of dumps, %lu calls of its examples, %lu of two faults, %lu at the ends of ranges of thresholds, and %lu "
+           "refusals are as it says\n", document, (unsigned long)bytes, trials, pairs, ranges, (unsigned long)REFUSALS);
     return 0;
 }

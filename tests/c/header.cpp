@@ -16,6 +16,17 @@ static_assert(CHOKES_MOST_JOB_BYTES == 1123376 && CHOKES_MOST_WORK_BYTES == 1048
 static_assert(CHOKES_CARDS_BYTES(4, 1) == 160 && CHOKES_MOST_CARDS_BYTES == 41943040, "the lengths of cards");
 static_assert(CHOKES_CELL_ELEVATION(0x1f) == 3 && CHOKES_CELL_ELEVATION(0x07) == 0, "bits 3 and 4 of a cell");
 
+// The initialiser gives every byte of a block, and each fits.
+static constexpr std::uint8_t counted[] = CHOKES_THRESHOLDS_OF_000;
+static_assert(sizeof counted == CHOKES_THRESHOLDS_BYTES && CHOKES_THRESHOLDS_BYTES == 64, "the bytes of a block");
+static_assert(counted[0] == 8 && counted[4] == 8 && counted[CHOKES_THRESHOLDS_SMALLEST_AT] == 3 &&
+                  counted[CHOKES_THRESHOLDS_LARGEST_AT] == 4 && counted[CHOKES_THRESHOLDS_CHAIN_AT + 7] == 0x40 &&
+                  counted[CHOKES_THRESHOLDS_WIDTH_AT + 6] == 0x20 && counted[CHOKES_THRESHOLDS_GEOMETRY_AT + 6] == 0x30 &&
+                  counted[CHOKES_THRESHOLDS_FLAT_DUPLICATE_AT + 6] == 0x60 &&
+                  counted[CHOKES_THRESHOLDS_FLAT_ENVELOPE_AT + 6] == 0x40 && counted[CHOKES_THRESHOLDS_COSINE_AT] == 0x15,
+              "the fields of a block");
+static_assert(CHOKES_BAD_THRESHOLDS == 32 && CHOKES_MOST_GROUP == 16, "the refusal of a block, and its largest group");
+
 int main(int argc, char **argv)
 {
     if (argc != 2) {
@@ -33,20 +44,26 @@ int main(int argc, char **argv)
     std::vector<std::uint8_t> list(job.begin() + 52, job.begin() + 52 + CHOKES_SPAN_BYTES);
     list.insert(list.end(), job.begin() + 92, job.begin() + 92 + CHOKES_SPAN_BYTES);
 
-    const chokes_result reduced =
-        chokes_reduce(job.data(), job.size(), work.data(), work.size(), answer.data(), answer.size());
-    const chokes_result listed = chokes_reduce_by_list(job.data(), job.size(), list.data(), list.size(), work.data(),
-                                                       work.size(), again.data(), again.size());
+    const std::vector<std::uint8_t> block = CHOKES_THRESHOLDS_OF_000;
+    const chokes_result reduced = chokes_reduce(job.data(), job.size(), block.data(), block.size(), work.data(), work.size(),
+                                                answer.data(), answer.size());
+    const chokes_result listed =
+        chokes_reduce_by_list(job.data(), job.size(), list.data(), list.size(), block.data(), block.size(), work.data(),
+                              work.size(), again.data(), again.size());
     const chokes_result marked =
         chokes_mark(job.data(), job.size(), work.data(), work.size(), marks.data(), marks.size());
     std::vector<std::uint8_t> cards(CHOKES_CARDS_BYTES(4, 1));
     const chokes_result carded =
         chokes_area_cards(job.data(), job.size(), work.data(), work.size(), cards.data(), cards.size());
-    const chokes_result refused = chokes_reduce(job.data(), job.size(), work.data(), work.size(), nullptr, 0);
+    const chokes_result refused =
+        chokes_reduce(job.data(), job.size(), block.data(), block.size(), work.data(), work.size(), nullptr, 0);
+    const chokes_result without =
+        chokes_reduce(job.data(), job.size(), nullptr, 0, work.data(), work.size(), answer.data(), answer.size());
     if (reduced.number != CHOKES_OK || reduced.detail != 152 || answer[0] != 1 || listed.number != CHOKES_OK ||
         again != answer || marked.number != CHOKES_OK || marked.detail != 2 ||
         marks != std::vector<std::uint8_t>{1, 1} || carded.number != CHOKES_OK || carded.detail != 120 || cards[80] != 2 ||
-        refused.number != CHOKES_ANSWER_TOO_SHORT || refused.detail != 152) {
+        refused.number != CHOKES_ANSWER_TOO_SHORT || refused.detail != 152 || without.number != CHOKES_BAD_THRESHOLDS ||
+        without.detail != 0) {
         std::printf("other results from C++\n");
         return 1;
     }

@@ -1,5 +1,5 @@
 /* Holds every answer to CHOKES_ANSWER_BYTES, on jobs made here: rows of cells with spans across them, some close enough to
- * merge, with sources, observations and anchors by chance.
+ * merge, with sources, observations and anchors by chance; by the thresholds of 000 and by others.
  *
  *   lengths [JOBS]
  *
@@ -32,7 +32,30 @@ static struct {
 } drawn;
 
 static uint8_t *job, *list, *work, *answer, *cards;
-static unsigned long merged_jobs, answers, gained_sources, gained_observations, written_cards;
+static const uint8_t of_000[CHOKES_THRESHOLDS_BYTES] = CHOKES_THRESHOLDS_OF_000;
+static uint8_t block[CHOKES_THRESHOLDS_BYTES];
+static unsigned long merged_jobs, answers, gained_sources, gained_observations, written_cards, large_groups;
+
+/* The thresholds of 000 for half of the jobs, and of those of 256 boundaries; for the others any sizes, and lengths of up to
+ * 1,024 pixels. */
+static void choose_thresholds(unsigned long number)
+{
+    const uint32_t smallest = 2 + below(CHOKES_MOST_GROUP - 1);
+    size_t at;
+    memcpy(block, of_000, sizeof of_000);
+    if ((number + number / 16) % 2 == 0) {
+        return;
+    }
+    put(block, CHOKES_THRESHOLDS_SMALLEST_AT, below(2) == 0 ? 2 : smallest);
+    put(block, CHOKES_THRESHOLDS_LARGEST_AT, smallest + below(CHOKES_MOST_GROUP + 1 - smallest));
+    for (at = CHOKES_THRESHOLDS_CHAIN_AT; at < CHOKES_THRESHOLDS_COSINE_AT; at += 8) {
+        const double length = below(8) * 128.0 + below(1024) / 8.0;
+        uint64_t bits;
+        memcpy(&bits, &length, sizeof bits);
+        put(block, at, (uint32_t)bits);
+        put(block, at + 4, (uint32_t)(bits >> 32));
+    }
+}
 
 /* At most `most` more sources, by a limit for the whole job. */
 static uint32_t some_sources(uint32_t most)
@@ -147,9 +170,9 @@ static void one(unsigned long number, size_t length, int by_list, uint32_t spans
     const size_t most = CHOKES_ANSWER_BYTES(drawn.boundaries, drawn.observations, drawn.sources);
     struct chokes_result said;
     memset(answer, 0xA5, CHOKES_MOST_ANSWER_BYTES);
-    said = by_list ? chokes_reduce_by_list(job, length, list, CHOKES_SPAN_BYTES * (size_t)spans, work,
-                                           enough, answer, most)
-                   : chokes_reduce(job, length, work, enough, answer, most);
+    said = by_list ? chokes_reduce_by_list(job, length, list, CHOKES_SPAN_BYTES * (size_t)spans, block,
+                                           sizeof block, work, enough, answer, most)
+                   : chokes_reduce(job, length, block, sizeof block, work, enough, answer, most);
     if (said.number == CHOKES_ANSWER_TOO_SHORT) {
         fail("CHOKES_ANSWER_BYTES is not enough", number);
     }
@@ -164,6 +187,7 @@ static void one(unsigned long number, size_t length, int by_list, uint32_t spans
         fail("another length than the answer's counts give", number);
     }
     answers++;
+    large_groups += word(answer, 0) > 0 && drawn.boundaries > 4 * word(answer, 0);
     merged_jobs += word(answer, 0) < drawn.boundaries;
     gained_observations += word(answer, 4) > drawn.observations;
     gained_sources += word(answer, 8) > drawn.sources;
@@ -194,7 +218,7 @@ static void as_written(void)
 {
     if (CHOKES_ANSWER_BYTES(0, 0, 0) != 24 || CHOKES_ANSWER_BYTES(1, 0, 0) != 24 + 40 + 28 ||
         CHOKES_ANSWER_BYTES(0, 1, 0) != 24 + 28 || CHOKES_ANSWER_BYTES(0, 0, 1) != 24 + 16 ||
-        CHOKES_CARDS_BYTES(2, 3) != 240 || CHOKES_MOST_CARDS_BYTES != 41943040 ||
+        CHOKES_CARDS_BYTES(2, 3) != 240 || CHOKES_THRESHOLDS_BYTES != 64 || CHOKES_MOST_CARDS_BYTES != 41943040 ||
         CHOKES_MOST_ANSWER_BYTES != 111640 || CHOKES_MOST_WORK_BYTES != 10485760 || CHOKES_MOST_JOB_BYTES != 1123376) {
         printf("lengths: a macro of chokes.h gives another length than docs/FORMAT.md\n");
         exit(1);
@@ -217,6 +241,7 @@ int main(int argc, char **argv)
     as_written();
     for (number = 0; number < jobs; number++) {
         size_t length;
+        choose_thresholds(number);
         draw(number % 16 == 0 ? CHOKES_MOST_BOUNDARIES : below(12));
         length = write_job();
         if (length != CHOKES_JOB_BYTES(drawn.width, drawn.height, drawn.bases, drawn.boundaries,
@@ -236,10 +261,10 @@ int main(int argc, char **argv)
     free(work);
     free(answer);
     free(cards);
-    printf("%lu answers within CHOKES_ANSWER_BYTES: %lu merged, %lu with more sources than came in, %lu with more "
-           "observations; %lu jobs of 256 boundaries; %lu cards within CHOKES_CARDS_BYTES\n",
-           answers, merged_jobs, gained_sources, gained_observations, largest, written_cards);
-    if (largest == 0 || gained_sources == 0 || gained_observations == 0 || merged_jobs == 0) {
+    printf("%lu answers within CHOKES_ANSWER_BYTES: %lu merged, %lu of them with over four boundaries to one, %lu with more sources "
+           "than came in, %lu with more observations; %lu jobs of 256 boundaries; %lu cards within CHOKES_CARDS_BYTES\n",
+           answers, merged_jobs, large_groups, gained_sources, gained_observations, largest, written_cards);
+    if (largest == 0 || gained_sources == 0 || gained_observations == 0 || merged_jobs == 0 || large_groups == 0) {
         printf("lengths: failed, none of one kind\n");
         return 1;
     }

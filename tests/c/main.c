@@ -9,7 +9,10 @@
 #define JOB_BYTES 148
 #define ANSWER_BYTES 152
 #define CARDS_BYTES (3 * (size_t)CHOKES_CARD_BYTES)
+/* A block of thresholds and its length. */
+#define OF_000 of_000, sizeof of_000
 
+static const uint8_t of_000[CHOKES_THRESHOLDS_BYTES] = CHOKES_THRESHOLDS_OF_000;
 static int failures;
 
 static void put(uint8_t *bytes, size_t at, uint32_t word)
@@ -193,8 +196,8 @@ static void own_sources(void)
         const int fits = length >= ANSWER;
         struct chokes_result said;
         memset(answer, 0xA5, sizeof answer);
-        said = i % 2 == 0 ? chokes_reduce(job, sizeof job, work, enough, answer, length)
-                          : chokes_reduce_by_list(job, sizeof job, list, sizeof list, work, enough, answer, length);
+        said = i % 2 == 0 ? chokes_reduce(job, sizeof job, OF_000, work, enough, answer, length)
+                          : chokes_reduce_by_list(job, sizeof job, list, sizeof list, OF_000, work, enough, answer, length);
         expect("own sources", said, fits ? CHOKES_OK : CHOKES_ANSWER_TOO_SHORT, ANSWER);
         expect_bytes("own sources in the answer", answer, fits ? expected : untouched, sizeof answer);
     }
@@ -216,23 +219,28 @@ static void without_start(void)
     put_words(expected, 0, none, 6);
 
     expect("Mark, nothing at all", chokes_mark(NULL, 0, NULL, 0, NULL, 0), CHOKES_JOB_TOO_SHORT, 0);
-    expect("Reduce, nothing at all", chokes_reduce(NULL, 0, NULL, 0, NULL, 0), CHOKES_JOB_TOO_SHORT, 0);
-    expect("Reduce by list, nothing at all", chokes_reduce_by_list(NULL, 0, NULL, 0, NULL, 0, NULL, 0),
+    expect("Reduce, nothing at all", chokes_reduce(NULL, 0, OF_000, NULL, 0, NULL, 0), CHOKES_JOB_TOO_SHORT, 0);
+    expect("Reduce by list, nothing at all", chokes_reduce_by_list(NULL, 0, NULL, 0, OF_000, NULL, 0, NULL, 0),
            CHOKES_JOB_TOO_SHORT, 0);
+    expect("Reduce, no thresholds either", chokes_reduce(NULL, 0, NULL, 0, NULL, 0, NULL, 0), CHOKES_BAD_THRESHOLDS, 0);
+    expect("Reduce by list, no thresholds either", chokes_reduce_by_list(NULL, 0, NULL, 0, NULL, 0, NULL, 0, NULL, 0),
+           CHOKES_BAD_THRESHOLDS, 0);
+    expect("no thresholds", chokes_reduce(job, sizeof job, NULL, 0, work, enough, answer, sizeof answer),
+           CHOKES_BAD_THRESHOLDS, 0);
     expect("Area cards, nothing at all", chokes_area_cards(NULL, 0, NULL, 0, NULL, 0), CHOKES_JOB_TOO_SHORT, 0);
-    expect("no job", chokes_reduce(NULL, 0, work, enough, answer, sizeof answer), CHOKES_JOB_TOO_SHORT, 0);
+    expect("no job", chokes_reduce(NULL, 0, OF_000, work, enough, answer, sizeof answer), CHOKES_JOB_TOO_SHORT, 0);
 
     expect("Mark, no work", chokes_mark(job, sizeof job, NULL, 0, NULL, 0), CHOKES_WORK_TOO_SHORT, 0);
-    expect("Reduce, no work", chokes_reduce(job, sizeof job, NULL, 0, NULL, 0), CHOKES_WORK_TOO_SHORT, 0);
-    expect("Reduce by list, no work", chokes_reduce_by_list(job, sizeof job, NULL, 0, NULL, 0, NULL, 0),
+    expect("Reduce, no work", chokes_reduce(job, sizeof job, OF_000, NULL, 0, NULL, 0), CHOKES_WORK_TOO_SHORT, 0);
+    expect("Reduce by list, no work", chokes_reduce_by_list(job, sizeof job, NULL, 0, OF_000, NULL, 0, NULL, 0),
            CHOKES_WORK_TOO_SHORT, 0);
 
     expect("Area cards, no work", chokes_area_cards(job, sizeof job, NULL, 0, NULL, 0), CHOKES_WORK_TOO_SHORT, 0);
 
     expect("no cards", chokes_area_cards(job, sizeof job, work, enough, NULL, 0), CHOKES_SLICE_TOO_SHORT, CARDS_BYTES);
-    expect("no answer", chokes_reduce(job, sizeof job, work, enough, NULL, 0), CHOKES_ANSWER_TOO_SHORT,
+    expect("no answer", chokes_reduce(job, sizeof job, OF_000, work, enough, NULL, 0), CHOKES_ANSWER_TOO_SHORT,
            ANSWER_BYTES);
-    expect("no answer for no boundary", chokes_reduce(bare, sizeof bare, work, enough, NULL, 0),
+    expect("no answer for no boundary", chokes_reduce(bare, sizeof bare, OF_000, work, enough, NULL, 0),
            CHOKES_ANSWER_TOO_SHORT, CHOKES_ANSWER_HEADER_BYTES);
     expect("no marks", chokes_mark(job, sizeof job, work, enough, NULL, 0), CHOKES_MARKS_TOO_SHORT, 0);
     memset(work, 0xA5, sizeof work);
@@ -240,21 +248,21 @@ static void without_start(void)
     expect_bytes("labels without boundaries", work, one_label, sizeof one_label);
 
     expect("no list and no boundary",
-           chokes_reduce_by_list(bare, sizeof bare, NULL, 0, work, enough, answer, sizeof answer), CHOKES_OK,
+           chokes_reduce_by_list(bare, sizeof bare, NULL, 0, OF_000, work, enough, answer, sizeof answer), CHOKES_OK,
            CHOKES_ANSWER_HEADER_BYTES);
     expect_bytes("the answer of no boundary", answer, expected, sizeof expected);
     /* No span and two boundaries: the counts differ, and both are kept. */
     memset(work, 0xA5, sizeof work);
-    copied = chokes_reduce_by_list(job, sizeof job, NULL, 0, work, enough, answer, sizeof answer);
+    copied = chokes_reduce_by_list(job, sizeof job, NULL, 0, OF_000, work, enough, answer, sizeof answer);
     expect("an empty list", copied, CHOKES_OK, 24 + 2 * CHOKES_BOUNDARY_BYTES + 2 * CHOKES_SOURCE_BYTES);
     expect_bytes("labels without spans", work, one_label, sizeof one_label);
     expect_bytes("both boundaries", answer + 24, job + 52, 2 * CHOKES_BOUNDARY_BYTES);
     expect("an empty list with no answer",
-           chokes_reduce_by_list(job, sizeof job, NULL, 0, work, enough, NULL, 0), CHOKES_ANSWER_TOO_SHORT,
+           chokes_reduce_by_list(job, sizeof job, NULL, 0, OF_000, work, enough, NULL, 0), CHOKES_ANSWER_TOO_SHORT,
            copied.detail);
     memcpy(job + 60, job + 52, 8);
     expect("coincident ends and a list",
-           chokes_reduce_by_list(job, sizeof job, NULL, 0, work, enough, answer, sizeof answer), CHOKES_OK,
+           chokes_reduce_by_list(job, sizeof job, NULL, 0, OF_000, work, enough, answer, sizeof answer), CHOKES_OK,
            copied.detail);
 }
 
@@ -263,6 +271,7 @@ static void not_aligned(void)
 {
     static const uint8_t both[2] = {1, 1};
     static uint8_t job[JOB_BYTES + 8], list[2 * CHOKES_SPAN_BYTES + 8], marks[2 + 8], cards[CARDS_BYTES + 8];
+    static uint8_t block[CHOKES_THRESHOLDS_BYTES + 8];
     static uint8_t work[CHOKES_WORK_BYTES(CELLS, 1) + 8], answer[ANSWER_BYTES + 8], expected[ANSWER_BYTES], three[CARDS_BYTES];
     const size_t enough = CHOKES_WORK_BYTES(CELLS, 1);
     size_t at;
@@ -271,17 +280,19 @@ static void not_aligned(void)
     corridor_cards(three);
     for (at = 0; at < 8; at++) {
         corridor(job + at);
+        memcpy(block + at, of_000, sizeof of_000);
         memcpy(list + at, job + at + 52, CHOKES_SPAN_BYTES);
         memcpy(list + at + CHOKES_SPAN_BYTES, job + at + 52 + CHOKES_BOUNDARY_BYTES, CHOKES_SPAN_BYTES);
         memset(answer, 0xA5, sizeof answer);
         expect("Reduce, not aligned",
-               chokes_reduce(job + at, JOB_BYTES, work + at, enough, answer + at, ANSWER_BYTES), CHOKES_OK,
-               ANSWER_BYTES);
+               chokes_reduce(job + at, JOB_BYTES, block + at, sizeof of_000, work + at, enough, answer + at,
+                             ANSWER_BYTES),
+               CHOKES_OK, ANSWER_BYTES);
         expect_bytes("its answer", answer + at, expected, sizeof expected);
         memset(answer, 0xA5, sizeof answer);
         expect("Reduce by list, not aligned",
-               chokes_reduce_by_list(job + at, JOB_BYTES, list + at, 2 * CHOKES_SPAN_BYTES, work + at, enough,
-                                     answer + at, ANSWER_BYTES),
+               chokes_reduce_by_list(job + at, JOB_BYTES, list + at, 2 * CHOKES_SPAN_BYTES, block + at, sizeof of_000,
+                                     work + at, enough, answer + at, ANSWER_BYTES),
                CHOKES_OK, ANSWER_BYTES);
         expect_bytes("its answer", answer + at, expected, sizeof expected);
         memset(marks, 0xA5, sizeof marks);
@@ -336,9 +347,9 @@ static void too_many_pairs(void)
         if (i == 0) {
             said = chokes_mark(job, sizeof job, work, sizeof work, out, sizeof out);
         } else if (i == 1) {
-            said = chokes_reduce(job, sizeof job, work, sizeof work, out, sizeof out);
+            said = chokes_reduce(job, sizeof job, OF_000, work, sizeof work, out, sizeof out);
         } else if (i == 2) {
-            said = chokes_reduce_by_list(job, sizeof job, list, sizeof list, work, sizeof work, out, sizeof out);
+            said = chokes_reduce_by_list(job, sizeof job, list, sizeof list, OF_000, work, sizeof work, out, sizeof out);
         } else {
             /* Too few bytes for its 4,369 cards, which comes after 13. */
             said = chokes_area_cards(job, sizeof job, work, sizeof work, out, sizeof out);
@@ -352,14 +363,15 @@ static void too_many_pairs(void)
     expect("21 before 13 in Area cards", chokes_area_cards(job, sizeof job, work, sizeof work - 4, out, sizeof out),
            CHOKES_WORK_TOO_SHORT, 0);
     expect("13 before 23", chokes_mark(job, sizeof job, work, sizeof work, out, 0), CHOKES_TOO_MANY_PAIRS, 0);
-    expect("13 before 22", chokes_reduce(job, sizeof job, work, sizeof work, out, 0), CHOKES_TOO_MANY_PAIRS, 0);
+    expect("13 before 22", chokes_reduce(job, sizeof job, OF_000, work, sizeof work, out, 0), CHOKES_TOO_MANY_PAIRS, 0);
     expect("13 before 22, by list",
-           chokes_reduce_by_list(job, sizeof job, list, sizeof list, work, sizeof work, out, 0), CHOKES_TOO_MANY_PAIRS, 0);
+           chokes_reduce_by_list(job, sizeof job, list, sizeof list, OF_000, work, sizeof work, out, 0),
+           CHOKES_TOO_MANY_PAIRS, 0);
     expect("21 before 13", chokes_mark(job, sizeof job, work, sizeof work - 4, out, sizeof out), CHOKES_WORK_TOO_SHORT, 0);
-    expect("21 before 13 in Reduce", chokes_reduce(job, sizeof job, work, sizeof work - 4, out, sizeof out),
+    expect("21 before 13 in Reduce", chokes_reduce(job, sizeof job, OF_000, work, sizeof work - 4, out, sizeof out),
            CHOKES_WORK_TOO_SHORT, 0);
     expect("21 before 13, by list",
-           chokes_reduce_by_list(job, sizeof job, list, sizeof list, work, sizeof work - 4, out, sizeof out),
+           chokes_reduce_by_list(job, sizeof job, list, sizeof list, OF_000, work, sizeof work - 4, out, sizeof out),
            CHOKES_WORK_TOO_SHORT, 0);
 }
 
@@ -381,20 +393,20 @@ int main(void)
     memcpy(before, work, sizeof work);
     memset(marks, 0xA5, sizeof marks);
 
-    expect("work one byte short", chokes_reduce(job, sizeof job, work, enough - 1, answer, sizeof answer),
+    expect("work one byte short", chokes_reduce(job, sizeof job, OF_000, work, enough - 1, answer, sizeof answer),
            CHOKES_WORK_TOO_SHORT, 0);
     expect_bytes("work that is too short stays as it is", work, before, sizeof work);
-    expect("no answer slice", chokes_reduce(job, sizeof job, work, enough, answer, 0),
+    expect("no answer slice", chokes_reduce(job, sizeof job, OF_000, work, enough, answer, 0),
            CHOKES_ANSWER_TOO_SHORT, ANSWER_BYTES);
     expect("an answer slice one byte short",
-           chokes_reduce(job, sizeof job, work, enough, answer, ANSWER_BYTES - 1),
+           chokes_reduce(job, sizeof job, OF_000, work, enough, answer, ANSWER_BYTES - 1),
            CHOKES_ANSWER_TOO_SHORT, ANSWER_BYTES);
     expect_bytes("labels after 22", work, labels, sizeof labels);
     expect_bytes("zeros after the labels", work + sizeof labels, zeros, sizeof zeros);
     expect_bytes("the answer after 22", answer, expected, sizeof expected);
 
     corridor_answer(expected);
-    expect("Reduce", chokes_reduce(job, sizeof job, work, sizeof work, answer, sizeof answer),
+    expect("Reduce", chokes_reduce(job, sizeof job, OF_000, work, sizeof work, answer, sizeof answer),
            CHOKES_OK, ANSWER_BYTES);
     expect_bytes("Reduce's answer and what follows it", answer, expected, sizeof expected);
     expect_bytes("work past ten bytes a cell", work + enough, before + enough, 1);
@@ -403,17 +415,17 @@ int main(void)
     memcpy(list, job + 52, CHOKES_SPAN_BYTES);
     memcpy(list + CHOKES_SPAN_BYTES, job + 52 + CHOKES_BOUNDARY_BYTES, CHOKES_SPAN_BYTES);
     expect("Reduce by list",
-           chokes_reduce_by_list(job, sizeof job, list, sizeof list - 1, work, enough, answer,
+           chokes_reduce_by_list(job, sizeof job, list, sizeof list - 1, OF_000, work, enough, answer,
                                  sizeof answer),
            CHOKES_OK, ANSWER_BYTES);
     expect_bytes("Reduce by list's answer", answer, expected, sizeof expected);
     expect("a list of 33 bytes",
-           chokes_reduce_by_list(job, sizeof job, list, sizeof list, work, enough, answer,
+           chokes_reduce_by_list(job, sizeof job, list, sizeof list, OF_000, work, enough, answer,
                                  sizeof answer),
            CHOKES_BAD_LIST_LENGTH, 0);
     put(list, CHOKES_SPAN_BYTES, 33);
     expect("a span past the map",
-           chokes_reduce_by_list(job, sizeof job, list, sizeof list - 1, work, enough, answer,
+           chokes_reduce_by_list(job, sizeof job, list, sizeof list - 1, OF_000, work, enough, answer,
                                  sizeof answer),
            CHOKES_SPAN_OFF_MAP, 1);
 
@@ -437,11 +449,11 @@ int main(void)
     memcpy(changed, job, sizeof job);
     changed[52 + 40 + 23] = 0x80;
     expect("a width of less than 0",
-           chokes_reduce(changed, sizeof job, work, enough, answer, sizeof answer),
+           chokes_reduce(changed, sizeof job, OF_000, work, enough, answer, sizeof answer),
            CHOKES_BAD_WIDTH, 1);
     memcpy(changed, job, sizeof job);
     memcpy(changed + 60, changed + 52, 8);
-    expect("coincident ends", chokes_reduce(changed, sizeof job, work, enough, answer, sizeof answer),
+    expect("coincident ends", chokes_reduce(changed, sizeof job, OF_000, work, enough, answer, sizeof answer),
            CHOKES_ENDS_COINCIDE, 0);
     expect_bytes("refusals leave work as it is", work, before, sizeof work);
     expect_bytes("and the answer", answer, expected, sizeof expected);

@@ -1,4 +1,5 @@
-/* Writes jobs at the sizes that choke-list lends and reads, and for each what must be printed: NAME.job and NAME.list. */
+/* Writes jobs at the sizes that choke-list lends and reads, and on both sides of each threshold of 000, which it lends; and for each
+ * what must be printed: NAME.job and NAME.list. */
 #include <stdint.h>
 #include <stdio.h>
 #include <stdlib.h>
@@ -212,6 +213,105 @@ static void merged(const char *name, uint32_t first, uint32_t second, uint32_t t
     fclose(list);
 }
 
+/* A span across a corridor, from row to row; its second end may be further to the right. */
+struct span {
+    uint32_t x, right, from, to;
+    double width;
+};
+
+static void span_line(FILE *list, const char *kind, const struct span *span)
+{
+    uint64_t bits;
+    memcpy(&bits, &span->width, sizeof bits);
+    fprintf(list, "%s %u %u %u %u %08x%08x", kind, span->x, span->from, span->x + span->right, span->to, (uint32_t)(bits >> 32),
+            (uint32_t)bits);
+}
+
+/* A map whose spans become one, that of the given place, or all stay, if that is past the last. The middle row is a corridor, and the
+ * rows beside it are open from one column to another. */
+static void spans(const char *name, uint32_t columns, uint32_t rows, uint32_t first, uint32_t last, const struct span *all,
+                  uint32_t count, uint32_t retained)
+{
+    const int merged = retained < count;
+    FILE *list;
+    uint32_t i;
+    start(columns, rows, 0, count, 0, 0);
+    for (i = 0; i < columns * rows; i++) {
+        job[48 + i] = i / columns == rows / 2 || (i % columns >= first && i % columns < last);
+    }
+    for (i = 0; i < count; i++) {
+        uint64_t bits;
+        memcpy(&bits, &all[i].width, sizeof bits);
+        word(all[i].x);
+        word(all[i].from);
+        word(all[i].x + all[i].right);
+        word(all[i].to);
+        word((uint32_t)bits);
+        word((uint32_t)(bits >> 32));
+        word(0);
+        word(0);
+        word(0);
+        word(0);
+    }
+    list = finish(name, 48 + columns * rows + 40 * count);
+    fprintf(list, "kept %u\n", merged ? 1 : count);
+    for (i = merged ? retained : 0; i < (merged ? retained + 1 : count); i++) {
+        span_line(list, "b", &all[i]);
+        fprintf(list, " 0 %u 0 0 0 0\n", merged ? count : 0);
+    }
+    for (i = 0; merged && i < count; i++) {
+        span_line(list, "o", &all[i]);
+        fprintf(list, " 0\n");
+    }
+    fclose(list);
+}
+
+/* A corridor of one row, or of three, with spans of one row's or all rows' height at these columns. */
+static void corridor(const char *name, uint32_t rows, uint32_t count, const uint32_t *columns, const double *widths, uint32_t retained)
+{
+    struct span all[8];
+    uint32_t i;
+    for (i = 0; i < count; i++) {
+        all[i].x = columns[i];
+        all[i].right = 0;
+        all[i].from = 0;
+        all[i].to = 8 * rows;
+        all[i].width = widths[i];
+    }
+    spans(name, columns[count - 1] / 8 + 2, rows, 0, UINT32_MAX, all, count, retained);
+}
+
+/* Just at each of the eight numbers, and just past it. */
+static void thresholds(void)
+{
+    static const double eights[5] = {8, 8, 8, 8, 8}, wide[3] = {8, 16, 8}, too_wide[3] = {8, 16.5, 8};
+    static const double slim[3] = {5.5, 5.5, 5.5}, too_slim[3] = {5.25, 5.25, 5.25};
+    static const uint32_t apart[3] = {8, 144, 280}; /* too far for flat groups */
+    static const uint32_t four[4] = {8, 136, 264, 392}, five[5] = {8, 104, 200, 296, 392};
+    static const uint32_t chain[3] = {8, 200, 392}, too_long[3] = {8, 200, 393}, near[2] = {8, 136}, not_near[2] = {8, 137};
+    static const struct span chamber[2] = {{32, 0, 32, 40, 8}, {64, 0, 32, 40, 8}}, high[2] = {{32, 0, 40, 48, 8}, {64, 0, 40, 48, 8}};
+    static const struct span parallel[2] = {{8, 0, 0, 8, 8}, {16, 2, 0, 8, 8}}, slanted[2] = {{8, 0, 0, 8, 8}, {16, 3, 0, 8, 8}};
+    corridor("smallest-3", 1, 3, apart, eights, 1);
+    corridor("smallest-2", 1, 2, apart, eights, 2);
+    corridor("largest-4", 1, 4, four, eights, 1);
+    corridor("largest-5", 1, 5, five, eights, 5);
+    corridor("chain-384", 1, 3, chain, eights, 1);
+    corridor("chain-385", 1, 3, too_long, eights, 3);
+    corridor("width-8", 1, 3, apart, wide, 1);
+    corridor("width-8.5", 1, 3, apart, too_wide, 0);
+    /* 24 pixels across, against 1.5 x 5.5 + 16 and 1.5 x 5.25 + 16. */
+    corridor("geometry-fits", 3, 3, apart, slim, 1);
+    corridor("geometry-short", 3, 3, apart, too_slim, 3);
+    corridor("duplicate-128", 1, 2, near, eights, 0);
+    corridor("duplicate-129", 1, 2, not_near, eights, 2);
+    /* A chamber between the two, with four and with five rows on either side of the corridor. */
+    spans("envelope-32", 12, 9, 4, 8, chamber, 2, 0);
+    spans("envelope-40", 12, 11, 4, 8, high, 2, 2);
+    /* 8 / sqrt(68) and 8 / sqrt(73), against 0.966. */
+    spans("cosine-0.970", 4, 1, 0, 4, parallel, 2, 0);
+    spans("cosine-0.936", 4, 1, 0, 4, slanted, 2, 2);
+}
+
 int main(int argc, char **argv)
 {
     if (argc != 2) {
@@ -228,5 +328,6 @@ int main(int argc, char **argv)
     /* 24 + 2 x 40 + 2 x 28 bytes, and 8 for each source and each that is written twice: 65,536 of answer, and 65,544. */
     merged("answer-fits", 2040, 2040, 12, NULL);
     merged("answer-short", 2040, 2040, 13, "refused 22 65544\n");
+    thresholds();
     return 0;
 }

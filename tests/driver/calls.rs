@@ -2,10 +2,13 @@
 //! missing, and so does linking.
 
 use crate::checks::{Refusal, BY_LIST, CARDS, MARK, REDUCE};
+#[cfg(without_blocks)]
+use crate::thresholds::OF_000;
 use std::sync::OnceLock;
 
-/// A call on job, list, work and the slice that it writes: the answer, the marks or the cards.
-pub type Whole = fn(&[u8], &[u8], &mut [u8], &mut [u8]) -> Refusal;
+/// A call on job, list, block of thresholds, work and the slice that it writes: the answer, the marks or the cards.
+/// Mark and Area cards take no block.
+pub type Whole = fn(&[u8], &[u8], &[u8], &mut [u8], &mut [u8]) -> Refusal;
 
 pub fn whole(call: u32) -> Whole {
     match call {
@@ -29,7 +32,7 @@ fn told(call: u32, result: Refusal, work: &[u8], out: &[u8]) -> Refusal {
     result
 }
 
-pub use library::{bridges, check, partition, plan, span_ends};
+pub use library::{bridges, check, partition, plan, span_ends, thresholds_of_000};
 
 /// The libraries' own declarations. Of a slice its start is passed, then its length; the slices
 /// are lent for the call and overlap nowhere.
@@ -92,6 +95,7 @@ mod library {
             out: Out,
             out_len: usize,
         ) -> CallResult;
+        fn probe_thresholds(block: Out, block_len: usize) -> u64;
     }
 
     #[link(name = "chokes")]
@@ -104,6 +108,47 @@ mod library {
             marks: Out,
             marks_len: usize,
         ) -> CallResult;
+        fn chokes_area_cards(
+            job: In,
+            job_len: usize,
+            work: Out,
+            work_len: usize,
+            cards: Out,
+            cards_len: usize,
+        ) -> CallResult;
+    }
+
+    // Before version 2 the two took no block of thresholds.
+    #[link(name = "chokes")]
+    #[cfg(not(without_blocks))]
+    extern "C" {
+        fn chokes_reduce(
+            job: In,
+            job_len: usize,
+            thresholds: In,
+            thresholds_len: usize,
+            work: Out,
+            work_len: usize,
+            answer: Out,
+            answer_len: usize,
+        ) -> CallResult;
+        fn chokes_reduce_by_list(
+            job: In,
+            job_len: usize,
+            list: In,
+            list_len: usize,
+            thresholds: In,
+            thresholds_len: usize,
+            work: Out,
+            work_len: usize,
+            answer: Out,
+            answer_len: usize,
+        ) -> CallResult;
+    }
+
+    #[link(name = "chokes")]
+    #[cfg(without_blocks)]
+    extern "C" {
         fn chokes_reduce(
             job: In,
             job_len: usize,
@@ -121,14 +166,6 @@ mod library {
             work_len: usize,
             answer: Out,
             answer_len: usize,
-        ) -> CallResult;
-        fn chokes_area_cards(
-            job: In,
-            job_len: usize,
-            work: Out,
-            work_len: usize,
-            cards: Out,
-            cards_len: usize,
         ) -> CallResult;
     }
 
@@ -172,22 +209,62 @@ mod library {
         call!(probe_plan read job read list number which write work write out).pair()
     }
 
-    pub fn mark(job: &[u8], _: &[u8], work: &mut [u8], marks: &mut [u8]) -> Refusal {
+    /// The result of a call that takes no block, where the numbers of 000 are wanted.
+    #[cfg(without_blocks)]
+    fn taking_none(block: &[u8], said: CallResult) -> CallResult {
+        assert_eq!(block, OF_000, "such a library has these alone");
+        said
+    }
+
+    /// 64, where the block of 000 then begins the slice; 0 where that is shorter.
+    pub fn thresholds_of_000(block: &mut [u8]) -> u64 {
+        call!(probe_thresholds write block)
+    }
+
+    pub fn mark(job: &[u8], _: &[u8], _: &[u8], work: &mut [u8], marks: &mut [u8]) -> Refusal {
         let said = call!(chokes_mark read job write work write marks).pair();
         told(MARK, said, work, marks)
     }
 
-    pub fn reduce(job: &[u8], _: &[u8], work: &mut [u8], answer: &mut [u8]) -> Refusal {
-        let said = call!(chokes_reduce read job write work write answer).pair();
-        told(REDUCE, said, work, answer)
+    pub fn reduce(
+        job: &[u8],
+        _: &[u8],
+        block: &[u8],
+        work: &mut [u8],
+        answer: &mut [u8],
+    ) -> Refusal {
+        #[cfg(not(without_blocks))]
+        let said = call!(chokes_reduce read job read block write work write answer);
+        #[cfg(without_blocks)]
+        let said = taking_none(block, call!(chokes_reduce read job write work write answer));
+        told(REDUCE, said.pair(), work, answer)
     }
 
-    pub fn reduce_by_list(job: &[u8], list: &[u8], work: &mut [u8], answer: &mut [u8]) -> Refusal {
-        let said = call!(chokes_reduce_by_list read job read list write work write answer).pair();
-        told(BY_LIST, said, work, answer)
+    pub fn reduce_by_list(
+        job: &[u8],
+        list: &[u8],
+        block: &[u8],
+        work: &mut [u8],
+        answer: &mut [u8],
+    ) -> Refusal {
+        #[cfg(not(without_blocks))]
+        let said =
+            call!(chokes_reduce_by_list read job read list read block write work write answer);
+        #[cfg(without_blocks)]
+        let said = taking_none(
+            block,
+            call!(chokes_reduce_by_list read job read list write work write answer),
+        );
+        told(BY_LIST, said.pair(), work, answer)
     }
 
-    pub fn area_cards(job: &[u8], _: &[u8], work: &mut [u8], cards: &mut [u8]) -> Refusal {
+    pub fn area_cards(
+        job: &[u8],
+        _: &[u8],
+        _: &[u8],
+        work: &mut [u8],
+        cards: &mut [u8],
+    ) -> Refusal {
         let said = call!(chokes_area_cards read job write work write cards).pair();
         told(CARDS, said, work, cards)
     }
@@ -196,15 +273,15 @@ mod library {
 /// What `probe_partition` writes, as u32 words: the areas and the pairs of all spans; then the
 /// removed and separated steps of each span; then the pairs, each after its span.
 pub fn partition_words(areas: u32, spans: &[Assessment]) -> Vec<u8> {
-    let counts = spans.iter().flat_map(|span| [span.removed, span.separated]);
-    let records: Vec<u32> = spans
-        .iter()
-        .zip(0..)
-        .flat_map(|(span, owner)| span.pairs.iter().flat_map(move |pair| [owner, pair[0], pair[1]]))
-        .collect();
-    let numbers = [areas, records.len() as u32 / 3];
-    let words = numbers.into_iter().chain(counts).chain(records);
-    words.flat_map(|word| word.to_le_bytes()).collect()
+    let mut words = vec![areas, spans.iter().map(|span| span.pairs.len() as u32).sum()];
+    spans.iter().for_each(|span| words.extend([span.removed, span.separated]));
+    for (span, owner) in spans.iter().zip(0..) {
+        span.pairs.iter().for_each(|pair| words.extend([owner, pair[0], pair[1]]));
+    }
+    // Word by word: one chain of iterators compiles to a branch on bytes that were never written, which valgrind reports.
+    let mut bytes = Vec::with_capacity(4 * words.len());
+    words.iter().for_each(|word| bytes.extend(word.to_le_bytes()));
+    bytes
 }
 
 #[derive(Clone, Debug, PartialEq)]

@@ -56,7 +56,7 @@ pub fn compare(
     rng: &mut Rng,
     tally: &mut Tally,
 ) -> Result<(), String> {
-    let expected = Expected::of(CARDS, &input.job, &input.list);
+    let expected = Expected::of(CARDS, &input.job, &input.list, &input.thresholds);
     let (work, cards) = (expected.work(), expected.written.len());
     let mut lengths = vec![[work, 0], [work, cards], [work + rng.below(9), cards + 1]];
     for less in [1, 4, CARD - 1, CARD, CARD + 1] {

@@ -1,5 +1,5 @@
-//! Document 01's refusals 1 to 12 and 14 to 17, and the ends of span i, stated from the paper.
-//! Whole numbers are u128 here, so that no sum or product wraps.
+//! Document 01's refusals 1 to 12 and 14 to 17, and 32 of a block of thresholds, and the ends of span i, stated
+//! from the paper. Whole numbers are u128 here, so that no sum or product wraps.
 
 pub const REDUCE: u32 = 0;
 pub const BY_LIST: u32 = 1;
@@ -21,6 +21,14 @@ pub const NONE: Refusal = (0, 0);
 
 const NO_ANCHOR: u128 = 4_294_967_295;
 const LARGEST_WIDTH_BITS: u128 = 0x40D0_0000_0000_0000;
+/// A block of thresholds: its length, its count of numbers and where they begin, the sizes that a group may have, and
+/// the bits of the largest length and of the largest cosine.
+const BLOCK: usize = 64;
+const BLOCK_COUNT: u128 = 8;
+const BLOCK_OFFSET: u128 = 8;
+const GROUP_SIZES: [u128; 2] = [2, 16];
+const LARGEST_LENGTH_BITS: u128 = 0x40D0_0000_0000_0000;
+const LARGEST_COSINE_BITS: u128 = 0x3FF0_0000_0000_0000;
 
 /// A little-endian number of `size` bytes, where the slice has them all.
 fn number(bytes: &[u8], at: usize, size: usize) -> Option<u128> {
@@ -94,7 +102,35 @@ impl Faults {
     }
 }
 
-/// Every fault of an input, in order: the first is the refusal. Faults after the first are
+/// True where the call takes a block of thresholds.
+pub fn takes_block(call: u32) -> bool {
+    call == REDUCE || call == BY_LIST
+}
+
+/// True if a block of thresholds is to be refused.
+pub fn bad_block(block: &[u8]) -> bool {
+    if block.len() != BLOCK {
+        return true;
+    }
+    let word = |at: usize| field(block, at, 4);
+    let [smallest, largest] = [word(8), word(12)];
+    let sizes = GROUP_SIZES[0] <= smallest && smallest <= largest && largest <= GROUP_SIZES[1];
+    let bits = |at: usize| field(block, at, 8);
+    let lengths = [16, 24, 32, 40, 48].iter().all(|&at| bits(at) <= LARGEST_LENGTH_BITS);
+    let header = word(0) == BLOCK_COUNT && word(4) == BLOCK_OFFSET;
+    !(header && sizes && lengths && bits(56) <= LARGEST_COSINE_BITS)
+}
+
+/// Every fault of an input with its block, in order: 32 comes before all others.
+pub fn all_faults(call: u32, job: &[u8], list: &[u8], block: &[u8]) -> Vec<Refusal> {
+    let mut all = faults(call, job, list);
+    if takes_block(call) && bad_block(block) {
+        all.insert(0, (32, 0));
+    }
+    all
+}
+
+/// Every fault of a job and list, in order: the first is the refusal. Faults after the first are
 /// those that can be read where the counts place the records.
 pub fn faults(call: u32, job: &[u8], list: &[u8]) -> Vec<Refusal> {
     let mut faults = Faults::default();

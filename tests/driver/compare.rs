@@ -22,6 +22,7 @@ pub fn compare(
     let (job, list, out) = lent.inputs(&input.job, &input.list);
     let mut expected = [NONE; 4];
     for call in CALLS {
+        // The probe's checks are those without the block.
         let faults = checks::faults(call, &input.job, &input.list);
         let first = faults.first().copied().unwrap_or(NONE);
         let got = checked(call, job, list);
@@ -29,7 +30,8 @@ pub fn compare(
             return Err(format!("call {call}: expected {first:?}, got {got:?}, of {faults:?}"));
         }
         expected[call as usize] = first;
-        tally.note(call as usize, &faults);
+        let all = checks::all_faults(call, &input.job, &input.list, &input.thresholds);
+        tally.note(call as usize, &all);
     }
     tally.see(CHECKS);
     parts(input, [job, list], expected, out, rng, tally)?;
@@ -46,7 +48,7 @@ pub fn checked(call: u32, job: &[u8], list: &[u8]) -> Refusal {
     if call != CARDS {
         return calls::check(call, job, list);
     }
-    let said = calls::whole(CARDS)(job, list, &mut [], &mut []);
+    let said = calls::whole(CARDS)(job, list, &[], &mut [], &mut []);
     if said == (21, 0) {
         NONE
     } else {

@@ -12,6 +12,13 @@ pub fn print() {
     }
 }
 
+/// Of these, what is about a limit that is just met or missed by a unit, and the ends of a chain.
+pub fn missing_at_limits() -> Vec<String> {
+    let at =
+        |name: &String| ["just", "one unit", "ends over"].iter().any(|part| name.contains(part));
+    missing().into_iter().filter(at).collect()
+}
+
 /// What never went one of its ways, and what did so though the list says that it can't.
 pub fn missing() -> Vec<String> {
     let mut missing = Vec::new();

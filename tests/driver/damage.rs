@@ -289,3 +289,55 @@ fn coincident(draft: &Draft, rng: &mut Rng) -> [u32; 4] {
     let [x, y] = draft.point(rng);
     [x, y, x, y]
 }
+
+/// A good block damaged in each way in turn: its length, each word of its header, each size, each f64.
+pub fn blocks(good: &[u8]) -> Vec<Vec<u8>> {
+    let word = |at: usize| u32::from_le_bytes(good[at..at + 4].try_into().expect("four bytes"));
+    let (smallest, largest) = (word(8), word(12));
+    let lengths = [0, 1, 4, 8, 16, 32, 56, 60, 63, 65, 68, 72, 80, 128].into_iter().map(|length| {
+        let mut block = good.to_vec();
+        block.resize(length, 8);
+        block
+    });
+    let header = [0, 7, 9, 16, 64, 8 << 8, 8 << 24, 8 | 1 << 31, u32::MAX];
+    let small = [0, 1, largest + 1, 17, smallest | 1 << 31, smallest + 256, u32::MAX];
+    let large = [17, 18, 0, smallest - 1, 16 + (1 << 16), largest | 1 << 31, u32::MAX];
+    let words = header.iter().flat_map(|&value| [(0, value), (4, value)]);
+    let words = words.chain(small.map(|value| (8, value))).chain(large.map(|value| (12, value)));
+    let words = words.map(|(at, value)| with(good, at, &value.to_le_bytes()));
+    let measures = (2..8).flat_map(|i| {
+        let most = if i < 7 { LARGEST_WIDTH } else { LARGEST_COSINE };
+        let bits = bad_measures(most).into_iter();
+        bits.map(move |bits| with(good, 8 * i, &bits.to_le_bytes())).collect::<Vec<_>>()
+    });
+    lengths.chain(words).chain(measures).collect()
+}
+
+/// The bits of 1.0.
+const LARGEST_COSINE: u64 = 0x3FF0_0000_0000_0000;
+
+/// Bits of f64 that are not from +0 to a limit.
+fn bad_measures(most: u64) -> [u64; 13] {
+    [
+        most + 1,
+        most + (1 << 32),
+        most + (1 << 52),
+        (-0.0_f64).to_bits(),
+        1 << 63 | 1,
+        (-1.0_f64).to_bits(),
+        1 << 63 | most,
+        f64::INFINITY.to_bits(),
+        f64::NEG_INFINITY.to_bits(),
+        0x7FF8_0000_0000_0000,
+        0x7FF0_0000_0000_0001,
+        0xFFF8_0000_0000_0000,
+        u64::MAX,
+    ]
+}
+
+/// The block with other bytes at a place.
+fn with(block: &[u8], at: usize, bytes: &[u8]) -> Vec<u8> {
+    let mut block = block.to_vec();
+    block[at..at + bytes.len()].copy_from_slice(bytes);
+    block
+}

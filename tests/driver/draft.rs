@@ -4,6 +4,7 @@
 use crate::checks::HEADER;
 use crate::rng::Rng;
 pub use crate::rust::NO_ANCHOR;
+use crate::thresholds;
 
 /// The bits of 16,384.0, the largest width.
 pub const LARGEST_WIDTH: u64 = 0x40D0_0000_0000_0000;
@@ -40,7 +41,7 @@ pub enum Length {
     By(isize),
 }
 
-#[derive(Clone, Default)]
+#[derive(Clone)]
 pub struct Draft {
     pub width: u32,
     pub height: u32,
@@ -57,13 +58,43 @@ pub struct Draft {
     pub list: Vec<[u32; 4]>,
     /// Bytes after the last whole span.
     pub list_tail: Vec<u8>,
+    /// The block, that of 000 where nothing else is said.
+    pub thresholds: Vec<u8>,
+}
+
+impl Default for Draft {
+    fn default() -> Self {
+        Self {
+            width: 0,
+            height: 0,
+            cells: vec![],
+            bases: vec![],
+            boundaries: vec![],
+            observations: vec![],
+            sources: vec![],
+            patches: vec![],
+            gap: None,
+            length: None,
+            list: vec![],
+            list_tail: vec![],
+            thresholds: thresholds::OF_000.to_vec(),
+        }
+    }
 }
 
 /// The bytes that a call is lent.
-#[derive(Clone, Default, PartialEq)]
+#[derive(Clone, PartialEq)]
 pub struct Input {
     pub job: Vec<u8>,
     pub list: Vec<u8>,
+    pub thresholds: Vec<u8>,
+}
+
+impl Default for Input {
+    /// No job and no list, and the block of 000.
+    fn default() -> Self {
+        Self { job: vec![], list: vec![], thresholds: thresholds::OF_000.to_vec() }
+    }
 }
 
 fn put<const N: usize>(bytes: &mut Vec<u8>, words: [u32; N]) {
@@ -75,7 +106,7 @@ impl Draft {
         let mut list = Vec::new();
         self.list.iter().for_each(|&span| put(&mut list, span));
         list.extend(&self.list_tail);
-        Input { job: self.job(), list }
+        Input { job: self.job(), list, thresholds: self.thresholds.clone() }
     }
 
     fn job(&self) -> Vec<u8> {

@@ -9,6 +9,7 @@ use crate::expect::Expected;
 use crate::memory::Guarded;
 use crate::rng::Rng;
 use crate::run::{hex, Run};
+use crate::thresholds::OF_000;
 
 /// All families. `rounds` is how often each pair of kinds of damage is drawn.
 pub fn all(run: &mut Run, rounds: usize) {
@@ -97,10 +98,10 @@ fn single_bytes(run: &mut Run) {
         (0..bytes.len()).flat_map(at).collect()
     };
     for job in vary(&whole.job) {
-        run.input(&Input { job, list: whole.list.clone() }, &mut rng);
+        run.input(&Input { job, ..whole.clone() }, &mut rng);
     }
     for list in vary(&whole.list) {
-        run.input(&Input { job: whole.job.clone(), list }, &mut rng);
+        run.input(&Input { list, ..whole.clone() }, &mut rng);
     }
 }
 
@@ -218,8 +219,8 @@ fn pairs(run: &mut Run, rounds: usize) {
 }
 
 /// Lengths that pass 32 bits: a job that is right in its low 32 bits only, lists of over 2^32 spans,
-/// and a slice for cards that is too short in its low 32 bits only. The pages are zeros that nothing
-/// has to hold.
+/// a slice for cards that is too short in its low 32 bits only, and a block that is right in them only. The pages are
+/// zeros that nothing has to hold.
 fn huge(run: &mut Run) {
     let mut rng = run.next_case();
     let input = small(&mut rng).input();
@@ -252,12 +253,30 @@ fn huge(run: &mut Run) {
     expect(BY_LIST, &input.job, &list[8..], (15, spans as u64));
     expect(BY_LIST, &input.job, &list[8 + 3 * SPAN..], (15, 1 << 32));
 
-    let expected = Expected::of(CARDS, &input.job, &[]);
+    let expected = Expected::of(CARDS, &input.job, &[], &[]);
     let (mut work, cards) = (vec![0; expected.work()], &mut list[..more + 1]);
-    let said = calls::whole(CARDS)(&input.job, &[], &mut work, cards);
+    let said = calls::whole(CARDS)(&input.job, &[], &[], &mut work, cards);
     let length = expected.written.len();
     if said != (0, length as u64) || cards[..length] != expected.written {
         let difference = format!("Area cards, a slice of 2^32 + 1 bytes: got {said:?}");
         run.report(&difference, &hex("as it was", &input));
+    }
+
+    if !run.heeds() {
+        // Such a run has the block of 000 alone.
+        return;
+    }
+    list[..OF_000.len()].copy_from_slice(&OF_000);
+    let expected = Expected::of(REDUCE, &input.job, &[], &OF_000);
+    for (call, length) in
+        [REDUCE, BY_LIST].into_iter().flat_map(|c| [0, 63, 64, 65].map(|l| (c, l)))
+    {
+        let (mut work, mut out) = (vec![7; expected.work()], vec![7; expected.written.len()]);
+        let block = &list[..more + length];
+        let said = calls::whole(call)(&input.job, &input.list, block, &mut work, &mut out);
+        if said != (32, 0) || work.iter().chain(&out).any(|&byte| byte != 7) {
+            let difference = format!("a block of 2^32 + {length} bytes: got {said:?}");
+            run.report(&difference, &hex("as it was", &input));
+        }
     }
 }

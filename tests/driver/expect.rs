@@ -1,8 +1,11 @@
 //! What each call must leave: the paper's checks first, then what the Rust finds.
 
 use crate::checks::{self, Refusal, BY_LIST, CARDS, MARK, NONE, SPAN};
-use crate::rust::{self, Job};
-use oracle::api::SpanPartition;
+use crate::rust::{self, Group, Job};
+use crate::thresholds;
+use oracle::api::{SpanPartition, TopologyBoundary};
+use oracle::free::with_thresholds;
+use oracle::thresholds::Thresholds;
 
 /// The most region pairs that a run may have.
 pub const MOST_PAIRS: usize = 4096;
@@ -39,21 +42,36 @@ pub struct Left {
     pub out: Vec<u8>,
 }
 
-/// A job that a call accepts, with the Rust's partition by the spans that the call takes.
+/// A job that a call accepts, with the Rust's partition by the spans that the call takes, and the numbers that it
+/// merges with: those of the block, or of 000 where the call takes none.
 pub struct Accepted {
     pub job: Job,
     pub partition: SpanPartition,
+    pub numbers: Thresholds,
 }
 
-/// The job as the call takes it, where its checks accept it.
-pub fn accepted(call: u32, job: &[u8], list: &[u8]) -> Result<Accepted, Refusal> {
-    if let Some(&refusal) = checks::faults(call, job, list).first() {
+impl Accepted {
+    /// The boundaries that the Rust keeps with these numbers.
+    pub fn kept(&self) -> Vec<TopologyBoundary> {
+        with_thresholds(self.numbers, || self.job.kept(&self.partition))
+    }
+
+    /// The groups that the Rust merges with these numbers.
+    pub fn groups(&self) -> Vec<Group> {
+        with_thresholds(self.numbers, || self.job.groups(&self.partition))
+    }
+}
+
+/// The job as the call takes it, where its checks accept it and the block.
+pub fn accepted(call: u32, job: &[u8], list: &[u8], block: &[u8]) -> Result<Accepted, Refusal> {
+    if let Some(&refusal) = checks::all_faults(call, job, list, block).first() {
         return Err(refusal);
     }
+    let block = if checks::takes_block(call) { block } else { &thresholds::OF_000 };
     let job = rust::job(job);
     let spans = if call == BY_LIST { rust::spans(list, SPAN) } else { job.own_spans() };
     let partition = job.partition(&spans);
-    Ok(Accepted { job, partition })
+    Ok(Accepted { job, partition, numbers: thresholds::numbers(block) })
 }
 
 /// Region pairs over all spans.
@@ -62,24 +80,25 @@ pub fn pairs(partition: &SpanPartition) -> usize {
 }
 
 impl Expected {
-    pub fn of(call: u32, job: &[u8], list: &[u8]) -> Self {
-        let Accepted { job, partition } = match accepted(call, job, list) {
+    pub fn of(call: u32, job: &[u8], list: &[u8], block: &[u8]) -> Self {
+        let accepted = match accepted(call, job, list, block) {
             Ok(accepted) => accepted,
             Err(refusal) => {
                 let (labels, written) = (vec![], vec![]);
                 return Self { call, refusal, cells: 0, labels, pairs: 0, written };
             }
         };
-        let pairs = pairs(&partition);
+        let Accepted { job, partition, .. } = &accepted;
+        let pairs = pairs(partition);
         let written = if pairs > MOST_PAIRS {
             vec![]
         } else if call == MARK {
-            let bridges = job.bridges(&partition);
+            let bridges = job.bridges(partition);
             (0..job.boundaries.len()).map(|i| u8::from(bridges.contains(&i))).collect()
         } else if call == CARDS {
-            job.cards(&partition)
+            job.cards(partition)
         } else {
-            rust::answer(&job.kept(&partition))
+            rust::answer(&accepted.kept())
         };
         let labels = partition.labels().to_vec();
         Self { call, refusal: NONE, cells: labels.len(), labels, pairs, written }

@@ -9,7 +9,9 @@ use crate::orders::{numbers, Order, ORDERS};
 use crate::rng::Rng;
 use crate::run::Run;
 use crate::tally::Tally;
-use crate::{cards, corridors, merging, own, partition, records, regions, slanted, sorting, whole};
+use crate::{
+    blocks, cards, corridors, merging, own, partition, records, regions, slanted, sorting, whole,
+};
 
 /// How many cases of a family are run in a round, and what one is.
 struct Family {
@@ -17,10 +19,19 @@ struct Family {
     case: fn(&mut Run, &mut Rng),
 }
 
-pub const NAMES: [&str; 8] =
-    ["damaged", "maps", "records", "corridors", "slanted", "cards", "own-orders", "one-head"];
+pub const NAMES: [&str; 9] = [
+    "damaged",
+    "maps",
+    "records",
+    "corridors",
+    "slanted",
+    "cards",
+    "own-orders",
+    "one-head",
+    "thresholds",
+];
 
-const FAMILIES: [Family; 8] = [
+const FAMILIES: [Family; 9] = [
     // Damaged inputs.
     Family { share: 80, case: |run, rng| run.draft(&damaged(rng), rng, compare) },
     // Maps and spans of many shapes.
@@ -37,6 +48,8 @@ const FAMILIES: [Family; 8] = [
     Family { share: 8, case: |run, rng| run.draft(&own::random(rng), rng, sorting::compare) },
     // Own sources of one head of the library's table.
     Family { share: 4, case: |run, rng| run.draft(&own::one_head(rng), rng, sorting::compare) },
+    // Other thresholds than those of 000.
+    Family { share: 16, case: |run, rng| run.draft(&blocks::random(rng), rng, blocks::compare) },
 ];
 
 /// Runs a case by its number, where it is of these families.
@@ -204,6 +217,10 @@ fn damaged(rng: &mut Rng) -> Draft {
     let kinds = &REFUSALS[rng.below(REFUSALS.len())..];
     for _ in 0..rng.pick(&[0, 1, 1, 1, 2, 2, 2, 3]) {
         damage::damage(rng.pick(kinds), &mut draft, rng);
+    }
+    if rng.one_in(16) {
+        let blocks = damage::blocks(&draft.thresholds);
+        draft.thresholds.clone_from(&blocks[rng.below(blocks.len())]);
     }
     draft
 }

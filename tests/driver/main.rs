@@ -6,13 +6,15 @@
 //!     driver heap CASES SEED
 //!     driver family NAME CASES SEED
 //!     driver case SEED NUMBER
+//!     driver blocks SEED
 //!     driver lengths [CASES SEED]
 //!     driver bytes CALLS SEED [BYTE]
 //!     driver record FILE SEED
 //!
 //! `random` is the random cases alone; `family` those of one family: damaged, maps, records,
-//! corridors, slanted, cards, own-orders or one-head. `heap` is random cases with every slice an allocation of its own and of
+//! corridors, slanted, cards, own-orders, one-head or thresholds. `heap` is random cases with every slice an allocation of its own and of
 //! just its length, for valgrind.
+//! `blocks` is what is run whole of blocks of thresholds (blocks.rs);
 //! `lengths` is the lengths and totals alone, with so many random ones (lengths.rs); `bytes` writes what so many calls
 //! leave to standard output, compared with nothing, and with BYTE says which call left that byte (bytes.rs).
 //! `record` writes the list that crates/replay reads (record.rs).
@@ -20,6 +22,7 @@
 //! that nothing differed and that everything that should occur did: in `quick` and `long` all that
 //! tally.rs and coverage.rs ask for, in the others some comparison of each kind that they have.
 
+mod blocks;
 mod bytes;
 mod calls;
 mod cards;
@@ -48,6 +51,7 @@ mod record;
 mod records;
 mod regions;
 mod rng;
+mod rows;
 mod run;
 mod rust;
 mod shrink;
@@ -56,9 +60,11 @@ mod smoke;
 mod sorting;
 mod splits;
 mod tally;
+mod thresholds;
 mod values;
 mod whole;
 
+use blocks::{OWN, WRITTEN};
 use lengths::{LENGTHS, TOTALS};
 use regions::{ENVELOPES, LINKS, REGIONS};
 use run::Run;
@@ -67,12 +73,14 @@ use std::time::{Duration, Instant};
 use tally::{CHECKS, KINDS, PARTITIONS, PLANS, RECORDS, RELISTINGS, STATED, WHOLE};
 
 const QUICK_SEED: u64 = 1;
-const QUICK_CASES: u64 = 100_000;
+const QUICK_CASES: u64 = 80_000;
 const LONG_SEED: u64 = 2;
 /// So many slanted corridors meet each limit on each side.
 const ENOUGH_SLANTED: u64 = 2000;
 /// So many jobs about own sources reach all that is counted of them.
 const ENOUGH_OWN: u64 = 20_000;
+/// So many jobs with blocks of their own meet each limit, and have groups of every size.
+const ENOUGH_BLOCKS: u64 = 20_000;
 const LONG: Limit = Limit::Time(Duration::from_secs(600));
 
 enum Limit {
@@ -103,6 +111,7 @@ fn main() {
             families::sizes(&mut run);
             families::sorts(&mut run);
             families::own_sources(&mut run);
+            blocks::all(&mut run);
             lengths::compare(&mut run, lengths::CASES);
             let done = format!("seed {seed}: {done} random cases, nothing differs");
             end(run.tally.none_of(&KINDS), &done)
@@ -113,6 +122,7 @@ fn main() {
                 done = families::round(&mut run, done);
             }
             let mut rng = run.start(0);
+            blocks::of_000(&mut run);
             lengths::random(&mut run, parse(cases), &mut rng);
             run.tally.print_whole();
             let done = format!("seed {seed}: {done} random cases on the heap, nothing differs");
@@ -137,6 +147,11 @@ fn main() {
             if matches!(name, "own-orders" | "one-head") && parse(cases) >= ENOUGH_OWN {
                 missing.extend(sorting::missing(&run.tally, name == "one-head"));
             }
+            if name == "thresholds" && parse(cases) >= ENOUGH_BLOCKS {
+                coverage::print();
+                missing.extend(blocks::missing(&run.tally, false));
+                missing.extend(coverage::missing_at_limits());
+            }
             end(missing, &done)
         }
         ["case", seed, number] => {
@@ -155,6 +170,14 @@ fn main() {
             };
             end(run.tally.none_of(of_each), &format!("seed {seed} case {number}: nothing differs"))
         }
+        ["blocks", seed] => {
+            let (start, mut run) = (Instant::now(), Run::new(parse(seed)));
+            blocks::all(&mut run);
+            run.tally.print_whole();
+            let time = start.elapsed().as_secs_f64();
+            let done = format!("seed {seed}: blocks, nothing differs; {time:.1} s");
+            end(run.tally.none_of(&[OWN, CHECKS, WHOLE[0], WHOLE[1], WHOLE[2], WHOLE[3]]), &done)
+        }
         ["lengths"] => lengths(lengths::CASES, lengths::SEED),
         ["lengths", cases, seed] => lengths(parse(cases), parse(seed)),
         ["bytes", calls, seed] => bytes::write(parse(calls), parse(seed), None),
@@ -172,6 +195,7 @@ fn kinds(family: &str) -> &'static [&'static str] {
         "records" => &[RECORDS],
         "cards" => &[WHOLE[3], STATED],
         "own-orders" | "one-head" => &WHOLE,
+        "thresholds" => &[WRITTEN, RELISTINGS, WHOLE[0], WHOLE[1], WHOLE[2], WHOLE[3]],
         _ => {
             &[PLANS, RELISTINGS, REGIONS, LINKS, ENVELOPES, WHOLE[0], WHOLE[1], WHOLE[2], WHOLE[3]]
         }
@@ -207,8 +231,8 @@ fn end(missing: Vec<String>, done: &str) -> ! {
 fn usage() -> ! {
     eprintln!("usage: driver quick | long [CASES | SECONDSs | CALLScalls] [SEED]");
     eprintln!("       driver random CASES SEED | heap CASES SEED | family NAME CASES SEED");
-    eprintln!("       driver case SEED NUMBER | lengths [CASES SEED] | record FILE SEED");
-    eprintln!("       driver bytes CALLS SEED [BYTE]");
+    eprintln!("       driver case SEED NUMBER | blocks SEED | lengths [CASES SEED]");
+    eprintln!("       driver record FILE SEED | bytes CALLS SEED [BYTE]");
     exit(2)
 }
 
@@ -238,6 +262,7 @@ fn whole(seed: u64, limit: Limit, rounds: usize) {
     families::sizes(&mut run);
     families::sorts(&mut run);
     families::own_sources(&mut run);
+    blocks::all(&mut run);
     lengths::compare(&mut run, lengths::CASES);
     let mut done = 0;
     while match limit {

@@ -10,8 +10,10 @@ use crate::regions;
 use crate::rng::Rng;
 use crate::rust::Group;
 use crate::tally::{Tally, NAMES, PLANS, RELISTINGS, WHOLE};
+use crate::thresholds;
 use crate::values::{self, sorted_ends, Boundary, Values};
 use crate::whole;
+use oracle::thresholds::Thresholds;
 
 pub fn compare(
     input: &Input,
@@ -20,14 +22,18 @@ pub fn compare(
     tally: &mut Tally,
 ) -> Result<(), String> {
     for call in [REDUCE, BY_LIST] {
-        let Ok(accepted) = expect::accepted(call, &input.job, &input.list) else { continue };
+        let read = expect::accepted(call, &input.job, &input.list, &input.thresholds);
+        let Ok(accepted) = read else { continue };
         if expect::pairs(&accepted.partition) > MOST_PAIRS {
             continue;
         }
         // These runs are not the call's.
-        let groups = oracle::count::uncounted(|| accepted.job.groups(&accepted.partition));
+        let groups = oracle::count::uncounted(|| accepted.groups());
         note(call, &accepted, &groups, tally);
-        plan(call, input, &accepted, &groups, lent, rng, tally)?;
+        // The probe's plan is with the numbers of 000.
+        if input.thresholds == thresholds::OF_000 {
+            plan(call, input, &accepted, &groups, lent, rng, tally)?;
+        }
         relistings(call, input, &groups, lent, rng, tally)?;
     }
     whole::compare(input, lent, rng, tally)?;
@@ -52,7 +58,7 @@ fn plan(
     let which = if call == REDUCE { 0 } else { rng.pick(&[1, 2, u32::MAX]) };
     let labels = accepted.partition.labels();
     let mut work = vec![rng.byte(); expect::WORK * labels.len()];
-    let lent = lent.lend(&input.job, &input.list, &work, &vec![0xA5; bytes.len()]);
+    let lent = lent.lend(input, &work, &vec![0xA5; bytes.len()]);
     let said = calls::plan(lent.job, lent.list, which, lent.work, lent.out);
     tally.see(PLANS);
     if said.0 != 0 {
@@ -63,7 +69,7 @@ fn plan(
         return Err(format!("plan of {}: expected {goes:?}, got {words:?}", NAMES[call as usize]));
     }
     expect::fill_work(labels, &mut work);
-    lent.check("plan", &input.job, &input.list, &work, Some(&bytes))
+    lent.check("plan", input, &work, Some(&bytes))
 }
 
 /// The run listed another way gives the same answer, and so do the merges one at a time.
@@ -79,10 +85,10 @@ fn relistings(
     if !values.distinct_ends() {
         return Ok(());
     }
-    let answer = Expected::of(call, &input.job, &input.list).written;
+    let answer = Expected::of(call, &input.job, &input.list, &input.thresholds).written;
     let relisted = values.relisted(rng);
     let again = relisted.draft().input();
-    let other = Expected::of(call, &again.job, &again.list).written;
+    let other = Expected::of(call, &again.job, &again.list, &again.thresholds).written;
     if other != answer {
         return Err("the Rust's answer depends on the listing".to_string());
     }
@@ -108,8 +114,8 @@ fn same(
     let cells = u32::from_le_bytes(input.job[24..28].try_into().expect("four bytes"));
     let bases = u32::from_le_bytes(input.job[28..32].try_into().expect("four bytes"));
     let work = vec![0x77; expect::WORK * (bases - cells) as usize];
-    let lent = lent.lend(&input.job, &input.list, &work, &vec![0x99; answer.len()]);
-    let said = calls::whole(call)(lent.job, lent.list, lent.work, lent.out);
+    let lent = lent.lend(input, &work, &vec![0x99; answer.len()]);
+    let said = calls::whole(call)(lent.job, lent.list, lent.thresholds, lent.work, lent.out);
     tally.see(WHOLE[call as usize]);
     if whole::most(call, &input.job).is_some_and(|most| answer.len() > most) {
         return Err(format!("an answer of {} bytes", answer.len()));
@@ -154,14 +160,15 @@ fn merges(
 /// Counts the groups by kind and size, and what else the run had.
 pub fn note(call: u32, accepted: &Accepted, groups: &[Group], tally: &mut Tally) {
     tally.see("runs that may merge");
+    let of_000 = accepted.numbers == Thresholds::DECLARED;
     for group in groups {
         let kind = if group.serial { "serial" } else { "flat" };
         tally.see(&format!("{kind} groups of {}, {}", group.members.len(), NAMES[call as usize]));
         let [centres, ends] = extent(accepted, group);
-        if group.serial && centres == 384.0 {
+        if group.serial && of_000 && centres == 384.0 {
             tally.see("serial groups at 384.0");
         }
-        if !group.serial && ends == 128.0 {
+        if !group.serial && of_000 && ends == 128.0 {
             tally.see("flat groups at 128.0");
         }
         if group.members.iter().any(|&i| accepted.job.boundaries[i].observations.is_empty()) {

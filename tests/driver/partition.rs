@@ -9,6 +9,7 @@ use crate::expect::{self, Accepted, MOST_PAIRS, WORK};
 use crate::lent::Lent;
 use crate::rng::Rng;
 use crate::tally::{Tally, PARTITIONS};
+use crate::thresholds;
 use oracle::api::SpanPartition;
 
 /// Steps times spans, up to which the definitions are computed too.
@@ -31,9 +32,8 @@ pub fn compare(
     rng: &mut Rng,
     tally: &mut Tally,
 ) -> Result<(), String> {
-    let Ok(Accepted { job, partition }) = expect::accepted(REDUCE, &input.job, &[]) else {
-        return Ok(());
-    };
+    let read = expect::accepted(REDUCE, &input.job, &[], &thresholds::OF_000);
+    let Ok(Accepted { job, partition, .. }) = read else { return Ok(()) };
     let spans = assessments(&partition);
     let (labels, areas) = (partition.labels(), partition.areas().len() as u32);
     if labels.len() * spans.len() <= SMALL {
@@ -54,7 +54,7 @@ pub fn compare(
     let pairs = expect::pairs(&partition);
     let room = if pairs > MOST_PAIRS { MOST_ROOM } else { expected.len() + more };
     let mut out = vec![before; room];
-    let lent = lent.lend(&input.job, &[], &work, &out);
+    let lent = lent.lend(input, &work, &out);
     let said = calls::partition(lent.job, lent.work, lent.out);
     expect::fill_work(labels, &mut work);
     let result = if pairs > MOST_PAIRS {
@@ -68,7 +68,7 @@ pub fn compare(
     if said != result {
         return Err(format!("partition: expected {result:?}, got {said:?}"));
     }
-    lent.check("partition", &input.job, &[], &work, (pairs <= MOST_PAIRS).then_some(&out[..]))
+    lent.check("partition", input, &work, (pairs <= MOST_PAIRS).then_some(&out[..]))
 }
 
 /// Counts what the partition had in it.

@@ -2,24 +2,26 @@
 //! oracle and the checks of the paper alone; and what replay prints of it.
 //!
 //! The list is records one after another, numbers little-endian, each after its length (u32). A
-//! record's first byte is its kind. Kind 4 is an input: the lengths of job and list (u32 each), job,
-//! list. Kinds 0 to 3 are a call on the input before it (Reduce, Reduce by list, Mark, Area cards): the
+//! record's first byte is its kind. Kind 4 is an input: the lengths of job, list and block of thresholds
+//! (u32 each), job, list, block. Kinds 0 to 3 are a call on the input before it (Reduce, Reduce by list, Mark, Area cards): the
 //! lengths of work and of answer, marks or cards (u32 each), the byte that both are filled with before
 //! the call, the number (u32) and detail (u64), then work and answer, marks or cards as the call must
 //! leave them.
 //! Bytes are written as pieces: how many bytes a piece makes (u16), how many it repeats for that
 //! (u8), and those.
 
+mod blocks;
+
 use crate::cards;
 use crate::checks::{BY_LIST, CALLS, CARDS, NONE, REDUCE};
 use crate::corridors;
 use crate::damage::{self, REFUSALS};
 use crate::draft::{self, Boundary, Draft, Input};
-use crate::expect::{self, too_short, Expected, CARD, MOST_PAIRS};
+use crate::expect::{self, too_short, Accepted, Expected, CARD, MOST_PAIRS};
 use crate::maps;
 use crate::merging;
 use crate::rng::Rng;
-use crate::tally::{makes, Tally};
+use crate::tally::{makes, Tally, BAD_BLOCK};
 use crate::values::Values;
 use std::collections::BTreeMap;
 use std::fs;
@@ -65,6 +67,11 @@ const WANTED: [(&str, u64); 30] = [
     ("cards at the map's far corner", 20),
 ];
 
+/// That, and what the blocks are for.
+fn wanted() -> impl Iterator<Item = (String, u64)> {
+    WANTED.map(|(what, least)| (what.to_string(), least)).into_iter().chain(blocks::wanted())
+}
+
 #[derive(Default)]
 struct List {
     bytes: Vec<u8>,
@@ -84,12 +91,13 @@ pub fn record(file: &str, seed: u64) {
     on_maps(&mut list, seed);
     on_corridors(&mut list, seed);
     on_cards(&mut list, seed);
-    thresholds(&mut list);
+    limits(&mut list);
     many_pairs(&mut list, seed);
+    blocks::all(&mut list, seed);
     list.print();
     eprintln!("seed {seed}: {} inputs, {} bytes", list.inputs, list.bytes.len());
-    for (what, _) in WANTED {
-        eprintln!("{:>8} {what}", list.tally.count(what));
+    for (what, _) in wanted() {
+        eprintln!("{:>8} {what}", list.tally.count(&what));
     }
     let missing = list.missing();
     missing.iter().for_each(|what| eprintln!("missing: {what}"));
@@ -124,7 +132,7 @@ fn damaged(list: &mut List, seed: u64) {
         });
         list.input(&input);
         for call in CALLS {
-            let expected = Expected::of(call, &input.job, &input.list);
+            let expected = expected(call, &input);
             let least = if expected.refusal == NONE { expected.work() } else { 0 };
             let lengths = [least + rng.below(40), rng.below(40) + expected.written.len()];
             list.call(call, &expected, lengths, rng.byte());
@@ -148,7 +156,7 @@ fn on_cards(list: &mut List, seed: u64) {
     for i in 0..60 {
         let mut rng = Rng::of_case(seed, 6 << 32 | i);
         let input = small(&mut rng, 400, cards::random);
-        let expected = Expected::of(CARDS, &input.job, &input.list);
+        let expected = expected(CARDS, &input);
         let (work, cards) = (expected.work(), expected.written.len());
         list.input(&input);
         let short = cards.saturating_sub(rng.pick(&[1, 1, CARD, cards]));
@@ -160,12 +168,12 @@ fn on_cards(list: &mut List, seed: u64) {
 
 /// Corridors that merge, and some of them listed another way.
 fn on_corridors(list: &mut List, seed: u64) {
-    for i in 0..200 {
+    for i in 0..150 {
         let mut rng = Rng::of_case(seed, 4 << 32 | i);
         let input = small(&mut rng, 2000, corridors::random);
         let merges = list.note(&input);
         list.whole(&input, &mut rng);
-        let accepted = expect::accepted(BY_LIST, &input.job, &input.list).is_ok();
+        let accepted = accepted(BY_LIST, &input).is_some();
         let values = accepted.then(|| Values::read(&input)).filter(Values::distinct_ends);
         if let Some(values) = values.filter(|_| merges) {
             list.tally.see("relistings");
@@ -177,7 +185,7 @@ fn on_corridors(list: &mut List, seed: u64) {
 
 /// Chains of three and of four spans, and pairs of spans, at their limits and a pixel to either
 /// side.
-fn thresholds(list: &mut List) {
+fn limits(list: &mut List) {
     let mut rng = Rng::new(0);
     for (kind, spans, limit) in [("chains", 3, 384), ("chains", 4, 384), ("pairs", 2, 128)] {
         for length in [limit - 1, limit, limit + 1] {
@@ -225,6 +233,16 @@ fn many_pairs(list: &mut List, seed: u64) {
     }
 }
 
+/// What a call must leave of an input.
+fn expected(call: u32, input: &Input) -> Expected {
+    Expected::of(call, &input.job, &input.list, &input.thresholds)
+}
+
+/// The job as the call takes it, where its checks accept the input.
+fn accepted(call: u32, input: &Input) -> Option<Accepted> {
+    expect::accepted(call, &input.job, &input.list, &input.thresholds).ok()
+}
+
 /// An input of so many bytes at most: of the drafts that come, the first that is small enough, or
 /// the tenth.
 fn small(rng: &mut Rng, most: usize, draft: impl Fn(&mut Rng) -> Draft) -> Input {
@@ -241,12 +259,11 @@ fn small(rng: &mut Rng, most: usize, draft: impl Fn(&mut Rng) -> Draft) -> Input
 impl List {
     /// An input for the calls that follow.
     fn input(&mut self, input: &Input) {
-        assert!(input.job.len() <= LONGEST && input.list.len() <= LONGEST, "a long input");
+        let parts = [&input.job, &input.list, &input.thresholds];
+        assert!(parts.iter().map(|part| part.len()).sum::<usize>() <= LONGEST, "a long input");
         let mut bytes = vec![INPUT];
-        bytes.extend((input.job.len() as u32).to_le_bytes());
-        bytes.extend((input.list.len() as u32).to_le_bytes());
-        pieces(&input.job, &mut bytes);
-        pieces(&input.list, &mut bytes);
+        parts.iter().for_each(|part| bytes.extend((part.len() as u32).to_le_bytes()));
+        pieces(&parts.map(Vec::as_slice).concat(), &mut bytes);
         self.push(&bytes);
         self.inputs += 1;
         self.job.clone_from(&input.job);
@@ -288,7 +305,7 @@ impl List {
         for call in CALLS {
             // Area cards has numbers of its own, so that what the others get is as without it.
             let rng = if call == CARDS { &mut own } else { &mut *rng };
-            let expected = Expected::of(call, &input.job, &input.list);
+            let expected = expected(call, input);
             let (work, out) = (expected.work(), expected.written.len());
             let longer = [work + 1 + rng.below(20), out + 1 + rng.below(20)];
             let lengths = match rng.below(8) {
@@ -302,13 +319,30 @@ impl List {
         }
     }
 
+    /// An input and the two calls that take a block, on slices of just the length that is asked or, one time in four, others.
+    fn reduces(&mut self, input: &Input, rng: &mut Rng) {
+        self.input(input);
+        for call in [REDUCE, BY_LIST] {
+            let expected = expected(call, input);
+            let (work, out) = (expected.work(), expected.written.len());
+            let longer = [work + 1 + rng.below(9), out + 1 + rng.below(9)];
+            let lengths = match rng.below(16) {
+                0 => [work.saturating_sub(1), out],
+                1 => [work, out.saturating_sub(1)],
+                2 | 3 => longer,
+                _ => [work, out],
+            };
+            self.call(call, &expected, lengths, rng.byte());
+        }
+    }
+
     /// An input and the four calls on it, on slices of just the length that is asked.
     fn exact(&mut self, input: &Input, rng: &mut Rng) {
         self.input(input);
         let mut own = Rng::new(self.inputs);
         for call in CALLS {
             let rng = if call == CARDS { &mut own } else { &mut *rng };
-            let expected = Expected::of(call, &input.job, &input.list);
+            let expected = expected(call, input);
             let lengths = [expected.work(), expected.written.len()];
             self.call(call, &expected, lengths, rng.byte());
         }
@@ -318,8 +352,8 @@ impl List {
     fn note(&mut self, input: &Input) -> bool {
         let mut merges = false;
         for call in [REDUCE, BY_LIST] {
-            let Ok(accepted) = expect::accepted(call, &input.job, &input.list) else { continue };
-            let groups = accepted.job.groups(&accepted.partition);
+            let Some(accepted) = accepted(call, input) else { continue };
+            let groups = accepted.groups();
             merging::note(call, &accepted, &groups, &mut self.tally);
             merges |= !groups.is_empty();
         }
@@ -328,8 +362,8 @@ impl List {
 
     /// The sizes of the groups that Reduce merges.
     fn groups(&self, input: &Input) -> Vec<usize> {
-        let Ok(accepted) = expect::accepted(REDUCE, &input.job, &[]) else { return vec![] };
-        let groups = accepted.job.groups(&accepted.partition);
+        let Some(accepted) = accepted(REDUCE, input) else { return vec![] };
+        let groups = accepted.groups();
         groups.iter().map(|group| group.members.len()).collect()
     }
 
@@ -346,7 +380,8 @@ impl List {
         let mut missing = Vec::new();
         for (call, name) in (0..).zip(NAMES) {
             let late = too_short(call, 0).0;
-            let made = REFUSALS.into_iter().filter(|&number| makes(call as usize, number));
+            let made = REFUSALS.into_iter().chain([BAD_BLOCK]);
+            let made = made.filter(|&number| makes(call as usize, number));
             for number in made.chain([0, 13, 21, late]) {
                 let count = self.counts.get(&(call, number)).copied().unwrap_or(0);
                 if count < if number == 13 { 1 } else { 5 } {
@@ -354,9 +389,9 @@ impl List {
                 }
             }
         }
-        for (what, least) in WANTED {
-            if self.tally.count(what) < least {
-                missing.push(format!("{what}: {}", self.tally.count(what)));
+        for (what, least) in wanted() {
+            if self.tally.count(&what) < least {
+                missing.push(format!("{what}: {}", self.tally.count(&what)));
             }
         }
         missing

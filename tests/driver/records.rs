@@ -2,6 +2,7 @@
 //! regions are still joined, or not.
 
 use crate::calls::{self, record_words};
+use crate::draft::Input;
 use crate::lent::Lent;
 use crate::rng::Rng;
 use crate::tally::{Tally, RECORDS};
@@ -129,9 +130,10 @@ pub fn compare(records: &[Record], lent: &mut Lent, tally: &mut Tally) -> Result
             tally.see(what);
         }
     }
-    let bytes = record_words(records);
+    // The records stand where a job would.
+    let bytes = Input { job: record_words(records), ..Input::default() };
     let mut marks = vec![0xA5; OWNERS];
-    let lent = lent.lend(&bytes, &[], &vec![DIRTY; WORK], &marks);
+    let lent = lent.lend(&bytes, &vec![DIRTY; WORK], &marks);
     let said = calls::bridges(lent.job, lent.work, lent.out);
     tally.see(RECORDS);
     for (owner, mark) in marks.iter_mut().enumerate() {
@@ -141,5 +143,5 @@ pub fn compare(records: &[Record], lent: &mut Lent, tally: &mut Tally) -> Result
         return Err(format!("bridges: expected no refusal, got {said:?}"));
     }
     let work = lent.work.to_vec();
-    lent.check("bridges", &bytes, &[], &work, Some(&marks))
+    lent.check("bridges", &bytes, &work, Some(&marks))
 }

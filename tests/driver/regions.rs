@@ -9,6 +9,7 @@ use crate::lent::Lent;
 use crate::rng::Rng;
 use crate::rust::Job;
 use crate::tally::Tally;
+use crate::thresholds;
 use oracle::api::{Context, SpanPartition};
 
 /// Kinds of comparison: a run of maps or corridors that has none of one fails.
@@ -71,9 +72,9 @@ pub fn compare(
     rng: &mut Rng,
     tally: &mut Tally,
 ) -> Result<(), String> {
-    let Ok(Accepted { job, partition }) = expect::accepted(REDUCE, &input.job, &[]) else {
-        return Ok(());
-    };
+    // The probes are with the numbers of 000.
+    let read = expect::accepted(REDUCE, &input.job, &[], &thresholds::OF_000);
+    let Ok(Accepted { job, partition, .. }) = read else { return Ok(()) };
     if expect::pairs(&partition) > MOST_PAIRS {
         return Ok(());
     }
@@ -176,7 +177,7 @@ fn one(
     let (short, cramped) = (rng.one_in(16), rng.one_in(16) && !labels.is_empty());
     let mut out = vec![rng.byte(); if short { bytes.len() - 1 } else { bytes.len() + more }];
     let lent_labels = if cramped { &labels[1..] } else { labels };
-    let lent = lent.lend(&input.job, &[], lent_labels, &out);
+    let lent = lent.lend(input, lent_labels, &out);
     let said = call(lent.job, lent.work, lent.out);
     let expected = if cramped {
         (21, 0)
@@ -189,5 +190,5 @@ fn one(
     if said != expected {
         return Err(format!("{name}: expected {expected:?}, got {said:?}"));
     }
-    lent.check(name, &input.job, &[], lent_labels, Some(&out))
+    lent.check(name, input, lent_labels, Some(&out))
 }

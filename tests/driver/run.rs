@@ -8,6 +8,7 @@ use crate::records::{self, Record};
 use crate::rng::Rng;
 use crate::shrink::shrink;
 use crate::tally::Tally;
+use crate::thresholds::OF_000;
 use std::cell::RefCell;
 use std::fs;
 use std::path::Path;
@@ -42,9 +43,23 @@ impl Run {
         Self::with(seed, Lent::on_heap())
     }
 
-    /// A run that makes the calls, whatever comes of them.
+    /// A run that makes the calls, whatever comes of them, always with the block of 000.
     pub fn heedless(seed: u64) -> Self {
         Self { heeds: false, ..Self::new(seed) }
+    }
+
+    pub fn heeds(&self) -> bool {
+        self.heeds
+    }
+
+    /// The bytes that are lent for a draft.
+    fn bytes(&self, draft: &Draft) -> Input {
+        let input = draft.input();
+        if self.heeds {
+            input
+        } else {
+            Input { thresholds: OF_000.to_vec(), ..input }
+        }
     }
 
     fn with(seed: u64, lent: Lent) -> Self {
@@ -87,7 +102,7 @@ impl Run {
 
     /// An input from a draft, which is made smaller where it shows a difference.
     pub fn draft(&mut self, draft: &Draft, rng: &mut Rng, compare: Compare) {
-        let input = draft.input();
+        let input = self.bytes(draft);
         let before = rng.clone();
         let said = compare(&input, &mut self.lent.borrow_mut(), rng, &mut self.tally);
         if let (Err(difference), true) = (said, self.heeds) {
@@ -126,5 +141,6 @@ impl Run {
 
 pub fn hex(title: &str, input: &Input) -> String {
     let digits = |bytes: &[u8]| bytes.iter().map(|byte| format!("{byte:02x}")).collect::<String>();
-    format!("{title}\njob  {}\nlist {}\n", digits(&input.job), digits(&input.list))
+    let [job, list, block] = [&input.job, &input.list, &input.thresholds].map(|part| digits(part));
+    format!("{title}\njob  {job}\nlist {list}\nblock {block}\n")
 }

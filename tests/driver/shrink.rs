@@ -1,6 +1,7 @@
 //! Makes a draft smaller while a test on it still fails.
 
 use crate::draft::{Boundary, Draft};
+use crate::thresholds::OF_000;
 
 /// The smallest draft found, by steps each of which keeps `fails` true.
 pub fn shrink(mut draft: Draft, fails: impl Fn(&Draft) -> bool) -> Draft {
@@ -20,6 +21,13 @@ fn steps(draft: &Draft) -> Vec<Draft> {
             steps.push(smaller);
         }
     };
+    let block = &draft.thresholds;
+    step(*block != OF_000, &|d| d.thresholds = OF_000.to_vec());
+    // Each number by itself.
+    for [from, to] in [[0, 4], [4, 8], [8, 12], [12, 16]].into_iter().chain(wide()) {
+        let differs = block.get(from..to).is_some_and(|field| *field != OF_000[from..to]);
+        step(differs, &|d| d.thresholds[from..to].copy_from_slice(&OF_000[from..to]));
+    }
     let shared = !draft.observations.is_empty() || !draft.sources.is_empty();
     step(shared, &|d| {
         (d.observations, d.sources) = (vec![], vec![]);
@@ -67,6 +75,11 @@ fn steps(draft: &Draft) -> Vec<Draft> {
         step(draft.list[i] != plain, &|d| d.list[i] = plain);
     }
     steps
+}
+
+/// Where the f64 of a block stand.
+fn wide() -> impl Iterator<Item = [usize; 2]> {
+    (2..8).map(|i| [8 * i, 8 * i + 8])
 }
 
 /// All, each half, then (of few) each single one of `count` records.

@@ -11,7 +11,9 @@ use crate::measures::{self, Limit, Link};
 use crate::merging;
 use crate::rng::Rng;
 use crate::tally::Tally;
+use crate::thresholds;
 use crate::values::shuffled;
+use oracle::thresholds::Thresholds;
 use std::sync::OnceLock;
 
 /// A point, or a vector, in pixels; cells are 8 pixels wide. No point of a plan is special: it is
@@ -105,7 +107,7 @@ fn about(rng: &mut Rng, most: u32) -> i32 {
 }
 
 fn links(draft: &Draft) -> Vec<Link> {
-    let read = || expect::accepted(REDUCE, &draft.input().job, &[]);
+    let read = || expect::accepted(REDUCE, &draft.input().job, &[], &thresholds::OF_000);
     oracle::count::uncounted(read).map_or(vec![], |accepted| measures::links(&accepted))
 }
 
@@ -114,7 +116,7 @@ fn least(link: &Link, limit: Limit, room: i64) -> u64 {
     let (mut low, mut high) = (0, LARGEST_WIDTH);
     while low < high {
         let middle = (low + high) / 2;
-        if link.room(limit, f64::from_bits(middle)) < room {
+        if link.room(limit, f64::from_bits(middle), &Thresholds::DECLARED) < room {
             low = middle + 1;
         } else {
             high = middle;
@@ -232,7 +234,8 @@ fn thirty_two(rng: &mut Rng) -> Option<Draft> {
     let bits = rng.pick(&[0.0, 8.0, 24.5, 100.0, 128.0_f64]).to_bits();
     draft.boundaries.iter_mut().for_each(|boundary| boundary.bits = bits);
     let met = |link: &Link| {
-        let rooms = measures::LIMITS[2..].iter().map(|&limit| link.room(limit, 0.0));
+        let rooms =
+            measures::LIMITS[2..].iter().map(|&limit| link.room(limit, 0.0, &Thresholds::DECLARED));
         rooms.clone().any(|room| room.abs() <= 2) && rooms.min() >= Some(-2)
     };
     links(&draft).iter().any(met).then_some(draft)
@@ -330,9 +333,13 @@ fn steps(rng: &mut Rng) -> Option<Vec<Point>> {
 
 /// A chain of links that all pass, whose distances come to about 384.
 fn sum(rng: &mut Rng) -> Option<Draft> {
-    let steps = steps(rng)?;
+    by_steps(&steps(rng)?, rng)
+}
+
+/// A chain over ramps whose centres are these doubled steps apart, of links that all pass.
+pub fn by_steps(steps: &[Point], rng: &mut Rng) -> Option<Draft> {
     let mut centres = vec![[0, 0]];
-    for step in &steps {
+    for step in steps {
         let [x, y] = centres[centres.len() - 1];
         centres.push([x + step[0], y + step[1]]);
     }
@@ -380,16 +387,13 @@ pub fn compare(
     rng: &mut Rng,
     tally: &mut Tally,
 ) -> Result<(), String> {
-    let read = || expect::accepted(REDUCE, &input.job, &[]);
+    let read = || expect::accepted(REDUCE, &input.job, &[], &input.thresholds);
     if let Ok(accepted) = oracle::count::uncounted(read) {
-        measures::note(&accepted, tally);
-        if let Some(merges) = measures::foretold(&accepted) {
-            let groups = oracle::count::uncounted(|| accepted.job.groups(&accepted.partition));
-            tally.see("slanted: runs whose merging was foretold");
-            if groups.is_empty() == merges {
-                return Err(format!("measures: the Rust has {} groups", groups.len()));
-            }
+        if accepted.numbers == Thresholds::DECLARED {
+            measures::note(&accepted, tally);
         }
+        let groups = oracle::count::uncounted(|| accepted.groups());
+        measures::hold(&accepted, &groups, tally)?;
     }
     merging::compare(input, lent, rng, tally)
 }

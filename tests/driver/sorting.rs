@@ -67,7 +67,7 @@ pub fn compare(
     tally: &mut Tally,
 ) -> Result<(), String> {
     for call in CALLS {
-        let expected = Expected::of(call, &input.job, &input.list);
+        let expected = Expected::of(call, &input.job, &input.list, &input.thresholds);
         if expected.refusal != NONE {
             return Err(format!("a job about own sources is refused: {:?}", expected.refusal));
         }
@@ -82,8 +82,9 @@ pub fn compare(
         }
     }
     for call in [REDUCE, BY_LIST] {
-        let Ok(accepted) = expect::accepted(call, &input.job, &input.list) else { continue };
-        let groups = oracle::count::uncounted(|| accepted.job.groups(&accepted.partition));
+        let read = expect::accepted(call, &input.job, &input.list, &input.thresholds);
+        let Ok(accepted) = read else { continue };
+        let groups = oracle::count::uncounted(|| accepted.groups());
         note(&Values::read(input).boundaries, &groups, tally);
     }
     if rng.one_in(8) {

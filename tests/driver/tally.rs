@@ -1,6 +1,7 @@
 //! What a run has seen, so that it can't pass by testing nothing.
 
-use crate::checks::{Refusal, BY_LIST};
+use crate::blocks::{self, OWN, WRITTEN};
+use crate::checks::{takes_block, Refusal, BY_LIST};
 use crate::damage::REFUSALS;
 use crate::expect::too_short;
 use crate::lengths::{self, LENGTHS, TOTALS};
@@ -10,7 +11,9 @@ use crate::sorting;
 use std::collections::BTreeMap;
 
 pub const NAMES: [&str; 4] = ["Reduce", "Reduce by list", "Mark", "Area cards"];
-const NUMBERS: usize = 18;
+const NUMBERS: usize = 33;
+/// The refusal of a block, before all others.
+pub const BAD_BLOCK: u32 = 32;
 /// The refusals of whole calls, beside success and those of the checks.
 const LATE: [u32; 5] = [13, 21, 22, 23, 31];
 /// What can come before 31 on a map with a walkable cell.
@@ -32,9 +35,9 @@ pub const WHOLE: [&str; 4] = [
 ];
 /// Cards whose every word was held to what the paper says of the job's bytes and labels.
 pub const STATED: &str = "cards stated anew";
-pub const KINDS: [&str; 17] = [
+pub const KINDS: [&str; 19] = [
     CHECKS, PARTS[0], PARTS[1], PARTITIONS, RECORDS, PLANS, RELISTINGS, REGIONS, LINKS, ENVELOPES,
-    WHOLE[0], WHOLE[1], WHOLE[2], WHOLE[3], STATED, LENGTHS, TOTALS,
+    WHOLE[0], WHOLE[1], WHOLE[2], WHOLE[3], STATED, LENGTHS, TOTALS, OWN, WRITTEN,
 ];
 
 /// What a whole run must have seen at least once.
@@ -78,7 +81,6 @@ const WANTED: [&str; 37] = [
     "cards at the map's far corner",
 ];
 
-#[derive(Default)]
 pub struct Tally {
     /// For each call and refusal: how often seen, and how often with a later fault besides.
     seen: [[u64; NUMBERS]; 4],
@@ -88,15 +90,36 @@ pub struct Tally {
     /// Inputs on which the Rust's own checks were compared, and those that it refused.
     pub rust: [u64; 2],
     /// For each call, how often a whole call was to end with each number.
-    whole: [[u64; 32]; 4],
+    whole: [[u64; NUMBERS]; 4],
     /// How often each number came though the card slice was too short for one card as well.
-    short_cards: [u64; 32],
+    short_cards: [u64; NUMBERS],
     seen_besides: BTreeMap<String, u64>,
+}
+
+impl Default for Tally {
+    fn default() -> Self {
+        Self {
+            seen: [[0; NUMBERS]; 4],
+            ordered: [[0; NUMBERS]; 4],
+            pairs: [[0; NUMBERS]; 4],
+            rust: [0; 2],
+            whole: [[0; NUMBERS]; 4],
+            short_cards: [0; NUMBERS],
+            seen_besides: BTreeMap::new(),
+        }
+    }
+}
+
+/// The refusals of the checks, in their order.
+fn in_order() -> impl Iterator<Item = u32> {
+    std::iter::once(BAD_BLOCK).chain(REFUSALS)
 }
 
 /// True where the call makes the check.
 pub fn makes(call: usize, refusal: u32) -> bool {
-    if call as u32 == BY_LIST {
+    if refusal == BAD_BLOCK {
+        takes_block(call as u32)
+    } else if call as u32 == BY_LIST {
         refusal != 12
     } else {
         refusal <= 12
@@ -109,7 +132,9 @@ fn wins(call: usize, refusal: u32, later: u32) -> bool {
     let turns = matches!((refusal, later), (12, 11) | (17, 16));
     // A job too short for a header has no records.
     let readable = refusal > 1 || !matches!(later, 5..=12);
-    makes(call, refusal) && makes(call, later) && (later > refusal || turns) && readable
+    let first = refusal == BAD_BLOCK;
+    let after = later != BAD_BLOCK && (first || later > refusal || turns);
+    makes(call, refusal) && makes(call, later) && after && readable
 }
 
 impl Tally {
@@ -163,7 +188,7 @@ impl Tally {
             println!("{name:>8}{}", columns.map(|column| format!("{column:>24}")).concat());
         };
         line("refusal", NAMES.map(str::to_string));
-        for number in std::iter::once(0).chain(REFUSALS) {
+        for number in std::iter::once(0).chain(in_order()) {
             let row = |call: usize| match number {
                 0 => format!("{}", self.seen[call][0]),
                 _ if !makes(call, number) => "-".to_string(),
@@ -185,7 +210,8 @@ impl Tally {
         println!("whole calls compared, those on relistings among them: {}", self.calls());
         println!("whole calls by number, without relistings");
         for (call, name) in NAMES.iter().enumerate() {
-            let refused: u64 = (1..=17).filter(|&n| n != 13).map(|n| self.whole[call][n]).sum();
+            let early = (1..=17).chain([32]).filter(|&n| n != 13);
+            let refused: u64 = early.map(|n| self.whole[call][n]).sum();
             let late = LATE.map(|n| format!(", {n}: {}", self.whole[call][n as usize])).concat();
             println!("{name:>16}  0: {}{late}, refused before: {refused}", self.whole[call][0]);
         }
@@ -215,6 +241,7 @@ impl Tally {
         missing.extend(alone.map(|n| format!("Area cards: {n} was never seen before 31")));
         let unseen = WANTED.iter().filter(|&&what| self.count(what) == 0);
         missing.extend(unseen.map(|what| format!("never: {what}")));
+        missing.extend(blocks::missing(self, true));
         missing.extend(measures::missing(self));
         missing.extend(lengths::missing(self));
         missing.extend(sorting::missing(self, false));
@@ -229,14 +256,14 @@ impl Tally {
             if self.seen[call][0] == 0 {
                 missing.push(format!("{name}: no input passed"));
             }
-            for number in REFUSALS.into_iter().filter(|&number| makes(call, number)) {
+            for number in in_order().filter(|&number| makes(call, number)) {
                 let n = number as usize;
                 if self.seen[call][n] == 0 {
                     missing.push(format!("{name}: refusal {number} was never seen"));
                 } else if self.ordered[call][n] == 0 {
                     missing.push(format!("{name}: refusal {number} never had a later fault"));
                 }
-                for later in REFUSALS.into_iter().filter(|&later| wins(call, number, later)) {
+                for later in in_order().filter(|&later| wins(call, number, later)) {
                     if self.pairs[call][n] & 1 << later == 0 {
                         missing.push(format!("{name}: {number} was never seen before {later}"));
                     }

@@ -26,7 +26,7 @@ pub struct Boundary {
     pub observations: Vec<Observation>,
 }
 
-/// A job as values; `spans` is the list of Reduce by list.
+/// A job as values; `map` has its cells, bases and block, `spans` is the list of Reduce by list.
 #[derive(Clone)]
 pub struct Values {
     pub map: Draft,
@@ -59,6 +59,7 @@ impl Values {
             bases: (0..bases as usize)
                 .map(|i| [0, 4, 8].map(|field| word(job, HEADER + cells + BASE * i + field)))
                 .collect(),
+            thresholds: input.thresholds.clone(),
             ..Draft::default()
         };
         let [at_boundaries, mut at_observation, mut at_source] =

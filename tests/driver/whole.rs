@@ -17,7 +17,7 @@ pub fn compare(
     tally: &mut Tally,
 ) -> Result<(), String> {
     for call in CALLS {
-        let expected = Expected::of(call, &input.job, &input.list);
+        let expected = Expected::of(call, &input.job, &input.list, &input.thresholds);
         let mut lent_lengths = lengths(&expected, rng);
         let written = expected.refusal == NONE && expected.pairs <= MOST_PAIRS;
         let most = if written { most(call, &input.job) } else { None };
@@ -87,13 +87,13 @@ pub fn one(
         tally.note_short_cards(left.result.0);
     }
     let name = NAMES[call as usize];
-    let lent = lent.lend(&input.job, &input.list, &work, &out);
-    let said = calls::whole(call)(lent.job, lent.list, lent.work, lent.out);
+    let lent = lent.lend(input, &work, &out);
+    let said = calls::whole(call)(lent.job, lent.list, lent.thresholds, lent.work, lent.out);
     tally.see(WHOLE[call as usize]);
     if said != left.result {
         return Err(format!("{name}: expected {:?}, got {said:?}", left.result));
     }
-    lent.check(name, &input.job, &input.list, &left.work, Some(&left.out))?;
+    lent.check(name, input, &left.work, Some(&left.out))?;
     if call == CARDS && said.0 == 0 {
         let written = &lent.out[..said.1 as usize];
         cards::add_up(&input.job, written)?;

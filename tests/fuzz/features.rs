@@ -6,22 +6,30 @@ use crate::expect::CARD;
 use std::sync::atomic::{AtomicU64, AtomicU8, Ordering::Relaxed};
 use std::sync::Once;
 
+/// The numbers that a call may end with, from 0.
+const MOST_NUMBERS: usize = 33;
 /// Counters of a call: numbers, details by number, kept and merged boundaries or areas with a ramp and
-/// of several elevations, observations more than the job's, labels, the most own sources of a kept boundary, doubles left out.
-const EACH: usize = 1024;
-const DETAILS: usize = 32;
-const KEPT: usize = DETAILS + 32 * 16;
+/// of several elevations, observations more than the job's, labels, the most own sources of a kept boundary, doubles left out,
+/// merged boundaries by the block's largest group.
+const EACH: usize = 2048;
+const DETAILS: usize = MOST_NUMBERS;
+const KEPT: usize = DETAILS + MOST_NUMBERS * 16;
 const OBSERVED: usize = KEPT + 16 * 16;
 const LABELS: usize = OBSERVED + 16;
 const OWN: usize = LABELS + 64;
 const DOUBLES: usize = OWN + 16;
+const GROUPS: usize = DOUBLES + 16;
+const _: () = assert!(GROUPS + 17 * 17 <= EACH);
 
 #[link_section = "__libfuzzer_extra_counters"]
 static COUNTERS: [AtomicU8; 4 * EACH] = [const { AtomicU8::new(0) }; 4 * EACH];
 
 /// Calls by call and number, and answers with fewer boundaries than the job.
-static NUMBERS: [[AtomicU64; 32]; 4] = [const { [const { AtomicU64::new(0) }; 32] }; 4];
+static NUMBERS: [[AtomicU64; MOST_NUMBERS]; 4] =
+    [const { [const { AtomicU64::new(0) }; MOST_NUMBERS] }; 4];
 static MERGED: AtomicU64 = AtomicU64::new(0);
+/// Those among them with a largest group of over four, and with a smallest of two.
+static OF_SIZES: [AtomicU64; 2] = [const { AtomicU64::new(0) }; 2];
 /// Answers that leave out doubles of own sources, and those with over 48 own sources of a boundary.
 static OF_OWN: [AtomicU64; 2] = [const { AtomicU64::new(0) }; 2];
 
@@ -29,12 +37,18 @@ extern "C" {
     fn atexit(function: extern "C" fn()) -> i32;
 }
 
-pub fn note(call: u32, (number, detail): Refusal, job: &[u8], work: &[u8], out: &[u8]) {
+pub fn note(
+    call: u32,
+    (number, detail): Refusal,
+    [job, thresholds]: [&[u8]; 2],
+    work: &[u8],
+    out: &[u8],
+) {
     static AT_END: Once = Once::new();
     // The function prints counters that live as long as the process.
     AT_END.call_once(|| assert_eq!(unsafe { atexit(print) }, 0, "a function for the end"));
     let set = |i: usize| COUNTERS[call as usize * EACH + i].store(1, Relaxed);
-    let number = number.min(31) as usize;
+    let number = (number as usize).min(MOST_NUMBERS - 1);
     NUMBERS[call as usize][number].fetch_add(1, Relaxed);
     set(number);
     set(DETAILS + 16 * number + log(detail).min(15));
@@ -63,7 +77,11 @@ pub fn note(call: u32, (number, detail): Refusal, job: &[u8], work: &[u8], out: 
     set(KEPT + 16 * merged.min(15) + boundaries.min(15));
     set(OBSERVED + observations.wrapping_sub(word(job, 4) as usize).min(15));
     if merged > 0 {
+        let [smallest, largest] = [2, 3].map(|i| word(thresholds, i) as usize);
+        set(GROUPS + 17 * largest.min(16) + merged.min(16));
         MERGED.fetch_add(1, Relaxed);
+        OF_SIZES[0].fetch_add(u64::from(largest > 4), Relaxed);
+        OF_SIZES[1].fetch_add(u64::from(smallest == 2), Relaxed);
     }
     let came = own(&job[word(job, 8) as usize..], boundaries);
     let [came, left] = [came, own(&out[24..], kept)];
@@ -100,10 +118,12 @@ extern "C" fn print() {
         let seen: Vec<_> = seen.iter().map(|(i, count)| format!("{i}: {count}")).collect();
         eprintln!("calls of {name} by number: {}", seen.join(", "));
     }
-    let [merged, doubles, many] =
-        [&MERGED, &OF_OWN[0], &OF_OWN[1]].map(|count| count.load(Relaxed));
+    let [merged, largest, smallest] =
+        [&MERGED, &OF_SIZES[0], &OF_SIZES[1]].map(|count| count.load(Relaxed));
+    let [doubles, many] = [0, 1].map(|i| OF_OWN[i].load(Relaxed));
     eprintln!(
-        "calls: {calls}; answers with merges: {merged}; without doubles of own sources that came: {doubles}; \
+        "calls: {calls}; answers with merges: {merged}, of these with a largest group of over 4: {largest}, \
+         with a smallest of 2: {smallest}; without doubles of own sources that came: {doubles}; \
          with over 48 own sources of a boundary: {many}"
     );
 }

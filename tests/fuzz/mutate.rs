@@ -1,5 +1,6 @@
-//! Changes of a job's values.
+//! Changes of the values of a job, a list and a block.
 
+use crate::block;
 use crate::case::Case;
 use crate::damage::{self, REFUSALS};
 use crate::draft::{Boundary, Draft};
@@ -7,7 +8,7 @@ use crate::nearest::{mend, nearest};
 use crate::orders::{sources, LISTINGS};
 use crate::rng::Rng;
 
-/// The nearest job that is accepted, changed a little where asked, and damaged one time in eight.
+/// The nearest input that is accepted, changed a little where asked, and damaged one time in eight.
 pub fn mutate(case: &mut Case, change: bool, rng: &mut Rng) {
     if rng.one_in(4) {
         (case.lengths, case.fill) = (rng.byte(), rng.byte());
@@ -15,19 +16,27 @@ pub fn mutate(case: &mut Case, change: bool, rng: &mut Rng) {
     let mut draft = nearest(&case.input);
     let changes = if change { rng.pick(&[1, 1, 1, 2, 3, 5]) } else { 0 };
     for _ in 0..changes {
-        match rng.below(9) {
+        match rng.below(11) {
             0 | 1 => terrain(&mut draft, rng),
             2 => bases(&mut draft, rng),
             3 | 4 => boundaries(&mut draft, rng),
             5 => fields(&mut draft, rng),
             6 => spans(&mut draft, rng),
             7 => own_sources(&mut draft, rng),
+            8 | 9 => block::change(&mut draft, rng),
             _ => records(&mut draft, rng),
         }
         mend(&mut draft);
     }
     if change && rng.one_in(8) {
-        damage::damage(rng.pick(&REFUSALS), &mut draft, rng);
+        let kind = rng.below(8);
+        if kind < 3 {
+            let blocks = damage::blocks(&draft.thresholds);
+            draft.thresholds.clone_from(&blocks[rng.below(blocks.len())]);
+        }
+        if kind > 1 {
+            damage::damage(rng.pick(&REFUSALS), &mut draft, rng);
+        }
     }
     case.input = draft.input();
 }

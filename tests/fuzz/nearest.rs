@@ -1,5 +1,6 @@
 //! A draft that the calls accept, from any bytes: what is read is kept where it may stand.
 
+use crate::block;
 use crate::checks::{BASE, BOUNDARY, HEADER, OBSERVATION, SOURCE, SPAN};
 use crate::draft::{Boundary, Draft, Input, Observation, LARGEST_WIDTH, NO_ANCHOR};
 
@@ -54,6 +55,7 @@ pub fn nearest(input: &Input) -> Draft {
     let sources = records(&mut rest, header[5], SOURCE);
     draft.sources = sources.iter().map(|source| [word(source, 0), word(source, 4)]).collect();
     draft.list = input.list.chunks_exact(SPAN).map(ends).collect();
+    draft.thresholds.clone_from(&input.thresholds);
     mend(&mut draft);
     draft
 }
@@ -83,6 +85,7 @@ pub fn mend(draft: &mut Draft) {
     }
     draft.list.truncate(256);
     draft.list.iter_mut().for_each(|span| mend_ends(span, map));
+    block::mend(&mut draft.thresholds);
     mend_sums(draft);
 }
 

@@ -36,6 +36,9 @@ mod rust;
 #[path = "../driver/splits.rs"]
 #[allow(dead_code)]
 mod splits;
+#[path = "../driver/thresholds.rs"]
+#[allow(dead_code)]
+mod thresholds;
 #[path = "../driver/values.rs"]
 #[allow(dead_code)]
 mod values;
@@ -46,8 +49,10 @@ mod case;
 use case::Case;
 use damage::REFUSALS;
 use draft::{Draft, Input};
+use oracle::thresholds::Thresholds;
 use rng::Rng;
 use std::{env, fs, io};
+use thresholds::block;
 
 /// The longest input of a run, as tests/fuzz/run has it.
 const LONGEST: usize = 16_384;
@@ -68,7 +73,7 @@ fn main() -> io::Result<()> {
         let job = fs::read(file)?;
         let ends = rust::own_spans(&job).into_iter().flatten();
         let list = ends.flat_map(u32::to_le_bytes).collect();
-        write(Case { lengths: 5, fill: 0, input: Input { job, list } })?;
+        write(Case { lengths: 5, fill: 0, input: Input { job, list, ..Input::default() } })?;
     }
     for (number, draft) in drafts() {
         let mut rng = Rng::of_case(1, number);
@@ -78,7 +83,25 @@ fn main() -> io::Result<()> {
     Ok(())
 }
 
-/// Drafts damaged for each refusal, maps, corridors, own sources, and region pairs at their limit and one over.
+/// Admitted numbers.
+fn numbers(rng: &mut Rng) -> Thresholds {
+    let least = rng.within(2, 4);
+    let most = rng.within(least, 16) as usize;
+    let length = |rng: &mut Rng| rng.pick(&[0.0, 8.0, 16.0, 32.0, 128.0, 384.0, 16_384.0]);
+    Thresholds {
+        least: least as usize,
+        most,
+        chain: length(rng),
+        width: length(rng),
+        geometry: length(rng),
+        duplicate: length(rng),
+        envelope: length(rng),
+        cosine: rng.pick(&[0.0, 0.5, Thresholds::DECLARED.cosine, 1.0]),
+    }
+}
+
+/// Drafts damaged for each refusal, maps, corridors, also with other blocks of thresholds and long chains with large groups, own sources, and
+/// region pairs at their limit and one over.
 fn drafts() -> Vec<(u64, Draft)> {
     let mut drafts = Vec::new();
     let mut make = |number: u64, draft: &dyn Fn(&mut Rng) -> Draft| {
@@ -93,6 +116,21 @@ fn drafts() -> Vec<(u64, Draft)> {
     }
     (0..100).for_each(|i| make(2 << 32 | i, &maps::random));
     (0..100).for_each(|i| make(4 << 32 | i, &corridors::random));
+    (0..60).for_each(|i| {
+        make(6 << 32 | i, &|rng| {
+            let mut draft = corridors::random(rng);
+            draft.thresholds = block(&numbers(rng)).to_vec();
+            draft
+        });
+    });
+    (2..=17).for_each(|spans| {
+        make(9 << 32 | u64::from(spans), &|rng| {
+            let mut draft = corridors::long(2 * spans + 1, spans, rng);
+            let sizes = Thresholds { least: 2, most: 16, ..Thresholds::DECLARED };
+            draft.thresholds = block(&sizes).to_vec();
+            draft
+        });
+    });
     (0..60).for_each(|i| make(7 << 32 | i, &own::random));
     (0..20).for_each(|i| make(8 << 32 | i, &own::one_head));
     for pairs in [4096, 4097] {

@@ -14,6 +14,7 @@ mod damage;
 #[allow(dead_code)]
 mod draft;
 #[path = "../driver/expect.rs"]
+#[allow(dead_code)]
 mod expect;
 #[path = "../driver/heads.rs"]
 #[allow(dead_code)]
@@ -36,7 +37,10 @@ mod rust;
 #[path = "../driver/splits.rs"]
 #[allow(dead_code)]
 mod splits;
+#[path = "../driver/thresholds.rs"]
+mod thresholds;
 
+mod block;
 mod case;
 mod features;
 mod library;
@@ -45,6 +49,7 @@ mod nearest;
 
 use case::Case;
 use checks::{CALLS, NONE};
+use draft::Input;
 use expect::{Expected, MOST_PAIRS};
 use lent::Lent;
 use rng::Rng;
@@ -71,7 +76,8 @@ pub unsafe extern "C" fn LLVMFuzzerTestOneInput(data: *const u8, size: usize) ->
     let case = Case::read(bytes);
     LENT.with_borrow_mut(|lent| {
         for call in CALLS {
-            let expected = Expected::of(call, &case.input.job, &case.input.list);
+            let expected =
+                Expected::of(call, &case.input.job, &case.input.list, &case.input.thresholds);
             for lengths in lengths(&expected, case.lengths) {
                 if let Err(difference) = one(call, &expected, &case, lengths, lent) {
                     panic!("{difference}");
@@ -113,17 +119,19 @@ fn one(
     let (work, out) = (vec![case.fill; work], vec![!case.fill; out]);
     let left = expected.left(&work, &out);
     let name = NAMES[call as usize];
-    let lent = lent.lend(&case.input.job, &case.input.list, &work, &out);
-    let said = library::call(call, lent.job, lent.list, lent.work, lent.out);
-    features::note(call, said, &case.input.job, lent.work, lent.out);
+    let Input { job, thresholds, .. } = &case.input;
+    let lent = lent.lend(&case.input, &work, &out);
+    let inputs = [&*lent.job, lent.list, lent.thresholds];
+    let said = library::call(call, inputs, lent.work, lent.out);
+    features::note(call, said, [job, thresholds], lent.work, lent.out);
     if said != left.result {
         return Err(format!("{name}: expected {:?}, got {said:?}", left.result));
     }
-    lent.check(name, &case.input.job, &case.input.list, &left.work, Some(&left.out))
+    lent.check(name, &case.input, &left.work, Some(&left.out))
 }
 
 /// The next input: three times in eight libFuzzer's own changes of bytes; once those with every
-/// count, offset and field set right; else changes of a job's values, now and then with damage.
+/// count, offset and field set right; else changes of values, now and then with damage.
 ///
 /// # Safety
 /// `data` has room for `most` bytes, of which `size` are the input.

@@ -1,7 +1,7 @@
 //! How often each expression of counted.txt was true and false. `LIST`, its names and why one is
 //! never false or never true, is put in at the end.
 
-use std::sync::atomic::{AtomicU64, Ordering::Relaxed};
+use std::sync::atomic::{AtomicBool, AtomicU64, Ordering::Relaxed};
 
 static SEEN: [[AtomicU64; 2]; LIST.len()] =
     [const { [const { AtomicU64::new(0) }; 2] }; LIST.len()];
@@ -25,4 +25,15 @@ pub fn uncounted<T>(run: impl FnOnce() -> T) -> T {
         cells.iter().zip(counts).for_each(|(cell, count)| cell.store(count, Relaxed));
     }
     made
+}
+
+/// Whether the group that is looked at came to be serial; the Rust's test of a path serves both kinds.
+static SERIAL: AtomicBool = AtomicBool::new(false);
+
+pub fn serial_next(serial: bool) {
+    SERIAL.store(serial, Relaxed);
+}
+
+pub fn is_serial() -> bool {
+    SERIAL.load(Relaxed)
 }

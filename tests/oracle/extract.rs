@@ -1,13 +1,16 @@
 //! Assembles the oracle, a crate of the real Rust, from a checkout of broodmap.
 //!
-//!     extract SOURCES OUT
+//!     extract SOURCES OUT [NUMBER ...]
 //!
 //! SOURCES holds broodmap-analysis/src; OUT receives the crate, with lib.rs at its root.
-//! Whole files are taken as they are, single items by their first line. There are two edits:
-//! `.hypot(` becomes `.exact_length(`, the project's own length (exact_length.rs), and the driver
-//! is told a link's envelopes (api.rs). Whatever is
-//! not as expected (a missing or doubled text, another number of edits, another fingerprint)
-//! ends the program with a message and a nonzero status.
+//! Whole files are taken as they are, single items by their first line. There are three edits:
+//! `.hypot(` becomes `.exact_length(`, the project's own length (exact_length.rs), the driver
+//! is told a link's envelopes (api.rs), and the eight constants of the merging are free: each use of
+//! one becomes a read of the numbers that are in force on the thread (free.rs), while the constants
+//! themselves stay and are those of `Thresholds::DECLARED` (thresholds.rs). Where eight NUMBERs are
+//! given, nothing is free: they are written into the constants, in the order of the text.
+//! Whatever is not as expected (a missing or doubled text, another number of edits, another
+//! fingerprint) ends the program with a message and a nonzero status.
 
 use std::fmt::Display;
 use std::path::Path;
@@ -187,8 +190,77 @@ fn whole(sources: &Path, path: &'static str, edits: usize, fingerprint: u64) -> 
     source.checked(source.whole(), edits, fingerprint)
 }
 
+/// A constant of the merging: how its item begins, how often it is used besides, and what stands for
+/// it in `Thresholds`.
+struct Constant {
+    name: &'static str,
+    item: &'static str,
+    uses: usize,
+    field: &'static str,
+}
+
+const fn constant(
+    name: &'static str,
+    item: &'static str,
+    uses: usize,
+    field: &'static str,
+) -> Constant {
+    Constant { name, item, uses, field }
+}
+
+const CONSTANTS: [Constant; 8] = [
+    constant("MAX_GROUP_SPANS", "const MAX_GROUP_SPANS: usize = ", 1, "most"),
+    constant("MIN_GROUP_SPANS", "const MIN_GROUP_SPANS: usize = ", 1, "least"),
+    constant("MAX_CHAIN_DISTANCE_PIXELS", "const MAX_CHAIN_DISTANCE_PIXELS: f64 = ", 2, "chain"),
+    constant("WIDTH_TOLERANCE_PIXELS", "const WIDTH_TOLERANCE_PIXELS: f64 = ", 1, "width"),
+    constant("GEOMETRY_TOLERANCE_PIXELS", "const GEOMETRY_TOLERANCE_PIXELS: f64 = ", 2, "geometry"),
+    constant(
+        "FLAT_DUPLICATE_DISTANCE_PIXELS",
+        "const FLAT_DUPLICATE_DISTANCE_PIXELS: f64 = ",
+        1,
+        "duplicate",
+    ),
+    constant(
+        "FLAT_ENVELOPE_TOLERANCE_PIXELS",
+        "const FLAT_ENVELOPE_TOLERANCE_PIXELS: f64 = ",
+        2,
+        "envelope",
+    ),
+    constant("PARALLEL_COSINE", "const PARALLEL_COSINE: f64 = ", 1, "cosine"),
+];
+
+/// The merging with its constants free, or with these numbers in them.
+fn with_constants(path: &str, text: &str, numbers: &[String]) -> String {
+    for constant in CONSTANTS {
+        let items = text.lines().filter(|line| line.starts_with(constant.item)).count();
+        let named = text.matches(constant.name).count();
+        if items != 1 || named != 1 + constant.uses {
+            let found = format!("expected {} uses, found {items} items, {named}", constant.uses);
+            fail(path, found, constant.name);
+        }
+    }
+    let mut made = String::new();
+    for line in text.lines() {
+        let mut line = line.to_string();
+        match CONSTANTS.iter().position(|constant| line.starts_with(constant.item)) {
+            Some(i) if !numbers.is_empty() => {
+                line = format!("{}{};", CONSTANTS[i].item, numbers[i]);
+            }
+            None if numbers.is_empty() => {
+                for constant in CONSTANTS {
+                    line = line.replace(constant.name, &format!("free::now().{}", constant.field));
+                }
+            }
+            _ => {}
+        }
+        made += &line;
+        made += "\n";
+    }
+    made
+}
+
 /// The merging, with the driver's module in it, which is handed both envelopes of every link.
-fn serial(sources: &Path) -> String {
+fn serial(sources: &Path, numbers: &[String]) -> String {
     let path = "topology/serial.rs";
     let text = whole(sources, path, 4, 0x5367_c996_6883_a973);
     let test = "            (transverse_envelope <= ";
@@ -196,7 +268,9 @@ fn serial(sources: &Path) -> String {
         fail(path, "expected once", test);
     }
     let told = "            api::saw(index, transverse_envelope, longitudinal_envelope);\n";
-    text.replace(test, &format!("{told}{test}")) + "pub mod api;\n"
+    let text = with_constants(path, &text, numbers).replace(test, &format!("{told}{test}"));
+    let free = if numbers.is_empty() { "pub mod free;\n" } else { "" };
+    format!("{text}pub mod api;\n{free}pub mod thresholds;\n")
 }
 
 /// What the project puts around the extracted items: module heads and re-exports.
@@ -207,9 +281,10 @@ pub mod exact_length;
 pub mod topology;
 pub use areas::{AreaError, BoundaryAssessment, BoundarySpan, PartitionArea, SpanPartition};
 pub use bases::PixelPosition;
-pub use topology::serial::api;
+pub use topology::serial::{api, thresholds};
 use thiserror::Error;
 ";
+const FREE: &str = "pub use topology::serial::free;\n";
 const TOPOLOGY_HEAD: &str = "\
 pub(crate) mod context;
 pub mod serial;
@@ -218,21 +293,30 @@ use crate::{PixelPosition, WalkPosition};
 
 fn main() {
     let arguments: Vec<String> = std::env::args().collect();
-    let [_, sources, out] = &arguments[..] else {
-        eprintln!("usage: extract SOURCES OUT");
-        process::exit(2);
+    let (sources, out, numbers) = match &arguments[..] {
+        [_, sources, out, numbers @ ..] if [0, CONSTANTS.len()].contains(&numbers.len()) => {
+            (Path::new(sources), Path::new(out), numbers)
+        }
+        _ => {
+            eprintln!("usage: extract SOURCES OUT [NUMBER ...], eight numbers or none");
+            process::exit(2);
+        }
     };
-    let (sources, out) = (Path::new(sources), Path::new(out));
-    let files = [
-        ("lib.rs", ROOT.to_string() + &grid(sources)),
+    let free = if numbers.is_empty() { FREE } else { "" };
+    let mut files = vec![
+        ("lib.rs", ROOT.to_string() + free + &grid(sources)),
         ("bases.rs", positions(sources)),
         ("areas.rs", whole(sources, "areas.rs", 0, 0x2a78_c1c8_ae3c_de6a)),
         ("topology/mod.rs", TOPOLOGY_HEAD.to_string() + &topology(sources)),
         ("topology/context.rs", whole(sources, "topology/context.rs", 1, 0x1887_1eae_522b_2549)),
-        ("topology/serial.rs", serial(sources)),
+        ("topology/serial.rs", serial(sources, numbers)),
         ("topology/serial/api.rs", include_str!("api.rs").to_string()),
+        ("topology/serial/thresholds.rs", include_str!("thresholds.rs").to_string()),
         ("exact_length.rs", include_str!("exact_length.rs").to_string()),
     ];
+    if numbers.is_empty() {
+        files.push(("topology/serial/free.rs", include_str!("free.rs").to_string()));
+    }
     for (path, text) in files {
         let file = out.join(path);
         let folder = file.parent().expect("a file has a folder");

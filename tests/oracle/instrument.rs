@@ -15,6 +15,7 @@ struct Counted<'a> {
     expression: &'a str,
     test: &'a str,
     condition: &'a str,
+    first: Option<&'a str>,
     never: [&'a str; 2],
 }
 
@@ -28,11 +29,11 @@ impl<'a> Counted<'a> {
         let [name, file, expression, more @ ..] = &line.split(" | ").collect::<Vec<_>>()[..] else {
             fail("fewer than three parts", line)
         };
-        let labels = ["is ", "when ", "never false: ", "never true: "];
+        let labels = ["is ", "when ", "first ", "never false: ", "never true: "];
         if let Some(part) = more.iter().find(|part| !labels.iter().any(|l| part.starts_with(l))) {
             fail("unknown part", part)
         }
-        let [test, condition, never_false, never_true] =
+        let [test, condition, first, never_false, never_true] =
             labels.map(|label| more.iter().find_map(|part| part.strip_prefix(label)));
         Self {
             name,
@@ -40,6 +41,7 @@ impl<'a> Counted<'a> {
             expression,
             test: test.unwrap_or("it"),
             condition: condition.unwrap_or("true"),
+            first,
             never: [never_false, never_true].map(|reason| reason.unwrap_or("")),
         }
     }
@@ -91,12 +93,14 @@ fn main() {
         let path = in_copy(counted.file);
         let mut text = read(&path);
         let at = place(&text, counted);
-        let of_it = list.iter().enumerate().filter(|(_, other)| same(other));
-        let counts = of_it.map(|(index, other)| {
+        let of_it = || list.iter().enumerate().filter(|(_, other)| same(other));
+        let first: String =
+            of_it().filter_map(|(_, other)| Some(format!("{}; ", other.first?))).collect();
+        let counts = of_it().map(|(index, other)| {
             format!("if {} {{ crate::count::seen({index}, {}); }} ", other.condition, other.test)
         });
         let counts: String = counts.collect();
-        let with = format!("({{ let it = {}; {counts}it }})", &text[at.clone()]);
+        let with = format!("({{ {first}let it = {}; {counts}it }})", &text[at.clone()]);
         text.replace_range(at, &with);
         fs::write(path, text).expect("the copy can be written");
     }

@@ -1,6 +1,7 @@
 //! Stands for the proved libraries: the same C functions, from the oracle, with faults that can be
 //! switched on by name. It shows that the driver finds each of them; no part of the product.
 
+mod blocks;
 #[path = "../driver/checks.rs"]
 #[allow(dead_code)]
 mod checks;
@@ -25,6 +26,9 @@ mod rust;
 #[path = "../driver/splits.rs"]
 #[allow(dead_code)]
 mod splits;
+#[path = "../driver/thresholds.rs"]
+#[allow(dead_code)]
+mod thresholds;
 
 use checks::{Refusal, BY_LIST, CARDS, HEADER, MARK, NONE, REDUCE, SPAN};
 use exact_length::half_root;
@@ -33,6 +37,7 @@ use oracle::api::{Context, SpanPartition};
 use oracle::fault;
 use std::collections::BTreeMap;
 use std::slice;
+use thresholds::{BLOCK, OF_000};
 
 #[repr(C)]
 pub struct CallResult {
@@ -147,7 +152,7 @@ pub extern "C" fn probe_partition(
     ol: usize,
 ) -> CallResult {
     let (job, work, out) = (read(job, jl), write(work, wl), write(out, ol));
-    let Accepted { partition, .. } = match expect::accepted(REDUCE, job, &[]) {
+    let Accepted { partition, .. } = match expect::accepted(REDUCE, job, &[], &OF_000) {
         Ok(accepted) => accepted,
         Err(refusal) => return result(refusal),
     };
@@ -214,13 +219,13 @@ pub extern "C" fn probe_plan(
 ) -> CallResult {
     let (job, list, work, out) = (read(job, jl), read(list, ll), write(work, wl), write(out, ol));
     let call = if which == 0 { REDUCE } else { BY_LIST };
-    let Accepted { job, partition } = match expect::accepted(call, job, list) {
+    let accepted = match expect::accepted(call, job, list, &OF_000) {
         Ok(accepted) => accepted,
         Err(refusal) => return result(refusal),
     };
-    fill(partition.labels(), work);
-    let mut goes: Vec<u32> = (0..job.boundaries.len() as u32).collect();
-    let groups = job.groups(&partition);
+    fill(accepted.partition.labels(), work);
+    let mut goes: Vec<u32> = (0..accepted.job.boundaries.len() as u32).collect();
+    let groups = accepted.groups();
     let first_only = if fault::on("first_group_only") { 1 } else { groups.len() };
     for group in groups.iter().take(first_only) {
         let retained =
@@ -232,6 +237,15 @@ pub extern "C" fn probe_plan(
     result((0, bytes.len() as u64))
 }
 
+#[no_mangle]
+pub extern "C" fn probe_thresholds(block: Out, bl: usize) -> u64 {
+    if bl < BLOCK {
+        return 0;
+    }
+    write(block, bl)[..BLOCK].copy_from_slice(&OF_000);
+    BLOCK as u64
+}
+
 /// What the partition in context says of a region or a link, where the labels are those that it has.
 fn known(
     job: &[u8],
@@ -239,7 +253,7 @@ fn known(
     out: &mut [u8],
     say: impl Fn(&rust::Job, &SpanPartition, &Context) -> Vec<u8>,
 ) -> CallResult {
-    let Accepted { job, partition } = match expect::accepted(REDUCE, job, &[]) {
+    let Accepted { job, partition, .. } = match expect::accepted(REDUCE, job, &[], &OF_000) {
         Ok(accepted) => accepted,
         Err(refusal) => return result(refusal),
     };
@@ -559,25 +573,44 @@ fn card_faults(job: &[u8], labels: &[u32], cards: &mut Vec<u8>) {
 }
 
 /// A whole call, with faults of its order and of what it leaves.
-fn whole(call: u32, job: &[u8], list: &[u8], work: &mut [u8], out: &mut [u8]) -> CallResult {
-    let refused = refusal(call, job, list);
+fn whole(
+    call: u32,
+    job: &[u8],
+    list: &[u8],
+    block: &[u8],
+    work: &mut [u8],
+    out: &mut [u8],
+) -> CallResult {
+    let mut refused = refusal(call, job, list);
+    let mut taken = vec![];
+    if checks::takes_block(call) {
+        refused = blocks::refusal(block, refused);
+        taken = blocks::taken(block);
+    }
+    let block = &taken[..];
+    if refused.0 == 32 && fault::on("block_tested_after_work") {
+        let good = Expected::of(call, job, list, &OF_000);
+        if good.refusal == NONE && work.len() < good.work() {
+            return result((21, 0));
+        }
+    }
     if refused != NONE {
         if fault::on("work_cleared_on_refusal") {
             work.fill(0);
         }
         return result(refused);
     }
-    let mut expected = Expected::of(call, job, list);
+    let mut expected = Expected::of(call, job, list, block);
     if call == CARDS {
         card_faults(job, &expected.labels, &mut expected.written);
     }
     let answers = call == REDUCE || call == BY_LIST;
     if answers && expected.pairs <= MOST_PAIRS {
-        own::faults(call, job, list, &mut expected.written);
+        own::faults(call, job, list, block, &mut expected.written);
     }
     let late = late(call, &expected);
     let unmerged = || {
-        let accepted = expect::accepted(call, job, list).ok().expect("no refusal");
+        let accepted = expect::accepted(call, job, list, block).ok().expect("no refusal");
         let count = accepted.job.boundaries.len();
         24 + 40 * count as u64
     };
@@ -668,19 +701,24 @@ pub extern "C" fn chokes_mark(
     marks: Out,
     ml: usize,
 ) -> CallResult {
-    whole(MARK, read(job, jl), &[], write(work, wl), write(marks, ml))
+    whole(MARK, read(job, jl), &[], &[], write(work, wl), write(marks, ml))
 }
 
 #[no_mangle]
 pub extern "C" fn chokes_reduce(
     job: In,
     jl: usize,
+    thresholds: In,
+    tl: usize,
     work: Out,
     wl: usize,
     answer: Out,
     al: usize,
 ) -> CallResult {
-    whole(REDUCE, read(job, jl), &[], write(work, wl), write(answer, al))
+    let block = read(thresholds, tl);
+    let said = whole(REDUCE, read(job, jl), &[], block, write(work, wl), write(answer, al));
+    blocks::touch(thresholds, tl);
+    said
 }
 
 #[no_mangle]
@@ -689,12 +727,17 @@ pub extern "C" fn chokes_reduce_by_list(
     jl: usize,
     list: In,
     ll: usize,
+    thresholds: In,
+    tl: usize,
     work: Out,
     wl: usize,
     answer: Out,
     al: usize,
 ) -> CallResult {
-    whole(BY_LIST, read(job, jl), read(list, ll), write(work, wl), write(answer, al))
+    let (list, block) = (read(list, ll), read(thresholds, tl));
+    let said = whole(BY_LIST, read(job, jl), list, block, write(work, wl), write(answer, al));
+    blocks::touch(thresholds, tl);
+    said
 }
 
 #[no_mangle]
@@ -706,5 +749,5 @@ pub extern "C" fn chokes_area_cards(
     cards: Out,
     cl: usize,
 ) -> CallResult {
-    whole(CARDS, read(job, jl), &[], write(work, wl), write(cards, cl))
+    whole(CARDS, read(job, jl), &[], &[], write(work, wl), write(cards, cl))
 }

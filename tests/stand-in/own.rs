@@ -1,7 +1,7 @@
 //! Faults of own sources, such as a library could have that looks for the first of each kind by heads and digits and sorts
 //! them in the answer.
 
-use crate::expect::{self, Accepted};
+use crate::expect;
 use crate::heads::{head, number};
 use crate::rust::{self, Group};
 use crate::splits;
@@ -12,12 +12,13 @@ use std::collections::BTreeSet;
 type Source = [u32; 2];
 
 /// The answer with the fault that is on, where it is one of these.
-pub fn faults(call: u32, job: &[u8], list: &[u8], written: &mut Vec<u8>) {
+pub fn faults(call: u32, job: &[u8], list: &[u8], block: &[u8], written: &mut Vec<u8>) {
     if !fault::begins("own_") {
         return;
     }
-    let Ok(Accepted { job, partition }) = expect::accepted(call, job, list) else { return };
-    let (mut kept, groups) = (job.kept(&partition), job.groups(&partition));
+    let Ok(accepted) = expect::accepted(call, job, list, block) else { return };
+    let (mut kept, groups) = (accepted.kept(), accepted.groups());
+    let job = &accepted.job;
     let mut before = BTreeSet::new();
     for boundary in &mut kept {
         let members = members(boundary, &job.boundaries, &groups);

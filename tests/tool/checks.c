@@ -129,7 +129,7 @@ static int differ(struct sight *a, struct sight *b)
     return differs || memcmp(a->own, b->own, a->own_count * sizeof *a->own) != 0;
 }
 
-int check_groups(const struct run *run)
+int check_groups(const struct run *run, unsigned long *large)
 {
     struct groups groups;
     struct reader reader = read_answer(run->answer.at);
@@ -146,7 +146,9 @@ int check_groups(const struct run *run)
         for (i = 0; i < 4; i++) {
             wrong |= ends[i] != word(kept.boundary, 4 * (size_t)i);
         }
-        wrong |= groups.goes[groups.retained[k]] != k || groups.members[k] < 1 || groups.members[k] > 4;
+        wrong |= groups.goes[groups.retained[k]] != k || groups.members[k] < 1 ||
+                 groups.members[k] > word(run->thresholds.at, CHOKES_THRESHOLDS_LARGEST_AT);
+        *large += groups.members[k] > 4;
         free(sights[0].observations);
         free(sights[1].observations);
         free(sights);

@@ -208,6 +208,109 @@ static int wrong_pairs(int by_list)
     return wrong;
 }
 
+/* A block of thresholds damaged in each way that is refused: words and lengths of it, and what is said of them. */
+struct block_damage {
+    const char *field, *byte, *found, *allowed, *words;
+    size_t length; /* or 0 for as it is, 1 for none at all */
+    struct patch patches[2];
+};
+
+#define SIZES "2 to 16, the smallest not over the largest"
+#define LENGTHS "0 to 16384, without a minus sign (bits 0000000000000000 to 40d0000000000000)"
+#define COSINES "0 to 1, without a minus sign (bits 0000000000000000 to 3ff0000000000000)"
+#define BITS(at, high, low) {{at, 4, low}, {(at) + 4, 4, high}}
+#define NUMBER(name, at, hexadecimal)                                                                                      \
+    {name, #at " (hexadecimal " hexadecimal ")", "16384.000000000004 (bits 40d0000000000001)", LENGTHS,                     \
+     "The thresholds' " name " is too large: 16384.000000000004, and at most 16384 is allowed.", 0, BITS(at, 0x40d00000u, 1)}, \
+    {name, #at " (hexadecimal " hexadecimal ")", "-0 (bits 8000000000000000)", LENGTHS,                                     \
+     "The thresholds' " name " has a minus sign: -0.", 0, BITS(at, 0x80000000u, 0)},                                        \
+    {name, #at " (hexadecimal " hexadecimal ")", "-8 (bits c020000000000000)", LENGTHS,                                     \
+     "The thresholds' " name " has a minus sign: -8.", 0, BITS(at, 0xc0200000u, 0)},                                        \
+    {name, #at " (hexadecimal " hexadecimal ")", "inf (bits 7ff0000000000000)", LENGTHS,                                    \
+     "The thresholds' " name " is too large: inf, and at most 16384 is allowed.", 0, BITS(at, 0x7ff00000u, 0)},             \
+    {name, #at " (hexadecimal " hexadecimal ")", "no number (bits 7ff8000000000000)", LENGTHS,                              \
+     "The thresholds' " name " isn't a number.", 0, BITS(at, 0x7ff80000u, 0)},                                              \
+    {name, #at " (hexadecimal " hexadecimal ")", "no number (bits ffffffffffffffff)", LENGTHS,                              \
+     "The thresholds' " name " isn't a number.", 0, BITS(at, 0xffffffffu, 0xffffffffu)}
+
+static const struct block_damage block_damages[] = {
+    {"length", "0 (hexadecimal 0)", "0 bytes", "only 64 bytes", "The block of thresholds has 0 bytes, and a block has 64.", 1, {{0, 0, 0}}},
+    {"length", "63 (hexadecimal 3f)", "63 bytes", "only 64 bytes", "The block of thresholds has 63 bytes, and a block has 64.", 63, {{0, 0, 0}}},
+    {"length", "64 (hexadecimal 40)", "65 bytes", "only 64 bytes", "The block of thresholds has 65 bytes, and a block has 64.", 65, {{0, 0, 0}}},
+    {"length", "64 (hexadecimal 40)", "128 bytes", "only 64 bytes", "The block of thresholds has 128 bytes, and a block has 64.", 128, {{0, 0, 0}}},
+    {"count", "0 (hexadecimal 0)", "7", "only 8", "The thresholds' count is 7, and it has to be 8: there are eight numbers.", 0, {{0, 4, 7}}},
+    {"count", "0 (hexadecimal 0)", "134217728", "only 8",
+     "The thresholds' count is 134217728, and it has to be 8: there are eight numbers.", 0, {{0, 4, 134217728}}},
+    {"offset", "4 (hexadecimal 4)", "0", "only 8", "The thresholds' offset is 0, and it has to be 8: the numbers begin at byte 8.", 0, {{4, 4, 0}}},
+    {"offset", "4 (hexadecimal 4)", "4294967295", "only 8",
+     "The thresholds' offset is 4294967295, and it has to be 8: the numbers begin at byte 8.", 0, {{4, 4, 4294967295u}}},
+    {"smallest serial group", "8 (hexadecimal 8)", "1", SIZES,
+     "The thresholds' smallest serial group is 1, and groups have 2 to 16 boundaries.", 0, {{8, 4, 1}}},
+    {"smallest serial group", "8 (hexadecimal 8)", "0", SIZES,
+     "The thresholds' smallest serial group is 0, and groups have 2 to 16 boundaries.", 0, {{8, 4, 0}}},
+    {"smallest serial group", "8 (hexadecimal 8)", "17", SIZES,
+     "The thresholds' smallest serial group is 17, and groups have 2 to 16 boundaries.", 0, {{8, 4, 17}, {12, 4, 17}}},
+    {"largest group", "12 (hexadecimal c)", "17", SIZES,
+     "The thresholds' largest group is 17, and groups have 2 to 16 boundaries.", 0, {{12, 4, 17}}},
+    {"largest group", "12 (hexadecimal c)", "1", SIZES, "The thresholds' largest group is 1, and groups have 2 to 16 boundaries.", 0, {{12, 4, 1}}},
+    {"largest group", "12 (hexadecimal c)", "4294967295", SIZES,
+     "The thresholds' largest group is 4294967295, and groups have 2 to 16 boundaries.", 0, {{12, 4, 4294967295u}}},
+    {"smallest and largest group", "8 (hexadecimal 8)", "smallest 5, largest 4", SIZES,
+     "The thresholds' smallest serial group, 5, is over their largest group, 4.", 0, {{8, 4, 5}}},
+    {"smallest and largest group", "8 (hexadecimal 8)", "smallest 16, largest 15", SIZES,
+     "The thresholds' smallest serial group, 16, is over their largest group, 15.", 0, {{8, 4, 16}, {12, 4, 15}}},
+    NUMBER("chain", 16, "10"),
+    NUMBER("width", 24, "18"),
+    NUMBER("geometry", 32, "20"),
+    NUMBER("flat duplicate", 40, "28"),
+    NUMBER("flat envelope", 48, "30"),
+    {"cosine", "56 (hexadecimal 38)", "1.0000000000000002 (bits 3ff0000000000001)", COSINES,
+     "The thresholds' cosine is too large: 1.0000000000000002, and at most 1 is allowed.", 0, BITS(56, 0x3ff00000u, 1)},
+    {"cosine", "56 (hexadecimal 38)", "-0 (bits 8000000000000000)", COSINES,
+     "The thresholds' cosine has a minus sign: -0.", 0, BITS(56, 0x80000000u, 0)},
+    {"cosine", "56 (hexadecimal 38)", "-1 (bits bff0000000000000)", COSINES,
+     "The thresholds' cosine has a minus sign: -1.", 0, BITS(56, 0xbff00000u, 0)},
+    {"cosine", "56 (hexadecimal 38)", "no number (bits 7ff8000000000000)", COSINES,
+     "The thresholds' cosine isn't a number.", 0, BITS(56, 0x7ff80000u, 0)},
+};
+
+/* On a job that is right, and with a list or without, and on one that is no job at all: the block is told first. */
+static int wrong_block(const struct block_damage *d, int by_list, int no_job)
+{
+    struct run run;
+    struct text text = {NULL, 0, 0}, block = {NULL, 0, 0};
+    const char *at;
+    int wrong;
+    memset(&run, 0, sizeof run);
+    run.input = whole_job();
+    if (no_job) {
+        run.input.length = 20;
+    }
+    run.by_list = by_list;
+    run.thresholds = thresholds_of_000();
+    if (d->length > 0) {
+        run.thresholds.at = more_room(run.thresholds.at, 128);
+        memset(run.thresholds.at + 64, 0, 64);
+        run.thresholds.length = d->length == 1 ? 0 : d->length;
+    }
+    apply(&run.thresholds, &d->patches[0]);
+    apply(&run.thresholds, &d->patches[1]);
+    make_run(&run);
+    explain(&text, &run);
+    say(&block, "%s\n  record   block of thresholds\n  field    %s\n  byte     %s of the block of thresholds\n  found    %s\n"
+        "  allowed  %s\n", d->words, d->field, d->byte, d->found, d->allowed);
+    at = strncmp(text.at, "refused 32 0\n\n", 14) == 0 ? text.at + 14 : "";
+    wrong = run.result.number != CHOKES_BAD_THRESHOLDS || run.result.detail != 0 || strncmp(at, block.at, strlen(block.at)) != 0 ||
+            (strstr(at, "too short to be a job") != NULL) != no_job;
+    if (wrong) {
+        printf("of a block was said:\n%s\nand not:\n%s\n", text.at, block.at);
+    }
+    end_run(&run);
+    free(text.at);
+    free(block.at);
+    return wrong;
+}
+
 /* Explains the run and ends it; 0 where these words come in this order. */
 static int wrong_words_of(struct run *run, const char *const *words, size_t count)
 {
@@ -248,6 +351,24 @@ static int wrong_order(void)
     return wrong_words_of(&run, words, sizeof words / sizeof *words);
 }
 
+/* A block with every field wrong, and a job with a fault: the block's come first, all in their order. */
+static int wrong_block_order(void)
+{
+    static const char *const words[] = {"refused 32 0\n", "The block of thresholds has 72 bytes", "11 more to mend", "count is 4294967295",
+                                        "(32)", "offset is 4294967295", "smallest serial group is 4294967295", "largest group is 4294967295",
+                                        "thresholds' chain isn't", "thresholds' width isn't", "thresholds' geometry isn't",
+                                        "thresholds' flat duplicate isn't", "thresholds' flat envelope isn't", "thresholds' cosine isn't",
+                                        "The cell in column 1, row 1", "(6)"};
+    struct run run;
+    memset(&run, 0, sizeof run);
+    run.input = whole_job();
+    run.input.at[55] = 64;
+    run.thresholds.length = 72;
+    run.thresholds.at = room(72);
+    memset(run.thresholds.at, 255, 72);
+    return wrong_words_of(&run, words, sizeof words / sizeof *words);
+}
+
 /* Every cell wrong: the first twenty are told one by one, the others counted. */
 static int wrong_many(void)
 {
@@ -267,6 +388,8 @@ static int wrong_hints(void)
                                         "Whether anchors and ends lie on the map can't be told until its sides are right."};
     static const char *const laid[] = {"refused 5 0\n", "offset of the cells", "(5)", "length\n",
                                        "Cells and records can't be told until"};
+    static const char *const both[] = {"refused 32 0\n", "The block of thresholds has 3 bytes", "2 more to mend", "offset of the cells",
+                                       "(5)", "length\n", "Cells and records can't be told until"};
     struct run run;
     int wrong;
     memset(&run, 0, sizeof run);
@@ -283,14 +406,22 @@ static int wrong_hints(void)
     run.input = whole_job();
     put_word(run.input.at, 24, 1);
     run.input.length = 300;
-    return wrong + wrong_words_of(&run, laid, sizeof laid / sizeof *laid);
+    wrong += wrong_words_of(&run, laid, sizeof laid / sizeof *laid);
+    /* The same after a block that is wrong: the job's header is still told. */
+    run.input = whole_job();
+    put_word(run.input.at, 24, 1);
+    run.input.length = 300;
+    run.thresholds = thresholds_of_000();
+    run.thresholds.length = 3;
+    return wrong + wrong_words_of(&run, both, sizeof both / sizeof *both);
 }
 
 int check_damages(void)
 {
     size_t i, count = sizeof damages / sizeof *damages;
     unsigned seen = 0;
-    int wrong = wrong_pairs(0) + wrong_pairs(1) + wrong_order() + wrong_many() + wrong_hints();
+    const size_t blocks = sizeof block_damages / sizeof *block_damages;
+    int wrong = wrong_pairs(0) + wrong_pairs(1) + wrong_order() + wrong_many() + wrong_hints() + wrong_block_order();
     for (i = 0; i < count; i++) {
         wrong += wrong_words(&damages[i]);
         seen |= 1u << damages[i].number;
@@ -300,6 +431,10 @@ int check_damages(void)
         printf("a number isn't tried\n");
         wrong++;
     }
-    printf("explain: %lu kinds of damage, %d told wrongly\n", (unsigned long)count + 7, wrong);
+    for (i = 0; i < 4 * blocks; i++) {
+        wrong += wrong_block(&block_damages[i / 4], i % 4 / 2, i % 2);
+    }
+    printf("explain: %lu kinds of damage, %lu of a block, %d told wrongly\n", (unsigned long)count + 7, (unsigned long)blocks + 2,
+           wrong);
     return wrong != 0;
 }

@@ -5,8 +5,8 @@
 #include "make.h"
 
 int check_damages(void);
-/* 0 where the groups are what the answer says of them. */
-int check_groups(const struct run *run);
+/* 0 where the groups are what the answer says of them; counts those of over four boundaries. */
+int check_groups(const struct run *run, unsigned long *large);
 /* 0 where the marks are the bridges of the pairs; counts those that were compared. */
 int check_marks(const struct run *run, unsigned long *compared);
 /* 0 where the cards are what the labels and the job's cells say; counts those that were compared. */

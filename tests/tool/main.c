@@ -1,7 +1,8 @@
 /* The test of the tool's parts, in one process.
  *
  *   main damages             explain on each kind of damage
- *   main jobs N JOB ...      N jobs, changed or made by a fixed seed: explain, groups, marks and pages
+ *   main jobs N JOB ...      N jobs, changed or made by a fixed seed, by thresholds of 000 and others: explain, groups, marks and pages
+ *   main thresholds N        N blocks, told in words and made again of these
  *   main drawings N FOLDER MAP ...   N changed drawings: what draw makes of them is accepted but for 12 and 13
  *   main arguments N WORD ...  N command lines of these words; the tool's status is 0, 1 or 2
  *   main page FILE JOB       whether a page is well formed and draws the job's areas
@@ -14,7 +15,7 @@
 
 int tool_main(int argc, char **argv);
 
-static unsigned long accepted, refused[24], merged, marked, carded, drawn;
+static unsigned long accepted, refused[NUMBERS], merged, large, marked, carded, drawn;
 
 static struct bytes copy_of(const struct bytes *bytes)
 {
@@ -144,6 +145,19 @@ static struct bytes some_list(const struct bytes *job)
     return list;
 }
 
+/* No block, for that of 000; one that is accepted; or one that is changed. */
+static struct bytes maybe_thresholds(void)
+{
+    struct bytes block = {NULL, 0};
+    if (below(3) != 0) {
+        block = some_thresholds();
+        if (below(6) == 0) {
+            change(&block);
+        }
+    }
+    return block;
+}
+
 static const char *wrong_run(struct run *run)
 {
     struct faults faults;
@@ -159,7 +173,7 @@ static const char *wrong_run(struct run *run)
     view(&page, run, "a <job> & \"its\" name");
     if (!agrees || strstr(words.at, "can't tell") != NULL) {
         why = "explain says something else than the call";
-    } else if (run->result.number == CHOKES_OK && check_groups(run) != 0) {
+    } else if (run->result.number == CHOKES_OK && check_groups(run, &large) != 0) {
         why = "the groups aren't what the answer has";
     } else if (run->result.number == CHOKES_OK && !run->by_list && check_marks(run, &marked) != 0) {
         why = "the marks aren't the bridges of the pairs";
@@ -170,7 +184,7 @@ static const char *wrong_run(struct run *run)
     } else {
         why = ill_formed(page.at);
     }
-    refused[run->result.number < 24 ? run->result.number : 23]++;
+    refused[run->result.number < NUMBERS ? run->result.number : 0]++;
     if (run->result.number == CHOKES_OK) {
         accepted++;
         merged += run->job.count[BOUNDARIES] - word(run->answer.at, 0);
@@ -198,6 +212,7 @@ static int check_jobs(unsigned long count, char **names, int given_count)
         const char *why;
         memset(&run, 0, sizeof run);
         run.input = some_job(given, (size_t)k);
+        run.thresholds = maybe_thresholds();
         run.by_list = below(3) == 0;
         if (run.by_list) {
             run.list = some_list(&run.input);
@@ -212,18 +227,51 @@ static int check_jobs(unsigned long count, char **names, int given_count)
     while (k > 0) {
         free(given[--k].at);
     }
-    printf("jobs: %lu, %lu accepted, %lu boundaries merged away, %lu marks held to the pairs, %lu cards to the labels, "
-           "%lu cells read back; refused", count, accepted, merged, marked, carded, drawn);
-    for (number = 1; number < 18; number++) {
+    printf("jobs: %lu, %lu accepted, %lu boundaries merged away, %lu groups of over four, %lu marks held to the pairs, %lu cards "
+           "to the labels, %lu cells read back; refused", count, accepted, merged, large, marked, carded, drawn);
+    for (number = 1; number < NUMBERS; number = number == 17 ? CHOKES_BAD_THRESHOLDS : number + 1) {
         printf(" %u:%lu", number, refused[number]);
         missing |= refused[number] == 0 && number != 13;
     }
     printf("\n");
-    if (missing || accepted == 0 || merged == 0 || marked == 0 || carded == 0 || drawn == 0) {
+    if (missing || accepted == 0 || merged == 0 || large == 0 || marked == 0 || carded == 0 || drawn == 0) {
         printf("jobs: something never came up\n");
         return 1;
     }
     return 0;
+}
+
+/* The words at the start of each line make the same block again. */
+static int made_again(const struct bytes *block)
+{
+    struct text words = {NULL, 0, 0};
+    uint8_t again[CHOKES_THRESHOLDS_BYTES];
+    char *arguments[16], *line;
+    int count = 0, wrong;
+    print_thresholds(&words, block);
+    for (line = strtok(words.at, "\n"); line != NULL && count < 16; line = strtok(NULL, "\n")) {
+        line[strcspn(line, " ")] = 0;
+        arguments[count++] = line;
+    }
+    wrong = count != 8 || make_thresholds(arguments, count, again) != 0 || memcmp(again, block->at, sizeof again) != 0;
+    free(words.at);
+    return !wrong;
+}
+
+static int check_thresholds(unsigned long count)
+{
+    unsigned long i;
+    seed(4);
+    for (i = 0; i < count; i++) {
+        struct bytes block = i == 0 ? thresholds_of_000() : some_thresholds();
+        if (!made_again(&block)) {
+            printf("block %lu: its words make another\n", i);
+            return 1;
+        }
+        free(block.at);
+    }
+    printf("thresholds: %lu blocks made again of their words\n", count);
+    return count == 0;
 }
 
 static void change_drawing(struct bytes *text)
@@ -381,6 +429,9 @@ int main(int argc, char **argv)
     unsigned long count = argc > 2 ? strtoul(argv[2], NULL, 10) : 0;
     if (argc == 2 && strcmp(argv[1], "damages") == 0) {
         return check_damages();
+    }
+    if (argc == 3 && strcmp(argv[1], "thresholds") == 0) {
+        return check_thresholds(count);
     }
     if (argc > 3 && strcmp(argv[1], "jobs") == 0) {
         return check_jobs(count, argv + 3, argc - 3);

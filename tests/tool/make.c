@@ -198,8 +198,9 @@ struct bytes corridors_job(void)
     add_bases(draft, below(3) == 0);
     for (i = 0; i < corridors; i++) {
         uint32_t top = 8 * i * (thick + 1), x = 8;
-        for (k = 1 + below(4); k > 0; k--) {
-            x += 8 + 8 * below(6);
+        const uint32_t nearest = below(2) == 0 ? 6 : 2;
+        for (k = 1 + below(nearest == 6 ? 4 : 20); k > 0; k--) {
+            x += 8 + 8 * below(nearest);
             if (x <= 8 * width) {
                 int up = below(2) != 0;
                 add_boundary(draft, x, up ? top + 8 * thick : top, x, up ? top : top + 8 * thick, 8 * (thick + below(2)));
@@ -208,4 +209,26 @@ struct bytes corridors_job(void)
         }
     }
     return encode(draft);
+}
+
+struct bytes some_thresholds(void)
+{
+    static const double lengths[] = {0, 8, 24, 40, 128, 384, 1000.5, 16384};
+    struct bytes block = thresholds_of_000();
+    uint32_t smallest = 2 + below(15);
+    size_t at;
+    put_word(block.at, CHOKES_THRESHOLDS_SMALLEST_AT, below(2) == 0 ? 2 : smallest);
+    put_word(block.at, CHOKES_THRESHOLDS_LARGEST_AT, smallest + below(17 - smallest));
+    for (at = CHOKES_THRESHOLDS_CHAIN_AT; at < CHOKES_THRESHOLDS_BYTES; at += 8) {
+        int cosine = at == CHOKES_THRESHOLDS_COSINE_AT;
+        double value = cosine ? below(1001) / 1000.0 : lengths[below(sizeof lengths / sizeof *lengths)];
+        uint64_t bits;
+        memcpy(&bits, &value, sizeof bits);
+        if (below(4) == 0) {
+            bits = next() % ((cosine ? MOST_COSINE_BITS : MOST_WIDTH_BITS) + 1);
+        }
+        put_word(block.at, at, (uint32_t)bits);
+        put_word(block.at, at + 4, (uint32_t)(bits >> 32));
+    }
+    return block;
 }

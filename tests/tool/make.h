@@ -35,6 +35,8 @@ struct bytes encode(struct draft *draft);
 struct bytes noise_job(uint32_t width, uint32_t height, uint32_t boundaries, unsigned open_of_100);
 /* Corridors with boundaries across them, which merge. */
 struct bytes corridors_job(void);
+/* A block of thresholds that is accepted. */
+struct bytes some_thresholds(void);
 
 /* NULL for a page whose tags are well nested and whose links stay within it, else what is wrong. */
 const char *ill_formed(const char *page);

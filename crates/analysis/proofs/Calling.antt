@@ -18,7 +18,7 @@ use Rattle.checks.specs.declared.verdict.Verdict.{Verdict}
 use Rattle.checks.specs.declared.verdict.Verdict.the-variants.{Passed, JobTooShort, BadSides, TooManyRecords, TooManyBoundaries, BadLayout, BadCell}
 use Rattle.checks.specs.declared.verdict.Verdict.the-variants.{AnchorOffMap}
 use Rattle.checks.specs.declared.verdict.Verdict.the-variants.{BadSums, BadRamp, BadWidth, EndOffMap, EndsCoincide, BadListLength, TooManySpans}
-use Rattle.checks.specs.declared.verdict.Verdict.the-variants.{SpanOffMap, SpanEndsCoincide}
+use Rattle.checks.specs.declared.verdict.Verdict.the-variants.{SpanOffMap, SpanEndsCoincide, BadThresholds}
 use Rattle.checks_calls.specs.Refusals.{jobChecks, boundaryChecks, reduceChecks, byListChecks, markChecks}
 use Rattle.checks.proofs.Firsts.{none-left}
 use Rattle.checks.proofs.Limits.{cells-limit}
@@ -47,6 +47,7 @@ numbered BadListLength e = omega arith
 numbered (TooManySpans n) e = omega arith
 numbered (SpanOffMap i) e = omega arith
 numbered (SpanEndsCoincide i) e = omega arith
+numbered BadThresholds e = omega arith
 
 -- the cells of a job past 1 to 10
 module _ (s : List ℕ) {h : Header} (e : firstRefusal (jobChecks s) ≡ none) (k : h ≡ headerAt s) where

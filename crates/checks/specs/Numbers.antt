@@ -63,3 +63,6 @@ marksTooShort = 23
 
 abbrev pub sliceTooShort : ℕ
 sliceTooShort = 31
+
+abbrev pub badThresholds : ℕ
+badThresholds = 32

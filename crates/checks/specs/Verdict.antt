@@ -4,11 +4,11 @@ use mathlib.Core.Bool.{Bool, true, false}
 use mathlib.Core.Option.{Option, none, some}
 use Rattle.checks.specs.Checks.{Refusal}
 use Rattle.checks.specs.Numbers.{jobTooShort, badSides, tooManyRecords, tooManyBoundaries, badLayout, badCell, anchorOffMap, badSums, badRamp}
-use Rattle.checks.specs.Numbers.{badWidth, endOffMap, endsCoincide, badListLength, tooManySpans, spanOffMap, spanEndsCoincide}
+use Rattle.checks.specs.Numbers.{badWidth, endOffMap, endsCoincide, badListLength, tooManySpans, spanOffMap, spanEndsCoincide, badThresholds}
 use Rattle.checks.specs.declared.verdict.Verdict.{Verdict}
 use Rattle.checks.specs.declared.verdict.Verdict.the-variants.{Passed, JobTooShort, BadSides, TooManyRecords, TooManyBoundaries, BadLayout, BadCell}
 use Rattle.checks.specs.declared.verdict.Verdict.the-variants.{AnchorOffMap, BadSums, BadRamp, BadWidth, EndOffMap, EndsCoincide, BadListLength}
-use Rattle.checks.specs.declared.verdict.Verdict.the-variants.{TooManySpans, SpanOffMap, SpanEndsCoincide}
+use Rattle.checks.specs.declared.verdict.Verdict.the-variants.{TooManySpans, SpanOffMap, SpanEndsCoincide, BadThresholds}
 
 abbrev refused : ℕ → ℕ → Option Refusal
 refused n d = some (record { number = n; detail = d })
@@ -31,6 +31,7 @@ meaning BadListLength = refused badListLength 0
 meaning (TooManySpans n) = refused tooManySpans n
 meaning (SpanOffMap i) = refused spanOffMap i
 meaning (SpanEndsCoincide i) = refused spanEndsCoincide i
+meaning BadThresholds = refused badThresholds 0
 
 abbrev pub passes : Option Refusal → Bool
 passes none = true

@@ -40,3 +40,5 @@ pub const ANSWER_TOO_SHORT: u32 = 22;
 pub const MARKS_TOO_SHORT: u32 = 23;
 
 pub const SLICE_TOO_SHORT: u32 = 31;
+
+pub const BAD_THRESHOLDS: u32 = 32;

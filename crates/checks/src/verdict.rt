@@ -8,6 +8,7 @@ use crate::refusals::BAD_LIST_LENGTH;
 use crate::refusals::BAD_RAMP;
 use crate::refusals::BAD_SIDES;
 use crate::refusals::BAD_SUMS;
+use crate::refusals::BAD_THRESHOLDS;
 use crate::refusals::BAD_WIDTH;
 use crate::refusals::END_OFF_MAP;
 use crate::refusals::ENDS_COINCIDE;
@@ -36,6 +37,7 @@ pub enum Verdict {
     TooManySpans(usize),
     SpanOffMap(usize),
     SpanEndsCoincide(usize),
+    BadThresholds,
 }
 
 impl Verdict {
@@ -67,6 +69,7 @@ impl Verdict {
             Verdict::TooManySpans(_) => TOO_MANY_SPANS,
             Verdict::SpanOffMap(_) => SPAN_OFF_MAP,
             Verdict::SpanEndsCoincide(_) => SPAN_ENDS_COINCIDE,
+            Verdict::BadThresholds => BAD_THRESHOLDS,
         }
     }
 
@@ -91,6 +94,7 @@ impl Verdict {
             Verdict::TooManySpans(n) => n as u64,
             Verdict::SpanOffMap(i) => i as u64,
             Verdict::SpanEndsCoincide(i) => i as u64,
+            Verdict::BadThresholds => 0,
         }
     }
 }

@@ -1,4 +1,4 @@
-// Reduce and Reduce by list: the answer that a plan gives.
+// Reduce and Reduce by list: the answer that a plan gives, by the limits of a lent block.
 ghost use mathlib.Core.Path.{_≡_};
 ghost use Rattle.format.specs.Header.{headerAt};
 ghost use Rattle.results.specs.Calls.{reduceResult, reduceByListResult};
@@ -14,7 +14,8 @@ use answer_encoding::from_job::write_answer;
 use checks::refusals::ANSWER_TOO_SHORT;
 use format::read_header;
 use grid::neighbors::EIGHT;
-use serial_links::limits::Limits;
+use thresholds::check_thresholds;
+use thresholds::read_limits;
 
 // Writes the answer of a plan where the slice has room for it.
 fn finish(job: &[u8], order: &[u32; 256], plan: &[u32; 256], answer: &mut [u8]) -> ChokesResult
@@ -38,13 +39,23 @@ fn finish(job: &[u8], order: &[u32; 256], plan: &[u32; 256], answer: &mut [u8]) 
 }
 
 #[no_mangle]
-pub extern "C" fn chokes_reduce(job: &[u8], work: &mut [u8], answer: &mut [u8]) -> ChokesResult
-    ensures { λ r. ⌜ leftBy (r .number) (r .detail) (now (work .exit)) (now (answer .exit)) ≡ reduceResult (now (job .entry)) (now (work .entry))
-        (now (answer .entry)) ⌝ }
+pub extern "C" fn chokes_reduce(
+    job: &[u8],
+    thresholds: &[u8],
+    work: &mut [u8],
+    answer: &mut [u8],
+) -> ChokesResult
+    ensures { λ r. ⌜ leftBy (r .number) (r .detail) (now (work .exit)) (now (answer .exit)) ≡ reduceResult (now (job .entry)) (now (thresholds .entry))
+        (now (work .entry)) (now (answer .entry)) ⌝ }
 {
+    let v = check_thresholds(thresholds);
+    if !v.passed() {
+        return ChokesResult::of_verdict(v);
+    }
+    let limits = read_limits(thresholds);
     let mut order = [0u32; 256];
     let mut plan = [0u32; 256];
-    let r = plan_reduce(Limits::of_000(), EIGHT, job, work, &mut order, &mut plan);
+    let r = plan_reduce(limits, EIGHT, job, work, &mut order, &mut plan);
     if 0 < r.number {
         return r;
     }
@@ -55,23 +66,21 @@ pub extern "C" fn chokes_reduce(job: &[u8], work: &mut [u8], answer: &mut [u8]) 
 pub extern "C" fn chokes_reduce_by_list(
     job: &[u8],
     list: &[u8],
+    thresholds: &[u8],
     work: &mut [u8],
     answer: &mut [u8],
 ) -> ChokesResult
     ensures { λ r. ⌜ leftBy (r .number) (r .detail) (now (work .exit)) (now (answer .exit)) ≡ reduceByListResult (now (job .entry)) (now (list .entry))
-        (now (work .entry)) (now (answer .entry)) ⌝ }
+        (now (thresholds .entry)) (now (work .entry)) (now (answer .entry)) ⌝ }
 {
+    let v = check_thresholds(thresholds);
+    if !v.passed() {
+        return ChokesResult::of_verdict(v);
+    }
+    let limits = read_limits(thresholds);
     let mut order = [0u32; 256];
     let mut plan = [0u32; 256];
-    let r = plan_reduce_by_list(
-        Limits::of_000(),
-        EIGHT,
-        job,
-        list,
-        work,
-        &mut order,
-        &mut plan,
-    );
+    let r = plan_reduce_by_list(limits, EIGHT, job, list, work, &mut order, &mut plan);
     if 0 < r.number {
         return r;
     }

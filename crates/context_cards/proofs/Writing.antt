@@ -1,35 +1,24 @@
 -- Words written one after another are written at once, and two halves are a card.
 use mathlib.Core.Path.{_≡_, sym, _∙_, ap}
-use mathlib.Core.List.{List, [], _∷_, _++_, flatMap, append-nil}
+use mathlib.Core.List.{List, [], _∷_, _++_}
 use Prim.Native.Nat.{ℕ, _+_, _*_, _≤_}
 use native.Mathlib.Omega.{arith}
 use lib.ListN.{length}
 use Rattle.lists.proofs.Flat.{flatMap-append}
 use Rattle.wire.specs.Bytes.{splice, u32Bytes, words}
 use Rattle.format.proofs.Writes.{then-write}
-use Rattle.areas_components.proofs.LabelWords.{bytes-length}
+use Rattle.format.proofs.Fields.{fields-long, field-first, field-more}
 use Rattle.context.specs.Held.{statsIn}
 use Rattle.context.specs.declared.stats.RegionStats.{RegionStats as StatsHeld}
 use Rattle.context.specs.Cards.{cardWords, cardBytes}
 
 pub words-length : (ws : List ℕ) → length (words ws) ≡ 4 * length ws
 unfolding words
-words-length ws = bytes-length ws
+words-length ws = fields-long 4 ws
 
 words-append : (vs ws : List ℕ) → words (vs ++ ws) ≡ words vs ++ words ws
 unfolding words
 words-append vs ws = flatMap-append u32Bytes vs ws
-
-words-one : (v : ℕ) → words (v ∷ []) ≡ u32Bytes v
-unfolding words flatMap
-words-one v = append-nil (u32Bytes v)
-
--- a word more
-word-more : (s : List ℕ) (i : ℕ) (ws : List ℕ) (w : ℕ) {t u : List ℕ} {j v : ℕ} → i + 4 * length ws ≤ length s → t ≡ splice s i (words ws)
-    → u ≡ splice t j (u32Bytes v) → j ≡ i + 4 * length ws → v ≡ w → u ≡ splice s i (words (ws ++ (w ∷ [])))
-word-more s i ws w {v = v} h p q e f =
-    then-write s i (words ws) (u32Bytes v) (omega (arith, words-length ws)) (omega (arith, words-length ws)) p q
-    ∙ ap (splice s i) (ap (λ (x : ℕ). words ws ++ u32Bytes x) f ∙ (ap (λ (x : List ℕ). words ws ++ x) (sym (words-one w)) ∙ sym (words-append ws (w ∷ []))))
 
 -- five words
 pub five-written : (s : List ℕ) (i v1 v2 v3 v4 v5 : ℕ) {t1 t2 t3 t4 t5 : List ℕ} {j2 j3 j4 j5 a b c d e : ℕ} → i + 20 ≤ length s
@@ -37,12 +26,13 @@ pub five-written : (s : List ℕ) (i v1 v2 v3 v4 v5 : ℕ) {t1 t2 t3 t4 t5 : Lis
     → t5 ≡ splice t4 j5 (u32Bytes e)
     → j2 ≡ i + 4 → j3 ≡ i + 8 → j4 ≡ i + 12 → j5 ≡ i + 16 → a ≡ v1 → b ≡ v2 → c ≡ v3 → d ≡ v4 → e ≡ v5
     → t5 ≡ splice s i (words (v1 ∷ v2 ∷ v3 ∷ v4 ∷ v5 ∷ []))
+unfolding words
 five-written s i v1 v2 v3 v4 v5 h e1 e2 e3 e4 e5 p2 p3 p4 p5 f1 f2 f3 f4 f5 =
-    let first = e1 ∙ ap (splice s i) (ap u32Bytes f1 ∙ sym (words-one v1)) in
-    let second = word-more s i (v1 ∷ []) v2 (omega arith) first e2 p2 f2 in
-    let third = word-more s i (v1 ∷ v2 ∷ []) v3 (omega arith) second e3 p3 f3 in
-    let fourth = word-more s i (v1 ∷ v2 ∷ v3 ∷ []) v4 (omega arith) third e4 p4 f4 in
-    word-more s i (v1 ∷ v2 ∷ v3 ∷ v4 ∷ []) v5 (omega arith) fourth e5 p5 f5
+    let first = field-first 4 s i v1 e1 f1 in
+    let second = field-more 4 s i (v1 ∷ []) v2 (omega arith) first e2 p2 f2 in
+    let third = field-more 4 s i (v1 ∷ v2 ∷ []) v3 (omega arith) second e3 p3 f3 in
+    let fourth = field-more 4 s i (v1 ∷ v2 ∷ v3 ∷ []) v4 (omega arith) third e4 p4 f4 in
+    field-more 4 s i (v1 ∷ v2 ∷ v3 ∷ v4 ∷ []) v5 (omega arith) fourth e5 p5 f5
 
 pub card-length : (s : StatsHeld) → length (cardBytes (statsIn s)) ≡ 40
 unfolding cardBytes cardWords

@@ -2,6 +2,7 @@ pub mod Sections
 pub mod Trip
 pub mod RecordTrips
 pub mod Writes
+pub mod Fields
 pub mod RowTrips
 pub mod ListTrip
 pub mod Distribution

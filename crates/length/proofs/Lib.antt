@@ -13,3 +13,4 @@ mod Loop
 pub mod Lengths
 pub mod Total
 pub mod Cases
+pub mod BitOrder

@@ -1,9 +1,9 @@
 -- The operations on f64s, each rounded once, and those that Rust has as methods. Document 01: "Float operations are each rounded once, in the order
 -- the Rust writes them."
-use mathlib.Core.Bool.{cond}
+use mathlib.Core.Bool.{Bool, false, not, cond}
 use Prim.Native.Nat.{ℕ}
 use lib.IntN.{pos}
-use lib.Ieee.{Float, binary64, add, sub, mul, div, neg, lt, ofBits, ofInt}
+use lib.Ieee.{Float, nan, inf, fin, binary64, add, sub, mul, div, neg, lt, ofBits, ofInt}
 
 infixl 65 _⊕_ _⊖_
 infixl 70 _⊗_ _⊘_
@@ -32,3 +32,9 @@ minOf a b = cond (lt b a) b a
 
 abbrev pub maxOf : Float → Float → Float
 maxOf a b = cond (lt a b) b a
+
+-- A finite number that is not negative; -0 is negative.
+abbrev pub finiteUp : Float → Bool
+finiteUp nan = false
+finiteUp (inf s) = false
+finiteUp (fin s m e) = not s

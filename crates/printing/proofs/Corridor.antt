@@ -14,6 +14,7 @@ use Rattle.answer_text.specs.Lines.{answerLines}
 use Rattle.answer_text.specs.Answer.{answerText, answerWhole}
 use Rattle.answer_text.specs.Corridor.{corridorText}
 use Rattle.answer_text.proofs.Cases.{corridor-listing}
+use Rattle.thresholds.specs.Block.{block000}
 use Rattle.results.specs.Calls.{reduceResult}
 use Rattle.results.proofs.Cases.{corridor-case}
 use Rattle.chokes.proofs.Demand.{first-written}
@@ -30,7 +31,7 @@ unfolding answerText
 corridor-listed = ap (λ (b : Bool). cond b (answerLines (decodeAnswer corridorAnswer)) []) (sym corridor-whole) ∙ corridor-listing
 
 -- Reduce on the corridor, whatever the lent slices hold: the eight lines.
-pub corridor-printed : (work answer : List ℕ) → 40 ≤ length work → 152 ≤ length answer → printed (reduceResult corridor work answer) ≡ corridorText
+pub corridor-printed : (work answer : List ℕ) → 40 ≤ length work → 152 ≤ length answer → printed (reduceResult corridor block000 work answer) ≡ corridorText
 unfolding printed
 corridor-printed work answer w a =
     let fits : length corridorAnswer ≤ length answer = omega (arith, a, corridor-case .answer-long) in

@@ -45,37 +45,42 @@ listed bs out h = ap (λ (b : Bool). cond b (answerLines (decodeAnswer (encodeAn
     (is-whole (encodeAnswer bs) out (counts-most bs) (omega (arith, counts-most bs, h)))
 
 -- The result that Reduce gave.
-module _ (job work answer : List ℕ) {number detail : ℕ} {work′ answer′ : List ℕ} (e : leftBy number detail work′ answer′ ≡ reduceResult job work answer) where
-  pub refused-text : (number ≡ 0 → ⊥) → refusedLine number detail ≡ printed (reduceResult job work answer)
+module _ (job block work answer : List ℕ) {number detail : ℕ} {work′ answer′ : List ℕ}
+    (e : leftBy number detail work′ answer′ ≡ reduceResult job block work answer) where
+  pub refused-text : (number ≡ 0 → ⊥) → refusedLine number detail ≡ printed (reduceResult job block work answer)
   unfolding printed
   refused-text h =
       ap (λ (b : Bool). cond b (answerLines (decodeAnswer (take detail answer′))) (refusedLine number detail)) (sym (ne-eqb number 0 h))
       ∙ ap printed e
 
   -- Work and answer, as Reduce left them.
-  pub left-by : (work′ ≡ reduceResult job work answer .work) × (answer′ ≡ reduceResult job work answer .out)
+  pub left-by : (work′ ≡ reduceResult job block work answer .work) × (answer′ ≡ reduceResult job block work answer .out)
   left-by = (ap (λ (o : Outcome). o .work) e, ap (λ (o : Outcome). o .out) e)
 
   -- Where the number is 0, demands 1 and 2 say what was written: an answer, whose length is the detail, and which the slice has room for.
   module _ (h : number ≡ 0) where
-    zero-given : reduceResult job work answer .number ≡ 0
+    zero-given : reduceResult job block work answer .number ≡ 0
     zero-given = ap (λ (o : Outcome). o .number) (sym e) ∙ h
 
     kept : List Boundary
-    kept = demand-two .reduce job work answer zero-given .kept
+    kept = demand-two .reduce job block work answer zero-given .kept
 
     first-bytes : take detail answer′ ≡ encodeAnswer kept
     unfolding kept
-    first-bytes = ap (λ (o : Outcome). take (o .detail) (o .out)) e ∙ demand-two .reduce job work answer zero-given .bytes
+    first-bytes = ap (λ (o : Outcome). take (o .detail) (o .out)) e ∙ demand-two .reduce job block work answer zero-given .bytes
 
     detail-is : detail ≡ length (encodeAnswer kept)
     unfolding kept
-    detail-is = ap (λ (o : Outcome). o .detail) e ∙ demand-two .reduce job work answer zero-given .detail
+    detail-is = ap (λ (o : Outcome). o .detail) e ∙ demand-two .reduce job block work answer zero-given .detail
 
     pub detail-fits : detail ≤ length answer
-    detail-fits = let d = ap (λ (o : Outcome). o .detail) e in let s = demand-one .reduce job work answer .success zero-given in omega (arith, d, s .0, s .1)
+    detail-fits =
+        let d = ap (λ (o : Outcome). o .detail) e in
+        let s = demand-one .reduce job block work answer .success zero-given in
+        omega (arith, d, s .0, s .1)
 
-    pub listed-text : (out : List ℕ) → 3 * length answer ≤ length out → answerText (take detail answer′) (length out) ≡ printed (reduceResult job work answer)
+    pub listed-text : (out : List ℕ) → 3 * length answer ≤ length out
+        → answerText (take detail answer′) (length out) ≡ printed (reduceResult job block work answer)
     unfolding printed
     listed-text out room =
         ap (λ (l : List ℕ). answerText l (length out)) first-bytes

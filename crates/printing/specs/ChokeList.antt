@@ -7,6 +7,7 @@ use lib.Dec.{ltb}
 use lib.ListN.{length, take, replicate}
 use Rattle.answer_text.specs.Lines.{newline}
 use Rattle.answer_text.specs.Answer.{Writes}
+use Rattle.thresholds.specs.Block.{block000}
 use Rattle.results.specs.Calls.{reduceResult}
 use Rattle.printing.specs.Printed.{printed}
 
@@ -29,10 +30,10 @@ mostInput = 65_536
 abbrev pub tooLarge : List ℕ
 tooLarge = (116 ∷ 111 ∷ 111 ∷ 32 ∷ 108 ∷ 97 ∷ 114 ∷ 103 ∷ 101 ∷ []) ++ newline
 
--- "reads a job from standard input, runs Reduce on it": what it prints for an input.
+-- "reads a job from standard input, runs Reduce on it"; "the listing program lends those of source document 000": what it prints for an input.
 unfoldable pub chokeList : List ℕ → List ℕ
 unfolding printed reduceResult
-chokeList input = cond (ltb mostInput (length input)) tooLarge (printed (reduceResult input (zeros lentWork) (zeros lentAnswer)))
+chokeList input = cond (ltb mostInput (length input)) tooLarge (printed (reduceResult input block000 (zeros lentWork) (zeros lentAnswer)))
 
 -- Reading an input into a buffer put n bytes at its start: as many of the input's first bytes as there are, or as the buffer holds.
 pub record Reads (input buffer : List ℕ) (n : ℕ) : Type 0 where

@@ -7,6 +7,7 @@ use crate::print::print_list;
 use answer_text::write_text;
 use libc::STDIN_FILENO;
 use libc::STDOUT_FILENO;
+use thresholds::write_000;
 
 // What choke-list prints for an input, written at the start of out; gives its length.
 fn choke_list(input: &[u8], out: &mut [u8; 196608]) -> usize
@@ -16,9 +17,11 @@ fn choke_list(input: &[u8], out: &mut [u8; 196608]) -> usize
     if 65536 < input.len() {
         return write_text(b"too large\n", out, 0);
     }
+    let mut thresholds = [0u8; 64];
+    write_000(&mut thresholds);
     let mut work = [0u8; 40960];
     let mut answer = [0u8; 65536];
-    print_list(input, &mut work, &mut answer, out)
+    print_list(input, &thresholds, &mut work, &mut answer, out)
 }
 
 // The same for the input that was read into a buffer, however long that input is.

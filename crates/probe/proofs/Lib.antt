@@ -5,3 +5,4 @@ pub mod PlanningLaws
 pub mod RegionLaws
 pub mod LinkLaws
 pub mod LengthLaws
+mod BlockLaws

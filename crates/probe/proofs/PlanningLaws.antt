@@ -23,7 +23,9 @@ use Rattle.position.specs.declared.Span.{Span}
 use Rattle.format.specs.Values.{Job}
 use Rattle.format.specs.Header.{headerAt}
 use Rattle.format.specs.Decode.{decode, decodeList}
-use Rattle.serial_links.specs.Limits.{Limits}
+use Rattle.serial_links.specs.Limits.{Limits, limits000}
+use Rattle.serial_links.specs.HeldLimits.{limitsOf}
+use Rattle.serial_links.specs.declared.limits.Limits.{Limits as LimitsHeld}
 use Rattle.context.specs.Anchors.{anchorsOf}
 use Rattle.serial_groups.specs.Plan.{mergePlan}
 use Rattle.serial_groups.proofs.Plan.{plan-below}
@@ -116,6 +118,10 @@ module _ {order : List ℕ} {goes : ℕ → ℕ} {n : ℕ} where
   words-end h w = record { each = λ i l. w .each i (omega arith); rest = w .rest; long = w .long }
 
 -- a boundary goes into one of the job's
+-- a group of source document 000 has few spans
+pub few-000 : {l : LimitsHeld} → limitsOf l ≡ limits000 → l .«most_spans» ≤ 16
+few-000 e = let z = ap (λ (x : Limits). x .mostSpans) e in omega (arith, z)
+
 merged-inside : (limits : Limits) (dirs : List ℕ) (j : Job) (ss : List Span) → length (j .boundaries) ≡ length ss → (i : ℕ) → i < length (j .boundaries)
     → mergePlan limits dirs (gridOf j) (anchorsOf (j .bases)) (listingOf j ss) i < length (j .boundaries)
 merged-inside limits dirs j ss e i h =

@@ -15,3 +15,7 @@ checked call s l = cond (eqb call 0) (firstRefusal (reduceChecks s)) (cond (eqb 
 -- out with xs at its start, or as it was where xs does not fit.
 unfoldable pub putFirst : List ℕ → List ℕ → List ℕ
 putFirst out xs = cond (ltb (length out) (length xs)) out (xs ++ drop (length xs) out)
+
+-- How many bytes were put so.
+unfoldable pub lengthWhereFits : List ℕ → List ℕ → ℕ
+lengthWhereFits out xs = cond (ltb (length out) (length xs)) 0 (length xs)

@@ -13,6 +13,7 @@ mod own_plan; // the merge plan alone
 mod own_regions; // what is known of one region
 mod own_links; // what a link measures in a region
 mod own_lengths; // lengths and totals, by their squares
+mod own_block; // the block of source document 000
 
 fn verdict(call: u32, job: &[u8], list: &[u8]) -> Verdict
     ensures { λ r. ⌜ meaning r ≡ checked call (now (job .entry)) (now (list .entry)) ⌝ }

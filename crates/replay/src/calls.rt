@@ -30,12 +30,19 @@ pub struct Outcome {
     pub difference: u32,
 }
 
-fn make(kind: u8, job: &[u8], list: &[u8], work: &mut [u8], out: &mut [u8]) -> ChokesResult {
+fn make(
+    kind: u8,
+    job: &[u8],
+    list: &[u8],
+    thresholds: &[u8],
+    work: &mut [u8],
+    out: &mut [u8],
+) -> ChokesResult {
     if kind == REDUCE {
-        return chokes::chokes_reduce(job, work, out);
+        return chokes::chokes_reduce(job, thresholds, work, out);
     }
     if kind == REDUCE_BY_LIST {
-        return chokes::chokes_reduce_by_list(job, list, work, out);
+        return chokes::chokes_reduce_by_list(job, list, thresholds, work, out);
     }
     if kind == MARK {
         return chokes::chokes_mark(job, work, out);
@@ -70,6 +77,7 @@ fn run(
     item: &[u8],
     job: &[u8],
     list: &[u8],
+    thresholds: &[u8],
     work: &mut [u8],
     out: &mut [u8],
     want_work: &mut [u8],
@@ -84,7 +92,7 @@ fn run(
     if !prepare(item, work, out, want_work, want_out) {
         return NOT_WHOLE;
     }
-    let r = make(kind, job, list, work, out);
+    let r = make(kind, job, list, thresholds, work, out);
     difference(
         r.number,
         r.detail,
@@ -98,7 +106,7 @@ fn run(
 }
 
 // Makes the call of an item on slices of these lengths; gives what differs.
-fn run_in(item: &[u8], job: &[u8], list: &[u8], w: usize, o: usize) -> u32
+fn run_in(item: &[u8], job: &[u8], list: &[u8], thresholds: &[u8], w: usize, o: usize) -> u32
     requires { ⌜ 22 ≤ length (now item) ⌝ }
 {
     let mut work = io::large_buffer();
@@ -115,6 +123,7 @@ fn run_in(item: &[u8], job: &[u8], list: &[u8], w: usize, o: usize) -> u32
         item,
         job,
         list,
+        thresholds,
         &mut work[..w],
         &mut out[..o],
         &mut want_work[..w],
@@ -123,8 +132,8 @@ fn run_in(item: &[u8], job: &[u8], list: &[u8], w: usize, o: usize) -> u32
 }
 
 // Makes the call of an item and compares.
-pub fn replay_call(item: &[u8], job: &[u8], list: &[u8]) -> Outcome
-    ensures { λ r. ⌜ (r .kind < 4) × (r .number < 32) ⌝ }
+pub fn replay_call(item: &[u8], job: &[u8], list: &[u8], thresholds: &[u8]) -> Outcome
+    ensures { λ r. ⌜ (r .kind < 4) × (r .number < 33) ⌝ }
 {
     let none = Outcome {
         kind: 0,
@@ -139,13 +148,14 @@ pub fn replay_call(item: &[u8], job: &[u8], list: &[u8]) -> Outcome
     if AREA_CARDS < kind {
         return none;
     }
-    if 31 < number {
+    if 32 < number {
         return none;
     }
     let d = run_in(
         item,
         job,
         list,
+        thresholds,
         size(read_u32(item, 1)),
         size(read_u32(item, 5)),
     );

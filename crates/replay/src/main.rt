@@ -17,18 +17,19 @@ use compare::SAME;
 // The kind of an item that is an input; those below it are calls.
 const INPUT: u8 = 4;
 
-// The lengths of the job and of the list behind it that are held, the calls made, and whether to
-// go on.
+// The lengths of the job, the list and the block of thresholds that are held one behind another, the
+// calls made, and whether to go on.
 struct State {
     job: usize,
     list: usize,
+    thresholds: usize,
     calls: u64,
     on: bool,
 }
 
 // Says how the replay ended.
 fn stop(counts: &[u64], s: State, why: u32) -> State
-    ensures { λ r. ⌜ r .job + r .list ≤ s .job + s .list ⌝ }
+    ensures { λ r. ⌜ r .job + r .list + r .thresholds ≤ s .job + s .list + s .thresholds ⌝ }
 {
     if why == AT_END {
         summary::print(counts, s.calls);
@@ -38,6 +39,7 @@ fn stop(counts: &[u64], s: State, why: u32) -> State
     State {
         job: s.job,
         list: s.list,
+        thresholds: s.thresholds,
         calls: s.calls,
         on: false,
     }
@@ -45,12 +47,13 @@ fn stop(counts: &[u64], s: State, why: u32) -> State
 
 // Makes a call and counts it, or says what differs.
 fn make_call(item: &[u8], held: &[u8], counts: &mut [u64], s: State) -> State
-    requires { ⌜ (s .job + s .list ≤ length (now held)) × (128 ≤ length (now counts)) ⌝ }
-    ensures { λ r. ⌜ r .job + r .list ≤ s .job + s .list ⌝ }
+    requires { ⌜ (s .job + s .list + s .thresholds ≤ length (now held)) × (132 ≤ length (now counts)) ⌝ }
+    ensures { λ r. ⌜ r .job + r .list + r .thresholds ≤ s .job + s .list + s .thresholds ⌝ }
 {
     let j = s.job;
-    let end = j + s.list;
-    let o = calls::replay_call(item, &held[..j], &held[j..end]);
+    let l = j + s.list;
+    let end = l + s.thresholds;
+    let o = calls::replay_call(item, &held[..j], &held[j..l], &held[l..end]);
     if o.difference != SAME {
         return stop(counts, s, o.difference);
     }
@@ -58,6 +61,7 @@ fn make_call(item: &[u8], held: &[u8], counts: &mut [u64], s: State) -> State
     State {
         job: s.job,
         list: s.list,
+        thresholds: s.thresholds,
         calls: summary::next(s.calls),
         on: true,
     }
@@ -65,14 +69,15 @@ fn make_call(item: &[u8], held: &[u8], counts: &mut [u64], s: State) -> State
 
 // Does what an item says.
 fn act(kind: u8, item: &[u8], held: &mut [u8], counts: &mut [u64], s: State) -> State
-    requires { ⌜ (s .job + s .list ≤ length (now held)) × (128 ≤ length (now counts)) ⌝ }
-    ensures { λ r. ⌜ r .job + r .list ≤ length (now (held .exit)) ⌝ }
+    requires { ⌜ (s .job + s .list + s .thresholds ≤ length (now held)) × (132 ≤ length (now counts)) ⌝ }
+    ensures { λ r. ⌜ r .job + r .list + r .thresholds ≤ length (now (held .exit)) ⌝ }
 {
     if kind == INPUT {
         let i = input::read_input(item, held);
         let taken = State {
             job: i.job,
             list: i.list,
+            thresholds: i.thresholds,
             calls: s.calls,
             on: true,
         };
@@ -86,8 +91,8 @@ fn act(kind: u8, item: &[u8], held: &mut [u8], counts: &mut [u64], s: State) -> 
 
 // Reads an item and does what it says.
 fn step(item: &mut [u8], held: &mut [u8], counts: &mut [u64], s: State) -> State
-    requires { ⌜ (s .job + s .list ≤ length (now held)) × (128 ≤ length (now counts)) ⌝ }
-    ensures { λ r. ⌜ r .job + r .list ≤ length (now (held .exit)) ⌝ }
+    requires { ⌜ (s .job + s .list + s .thresholds ≤ length (now held)) × (132 ≤ length (now counts)) ⌝ }
+    ensures { λ r. ⌜ r .job + r .list + r .thresholds ≤ length (now (held .exit)) ⌝ }
 {
     let got = reading::read_item(item);
     if got.state != SAME {
@@ -99,11 +104,12 @@ fn step(item: &mut [u8], held: &mut [u8], counts: &mut [u64], s: State) -> State
 
 // Nothing says that the input ends, so the steps are counted down from more than a list has.
 fn replay(item: &mut [u8], held: &mut [u8], counts: &mut [u64])
-    requires { ⌜ 128 ≤ length (now counts) ⌝ }
+    requires { ⌜ 132 ≤ length (now counts) ⌝ }
 {
     let mut s = State {
         job: 0,
         list: 0,
+        thresholds: 0,
         calls: 0,
         on: true,
     };
@@ -117,6 +123,6 @@ fn replay(item: &mut [u8], held: &mut [u8], counts: &mut [u64])
 fn main() {
     let mut item = io::large_buffer();
     let mut held = io::large_buffer();
-    let mut counts = [0u64; 128];
+    let mut counts = [0u64; 132];
     replay(&mut item, &mut held, &mut counts);
 }

@@ -12,7 +12,7 @@ use libc::STDOUT_FILENO;
 use wire::size;
 
 // Numbers that a call may end with, and a call's place among the counts.
-pub const NUMBERS: usize = 32;
+pub const NUMBERS: usize = 33;
 
 // One more, as far as it goes.
 pub fn next(x: u64) -> u64 {
@@ -26,9 +26,9 @@ fn place(kind: u8) -> usize
 }
 
 pub fn count(counts: &mut [u64], kind: u8, number: u32)
-    requires { ⌜ (kind < 4) × (number < 32) × (128 ≤ length (now counts)) ⌝ }
+    requires { ⌜ (kind < 4) × (number < 33) × (132 ≤ length (now counts)) ⌝ }
 {
-    let i = place(kind) * 32 + size(number);
+    let i = place(kind) * NUMBERS + size(number);
     counts[i] = next(counts[i]);
 }
 
@@ -49,8 +49,8 @@ fn print_count(at: usize, n: u64) {
     if n == 0 {
         return;
     }
-    write_name(at / 32);
-    io::print_decimal(STDOUT_FILENO, (at % 32) as u64);
+    write_name(at / NUMBERS);
+    io::print_decimal(STDOUT_FILENO, (at % NUMBERS) as u64);
     io::write_all(STDOUT_FILENO, b": ");
     io::print_decimal(STDOUT_FILENO, n);
     io::write_all(STDOUT_FILENO, b"\n");

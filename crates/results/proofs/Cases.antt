@@ -28,7 +28,9 @@ use Rattle.graph.specs.Labels.{count}
 use Rattle.areas.specs.Areas.{areaLabels}
 use Rattle.areas.specs.Assessments.{records}
 use Rattle.grid.specs.Directions.{eight}
-use Rattle.serial_links.specs.Limits.{limits000}
+use Rattle.serial_links.specs.Limits.{Limits, limits000}
+use Rattle.thresholds.specs.Block.{blockFault, limitsIn, thresholdsCheck, block000}
+use Rattle.thresholds.proofs.Blocks.{block-000}
 use Rattle.checks.specs.Checks.{Check, firstRefusal, each}
 use Rattle.checks.specs.Single.{listChecks, spanCheck, headerChecks, cellCheck, baseCheck, sumsFault, rampCheck, widthCheck, endsCheck, spanChecks}
 use Rattle.checks_calls.specs.Refusals.{reduceChecks, markChecks, byListChecks, boundaryChecks, jobChecks, layoutChecks, recordChecks, endsChecks}
@@ -53,6 +55,7 @@ use Rattle.results.specs.Cases.{oneCell, anchored, anchoredAnswer, leave
 use Rattle.results.specs.Cases.{oneSpan, corridorCards, OtherCalls, leavesOne, OneCellCase, CorridorCase}
 use Rattle.checks.proofs.Firsts.{append-none}
 use Rattle.results.proofs.Results.{writing-success, reduced-success, mark-success}
+use Rattle.results.proofs.Thresholds.{admitted-checks, reduced-admitted}
 
 -- The corridor with these bases.
 abbrev job : List Base → Job
@@ -147,12 +150,15 @@ gives : (s : List ℕ) (bases : List Base) (written : List ℕ) → firstRefusal
     → Gives s (1 ∷ 2 ∷ 3 ∷ 3 ∷ []) written
 unfolding reduceResult reduceWith labelled words
 gives s bases written p d a work out w o =
+    let limits = block-000 .limits in
     let few : length (records eight (gridOf (decode s)) (ownEnds (decode s))) ≤ 4096
     = rw (d, job-pairs bases) (lit≤ tt) in
     let room : workSize (decode s) ≤ length work = rw d w in
     let fits : length (answer s) ≤ length out = rw a o in
     let labels : labelsOf eight (decode s) (ownEnds (decode s)) ≡ 1 ∷ 2 ∷ 3 ∷ 3 ∷ [] = rw d (job-labels bases) in
-    reduced-success limits000 eight (reduceChecks s) (decode s) (ownEnds (decode s)) work out p room few fits
+    ap (λ (l : Limits). reduced l eight (thresholdsCheck block000 ∷ reduceChecks s) (decode s) (ownEnds (decode s)) work out) limits
+    ∙ reduced-admitted limits000 eight block000 (reduceChecks s) (decode s) (ownEnds (decode s)) work out (block-000 .admitted)
+    ∙ reduced-success limits000 eight (reduceChecks s) (decode s) (ownEnds (decode s)) work out p room few fits
     ∙ ap (λ (l : List ℕ). record { number = 0; detail = length (answer s); work = labelled l work; out = splice out 0 (answer s) }) labels
     ∙ ap (λ (l : List ℕ). leaves (length l) (1 ∷ 2 ∷ 3 ∷ 3 ∷ []) l work out) a
 
@@ -228,26 +234,28 @@ listed-pairs : length (records eight (gridOf (job [])) (uprightSpan 8 ∷ [])) �
 unfolding records componentOf count upFrom
 listed-pairs = refl
 
-listed-answer : answerOf limits000 eight (job []) (uprightSpan 8 ∷ []) ≡ anchoredAnswer
+listed-answer : (limits : Limits) → answerOf limits eight (job []) (uprightSpan 8 ∷ []) ≡ anchoredAnswer
 unfolding rulesAnswer keptOf groupsOf
-listed-answer = ap encodeAnswer none-kept ∙ both-bytes
+listed-answer limits = ap encodeAnswer none-kept ∙ both-bytes
 
-list-left : (work out : List ℕ) → 40 ≤ length work → length anchoredAnswer ≤ length out
-    → reduceByListResult corridor oneSpan work out ≡ leaves (length anchoredAnswer) (1 ∷ 2 ∷ 2 ∷ 2 ∷ []) anchoredAnswer work out
+list-left : (block work out : List ℕ) → blockFault block ≡ false → 40 ≤ length work → length anchoredAnswer ≤ length out
+    → reduceByListResult corridor oneSpan block work out ≡ leaves (length anchoredAnswer) (1 ∷ 2 ∷ 2 ∷ 2 ∷ []) anchoredAnswer work out
 unfolding reduceByListResult reduceByListWith labelled words
-list-left work out w o =
+list-left block work out admitted w o =
+    let limits = limitsIn block in
     let few : length (records eight (gridOf (job [])) (uprightSpan 8 ∷ [])) ≤ 4096 = rw listed-pairs (lit≤ tt) in
-    let fits : length (answerOf limits000 eight (job []) (uprightSpan 8 ∷ [])) ≤ length out = rw listed-answer o in
-    ap (λ (j : Job). reduced limits000 eight (byListChecks corridor oneSpan) j (decodeList oneSpan) work out) corridor-job
-    ∙ ap (λ (l : List Span). reduced limits000 eight (byListChecks corridor oneSpan) (job []) l work out) listed
-    ∙ reduced-success limits000 eight (byListChecks corridor oneSpan) (job []) (uprightSpan 8 ∷ []) work out listed-passes w few fits
+    let fits : length (answerOf limits eight (job []) (uprightSpan 8 ∷ [])) ≤ length out = rw (listed-answer limits) o in
+    reduced-admitted limits eight block (byListChecks corridor oneSpan) (decode corridor) (decodeList oneSpan) work out admitted
+    ∙ ap (λ (j : Job). reduced limits eight (byListChecks corridor oneSpan) j (decodeList oneSpan) work out) corridor-job
+    ∙ ap (λ (l : List Span). reduced limits eight (byListChecks corridor oneSpan) (job []) l work out) listed
+    ∙ reduced-success limits eight (byListChecks corridor oneSpan) (job []) (uprightSpan 8 ∷ []) work out listed-passes w few fits
     ∙ ap (λ (l : List ℕ). record {
       number = 0;
-      detail = length (answerOf limits000 eight (job []) (uprightSpan 8 ∷ []));
+      detail = length (answerOf limits eight (job []) (uprightSpan 8 ∷ []));
       work = labelled l work;
-      out = splice out 0 (answerOf limits000 eight (job []) (uprightSpan 8 ∷ []));
+      out = splice out 0 (answerOf limits eight (job []) (uprightSpan 8 ∷ []));
     }) listed-labels
-    ∙ ap (λ (l : List ℕ). leaves (length l) (1 ∷ 2 ∷ 2 ∷ 2 ∷ []) l work out) listed-answer
+    ∙ ap (λ (l : List ℕ). leaves (length l) (1 ∷ 2 ∷ 2 ∷ 2 ∷ []) l work out) (listed-answer limits)
 
 pub other-calls : OtherCalls
 other-calls = record { marks = marks-left; by-list = list-left; cards = cards-left }
@@ -291,9 +299,9 @@ one-pairs : (c : ℕ) → length (records eight (gridOf (oneJob c)) []) ≡ 0
 unfolding records
 one-pairs c = refl
 
-one-answer : (c : ℕ) → answerOf limits000 eight (oneJob c) [] ≡ words (0 ∷ 0 ∷ 0 ∷ 24 ∷ 24 ∷ 24 ∷ [])
+one-answer : (limits : Limits) (c : ℕ) → answerOf limits eight (oneJob c) [] ≡ words (0 ∷ 0 ∷ 0 ∷ 24 ∷ 24 ∷ 24 ∷ [])
 unfolding rulesAnswer keptOf kept copiesOf sort gather upFrom encodeAnswer answerWords encodeBoundaries observationsOf sourcesOf words bytes
-one-answer c = refl
+one-answer limits c = refl
 
 six-words : length (words (0 ∷ 0 ∷ 0 ∷ 24 ∷ 24 ∷ 24 ∷ [])) ≡ 24
 unfolding words bytes
@@ -308,15 +316,15 @@ one-label c = go (c % 2) refl (omega arith)
     go (suc zero) e h = rw e
     go (suc (suc b)) e h = absurd (omega arith)
 
-one-left : (c : ℕ) (checks : List Check) (work out : List ℕ) → firstRefusal checks ≡ none → 10 ≤ length work → 24 ≤ length out
-    → reduced limits000 eight checks (oneJob c) [] work out ≡ leavesOne c work out
+one-left : (limits : Limits) (c : ℕ) (checks : List Check) (work out : List ℕ) → firstRefusal checks ≡ none → 10 ≤ length work → 24 ≤ length out
+    → reduced limits eight checks (oneJob c) [] work out ≡ leavesOne c work out
 unfolding labelled words
-one-left c checks work out p w o =
+one-left limits c checks work out p w o =
     let few : length (records eight (gridOf (oneJob c)) []) ≤ 4096 = rw one-pairs (lit≤ tt) in
-    let size : length (answerOf limits000 eight (oneJob c) []) ≡ 24 = ap (λ (l : List ℕ). length l) (one-answer c) ∙ six-words in
-    let fits : length (answerOf limits000 eight (oneJob c) []) ≤ length out = rw size o in
-    reduced-success limits000 eight checks (oneJob c) [] work out p w few fits
-    ∙ ap (λ (l : List ℕ). left (length l) l (labelsOf eight (oneJob c) [])) (one-answer c)
+    let size : length (answerOf limits eight (oneJob c) []) ≡ 24 = ap (λ (l : List ℕ). length l) (one-answer limits c) ∙ six-words in
+    let fits : length (answerOf limits eight (oneJob c) []) ≤ length out = rw size o in
+    reduced-success limits eight checks (oneJob c) [] work out p w few fits
+    ∙ ap (λ (l : List ℕ). left (length l) l (labelsOf eight (oneJob c) [])) (one-answer limits c)
     ∙ ap (λ (n : ℕ). left n six (labelsOf eight (oneJob c) [])) six-words
     ∙ ap (left 24 six) (one-label c)
   where
@@ -326,9 +334,13 @@ one-left c checks work out p w o =
     left : ℕ → List ℕ → List ℕ → Outcome
     left n l labels = leftBy 0 n (labelled labels work) (splice out 0 l)
 
-eleven : (c : ℕ) → c < 32 → (work out : List ℕ) → 10 ≤ length work → 24 ≤ length out → reduceResult (oneCell c) work out ≡ leavesOne c work out
+eleven : (c : ℕ) → c < 32 → (block work out : List ℕ) → blockFault block ≡ false → 10 ≤ length work → 24 ≤ length out
+    → reduceResult (oneCell c) block work out ≡ leavesOne c work out
 unfolding reduceResult reduceWith
-eleven c h work out w o = let d = one-job c in rw d (one-left c (reduceChecks (oneCell c)) work out (one-passes c h) w o)
+eleven c h block work out admitted w o =
+    let d = one-job c in
+    let checks : List Check = thresholdsCheck block ∷ reduceChecks (oneCell c) in
+    rw d (one-left (limitsIn block) c checks work out (admitted-checks block (reduceChecks (oneCell c)) admitted ∙ one-passes c h) w o)
 
 no-spans : decodeList [] ≡ []
 unfolding decodeList
@@ -338,12 +350,13 @@ one-listed : (c : ℕ) → c < 32 → firstRefusal (byListChecks (oneCell c) [])
 unfolding byListChecks listChecks each firstRefusal
 one-listed c h = append-none (boundaryChecks false (oneCell c)) _ (one-open false c h)
 
-eleven-listed : (c : ℕ) → c < 32 → (work out : List ℕ) → 10 ≤ length work → 24 ≤ length out
-    → reduceByListResult (oneCell c) [] work out ≡ leavesOne c work out
+eleven-listed : (c : ℕ) → c < 32 → (block work out : List ℕ) → blockFault block ≡ false → 10 ≤ length work → 24 ≤ length out
+    → reduceByListResult (oneCell c) [] block work out ≡ leavesOne c work out
 unfolding reduceByListResult reduceByListWith
-eleven-listed c h work out w o =
+eleven-listed c h block work out admitted w o =
     let d = one-job c in
-    rw (d, no-spans) (one-left c (byListChecks (oneCell c) []) work out (one-listed c h) w o)
+    let checks : List Check = thresholdsCheck block ∷ byListChecks (oneCell c) [] in
+    rw (d, no-spans) (one-left (limitsIn block) c checks work out (admitted-checks block (byListChecks (oneCell c) []) admitted ∙ one-listed c h) w o)
 
 pub one-cell-case : OneCellCase
 one-cell-case = record { reduced = eleven; by-list = eleven-listed }

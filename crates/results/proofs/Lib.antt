@@ -5,4 +5,5 @@ pub mod Returns
 pub mod Results
 pub mod Cases
 pub mod Own
+pub mod Thresholds
 pub mod Refused

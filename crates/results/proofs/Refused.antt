@@ -17,7 +17,6 @@ use Rattle.format.specs.Values.{Job}
 use Rattle.format.specs.Corridor.{upright}
 use Rattle.format.specs.Decode.{decode, decodeList, boundaryRecords, observationRecords, sourceCount}
 use Rattle.grid.specs.Directions.{eight}
-use Rattle.serial_links.specs.Limits.{limits000}
 use Rattle.position.specs.declared.Span.{Span}
 use Rattle.checks.specs.Numbers.{tooManyBoundaries, badLayout, answerTooShort, sliceTooShort}
 use Rattle.checks.specs.Checks.{Refusal, Check, firstRefusal, each}
@@ -26,17 +25,19 @@ use Rattle.checks.proofs.Firsts.{never, same-refusal, append-some}
 use Rattle.checks_calls.specs.Refusals.{reduceChecks, markChecks, byListChecks, jobChecks, layoutChecks}
 use Rattle.checks_calls.specs.Cases.{upToRamps, FirstWidth, PassesThree, bitsAt}
 use Rattle.checks_calls.proofs.Cases.{AllRefuse, Without, at, width-refused, count-refused, count-passes, all-refuse}
+use Rattle.thresholds.specs.Block.{limitsIn, thresholdsCheck}
 use Rattle.results.specs.Results.{workCheck, roomCheck, marksCheck, ownEnds, labelsOf, pairCheck, marksOf, markWith, afterWork, outcome, answerOf}
 use Rattle.results.specs.Results.{writing, cardsOf, cardsWith, reduced, reduceWith, reduceByListWith}
 use Rattle.results.specs.Calls.{reduceResult, reduceByListResult, markResult, cardsResult}
+use Rattle.results.proofs.Thresholds.{admitted-checks}
 use Rattle.results.specs.Cases.{negative, negativeZero, counted, AllCallsRefuse, NoCallGives, NegativeZeroCase, CountCase}
 
 -- What the checks of every call give, the calls give, before anything is written.
 calls-refuse : (s : List ℕ) (r : Refusal) → AllRefuse s r → AllCallsRefuse s (r .number) (r .detail)
 unfolding reduceResult reduceByListResult markResult cardsResult reduceWith reduceByListWith markWith cardsWith reduced writing outcome
 calls-refuse s r a = record {
-  reduce = λ work answer. rw (append-some _ _ _ (a .reduce));
-  by-list = λ list work answer. rw (append-some _ _ _ (a .by-list list));
+  reduce = λ block work answer h. rw (append-some _ _ _ (admitted-checks block (reduceChecks s) h ∙ a .reduce));
+  by-list = λ list block work answer h. rw (append-some _ _ _ (admitted-checks block (byListChecks s list) h ∙ a .by-list list));
   mark = λ work marks. rw (append-some _ _ _ (a .mark));
   cards = λ work cards. rw (append-some _ _ _ (a .reduce));
 }
@@ -91,10 +92,12 @@ count-calls s e =
     let j = decode s in
     let ends = ownEnds j in
     record {
-      reduce = λ work answer. writing-without eight answerTooShort (answerOf limits000 eight j ends) (reduceChecks s) j ends work answer refl (a .reduce);
-      by-list = λ list work answer.
-          writing-without eight answerTooShort (answerOf limits000 eight j (decodeList list)) (byListChecks s list) j (decodeList list) work answer refl
-          (a .by-list list);
+      reduce = λ block work answer.
+          writing-without eight answerTooShort (answerOf (limitsIn block) eight j ends) (thresholdsCheck block ∷ reduceChecks s) j ends work answer refl
+          (at refl (a .reduce));
+      by-list = λ list block work answer.
+          writing-without eight answerTooShort (answerOf (limitsIn block) eight j (decodeList list)) (thresholdsCheck block ∷ byListChecks s list) j
+          (decodeList list) work answer refl (at refl (a .by-list list));
       mark = λ work marks. mark-without eight s work marks (a .mark);
       cards = λ work cards. writing-without eight sliceTooShort (cardsOf eight j) (reduceChecks s) j ends work cards refl (a .reduce);
     }

@@ -1,17 +1,16 @@
--- The calls: eight directions, and the limits of source document 000.
+-- The calls: eight directions; of Reduce and Reduce by list, the limits of the block that they are lent.
 use mathlib.Core.List.{List}
 use Prim.Native.Nat.{ℕ}
 use Rattle.grid.specs.Directions.{eight}
-use Rattle.serial_links.specs.Limits.{limits000}
 use Rattle.results.specs.Results.{Outcome, reduceWith, reduceByListWith, markWith, cardsWith}
 
-unfoldable pub reduceResult : List ℕ → List ℕ → List ℕ → Outcome
+unfoldable pub reduceResult : List ℕ → List ℕ → List ℕ → List ℕ → Outcome
 unfolding reduceWith
-reduceResult job work answer = reduceWith limits000 eight job work answer
+reduceResult job thresholds work answer = reduceWith eight job thresholds work answer
 
-unfoldable pub reduceByListResult : List ℕ → List ℕ → List ℕ → List ℕ → Outcome
+unfoldable pub reduceByListResult : List ℕ → List ℕ → List ℕ → List ℕ → List ℕ → Outcome
 unfolding reduceByListWith
-reduceByListResult job list work answer = reduceByListWith limits000 eight job list work answer
+reduceByListResult job list thresholds work answer = reduceByListWith eight job list thresholds work answer
 
 unfoldable pub markResult : List ℕ → List ℕ → List ℕ → Outcome
 unfolding markWith

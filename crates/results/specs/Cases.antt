@@ -1,5 +1,6 @@
 -- Cases 9 to 12 of document 01's table, as what the calls leave.
 use mathlib.Core.Path.{_≡_}
+use mathlib.Core.Bool.{true, false}
 use mathlib.Core.List.{List, [], _∷_, _++_}
 use Prim.Native.Nat.{ℕ, _+_, _*_, _%_, _≤_, _<_}
 use lib.ListN.{length, drop, replicate}
@@ -7,6 +8,7 @@ use Rattle.wire.specs.Bytes.{words, splice, u64Bytes}
 use Rattle.format.specs.Header.{headerAt}
 use Rattle.format.specs.Corridor.{upright, corridor, corridorAnswer}
 use Rattle.checks_calls.specs.Cases.{FirstWidth, PassesThree, bitsAt}
+use Rattle.thresholds.specs.Block.{blockFault, block000}
 use Rattle.results.specs.Results.{Outcome, leftBy}
 use Rattle.results.specs.Calls.{reduceResult, reduceByListResult, markResult, cardsResult}
 
@@ -33,11 +35,11 @@ abbrev pub leaves : ℕ → List ℕ → List ℕ → List ℕ → List ℕ → 
 leaves detail labels written work out =
     record { number = 0; detail = detail; work = words labels ++ (replicate 24 0 ++ drop 40 work); out = splice out 0 written }
 
--- Reduce succeeds with these labels and this answer, wherever the slices are long enough.
+-- Reduce with the thresholds of source document 000 succeeds with these labels and this answer, wherever the slices are long enough.
 abbrev pub Gives : List ℕ → List ℕ → List ℕ → Type 0
 Gives job labels written =
     (work answer : List ℕ) → 40 ≤ length work → length written ≤ length answer
-    → reduceResult job work answer ≡ leaves (length written) labels written work answer
+    → reduceResult job block000 work answer ≡ leaves (length written) labels written work answer
 
 -- A list of the corridor's first span alone.
 unfoldable pub oneSpan : List ℕ
@@ -51,27 +53,34 @@ corridorCards =
     words (1 ∷ 0 ∷ 0 ∷ 8 ∷ 8 ∷ 0 ∷ 1 ∷ 0 ∷ 0 ∷ 0 ∷ [])
     ++ (words (1 ∷ 8 ∷ 0 ∷ 16 ∷ 8 ∷ 0 ∷ 1 ∷ 0 ∷ 0 ∷ 0 ∷ []) ++ words (2 ∷ 16 ∷ 0 ∷ 32 ∷ 8 ∷ 0 ∷ 2 ∷ 0 ∷ 0 ∷ 0 ∷ []))
 
--- The other calls on the corridor: both boundaries are bridges; and where spans and boundaries differ in number, sorted copies and no merge.
+-- The other calls on the corridor: both boundaries are bridges; and where spans and boundaries differ in number, sorted copies and no merge, whatever
+-- the thresholds.
 pub record OtherCalls : Type 0 where
   pub marks : (work marks : List ℕ) → 40 ≤ length work → 2 ≤ length marks
       → markResult corridor work marks ≡ leaves 2 (1 ∷ 2 ∷ 3 ∷ 3 ∷ []) (1 ∷ 1 ∷ []) work marks
-  pub by-list : (work answer : List ℕ) → 40 ≤ length work → length anchoredAnswer ≤ length answer
-      → reduceByListResult corridor oneSpan work answer ≡ leaves (length anchoredAnswer) (1 ∷ 2 ∷ 2 ∷ 2 ∷ []) anchoredAnswer work answer
+  pub by-list : (block work answer : List ℕ) → blockFault block ≡ false → 40 ≤ length work → length anchoredAnswer ≤ length answer
+      → reduceByListResult corridor oneSpan block work answer ≡ leaves (length anchoredAnswer) (1 ∷ 2 ∷ 2 ∷ 2 ∷ []) anchoredAnswer work answer
   -- Area cards on it: three areas, the last of two cells
   pub cards : (work cards : List ℕ) → 40 ≤ length work → 120 ≤ length cards
       → cardsResult corridor work cards ≡ leaves 120 (1 ∷ 2 ∷ 3 ∷ 3 ∷ []) corridorCards work cards
 
--- Every call gives this refusal, whatever list and slices it has, and leaves the slices as they were.
+-- Every call gives this refusal, whatever list, admitted thresholds and slices it has, and leaves the slices as they were.
 pub record AllCallsRefuse (job : List ℕ) (number detail : ℕ) : Type 0 where
-  pub reduce : (work answer : List ℕ) → reduceResult job work answer ≡ leftBy number detail work answer
-  pub by-list : (list work answer : List ℕ) → reduceByListResult job list work answer ≡ leftBy number detail work answer
+  pub reduce : (block work answer : List ℕ) → blockFault block ≡ false → reduceResult job block work answer ≡ leftBy number detail work answer
+  pub by-list : (list block work answer : List ℕ) → blockFault block ≡ false
+      → reduceByListResult job list block work answer ≡ leftBy number detail work answer
   pub mark : (work marks : List ℕ) → markResult job work marks ≡ leftBy number detail work marks
   pub cards : (work cards : List ℕ) → cardsResult job work cards ≡ leftBy number detail work cards
 
--- No call gives this number, whatever list and slices it has.
+-- Refusal 32 comes "before 1": whatever the job, the list and the slices, which are left as they were.
+pub record ThresholdsFirst (block : List ℕ) : Type 0 where
+  pub reduce : (job work answer : List ℕ) → reduceResult job block work answer ≡ leftBy 32 0 work answer
+  pub by-list : (job list work answer : List ℕ) → reduceByListResult job list block work answer ≡ leftBy 32 0 work answer
+
+-- No call gives this number, whatever list, thresholds and slices it has.
 pub record NoCallGives (job : List ℕ) (number : ℕ) : Type 0 where
-  pub reduce : (work answer : List ℕ) → reduceResult job work answer .number ≡ number → ⊥
-  pub by-list : (list work answer : List ℕ) → reduceByListResult job list work answer .number ≡ number → ⊥
+  pub reduce : (block work answer : List ℕ) → reduceResult job block work answer .number ≡ number → ⊥
+  pub by-list : (list block work answer : List ℕ) → reduceByListResult job list block work answer .number ≡ number → ⊥
   pub mark : (work marks : List ℕ) → markResult job work marks .number ≡ number → ⊥
   pub cards : (work cards : List ℕ) → cardsResult job work cards .number ≡ number → ⊥
 
@@ -115,12 +124,12 @@ abbrev pub leavesOne : ℕ → List ℕ → List ℕ → Outcome
 leavesOne c work answer =
     leftBy 0 24 (words (c % 2 ∷ []) ++ (replicate 6 0 ++ drop 10 work)) (splice answer 0 (words (0 ∷ 0 ∷ 0 ∷ 24 ∷ 24 ∷ 24 ∷ [])))
 
--- 11: "Map 1 × 1, no boundaries: words 0, 0, 0, 24, 24, 24", whatever the cell is; by a list of no spans as well.
+-- 11: "Map 1 × 1, no boundaries: words 0, 0, 0, 24, 24, 24", whatever the cell and the thresholds are; by a list of no spans as well.
 pub record OneCellCase : Type 0 where
-  pub reduced : (c : ℕ) → c < 32 → (work answer : List ℕ) → 10 ≤ length work → 24 ≤ length answer
-      → reduceResult (oneCell c) work answer ≡ leavesOne c work answer
-  pub by-list : (c : ℕ) → c < 32 → (work answer : List ℕ) → 10 ≤ length work → 24 ≤ length answer
-      → reduceByListResult (oneCell c) [] work answer ≡ leavesOne c work answer
+  pub reduced : (c : ℕ) → c < 32 → (block work answer : List ℕ) → blockFault block ≡ false → 10 ≤ length work → 24 ≤ length answer
+      → reduceResult (oneCell c) block work answer ≡ leavesOne c work answer
+  pub by-list : (c : ℕ) → c < 32 → (block work answer : List ℕ) → blockFault block ≡ false → 10 ≤ length work → 24 ≤ length answer
+      → reduceByListResult (oneCell c) [] block work answer ≡ leavesOne c work answer
 
 -- 12: "The corridor below; with an anchor in its second cell, 2 kept."
 pub record CorridorCase : Type 0 where

@@ -16,6 +16,7 @@ use Rattle.areas.specs.Areas.{areaLabels, areaCount}
 use Rattle.areas.specs.Assessments.{records}
 use Rattle.context.specs.Cards.{cards}
 use Rattle.serial_links.specs.Limits.{Limits}
+use Rattle.thresholds.specs.Block.{limitsIn, thresholdsCheck}
 use Rattle.checks.specs.Numbers.{tooManyPairs, workTooShort, answerTooShort, marksTooShort, sliceTooShort}
 use Rattle.checks.specs.Checks.{Refusal, Check, check, firstRefusal}
 use Rattle.checks_calls.specs.Refusals.{reduceChecks, markChecks, byListChecks}
@@ -120,11 +121,14 @@ module _ (limits : Limits) (dirs : List ℕ) where
   unfolding writing
   reduced checks j ss work answer = writing dirs answerTooShort (answerOf j ss) checks j ss work answer
 
-  unfoldable pub reduceWith : List ℕ → List ℕ → List ℕ → Outcome
+-- Request 4: "Both reduce calls … take the eight fixed numbers from a 64-byte block"; a bad one "is declined with 32, before 1".
+module _ (dirs : List ℕ) where
+  unfoldable pub reduceWith : List ℕ → List ℕ → List ℕ → List ℕ → Outcome
   unfolding reduced
-  reduceWith s work answer = reduced (reduceChecks s) (decode s) (ownEnds (decode s)) work answer
+  reduceWith s block work answer =
+      reduced (limitsIn block) dirs (thresholdsCheck block ∷ reduceChecks s) (decode s) (ownEnds (decode s)) work answer
 
   -- "*Reduce by list* takes a job and a list of spans (four u32 each) and partitions by those."
-  unfoldable pub reduceByListWith : List ℕ → List ℕ → List ℕ → List ℕ → Outcome
+  unfoldable pub reduceByListWith : List ℕ → List ℕ → List ℕ → List ℕ → List ℕ → Outcome
   unfolding reduced
-  reduceByListWith s l work answer = reduced (byListChecks s l) (decode s) (decodeList l) work answer
+  reduceByListWith s l block work answer = reduced (limitsIn block) dirs (thresholdsCheck block ∷ byListChecks s l) (decode s) (decodeList l) work answer

@@ -15,13 +15,14 @@ use Rattle.graph.specs.Parts.{componentOf}
 use Rattle.grid.specs.Cells.{Grid}
 use Rattle.grid.specs.Directions.{eight}
 use Rattle.areas.specs.Cases.{spanOf}
-use Rattle.serial_links.specs.Limits.{limits000}
+use Rattle.serial_links.specs.Limits.{Limits, limits000}
 use Rattle.serial_links.specs.Geometry.{squares}
 use Rattle.order.specs.Sorting.{sort}
 use Rattle.order.specs.Keys.{lexLe}
 use Rattle.context.specs.Listing.{Item, endsKey, listing}
 use Rattle.serial_groups.specs.Links.{LinkAt, links}
-use Rattle.serial_groups.specs.Serial.{chainSum, chainTotal, serialGroups}
+use Rattle.serial_groups.specs.Groups.{LinkGroup}
+use Rattle.serial_groups.specs.Serial.{chainSum, chainTotal, endDistance, serialGroups}
 use Rattle.serial_groups.specs.Flat.{accepted}
 use Rattle.serial_groups.specs.Representative.{eligible, retained}
 use Rattle.serial_groups.specs.Plan.{mergePlan}
@@ -163,3 +164,48 @@ over-384 = refl
 five : accepted limits000 eight (record { width = 6; height = 1; cells = map (λ i. 1) (upFrom 0 6) }) [] (map uprightAt (8 ∷ 16 ∷ 24 ∷ 32 ∷ 40 ∷ [])) ≡ []
 unfolding accepted componentOf count upFrom lengthOf ofInt ofBits toBits neg add sub mul div lt le
 five = refl
+
+-- Thresholds of a studio's own: the group sizes, the others those of source document 000.
+abbrev sized : ℕ → ℕ → Limits
+sized least most = record {
+  leastSpans = least;
+  mostSpans = most;
+  chain = limits000 .chain;
+  width = limits000 .width;
+  geometry = limits000 .geometry;
+  duplicate = limits000 .duplicate;
+  envelope = limits000 .envelope;
+  cosine = limits000 .cosine;
+}
+
+-- with five as the largest the chain of five is one serial group
+five-of-five :
+    accepted (sized 3 5) eight (record { width = 6; height = 1; cells = map (λ i. 1) (upFrom 0 6) }) [] (map uprightAt (8 ∷ 16 ∷ 24 ∷ 32 ∷ 40 ∷ []))
+    ≡ record { ranks = 0 ∷ 1 ∷ 2 ∷ 3 ∷ 4 ∷ []; links = linkOver 2 0 1 ∷ linkOver 3 1 2 ∷ linkOver 4 2 3 ∷ linkOver 5 3 4 ∷ [] } ∷ []
+unfolding accepted componentOf count upFrom lengthOf ofInt ofBits toBits neg add sub mul div lt le
+five-of-five = refl
+
+-- two bridges are no serial group of at least three, and one of at least two; a flat group has two in either case
+two-of-three : serialGroups limits000 eight corridor [] items ≡ []
+unfolding serialGroups componentOf count upFrom lengthOf ofInt ofBits toBits neg add sub mul div lt le
+two-of-three = refl
+
+two-of-two : serialGroups (sized 2 2) eight corridor [] items ≡ record { ranks = 0 ∷ 1 ∷ []; links = linkOver 2 0 1 ∷ [] } ∷ []
+unfolding serialGroups componentOf count upFrom lengthOf ofInt ofBits toBits neg add sub mul div lt le
+two-of-two = refl
+
+flat-two : accepted (sized 16 16) eight corridor [] items ≡ record { ranks = 0 ∷ 1 ∷ []; links = linkOver 2 0 1 ∷ [] } ∷ []
+unfolding accepted componentOf count upFrom lengthOf ofInt ofBits toBits neg add sub mul div lt le
+flat-two = refl
+
+-- centres in line, one and three steps of (8, 8) pixels apart: as f64s the ends are further apart than the sum, so with the sum as the limit the sum passes and
+-- the ends don't
+abbrev aslant : List Item
+aslant = itemOf 0 (spanOf 0 8 8 0) (spanOf 0 8 8 0) ∷ itemOf 0 (spanOf 8 16 16 8) (spanOf 8 16 16 8) ∷ itemOf 0 (spanOf 32 40 40 32) (spanOf 32 40 40 32) ∷ []
+
+abbrev inLine : LinkGroup
+inLine = record { ranks = 0 ∷ 1 ∷ 2 ∷ []; links = linkOver 2 0 1 ∷ linkOver 3 1 2 ∷ [] }
+
+ends-beyond-sum : (chainSum aslant inLine ≡ ofBits binary64 0x4046_A09E_667F_3BCC) × (endDistance aslant inLine ≡ ofBits binary64 0x4046_A09E_667F_3BCD)
+unfolding chainSum endDistance lengthOf ofBits toBits add
+ends-beyond-sum = (refl, refl)

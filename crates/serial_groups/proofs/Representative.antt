@@ -14,7 +14,7 @@ use Rattle.order.proofs.Members.{perm-mem}
 use Rattle.order.proofs.Keep.{keep-mem, mem-keep, keep-pairs}
 use Rattle.order.proofs.Sort.{sort-perm}
 use Rattle.order.proofs.Stable.{le-refl, sort-stable}
-use Rattle.length.specs.Floats.{_⊕_}
+use Rattle.length.specs.Floats.{_⊕_, finiteUp}
 use Rattle.length.specs.Total.{totalLe}
 use Rattle.length.proofs.Total.{total-order}
 use Rattle.format.specs.Bounds.{maxWidthBits}
@@ -22,7 +22,7 @@ use Rattle.serial_links.specs.Limits.{Limits, limits000}
 use Rattle.context.specs.Listing.{Item}
 use Rattle.serial_groups.specs.Listing.{bitsAt}
 use Rattle.serial_groups.specs.Representative.{widthAt, leastWidth, eligible, distanceTo, nearer, retained, IsRetained}
-use Rattle.serial_groups.proofs.Wider.{finiteUp, wider}
+use Rattle.serial_groups.proofs.Wider.{wider}
 
 -- the first of a list that has a member
 first-of : {A : Type 0} (l : List A) (d : A) {x : A} → List·Memᴰ x l → List·Memᴰ (getD l 0 d) l

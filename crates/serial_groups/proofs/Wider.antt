@@ -1,7 +1,7 @@
 -- A width with a tolerance added is at least the width.
 use mathlib.Core.Path.{_≡_, refl, sym, _∙_, ap, subst}
 use mathlib.Core.Logic.{by-cases}
-use mathlib.Core.Bool.{Bool, true, false, not, true≢false, _&&_}
+use mathlib.Core.Bool.{Bool, true, false, true≢false, _&&_}
 use Prim.Native.Nat.{ℕ, zero, suc, _+_, _-_, _*_, _/_, _%_, _^_, _<_, _≤_}
 use native.Mathlib.Nat.{mul-assoc, mul-comm, mul-left-comm, mul-pos, mul-le-mul-right, mul-lt-mul-of-pos-right, lt-of-mul-lt-mul-right}
 use native.Mathlib.Omega.{arith}
@@ -16,7 +16,7 @@ use lib.Ieee.Exact.{HasValue, odd-sign, round-exact}
 use lib.Ieee.Fits.{and-l, and-r, up-pos, down-pos}
 use lib.Ieee.Order.{le-of-values, round-mono}
 use lib.Ieee.Positive.{positive, above, positive-of-value, above-of-le, le-trans-positive}
-use Rattle.length.specs.Floats.{_⊕_}
+use Rattle.length.specs.Floats.{_⊕_, finiteUp}
 use Rattle.format.specs.Bounds.{maxWidthBits}
 
 -- 2 ^ e, in units of 2 ^ -l, is a power of two
@@ -151,12 +151,6 @@ zero-above m e d h = go m h
         itself 0 (round-exact binary64 false (0 * up e * down d) c 0 0 C (pow-pos 53) (pow-pos (low binary64 + suc (emax binary64)))
         (nothing (up e) (down d) (2 ^ low binary64) (2 ^ 0) c))
     go (suc m) h = itself (suc m) (rounds-to-itself m e (down d) c (down-pos d) refl h)
-
--- finite, and not negative
-abbrev pub finiteUp : Float → Bool
-finiteUp nan = false
-finiteUp (inf s) = false
-finiteUp (fin s m e) = not s
 
 -- two numbers that are not negative
 plus-above : (x t : Float) (a c : ℕ) → HasValue x false a c → T (fits binary64 x) → T (finiteUp t) → T (fits binary64 t) → T (le x (x ⊕ t))

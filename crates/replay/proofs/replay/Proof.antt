@@ -6,8 +6,9 @@ use Rattle.replay.proofs.replay.Statement.{statement}
 use Rattle.replay.proofs.replay.Tie as tie
 
 abbrev Inv-loop : tie.InvT-loop
-Inv-loop item₀ held₀ counts₀ s₀ left₀ item held counts s left = (s .job + s .list ≤ length held) × (128 ≤ length counts) × (length item ≡ length item₀)
-    × (length held ≡ length held₀) × (length counts ≡ length counts₀)
+Inv-loop item₀ held₀ counts₀ s₀ left₀ item held counts s left =
+    (s .job + s .list + s .thresholds ≤ length held) × (132 ≤ length counts) × (length item ≡ length item₀) × (length held ≡ length held₀)
+    × (length counts ≡ length counts₀)
 
 abbrev μ-loop : tie.MeasureT-loop
 μ-loop item₀ held₀ counts₀ s₀ left₀ item held counts s left = left

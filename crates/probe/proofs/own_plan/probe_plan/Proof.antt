@@ -6,9 +6,9 @@ use Rattle.format.specs.Decode.{decode}
 use Rattle.grid.specs.Directions.{eight}
 use Rattle.serial_links.specs.Limits.{limits000}
 use Rattle.analysis.specs.Plans.{Made, PlanLeft}
-use Rattle.chokes.proofs.Finishing.{few-000, leads-eight, left-000}
+use Rattle.chokes.proofs.Finishing.{leads-eight, left-eight}
 use Rattle.probe.specs.Planning.{probeChecks, probeSpans, refused, short, planned}
-use Rattle.probe.proofs.PlanningLaws.{plan-count, made-parting, made-ranked, made-inside, made-placed}
+use Rattle.probe.proofs.PlanningLaws.{few-000, plan-count, made-parting, made-ranked, made-inside, made-placed}
 use borrow.Author.Needs.{needs}
 use Rattle.probe.proofs.own_plan.probe_plan.Statement.{statement}
 use Rattle.probe.proofs.own_plan.probe_plan.Tie as tie
@@ -26,7 +26,7 @@ left : (c : tie.After-plan-of) → let a = given c .args in let s = a .job .now 
     (c .plan-of .result .number) (c .plan-of .result .detail)
 left c =
     let limits : tie.After-of-000 = search in
-    left-000 (limits .of-000 .ensures) (c .plan-of .ensures)
+    left-eight (limits .of-000 .ensures) (c .plan-of .ensures)
 
 -- past the refusals, the plan
 made : (c : tie.Else1) → let p = plan-at (c .before) in

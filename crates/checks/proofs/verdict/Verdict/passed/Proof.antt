@@ -5,7 +5,7 @@ use Rattle.checks.specs.Verdict.{meaning, numberOf, passes}
 use Rattle.checks.specs.declared.verdict.Verdict.{Verdict}
 use Rattle.checks.specs.declared.verdict.Verdict.the-variants.{Passed, JobTooShort, BadSides, TooManyRecords, TooManyBoundaries, BadLayout, BadCell}
 use Rattle.checks.specs.declared.verdict.Verdict.the-variants.{AnchorOffMap, BadSums, BadRamp, BadWidth, EndOffMap, EndsCoincide, BadListLength}
-use Rattle.checks.specs.declared.verdict.Verdict.the-variants.{TooManySpans, SpanOffMap, SpanEndsCoincide}
+use Rattle.checks.specs.declared.verdict.Verdict.the-variants.{TooManySpans, SpanOffMap, SpanEndsCoincide, BadThresholds}
 use borrow.Author.Needs.{needs}
 use Rattle.checks.proofs.verdict.Verdict.passed.Statement.{statement}
 use Rattle.checks.proofs.verdict.Verdict.passed.Tie as tie
@@ -29,6 +29,7 @@ only-passed BadListLength = refl
 only-passed (TooManySpans d) = refl
 only-passed (SpanOffMap d) = refl
 only-passed (SpanEndsCoincide d) = refl
+only-passed BadThresholds = refl
 
 returns : tie.Need-returns
 returns c = ap (λ (n : ℕ). eqb n 0) (c .number .ensures) ∙ only-passed (c .before .args .self)

@@ -1,0 +1,4 @@
+pub mod Faulty
+mod Of000
+mod Written
+pub mod Blocks
