@@ -1,0 +1,24 @@
+use mathlib.Core.Path.{sym, _∙_}
+use borrow.Author.Needs.{needs}
+use Rattle.marks_closing.proofs.ranges.mark_one.Statement.{statement}
+use Rattle.marks_closing.proofs.ranges.mark_one.Tie as tie
+
+parted-requires : tie.Need-parted-requires
+parted-requires c κs = search needs
+
+element-write-marks : tie.Need-element-write-marks
+element-write-marks c = search needs
+
+element-write-marks-2 : tie.Need-element-write-marks-2
+element-write-marks-2 c = search needs
+
+returns : tie.Need-returns
+returns c = λ es f. rw (sym (c .before .parted .ensures es f) ∙ c .if1 .taken)
+
+returns-2 : tie.Need-returns-2
+returns-2 c = λ es f. rw (sym (c .before .parted .ensures es f) ∙ c .if1 .left)
+
+pub mark-one-spec : {M : Type 1} → statement M
+mark-one-spec =
+    tie.close
+    (tie.spec parted-requires element-write-marks element-write-marks-2 returns returns-2)
