@@ -125,7 +125,8 @@ listed-size {owners} {lefts} {rights} {K} e l = subst (ListedRecords owners left
 module _ {owners lefts rights : List ℕ} {K from to lo hi mid m n : ℕ} {s : ForestTables} {marks : List ℕ}
     (o : OpenRange owners lefts rights K from to lo hi s n marks) (c : OwnersSplit owners from to mid m) (low : lo < mid) (high : mid < hi) where
   -- the second half is joined, and the first is open
-  pub open-left : {t : ForestTables} {k : ℕ} → GrownForest (adding lefts rights m (to - m)) (to - m) s n t k → OpenRange owners lefts rights K from m lo mid t k marks
+  pub open-left : {t : ForestTables} {k : ℕ} → GrownForest (adding lefts rights m (to - m)) (to - m) s n t k
+      → OpenRange owners lefts rights K from m lo mid t k marks
   open-left g = record {
     listed = listed-size (sym (g .size)) (o .listed);
     range = range-left (o .range) c low high;
@@ -157,7 +158,8 @@ marked-halves {mid = mid} l h p q = record {
   outside = λ b x. q .outside b (⊎-elim (λ y. inl (omega arith)) inr x) ∙ p .outside b (⊎-elim inl (λ y. inr (omega arith)) x);
 }
 
-module _ {owners lefts rights : List ℕ} {K from to lo hi n : ℕ} {s : ForestTables} {marks : List ℕ} (o : OpenRange owners lefts rights K from to lo hi s n marks) where
+module _ {owners lefts rights : List ℕ} {K from to lo hi n : ℕ} {s : ForestTables} {marks : List ℕ}
+    (o : OpenRange owners lefts rights K from to lo hi s n marks) where
   -- no record
   pub done-none : from ≡ to → ClosedRange owners lefts rights K lo hi s s n marks marks
   done-none e = record {

@@ -39,7 +39,8 @@ pub record Hanging (s : ForestTables) (low high left right : ℕ) : Type 0 where
   pub apart : low ≡ high → ⊥
   pub lower : at (s .heights) low ≤ at (s .heights) high
   pub ends : (es : List Edge) → Along es (s .parents) →
-      ((componentOf es low ≡ componentOf es left) × (componentOf es high ≡ componentOf es right)) ⊎ ((componentOf es low ≡ componentOf es right) × (componentOf es high ≡ componentOf es left))
+      ((componentOf es low ≡ componentOf es left) × (componentOf es high ≡ componentOf es right))
+      ⊎ ((componentOf es low ≡ componentOf es right) × (componentOf es high ≡ componentOf es left))
 
 module _ {s : ForestTables} {n low high left right : ℕ} (room : LogRoom s n 1) (g : Hanging s low high left right) where
   up-low : at (set (s .parents) low high) low ≡ high
@@ -152,7 +153,8 @@ module _ {s : ForestTables} {n low high left right : ℕ} (room : LogRoom s n 1)
         is-low : componentOf es i ≡ componentOf es low → i ≡ high
         is-low e = absurd (d (f .one i low l (g .low-in) own (g .low-own) e))
 
-    hung-along : (i : ℕ) → i < length (s .parents) → componentOf (joining left right es) (at (set (s .parents) low high) i) ≡ componentOf (joining left right es) i
+    hung-along : (i : ℕ) → i < length (s .parents)
+        → componentOf (joining left right es) (at (set (s .parents) low high) i) ≡ componentOf (joining left right es) i
     hung-along i l =
         by-cases (ℕ-discrete i low) (λ e. rw (e, up-low) (sym joined-ends))
         (λ d. rw (up-off i d) (part-kept (record { left = left; right = right }) es (at (s .parents) i) i (f .along i l)))

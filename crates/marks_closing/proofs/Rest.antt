@@ -100,7 +100,8 @@ module _ (owners lefts rights : List ℕ) where
 
   module _ {K from m to : ℕ} (lf : from ≤ m) (lm : m ≤ to) (lt : to ≤ K) {parents : List ℕ} where
     -- the second half is joined, and the first is left out
-    pub first-half : RootedForest (adding lefts rights m (to - m) (otherEdges owners lefts rights K from to)) parents → RootedForest (otherEdges owners lefts rights K from m) parents
+    pub first-half : RootedForest (adding lefts rights m (to - m) (otherEdges owners lefts rights K from to)) parents
+        → RootedForest (otherEdges owners lefts rights K from m) parents
     first-half = forest-same (rest-smaller K from to m (to - m) from m (omega arith)
         (λ k o. ⊎-elim inl (λ h. inr (omega arith)) o) (λ k h g. inr h)
         (λ k o. ⊎-elim (λ h. inl (inl h)) (λ h. by-cases (decLt k to) (λ g. inr (h, omega arith)) (λ g. inl (inr (omega arith)))) o))

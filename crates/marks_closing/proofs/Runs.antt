@@ -41,7 +41,8 @@ graph-less l g = record {
 }
 
 -- the same edges, under another name
-grown-as : {s t : ForestTables} {n m d e : ℕ} {more then : List Edge → List Edge} → d ≡ e → ((es : List Edge) → more es ≡ then es) → GrownForest more d s n t m →
+grown-as : {s t : ForestTables} {n m d e : ℕ} {more then : List Edge → List Edge} → d ≡ e → ((es : List Edge) → more es ≡ then es)
+    → GrownForest more d s n t m →
     GrownForest then e s n t m
 grown-as {t = t} q h g = record {
   from = g .from;
@@ -125,7 +126,8 @@ module _ (es : List Edge) (lefts rights : List ℕ) (from : ℕ) where
       let count : to - from ≡ k + 1 - from + (to - (k + 1)) = omega arith in
       ap (someParted es lefts rights from) count ∙ parted-more (k + 1 - from) (to - (k + 1)) here
 
-  module _ {parents : List ℕ} (f : RootedForest es parents) {k a b : ℕ} (l : from ≤ k) (ra : Root parents (at lefts k) a) (rb : Root parents (at rights k) b) where
+  module _ {parents : List ℕ} (f : RootedForest es parents) {k a b : ℕ} (l : from ≤ k) (ra : Root parents (at lefts k) a)
+      (rb : Root parents (at rights k) b) where
     same-part : a ≡ b → samePart es (at lefts k) (at rights k) ≡ true
     unfolding samePart
     same-part e = eq-eqb (componentOf es (at lefts k)) (componentOf es (at rights k)) (root-same f ra rb e)

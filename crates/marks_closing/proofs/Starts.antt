@@ -31,7 +31,8 @@ set-next f l n h was i m =
     by-cases (ℕ-discrete i n) (λ e. ap (at (set l n (f n))) e ∙ (getD-set-same l n (f n) 0 h ∙ ap f (sym e)))
     (λ d. getD-set-other l n i (f n) 0 d ∙ was i (omega arith))
 
-pub cleared-next : {R n : ℕ} {parents heights : List ℕ} → ClearedForest R n parents heights → n < R → ClearedForest R (n + 1) (set parents n n) (set heights n 0)
+pub cleared-next : {R n : ℕ} {parents heights : List ℕ} → ClearedForest R n parents heights → n < R
+    → ClearedForest R (n + 1) (set parents n n) (set heights n 0)
 cleared-next {n = n} {parents} {heights} c l = record {
   parents-are = length-set parents n n ∙ c .parents-are;
   heights-are = length-set heights n 0 ∙ c .heights-are;
@@ -54,7 +55,8 @@ cleared-trees {R} c = record {
 }
 
 module _ {owners lefts rights : List ℕ} {K : ℕ} {parents heights : List ℕ} (s : ForestTables) (o : Owners K owners)
-    (g : ListedRecords owners lefts rights K (length (s .parents))) (t : LentTables K s) (c : ClearedForest (length (s .parents)) (length (s .parents)) parents heights) where
+    (g : ListedRecords owners lefts rights K (length (s .parents))) (t : LentTables K s)
+    (c : ClearedForest (length (s .parents)) (length (s .parents)) parents heights) where
   room : LogRoom (forestTables parents heights (s .joined) (s .earlier)) 0 (K - 0)
   room = record {
     trees = cleared-trees c;

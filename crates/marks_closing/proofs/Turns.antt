@@ -17,7 +17,8 @@ use Rattle.marks_closing.proofs.Runs.{room-less}
 use Rattle.marks_closing.proofs.Halves.{restored-none, restored-back, alike, room-restored, open-left, open-right, marked-halves, done-one}
 
 -- the joins stand as they were
-grown-restored : {more : List Edge → List Edge} {d n m : ℕ} {s t u : ForestTables} → GrownForest more d s n t m → ForestRestored m t u → GrownForest more d s n u m
+grown-restored : {more : List Edge → List Edge} {d n m : ℕ} {s t u : ForestTables} → GrownForest more d s n t m → ForestRestored m t u
+    → GrownForest more d s n u m
 grown-restored {n = n} {m} {u = u} g r = record {
   from = g .from;
   upto = g .upto;
@@ -37,7 +38,8 @@ grown-restored {n = n} {m} {u = u} g r = record {
 }
 
 -- the forest is known from elsewhere
-grown-known : {more : List Edge → List Edge} {d e n m : ℕ} {s t : ForestTables} (fs : List Edge) → d ≡ e → RootedForest fs (t .parents) → GrownForest more d s n t m → GrownForest
+grown-known : {more : List Edge → List Edge} {d e n m : ℕ} {s t : ForestTables} (fs : List Edge) → d ≡ e → RootedForest fs (t .parents)
+    → GrownForest more d s n t m → GrownForest
     (λ es. fs) e s n t m
 grown-known fs q f g = record {
   from = g .from;
@@ -61,7 +63,8 @@ pub record Turning (owners lefts rights : List ℕ) (K from to lo hi : ℕ) (s :
   pub grown : GrownForest (λ es. otherEdges owners lefts rights K a to) (a - from) s n t m
   pub marked : MarkedRange (recordsIn owners lefts rights K) lo b was is
 
-module _ {owners lefts rights : List ℕ} {K from to lo hi n : ℕ} {s : ForestTables} {was : List ℕ} (o : OpenRange owners lefts rights K from to lo hi s n was) where
+module _ {owners lefts rights : List ℕ} {K from to lo hi n : ℕ} {s : ForestTables} {was : List ℕ}
+    (o : OpenRange owners lefts rights K from to lo hi s n was) where
   pub turning-start : Turning owners lefts rights K from to lo hi s n was from lo s n was
   turning-start = record {
     low = omega arith;
@@ -95,7 +98,8 @@ module _ {owners lefts rights : List ℕ} {K from to lo hi n : ℕ} {s : ForestT
         }
 
     -- one boundary is left
-    pub turning-end : hi ≡ b + 1 → {u : ForestTables} {then : List ℕ} → then ≡ set is b (bit (someParted (otherEdges owners lefts rights K a to) lefts rights a (to - a))) →
+    pub turning-end : hi ≡ b + 1 → {u : ForestTables} {then : List ℕ}
+        → then ≡ set is b (bit (someParted (otherEdges owners lefts rights K a to) lefts rights a (to - a))) →
         u ≡ undone t n (m - n) → ClosedRange owners lefts rights K lo hi s u n was then
     turning-end one e q = record {
       restored = turning-back q;

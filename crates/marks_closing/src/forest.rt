@@ -44,7 +44,8 @@ fn hang(
     low: u32,
     high: u32,
 )
-    requires { ⌜ LogRoom (forestTables (now parents) (now heights) (now joined) (now earlier)) n 1 × (low < length (now parents)) × (high < length (now parents)) ⌝ }
+    requires { ⌜ LogRoom (forestTables (now parents) (now heights) (now joined) (now earlier)) n 1 × (low < length (now parents))
+        × (high < length (now parents)) ⌝ }
     ensures { λ _. ⌜ forestTables (now (parents .exit)) (now (heights .exit)) (now (joined .exit)) (now (earlier .exit)) ≡
         hung (forestTables (now (parents .entry)) (now (heights .entry)) (now (joined .entry)) (now (earlier .entry))) n low high ⌝ }
 {
@@ -66,7 +67,8 @@ pub fn join(
     left: u32,
     right: u32,
 ) -> usize
-    requires { ⌜ LogRoom (forestTables (now parents) (now heights) (now joined) (now earlier)) n 1 × (left < length (now parents)) × (right < length (now parents)) ⌝ }
+    requires { ⌜ LogRoom (forestTables (now parents) (now heights) (now joined) (now earlier)) n 1 × (left < length (now parents))
+        × (right < length (now parents)) ⌝ }
     ensures { λ m. ⌜ GrownForest (joining left right) 1
         (forestTables (now (parents .entry)) (now (heights .entry)) (now (joined .entry)) (now (earlier .entry))) n
         (forestTables (now (parents .exit)) (now (heights .exit)) (now (joined .exit)) (now (earlier .exit))) m ⌝ }

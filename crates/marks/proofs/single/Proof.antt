@@ -8,6 +8,7 @@ use Rattle.marks.proofs.SingleMarks.{single-start, single-next}
 use Rattle.marks.proofs.single.Statement.{statement}
 use Rattle.marks.proofs.single.Tie as tie
 
+-- the owners of the records before k rise strictly
 abbrev Inv-loop : tie.InvT-loop
 Inv-loop owners count k₀ k = (0 < k) × SingleOwners k owners
 
@@ -22,10 +23,10 @@ returns c = λ e. clash e refl
 
 loop-again : tie.Need-loop-again Inv-loop μ-loop
 loop-again c =
-    let turn = c .before .before .before .before in
+    let turn : tie.At-loop Inv-loop μ-loop = search in
     let start : tie.Start Inv-loop μ-loop = search in
     let inv = turn .loop .inv in
-    (omega arith, single-next (start .args .owners .now) (turn .loop .k) (inv .0) (inv .1) (c .if1 .left))
+    (omega arith, single-next (start .args .owners .now) (turn .loop .k) (inv .0) (inv .1) (omega (arith, c .if1 .left)))
 
 returns-2 : tie.Need-returns-2 Inv-loop μ-loop
 returns-2 c = λ e i j l m. c .before .loop .inv .1 i j l (omega arith)

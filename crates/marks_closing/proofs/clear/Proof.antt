@@ -17,28 +17,10 @@ abbrev μ-loop : tie.MeasureT-loop
 loop-holds : tie.Need-loop-holds Inv-loop μ-loop
 loop-holds c = (omega arith, cleared-start (c .args .parents .now) (c .args .heights .now) refl (c .pre .0))
 
-cast-parents : tie.Need-cast-parents Inv-loop μ-loop
-cast-parents c = search needs
-
-mul-parents : tie.Need-mul-parents Inv-loop μ-loop
-mul-parents c = search needs
-
-slice-write-parents : tie.Need-slice-write-parents Inv-loop μ-loop
-slice-write-parents c = search needs
-
-mul-heights : tie.Need-mul-heights Inv-loop μ-loop
-mul-heights c = search needs
-
 slice-write-heights : tie.Need-slice-write-heights Inv-loop μ-loop
 slice-write-heights c =
     let turn = c .before in
     omega (arith, c .loop-test .taken, turn .loop .inv .1 .parents-are, turn .loop .inv .1 .heights-are)
-
-add-i : tie.Need-add-i Inv-loop μ-loop
-add-i c = search needs
-
-loop-less : tie.Need-loop-less Inv-loop μ-loop
-loop-less c = search needs
 
 loop-again : tie.Need-loop-again Inv-loop μ-loop
 loop-again c =
@@ -66,13 +48,13 @@ clear-spec =
     Inv-loop
     μ-loop
     loop-holds
-    cast-parents
-    mul-parents
-    slice-write-parents
-    mul-heights
+    (λ c. search needs)
+    (λ c. search needs)
+    (λ c. search needs)
+    (λ c. search needs)
     slice-write-heights
-    add-i
-    loop-less
+    (λ c. search needs)
+    (λ c. search needs)
     loop-again
     same-length
     same-length-2

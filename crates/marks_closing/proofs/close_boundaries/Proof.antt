@@ -1,47 +1,35 @@
-use Rattle.marks_closing.proofs.Starts.{open-all, marks-all}
-use Rattle.marks_closing.specs.Log.{forestTables}
 use mathlib.Core.Path.{refl}
 use borrow.Author.Needs.{needs}
+use Rattle.marks_closing.specs.Log.{forestTables}
+use Rattle.marks_closing.proofs.Starts.{open-all, marks-all}
 use Rattle.marks_closing.proofs.close_boundaries.Statement.{statement}
 use Rattle.marks_closing.proofs.close_boundaries.Tie as tie
 
-clear-requires : tie.Need-clear-requires
-clear-requires c κs = search needs
+-- what the function is given, from where every region is a root
+abbrev start-of : tie.After-clear → tie.Start
+start-of c = search
 
 close-range-requires : tie.Need-close-range-requires
 close-range-requires c κs =
-    let cleared = c .before .before .before .before .before .before .before .before .before in
-    let start = cleared .before .before .before .before .before .before .before .before .before .before .before in
-    let start = start in
+    let cleared : tie.After-clear = search in
+    let start = start-of cleared in
     let a = start .args in
     open-all (forestTables (a .parents .now) (a .heights .now) (a .joined .now) (a .earlier .now)) (start .pre .0) (start .pre .1) (start .pre .2)
     (cleared .clear .ensures) 256 refl
 
-same-length : tie.Need-same-length
-same-length c = search needs
-
-same-length-2 : tie.Need-same-length-2
-same-length-2 c = search needs
-
-same-length-3 : tie.Need-same-length-3
-same-length-3 c = search needs
-
-same-length-4 : tie.Need-same-length-4
-same-length-4 c = search needs
-
 returns : tie.Need-returns
 returns c =
-    let first-closed = c .before .before .before .before .before .before .before .before in
-    marks-all refl (first-closed .close-range .ensures .marked)
+    let closed : tie.After-close-range = search in
+    marks-all refl (closed .close-range .ensures .marked)
 
 pub close-boundaries-spec : {M : Type 1} → statement M
 close-boundaries-spec =
     tie.close
     (tie.spec
-    clear-requires
+    (λ c κs. search needs)
     close-range-requires
-    same-length
-    same-length-2
-    same-length-3
-    same-length-4
+    (λ c. search needs)
+    (λ c. search needs)
+    (λ c. search needs)
+    (λ c. search needs)
     returns)

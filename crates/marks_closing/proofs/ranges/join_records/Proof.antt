@@ -1,11 +1,12 @@
-use Rattle.marks_closing.proofs.Runs.{adding-start, adding-next, adding-end, adding-room}
-use Rattle.marks_closing.specs.Log.{forestTables, GrownForest, adding}
-use borrow.Author.Needs.{needs}
+use Prim.Native.Nat.{_-_, _≤_}
 use native.Mathlib.Omega.{arith}
-use Prim.Native.Nat.{ℕ, _-_, _≤_}
+use borrow.Author.Needs.{needs}
+use Rattle.marks_closing.specs.Log.{forestTables, GrownForest, adding}
+use Rattle.marks_closing.proofs.Runs.{adding-start, adding-next, adding-end, adding-room}
 use Rattle.marks_closing.proofs.ranges.join_records.Statement.{statement}
 use Rattle.marks_closing.proofs.ranges.join_records.Tie as tie
 
+-- the records before k are joined
 abbrev Inv-loop : tie.InvT-loop
 Inv-loop lefts rights from to parents₀ heights₀ joined₀ earlier₀ n m₀ k₀ parents heights joined earlier m k =
     (from ≤ k) × (k ≤ to) × GrownForest (adding lefts rights from (k - from)) (k - from) (forestTables parents₀ heights₀ joined₀ earlier₀) n
@@ -14,58 +15,55 @@ Inv-loop lefts rights from to parents₀ heights₀ joined₀ earlier₀ n m₀ 
 abbrev μ-loop : tie.MeasureT-loop
 μ-loop lefts rights from to parents₀ heights₀ joined₀ earlier₀ n m₀ k₀ parents heights joined earlier m k = to - k
 
+-- what the function is given, from the head of the loop; the head, from a record's join
+abbrev start-of : tie.At-loop Inv-loop μ-loop → tie.Start Inv-loop μ-loop
+start-of c = search
+
+abbrev turn-of : tie.After-join Inv-loop μ-loop → tie.In-loop Inv-loop μ-loop
+turn-of c = search
+
 loop-holds : tie.Need-loop-holds Inv-loop μ-loop
 loop-holds c =
-    let start = c .before .before .before .before .before .before in
+    let start : tie.Start Inv-loop μ-loop = search in
     (omega arith, omega arith, adding-start (start .args .lefts .now) (start .args .rights .now) (start .args .from) (start .pre .2))
-
-mul-join : tie.Need-mul-join Inv-loop μ-loop
-mul-join c = search needs
 
 shared-slice-read-join : tie.Need-shared-slice-read-join Inv-loop μ-loop
 shared-slice-read-join c =
-    let start = c .before .before .before .before .before .before .before .before .before .before .before .before .before in
-    omega (arith, start .pre .1 .lefts-are)
-
-mul-join-2 : tie.Need-mul-join-2 Inv-loop μ-loop
-mul-join-2 c = search needs
+    let turn : tie.At-loop Inv-loop μ-loop = search in
+    omega (arith, start-of turn .pre .1 .lefts-are)
 
 shared-slice-read-join-2 : tie.Need-shared-slice-read-join-2 Inv-loop μ-loop
 shared-slice-read-join-2 c =
-    let start = c .before .before .before .before .before .before .before .before .before .before .before .before .before .before in
-    omega (arith, start .pre .1 .rights-are)
+    let turn : tie.At-loop Inv-loop μ-loop = search in
+    omega (arith, start-of turn .pre .1 .rights-are)
 
 join-requires : tie.Need-join-requires Inv-loop μ-loop
 join-requires c κs =
-    let tested = c .before .before .before .before .before .before in
-    let start = tested .before in
-    let turn = start in
-    let start = turn .before .before .before .before .before .before .before in
+    let tested : tie.In-loop Inv-loop μ-loop = search in
+    let turn = tested .before in
+    let p = start-of turn .pre in
+    let inv = turn .loop .inv in
     let taken = tested .loop-test .taken in (
-      adding-room (turn .loop .inv .0) taken (start .pre .2) (turn .loop .inv .2),
-      omega (arith, start .pre .1 .left-in (turn .loop .k) taken, turn .loop .inv .2 .size),
-      omega (arith, start .pre .1 .right-in (turn .loop .k) taken, turn .loop .inv .2 .size),
+      adding-room (inv .0) taken (p .2) (inv .2),
+      omega (arith, p .1 .left-in (turn .loop .k) taken, inv .2 .size),
+      omega (arith, p .1 .right-in (turn .loop .k) taken, inv .2 .size),
     )
 
 add-k : tie.Need-add-k Inv-loop μ-loop
 add-k c =
-    let tested = c .before .before .before .before .before .before .before .before .before .before .before .before .before .before .before in
-    omega (arith, tested .loop-test .taken)
-
-loop-less : tie.Need-loop-less Inv-loop μ-loop
-loop-less c = search needs
+    let joined : tie.After-join Inv-loop μ-loop = search in
+    omega (arith, turn-of joined .loop-test .taken)
 
 loop-again : tie.Need-loop-again Inv-loop μ-loop
 loop-again c =
-    let joined = c .before .before .before .before .before .before .before .before in
-    let start = joined .before .before .before .before .before .before .before in
-    let tested = start in
+    let joined : tie.After-join Inv-loop μ-loop = search in
+    let tested = turn-of joined in
     let turn = tested .before in
-    let start = turn .before .before .before .before .before .before .before in
-    let taken = tested .loop-test .taken in (
-      omega (arith, turn .loop .inv .0),
-      omega (arith, taken),
-      adding-next (start .args .lefts .now) (start .args .rights .now) (start .args .from) (turn .loop .inv .0) (turn .loop .inv .2) (joined .join .ensures),
+    let a = start-of turn .args in
+    let inv = turn .loop .inv in (
+      omega (arith, inv .0),
+      omega (arith, tested .loop-test .taken),
+      adding-next (a .lefts .now) (a .rights .now) (a .from) (inv .0) (inv .2) (joined .join .ensures),
     )
 
 same-length : tie.Need-same-length Inv-loop μ-loop
@@ -73,10 +71,8 @@ same-length c = c .before .loop .inv .2 .size
 
 same-length-2 : tie.Need-same-length-2 Inv-loop μ-loop
 same-length-2 c =
-    let turn = c .before in
-    let start = turn .before .before .before .before .before .before .before in
-    let start = start in
-    omega (arith, turn .loop .inv .2 .size, turn .loop .inv .2 .trees .sized, start .pre .2 .trees .sized)
+    let grown = c .before .loop .inv .2 in
+    omega (arith, grown .size, grown .trees .sized, start-of (c .before) .pre .2 .trees .sized)
 
 same-length-3 : tie.Need-same-length-3 Inv-loop μ-loop
 same-length-3 c = c .before .loop .inv .2 .log .joined-size
@@ -86,8 +82,8 @@ same-length-4 c = c .before .loop .inv .2 .log .earlier-size
 
 returns : tie.Need-returns Inv-loop μ-loop
 returns c =
-    let start = c .before .before .before .before .before .before .before .before in
-    adding-end (start .args .lefts .now) (start .args .rights .now) (start .args .from) (omega arith) (c .before .loop .inv .2)
+    let a = start-of (c .before) .args in
+    adding-end (a .lefts .now) (a .rights .now) (a .from) (omega arith) (c .before .loop .inv .2)
 
 pub join-records-spec : {M : Type 1} → statement M
 join-records-spec =
@@ -96,13 +92,13 @@ join-records-spec =
     Inv-loop
     μ-loop
     loop-holds
-    mul-join
+    (λ c. search needs)
     shared-slice-read-join
-    mul-join-2
+    (λ c. search needs)
     shared-slice-read-join-2
     join-requires
     add-k
-    loop-less
+    (λ c. search needs)
     loop-again
     same-length
     same-length-2

@@ -3,15 +3,6 @@ use borrow.Author.Needs.{needs}
 use Rattle.marks_closing.proofs.ranges.mark_one.Statement.{statement}
 use Rattle.marks_closing.proofs.ranges.mark_one.Tie as tie
 
-parted-requires : tie.Need-parted-requires
-parted-requires c κs = search needs
-
-element-write-marks : tie.Need-element-write-marks
-element-write-marks c = search needs
-
-element-write-marks-2 : tie.Need-element-write-marks-2
-element-write-marks-2 c = search needs
-
 returns : tie.Need-returns
 returns c = λ es f. rw (sym (c .before .parted .ensures es f) ∙ c .if1 .taken)
 
@@ -21,4 +12,9 @@ returns-2 c = λ es f. rw (sym (c .before .parted .ensures es f) ∙ c .if1 .lef
 pub mark-one-spec : {M : Type 1} → statement M
 mark-one-spec =
     tie.close
-    (tie.spec parted-requires element-write-marks element-write-marks-2 returns returns-2)
+    (tie.spec
+    (λ c κs. search needs)
+    (λ c. search needs)
+    (λ c. search needs)
+    returns
+    returns-2)
