@@ -1,21 +1,22 @@
--- Cleared arrays, as closing takes them.
-use mathlib.Core.Path.{_≡_, refl}
-use Prim.Native.Nat.{ℕ, _*_, _≤_}
+-- Arrays lent to the walk serve closing too.
+use mathlib.Core.Path.{_≡_, sym, _∙_}
+use mathlib.Core.List.{List}
+use Prim.Native.Nat.{ℕ}
 use native.Mathlib.Omega.{arith}
-use lib.ListN.{replicate, length-replicate}
+use lib.ListN.{length}
+use Rattle.serial_walk.specs.Slices.{Lent}
 use Rattle.marks_closing.specs.Log.{forestTables}
 use Rattle.marks.specs.Owned.{SpareArrays}
 
--- n words for records and m for regions
-pub spare : (K n m : ℕ) → K ≤ n → 2 * K ≤ m → m ≤ 8192
-    → SpareArrays K (replicate n 0) (replicate n 0) (forestTables (replicate m 0) (replicate m 0) (replicate n 0) (replicate n 0))
-spare K n m records regions near =
-    let words = length-replicate {A = ℕ} n 0 in
-    let vertices = length-replicate {A = ℕ} m 0 in
+pub spare-lent : {K R : ℕ} {smallLefts smallRights heads leftNexts rightNexts disc stack parents nexts lows : List ℕ}
+    → Lent K R smallLefts smallRights heads leftNexts rightNexts disc stack parents nexts lows
+    → SpareArrays K smallLefts smallRights (forestTables parents lows leftNexts rightNexts)
+spare-lent l =
+    let size = l .sized .parents-are in
     record {
-      enough = omega (arith, vertices);
-      near = omega (arith, vertices);
-      small-lefts-are = omega (arith, words);
-      small-rights-are = omega (arith, words);
-      lent = record { heights-are = refl; joined-are = omega (arith, words); earlier-are = omega (arith, words) };
+      enough = omega (arith, l .enough, size);
+      near = omega (arith, l .near, size);
+      small-lefts-are = l .small-lefts-are;
+      small-rights-are = l .small-rights-are;
+      lent = record { heights-are = l .sized .lows-are ∙ sym size; joined-are = l .left-nexts-are; earlier-are = l .right-nexts-are };
     }

@@ -28,10 +28,10 @@ pub const MOST: usize = 4096;
 pub const MOST_REGIONS: usize = 8192;
 
 // A number that no record has.
-const NONE: u32 = 4096;
+pub const NONE: u32 = 4096;
 
 // Marks each boundary that is a bridge with 1, and every other with 0, on arrays that are lent. The table of words from base on in work is left as it was.
-fn mark_bridges(
+pub fn mark_bridges(
     owners: &[u32],
     lefts: &[u32],
     rights: &[u32],
