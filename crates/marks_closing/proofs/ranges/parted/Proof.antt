@@ -60,7 +60,7 @@ returns c =
     let turn = tested .before in
     let a = start-of turn .args in
     λ es f. parted-here es (a .lefts .now) (a .rights .now) (a .from) f (turn .loop .inv .0) (left .find .ensures) (c .before .find2 .ensures)
-    (c .if1 .taken) (a .to) (tested .loop-test .taken)
+    (λ e. c .if1 .taken (omega (arith, e))) (a .to) (tested .loop-test .taken)
 
 add-k : tie.Need-add-k Inv-loop μ-loop
 add-k c =
@@ -75,7 +75,7 @@ loop-again c =
       omega arith,
       omega arith,
       λ es f. parted-next es (a .lefts .now) (a .rights .now) (a .from) f (turn .loop .inv .0) (left .find .ensures) (c .before .find2 .ensures)
-          (c .if1 .left) (turn .loop .inv .2 es f),
+          (omega (arith, c .if1 .left)) (turn .loop .inv .2 es f),
     )
 
 returns-2 : tie.Need-returns-2 Inv-loop μ-loop
