@@ -1,9 +1,8 @@
 -- Arrays lent to the walk serve closing too.
-use mathlib.Core.Path.{_≡_, sym, _∙_}
+use mathlib.Core.Path.{sym, _∙_}
 use mathlib.Core.List.{List}
 use Prim.Native.Nat.{ℕ}
 use native.Mathlib.Omega.{arith}
-use lib.ListN.{length}
 use Rattle.serial_walk.specs.Slices.{Lent}
 use Rattle.marks_closing.specs.Log.{forestTables}
 use Rattle.marks.specs.Owned.{SpareArrays}

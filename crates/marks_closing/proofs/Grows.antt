@@ -1,21 +1,54 @@
 -- Joins one after another.
 use mathlib.Core.Path.{_≡_, refl, sym, _∙_, ap}
 use mathlib.Core.Logic.{_⊎_, inl, inr, ⊎-elim}
-use mathlib.Core.List.{List, [], _∷_}
-use Prim.Native.Nat.{ℕ, zero, suc, _+_, _-_, _≤_, _<_}
+use mathlib.Core.List.{List}
+use Prim.Native.Nat.{ℕ, _+_, _-_, _≤_, _<_}
 use native.Mathlib.Omega.{arith}
-use native.Mathlib.Numerals.{add-one}
 use native.Mathlib.Decide.{decLt}
 use lib.ListN.{length}
 use Rattle.lists.specs.Rows.{at}
 use Rattle.graph.specs.Path.{Edge}
 use Rattle.graph.specs.Parts.{componentOf}
 use Rattle.graph.proofs.Parts.{part-kept, AtEnd, part-apart}
-use Rattle.marks_closing.specs.Forest.{HeightTrees, RootedForest, Root}
-use Rattle.marks_closing.specs.Log.{ForestTables, undone, hung, LogRoom, Undoable, GrownForest, joining, adding}
+use Rattle.marks_closing.specs.Forest.{RootedForest, Root}
+use Rattle.marks_closing.specs.Log.{ForestTables, undone, hung, LogRoom, Undoable, SameLog, GrownForest, joining}
 use Rattle.marks_closing.proofs.Finds.{root-same}
 use Rattle.marks_closing.proofs.Hangs.{hung-grown}
 use Rattle.marks_closing.proofs.Undoes.{undone-none, undone-add, undone-joined, undone-earlier, Alike, undone-parents, undone-heights}
+
+-- a log that was kept, and kept again
+pub log-trans : {n m : ℕ} {s t u : ForestTables} → n ≤ m → SameLog n s t → SameLog m t u → SameLog n s u
+log-trans h p q = record {
+  joined-size = q .joined-size ∙ p .joined-size;
+  earlier-size = q .earlier-size ∙ p .earlier-size;
+  joined-same = λ i l. q .joined-same i (omega arith) ∙ p .joined-same i l;
+  earlier-same = λ i l. q .earlier-same i (omega arith) ∙ p .earlier-same i l;
+}
+
+-- taking joins back leaves it alone
+pub log-undone : (s : ForestTables) (n d : ℕ) {m : ℕ} → SameLog m s (undone s n d)
+log-undone s n d = record {
+  joined-size = ap length (undone-joined s n d);
+  earlier-size = ap length (undone-earlier s n d);
+  joined-same = λ i l. ap (λ (x : List ℕ). at x i) (undone-joined s n d);
+  earlier-same = λ i l. ap (λ (x : List ℕ). at x i) (undone-earlier s n d);
+}
+
+-- the same joins, of which something else is known
+pub grown-with : {more then : List Edge → List Edge} {d e n m : ℕ} {s t : ForestTables} → d ≡ e
+    → ((es : List Edge) → RootedForest es (s .parents) → RootedForest (then es) (t .parents)) → GrownForest more d s n t m → GrownForest then e s n t m
+grown-with q f g = record {
+  from = g .from;
+  upto = omega (arith, g .upto);
+  size = g .size;
+  trees = g .trees;
+  low = g .low;
+  log = g .log;
+  inside = g .inside;
+  parents-back = g .parents-back;
+  heights-back = g .heights-back;
+  forest = f;
+}
 
 -- no join
 pub grown-none : {s : ForestTables} {n d : ℕ} {more : List Edge → List Edge} → LogRoom s n d →
@@ -69,8 +102,8 @@ module _ {s t u : ForestTables} {n m k d e : ℕ} {more then : List Edge → Lis
   alike = record {
     parents = h .parents-back;
     heights = h .heights-back;
-    joined = λ i l j. ap (λ (x : List ℕ). at x i) (undone-joined u m (k - m)) ∙ h .log .joined-same i (omega (arith, g .from));
-    earlier = λ i l j. ap (λ (x : List ℕ). at x i) (undone-earlier u m (k - m)) ∙ h .log .earlier-same i (omega (arith, g .from));
+    joined = λ i l j. log-undone u m (k - m) .joined-same i j ∙ h .log .joined-same i (omega (arith, g .from));
+    earlier = λ i l j. log-undone u m (k - m) .earlier-same i j ∙ h .log .earlier-same i (omega (arith, g .from));
   }
 
   pub grown-trans : GrownForest (λ es. then (more es)) (d + e) s n u k
@@ -80,12 +113,7 @@ module _ {s t u : ForestTables} {n m k d e : ℕ} {more then : List Edge → Lis
     size = h .size ∙ g .size;
     trees = h .trees;
     low = h .low;
-    log = record {
-      joined-size = h .log .joined-size ∙ g .log .joined-size;
-      earlier-size = h .log .earlier-size ∙ g .log .earlier-size;
-      joined-same = λ i l. h .log .joined-same i (omega (arith, g .from)) ∙ g .log .joined-same i l;
-      earlier-same = λ i l. h .log .earlier-same i (omega (arith, g .from)) ∙ g .log .earlier-same i l;
-    };
+    log = log-trans (g .from) (g .log) (h .log);
     inside = λ i l j. inside i l j (decLt i m);
     parents-back = ap (λ (x : ForestTables). x .parents) order ∙ (undone-parents n (m - n) alike ∙ g .parents-back);
     heights-back = ap (λ (x : ForestTables). x .heights) order ∙ (undone-heights n (m - n) alike ∙ g .heights-back);

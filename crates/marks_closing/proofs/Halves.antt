@@ -2,9 +2,9 @@
 use mathlib.Core.Path.{_≡_, refl, sym, _∙_, ap, subst, subst₂}
 use mathlib.Core.Logic.{_⊎_, inl, inr, ⊎-elim, by-cases}
 use mathlib.Core.List.{List}
-use Prim.Native.Nat.{ℕ, suc, _+_, _-_, _≤_, _<_}
+use Prim.Native.Nat.{ℕ, _+_, _-_, _≤_, _<_}
 use native.Mathlib.Omega.{arith}
-use native.Mathlib.Decide.{ℕ-discrete, decLt}
+use native.Mathlib.Decide.{decLt}
 use lib.ListN.{length, set, length-set}
 use lib.Seq.{getD-set-same, getD-set-other}
 use Rattle.lists.specs.Rows.{at}
@@ -13,11 +13,11 @@ use Rattle.graph.specs.Records.{Record, recordsIn}
 use Rattle.graph.specs.Bridges.{markOf}
 use Rattle.graph.specs.Slices.{Graph}
 use Rattle.marks_closing.specs.Forest.{HeightTrees, RootedForest}
-use Rattle.marks_closing.specs.Log.{ForestTables, undone, LogRoom, Undoable, SameLog, ForestRestored, GrownForest, adding}
+use Rattle.marks_closing.specs.Log.{ForestTables, undone, LogRoom, Undoable, ForestRestored, GrownForest, adding}
 use Rattle.marks_closing.specs.Marks.{bit, MarkedRange}
 use Rattle.marks_closing.specs.Ranges.{OwnersSplit, someParted, otherEdges, OwnerRange, ListedRecords, OpenRange, ClosedRange}
-use Rattle.marks_closing.proofs.Undoes.{undone-joined, undone-earlier, Alike, undone-parents, undone-heights}
-use Rattle.marks_closing.proofs.Grows.{room-grown, grown-undoable}
+use Rattle.marks_closing.proofs.Undoes.{Alike, undone-parents, undone-heights}
+use Rattle.marks_closing.proofs.Grows.{log-trans, log-undone, room-grown, grown-undoable}
 use Rattle.marks_closing.proofs.Runs.{room-less, graph-less}
 use Rattle.marks_closing.proofs.Rest.{first-half, second-half}
 use Rattle.marks_closing.proofs.Leaves.{mark-none, mark-one}
@@ -27,18 +27,6 @@ restored-none n s = record {
   parents = refl;
   heights = refl;
   log = record { joined-size = refl; earlier-size = refl; joined-same = λ k l. refl; earlier-same = λ k l. refl };
-}
-
-pub restored-trans : {n : ℕ} {s t u : ForestTables} → ForestRestored n s t → ForestRestored n t u → ForestRestored n s u
-restored-trans p q = record {
-  parents = q .parents ∙ p .parents;
-  heights = q .heights ∙ p .heights;
-  log = record {
-    joined-size = q .log .joined-size ∙ p .log .joined-size;
-    earlier-size = q .log .earlier-size ∙ p .log .earlier-size;
-    joined-same = λ k l. q .log .joined-same k l ∙ p .log .joined-same k l;
-    earlier-same = λ k l. q .log .earlier-same k l ∙ p .log .earlier-same k l;
-  };
 }
 
 -- joins, whatever happened in between if it left them as they were, and the joins taken back
@@ -55,13 +43,7 @@ module _ {more : List Edge → List Edge} {d n k : ℕ} {s t v : ForestTables} (
   as-undone = record {
     parents = undone-parents n (k - n) alike ∙ g .parents-back;
     heights = undone-heights n (k - n) alike ∙ g .heights-back;
-    log = record {
-      joined-size = ap length (undone-joined v n (k - n)) ∙ (r .log .joined-size ∙ g .log .joined-size);
-      earlier-size = ap length (undone-earlier v n (k - n)) ∙ (r .log .earlier-size ∙ g .log .earlier-size);
-      joined-same = λ i l. ap (λ (x : List ℕ). at x i) (undone-joined v n (k - n)) ∙ (r .log .joined-same i (omega (arith, g .from)) ∙ g .log .joined-same i l);
-      earlier-same = λ i l. ap (λ (x : List ℕ). at x i) (undone-earlier v n (k - n)) ∙
-          (r .log .earlier-same i (omega (arith, g .from)) ∙ g .log .earlier-same i l);
-    };
+    log = log-trans {m = n} (omega arith) (log-trans (g .from) (g .log) (r .log)) (log-undone v n (k - n));
   }
 
   pub restored-back : {u : ForestTables} → u ≡ undone v n (k - n) → ForestRestored n s u

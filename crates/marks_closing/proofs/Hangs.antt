@@ -1,7 +1,7 @@
 -- One root put under another that is no lower.
-use mathlib.Core.Path.{_≡_, refl, sym, _∙_, ap}
-use mathlib.Core.Logic.{by-cases, _⊎_, inl, inr, ⊎-elim}
-use mathlib.Core.List.{List, _∷_}
+use mathlib.Core.Path.{_≡_, sym, _∙_, ap}
+use mathlib.Core.Logic.{by-cases, _⊎_, ⊎-elim}
+use mathlib.Core.List.{List}
 use Prim.Native.Nat.{ℕ, suc, _+_, _-_, _≤_, _<_}
 use native.Mathlib.Omega.{arith}
 use native.Mathlib.Decide.{ℕ-discrete}
@@ -13,7 +13,7 @@ use Rattle.graph.specs.Path.{Edge}
 use Rattle.graph.specs.Parts.{componentOf}
 use Rattle.graph.proofs.Parts.{part-kept, part-ends, AtEnd, part-apart}
 use Rattle.marks_closing.specs.Forest.{HeightTrees, Along, RootedForest}
-use Rattle.marks_closing.specs.Log.{ForestTables, forestTables, raisedHeight, hung, takenBack, undone, LogRoom, SameLog, GrownForest, joining}
+use Rattle.marks_closing.specs.Log.{ForestTables, raisedHeight, hung, takenBack, undone, LogRoom, SameLog, GrownForest, joining}
 use Rattle.marks_closing.proofs.Undoes.{undone-none, undone-last}
 
 -- the new height is over that of the lower, no less than it was and at most one more

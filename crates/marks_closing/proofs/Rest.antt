@@ -1,5 +1,5 @@
 -- The edges of the records outside a range, by place; a range made smaller by joining some of its records.
-use mathlib.Core.Path.{_≡_, refl, sym, _∙_, ap}
+use mathlib.Core.Path.{_≡_, sym, _∙_, ap}
 use mathlib.Core.Logic.{_⊎_, inl, inr, ⊎-elim, by-cases}
 use mathlib.Core.Bool.{false, _&&_}
 use mathlib.Core.List.{List, [], List·Memᴰ, List·Memᴰ·not-nil, List·Memᴰ·head, List·Memᴰ·tail, Memᴰ·cast}
@@ -8,7 +8,6 @@ use native.Mathlib.Omega.{arith}
 use native.Mathlib.Decide.{decLt}
 use borrow.Author.Tests.{leb-false, ltb-false, lt-leb, le-ltb}
 use lib.Dec.{leb, ltb}
-use lib.ListN.{length}
 use Rattle.lists.specs.Rows.{at}
 use Rattle.order.specs.Pairs.{SameMembers}
 use Rattle.order.proofs.Bools.{by-test}

@@ -1,23 +1,22 @@
 -- Records joined and looked at one after another.
 use mathlib.Core.Path.{_≡_, refl, sym, _∙_, ap, subst}
 use mathlib.Core.Logic.{by-cases}
-use mathlib.Core.Bool.{Bool, true, false, not, _||_}
+use mathlib.Core.Bool.{true, false, not, _||_}
 use mathlib.Core.List.{List}
 use Prim.Native.Nat.{ℕ, zero, suc, _+_, _-_, _≤_, _<_}
 use native.Mathlib.Omega.{arith}
 use native.Mathlib.Decide.{ℕ-discrete}
 use borrow.Author.Tests.{eq-eqb, ne-eqb}
-use lib.ListN.{length}
 use Rattle.lists.specs.Rows.{at}
 use Rattle.order.proofs.Bools.{or-right}
 use Rattle.graph.specs.Path.{Edge}
 use Rattle.graph.specs.Parts.{componentOf, samePart}
 use Rattle.graph.specs.Slices.{Graph}
-use Rattle.marks_closing.specs.Forest.{HeightTrees, RootedForest, Root}
+use Rattle.marks_closing.specs.Forest.{RootedForest, Root}
 use Rattle.marks_closing.specs.Log.{ForestTables, LogRoom, GrownForest, joining, adding}
 use Rattle.marks_closing.specs.Ranges.{someParted}
 use Rattle.marks_closing.proofs.Finds.{root-same, same-root}
-use Rattle.marks_closing.proofs.Grows.{grown-none, grown-trans, room-grown}
+use Rattle.marks_closing.proofs.Grows.{grown-with, grown-none, grown-trans, room-grown}
 
 -- room for fewer joins
 pub room-less : {s : ForestTables} {n d e : ℕ} → e ≤ d → LogRoom s n d → LogRoom s n e
@@ -44,18 +43,7 @@ graph-less l g = record {
 grown-as : {s t : ForestTables} {n m d e : ℕ} {more then : List Edge → List Edge} → d ≡ e → ((es : List Edge) → more es ≡ then es)
     → GrownForest more d s n t m →
     GrownForest then e s n t m
-grown-as {t = t} q h g = record {
-  from = g .from;
-  upto = omega (arith, g .upto);
-  size = g .size;
-  trees = g .trees;
-  low = g .low;
-  log = g .log;
-  inside = g .inside;
-  parents-back = g .parents-back;
-  heights-back = g .heights-back;
-  forest = λ es f. subst (λ (x : List Edge). RootedForest x (t .parents)) (h es) (g .forest es f);
-}
+grown-as {t = t} q h g = grown-with q (λ es f. subst (λ (x : List Edge). RootedForest x (t .parents)) (h es) (g .forest es f)) g
 
 module _ (lefts rights : List ℕ) (from : ℕ) where
   adding-none : (es : List Edge) → adding lefts rights from 0 es ≡ es

@@ -1,25 +1,23 @@
 -- Every region a root, and no record joined: all boundaries are open. Closed as one range, they have their marks.
-use mathlib.Core.Path.{_≡_, refl, sym, _∙_, ap}
-use mathlib.Core.Logic.{inl, inr, ⊎-elim, by-cases}
-use mathlib.Core.List.{List, [], List·Memᴰ·not-nil}
-use Prim.Native.Nat.{ℕ, _+_, _-_, _≤_, _<_}
+use mathlib.Core.Path.{_≡_, sym, _∙_, ap}
+use mathlib.Core.Logic.{by-cases}
+use mathlib.Core.List.{List, []}
+use Prim.Native.Nat.{ℕ, _+_, _-_, _<_}
 use native.Mathlib.Omega.{arith}
 use native.Mathlib.Decide.{ℕ-discrete}
 use lib.ListN.{length, set, length-set, replicate, length-replicate}
 use lib.Seq.{getD-set-same, getD-set-other, ext-getD}
 use Rattle.lists.specs.Rows.{at, rows}
 use Rattle.lists.proofs.Rows.{length-rows, rows-at, zero-at}
-use Rattle.order.specs.Pairs.{SameMembers}
-use Rattle.graph.specs.Path.{Edge}
 use Rattle.graph.specs.Parts.{componentOf}
-use Rattle.graph.specs.Records.{Record, recordsIn}
+use Rattle.graph.specs.Records.{Record}
 use Rattle.graph.specs.Bridges.{markOf}
 use Rattle.graph.proofs.Parts.{part-none}
 use Rattle.graph.specs.Slices.{Owners}
 use Rattle.marks_closing.specs.Forest.{HeightTrees, RootedForest}
 use Rattle.marks_closing.specs.Log.{ForestTables, forestTables, LogRoom}
 use Rattle.marks_closing.specs.Marks.{bit, chokeMarks, MarkedRange}
-use Rattle.marks_closing.specs.Ranges.{otherEdges, OwnerRange, ListedRecords, OpenRange, ClearedForest, LentTables}
+use Rattle.marks_closing.specs.Ranges.{OwnerRange, ListedRecords, OpenRange, ClearedForest, LentTables}
 use Rattle.marks_closing.proofs.Rest.{forest-same, rest-all}
 
 pub cleared-start : {R : ℕ} (parents heights : List ℕ) → length parents ≡ R → length heights ≡ R → ClearedForest R 0 parents heights

@@ -1,20 +1,20 @@
 -- A range closed from its first boundary on: at each turn the first half of what is left is closed, and then joined.
 use mathlib.Core.Path.{_≡_, refl, sym, _∙_, ap, subst, subst₂}
 use mathlib.Core.List.{List}
-use Prim.Native.Nat.{ℕ, suc, _+_, _-_, _≤_, _<_}
+use Prim.Native.Nat.{ℕ, _+_, _-_, _≤_, _<_}
 use native.Mathlib.Omega.{arith}
 use lib.ListN.{length, set}
 use Rattle.lists.specs.Rows.{at}
 use Rattle.graph.specs.Path.{Edge}
 use Rattle.graph.specs.Records.{recordsIn}
 use Rattle.marks_closing.specs.Forest.{HeightTrees, RootedForest}
-use Rattle.marks_closing.specs.Log.{ForestTables, undone, LogRoom, Undoable, ForestRestored, GrownForest, adding}
+use Rattle.marks_closing.specs.Log.{ForestTables, undone, Undoable, ForestRestored, GrownForest, adding}
 use Rattle.marks_closing.specs.Marks.{bit, MarkedRange}
 use Rattle.marks_closing.specs.Ranges.{OwnersSplit, someParted, otherEdges, OpenRange, ClosedRange}
 use Rattle.marks_closing.proofs.Undoes.{undone-parents, undone-heights}
-use Rattle.marks_closing.proofs.Grows.{grown-none, grown-trans, grown-undoable}
+use Rattle.marks_closing.proofs.Grows.{log-trans, grown-with, grown-none, grown-trans, grown-undoable}
 use Rattle.marks_closing.proofs.Runs.{room-less}
-use Rattle.marks_closing.proofs.Halves.{restored-none, restored-back, alike, room-restored, open-left, open-right, marked-halves, done-one}
+use Rattle.marks_closing.proofs.Halves.{restored-none, restored-back, alike, open-right, marked-halves, done-one}
 
 -- the joins stand as they were
 grown-restored : {more : List Edge → List Edge} {d n m : ℕ} {s t u : ForestTables} → GrownForest more d s n t m → ForestRestored m t u
@@ -25,33 +25,11 @@ grown-restored {n = n} {m} {u = u} g r = record {
   size = ap length (r .parents) ∙ g .size;
   trees = subst₂ HeightTrees (sym (r .parents)) (sym (r .heights)) (g .trees);
   low = λ i l. omega (arith, ap (λ (x : List ℕ). at x i) (r .heights), g .low i (omega (arith, ap length (r .parents))));
-  log = record {
-    joined-size = r .log .joined-size ∙ g .log .joined-size;
-    earlier-size = r .log .earlier-size ∙ g .log .earlier-size;
-    joined-same = λ i l. r .log .joined-same i (omega (arith, g .from)) ∙ g .log .joined-same i l;
-    earlier-same = λ i l. r .log .earlier-same i (omega (arith, g .from)) ∙ g .log .earlier-same i l;
-  };
+  log = log-trans (g .from) (g .log) (r .log);
   inside = λ i l h. omega (arith, ap length (r .parents), r .log .joined-same i h, g .inside i l h);
   parents-back = undone-parents n (m - n) (alike g r) ∙ g .parents-back;
   heights-back = undone-heights n (m - n) (alike g r) ∙ g .heights-back;
   forest = λ es f. subst (RootedForest _) (sym (r .parents)) (g .forest es f);
-}
-
--- the forest is known from elsewhere
-grown-known : {more : List Edge → List Edge} {d e n m : ℕ} {s t : ForestTables} (fs : List Edge) → d ≡ e → RootedForest fs (t .parents)
-    → GrownForest more d s n t m → GrownForest
-    (λ es. fs) e s n t m
-grown-known fs q f g = record {
-  from = g .from;
-  upto = omega (arith, g .upto);
-  size = g .size;
-  trees = g .trees;
-  low = g .low;
-  log = g .log;
-  inside = g .inside;
-  parents-back = g .parents-back;
-  heights-back = g .heights-back;
-  forest = λ es h. f;
 }
 
 -- the boundaries before b are marked, and their records, those before a, are joined
@@ -92,7 +70,7 @@ module _ {owners lefts rights : List ℕ} {K from to lo hi n : ℕ} {s : ForestT
           low = omega (arith, w .low);
           onward = omega (arith, w .onward, c .low);
           opened = right;
-          grown = grown-known (otherEdges owners lefts rights K cut to) (omega (arith, w .onward, c .low)) (right .forest)
+          grown = grown-with (omega (arith, w .onward, c .low)) (λ es f. right .forest)
               (grown-trans (grown-restored (w .grown) takenBack) h);
           marked = marked-halves (w .low) (omega arith) (w .marked) (d .marked);
         }

@@ -1,7 +1,7 @@
 -- Parents and heights in two lists of one length, and what they say about the parts of a graph. A vertex that is its own parent is a root.
 use mathlib.Core.Path.{_≡_}
 use mathlib.Core.List.{List}
-use Prim.Native.Nat.{ℕ, _≤_, _<_}
+use Prim.Native.Nat.{ℕ, _<_}
 use lib.ListN.{length}
 use Rattle.lists.specs.Rows.{at}
 use Rattle.graph.specs.Path.{Edge}

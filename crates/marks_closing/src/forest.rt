@@ -1,6 +1,6 @@
 // Trees of joined regions in lent slices, the lower under the higher, with a log by which the last joins are taken back.
 ghost use mathlib.Core.Path.{_≡_};
-ghost use Prim.Native.Nat.{ℕ, _+_, _-_, _≤_, _<_};
+ghost use Prim.Native.Nat.{_+_, _-_, _<_};
 ghost use lib.ListN.{length, set};
 ghost use Rattle.lists.specs.Rows.{at};
 ghost use Rattle.marks_closing.specs.Forest.{HeightTrees, Root};

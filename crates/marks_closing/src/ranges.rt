@@ -1,7 +1,7 @@
 // Boundaries closed one at a time, by halves: the records of all the others are joined, and no join is made for one boundary alone.
 ghost use mathlib.Core.Path.{_≡_};
 ghost use mathlib.Core.List.{List};
-ghost use Prim.Native.Nat.{ℕ, _+_, _-_, _≤_, _<_};
+ghost use Prim.Native.Nat.{_+_, _-_, _≤_, _<_};
 ghost use lib.ListN.{length, set};
 ghost use Rattle.lists.specs.Rows.{at};
 ghost use Rattle.graph.specs.Path.{Edge};

@@ -1,4 +1,4 @@
-use mathlib.Core.Path.{_≡_, refl, sym, _∙_}
+use mathlib.Core.Path.{refl, sym, _∙_}
 use Rattle.marks_closing.proofs.Starts.{cleared-start, cleared-next, cleared-end}
 use Rattle.marks_closing.specs.Ranges.{ClearedForest}
 use lib.ListN.{length}
