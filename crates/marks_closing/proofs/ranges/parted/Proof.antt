@@ -60,7 +60,7 @@ returns c =
     let turn = tested .before in
     let a = start-of turn .args in
     λ es f. parted-here es (a .lefts .now) (a .rights .now) (a .from) f (turn .loop .inv .0) (left .find .ensures) (c .before .find2 .ensures)
-    (λ e. c .if1 .taken (omega (arith, e))) (a .to) (tested .loop-test .taken)
+    (λ e. omega (arith, e, c .if1 .taken)) (a .to) (tested .loop-test .taken)
 
 add-k : tie.Need-add-k Inv-loop μ-loop
 add-k c =
