@@ -24,7 +24,8 @@ returns-2 c =
     let apart : tie.Else1 = search in
     let right = apart .before in
     let left = left-of right in
-    grown-left (start-of left .pre .0) (left .find .ensures) (right .find2 .ensures) (apart .if1 .left) (lower .if2 .taken) (hung .hang .ensures)
+    grown-left (start-of left .pre .0) (left .find .ensures) (right .find2 .ensures) (apart .if1 .left)
+    (omega (arith, lower .if2 .taken)) (hung .hang .ensures)
 
 returns-3 : tie.Need-returns-3
 returns-3 c =
