@@ -49,7 +49,7 @@ fn point(size: usize, draft: &Draft) -> Point {
 
 /// A map of 256 cells a side with corridors of six rows, each crossed by up to eight boundaries, so
 /// that every boundary parts two regions.
-fn corridors(boundaries: u32) -> Draft {
+pub fn corridors(boundaries: u32) -> Draft {
     let (side, mut rng) = (256, Rng::new(17));
     let mut draft = maps::with_spans([side, side], Shape::Open, 0, &mut rng);
     for (cell, i) in draft.cells.iter_mut().zip(0..) {

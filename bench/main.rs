@@ -1,9 +1,10 @@
 //! Times the proved library and the real Rust on the same inputs, and measures the library's stack.
 //!
-//!     bench [quick | grow | own | stack | chains]
+//!     bench [quick | grow | own | stack | chains | marks]
 //!
 //! `quick` leaves out the largest maps, and `grow` all but the families that grow, which are also
-//! plotted to docs/benchmark.svg; `own` is the rows of own sources alone, `stack` the stack, `chains` the rows of long chains.
+//! plotted to docs/benchmark.svg; `own` is the rows of own sources alone, `stack` the stack, `chains` the rows of long chains, `marks`
+//! those of marks.
 //! The Rust has its eight numbers as constants, and the library is lent a block of just those (`DECLARED`), which every draft
 //! has. Built with the numbers of 000 the program times all rows, built with a larger group those of long chains alone (bench/run).
 //! Times are in milliseconds, the least of several runs. Of a whole call the Rust's time begins with
@@ -11,6 +12,9 @@
 //! `partition_by_spans` alone, where the library checks the job besides; of area cards that of
 //! `partition_by_spans` and `PartitionContext::new`, where the library checks the job and writes bytes.
 
+#[path = "../tests/driver/record/across.rs"]
+#[allow(dead_code)]
+mod across;
 #[path = "../tests/driver/calls.rs"]
 #[allow(dead_code, unused_imports)]
 mod calls;
@@ -27,6 +31,7 @@ mod heads;
 #[path = "../tests/driver/maps.rs"]
 #[allow(dead_code)]
 mod maps;
+mod marks;
 #[path = "../tests/driver/orders.rs"]
 #[allow(dead_code)]
 mod orders;
@@ -258,9 +263,10 @@ fn cards(what: &str, draft: &Draft) {
     row(&format!("{what}, areas: {areas}"), rust, library);
 }
 
-/// That a call succeeds with what the Rust makes of the job.
+/// That a call succeeds with what the Rust makes of the job, or, of Mark, with the marks that its region pairs give.
 fn agree(call: u32, what: &str, lent: &mut Lent) {
-    let expected = by_rust(call, &lent.input);
+    let expected =
+        if call == MARK { marks::marks_of(&lent.input) } else { by_rust(call, &lent.input) };
     let length = expected.len();
     let after = lent.out[length..].to_vec();
     assert!(lent.call(call) == (0, length as u64), "the two sides agree on {what}");
@@ -304,7 +310,7 @@ fn whole(call: u32, what: &str, draft: &Draft) {
     row(&format!("{}, {what}", NAMES[call as usize]), rust, library);
 }
 
-/// Where a call's time goes: the checks, the partition with its region pairs, and the bridges.
+/// Where a call's time goes: the checks, the partition with its region pairs, and the marks, or of the Rust the bridges.
 fn parts(what: &str, draft: &Draft) {
     let mut lent = Lent::new(draft);
     let job = rust::job(&lent.input.job);
@@ -326,7 +332,7 @@ fn parts(what: &str, draft: &Draft) {
     let bridges = least(|| drop(black_box(job.bridges(black_box(&partition)))));
     let (_, mark) = timed(MARK, what, &mut lent);
     row(
-        &format!("the bridges (the library: Mark less its partition), {what}"),
+        &format!("the Rust's bridges, the library's marks (Mark less its partition), {what}"),
         bridges,
         mark - library,
     );
@@ -334,7 +340,7 @@ fn parts(what: &str, draft: &Draft) {
     whole(REDUCE, what, draft);
 }
 
-/// What the Rust makes of a job: the answer's bytes, the marks, or the cards.
+/// What the Rust makes of a job: the answer's bytes, the cards, or, beside Mark, a byte for each boundary that says if it is a bridge.
 fn by_rust(call: u32, input: &Input) -> Vec<u8> {
     let job = rust::job(&input.job);
     let spans = if call == BY_LIST { rust::spans(&input.list, 16) } else { job.own_spans() };
@@ -401,6 +407,7 @@ fn stacks() {
     let jobs = [
         ("1,024 × 1,024, 256 boundaries, 4,096 sources", job(1024, Shape::Open, 256, 4096)),
         ("4,096 region pairs", maps::many_pairs(4096, &mut rng)),
+        ("4,096 region pairs, 16 of each boundary", marks::crossed(true, false)),
         ("64 × 64, 4 boundaries", job(64, Shape::Noise, 4, 8)),
         ("1,000 sources of one boundary that are spread eight times", grow::deepest()),
         ("1,000 sources of one observation that are spread eight times", grow::deepest_observed()),
@@ -459,6 +466,9 @@ fn main() {
     if named("chains") {
         return long_chains();
     }
+    if named("marks") {
+        return marks::rows();
+    }
     let sides: &[u32] = if quick { &[64, 256] } else { &[64, 256, 1024] };
     let largest = sides[sides.len() - 1];
 
@@ -475,6 +485,7 @@ fn main() {
         }
     }
     bridges();
+    marks::rows();
     if !quick {
         head("the plan: 1,024 × 1,024 bands, 256 boundaries, 128 links");
         plans("bands", &bands());

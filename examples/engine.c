@@ -17,8 +17,8 @@
 #include <stdlib.h>
 #include <string.h>
 
-#if CHOKES_VERSION_MAJOR != 2 || CHOKES_VERSION < CHOKES_VERSION_NUMBER(2, 0, 0)
-#error "this engine is written for version 2.0.0 of chokes"
+#if CHOKES_VERSION_MAJOR != 3 || CHOKES_VERSION < CHOKES_VERSION_NUMBER(3, 0, 0)
+#error "this engine is written for version 3.0.0 of chokes"
 #endif
 
 #define FIRST_ANSWER_BYTES 64
@@ -263,7 +263,8 @@ int main(int argc, char **argv)
     accepted("Reduce", result);
     print_answer(answer);
 
-    /* Mark. The job was accepted, so its counts and offsets can be relied on. */
+    /* Mark: 1 for a choke, a boundary whose closing parts two of its regions. The job was accepted, so its
+     * counts and offsets can be relied on. */
     boundaries = word(job, 12);
     marks = room(boundaries);
     accepted("Mark", chokes_mark(job, length, work, work_length, marks, boundaries));

@@ -26,12 +26,12 @@ extern "C" {
 /* The version. MAJOR goes up where an engine has to change something, MINOR where there is more to use,
  * PATCH otherwise. #if can read all of them, so that an engine can stop a build with another header:
  *
- *   #if CHOKES_VERSION_MAJOR != 2 || CHOKES_VERSION < CHOKES_VERSION_NUMBER(2, 0, 0)
- *   #error "this engine is written for version 2.0.0 of chokes"
+ *   #if CHOKES_VERSION_MAJOR != 3 || CHOKES_VERSION < CHOKES_VERSION_NUMBER(3, 0, 0)
+ *   #error "this engine is written for version 3.0.0 of chokes"
  *   #endif
  *
  * The library itself can't be asked: use the header that ./library left beside it. */
-#define CHOKES_VERSION_MAJOR 2
+#define CHOKES_VERSION_MAJOR 3
 #define CHOKES_VERSION_MINOR 0
 #define CHOKES_VERSION_PATCH 0
 #define CHOKES_VERSION_NUMBER(major, minor, patch)                                             \
@@ -211,8 +211,9 @@ struct chokes_result {
     CHOKES_ANSWER_BYTES(CHOKES_MOST_BOUNDARIES, CHOKES_MOST_OBSERVATIONS, CHOKES_MOST_SOURCES)
 #define CHOKES_MOST_CARDS_BYTES CHOKES_CARDS_BYTES(CHOKES_MOST_SIDE, CHOKES_MOST_SIDE)
 
-/* Mark: a byte for each boundary of the job, 1 if it is a bridge, else 0. The map is parted by the
- * boundaries' own ends. Bytes of the slice past the last boundary's are unchanged. */
+/* Mark: a byte for each boundary of the job: 1 if closing the whole of it, all its region pairs at once,
+ * parts the two regions of at least one of them, else 0. One without region pairs has 0. The map is parted
+ * by the boundaries' own ends. Bytes of the slice past the last boundary's are unchanged. */
 struct chokes_result chokes_mark(const uint8_t *job, size_t job_length, uint8_t *work,
                                  size_t work_length, uint8_t *marks, size_t marks_length);
 

@@ -74,17 +74,31 @@ static void say_count(struct text *text, const char *name, uint64_t count)
     say(text, "  %-13s%" PRIu64 "\n", name, count);
 }
 
+/* The area pairs; and where the map is parted by the boundaries' own ends the marks, and the bridges, which are found by the pairs. */
+static void say_closing(struct text *text, const struct run *run)
+{
+    struct pairs *pairs = all_pairs(run);
+    uint8_t marks[MOST_BOUNDARIES];
+    uint64_t all = 0, chokes = 0;
+    uint32_t i;
+    for (i = 0; i < span_count(run); i++) {
+        all += pairs[i].count;
+    }
+    say(text, "  %-13s%" PRIu64 " (at most 4096 are allowed)\n", "area pairs", all);
+    if (!run->by_list && mark(run, marks).number == CHOKES_OK) {
+        for (i = 0; i < run->job.count[BOUNDARIES]; i++) {
+            chokes += marks[i];
+        }
+        say(text, "  %-13s%" PRIu64 " (closing the whole boundary parts two of its areas)\n", "chokes", chokes);
+        say(text, "  %-13s%" PRIu32 " (closing one area pair alone does; serial groups are made of bridges)\n", "bridges",
+            count_bridges(run, pairs));
+    }
+    end_pairs(pairs, span_count(run));
+}
+
 static void explain_success(struct text *text, const struct run *run)
 {
     const struct job *job = &run->job;
-    uint8_t marks[MOST_BOUNDARIES];
-    uint64_t pairs = 0, bridges = 0;
-    uint32_t i;
-    for (i = 0; i < span_count(run); i++) {
-        struct pairs one = pairs_of(run, span_at(run, i));
-        pairs += one.count;
-        free(one.at);
-    }
     say(text, "accepted\n\n");
     say(text, "  map          %" PRIu32 " x %" PRIu32 " cells\n", job->width, job->height);
     say(text, "  bases        %" PRIu32 ", %" PRIu32 " of them with an anchor\n", job->count[BASES], anchored(job));
@@ -102,13 +116,7 @@ static void explain_success(struct text *text, const struct run *run)
     }
     say(text, "\n");
     say_count(text, "areas", run->areas);
-    say(text, "  %-13s%" PRIu64 " (at most 4096 are allowed)\n", "area pairs", pairs);
-    if (!run->by_list && mark(run, marks).number == CHOKES_OK) {
-        for (i = 0; i < job->count[BOUNDARIES]; i++) {
-            bridges += marks[i];
-        }
-        say_count(text, "bridges", bridges);
-    }
+    say_closing(text, run);
     say_count(text, "kept", word(run->answer.at, 0));
     if (run->by_list && span_count(run) != job->count[BOUNDARIES]) {
         say(text, "\nThere are not as many spans as boundaries, so nothing was merged.\n");

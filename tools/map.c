@@ -100,6 +100,19 @@ static void draw_line(struct text *text, const uint8_t *ends, const char *colour
         width, more);
 }
 
+/* Whether closing the boundary parts areas, and which. */
+static void say_choke(struct text *text, const struct page *page, uint32_t i)
+{
+    if (page->marks[i] != 0) {
+        say(text, "\na choke: closing it parts areas ");
+        say_pairs(text, &page->parted[i], " and ", 12);
+    } else if (page->pairs[i].count > 0) {
+        say(text, "\nno choke: there is a way round it");
+    } else {
+        say(text, "\nno choke: it lies between no two areas");
+    }
+}
+
 /* What hovering over a boundary shows. */
 static void say_title(struct text *text, const struct page *page, uint32_t i, const uint8_t *sources)
 {
@@ -109,14 +122,14 @@ static void say_title(struct text *text, const struct page *page, uint32_t i, co
     say(text, "\nwidth %.10g", pixels_of(word_pair(b, 16)));
     if (page->pairs != NULL && i < span_count(page->run)) {
         say(text, "\nareas: ");
-        say_pairs(text, &page->pairs[i], 12);
+        say_pairs(text, &page->pairs[i], " | ", 12);
     }
     if (sources != NULL) {
         say(text, "\nsources: ");
         say_sources(text, sources, word(b, 24), 12);
     }
     if (page->marks != NULL) {
-        say(text, page->marks[i] != 0 ? "\na bridge: there is no way round it" : "\nno bridge: there is a way round it");
+        say_choke(text, page, i);
     }
     if (page->groups != NULL) {
         uint32_t k = page->groups->goes[i];
@@ -131,15 +144,15 @@ static void say_title(struct text *text, const struct page *page, uint32_t i, co
     say(text, "</title>");
 }
 
-/* The number of a boundary in a disc at its middle: filled if it is a bridge. */
+/* The number of a boundary in a disc at its middle: filled if it is a choke. */
 static void draw_badge(struct text *text, const struct page *page, const uint8_t *b, uint32_t i, const char *colour)
 {
     double u = page->unit * (page->run->job.count[BOUNDARIES] > 60 ? .7 : 1);
     double x = ((double)word(b, 0) + word(b, 8)) / 2, y = ((double)word(b, 4) + word(b, 12)) / 2;
-    int bridge = page->marks != NULL && page->marks[i] != 0;
+    int choke = page->marks != NULL && page->marks[i] != 0;
     say(text, "<circle cx=\"%.6g\" cy=\"%.6g\" r=\"%.4g\" fill=\"%s\" stroke=\"%s\" stroke-width=\"%.4g\"/>"
         "<text x=\"%.6g\" y=\"%.6g\" font-size=\"%.4g\" fill=\"%s\">%" PRIu32 "</text>", x, y, 8 * u,
-        bridge ? colour : "#fff", colour, 1.5 * u, x, y + 3.2 * u, (i < 100 ? 9 : 7.5) * u, bridge ? "#fff" : colour, i);
+        choke ? colour : "#fff", colour, 1.5 * u, x, y + 3.2 * u, (i < 100 ? 9 : 7.5) * u, choke ? "#fff" : colour, i);
 }
 
 static void draw_boundary_line(struct text *text, const struct page *page, uint32_t i, int kept, const uint8_t *sources)
@@ -199,7 +212,7 @@ static void draw_spans(struct text *text, const struct page *page)
         say_ends(text, span_at(page->run, i));
         if (page->pairs != NULL) {
             say(text, "\nareas: ");
-            say_pairs(text, &page->pairs[i], 12);
+            say_pairs(text, &page->pairs[i], " | ", 12);
         }
         say(text, "</title>");
         draw_line(text, span_at(page->run, i), "#000", 1.5 * page->unit, dashes);

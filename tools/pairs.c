@@ -131,3 +131,22 @@ struct pairs pairs_of(const struct run *run, const uint8_t *span)
     keep_once(&pairs);
     return pairs;
 }
+
+struct pairs *all_pairs(const struct run *run)
+{
+    uint32_t i, count = span_count(run);
+    struct pairs *pairs = room(sizeof *pairs * count);
+    for (i = 0; i < count; i++) {
+        pairs[i] = pairs_of(run, span_at(run, i));
+    }
+    return pairs;
+}
+
+void end_pairs(struct pairs *pairs, uint32_t count)
+{
+    uint32_t i;
+    for (i = 0; pairs != NULL && i < count; i++) {
+        free(pairs[i].at);
+    }
+    free(pairs);
+}

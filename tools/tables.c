@@ -27,11 +27,11 @@ void say_sources(struct text *text, const uint8_t *sources, uint32_t count, uint
     }
 }
 
-void say_pairs(struct text *text, const struct pairs *pairs, size_t most)
+void say_pairs(struct text *text, const struct pairs *pairs, const char *between, size_t most)
 {
     size_t i;
     for (i = 0; i < pairs->count && i < most; i++) {
-        say(text, "%s%" PRIu32 " | %" PRIu32, i > 0 ? ", " : "", pairs->at[i][0], pairs->at[i][1]);
+        say(text, "%s%" PRIu32 "%s%" PRIu32, i > 0 ? ", " : "", pairs->at[i][0], between, pairs->at[i][1]);
     }
     if (pairs->count > most) {
         say(text, " and %lu more", (unsigned long)(pairs->count - most));
@@ -104,12 +104,22 @@ static void print_kept(struct text *text, const struct page *page)
     say(text, "</table></div>\n");
 }
 
+/* Yes or no; and of a choke with several pairs which of them it parts. */
+static void say_whether_choke(struct text *text, const struct page *page, uint32_t i)
+{
+    say(text, "</td><td>%s", page->marks[i] != 0 ? "yes" : "no");
+    if (page->marks[i] != 0 && page->pairs[i].count > 1) {
+        say(text, ": closing it parts ");
+        say_pairs(text, &page->parted[i], " | ", 24);
+    }
+}
+
 static void print_boundaries(struct text *text, const struct page *page)
 {
     uint32_t i;
     int with_areas = page->pairs != NULL && span_count(page->run) == page->run->job.count[BOUNDARIES];
     say(text, "<h2>Boundaries as they came in</h2>\n<div class=\"wide\"><table>\n<tr><th>boundary</th><th>ends</th>"
-        "<th>width</th><th>ramp</th>%s%s<th>became</th></tr>\n", page->marks != NULL ? "<th>bridge</th>" : "",
+        "<th>width</th><th>ramp</th>%s%s<th>became</th></tr>\n", page->marks != NULL ? "<th>choke</th>" : "",
         with_areas ? "<th>areas</th>" : "");
     for (i = 0; i < page->run->job.count[BOUNDARIES]; i++) {
         const uint8_t *b = record(&page->run->job, BOUNDARIES, i);
@@ -120,11 +130,11 @@ static void print_boundaries(struct text *text, const struct page *page)
         say(text, "</td><td>%.10g</td><td>", pixels_of(word_pair(b, 16)));
         say_ramp(text, b);
         if (page->marks != NULL) {
-            say(text, "</td><td>%s", page->marks[i] != 0 ? "yes" : "no");
+            say_whether_choke(text, page, i);
         }
         if (with_areas) {
             say(text, "</td><td>");
-            say_pairs(text, &page->pairs[i], 24);
+            say_pairs(text, &page->pairs[i], " | ", 24);
         }
         say(text, "</td><td>kept %" PRIu32 "%s</td></tr>\n", k, page->groups->members[k] == 1 ? ", as it is"
             : page->groups->retained[k] == i ? ", which has its ends" : ", merged");

@@ -143,8 +143,17 @@ struct pairs {
 };
 
 struct pairs pairs_of(const struct run *run, const uint8_t *span);
+/* Those of each span, where there are labels; end_pairs frees such a row. */
+struct pairs *all_pairs(const struct run *run);
+void end_pairs(struct pairs *pairs, uint32_t count);
 /* For qsort, by the first label, then by the second. */
 int compare_pairs(const void *first, const void *second);
+
+/* closing.c, with the pairs of each boundary's own span. */
+/* Of each boundary the pairs whose two areas closing the whole of it parts: some exactly if it is a choke. A row for end_pairs. */
+struct pairs *parted_pairs(const struct run *run, const struct pairs *pairs);
+/* How many boundaries have a pair whose two areas are parted by taking away that pair alone. */
+uint32_t count_bridges(const struct run *run, const struct pairs *pairs);
 
 /* groups.c: the boundaries that each kept one stands for. */
 struct groups {
@@ -212,6 +221,7 @@ struct page {
     const struct area *areas;     /* NULL where there are no labels */
     const struct pairs *pairs;    /* of each span, NULL where there are no labels */
     const uint8_t *marks;         /* NULL where there are none */
+    const struct pairs *parted;   /* of each boundary what closing it parts, NULL where there are no marks */
     uint8_t *colours;             /* of each area */
     double unit;                  /* pixels of the map to a pixel of the screen */
 };
@@ -222,7 +232,7 @@ void draw_cells(struct text *text, const struct page *page);
 void print_tables(struct text *text, const struct page *page);
 void say_ends(struct text *text, const uint8_t *record);
 void say_sources(struct text *text, const uint8_t *sources, uint32_t count, uint32_t most);
-void say_pairs(struct text *text, const struct pairs *pairs, size_t most);
+void say_pairs(struct text *text, const struct pairs *pairs, const char *between, size_t most);
 const char *group_colour(const struct page *page, uint32_t kept);
 extern const char *const area_colours[];
 #define AREA_COLOURS 10

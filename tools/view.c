@@ -108,8 +108,8 @@ static void say_legend(struct text *text, const struct page *page)
         say(text, line, "#000", "1.5", " stroke-dasharray=\"3 3\"", "span of the list");
     }
     if (page->marks != NULL) {
-        say(text, disc, "#20252b", "#20252b", "bridge");
-        say(text, disc, "#fff", "#20252b", "no bridge");
+        say(text, disc, "#20252b", "#20252b", "choke: closing it parts areas");
+        say(text, disc, "#fff", "#20252b", "no choke");
     }
     if (page->faults != NULL) {
         say(text, disc, "none", "#d40000", "refused for this");
@@ -182,27 +182,15 @@ static void say_body(struct text *text, struct page *page)
     print_tables(text, page);
 }
 
-/* The pairs of every span, where there are labels. */
-static struct pairs *all_pairs(const struct run *run)
-{
-    uint32_t i, count = span_count(run);
-    struct pairs *pairs = room(sizeof *pairs * count);
-    for (i = 0; i < count; i++) {
-        pairs[i] = pairs_of(run, span_at(run, i));
-    }
-    return pairs;
-}
-
 void view(struct text *text, const struct run *run, const char *name)
 {
     struct page page;
     struct groups groups;
     struct faults faults;
-    struct pairs *pairs = NULL;
+    struct pairs *pairs = NULL, *parted = NULL;
     struct area *areas = NULL;
     uint8_t marks[MOST_BOUNDARIES];
     const char *shown = strcmp(name, "-") == 0 ? "standard input" : name;
-    uint32_t i;
     memset(&page, 0, sizeof page);
     memset(&faults, 0, sizeof faults);
     page.run = run;
@@ -217,7 +205,10 @@ void view(struct text *text, const struct run *run, const char *name)
         page.faults = &faults;
     } else if (find_groups(run, &groups) == 0) {
         page.groups = &groups;
-        page.marks = !run->by_list && mark(run, marks).number == CHOKES_OK ? marks : NULL;
+        if (!run->by_list && mark(run, marks).number == CHOKES_OK) {
+            page.marks = marks;
+            page.parted = parted = parted_pairs(run, pairs);
+        }
     }
     say(text, "<!DOCTYPE html>\n<html lang=\"en\">\n<head>\n<meta charset=\"utf-8\"/>\n"
         "<meta name=\"viewport\" content=\"width=device-width, initial-scale=1\"/>\n<title>");
@@ -227,10 +218,8 @@ void view(struct text *text, const struct run *run, const char *name)
     say(text, "</h1>\n");
     say_body(text, &page);
     say(text, "</body>\n</html>\n");
-    for (i = 0; pairs != NULL && i < span_count(run); i++) {
-        free(pairs[i].at);
-    }
-    free(pairs);
+    end_pairs(pairs, span_count(run));
+    end_pairs(parted, span_count(run));
     free(areas);
     free(page.colours);
     free(faults.at);

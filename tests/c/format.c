@@ -1,9 +1,9 @@
-/* Holds docs/FORMAT.md to the library: the dumps of the corridor to the job file and to what the calls write; that of the
- * thresholds to chokes.h, and its table of their fields to both and to what the calls take and refuse at each end of a range;
- * every line of its examples of refusals, and any two lines of its list of single faults together, to what the call gives back
- * and leaves; its table of refusals to chokes.h and to those calls.
+/* Holds docs/FORMAT.md to the library: the dumps of the corridor to the job file and to what the calls write, one of marks to
+ * what Mark writes for another job; that of the thresholds to chokes.h, and its table of their fields to both and to what the
+ * calls take and refuse at each end of a range; every line of its examples of refusals, and any two lines of its list of single
+ * faults together, to what the call gives back and leaves; its table of refusals to chokes.h and to those calls.
  *
- *   format FORMAT.md JOB */
+ *   format FORMAT.md JOB THREE-WAYS */
 #include "chokes.h"
 #include "words.h"
 
@@ -31,8 +31,9 @@ struct bytes {
 };
 
 /* The dumps, by the word after 'hex'. */
-enum { JOB, ANSWER, WORK, MARKS, CARDS, LIST, THRESHOLDS, DUMPS };
-static const char *const dump_names[DUMPS] = {"job", "answer", "work", "marks", "cards", "list", "thresholds"};
+enum { JOB, ANSWER, WORK, MARKS, CARDS, LIST, THRESHOLDS, THREE_WAYS, DUMPS };
+static const char *const dump_names[DUMPS] = {"job", "answer", "work", "marks", "cards", "list", "thresholds",
+                                              "three-ways"};
 static struct bytes dumps[DUMPS];
 static int dump_seen[DUMPS];
 
@@ -781,21 +782,39 @@ static void thresholds(void)
     }
 }
 
-/* The dumps against the file and the calls. */
-static void compare(const char *name)
+/* A file's first ROOM bytes. */
+static size_t read_file(const char *name, uint8_t *bytes)
 {
-    static const uint8_t block[CHOKES_THRESHOLDS_BYTES] = CHOKES_THRESHOLDS_OF_000;
-    static uint8_t bytes[ROOM], work[ROOM], marks[ROOM], cards[ROOM];
-    struct chokes_result said;
     FILE *file = fopen(name, "rb");
     size_t length;
     if (file == NULL) {
         printf("%s can't be read\n", name);
         exit(1);
     }
-    length = fread(bytes, 1, sizeof bytes, file);
+    length = fread(bytes, 1, ROOM, file);
     fclose(file);
-    same(name, bytes, length, JOB);
+    return length;
+}
+
+/* The marks of a job in which a boundary has several region pairs. */
+static void compare_marks(const char *name)
+{
+    static uint8_t job[ROOM], work[2 * ROOM], marks[ROOM];
+    const size_t length = read_file(name, job);
+    const struct chokes_result said = chokes_mark(job, length, work, sizeof work, marks, sizeof marks);
+    if (said.number != CHOKES_OK) {
+        fail("Mark refuses the job of three ways");
+    }
+    same("Mark's marks of three ways", marks, (size_t)said.detail, THREE_WAYS);
+}
+
+/* The dumps against the file and the calls. */
+static void compare(const char *name)
+{
+    static const uint8_t block[CHOKES_THRESHOLDS_BYTES] = CHOKES_THRESHOLDS_OF_000;
+    static uint8_t bytes[ROOM], work[ROOM], marks[ROOM], cards[ROOM];
+    struct chokes_result said;
+    same(name, bytes, read_file(name, bytes), JOB);
     own_ends(bytes);
     same("the list of the boundaries' own ends", bytes, CHOKES_SPAN_BYTES * 2, LIST);
     said = chokes_reduce(dumps[JOB].at, dumps[JOB].length, block, sizeof block, work, CHOKES_WORK_BYTES(4, 1), bytes,
@@ -879,14 +898,15 @@ static size_t all_there(void)
 int main(int argc, char **argv)
 {
     size_t bytes;
-    if (argc != 3) {
-        fprintf(stderr, "usage: format FORMAT.md JOB\n");
+    if (argc != 4) {
+        fprintf(stderr, "usage: format FORMAT.md JOB THREE-WAYS\n");
         return 2;
     }
     document = argv[1];
     read_document(0);
     bytes = all_there();
     compare(argv[2]);
+    compare_marks(argv[3]);
     thresholds();
     read_document(1);
     all_given();

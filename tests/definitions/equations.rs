@@ -1,6 +1,8 @@
 //! Writes random small jobs, and a few at limits, as a file of equations: what the definitions give is
 //! what the Rust gave, half of them with a block of thresholds of other numbers than 000's; and blocks that are refused
-//! or admitted.
+//! or admitted. Marks are not the Rust's: of its region pairs, those of all other boundaries are joined afresh for each boundary. Every
+//! third job has spans across several areas; a run fails where no boundary of several region pairs is marked without being a bridge, or none
+//! has no mark.
 
 #[path = "../driver/checks.rs"]
 #[allow(dead_code)]
@@ -269,7 +271,35 @@ fn boundary(boundary: &TopologyBoundary) -> String {
     )
 }
 
-/// A corridor of one or two rows, crossed by spans that are often close enough to merge.
+/// Boundaries of several region pairs: not marked, marked without being a bridge, and bridges.
+type Kinds = [usize; 3];
+const UNMARKED: usize = 0;
+const MARKED: usize = 1;
+const BRIDGE: usize = 2;
+
+/// What is written of a job, and what it shows.
+struct Found {
+    text: String,
+    removed: usize,
+    kinds: Kinds,
+}
+
+/// With the region pairs of all other boundaries joined, the two regions of one of its own are apart. The pairs are by boundary.
+fn is_choke(pairs: &[Vec<[u32; 2]>], boundary: usize) -> bool {
+    // Each region has a name, at first its own; to join two is to give all of one name the other.
+    let regions = pairs.iter().flatten().flatten().max().map_or(0, |&most| most as usize);
+    let mut names: Vec<usize> = (0..=regions).collect();
+    for (i, others) in pairs.iter().enumerate() {
+        for [left, right] in others.iter().filter(|_| i != boundary) {
+            let [old, new] = [left, right].map(|&region| names[region as usize]);
+            names.iter_mut().filter(|name| **name == old).for_each(|name| *name = new);
+        }
+    }
+    pairs[boundary].iter().any(|[left, right]| names[*left as usize] != names[*right as usize])
+}
+
+/// A corridor of one or two rows, crossed by spans that are often close enough to merge; or level corridors joined at their ends, crossed by spans
+/// that go across several.
 struct Job {
     width: u32,
     height: u32,
@@ -332,6 +362,34 @@ impl Job {
         let bases = if rng.one_in(4) { vec![base] } else { Vec::new() };
         let numbers = rng.one_in(2).then(|| numbers(rng));
         Self { width, height, cells, bases, boundaries, numbers }
+    }
+
+    /// Two level corridors that are mostly joined at both ends, at times a third, and upright spans across the first two, now and then
+    /// across another number of them; some stand twice.
+    fn long(rng: &mut Rng) -> Self {
+        let corridors = 2 + u32::from(rng.one_in(3));
+        let (width, height) = (5 + rng.below(4 - u64::from(corridors)) as u32, 2 * corridors - 1);
+        let ends = [rng.one_in(8), rng.one_in(8)];
+        let open = |row: u32, column: u32| {
+            row % 2 == 0 || column == 0 && !ends[0] || column + 1 == width && !ends[1]
+        };
+        let cells =
+            (0..width * height).map(|i| u8::from(open(i / width, i % width))).collect::<Vec<_>>();
+        let mut boundaries = Vec::new();
+        let mut x = 8 + 8 * rng.below(2) as u32;
+        while boundaries.len() < 4 && x < 8 * width {
+            let rows = if rng.one_in(4) { 2 * rng.below(corridors.into()) as u32 + 1 } else { 3 };
+            let spans = 1 + usize::from(rng.one_in(5));
+            for _ in 0..spans {
+                boundaries.push(Self::boundary(rng, x, 8 * width, 8 * rows));
+            }
+            x += 8 * (1 + rng.below(2) as u32);
+        }
+        for i in (1..boundaries.len()).rev() {
+            boundaries.swap(i, rng.below(i as u64 + 1) as usize);
+        }
+        let numbers = rng.one_in(2).then(|| numbers(rng));
+        Self { width, height, cells, bases: vec![], boundaries, numbers }
     }
 
     fn boundary(rng: &mut Rng, x: u32, right: u32, bottom: u32) -> TopologyBoundary {
@@ -420,8 +478,9 @@ impl Job {
         text
     }
 
-    /// The job and its equations, those of cards and of whole calls if the map is small; how many boundaries the Rust merged away.
-    fn equations(&self, k: usize) -> (String, usize) {
+    /// The job and its equations, those of cards and of whole calls if the map is small; how many boundaries the Rust merged away; those of
+    /// several region pairs by kind.
+    fn equations(&self, k: usize) -> Found {
         let grid = api::grid(self.width, self.height, &self.cells);
         let spans: Vec<_> = self.boundaries.iter().map(|b| words_of(b.endpoints)).collect();
         let partition = api::partition(&grid, &spans).expect("spans on the map");
@@ -451,7 +510,19 @@ impl Job {
         };
         let opened = if block.is_empty() { OF_000_READ } else { &named };
         let own_ends = format!("(ownEnds job{k})");
-        let marks = (0..spans.len()).map(|i| u8::from(bridges.contains(&i)));
+        let records: Vec<_> =
+            partition.boundaries().iter().map(|b| b.region_pairs.clone()).collect();
+        let marks: Vec<u8> = (0..spans.len()).map(|i| u8::from(is_choke(&records, i))).collect();
+        let mut kinds = Kinds::default();
+        for (i, (pairs, &mark)) in records.iter().zip(&marks).enumerate() {
+            let bridge = bridges.contains(&i);
+            assert!(!bridge || mark == 1, "a bridge is marked");
+            if pairs.len() > 1 {
+                kinds[if bridge { BRIDGE } else { mark.into() }] += 1;
+            } else {
+                assert_eq!(bridge, mark == 1, "of one region pair the two are the same");
+            }
+        }
         let regions: Vec<_> = (1..).map_while(|label| context.region(label)).collect();
         let cards = list(regions.iter().flat_map(words), |word| word.to_string());
         let labels = list(partition.labels(), u32::to_string);
@@ -487,7 +558,7 @@ impl Job {
                 &format!("{opened} {READING} {KEEPING}"),
             ),
         ];
-        (text.concat(), spans.len() - kept.len())
+        Found { text: text.concat(), removed: spans.len() - kept.len(), kinds }
     }
 }
 
@@ -550,20 +621,33 @@ fn main() {
     let mut numbers = std::env::args().skip(1).map(|word| word.parse().expect("a number"));
     let jobs = numbers.next().expect("how many jobs");
     let mut rng = Rng(numbers.next().expect("a seed"));
-    let mut merged = [0; 6];
+    let (mut merged, mut kinds) = ([0; 6], Kinds::default());
     println!("{HEAD}");
     println!("{}{}", refusals(), admissions());
     let at_limits = Job::at_limits();
     for (k, job) in at_limits.iter().enumerate() {
-        println!("{}", job.equations(jobs as usize + k).0);
+        println!("{}", job.equations(jobs as usize + k).text);
     }
     for k in 0..jobs as usize {
-        // A merge is looked for: of a few tries the one that merges most is taken.
-        let tries = 1 + rng.below(3);
-        let found = (0..tries).map(|_| Job::random(&mut rng).equations(k));
-        let (text, removed) = found.max_by_key(|found| found.1).expect("a try");
-        merged[removed.min(5)] += 1;
-        println!("{text}");
+        // A merge is looked for, or marks that are no bridges and none at all: of a few tries the one that has most is taken.
+        let found = if k % 3 == 1 {
+            let tries = (0..3).map(|_| Job::long(&mut rng).equations(k));
+            tries.max_by_key(|found| found.kinds[MARKED].min(1) + found.kinds[UNMARKED].min(1))
+        } else {
+            let tries = 1 + rng.below(3);
+            let tries = (0..tries).map(|_| Job::random(&mut rng).equations(k));
+            tries.max_by_key(|found| found.removed)
+        };
+        let found = found.expect("a try");
+        merged[found.removed.min(5)] += 1;
+        kinds.iter_mut().zip(found.kinds).for_each(|(all, more)| *all += more);
+        println!("{}", found.text);
     }
     eprintln!("jobs by how many boundaries the Rust merged away, from none: {merged:?}");
+    let [unmarked, marked, bridges] = kinds;
+    eprintln!("boundaries of several region pairs: {unmarked} without a mark, {marked} with one and no bridge, {bridges} bridges");
+    if unmarked == 0 || marked == 0 {
+        eprintln!("failed: a boundary of several region pairs without a mark, and one with a mark that is no bridge, have to be there");
+        std::process::exit(1);
+    }
 }

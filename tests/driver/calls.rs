@@ -19,20 +19,25 @@ pub fn whole(call: u32) -> Whole {
     }
 }
 
-/// What is told of every call as it ends: which call, its result, work, and the slice that it writes.
-pub type Watch = fn(u32, Refusal, &[u8], &[u8]);
+/// What is told of every call as it ends: which call, its job, its result, work, and the slice that it writes.
+pub type Watch = fn(u32, &[u8], Refusal, &[u8], &[u8]);
 /// None but in a run that wants to be told.
 pub static WATCH: OnceLock<Watch> = OnceLock::new();
 
 /// The result of a call, once it was told.
-fn told(call: u32, result: Refusal, work: &[u8], out: &[u8]) -> Refusal {
+fn told(call: u32, job: &[u8], result: Refusal, work: &[u8], out: &[u8]) -> Refusal {
     if let Some(watch) = WATCH.get() {
-        watch(call, result, work, out);
+        watch(call, job, result, work, out);
     }
     result
 }
 
-pub use library::{bridges, check, partition, plan, span_ends, thresholds_of_000};
+/// True in a run that is told of every call.
+pub fn watched() -> bool {
+    WATCH.get().is_some()
+}
+
+pub use library::{bridges, check, marks, partition, plan, span_ends, thresholds_of_000};
 
 /// The libraries' own declarations. Of a slice its start is passed, then its length; the slices
 /// are lent for the call and overlap nowhere.
@@ -77,6 +82,14 @@ mod library {
             out_len: usize,
         ) -> CallResult;
         fn probe_bridges(
+            records: In,
+            records_len: usize,
+            work: Out,
+            work_len: usize,
+            marks: Out,
+            marks_len: usize,
+        ) -> CallResult;
+        fn probe_marks(
             records: In,
             records_len: usize,
             work: Out,
@@ -204,6 +217,11 @@ mod library {
         call!(probe_bridges read records write work write marks).pair()
     }
 
+    /// The marks of a list of records in the order of their owners, on records, work and marks.
+    pub fn marks(records: &[u8], work: &mut [u8], marks: &mut [u8]) -> Refusal {
+        call!(probe_marks read records write work write marks).pair()
+    }
+
     /// Where each boundary goes, on job, list, a choice of spans, work and the slice for it.
     pub fn plan(job: &[u8], list: &[u8], which: u32, work: &mut [u8], out: &mut [u8]) -> Refusal {
         call!(probe_plan read job read list number which write work write out).pair()
@@ -223,7 +241,7 @@ mod library {
 
     pub fn mark(job: &[u8], _: &[u8], _: &[u8], work: &mut [u8], marks: &mut [u8]) -> Refusal {
         let said = call!(chokes_mark read job write work write marks).pair();
-        told(MARK, said, work, marks)
+        told(MARK, job, said, work, marks)
     }
 
     pub fn reduce(
@@ -237,7 +255,7 @@ mod library {
         let said = call!(chokes_reduce read job read block write work write answer);
         #[cfg(without_blocks)]
         let said = taking_none(block, call!(chokes_reduce read job write work write answer));
-        told(REDUCE, said.pair(), work, answer)
+        told(REDUCE, job, said.pair(), work, answer)
     }
 
     pub fn reduce_by_list(
@@ -255,7 +273,7 @@ mod library {
             block,
             call!(chokes_reduce_by_list read job read list write work write answer),
         );
-        told(BY_LIST, said.pair(), work, answer)
+        told(BY_LIST, job, said.pair(), work, answer)
     }
 
     pub fn area_cards(
@@ -266,7 +284,7 @@ mod library {
         cards: &mut [u8],
     ) -> Refusal {
         let said = call!(chokes_area_cards read job write work write cards).pair();
-        told(CARDS, said, work, cards)
+        told(CARDS, job, said, work, cards)
     }
 }
 
@@ -291,7 +309,7 @@ pub struct Assessment {
     pub pairs: Vec<[u32; 2]>,
 }
 
-/// The records that `probe_bridges` takes: owner, left, right.
+/// The records that `probe_bridges` and `probe_marks` take: owner, left, right.
 pub fn record_words(records: &[[u32; 3]]) -> Vec<u8> {
     records.iter().flatten().flat_map(|word| word.to_le_bytes()).collect()
 }

@@ -10,7 +10,8 @@ use crate::rng::Rng;
 use crate::run::Run;
 use crate::tally::Tally;
 use crate::{
-    blocks, cards, corridors, merging, own, partition, records, regions, slanted, sorting, whole,
+    blocks, cards, corridors, lists, marks, merging, own, partition, records, regions, slanted,
+    sorting, whole,
 };
 
 /// How many cases of a family are run in a round, and what one is.
@@ -19,7 +20,7 @@ struct Family {
     case: fn(&mut Run, &mut Rng),
 }
 
-pub const NAMES: [&str; 9] = [
+pub const NAMES: [&str; 11] = [
     "damaged",
     "maps",
     "records",
@@ -29,9 +30,11 @@ pub const NAMES: [&str; 9] = [
     "own-orders",
     "one-head",
     "thresholds",
+    "marks",
+    "mark-lists",
 ];
 
-const FAMILIES: [Family; 9] = [
+const FAMILIES: [Family; 11] = [
     // Damaged inputs.
     Family { share: 80, case: |run, rng| run.draft(&damaged(rng), rng, compare) },
     // Maps and spans of many shapes.
@@ -50,6 +53,10 @@ const FAMILIES: [Family; 9] = [
     Family { share: 4, case: |run, rng| run.draft(&own::one_head(rng), rng, sorting::compare) },
     // Other thresholds than those of 000.
     Family { share: 16, case: |run, rng| run.draft(&blocks::random(rng), rng, blocks::compare) },
+    // Spans across several areas.
+    Family { share: 12, case: |run, rng| run.draft(&marks::random(rng), rng, marks::compare) },
+    // Bare lists of records by their marks.
+    Family { share: 8, case: |run, rng| run.marks(&lists::random(rng)) },
 ];
 
 /// Runs a case by its number, where it is of these families.
@@ -207,6 +214,20 @@ pub fn own_sources(run: &mut Run) {
         let mut rng = run.next_case();
         let draft = own::one(listing, count, members, &mut rng);
         run.draft(&draft, &mut rng, sorting::compare);
+    }
+}
+
+/// Corridors whose marks are foretold, as jobs and as lists, every refusal of a list, the longest lists of every shape, and those about
+/// 64 records, beyond which the library works in other arrays.
+pub fn marks(run: &mut Run) {
+    marks::worked(run);
+    lists::worked(run);
+    lists::refusals(run);
+    for (shape, most) in
+        (0..lists::SHAPES).flat_map(|shape| [63, 64, 65, lists::MOST].map(|n| (shape, n)))
+    {
+        let mut rng = run.next_case();
+        run.marks(&lists::shaped(shape, most, &mut rng));
     }
 }
 

@@ -12,7 +12,7 @@
 //!     driver record FILE SEED
 //!
 //! `random` is the random cases alone; `family` those of one family: damaged, maps, records,
-//! corridors, slanted, cards, own-orders, one-head or thresholds. `heap` is random cases with every slice an allocation of its own and of
+//! corridors, slanted, cards, own-orders, one-head, thresholds, marks or mark-lists. `heap` is random cases with every slice an allocation of its own and of
 //! just its length, for valgrind.
 //! `blocks` is what is run whole of blocks of thresholds (blocks.rs);
 //! `lengths` is the lengths and totals alone, with so many random ones (lengths.rs); `bytes` writes what so many calls
@@ -40,7 +40,9 @@ mod heads;
 mod known;
 mod lengths;
 mod lent;
+mod lists;
 mod maps;
+mod marks;
 mod measures;
 mod memory;
 mod merging;
@@ -70,10 +72,12 @@ use regions::{ENVELOPES, LINKS, REGIONS};
 use run::Run;
 use std::process::exit;
 use std::time::{Duration, Instant};
-use tally::{CHECKS, KINDS, PARTITIONS, PLANS, RECORDS, RELISTINGS, STATED, WHOLE};
+use tally::{
+    CHECKS, KINDS, MARKED, MARK_LISTS, PARTITIONS, PLANS, RECORDS, RELISTINGS, STATED, WHOLE,
+};
 
 const QUICK_SEED: u64 = 1;
-const QUICK_CASES: u64 = 80_000;
+const QUICK_CASES: u64 = 90_000;
 const LONG_SEED: u64 = 2;
 /// So many slanted corridors meet each limit on each side.
 const ENOUGH_SLANTED: u64 = 2000;
@@ -81,6 +85,8 @@ const ENOUGH_SLANTED: u64 = 2000;
 const ENOUGH_OWN: u64 = 20_000;
 /// So many jobs with blocks of their own meet each limit, and have groups of every size.
 const ENOUGH_BLOCKS: u64 = 20_000;
+/// So many jobs, and so many lists, have marks of every kind.
+const ENOUGH_MARKS: u64 = 20_000;
 const LONG: Limit = Limit::Time(Duration::from_secs(600));
 
 enum Limit {
@@ -111,6 +117,7 @@ fn main() {
             families::sizes(&mut run);
             families::sorts(&mut run);
             families::own_sources(&mut run);
+            families::marks(&mut run);
             blocks::all(&mut run);
             lengths::compare(&mut run, lengths::CASES);
             let done = format!("seed {seed}: {done} random cases, nothing differs");
@@ -147,6 +154,12 @@ fn main() {
             if matches!(name, "own-orders" | "one-head") && parse(cases) >= ENOUGH_OWN {
                 missing.extend(sorting::missing(&run.tally, name == "one-head"));
             }
+            if name == "marks" && parse(cases) >= ENOUGH_MARKS {
+                missing.extend(marks::missing(&run.tally, &marks::OF_JOBS));
+            }
+            if name == "mark-lists" && parse(cases) >= ENOUGH_MARKS {
+                missing.extend(lists::missing(&run.tally));
+            }
             if name == "thresholds" && parse(cases) >= ENOUGH_BLOCKS {
                 coverage::print();
                 missing.extend(blocks::missing(&run.tally, false));
@@ -163,8 +176,12 @@ fn main() {
             let had = |kind: &str| run.tally.count(kind) > 0;
             let of_each = if had(RECORDS) {
                 &[RECORDS][..]
+            } else if had(MARK_LISTS) {
+                &[MARK_LISTS]
             } else if had(WHOLE[0]) {
                 &WHOLE
+            } else if had(WHOLE[2]) {
+                &WHOLE[2..3]
             } else {
                 &WHOLE[3..]
             };
@@ -193,6 +210,8 @@ fn kinds(family: &str) -> &'static [&'static str] {
         "damaged" => &[CHECKS, WHOLE[0], WHOLE[1], WHOLE[2], WHOLE[3]],
         "maps" => &[PARTITIONS, REGIONS, WHOLE[0], WHOLE[1], WHOLE[2], WHOLE[3]],
         "records" => &[RECORDS],
+        "marks" => &[MARKED, WHOLE[2]],
+        "mark-lists" => &[MARK_LISTS],
         "cards" => &[WHOLE[3], STATED],
         "own-orders" | "one-head" => &WHOLE,
         "thresholds" => &[WRITTEN, RELISTINGS, WHOLE[0], WHOLE[1], WHOLE[2], WHOLE[3]],
@@ -262,6 +281,7 @@ fn whole(seed: u64, limit: Limit, rounds: usize) {
     families::sizes(&mut run);
     families::sorts(&mut run);
     families::own_sources(&mut run);
+    families::marks(&mut run);
     blocks::all(&mut run);
     lengths::compare(&mut run, lengths::CASES);
     let mut done = 0;

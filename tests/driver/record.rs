@@ -10,10 +10,12 @@
 //! Bytes are written as pieces: how many bytes a piece makes (u16), how many it repeats for that
 //! (u8), and those.
 
+pub mod across;
 mod blocks;
+mod marks;
 
 use crate::cards;
-use crate::checks::{BY_LIST, CALLS, CARDS, NONE, REDUCE};
+use crate::checks::{BY_LIST, CALLS, CARDS, MARK, NONE, REDUCE};
 use crate::corridors;
 use crate::damage::{self, REFUSALS};
 use crate::draft::{self, Boundary, Draft, Input};
@@ -67,9 +69,10 @@ const WANTED: [(&str, u64); 30] = [
     ("cards at the map's far corner", 20),
 ];
 
-/// That, and what the blocks are for.
+/// That, what the marks are for, and what the blocks are for.
 fn wanted() -> impl Iterator<Item = (String, u64)> {
-    WANTED.map(|(what, least)| (what.to_string(), least)).into_iter().chain(blocks::wanted())
+    let named = WANTED.into_iter().chain(marks::WANTED);
+    named.map(|(what, least)| (what.to_string(), least)).chain(blocks::wanted())
 }
 
 #[derive(Default)]
@@ -93,6 +96,7 @@ pub fn record(file: &str, seed: u64) {
     on_cards(&mut list, seed);
     limits(&mut list);
     many_pairs(&mut list, seed);
+    marks::all(&mut list, seed);
     blocks::all(&mut list, seed);
     list.print();
     eprintln!("seed {seed}: {} inputs, {} bytes", list.inputs, list.bytes.len());
@@ -289,6 +293,10 @@ impl List {
         }
         if call == CARDS && number == 0 {
             cards::note(&self.job, &left.out[..detail as usize], &mut self.tally);
+        }
+        if call == MARK && number == 0 {
+            let marks = &left.out[..detail as usize];
+            marks::note(&self.job, &expected.labels, marks, &mut self.tally);
         }
     }
 

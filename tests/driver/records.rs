@@ -3,14 +3,12 @@
 
 use crate::calls::{self, record_words};
 use crate::draft::Input;
+use crate::expect::{Joined, Record};
 use crate::lent::Lent;
 use crate::rng::Rng;
 use crate::tally::{Tally, RECORDS};
 use oracle::api;
 use std::collections::BTreeSet;
-
-/// A record: owner, left region, right region.
-pub type Record = [u32; 3];
 
 const OWNERS: usize = 256;
 /// Work for the walk over 4,096 records and 8,192 regions.
@@ -19,29 +17,6 @@ const WORK: usize = 1 << 20;
 const DIRTY: u8 = 0x77;
 /// Up to here every record is taken away by itself.
 const SMALL: usize = 600;
-
-/// Regions joined so far, each with a parent.
-struct Joined(Vec<u32>);
-
-impl Joined {
-    fn root(&mut self, mut region: u32) -> u32 {
-        while self.0[region as usize] != region {
-            let above = self.0[region as usize];
-            self.0[region as usize] = self.0[above as usize];
-            region = above;
-        }
-        region
-    }
-
-    fn by<'a>(regions: usize, records: impl Iterator<Item = &'a Record>) -> Self {
-        let mut joined = Self((0..regions as u32).collect());
-        for &[_, left, right] in records {
-            let (left, right) = (joined.root(left), joined.root(right));
-            joined.0[left as usize] = right;
-        }
-        joined
-    }
-}
 
 /// The owners of which some record, taken away alone, parts its two regions.
 pub fn by_removal(records: &[Record]) -> BTreeSet<usize> {

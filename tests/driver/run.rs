@@ -2,9 +2,11 @@
 
 use crate::compare;
 use crate::draft::{Draft, Input};
+use crate::expect::Record;
 use crate::lent::Lent;
+use crate::lists::{self, List};
 use crate::memory;
-use crate::records::{self, Record};
+use crate::records;
 use crate::rng::Rng;
 use crate::shrink::shrink;
 use crate::tally::Tally;
@@ -97,6 +99,18 @@ impl Run {
         let said = records::compare(records, &mut self.lent.borrow_mut(), &mut self.tally);
         if let Err(difference) = said {
             self.report(&difference, &format!("records {records:?}\n"));
+        }
+    }
+
+    /// A bare list of records for the marks of its owners.
+    pub fn marks(&mut self, list: &List) {
+        if !self.heeds {
+            // It is given to no call.
+            return;
+        }
+        let said = lists::compare(list, &mut self.lent.borrow_mut(), &mut self.tally);
+        if let Err(difference) = said {
+            self.report(&difference, &list.text());
         }
     }
 

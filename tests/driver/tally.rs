@@ -5,6 +5,8 @@ use crate::checks::{takes_block, Refusal, BY_LIST};
 use crate::damage::REFUSALS;
 use crate::expect::too_short;
 use crate::lengths::{self, LENGTHS, TOTALS};
+use crate::lists;
+use crate::marks;
 use crate::measures;
 use crate::regions::{ENVELOPES, LINKS, REGIONS};
 use crate::sorting;
@@ -24,6 +26,9 @@ pub const CHECKS: &str = "inputs whose checks are compared";
 pub const PARTS: [&str; 2] = ["parts of the job compared", "parts of the list compared"];
 pub const PARTITIONS: &str = "partitions compared";
 pub const RECORDS: &str = "record lists compared";
+pub const MARK_LISTS: &str = "record lists compared by their marks";
+/// Those of which Mark succeeds.
+pub const MARKED: &str = "jobs compared by their marks";
 pub const PLANS: &str = "plans compared";
 pub const RELISTINGS: &str = "relistings";
 /// Those on relistings among them.
@@ -35,9 +40,10 @@ pub const WHOLE: [&str; 4] = [
 ];
 /// Cards whose every word was held to what the paper says of the job's bytes and labels.
 pub const STATED: &str = "cards stated anew";
-pub const KINDS: [&str; 19] = [
-    CHECKS, PARTS[0], PARTS[1], PARTITIONS, RECORDS, PLANS, RELISTINGS, REGIONS, LINKS, ENVELOPES,
-    WHOLE[0], WHOLE[1], WHOLE[2], WHOLE[3], STATED, LENGTHS, TOTALS, OWN, WRITTEN,
+pub const KINDS: [&str; 21] = [
+    CHECKS, PARTS[0], PARTS[1], PARTITIONS, RECORDS, MARK_LISTS, MARKED, PLANS, RELISTINGS,
+    REGIONS, LINKS, ENVELOPES, WHOLE[0], WHOLE[1], WHOLE[2], WHOLE[3], STATED, LENGTHS, TOTALS,
+    OWN, WRITTEN,
 ];
 
 /// What a whole run must have seen at least once.
@@ -140,9 +146,15 @@ fn wins(call: usize, refusal: u32, later: u32) -> bool {
 impl Tally {
     /// Counts something by its name.
     pub fn see(&mut self, what: &str) {
+        self.see_times(what, 1);
+    }
+
+    /// Counts so many of something; none leaves no trace.
+    pub fn see_times(&mut self, what: &str, times: u64) {
         match self.seen_besides.get_mut(what) {
-            Some(count) => *count += 1,
-            None => drop(self.seen_besides.insert(what.to_string(), 1)),
+            Some(count) => *count += times,
+            None if times > 0 => drop(self.seen_besides.insert(what.to_string(), times)),
+            None => {}
         }
     }
 
@@ -241,6 +253,9 @@ impl Tally {
         missing.extend(alone.map(|n| format!("Area cards: {n} was never seen before 31")));
         let unseen = WANTED.iter().filter(|&&what| self.count(what) == 0);
         missing.extend(unseen.map(|what| format!("never: {what}")));
+        missing.extend(self.none_of(&[marks::FORETOLD, lists::FORETOLD]));
+        missing.extend(marks::missing(self, &marks::OF_JOBS));
+        missing.extend(lists::missing(self));
         missing.extend(blocks::missing(self, true));
         missing.extend(measures::missing(self));
         missing.extend(lengths::missing(self));

@@ -7,6 +7,7 @@ use crate::checks::{self, CALLS, CARDS, MARK, NONE};
 use crate::draft::Input;
 use crate::expect::{Expected, CARD, MOST_PAIRS};
 use crate::lent::Lent;
+use crate::marks;
 use crate::rng::Rng;
 use crate::tally::{Tally, NAMES, WHOLE};
 
@@ -16,23 +17,35 @@ pub fn compare(
     rng: &mut Rng,
     tally: &mut Tally,
 ) -> Result<(), String> {
-    for call in CALLS {
-        let expected = Expected::of(call, &input.job, &input.list, &input.thresholds);
-        let mut lent_lengths = lengths(&expected, rng);
-        let written = expected.refusal == NONE && expected.pairs <= MOST_PAIRS;
-        let most = if written { most(call, &input.job) } else { None };
-        if let Some(most) = most {
-            if expected.written.len() > most {
-                return Err(format!("{} bytes, over {most}", expected.written.len()));
-            }
-            // For cards that is much more than they take.
-            if call != CARDS || rng.one_in(16) {
-                lent_lengths.push([expected.work(), most]);
-            }
+    CALLS.into_iter().try_for_each(|call| each(call, input, lent, rng, tally))
+}
+
+/// One of the calls, on slices of every kind.
+pub fn each(
+    call: u32,
+    input: &Input,
+    lent: &mut Lent,
+    rng: &mut Rng,
+    tally: &mut Tally,
+) -> Result<(), String> {
+    let expected = Expected::of(call, &input.job, &input.list, &input.thresholds);
+    let mut lent_lengths = lengths(&expected, rng);
+    let written = expected.refusal == NONE && expected.pairs <= MOST_PAIRS;
+    let most = if written { most(call, &input.job) } else { None };
+    if let Some(most) = most {
+        if expected.written.len() > most {
+            return Err(format!("{} bytes, over {most}", expected.written.len()));
         }
-        for [work, out] in lent_lengths {
-            one(call, &expected, input, [work, out], lent, rng, tally)?;
+        // For cards that is much more than they take.
+        if call != CARDS || rng.one_in(16) {
+            lent_lengths.push([expected.work(), most]);
         }
+    }
+    for [work, out] in lent_lengths {
+        one(call, &expected, input, [work, out], lent, rng, tally)?;
+    }
+    if call == MARK && written {
+        marks::note(&expected.closing, &expected.written, &marks::OF_JOBS, tally);
     }
     Ok(())
 }
@@ -90,8 +103,16 @@ pub fn one(
     let lent = lent.lend(input, &work, &out);
     let said = calls::whole(call)(lent.job, lent.list, lent.thresholds, lent.work, lent.out);
     tally.see(WHOLE[call as usize]);
+    if calls::watched() {
+        // Another library may leave something else; what is told of the calls is looked at, and all of them are made.
+        return Ok(());
+    }
     if said != left.result {
         return Err(format!("{name}: expected {:?}, got {said:?}", left.result));
+    }
+    if call == MARK && said.0 == 0 {
+        let meets = expected.closing.meets(&lent.out[..said.1 as usize]);
+        meets.map_err(|difference| format!("{name}: {difference}"))?;
     }
     lent.check(name, input, &left.work, Some(&left.out))?;
     if call == CARDS && said.0 == 0 {

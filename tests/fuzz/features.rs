@@ -2,7 +2,7 @@
 //! far. And how often each number came, printed at the end of a run.
 
 use crate::checks::{Refusal, CARDS, MARK};
-use crate::expect::CARD;
+use crate::expect::{Closing, CARD};
 use std::sync::atomic::{AtomicU64, AtomicU8, Ordering::Relaxed};
 use std::sync::Once;
 
@@ -10,7 +10,7 @@ use std::sync::Once;
 const MOST_NUMBERS: usize = 33;
 /// Counters of a call: numbers, details by number, kept and merged boundaries or areas with a ramp and
 /// of several elevations, observations more than the job's, labels, the most own sources of a kept boundary, doubles left out,
-/// merged boundaries by the block's largest group.
+/// merged boundaries by the block's largest group, boundaries of several region pairs by their marks.
 const EACH: usize = 2048;
 const DETAILS: usize = MOST_NUMBERS;
 const KEPT: usize = DETAILS + MOST_NUMBERS * 16;
@@ -19,7 +19,8 @@ const LABELS: usize = OBSERVED + 16;
 const OWN: usize = LABELS + 64;
 const DOUBLES: usize = OWN + 16;
 const GROUPS: usize = DOUBLES + 16;
-const _: () = assert!(GROUPS + 17 * 17 <= EACH);
+const CLOSED: usize = GROUPS + 17 * 17;
+const _: () = assert!(CLOSED + 8 * 8 * 8 <= EACH);
 
 #[link_section = "__libfuzzer_extra_counters"]
 static COUNTERS: [AtomicU8; 4 * EACH] = [const { AtomicU8::new(0) }; 4 * EACH];
@@ -32,6 +33,8 @@ static MERGED: AtomicU64 = AtomicU64::new(0);
 static OF_SIZES: [AtomicU64; 2] = [const { AtomicU64::new(0) }; 2];
 /// Answers that leave out doubles of own sources, and those with over 48 own sources of a boundary.
 static OF_OWN: [AtomicU64; 2] = [const { AtomicU64::new(0) }; 2];
+/// Boundaries of several region pairs that Mark left without a mark, that it marked though they are no bridges, and bridges among them.
+static OF_SEVERAL: [AtomicU64; 3] = [const { AtomicU64::new(0) }; 3];
 
 extern "C" {
     fn atexit(function: extern "C" fn()) -> i32;
@@ -61,8 +64,8 @@ pub fn note(
     }
     let boundaries = word(job, 3) as usize;
     if call == MARK {
-        let bridges = out[..boundaries].iter().filter(|&&mark| mark == 1).count();
-        set(KEPT + 16 * bridges.min(15) + boundaries.min(15));
+        let marked = out[..boundaries].iter().filter(|&&mark| mark == 1).count();
+        set(KEPT + 16 * marked.min(15) + boundaries.min(15));
         return;
     }
     if call == CARDS {
@@ -91,6 +94,22 @@ pub fn note(
     set(DOUBLES + log(doubles).min(15));
     OF_OWN[0].fetch_add(u64::from(doubles > 0), Relaxed);
     OF_OWN[1].fetch_add(u64::from(most > 48), Relaxed);
+}
+
+/// What Mark made of boundaries that have several region pairs: left without a mark, marked though no bridge, or a bridge.
+pub fn note_marks(closing: &Closing, marks: &[u8]) {
+    let mut pairs = vec![0; marks.len()];
+    closing.records.iter().for_each(|record| pairs[record[0] as usize] += 1);
+    let mut counts = [0_usize; 3];
+    for (i, &mark) in marks.iter().enumerate().filter(|&(i, _)| pairs[i] > 1) {
+        let kind = if closing.bridges.contains(&i) { 2 } else { usize::from(mark == 1) };
+        counts[kind] += 1;
+    }
+    let place = counts.iter().fold(0, |place, &count| 8 * place + count.min(7));
+    COUNTERS[MARK as usize * EACH + CLOSED + place].store(1, Relaxed);
+    for (all, count) in OF_SEVERAL.iter().zip(counts) {
+        all.fetch_add(count as u64, Relaxed);
+    }
 }
 
 /// The numbers of own sources of so many boundary records.
@@ -125,5 +144,9 @@ extern "C" fn print() {
         "calls: {calls}; answers with merges: {merged}, of these with a largest group of over 4: {largest}, \
          with a smallest of 2: {smallest}; without doubles of own sources that came: {doubles}; \
          with over 48 own sources of a boundary: {many}"
+    );
+    let [unmarked, marked, bridges] = [0, 1, 2].map(|i| OF_SEVERAL[i].load(Relaxed));
+    eprintln!(
+        "calls of Mark, boundaries of several region pairs: without a mark {unmarked}, marked and no bridge {marked}, bridges {bridges}"
     );
 }

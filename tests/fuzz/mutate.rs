@@ -123,6 +123,13 @@ fn shift(rng: &mut Rng) -> i32 {
     }
 }
 
+/// A span from one edge of the map to the other along the edges of cells, which may cut several areas.
+fn across(draft: &Draft, rng: &mut Rng) -> [u32; 4] {
+    let [right, bottom] = [draft.width, draft.height].map(|side| 8 * side);
+    let [x, y] = [draft.width, draft.height].map(|side| 8 * rng.within(0, side));
+    rng.pick(&[[0, y, right, y], [x, 0, x, bottom]])
+}
+
 /// An end, a width or a ramp of a boundary.
 fn fields(draft: &mut Draft, rng: &mut Rng) {
     let count = draft.boundaries.len();
@@ -132,8 +139,9 @@ fn fields(draft: &mut Draft, rng: &mut Rng) {
     let (i, other) = (rng.below(count), rng.below(count));
     let other = draft.boundaries[other].clone();
     let any = draft.boundary(rng);
+    let across = across(draft, rng);
     let Boundary { ends, bits, ramp, ramp_id, .. } = &mut draft.boundaries[i];
-    match rng.below(8) {
+    match rng.below(9) {
         0..=2 => {
             let end = &mut ends[rng.below(4)];
             *end = end.saturating_add_signed(shift(rng));
@@ -142,6 +150,7 @@ fn fields(draft: &mut Draft, rng: &mut Rng) {
         4 => ends.rotate_left(2),
         5 => *bits = rng.pick(&[any.bits, other.bits, other.bits.wrapping_add(1)]),
         6 => (*ramp, *ramp_id) = (other.ramp, other.ramp_id),
+        7 => *ends = across,
         _ => (*ramp, *ramp_id) = (any.ramp, any.ramp_id),
     }
 }

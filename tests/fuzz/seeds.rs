@@ -3,6 +3,9 @@
 //!
 //!     seeds FOLDER JOB...
 
+#[path = "../driver/record/across.rs"]
+#[allow(dead_code)]
+mod across;
 #[path = "../driver/checks.rs"]
 #[allow(dead_code)]
 mod checks;
@@ -100,8 +103,8 @@ fn numbers(rng: &mut Rng) -> Thresholds {
     }
 }
 
-/// Drafts damaged for each refusal, maps, corridors, also with other blocks of thresholds and long chains with large groups, own sources, and
-/// region pairs at their limit and one over.
+/// Drafts damaged for each refusal, maps, corridors, also with other blocks of thresholds and long chains with large groups, own sources,
+/// spans across several areas, and region pairs at their limit and one over.
 fn drafts() -> Vec<(u64, Draft)> {
     let mut drafts = Vec::new();
     let mut make = |number: u64, draft: &dyn Fn(&mut Rng) -> Draft| {
@@ -133,6 +136,10 @@ fn drafts() -> Vec<(u64, Draft)> {
     });
     (0..60).for_each(|i| make(7 << 32 | i, &own::random));
     (0..20).for_each(|i| make(8 << 32 | i, &own::one_head));
+    (0..80).for_each(|i| make(10 << 32 | i, &across::random));
+    (0..20).for_each(|i| make(11 << 32 | i, &across::one_long));
+    make(12 << 32, &across::case_8);
+    make(13 << 32, &|rng| across::many_areas(false, rng));
     for pairs in [4096, 4097] {
         make(5 << 32 | pairs as u64, &|rng| maps::many_pairs(pairs, rng));
     }

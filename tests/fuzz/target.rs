@@ -48,7 +48,7 @@ mod mutate;
 mod nearest;
 
 use case::Case;
-use checks::{CALLS, NONE};
+use checks::{CALLS, MARK, NONE};
 use draft::Input;
 use expect::{Expected, MOST_PAIRS};
 use lent::Lent;
@@ -124,6 +124,9 @@ fn one(
     let inputs = [&*lent.job, lent.list, lent.thresholds];
     let said = library::call(call, inputs, lent.work, lent.out);
     features::note(call, said, [job, thresholds], lent.work, lent.out);
+    if call == MARK && said.0 == 0 {
+        features::note_marks(&expected.closing, &lent.out[..expected.written.len()]);
+    }
     if said != left.result {
         return Err(format!("{name}: expected {:?}, got {said:?}", left.result));
     }

@@ -16,6 +16,7 @@ mod expect;
 mod heads;
 #[path = "../driver/known.rs"]
 mod known;
+mod marks;
 mod own;
 #[path = "../driver/rng.rs"]
 #[allow(dead_code)]
@@ -168,6 +169,9 @@ pub extern "C" fn probe_partition(
         words.extend(span.region_pairs.iter().flat_map(|pair| [owner, pair[0], pair[1]]));
     }
     let bytes: Vec<u8> = words.iter().flat_map(|word| word.to_le_bytes()).collect();
+    if out.len() < bytes.len() {
+        return result((22, bytes.len() as u64));
+    }
     out[..bytes.len()].copy_from_slice(&bytes);
     result((0, bytes.len() as u64))
 }
@@ -203,6 +207,23 @@ pub extern "C" fn probe_bridges(
         *mark = u8::from(bridges.contains(&i));
     }
     result((0, 0))
+}
+
+#[no_mangle]
+pub extern "C" fn probe_marks(
+    records: In,
+    rl: usize,
+    work: Out,
+    wl: usize,
+    marks: Out,
+    ml: usize,
+) -> CallResult {
+    let (records, work, marks) = (read(records, rl), write(work, wl), write(marks, ml));
+    let said = marks::refusal(records, wl, ml);
+    if said.0 == 0 || fault::on("list_written_and_refused") && said.0 == 5 {
+        marks::write(records, work, marks);
+    }
+    result(said)
 }
 
 #[no_mangle]
@@ -604,6 +625,9 @@ fn whole(
     if call == CARDS {
         card_faults(job, &expected.labels, &mut expected.written);
     }
+    if call == MARK && expected.pairs <= MOST_PAIRS {
+        expected.written = marks::marks(&expected.closing.records, expected.written.len());
+    }
     let answers = call == REDUCE || call == BY_LIST;
     if answers && expected.pairs <= MOST_PAIRS {
         own::faults(call, job, list, block, &mut expected.written);
@@ -671,7 +695,7 @@ fn whole(
     if call == CARDS && fault::on("cards_counted_not_bytes") {
         return result((0, (length / CARD) as u64));
     }
-    if call == MARK && fault::on("marks_turned") {
+    if call == MARK && fault::on("mark_turned") {
         out[..length].iter_mut().for_each(|mark| *mark ^= 1);
     }
     if out.len() > length && fault::on("byte_past_the_end") {

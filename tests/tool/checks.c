@@ -163,55 +163,89 @@ struct link {
     uint32_t boundary, ends[2];
 };
 
-static uint32_t root(const uint32_t *parent, uint32_t i)
+/* No way joins the two areas of link k once it is taken away, alone or with all links of its boundary: spreads from the one area
+ * over the links that are left, until nothing new is reached. */
+static int apart(const struct link *links, size_t count, size_t k, int whole)
 {
-    while (parent[i] != i) {
-        i = parent[i];
-    }
-    return i;
-}
-
-/* Taking the record away leaves its two areas apart. */
-static int parts(const struct link *links, size_t count, size_t without, uint32_t areas)
-{
-    uint32_t parent[LABELS + 1], i;
+    uint8_t reached[LABELS + 1] = {0};
     size_t j;
-    for (i = 0; i <= areas; i++) {
-        parent[i] = i;
-    }
-    for (j = 0; j < count; j++) {
-        if (j != without) {
-            parent[root(parent, links[j].ends[0])] = root(parent, links[j].ends[1]);
+    int more = 1;
+    reached[links[k].ends[0]] = 1;
+    while (more) {
+        more = 0;
+        for (j = 0; j < count; j++) {
+            const uint32_t *ends = links[j].ends;
+            int gone = whole ? links[j].boundary == links[k].boundary : j == k;
+            if (!gone && reached[ends[0]] != reached[ends[1]]) {
+                reached[ends[0]] = reached[ends[1]] = 1;
+                more = 1;
+            }
         }
     }
-    return root(parent, links[without].ends[0]) != root(parent, links[without].ends[1]);
+    return !reached[links[k].ends[1]];
 }
 
-int check_marks(const struct run *run, unsigned long *compared)
+/* A boundary's mark, and the pairs that the tool says closing it parts, held to what is apart; adds 1 to *bridges for a bridge. */
+static int check_closing(const struct link *links, size_t count, uint32_t i, uint8_t mark, const struct pairs *parted,
+                         uint32_t *bridges, struct marked *marked)
 {
-    struct link links[RECORDS];
-    uint8_t marks[MOST_BOUNDARIES], expected[MOST_BOUNDARIES] = {0};
+    size_t j, own = 0, found = 0;
+    int bridge = 0, wrong = 0;
+    for (j = 0; j < count; j++) {
+        if (links[j].boundary != i) {
+            continue;
+        }
+        own++;
+        bridge |= apart(links, count, j, 0);
+        if (apart(links, count, j, 1)) {
+            wrong |= found >= parted->count || memcmp(parted->at[found], links[j].ends, sizeof links[j].ends) != 0;
+            found++;
+        }
+    }
+    *bridges += (uint32_t)bridge;
+    marked->compared++;
+    marked->whole += found > 0 && !bridge;
+    marked->round += own > 1 && found == 0;
+    return wrong || found != parted->count || mark != (found > 0);
+}
+
+/* The pairs of all boundaries, in their order; RECORDS where they are not fewer. */
+static size_t list_links(const struct run *run, const struct pairs *pairs, struct link *links)
+{
     size_t count = 0, j;
     uint32_t i;
+    for (i = 0; i < run->job.count[BOUNDARIES]; i++) {
+        for (j = 0; j < pairs[i].count && count < RECORDS; j++, count++) {
+            links[count].boundary = i;
+            memcpy(links[count].ends, pairs[i].at[j], sizeof links[count].ends);
+        }
+    }
+    return count;
+}
+
+int check_marks(const struct run *run, struct marked *marked)
+{
+    struct link links[RECORDS];
+    struct pairs *pairs, *parted;
+    uint8_t marks[MOST_BOUNDARIES];
+    uint32_t i, bridges = 0, boundaries = run->job.count[BOUNDARIES];
+    size_t count;
+    int wrong = 0;
     if (run->areas > LABELS || mark(run, marks).number != CHOKES_OK) {
         return 0;
     }
-    for (i = 0; i < run->job.count[BOUNDARIES]; i++) {
-        struct pairs pairs = pairs_of(run, span_at(run, i));
-        for (j = 0; j < pairs.count && count < RECORDS; j++, count++) {
-            links[count].boundary = i;
-            memcpy(links[count].ends, pairs.at[j], sizeof links[count].ends);
+    pairs = all_pairs(run);
+    parted = parted_pairs(run, pairs);
+    count = list_links(run, pairs, links);
+    if (count < RECORDS) {
+        for (i = 0; i < boundaries; i++) {
+            wrong |= check_closing(links, count, i, marks[i], &parted[i], &bridges, marked);
         }
-        free(pairs.at);
+        wrong |= count_bridges(run, pairs) != bridges;
     }
-    if (count == RECORDS) {
-        return 0;
-    }
-    for (j = 0; j < count; j++) {
-        expected[links[j].boundary] |= (uint8_t)parts(links, count, j, run->areas);
-    }
-    *compared += run->job.count[BOUNDARIES];
-    return memcmp(marks, expected, run->job.count[BOUNDARIES]) != 0;
+    end_pairs(pairs, boundaries);
+    end_pairs(parted, boundaries);
+    return wrong;
 }
 
 int check_cards(const struct run *run, unsigned long *compared)

@@ -15,7 +15,8 @@
 
 int tool_main(int argc, char **argv);
 
-static unsigned long accepted, refused[NUMBERS], merged, large, marked, carded, drawn;
+static unsigned long accepted, refused[NUMBERS], merged, large, carded, drawn;
+static struct marked marked;
 
 static struct bytes copy_of(const struct bytes *bytes)
 {
@@ -176,7 +177,7 @@ static const char *wrong_run(struct run *run)
     } else if (run->result.number == CHOKES_OK && check_groups(run, &large) != 0) {
         why = "the groups aren't what the answer has";
     } else if (run->result.number == CHOKES_OK && !run->by_list && check_marks(run, &marked) != 0) {
-        why = "the marks aren't the bridges of the pairs";
+        why = "the marks, or the tool's chokes and bridges, aren't what closing parts";
     } else if (run->result.number == CHOKES_OK && check_cards(run, &carded) != 0) {
         why = "the cards aren't what the labels and cells say";
     } else if (run->labels != NULL && check_cells(run, page.at, &drawn) != 0) {
@@ -227,14 +228,15 @@ static int check_jobs(unsigned long count, char **names, int given_count)
     while (k > 0) {
         free(given[--k].at);
     }
-    printf("jobs: %lu, %lu accepted, %lu boundaries merged away, %lu groups of over four, %lu marks held to the pairs, %lu cards "
-           "to the labels, %lu cells read back; refused", count, accepted, merged, large, marked, carded, drawn);
+    printf("jobs: %lu, %lu accepted, %lu boundaries merged away, %lu groups of over four, %lu marks held to closing (%lu chokes that "
+           "are no bridge, %lu of several pairs that are no choke), %lu cards to the labels, %lu cells read back; refused", count,
+           accepted, merged, large, marked.compared, marked.whole, marked.round, carded, drawn);
     for (number = 1; number < NUMBERS; number = number == 17 ? CHOKES_BAD_THRESHOLDS : number + 1) {
         printf(" %u:%lu", number, refused[number]);
         missing |= refused[number] == 0 && number != 13;
     }
     printf("\n");
-    if (missing || accepted == 0 || merged == 0 || large == 0 || marked == 0 || carded == 0 || drawn == 0) {
+    if (missing || accepted == 0 || merged == 0 || large == 0 || marked.whole == 0 || marked.round == 0 || carded == 0 || drawn == 0) {
         printf("jobs: something never came up\n");
         return 1;
     }

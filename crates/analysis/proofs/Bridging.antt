@@ -1,30 +1,37 @@
--- The table of the bridge walk after a partition: all zero, within the work, and records that the walk takes.
+-- The table of labels after a partition: all zero, within the work, and records that the bridge walk and closing take.
 use mathlib.Core.Path.{_≡_, sym, _∙_, ap}
 use mathlib.Core.Logic.{by-cases}
 use mathlib.Core.List.{List, _++_, flatMap}
 use Prim.Native.Nat.{ℕ, _+_, _*_, _≤_, _<_}
 use native.Mathlib.Omega.{arith}
-use native.Mathlib.Decide.{decLt}
+use native.Mathlib.Decide.{decLt, ℕ-discrete}
 use lib.ListN.{length, getD, drop, replicate, length-append, length-replicate, getD-replicate}
 use lib.Seq.{drop-append-seam, drop-append-add}
 use Rattle.areas.specs.Words.{labelled}
+use Rattle.lists.specs.Rows.{at}
 use Rattle.lists.proofs.Flat.{length-pieces}
+use Rattle.order.proofs.Pairs.{pairs-at}
 use Rattle.wire.specs.Bytes.{part, number, numberAt, u32At, u32Bytes}
 use Rattle.wire.proofs.Parts.{part-left, part-right}
 use Rattle.wire.proofs.Numbers.{length-bytes}
 use Rattle.wire.proofs.Words.{four-bytes}
-use Rattle.graph.specs.Records.{recordsIn}
+use Rattle.graph.specs.Records.{Record, recordsIn, recordAt, noRecord}
+use Rattle.graph.proofs.Records.{records-length, records-at}
 use Rattle.grid.specs.Cells.{Grid, size}
 use Rattle.areas.specs.Areas.{areaLabels}
 use Rattle.areas.specs.Spans.{spansIn}
 use Rattle.areas.specs.Assessments.{records}
 use Rattle.areas.proofs.Areas.{area-labels-length}
-use Rattle.serial_walk.specs.Slices.{Owners}
+use Rattle.areas.proofs.Records.{records-rising}
+use Rattle.graph.specs.Slices.{Owners}
 use Rattle.serial_bridges.specs.Names.{Labelled}
 use Rattle.serial_walk.specs.Marks.{bridgeMarks}
+use Rattle.marks_closing.specs.Marks.{chokeMarks}
+use Rattle.marks_closing.specs.Ranges.{RisingOwners}
+use Rattle.marks.specs.Owned.{OwnedRecords}
 use Rattle.areas_partition.specs.Partitioned.{Partitioned}
 use Rattle.areas_partition.specs.declared.Partition.{Partition}
-use Rattle.analysis.specs.Bridging.{Bridged, AreasWithin}
+use Rattle.analysis.specs.Bridging.{Bridged, AreasWithin, MarkedWithin}
 
 module _ (ls before : List ℕ) where
   abbrev zeros : List ℕ
@@ -101,6 +108,21 @@ module _ {most : ℕ} {dirs : List ℕ} {g : Grid} {ends : List ℕ} {count : �
     right-to = λ k l. r .regions (few-pairs h) k l .most;
   })
 
+  -- the records stand in the order of their owners
+  owner-at : p .pairs ≤ most → (k : ℕ) → k < p .pairs → recordAt (records dirs g (spansIn ends count)) k .owner ≡ at owners k
+  owner-at h k l =
+      ap (λ rs. recordAt rs k .owner) (sym (r .records-are (few-pairs h))) ∙ ap (λ (x : Record). x .owner) (records-at owners lefts rights (p .pairs) k l)
+
+  rising-in : p .pairs ≤ most → RisingOwners (p .pairs) owners
+  rising-in h i j b l =
+      by-cases (ℕ-discrete i j) (λ e. omega (arith, ap (at owners) e))
+      (λ e. omega (
+        arith,
+        pairs-at noRecord (records-rising dirs g (spansIn ends count)) i j (omega arith) (omega (arith, r .pairs-are (few-pairs h))),
+        owner-at h i (omega arith),
+        owner-at h j l,
+      ))
+
   labels-long : length (areaLabels dirs g (spansIn ends count)) ≡ size g
   labels-long = area-labels-length dirs g (spansIn ends count)
 
@@ -117,6 +139,37 @@ module _ {most : ℕ} {dirs : List ℕ} {g : Grid} {ends : List ℕ} {count : �
 
   pub bridged : {marks : List ℕ} → marks ≡ bridgeMarks (recordsIn owners lefts rights (p .pairs)) 256 → Bridged most dirs g (spansIn ends count) marks
   bridged e = λ few. e ∙ ap (λ rs. bridgeMarks rs 256) (r .records-are few)
+
+  -- what marking asks of them
+  pub owned-in : (n : ℕ) → n ≡ size g → count ≤ 256 → most ≤ 4096 → length owners ≡ most → length lefts ≡ most → length rights ≡ most → p .pairs ≤ most
+      → OwnedRecords (p .pairs) owners lefts rights n (4 * n) work
+  owned-in n e c few eo el er h = record {
+    marked = owners-in c h;
+    owners-are = omega arith;
+    rising = rising-in h;
+    labelled = labels-in n e few el er h;
+    room = room-in n e;
+    zero = zero-in n e;
+  }
+
+  -- the marks of the records are those of the map
+  pub marked-within : {marks after : List ℕ} → after ≡ work → marks ≡ chokeMarks (recordsIn owners lefts rights (p .pairs)) 256
+      → MarkedWithin most dirs g (spansIn ends count) marks before after (p .pairs)
+  marked-within a e = record {
+    work-is = a ∙ r .work-is;
+    over = r .over;
+    pairs-are = r .pairs-are;
+    told = λ few. e ∙ ap (λ rs. chokeMarks rs 256) (r .records-are few);
+  }
+
+  -- over `most` pairs nothing is asked of them
+  pub unmarked-within : {marks : List ℕ} → most < p .pairs → MarkedWithin most dirs g (spansIn ends count) marks before work (p .pairs)
+  unmarked-within h = record {
+    work-is = r .work-is;
+    over = r .over;
+    pairs-are = r .pairs-are;
+    told = λ few. absurd (omega (arith, r .pairs-are few));
+  }
 
   -- what it says of the areas
   pub areas-within : AreasWithin most dirs g (spansIn ends count) before work (p .areas) (p .pairs)

@@ -29,7 +29,7 @@ use Rattle.areas_partition.specs.Partitioned.{Partitionable, Partitioned}
 use Rattle.areas_partition.specs.declared.Partition.{Partition}
 use Rattle.results.specs.Rules.{gridOf, listingOf}
 use Rattle.results.specs.Results.{workSize, maxPairs, ownEnds}
-use Rattle.analysis.specs.Bridging.{Bridged, MarkedWithin}
+use Rattle.analysis.specs.Bridging.{Bridged, AreasWithin}
 use Rattle.analysis.specs.Plans.{planOf, RankedBy, Leads, Headed, RankedJob, EndsBy, SomeEnds, SomeTold, TabledWithin, Drawn}
 use Rattle.analysis.proofs.Within.{parted-few}
 use Rattle.analysis.proofs.Ranked.{ByRank}
@@ -157,14 +157,14 @@ module _ {s : List ℕ} {h : Header} (d : Headed s h) (t : List ℕ) (f : firstR
           → Partitionable (h .counts .width) (h .counts .height) (take (48 + cells - 48) (drop 48 s)) directions ends n work
       unmatched-partitionable k room = map-partitionable (d .header) (headed-laid d) cells f₂ k all-fit few room
 
-      pub unmatched-drawn : (limits : Limits) (dirs : List ℕ) → (n ≡ h .counts .boundaries → ⊥) → {before after marks : List ℕ} {pairs : ℕ}
-          → MarkedWithin maxPairs dirs (mapOf (h .counts .width) (h .counts .height) (take (48 + cells - 48) (drop 48 s))) (spansIn ends n) marks before after
+      pub unmatched-drawn : (limits : Limits) (dirs : List ℕ) → (n ≡ h .counts .boundaries → ⊥) → {before after : List ℕ} {areas pairs : ℕ}
+          → AreasWithin maxPairs dirs (mapOf (h .counts .width) (h .counts .height) (take (48 + cells - 48) (drop 48 s))) (spansIn ends n) before after areas
           pairs
           → Drawn limits dirs (decode s) (decodeList t) before after order pairs
       unfolding planOf
-      unmatched-drawn limits dirs ne {before} {after} {marks} {pairs} r =
+      unmatched-drawn limits dirs ne {before} {after} {areas} {pairs} r =
           let g : Grid = gridOf (decode s) in
-          let y = on-job d cells f₂ (λ g k. MarkedWithin maxPairs dirs g (spansIn ends k) marks before after pairs) e r in
+          let y = on-job d cells f₂ (λ g k. AreasWithin maxPairs dirs g (spansIn ends k) before after areas pairs) e r in
           let x : records dirs g (decodeList t) ≡ records dirs g (spansIn ends (length t / spanSize)) =
           records-listed t (list-right .few) k ends all-here dirs g in
           let differ : length (decode s .boundaries) ≡ length (decodeList t)

@@ -1,12 +1,11 @@
-// Partition, records and bridges: the core of all calls.
+// Partition, records and bridges: the core of Reduce and Reduce by list.
 ghost use lib.ListN.{length};
 ghost use Rattle.grid.specs.Cells.{mapOf};
 ghost use Rattle.grid.specs.Directions.{directionsOf};
 ghost use Rattle.areas.specs.Spans.{spansIn};
 ghost use Rattle.areas_assessments.specs.Recording.{Arrays};
 ghost use Rattle.areas_partition.specs.Partitioned.{Partitionable, Partitioned};
-ghost use Rattle.results.specs.Results.{maxPairs};
-ghost use Rattle.analysis.specs.Bridging.{fewPairs, Bridged, MarkedWithin};
+ghost use Rattle.analysis.specs.Bridging.{Bridged};
 use areas_partition::Partition;
 use areas_partition::partition_by_spans;
 use serial_bridges::bridge_boundary_indices;
@@ -72,105 +71,4 @@ pub fn analyse(
     }
     bridge_boundary_indices(owners, lefts, rights, pairs, n, work, 4 * n, marks);
     p
-}
-
-// Partitions a map by spans and marks those that are bridges, with room for few region pairs; gives their number.
-fn analyse_few(
-    cells: &[u8],
-    width: u32,
-    height: u32,
-    directions: u32,
-    ends: &[u32; 1024],
-    count: usize,
-    work: &mut [u8],
-    marks: &mut [u8; 256],
-) -> usize
-    requires { ⌜ Partitionable width height (now cells) directions (now ends) count (now work) ⌝ }
-    ensures { λ r. ⌜ MarkedWithin fewPairs (directionsOf directions) (mapOf width height (now (cells .entry))) (spansIn (now (ends .entry)) count)
-        (now (marks .exit)) (now (work .entry)) (now (work .exit)) r ⌝ }
-{
-    let mut removed = [0u32; 256];
-    let mut separated = [0u32; 256];
-    let mut owners = [0u32; FEW_PAIRS];
-    let mut lefts = [0u32; FEW_PAIRS];
-    let mut rights = [0u32; FEW_PAIRS];
-    let p = analyse(
-        cells,
-        width,
-        height,
-        directions,
-        ends,
-        count,
-        work,
-        &mut removed,
-        &mut separated,
-        &mut owners,
-        &mut lefts,
-        &mut rights,
-        marks,
-    );
-    p.pairs
-}
-
-// The same, with room for as many as a call takes.
-fn analyse_many(
-    cells: &[u8],
-    width: u32,
-    height: u32,
-    directions: u32,
-    ends: &[u32; 1024],
-    count: usize,
-    work: &mut [u8],
-    marks: &mut [u8; 256],
-) -> usize
-    requires { ⌜ Partitionable width height (now cells) directions (now ends) count (now work) ⌝ }
-    ensures { λ r. ⌜ MarkedWithin maxPairs (directionsOf directions) (mapOf width height (now (cells .entry))) (spansIn (now (ends .entry)) count)
-        (now (marks .exit)) (now (work .entry)) (now (work .exit)) r ⌝ }
-{
-    let mut removed = [0u32; 256];
-    let mut separated = [0u32; 256];
-    let mut owners = [0u32; MAX_PAIRS];
-    let mut lefts = [0u32; MAX_PAIRS];
-    let mut rights = [0u32; MAX_PAIRS];
-    let p = analyse(
-        cells,
-        width,
-        height,
-        directions,
-        ends,
-        count,
-        work,
-        &mut removed,
-        &mut separated,
-        &mut owners,
-        &mut lefts,
-        &mut rights,
-        marks,
-    );
-    p.pairs
-}
-
-// Partitions a map by spans, and marks those that are bridges where the region pairs aren't too many; gives the number of pairs.
-pub fn find_bridges(
-    cells: &[u8],
-    width: u32,
-    height: u32,
-    directions: u32,
-    ends: &[u32; 1024],
-    count: usize,
-    work: &mut [u8],
-    marks: &mut [u8; 256],
-) -> usize
-    requires { ⌜ Partitionable width height (now cells) directions (now ends) count (now work) ⌝ }
-    ensures { λ r. ⌜ MarkedWithin maxPairs (directionsOf directions) (mapOf width height (now (cells .entry))) (spansIn (now (ends .entry)) count)
-        (now (marks .exit)) (now (work .entry)) (now (work .exit)) r ⌝ }
-{
-    if !is_small(cells.len(), count) {
-        return analyse_many(cells, width, height, directions, ends, count, work, marks);
-    }
-    let pairs = analyse_few(cells, width, height, directions, ends, count, work, marks);
-    if pairs <= FEW_PAIRS {
-        return pairs;
-    }
-    analyse_many(cells, width, height, directions, ends, count, work, marks)
 }

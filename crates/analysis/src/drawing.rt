@@ -22,8 +22,8 @@ ghost use Rattle.analysis.specs.Plans.{SomeTold, TabledWithin, DrawnWith
 use crate::bridged::FEW_PAIRS;
 use crate::bridged::MAX_PAIRS;
 use crate::bridged::analyse;
-use crate::bridged::find_bridges;
 use crate::bridged::is_small;
+use crate::parting::find_areas;
 use format::BOUNDARY_SIZE;
 use format::HEADER_SIZE;
 use format::Header;
@@ -400,8 +400,7 @@ fn plan_unmatched(
     fill_identity(plan);
     let mut ends = [0u32; 1024];
     fill_spans(list, 0, SPAN_SIZE, plan, n, &mut ends);
-    let mut marks = [0u8; 256];
-    find_bridges(
+    let p = find_areas(
         &job[HEADER_SIZE..HEADER_SIZE + cells],
         c.width,
         c.height,
@@ -409,8 +408,8 @@ fn plan_unmatched(
         &ends,
         n,
         work,
-        &mut marks,
-    )
+    );
+    p.pairs
 }
 
 // By the spans of a list.

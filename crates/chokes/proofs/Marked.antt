@@ -1,6 +1,5 @@
 -- What Mark leaves at each of its returns.
 use mathlib.Core.Path.{_≡_, sym, _∙_, ap}
-use mathlib.Core.Bool.{cond}
 use mathlib.Core.List.{List}
 use mathlib.Core.Option.{none}
 use Prim.Native.Nat.{ℕ, _+_, _*_, _-_, _≤_, _<_}
@@ -15,10 +14,10 @@ use Rattle.format.specs.declared.header.Header.{Header}
 use Rattle.grid.specs.Directions.{directionsOf}
 use Rattle.grid.proofs.Directions.{directions-eight}
 use Rattle.graph.specs.Records.{Record}
-use Rattle.graph.specs.Bridges.{isBridge, markOf}
+use Rattle.graph.specs.Bridges.{markOf}
 use Rattle.areas.specs.Assessments.{records}
 use Rattle.areas.specs.Spans.{spansIn}
-use Rattle.serial_walk.specs.Marks.{bridgeMarks}
+use Rattle.marks_closing.specs.Marks.{bit, chokeMarks}
 use Rattle.checks.specs.Numbers.{marksTooShort}
 use Rattle.checks.specs.Checks.{firstRefusal}
 use Rattle.checks_calls.specs.Refusals.{markChecks}
@@ -51,8 +50,8 @@ module _ {s : List ℕ} {h : Header} (d : Headed s h) {n : ℕ} (e : n ≡ h .co
   mark-count = e ∙ (count-is d ∙ sym (boundary-count s))
 
 module _ (dirs s work marks : List ℕ) where
-  module _ (e : firstRefusal (markChecks s) ≡ none) (w : workSize (decode s) ≤ length work) {after bridges : List ℕ} {pairs : ℕ}
-      (y : Analysed dirs (decode s) (ownEnds (decode s)) work after bridges pairs) where
+  module _ (e : firstRefusal (markChecks s) ≡ none) (w : workSize (decode s) ≤ length work) {after chokes : List ℕ} {pairs : ℕ}
+      (y : Analysed dirs (decode s) (ownEnds (decode s)) work after chokes pairs) where
     abbrev rs : List Record
     rs = records dirs (gridOf (decode s)) (ownEnds (decode s))
 
@@ -65,16 +64,16 @@ module _ (dirs s work marks : List ℕ) where
     pub mark-no-room : pairs ≤ maxPairs → length marks < length (decode s .boundaries) → leftBy marksTooShort 0 after marks ≡ markWith dirs s work marks
     mark-no-room h l = rw (y .work-is) (sym (mark-short dirs s work marks e w (parted-few y h) l))
 
-    marks-copied : pairs ≤ maxPairs → (n : ℕ) → n ≤ 256 → n ≡ length (decode s .boundaries) → rows n (λ k. getD bridges k 0) ≡ marksOf dirs (decode s)
-    unfolding marksOf bridgeMarks markOf
+    marks-copied : pairs ≤ maxPairs → (n : ℕ) → n ≤ 256 → n ≡ length (decode s .boundaries) → rows n (λ k. getD chokes k 0) ≡ marksOf dirs (decode s)
+    unfolding marksOf chokeMarks
     marks-copied h n l z =
-        rows-same n (λ k. getD bridges k 0) (λ b. cond (isBridge rs b) 1 0)
-        (λ k i. ap (λ (b : List ℕ). getD b k 0) (y .told (parted-few y h)) ∙ rows-at 256 (λ b. cond (isBridge rs b) 1 0) k 0 (omega arith))
-        ∙ ap (λ m. rows m (λ b. cond (isBridge rs b) 1 0)) z
+        rows-same n (λ k. getD chokes k 0) (λ b. bit (markOf rs b))
+        (λ k i. ap (λ (b : List ℕ). getD b k 0) (y .told (parted-few y h)) ∙ rows-at 256 (λ b. bit (markOf rs b)) k 0 (omega arith))
+        ∙ ap (λ m. rows m (λ b. bit (markOf rs b))) z
 
     -- success
     pub mark-done : pairs ≤ maxPairs → {n : ℕ} → n ≤ 256 → n ≡ length (decode s .boundaries) → n ≤ length marks → {out : List ℕ}
-        → out ≡ firstCopied bridges n marks
+        → out ≡ firstCopied chokes n marks
         → leftBy 0 n after out ≡ markWith dirs s work marks
     mark-done h {n} l z m {out} o =
         let c : out ≡ splice marks 0 (marksOf dirs (decode s)) = o ∙ ap (λ bs. splice marks 0 bs) (marks-copied h n l z) in

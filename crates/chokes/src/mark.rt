@@ -1,4 +1,4 @@
-// Mark: one byte per boundary, 1 if it is a bridge.
+// Mark: one byte per boundary, 1 if closing the whole of it parts the two regions of one of its region pairs.
 ghost use mathlib.Core.Path.{_≡_};
 ghost use Prim.Native.Nat.{_≤_, _<_};
 ghost use lib.ListN.{length};
@@ -10,7 +10,7 @@ ghost use Rattle.chokes.specs.Marking.{Analysed, firstCopied};
 ghost use Rattle.results.specs.Results.{ownEnds, leftBy};
 use analysis::ChokesResult;
 use analysis::WORK_PER_CELL;
-use analysis::find_bridges;
+use analysis::find_marks;
 use analysis::first_answer;
 use analysis::own_ends;
 use checks::refusals::MARKS_TOO_SHORT;
@@ -21,7 +21,7 @@ use format::read_header;
 use grid::neighbors::EIGHT;
 use wire::size;
 
-// Partitions a job by its boundaries' own ends; gives the number of region pairs.
+// Partitions a job by its boundaries' own ends and marks those that are chokes; gives the number of region pairs.
 fn analyse_boundaries(
     directions: u32,
     job: &[u8],
@@ -38,7 +38,7 @@ fn analyse_boundaries(
     let count = size(c.boundaries);
     let mut ends = [0u32; 1024];
     own_ends(job, h, &mut ends);
-    find_bridges(
+    find_marks(
         &job[HEADER_SIZE..HEADER_SIZE + n],
         c.width,
         c.height,
@@ -72,8 +72,8 @@ pub extern "C" fn chokes_mark(job: &[u8], work: &mut [u8], marks: &mut [u8]) -> 
         return r;
     }
     let h = read_header(job);
-    let mut bridges = [0u8; 256];
-    let pairs = analyse_boundaries(EIGHT, job, h, work, &mut bridges);
+    let mut chokes = [0u8; 256];
+    let pairs = analyse_boundaries(EIGHT, job, h, work, &mut chokes);
     let p = ChokesResult::of_pairs(pairs);
     if 0 < p.number {
         return p;
@@ -86,7 +86,7 @@ pub extern "C" fn chokes_mark(job: &[u8], work: &mut [u8], marks: &mut [u8]) -> 
             detail: 0,
         };
     }
-    copy_first(&bridges, n, marks);
+    copy_first(&chokes, n, marks);
     ChokesResult {
         number: 0,
         detail: n as u64,

@@ -1,18 +1,19 @@
--- The computed test of a bridge is what a bridge means.
-use mathlib.Core.Path.{_≡_, refl}
+-- The computed tests of a bridge and of a mark are what the two mean, and how they are related.
+use mathlib.Core.Path.{_≡_, refl, sym, _∙_, ap}
 use mathlib.Core.Logic.{_↔_, _⊎_, inl, inr}
-use mathlib.Core.Bool.{Bool, true, _&&_}
+use mathlib.Core.Bool.{Bool, true, false, _&&_}
 use mathlib.Core.List.{List, [], _∷_}
 use Prim.Native.Nat.{ℕ, zero, suc, _<_}
 use native.Mathlib.Omega.{arith}
-use borrow.Author.Tests.{eqb-true, eq-eqb, not-true}
+use borrow.Author.Tests.{eqb-true, eq-eqb, ne-eqb, not-true}
 use lib.ListN.{length}
-use Rattle.order.proofs.Bools.{and-parts, and-both, clash, or-cases, or-right}
+use Rattle.order.proofs.Bools.{and-parts, and-both, clash, by-test, is-false, or-cases, or-right}
 use Rattle.graph.specs.Path.{Path}
 use Rattle.graph.specs.Parts.{samePart}
 use Rattle.graph.specs.Records.{Record, recordAt, edges, without, only, ofOwner}
-use Rattle.graph.specs.Bridges.{Bridge, isParted, isBridge, markOf, someRecord}
+use Rattle.graph.specs.Bridges.{Bridge, Closed, isParted, isBridge, markOf, someRecord}
 use Rattle.graph.proofs.Parts.{other-part}
+use Rattle.graph.proofs.Records.{without-path}
 
 -- some record passes the test
 some-record : (t : ℕ → Record → Bool) (rs : List Record) → someRecord t rs ≡ true → (k : ℕ) × (k < length rs) × (t k (recordAt rs k) ≡ true)
@@ -77,7 +78,50 @@ bridge-iff rs b = (
   λ w. some-iff only rs b .1 (record { place = w .place; inside = w .inside; owned = w .owned; parted = w .parted }),
 )
 
--- choke marks are the bridges
-pub mark-iff : (rs : List Record) (b : ℕ) → (markOf rs b ≡ true) ↔ Bridge rs b
+pub mark-iff : (rs : List Record) (b : ℕ) → (markOf rs b ≡ true) ↔ Closed rs b
 unfolding markOf
-mark-iff rs b = bridge-iff rs b
+mark-iff rs b = (
+  λ h. let w = some-iff (λ k. ofOwner b) rs b .0 h in record { place = w .place; inside = w .inside; owned = w .owned; parted = w .parted },
+  λ w. some-iff (λ k. ofOwner b) rs b .1 (record { place = w .place; inside = w .inside; owned = w .owned; parted = w .parted }),
+)
+
+-- a bridge is closed too: more is taken away
+pub bridge-closed : {rs : List Record} {b : ℕ} → Bridge rs b → Closed rs b
+bridge-closed {rs} {b} w = record {
+  place = w .place;
+  inside = w .inside;
+  owned = w .owned;
+  parted = λ p. w .parted (without-path (ofOwner b) (only (w .place)) rs other p);
+}
+  where
+    other : (k : ℕ) → k < length rs → ofOwner b k (recordAt rs k) ≡ false → only (w .place) k (recordAt rs k) ≡ false
+    other k l e = ne-eqb k (w .place) (λ q. clash (eq-eqb (recordAt rs k .owner) b (ap (λ (i : ℕ). recordAt rs i .owner) q ∙ w .owned)) e)
+
+-- every bridge is marked
+pub bridge-marked : (rs : List Record) (b : ℕ) → isBridge rs b ≡ true → markOf rs b ≡ true
+bridge-marked rs b h = mark-iff rs b .1 (bridge-closed (bridge-iff rs b .0 h))
+
+-- the boundary has no second record
+abbrev pub OneRecord : List Record → ℕ → Type 0
+OneRecord rs b = (k l : ℕ) → k < length rs → l < length rs → recordAt rs k .owner ≡ b → recordAt rs l .owner ≡ b → k ≡ l
+
+closed-single : {rs : List Record} {b : ℕ} → OneRecord rs b → Closed rs b → Bridge rs b
+closed-single {rs} {b} one w = record {
+  place = w .place;
+  inside = w .inside;
+  owned = w .owned;
+  parted = λ p. w .parted (without-path (only (w .place)) (ofOwner b) rs other p);
+}
+  where
+    other : (k : ℕ) → k < length rs → only (w .place) k (recordAt rs k) ≡ false → ofOwner b k (recordAt rs k) ≡ false
+    other k l e = ne-eqb (recordAt rs k .owner) b (λ q. clash (eq-eqb k (w .place) (one k (w .place) l (w .inside) q (w .owned))) e)
+
+-- with at most one record, the mark says whether the boundary is a bridge
+pub mark-single : (rs : List Record) (b : ℕ) → OneRecord rs b → markOf rs b ≡ isBridge rs b
+mark-single rs b one =
+    by-test (isBridge rs b) (λ e. bridge-marked rs b e ∙ sym e)
+    (λ e. is-false (markOf rs b) (λ m. clash (bridge-iff rs b .1 (closed-single one (mark-iff rs b .0 m))) e) ∙ sym e)
+
+-- without a record there is no mark
+pub mark-none : (rs : List Record) (b : ℕ) → ((k : ℕ) → k < length rs → recordAt rs k .owner ≡ b → ⊥) → markOf rs b ≡ false
+mark-none rs b none = is-false (markOf rs b) (λ m. let w = mark-iff rs b .0 m in none (w .place) (w .inside) (w .owned))

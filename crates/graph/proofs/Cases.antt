@@ -1,17 +1,18 @@
 -- Small graphs, by computing; cases 5 to 8 of the table.
-use mathlib.Core.Path.{_≡_, refl}
+use mathlib.Core.Path.{_≡_, refl, sym, _∙_}
 use mathlib.Core.Bool.{Bool, true, false, _&&_, and-false, or-true}
 use mathlib.Core.List.{List, [], _∷_, map}
 use Prim.Native.Nat.{ℕ}
-use borrow.Author.Tests.{eq-eqb}
+use borrow.Author.Tests.{eq-eqb, ne-eqb, eqb-true}
 use lib.Dec.{eqb}
 use Rattle.order.specs.Lists.{upFrom, has}
+use Rattle.order.proofs.Bools.{by-test}
 use Rattle.graph.specs.Path.{Edge}
 use Rattle.graph.specs.Parts.{componentOf, samePart}
 use Rattle.graph.specs.Labels.{count, labels, labelCount}
 use Rattle.graph.specs.Records.{Record, edges, without, only, ofOwner}
-use Rattle.graph.specs.Bridges.{isParted, isBridge}
-use Rattle.graph.specs.Cases.{boundaryPair, BridgeCases}
+use Rattle.graph.specs.Bridges.{isParted, isBridge, markOf}
+use Rattle.graph.specs.Cases.{boundaryPair, BridgeCases, MarkCases}
 
 abbrev edge : ℕ → ℕ → Edge
 edge a b = record { left = a; right = b }
@@ -61,9 +62,19 @@ unfolding without
 closed-owner = refl
 
 -- closing both records of 4 parts their regions, though neither is a bridge by itself
-closed-whole : (isParted (ofOwner 4) ring (boundaryPair 4 1 2) ≡ true) × (isBridge ring 4 ≡ false)
-unfolding isBridge
-closed-whole = (refl, refl)
+closed-whole : (markOf ring 4 ≡ true) × (isBridge ring 4 ≡ false) × (markOf ring 5 ≡ false)
+unfolding isBridge markOf
+closed-whole = (refl, refl, refl)
+
+-- one parted record is enough: 4's regions 1 and 2 stay connected through 5, its regions 3 and 6 do not
+one-of-two : markOf (boundaryPair 4 1 2 ∷ boundaryPair 4 3 6 ∷ boundaryPair 5 1 2 ∷ []) 4 ≡ true
+unfolding markOf
+one-of-two = refl
+
+-- and where both stay connected, there is no mark
+none-of-two : markOf (boundaryPair 4 1 2 ∷ boundaryPair 4 2 3 ∷ boundaryPair 5 1 3 ∷ boundaryPair 6 2 3 ∷ []) 4 ≡ false
+unfolding markOf
+none-of-two = refl
 
 -- a boundary without records is none
 lone : map (isBridge (boundaryPair 4 1 2 ∷ [])) (4 ∷ 5 ∷ []) ≡ true ∷ false ∷ []
@@ -77,4 +88,24 @@ bridge-cases = record {
   case6 = λ b c d x. simp and-false;
   case7 = λ b c x. simp and-false;
   case8 = λ b x. simp and-false;
+}
+
+-- another boundary's number than x, where x is b
+other : (b c x : ℕ) → (b ≡ c → ⊥) → eqb b x ≡ true → eqb c x ≡ false
+other b c x n e = ne-eqb c x (λ q. n (eqb-true b x e ∙ sym q))
+
+pub mark-cases : MarkCases
+unfolding markOf
+mark-cases = record {
+  case5 = λ b c. (
+    by-test (eqb c b) (λ e. rw (eq-eqb b b refl, e)) (λ e. rw (eq-eqb b b refl, e)),
+    by-test (eqb b c) (λ e. rw (eq-eqb c c refl, e)) (λ e. rw (eq-eqb c c refl, e)),
+  );
+  case6 = λ b c d x n m l.
+      by-test (eqb b x) (λ e. rw (e, other b c x n e, other b d x l e))
+      (λ e. by-test (eqb c x) (λ f. rw (e, f, other c d x m f)) (λ f. by-test (eqb d x) (λ g. rw (e, f, g)) (λ g. rw (e, f, g))));
+  case7 = λ b c x n.
+      by-test (eqb b x) (λ e. rw (e, other b c x n e)) (λ e. by-test (eqb c x) (λ f. rw (e, f)) (λ f. rw (e, f)));
+  case8 = λ b. rw (eq-eqb b b refl);
+  case8-others = λ b x n. rw (ne-eqb b x (λ q. n (sym q)));
 }

@@ -1,6 +1,6 @@
 -- Two vertices are in one componentOf exactly if a path joins them, and a componentOf is known by its first vertex.
 use mathlib.Core.Path.{_≡_, refl, sym, _∙_, ap}
-use mathlib.Core.Logic.{_↔_}
+use mathlib.Core.Logic.{_↔_, _⊎_, inl, inr}
 use mathlib.Core.Bool.{true, false}
 use mathlib.Core.List.{List, [], _∷_, List·Memᴰ, List·Memᴰ·head, List·Memᴰ·tail}
 use Prim.Native.Nat.{ℕ, _≤_, min, max}
@@ -56,6 +56,18 @@ join-path {es} a b c p = go (joined a b c) (decLe a b)
     go (lowered q r) (yes l) = path-between (omega arith) (path-sym p) (omega arith)
     go (lowered q r) (no l) = path-between (omega arith) p (omega arith)
     go (kept q r) d = path-eq (sym r)
+
+-- joining a and b makes one of these two alone
+join-apart : (a b c d : ℕ) → join a b c ≡ join a b d → (c ≡ d) ⊎ (((c ≡ a) ⊎ (c ≡ b)) × ((d ≡ a) ⊎ (d ≡ b)))
+join-apart a b c d e = go (joined a b c) (joined a b d) (decLe a b)
+  where
+    go : Joined a b c → Joined a b d → Dec (a ≤ b) → (c ≡ d) ⊎ (((c ≡ a) ⊎ (c ≡ b)) × ((d ≡ a) ⊎ (d ≡ b)))
+    go (lowered p q) (lowered r s) l = inl (omega arith)
+    go (lowered p q) (kept r s) (yes l) = inr (inr (omega arith), inl (omega arith))
+    go (lowered p q) (kept r s) (no l) = inr (inl (omega arith), inr (omega arith))
+    go (kept p q) (lowered r s) (yes l) = inr (inl (omega arith), inr (omega arith))
+    go (kept p q) (lowered r s) (no l) = inr (inr (omega arith), inl (omega arith))
+    go (kept p q) (kept r s) l = inl (omega arith)
 
 module _ (e : Edge) (es : List Edge) (old : (c : ℕ) → Path (e ∷ es) c (componentOf es c)) where
   part-step : (c : ℕ) → Path (e ∷ es) c (componentOf (e ∷ es) c)
@@ -113,3 +125,21 @@ same-part es a b = (
 
 pub other-part : (es : List Edge) (a b : ℕ) → (samePart es a b ≡ false) ↔ (Path es a b → ⊥)
 other-part es a b = (λ h p. clash (same-part es a b .1 p) h, λ h. is-false (samePart es a b) (λ e. h (same-part es a b .0 e)))
+
+-- one edge more joins what was joined, and makes one of the parts of its ends alone
+pub part-kept : (e : Edge) (es : List Edge) (a b : ℕ) → componentOf es a ≡ componentOf es b → componentOf (e ∷ es) a ≡ componentOf (e ∷ es) b
+part-kept e es a b h =
+    part-add e es a ∙ (ap (join (componentOf es (e .left)) (componentOf es (e .right))) h ∙ sym (part-add e es b))
+
+pub part-ends : (e : Edge) (es : List Edge) → componentOf (e ∷ es) (e .left) ≡ componentOf (e ∷ es) (e .right)
+part-ends e es = part-edge (e ∷ es) e (List·Memᴰ·head refl)
+
+-- the vertex is in the part of an end of the edge
+abbrev pub AtEnd : Edge → List Edge → ℕ → Type 0
+AtEnd e es a = (componentOf es a ≡ componentOf es (e .left)) ⊎ (componentOf es a ≡ componentOf es (e .right))
+
+pub part-apart : (e : Edge) (es : List Edge) (a b : ℕ) → componentOf (e ∷ es) a ≡ componentOf (e ∷ es) b
+    → (componentOf es a ≡ componentOf es b) ⊎ (AtEnd e es a × AtEnd e es b)
+part-apart e es a b h =
+    join-apart (componentOf es (e .left)) (componentOf es (e .right)) (componentOf es a) (componentOf es b)
+    (sym (part-add e es a) ∙ (h ∙ part-add e es b))

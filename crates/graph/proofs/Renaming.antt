@@ -1,17 +1,18 @@
--- Regions under other names: the bridges are the same.
+-- Regions under other names: bridges and marks are the same.
 use mathlib.Core.Path.{_≡_, refl, sym, _∙_, ap, subst, subst₂}
 use mathlib.Core.Logic.{_⊎_, inl, inr}
 use mathlib.Core.Bool.{Bool}
 use mathlib.Core.List.{List, List·Memᴰ}
 use Prim.Native.Nat.{ℕ, _<_}
 use native.Mathlib.Omega.{arith}
+use lib.Dec.{eqb}
 use lib.ListN.{length}
 use Rattle.order.proofs.Bools.{clash, by-test}
 use Rattle.graph.specs.Path.{Edge, Joins, forth, back, Path, here, onward}
-use Rattle.graph.specs.Records.{Record, recordAt, recordEdge, edges, without, Remains, only}
-use Rattle.graph.specs.Bridges.{Bridge, isBridge}
+use Rattle.graph.specs.Records.{Record, recordAt, recordEdge, edges, without, Remains, only, ofOwner}
+use Rattle.graph.specs.Bridges.{Bridge, Closed, isBridge, markOf}
 use Rattle.graph.proofs.Records.{edge-remains, remains-edge}
-use Rattle.graph.proofs.Bridges.{bridge-iff}
+use Rattle.graph.proofs.Bridges.{bridge-iff, mark-iff}
 
 -- region a is an end of a record
 pub record Occurs (rs : List Record) (a : ℕ) : Type 0 where
@@ -139,8 +140,34 @@ module _ {g : ℕ → ℕ} {rs ss : List Record} (N : Renaming g rs ss) where
     parted = parted-new (only (w .place)) (λ k l. refl) (w .place) (w .inside) (w .parted);
   }
 
+  -- so is a boundary that is closed
+  owned-same : (b k : ℕ) → k < length rs → ofOwner b k (recordAt ss k) ≡ ofOwner b k (recordAt rs k)
+  owned-same b k l = ap (λ (o : ℕ). eqb o b) (N .owner k l)
+
+  closed-old : {b : ℕ} → Closed ss b → Closed rs b
+  closed-old {b} w = record {
+    place = w .place;
+    inside = inside (w .inside);
+    owned = sym (N .owner (w .place) (inside (w .inside))) ∙ w .owned;
+    parted = parted-old (ofOwner b) (owned-same b) (w .place) (inside (w .inside)) (w .parted);
+  }
+
+  closed-new : {b : ℕ} → Closed rs b → Closed ss b
+  closed-new {b} w = record {
+    place = w .place;
+    inside = omega (arith, w .inside, N .as-many);
+    owned = N .owner (w .place) (w .inside) ∙ w .owned;
+    parted = parted-new (ofOwner b) (owned-same b) (w .place) (w .inside) (w .parted);
+  }
+
   -- the bridges are the same
   pub same-bridges : (b : ℕ) → isBridge ss b ≡ isBridge rs b
   same-bridges b =
       by-test (isBridge rs b) (λ e. bridge-iff ss b .1 (to-new (bridge-iff rs b .0 e)) ∙ sym e)
       (λ e. by-test (isBridge ss b) (λ f. clash (bridge-iff rs b .1 (to-old (bridge-iff ss b .0 f))) e) (λ f. f ∙ sym e))
+
+  -- and so are the marks
+  pub same-marks : (b : ℕ) → markOf ss b ≡ markOf rs b
+  same-marks b =
+      by-test (markOf rs b) (λ e. mark-iff ss b .1 (closed-new (mark-iff rs b .0 e)) ∙ sym e)
+      (λ e. by-test (markOf ss b) (λ f. clash (mark-iff rs b .1 (closed-old (mark-iff ss b .0 f))) e) (λ f. f ∙ sym e))

@@ -1,4 +1,5 @@
--- Which boundaries are bridges: removing one of its records alone leaves that record's two regions unconnected.
+-- Which boundaries are bridges: removing one of its records alone leaves that record's two regions unconnected. Which are marked as chokes: with all
+-- records of the boundary taken away, the two regions of at least one of them are unconnected.
 use mathlib.Core.Path.{_≡_}
 use mathlib.Core.Bool.{Bool, false, not, _&&_, _||_}
 use mathlib.Core.List.{List, [], _∷_}
@@ -30,7 +31,15 @@ unfoldable pub isBridge : List Record → ℕ → Bool
 unfolding isParted someRecord
 isBridge rs b = someRecord (λ k r. ofOwner b k r && isParted (only k) rs r) rs
 
--- choke marks are the bridges
+-- the meaning of a mark: some record of the boundary has two regions that no path over the records of the others joins
+pub record Closed (rs : List Record) (b : ℕ) : Type 0 where
+  pub place : ℕ
+  pub inside : place < length rs
+  pub owned : recordAt rs place .owner ≡ b
+  pub parted : Path (edges (without (ofOwner b) rs)) (recordAt rs place .left) (recordAt rs place .right) → ⊥
+
+-- Request 5: "A choke mark is from now on 1 exactly if, with all records of that boundary taken away, the two regions of at least one of them are
+-- unconnected."
 unfoldable pub markOf : List Record → ℕ → Bool
-unfolding isBridge
-markOf rs b = isBridge rs b
+unfolding isParted someRecord
+markOf rs b = someRecord (λ k r. ofOwner b k r && isParted (ofOwner b) rs r) rs

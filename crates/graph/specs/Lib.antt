@@ -5,3 +5,4 @@ pub mod Labels
 pub mod Records
 pub mod Bridges
 pub mod Cases
+pub mod Slices

@@ -3,7 +3,7 @@ use mathlib.Core.Path.{_≡_}
 use Rattle.format.specs.Corridor.{corridor}
 use Rattle.length.specs.Cases.{LengthCase}
 use Rattle.areas.specs.Cases.{CutCases}
-use Rattle.graph.specs.Cases.{BridgeCases}
+use Rattle.graph.specs.Cases.{BridgeCases, MarkCases}
 use Rattle.answer_text.specs.Corridor.{corridorText}
 use Rattle.results.specs.Cases.{NegativeZeroCase, CountCase, OneCellCase, CorridorCase}
 use Rattle.printing.specs.ChokeList.{chokeList}
@@ -13,8 +13,10 @@ pub record TwelveCases : Type 0 where
   pub case1 : LengthCase
   -- 2 to 4: "Map 2 × 1, both cells walkable", with one span: the fields `case2`, `case3`, `case4`
   pub cases2to4 : CutCases
-  -- 5 to 8: records of one to three boundaries: `case5` to `case8`
+  -- 5 to 8: records of one to three boundaries, the bridges: `case5` to `case8`
   pub cases5to8 : BridgeCases
+  -- and the marks, request 5: "Case 8's boundary gets mark 1."
+  pub cases5to8-marks : MarkCases
   -- 9: "Width bits of -0: 10."
   pub case9 : NegativeZeroCase
   -- 10: "257 boundaries: 4, detail 257; 256 pass that check."

@@ -1,9 +1,9 @@
--- Records read one by one, and what the bridge walk asks of them.
+-- Records read one by one, and what the bridge walk and marking ask of them.
 use mathlib.Core.Path.{_≡_, refl, sym, _∙_, ap}
 use mathlib.Core.Logic.{by-cases}
 use mathlib.Core.Bool.{Bool, true, false, _&&_}
 use mathlib.Core.List.{List, _++_}
-use Prim.Native.Nat.{ℕ, _+_, _*_, _-_, _≤_, _<_}
+use Prim.Native.Nat.{ℕ, zero, suc, _+_, _*_, _-_, _≤_, _<_}
 use native.Mathlib.Omega.{arith}
 use native.Mathlib.Decide.{ℕ-discrete}
 use borrow.Author.Tests.{ltb-true, leb-true, le-ltb}
@@ -16,10 +16,13 @@ use Rattle.wire.proofs.Parts.{length-splice}
 use Rattle.wire.proofs.Words.{four-bytes}
 use Rattle.graph.specs.Records.{Record, recordIn, recordsIn}
 use Rattle.serial_walk.specs.Marks.{bridgeMarks}
+use Rattle.marks_closing.specs.Marks.{chokeMarks}
+use Rattle.marks_closing.specs.Ranges.{RisingOwners}
 use Rattle.serial_bridges.specs.Names.{Labelled}
-use Rattle.serial_walk.specs.Slices.{Owners}
+use Rattle.graph.specs.Slices.{Owners}
 use Rattle.probe.specs.Probe.{putFirst}
-use Rattle.probe.specs.Records.{ownerAt, leftAt, rightAt, recordsAt, fitting, fitsAt, Loaded, AllFit}
+use Rattle.probe.specs.Records.{ownerAt, leftAt, rightAt, recordsAt, fitting, fitsAt, Loaded, AllFit, OwnersRise, SoundList, ListCheck}
+use Rattle.probe.specs.Records.{uneven, many, unfit, short, sound}
 
 -- a list that is f up to k, with f k at k
 one-more : (l : List ℕ) (f : ℕ → ℕ) (k v : ℕ) → k < length l → ((i : ℕ) → i < k → getD l i 0 ≡ f i) → v ≡ f k → (i : ℕ) → i < k + 1 → getD (set l k v) i 0 ≡ f i
@@ -132,16 +135,18 @@ zero-word w regions l x h =
       zero-byte w (4 * regions) (0 + 4 * x + 3) (omega arith),
     )
 
-marks-length : (rs : List Record) (n : ℕ) → length (bridgeMarks rs n) ≡ n
+pub bridges-long : (rs : List Record) → length (bridgeMarks rs 256) ≡ 256
 unfolding bridgeMarks
-marks-length rs n = length-rows n _
+bridges-long rs = length-rows 256 _
+
+pub chokes-long : (rs : List Record) → length (chokeMarks rs 256) ≡ 256
+unfolding chokeMarks
+chokes-long rs = length-rows 256 _
 
 -- 256 marks before the rest
-pub marks-copied : {found : List ℕ} (marks : List ℕ) (rs : List Record) → found ≡ bridgeMarks rs 256 → 256 ≤ length marks
-    → putFirst marks found ≡ bridgeMarks rs 256 ++ drop 256 marks
+first-marks : {found : List ℕ} (marks ms : List ℕ) → found ≡ ms → length ms ≡ 256 → 256 ≤ length marks → putFirst marks found ≡ ms ++ drop 256 marks
 unfolding putFirst
-marks-copied {found} marks rs e h =
-    ap (putFirst marks) e ∙ rw (marks-length rs 256, le-ltb (length marks) 256 h)
+first-marks marks ms e long h = ap (putFirst marks) e ∙ rw (long, le-ltb (length marks) 256 h)
 
 -- one more record that fits
 pub fit-next : (s : List ℕ) (regions k : ℕ) → AllFit s regions k → fitsAt s regions k ≡ true → AllFit s regions (k + 1)
@@ -165,10 +170,46 @@ zero-table w regions e l x h = ap (λ (t : List ℕ). u32At t (0 + 4 * x)) (zero
 pub zero-end : {z t : List ℕ} (w : List ℕ) (regions : ℕ) → t ≡ z → z ≡ splice w 0 (replicate (4 * regions - 0) 0) → t ≡ splice w 0 (replicate (4 * regions) 0)
 zero-end w regions q e = q ∙ zeros-are w regions e
 
-pub found-length : {found : List ℕ} (rs : List Record) → found ≡ bridgeMarks rs 256 → 256 ≡ length found
-found-length rs e = sym (ap (λ (t : List ℕ). length t) e ∙ marks-length rs 256)
+pub found-length : {found ms : List ℕ} → found ≡ ms → length ms ≡ 256 → 256 ≡ length found
+found-length e long = sym (ap (λ (t : List ℕ). length t) e ∙ long)
 
-pub marks-end : {s owners lefts rights found out : List ℕ} {n : ℕ} (marks : List ℕ) → Loaded s n owners lefts rights
-    → found ≡ bridgeMarks (recordsIn owners lefts rights n) 256 → 256 ≤ length marks → out ≡ putFirst marks found
-    → out ≡ bridgeMarks (recordsAt s n) 256 ++ drop 256 marks
-marks-end {s} {n = n} marks a e h q = q ∙ marks-copied marks (recordsAt s n) (e ∙ ap (λ (rs : List Record). bridgeMarks rs 256) (same-records a)) h
+-- the marks that f gives the records that were read stand before the rest
+pub marks-end : (f : List Record → ℕ → List ℕ) → ((rs : List Record) → length (f rs 256) ≡ 256) → {s owners lefts rights found out : List ℕ} {n : ℕ}
+    (marks : List ℕ) → Loaded s n owners lefts rights → found ≡ f (recordsIn owners lefts rights n) 256 → 256 ≤ length marks → out ≡ putFirst marks found
+    → out ≡ f (recordsAt s n) 256 ++ drop 256 marks
+marks-end f long {s} {n = n} marks a e h q =
+    q ∙ first-marks marks (f (recordsAt s n) 256) (e ∙ ap (λ (rs : List Record). f rs 256) (same-records a)) (long (recordsAt s n)) h
+
+-- owners that do not fall from one record to the next rise over any distance
+rise-over : (f : ℕ → ℕ) (n : ℕ) → ((k : ℕ) → 0 < k → k < n → f (k - 1) ≤ f k) → (i d : ℕ) → i + d < n → f i ≤ f (i + d)
+rise-over f n h i zero l = omega (arith, ap f (let q : i + 0 ≡ i = omega arith in q))
+rise-over f n h i (suc d) l =
+    omega (
+      arith,
+      rise-over f n h i d (omega arith),
+      h (i + suc d) (omega arith) l,
+      ap f (let q : i + suc d - 1 ≡ i + d = omega arith in q),
+    )
+
+pub loaded-rising : {s owners lefts rights : List ℕ} {n : ℕ} → Loaded s n owners lefts rights → OwnersRise s n → RisingOwners n owners
+loaded-rising {s} {owners} {n = n} a h i j b l =
+    omega (
+      arith,
+      a .owner i (omega arith),
+      a .owner j l,
+      rise-over (ownerAt s) n h i (j - i) (omega arith),
+      ap (ownerAt s) (let q : i + (j - i) ≡ j = omega arith in q),
+    )
+
+-- one more owner that is not below the one before it
+pub rise-next : (s : List ℕ) (k : ℕ) → OwnersRise s k → (0 < k → ownerAt s (k - 1) ≤ ownerAt s k) → OwnersRise s (k + 1)
+rise-next s k a e i z h =
+    by-cases (ℕ-discrete i k) (λ q. omega (arith, e (omega arith), ap (ownerAt s) q, ap (λ (m : ℕ). ownerAt s (m - 1)) q)) (λ q. a i z (omega arith))
+
+-- a list that the checks pass
+pub sound-of : {s : List ℕ} {regions room number detail : ℕ} → ListCheck s regions room number detail → number ≡ 0 → SoundList s regions room
+sound-of (uneven a n d) z = absurd (omega (arith, n, z))
+sound-of (many a b n d) z = absurd (omega (arith, n, z))
+sound-of (unfit k a b c e f n d) z = absurd (omega (arith, n, z))
+sound-of (short a b c e n d) z = absurd (omega (arith, n, z))
+sound-of (sound l n d) z = l

@@ -1,14 +1,15 @@
--- Bare records in bytes, each three little-endian words: owner, left region, right region. What the driver's bridge function answers.
+-- Bare records in bytes, each three little-endian words: owner, left region, right region. What the driver's functions on them answer.
 use mathlib.Core.Path.{_≡_}
 use mathlib.Core.Bool.{Bool, true, false, _&&_}
 use mathlib.Core.List.{List, _++_}
-use Prim.Native.Nat.{ℕ, _+_, _*_, _/_, _%_, _≤_, _<_}
+use Prim.Native.Nat.{ℕ, _+_, _*_, _-_, _/_, _%_, _≤_, _<_}
 use lib.Dec.{ltb, leb}
 use lib.ListN.{length, getD, drop, replicate}
 use Rattle.lists.specs.Rows.{rows}
 use Rattle.wire.specs.Bytes.{splice, u32At}
 use Rattle.graph.specs.Records.{Record}
 use Rattle.serial_walk.specs.Marks.{bridgeMarks}
+use Rattle.marks_closing.specs.Marks.{chokeMarks}
 
 abbrev pub ownerAt : List ℕ → ℕ → ℕ
 ownerAt s k = u32At s (12 * k)
@@ -44,28 +45,49 @@ pub record Loaded (s : List ℕ) (n : ℕ) (owners lefts rights : List ℕ) : Ty
 abbrev pub AllFit : List ℕ → ℕ → ℕ → Type 0
 AllFit s regions n = (k : ℕ) → k < n → fitsAt s regions k ≡ true
 
--- a refusal's number and detail, with work and marks as they were
-pub record Refused (work marks workEnd marksEnd : List ℕ) (number detail n d : ℕ) : Type 0 where
-  pub number-is : number ≡ n
-  pub detail-is : detail ≡ d
+-- the owners of the first n records do not fall
+abbrev pub OwnersRise : List ℕ → ℕ → Type 0
+OwnersRise s n = (k : ℕ) → 0 < k → k < n → ownerAt s (k - 1) ≤ ownerAt s k
+
+-- a list that can be marked, with so many regions and room for so many marks
+pub record SoundList (s : List ℕ) (regions room : ℕ) : Type 0 where
+  pub even : length s % 12 ≡ 0
+  pub few : length s / 12 ≤ 4096
+  pub fit : AllFit s regions (length s / 12)
+  pub wide : 256 ≤ room
+
+-- what is wrong with it, by number and detail; number 0 where nothing is
+pub data ListCheck (s : List ℕ) (regions room number detail : ℕ) : Type 0 where
+  uneven : (length s % 12 ≡ 0 → ⊥) → number ≡ 1 → detail ≡ 0 → ListCheck s regions room number detail
+  many : length s % 12 ≡ 0 → 4096 < length s / 12 → number ≡ 2 → detail ≡ length s / 12 → ListCheck s regions room number detail
+  unfit : (k : ℕ) → length s % 12 ≡ 0 → length s / 12 ≤ 4096 → k < length s / 12 → AllFit s regions k → fitsAt s regions k ≡ false
+      → number ≡ 3 → detail ≡ k → ListCheck s regions room number detail
+  short : length s % 12 ≡ 0 → length s / 12 ≤ 4096 → AllFit s regions (length s / 12) → room < 256 → number ≡ 4 → detail ≡ 0
+      → ListCheck s regions room number detail
+  sound : SoundList s regions room → number ≡ 0 → detail ≡ length s / 12 → ListCheck s regions room number detail
+
+-- work and marks are as they were
+pub record Untouched (work marks workEnd marksEnd : List ℕ) : Type 0 where
   pub work-kept : workEnd ≡ work
   pub marks-kept : marksEnd ≡ marks
 
--- the table of words at the start of work is 0, and the first 256 marks are those of the records
-pub record MarksLeft (s work marks workEnd marksEnd : List ℕ) (number detail : ℕ) : Type 0 where
-  pub number-is : number ≡ 0
-  pub detail-is : detail ≡ length s / 12
+-- the table of words at the start of work is 0, and the first 256 marks are those that f gives the records
+pub record MarksLeft (f : List Record → ℕ → List ℕ) (s work marks workEnd marksEnd : List ℕ) : Type 0 where
   pub work-is : workEnd ≡ splice work 0 (replicate (4 * (length work / 4)) 0)
-  pub marks-are : marksEnd ≡ bridgeMarks (recordsAt s (length s / 12)) 256 ++ drop 256 marks
+  pub marks-are : marksEnd ≡ f (recordsAt s (length s / 12)) 256 ++ drop 256 marks
 
--- the answer on bytes s, with work and marks at entry and at exit
-pub data MarksAnswer (s work marks workEnd marksEnd : List ℕ) (number detail : ℕ) : Type 0 where
-  uneven : (length s % 12 ≡ 0 → ⊥) → Refused work marks workEnd marksEnd number detail 1 0 → MarksAnswer s work marks workEnd marksEnd number detail
-  many : length s % 12 ≡ 0 → 4096 < length s / 12 → Refused work marks workEnd marksEnd number detail 2 (length s / 12)
-      → MarksAnswer s work marks workEnd marksEnd number detail
-  unfit : (k : ℕ) → length s % 12 ≡ 0 → length s / 12 ≤ 4096 → k < length s / 12 → AllFit s (length work / 4) k → fitsAt s (length work / 4) k ≡ false
-      → Refused work marks workEnd marksEnd number detail 3 k → MarksAnswer s work marks workEnd marksEnd number detail
-  short : length s % 12 ≡ 0 → length s / 12 ≤ 4096 → AllFit s (length work / 4) (length s / 12) → length marks < 256
-      → Refused work marks workEnd marksEnd number detail 4 0 → MarksAnswer s work marks workEnd marksEnd number detail
-  marked : length s % 12 ≡ 0 → length s / 12 ≤ 4096 → AllFit s (length work / 4) (length s / 12) → 256 ≤ length marks
-      → MarksLeft s work marks workEnd marksEnd number detail → MarksAnswer s work marks workEnd marksEnd number detail
+-- the bridges of bytes s, with work and marks at entry and at exit
+pub data BridgesAnswer (s work marks workEnd marksEnd : List ℕ) (number detail : ℕ) : Type 0 where
+  declined : ListCheck s (length work / 4) (length marks) number detail → 0 < number → Untouched work marks workEnd marksEnd
+      → BridgesAnswer s work marks workEnd marksEnd number detail
+  answered : ListCheck s (length work / 4) (length marks) number detail → number ≡ 0 → MarksLeft bridgeMarks s work marks workEnd marksEnd
+      → BridgesAnswer s work marks workEnd marksEnd number detail
+
+-- their marks: after those checks, 5 where an owner is below the one before it
+pub data ChokesAnswer (s work marks workEnd marksEnd : List ℕ) (number detail : ℕ) : Type 0 where
+  refused : ListCheck s (length work / 4) (length marks) number detail → 0 < number → Untouched work marks workEnd marksEnd
+      → ChokesAnswer s work marks workEnd marksEnd number detail
+  falling : (k : ℕ) → SoundList s (length work / 4) (length marks) → 0 < k → k < length s / 12 → OwnersRise s k → ownerAt s k < ownerAt s (k - 1)
+      → number ≡ 5 → detail ≡ k → Untouched work marks workEnd marksEnd → ChokesAnswer s work marks workEnd marksEnd number detail
+  marked : ListCheck s (length work / 4) (length marks) number detail → number ≡ 0 → OwnersRise s (length s / 12)
+      → MarksLeft chokeMarks s work marks workEnd marksEnd → ChokesAnswer s work marks workEnd marksEnd number detail

@@ -7,7 +7,7 @@ ghost use Rattle.checks.specs.Verdict.{meaning, numberOf, detailOf};
 use analysis::ChokesResult;
 use checks::Verdict;
 
-mod bare_records; // the bridges of bare lists of records
+mod bare_records; // the bridges and the marks of bare lists of records
 mod own_partition; // the partition alone
 mod own_plan; // the merge plan alone
 mod own_regions; // what is known of one region

@@ -173,7 +173,7 @@ job-marks : marksOf eight (job []) ≡ 1 ∷ 1 ∷ []
 unfolding marksOf componentOf count upFrom
 job-marks = refl
 
--- Two boundaries at one place: neither is a bridge.
+-- Two boundaries at one place: neither is a choke.
 doubled-marks : marksOf eight (fourCells [] (crossing (uprightSpan 8) [] [] ∷ crossing (uprightSpan 8) [] [] ∷ [])) ≡ 0 ∷ 0 ∷ []
 unfolding marksOf componentOf count upFrom
 doubled-marks = refl

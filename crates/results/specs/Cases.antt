@@ -53,7 +53,7 @@ corridorCards =
     words (1 ∷ 0 ∷ 0 ∷ 8 ∷ 8 ∷ 0 ∷ 1 ∷ 0 ∷ 0 ∷ 0 ∷ [])
     ++ (words (1 ∷ 8 ∷ 0 ∷ 16 ∷ 8 ∷ 0 ∷ 1 ∷ 0 ∷ 0 ∷ 0 ∷ []) ++ words (2 ∷ 16 ∷ 0 ∷ 32 ∷ 8 ∷ 0 ∷ 2 ∷ 0 ∷ 0 ∷ 0 ∷ []))
 
--- The other calls on the corridor: both boundaries are bridges; and where spans and boundaries differ in number, sorted copies and no merge, whatever
+-- The other calls on the corridor: both boundaries are chokes; and where spans and boundaries differ in number, sorted copies and no merge, whatever
 -- the thresholds.
 pub record OtherCalls : Type 0 where
   pub marks : (work marks : List ℕ) → 40 ≤ length work → 2 ≤ length marks

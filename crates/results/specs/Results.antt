@@ -98,7 +98,8 @@ module _ (dirs : List ℕ) where
   unfolding writing cardsOf
   cardsWith s work out = writing sliceTooShort (cardsOf (decode s)) (reduceChecks s) (decode s) (ownEnds (decode s)) work out
 
-  -- "*Mark* writes one byte per boundary of a job: 1 if it is in the bridge set below, else 0."
+  -- "*Mark* writes one byte per boundary of a job"; request 5: 1 exactly if, "with all records of that boundary taken away, the two regions of at least one
+  -- of them are unconnected".
   unfoldable pub marksOf : Job → List ℕ
   unfolding rows markOf records
   marksOf j = rows (length (j .boundaries)) (λ b. cond (markOf (records dirs (gridOf j) (ownEnds j)) b) 1 0)

@@ -12,7 +12,7 @@ use Rattle.graph.specs.Records.{recordsIn}
 use Rattle.graph.specs.Bridges.{isBridge}
 use Rattle.graph.proofs.Records.{records-length, records-at}
 use Rattle.graph.proofs.Renaming.{Occurs, Renaming, same-bridges}
-use Rattle.serial_walk.specs.Slices.{Graph}
+use Rattle.graph.specs.Slices.{Graph}
 use Rattle.serial_walk.specs.Marks.{bridgeMarks}
 use Rattle.serial_bridges.specs.Names.{Labelled, Named, EndNumbers}
 use Rattle.serial_bridges.proofs.Names.{named-apart}
@@ -61,7 +61,8 @@ module _ {K : ℕ} {lefts rights : List ℕ} {regions base : ℕ} {start work sm
         (omega (arith, q, L .right-from (o .place) l), omega (arith, ap (λ (z : ℕ). N .words (z - 1)) q, N .right (o .place) l)))
         (o .end)
 
-    renaming : Renaming (λ (a : ℕ). N .words (a - 1) - 1) rs ss
+    -- the records under small numbers are those under their labels, renamed
+    pub renaming : Renaming (λ (a : ℕ). N .words (a - 1) - 1) rs ss
     renaming = record {
       as-many = records-length owners smallLefts smallRights K ∙ sym (records-length owners lefts rights K);
       owner = λ k l.

@@ -8,29 +8,30 @@ ghost use Rattle.graph.specs.Records.{recordsIn};
 ghost use Rattle.serial_walk.specs.Marks.{bridgeMarks};
 ghost use Rattle.wire.specs.Bytes.{u32At};
 ghost use Rattle.serial_bridges.specs.Names.{Labelled};
-ghost use Rattle.serial_walk.specs.Slices.{Owners, Lent};
-use numbering::forget_all;
-use numbering::number_all;
+ghost use Rattle.graph.specs.Slices.{Owners};
+ghost use Rattle.serial_walk.specs.Slices.{Lent};
+pub use numbering::forget_all;
+pub use numbering::number_all;
 use serial_walk::full_graph;
 use serial_walk::walk_all;
 
 // The most records of a walk on short arrays, which cost little to clear.
-const FEW: usize = 64;
+pub const FEW: usize = 64;
 
 // Two regions for each of those.
-const FEW_REGIONS: usize = 128;
+pub const FEW_REGIONS: usize = 128;
 
 // The most records of any walk.
-const MOST: usize = 4096;
+pub const MOST: usize = 4096;
 
 // Two regions for each of those.
-const MOST_REGIONS: usize = 8192;
+pub const MOST_REGIONS: usize = 8192;
 
 // A number that no record has.
-const NONE: u32 = 4096;
+pub const NONE: u32 = 4096;
 
 // Marks each boundary that is a bridge with 1, and every other with 0, on arrays that are lent. The table of words from base on in work is left as it was.
-fn mark_bridges(
+pub fn mark_bridges(
     owners: &[u32],
     lefts: &[u32],
     rights: &[u32],

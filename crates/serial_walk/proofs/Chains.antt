@@ -9,7 +9,8 @@ use lib.ListN.{length, set, length-set}
 use lib.Seq.{getD-set-same, getD-set-other}
 use Rattle.lists.specs.Rows.{at}
 use Rattle.serial_walk.specs.Walk.{RecordTouches, First}
-use Rattle.serial_walk.specs.Slices.{Graph, IncidenceLists}
+use Rattle.graph.specs.Slices.{Graph}
+use Rattle.serial_walk.specs.Slices.{IncidenceLists}
 use Rattle.serial_walk.specs.declared.frame.Frame.{Frame}
 
 -- what follows record j in the chain of a region that it touches

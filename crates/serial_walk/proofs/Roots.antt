@@ -8,7 +8,8 @@ use lib.ListN.{length, replicate, length-replicate, getD-replicate}
 use Rattle.lists.specs.Rows.{at}
 use Rattle.serial_walk.proofs.Zeros.{zeros-le}
 use Rattle.serial_walk.specs.Walk.{Walk}
-use Rattle.serial_walk.specs.Slices.{Graph, Owners, Sized, PartedBy, OwnerMarked, Between}
+use Rattle.graph.specs.Slices.{Graph, Owners}
+use Rattle.serial_walk.specs.Slices.{Sized, PartedBy, OwnerMarked, Between}
 use Rattle.serial_walk.proofs.Passing.{nothing, end, step-on}
 use Rattle.serial_walk.proofs.Turn.{Loop}
 

@@ -8,7 +8,8 @@ use mathlib.Core.List.{List}
 use lib.ListN.{length}
 use Rattle.lists.specs.Rows.{at}
 use Rattle.serial_walk.specs.Walk.{RecordJoins, forth, back, RecordTouches, First}
-use Rattle.serial_walk.specs.Slices.{put, Graph, Owners, Sized, MarksSound, Stacked, FrameInHand}
+use Rattle.graph.specs.Slices.{Graph, Owners}
+use Rattle.serial_walk.specs.Slices.{put, Sized, MarksSound, Stacked, FrameInHand}
 use Rattle.serial_walk.specs.declared.frame.Frame.{Frame}
 use Rattle.serial_walk.proofs.Retell.{retell}
 use Rattle.serial_walk.proofs.Scans.{scan-parent, scan-seen}

@@ -7,25 +7,13 @@ use Prim.Native.Nat.{ℕ, _+_, _*_, _≤_, _<_}
 use lib.Dec.{eqb, ltb}
 use lib.ListN.{length, set}
 use Rattle.lists.specs.Rows.{at}
+use Rattle.graph.specs.Slices.{Graph, Owners}
 use Rattle.serial_walk.specs.declared.frame.Frame.{Frame}
 use Rattle.serial_walk.specs.Walk.{First, Parted, Walk}
 
 -- f with v at i
 abbrev pub put : (ℕ → ℕ) → ℕ → ℕ → ℕ → ℕ
 put f i v j = cond (eqb j i) v (f j)
-
--- there are at most 4,096 records and 8,192 regions, and the records' ends are regions
-pub record Graph (K R : ℕ) (lefts rights : List ℕ) : Type 0 where
-  pub few : K ≤ 4096
-  pub near : R ≤ 8192
-  pub lefts-are : K ≤ length lefts
-  pub rights-are : K ≤ length rights
-  pub left-in : (k : ℕ) → k < K → at lefts k < R
-  pub right-in : (k : ℕ) → k < K → at rights k < R
-
--- the records' owners are boundaries below 256
-abbrev pub Owners : ℕ → List ℕ → Type 0
-Owners K owners = (k : ℕ) → k < K → at owners k < 256
 
 -- there is a place for each region
 pub record Sized (R : ℕ) (disc stack parents nexts lows : List ℕ) : Type 0 where

@@ -3,7 +3,8 @@ ghost use mathlib.Core.Path.{_≡_};
 ghost use Prim.Native.Nat.{_<_};
 ghost use lib.ListN.{length, set};
 ghost use Rattle.lists.specs.Rows.{at};
-ghost use Rattle.serial_walk.specs.Slices.{Graph, IncidenceLists};
+ghost use Rattle.graph.specs.Slices.{Graph};
+ghost use Rattle.serial_walk.specs.Slices.{IncidenceLists};
 use wire::size;
 
 // Puts record k before the chains of its two regions.

@@ -30,14 +30,14 @@ fill-spans-requires c κs =
     let start = start-of (sized order) in
     (list-unmatched-records (start .pre .0) _ (start .pre .2) _ (start .pre .3) (order .fill-identity .ensures), refl)
 
-part-find-bridges-end : tie.Need-part-find-bridges-end
-part-find-bridges-end c =
+part-find-areas-end : tie.Need-part-find-areas-end
+part-find-areas-end c =
     let size = sized (ordered c) in
     let headed = start-of size .pre .0 in
     omega (arith, map-inside (headed .header) (headed-laid headed) _ (size .size .ensures .0))
 
-find-bridges-requires : tie.Need-find-bridges-requires
-find-bridges-requires c κs =
+find-areas-requires : tie.Need-find-areas-requires
+find-areas-requires c κs =
     let spans : tie.After-fill-spans = search in
     let order = ordered spans in
     let size = sized order in
@@ -53,7 +53,7 @@ returns c =
     let start = start-of size in
     λ l. unmatched-drawn (start .pre .0) _ (start .pre .2) _ (start .pre .3) (order .fill-identity .ensures)
     (spans .fill-spans .ensures) _ (size .size .ensures .0) l (directionsOf (start .args .directions)) (start .pre .4)
-    (c .before .before .find-bridges .ensures)
+    (c .before .before .find-areas .ensures)
 
 pub plan-unmatched-spec : {M : Type 1} → statement M
 plan-unmatched-spec =
@@ -66,7 +66,7 @@ plan-unmatched-spec =
     (λ c. search needs)
     (λ c. search needs)
     (λ c. search needs)
-    part-find-bridges-end
-    find-bridges-requires
+    part-find-areas-end
+    find-areas-requires
     (λ c. search needs)
     returns)

@@ -27,13 +27,13 @@ own-ends-requires c κs =
     let start : tie.Start = search in
     (start .pre .0 .headed, refl)
 
-part-find-bridges-end : tie.Need-part-find-bridges-end
-part-find-bridges-end c =
+part-find-marks-end : tie.Need-part-find-marks-end
+part-find-marks-end c =
     let headed = given c .pre .0 .headed in
     omega (arith, map-inside (headed .header) (headed-laid headed) _ (sized c .before .size .ensures .0))
 
-find-bridges-requires : tie.Need-find-bridges-requires
-find-bridges-requires c κs =
+find-marks-requires : tie.Need-find-marks-requires
+find-marks-requires c κs =
     let ended : tie.After-own-ends = search in
     let sizes = sized ended in
     let start = given ended in
@@ -46,7 +46,7 @@ returns c =
     let sizes = sized ended in
     let start = given ended in
     own-analysed (start .pre .0) (sizes .before .size .ensures .0) (sizes .size2 .ensures .0) (ended .own-ends .ensures)
-    (directionsOf (start .args .directions)) (c .before .before .find-bridges .ensures)
+    (directionsOf (start .args .directions)) (c .before .before .find-marks .ensures)
 
 pub analyse-boundaries-spec : {M : Type 1} → statement M
 analyse-boundaries-spec =
@@ -59,7 +59,7 @@ analyse-boundaries-spec =
     (λ c. search needs)
     (λ c. search needs)
     (λ c. search needs)
-    part-find-bridges-end
-    find-bridges-requires
+    part-find-marks-end
+    find-marks-requires
     (λ c. search needs)
     returns)

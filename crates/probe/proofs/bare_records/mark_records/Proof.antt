@@ -1,5 +1,6 @@
-use Rattle.probe.proofs.RecordLaws.{loaded-owners, loaded-labels, zero-room, zero-table, zero-end, found-length, marks-end}
+use Rattle.probe.proofs.RecordLaws.{loaded-owners, loaded-labels, zero-room, zero-table, zero-end, loaded-rising, chokes-long, found-length, marks-end}
 use native.Mathlib.Omega.{arith}
+use Rattle.marks_closing.specs.Marks.{chokeMarks}
 use borrow.Author.Needs.{needs}
 use Rattle.probe.proofs.bare_records.mark_records.Statement.{statement}
 use Rattle.probe.proofs.bare_records.mark_records.Tie as tie
@@ -15,8 +16,8 @@ loaded c = search
 abbrev zeroed : tie.After-found → tie.After-zero-fill
 zeroed c = search
 
-bridge-boundary-indices-requires : tie.Need-bridge-boundary-indices-requires
-bridge-boundary-indices-requires c κs =
+mark-boundaries-requires : tie.Need-mark-boundaries-requires
+mark-boundaries-requires c κs =
     let zeros = zeroed c in
     let records = loaded zeros in
     let start = start-of records in
@@ -24,29 +25,31 @@ bridge-boundary-indices-requires c κs =
     let regions = start .args .regions in
     let p = start .pre in
     let l = records .load .ensures in
-    let z = zeros .zero-fill .ensures in (
-      loaded-owners regions l (p .2),
-      omega (arith, l .owners-are, p .0),
-      loaded-labels l (p .0) (p .2),
-      zero-room w regions z (p .3),
-      zero-table w regions z (p .3),
-    )
+    let z = zeros .zero-fill .ensures in
+    record {
+      marked = loaded-owners regions l (p .2);
+      owners-are = omega (arith, l .owners-are, p .0);
+      rising = loaded-rising l (p .5);
+      labelled = loaded-labels l (p .0) (p .2);
+      room = zero-room w regions z (p .3);
+      zero = zero-table w regions z (p .3);
+    }
 
 slice-aggregate-copy : tie.Need-slice-aggregate-copy
 slice-aggregate-copy c =
-    let bridges : tie.After-bridge-boundary-indices = search in
-    found-length _ (bridges .bridge-boundary-indices .ensures .0)
+    let marks : tie.After-mark-boundaries = search in
+    found-length (marks .mark-boundaries .ensures .0) (chokes-long _)
 
 returns : tie.Need-returns
 returns c =
-    let bridges : tie.After-bridge-boundary-indices = search in
-    let zeros = zeroed (bridges .before) in
+    let marks : tie.After-mark-boundaries = search in
+    let zeros = zeroed (marks .before) in
     let records = loaded zeros in
     let start = start-of records in
     let a = start .args in
-    let b = bridges .bridge-boundary-indices .ensures in (
+    let b = marks .mark-boundaries .ensures in (
       zero-end (a .work .now) (a .regions) (b .1) (zeros .zero-fill .ensures),
-      marks-end (a .marks .now) (records .load .ensures) (b .0) (start .pre .4) (c .before .before .copy .ensures .1),
+      marks-end chokeMarks chokes-long (a .marks .now) (records .load .ensures) (b .0) (start .pre .4) (c .before .before .copy .ensures .1),
     )
 
 pub mark-records-spec : {M : Type 1} → statement M
@@ -62,7 +65,7 @@ mark-records-spec =
     (λ c. search needs)
     (λ c. search needs)
     (λ c. search needs)
-    bridge-boundary-indices-requires
+    mark-boundaries-requires
     slice-aggregate-copy
     (λ c κs. search needs)
     (λ c. search needs)

@@ -1,0 +1,3 @@
+pub mod SingleMarks
+pub mod Renamed
+pub mod Spare

@@ -1,0 +1,10 @@
+pub mod Finds
+pub mod Hangs
+pub mod Undoes
+pub mod Grows
+pub mod Runs
+pub mod Rest
+pub mod Leaves
+pub mod Halves
+pub mod Turns
+pub mod Starts
