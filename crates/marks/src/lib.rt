@@ -18,7 +18,7 @@ use serial_bridges::forget_all;
 use serial_bridges::mark_bridges;
 use serial_bridges::number_all;
 
-// Whether no two of the first count records have one owner.
+// Whether no two of the first count records have one owner. Of `false` nothing is promised: closing is right in any case.
 fn single(owners: &[u32], count: usize) -> bool
     requires { ⌜ count ≤ length (now owners) ⌝ }
     ensures { λ r. ⌜ (r ≡ true → SingleOwners count (now (owners .entry))) ⌝ }

@@ -176,12 +176,26 @@ module _ {owners lefts rights : List ℕ} {K from to lo hi n : ℕ} {s : ForestT
 -- what the joins of each half ask
 module _ {owners lefts rights : List ℕ} {K from to lo hi mid m n : ℕ} {s : ForestTables} {marks : List ℕ}
     (o : OpenRange owners lefts rights K from to lo hi s n marks) (c : OwnersSplit owners from to mid m) where
-  pub ready-right : (m ≤ to) × Graph to (length (s .parents)) lefts rights × LogRoom s n (to - m)
-  ready-right = (c .high, graph-less (o .range .upto) (o .listed .graph), room-less (omega (arith, c .low)) (o .room))
-
   pub ready-left : {u : ForestTables} → ForestRestored n s u → (from ≤ m) × Graph m (length (u .parents)) lefts rights × LogRoom u n (m - from)
   ready-left r = (
     c .low,
     graph-less (omega (arith, c .high, o .range .upto)) (listed-size (sym (ap length (r .parents))) (o .listed) .graph),
     room-less (omega (arith, c .high)) (room-restored r (o .room)),
   )
+
+-- the records from any place of the range on can be joined
+pub ready-from : {owners lefts rights : List ℕ} {K from to lo hi n m : ℕ} {s : ForestTables} {marks : List ℕ}
+    → OpenRange owners lefts rights K from to lo hi s n marks → from ≤ m → m ≤ to
+    → (m ≤ to) × Graph to (length (s .parents)) lefts rights × LogRoom s n (to - m)
+ready-from o h l = (l, graph-less (o .range .upto) (o .listed .graph), room-less (omega arith) (o .room))
+
+-- joins can be taken back from any one on
+pub undoable-from : {s : ForestTables} {n k m : ℕ} → n ≤ k → k ≤ m → Undoable s n m → Undoable s k m
+undoable-from h l u = record {
+  below = u .below;
+  sized = u .sized;
+  from = l;
+  joined-room = u .joined-room;
+  earlier-room = u .earlier-room;
+  inside = λ i a b. u .inside i (omega arith) b;
+}

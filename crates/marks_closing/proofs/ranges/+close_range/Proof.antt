@@ -1,15 +1,13 @@
-use mathlib.Core.Path.{ap}
 use Prim.Native.Nat.{ℕ, _-_, _<_}
 use native.Mathlib.Omega.{arith}
 use borrow.Author.Needs.{needs}
 use borrow.Fn.Kinds.{In}
 use borrow.Fn.PlainCycle.{Measures, is, falls, and}
-use lib.ListN.{length}
 use Rattle.marks_closing.specs.Log.{forestTables}
 use Rattle.marks_closing.specs.Ranges.{otherEdges}
 use Rattle.marks_closing.proofs.Runs.{graph-less}
-use Rattle.marks_closing.proofs.Halves.{restored-back, restored-undoable, open-left, done-none, ready-left, ready-right}
-use Rattle.marks_closing.proofs.Turns.{Turning, turning-start, turning-undoable, turning-back, turning-next, turning-end}
+use Rattle.marks_closing.proofs.Halves.{restored-back, restored-undoable, undoable-from, open-left, done-none, ready-left, ready-from}
+use Rattle.marks_closing.proofs.Turns.{Turning, turning-start, turning-undoable, turning-next, turning-end}
 use Rattle.marks_closing.proofs.forest.undo.Reads as undo-reads
 use Rattle.marks_closing.proofs.ranges.first_from.Reads as first-from-reads
 use Rattle.marks_closing.proofs.ranges.join_records.Reads as join-records-reads
@@ -130,7 +128,9 @@ pub +close-range-spec : {M : Type 1} → statement M
     -- the second half joined, the first closed, that taken back, the first joined
     (λ c κs.
     let cut : Cut t = search in
-    ready-right (cut .before .before .loop .inv .opened) (cut .first-from .ensures))
+    let o = cut .before .before .loop .inv .opened in
+    let split = cut .first-from .ensures in
+    ready-from o (omega (arith, split .low, o .range .ordered)) (omega (arith, split .high, o .range .ordered)))
     (λ c κs.
     let second : SecondJoined t = search in
     let cut = cut-of t second in
@@ -145,8 +145,10 @@ pub +close-range-spec : {M : Type 1} → statement M
     let first : FirstClosed t = search in
     let second = second-of t first in
     let cut = cut-of t second in
-    restored-undoable (second .join-records .ensures) (first .close-range .ensures .restored)
-    (ready-right (cut .before .before .loop .inv .opened) (cut .first-from .ensures) .2))
+    let split = cut .first-from .ensures in
+    let joined = second .join-records .ensures in
+    undoable-from (omega (arith, joined .from)) (omega (arith, joined .from))
+    (restored-undoable joined (first .close-range .ensures .restored) (ready-from (cut .before .before .loop .inv .opened) (split .low) (split .high) .2)))
     (λ c κs.
     let back : TakenBack t = search in
     let first = closed-of t back in
@@ -177,12 +179,14 @@ pub +close-range-spec : {M : Type 1} → statement M
     (λ c κs.
     let marked : LastMarked t = search in
     let head = head-of t marked in
-    turning-undoable (start-of t head .pre .1) (head .loop .inv))
+    let grown = head .loop .inv .grown in
+    undoable-from (omega (arith, grown .from)) (omega (arith, grown .from)) (turning-undoable (start-of t head .pre .1) (head .loop .inv)))
     (λ c. search needs)
     (λ c.
     let undone : Undone t = search in
     let head = head-of t (marked-of t undone) in
-    ap length (turning-back (start-of t head .pre .1) (head .loop .inv) (undone .undo2 .ensures) .heights))
+    let grown = head .loop .inv .grown in
+    omega (arith, undone .undo2 .kept, grown .size, grown .trees .sized, start-of t head .pre .1 .room .trees .sized))
     (λ c. search needs)
     (λ c. search needs)
     (λ c.
