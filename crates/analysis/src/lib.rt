@@ -1,4 +1,6 @@
 // The core of the calls: partition, records, marks and the merge plan of a job.
+#![tactic(auto)]
+
 mod bridged; // partition, records and bridges
 mod drawing; // the plan of a job past its checks
 mod marked; // partition, records and marks

@@ -18,7 +18,7 @@ pub const WORK_PER_CELL: usize = 10;
 
 // Number 0 is success; a refusal has document 01's number, and each has one detail.
 #[repr(C)]
-#[derive(Drop)]
+#[derive(Clone, Copy)]
 pub struct ChokesResult {
     pub number: u32,
     pub detail: u64,

@@ -1,4 +1,6 @@
 // An answer's bytes, from what was gathered of the kept boundaries.
+#![tactic(auto)]
+
 mod reads; // elements of slices
 mod units; // what packed numbers were
 pub mod records; // one record

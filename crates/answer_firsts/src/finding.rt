@@ -34,7 +34,7 @@ fn digit(y: u64) -> usize
 }
 
 // Where a source is linked, or is to be; and whether it is.
-#[derive(Drop)]
+#[derive(Clone, Copy)]
 struct Spot {
     cell: usize,
     there: bool,

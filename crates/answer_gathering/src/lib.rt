@@ -1,4 +1,6 @@
 // What goes into each rank that a plan keeps: own sources, and the places of observations.
+#![tactic(auto)]
+
 mod casts;
 mod runs; // numbers written one after another
 mod own; // own sources

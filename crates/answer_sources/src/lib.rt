@@ -1,4 +1,6 @@
 // What an answer is worked out from, a job's canonical copies by place.
+#![tactic(auto)]
+
 mod casts;
 pub mod standing; // boundaries that stand as observations
 pub mod keys; // sources as numbers

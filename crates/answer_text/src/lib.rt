@@ -1,4 +1,6 @@
 // The text that choke-list prints, written into a lent slice (document 01, 'Corridor').
+#![tactic(auto)]
+
 mod digits;
 mod lines;
 mod listing;

@@ -13,7 +13,7 @@ use format::{
 };
 
 // Where the text ends, and where the next observation and the next source stand, with how many are left of each.
-#[derive(Drop)]
+#[derive(Clone, Copy)]
 pub struct Cursor {
     pub at: usize,
     pub observation: usize,

@@ -14,14 +14,14 @@ const REACH: u32 = 8;
 const SPREAD: u32 = 16;
 
 // Columns or rows, the last one included.
-#[derive(Drop)]
+#[derive(Clone, Copy)]
 pub struct CellRange {
     pub first: u32,
     pub last: u32,
 }
 
 // The ends of a span by the axis on which it is longer, the lower one first: l and u along it, lm and um on the other.
-#[derive(Drop)]
+#[derive(Clone, Copy)]
 pub struct Line {
     pub l: u32,
     pub lm: u32,

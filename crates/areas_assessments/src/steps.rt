@@ -15,7 +15,7 @@ use position::{Span, WalkPosition};
 use wire::read_u32;
 
 // How many steps a span removes, of those how many part two areas, and the end of its pairs in the arrays.
-#[derive(Drop)]
+#[derive(Clone, Copy)]
 pub struct Assessed {
     pub removed: u32,
     pub separated: u32,

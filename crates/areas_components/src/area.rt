@@ -5,7 +5,7 @@ ghost use Rattle.areas_components.specs.PartitionAreas.{area_of};
 
 use crate::counts::count_cells;
 
-#[derive(Drop)]
+#[derive(Clone, Copy)]
 pub struct PartitionArea {
     pub id: u32,
     pub cell_count: u32,

@@ -1,4 +1,6 @@
 // The connected components of a map's cells, labelled in row order, in lent bytes.
+#![tactic(auto)]
+
 ghost use Rattle.std.specs.Prelude.{◌≡◌, ◌+◌, ◌*◌, ◌≤◌, ◌<◌, length};
 ghost use Rattle.wire.specs.Bytes.{part};
 ghost use Rattle.grid.specs.Cells.{Grid, walkable};

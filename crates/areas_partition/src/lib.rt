@@ -1,4 +1,6 @@
 // The areas that spans part a map into, and what each span does to them, in lent bytes.
+#![tactic(auto)]
+
 ghost use Rattle.std.specs.Prelude.{◌*◌, length};
 ghost use Rattle.grid.specs.Cells.{map_of};
 ghost use Rattle.grid.specs.Directions.{directions_of};
@@ -11,7 +13,7 @@ use areas_components::{components, write_dues, zero_fill};
 use areas_steps::spans::mark_spans;
 
 // The number of areas, and that of region pairs: one more than the arrays hold where they are over that.
-#[derive(Drop)]
+#[derive(Clone, Copy)]
 pub struct Partition {
     pub areas: u32,
     pub pairs: usize,

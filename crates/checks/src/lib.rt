@@ -1,4 +1,6 @@
 // The checks of a job or list, one at a time.
+#![tactic(auto)]
+
 mod bases;
 mod boundaries;
 mod cells;

@@ -8,7 +8,7 @@ use crate::refusals::{
     SPAN_OFF_MAP, TOO_MANY_BOUNDARIES, TOO_MANY_RECORDS, TOO_MANY_SPANS,
 };
 
-#[derive(Drop)]
+#[derive(Clone, Copy)]
 pub enum Verdict {
     Passed,
     JobTooShort,

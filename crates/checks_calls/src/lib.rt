@@ -1,4 +1,6 @@
 // The checks that every call makes before its search, and the ends of single spans.
+#![tactic(auto)]
+
 mod calls;
 mod ends;
 

@@ -7,7 +7,7 @@ ghost use Rattle.context.specs.Held.{CellRoom, stats_in, one, lesser, stats_with
 use wire::read_u32;
 
 // The box is in whole pixels, its right and lower edge past the last cell; `level_0` to `level_3` count the cells of each elevation.
-#[derive(Drop)]
+#[derive(Clone, Copy)]
 pub struct RegionStats {
     pub cells: u32,
     pub min_x: u32,

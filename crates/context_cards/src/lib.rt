@@ -1,4 +1,6 @@
 // Area cards: the statistics of each area, in lent bytes.
+#![tactic(auto)]
+
 ghost use Rattle.std.specs.Prelude.{◌≡◌, cond, [], ◌∷◌, ℕ, ◌+◌, ◌*◌, ◌-◌, ◌<◌, ◌≤◌, length};
 ghost use Rattle.wire.specs.Bytes.{splice, words};
 ghost use Rattle.grid.specs.Cells.{map_of};

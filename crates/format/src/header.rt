@@ -6,7 +6,7 @@ ghost use Rattle.format.specs.Header.{counts_at, offsets_at, header_at};
 use crate::COUNTS_SIZE;
 use wire::read_u32;
 
-#[derive(Drop)]
+#[derive(Clone, Copy)]
 pub struct Counts {
     pub width: u32,
     pub height: u32,
@@ -17,7 +17,7 @@ pub struct Counts {
 }
 
 // Where each section starts, and the job's length.
-#[derive(Drop)]
+#[derive(Clone, Copy)]
 pub struct Offsets {
     pub cells: u32,
     pub bases: u32,
@@ -27,7 +27,7 @@ pub struct Offsets {
     pub total: u32,
 }
 
-#[derive(Drop)]
+#[derive(Clone, Copy)]
 pub struct Header {
     pub counts: Counts,
     pub offsets: Offsets,

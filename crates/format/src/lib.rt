@@ -1,4 +1,6 @@
 // The records of jobs, lists and answers (document 01, 'The three calls'; values of source document 003), their readers and writers.
+#![tactic(auto)]
+
 mod header;
 mod ramps;
 mod records;

@@ -2,14 +2,14 @@
 ghost use Rattle.std.specs.Prelude.{◌≡◌};
 ghost use Rattle.format.specs.RampSides.{side_number, end_number, end_in};
 
-#[derive(Drop)]
+#[derive(Clone, Copy)]
 pub enum RampSide {
     Lower,
     Upper,
 }
 
 // A side, where 003 has one; no ramp; or a byte that is no ramp end.
-#[derive(Drop)]
+#[derive(Clone, Copy)]
 pub enum RampEnd {
     NoRamp,
     At(RampSide),

@@ -7,21 +7,21 @@ use position::{PixelPosition, Span, WalkPosition};
 use wire::{read_u32, read_u64};
 
 // A pair of base ids, directed.
-#[derive(Drop)]
+#[derive(Clone, Copy)]
 pub struct Source {
     pub from: u32,
     pub to: u32,
 }
 
 // BASE_SIZE bytes. An anchor of twice 4,294,967,295 means that there is none.
-#[derive(Drop)]
+#[derive(Clone, Copy)]
 pub struct BaseRecord {
     pub id: u32,
     pub anchor: WalkPosition,
 }
 
 // 8 bytes. `end` is 0 for no ramp, 1 for its lower end, 2 for its upper.
-#[derive(Drop)]
+#[derive(Clone, Copy)]
 pub struct RampRecord {
     pub end: u8,
     pub lower: u8,
@@ -31,7 +31,7 @@ pub struct RampRecord {
 }
 
 // BOUNDARY_SIZE bytes, with the counts of its own sources and of its observations.
-#[derive(Drop)]
+#[derive(Clone, Copy)]
 pub struct BoundaryRecord {
     pub ends: Span,
     pub bits: u64,
@@ -41,7 +41,7 @@ pub struct BoundaryRecord {
 }
 
 // OBSERVATION_SIZE bytes, with the count of its sources.
-#[derive(Drop)]
+#[derive(Clone, Copy)]
 pub struct ObservationRecord {
     pub ends: Span,
     pub bits: u64,

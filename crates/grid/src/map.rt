@@ -6,21 +6,21 @@ ghost use Rattle.grid.specs.Index.{index_in, index_at, cell_in, byte_at, byte_of
 use position::WalkPosition;
 
 // Its cells are lent beside it, a byte a cell, in row order.
-#[derive(Drop)]
+#[derive(Clone, Copy)]
 pub struct TerrainGrid {
     pub width: u32,
     pub height: u32,
 }
 
 // The number of the cell at a position, if there is one.
-#[derive(Drop)]
+#[derive(Clone, Copy)]
 pub enum CellIndex {
     At(usize),
     Off,
 }
 
 // Its byte, if there is one.
-#[derive(Drop)]
+#[derive(Clone, Copy)]
 pub enum CellFound {
     Byte(u8),
     None,

@@ -1,4 +1,6 @@
 // A table of u32 words for labels, from base on in lent work: the word of label x is the one at x - 1, and 0 where the label has none.
+#![tactic(auto)]
+
 ghost use Rattle.std.specs.Prelude.{◌≡◌, ◌+◌, ◌*◌, ◌-◌, ◌≤◌, ◌<◌, length};
 ghost use Rattle.wire.specs.Bytes.{splice, u32_at, u32_bytes};
 

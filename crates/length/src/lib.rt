@@ -1,4 +1,6 @@
 // The whole square root of a number, and the length of a doubled difference: the f64 nearest to half a square root.
+#![tactic(auto)]
+
 ghost use Rattle.std.specs.Prelude.{◌≡◌, ◌*◌, ◌^◌, ◌≤◌, ◌<◌};
 ghost use Rattle.length.specs.Root.{DigitStep, DoubledDigits, root_of};
 ghost use Rattle.length.specs.Length.{length_at};
@@ -6,14 +8,14 @@ ghost use Rattle.length.specs.Length.{length_at};
 pub mod floats;
 
 // A whole square root and what is left over.
-#[derive(Drop)]
+#[derive(Clone, Copy)]
 pub struct Root {
     pub root: u64,
     pub rem: u64,
 }
 
 // A length, and whether it is √d ÷ 2 itself and not only the f64 nearest to it.
-#[derive(Drop)]
+#[derive(Clone, Copy)]
 pub struct Length {
     pub value: f64,
     pub exact: bool,

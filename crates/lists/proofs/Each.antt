@@ -16,12 +16,12 @@ module _ {A : Type 0} {P : A → Type 0} where
   pub all_take : {xs : List A} (n : ℕ) → All P xs → All P (take n xs)
   all_take zero h = none
   all_take (suc n) none = none
-  all_take (suc n) (more p h) = more p (all_take n h)
+  all_take (suc n) (more {x = x} {xs = xs} p h) = more p (all_take {xs = xs} n h)
 
   pub all_drop : {xs : List A} (n : ℕ) → All P xs → All P (drop n xs)
   all_drop zero h = h
   all_drop (suc n) none = none
-  all_drop (suc n) (more p h) = all_drop n h
+  all_drop (suc n) (more {x = x} {xs = xs} p h) = all_drop {xs = xs} n h
 
   -- What follows from it holds too.
   pub all-implies : {Q : A → Type 0} {xs : List A} → ((x : A) → P x → Q x) → All P xs → All Q xs

@@ -1,4 +1,6 @@
 // The marks of boundaries: each closed as a whole, all its region pairs at once, under small numbers for the labels of regions.
+#![tactic(auto)]
+
 ghost use Rattle.std.specs.Prelude.{◌≡◌, true, ◌≤◌, length};
 ghost use Rattle.graph.specs.Records.{records_in};
 ghost use Rattle.serial_walk.specs.Slices.{Lent};

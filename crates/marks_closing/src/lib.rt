@@ -1,4 +1,6 @@
 // Which boundaries are chokes: closing one, all its records at once, parts the two regions of one of them.
+#![tactic(auto)]
+
 mod forest; // the joined regions, with a log
 mod ranges; // boundaries closed by halves
 

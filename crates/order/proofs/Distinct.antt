@@ -12,7 +12,7 @@ module _ {A : Type 0} where
   distinct-perm = perm-pairs (λ x y h e. h (sym e))
 
   -- a member put first
-  pub perm-pick : {l : List A} {x : A} → Memᴰ x l → (m : List A) × Permᴰ l (x ∷ m)
+  pub perm-pick : {x : A} {l : List A} → Memᴰ x l → (m : List A) × Permᴰ l (x ∷ m)
   perm-pick (Memᴰ.head {xs = xs} e) = (xs, Permᴰ.cons (sym e) (Permᴰ.refl xs))
   perm-pick (Memᴰ.tail {x = y} n) = let r = perm-pick n in (y ∷ r.0, Permᴰ.trans (Permᴰ.cons refl r.1) (Permᴰ.swap refl refl))
 

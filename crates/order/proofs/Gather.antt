@@ -31,7 +31,7 @@ module _ {A B : Type 0} (f : A → List B) where
       (λ (k : Memᴰ y (gather f xs)). let r = gather-mem xs k in (r.0, mathlib.Core.List.Memᴰ.tail r.1, r.2))
       (mathlib.Core.List.Memᴰ.append_cases (f x) n)
 
-  pub mem-gather : {l : List A} {x : A} {y : B} → Memᴰ x l → Memᴰ y (f x) → Memᴰ y (gather f l)
+  pub mem-gather : {x : A} {l : List A} {y : B} → Memᴰ x l → Memᴰ y (f x) → Memᴰ y (gather f l)
   unfolding gather
   mem-gather {y = y} (mathlib.Core.List.Memᴰ.head {xs = xs} e) k = mathlib.Core.List.Memᴰ.append_left (gather f xs) (subst (λ (z : A). Memᴰ y (f z)) e k)
   mem-gather (mathlib.Core.List.Memᴰ.tail {x = x} n) k = mathlib.Core.List.Memᴰ.append_right (f x) (mem-gather n k)

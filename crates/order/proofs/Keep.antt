@@ -29,7 +29,7 @@ module _ {A : Type 0} where
       go false e n i = (Memᴰ.tail (i n).0, (i n).1)
 
   -- what is in the list and passes the test is kept
-  pub mem-keep : (t : A → Bool) {l : List A} {y : A} → Memᴰ y l → t y ≡ true → Memᴰ y (keep t l)
+  pub mem-keep : (t : A → Bool) {y : A} {l : List A} → Memᴰ y l → t y ≡ true → Memᴰ y (keep t l)
   unfolding keep
   mem-keep t (Memᴰ.head {x = x} {xs = xs} e) h = let k : t x ≡ true = rw (← e) h in rw k (Memᴰ.head e)
   mem-keep t {y = y} (Memᴰ.tail {x = x} {xs = xs} n) h = go (t x) (mem-keep t n h)

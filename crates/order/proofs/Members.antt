@@ -46,7 +46,7 @@ module _ {A : Type 0} where
   get_d-mem (x ∷ xs) d (suc i) h = Memᴰ.tail (get_d-mem xs d i (omega arith))
 
   -- a member stands at a place
-  pub mem-get_d : (d : A) {l : List A} {y : A} → Memᴰ y l → (i : ℕ) × (i < length l) × (get_or l i d ≡ y)
+  pub mem-get_d : (d : A) {y : A} {l : List A} → Memᴰ y l → (i : ℕ) × (i < length l) × (get_or l i d ≡ y)
   mem-get_d d (Memᴰ.head e) = (0, omega arith, sym e)
   mem-get_d d (Memᴰ.tail n) = let r = mem-get_d d n in (suc r.0, omega arith, r.2)
 

@@ -77,6 +77,7 @@ has-mem i (x ∷ xs) h = ⊎_elim (λ e. Memᴰ.head (eqb-true i x e)) (λ k. Me
 
 pub mem-has : (i : ℕ) (l : List ℕ) → Memᴰ i l → has i l ≡ true
 unfolding has
+mem-has i [] x' = elim x' [ ]
 mem-has i (x ∷ xs) (Memᴰ.head e) = rw (eq-eqb i x e)
 mem-has i (x ∷ xs) (Memᴰ.tail m) = or_right (eqb i x) (mem-has i xs m)
 

@@ -14,7 +14,7 @@ use Rattle.order.proofs.Members.{perm-mem}
 use Rattle.order.specs.Tests.{every, any}
 
 module _ {A : Type 0} (t : A → Bool) where
-  pub every-mem : {l : List A} {x : A} → Memᴰ x l → every t l ≡ true → t x ≡ true
+  pub every-mem : {x : A} {l : List A} → Memᴰ x l → every t l ≡ true → t x ≡ true
   unfolding every
   every-mem (Memᴰ.head {x = y} {xs = ys} e) h = rw e (and_parts (t y) (every t ys) h).0
   every-mem (Memᴰ.tail {x = y} {xs = ys} m) h = every-mem m (and_parts (t y) (every t ys) h).1
@@ -24,7 +24,7 @@ module _ {A : Type 0} (t : A → Bool) where
   mem-every [] f = refl
   mem-every (x ∷ xs) f = and_both (f x (Memᴰ.head refl)) (mem-every xs (λ y m. f y (Memᴰ.tail m)))
 
-  pub mem-any : {l : List A} {x : A} → Memᴰ x l → t x ≡ true → any t l ≡ true
+  pub mem-any : {x : A} {l : List A} → Memᴰ x l → t x ≡ true → any t l ≡ true
   unfolding any
   mem-any (Memᴰ.head {x = y} {xs = ys} e) h = let k : t y ≡ true = rw (← e) h in rw k
   mem-any (Memᴰ.tail {x = y} m) h = or_right (t y) (mem-any m h)

@@ -1,1 +1,2 @@
 // Sorting and lists, as definitions (specs/) and theorems (proofs/): this crate has no function.
+#![tactic(auto)]

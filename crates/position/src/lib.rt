@@ -1,21 +1,23 @@
 // Positions in pixels (source document 006) and in cells, and spans between two of them.
+#![tactic(auto)]
+
 ghost use Rattle.std.specs.Prelude.{◌≡◌};
 ghost use Rattle.position.specs.Order.{pos_le, pos_same, canonical};
 
-#[derive(Drop)]
+#[derive(Clone, Copy)]
 pub struct PixelPosition {
     pub x: u32,
     pub y: u32,
 }
 
-#[derive(Drop)]
+#[derive(Clone, Copy)]
 pub struct WalkPosition {
     pub x: u32,
     pub y: u32,
 }
 
 // Two ends, in the order in which they are listed.
-#[derive(Drop)]
+#[derive(Clone, Copy)]
 pub struct Span {
     pub a: PixelPosition,
     pub b: PixelPosition,

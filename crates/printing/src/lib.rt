@@ -1,4 +1,6 @@
 // The program choke-list: what it prints for a job, and its reading and printing (document 01, 'Corridor').
+#![tactic(auto)]
+
 mod print;
 mod program;
 

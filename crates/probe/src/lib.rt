@@ -1,4 +1,6 @@
 // C functions for the differential driver, so that it can reach what no exported call shows by itself. No part of the product.
+#![tactic(auto)]
+
 ghost use Rattle.std.specs.Prelude.{◌≡◌, length};
 ghost use Rattle.probe.specs.Probe.{checked, put_first};
 ghost use Rattle.checks_calls.specs.SpanEnds.{span_ends};

@@ -10,7 +10,7 @@ use wire::size;
 
 // The bits of a length, and 1 if it is exact, 0 if not; 2 if there is none.
 #[repr(C)]
-#[derive(Drop)]
+#[derive(Clone, Copy)]
 pub struct ProbeLength {
     pub bits: u64,
     pub exact: u32,

@@ -19,7 +19,7 @@ pub const AREA_CARDS: u8 = 3;
 const FIELDS: usize = 22;
 
 // The call, its number, and in what it differs.
-#[derive(Drop)]
+#[derive(Clone, Copy)]
 pub struct Outcome {
     pub kind: u8,
     pub number: u32,

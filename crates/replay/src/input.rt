@@ -9,7 +9,7 @@ const FIELDS: usize = 13;
 
 // The lengths of the job, of the list behind it and of the block behind that, and whether the item
 // was whole.
-#[derive(Drop)]
+#[derive(Clone, Copy)]
 pub struct Input {
     pub job: usize,
     pub list: usize,

@@ -1,6 +1,8 @@
 // Reads a recorded list of calls from standard input, makes each call, and says where one first
 // leaves something else than was recorded; else the counts by call and number. tests/record makes
 // the list, and tests/driver/record.rs says how it is laid out.
+#![tactic(auto)]
+
 mod calls;
 mod compare;
 mod input;
@@ -17,7 +19,7 @@ const INPUT: u8 = 4;
 
 // The lengths of the job, the list and the block of thresholds that are held one behind another, the
 // calls made, and whether to go on.
-#[derive(Drop)]
+#[derive(Clone, Copy)]
 struct State {
     job: usize,
     list: usize,

@@ -12,7 +12,7 @@ fn size(x: u8) -> usize
 }
 
 // The bytes that a piece makes, and its own; both 0 where there is none that fits.
-#[derive(Drop)]
+#[derive(Clone, Copy)]
 struct Piece {
     made: usize,
     own: usize,

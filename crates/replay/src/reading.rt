@@ -6,7 +6,7 @@ use crate::compare::{AT_END, CUT_OFF, NOT_WHOLE, SAME, TOO_LONG};
 use libc::STDIN_FILENO;
 use wire::{read_u32, size};
 
-#[derive(Drop)]
+#[derive(Clone, Copy)]
 pub struct Got {
     pub state: u32,
     pub bytes: usize,

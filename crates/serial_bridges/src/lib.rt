@@ -1,4 +1,6 @@
 // The boundaries that are bridges of the graph of records, by the walk, under small numbers for the labels of regions.
+#![tactic(auto)]
+
 mod numbering; // numbers for the labels of regions
 
 ghost use Rattle.std.specs.Prelude.{◌≡◌, ℕ, ◌+◌, ◌*◌, ◌≤◌, ◌<◌, length};

@@ -1,4 +1,6 @@
 // The links between boundaries that regions give: 000's `candidate_links`, without its measures.
+#![tactic(auto)]
+
 ghost use Rattle.std.specs.Prelude.{◌≤◌};
 ghost use Rattle.serial_candidates.specs.Owners.{Stored, OwnersBelow};
 ghost use Rattle.serial_candidates.specs.Gives.{OwnBounded};

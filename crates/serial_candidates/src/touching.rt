@@ -5,7 +5,7 @@ ghost use Rattle.serial_candidates.specs.Owners.{Stored};
 ghost use Rattle.serial_candidates.specs.Touchers.{with_owner, touched, touching_after};
 
 // How many owners touch a region, the first two, and the last.
-#[derive(Drop)]
+#[derive(Clone, Copy)]
 pub struct Touching {
     pub count: u32,
     pub first: u32,

@@ -15,14 +15,14 @@ use length::{Length, length_of};
 use position::{PixelPosition, Span};
 
 // A point or a direction.
-#[derive(Drop)]
+#[derive(Clone, Copy)]
 pub struct Point {
     pub x: f64,
     pub y: f64,
 }
 
 // The least and the greatest of some values.
-#[derive(Drop)]
+#[derive(Clone, Copy)]
 pub struct Range {
     pub low: f64,
     pub high: f64,

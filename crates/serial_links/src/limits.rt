@@ -9,7 +9,7 @@ use crate::link::Link;
 use crate::parallel::SpanPair;
 use length::Length;
 
-#[derive(Drop)]
+#[derive(Clone, Copy)]
 pub struct Limits {
     pub least_spans: u32,
     pub most_spans: u32,
@@ -22,20 +22,20 @@ pub struct Limits {
 }
 
 // How many spans a group has.
-#[derive(Drop)]
+#[derive(Clone, Copy)]
 pub struct GroupSize {
     pub spans: u32,
 }
 
 // The sum of a serial group's centre distances, and the distance of its ends.
-#[derive(Drop)]
+#[derive(Clone, Copy)]
 pub struct Chain {
     pub sum: Length,
     pub ends: Length,
 }
 
 // A member of a group, by its width.
-#[derive(Drop)]
+#[derive(Clone, Copy)]
 pub struct Member {
     pub width: f64,
 }

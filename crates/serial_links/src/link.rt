@@ -16,7 +16,7 @@ use length::Length;
 use length::floats::{max, min};
 use position::Span;
 
-#[derive(Drop)]
+#[derive(Clone, Copy)]
 pub struct Link {
     pub centre_x: f64,
     pub centre_y: f64,
@@ -45,7 +45,7 @@ pub struct Link {
 }
 
 // A measured link; the transverse envelope before the longitudinal.
-#[derive(Drop)]
+#[derive(Clone, Copy)]
 pub enum Measured {
     Empty,
     Within(f64, f64),

@@ -12,7 +12,7 @@ use length::floats::abs;
 use position::Span;
 
 // Two spans, in order.
-#[derive(Drop)]
+#[derive(Clone, Copy)]
 pub struct SpanPair {
     pub first: Span,
     pub second: Span,

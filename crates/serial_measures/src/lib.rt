@@ -1,4 +1,6 @@
 // The links of the map, measured by its cells: 000's `measure_links`.
+#![tactic(auto)]
+
 pub mod few; // each link by a pass of its own
 
 ghost use Rattle.std.specs.Prelude.{◌≡◌, cond, List, ℕ, ◌+◌, ◌*◌, ◌<◌, ◌≤◌, length};

@@ -2,7 +2,7 @@
 ghost use Rattle.std.specs.Prelude.{◌≡◌, cond, [], ◌<◌};
 ghost use Rattle.serial_plan.specs.Few.{few_of, pushed, few_at};
 
-#[derive(Drop)]
+#[derive(Clone, Copy)]
 pub struct Few {
     pub count: u32,
     pub items: [u32; 16],

@@ -1,4 +1,6 @@
 // Which groups of linked boundaries the rules accept, and which rank each rank goes into: 000's `collapse_serial_boundaries` up to the merges.
+#![tactic(auto)]
+
 pub mod few; // the first sixteen numbers of a list
 pub mod parts; // the connected parts of the chosen links
 pub mod gather; // the ranks and the links of a part

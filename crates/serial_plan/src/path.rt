@@ -21,7 +21,7 @@ fn joins(first: u32, second: u32, i: u32) -> bool
 }
 
 // How many links join a rank, and the first of them.
-#[derive(Drop)]
+#[derive(Clone, Copy)]
 pub struct Near {
     pub count: u32,
     pub first: u32,

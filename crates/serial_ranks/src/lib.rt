@@ -1,4 +1,6 @@
 // Boundaries and spans by rank, in arrays: the code's view of a run's listing.
+#![tactic(auto)]
+
 ghost use Rattle.std.specs.Prelude.{◌≡◌, ◌+◌, ◌*◌, ◌<◌, ◌≤◌, length};
 ghost use Rattle.order.specs.Keys.{pack};
 ghost use Rattle.position.specs.Order.{canonical};

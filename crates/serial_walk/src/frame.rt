@@ -6,7 +6,7 @@ ghost use Rattle.serial_walk.specs.Walk.{RecordJoins, RecordTouches};
 use wire::size;
 
 // A region on the walk's stack: the record by which it was entered, the next record to look at, and the earliest region known behind it.
-#[derive(Drop)]
+#[derive(Clone, Copy)]
 pub struct Frame {
     pub region: u32,
     pub parent: u32,

@@ -1,4 +1,6 @@
 // The walk in depth over a list of records (Tarjan), which marks the boundaries that are bridges.
+#![tactic(auto)]
+
 mod chaining; // the records that touch each region, in chains
 mod frame; // a frame of the walk, and what it reads
 mod stack; // the walk's frames, in arrays

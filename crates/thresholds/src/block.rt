@@ -6,7 +6,7 @@ ghost use Rattle.thresholds.specs.Block.{block_size, block_at, block_bytes, head
 use wire::{read_u32, read_u64, write_u32, write_u64};
 
 // Two words, two group sizes, and the bits of six f64.
-#[derive(Drop)]
+#[derive(Clone, Copy)]
 pub struct Block {
     pub count: u32,
     pub offset: u32,

@@ -1,4 +1,6 @@
 // A studio's own thresholds: the 64-byte block, what is refused of it, and the limits that it has.
+#![tactic(auto)]
+
 mod block;
 mod faults;
 mod limits;

@@ -1,4 +1,6 @@
 // Little-endian numbers at an offset of a byte slice.
+#![tactic(auto)]
+
 ghost use Rattle.std.specs.Prelude.{◌≡◌, ◌+◌, ◌<◌, ◌≤◌, length};
 ghost use Rattle.wire.specs.Bytes.{u32_at, u64_at, u32_bytes, u64_bytes, splice};
 

@@ -7,24 +7,24 @@ use borrow.Author.Rules.{rules}
 use Rattle.areas_partition.proofs.label_areas.Statement.{statement}
 use Rattle.areas_partition.proofs.label_areas.Tie as tie
 
-write-dues-requires : tie.Need-write-dues-requires
+write-dues-requires : tie.Need-write_dues-requires
 write-dues-requires c κs =
-    let marked-spans : tie.After-mark-spans = search in
+    let marked-spans : tie.After-mark_spans = search in
     let start : tie.Start = search in
     let p = start.pre in
     let g = map_of start.args.width start.args.height start.args.cells.now in
-    let opened = marked-open _ g _ _ _ p.room (omega arith) marked-spans.mark-spans.ensures in
+    let opened = marked-open _ g _ _ _ p.room (omega arith) marked-spans.mark_spans.ensures in
     (omega (arith, opened.long, p.room), omega (arith, p.whole, few-cells p.sides, p.sides.wide))
 
 components-requires : tie.Need-components-requires
 components-requires c κs =
-    let dues-written : tie.After-write-dues = search in
-    let marked-spans : tie.After-mark-spans = search in
+    let dues-written : tie.After-write_dues = search in
+    let marked-spans : tie.After-mark_spans = search in
     let start : tie.Start = search in
     let p = start.pre in
     let g = map_of start.args.width start.args.height start.args.cells.now in
-    let opened = marked-open _ g _ _ _ p.room (omega arith) marked-spans.mark-spans.ensures in
-    let due = dues-written.write-dues.ensures in
+    let opened = marked-open _ g _ _ _ p.room (omega arith) marked-spans.mark_spans.ensures in
+    let due = dues-written.write_dues.ensures in
     let marked = marked-due _ g _ _ _ p.room (omega arith) opened due in
     let sound = marked-sound _ _ _ _ _ p.room p.each marked in
     let there = due-there _ g _ _ _ p.room (omega arith) opened due in
@@ -33,15 +33,15 @@ components-requires c κs =
 
 returns : tie.Need-returns
 returns c =
-    let dues-written : tie.After-write-dues = search in
-    let marked-spans : tie.After-mark-spans = search in
+    let dues-written : tie.After-write_dues = search in
+    let marked-spans : tie.After-mark_spans = search in
     let start : tie.Start = search in
     let p = start.pre in
     let g = map_of start.args.width start.args.height start.args.cells.now in
-    let opened = marked-open _ g _ _ _ p.room (omega arith) marked-spans.mark-spans.ensures in
-    let due = dues-written.write-dues.ensures in
+    let opened = marked-open _ g _ _ _ p.room (omega arith) marked-spans.mark_spans.ensures in
+    let due = dues-written.write_dues.ensures in
     let marked = marked-due _ g _ _ _ p.room (omega arith) opened due in
     areas-in _ _ _ _ _ p.room p.each marked c.before.before.components.ensures
 
-pub label-areas-spec : {M : Type 1} → statement M
-label-areas-spec = tie.close (tie.spec (search rules) (λ c κs. search rules) write-dues-requires components-requires (λ c. search rules) returns)
+pub label_areas_spec : {M : Type 1} → statement M
+label_areas_spec = tie.close (tie.spec (search rules) (λ c κs. search rules) write-dues-requires components-requires (λ c. search rules) returns)

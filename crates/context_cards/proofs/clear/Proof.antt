@@ -12,7 +12,7 @@ returns c =
     let filled = c.before.before in
     let given = filled.before.before.before.args in
     let whole : given.to - 0 ≡ given.to = omega arith in
-    record { zeros = filled.zero-fill.ensures ∙ ap (λ (k : ℕ). splice given.cards.now 0 (replicate k 0)) whole }
+    record { zeros = filled.zero_fill.ensures ∙ ap (λ (k : ℕ). splice given.cards.now 0 (replicate k 0)) whole }
 
 pub clear_spec : {M : Type 1} → statement M
 clear_spec = tie.close (tie.spec (λ c κs. search rules) (λ c. search rules) returns)

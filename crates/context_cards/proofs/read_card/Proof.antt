@@ -16,19 +16,19 @@ returns c =
     let second = third.before in
     simp (
       second.before.read_u32.ensures,
-      second.read-u322.ensures,
-      third.read-u323.ensures,
-      fourth.read-u324.ensures,
-      fifth.read-u325.ensures,
-      sixth.read-u326.ensures,
-      seventh.read-u327.ensures,
-      eighth.read-u328.ensures,
-      ninth.read-u329.ensures,
-      c.read-u3210.ensures,
+      second.read_u32-2.ensures,
+      third.read_u32-3.ensures,
+      fourth.read_u32-4.ensures,
+      fifth.read_u32-5.ensures,
+      sixth.read_u32-6.ensures,
+      seventh.read_u32-7.ensures,
+      eighth.read_u32-8.ensures,
+      ninth.read_u32-9.ensures,
+      c.read_u32-10.ensures,
     )
 
-pub read-card-spec : {M : Type 1} → statement M
-read-card-spec =
+pub read_card_spec : {M : Type 1} → statement M
+read_card_spec =
     tie.close
     (tie.spec
     (λ c κs. search rules)

@@ -14,11 +14,11 @@ returns c =
     let given = first.before.before.before.args in
     let s = given.s in
     five-written given.cards.now given.at s.cells s.min_x s.min_y s.max_x s.max_y (omega arith)
-    first.write-u32.ensures second.write-u322.ensures third.write-u323.ensures fourth.write-u324.ensures fifth.write-u325.ensures
+    first.write_u32.ensures second.write_u32-2.ensures third.write_u32-3.ensures fourth.write_u32-4.ensures fifth.write_u32-5.ensures
     (omega arith) (omega arith) (omega arith) (omega arith) (omega arith) (omega arith) (omega arith) (omega arith) (omega arith)
 
-pub write-box-spec : {M : Type 1} → statement M
-write-box-spec =
+pub write_box_spec : {M : Type 1} → statement M
+write_box_spec =
     tie.close
     (tie.spec
     (λ c κs. search rules)

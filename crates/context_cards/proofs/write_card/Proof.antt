@@ -17,9 +17,9 @@ returns c =
     let s = given.s in
     card-written given.cards.now given.at (s.cells ∷ s.min_x ∷ s.min_y ∷ s.max_x ∷ s.max_y ∷ [])
     (cond s.has_ramp 1 0 ∷ s.level_0 ∷ s.level_1 ∷ s.level_2 ∷ s.level_3 ∷ []) s refl (omega arith)
-    boxed.write-box.ensures levels.write-levels.ensures (omega arith) refl
+    boxed.write_box.ensures levels.write_levels.ensures (omega arith) refl
 
-pub write-card-spec : {M : Type 1} → statement M
-write-card-spec =
+pub write_card_spec : {M : Type 1} → statement M
+write_card_spec =
     tie.close
     (tie.spec (λ c κs. search rules) (λ c. search rules) (λ c κs. search rules) (λ c. search rules) returns)

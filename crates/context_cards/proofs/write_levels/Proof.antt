@@ -16,11 +16,11 @@ returns c =
     let given = flag.before.before.args in
     let s = given.s in
     five-written given.cards.now given.at (cond s.has_ramp 1 0) s.level_0 s.level_1 s.level_2 s.level_3 (omega arith)
-    first.write-u32.ensures second.write-u322.ensures third.write-u323.ensures fourth.write-u324.ensures fifth.write-u325.ensures
-    (omega arith) (omega arith) (omega arith) (omega arith) (omega (arith, flag.one.ensures.0)) (omega arith) (omega arith) (omega arith) (omega arith)
+    first.write_u32.ensures second.write_u32-2.ensures third.write_u32-3.ensures fourth.write_u32-4.ensures fifth.write_u32-5.ensures
+    (omega arith) (omega arith) (omega arith) (omega arith) (omega (arith, flag.one-ramp.ensures.0)) (omega arith) (omega arith) (omega arith) (omega arith)
 
-pub write-levels-spec : {M : Type 1} → statement M
-write-levels-spec =
+pub write_levels_spec : {M : Type 1} → statement M
+write_levels_spec =
     tie.close
     (tie.spec
     (λ c κs. search rules)

@@ -7,10 +7,10 @@ use Rattle.label_table.proofs.put_word.Tie as tie
 returns : tie.Need-returns
 returns c =
     let sized : tie.After-size = search in
-    put-at-place _ _ c.before.before.write-u32.ensures (omega (arith, sized.size.ensures.0))
+    put-at-place _ _ c.before.before.write_u32.ensures (omega (arith, sized.size.ensures.0))
 
-pub put-word-spec : {M : Type 1} → statement M
-put-word-spec =
+pub put_word_spec : {M : Type 1} → statement M
+put_word_spec =
     tie.close
     (tie.spec
     (λ c. search rules)

@@ -13,7 +13,7 @@ bounds s =
     let p = s.requires in
     (left_less _ _ p.0 p.1 p.2, half-most _ _ p.0 p.1 p.2, square-most _ _ p.0 p.1 p.2)
 
-sub-t16 : tie.Need-overflow-sub-t16
+sub-t16 : tie.Need-overflow_sub-result-else-square-rem-3
 sub-t16 c =
     let start : tie.Start = search in
     let r = start.args.r.root in
@@ -22,20 +22,20 @@ sub-t16 c =
     let l : q * 0x800_0000 % (r * 2) * 0x800_0000 < q * 0x800_0000 / (r * 2) * (q * 0x800_0000 / (r * 2)) = omega arith in
     omega (arith, bounds start, some _ _ p.0 p.1 p.2 l)
 
-returns : tie.Need-returns
+returns : tie.Need-returns-then-square-rem
 returns c =
     let start : tie.Start = search in
     let p = start.pre in
     enough _ _ p.0 p.1 p.2 (omega arith)
 
-returns-2 : tie.Need-returns-2
+returns-2 : tie.Need-returns-else-square-rem
 returns-2 c =
     let start : tie.Start = search in
     let p = start.pre in
     one_less _ _ p.0 p.1 p.2 (omega arith)
 
-pub doubled-spec : {M : Type 1} → statement M
-doubled-spec =
+pub doubled_spec : {M : Type 1} → statement M
+doubled_spec =
     tie.close
     (tie.spec
     (search rules)

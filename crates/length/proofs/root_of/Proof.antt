@@ -8,30 +8,30 @@ use Rattle.length.proofs.Roots.{is-root}
 use Rattle.length.proofs.root_of.Statement.{statement}
 use Rattle.length.proofs.root_of.Tie as tie
 
-abbrev invariant-loop : tie.invariant-loop
+abbrev invariant-loop : tie.invariant-loop-i
 invariant-loop n r₀ i₀ r i = (i ≤ 18) × (r.root * r.root + r.rem ≡ n / 2 ^ (2 * i)) × (r.rem ≤ 2 * r.root)
 
-abbrev decreases-loop : tie.decreases-loop
+abbrev decreases-loop : tie.decreases-loop-i
 decreases-loop n r₀ i₀ r i = i
 
-digit-requires : tie.Need-digit-requires invariant-loop decreases-loop
+digit-requires : tie.Need-digit-r-requires invariant-loop decreases-loop
 digit-requires c κs =
     let at-loop = c.before in
-    let fits = small-root at-loop.before.args.n (2 ^ (2 * at-loop.loop.i)) at-loop.loop.r.root at-loop.loop.r.rem at-loop.before.requires
-    at-loop.loop.invariant.1 in
+    let fits = small-root at-loop.before.args.n (2 ^ (2 * at-loop.loop-i.i)) at-loop.loop-i.r.root at-loop.loop-i.r.rem at-loop.before.requires
+    at-loop.loop-i.invariant.1 in
     omega arith
 
-loop-again : tie.Need-loop-preserved invariant-loop decreases-loop
+loop-again : tie.Need-loop-i-preserved invariant-loop decreases-loop
 loop-again c =
     let at-loop = c.before.before in
-    omega (arith, next at-loop.before.args.n at-loop.loop.i c.before.loop-test.true, c.digit.ensures.sum)
+    omega (arith, next at-loop.before.args.n at-loop.loop-i.i c.before.loop-i-test.true, c.digit-r.ensures.sum)
 
 returns : tie.Need-returns invariant-loop decreases-loop
 returns c =
     let at-loop = c.before in
-    is-root at-loop.before.args.n at-loop.loop.r (omega (arith, all at-loop.before.args.n at-loop.loop.i c.loop-test.false))
+    is-root at-loop.before.args.n at-loop.loop-i.r (omega (arith, all at-loop.before.args.n at-loop.loop-i.i c.loop-i-test.false))
 
-pub root-of-spec : {M : Type 1} → statement M
-root-of-spec =
+pub root_of_spec : {M : Type 1} → statement M
+root_of_spec =
     tie.close (tie.spec invariant-loop decreases-loop (search rules) (search rules) (search rules) (search rules) (search rules) digit-requires (search rules)
     loop-again returns)

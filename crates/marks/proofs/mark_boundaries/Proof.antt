@@ -2,8 +2,8 @@ use borrow.Author.Rules.{rules}
 use Rattle.marks.proofs.mark_boundaries.Statement.{statement}
 use Rattle.marks.proofs.mark_boundaries.Tie as tie
 
-pub mark-boundaries-spec : {M : Type 1} → statement M
-mark-boundaries-spec =
+pub mark_boundaries_spec : {M : Type 1} → statement M
+mark_boundaries_spec =
     tie.close
     (tie.spec
     (λ c. search rules)

@@ -9,29 +9,29 @@ use Rattle.marks.proofs.mark_lent.Tie as tie
 abbrev start_of : tie.After-single → tie.Start
 start_of c = search
 
-mark-bridges-requires : tie.Need-mark-bridges-requires
+mark-bridges-requires : tie.Need-mark_bridges-requires
 mark-bridges-requires c κs =
     let looked : tie.After-single = search in
     let p = (start_of looked).pre in
     (p.0.marked, p.0.owners-are, p.0.labelled, p.0.room, p.0.zero, p.1)
 
-returns : tie.Need-returns
+returns : tie.Need-returns-then-single
 returns c =
-    let walked : tie.After-mark-bridges = search in
-    let once : tie.Then1 = search in
+    let walked : tie.After-mark_bridges = search in
+    let once : tie.Then-single = search in
     let looked = once.before in
     let a = (start_of looked).args in
-    let found = walked.mark-bridges.ensures in
-    (found.0 ∙ single-marks a.owners.now a.lefts.now a.rights.now a.count (looked.single.ensures once.if1.taken) 256, found.1)
+    let found = walked.mark_bridges.ensures in
+    (found.0 ∙ single-marks a.owners.now a.lefts.now a.rights.now a.count (looked.single.ensures once.if-single.true) 256, found.1)
 
-close-small-requires : tie.Need-close-small-requires
+close-small-requires : tie.Need-close_small-requires
 close-small-requires c κs =
     let looked : tie.After-single = search in
     let p = (start_of looked).pre in
     (p.0, spare-lent p.1)
 
-pub mark-lent-spec : {M : Type 1} → statement M
-mark-lent-spec =
+pub mark_lent_spec : {M : Type 1} → statement M
+mark_lent_spec =
     tie.close
     (tie.spec
     (λ c κs. search rules)

@@ -9,30 +9,30 @@ use Rattle.marks.proofs.single.Statement.{statement}
 use Rattle.marks.proofs.single.Tie as tie
 
 -- the owners of the records before k rise strictly
-abbrev invariant-loop : tie.invariant-loop
+abbrev invariant-loop : tie.invariant-loop-k
 invariant-loop owners count k₀ k = (0 < k) × SingleOwners k owners
 
-abbrev decreases-loop : tie.decreases-loop
+abbrev decreases-loop : tie.decreases-loop-k
 decreases-loop owners count k₀ k = count - k
 
-loop-holds : tie.Need-loop-init invariant-loop decreases-loop
+loop-holds : tie.Need-loop-k-init invariant-loop decreases-loop
 loop-holds c = (omega arith, single-start c.args.owners.now)
 
-returns : tie.Need-returns invariant-loop decreases-loop
+returns : tie.Need-returns-then-owners-k invariant-loop decreases-loop
 returns c = λ e. clash e refl
 
-loop-again : tie.Need-loop-preserved invariant-loop decreases-loop
+loop-again : tie.Need-loop-k-preserved invariant-loop decreases-loop
 loop-again c =
-    let turn : tie.At-loop invariant-loop decreases-loop = search in
+    let turn : tie.At-loop-k invariant-loop decreases-loop = search in
     let start : tie.Start invariant-loop decreases-loop = search in
-    let inv = turn.loop.inv in
-    (omega arith, single-next start.args.owners.now turn.loop.k inv.0 inv.1 (omega (arith, c.if1.false)))
+    let inv = turn.loop-k.inv in
+    (omega arith, single-next start.args.owners.now turn.loop-k.k inv.0 inv.1 (omega (arith, c.if-owners-k.false)))
 
-returns-2 : tie.Need-returns-2 invariant-loop decreases-loop
-returns-2 c = λ e i j l m. c.before.loop.invariant.1 i j l (omega arith)
+returns-2 : tie.Need-returns invariant-loop decreases-loop
+returns-2 c = λ e i j l m. c.before.loop-k.invariant.1 i j l (omega arith)
 
-pub single-spec : {M : Type 1} → statement M
-single-spec =
+pub single_spec : {M : Type 1} → statement M
+single_spec =
     tie.close
     (tie.spec
     invariant-loop

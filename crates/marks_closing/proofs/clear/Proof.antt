@@ -8,38 +8,38 @@ use Prim.Native.Nat.{◌-◌, ◌≤◌}
 use Rattle.marks_closing.proofs.clear.Statement.{statement}
 use Rattle.marks_closing.proofs.clear.Tie as tie
 
-abbrev invariant-loop : tie.invariant-loop
+abbrev invariant-loop : tie.invariant-loop-i
 invariant-loop parents₀ heights₀ i₀ parents heights i = (i ≤ length parents₀) × ClearedForest (length parents₀) i parents heights
 
-abbrev decreases-loop : tie.decreases-loop
+abbrev decreases-loop : tie.decreases-loop-i
 decreases-loop parents₀ heights₀ i₀ parents heights i = length parents₀ - i
 
-loop-holds : tie.Need-loop-init invariant-loop decreases-loop
+loop-holds : tie.Need-loop-i-init invariant-loop decreases-loop
 loop-holds c = (omega arith, cleared-start c.args.parents.now c.args.heights.now refl c.requires.0)
 
-slice-write-heights : tie.Need-slice-write-heights invariant-loop decreases-loop
+slice-write-heights : tie.Need-bounds-heights-i invariant-loop decreases-loop
 slice-write-heights c =
     let turn = c.before in
-    omega (arith, c.loop-test.true, turn.loop.invariant.1.parents-are, turn.loop.invariant.1.heights-are)
+    omega (arith, c.loop-i-test.true, turn.loop-i.invariant.1.parents-are, turn.loop-i.invariant.1.heights-are)
 
-loop-again : tie.Need-loop-preserved invariant-loop decreases-loop
+loop-again : tie.Need-loop-i-preserved invariant-loop decreases-loop
 loop-again c =
     let turn = c.before in (
-      omega (arith, c.loop-test.true, turn.loop.invariant.1.parents-are),
-      cleared-next turn.loop.invariant.1
-          (omega (arith, c.loop-test.true, turn.loop.invariant.1.parents-are)),
+      omega (arith, c.loop-i-test.true, turn.loop-i.invariant.1.parents-are),
+      cleared-next turn.loop-i.invariant.1
+          (omega (arith, c.loop-i-test.true, turn.loop-i.invariant.1.parents-are)),
     )
 
-same_length : tie.Need-same-length invariant-loop decreases-loop
-same_length c = c.before.loop.invariant.1.parents-are
+same_length : tie.Need-shape_of-parents invariant-loop decreases-loop
+same_length c = c.before.loop-i.invariant.1.parents-are
 
-same-length-2 : tie.Need-same-length-2 invariant-loop decreases-loop
-same-length-2 c = c.before.loop.invariant.1.heights-are ∙ sym c.before.before.requires.0
+same-length-2 : tie.Need-shape_of-heights invariant-loop decreases-loop
+same-length-2 c = c.before.loop-i.invariant.1.heights-are ∙ sym c.before.before.requires.0
 
 returns : tie.Need-returns invariant-loop decreases-loop
 returns c =
     let turn = c.before in
-    cleared-end (omega (arith, c.loop-test.false, turn.loop.invariant.1.parents-are)) turn.loop.invariant.1
+    cleared-end (omega (arith, c.loop-i-test.false, turn.loop-i.invariant.1.parents-are)) turn.loop-i.invariant.1
 
 pub clear_spec : {M : Type 1} → statement M
 clear_spec =

@@ -9,7 +9,7 @@ use Rattle.marks_closing.proofs.close_boundaries.Tie as tie
 abbrev start_of : tie.After-clear → tie.Start
 start_of c = search
 
-close-range-requires : tie.Need-close-range-requires
+close-range-requires : tie.Need-close_range-requires
 close-range-requires c κs =
     let cleared : tie.After-clear = search in
     let start = start_of cleared in
@@ -19,11 +19,11 @@ close-range-requires c κs =
 
 returns : tie.Need-returns
 returns c =
-    let closed : tie.After-close-range = search in
-    marks-all refl closed.close-range.ensures.marked
+    let closed : tie.After-close_range = search in
+    marks-all refl closed.close_range.ensures.marked
 
-pub close-boundaries-spec : {M : Type 1} → statement M
-close-boundaries-spec =
+pub close_boundaries_spec : {M : Type 1} → statement M
+close_boundaries_spec =
     tie.close
     (tie.spec
     (λ c κs. search rules)

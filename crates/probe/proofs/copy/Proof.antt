@@ -34,35 +34,35 @@ started-end {d} {xs} {e} {k} a h l =
     let z : k ≡ length xs = omega (arith, a.below) in
     a.begun ∙ ap (λ (j : ℕ). take j xs ++ drop j d) z ∙ rw (take_all (length xs) xs (omega arith), le-ltb _ _ l)
 
-abbrev invariant-loop : tie.invariant-loop
+abbrev invariant-loop : tie.invariant-loop-k
 invariant-loop out₀ part n k₀ out k = Started out₀ part out k
 
-abbrev decreases-loop : tie.decreases-loop
+abbrev decreases-loop : tie.decreases-loop-k
 decreases-loop out₀ part n k₀ out k = length part - k
 
-returns : tie.Need-returns invariant-loop decreases-loop
+returns : tie.Need-returns-then-out-n invariant-loop decreases-loop
 unfolding put_first
-returns c = (refl, sym (rw (lt-ltb _ _ c.if1.true)))
+returns c = (refl, sym (rw (lt-ltb _ _ c.if-out-n.true)))
 
-loop-holds : tie.Need-loop-init invariant-loop decreases-loop
+loop-holds : tie.Need-loop-k-init invariant-loop decreases-loop
 loop-holds c = record { below = omega arith; begun = refl; same = refl }
 
-slice-write-out : tie.Need-slice-write-out invariant-loop decreases-loop
-slice-write-out c = omega (arith, c.before.before.loop.invariant.same)
+slice-write-out : tie.Need-bounds-out-k invariant-loop decreases-loop
+slice-write-out c = omega (arith, c.before.before.loop-k.invariant.same)
 
-loop-again : tie.Need-loop-preserved invariant-loop decreases-loop
+loop-again : tie.Need-loop-k-preserved invariant-loop decreases-loop
 loop-again c =
     let turn = c.before in
     let head = turn.before in
-    started-next head.loop.invariant turn.loop-test.true head.before.if1.false
+    started-next head.loop-k.invariant turn.loop-k-test.true head.before.if-out-n.false
 
-same_length : tie.Need-same-length invariant-loop decreases-loop
-same_length c = c.before.loop.invariant.same
+same_length : tie.Need-shape_of-out invariant-loop decreases-loop
+same_length c = c.before.loop-k.invariant.same
 
-returns-2 : tie.Need-returns-2 invariant-loop decreases-loop
+returns-2 : tie.Need-returns invariant-loop decreases-loop
 returns-2 c =
     let head = c.before in
-    (refl, started-end head.loop.invariant c.loop-test.false head.before.if1.false)
+    (refl, started-end head.loop-k.invariant c.loop-k-test.false head.before.if-out-n.false)
 
 pub copy_spec : {M : Type 1} → statement M
 copy_spec =

@@ -6,9 +6,9 @@ use Rattle.probe.proofs.probe_check.Tie as tie
 
 returns : tie.Need-returns
 returns c =
-    let told = c.of-verdict.ensures in
+    let told = c.of_verdict.ensures in
     let checked = c.before.verdict.ensures in
     (told.0 ∙ ap number_of checked, told.1 ∙ ap detail_of checked)
 
-pub probe-check-spec : {M : Type 1} → statement M
-probe-check-spec = tie.close (tie.spec (λ c κs. search rules) (λ c κs. search rules) returns)
+pub probe_check_spec : {M : Type 1} → statement M
+probe_check_spec = tie.close (tie.spec (λ c κs. search rules) (λ c κs. search rules) returns)

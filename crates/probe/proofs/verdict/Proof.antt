@@ -4,20 +4,20 @@ use borrow.Author.Rules.{rules}
 use Rattle.probe.proofs.verdict.Statement.{statement}
 use Rattle.probe.proofs.verdict.Tie as tie
 
-returns : tie.Need-returns
+returns : tie.Need-returns-then-call-eq0
 unfolding checked
-returns c = rw (eq-eqb _ _ c.before.if1.true) c.check-reduce.ensures
+returns c = rw (eq-eqb _ _ c.before.if-call-eq0.true) c.check_reduce.ensures
 
-returns-2 : tie.Need-returns-2
+returns-2 : tie.Need-returns-then-call-eq1
 unfolding checked
-returns-2 c = rw (ne_eqb _ _ c.before.before.if1.false, eq-eqb _ _ c.before.if2.true) c.check-reduce-by-list.ensures
+returns-2 c = rw (ne_eqb _ _ c.before.before.if-call-eq0.false, eq-eqb _ _ c.before.if-call-eq1.true) c.check_reduce_by_list.ensures
 
-returns-3 : tie.Need-returns-3
+returns-3 : tie.Need-returns
 unfolding checked
-returns-3 c = rw (ne_eqb _ _ c.before.before.if1.false, ne_eqb _ _ c.before.if2.false) c.check-mark.ensures
+returns-3 c = rw (ne_eqb _ _ c.before.before.if-call-eq0.false, ne_eqb _ _ c.before.if-call-eq1.false) c.check_mark.ensures
 
-pub verdict-spec : {M : Type 1} → statement M
-verdict-spec =
+pub verdict_spec : {M : Type 1} → statement M
+verdict_spec =
     tie.close
     (tie.spec
     (λ c κs. search rules)

@@ -4,7 +4,7 @@ use Rattle.serial_bridges.proofs.mark_few.Tie as tie
 use native.Mathlib.Omega.{arith}
 use Rattle.serial_bridges.proofs.Lent.{cleared}
 
-mark-bridges-requires : tie.Need-mark-bridges-requires
+mark-bridges-requires : tie.Need-mark_bridges-requires
 mark-bridges-requires c κs =
     let start : tie.Start = search in
     let p = start.pre in (
@@ -16,8 +16,8 @@ mark-bridges-requires c κs =
       cleared start.args.count 64 128 4096 (omega (arith, p.5)) (omega (arith, p.5)) (omega arith) (omega (arith, p.2.few)),
     )
 
-pub mark-few-spec : {M : Type 1} → statement M
-mark-few-spec =
+pub mark_few_spec : {M : Type 1} → statement M
+mark_few_spec =
     tie.close
     (tie.spec
     (λ c. search rules)

@@ -4,7 +4,7 @@ use Rattle.serial_bridges.proofs.mark_many.Tie as tie
 use native.Mathlib.Omega.{arith}
 use Rattle.serial_bridges.proofs.Lent.{cleared}
 
-mark-bridges-requires : tie.Need-mark-bridges-requires
+mark-bridges-requires : tie.Need-mark_bridges-requires
 mark-bridges-requires c κs =
     let start : tie.Start = search in
     let p = start.pre in (
@@ -16,8 +16,8 @@ mark-bridges-requires c κs =
       cleared start.args.count 4096 8192 4096 (omega (arith, p.2.few)) (omega (arith, p.2.few)) (omega arith) (omega (arith, p.2.few)),
     )
 
-pub mark-many-spec : {M : Type 1} → statement M
-mark-many-spec =
+pub mark_many_spec : {M : Type 1} → statement M
+mark_many_spec =
     tie.close
     (tie.spec
     (λ c. search rules)

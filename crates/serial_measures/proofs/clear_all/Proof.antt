@@ -9,49 +9,49 @@ use Rattle.serial_measures.proofs.Writing.{word-there, clear-start, clear_next, 
 use Rattle.serial_measures.proofs.clear_all.Statement.{statement}
 use Rattle.serial_measures.proofs.clear_all.Tie as tie
 
-abbrev invariant-loop : tie.invariant-loop
+abbrev invariant-loop : tie.invariant-loop-k
 invariant-loop work₀ n regions links base k₀ work k = (k ≤ links) × (length work ≡ length work₀)
     × ((start : List ℕ) → Labels start n → Written start work₀ n regions links → Cleared start work n regions links k)
 
-abbrev decreases-loop : tie.decreases-loop
+abbrev decreases-loop : tie.decreases-loop-k
 decreases-loop work₀ n regions links base k₀ work k = links - k
 
 -- a turn, and the start from one; the turn's link is one of the list, and of the arrays
 abbrev Turn : Type 0
-Turn = tie.In-loop invariant-loop decreases-loop
+Turn = tie.In-loop-k invariant-loop decreases-loop
 
-abbrev asked : tie.At-loop invariant-loop decreases-loop → tie.Start invariant-loop decreases-loop
+abbrev asked : tie.At-loop-k invariant-loop decreases-loop → tie.Start invariant-loop decreases-loop
 asked c = c.before.before
 
-small : (c : Turn) → (c.before.loop.k < (asked c.before).args.links) × (c.before.loop.k < 256)
-small c = (c.loop-test.true, omega (arith, c.loop-test.true, (asked c.before).pre.2.few))
+small : (c : Turn) → (c.before.loop-k.k < (asked c.before).args.links) × (c.before.loop-k.k < 256)
+small c = (c.loop-k-test.true, omega (arith, c.loop-k-test.true, (asked c.before).pre.2.few))
 
-put-word-requires : tie.Need-put-word-requires invariant-loop decreases-loop
+put-word-requires : tie.Need-put_word-requires invariant-loop decreases-loop
 put-word-requires c κs =
     let turn : Turn = search in
     let p = (asked turn.before).pre in
-    let m = turn.before.loop in
-    word-there p.2 turn.loop-test.taken c.before.size.ensures.0 m.work (omega (arith, p.1, m.inv.1))
+    let m = turn.before.loop-k in
+    word-there p.2 turn.loop-k-test.true c.before.size.ensures.0 m.work (omega (arith, p.1, m.inv.1))
 
-loop-again : tie.Need-loop-preserved invariant-loop decreases-loop
+loop-again : tie.Need-loop-k-preserved invariant-loop decreases-loop
 loop-again c =
     let put = c.before.before.put_word in
     let sized : tie.After-size invariant-loop decreases-loop = search in
     let turn : Turn = search in
-    let inv = turn.before.loop.inv in (
-      omega (arith, turn.loop-test.taken),
+    let inv = turn.before.loop-k.inv in (
+      omega (arith, turn.loop-k-test.true),
       put.auto.0 ∙ inv.1,
-      λ s L W. clear_next (asked turn.before).pre.2 L.room turn.loop-test.taken sized.size.ensures.0 (inv.2 s L W) put.ensures,
+      λ s L W. clear_next (asked turn.before).pre.2 L.room turn.loop-k-test.true sized.size.ensures.0 (inv.2 s L W) put.ensures,
     )
 
 returns : tie.Need-returns invariant-loop decreases-loop
 returns c =
-    let m = c.before.loop in
-    let all : m.k ≡ (asked c.before).args.links = omega (arith, m.invariant.0, c.loop-test.false) in
+    let m = c.before.loop-k in
+    let all : m.k ≡ (asked c.before).args.links = omega (arith, m.invariant.0, c.loop-k-test.false) in
     λ s L W. clear-end L (subst (Cleared _ _ _ _ _) all (m.invariant.2 s L W))
 
-pub clear-all-spec : {M : Type 1} → statement M
-clear-all-spec =
+pub clear_all_spec : {M : Type 1} → statement M
+clear_all_spec =
     tie.close
     (tie.spec
     invariant-loop
@@ -65,5 +65,5 @@ clear-all-spec =
     (λ c. omega (arith, small (search)))
     (λ c. omega (arith, small (search)))
     loop-again
-    (λ c. c.before.loop.invariant.1)
+    (λ c. c.before.loop-k.invariant.1)
     returns)

@@ -5,5 +5,5 @@ use Rattle.serial_measures.proofs.inside_mark.Tie as tie
 returns : tie.Need-returns
 returns c = simp c.flag.ensures
 
-pub inside-mark-spec : {M : Type 1} → statement M
-inside-mark-spec = tie.close (tie.spec (λ c κs. search rules) returns)
+pub inside_mark_spec : {M : Type 1} → statement M
+inside_mark_spec = tie.close (tie.spec (λ c κs. search rules) returns)

@@ -7,46 +7,46 @@ use Rattle.serial_measures.proofs.Writing.{write-start, word-there, write-next}
 use Rattle.serial_measures.proofs.number_all.Statement.{statement}
 use Rattle.serial_measures.proofs.number_all.Tie as tie
 
-abbrev invariant-loop : tie.invariant-loop
+abbrev invariant-loop : tie.invariant-loop-k
 invariant-loop work₀ n regions links base k₀ work k = (k ≤ links) × Written work₀ work n regions k
 
-abbrev decreases-loop : tie.decreases-loop
+abbrev decreases-loop : tie.decreases-loop-k
 decreases-loop work₀ n regions links base k₀ work k = links - k
 
 -- a turn, and the start from one; the turn's link is one of the list, and of the arrays
 abbrev Turn : Type 0
-Turn = tie.In-loop invariant-loop decreases-loop
+Turn = tie.In-loop-k invariant-loop decreases-loop
 
-abbrev asked : tie.At-loop invariant-loop decreases-loop → tie.Start invariant-loop decreases-loop
+abbrev asked : tie.At-loop-k invariant-loop decreases-loop → tie.Start invariant-loop decreases-loop
 asked c = c.before.before
 
-small : (c : Turn) → (c.before.loop.k < (asked c.before).args.links) × (c.before.loop.k < 256)
-small c = (c.loop-test.true, omega (arith, c.loop-test.true, (asked c.before).pre.2.few))
+small : (c : Turn) → (c.before.loop-k.k < (asked c.before).args.links) × (c.before.loop-k.k < 256)
+small c = (c.loop-k-test.true, omega (arith, c.loop-k-test.true, (asked c.before).pre.2.few))
 
-put-word-requires : tie.Need-put-word-requires invariant-loop decreases-loop
+put-word-requires : tie.Need-put_word-requires invariant-loop decreases-loop
 put-word-requires c κs =
     let turn : Turn = search in
     let p = (asked turn.before).pre in
-    let m = turn.before.loop in
-    word-there p.2 turn.loop-test.taken c.before.size.ensures.0 m.work (omega (arith, p.1.room, m.inv.1.table.as_long))
+    let m = turn.before.loop-k in
+    word-there p.2 turn.loop-k-test.true c.before.size.ensures.0 m.work (omega (arith, p.1.room, m.inv.1.table.as_long))
 
-loop-again : tie.Need-loop-preserved invariant-loop decreases-loop
+loop-again : tie.Need-loop-k-preserved invariant-loop decreases-loop
 loop-again c =
     let sized : tie.After-size invariant-loop decreases-loop = search in
     let turn : Turn = search in
     let p = (asked turn.before).pre in (
-      omega (arith, turn.loop-test.taken),
-      write-next p.2 p.1.room turn.loop-test.taken sized.size.ensures.0 turn.before.loop.inv.1 c.before.before.put_word.ensures,
+      omega (arith, turn.loop-k-test.true),
+      write-next p.2 p.1.room turn.loop-k-test.true sized.size.ensures.0 turn.before.loop-k.inv.1 c.before.before.put_word.ensures,
     )
 
 returns : tie.Need-returns invariant-loop decreases-loop
 returns c =
-    let m = c.before.loop in
-    let all : m.k ≡ (asked c.before).args.links = omega (arith, m.invariant.0, c.loop-test.false) in
+    let m = c.before.loop-k in
+    let all : m.k ≡ (asked c.before).args.links = omega (arith, m.invariant.0, c.loop-k-test.false) in
     subst (Written _ _ _ _) all m.invariant.1
 
-pub number-all-spec : {M : Type 1} → statement M
-number-all-spec =
+pub number_all_spec : {M : Type 1} → statement M
+number_all_spec =
     tie.close
     (tie.spec
     invariant-loop
@@ -61,5 +61,5 @@ number-all-spec =
     (λ c. omega (arith, small (search)))
     (λ c. omega (arith, small (search)))
     loop-again
-    (λ c. c.before.loop.invariant.1.table.as_long)
+    (λ c. c.before.loop-k.invariant.1.table.as_long)
     returns)

@@ -5,5 +5,5 @@ use Rattle.serial_measures.proofs.passing_mark.Tie as tie
 returns : tie.Need-returns
 returns c = simp (c.flag.ensures, c.before.passing.ensures, c.before.before.measured.ensures)
 
-pub passing-mark-spec : {M : Type 1} → statement M
-passing-mark-spec = tie.close (tie.spec (λ c κs. search rules) (λ c κs. search rules) (λ c κs. search rules) returns)
+pub passing_mark_spec : {M : Type 1} → statement M
+passing_mark_spec = tie.close (tie.spec (λ c κs. search rules) (λ c κs. search rules) (λ c κs. search rules) returns)

@@ -7,27 +7,27 @@ use Rattle.serial_ranks.proofs.Laws.{identity-next}
 use Rattle.serial_ranks.proofs.fill_identity.Statement.{statement}
 use Rattle.serial_ranks.proofs.fill_identity.Tie as tie
 
-abbrev invariant-loop : tie.invariant-loop
+abbrev invariant-loop : tie.invariant-loop-i
 invariant-loop order₀ i₀ order i = (length order ≡ 256) × ((k : ℕ) → k < i → get_or order k 0 ≡ k) × (i ≤ 256)
 
-abbrev decreases-loop : tie.decreases-loop
+abbrev decreases-loop : tie.decreases-loop-i
 decreases-loop order₀ i₀ order i = 256 - i
 
-loop-again : tie.Need-loop-preserved invariant-loop decreases-loop
+loop-again : tie.Need-loop-i-preserved invariant-loop decreases-loop
 loop-again c =
-    let inv = c.before.loop.invariant in (
-      length-set c.before.loop.order c.before.loop.i c.before.loop.i ∙ inv.0,
-      identity-next c.before.loop.i c.before.loop.order inv.0 (omega (arith, c.loop-test.true)) inv.1,
-      omega (arith, c.loop-test.true),
+    let inv = c.before.loop-i.invariant in (
+      length-set c.before.loop-i.order c.before.loop-i.i c.before.loop-i.i ∙ inv.0,
+      identity-next c.before.loop-i.i c.before.loop-i.order inv.0 (omega (arith, c.loop-i-test.true)) inv.1,
+      omega (arith, c.loop-i-test.true),
     )
 
 returns : tie.Need-returns invariant-loop decreases-loop
 returns c =
-    let inv = c.before.loop.invariant in
-    record { whole = inv.0; each = λ k h. inv.1 k (omega (arith, c.loop-test.false)) }
+    let inv = c.before.loop-i.invariant in
+    record { whole = inv.0; each = λ k h. inv.1 k (omega (arith, c.loop-i-test.false)) }
 
-pub fill-identity-spec : {M : Type 1} → statement M
-fill-identity-spec =
+pub fill_identity_spec : {M : Type 1} → statement M
+fill_identity_spec =
     tie.close
     (tie.spec
     invariant-loop

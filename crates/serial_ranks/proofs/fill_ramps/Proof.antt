@@ -7,32 +7,32 @@ use Rattle.serial_ranks.proofs.Laws.{ramps-start, ramps-next}
 use Rattle.serial_ranks.proofs.fill_ramps.Statement.{statement}
 use Rattle.serial_ranks.proofs.fill_ramps.Tie as tie
 
-abbrev invariant-loop : tie.invariant-loop
+abbrev invariant-loop : tie.invariant-loop-i
 invariant-loop s at order n ramps₀ i₀ ramps i = RampsOf s at order i ramps × (i ≤ n)
 
-abbrev decreases-loop : tie.decreases-loop
+abbrev decreases-loop : tie.decreases-loop-i
 decreases-loop s at order n ramps₀ i₀ ramps i = n - i
 
 -- the start
 abbrev Start : Type 0
 Start = tie.Start invariant-loop decreases-loop
 
-loop-again : tie.Need-loop-preserved invariant-loop decreases-loop
+loop-again : tie.Need-loop-i-preserved invariant-loop decreases-loop
 loop-again c =
     let turning = c.before.before in
     let start : Start = search in (
-      ramps-next turning.before.loop.invariant.0 (omega (arith, turning.loop-test.true, start.pre.0.few)) c.before.record-place.ensures.0,
-      omega (arith, turning.loop-test.true),
+      ramps-next turning.before.loop-i.invariant.0 (omega (arith, turning.loop-i-test.true, start.pre.0.few)) c.before.record_place-place.ensures.0,
+      omega (arith, turning.loop-i-test.true),
     )
 
 returns : tie.Need-returns invariant-loop decreases-loop
 returns c =
     let start : Start = search in
-    let inv = c.before.loop.invariant in
-    let e : c.before.loop.i ≡ start.args.n = omega (arith, inv.1, c.loop-test.false) in rw (← e) inv.0
+    let inv = c.before.loop-i.invariant in
+    let e : c.before.loop-i.i ≡ start.args.n = omega (arith, inv.1, c.loop-i-test.false) in rw (← e) inv.0
 
-pub fill-ramps-spec : {M : Type 1} → statement M
-fill-ramps-spec =
+pub fill_ramps_spec : {M : Type 1} → statement M
+fill_ramps_spec =
     tie.close
     (tie.spec
     invariant-loop

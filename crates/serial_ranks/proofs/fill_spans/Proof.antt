@@ -8,35 +8,35 @@ use Rattle.serial_ranks.proofs.Laws.{spans-start, spans-next}
 use Rattle.serial_ranks.proofs.fill_spans.Statement.{statement}
 use Rattle.serial_ranks.proofs.fill_spans.Tie as tie
 
-abbrev invariant-loop : tie.invariant-loop
+abbrev invariant-loop : tie.invariant-loop-i
 invariant-loop s at stride order n ends₀ i₀ ends i = SpansOf s at stride order i ends × (i ≤ n)
 
-abbrev decreases-loop : tie.decreases-loop
+abbrev decreases-loop : tie.decreases-loop-i
 decreases-loop s at stride order n ends₀ i₀ ends i = n - i
 
 -- the start
 abbrev Start : Type 0
 Start = tie.Start invariant-loop decreases-loop
 
-loop-again : tie.Need-loop-preserved invariant-loop decreases-loop
+loop-again : tie.Need-loop-i-preserved invariant-loop decreases-loop
 loop-again c =
     let start : Start = search in
-    let turning : tie.In-loop invariant-loop decreases-loop = search in
-    let placed : tie.After-record-place invariant-loop decreases-loop = search in
-    rw c.put-span.ensures (
-      spans-next turning.before.loop.inv.0 (omega (arith, turning.loop-test.taken, start.pre.0.few)) placed.record-place.ensures.0
-          (c.before.canonical.ensures ∙ ap canonical c.before.before.read-span.ensures),
-      omega (arith, turning.loop-test.taken),
+    let turning : tie.In-loop-i invariant-loop decreases-loop = search in
+    let placed : tie.After-record_place-place invariant-loop decreases-loop = search in
+    rw c.put_span.ensures (
+      spans-next turning.before.loop-i.inv.0 (omega (arith, turning.loop-i-test.true, start.pre.0.few)) placed.record_place-place.ensures.0
+          (c.before.canonical.ensures ∙ ap canonical c.before.before.read_span.ensures),
+      omega (arith, turning.loop-i-test.true),
     )
 
 returns : tie.Need-returns invariant-loop decreases-loop
 returns c =
     let start : Start = search in
-    let inv = c.before.loop.invariant in
-    let e : c.before.loop.i ≡ start.args.n = omega (arith, inv.1, c.loop-test.false) in rw (← e) inv.0
+    let inv = c.before.loop-i.invariant in
+    let e : c.before.loop-i.i ≡ start.args.n = omega (arith, inv.1, c.loop-i-test.false) in rw (← e) inv.0
 
-pub fill-spans-spec : {M : Type 1} → statement M
-fill-spans-spec =
+pub fill_spans_spec : {M : Type 1} → statement M
+fill_spans_spec =
     tie.close
     (tie.spec
     invariant-loop

@@ -8,8 +8,8 @@ returns : tie.Need-returns
 unfolding put_span
 returns c = refl
 
-pub put-span-spec : {M : Type 1} → statement M
-put-span-spec =
+pub put_span_spec : {M : Type 1} → statement M
+put_span_spec =
     tie.close
     (tie.spec
     (λ c. search rules)

@@ -9,8 +9,8 @@ returns c =
     let start : tie.Start = search in
     omega (arith, four_bytes start.args.s.now start.args.at (search rules))
 
-pub read-u32-spec : {M : Type 1} → statement M
-read-u32-spec =
+pub read_u32_spec : {M : Type 1} → statement M
+read_u32_spec =
     tie.close
     (tie.spec
     (λ c. search rules)

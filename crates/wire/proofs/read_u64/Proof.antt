@@ -9,8 +9,8 @@ returns c =
     let start : tie.Start = search in
     omega (arith, number-join 4 4 start.args.s.now start.args.at (omega arith))
 
-pub read-u64-spec : {M : Type 1} → statement M
-read-u64-spec =
+pub read_u64_spec : {M : Type 1} → statement M
+read_u64_spec =
     tie.close
     (tie.spec
     (λ c κs. search rules)

@@ -7,31 +7,31 @@ use Rattle.analysis.proofs.bridged.analyse.Statement.{statement}
 use Rattle.analysis.proofs.bridged.analyse.Tie as tie
 
 -- where the areas are parted, from where their number is compared; the start, from there
-abbrev parted : tie.After-slice-known8 → tie.After-partition-by-spans
+abbrev parted : tie.After-slice_known-8-1 → tie.After-partition_by_spans-p
 parted c = search
 
-abbrev start_of : tie.After-partition-by-spans → tie.Start
+abbrev start_of : tie.After-partition_by_spans-p → tie.Start
 start_of c = search
 
-returns : tie.Need-returns
+returns : tie.Need-returns-then-most-pairs
 returns c =
-    let r = (parted c.before).partition-by-spans.ensures in
-    (r, unbridged r c.if1.true)
+    let r = (parted c.before).partition_by_spans-p.ensures in
+    (r, unbridged r c.if-most-pairs.true)
 
-mul-bridge-boundary-indices : tie.Need-overflow-mul-bridge-boundary-indices
+mul-bridge-boundary-indices : tie.Need-overflow_mul-n
 mul-bridge-boundary-indices c =
-    let few : tie.Else1 = search in
+    let few : tie.Else-most-pairs = search in
     let p = (start_of (parted few.before)).requires.0 in
     omega (arith, p.whole, mul-le-mul p.sides.wide p.sides.high)
 
-bridge-boundary-indices-requires : tie.Need-bridge-boundary-indices-requires
+bridge-boundary-indices-requires : tie.Need-bridge_boundary_indices-requires
 bridge-boundary-indices-requires c κs =
-    let compared : tie.Else1 = search in
+    let compared : tie.Else-most-pairs = search in
     let parts = parted compared.before in
     let p = (start_of parts).pre in
-    let r = parts.partition-by-spans.ensures in
-    let k = parts.partition-by-spans.kept in
-    let few = compared.if1.left in (
+    let r = parts.partition_by_spans-p.ensures in
+    let k = parts.partition_by_spans-p.kept in
+    let few = compared.if-most-pairs.false in (
       owners-in r p.0.few few,
       omega (arith, few, k.1.1.1.1.1.1.1.1.1.0, p.1.owners-are),
       labels_in_lem r _ refl p.1.few k.1.1.1.1.1.1.1.1.1.1.0 (k.1.1.1.1.1.1.1.1.1.1.1.0 ∙ p.1.rights-are) few,
@@ -39,15 +39,15 @@ bridge-boundary-indices-requires c κs =
       zero_in r _ refl,
     )
 
-returns-2 : tie.Need-returns-2
+returns-2 : tie.Need-returns
 returns-2 c =
-    let few : tie.Else1 = search in
-    let r = (parted few.before).partition-by-spans.ensures in
-    let e = c.before.before.bridge-boundary-indices.ensures in
+    let few : tie.Else-most-pairs = search in
+    let r = (parted few.before).partition_by_spans-p.ensures in
+    let e = c.before.before.bridge_boundary_indices.ensures in
     (rw e.1 r, bridged r e.0)
 
-pub analyse-spec : {M : Type 1} → statement M
-analyse-spec =
+pub analyse_spec : {M : Type 1} → statement M
+analyse_spec =
     tie.close
     (tie.spec
     (λ c κs. search rules)

@@ -7,38 +7,38 @@ use Rattle.analysis.proofs.drawing.order_boundaries.Statement.{statement}
 use Rattle.analysis.proofs.drawing.order_boundaries.Tie as tie
 
 -- what the function is given and asked, from where the place and number of the boundaries are known; that place, from where their keys are written
-abbrev start_of : tie.After-size2 → tie.Start
+abbrev start_of : tie.After-size-at → tie.Start
 start_of c = c.before.before.before.before.before
 
-abbrev counted : tie.After-fill-keys → tie.After-size2
+abbrev counted : tie.After-fill_keys → tie.After-size-at
 counted c = c.before.before.before
 
-few : (c : tie.After-size2) → c.before.size.result ≤ 256
-few c = (keys_in_lem (start_of c).requires.0 _ _ c.size2.ensures.0 c.before.size.ensures.0).0
+few : (c : tie.After-size-at) → c.before.size-n.result ≤ 256
+few c = (keys_in_lem (start_of c).requires.0 _ _ c.size-at.ensures.0 c.before.size-n.ensures.0).0
 
-fill-keys-requires : tie.Need-fill-keys-requires
+fill-keys-requires : tie.Need-fill_keys-requires
 fill-keys-requires c κs =
     let counts = c.before.before in
-    let k = keys_in_lem (start_of counts).requires.0 _ _ counts.size2.ensures.0 counts.before.size.ensures.0 in
+    let k = keys_in_lem (start_of counts).requires.0 _ _ counts.size-at.ensures.0 counts.before.size-n.ensures.0 in
     (k.0, k.1, refl, refl)
 
-sort-ranks-requires : tie.Need-sort-ranks-requires
+sort-ranks-requires : tie.Need-sort_ranks-requires
 sort-ranks-requires c κs =
-    let keys : tie.After-fill-keys = search in
+    let keys : tie.After-fill_keys = search in
     let counts = counted keys in
     let start = start_of counts in
     (omega (arith, few counts, start.pre.1), omega (arith, few counts))
 
 returns : tie.Need-returns
 returns c =
-    let keys : tie.After-fill-keys = search in
+    let keys : tie.After-fill_keys = search in
     let counts = counted keys in
     let start = start_of counts in
-    headed-ranked start.pre.0 _ _ counts.size2.ensures.0 counts.before.size.ensures.0 _ keys.fill-keys.ensures
-    (omega (arith, few counts, start.pre.1)) c.sort-ranks.ensures
+    headed-ranked start.pre.0 _ _ counts.size-at.ensures.0 counts.before.size-n.ensures.0 _ keys.fill_keys.ensures
+    (omega (arith, few counts, start.pre.1)) c.sort_ranks.ensures
 
-pub order-boundaries-spec : {M : Type 1} → statement M
-order-boundaries-spec =
+pub order_boundaries_spec : {M : Type 1} → statement M
+order_boundaries_spec =
     tie.close
     (tie.spec
     (λ c κs. search rules)

@@ -4,28 +4,28 @@ use Rattle.analysis.proofs.drawing.own_ends.Statement.{statement}
 use Rattle.analysis.proofs.drawing.own_ends.Tie as tie
 
 -- what the function is given and asked, from where both counts are known; that place, from where the order is written
-abbrev start_of : tie.After-size2 → tie.Start
+abbrev start_of : tie.After-size-at → tie.Start
 start_of c = c.before.before.before.before.before
 
-abbrev counted : tie.After-fill-identity → tie.After-size2
+abbrev counted : tie.After-fill_identity → tie.After-size-at
 counted c = c.before.before
 
-fill-spans-requires : tie.Need-fill-spans-requires
+fill-spans-requires : tie.Need-fill_spans-requires
 fill-spans-requires c κs =
-    let order : tie.After-fill-identity = search in
+    let order : tie.After-fill_identity = search in
     let counts = counted order in
     let start = start_of counts in (
-      own-order start.pre.0 counts.size2.ensures.0 counts.before.size.ensures.0 order.fill-identity.ensures,
+      own-order start.pre.0 counts.size-at.ensures.0 counts.before.size-n.ensures.0 order.fill_identity.ensures,
       start.pre.1,
     )
 
 returns : tie.Need-returns
 returns c =
-    let order : tie.After-fill-identity = search in
+    let order : tie.After-fill_identity = search in
     let counts = counted order in
     let start = start_of counts in
-    own_put start.pre.0 counts.size2.ensures.0 counts.before.size.ensures.0 order.fill-identity.ensures
-    c.fill-spans.ensures
+    own_put start.pre.0 counts.size-at.ensures.0 counts.before.size-n.ensures.0 order.fill_identity.ensures
+    c.fill_spans.ensures
 
-pub own-ends-spec : {M : Type 1} → statement M
-own-ends-spec = tie.close (tie.spec (λ c κs. search rules) (λ c κs. search rules) (λ c κs. search rules) fill-spans-requires returns)
+pub own_ends_spec : {M : Type 1} → statement M
+own_ends_spec = tie.close (tie.spec (λ c κs. search rules) (λ c κs. search rules) (λ c κs. search rules) fill-spans-requires returns)

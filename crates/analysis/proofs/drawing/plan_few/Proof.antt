@@ -8,54 +8,54 @@ use Rattle.analysis.proofs.drawing.plan_few.Statement.{statement}
 use Rattle.analysis.proofs.drawing.plan_few.Tie as tie
 
 -- where the region pairs are few, from where all is lent to the plan; where the job is partitioned, from where its pairs are compared; the start, from there
-abbrev compared : tie.After-plan-listing-arg2 → tie.Else1
+abbrev compared : tie.After-plan_listing-arg-2-1 → tie.Else-pairs-gt-FEW_PAIRS
 compared c = search
 
-abbrev parted : tie.After-rights2 → tie.After-part-by-rank
+abbrev parted : tie.After-rights-2-1 → tie.After-part_by_rank-pairs
 parted c = search
 
-abbrev start_of : tie.After-part-by-rank → tie.Start
+abbrev start_of : tie.After-part_by_rank-pairs → tie.Start
 start_of c = search
 
-part-by-rank-requires : tie.Need-part-by-rank-requires
+part-by-rank-requires : tie.Need-part_by_rank-pairs-requires
 part-by-rank-requires c κs =
     let start : tie.Start = search in
     let p = start.pre in
     (p.0.job.headed, p.0.room, p.1, zero-arrays 64 (omega arith), p.5)
 
-returns : tie.Need-returns
+returns : tie.Need-returns-then-pairs-gt-FEW_PAIRS
 returns c =
     let found = parted c.before in
     let p = (start_of found).pre in
-    (λ ss e. parted-over (found.part-by-rank.ensures _ ss p.0.job.ranks e) c.if1.true, p.3)
+    (λ ss e. parted-over (found.part_by_rank-pairs.ensures _ ss p.0.job.ranks e) c.if-pairs-gt-FEW_PAIRS.true, p.3)
 
-plan-listing-requires : tie.Need-plan-listing-requires
+plan-listing-requires : tie.Need-plan_listing-requires
 plan-listing-requires c κs =
     let few = compared c in
     let found = parted few.before in
     let p = (start_of found).pre in
-    let left = few.if1.left in
-    let long = found.part-by-rank.kept.1.1.1.1.1.1.1 in (
+    let left = few.if-pairs-gt-FEW_PAIRS.false in
+    let long = found.part_by_rank-pairs.kept.1.1.1.1.1.1.1 in (
       p.0.job,
-      some-told left (λ ss. found.part-by-rank.ensures _ ss p.0.job.ranks) p.2,
+      some-told left (λ ss. found.part_by_rank-pairs.ensures _ ss p.0.job.ranks) p.2,
       stored left (omega arith) long.0 long.1.0 long.1.1.0,
       p.3,
       p.4,
     )
 
-returns-2 : tie.Need-returns-2
+returns-2 : tie.Need-returns
 returns-2 c =
-    let drawn : tie.After-plan-listing = search in
+    let drawn : tie.After-plan_listing = search in
     let found = parted (compared drawn.before).before in
     let start = start_of found in
-    let told = drawn.plan-listing.ensures in
+    let told = drawn.plan_listing.ensures in
     let dirs = directions_of start.args.directions in (
-      λ ss e. parted-then (found.part-by-rank.ensures _ ss start.pre.0.job.ranks e) told.0 (told.1.0 dirs ss),
+      λ ss e. parted-then (found.part_by_rank-pairs.ensures _ ss start.pre.0.job.ranks e) told.0 (told.1.0 dirs ss),
       told.1.1,
     )
 
-pub plan-few-spec : {M : Type 1} → statement M
-plan-few-spec =
+pub plan_few_spec : {M : Type 1} → statement M
+plan_few_spec =
     tie.close
     (tie.spec
     (λ c. search rules)

@@ -8,39 +8,39 @@ use Rattle.analysis.proofs.drawing.plan_listed.Statement.{statement}
 use Rattle.analysis.proofs.drawing.plan_listed.Tie as tie
 
 -- what the function is given and asked: the places since only say that its slices have lengths
-abbrev start_of : tie.After-size → tie.Start
+abbrev start_of : tie.After-size-count → tie.Start
 start_of c = c.before.before.before.before.before
 
 -- where the number of boundaries is known, from where the spans are written
-abbrev counted : tie.After-fill-spans → tie.After-size
+abbrev counted : tie.After-fill_spans → tie.After-size-count
 counted c = c.before.before
 
-abbrev given : tie.After-fill-spans → tie.Start
+abbrev given : tie.After-fill_spans → tie.Start
 given c = start_of (counted c)
 
 -- the spans written are those of the list
-listed : (c : tie.After-fill-spans)
-    → EndsBy (given c).args.job.now (given c).args.order.now c.fill-spans.new.1.1.1.1.1.0 (decode_list (given c).args.list.now)
+listed : (c : tie.After-fill_spans)
+    → EndsBy (given c).args.job.now (given c).args.order.now c.fill_spans.new.1.1.1.1.1.0 (decode_list (given c).args.list.now)
 listed c =
     let start = given c in
     let p = start.pre.0.job in
-    list-by p.headed _ start.pre.1 (plan-ranks p) _ (counted c).size.ensures.0 start.pre.2 c.fill-spans.ensures
+    list-by p.headed _ start.pre.1 (plan-ranks p) _ (counted c).size-count.ensures.0 start.pre.2 c.fill_spans.ensures
 
-fill-spans-requires : tie.Need-fill-spans-requires
+fill-spans-requires : tie.Need-fill_spans-requires
 fill-spans-requires c κs =
     let count = c.before in
     let start = start_of count in
     let p = start.pre.0.job in
-    (list-matched-records p.headed _ start.pre.1 (plan-ranks p) _ count.size.ensures.0 start.pre.2, refl)
+    (list-matched-records p.headed _ start.pre.1 (plan-ranks p) _ count.size-count.ensures.0 start.pre.2, refl)
 
-plan-matched-requires : tie.Need-plan-matched-requires
+plan-matched-requires : tie.Need-plan_matched-requires
 plan-matched-requires c κs =
-    let spans : tie.After-fill-spans = search in
+    let spans : tie.After-fill_spans = search in
     let count = counted spans in
     let start = start_of count in
     let p = start.pre.0.job in (
       start.pre.0,
-      list-fit p.headed _ start.pre.1 (plan-ranks p) _ count.size.ensures.0 start.pre.2 spans.fill-spans.ensures,
+      list-fit p.headed _ start.pre.1 (plan-ranks p) _ count.size-count.ensures.0 start.pre.2 spans.fill_spans.ensures,
       record { spans = _; are = listed spans },
       start.pre.3,
       start.pre.4,
@@ -49,10 +49,10 @@ plan-matched-requires c κs =
 
 returns : tie.Need-returns
 returns c =
-    let spans : tie.After-fill-spans = search in
-    c.before.before.plan-matched.ensures _ (listed spans)
+    let spans : tie.After-fill_spans = search in
+    c.before.before.plan_matched.ensures _ (listed spans)
 
-pub plan-listed-spec : {M : Type 1} → statement M
-plan-listed-spec =
+pub plan_listed_spec : {M : Type 1} → statement M
+plan_listed_spec =
     tie.close
     (tie.spec (λ c κs. search rules) fill-spans-requires plan-matched-requires (λ c. search rules) returns)

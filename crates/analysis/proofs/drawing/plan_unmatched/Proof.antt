@@ -9,54 +9,54 @@ use Rattle.analysis.proofs.drawing.plan_unmatched.Statement.{statement}
 use Rattle.analysis.proofs.drawing.plan_unmatched.Tie as tie
 
 -- what the function is given and asked: the places since only say that its slices have lengths
-abbrev start_of : tie.After-size → tie.Start
+abbrev start_of : tie.After-size-cells → tie.Start
 start_of c = c.before.before.before.before.before.before
 
 -- where the size of the map is known, from where the order is written; that place, from where the spans are
-abbrev sized : tie.After-fill-identity → tie.After-size
+abbrev sized : tie.After-fill_identity → tie.After-size-cells
 sized c = c.before.before
 
-abbrev ordered : tie.After-fill-spans → tie.After-fill-identity
+abbrev ordered : tie.After-fill_spans → tie.After-fill_identity
 ordered c = c.before.before.before
 
-mul-size : tie.Need-overflow-mul-size
+mul-size : tie.Need-overflow_mul-c
 mul-size c =
     let start : tie.Start = search in
     omega (arith, headed-cells start.pre.0)
 
-fill-spans-requires : tie.Need-fill-spans-requires
+fill-spans-requires : tie.Need-fill_spans-requires
 fill-spans-requires c κs =
     let order = c.before.before in
     let start = start_of (sized order) in
-    (list-unmatched-records start.pre.0 _ start.pre.2 _ start.pre.3 order.fill-identity.ensures, refl)
+    (list-unmatched-records start.pre.0 _ start.pre.2 _ start.pre.3 order.fill_identity.ensures, refl)
 
-part-find-areas-end : tie.Need-slice-bounds-find-areas-end
+part-find-areas-end : tie.Need-slice_bounds-find_areas-end
 part-find-areas-end c =
     let size = sized (ordered c) in
     let headed = (start_of size).pre.0 in
-    omega (arith, map-inside headed.header (headed-laid headed) _ size.size.ensures.0)
+    omega (arith, map-inside headed.header (headed-laid headed) _ size.size-cells.ensures.0)
 
-find-areas-requires : tie.Need-find-areas-requires
+find-areas-requires : tie.Need-find_areas-p-requires
 find-areas-requires c κs =
-    let spans : tie.After-fill-spans = search in
+    let spans : tie.After-fill_spans = search in
     let order = ordered spans in
     let size = sized order in
     let start = start_of size in
-    unmatched-partitionable start.pre.0 _ start.pre.2 _ start.pre.3 order.fill-identity.ensures
-    spans.fill-spans.ensures _ size.size.ensures.0 start.pre.6 start.pre.1
+    unmatched-partitionable start.pre.0 _ start.pre.2 _ start.pre.3 order.fill_identity.ensures
+    spans.fill_spans.ensures _ size.size-cells.ensures.0 start.pre.6 start.pre.1
 
 returns : tie.Need-returns
 returns c =
-    let spans : tie.After-fill-spans = search in
+    let spans : tie.After-fill_spans = search in
     let order = ordered spans in
     let size = sized order in
     let start = start_of size in
-    λ l. unmatched-drawn start.pre.0 _ start.pre.2 _ start.pre.3 order.fill-identity.ensures
-    spans.fill-spans.ensures _ size.size.ensures.0 l (directions_of start.args.directions) start.pre.4
-    c.before.before.find-areas.ensures
+    λ l. unmatched-drawn start.pre.0 _ start.pre.2 _ start.pre.3 order.fill_identity.ensures
+    spans.fill_spans.ensures _ size.size-cells.ensures.0 l (directions_of start.args.directions) start.pre.4
+    c.before.before.find_areas-p.ensures
 
-pub plan-unmatched-spec : {M : Type 1} → statement M
-plan-unmatched-spec =
+pub plan_unmatched_spec : {M : Type 1} → statement M
+plan_unmatched_spec =
     tie.close
     (tie.spec
     mul-size

@@ -4,18 +4,18 @@ use borrow.Author.Rules.{rules}
 use Rattle.analysis.proofs.marked.find_marks.Statement.{statement}
 use Rattle.analysis.proofs.marked.find_marks.Tie as tie
 
-returns-2 : tie.Need-returns-2
+returns-2 : tie.Need-returns-then-pairs-le-FEW_PAIRS
 returns-2 c =
-    let tried : tie.After-marks-few = search in
-    parted-wider tried.marks-few.ensures (omega arith) (omega arith)
+    let tried : tie.After-marks_few-pairs = search in
+    parted-wider tried.marks_few-pairs.ensures (omega arith) (omega arith)
 
-returns-3 : tie.Need-returns-3
+returns-3 : tie.Need-returns
 returns-3 c =
-    let tried : tie.After-marks-few = search in
-    parted-again tried.marks-few.ensures c.before.before.marks-many2.ensures
+    let tried : tie.After-marks_few-pairs = search in
+    parted-again tried.marks_few-pairs.ensures c.before.before.marks_many-2.ensures
 
-pub find-marks-spec : {M : Type 1} → statement M
-find-marks-spec =
+pub find_marks_spec : {M : Type 1} → statement M
+find_marks_spec =
     tie.close
     (tie.spec
     (λ c κs. search rules)

@@ -7,38 +7,38 @@ use Rattle.analysis.proofs.marked.mark_spans.Statement.{statement}
 use Rattle.analysis.proofs.marked.mark_spans.Tie as tie
 
 -- where the areas are parted, from where their number is compared; the start, from there
-abbrev parted : tie.After-slice-known8 → tie.After-partition-by-spans
+abbrev parted : tie.After-slice_known-8-1 → tie.After-partition_by_spans-p
 parted c = search
 
-abbrev start_of : tie.After-partition-by-spans → tie.Start
+abbrev start_of : tie.After-partition_by_spans-p → tie.Start
 start_of c = search
 
-returns : tie.Need-returns
-returns c = unmarked-within (parted c.before).partition-by-spans.ensures c.if1.true
+returns : tie.Need-returns-then-most-pairs
+returns c = unmarked-within (parted c.before).partition_by_spans-p.ensures c.if-most-pairs.true
 
-mul-mark-boundaries : tie.Need-overflow-mul-mark-boundaries
+mul-mark-boundaries : tie.Need-overflow_mul-n
 mul-mark-boundaries c =
-    let few : tie.Else1 = search in
+    let few : tie.Else-most-pairs = search in
     let p = (start_of (parted few.before)).requires.0 in
     omega (arith, p.whole, mul-le-mul p.sides.wide p.sides.high)
 
-mark-boundaries-requires : tie.Need-mark-boundaries-requires
+mark-boundaries-requires : tie.Need-mark_boundaries-requires
 mark-boundaries-requires c κs =
-    let compared : tie.Else1 = search in
+    let compared : tie.Else-most-pairs = search in
     let parts = parted compared.before in
     let p = (start_of parts).pre in
-    let k = parts.partition-by-spans.kept.1.1.1.1.1.1.1.1.1 in
-    owned_in parts.partition-by-spans.ensures _ refl p.0.few p.1.few (k.0 ∙ p.1.owners-are) k.1.0
-    (k.1.1.0 ∙ p.1.rights-are) compared.if1.left
+    let k = parts.partition_by_spans-p.kept.1.1.1.1.1.1.1.1.1 in
+    owned_in parts.partition_by_spans-p.ensures _ refl p.0.few p.1.few (k.0 ∙ p.1.owners-are) k.1.0
+    (k.1.1.0 ∙ p.1.rights-are) compared.if-most-pairs.false
 
-returns-2 : tie.Need-returns-2
+returns-2 : tie.Need-returns
 returns-2 c =
-    let few : tie.Else1 = search in
-    let e = c.before.before.mark-boundaries.ensures in
-    marked-within (parted few.before).partition-by-spans.ensures e.1 e.0
+    let few : tie.Else-most-pairs = search in
+    let e = c.before.before.mark_boundaries.ensures in
+    marked-within (parted few.before).partition_by_spans-p.ensures e.1 e.0
 
-pub mark-spans-spec : {M : Type 1} → statement M
-mark-spans-spec =
+pub mark_spans_spec : {M : Type 1} → statement M
+mark_spans_spec =
     tie.close
     (tie.spec
     (λ c κs. search rules)

@@ -4,13 +4,13 @@ use borrow.Author.Rules.{rules}
 use Rattle.analysis.proofs.marked.marks_few.Statement.{statement}
 use Rattle.analysis.proofs.marked.marks_few.Tie as tie
 
-mark-spans-requires : tie.Need-mark-spans-requires
+mark-spans-requires : tie.Need-mark_spans-requires
 mark-spans-requires c κs =
     let start : tie.Start = search in
     (start.pre, zero-arrays 64 (omega arith))
 
-pub marks-few-spec : {M : Type 1} → statement M
-marks-few-spec =
+pub marks_few_spec : {M : Type 1} → statement M
+marks_few_spec =
     tie.close
     (tie.spec
     (λ c. search rules)

@@ -5,18 +5,18 @@ use borrow.Author.Rules.{rules}
 use Rattle.analysis.proofs.parting.areas_few.Statement.{statement}
 use Rattle.analysis.proofs.parting.areas_few.Tie as tie
 
-partition-by-spans-requires : tie.Need-partition-by-spans-requires
+partition-by-spans-requires : tie.Need-partition_by_spans-requires
 partition-by-spans-requires c κs =
     let start : tie.Start = search in
     (start.pre, zero-arrays 64 (omega arith))
 
 returns : tie.Need-returns
 returns c =
-    let parted : tie.After-partition-by-spans = search in
-    areas-within parted.partition-by-spans.ensures
+    let parted : tie.After-partition_by_spans = search in
+    areas-within parted.partition_by_spans.ensures
 
-pub areas-few-spec : {M : Type 1} → statement M
-areas-few-spec =
+pub areas_few_spec : {M : Type 1} → statement M
+areas_few_spec =
     tie.close
     (tie.spec
     (λ c. search rules)

@@ -4,18 +4,18 @@ use borrow.Author.Rules.{rules}
 use Rattle.analysis.proofs.parting.find_areas.Statement.{statement}
 use Rattle.analysis.proofs.parting.find_areas.Tie as tie
 
-returns-2 : tie.Need-returns-2
+returns-2 : tie.Need-returns-then-pairs-le-FEW_PAIRS
 returns-2 c =
-    let parted : tie.After-areas-few = search in
-    parted-wider parted.areas-few.ensures (omega arith) (omega arith)
+    let parted : tie.After-areas_few-p = search in
+    parted-wider parted.areas_few-p.ensures (omega arith) (omega arith)
 
-returns-3 : tie.Need-returns-3
+returns-3 : tie.Need-returns
 returns-3 c =
-    let parted : tie.After-areas-few = search in
-    parted-again parted.areas-few.ensures c.before.before.areas-many2.ensures
+    let parted : tie.After-areas_few-p = search in
+    parted-again parted.areas_few-p.ensures c.before.before.areas_many-2.ensures
 
-pub find-areas-spec : {M : Type 1} → statement M
-find-areas-spec =
+pub find_areas_spec : {M : Type 1} → statement M
+find_areas_spec =
     tie.close
     (tie.spec
     (λ c κs. search rules)

@@ -16,57 +16,57 @@ use Rattle.analysis.proofs.Calling.{header-there, by-list-job, by-list-headed}
 use Rattle.analysis.proofs.plans.plan_reduce_by_list.Statement.{statement}
 use Rattle.analysis.proofs.plans.plan_reduce_by_list.Tie as tie
 
-abbrev start_of : tie.After-first-answer → tie.Start
+abbrev start_of : tie.After-first_answer-r → tie.Start
 start_of c = c.before.before.before.before.before
 
-answered : (c : tie.After-first-answer)
+answered : (c : tie.After-first_answer-r)
     → FirstAnswer (first_refusal (by_list_checks (start_of c).args.job.now (start_of c).args.list.now)) (work_size (decode (start_of c).args.job.now))
-    (length (start_of c).args.work.now) c.first-answer.result.number c.first-answer.result.detail
-answered c = first_of c.before.check-reduce-by-list.ensures c.first-answer.ensures
+    (length (start_of c).args.work.now) c.first_answer-r.result.number c.first_answer-r.result.detail
+answered c = first_of c.before.check_reduce_by_list.ensures c.first_answer-r.ensures
 
 -- past the checks and 21: the first answer, and what the function is given
-abbrev first : tie.Else1 → tie.After-first-answer
+abbrev first : tie.Else-r-gt0 → tie.After-first_answer-r
 first c = c.before.before
 
-abbrev given : tie.Else1 → tie.Start
+abbrev given : tie.Else-r-gt0 → tie.Start
 given c = start_of (first c)
 
-passed : (c : tie.Else1) → first_refusal (by_list_checks (given c).args.job.now (given c).args.list.now) ≡ none
-passed c = first-passed (answered (first c)) (omega (arith, c.if1.false))
+passed : (c : tie.Else-r-gt0) → first_refusal (by_list_checks (given c).args.job.now (given c).args.list.now) ≡ none
+passed c = first-passed (answered (first c)) (omega (arith, c.if-r-gt0.false))
 
-room : (c : tie.Else1) → work_size (decode (given c).args.job.now) ≤ length (given c).args.work.now
-room c = first-room (answered (first c)) (omega (arith, c.if1.false))
+room : (c : tie.Else-r-gt0) → work_size (decode (given c).args.job.now) ≤ length (given c).args.work.now
+room c = first-room (answered (first c)) (omega (arith, c.if-r-gt0.false))
 
-read : (c : tie.After-read-header) → Headed (given c.before).args.job.now c.read-header.result
+read : (c : tie.After-read_header-h) → Headed (given c.before).args.job.now c.read_header-h.result
 read c =
-    let bytes : tie.After-shared-slice-known = search in
-    by-list-headed _ _ (λ i. (bytes.shared-slice-known.given i).fits) (passed c.before) c.read-header.ensures
+    let bytes : tie.After-shared_slice_known-1 = search in
+    by-list-headed _ _ (λ i. (bytes.shared_slice_known-1.given i).fits) (passed c.before) c.read_header-h.ensures
 
-abbrev header_of : tie.After-order-boundaries → tie.After-read-header
+abbrev header_of : tie.After-order_boundaries → tie.After-read_header-h
 header_of c = c.before.before.before.before
 
-first-answer-requires : tie.Need-first-answer-requires
-first-answer-requires c κs = (λ e. by-list-job _ _ (sym c.check-reduce-by-list.ensures ∙ e), omega arith)
+first-answer-requires : tie.Need-first_answer-r-requires
+first-answer-requires c κs = (λ e. by-list-job _ _ (sym c.check_reduce_by_list.ensures ∙ e), omega arith)
 
-returns : tie.Need-returns
-returns c = left-first (answered c.before.before) c.if1.true
+returns : tie.Need-returns-then-r-gt0
+returns c = left-first (answered c.before.before) c.if-r-gt0.true
 
-read-header-requires : tie.Need-read-header-requires
+read-header-requires : tie.Need-read_header-h-requires
 read-header-requires c κs = header-there _ (by-list-job _ _ (passed c))
 
-order-boundaries-requires : tie.Need-order-boundaries-requires
+order-boundaries-requires : tie.Need-order_boundaries-requires
 order-boundaries-requires c κs =
-    let header : tie.After-read-header = search in
+    let header : tie.After-read_header-h = search in
     (read header, refl)
 
-plan-by-list-requires : tie.Need-plan-by-list-requires
+plan-by-list-requires : tie.Need-plan_by_list-pairs-requires
 plan-by-list-requires c κs =
-    let ordered : tie.After-order-boundaries = search in
+    let ordered : tie.After-order_boundaries = search in
     let header = header_of ordered in
     let went_on = header.before in
     let start = given went_on in (
       record {
-        job = record { headed = read header; ranks = ordered.order-boundaries.ensures };
+        job = record { headed = read header; ranks = ordered.order_boundaries.ensures };
         room = room went_on;
       },
       passed went_on,
@@ -75,16 +75,16 @@ plan-by-list-requires c κs =
       start.pre.1,
     )
 
-returns-2 : tie.Need-returns-2
+returns-2 : tie.Need-returns
 returns-2 c =
     let planned = c.before.before.before in
-    let ordered : tie.After-order-boundaries = search in
+    let ordered : tie.After-order_boundaries = search in
     let went_on = (header_of ordered).before in
-    left-pairs (passed went_on) (room went_on) planned.plan-by-list.ensures ordered.order-boundaries.ensures
-    c.of-pairs.ensures
+    left-pairs (passed went_on) (room went_on) planned.plan_by_list-pairs.ensures ordered.order_boundaries.ensures
+    c.of_pairs.ensures
 
-pub plan-reduce-by-list-spec : {M : Type 1} → statement M
-plan-reduce-by-list-spec =
+pub plan_reduce_by_list_spec : {M : Type 1} → statement M
+plan_reduce_by_list_spec =
     tie.close
     (tie.spec
     (λ c κs. search rules)

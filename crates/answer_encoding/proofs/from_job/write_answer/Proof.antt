@@ -4,15 +4,15 @@ use borrow.Author.Rules.{rules}
 use Rattle.answer_encoding.proofs.from_job.write_answer.Statement.{statement}
 use Rattle.answer_encoding.proofs.from_job.write_answer.Tie as tie
 
-write-small-requires : tie.Need-write-small-requires
+write-small-requires : tie.Need-write_small-requires
 write-small-requires c κs =
-    let sizes : tie.After-size2 = search in
+    let sizes : tie.After-size-2 = search in
     let size = sizes.before in
     let start : tie.Start = search in
-    (start.pre, omega (arith, size.size.ensures.0, sizes.size2.ensures.0), omega (arith, leb-true, c.before.before.size3.ensures.0))
+    (start.pre, omega (arith, size.size.ensures.0, sizes.size-2.ensures.0), omega (arith, leb-true, c.before.before.size-then-size-le-FEW_PLACES.ensures.0))
 
-pub write-answer-spec : {M : Type 1} → statement M
-write-answer-spec =
+pub write_answer_spec : {M : Type 1} → statement M
+write_answer_spec =
     tie.close
     (tie.spec
     (λ c κs. search rules)

@@ -7,7 +7,7 @@ use borrow.Author.Rules.{rules}
 use Rattle.answer_encoding.proofs.from_job.write_large.Statement.{statement}
 use Rattle.answer_encoding.proofs.from_job.write_large.Tie as tie
 
-place-large-requires : tie.Need-place-large-requires
+place-large-requires : tie.Need-place_large-requires
 place-large-requires c κs =
     let start : tie.Start = search in
     let w = counts-allowed start.args.job.now start.pre.passed start.args.h start.pre.header in (
@@ -16,8 +16,8 @@ place-large-requires c κs =
       length-replicate {A = ℕ} 256 0,
     )
 
-pub write-large-spec : {M : Type 1} → statement M
-write-large-spec =
+pub write_large_spec : {M : Type 1} → statement M
+write_large_spec =
     tie.close
     (tie.spec
     (λ c. search rules)

@@ -6,13 +6,13 @@ use borrow.Author.Rules.{rules}
 use Rattle.answer_encoding.proofs.from_job.write_small.Statement.{statement}
 use Rattle.answer_encoding.proofs.from_job.write_small.Tie as tie
 
-place-small-requires : tie.Need-place-small-requires
+place-small-requires : tie.Need-place_small-requires
 place-small-requires c κs =
     let start : tie.Start = search in
     (start.pre.0, work-room 512 64 (omega arith) (omega arith) (omega arith) (omega arith), start.pre.2, length-replicate {A = ℕ} 256 0)
 
-pub write-small-spec : {M : Type 1} → statement M
-write-small-spec =
+pub write_small_spec : {M : Type 1} → statement M
+write_small_spec =
     tie.close
     (tie.spec
     (λ c. search rules)

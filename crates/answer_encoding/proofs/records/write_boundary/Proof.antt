@@ -10,20 +10,20 @@ use Rattle.answer_encoding.proofs.records.write_boundary.Tie as tie
 
 returns : tie.Need-returns
 returns c =
-    let seen : tie.After-write-u322 = search in
-    let own : tie.After-write-u32 = search in
-    let bits : tie.After-write-u64 = search in
-    let span : tie.After-write-span = search in
+    let seen : tie.After-write_u32-2 = search in
+    let own : tie.After-write_u32 = search in
+    let bits : tie.After-write_u64 = search in
+    let span : tie.After-write_span = search in
     let ends = span.before in
     let start = ends.before.before.before.before in
     let s = start.args.s.now in
     boundary-written s start.args.at start.args.x start.args.own start.args.seen (omega arith)
-    (span.write-span.ensures ∙ ap (λ (e : Span). splice s start.args.at (span_bytes e)) ends.canonical.ensures)
-    bits.write-u64.ensures own.write-u32.ensures seen.write-u322.ensures
-    c.before.before.write-ramp.ensures
+    (span.write_span.ensures ∙ ap (λ (e : Span). splice s start.args.at (span_bytes e)) ends.canonical.ensures)
+    bits.write_u64.ensures own.write_u32.ensures seen.write_u32-2.ensures
+    c.before.before.write_ramp.ensures
 
-pub write-boundary-spec : {M : Type 1} → statement M
-write-boundary-spec =
+pub write_boundary_spec : {M : Type 1} → statement M
+write_boundary_spec =
     tie.close
     (tie.spec
     (λ c κs. search rules)

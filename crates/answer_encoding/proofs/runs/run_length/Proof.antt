@@ -9,43 +9,43 @@ use Rattle.answer_encoding.proofs.runs.run_length.Statement.{statement}
 use Rattle.answer_encoding.proofs.runs.run_length.Tie as tie
 
 -- earlier places, each found by what it is
-abbrev start_of : tie.After-index → tie.Start
+abbrev start_of : tie.After-index-a → tie.Start
 start_of c = search
 
-abbrev given : tie.Else1 → tie.Start
+abbrev given : tie.Else-a-n → tie.Start
 given c = start_of c.before.before.before
 
 -- past the first test, the run ends with the keys
-rest : (c : tie.Else1)
+rest : (c : tie.Else-a-n)
     → length (given c).args.keys.now - get_or (given c).args.starts.now (given c).args.p 0
     ≡ length (part (given c).args.keys.now (get_or (given c).args.starts.now (given c).args.p 0) (get_or (given c).args.counts.now (given c).args.p 0))
 rest c =
-    let count : tie.After-index2 = search in
-    let first : tie.After-index = search in
-    part-rest _ _ _ (omega (arith, first.index.ensures.0, count.index2.ensures.0))
+    let count : tie.After-index-n = search in
+    let first : tie.After-index-a = search in
+    part-rest _ _ _ (omega (arith, first.index-a.ensures.0, count.index-n.ensures.0))
 
-returns : tie.Need-returns
+returns : tie.Need-returns-then-a-n
 returns c =
-    let first : tie.After-index = search in
+    let first : tie.After-index-a = search in
     let a = (start_of first).args in
-    c.before.before.word.ensures
+    c.before.before.word-c.ensures
     ∙ part-whole a.keys.now (get_or a.starts.now a.p 0) (get_or a.counts.now a.p 0)
-    (omega (arith, first.index.ensures.0, c.before.index2.ensures.0))
+    (omega (arith, first.index-a.ensures.0, c.before.index-n.ensures.0))
 
-returns-2 : tie.Need-returns-2
+returns-2 : tie.Need-returns-then-a-most
 returns-2 c =
-    let count : tie.After-index2 = search in
-    let first : tie.After-index = search in
-    omega (arith, first.index.ensures.0, count.index2.ensures.0, rest c.before)
+    let count : tie.After-index-n = search in
+    let first : tie.After-index-a = search in
+    omega (arith, first.index-a.ensures.0, count.index-n.ensures.0, rest c.before)
 
-returns-3 : tie.Need-returns-3
+returns-3 : tie.Need-returns
 returns-3 c =
-    let count : tie.After-index2 = search in
-    let first : tie.After-index = search in
-    omega (arith, first.index.ensures.0, count.index2.ensures.0, rest c.before)
+    let count : tie.After-index-n = search in
+    let first : tie.After-index-a = search in
+    omega (arith, first.index-a.ensures.0, count.index-n.ensures.0, rest c.before)
 
-pub run-length-spec : {M : Type 1} → statement M
-run-length-spec =
+pub run_length_spec : {M : Type 1} → statement M
+run_length_spec =
     tie.close
     (tie.spec
     (λ c κs. search rules)

@@ -6,21 +6,21 @@ use borrow.Author.Rules.{rules}
 use Rattle.answer_encoding.proofs.runs.write_run.Statement.{statement}
 use Rattle.answer_encoding.proofs.runs.write_run.Tie as tie
 
-abbrev invariant-loop : tie.invariant-loop
+abbrev invariant-loop : tie.invariant-loop-i
 invariant-loop s₀ at keys from count i₀ s i = (i ≤ count) × Writes s₀ at (λ k. key_piece keys (from + k)) i s
 
-abbrev decreases-loop : tie.decreases-loop
+abbrev decreases-loop : tie.decreases-loop-i
 decreases-loop s₀ at keys from count i₀ s i = count - i
 
-loop-holds : tie.Need-loop-init invariant-loop decreases-loop
+loop-holds : tie.Need-loop-i-init invariant-loop decreases-loop
 loop-holds c = (omega arith, writes_start _ _ _)
 
-write-source-requires : tie.Need-write-source-requires invariant-loop decreases-loop
+write-source-requires : tie.Need-write_source-requires invariant-loop decreases-loop
 write-source-requires c κs =
-    let in-loop : tie.At-loop invariant-loop decreases-loop = search in
-    omega (arith, in-loop.loop.inv.1.long)
+    let in-loop : tie.At-loop-i invariant-loop decreases-loop = search in
+    omega (arith, in-loop.loop-i.inv.1.long)
 
-loop-again : tie.Need-loop-preserved invariant-loop decreases-loop
+loop-again : tie.Need-loop-i-preserved invariant-loop decreases-loop
 loop-again c =
     let key : tie.After-long invariant-loop decreases-loop = search in
     let in-loop = key.before.before.before in
@@ -28,21 +28,21 @@ loop-again c =
     let keys = start.args.keys.now in
     let from = start.args.from in (
       omega arith,
-      writes-next _ _ in-loop.loop.inv.1 (omega (arith, run_long keys from (in-loop.loop.i + 1)))
-          (omega (arith, run_long keys from in-loop.loop.i)) c.before.before.write-source.ensures
-          (key-is keys (from + in-loop.loop.i) key.long.ensures),
+      writes-next _ _ in-loop.loop-i.inv.1 (omega (arith, run_long keys from (in-loop.loop-i.i + 1)))
+          (omega (arith, run_long keys from in-loop.loop-i.i)) c.before.before.write_source.ensures
+          (key-is keys (from + in-loop.loop-i.i) key.long.ensures),
     )
 
-same_length : tie.Need-same-length invariant-loop decreases-loop
-same_length c = c.before.loop.invariant.1.long
+same_length : tie.Need-shape_of-s invariant-loop decreases-loop
+same_length c = c.before.loop-i.invariant.1.long
 
 returns : tie.Need-returns invariant-loop decreases-loop
 returns c =
-    let inv = c.before.loop.invariant in
+    let inv = c.before.loop-i.invariant in
     writes_end inv.1 inv.0 (omega arith)
 
-pub write-run-spec : {M : Type 1} → statement M
-write-run-spec =
+pub write_run_spec : {M : Type 1} → statement M
+write_run_spec =
     tie.close
     (tie.spec
     invariant-loop

@@ -6,54 +6,54 @@ use borrow.Author.Rules.{rules}
 use Rattle.answer_encoding.proofs.runs.write_runs.Statement.{statement}
 use Rattle.answer_encoding.proofs.runs.write_runs.Tie as tie
 
-abbrev invariant-loop : tie.invariant-loop
+abbrev invariant-loop : tie.invariant-loop-i
 invariant-loop s₀ at seen from n starts counts keys to₀ i₀ s to i = Running seen starts counts keys from s₀ at i n s to
 
-abbrev decreases-loop : tie.decreases-loop
+abbrev decreases-loop : tie.decreases-loop-i
 decreases-loop s₀ at seen from n starts counts keys to₀ i₀ s to i = n - i
 
 -- there is room for the run, once its place and its length are known
-room : (c : tie.After-index2 invariant-loop decreases-loop) → c.before.before.before.before.before.loop.to + c.before.before.run_length.result * 8
-    ≤ length c.before.before.before.before.before.loop.s
+room : (c : tie.After-index invariant-loop decreases-loop) → c.before.before.before.before.before.loop-i.to + c.before.before.run_length-count.result * 8
+    ≤ length c.before.before.before.before.before.loop-i.s
 room c =
     let start : tie.Start invariant-loop decreases-loop = search in
-    let found : tie.After-index invariant-loop decreases-loop = search in
-    let counted : tie.After-run-length invariant-loop decreases-loop = search in
-    run_room found.before.before.loop.inv start.pre.0 found.before.loop-test.taken found.index.ensures.0 c.index2.ensures.0
-    counted.run_length.ensures
+    let found : tie.After-index-p invariant-loop decreases-loop = search in
+    let counted : tie.After-run_length-count invariant-loop decreases-loop = search in
+    run_room found.before.before.loop-i.inv start.pre.0 found.before.loop-i-test.true found.index-p.ensures.0 c.index.ensures.0
+    counted.run_length-count.ensures
 
-loop-holds : tie.Need-loop-init invariant-loop decreases-loop
+loop-holds : tie.Need-loop-i-init invariant-loop decreases-loop
 loop-holds c = running-start _ _ _ _ _ _ _ _
 
-add-index : tie.Need-overflow-add-index invariant-loop decreases-loop
-add-index c = omega (arith, c.before.loop.invariant.below-count)
+add-index : tie.Need-overflow_add-from invariant-loop decreases-loop
+add-index c = omega (arith, c.before.loop-i.invariant.below-count)
 
-write-run-requires : tie.Need-write-run-requires invariant-loop decreases-loop
-write-run-requires c κs = (room c, omega (arith, c.index2.ensures.1), omega arith)
+write-run-requires : tie.Need-write_run-requires invariant-loop decreases-loop
+write-run-requires c κs = (room c, omega (arith, c.index.ensures.1), omega arith)
 
-mul-to : tie.Need-overflow-mul-to invariant-loop decreases-loop
+mul-to : tie.Need-overflow_mul-to invariant-loop decreases-loop
 mul-to c = omega arith
 
-add-to : tie.Need-overflow-add-to invariant-loop decreases-loop
+add-to : tie.Need-overflow_add-to invariant-loop decreases-loop
 add-to c = omega (arith, room (search))
 
-loop-again : tie.Need-loop-preserved invariant-loop decreases-loop
+loop-again : tie.Need-loop-i-preserved invariant-loop decreases-loop
 loop-again c =
     let start : tie.Start invariant-loop decreases-loop = search in
-    let found : tie.After-index invariant-loop decreases-loop = search in
-    let counted : tie.After-run-length invariant-loop decreases-loop = search in
-    let placed : tie.After-index2 invariant-loop decreases-loop = search in
-    running-next found.before.before.loop.inv start.pre.0 found.before.loop-test.taken found.index.ensures.0 placed.index2.ensures.0
-    counted.run_length.ensures c.before.before.write-run.ensures
+    let found : tie.After-index-p invariant-loop decreases-loop = search in
+    let counted : tie.After-run_length-count invariant-loop decreases-loop = search in
+    let placed : tie.After-index invariant-loop decreases-loop = search in
+    running-next found.before.before.loop-i.inv start.pre.0 found.before.loop-i-test.true found.index-p.ensures.0 placed.index.ensures.0
+    counted.run_length-count.ensures c.before.before.write_run.ensures
 
-same_length : tie.Need-same-length invariant-loop decreases-loop
-same_length c = c.before.loop.invariant.writes.long
+same_length : tie.Need-shape_of-s invariant-loop decreases-loop
+same_length c = c.before.loop-i.invariant.writes.long
 
 returns : tie.Need-returns invariant-loop decreases-loop
-returns c = running-end c.before.loop.invariant (omega arith)
+returns c = running-end c.before.loop-i.invariant (omega arith)
 
-pub write-runs-spec : {M : Type 1} → statement M
-write-runs-spec =
+pub write_runs_spec : {M : Type 1} → statement M
+write_runs_spec =
     tie.close
     (tie.spec
     invariant-loop

@@ -7,56 +7,56 @@ use borrow.Author.Rules.{rules}
 use Rattle.answer_encoding.proofs.sections.write_boundaries.Statement.{statement}
 use Rattle.answer_encoding.proofs.sections.write_boundaries.Tie as tie
 
-abbrev invariant-loop : tie.invariant-loop
+abbrev invariant-loop : tie.invariant-loop-k
 invariant-loop job at count kept owns seens s₀ to k₀ s k = (k ≤ count) × Writes s₀ to (kept_piece (boundary_rows job at) kept owns seens) k s
 
-abbrev decreases-loop : tie.decreases-loop
+abbrev decreases-loop : tie.decreases-loop-k
 decreases-loop job at count kept owns seens s₀ to k₀ s k = count - k
 
 -- earlier places, each found by what it is
-abbrev start_of : tie.At-loop invariant-loop decreases-loop → tie.Start invariant-loop decreases-loop
+abbrev start_of : tie.At-loop-k invariant-loop decreases-loop → tie.Start invariant-loop decreases-loop
 start_of c = search
 
-loop-holds : tie.Need-loop-init invariant-loop decreases-loop
+loop-holds : tie.Need-loop-k-init invariant-loop decreases-loop
 loop-holds c = (omega arith, writes_start _ _ _)
 
-mul-read-boundary : tie.Need-overflow-mul-read-boundary invariant-loop decreases-loop
+mul-read-boundary : tie.Need-overflow_mul-index invariant-loop decreases-loop
 mul-read-boundary c = omega (arith, c.index.ensures.1)
 
-add-read-boundary : tie.Need-overflow-add-read-boundary invariant-loop decreases-loop
+add-read-boundary : tie.Need-overflow_add-at invariant-loop decreases-loop
 add-read-boundary c =
     let start : tie.Start invariant-loop decreases-loop = search in
-    omega (arith, c.index.ensures.0, start.pre.inside c.before.before.loop.k c.before.loop-test.true)
+    omega (arith, c.index.ensures.0, start.pre.inside c.before.before.loop-k.k c.before.loop-k-test.true)
 
-read-boundary-requires : tie.Need-read-boundary-requires invariant-loop decreases-loop
+read-boundary-requires : tie.Need-read_boundary-x-requires invariant-loop decreases-loop
 read-boundary-requires c κs =
     let start : tie.Start invariant-loop decreases-loop = search in
-    omega (arith, c.index.ensures.0, start.pre.inside c.before.before.loop.k c.before.loop-test.true)
+    omega (arith, c.index.ensures.0, start.pre.inside c.before.before.loop-k.k c.before.loop-k-test.true)
 
-mul-write-boundary : tie.Need-overflow-mul-write-boundary invariant-loop decreases-loop
+mul-write-boundary : tie.Need-overflow_mul-k invariant-loop decreases-loop
 mul-write-boundary c =
     let start : tie.Start invariant-loop decreases-loop = search in
     omega (arith, start.pre.limit)
 
-add-write-boundary : tie.Need-overflow-add-write-boundary invariant-loop decreases-loop
+add-write-boundary : tie.Need-overflow_add-to invariant-loop decreases-loop
 add-write-boundary c =
     let start : tie.Start invariant-loop decreases-loop = search in
     omega (arith, start.pre.room)
 
-write-boundary-requires : tie.Need-write-boundary-requires invariant-loop decreases-loop
+write-boundary-requires : tie.Need-write_boundary-requires invariant-loop decreases-loop
 write-boundary-requires c κs =
-    let in-loop : tie.At-loop invariant-loop decreases-loop = search in
+    let in-loop : tie.At-loop-k invariant-loop decreases-loop = search in
     let start = start_of in-loop in
-    omega (arith, start.pre.room, in-loop.loop.inv.1.long)
+    omega (arith, start.pre.room, in-loop.loop-k.inv.1.long)
 
-add-k : tie.Need-overflow-add-k invariant-loop decreases-loop
+add-k : tie.Need-overflow_add-k invariant-loop decreases-loop
 add-k c =
     let start : tie.Start invariant-loop decreases-loop = search in
     omega (arith, start.pre.limit)
 
-loop-again : tie.Need-loop-preserved invariant-loop decreases-loop
+loop-again : tie.Need-loop-k-preserved invariant-loop decreases-loop
 loop-again c =
-    let seen : tie.After-word2 invariant-loop decreases-loop = search in
+    let seen : tie.After-word-in-loop-k invariant-loop decreases-loop = search in
     let own = seen.before in
     let boundary = own.before.before in
     let rank = boundary.before in
@@ -68,23 +68,23 @@ loop-again c =
     let job = start.args.job.now in
     let at = start.args.at in (
       omega arith,
-      writes-next _ _ in-loop.loop.inv.1
-          (omega (arith, start.pre.room, kept-long (boundary_rows job at) kept owns seens (in-loop.loop.k + 1)))
-          (omega (arith, kept-long (boundary_rows job at) kept owns seens in-loop.loop.k)) c.before.before.write-boundary.ensures
-          (kept-is job at kept owns seens in-loop.loop.k boundary.read-boundary.ensures rank.index.ensures.0
-          own.word.ensures seen.word2.ensures),
+      writes-next _ _ in-loop.loop-k.inv.1
+          (omega (arith, start.pre.room, kept-long (boundary_rows job at) kept owns seens (in-loop.loop-k.k + 1)))
+          (omega (arith, kept-long (boundary_rows job at) kept owns seens in-loop.loop-k.k)) c.before.before.write_boundary.ensures
+          (kept-is job at kept owns seens in-loop.loop-k.k boundary.read_boundary-x.ensures rank.index.ensures.0
+          own.word.ensures seen.word-in-loop-k.ensures),
     )
 
-same_length : tie.Need-same-length invariant-loop decreases-loop
-same_length c = c.before.loop.invariant.1.long
+same_length : tie.Need-shape_of-s invariant-loop decreases-loop
+same_length c = c.before.loop-k.invariant.1.long
 
 returns : tie.Need-returns invariant-loop decreases-loop
 returns c =
-    let inv = c.before.loop.invariant in
+    let inv = c.before.loop-k.invariant in
     writes_end inv.1 inv.0 (omega arith)
 
-pub write-boundaries-spec : {M : Type 1} → statement M
-write-boundaries-spec =
+pub write_boundaries_spec : {M : Type 1} → statement M
+write_boundaries_spec =
     tie.close
     (tie.spec
     invariant-loop

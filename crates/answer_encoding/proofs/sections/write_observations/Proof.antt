@@ -8,24 +8,24 @@ use borrow.Author.Rules.{rules}
 use Rattle.answer_encoding.proofs.sections.write_observations.Statement.{statement}
 use Rattle.answer_encoding.proofs.sections.write_observations.Tie as tie
 
-abbrev invariant-loop : tie.invariant-loop
+abbrev invariant-loop : tie.invariant-loop-q
 invariant-loop s₀ to count seen first second third starts counts keys q₀ s q = (q ≤ count)
     × Writes s₀ to (λ k. place_piece first second third starts counts keys (get_or seen k 0)) q s
 
-abbrev decreases-loop : tie.decreases-loop
+abbrev decreases-loop : tie.decreases-loop-q
 decreases-loop s₀ to count seen first second third starts counts keys q₀ s q = count - q
 
-loop-holds : tie.Need-loop-init invariant-loop decreases-loop
+loop-holds : tie.Need-loop-q-init invariant-loop decreases-loop
 loop-holds c = (omega arith, writes_start _ _ _)
 
-write-place-requires : tie.Need-write-place-requires invariant-loop decreases-loop
+write-place-requires : tie.Need-write_place-requires invariant-loop decreases-loop
 write-place-requires c κs =
-    let in-loop : tie.At-loop invariant-loop decreases-loop = search in
-    omega (arith, in-loop.loop.inv.1.long)
+    let in-loop : tie.At-loop-q invariant-loop decreases-loop = search in
+    omega (arith, in-loop.loop-q.inv.1.long)
 
-loop-again : tie.Need-loop-preserved invariant-loop decreases-loop
+loop-again : tie.Need-loop-q-preserved invariant-loop decreases-loop
 loop-again c =
-    let place : tie.After-index invariant-loop decreases-loop = search in
+    let place : tie.After-index-p invariant-loop decreases-loop = search in
     let in-loop = place.before.before in
     let start : tie.Start invariant-loop decreases-loop = search in
     let second = start.args.second.now in
@@ -36,21 +36,21 @@ loop-again c =
     let keys = start.args.keys.now in
     let seen = start.args.seen.now in (
       omega arith,
-      writes-next _ _ in-loop.loop.inv.1 (omega (arith, places-long first second third starts counts keys seen (in-loop.loop.q + 1)))
-          (omega (arith, places-long first second third starts counts keys seen in-loop.loop.q)) c.before.before.write-place.ensures
-          (ap (place_piece first second third starts counts keys) place.index.ensures.0),
+      writes-next _ _ in-loop.loop-q.inv.1 (omega (arith, places-long first second third starts counts keys seen (in-loop.loop-q.q + 1)))
+          (omega (arith, places-long first second third starts counts keys seen in-loop.loop-q.q)) c.before.before.write_place.ensures
+          (ap (place_piece first second third starts counts keys) place.index-p.ensures.0),
     )
 
-same_length : tie.Need-same-length invariant-loop decreases-loop
-same_length c = c.before.loop.invariant.1.long
+same_length : tie.Need-shape_of-s invariant-loop decreases-loop
+same_length c = c.before.loop-q.invariant.1.long
 
 returns : tie.Need-returns invariant-loop decreases-loop
 returns c =
-    let inv = c.before.loop.invariant in
+    let inv = c.before.loop-q.invariant in
     writes_end inv.1 inv.0 (omega arith)
 
-pub write-observations-spec : {M : Type 1} → statement M
-write-observations-spec =
+pub write_observations_spec : {M : Type 1} → statement M
+write_observations_spec =
     tie.close
     (tie.spec
     invariant-loop

@@ -7,8 +7,8 @@ returns : tie.Need-returns
 unfolding key_span
 returns c =
     let high = c.before.before.before in
-    cc (high.high.ensures, c.before.before.low.ensures, c.before.high2.ensures, c.low2.ensures)
+    cc (high.high.ensures, c.before.before.low.ensures, c.before.high-2.ensures, c.low-2.ensures)
 
-pub span-of-spec : {M : Type 1} → statement M
-span-of-spec =
+pub span_of_spec : {M : Type 1} → statement M
+span_of_spec =
     tie.close (tie.spec (λ c κs. search rules) (λ c κs. search rules) (λ c κs. search rules) (λ c κs. search rules) returns)

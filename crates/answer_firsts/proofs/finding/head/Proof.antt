@@ -7,7 +7,7 @@ use borrow.Author.Rules.{rules}
 use Rattle.answer_firsts.proofs.finding.head.Statement.{statement}
 use Rattle.answer_firsts.proofs.finding.head.Tie as tie
 
-mul-result : tie.Need-overflow-mul-result
+mul-result : tie.Need-overflow_mul-result
 mul-result c =
     let start : tie.Start = search in
     let most = mul-le-mul c.mixed.ensures.1 start.pre in

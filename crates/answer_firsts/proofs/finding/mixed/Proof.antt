@@ -9,5 +9,5 @@ returns : tie.Need-returns
 unfolding mix
 returns c = (refl, omega arith)
 
-pub mixed-spec : {M : Type 1} → statement M
-mixed-spec = tie.close (tie.spec (λ c. search rules) (λ c. search rules) (λ c. search rules) returns)
+pub mixed_spec : {M : Type 1} → statement M
+mixed_spec = tie.close (tie.spec (λ c. search rules) (λ c. search rules) (λ c. search rules) returns)

@@ -6,33 +6,33 @@ use Rattle.answer_gathering.proofs.kept.gather_kept.Statement.{statement}
 use Rattle.answer_gathering.proofs.kept.gather_kept.Tie as tie
 
 -- back from the second call to the first, and to the start
-abbrev seen : tie.After-gather-owns → tie.After-gather-seens
+abbrev seen : tie.After-gather_owns → tie.After-gather_seens
 seen c = search
 
-abbrev start_of : tie.After-gather-seens → tie.Start
+abbrev start_of : tie.After-gather_seens → tie.Start
 start_of c = search
 
-gather-seens-requires : tie.Need-gather-seens-requires
+gather-seens-requires : tie.Need-gather_seens-requires
 gather-seens-requires c κs =
     let start : tie.Start = search in
     seens-room start.pre
 
-gather-owns-requires : tie.Need-gather-owns-requires
+gather-owns-requires : tie.Need-gather_owns-requires
 gather-owns-requires c κs =
     let start : tie.Start = search in
     (owns-room start.pre, start.pre.linked)
 
 returns : tie.Need-returns
 returns c =
-    let owns : tie.After-gather-owns = search in
+    let owns : tie.After-gather_owns = search in
     let seens = seen owns in
     let start = start_of seens in
     λ os count p. gathered start.args.job.now start.args.at start.args.from count p start.args.order.now start.args.plan.now
-    (place-below start.args.order.now start.args.n start.pre.ordered) start.pre.standing owns.gather-owns.ensures
-    seens.gather-seens.ensures (seens-room start.pre).small
+    (place-below start.args.order.now start.args.n start.pre.ordered) start.pre.standing owns.gather_owns.ensures
+    seens.gather_seens.ensures (seens-room start.pre).small
 
-pub gather-kept-spec : {M : Type 1} → statement M
-gather-kept-spec =
+pub gather_kept_spec : {M : Type 1} → statement M
+gather_kept_spec =
     tie.close
     (tie.spec
     gather-seens-requires

@@ -11,71 +11,71 @@ use Rattle.answer_gathering.proofs.own.add_own.Tie as tie
 abbrev start_of : tie.After-size → tie.Start
 start_of c = search
 
-abbrev known_of : tie.After-size → tie.After-shared-slice-known
+abbrev known_of : tie.After-size → tie.After-shared_slice_known-1
 known_of c = search
 
-returns : tie.Need-returns
+returns : tie.Need-returns-then-size-i
 returns c =
     let start : tie.Start = search in
-    by-else start.pre.3 c.before.size.ensures.0 c.if1.true
+    by-else start.pre.3 c.before.size.ensures.0 c.if-size-i.true
 
-shared-slice-read-size : tie.Need-shared-slice-read-size
+shared-slice-read-size : tie.Need-bounds-starts-base
 shared-slice-read-size c =
     let start : tie.Start = search in
-    omega (arith, start.pre.0.starts-room, start.pre.1, place_in start.pre.0 start.pre.1 c.before.size2.ensures.0)
+    omega (arith, start.pre.0.starts-room, start.pre.1, place_in start.pre.0 start.pre.1 c.before.size-b.ensures.0)
 
-read-boundary-requires : tie.Need-read-boundary-requires
+read-boundary-requires : tie.Need-read_boundary-x-requires
 read-boundary-requires c κs =
-    let rank : tie.After-size2 = search in
+    let rank : tie.After-size-b = search in
     let start = start_of rank.before.before.before in
-    omega (arith, start.pre.0.records-in, place_in start.pre.0 start.pre.1 rank.size2.ensures.0)
+    omega (arith, start.pre.0.records-in, place_in start.pre.0 start.pre.1 rank.size-b.ensures.0)
 
 -- before the call: what is known of the rank that goes into rank i
-module _ (c : tie.After-size4) where
-  abbrev boundary : tie.After-read-boundary
+module _ (c : tie.After-size-2) where
+  abbrev boundary : tie.After-read_boundary-x
   boundary = c.before
 
-  abbrev from : tie.After-size3
+  abbrev from : tie.After-size-p
   from = boundary.before
 
-  abbrev rank : tie.After-size2
+  abbrev rank : tie.After-size-b
   rank = from.before.before
 
-  abbrev goes : tie.Else1
+  abbrev goes : tie.Else-size-i
   goes = rank.before.before
 
   abbrev start : tie.Start
   start = start_of goes.before
 
-  abbrev many : c.size4.result ≡ own_count start.args.job.now start.args.at rank.size2.result
-  many = c.size4.ensures.0 ∙ ap (λ (r : BoundaryRecord). r.sources) boundary.read-boundary.ensures
+  abbrev many : c.size-2.result ≡ own_count start.args.job.now start.args.at rank.size-b.result
+  many = c.size-2.ensures.0 ∙ ap (λ (r : BoundaryRecord). r.sources) boundary.read_boundary-x.ensures
 
-add-places-requires : tie.Need-add-places-requires
+add-places-requires : tie.Need-add_places-requires
 add-places-requires c κs =
-    let a : tie.After-size4 = search in
+    let a : tie.After-size-2 = search in
     let pre = (start a).pre in
-    let place = (rank a).size2.ensures.0 in
-    let first = (from a).size3.ensures.0 in (
+    let place = (rank a).size-b.ensures.0 in
+    let first = (from a).size-p.ensures.0 in (
       pre.3.firsts.linked,
       (
         pre.3.firsts.low,
-        by-room pre.3 (goes a).before.size.ensures.0 (goes a).if1.left pre.0 pre.1 place first (many a) pre.2,
+        by-room pre.3 (goes a).before.size.ensures.0 (goes a).if-size-i.false pre.0 pre.1 place first (many a) pre.2,
         own-inside pre.0 pre.1 place first (many a),
         own-small pre.0 pre.1 place first (many a),
       ),
     )
 
-returns-2 : tie.Need-returns-2
+returns-2 : tie.Need-returns
 returns-2 c =
-    let added : tie.After-add-places = search in
-    let a : tie.After-size4 = search in
+    let added : tie.After-add_places = search in
+    let a : tie.After-size-2 = search in
     let pre = (start a).pre in
     let known = known_of (goes a).before in
-    by_next pre.3 (goes a).before.size.ensures.0 (goes a).if1.left pre.0 pre.1 (rank a).size2.ensures.0 (from a).size3.ensures.0 (many a)
-    (λ i. omega (arith, known.shared-slice-known.given i)) added.add-places.ensures
+    by_next pre.3 (goes a).before.size.ensures.0 (goes a).if-size-i.false pre.0 pre.1 (rank a).size-b.ensures.0 (from a).size-p.ensures.0 (many a)
+    (λ i. omega (arith, known.shared_slice_known-1.given i)) added.add_places.ensures
 
-pub add-own-spec : {M : Type 1} → statement M
-add-own-spec =
+pub add_own_spec : {M : Type 1} → statement M
+add_own_spec =
     tie.close
     (tie.spec
     (λ c. search rules)

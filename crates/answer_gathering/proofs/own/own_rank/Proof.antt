@@ -14,44 +14,44 @@ room c =
     let all = c.requires.0.own.few in
     (omega (arith, c.requires.0.kept-room), omega (arith, c.requires.0.owns-room))
 
-returns : tie.Need-returns
+returns : tie.Need-returns-then-size-i
 returns c =
     let start : tie.Start = search in
-    owns-skip _ _ _ _ _ _ _ _ _ start.pre.2 c.before.size.ensures.0 c.if1.true
+    owns-skip _ _ _ _ _ _ _ _ _ start.pre.2 c.before.size.ensures.0 c.if-size-i.true
 
-add-owns-requires : tie.Need-add-owns-requires
+add-owns-requires : tie.Need-add_owns-r-requires
 add-owns-requires c κs =
     let start : tie.Start = search in
     (start.pre.0.own, omega (arith, owns-fit start.pre.2, start.pre.0.owned-room), start.pre.2.linked)
 
-slice-write-kept : tie.Need-slice-write-kept
+slice-write-kept : tie.Need-bounds-kept-k
 slice-write-kept c = omega (arith, (room (search)).0)
 
-sub-owns : tie.Need-overflow-sub-owns
+sub-owns : tie.Need-overflow_sub-owns
 sub-owns c =
-    let added : tie.After-add-owns = search in
-    omega (arith, added.add-owns.ensures.firsts.low)
+    let added : tie.After-add_owns-r = search in
+    omega (arith, added.add_owns-r.ensures.firsts.low)
 
-cast-owns : tie.Need-overflow-cast-owns
+cast-owns : tie.Need-overflow_cast-owns
 cast-owns c =
-    let added : tie.After-add-owns = search in
-    let linked = added.add-owns.ensures.firsts.linked in
+    let added : tie.After-add_owns-r = search in
+    let linked = added.add_owns-r.ensures.firsts.linked in
     omega (arith, linked.few, linked.small)
 
-slice-write-owns : tie.Need-slice-write-owns
+slice-write-owns : tie.Need-bounds-owns-k
 slice-write-owns c = omega (arith, (room (search)).1)
 
-returns-2 : tie.Need-returns-2
+returns-2 : tie.Need-returns
 returns-2 c =
-    let added : tie.After-add-owns = search in
+    let added : tie.After-add_owns-r = search in
     let stays : tie.After-size = search in
     let start : tie.Start = search in
-    let job : tie.After-shared-slice-known = search in
-    owns-keep _ _ _ _ _ _ _ _ _ start.pre.2 stays.size.ensures.0 added.before.before.before.if1.left
-    (λ i. omega (arith, job.shared-slice-known.given i)) added.add-owns.ensures (room start).0 (room start).1 refl (omega arith)
+    let job : tie.After-shared_slice_known-1 = search in
+    owns-keep _ _ _ _ _ _ _ _ _ start.pre.2 stays.size.ensures.0 added.before.before.before.if-size-i.false
+    (λ i. omega (arith, job.shared_slice_known-1.given i)) added.add_owns-r.ensures (room start).0 (room start).1 refl (omega arith)
 
-pub own-rank-spec : {M : Type 1} → statement M
-own-rank-spec =
+pub own_rank_spec : {M : Type 1} → statement M
+own_rank_spec =
     tie.close
     (tie.spec
     (λ c. search rules)

@@ -8,28 +8,28 @@ use borrow.Author.Rules.{rules}
 use Rattle.answer_gathering.proofs.runs.append_places.Statement.{statement}
 use Rattle.answer_gathering.proofs.runs.append_places.Tie as tie
 
-abbrev invariant-loop : tie.invariant-loop
+abbrev invariant-loop : tie.invariant-loop-k
 invariant-loop p m seen₀ to k₀ seen k = (k ≤ m) × Appended seen₀ to (up_from p k) seen (to + k)
 
-abbrev decreases-loop : tie.decreases-loop
+abbrev decreases-loop : tie.decreases-loop-k
 decreases-loop p m seen₀ to k₀ seen k = m - k
 
-loop-holds : tie.Need-loop-init invariant-loop decreases-loop
+loop-holds : tie.Need-loop-k-init invariant-loop decreases-loop
 loop-holds c = (omega arith, places-start _ _ _)
 
-loop-again : tie.Need-loop-preserved invariant-loop decreases-loop
-loop-again c = (omega arith, places-next _ _ c.before.loop.invariant.1 refl (omega arith))
+loop-again : tie.Need-loop-k-preserved invariant-loop decreases-loop
+loop-again c = (omega arith, places-next _ _ c.before.loop-k.invariant.1 refl (omega arith))
 
-same_length : tie.Need-same-length invariant-loop decreases-loop
-same_length c = c.before.loop.invariant.1.long
+same_length : tie.Need-shape_of-seen invariant-loop decreases-loop
+same_length c = c.before.loop-k.invariant.1.long
 
 returns : tie.Need-returns invariant-loop decreases-loop
 returns c =
-    let inv = c.before.loop.invariant in
+    let inv = c.before.loop-k.invariant in
     run_end (up_from _) _ _ inv.1 refl inv.0 (omega arith)
 
-pub append-places-spec : {M : Type 1} → statement M
-append-places-spec =
+pub append_places_spec : {M : Type 1} → statement M
+append_places_spec =
     tie.close
     (tie.spec
     invariant-loop

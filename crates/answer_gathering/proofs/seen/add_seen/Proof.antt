@@ -12,59 +12,59 @@ use Rattle.answer_gathering.proofs.seen.add_seen.Tie as tie
 abbrev start_of : tie.After-size → tie.Start
 start_of c = search
 
-returns : tie.Need-returns
-returns c = elsewhere _ _ _ c.before.size.ensures.0 c.if1.true
+returns : tie.Need-returns-then-size-i
+returns c = elsewhere _ _ _ c.before.size.ensures.0 c.if-size-i.true
 
-read-boundary-requires : tie.Need-read-boundary-requires
+read-boundary-requires : tie.Need-read_boundary-x-requires
 read-boundary-requires c κs =
     let start : tie.Start = search in
-    omega (arith, start.pre.0.records-in, place-small start.pre.0 start.pre.1 c.size2.ensures.0)
+    omega (arith, start.pre.0.records-in, place-small start.pre.0 start.pre.1 c.size-b.ensures.0)
 
-shared-slice-read-size : tie.Need-shared-slice-read-size
+shared-slice-read-size : tie.Need-bounds-firsts-b
 shared-slice-read-size c =
     let start : tie.Start = search in
-    omega (arith, start.pre.0.firsts-room, start.pre.0.few, place-small start.pre.0 start.pre.1 c.before.before.size2.ensures.0)
+    omega (arith, start.pre.0.firsts-room, start.pre.0.few, place-small start.pre.0 start.pre.1 c.before.before.size-b.ensures.0)
 
-element-copy-out-add-seen-places : tie.Need-element-copy-out-add-seen-places
+element-copy-out-add-seen-places : tie.Need-bounds-stands-b
 element-copy-out-add-seen-places c =
-    let rank : tie.After-size2 = search in
+    let rank : tie.After-size-b = search in
     let start = start_of rank.before.before.before in
-    omega (arith, start.pre.0.few, start.pre.1, place-small start.pre.0 start.pre.1 rank.size2.ensures.0)
+    omega (arith, start.pre.0.few, start.pre.1, place-small start.pre.0 start.pre.1 rank.size-b.ensures.0)
 
-add-seen-places-requires : tie.Need-add-seen-places-requires
+add-seen-places-requires : tie.Need-add_seen_places-requires
 add-seen-places-requires c κs =
-    let many : tie.After-size4 = search in
+    let many : tie.After-size-3 = search in
     let first = many.before in
     let boundary = first.before.before in
     let rank = boundary.before in
     let goes = rank.before.before in
     let aim = goes.before in
     let start = start_of aim in (
-      own-place start.pre.0 start.pre.1 rank.size2.ensures.0,
-      places-inside start.pre.0 start.pre.1 rank.size2.ensures.0 first.size3.ensures.0
-          (many.size4.ensures.0 ∙ ap (λ (r : BoundaryRecord). r.observations) boundary.read-boundary.ensures),
-      seen-room start.pre.0 start.pre.1 rank.size2.ensures.0 start.args.to
-          (length start.args.seen.now) many.size4.result
-          (many.size4.ensures.0 ∙ ap (λ (r : BoundaryRecord). r.observations) boundary.read-boundary.ensures)
-          aim.size.ensures.0 goes.if1.left start.pre.3,
+      own-place start.pre.0 start.pre.1 rank.size-b.ensures.0,
+      places-inside start.pre.0 start.pre.1 rank.size-b.ensures.0 first.size-2.ensures.0
+          (many.size-3.ensures.0 ∙ ap (λ (r : BoundaryRecord). r.observations) boundary.read_boundary-x.ensures),
+      seen-room start.pre.0 start.pre.1 rank.size-b.ensures.0 start.args.to
+          (length start.args.seen.now) many.size-3.result
+          (many.size-3.ensures.0 ∙ ap (λ (r : BoundaryRecord). r.observations) boundary.read_boundary-x.ensures)
+          aim.size.ensures.0 goes.if-size-i.false start.pre.3,
     )
 
-returns-2 : tie.Need-returns-2
+returns-2 : tie.Need-returns
 returns-2 c =
-    let many : tie.After-size4 = search in
+    let many : tie.After-size-3 = search in
     let first = many.before in
     let boundary = first.before.before in
     let rank = boundary.before in
     let goes = rank.before.before in
     let aim = goes.before in
     let start = start_of aim in
-    there aim.size.ensures.0 goes.if1.left
-    (places-there start.pre.0 start.pre.1 rank.size2.ensures.0 aim.size.ensures.0 goes.if1.left start.pre.2
-    first.size3.ensures.0 (many.size4.ensures.0 ∙ ap (λ (r : BoundaryRecord). r.observations) boundary.read-boundary.ensures) refl
-    c.before.before.add-seen-places.ensures)
+    there aim.size.ensures.0 goes.if-size-i.false
+    (places-there start.pre.0 start.pre.1 rank.size-b.ensures.0 aim.size.ensures.0 goes.if-size-i.false start.pre.2
+    first.size-2.ensures.0 (many.size-3.ensures.0 ∙ ap (λ (r : BoundaryRecord). r.observations) boundary.read_boundary-x.ensures) refl
+    c.before.before.add_seen_places.ensures)
 
-pub add-seen-spec : {M : Type 1} → statement M
-add-seen-spec =
+pub add_seen_spec : {M : Type 1} → statement M
+add_seen_spec =
     tie.close
     (tie.spec
     (λ c. search rules)

@@ -10,19 +10,19 @@ use borrow.Author.Rules.{rules}
 use Rattle.answer_gathering.proofs.seen.add_seens.Statement.{statement}
 use Rattle.answer_gathering.proofs.seen.add_seens.Tie as tie
 
-abbrev invariant-loop : tie.invariant-loop
+abbrev invariant-loop : tie.invariant-loop-j
 invariant-loop job at order plan n i base stands firsts seen₀ from to₀ j₀ seen to j = (j ≤ n)
     × Appended seen₀ from (gather (places_at base order firsts (seen_count job at) (length (going plan n i))) (going plan j i)) seen to
     × (to ≤ from + sum_below (into plan (seen_weight order (seen_count job at)) i) j)
 
-abbrev decreases-loop : tie.decreases-loop
+abbrev decreases-loop : tie.decreases-loop-j
 decreases-loop job at order plan n i base stands firsts seen₀ from to₀ j₀ seen to j = n - j
 
 -- earlier places, each found by what it is
-abbrev start_of : tie.At-loop invariant-loop decreases-loop → tie.Start invariant-loop decreases-loop
+abbrev start_of : tie.At-loop-j invariant-loop decreases-loop → tie.Start invariant-loop decreases-loop
 start_of c = search
 
-loop-holds : tie.Need-loop-init invariant-loop decreases-loop
+loop-holds : tie.Need-loop-j-init invariant-loop decreases-loop
 loop-holds c =
     let start : tie.Start invariant-loop decreases-loop = search in (
       omega arith,
@@ -32,30 +32,30 @@ loop-holds c =
       omega arith,
     )
 
-add-seen-requires : tie.Need-add-seen-requires invariant-loop decreases-loop
+add-seen-requires : tie.Need-add_seen-to-requires invariant-loop decreases-loop
 add-seen-requires c κs =
     let in-loop = c.before.before in
     let start = start_of in-loop in
-    let inv = in-loop.loop.invariant in (
+    let inv = in-loop.loop-j.invariant in (
       start.pre.0,
-      c.before.loop-test.true,
+      c.before.loop-j-test.true,
       start.pre.1,
       omega (
         arith,
         inv.2,
         into-part start.args.plan.now (seen_weight start.args.order.now (seen_count start.args.job.now start.args.at))
-            start.args.i in-loop.loop.j start.args.n c.before.loop-test.true,
+            start.args.i in-loop.loop-j.j start.args.n c.before.loop-j-test.true,
         start.pre.2,
         inv.1.long,
       ),
     )
 
-loop-again : tie.Need-loop-preserved invariant-loop decreases-loop
+loop-again : tie.Need-loop-j-preserved invariant-loop decreases-loop
 loop-again c =
     let added = c.before.before in
     let in-loop = added.before.before.before in
     let start = start_of in-loop in
-    let inv = in-loop.loop.invariant in
+    let inv = in-loop.loop-j.invariant in
     let firsts = start.args.firsts.now in
     let order = start.args.order.now in
     let plan = start.args.plan.now in
@@ -64,28 +64,28 @@ loop-again c =
     let base = start.args.base in
     let at = start.args.at in (
       omega arith,
-      runs-next (places_at base order firsts (seen_count job at) among) plan in-loop.loop.j start.args.i inv.1
-          added.add-seen.ensures,
-      weight-next (places_at base order firsts (seen_count job at) among) plan in-loop.loop.j start.args.i inv.1
-          added.add-seen.ensures (seen_weight order (seen_count job at)) (places-long base order firsts (seen_count job at) among in-loop.loop.j)
+      runs-next (places_at base order firsts (seen_count job at) among) plan in-loop.loop-j.j start.args.i inv.1
+          added.add_seen-to.ensures,
+      weight-next (places_at base order firsts (seen_count job at) among) plan in-loop.loop-j.j start.args.i inv.1
+          added.add_seen-to.ensures (seen_weight order (seen_count job at)) (places-long base order firsts (seen_count job at) among in-loop.loop-j.j)
           inv.2,
     )
 
-same_length : tie.Need-same-length invariant-loop decreases-loop
-same_length c = c.before.loop.invariant.1.long
+same_length : tie.Need-shape_of-seen invariant-loop decreases-loop
+same_length c = c.before.loop-j.invariant.1.long
 
 returns : tie.Need-returns invariant-loop decreases-loop
 returns c =
     let start : tie.Start invariant-loop decreases-loop = search in
-    let inv = c.before.loop.invariant in
+    let inv = c.before.loop-j.invariant in
     let job = start.args.job.now in
     runs-end (places_at start.args.base start.args.order.now start.args.firsts.now (seen_count job start.args.at)
     (length (going start.args.plan.now start.args.n start.args.i)))
-    (seen_weight start.args.order.now (seen_count job start.args.at)) start.args.plan.now start.args.i c.before.loop.j start.args.n
+    (seen_weight start.args.order.now (seen_count job start.args.at)) start.args.plan.now start.args.i c.before.loop-j.j start.args.n
     inv.1 inv.2 inv.0 (omega arith)
 
-pub add-seens-spec : {M : Type 1} → statement M
-add-seens-spec =
+pub add_seens_spec : {M : Type 1} → statement M
+add_seens_spec =
     tie.close
     (tie.spec
     invariant-loop

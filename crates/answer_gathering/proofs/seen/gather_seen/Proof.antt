@@ -6,34 +6,34 @@ use Rattle.answer_gathering.proofs.seen.gather_seen.Statement.{statement}
 use Rattle.answer_gathering.proofs.seen.gather_seen.Tie as tie
 
 -- earlier places, each found by what it is
-abbrev start_of : tie.After-add-seens → tie.Start
+abbrev start_of : tie.After-add_seens-end → tie.Start
 start_of c = search
 
-sort-places-requires : tie.Need-sort-places-requires
+sort-places-requires : tie.Need-sort_places-requires
 sort-places-requires c κs =
-    let added : tie.After-add-seens = search in
+    let added : tie.After-add_seens-end = search in
     let start = start_of added in (
-      omega (arith, added.add-seens.ensures.0.ends),
-      omega (arith, added.add-seens.ensures.1, start.pre.2, added.add-seens.ensures.0.long),
-      omega (arith, added.add-seens.ensures.1, start.pre.3),
+      omega (arith, added.add_seens-end.ensures.0.ends),
+      omega (arith, added.add_seens-end.ensures.1, start.pre.2, added.add_seens-end.ensures.0.long),
+      omega (arith, added.add_seens-end.ensures.1, start.pre.3),
     )
 
 returns : tie.Need-returns
 returns c =
-    let sorted : tie.After-sort-places = search in
-    let added : tie.After-add-seens = search in
+    let sorted : tie.After-sort_places = search in
+    let added : tie.After-add_seens-end = search in
     let start = start_of added in (
       seen-gathered start.args.base start.args.order.now start.args.plan.now start.args.firsts.now start.args.first.now
           start.args.second.now start.args.third.now start.args.starts.now start.args.counts.now start.args.keys.now
           (seen_count start.args.job.now start.args.at) start.args.n start.args.i
-          added.add-seens.ensures.0 (omega (arith, start.pre.2))
-          (omega (arith, added.add-seens.ensures.1, start.pre.2, added.add-seens.ensures.0.long))
-          sorted.sort-places.ensures,
-      added.add-seens.ensures.1,
+          added.add_seens-end.ensures.0 (omega (arith, start.pre.2))
+          (omega (arith, added.add_seens-end.ensures.1, start.pre.2, added.add_seens-end.ensures.0.long))
+          sorted.sort_places.ensures,
+      added.add_seens-end.ensures.1,
     )
 
-pub gather-seen-spec : {M : Type 1} → statement M
-gather-seen-spec =
+pub gather_seen_spec : {M : Type 1} → statement M
+gather_seen_spec =
     tie.close
     (tie.spec
     (λ c κs. search rules)

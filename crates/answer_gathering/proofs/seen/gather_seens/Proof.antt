@@ -10,69 +10,69 @@ use Rattle.answer_gathering.proofs.Kepts.{seens-start, seens-counted, seens-end}
 use Rattle.answer_gathering.proofs.seen.gather_seens.Statement.{statement}
 use Rattle.answer_gathering.proofs.seen.gather_seens.Tie as tie
 
-abbrev invariant-loop : tie.invariant-loop
+abbrev invariant-loop : tie.invariant-loop-i
 invariant-loop job at order plan n base stands firsts first second third starts counts keys seens₀ seen₀ spare₀ k₀ a₀ i₀ seens seen spare k a i = (i ≤ n)
     × SeensBy base order plan firsts first second third starts counts keys (seen_count job at) n i k a seens seen × (length seens ≡ length seens₀)
     × (length seen ≡ length seen₀) × (length spare ≡ length spare₀)
 
-abbrev decreases-loop : tie.decreases-loop
+abbrev decreases-loop : tie.decreases-loop-i
 decreases-loop job at order plan n base stands firsts first second third starts counts keys seens₀ seen₀ spare₀ k₀ a₀ i₀ seens seen spare k a i = n - i
 
 -- earlier places, each found by what it is
-abbrev start_of : tie.At-loop invariant-loop decreases-loop → tie.Start invariant-loop decreases-loop
+abbrev start_of : tie.At-loop-i invariant-loop decreases-loop → tie.Start invariant-loop decreases-loop
 start_of c = search
 
-loop-holds : tie.Need-loop-init invariant-loop decreases-loop
+loop-holds : tie.Need-loop-i-init invariant-loop decreases-loop
 loop-holds c = (omega arith, seens-start _ _ _ _ _ _ _ _ _ _ _ _ _ _, refl, refl, refl)
 
-seen-rank-requires : tie.Need-seen-rank-requires invariant-loop decreases-loop
+seen-rank-requires : tie.Need-seen_rank-a-requires invariant-loop decreases-loop
 seen-rank-requires c κs =
-    let turning : tie.In-loop invariant-loop decreases-loop = search in
+    let turning : tie.In-loop-i invariant-loop decreases-loop = search in
     let in-loop = turning.before in
     let start = start_of in-loop in
-    let inv = in-loop.loop.inv in
-    (seens-room-same start.pre inv.2 inv.3 inv.4, turning.loop-test.taken, inv.1)
+    let inv = in-loop.loop-i.inv in
+    (seens-room-same start.pre inv.2 inv.3 inv.4, turning.loop-i-test.true, inv.1)
 
-add-k : tie.Need-overflow-add-k invariant-loop decreases-loop
+add-k : tie.Need-overflow_add-k invariant-loop decreases-loop
 add-k c =
-    let in-loop : tie.At-loop invariant-loop decreases-loop = search in
+    let in-loop : tie.At-loop-i invariant-loop decreases-loop = search in
     let start = start_of in-loop in
-    omega (arith, c.counted.ensures.1, in-loop.loop.inv.1.few, start.pre.own.few)
+    omega (arith, c.counted-k.ensures.1, in-loop.loop-i.inv.1.few, start.pre.own.few)
 
-add-i : tie.Need-overflow-add-i invariant-loop decreases-loop
+add-i : tie.Need-overflow_add-i invariant-loop decreases-loop
 add-i c =
-    let turning : tie.In-loop invariant-loop decreases-loop = search in
+    let turning : tie.In-loop-i invariant-loop decreases-loop = search in
     let start = start_of turning.before in
-    omega (arith, turning.loop-test.taken, start.pre.own.few)
+    omega (arith, turning.loop-i-test.true, start.pre.own.few)
 
-loop-again : tie.Need-loop-preserved invariant-loop decreases-loop
+loop-again : tie.Need-loop-i-preserved invariant-loop decreases-loop
 loop-again c =
-    let ranked : tie.After-seen-rank invariant-loop decreases-loop = search in
-    let in-loop : tie.At-loop invariant-loop decreases-loop = search in
-    let inv = in-loop.loop.inv in (
+    let ranked : tie.After-seen_rank-a invariant-loop decreases-loop = search in
+    let in-loop : tie.At-loop-i invariant-loop decreases-loop = search in
+    let inv = in-loop.loop-i.inv in (
       omega arith,
-      seens-counted in-loop.loop.k c.counted.ensures.0 ranked.seen-rank.ensures,
+      seens-counted in-loop.loop-i.k c.counted-k.ensures.0 ranked.seen_rank-a.ensures,
       omega (arith, inv.2),
       omega (arith, inv.3),
       omega (arith, inv.4),
     )
 
-same_length : tie.Need-same-length invariant-loop decreases-loop
-same_length c = c.before.loop.invariant.2
+same_length : tie.Need-shape_of-seens invariant-loop decreases-loop
+same_length c = c.before.loop-i.invariant.2
 
-same-length-2 : tie.Need-same-length-2 invariant-loop decreases-loop
-same-length-2 c = c.before.loop.invariant.3
+same-length-2 : tie.Need-shape_of-seen invariant-loop decreases-loop
+same-length-2 c = c.before.loop-i.invariant.3
 
-same-length-3 : tie.Need-same-length-3 invariant-loop decreases-loop
-same-length-3 c = c.before.loop.invariant.4
+same-length-3 : tie.Need-shape_of-spare invariant-loop decreases-loop
+same-length-3 c = c.before.loop-i.invariant.4
 
 returns : tie.Need-returns invariant-loop decreases-loop
 returns c =
-    let inv = c.before.loop.invariant in
+    let inv = c.before.loop-i.invariant in
     seens-end _ _ _ _ _ _ _ _ _ _ _ _ inv.1 inv.0 (omega arith)
 
-pub gather-seens-spec : {M : Type 1} → statement M
-gather-seens-spec =
+pub gather_seens_spec : {M : Type 1} → statement M
+gather_seens_spec =
     tie.close
     (tie.spec
     invariant-loop

@@ -11,41 +11,41 @@ use Rattle.answer_gathering.proofs.seen.seen_rank.Tie as tie
 room : (c : tie.Start) → c.args.k < length c.args.seens.now
 room c = omega (arith, c.requires.2.few, c.requires.1, c.requires.0.own.few, c.requires.0.seens-room)
 
-returns : tie.Need-returns
+returns : tie.Need-returns-then-size-i
 returns c =
     let start : tie.Start = search in
-    seens-skip _ _ _ _ _ _ _ _ _ _ _ _ start.pre.2 c.before.size.ensures.0 c.if1.true
+    seens-skip _ _ _ _ _ _ _ _ _ _ _ _ start.pre.2 c.before.size.ensures.0 c.if-size-i.true
 
-gather-seen-requires : tie.Need-gather-seen-requires
+gather-seen-requires : tie.Need-gather_seen-r-requires
 gather-seen-requires c κs =
     let start : tie.Start = search in
     let fit = seens-fit start.pre.2 in
     (start.pre.0.own, start.pre.1, omega (arith, start.pre.0.seen-room), omega (arith, start.pre.0.spare-room))
 
-sub-seens : tie.Need-overflow-sub-seens
+sub-seens : tie.Need-overflow_sub-seens
 sub-seens c =
-    let gathered : tie.After-gather-seen = search in
-    omega (arith, gathered.gather-seen.ensures.0.ends)
+    let gathered : tie.After-gather_seen-r = search in
+    omega (arith, gathered.gather_seen-r.ensures.0.ends)
 
-cast-seens : tie.Need-overflow-cast-seens
+cast-seens : tie.Need-overflow_cast-seens
 cast-seens c =
     let start : tie.Start = search in
-    let gathered : tie.After-gather-seen = search in
-    omega (arith, gathered.gather-seen.ensures.1, seens-fit start.pre.2, start.pre.0.small)
+    let gathered : tie.After-gather_seen-r = search in
+    omega (arith, gathered.gather_seen-r.ensures.1, seens-fit start.pre.2, start.pre.0.small)
 
-slice-write-seens : tie.Need-slice-write-seens
+slice-write-seens : tie.Need-bounds-seens-k
 slice-write-seens c = omega (arith, room (search))
 
-returns-2 : tie.Need-returns-2
+returns-2 : tie.Need-returns
 returns-2 c =
     let start : tie.Start = search in
-    let gathered : tie.After-gather-seen = search in
+    let gathered : tie.After-gather_seen-r = search in
     let stays = gathered.before.before.before.before in
-    seens-keep _ _ _ _ _ _ _ _ _ _ _ _ start.pre.2 stays.size.ensures.0 gathered.before.before.before.if1.left
-    gathered.gather-seen.ensures.0 gathered.gather-seen.ensures.1 (room start) refl
+    seens-keep _ _ _ _ _ _ _ _ _ _ _ _ start.pre.2 stays.size.ensures.0 gathered.before.before.before.if-size-i.false
+    gathered.gather_seen-r.ensures.0 gathered.gather_seen-r.ensures.1 (room start) refl
 
-pub seen-rank-spec : {M : Type 1} → statement M
-seen-rank-spec =
+pub seen_rank_spec : {M : Type 1} → statement M
+seen_rank_spec =
     tie.close
     (tie.spec
     (λ c. search rules)

@@ -6,5 +6,5 @@ use Rattle.answer_sources.proofs.casts.packed.Tie as tie
 returns : tie.Need-returns
 returns c = (omega arith, omega arith, omega arith)
 
-pub packed-spec : {M : Type 1} → statement M
-packed-spec = tie.close (tie.spec (λ c κs. search rules) (λ c. search rules) (λ c κs. search rules) (λ c. search rules) returns)
+pub packed_spec : {M : Type 1} → statement M
+packed_spec = tie.close (tie.spec (λ c κs. search rules) (λ c. search rules) (λ c κs. search rules) (λ c. search rules) returns)

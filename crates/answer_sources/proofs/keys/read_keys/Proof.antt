@@ -6,60 +6,60 @@ use Rattle.answer_sources.proofs.KeysRead.{keys-start, keys-next, keys-end, part
 use Rattle.answer_sources.proofs.keys.read_keys.Statement.{statement}
 use Rattle.answer_sources.proofs.keys.read_keys.Tie as tie
 
-abbrev invariant-loop : tie.invariant-loop
+abbrev invariant-loop : tie.invariant-loop-q
 invariant-loop job from starts counts n keys₀ q₀ keys q = (q ≤ n) × KeysRead job from q starts counts keys₀ keys
 
-abbrev decreases-loop : tie.decreases-loop
+abbrev decreases-loop : tie.decreases-loop-q
 decreases-loop job from starts counts n keys₀ q₀ keys q = n - q
 
 -- what the function is given and asked
-abbrev start_of : tie.In-loop invariant-loop decreases-loop → tie.Start invariant-loop decreases-loop
+abbrev start_of : tie.In-loop-q invariant-loop decreases-loop → tie.Start invariant-loop decreases-loop
 start_of c = search
 
-loop-holds : tie.Need-loop-init invariant-loop decreases-loop
+loop-holds : tie.Need-loop-q-init invariant-loop decreases-loop
 loop-holds c = (omega arith, keys-start _ _ _ _ _)
 
-read-start : tie.Need-shared-slice-read-size invariant-loop decreases-loop
+read-start : tie.Need-bounds-starts-q invariant-loop decreases-loop
 read-start c =
-    let turning : tie.In-loop invariant-loop decreases-loop = search in
-    omega (arith, (start_of turning).pre.starts-room, turning.loop-test.taken)
+    let turning : tie.In-loop-q invariant-loop decreases-loop = search in
+    omega (arith, (start_of turning).pre.starts-room, turning.loop-q-test.true)
 
-read_count : tie.Need-shared-slice-read-size-2 invariant-loop decreases-loop
+read_count : tie.Need-bounds-counts-q invariant-loop decreases-loop
 read_count c =
-    let turning : tie.In-loop invariant-loop decreases-loop = search in
-    omega (arith, (start_of turning).pre.counts-room, turning.loop-test.taken)
+    let turning : tie.In-loop-q invariant-loop decreases-loop = search in
+    omega (arith, (start_of turning).pre.counts-room, turning.loop-q-test.true)
 
-read-part-requires : tie.Need-read-part-requires invariant-loop decreases-loop
+read-part-requires : tie.Need-read_part-requires invariant-loop decreases-loop
 read-part-requires c κs =
-    let many : tie.After-size2 invariant-loop decreases-loop = search in
+    let many : tie.After-size-in-loop-q invariant-loop decreases-loop = search in
     let first : tie.After-size invariant-loop decreases-loop = search in
-    let turning : tie.In-loop invariant-loop decreases-loop = search in
+    let turning : tie.In-loop-q invariant-loop decreases-loop = search in
     let room = (start_of turning).pre in
-    let read = turning.before.loop.inv.1 in (
-      part-inside room read first.size.ensures.0 many.size2.ensures.0,
-      part-fits room read first.size.ensures.0 many.size2.ensures.0,
+    let read = turning.before.loop-q.inv.1 in (
+      part-inside room read first.size.ensures.0 many.size-in-loop-q.ensures.0,
+      part-fits room read first.size.ensures.0 many.size-in-loop-q.ensures.0,
     )
 
-loop-again : tie.Need-loop-preserved invariant-loop decreases-loop
+loop-again : tie.Need-loop-q-preserved invariant-loop decreases-loop
 loop-again c =
-    let part : tie.After-read-part invariant-loop decreases-loop = search in
-    let many : tie.After-size2 invariant-loop decreases-loop = search in
+    let part : tie.After-read_part invariant-loop decreases-loop = search in
+    let many : tie.After-size-in-loop-q invariant-loop decreases-loop = search in
     let first : tie.After-size invariant-loop decreases-loop = search in
-    let turning : tie.In-loop invariant-loop decreases-loop = search in (
+    let turning : tie.In-loop-q invariant-loop decreases-loop = search in (
       omega arith,
-      keys-next (start_of turning).pre turning.before.loop.inv.1 first.size.ensures.0 many.size2.ensures.0 part.read-part.ensures,
+      keys-next (start_of turning).pre turning.before.loop-q.inv.1 first.size.ensures.0 many.size-in-loop-q.ensures.0 part.read_part.ensures,
     )
 
-same_length : tie.Need-same-length invariant-loop decreases-loop
-same_length c = omega (arith, c.before.loop.invariant.1.long)
+same_length : tie.Need-shape_of-keys invariant-loop decreases-loop
+same_length c = omega (arith, c.before.loop-q.invariant.1.long)
 
 returns : tie.Need-returns invariant-loop decreases-loop
 returns c =
-    let inv = c.before.loop.invariant in
+    let inv = c.before.loop-q.invariant in
     keys-end inv.1 inv.0 (omega arith)
 
-pub read-keys-spec : {M : Type 1} → statement M
-read-keys-spec =
+pub read_keys_spec : {M : Type 1} → statement M
+read_keys_spec =
     tie.close
     (tie.spec
     invariant-loop

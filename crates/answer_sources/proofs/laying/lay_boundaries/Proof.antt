@@ -11,132 +11,132 @@ use Rattle.answer_sources.proofs.Layouts.{layout-start, layout-next, layout-end,
 use Rattle.answer_sources.proofs.laying.lay_boundaries.Statement.{statement}
 use Rattle.answer_sources.proofs.laying.lay_boundaries.Tie as tie
 
-abbrev invariant-loop : tie.invariant-loop
+abbrev invariant-loop : tie.invariant-loop-b
 invariant-loop job at n ats base stands firsts₀ starts₀ counts₀ run₀ p₀ b₀ firsts starts counts run p b = (b ≤ n)
     × Layout stands (own_count job at) (seen_count job at) (cited_count job ats) base n firsts starts counts b p run × (length firsts ≡ length firsts₀)
     × (length starts ≡ length starts₀) × (length counts ≡ length counts₀)
 
-abbrev decreases-loop : tie.decreases-loop
+abbrev decreases-loop : tie.decreases-loop-b
 decreases-loop job at n ats base stands firsts₀ starts₀ counts₀ run₀ p₀ b₀ firsts starts counts run p b = n - b
 
 -- what the function is given and asked
-abbrev start_of : tie.In-loop invariant-loop decreases-loop → tie.Start invariant-loop decreases-loop
+abbrev start_of : tie.In-loop-b invariant-loop decreases-loop → tie.Start invariant-loop decreases-loop
 start_of c = search
 
-abbrev given : tie.After-size invariant-loop decreases-loop → tie.Start invariant-loop decreases-loop
+abbrev given : tie.After-size-seen invariant-loop decreases-loop → tie.Start invariant-loop decreases-loop
 given c = start_of c.before.before
 
-abbrev at-loop : tie.After-size invariant-loop decreases-loop → tie.At-loop invariant-loop decreases-loop
+abbrev at-loop : tie.After-size-seen invariant-loop decreases-loop → tie.At-loop-b invariant-loop decreases-loop
 at-loop c = c.before.before.before
 
 -- the places of what is laid next, once its record is read
-few : (c : tie.After-size invariant-loop decreases-loop) → ((given c).args.base + (at-loop c).loop.b < 1280) × ((at-loop c).loop.p ≤ 1024)
-    × ((at-loop c).loop.b < length (at-loop c).loop.firsts)
-    × ((given c).args.base + (at-loop c).loop.b < length (at-loop c).loop.starts)
-    × ((given c).args.base + (at-loop c).loop.b < length (at-loop c).loop.counts)
+few : (c : tie.After-size-seen invariant-loop decreases-loop) → ((given c).args.base + (at-loop c).loop-b.b < 1280) × ((at-loop c).loop-b.p ≤ 1024)
+    × ((at-loop c).loop-b.b < length (at-loop c).loop-b.firsts)
+    × ((given c).args.base + (at-loop c).loop-b.b < length (at-loop c).loop-b.starts)
+    × ((given c).args.base + (at-loop c).loop-b.b < length (at-loop c).loop-b.counts)
 few c =
     let g = (given c).requires.0 in
-    let l = (at-loop c).loop.invariant.1 in
-    let h = c.before.before.loop-test.true in
+    let l = (at-loop c).loop-b.invariant.1 in
+    let h = c.before.before.loop-b-test.true in
     (own-place g l h, places-fit g l h, omega (arith, l.firsts-room), omega (arith, l.starts-room), omega (arith, l.counts-room))
 
-loop-holds : tie.Need-loop-init invariant-loop decreases-loop
+loop-holds : tie.Need-loop-b-init invariant-loop decreases-loop
 loop-holds c =
     let start : tie.Start invariant-loop decreases-loop = search in
     (omega arith, layout-start _ _ _ _ start.pre.1, refl, refl, refl)
 
-mul-read-boundary : tie.Need-overflow-mul-read-boundary invariant-loop decreases-loop
+mul-read-boundary : tie.Need-overflow_mul-b invariant-loop decreases-loop
 mul-read-boundary c = omega (arith, (start_of c).requires.0.boundaries-in)
 
-add-read-boundary : tie.Need-overflow-add-read-boundary invariant-loop decreases-loop
+add-read-boundary : tie.Need-overflow_add-at invariant-loop decreases-loop
 add-read-boundary c = omega (arith, (start_of c).requires.0.boundaries-in)
 
-read-boundary-requires : tie.Need-read-boundary-requires invariant-loop decreases-loop
+read-boundary-requires : tie.Need-read_boundary-x-requires invariant-loop decreases-loop
 read-boundary-requires c κs = omega (arith, (start_of c).requires.0.boundaries-in)
 
-cast-firsts : tie.Need-overflow-cast-firsts invariant-loop decreases-loop
+cast-firsts : tie.Need-overflow_cast-firsts invariant-loop decreases-loop
 cast-firsts c = omega (arith, (few c).1)
 
-slice-write-firsts : tie.Need-slice-write-firsts invariant-loop decreases-loop
+slice-write-firsts : tie.Need-bounds-firsts-b invariant-loop decreases-loop
 slice-write-firsts c = omega (arith, (few c).2)
 
-add-starts : tie.Need-overflow-add-starts invariant-loop decreases-loop
+add-starts : tie.Need-overflow_add-starts invariant-loop decreases-loop
 add-starts c = omega (arith, (few c).0)
 
-slice-write-starts : tie.Need-slice-write-starts invariant-loop decreases-loop
+slice-write-starts : tie.Need-bounds-starts-base invariant-loop decreases-loop
 slice-write-starts c = omega (arith, (few c).3)
 
-copy-stands : tie.Need-element-copy-out-stood-with invariant-loop decreases-loop
-copy-stands c = omega (arith, c.before.before.loop-test.true, (given c).requires.0.boundary-limit)
+copy-stands : tie.Need-bounds-stands-b invariant-loop decreases-loop
+copy-stands c = omega (arith, c.before.before.loop-b-test.true, (given c).requires.0.boundary-limit)
 
-add-counts : tie.Need-overflow-add-counts invariant-loop decreases-loop
+add-counts : tie.Need-overflow_add-counts invariant-loop decreases-loop
 add-counts c =
-    let sized : tie.After-size invariant-loop decreases-loop = search in
+    let sized : tie.After-size-seen invariant-loop decreases-loop = search in
     omega (arith, (few sized).0)
 
-slice-write-counts : tie.Need-slice-write-counts invariant-loop decreases-loop
+slice-write-counts : tie.Need-bounds-counts-base invariant-loop decreases-loop
 slice-write-counts c =
-    let sized : tie.After-size invariant-loop decreases-loop = search in
+    let sized : tie.After-size-seen invariant-loop decreases-loop = search in
     omega (arith, (few sized).4)
 
-add-lay-observations : tie.Need-overflow-add-lay-observations invariant-loop decreases-loop
+add-lay-observations : tie.Need-overflow_add-run invariant-loop decreases-loop
 add-lay-observations c =
-    let sized : tie.After-size invariant-loop decreases-loop = search in
+    let sized : tie.After-size-seen invariant-loop decreases-loop = search in
     omega (
       arith,
-      own-fits (given sized).pre.0 (at-loop sized).loop.inv.1 sized.before.before.loop-test.taken,
-      ap (λ (r : BoundaryRecord). r.sources) sized.before.read-boundary.ensures,
+      own-fits (given sized).pre.0 (at-loop sized).loop-b.inv.1 sized.before.before.loop-b-test.true,
+      ap (λ (r : BoundaryRecord). r.sources) sized.before.read_boundary-x.ensures,
     )
 
-lay-observations-requires : tie.Need-lay-observations-requires invariant-loop decreases-loop
+lay-observations-requires : tie.Need-lay_observations-run-requires invariant-loop decreases-loop
 lay-observations-requires c κs =
-    let stood : tie.After-stood-with invariant-loop decreases-loop = search in
-    let sized : tie.After-size invariant-loop decreases-loop = search in
-    let read = sized.before.read-boundary.ensures in
-    room_for (given sized).pre.0 (at-loop sized).loop.inv.1 sized.before.before.loop-test.taken
-    (ap (λ (r : BoundaryRecord). r.sources) read) stood.stood-with.ensures.1
-    (sized.size.ensures.0 ∙ ap (λ (r : BoundaryRecord). r.observations) read) refl
+    let stood : tie.After-stood_with invariant-loop decreases-loop = search in
+    let sized : tie.After-size-seen invariant-loop decreases-loop = search in
+    let read = sized.before.read_boundary-x.ensures in
+    room_for (given sized).pre.0 (at-loop sized).loop-b.inv.1 sized.before.before.loop-b-test.true
+    (ap (λ (r : BoundaryRecord). r.sources) read) stood.stood_with.ensures.1
+    (sized.size-seen.ensures.0 ∙ ap (λ (r : BoundaryRecord). r.observations) read) refl
 
-add-p : tie.Need-overflow-add-p invariant-loop decreases-loop
+add-p : tie.Need-overflow_add-p invariant-loop decreases-loop
 add-p c =
-    let sized : tie.After-size invariant-loop decreases-loop = search in
+    let sized : tie.After-size-seen invariant-loop decreases-loop = search in
     omega (
       arith,
       (few sized).1,
-      sized.size.ensures.0 ∙ ap (λ (r : BoundaryRecord). r.observations) sized.before.read-boundary.ensures,
+      sized.size-seen.ensures.0 ∙ ap (λ (r : BoundaryRecord). r.observations) sized.before.read_boundary-x.ensures,
     )
 
-loop-again : tie.Need-loop-preserved invariant-loop decreases-loop
+loop-again : tie.Need-loop-b-preserved invariant-loop decreases-loop
 loop-again c =
-    let laid : tie.After-lay-observations invariant-loop decreases-loop = search in
-    let stood : tie.After-stood-with invariant-loop decreases-loop = search in
-    let sized : tie.After-size invariant-loop decreases-loop = search in
-    let read = sized.before.read-boundary.ensures in
-    let inv = (at-loop sized).loop.inv in
+    let laid : tie.After-lay_observations-run invariant-loop decreases-loop = search in
+    let stood : tie.After-stood_with invariant-loop decreases-loop = search in
+    let sized : tie.After-size-seen invariant-loop decreases-loop = search in
+    let read = sized.before.read_boundary-x.ensures in
+    let inv = (at-loop sized).loop-b.inv in
     let sources = ap (λ (r : BoundaryRecord). r.sources) read in
-    let next = layout-next (given sized).pre.0 inv.1 sized.before.before.loop-test.taken sources
-    (stood.stood-with.ensures.0 ∙ ap (λ (k : ℕ). cond (eqb (get_or (given sized).args.stands.now (at-loop sized).loop.b 0) 1) k 0) sources)
-    (sized.size.ensures.0 ∙ ap (λ (r : BoundaryRecord). r.observations) read) laid.lay-observations.ensures
+    let next = layout-next (given sized).pre.0 inv.1 sized.before.before.loop-b-test.true sources
+    (stood.stood_with.ensures.0 ∙ ap (λ (k : ℕ). cond (eqb (get_or (given sized).args.stands.now (at-loop sized).loop-b.b 0) 1) k 0) sources)
+    (sized.size-seen.ensures.0 ∙ ap (λ (r : BoundaryRecord). r.observations) read) laid.lay_observations-run.ensures
     inv.2 inv.3 inv.4 in
     (omega arith, next.0, next.1, next.2, next.3)
 
-same_length : tie.Need-same-length invariant-loop decreases-loop
-same_length c = omega (arith, c.before.loop.invariant.2)
+same_length : tie.Need-shape_of-firsts invariant-loop decreases-loop
+same_length c = omega (arith, c.before.loop-b.invariant.2)
 
-same-length-2 : tie.Need-same-length-2 invariant-loop decreases-loop
-same-length-2 c = omega (arith, c.before.loop.invariant.3)
+same-length-2 : tie.Need-shape_of-starts invariant-loop decreases-loop
+same-length-2 c = omega (arith, c.before.loop-b.invariant.3)
 
-same-length-3 : tie.Need-same-length-3 invariant-loop decreases-loop
-same-length-3 c = omega (arith, c.before.loop.invariant.4)
+same-length-3 : tie.Need-shape_of-counts invariant-loop decreases-loop
+same-length-3 c = omega (arith, c.before.loop-b.invariant.4)
 
 returns : tie.Need-returns invariant-loop decreases-loop
 returns c =
     let start : tie.Start invariant-loop decreases-loop = search in
-    let inv = c.before.loop.invariant in
+    let inv = c.before.loop-b.invariant in
     layout-end start.pre.0 inv.1 inv.0 (omega arith)
 
-pub lay-boundaries-spec : {M : Type 1} → statement M
-lay-boundaries-spec =
+pub lay_boundaries_spec : {M : Type 1} → statement M
+lay_boundaries_spec =
     tie.close
     (tie.spec
     invariant-loop

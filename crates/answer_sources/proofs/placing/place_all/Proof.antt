@@ -6,97 +6,97 @@ use Rattle.answer_sources.proofs.placing.place_all.Statement.{statement}
 use Rattle.answer_sources.proofs.placing.place_all.Tie as tie
 
 -- the places that the facts come from, each from a later one
-abbrev given : tie.After-lay-boundaries → tie.Start
+abbrev given : tie.After-lay_boundaries → tie.Start
 given c = search
 
-abbrev job-known : tie.After-lay-boundaries → tie.After-shared-slice-known
+abbrev job-known : tie.After-lay_boundaries → tie.After-shared_slice_known-1
 job-known c = search
 
-abbrev laid : tie.After-read-keys → tie.After-lay-boundaries
+abbrev laid : tie.After-read_keys → tie.After-lay_boundaries
 laid c = search
 
-abbrev keys-read : tie.After-sort-parts-arg4 → tie.After-read-keys
+abbrev keys-read : tie.After-sort-parts-arg4 → tie.After-read_keys
 keys-read c = search
 
-abbrev sorted : tie.After-rank-observations-arg3 → tie.After-sort-parts
+abbrev sorted : tie.After-rank_observations-arg-3-1 → tie.After-sort_parts
 sorted c = search
 
-abbrev first-ranked : tie.After-rank-boundaries-arg3 → tie.After-rank-observations
+abbrev first-ranked : tie.After-rank_boundaries-arg-3-1 → tie.After-rank_observations
 first-ranked c = search
 
-add-read-keys : tie.Need-overflow-add-read-keys
+add-read-keys : tie.Need-overflow_add-m
 add-read-keys c =
-    let layout : tie.After-lay-boundaries = search in
+    let layout : tie.After-lay_boundaries = search in
     omega (arith, places-few (given layout).pre.0)
 
-read-keys-requires : tie.Need-read-keys-requires
+read-keys-requires : tie.Need-read_keys-requires
 read-keys-requires c κs =
-    let layout : tie.After-lay-boundaries = search in
-    keys-room (given layout).pre.0 (given layout).pre.1 layout.lay-boundaries.ensures (omega arith) (omega arith)
+    let layout : tie.After-lay_boundaries = search in
+    keys-room (given layout).pre.0 (given layout).pre.1 layout.lay_boundaries.ensures (omega arith) (omega arith)
 
-add-sort-parts : tie.Need-overflow-add-sort-parts
+add-sort-parts : tie.Need-overflow_add-m-2
 add-sort-parts c = omega (arith, places-few (given (laid (keys-read c))).requires.0)
 
-sort-parts-requires : tie.Need-sort-parts-requires
+sort-parts-requires : tie.Need-sort_parts-requires
 sort-parts-requires c κs =
     let layout = laid (keys-read c) in
-    parts-room (given layout).pre.0 (given layout).pre.1 layout.lay-boundaries.ensures (omega arith) (omega arith)
-    (keys-read c).read-keys.ensures
+    parts-room (given layout).pre.0 (given layout).pre.1 layout.lay_boundaries.ensures (omega arith) (omega arith)
+    (keys-read c).read_keys.ensures
 
-rank-observations-requires : tie.Need-rank-observations-requires
+rank-observations-requires : tie.Need-rank_observations-requires
 rank-observations-requires c κs =
     let start = given (laid (keys-read (sorted c).before)) in
     (observations-inside start.pre.0, ranks-room start.pre.1.ranks (omega arith))
 
-rank-boundaries-requires : tie.Need-rank-boundaries-requires
+rank-boundaries-requires : tie.Need-rank_boundaries-requires
 rank-boundaries-requires c κs =
     let start = given (laid (keys-read (sorted (first-ranked c).before).before)) in
-    (start.pre.0.countable.boundaries-in, ranks-after (first-ranked c).rank-observations.ensures start.pre.1.ranks)
+    (start.pre.0.countable.boundaries-in, ranks-after (first-ranked c).rank_observations.ensures start.pre.1.ranks)
 
-same_length : tie.Need-same-length
+same_length : tie.Need-shape_of-keys
 same_length c =
-    let all-ranked : tie.After-rank-boundaries = search in
+    let all-ranked : tie.After-rank_boundaries = search in
     let parts = sorted (first-ranked all-ranked.before).before in
-    omega (arith, parts.sort-parts.ensures.keys-long, (keys-read parts.before).read-keys.ensures.long)
+    omega (arith, parts.sort_parts.ensures.keys-long, (keys-read parts.before).read_keys.ensures.long)
 
-same-length-3 : tie.Need-same-length-3
+same-length-3 : tie.Need-shape_of-firsts
 same-length-3 c =
-    let all-ranked : tie.After-rank-boundaries = search in
+    let all-ranked : tie.After-rank_boundaries = search in
     let keyed = keys-read (sorted (first-ranked all-ranked.before).before).before in
-    let firsts-laid : tie.After-firsts = search in
+    let firsts-laid : tie.After-firsts-1 = search in
     omega arith
 
-same-length-4 : tie.Need-same-length-4
+same-length-4 : tie.Need-shape_of-starts
 same-length-4 c =
-    let all-ranked : tie.After-rank-boundaries = search in
+    let all-ranked : tie.After-rank_boundaries = search in
     let keyed = keys-read (sorted (first-ranked all-ranked.before).before).before in
-    let starts-laid : tie.After-starts = search in
+    let starts-laid : tie.After-starts-1 = search in
     omega arith
 
-same-length-5 : tie.Need-same-length-5
+same-length-5 : tie.Need-shape_of-counts
 same-length-5 c =
-    let all-ranked : tie.After-rank-boundaries = search in
+    let all-ranked : tie.After-rank_boundaries = search in
     let parts = sorted (first-ranked all-ranked.before).before in
     let keyed = keys-read parts.before in
-    let counts-laid : tie.After-counts = search in
+    let counts-laid : tie.After-counts-1 = search in
     omega arith
 
 returns : tie.Need-returns
 returns c =
-    let all-ranked : tie.After-rank-boundaries = search in
+    let all-ranked : tie.After-rank_boundaries = search in
     let seen-ranked = first-ranked all-ranked.before in
     let parts = sorted seen-ranked.before in
     let keyed = keys-read parts.before in
     let layout = laid keyed in
     let start = given layout in
-    let known = (job-known layout).shared-slice-known.given in (
-      placed start.pre.0 (λ i. omega (arith, known i)) keyed.read-keys.ensures layout.lay-boundaries.ensures parts.sort-parts.ensures
-          seen-ranked.rank-observations.ensures all-ranked.rank-boundaries.ensures,
-      placed-inside start.pre.0 layout.lay-boundaries.ensures,
+    let known = (job-known layout).shared_slice_known-1.given in (
+      placed start.pre.0 (λ i. omega (arith, known i)) keyed.read_keys.ensures layout.lay_boundaries.ensures parts.sort_parts.ensures
+          seen-ranked.rank_observations.ensures all-ranked.rank_boundaries.ensures,
+      placed-inside start.pre.0 layout.lay_boundaries.ensures,
     )
 
-pub place-all-spec : {M : Type 1} → statement M
-place-all-spec =
+pub place_all_spec : {M : Type 1} → statement M
+place_all_spec =
     tie.close
     (tie.spec
     (λ c κs. search rules)

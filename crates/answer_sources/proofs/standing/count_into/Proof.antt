@@ -6,43 +6,43 @@ use Rattle.answer_sources.proofs.Stands.{sizes-start, sizes-next, sizes-end}
 use Rattle.answer_sources.proofs.standing.count_into.Statement.{statement}
 use Rattle.answer_sources.proofs.standing.count_into.Tie as tie
 
-abbrev invariant-loop : tie.invariant-loop
+abbrev invariant-loop : tie.invariant-loop-j
 invariant-loop plan n sizes₀ j₀ sizes j = (j ≤ n) × Sizes plan j sizes
 
-abbrev decreases-loop : tie.decreases-loop
+abbrev decreases-loop : tie.decreases-loop-j
 decreases-loop plan n sizes₀ j₀ sizes j = n - j
 
-loop-holds : tie.Need-loop-init invariant-loop decreases-loop
+loop-holds : tie.Need-loop-j-init invariant-loop decreases-loop
 loop-holds c =
     let start : tie.Start invariant-loop decreases-loop = search in
     (omega arith, sizes-start _ start.pre.1)
 
-copy-plan : tie.Need-element-copy-out-size invariant-loop decreases-loop
+copy-plan : tie.Need-bounds-plan-j invariant-loop decreases-loop
 copy-plan c =
     let start : tie.Start invariant-loop decreases-loop = search in
-    let turning : tie.In-loop invariant-loop decreases-loop = search in
-    omega (arith, start.pre.0, turning.loop-test.taken)
+    let turning : tie.In-loop-j invariant-loop decreases-loop = search in
+    omega (arith, start.pre.0, turning.loop-j-test.true)
 
-count-one-requires : tie.Need-count-one-requires invariant-loop decreases-loop
+count-one-requires : tie.Need-count_one-requires invariant-loop decreases-loop
 count-one-requires c =
     let start : tie.Start invariant-loop decreases-loop = search in
-    let turning : tie.In-loop invariant-loop decreases-loop = search in
-    omega (arith, turning.before.loop.inv.1.most c.size.result, start.pre.0, turning.loop-test.taken)
+    let turning : tie.In-loop-j invariant-loop decreases-loop = search in
+    omega (arith, turning.before.loop-j.inv.1.most c.size.result, start.pre.0, turning.loop-j-test.true)
 
-loop-again : tie.Need-loop-preserved invariant-loop decreases-loop
+loop-again : tie.Need-loop-j-preserved invariant-loop decreases-loop
 loop-again c =
-    let counted : tie.After-count-one invariant-loop decreases-loop = search in
+    let counted : tie.After-count_one invariant-loop decreases-loop = search in
     let sized : tie.After-size invariant-loop decreases-loop = search in
-    let turning : tie.In-loop invariant-loop decreases-loop = search in
-    (omega arith, sizes-next turning.before.loop.inv.1 sized.size.ensures.0 counted.count-one.ensures.0 counted.count-one.ensures.1)
+    let turning : tie.In-loop-j invariant-loop decreases-loop = search in
+    (omega arith, sizes-next turning.before.loop-j.inv.1 sized.size.ensures.0 counted.count_one.ensures.0 counted.count_one.ensures.1)
 
 returns : tie.Need-returns invariant-loop decreases-loop
 returns c =
-    let inv = c.before.loop.invariant in
+    let inv = c.before.loop-j.invariant in
     sizes-end inv.1 inv.0 (omega arith)
 
-pub count-into-spec : {M : Type 1} → statement M
-count-into-spec =
+pub count_into_spec : {M : Type 1} → statement M
+count_into_spec =
     tie.close
     (tie.spec
     invariant-loop

@@ -9,36 +9,36 @@ use Rattle.format.specs.declared.records.BoundaryRecord.{BoundaryRecord}
 use Rattle.answer_sources.proofs.standing.mark_one.Statement.{statement}
 use Rattle.answer_sources.proofs.standing.mark_one.Tie as tie
 
-returns : tie.Need-returns
-returns c = (λ h. absurd (omega (arith, c.if1.true)), λ h. refl)
+returns : tie.Need-returns-then-i-ge256
+returns c = (λ h. absurd (omega (arith, c.if-i-ge256.true)), λ h. refl)
 
-mul-read-boundary : tie.Need-overflow-mul-read-boundary
+mul-read-boundary : tie.Need-overflow_mul-b
 mul-read-boundary c =
     let start : tie.Start = search in
     omega (arith, start.pre.0)
 
-add-read-boundary : tie.Need-overflow-add-read-boundary
+add-read-boundary : tie.Need-overflow_add-at
 add-read-boundary c =
     let start : tie.Start = search in
     omega (arith, start.pre.0)
 
-read-boundary-requires : tie.Need-read-boundary-requires
+read-boundary-requires : tie.Need-read_boundary-x-requires
 read-boundary-requires c κs =
     let start : tie.Start = search in
     omega (arith, start.pre.0)
 
-returns-2 : tie.Need-returns-2
+returns-2 : tie.Need-returns
 returns-2 c =
-    let read : tie.After-read-boundary = search in
+    let read : tie.After-read_boundary-x = search in
     let start : tie.Start = search in
-    let seen = ap (λ (r : BoundaryRecord). r.observations) read.read-boundary.ensures in (
+    let seen = ap (λ (r : BoundaryRecord). r.observations) read.read_boundary-x.ensures in (
       λ h. ap (set start.args.stands.now start.args.b)
-          (c.stands-as.ensures ∙ ap (λ (k : ℕ). cond (eqb k 0 && not (eqb (get_or start.args.sizes.now start.args.i 0) 1)) 1 0) seen),
+          (c.stands_as.ensures ∙ ap (λ (k : ℕ). cond (eqb k 0 && not (eqb (get_or start.args.sizes.now start.args.i 0) 1)) 1 0) seen),
       λ h. absurd (omega arith),
     )
 
-pub mark-one-spec : {M : Type 1} → statement M
-mark-one-spec =
+pub mark_one_spec : {M : Type 1} → statement M
+mark_one_spec =
     tie.close
     (tie.spec
     returns

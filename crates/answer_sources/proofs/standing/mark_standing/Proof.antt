@@ -9,66 +9,66 @@ use Rattle.answer_sources.proofs.Stands.{StandingTo, place-below, standing-start
 use Rattle.answer_sources.proofs.standing.mark_standing.Statement.{statement}
 use Rattle.answer_sources.proofs.standing.mark_standing.Tie as tie
 
-abbrev invariant-loop : tie.invariant-loop
+abbrev invariant-loop : tie.invariant-loop-j
 invariant-loop job at n order plan stands₀ sizes j₀ stands j = (j ≤ n) × StandingTo order plan (seen_count job at) n j stands
 
-abbrev decreases-loop : tie.decreases-loop
+abbrev decreases-loop : tie.decreases-loop-j
 decreases-loop job at n order plan stands₀ sizes j₀ stands j = n - j
 
 -- what the function is given and asked
-abbrev start_of : tie.In-loop invariant-loop decreases-loop → tie.Start invariant-loop decreases-loop
+abbrev start_of : tie.In-loop-j invariant-loop decreases-loop → tie.Start invariant-loop decreases-loop
 start_of c = search
 
-count-into-requires : tie.Need-count-into-requires invariant-loop decreases-loop
+count-into-requires : tie.Need-count_into-requires invariant-loop decreases-loop
 count-into-requires c κs =
     let start : tie.Start invariant-loop decreases-loop = search in
     (start.pre.0, refl)
 
-loop-holds : tie.Need-loop-init invariant-loop decreases-loop
+loop-holds : tie.Need-loop-j-init invariant-loop decreases-loop
 loop-holds c =
     let start : tie.Start invariant-loop decreases-loop = search in
     (omega arith, standing-start _ _ _ _ start.pre.3)
 
-copy-order : tie.Need-element-copy-out-size invariant-loop decreases-loop
+copy-order : tie.Need-bounds-order-j invariant-loop decreases-loop
 copy-order c =
-    let turning : tie.In-loop invariant-loop decreases-loop = search in
-    omega (arith, (start_of turning).pre.0, turning.loop-test.taken)
+    let turning : tie.In-loop-j invariant-loop decreases-loop = search in
+    omega (arith, (start_of turning).pre.0, turning.loop-j-test.true)
 
-copy-plan : tie.Need-element-copy-out-size-2 invariant-loop decreases-loop
+copy-plan : tie.Need-bounds-plan-j invariant-loop decreases-loop
 copy-plan c =
-    let turning : tie.In-loop invariant-loop decreases-loop = search in
-    omega (arith, (start_of turning).pre.0, turning.loop-test.taken)
+    let turning : tie.In-loop-j invariant-loop decreases-loop = search in
+    omega (arith, (start_of turning).pre.0, turning.loop-j-test.true)
 
 -- the place of the rank at hand
-place : (c : tie.In-loop invariant-loop decreases-loop) → get_or (start_of c).args.order.now c.before.loop.j 0 < (start_of c).args.n
-place c = place-below (start_of c).args.order.now (start_of c).args.n (start_of c).requires.2 c.before.loop.j c.loop-test.true
+place : (c : tie.In-loop-j invariant-loop decreases-loop) → get_or (start_of c).args.order.now c.before.loop-j.j 0 < (start_of c).args.n
+place c = place-below (start_of c).args.order.now (start_of c).args.n (start_of c).requires.2 c.before.loop-j.j c.loop-j-test.true
 
-mark-one-requires : tie.Need-mark-one-requires invariant-loop decreases-loop
+mark-one-requires : tie.Need-mark_one-requires invariant-loop decreases-loop
 mark-one-requires c κs =
     let first : tie.After-size invariant-loop decreases-loop = search in
-    let turning : tie.In-loop invariant-loop decreases-loop = search in
+    let turning : tie.In-loop-j invariant-loop decreases-loop = search in
     let start = start_of turning in
     (omega (arith, start.pre.1, place turning, first.size.ensures.0), omega (arith, start.pre.0, place turning, first.size.ensures.0))
 
-loop-again : tie.Need-loop-preserved invariant-loop decreases-loop
+loop-again : tie.Need-loop-j-preserved invariant-loop decreases-loop
 loop-again c =
-    let marked : tie.After-mark-one invariant-loop decreases-loop = search in
-    let aim : tie.After-size2 invariant-loop decreases-loop = search in
+    let marked : tie.After-mark_one invariant-loop decreases-loop = search in
+    let aim : tie.After-size-in-loop-j invariant-loop decreases-loop = search in
     let first : tie.After-size invariant-loop decreases-loop = search in
-    let turning : tie.In-loop invariant-loop decreases-loop = search in
-    let counted : tie.After-count-into invariant-loop decreases-loop = search in
+    let turning : tie.In-loop-j invariant-loop decreases-loop = search in
+    let counted : tie.After-count_into invariant-loop decreases-loop = search in
     let start = start_of turning in (
       omega arith,
-      standing-next start.pre.0 start.pre.2 turning.before.loop.inv.1 turning.loop-test.taken first.size.ensures.0
-          aim.size2.ensures.0 _ counted.count-into.ensures (omega (arith, start.pre.0, place turning, first.size.ensures.0))
-          marked.mark-one.ensures.0 marked.mark-one.ensures.1,
+      standing-next start.pre.0 start.pre.2 turning.before.loop-j.inv.1 turning.loop-j-test.true first.size.ensures.0
+          aim.size-in-loop-j.ensures.0 _ counted.count_into.ensures (omega (arith, start.pre.0, place turning, first.size.ensures.0))
+          marked.mark_one.ensures.0 marked.mark_one.ensures.1,
     )
 
 returns : tie.Need-returns invariant-loop decreases-loop
-returns c = standing-end c.before.loop.invariant.1 (omega arith)
+returns c = standing-end c.before.loop-j.invariant.1 (omega arith)
 
-pub mark-standing-spec : {M : Type 1} → statement M
-mark-standing-spec =
+pub mark_standing_spec : {M : Type 1} → statement M
+mark_standing_spec =
     tie.close
     (tie.spec
     invariant-loop

@@ -3,14 +3,14 @@ use borrow.Author.Tests.{eq-eqb, ne_eqb}
 use Rattle.answer_sources.proofs.standing.stands_as.Statement.{statement}
 use Rattle.answer_sources.proofs.standing.stands_as.Tie as tie
 
-returns : tie.Need-returns
-returns c = rw (ne_eqb _ 0 c.if1.true)
+returns : tie.Need-returns-then-observations-ne0
+returns c = rw (ne_eqb _ 0 c.if-observations-ne0.true)
 
-returns-2 : tie.Need-returns-2
-returns-2 c = rw (eq-eqb _ 0 c.before.if1.false, eq-eqb _ 1 c.if2.true)
+returns-2 : tie.Need-returns-then-among-eq1
+returns-2 c = rw (eq-eqb _ 0 c.before.if-observations-ne0.false, eq-eqb _ 1 c.if-among-eq1.true)
 
-returns-3 : tie.Need-returns-3
-returns-3 c = rw (eq-eqb _ 0 c.before.if1.false, ne_eqb _ 1 c.if2.false)
+returns-3 : tie.Need-returns
+returns-3 c = rw (eq-eqb _ 0 c.before.if-observations-ne0.false, ne_eqb _ 1 c.if-among-eq1.false)
 
-pub stands-as-spec : {M : Type 1} → statement M
-stands-as-spec = tie.close (tie.spec returns returns-2 returns-3)
+pub stands_as_spec : {M : Type 1} → statement M
+stands_as_spec = tie.close (tie.spec returns returns-2 returns-3)

@@ -4,13 +4,13 @@ use borrow.Author.Rules.{rules}
 use Rattle.answer_text.proofs.digits.write_digits.Statement.{statement}
 use Rattle.answer_text.proofs.digits.write_digits.Tie as tie
 
-abbrev invariant-loop : tie.invariant-loop
+abbrev invariant-loop : tie.invariant-loop-i
 invariant-loop v base k out₀ at i₀ rest₀ out i rest = Spelt base k v out₀ at out i rest
 
-abbrev decreases-loop : tie.decreases-loop
+abbrev decreases-loop : tie.decreases-loop-i
 decreases-loop v base k out₀ at i₀ rest₀ out i rest = i
 
-loop-holds : tie.Need-loop-init invariant-loop decreases-loop
+loop-holds : tie.Need-loop-i-init invariant-loop decreases-loop
 loop-holds c = spelt-start c.before.requires.2
 
 rem-glyph : tie.Need-nonzero-rem-glyph invariant-loop decreases-loop
@@ -23,31 +23,31 @@ glyph-requires c κs =
     let start : tie.Start invariant-loop decreases-loop = search in
     remainder-small _ start.pre.0 start.pre.1
 
-slice-write-out : tie.Need-slice-write-out invariant-loop decreases-loop
+slice-write-out : tie.Need-bounds-out-at invariant-loop decreases-loop
 slice-write-out c =
     let in-loop = c.before.before in
-    let inv = in-loop.loop.invariant in
-    omega (arith, inv.size, inv.fits, spelt-long (inv), c.before.loop-test.true)
+    let inv = in-loop.loop-i.invariant in
+    omega (arith, inv.size, inv.fits, spelt-long (inv), c.before.loop-i-test.true)
 
-div-rest : tie.Need-nonzero-div-rest invariant-loop decreases-loop
+div-rest : tie.Need-nonzero_div-rest invariant-loop decreases-loop
 div-rest c =
     let start : tie.Start invariant-loop decreases-loop = search in
     omega (arith, start.pre.0)
 
-loop-less : tie.Need-loop-smaller invariant-loop decreases-loop
-loop-less c = omega (arith, c.before.loop-test.true)
+loop-less : tie.Need-loop-i-smaller invariant-loop decreases-loop
+loop-less c = omega (arith, c.before.loop-i-test.true)
 
-loop-again : tie.Need-loop-preserved invariant-loop decreases-loop
-loop-again c = rw c.glyph.ensures (spelt-next c.before.before.loop.invariant c.before.loop-test.true)
+loop-again : tie.Need-loop-i-preserved invariant-loop decreases-loop
+loop-again c = rw c.glyph.ensures (spelt-next c.before.before.loop-i.invariant c.before.loop-i-test.true)
 
-same_length : tie.Need-same-length invariant-loop decreases-loop
-same_length c = spelt-long c.before.loop.invariant
+same_length : tie.Need-shape_of-out invariant-loop decreases-loop
+same_length c = spelt-long c.before.loop-i.invariant
 
 returns : tie.Need-returns invariant-loop decreases-loop
-returns c = spelt-end c.before.loop.invariant c.loop-test.false
+returns c = spelt-end c.before.loop-i.invariant c.loop-i-test.false
 
-pub write-digits-spec : {M : Type 1} → statement M
-write-digits-spec =
+pub write_digits_spec : {M : Type 1} → statement M
+write_digits_spec =
     tie.close
     (tie.spec
     invariant-loop

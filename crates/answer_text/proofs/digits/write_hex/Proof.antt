@@ -4,7 +4,7 @@ use borrow.Author.Rules.{rules}
 use Rattle.answer_text.proofs.digits.write_hex.Statement.{statement}
 use Rattle.answer_text.proofs.digits.write_hex.Tie as tie
 
-write-digits-requires : tie.Need-write-digits-requires
+write-digits-requires : tie.Need-write_digits-requires
 write-digits-requires c κs =
     let start = c.before.before in
     (omega arith, omega arith, omega (arith, start.requires, length-hex_digits start.args.v))
@@ -12,7 +12,7 @@ write-digits-requires c κs =
 returns : tie.Need-returns
 returns c =
     let start : tie.Start = search in
-    hex-writes start.args.v c.before.before.write-digits.ensures
+    hex-writes start.args.v c.before.before.write_digits.ensures
 
-pub write-hex-spec : {M : Type 1} → statement M
-write-hex-spec = tie.close (tie.spec write-digits-requires (λ c. search rules) (λ c. search rules) returns)
+pub write_hex_spec : {M : Type 1} → statement M
+write_hex_spec = tie.close (tie.spec write-digits-requires (λ c. search rules) (λ c. search rules) returns)

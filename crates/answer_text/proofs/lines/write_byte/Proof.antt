@@ -7,5 +7,5 @@ use Rattle.answer_text.proofs.lines.write_byte.Tie as tie
 returns : tie.Need-returns
 returns c = byte-writes _ _ _ (omega (arith, c.requires))
 
-pub write-byte-spec : {M : Type 1} → statement M
-write-byte-spec = tie.close (tie.spec (λ c. search rules) (λ c. search rules) (λ c. search rules) returns)
+pub write_byte_spec : {M : Type 1} → statement M
+write_byte_spec = tie.close (tie.spec (λ c. search rules) (λ c. search rules) (λ c. search rules) returns)

@@ -5,21 +5,21 @@ use Rattle.answer_text.proofs.lines.write_field.Statement.{statement}
 use Rattle.answer_text.proofs.lines.write_field.Tie as tie
 
 -- earlier places, each found by what it is
-abbrev start_of : tie.After-write-byte → tie.Start
+abbrev start_of : tie.After-write_byte-end → tie.Start
 start_of c = search
 
-write-decimal-requires : tie.Need-write-decimal-requires
+write-decimal-requires : tie.Need-write_decimal-requires
 write-decimal-requires c κs =
-    let space-written : tie.After-write-byte = search in
-    room (next (field-start _ _ _ (start_of space-written).pre) space-written.write_byte.ensures)
+    let space-written : tie.After-write_byte-end = search in
+    room (next (field-start _ _ _ (start_of space-written).pre) space-written.write_byte-end.ensures)
 
 returns : tie.Need-returns
 returns c =
-    let space-written : tie.After-write-byte = search in
-    done (next (next (field-start _ _ _ (start_of space-written).pre) space-written.write_byte.ensures) c.before.before.write-decimal.ensures)
+    let space-written : tie.After-write_byte-end = search in
+    done (next (next (field-start _ _ _ (start_of space-written).pre) space-written.write_byte-end.ensures) c.before.before.write_decimal.ensures)
 
-pub write-field-spec : {M : Type 1} → statement M
-write-field-spec =
+pub write_field_spec : {M : Type 1} → statement M
+write_field_spec =
     tie.close
     (tie.spec
     (λ c κs. search (room, field-start))

@@ -5,44 +5,44 @@ use Rattle.answer_text.proofs.lines.write_four.Statement.{statement}
 use Rattle.answer_text.proofs.lines.write_four.Tie as tie
 
 -- earlier places, each found by what it is
-abbrev start_of : tie.After-write-word → tie.Start
+abbrev start_of : tie.After-write_word-end1 → tie.Start
 start_of c = search
 
-abbrev a-written-of : tie.After-write-word2 → tie.After-write-word
+abbrev a-written-of : tie.After-write_word-end2 → tie.After-write_word-end1
 a-written-of c = search
 
-abbrev b-written-of : tie.After-write-word3 → tie.After-write-word2
+abbrev b-written-of : tie.After-write_word-end3 → tie.After-write_word-end2
 b-written-of c = search
 
-write-word-requires-2 : tie.Need-write-word-requires-2
+write-word-requires-2 : tie.Need-write_word-end2-requires
 write-word-requires-2 c κs =
-    let a-written : tie.After-write-word = search in
-    room (next (four-start _ _ _ _ _ _ (start_of a-written).pre) a-written.write_word.ensures)
+    let a-written : tie.After-write_word-end1 = search in
+    room (next (four-start _ _ _ _ _ _ (start_of a-written).pre) a-written.write_word-end1.ensures)
 
-write-word-requires-3 : tie.Need-write-word-requires-3
+write-word-requires-3 : tie.Need-write_word-end3-requires
 write-word-requires-3 c κs =
-    let b-written : tie.After-write-word2 = search in
+    let b-written : tie.After-write_word-end2 = search in
     let a-written = a-written-of b-written in
-    room (next (next (four-start _ _ _ _ _ _ (start_of a-written).pre) a-written.write_word.ensures) b-written.write-word2.ensures)
+    room (next (next (four-start _ _ _ _ _ _ (start_of a-written).pre) a-written.write_word-end1.ensures) b-written.write_word-end2.ensures)
 
-write-word-requires-4 : tie.Need-write-word-requires-4
+write-word-requires-4 : tie.Need-write_word-requires
 write-word-requires-4 c κs =
-    let c-written : tie.After-write-word3 = search in
+    let c-written : tie.After-write_word-end3 = search in
     let b-written = b-written-of c-written in
     let a-written = a-written-of b-written in
-    room (next (next (next (four-start _ _ _ _ _ _ (start_of a-written).pre) a-written.write_word.ensures) b-written.write-word2.ensures)
-    c-written.write-word3.ensures)
+    room (next (next (next (four-start _ _ _ _ _ _ (start_of a-written).pre) a-written.write_word-end1.ensures) b-written.write_word-end2.ensures)
+    c-written.write_word-end3.ensures)
 
 returns : tie.Need-returns
 returns c =
-    let c-written : tie.After-write-word3 = search in
+    let c-written : tie.After-write_word-end3 = search in
     let b-written = b-written-of c-written in
     let a-written = a-written-of b-written in
-    done (next (next (next (next (four-start _ _ _ _ _ _ (start_of a-written).pre) a-written.write_word.ensures) b-written.write-word2.ensures)
-    c-written.write-word3.ensures) c.before.before.write-word4.ensures)
+    done (next (next (next (next (four-start _ _ _ _ _ _ (start_of a-written).pre) a-written.write_word-end1.ensures) b-written.write_word-end2.ensures)
+    c-written.write_word-end3.ensures) c.before.before.write_word.ensures)
 
-pub write-four-spec : {M : Type 1} → statement M
-write-four-spec =
+pub write_four_spec : {M : Type 1} → statement M
+write_four_spec =
     tie.close
     (tie.spec
     (λ c κs. search (room, four-start))

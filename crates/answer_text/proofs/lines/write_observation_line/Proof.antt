@@ -5,21 +5,21 @@ use Rattle.answer_text.proofs.lines.write_observation_line.Statement.{statement}
 use Rattle.answer_text.proofs.lines.write_observation_line.Tie as tie
 
 -- earlier places, each found by what it is
-abbrev start_of : tie.After-write-head → tie.Start
+abbrev start_of : tie.After-write_head-end → tie.Start
 start_of c = search
 
-write-byte-requires : tie.Need-write-byte-requires
+write-byte-requires : tie.Need-write_byte-requires
 write-byte-requires c κs =
-    let head-written : tie.After-write-head = search in
-    room (next (observation-start _ _ _ _ _ (start_of head-written).pre) head-written.write-head.ensures)
+    let head-written : tie.After-write_head-end = search in
+    room (next (observation-start _ _ _ _ _ (start_of head-written).pre) head-written.write_head-end.ensures)
 
 returns : tie.Need-returns
 returns c =
-    let head-written : tie.After-write-head = search in
-    done (next (next (observation-start _ _ _ _ _ (start_of head-written).pre) head-written.write-head.ensures) c.before.before.write_byte.ensures)
+    let head-written : tie.After-write_head-end = search in
+    done (next (next (observation-start _ _ _ _ _ (start_of head-written).pre) head-written.write_head-end.ensures) c.before.before.write_byte.ensures)
 
-pub write-observation-line-spec : {M : Type 1} → statement M
-write-observation-line-spec =
+pub write_observation_line_spec : {M : Type 1} → statement M
+write_observation_line_spec =
     tie.close
     (tie.spec
     (λ c κs. search (room, observation-start))

@@ -3,7 +3,7 @@ use Rattle.format.specs.Decode.{ramp_of}
 use Rattle.answer_text.proofs.lines.write_ramp.Statement.{statement}
 use Rattle.answer_text.proofs.lines.write_ramp.Tie as tie
 
-write-four-requires : tie.Need-write-four-requires
+write-four-requires : tie.Need-write_four-requires
 unfolding ramp_of
 write-four-requires c κs = search rules
 
@@ -11,8 +11,8 @@ returns : tie.Need-returns
 unfolding ramp_of
 returns c = search rules
 
-pub write-ramp-spec : {M : Type 1} → statement M
-write-ramp-spec =
+pub write_ramp_spec : {M : Type 1} → statement M
+write_ramp_spec =
     tie.close
     (tie.spec
     (λ c. search rules)

@@ -7,54 +7,54 @@ use Rattle.answer_text.proofs.listing.write_listing.Statement.{statement}
 use Rattle.answer_text.proofs.listing.write_listing.Tie as tie
 
 -- earlier places, each found by what it is
-abbrev answer-known-of : tie.After-read-u32 → tie.After-shared-slice-known
+abbrev answer-known-of : tie.After-read_u32-kept → tie.After-shared_slice_known-1
 answer-known-of c = search
 
-returns : tie.Need-returns
-returns c = (no_header _ _ c.if1.true, omega arith)
+returns : tie.Need-returns-then-n-lt-ANSWER_HEADER_SIZE
+returns c = (no_header _ _ c.if-n-lt-ANSWER_HEADER_SIZE.true, omega arith)
 
-returns-2 : tie.Need-returns-2
+returns-2 : tie.Need-returns-then-n-total
 returns-2 c =
-    let after-size2 : tie.After-size2 = search in
+    let after-size2 : tie.After-size-o = search in
     let after-read-u322 = after-size2.before in
     let after-size = after-read-u322.before in
     let after-read-u32 = after-size.before in (
       no-records _ _ (omega (
         arith,
-        c.if2.true,
-        c.before.size3.ensures.0,
-        c.before.before.read-u323.ensures,
-        after-size2.size2.ensures.0,
-        after-read-u322.read-u322.ensures,
-        after-size.size.ensures.0,
-        after-read-u32.read_u32.ensures,
+        c.if-n-total.true,
+        c.before.size-s.ensures.0,
+        c.before.before.read_u32-2.ensures,
+        after-size2.size-o.ensures.0,
+        after-read-u322.read_u32.ensures,
+        after-size.size-b.ensures.0,
+        after-read-u32.read_u32-kept.ensures,
       )),
       omega arith,
     )
 
-returns-3 : tie.Need-returns-3
+returns-3 : tie.Need-returns-then-out-total
 returns-3 c =
-    let after-read-u323 : tie.After-read-u323 = search in
+    let after-read-u323 : tie.After-read_u32-2 = search in
     let after-size2 = after-read-u323.before in
     let after-read-u322 = after-size2.before in
     let after-size = after-read-u322.before in
     let after-read-u32 = after-size.before in (
       no_room _ _ (omega (
         arith,
-        c.if3.true,
-        c.before.before.size3.ensures.0,
-        after-read-u323.read-u323.ensures,
-        after-size2.size2.ensures.0,
-        after-read-u322.read-u322.ensures,
-        after-size.size.ensures.0,
-        after-read-u32.read_u32.ensures,
+        c.if-out-total.true,
+        c.before.before.size-s.ensures.0,
+        after-read-u323.read_u32-2.ensures,
+        after-size2.size-o.ensures.0,
+        after-read-u322.read_u32.ensures,
+        after-size.size-b.ensures.0,
+        after-read-u32.read_u32-kept.ensures,
       )),
       omega arith,
     )
 
-write-kept-requires : tie.Need-write-kept-requires
+write-kept-requires : tie.Need-write_kept-at-requires
 write-kept-requires c κs =
-    let after-size3 : tie.After-size3 = search in
+    let after-size3 : tie.After-size-s = search in
     let after-read-u323 = after-size3.before in
     let after-size2 = after-read-u323.before in
     let after-read-u322 = after-size2.before in
@@ -62,15 +62,15 @@ write-kept-requires c κs =
     let after-read-u32 = after-size.before in
     let answer-known = answer-known-of after-read-u32 in
     let start = answer-known.before in
-    room (listing_start start.args.answer.now start.args.out.now (λ i. (answer-known.shared-slice-known.given i).fits) _ _ _
-    (after-size.size.ensures.0 ∙ after-read-u32.read_u32.ensures) (after-size2.size2.ensures.0 ∙ after-read-u322.read-u322.ensures)
-    (after-size3.size3.ensures.0 ∙ after-read-u323.read-u323.ensures) after-size.size.ensures.1 after-size2.size2.ensures.1
-    after-size3.size3.ensures.1 (omega (arith, c.before.before.if2.false)) (omega (arith, c.before.if3.false)) _
-    (sym after-size.size.ensures.0))
+    room (listing_start start.args.answer.now start.args.out.now (λ i. (answer-known.shared_slice_known-1.given i).fits) _ _ _
+    (after-size.size-b.ensures.0 ∙ after-read-u32.read_u32-kept.ensures) (after-size2.size-o.ensures.0 ∙ after-read-u322.read_u32.ensures)
+    (after-size3.size-s.ensures.0 ∙ after-read-u323.read_u32-2.ensures) after-size.size-b.ensures.1 after-size2.size-o.ensures.1
+    after-size3.size-s.ensures.1 (omega (arith, c.before.before.if-n-total.false)) (omega (arith, c.before.if-out-total.false)) _
+    (sym after-size.size-b.ensures.0))
 
-write-boundaries-requires : tie.Need-write-boundaries-requires
+write-boundaries-requires : tie.Need-write_boundaries-requires
 write-boundaries-requires c κs =
-    let after-write-kept : tie.After-write-kept = search in
+    let after-write-kept : tie.After-write_kept-at = search in
     let roomy = after-write-kept.before.before in
     let whole = roomy.before in
     let after-size3 = whole.before in
@@ -81,18 +81,18 @@ write-boundaries-requires c κs =
     let after-read-u32 = after-size.before in
     let answer-known = answer-known-of after-read-u32 in
     let start = answer-known.before in (
-      record { observations = omega (arith, whole.if2.left); sources = omega (arith, whole.if2.left) },
-      omega (arith, whole.if2.left),
-      room (next (listing_start start.args.answer.now start.args.out.now (λ i. (answer-known.shared-slice-known.given i).fits) _ _ _
-          (after-size.size.ensures.0 ∙ after-read-u32.read_u32.ensures) (after-size2.size2.ensures.0 ∙ after-read-u322.read-u322.ensures)
-          (after-size3.size3.ensures.0 ∙ after-read-u323.read-u323.ensures) after-size.size.ensures.1 after-size2.size2.ensures.1
-          after-size3.size3.ensures.1 (omega (arith, whole.if2.left)) (omega (arith, roomy.if3.left)) _ (sym after-size.size.ensures.0))
+      record { observations = omega (arith, whole.if-n-total.false); sources = omega (arith, whole.if-n-total.false) },
+      omega (arith, whole.if-n-total.false),
+      room (next (listing_start start.args.answer.now start.args.out.now (λ i. (answer-known.shared_slice_known-1.given i).fits) _ _ _
+          (after-size.size-b.ensures.0 ∙ after-read-u32.read_u32-kept.ensures) (after-size2.size-o.ensures.0 ∙ after-read-u322.read_u32.ensures)
+          (after-size3.size-s.ensures.0 ∙ after-read-u323.read_u32-2.ensures) after-size.size-b.ensures.1 after-size2.size-o.ensures.1
+          after-size3.size-s.ensures.1 (omega (arith, whole.if-n-total.false)) (omega (arith, roomy.if-out-total.false)) _ (sym after-size.size-b.ensures.0))
           after-write-kept.write-Kept.ensures),
     )
 
-returns-4 : tie.Need-returns-4
+returns-4 : tie.Need-returns
 returns-4 c =
-    let after-write-kept : tie.After-write-kept = search in
+    let after-write-kept : tie.After-write_kept-at = search in
     let roomy = after-write-kept.before.before in
     let whole = roomy.before in
     let after-size3 = whole.before in
@@ -103,14 +103,14 @@ returns-4 c =
     let after-read-u32 = after-size.before in
     let answer-known = answer-known-of after-read-u32 in
     let start = answer-known.before in
-    let l = next (next (listing_start start.args.answer.now start.args.out.now (λ i. (answer-known.shared-slice-known.given i).fits) _ _ _
-    (after-size.size.ensures.0 ∙ after-read-u32.read_u32.ensures) (after-size2.size2.ensures.0 ∙ after-read-u322.read-u322.ensures)
-    (after-size3.size3.ensures.0 ∙ after-read-u323.read-u323.ensures) after-size.size.ensures.1 after-size2.size2.ensures.1
-    after-size3.size3.ensures.1 (omega (arith, whole.if2.left)) (omega (arith, roomy.if3.left)) _ (sym after-size.size.ensures.0))
-    after-write-kept.write-Kept.ensures) c.before.before.write-boundaries.ensures in (done l, omega (arith, l.fits, as_long l, (done l).end))
+    let l = next (next (listing_start start.args.answer.now start.args.out.now (λ i. (answer-known.shared_slice_known-1.given i).fits) _ _ _
+    (after-size.size-b.ensures.0 ∙ after-read-u32.read_u32-kept.ensures) (after-size2.size-o.ensures.0 ∙ after-read-u322.read_u32.ensures)
+    (after-size3.size-s.ensures.0 ∙ after-read-u323.read_u32-2.ensures) after-size.size-b.ensures.1 after-size2.size-o.ensures.1
+    after-size3.size-s.ensures.1 (omega (arith, whole.if-n-total.false)) (omega (arith, roomy.if-out-total.false)) _ (sym after-size.size-b.ensures.0))
+    after-write-kept.write-Kept.ensures) c.before.before.write_boundaries.ensures in (done l, omega (arith, l.fits, as_long l, (done l).end))
 
-pub write-listing-spec : {M : Type 1} → statement M
-write-listing-spec =
+pub write_listing_spec : {M : Type 1} → statement M
+write_listing_spec =
     tie.close
     (tie.spec
     returns

@@ -4,7 +4,7 @@ use borrow.Author.Rules.{rules}
 use Rattle.answer_text.proofs.listing.write_refused.Statement.{statement}
 use Rattle.answer_text.proofs.listing.write_refused.Tie as tie
 
-write-pair-requires : tie.Need-write-pair-requires
+write-pair-requires : tie.Need-write_pair-requires
 write-pair-requires c κs =
     let start : tie.Start = search in
     refused-room start.args.number start.args.detail start.args.out.now start.fits.number.fits start.fits.detail.fits start.pre
@@ -12,8 +12,8 @@ write-pair-requires c κs =
 returns : tie.Need-returns
 returns c =
     let start : tie.Start = search in
-    let w = c.before.before.write-pair.ensures in
+    let w = c.before.before.write_pair.ensures in
     (w, omega (arith, w.end, refused-length start.args.number start.args.detail start.fits.number.fits start.fits.detail.fits))
 
-pub write-refused-spec : {M : Type 1} → statement M
-write-refused-spec = tie.close (tie.spec (λ c. search rules) write-pair-requires (λ c. search rules) returns)
+pub write_refused_spec : {M : Type 1} → statement M
+write_refused_spec = tie.close (tie.spec (λ c. search rules) write-pair-requires (λ c. search rules) returns)

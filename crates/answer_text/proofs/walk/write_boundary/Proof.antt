@@ -5,36 +5,36 @@ use Rattle.answer_text.proofs.walk.write_boundary.Statement.{statement}
 use Rattle.answer_text.proofs.walk.write_boundary.Tie as tie
 
 -- earlier places, each found by what it is
-abbrev start_of : tie.After-read-boundary → tie.Start
+abbrev start_of : tie.After-read_boundary-b → tie.Start
 start_of c = search
 
-abbrev after-write-boundary-line-of : tie.After-write-sources → tie.After-write-boundary-line
+abbrev after-write-boundary-line-of : tie.After-write_sources-last → tie.After-write_boundary_line-end
 after-write-boundary-line-of c = search
 
-write-boundary-line-requires : tie.Need-write-boundary-line-requires
+write-boundary-line-requires : tie.Need-write_boundary_line-end-requires
 write-boundary-line-requires c κs =
-    let after-read-boundary : tie.After-read-boundary = search in
+    let after-read-boundary : tie.After-read_boundary-b = search in
     let start = start_of after-read-boundary in
-    room (whole-start start.args.answer.now start.args.place start.args.c _ _ _ after-read-boundary.read-boundary.ensures
-    c.before.before.least.ensures c.before.least2.ensures start.args.out.now start.pre.2)
+    room (whole-start start.args.answer.now start.args.place start.args.c _ _ _ after-read-boundary.read_boundary-b.ensures
+    c.before.before.least-n.ensures c.before.least-m.ensures start.args.out.now start.pre.2)
 
-write-sources-requires : tie.Need-write-sources-requires
+write-sources-requires : tie.Need-write_sources-last-requires
 write-sources-requires c κs =
-    let after-write-boundary-line : tie.After-write-boundary-line = search in
+    let after-write-boundary-line : tie.After-write_boundary_line-end = search in
     let after-least2 = after-write-boundary-line.before.before in
     let after-least = after-least2.before in
     let after-read-boundary = after-least.before in
     let start = start_of after-read-boundary in (
-      own-inside start.args.answer.now start.args.place start.args.c _ _ _ after-read-boundary.read-boundary.ensures
-          after-least.least.ensures after-least2.least2.ensures start.pre.0,
-      room (next (whole-start start.args.answer.now start.args.place start.args.c _ _ _ after-read-boundary.read-boundary.ensures
-          after-least.least.ensures after-least2.least2.ensures start.args.out.now start.pre.2)
-          after-write-boundary-line.write-boundary-line.ensures),
+      own-inside start.args.answer.now start.args.place start.args.c _ _ _ after-read-boundary.read_boundary-b.ensures
+          after-least.least-n.ensures after-least2.least-m.ensures start.pre.0,
+      room (next (whole-start start.args.answer.now start.args.place start.args.c _ _ _ after-read-boundary.read_boundary-b.ensures
+          after-least.least-n.ensures after-least2.least-m.ensures start.args.out.now start.pre.2)
+          after-write-boundary-line.write_boundary_line-end.ensures),
     )
 
-write-observations-requires : tie.Need-write-observations-requires
+write-observations-requires : tie.Need-write_observations-requires
 write-observations-requires c κs =
-    let after-write-sources : tie.After-write-sources = search in
+    let after-write-sources : tie.After-write_sources-last = search in
     let after-write-boundary-line = after-write-boundary-line-of after-write-sources in
     let after-least2 = after-write-boundary-line.before.before in
     let after-least = after-least2.before in
@@ -43,13 +43,13 @@ write-observations-requires c κs =
     let answer = start.args.answer.now in
     let place = start.args.place in
     let c-arg = start.args.c in (
-      rest-inside answer place c-arg _ _ _ after-read-boundary.read-boundary.ensures after-least.least.ensures after-least2.least2.ensures
+      rest-inside answer place c-arg _ _ _ after-read-boundary.read_boundary-b.ensures after-least.least-n.ensures after-least2.least-m.ensures
           start.pre.0 _,
-      seen_few answer place c-arg _ _ _ after-read-boundary.read-boundary.ensures after-least.least.ensures
-          after-least2.least2.ensures,
-      room (next (next (whole-start answer place c-arg _ _ _ after-read-boundary.read-boundary.ensures after-least.least.ensures
-          after-least2.least2.ensures start.args.out.now start.pre.2) after-write-boundary-line.write-boundary-line.ensures)
-          after-write-sources.write-sources.ensures),
+      seen_few answer place c-arg _ _ _ after-read-boundary.read_boundary-b.ensures after-least.least-n.ensures
+          after-least2.least-m.ensures,
+      room (next (next (whole-start answer place c-arg _ _ _ after-read-boundary.read_boundary-b.ensures after-least.least-n.ensures
+          after-least2.least-m.ensures start.args.out.now start.pre.2) after-write-boundary-line.write_boundary_line-end.ensures)
+          after-write-sources.write_sources-last.ensures),
     )
 
 returns : tie.Need-returns
@@ -61,16 +61,16 @@ returns c =
     let after-least = after-least2.before in
     let after-read-boundary = after-least.before in
     let start = start_of after-read-boundary in (
-      done (next (next (next (whole-start start.args.answer.now start.args.place start.args.c _ _ _ after-read-boundary.read-boundary.ensures
-          after-least.least.ensures after-least2.least2.ensures start.args.out.now start.pre.2)
-          after-write-boundary-line.write-boundary-line.ensures) after-write-sources.write-sources.ensures)
-          after-write-observations.write-observations.ensures.0),
-      whole-moved start.args.answer.now start.args.place start.args.c _ _ _ after-read-boundary.read-boundary.ensures
-          after-least.least.ensures after-least2.least2.ensures _ _ after-write-observations.write-observations.ensures.1,
+      done (next (next (next (whole-start start.args.answer.now start.args.place start.args.c _ _ _ after-read-boundary.read_boundary-b.ensures
+          after-least.least-n.ensures after-least2.least-m.ensures start.args.out.now start.pre.2)
+          after-write-boundary-line.write_boundary_line-end.ensures) after-write-sources.write_sources-last.ensures)
+          after-write-observations.write_observations.ensures.0),
+      whole-moved start.args.answer.now start.args.place start.args.c _ _ _ after-read-boundary.read_boundary-b.ensures
+          after-least.least-n.ensures after-least2.least-m.ensures _ _ after-write-observations.write_observations.ensures.1,
     )
 
-pub write-boundary-spec : {M : Type 1} → statement M
-write-boundary-spec =
+pub write_boundary_spec : {M : Type 1} → statement M
+write_boundary_spec =
     tie.close
     (tie.spec
     (λ c κs. search rules)

@@ -13,5 +13,5 @@ returns c =
     let low : c.before.max.result - cut_reach ≡ start.args.minimum - cut_reach = omega arith in
     simp (c.centred.ensures, low)
 
-pub candidate-axis-range-spec : {M : Type 1} → statement M
-candidate-axis-range-spec = tie.close (tie.spec (search rules) (search rules) (search rules) (search rules) returns)
+pub candidate_axis_range_spec : {M : Type 1} → statement M
+candidate_axis_range_spec = tie.close (tie.spec (search rules) (search rules) (search rules) (search rules) returns)

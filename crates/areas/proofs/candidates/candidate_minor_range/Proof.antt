@@ -13,5 +13,5 @@ returns c =
     let low : c.before.max.result - spread ≡ start.args.reference - spread = omega arith in
     simp (c.centred.ensures, low)
 
-pub candidate-minor-range-spec : {M : Type 1} → statement M
-candidate-minor-range-spec = tie.close (tie.spec (search rules) (search rules) (search rules) (search rules) returns)
+pub candidate_minor_range_spec : {M : Type 1} → statement M
+candidate_minor_range_spec = tie.close (tie.spec (search rules) (search rules) (search rules) (search rules) returns)

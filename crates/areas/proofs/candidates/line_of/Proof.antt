@@ -5,23 +5,23 @@ use borrow.Author.Rules.{rules}
 use Rattle.areas.proofs.candidates.line_of.Statement.{statement}
 use Rattle.areas.proofs.candidates.line_of.Tie as tie
 
-returns : tie.Need-returns
+returns : tie.Need-returns-then-not-is_tall
 unfolding line_of
-returns c = let e = sym c.before.is-tall.ensures ∙ not-true _ c.if1.true in rw e
+returns c = let e = sym c.before.is_tall.ensures ∙ not-true _ c.if-not-is_tall.true in rw e
 
-returns-2 : tie.Need-returns-2
+returns-2 : tie.Need-returns-then-a-b
 unfolding line_of
 returns-2 c =
-    let e = sym c.before.before.before.before.is-tall.ensures ∙ not-false _ c.before.before.before.if1.false in
-    let k = le-leb _ _ c.if2.true in
+    let e = sym c.before.before.before.before.is_tall.ensures ∙ not-false _ c.before.before.before.if-not-is_tall.false in
+    let k = le-leb _ _ c.if-a-b.true in
     rw (e, k)
 
-returns-3 : tie.Need-returns-3
+returns-3 : tie.Need-returns
 unfolding line_of
 returns-3 c =
-    let e = sym c.before.before.before.before.is-tall.ensures ∙ not-false _ c.before.before.before.if1.false in
-    let k = lt-leb _ _ c.if2.false in
+    let e = sym c.before.before.before.before.is_tall.ensures ∙ not-false _ c.before.before.before.if-not-is_tall.false in
+    let k = lt-leb _ _ c.if-a-b.false in
     rw (e, k)
 
-pub line-of-spec : {M : Type 1} → statement M
-line-of-spec = tie.close (tie.spec (search rules) returns returns-2 returns-3)
+pub line_of_spec : {M : Type 1} → statement M
+line_of_spec = tie.close (tie.spec (search rules) returns returns-2 returns-3)

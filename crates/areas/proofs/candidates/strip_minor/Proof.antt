@@ -7,26 +7,26 @@ use Rattle.areas.proofs.candidates.strip_minor.Statement.{statement}
 use Rattle.areas.proofs.candidates.strip_minor.Tie as tie
 
 -- the line keeps to the map
-fits : (c : tie.After-line-of) → LineFits c.Line-of.result
+fits : (c : tie.After-line_of-line) → LineFits c.Line-of.result
 fits c = rw c.Line-of.ensures (line-fits c.before.requires.0 c.before.requires.1)
 
-clamp-requires : tie.Need-clamp-requires
+clamp-requires : tie.Need-clamp-v-requires
 clamp-requires c κs = let f = fits c.before.before in omega arith
 
-line-at-requires : tie.Need-line-at-requires
+line-at-requires : tie.Need-line_at-requires
 line-at-requires c κs =
     let f = fits c.before.before.before in
-    (f.rises, c.clamp.ensures.1, c.clamp.ensures.2, f.along, f.low, f.high)
+    (f.rises, c.clamp-v.ensures.1, c.clamp-v.ensures.2, f.along, f.low, f.high)
 
-candidate-minor-range-requires : tie.Need-candidate-minor-range-requires
+candidate-minor-range-requires : tie.Need-candidate_minor_range-requires
 candidate-minor-range-requires c κs =
     let picked = c.before.before in
     let line = picked.before.before in
     let f = fits line in
-    let clamp = c.before.clamp in
-    let most : c.line-at.result ≤ 8192 =
-    rw c.line-at.ensures (line-most _ _ _ _ _ 8192 f.rises clamp.ensures.1 clamp.ensures.2 f.low f.high) in
-    let some : 0 < picked.pick.result = rw picked.pick.ensures (limit-some line.before.requires.0 picked.before.is-tall.result).1 in
+    let clamp = c.before.clamp-v in
+    let most : c.line_at.result ≤ 8192 =
+    rw c.line_at.ensures (line-most _ _ _ _ _ 8192 f.rises clamp.ensures.1 clamp.ensures.2 f.low f.high) in
+    let some : 0 < picked.pick-limit.result = rw picked.pick-limit.ensures (limit-some line.before.requires.0 picked.before.is_tall.result).1 in
     (most, some)
 
 returns : tie.Need-returns
@@ -34,10 +34,10 @@ returns c =
     let clamped = c.before.before in
     let picked = clamped.before in
     let tall = picked.before in
-    minor-is _ _ _ _ _ _ _ _ _ _ tall.before.Line-of.ensures tall.is-tall.ensures picked.pick.ensures clamped.clamp.ensures.0
-    c.before.line-at.ensures c.candidate-minor-range.ensures
+    minor-is _ _ _ _ _ _ _ _ _ _ tall.before.Line-of.ensures tall.is_tall.ensures picked.pick-limit.ensures clamped.clamp-v.ensures.0
+    c.before.line_at.ensures c.candidate_minor_range.ensures
 
-pub strip-minor-spec : {M : Type 1} → statement M
-strip-minor-spec =
+pub strip_minor_spec : {M : Type 1} → statement M
+strip_minor_spec =
     tie.close (tie.spec (search rules) (search rules) (search rules) (search rules) (search rules) clamp-requires line-at-requires
     candidate-minor-range-requires returns)

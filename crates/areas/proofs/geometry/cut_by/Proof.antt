@@ -13,8 +13,8 @@ returns c =
     let start : tie.Start = search in
     λ g i j e f h k.
     c.cuts.ensures
-    ∙ ap₂ (cuts start.args.span) (c.before.before.cell-center.ensures.0 g i e f) (c.before.cell-center2.ensures.0 g j h k)
+    ∙ ap₂ (cuts start.args.span) (c.before.before.cell_center.ensures.0 g i e f) (c.before.cell_center-2.ensures.0 g j h k)
     ∙ ap (λ (s : Span). cuts s (centre g i) (centre g j)) (sym (ordered start.args.span start.pre.2))
 
-pub cut-by-spec : {M : Type 1} → statement M
-cut-by-spec = tie.close (tie.spec (search rules) (search rules) (search rules) returns)
+pub cut_by_spec : {M : Type 1} → statement M
+cut_by_spec = tie.close (tie.spec (search rules) (search rules) (search rules) returns)

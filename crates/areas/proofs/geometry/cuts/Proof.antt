@@ -28,14 +28,14 @@ module _ {p q s t : Bool} (h : p ≡ s) (k : q ≡ t) (m : Bool) where
   apart : beq p q ≡ false → {r : Bool} → r ≡ m → r ≡ xor s t && m
   apart e z = rw (← h, ← k) (z ∙ unlike p q m e)
 
-returns : tie.Need-returns
+returns : tie.Need-returns-then-side
 unfolding cuts
-returns c = same c.before.before.side.ensures c.before.side2.ensures _ c.if1.true
+returns c = same c.before.before.side.ensures c.before.side-2.ensures _ c.if-side.true
 
-returns-2 : tie.Need-returns-2
+returns-2 : tie.Need-returns
 unfolding cuts
 returns-2 c =
-    apart c.before.before.before.side.ensures c.before.before.side2.ensures _ c.before.if1.false c.segments-intersect.ensures
+    apart c.before.before.before.side.ensures c.before.before.side-2.ensures _ c.before.if-side.false c.segments_intersect.ensures
 
-pub cuts-spec : {M : Type 1} → statement M
-cuts-spec = tie.close (tie.spec (search rules) (search rules) returns (search rules) returns-2)
+pub cuts_spec : {M : Type 1} → statement M
+cuts_spec = tie.close (tie.spec (search rules) (search rules) returns (search rules) returns-2)

@@ -7,16 +7,16 @@ returns : tie.Need-returns
 unfolding on_segment
 returns c =
     let lesser-told : tie.After-min = search in
-    let minus-told : tie.After-cross-minus = search in
-    let plus-told : tie.After-cross-plus = search in
+    let minus-told : tie.After-cross_minus = search in
+    let plus-told : tie.After-cross_plus = search in
     simp (
-      plus-told.cross-plus.ensures,
-      minus-told.cross-minus.ensures,
+      plus-told.cross_plus.ensures,
+      minus-told.cross_minus.ensures,
       lesser-told.min.ensures,
       c.before.before.max.ensures,
-      c.before.min2.ensures,
-      c.max2.ensures,
+      c.before.min-2.ensures,
+      c.max-2.ensures,
     )
 
-pub on-segment-spec : {M : Type 1} → statement M
-on-segment-spec = tie.close (tie.spec (search rules) (search rules) (search rules) (search rules) (search rules) (search rules) returns)
+pub on_segment_spec : {M : Type 1} → statement M
+on_segment_spec = tie.close (tie.spec (search rules) (search rules) (search rules) (search rules) (search rules) (search rules) returns)

@@ -7,5 +7,5 @@ returns : tie.Need-returns
 unfolding meets
 returns c = cc
 
-pub segments-intersect-spec : {M : Type 1} → statement M
-segments-intersect-spec = tie.close (tie.spec (search rules) (search rules) (search rules) (search rules) (search rules) (search rules) returns)
+pub segments_intersect_spec : {M : Type 1} → statement M
+segments_intersect_spec = tie.close (tie.spec (search rules) (search rules) (search rules) (search rules) (search rules) (search rules) returns)

@@ -8,7 +8,7 @@ returns : tie.Need-returns
 unfolding span_in
 returns c = refl
 
-pub span-at-spec : {M : Type 1} → statement M
-span-at-spec =
+pub span_at_spec : {M : Type 1} → statement M
+span_at_spec =
     tie.close (tie.spec (search rules) (search rules) (search rules) (search rules) (search rules) (search rules) (search rules) (search rules)
     (search rules) (search rules) (search rules) (search rules) returns)

@@ -4,23 +4,23 @@ use borrow.Author.Rules.{rules}
 use Rattle.areas_assessments.proofs.spans.fill.Statement.{statement}
 use Rattle.areas_assessments.proofs.spans.fill.Tie as tie
 
-abbrev invariant-loop : tie.invariant-loop
+abbrev invariant-loop : tie.invariant-loop-k
 invariant-loop numbers₀ start end v k₀ numbers k = Filling numbers₀ numbers start end v k
 
-abbrev decreases-loop : tie.decreases-loop
+abbrev decreases-loop : tie.decreases-loop-k
 decreases-loop numbers₀ start end v k₀ numbers k = end - k
 
-loop-holds : tie.Need-loop-init invariant-loop decreases-loop
+loop-holds : tie.Need-loop-k-init invariant-loop decreases-loop
 loop-holds c = filling-start c.requires.0
 
-loop-again : tie.Need-loop-preserved invariant-loop decreases-loop
-loop-again c = filling-next c.before.before.requires.1 c.before.loop.invariant c.loop-test.true
+loop-again : tie.Need-loop-k-preserved invariant-loop decreases-loop
+loop-again c = filling-next c.before.before.requires.1 c.before.loop-k.invariant c.loop-k-test.true
 
-same_length : tie.Need-same-length invariant-loop decreases-loop
-same_length c = c.before.loop.invariant.long
+same_length : tie.Need-shape_of-numbers invariant-loop decreases-loop
+same_length c = c.before.loop-k.invariant.long
 
 returns : tie.Need-returns invariant-loop decreases-loop
-returns c = filling-end c.before.loop.invariant c.loop-test.false
+returns c = filling-end c.before.loop-k.invariant c.loop-k-test.false
 
 pub fill_spec : {M : Type 1} → statement M
 fill_spec = tie.close (tie.spec invariant-loop decreases-loop loop-holds (search rules) (search rules) (search rules) (search rules) loop-again same_length returns)

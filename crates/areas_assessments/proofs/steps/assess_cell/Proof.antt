@@ -10,52 +10,52 @@ use borrow.Author.Rules.{rules}
 use Rattle.areas_assessments.proofs.steps.assess_cell.Statement.{statement}
 use Rattle.areas_assessments.proofs.steps.assess_cell.Tie as tie
 
-abbrev invariant-loop : tie.invariant-loop
+abbrev invariant-loop : tie.invariant-loop-d
 invariant-loop cells width height directions labels span position lefts₀ rights₀ start done₀ d₀ lefts rights done d =
     (d ≤ 9) × Going (labels_in labels (width * height)) (cut_in (directions_of directions) (map_of width height cells) span (position.y * width + position.x)) 5
     start lefts₀ rights₀ done₀ lefts rights done d (d - 5)
 
-abbrev decreases-loop : tie.decreases-loop
+abbrev decreases-loop : tie.decreases-loop-d
 decreases-loop cells width height directions labels span position lefts₀ rights₀ start done₀ d₀ lefts rights done d =
     9 - d
 
 -- what the function is given and asked: the places since only say that its slices have lengths
-abbrev start_of : tie.After-slice-known2 invariant-loop decreases-loop → tie.Start invariant-loop decreases-loop
+abbrev start_of : tie.After-slice_known-2-1 invariant-loop decreases-loop → tie.Start invariant-loop decreases-loop
 start_of c = c.before.before.before.before
 
-loop-holds : tie.Need-loop-init invariant-loop decreases-loop
+loop-holds : tie.Need-loop-d-init invariant-loop decreases-loop
 loop-holds c =
     let start = start_of c in
     (omega arith, going_start _ _ _ 4 start.pre.3)
 
-assess-step-requires : tie.Need-assess-step-requires invariant-loop decreases-loop
+assess-step-requires : tie.Need-assess_step-done-requires invariant-loop decreases-loop
 assess-step-requires c κs =
     let in-loop = c.before.before.before in
     let start = start_of in-loop.before in
-    let p = start.pre in (p.0, p.1, p.2, omega arith, going-room _ _ in-loop.loop.invariant.1 4 1 p.3 (omega arith))
+    let p = start.pre in (p.0, p.1, p.2, omega arith, going-room _ _ in-loop.loop-d.invariant.1 4 1 p.3 (omega arith))
 
-loop-again : tie.Need-loop-preserved invariant-loop decreases-loop
+loop-again : tie.Need-loop-d-preserved invariant-loop decreases-loop
 loop-again c =
     let at-assess-step = c.before.before.before.before in
     let in-loop = at-assess-step.before.before.before.before in
-    let inv = in-loop.loop.invariant in (
+    let inv = in-loop.loop-d.invariant in (
       omega arith,
-      going_next _ _ inv.1 _ 1 (omega (arith, inv.1.reached)) at-assess-step.assess-step.auto.1.1.1.1.1.1.1.1.0
-          at-assess-step.assess-step.auto.1.1.1.1.1.1.1.1.1.0 at-assess-step.assess-step.ensures.0 at-assess-step.assess-step.ensures.1,
+      going_next _ _ inv.1 _ 1 (omega (arith, inv.1.reached)) at-assess-step.assess_step-done.auto.1.1.1.1.1.1.1.1.0
+          at-assess-step.assess_step-done.auto.1.1.1.1.1.1.1.1.1.0 at-assess-step.assess_step-done.ensures.0 at-assess-step.assess_step-done.ensures.1,
     )
 
-same_length : tie.Need-same-length invariant-loop decreases-loop
-same_length c = c.before.loop.invariant.1.lefts-are
+same_length : tie.Need-shape_of-lefts invariant-loop decreases-loop
+same_length c = c.before.loop-d.invariant.1.lefts-are
 
-same-length-2 : tie.Need-same-length-2 invariant-loop decreases-loop
-same-length-2 c = c.before.loop.invariant.1.rights-are
+same-length-2 : tie.Need-shape_of-rights invariant-loop decreases-loop
+same-length-2 c = c.before.loop-d.invariant.1.rights-are
 
 returns : tie.Need-returns invariant-loop decreases-loop
 unfolding cut_from
 returns c =
-    let inv = c.before.loop.invariant in
+    let inv = c.before.loop-d.invariant in
     (grown-more 4 inv.1.grown (omega arith), going_end _ _ inv.1 4 (omega arith) refl)
 
-pub assess-cell-spec : {M : Type 1} → statement M
-assess-cell-spec =
+pub assess_cell_spec : {M : Type 1} → statement M
+assess_cell_spec =
     tie.close (tie.spec invariant-loop decreases-loop loop-holds assess-step-requires (search rules) (search rules) loop-again same_length same-length-2 returns)

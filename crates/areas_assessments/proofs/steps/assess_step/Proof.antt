@@ -10,50 +10,50 @@ use Rattle.areas_assessments.proofs.steps.assess_step.Statement.{statement}
 use Rattle.areas_assessments.proofs.steps.assess_step.Tie as tie
 
 -- what the function is given and asked: the places since only say that its slices have lengths
-abbrev start_of : tie.After-slice-known2 → tie.Start
+abbrev start_of : tie.After-slice_known-2-1 → tie.Start
 start_of c = c.before.before.before.before
 
-returns : tie.Need-returns
+returns : tie.Need-returns-then-not-has_direction
 returns c =
     let start = start_of c.before.before in
-    (grown-none 1 start.pre.4, advance-none _ (not-among _ _ _ _ _ (sym c.before.has-direction.ensures ∙ not-true _ c.if1.true)))
+    (grown-none 1 start.pre.4, advance-none _ (not-among _ _ _ _ _ (sym c.before.has_direction.ensures ∙ not-true _ c.if-not-has_direction.true)))
 
-returns-2 : tie.Need-returns-2
+returns-2 : tie.Need-returns-then-not-step_at
 returns-2 c =
     let start = start_of c.before.before.before.before in
-    (grown-none 1 start.pre.4, advance-none _ (not_step _ _ _ _ _ (sym c.before.step-at.ensures ∙ not-true _ c.if2.true)))
+    (grown-none 1 start.pre.4, advance-none _ (not_step _ _ _ _ _ (sym c.before.step_at.ensures ∙ not-true _ c.if-not-step_at.true)))
 
-place-to-requires : tie.Need-place-to-requires
+place-to-requires : tie.Need-place_to-to-requires
 place-to-requires c κs =
     let start = start_of c.before.before.before.before in
     let a = arrives start.args.position start.pre.0 start.pre.1 start.pre.2 start.args.d
-    (sym c.before.step-at.ensures ∙ not-false _ c.if2.false) in (omega arith, omega arith, omega arith, a.left, a.top)
+    (sym c.before.step_at.ensures ∙ not-false _ c.if-not-step_at.false) in (omega arith, omega arith, omega arith, a.left, a.top)
 
-cut-by-requires : tie.Need-cut-by-requires
+cut-by-requires : tie.Need-cut_by-requires
 cut-by-requires c κs =
     let start = start_of c.before.before.before.before.before in
     let p = start.pre in
     let b = ends-bounded p.0.sides p.0.span in
     let i = there-in start.args.position p.0 p.1 p.2 start.args.d
-    (sym c.before.before.step-at.ensures ∙ not-false _ c.before.if2.false) p.3 c.place-to.result c.place-to.ensures.0 in
+    (sym c.before.before.step_at.ensures ∙ not-false _ c.before.if-not-step_at.false) p.3 c.place_to-to.result c.place_to-to.ensures.0 in
     (b.0, b.1, p.0.span.ordered, omega arith, omega arith, i.0, i.1)
 
-returns-3 : tie.Need-returns-3
+returns-3 : tie.Need-returns-then-not-cut_by
 returns-3 c =
     let placed = c.before.before in
     let steps = placed.before in
     let step-told = steps.before in
     let start = start_of step-told.before.before.before in
     let p = start.pre in
-    let t = (sym step-told.step-at.ensures ∙ not-false _ steps.if2.false) in (
+    let t = (sym step-told.step_at.ensures ∙ not-false _ steps.if-not-step_at.false) in (
       grown-none 1 p.4,
       advance-none _
           (not-cut _ _ _ _ _ t (sym
-          (step_cut start.args.position p.0 p.1 p.2 start.args.d t p.3 placed.place-to.result
-          placed.place-to.ensures.0 c.before.cut_by.ensures) ∙ not-true _ c.if3.true)),
+          (step_cut start.args.position p.0 p.1 p.2 start.args.d t p.3 placed.place_to-to.result
+          placed.place_to-to.ensures.0 c.before.cut_by.ensures) ∙ not-true _ c.if-not-cut_by.true)),
     )
 
-count-step-requires : tie.Need-count-step-requires
+count-step-requires : tie.Need-count_step-requires
 count-step-requires c κs =
     let from-index = c.before.before.before in
     let placed = from-index.before.before.before in
@@ -62,17 +62,17 @@ count-step-requires c κs =
     let start = start_of step-told.before.before.before in
     let position = start.args.position in
     let p = start.pre in
-    let t = (sym step-told.step-at.ensures ∙ not-false _ steps.if2.false) in
+    let t = (sym step-told.step_at.ensures ∙ not-false _ steps.if-not-step_at.false) in
     let i = index-here position p.0 p.1 p.2 from-index.index.ensures in
-    let j = index-there position p.0 p.1 p.2 start.args.d t p.3 placed.place-to.result
-    placed.place-to.ensures.0 c.before.before.index2.ensures in (
+    let j = index-there position p.0 p.1 p.2 start.args.d t p.3 placed.place_to-to.result
+    placed.place_to-to.ensures.0 c.before.before.index-2.ensures in (
       fits-label-at position p.0 p.1 p.2 (here_on position p.0 p.1 p.2) i,
       fits-label-at position p.0 p.1 p.2
           (there-on position p.0 p.1 p.2 start.args.d t) j,
       p.4,
     )
 
-returns-4 : tie.Need-returns-4
+returns-4 : tie.Need-returns
 returns-4 c =
     let counted = c.before.before.before.before in
     let to-index = counted.before.before.before in
@@ -88,19 +88,19 @@ returns-4 c =
     let position = start.args.position in
     let d = start.args.d in
     let p = start.pre in
-    let t = (sym step-told.step-at.ensures ∙ not-false _ steps.if2.false) in
+    let t = (sym step-told.step_at.ensures ∙ not-false _ steps.if-not-step_at.false) in
     let i = index-here position p.0 p.1 p.2 from-index.index.ensures in
-    let j = index-there position p.0 p.1 p.2 d t p.3 placed.place-to.result
-    placed.place-to.ensures.0 to-index.index2.ensures in
-    let e = sym (step_cut position p.0 p.1 p.2 d t p.3 placed.place-to.result
-    placed.place-to.ensures.0 cut-told.cut_by.ensures) ∙ not-false _ is_cut_lem.if3.false in (
-      counted.count-step.ensures.0,
-      advance-as _ (is-step _ _ _ _ _ i j (sym set_told.has-direction.ensures ∙ not-false _ in-set.if1.false) t e)
-          (counted.count-step.ensures.1 _ (on-map p.0 (here_on position p.0 p.1 p.2) i)
+    let j = index-there position p.0 p.1 p.2 d t p.3 placed.place_to-to.result
+    placed.place_to-to.ensures.0 to-index.index-2.ensures in
+    let e = sym (step_cut position p.0 p.1 p.2 d t p.3 placed.place_to-to.result
+    placed.place_to-to.ensures.0 cut-told.cut_by.ensures) ∙ not-false _ is_cut_lem.if-not-cut_by.false in (
+      counted.count_step.ensures.0,
+      advance-as _ (is-step _ _ _ _ _ i j (sym set_told.has_direction.ensures ∙ not-false _ in-set.if-not-has_direction.false) t e)
+          (counted.count_step.ensures.1 _ (on-map p.0 (here_on position p.0 p.1 p.2) i)
           (on-map p.0 (there-on position p.0 p.1 p.2 d t) j)),
     )
 
-pub assess-step-spec : {M : Type 1} → statement M
-assess-step-spec =
+pub assess_step_spec : {M : Type 1} → statement M
+assess_step_spec =
     tie.close (tie.spec (λ c κs. search rules) returns (λ c κs. search rules) returns-2 place-to-requires cut-by-requires returns-3
     (λ c κs. search rules) (λ c κs. search rules) count-step-requires (λ c. search rules) (λ c. search rules) returns-4)

@@ -6,5 +6,5 @@ use Rattle.areas_components.proofs.dues.bit.Tie as tie
 returns : tie.Need-returns
 returns c = (bit_is c.args.x, omega arith)
 
-pub bit-spec : {M : Type 1} → statement M
-bit-spec = tie.close (tie.spec returns)
+pub bit_spec : {M : Type 1} → statement M
+bit_spec = tie.close (tie.spec returns)

@@ -18,9 +18,9 @@ returns c =
     let further : at + args.width ≡ args.base + (args.i + args.width) = omega arith in
     let under = ap (λ (x : ℕ). get_or w (x - 1) 0) further ∙ before (args.i + args.width) (omega arith) (omega arith) in
     let below = ap (λ (x : ℕ). get_or w x 0) further ∙ on (args.i + args.width) start.pre.2 in
-    due-from _ _ _ _ _ _ _ _ c.due-of.ensures (on args.i (omega arith)) (before args.i start.pre.1 (omega arith)) under below
+    due-from _ _ _ _ _ _ _ _ c.due_of.ensures (on args.i (omega arith)) (before args.i start.pre.1 (omega arith)) under below
 
-pub due-inner-spec : {M : Type 1} → statement M
-due-inner-spec =
+pub due_inner_spec : {M : Type 1} → statement M
+due_inner_spec =
     tie.close (tie.spec (search rules) (search rules) (search rules) (search rules) (search rules) (search rules) (search rules) (search rules)
     (search rules) (λ c κs. search rules) returns)

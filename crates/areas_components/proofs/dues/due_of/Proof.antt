@@ -25,22 +25,22 @@ returns c =
     let l = at-below.before.args.l in
     let e = at-below.before.args.e in
     let d = at-below.before.args.d in
-    let below = at-below.bit.ensures.0 in
-    let under = first-is e at_under.bit2.result at_under.bit2.ensures.0 in
-    let before = first-is l at_before.bit3.result at_before.bit3.ensures.0 in
-    let round = at-round.both.ensures.0 (bit_at l 0) (bit_at l 2) before at-beneath.bit4.ensures.0 in
-    let but = at-but.but-not.ensures.0 (bit_at v 1) (bit_at l 0 && bit_at l 2) at-leftward.bit5.ensures.0 round in
-    let lower = at-lower.both2.ensures.0 (bit_at v 2) (bit_at e 0) below under in
-    let left = at_left.but-not2.ensures.0 (bit_at v 1 && not (bit_at l 0 && bit_at l 2)) (bit_at v 2 && bit_at e 0) but lower in
-    let around = at-around.both3.ensures.0 (bit_at l 0 && bit_at l 2) (bit_at e 0) round under in
-    let down = at-down.but-not3.ensures.0 (bit_at v 2) ((bit_at l 0 && bit_at l 2) && bit_at e 0) below around in
-    let next = first-is d at_next.bit7.result at_next.bit7.ensures.0 in
-    let after = at_after.both4.ensures.0 (bit_at v 2) (bit_at d 0) below next in
-    let right = c.but-not4.ensures.0 (bit_at v 3) (bit_at v 2 && bit_at d 0) at-rightward.bit6.ensures.0 after in
-    due-is v l e d at_left.but-not2.result at-down.but-not3.result c.but-not4.result left down right
+    let below = at-below.bit-below.ensures.0 in
+    let under = first-is e at_under.bit-under.result at_under.bit-under.ensures.0 in
+    let before = first-is l at_before.bit.result at_before.bit.ensures.0 in
+    let round = at-round.both-round.ensures.0 (bit_at l 0) (bit_at l 2) before at-beneath.bit-2.ensures.0 in
+    let but = at-but.but_not.ensures.0 (bit_at v 1) (bit_at l 0 && bit_at l 2) at-leftward.bit-3.ensures.0 round in
+    let lower = at-lower.both.ensures.0 (bit_at v 2) (bit_at e 0) below under in
+    let left = at_left.but_not-left.ensures.0 (bit_at v 1 && not (bit_at l 0 && bit_at l 2)) (bit_at v 2 && bit_at e 0) but lower in
+    let around = at-around.both-2.ensures.0 (bit_at l 0 && bit_at l 2) (bit_at e 0) round under in
+    let down = at-down.but_not-down.ensures.0 (bit_at v 2) ((bit_at l 0 && bit_at l 2) && bit_at e 0) below around in
+    let next = first-is d at_next.bit-5.result at_next.bit-5.ensures.0 in
+    let after = at_after.both-3.ensures.0 (bit_at v 2) (bit_at d 0) below next in
+    let right = c.but_not-right.ensures.0 (bit_at v 3) (bit_at v 2 && bit_at d 0) at-rightward.bit-4.ensures.0 after in
+    due-is v l e d at_left.but_not-left.result at-down.but_not-down.result c.but_not-right.result left down right
 
-pub due-of-spec : {M : Type 1} → statement M
-due-of-spec =
+pub due_of_spec : {M : Type 1} → statement M
+due_of_spec =
     tie.close (tie.spec (λ c κs. search rules) (λ c κs. search rules) (λ c κs. search rules) (λ c κs. search rules) (λ c κs. search rules)
     (λ c κs. search rules) (λ c κs. search rules) (λ c κs. search rules) (λ c κs. search rules) (λ c κs. search rules) (λ c κs. search rules)
     (λ c κs. search rules) (λ c κs. search rules) (λ c κs. search rules) (λ c κs. search rules) (search rules) (search rules) (search rules)

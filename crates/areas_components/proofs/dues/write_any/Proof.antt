@@ -5,34 +5,34 @@ use borrow.Author.Rules.{rules}
 use Rattle.areas_components.proofs.dues.write_any.Statement.{statement}
 use Rattle.areas_components.proofs.dues.write_any.Tie as tie
 
-abbrev invariant-loop : tie.invariant-loop
+abbrev invariant-loop : tie.invariant-loop-i
 invariant-loop work₀ base n width from to i₀ work i = Writing n width base from to i work₀ work
 
-abbrev decreases-loop : tie.decreases-loop
+abbrev decreases-loop : tie.decreases-loop-i
 decreases-loop work₀ base n width from to i₀ work i = to - i
 
-loop-holds : tie.Need-loop-init invariant-loop decreases-loop
+loop-holds : tie.Need-loop-i-init invariant-loop decreases-loop
 loop-holds c = writing_start _ c.before.requires.1
 
-due-any-requires : tie.Need-due-any-requires invariant-loop decreases-loop
+due-any-requires : tie.Need-due_any-byte-requires invariant-loop decreases-loop
 due-any-requires c κs =
     let start : tie.Start invariant-loop decreases-loop = search in
-    let writing = c.before.before.loop.invariant in
+    let writing = c.before.before.loop-i.invariant in
     let pre = start.pre in
     (omega (arith, writing.long, pre.0), omega (arith, pre.2, pre.3))
 
-loop-again : tie.Need-loop-preserved invariant-loop decreases-loop
+loop-again : tie.Need-loop-i-preserved invariant-loop decreases-loop
 loop-again c =
     let in-loop = c.before.before.before in
     let start = in-loop.before.before in
     let pre = start.requires in
-    let writing = in-loop.loop.invariant in
-    writing-next pre.0 pre.2 writing (omega arith) _ c.due-any.ensures
+    let writing = in-loop.loop-i.invariant in
+    writing-next pre.0 pre.2 writing (omega arith) _ c.due_any-byte.ensures
 
 returns : tie.Need-returns invariant-loop decreases-loop
-returns c = writing-end c.before.loop.invariant (λ l. omega arith)
+returns c = writing-end c.before.loop-i.invariant (λ l. omega arith)
 
-pub write-any-spec : {M : Type 1} → statement M
-write-any-spec =
+pub write_any_spec : {M : Type 1} → statement M
+write_any_spec =
     tie.close (tie.spec invariant-loop decreases-loop loop-holds due-any-requires (search rules) (search rules) (search rules) (search rules) (search rules)
     loop-again (λ c. search rules) returns)

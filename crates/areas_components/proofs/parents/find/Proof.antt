@@ -5,97 +5,97 @@ use Rattle.areas_components.proofs.FindLaws.{finding-second}
 use Rattle.areas_components.proofs.parents.find.Statement.{statement}
 use Rattle.areas_components.proofs.parents.find.Tie as tie
 
-abbrev invariant-loop : tie.invariant-loop
+abbrev invariant-loop : tie.invariant-loop-p
 invariant-loop work₀ i at₀ p₀ work at p = Finding i at p work₀ work
 
-abbrev decreases-loop : tie.decreases-loop
+abbrev decreases-loop : tie.decreases-loop-p
 decreases-loop work₀ i at₀ p₀ work at p = at
 
 abbrev Start : Type 0
 Start = tie.Start invariant-loop decreases-loop
 
 abbrev At-loop : Type 0
-At-loop = tie.At-loop invariant-loop decreases-loop
+At-loop = tie.At-loop-p invariant-loop decreases-loop
 
-parent-requires : tie.Need-parent-requires invariant-loop decreases-loop
+parent-requires : tie.Need-parent-p-requires invariant-loop decreases-loop
 parent-requires c κs = c.before.before.requires.room
 
-loop-holds : tie.Need-loop-init invariant-loop decreases-loop
-loop-holds c = finding-start _ _ _ c.parent.ensures.0
+loop-holds : tie.Need-loop-p-init invariant-loop decreases-loop
+loop-holds c = finding-start _ _ _ c.parent-p.ensures.0
 
-parent-requires-2 : tie.Need-parent-requires-2 invariant-loop decreases-loop
+parent-requires-2 : tie.Need-parent-q-requires invariant-loop decreases-loop
 parent-requires-2 c κs =
     let start : Start = search in
-    let loop = c.before.before.loop in
+    let loop = c.before.before.loop-p in
     let pre = start.pre in
     finding-room pre loop.invariant loop.p (omega (arith, finding-falls pre loop.invariant, loop.invariant.below))
 
-same_length : tie.Need-same-length invariant-loop decreases-loop
+same_length : tie.Need-shape_of-work-then-q-p invariant-loop decreases-loop
 same_length c =
     let in-loop : At-loop = search in
     let start : Start = search in
-    let loop = in-loop.loop in
+    let loop = in-loop.loop-p in
     (loop.inv.kept (start.args.i + 1) (omega arith)).size
 
-returns : tie.Need-returns invariant-loop decreases-loop
+returns : tie.Need-returns-then-q-p invariant-loop decreases-loop
 returns c =
     let in-loop : At-loop = search in
     let start : Start = search in
-    let second = c.before.parent2 in
-    let loop = in-loop.loop in
+    let second = c.before.parent-q in
+    let loop = in-loop.loop-p in
     let pre = start.pre in
-    finding-root pre loop.inv _ second.ensures.0 second.ensures.1 c.if1.true
+    finding-root pre loop.inv _ second.ensures.0 second.ensures.1 c.if-q-p.true
 
-set-parent-requires : tie.Need-set-parent-requires invariant-loop decreases-loop
+set-parent-requires : tie.Need-set_parent-requires invariant-loop decreases-loop
 set-parent-requires c κs =
     let in-loop : At-loop = search in
     let start : Start = search in
-    let loop = in-loop.loop in
+    let loop = in-loop.loop-p in
     let pre = start.pre in
-    (finding-room pre loop.inv loop.at loop.inv.below, c.before.before.parent2.ensures.1)
+    (finding-room pre loop.inv loop.at loop.inv.below, c.before.before.parent-q.ensures.1)
 
-parent-requires-3 : tie.Need-parent-requires-3 invariant-loop decreases-loop
+parent-requires-3 : tie.Need-parent-p-requires-in-loop-p invariant-loop decreases-loop
 parent-requires-3 c κs =
     let set = c.before.before.before in
-    let stepped : tie.After-parent2 invariant-loop decreases-loop = search in
+    let stepped : tie.After-parent-q invariant-loop decreases-loop = search in
     let in-loop : At-loop = search in
     let start : Start = search in
-    let second = stepped.parent2 in
-    let finding = in-loop.loop.inv in
+    let second = stepped.parent-q in
+    let finding = in-loop.loop-p.inv in
     let pre = start.pre in
     let below = finding-second pre finding second.result second.ensures.0 second.ensures.1 in
     let room = finding-room pre finding second.result (omega (arith, finding.below, finding-falls pre finding, below)) in
-    omega (arith, set.set-parent.auto.0, room)
+    omega (arith, set.set_parent.auto.0, room)
 
-loop-less : tie.Need-loop-smaller invariant-loop decreases-loop
+loop-less : tie.Need-loop-p-smaller invariant-loop decreases-loop
 loop-less c =
-    let stepped : tie.After-parent2 invariant-loop decreases-loop = search in
+    let stepped : tie.After-parent-q invariant-loop decreases-loop = search in
     let in-loop : At-loop = search in
     let start : Start = search in
-    let second = stepped.parent2 in
+    let second = stepped.parent-q in
     let pre = start.pre in
-    omega (arith, finding-second pre in-loop.loop.inv second.result second.ensures.0 second.ensures.1)
+    omega (arith, finding-second pre in-loop.loop-p.inv second.result second.ensures.0 second.ensures.1)
 
-loop-again : tie.Need-loop-preserved invariant-loop decreases-loop
+loop-again : tie.Need-loop-p-preserved invariant-loop decreases-loop
 loop-again c =
-    let set : tie.After-set-parent invariant-loop decreases-loop = search in
-    let stepped : tie.After-parent2 invariant-loop decreases-loop = search in
+    let set : tie.After-set_parent invariant-loop decreases-loop = search in
+    let stepped : tie.After-parent-q invariant-loop decreases-loop = search in
     let in-loop : At-loop = search in
     let start : Start = search in
-    let second = stepped.parent2 in
+    let second = stepped.parent-q in
     let pre = start.pre in
-    finding-next pre in-loop.loop.inv _ second.ensures.0 second.ensures.1
-    _ set.set-parent.ensures _ c.parent3.ensures.0
+    finding-next pre in-loop.loop-p.inv _ second.ensures.0 second.ensures.1
+    _ set.set_parent.ensures _ c.parent-p-in-loop-p.ensures.0
 
-same-length-2 : tie.Need-same-length-2 invariant-loop decreases-loop
+same-length-2 : tie.Need-shape_of-work invariant-loop decreases-loop
 same-length-2 c =
     let start : Start = search in
-    (c.before.loop.invariant.kept (start.args.i + 1) (omega arith)).size
+    (c.before.loop-p.invariant.kept (start.args.i + 1) (omega arith)).size
 
-returns-2 : tie.Need-returns-2 invariant-loop decreases-loop
+returns-2 : tie.Need-returns invariant-loop decreases-loop
 returns-2 c =
     let start : Start = search in
-    finding-end start.pre c.before.loop.invariant (λ l. omega arith)
+    finding-end start.pre c.before.loop-p.invariant (λ l. omega arith)
 
 pub find_spec : {M : Type 1} → statement M
 find_spec =

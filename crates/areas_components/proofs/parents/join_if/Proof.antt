@@ -7,16 +7,16 @@ use Rattle.areas_components.proofs.parents.join_if.Tie as tie
 join-requires : tie.Need-join-requires
 join-requires c κs =
     let start : tie.Start = search in
-    (start.pre.0, start.pre.1 c.before.if1.true)
+    (start.pre.0, start.pre.1 c.before.if-on.true)
 
-returns : tie.Need-returns
+returns : tie.Need-returns-then-on
 returns c =
-    let turned_on : tie.Then1 = search in
-    joined-on turned_on.if1.taken c.before.before.join.ensures
+    let turned_on : tie.Then-on = search in
+    joined-on turned_on.if-on.true c.before.before.join.ensures
 
-returns-2 : tie.Need-returns-2
+returns-2 : tie.Need-returns-else-on
 returns-2 c =
-    joined-off c.if1.false (joined-none _ _ _)
+    joined-off c.if-on.false (joined-none _ _ _)
 
-pub join-if-spec : {M : Type 1} → statement M
-join-if-spec = tie.close (tie.spec join-requires (λ c. search rules) returns returns-2)
+pub join_if_spec : {M : Type 1} → statement M
+join_if_spec = tie.close (tie.spec join-requires (λ c. search rules) returns returns-2)

@@ -3,12 +3,12 @@ use borrow.Author.Rules.{rules}
 use Rattle.areas_components.proofs.steps.join_block.Statement.{statement}
 use Rattle.areas_components.proofs.steps.join_block.Tie as tie
 
-returns : tie.Need-returns
+returns : tie.Need-returns-then-clear
 returns c =
     let start : tie.Start = search in
-    λ r h. joining-skip 64 start.pre.0 start.pre.1 (c.before.clear.ensures c.if1.true) h
+    λ r h. joining-skip 64 start.pre.0 start.pre.1 (c.before.clear.ensures c.if-clear.true) h
 
-pub join-block-spec : {M : Type 1} → statement M
-join-block-spec =
+pub join_block_spec : {M : Type 1} → statement M
+join_block_spec =
     tie.close (tie.spec (search rules) (λ c κs. search rules) (λ c. search rules) returns (search rules) (λ c κs. search rules) (λ c. search rules)
     (λ c. search rules))

@@ -4,8 +4,8 @@ use Rattle.areas_components.proofs.StepLaws.{joined-zero}
 use Rattle.areas_components.proofs.steps.join_cell.Statement.{statement}
 use Rattle.areas_components.proofs.steps.join_cell.Tie as tie
 
-returns : tie.Need-returns
+returns : tie.Need-returns-then-byte-eq0
 returns c = joined-zero _ _ _ _ (omega arith)
 
-pub join-cell-spec : {M : Type 1} → statement M
-join-cell-spec = tie.close (tie.spec returns (λ c κs. search rules) (λ c. search rules) (λ c. search rules))
+pub join_cell_spec : {M : Type 1} → statement M
+join_cell_spec = tie.close (tie.spec returns (λ c κs. search rules) (λ c. search rules) (λ c. search rules))

@@ -5,33 +5,33 @@ use borrow.Author.Rules.{rules}
 use Rattle.areas_components.proofs.steps.join_some.Statement.{statement}
 use Rattle.areas_components.proofs.steps.join_some.Tie as tie
 
-abbrev invariant-loop : tie.invariant-loop
+abbrev invariant-loop : tie.invariant-loop-i
 invariant-loop work₀ base n width from to i₀ work i = Partly n width base from to i work₀ work
 
-abbrev decreases-loop : tie.decreases-loop
+abbrev decreases-loop : tie.decreases-loop-i
 decreases-loop work₀ base n width from to i₀ work i = to - i
 
-loop-holds : tie.Need-loop-init invariant-loop decreases-loop
+loop-holds : tie.Need-loop-i-init invariant-loop decreases-loop
 loop-holds c = partly-start c.before.requires.0 c.before.requires.1
 
-join-cell-requires : tie.Need-join-cell-requires invariant-loop decreases-loop
+join-cell-requires : tie.Need-join_cell-requires invariant-loop decreases-loop
 join-cell-requires c κs =
     let in-loop = c.before.before.before in
     let start = in-loop.before.before in
-    let g = in-loop.loop.invariant.able in
+    let g = in-loop.loop-i.invariant.able in
     let pre = start.requires in
     (g.some, g.narrow, omega (arith, g.few, pre.2), joinable-ready g (omega (arith, pre.2)))
 
-loop-again : tie.Need-loop-preserved invariant-loop decreases-loop
+loop-again : tie.Need-loop-i-preserved invariant-loop decreases-loop
 loop-again c =
-    let loop : tie.At-loop invariant-loop decreases-loop = search in
+    let loop : tie.At-loop-i invariant-loop decreases-loop = search in
     let start : tie.Start invariant-loop decreases-loop = search in
-    partly-next loop.loop.inv (omega arith) start.pre.2 c.before.before.join-cell.ensures
+    partly-next loop.loop-i.inv (omega arith) start.pre.2 c.before.before.join_cell.ensures
 
 returns : tie.Need-returns invariant-loop decreases-loop
-returns c = partly-end c.before.loop.invariant (λ l. omega arith)
+returns c = partly-end c.before.loop-i.invariant (λ l. omega arith)
 
-pub join-some-spec : {M : Type 1} → statement M
-join-some-spec =
+pub join_some_spec : {M : Type 1} → statement M
+join_some_spec =
     tie.close (tie.spec invariant-loop decreases-loop loop-holds (search rules) (search rules) join-cell-requires (search rules) (search rules) loop-again
     (λ c. search rules) returns)

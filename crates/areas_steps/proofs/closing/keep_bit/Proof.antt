@@ -18,41 +18,41 @@ use Rattle.areas_steps.proofs.closing.keep_bit.Statement.{statement}
 use Rattle.areas_steps.proofs.closing.keep_bit.Tie as tie
 
 -- the step leads to a place of the map
-leads : (c : tie.Else2) → let a = c.before.before.before.args in (0 < a.position.x + a.d % 3) × (a.position.x + a.d % 3 ≤ a.width)
+leads : (c : tie.Else-not-leads_on) → let a = c.before.before.before.args in (0 < a.position.x + a.d % 3) × (a.position.x + a.d % 3 ≤ a.width)
     × (0 < a.position.y + a.d / 3) × (a.position.y + a.d / 3 ≤ a.height)
 leads c =
     let start : tie.Start = search in
     let a = start.args in
     let g = grid_of a.width a.height [] in
     leads-at _ _ _ _ _ start.pre.2
-    (sym (c.before.leads-on.ensures g _ refl refl (column-of g _ _ start.pre.2) (row-of g _ _ start.pre.2)) ∙ not-false _ c.if2.false)
+    (sym (c.before.leads_on.ensures g _ refl refl (column-of g _ _ start.pre.2) (row-of g _ _ start.pre.2)) ∙ not-false _ c.if-not-leads_on.false)
 
 -- what the code tells of the cut is so on any such map
-cut-told : (c : tie.After-cut-by) → let a = c.before.before.before.before.before.args in
+cut-told : (c : tie.After-cut_by) → let a = c.before.before.before.before.before.args in
     (g : Grid) (i : ℕ) → MapOf a.width a.height g → column_of g i ≡ a.position.x → row_of g i ≡ a.position.y
     → cut_by g a.span (step_of i (neighbour g i a.d)) ≡ c.cut_by.result
 cut-told c g i m e f =
     let on = c.before.before in
-    let n = leads-means g i _ (sym (on.before.leads-on.ensures g i m.columns m.rows e f) ∙ not-false _ on.if2.false) in
-    let to = c.before.place-to.ensures.0 g i e f in
+    let n = leads-means g i _ (sym (on.before.leads_on.ensures g i m.columns m.rows e f) ∙ not-false _ on.if-not-leads_on.false) in
+    let to = c.before.place_to.ensures.0 g i e f in
     sym (c.cut_by.ensures g i _ e f (neighbour-column g i _ n ∙ sym to.0) (neighbour-row g i _ n ∙ sym to.1))
 
-returns : tie.Need-returns
+returns : tie.Need-returns-then-bit-eq0
 returns c =
-    let a = c.before.args in (λ g i t m e f ld eb. kept-none _ t (cut_by g a.span (step_of i (neighbour g i a.d))) c.if1.true eb, omega arith)
+    let a = c.before.args in (λ g i t m e f ld eb. kept-none _ t (cut_by g a.span (step_of i (neighbour g i a.d))) c.if-bit-eq0.true eb, omega arith)
 
-returns-2 : tie.Need-returns-2
+returns-2 : tie.Need-returns-then-not-leads_on
 returns-2 c =
     let a = c.before.before.before.args in (
       λ g i t m e f ld eb. kept_off t (cut_by g a.span (step_of i (neighbour g i a.d)))
-          (λ h. clash (ld h) (sym (c.before.leads-on.ensures g i m.columns m.rows e f) ∙ not-true _ c.if2.true)),
+          (λ h. clash (ld h) (sym (c.before.leads_on.ensures g i m.columns m.rows e f) ∙ not-true _ c.if-not-leads_on.true)),
       omega arith,
     )
 
-place-to-requires : tie.Need-place-to-requires
+place-to-requires : tie.Need-place_to-requires
 place-to-requires c κs = let p = leads c in omega arith
 
-cut-by-requires : tie.Need-cut-by-requires
+cut-by-requires : tie.Need-cut_by-requires
 cut-by-requires c κs =
     let start : tie.Start = search in
     let a = start.args in
@@ -61,16 +61,16 @@ cut-by-requires c κs =
     let row = row-of g _ _ start.pre.2 in
     let p = leads c.before in
     let b = ends-bounded start.pre.0 start.pre.1 in
-    let to = c.place-to.ensures.0 g _ col row in
+    let to = c.place_to.ensures.0 g _ col row in
     (b.0, b.1, start.pre.1.ordered, omega arith, omega arith, omega (arith, to.0, col), omega (arith, to.1, row))
 
-returns-3 : tie.Need-returns-3
-returns-3 c = (λ g i t m e f ld eb. kept-cut t _ (cut-told c.before g i m e f ∙ c.if3.true), omega arith)
+returns-3 : tie.Need-returns-then-cut_by
+returns-3 c = (λ g i t m e f ld eb. kept-cut t _ (cut-told c.before g i m e f ∙ c.if-cut_by.true), omega arith)
 
-returns-4 : tie.Need-returns-4
+returns-4 : tie.Need-returns
 returns-4 c =
-    let some : tie.Else1 = search in
-    (λ g i t m e f ld eb. kept_whole _ t _ some.if1.left eb (cut-told c.before g i m e f ∙ c.if3.false), omega arith)
+    let some : tie.Else-bit-eq0 = search in
+    (λ g i t m e f ld eb. kept_whole _ t _ some.if-bit-eq0.false eb (cut-told c.before g i m e f ∙ c.if-cut_by.false), omega arith)
 
-pub keep-bit-spec : {M : Type 1} → statement M
-keep-bit-spec = tie.close (tie.spec returns (λ c κs. search rules) returns-2 place-to-requires cut-by-requires returns-3 returns-4)
+pub keep_bit_spec : {M : Type 1} → statement M
+keep_bit_spec = tie.close (tie.spec returns (λ c κs. search rules) returns-2 place-to-requires cut-by-requires returns-3 returns-4)

@@ -6,11 +6,11 @@ use borrow.Author.Rules.{rules}
 use Rattle.areas_steps.proofs.opening.byte_of.Statement.{statement}
 use Rattle.areas_steps.proofs.opening.byte_of.Tie as tie
 
-add-result : tie.Need-overflow-add-result
+add-result : tie.Need-overflow_add-result
 add-result c = omega (arith, c.index.ensures (grid_of c.before.args.width 0 []) refl)
 
 returns : tie.Need-returns
 returns c = omega (arith, c.index.ensures (grid_of c.before.args.width 0 []) refl)
 
-pub byte-of-spec : {M : Type 1} → statement M
-byte-of-spec = tie.close (tie.spec (λ c κs. search rules) (search rules) add-result returns)
+pub byte_of_spec : {M : Type 1} → statement M
+byte_of_spec = tie.close (tie.spec (λ c κs. search rules) (search rules) add-result returns)

@@ -5,20 +5,20 @@ use borrow.Author.Rules.{rules}
 use Rattle.areas_steps.proofs.opening.open_bit.Statement.{statement}
 use Rattle.areas_steps.proofs.opening.open_bit.Tie as tie
 
-returns : tie.Need-returns
-returns c = let e = sym c.before.has-direction.ensures ∙ not-true _ c.if1.true in (rw e, omega arith)
+returns : tie.Need-returns-then-not-has_direction
+returns c = let e = sym c.before.has_direction.ensures ∙ not-true _ c.if-not-has_direction.true in (rw e, omega arith)
 
-returns-2 : tie.Need-returns-2
+returns-2 : tie.Need-returns-then-not-step_at
 returns-2 c =
-    let e = sym c.before.before.before.has-direction.ensures ∙ not-false _ c.before.before.if1.false in
-    let f = sym c.before.step-at.ensures ∙ not-true _ c.if2.true in
+    let e = sym c.before.before.before.has_direction.ensures ∙ not-false _ c.before.before.if-not-has_direction.false in
+    let f = sym c.before.step_at.ensures ∙ not-true _ c.if-not-step_at.true in
     (rw (e, f), omega arith)
 
-returns-3 : tie.Need-returns-3
+returns-3 : tie.Need-returns
 returns-3 c =
-    let e = sym c.before.before.before.has-direction.ensures ∙ not-false _ c.before.before.if1.false in
-    let f = sym c.before.step-at.ensures ∙ not-false _ c.if2.false in
+    let e = sym c.before.before.before.has_direction.ensures ∙ not-false _ c.before.before.if-not-has_direction.false in
+    let f = sym c.before.step_at.ensures ∙ not-false _ c.if-not-step_at.false in
     (rw (e, f), omega arith)
 
-pub open-bit-spec : {M : Type 1} → statement M
-open-bit-spec = tie.close (tie.spec (λ c κs. search rules) returns (λ c κs. search rules) returns-2 returns-3)
+pub open_bit_spec : {M : Type 1} → statement M
+open_bit_spec = tie.close (tie.spec (λ c κs. search rules) returns (λ c κs. search rules) returns-2 returns-3)

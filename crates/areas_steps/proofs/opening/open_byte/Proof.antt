@@ -10,11 +10,11 @@ returns : tie.Need-returns
 returns c =
     let third = c.before in
     let second = third.before in
-    byte-from _ _ [] _ _ _ _ _ (second.before.open-bit.ensures.0 ∙ ap bit_of (open_none _ _ _ 0))
-    (second.open-bit2.ensures.0 ∙ ap bit_of (open_none _ _ _ 1)) (third.open-bit3.ensures.0 ∙ ap bit_of (open_none _ _ _ 2))
-    (c.open-bit4.ensures.0 ∙ ap bit_of (open_none _ _ _ 3))
+    byte-from _ _ [] _ _ _ _ _ (second.before.open_bit-right.ensures.0 ∙ ap bit_of (open_none _ _ _ 0))
+    (second.open_bit-below_left.ensures.0 ∙ ap bit_of (open_none _ _ _ 1)) (third.open_bit-below.ensures.0 ∙ ap bit_of (open_none _ _ _ 2))
+    (c.open_bit-below_right.ensures.0 ∙ ap bit_of (open_none _ _ _ 3))
 
-pub open-byte-spec : {M : Type 1} → statement M
-open-byte-spec =
+pub open_byte_spec : {M : Type 1} → statement M
+open_byte_spec =
     tie.close (tie.spec (λ c κs. search rules) (λ c κs. search rules) (λ c κs. search rules) (λ c κs. search rules) (search rules) (search rules)
     (search rules) (search rules) (search rules) (search rules) returns)

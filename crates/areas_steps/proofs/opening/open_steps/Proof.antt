@@ -13,29 +13,29 @@ use borrow.Author.Rules.{rules}
 use Rattle.areas_steps.proofs.opening.open_steps.Statement.{statement}
 use Rattle.areas_steps.proofs.opening.open_steps.Tie as tie
 
-abbrev invariant-loop : tie.invariant-loop
+abbrev invariant-loop : tie.invariant-loop-y
 invariant-loop cells width height directions work₀ base y₀ work y = (y ≤ height) × (length work ≡ length work₀)
     × WorkHolds base (y * width) (open_byte (directions_of directions) (grid_of width height cells) []) work₀ work
 
-abbrev decreases-loop : tie.decreases-loop
+abbrev decreases-loop : tie.decreases-loop-y
 decreases-loop cells width height directions work₀ base y₀ work y = height - y
 
-loop-holds : tie.Need-loop-init invariant-loop decreases-loop
+loop-holds : tie.Need-loop-y-init invariant-loop decreases-loop
 loop-holds c = (omega arith, refl, held-count _ (sym (zero-mul c.before.before.args.width)) (held_none _ _ _))
 
-open-row-requires : tie.Need-open-row-requires invariant-loop decreases-loop
+open-row-requires : tie.Need-open_row-requires invariant-loop decreases-loop
 open-row-requires c κs =
     let start : tie.Start invariant-loop decreases-loop = search in
-    (start.pre.0, start.pre.1, omega (arith, c.before.before.loop.invariant.1), c.before.loop-test.true)
+    (start.pre.0, start.pre.1, omega (arith, c.before.before.loop-y.invariant.1), c.before.loop-y-test.true)
 
-loop-again : tie.Need-loop-preserved invariant-loop decreases-loop
+loop-again : tie.Need-loop-y-preserved invariant-loop decreases-loop
 loop-again c =
     let row_Opened = c.before.before in
-    let turning : tie.In-loop invariant-loop decreases-loop = search in
-    let in-loop : tie.At-loop invariant-loop decreases-loop = search in
+    let turning : tie.In-loop-y invariant-loop decreases-loop = search in
+    let in-loop : tie.At-loop-y invariant-loop decreases-loop = search in
     let start : tie.Start invariant-loop decreases-loop = search in
-    let inv = in-loop.loop.inv in (
-      omega (arith, turning.loop-test.taken),
+    let inv = in-loop.loop-y.inv in (
+      omega (arith, turning.loop-y-test.true),
       row_Opened.open_row.auto.1.1.1.1.1.0 ∙ inv.1,
       row_Opened.open_row.ensures start.args.work.now inv.2,
     )
@@ -43,15 +43,15 @@ loop-again c =
 returns : tie.Need-returns invariant-loop decreases-loop
 returns c =
     let start : tie.Start invariant-loop decreases-loop = search in
-    let inv = c.before.loop.invariant in
+    let inv = c.before.loop-y.invariant in
     let w = start.args.width in
     let h = start.args.height in
     let cs = start.args.cells.now in
     let z = inv.0 in
-    let e : c.before.loop.y ≡ h = omega (arith, z, c.loop-test.false) in
-    let n : c.before.loop.y * w ≡ length cs = ap (λ (k : ℕ). k * w) e ∙ mul_comm h w ∙ sym start.pre.1 in
+    let e : c.before.loop-y.y ≡ h = omega (arith, z, c.loop-y-test.false) in
+    let n : c.before.loop-y.y * w ≡ length cs = ap (λ (k : ℕ). k * w) e ∙ mul_comm h w ∙ sym start.pre.1 in
     held-splice _ _ _ _ (omega (arith, start.pre.1)) (held-count _ n inv.2)
 
-pub open-steps-spec : {M : Type 1} → statement M
-open-steps-spec =
+pub open_steps_spec : {M : Type 1} → statement M
+open_steps_spec =
     tie.close (tie.spec invariant-loop decreases-loop loop-holds open-row-requires (search rules) (search rules) loop-again (λ c. search rules) returns)

@@ -14,63 +14,63 @@ use borrow.Author.Rules.{rules}
 use Rattle.areas_steps.proofs.spans.mark_spans.Statement.{statement}
 use Rattle.areas_steps.proofs.spans.mark_spans.Tie as tie
 
-abbrev invariant-loop : tie.invariant-loop
+abbrev invariant-loop : tie.invariant-loop-k
 invariant-loop cells width height directions ends count work₀ base k₀ work k = (k ≤ count) × (length work ≡ length work₀)
     × ((before : List ℕ) → WorkHolds base (length cells) (open_byte (directions_of directions) (grid_of width height cells) []) before work₀
     → WorkHolds base (length cells) (open_byte (directions_of directions) (grid_of width height cells) (spans_in ends k)) before work)
 
-abbrev decreases-loop : tie.decreases-loop
+abbrev decreases-loop : tie.decreases-loop-k
 decreases-loop cells width height directions ends count work₀ base k₀ work k = count - k
 
 abbrev Start : Type 0
 Start = tie.Start invariant-loop decreases-loop
 
-open-steps-requires : tie.Need-open-steps-requires invariant-loop decreases-loop
+open-steps-requires : tie.Need-open_steps-requires invariant-loop decreases-loop
 open-steps-requires c κs =
     let start : Start = search in
     (start.pre.0, start.pre.1, start.pre.2)
 
-loop-holds : tie.Need-loop-init invariant-loop decreases-loop
+loop-holds : tie.Need-loop-k-init invariant-loop decreases-loop
 loop-holds c =
     let start : Start = search in
     (omega arith, refl, λ b hd. held-as _ _ (spans-none start.args.ends.now) hd)
 
-close-cut-requires : tie.Need-close-cut-requires invariant-loop decreases-loop
+close-cut-requires : tie.Need-close_cut-requires invariant-loop decreases-loop
 close-cut-requires c κs =
     let in-loop = c.before.before.before in
-    let steps-opened : tie.After-open-steps invariant-loop decreases-loop = search in
+    let steps-opened : tie.After-open_steps invariant-loop decreases-loop = search in
     let start : Start = search in
-    let fits : SpanFits start.args.width start.args.height c.before.span-at.result =
-    rw c.before.span-at.ensures (start.pre.4.each in-loop.loop.k c.before.before.loop-test.true) in
-    (start.pre.0, fits, omega (arith, in-loop.loop.invariant.1, steps-opened.open-steps.kept.1.1.1.1.0, start.pre.2))
+    let fits : SpanFits start.args.width start.args.height c.before.span_at.result =
+    rw c.before.span_at.ensures (start.pre.4.each in-loop.loop-k.k c.before.before.loop-k-test.true) in
+    (start.pre.0, fits, omega (arith, in-loop.loop-k.invariant.1, steps-opened.open_steps.kept.1.1.1.1.0, start.pre.2))
 
-loop-again : tie.Need-loop-preserved invariant-loop decreases-loop
+loop-again : tie.Need-loop-k-preserved invariant-loop decreases-loop
 loop-again c =
     let cut-closed = c.before.before in
-    let span-read : tie.After-span-at invariant-loop decreases-loop = search in
-    let turning : tie.In-loop invariant-loop decreases-loop = search in
-    let in-loop : tie.At-loop invariant-loop decreases-loop = search in
+    let span-read : tie.After-span_at invariant-loop decreases-loop = search in
+    let turning : tie.In-loop-k invariant-loop decreases-loop = search in
+    let in-loop : tie.At-loop-k invariant-loop decreases-loop = search in
     let start : Start = search in
-    let inv = in-loop.loop.inv in
+    let inv = in-loop.loop-k.inv in
     let ends = start.args.ends.now in
-    let k = in-loop.loop.k in (
-      omega (arith, turning.loop-test.taken),
-      cut-closed.close-cut.auto.1.1.1.0 ∙ inv.1,
+    let k = in-loop.loop-k.k in (
+      omega (arith, turning.loop-k-test.true),
+      cut-closed.close_cut.auto.1.1.1.0 ∙ inv.1,
       λ b hd.
-          held-as _ _ (spans-last ends k span-read.span-at.ensures)
-          (cut-closed.close-cut.ensures _ _ (spans_in ends k) b (record { columns = refl; rows = refl; whole = start.pre.1 }) (inv.2 b hd)),
+          held-as _ _ (spans-last ends k span-read.span_at.ensures)
+          (cut-closed.close_cut.ensures _ _ (spans_in ends k) b (record { columns = refl; rows = refl; whole = start.pre.1 }) (inv.2 b hd)),
     )
 
-same_length : tie.Need-same-length invariant-loop decreases-loop
+same_length : tie.Need-shape_of-work invariant-loop decreases-loop
 same_length c =
-    let steps-opened : tie.After-open-steps invariant-loop decreases-loop = search in
-    c.before.loop.invariant.1 ∙ steps-opened.open-steps.kept.1.1.1.1.0
+    let steps-opened : tie.After-open_steps invariant-loop decreases-loop = search in
+    c.before.loop-k.invariant.1 ∙ steps-opened.open_steps.kept.1.1.1.1.0
 
 returns : tie.Need-returns invariant-loop decreases-loop
 returns c =
-    let steps-opened : tie.After-open-steps invariant-loop decreases-loop = search in
+    let steps-opened : tie.After-open_steps invariant-loop decreases-loop = search in
     let start : Start = search in
-    let inv = c.before.loop.invariant in
+    let inv = c.before.loop-k.invariant in
     let w = start.args.width in
     let h = start.args.height in
     let cs = start.args.cells.now in
@@ -81,12 +81,12 @@ returns c =
     let entry = start.args.work.now in
     let n = length cs in
     let room : base + n ≤ length entry = omega (arith, start.pre.1, start.pre.2) in
-    let e : c.before.loop.k ≡ start.args.count = omega (arith, inv.0, c.loop-test.false) in
-    let opened = subst (λ (l : List ℕ). WorkHolds base n (open_byte dirs g []) entry l) (sym steps-opened.open-steps.ensures)
+    let e : c.before.loop-k.k ≡ start.args.count = omega (arith, inv.0, c.loop-k-test.false) in
+    let opened = subst (λ (l : List ℕ). WorkHolds base n (open_byte dirs g []) entry l) (sym steps-opened.open_steps.ensures)
     (splice-held entry base n (open_byte dirs g []) room) in
     held-splice entry base n (open_byte dirs g (spans_in ends start.args.count)) room (held-as dirs g (ap (spans_in ends) e) (inv.2 entry opened))
 
-pub mark-spans-spec : {M : Type 1} → statement M
-mark-spans-spec =
+pub mark_spans_spec : {M : Type 1} → statement M
+mark_spans_spec =
     tie.close (tie.spec invariant-loop decreases-loop open-steps-requires loop-holds (λ c κs. search rules) close-cut-requires (search rules) (search rules)
     loop-again same_length returns)

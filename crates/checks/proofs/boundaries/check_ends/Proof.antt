@@ -10,27 +10,27 @@ use Rattle.checks.specs.Single.{ends_check, span_checks}
 use Rattle.checks.proofs.boundaries.check_ends.Statement.{statement}
 use Rattle.checks.proofs.boundaries.check_ends.Tie as tie
 
-abbrev invariant-loop : tie.invariant-loop
+abbrev invariant-loop : tie.invariant-loop-i
 invariant-loop job at n width height distinct i₀ i = Clean (ends_check distinct job width height at) n i
 
-abbrev decreases-loop : tie.decreases-loop
+abbrev decreases-loop : tie.decreases-loop-i
 decreases-loop job at n width height distinct i₀ i = n - i
 
-loop-holds : tie.Need-loop-init invariant-loop decreases-loop
+loop-holds : tie.Need-loop-i-init invariant-loop decreases-loop
 loop-holds c = clean-start _ _
 
-returns : tie.Need-returns invariant-loop decreases-loop
+returns : tie.Need-returns-then-ends_fault invariant-loop decreases-loop
 unfolding ends_check span_checks
 returns c =
     let after-read-boundary = c.before.before.before in
     let turning = after-read-boundary.before in
     let in-loop = turning.before in
     let start = in-loop.before.before in
-    clean_found in-loop.loop.invariant turning.loop-test.true
+    clean_found in-loop.loop-i.invariant turning.loop-i-test.true
     (stop _ _ (told (λ (b : BoundaryRecord). ends_fault start.args.width start.args.height b.ends)
-    after-read-boundary.read-boundary.ensures c.before.ends-fault.ensures c.if1.true))
+    after-read-boundary.read_boundary-b.ensures c.before.ends_fault.ensures c.if-ends_fault.true))
 
-returns-2 : tie.Need-returns-2 invariant-loop decreases-loop
+returns-2 : tie.Need-returns-then-distinct-coincides invariant-loop decreases-loop
 unfolding ends_check span_checks
 returns-2 c =
     let after-ends-fault = c.before.before.before in
@@ -38,13 +38,13 @@ returns-2 c =
     let turning = after-read-boundary.before in
     let in-loop = turning.before in
     let start = in-loop.before.before in
-    clean_found in-loop.loop.invariant turning.loop-test.true
+    clean_found in-loop.loop-i.invariant turning.loop-i-test.true
     (skip _ _ (told (λ (b : BoundaryRecord). ends_fault start.args.width start.args.height b.ends)
-    after-read-boundary.read-boundary.ensures after-ends-fault.ends-fault.ensures c.before.before.if1.false)
-    ∙ stop _ _ (told (λ (b : BoundaryRecord). start.args.distinct && pos_same b.ends.a b.ends.b) after-read-boundary.read-boundary.ensures
-    (ap (λ (t : Bool). start.args.distinct && t) c.before.coincides.ensures) c.if2.true))
+    after-read-boundary.read_boundary-b.ensures after-ends-fault.ends_fault.ensures c.before.before.if-ends_fault.false)
+    ∙ stop _ _ (told (λ (b : BoundaryRecord). start.args.distinct && pos_same b.ends.a b.ends.b) after-read-boundary.read_boundary-b.ensures
+    (ap (λ (t : Bool). start.args.distinct && t) c.before.coincides.ensures) c.if-distinct-coincides.true))
 
-loop-again : tie.Need-loop-preserved invariant-loop decreases-loop
+loop-again : tie.Need-loop-i-preserved invariant-loop decreases-loop
 unfolding ends_check span_checks
 loop-again c =
     let after-ends-fault = c.before.before.before in
@@ -52,17 +52,17 @@ loop-again c =
     let turning = after-read-boundary.before in
     let in-loop = turning.before in
     let start = in-loop.before.before in
-    clean-next in-loop.loop.invariant turning.loop-test.true
+    clean-next in-loop.loop-i.invariant turning.loop-i-test.true
     (clear-two _ _ (told (λ (b : BoundaryRecord). ends_fault start.args.width start.args.height b.ends)
-    after-read-boundary.read-boundary.ensures after-ends-fault.ends-fault.ensures c.before.before.if1.false)
-    (told (λ (b : BoundaryRecord). start.args.distinct && pos_same b.ends.a b.ends.b) after-read-boundary.read-boundary.ensures
-    (ap (λ (t : Bool). start.args.distinct && t) c.before.coincides.ensures) c.if2.false))
+    after-read-boundary.read_boundary-b.ensures after-ends-fault.ends_fault.ensures c.before.before.if-ends_fault.false)
+    (told (λ (b : BoundaryRecord). start.args.distinct && pos_same b.ends.a b.ends.b) after-read-boundary.read_boundary-b.ensures
+    (ap (λ (t : Bool). start.args.distinct && t) c.before.coincides.ensures) c.if-distinct-coincides.false))
 
-returns-3 : tie.Need-returns-3 invariant-loop decreases-loop
-returns-3 c = clean_end c.before.loop.invariant c.loop-test.false
+returns-3 : tie.Need-returns invariant-loop decreases-loop
+returns-3 c = clean_end c.before.loop-i.invariant c.loop-i-test.false
 
-pub check-ends-spec : {M : Type 1} → statement M
-check-ends-spec =
+pub check_ends_spec : {M : Type 1} → statement M
+check_ends_spec =
     tie.close
     (tie.spec
     invariant-loop

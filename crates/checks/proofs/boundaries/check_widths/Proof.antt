@@ -7,38 +7,38 @@ use Rattle.checks.specs.Single.{width_check}
 use Rattle.checks.proofs.boundaries.check_widths.Statement.{statement}
 use Rattle.checks.proofs.boundaries.check_widths.Tie as tie
 
-abbrev invariant-loop : tie.invariant-loop
+abbrev invariant-loop : tie.invariant-loop-i
 invariant-loop job at n i₀ i = Clean (width_check job at) n i
 
-abbrev decreases-loop : tie.decreases-loop
+abbrev decreases-loop : tie.decreases-loop-i
 decreases-loop job at n i₀ i = n - i
 
-loop-holds : tie.Need-loop-init invariant-loop decreases-loop
+loop-holds : tie.Need-loop-i-init invariant-loop decreases-loop
 loop-holds c = clean-start _ _
 
-returns : tie.Need-returns invariant-loop decreases-loop
+returns : tie.Need-returns-then-width_fault invariant-loop decreases-loop
 unfolding width_check
 returns c =
     let turning = c.before.before.before in
     let in-loop = turning.before in
-    clean_found in-loop.loop.invariant turning.loop-test.true
-    (stop _ _ (told (λ (b : BoundaryRecord). width_fault b.bits) c.before.before.read-boundary.ensures c.before.width-fault.ensures
-    c.if1.true))
+    clean_found in-loop.loop-i.invariant turning.loop-i-test.true
+    (stop _ _ (told (λ (b : BoundaryRecord). width_fault b.bits) c.before.before.read_boundary-b.ensures c.before.width_fault.ensures
+    c.if-width_fault.true))
 
-loop-again : tie.Need-loop-preserved invariant-loop decreases-loop
+loop-again : tie.Need-loop-i-preserved invariant-loop decreases-loop
 unfolding width_check
 loop-again c =
     let turning = c.before.before.before in
     let in-loop = turning.before in
-    clean-next in-loop.loop.invariant turning.loop-test.true
-    (clear _ (told (λ (b : BoundaryRecord). width_fault b.bits) c.before.before.read-boundary.ensures c.before.width-fault.ensures
-    c.if1.false))
+    clean-next in-loop.loop-i.invariant turning.loop-i-test.true
+    (clear _ (told (λ (b : BoundaryRecord). width_fault b.bits) c.before.before.read_boundary-b.ensures c.before.width_fault.ensures
+    c.if-width_fault.false))
 
-returns-2 : tie.Need-returns-2 invariant-loop decreases-loop
-returns-2 c = clean_end c.before.loop.invariant c.loop-test.false
+returns-2 : tie.Need-returns invariant-loop decreases-loop
+returns-2 c = clean_end c.before.loop-i.invariant c.loop-i-test.false
 
-pub check-widths-spec : {M : Type 1} → statement M
-check-widths-spec =
+pub check_widths_spec : {M : Type 1} → statement M
+check_widths_spec =
     tie.close
     (tie.spec
     invariant-loop

@@ -9,37 +9,37 @@ use borrow.Author.Rules.{rules}
 use Rattle.checks.proofs.header.check_header.Statement.{statement}
 use Rattle.checks.proofs.header.check_header.Tie as tie
 
-returns : tie.Need-returns
+returns : tie.Need-returns-then-size_fault
 unfolding header_checks
-returns c = sym (stop _ _ (sym c.before.size-fault.ensures ∙ c.if1.true))
+returns c = sym (stop _ _ (sym c.before.size_fault.ensures ∙ c.if-size_fault.true))
 
-returns-2 : tie.Need-returns-2
+returns-2 : tie.Need-returns-then-count_fault
 unfolding header_checks
 returns-2 c =
     let after-size-fault = c.before.before.before in
-    sym (skip _ _ (sym after-size-fault.size-fault.ensures ∙ c.before.before.if1.false)
-    ∙ stop _ _ (sym c.before.count-fault.ensures ∙ c.if2.true))
+    sym (skip _ _ (sym after-size-fault.size_fault.ensures ∙ c.before.before.if-size_fault.false)
+    ∙ stop _ _ (sym c.before.count_fault.ensures ∙ c.if-count_fault.true))
 
-returns-3 : tie.Need-returns-3
+returns-3 : tie.Need-returns-then-boundary_count_fault
 unfolding header_checks
 returns-3 c =
     let if2-left = c.before.before.before in
     let after-count-fault = if2-left.before in
     let if1-left = after-count-fault.before in
     let after-size-fault = if1-left.before in
-    sym (skip _ _ (sym after-size-fault.size-fault.ensures ∙ if1-left.if1.false)
-    ∙ skip _ _ (sym after-count-fault.count-fault.ensures ∙ if2-left.if2.false)
-    ∙ stop _ _ (sym c.before.before.boundary-count-fault.ensures ∙ c.before.if3.true))
+    sym (skip _ _ (sym after-size-fault.size_fault.ensures ∙ if1-left.if-size_fault.false)
+    ∙ skip _ _ (sym after-count-fault.count_fault.ensures ∙ if2-left.if-count_fault.false)
+    ∙ stop _ _ (sym c.before.before.boundary_count_fault.ensures ∙ c.before.if-boundary_count_fault.true))
 
-offsets-of-requires : tie.Need-offsets-of-requires
+offsets-of-requires : tie.Need-offsets_of-requires
 offsets-of-requires c κs =
     let after-count-fault = c.before.before.before in
     let if1-left = after-count-fault.before in
     let after-size-fault = if1-left.before in
-    within _ (sym after-size-fault.size-fault.ensures ∙ if1-left.if1.false) (sym after-count-fault.count-fault.ensures ∙ c.before.before.if2.false)
-    (sym c.before.boundary-count-fault.ensures ∙ c.if3.false)
+    within _ (sym after-size-fault.size_fault.ensures ∙ if1-left.if-size_fault.false) (sym after-count-fault.count_fault.ensures ∙ c.before.before.if-count_fault.false)
+    (sym c.before.boundary_count_fault.ensures ∙ c.if-boundary_count_fault.false)
 
-returns-4 : tie.Need-returns-4
+returns-4 : tie.Need-returns-then-not-same_offsets
 unfolding header_checks
 returns-4 c =
     let if3-left = c.before.before.before in
@@ -49,13 +49,13 @@ returns-4 c =
     let if1-left = after-count-fault.before in
     let after-size-fault = if1-left.before in
     let start = after-size-fault.before.before.before in
-    sym (skip _ _ (sym after-size-fault.size-fault.ensures ∙ if1-left.if1.false)
-    ∙ skip _ _ (sym after-count-fault.count-fault.ensures ∙ if2-left.if2.false)
-    ∙ skip _ _ (sym after-boundary-count-fault.boundary-count-fault.ensures ∙ if3-left.if3.false)
-    ∙ stop _ _ (told (λ (p : Offsets). not (same_offsets start.args.h.offsets p)) c.before.before.offsets-of.ensures
-    (ap not c.before.same-offsets.ensures) c.if4.true))
+    sym (skip _ _ (sym after-size-fault.size_fault.ensures ∙ if1-left.if-size_fault.false)
+    ∙ skip _ _ (sym after-count-fault.count_fault.ensures ∙ if2-left.if-count_fault.false)
+    ∙ skip _ _ (sym after-boundary-count-fault.boundary_count_fault.ensures ∙ if3-left.if-boundary_count_fault.false)
+    ∙ stop _ _ (told (λ (p : Offsets). not (same_offsets start.args.h.offsets p)) c.before.before.offsets_of.ensures
+    (ap not c.before.same_offsets.ensures) c.if-not-same_offsets.true))
 
-returns-5 : tie.Need-returns-5
+returns-5 : tie.Need-returns
 unfolding header_checks
 returns-5 c =
     let if3-left = c.before.before.before in
@@ -65,14 +65,14 @@ returns-5 c =
     let if1-left = after-count-fault.before in
     let after-size-fault = if1-left.before in
     let start = after-size-fault.before.before.before in
-    sym (skip _ _ (sym after-size-fault.size-fault.ensures ∙ if1-left.if1.false)
-    ∙ skip _ _ (sym after-count-fault.count-fault.ensures ∙ if2-left.if2.false)
-    ∙ skip _ _ (sym after-boundary-count-fault.boundary-count-fault.ensures ∙ if3-left.if3.false)
-    ∙ clear _ (told (λ (p : Offsets). not (same_offsets start.args.h.offsets p)) c.before.before.offsets-of.ensures
-    (ap not c.before.same-offsets.ensures) c.if4.false))
+    sym (skip _ _ (sym after-size-fault.size_fault.ensures ∙ if1-left.if-size_fault.false)
+    ∙ skip _ _ (sym after-count-fault.count_fault.ensures ∙ if2-left.if-count_fault.false)
+    ∙ skip _ _ (sym after-boundary-count-fault.boundary_count_fault.ensures ∙ if3-left.if-boundary_count_fault.false)
+    ∙ clear _ (told (λ (p : Offsets). not (same_offsets start.args.h.offsets p)) c.before.before.offsets_of.ensures
+    (ap not c.before.same_offsets.ensures) c.if-not-same_offsets.false))
 
-pub check-header-spec : {M : Type 1} → statement M
-check-header-spec =
+pub check_header_spec : {M : Type 1} → statement M
+check_header_spec =
     tie.close
     (tie.spec
     (λ c κs. search rules)

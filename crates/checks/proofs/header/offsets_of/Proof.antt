@@ -6,29 +6,29 @@ use borrow.Author.Rules.{rules}
 use Rattle.checks.proofs.header.offsets_of.Statement.{statement}
 use Rattle.checks.proofs.header.offsets_of.Tie as tie
 
-mul-bases : tie.Need-overflow-mul-bases
+mul-bases : tie.Need-overflow_mul-bases
 mul-bases c = omega (arith, total-limit _ c.before.requires)
 
-add-bases : tie.Need-overflow-add-bases
+add-bases : tie.Need-overflow_add-bases
 add-bases c = omega (arith, total-limit _ c.before.requires)
 
-add-boundaries : tie.Need-overflow-add-boundaries
+add-boundaries : tie.Need-overflow_add-boundaries
 add-boundaries c = omega (arith, total-limit _ c.before.before.requires)
 
-add-observations : tie.Need-overflow-add-observations
+add-observations : tie.Need-overflow_add-observations
 add-observations c = omega (arith, total-limit _ c.before.before.before.requires)
 
-add-sources : tie.Need-overflow-add-sources
+add-sources : tie.Need-overflow_add-sources
 add-sources c = omega (arith, total-limit _ c.before.before.before.before.requires)
 
-add_total : tie.Need-overflow-add-total
+add_total : tie.Need-overflow_add-total
 add_total c = omega (arith, total-limit _ c.before.before.before.before.before.requires)
 
 returns : tie.Need-returns
 unfolding offsets_of
 returns c = refl
 
-pub offsets-of-spec : {M : Type 1} → statement M
-offsets-of-spec =
+pub offsets_of_spec : {M : Type 1} → statement M
+offsets_of_spec =
     tie.close (tie.spec mul-bases add-bases (search rules) add-boundaries (search rules) add-observations (search rules) add-sources (search rules)
     add_total returns)

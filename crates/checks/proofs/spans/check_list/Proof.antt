@@ -6,17 +6,17 @@ use borrow.Author.Rules.{rules}
 use Rattle.checks.proofs.spans.check_list.Statement.{statement}
 use Rattle.checks.proofs.spans.check_list.Tie as tie
 
-returns : tie.Need-returns
+returns : tie.Need-returns-then-not-list
 unfolding list_checks
-returns c = sym (stop _ _ c.if1.true)
+returns c = sym (stop _ _ c.if-not-list.true)
 
-returns-2 : tie.Need-returns-2
+returns-2 : tie.Need-returns-then-n-gt-MAX_SPANS
 unfolding list_checks
-returns-2 c = sym (skip _ _ c.before.if1.false ∙ stop _ _ (lt-ltb _ _ c.if2.true))
+returns-2 c = sym (skip _ _ c.before.if-not-list.false ∙ stop _ _ (lt-ltb _ _ c.if-n-gt-MAX_SPANS.true))
 
-returns-3 : tie.Need-returns-3
+returns-3 : tie.Need-returns
 unfolding list_checks
-returns-3 c = c.check-spans.ensures ∙ sym (skip _ _ c.before.before.if1.false ∙ skip _ _ (le-ltb _ _ c.before.if2.false))
+returns-3 c = c.check_spans.ensures ∙ sym (skip _ _ c.before.before.if-not-list.false ∙ skip _ _ (le-ltb _ _ c.before.if-n-gt-MAX_SPANS.false))
 
-pub check-list-spec : {M : Type 1} → statement M
-check-list-spec = tie.close (tie.spec returns returns-2 (λ c κs. search rules) returns-3)
+pub check_list_spec : {M : Type 1} → statement M
+check_list_spec = tie.close (tie.spec returns returns-2 (λ c κs. search rules) returns-3)

@@ -23,17 +23,17 @@ sums-told : (s : List ℕ) (h : Header) → Laid s h
 unfolding sums_fault
 sums-told s h l a b c d e f g i j = let q = sections s h l in cc (q.boundaries-at, q.observations-at)
 
-observation-total-requires : tie.Need-observation-total-requires
+observation-total-requires : tie.Need-observation_total-observed-requires
 observation-total-requires c κs =
     let start = c.before.before.before.before.before in
     let q = sections _ _ start.requires in (omega (arith, q.boundaries-in), omega arith)
 
-own-total-requires : tie.Need-own-total-requires
+own-total-requires : tie.Need-own_total-requires
 own-total-requires c κs =
     let start = c.before.before.before.before.before.before in
     let q = sections _ _ start.requires in (omega (arith, q.boundaries-in), omega arith)
 
-source-count-requires : tie.Need-source-count-requires
+source-count-requires : tie.Need-source_count-requires
 source-count-requires c κs =
     let start = c.before.before.before.before.before.before.before.before.before in
     let q = sections _ _ start.requires in (omega (arith, q.observations-in), omega arith)
@@ -47,11 +47,11 @@ returns c =
     let after-size2 = after-observation-total.before in
     let after-size = after-size2.before in
     let start = after-size.before.before.before.before in
-    sums-told _ _ start.requires after-size.size.ensures.0 after-size2.size2.ensures.0 after-size3.size3.ensures.0 after-size4.size4.ensures.0
-    after-observation-total.observation-total.ensures after-own-total.own-total.ensures.0 c.before.before.source-count.ensures.0
-    c.before.wide.ensures.0 c.wide2.ensures.0
+    sums-told _ _ start.requires after-size.size-at.ensures.0 after-size2.size-n.ensures.0 after-size3.size.ensures.0 after-size4.size-2.ensures.0
+    after-observation-total.observation_total-observed.ensures after-own-total.own_total.ensures.0 c.before.before.source_count.ensures.0
+    c.before.wide.ensures.0 c.wide-2.ensures.0
 
-pub sums-fault-spec : {M : Type 1} → statement M
-sums-fault-spec =
+pub sums_fault_spec : {M : Type 1} → statement M
+sums_fault_spec =
     tie.close (tie.spec (λ c κs. search rules) (λ c κs. search rules) observation-total-requires own-total-requires (λ c κs. search rules)
     (λ c κs. search rules) source-count-requires (search rules) (λ c κs. search rules) (λ c κs. search rules) returns)

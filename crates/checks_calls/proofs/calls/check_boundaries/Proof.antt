@@ -14,36 +14,36 @@ use Rattle.checks_calls.proofs.calls.check_boundaries.Statement.{statement}
 use Rattle.checks_calls.proofs.calls.check_boundaries.Tie as tie
 
 -- no check up to 10 refuses, so the header that is read is laid out as it says
-clean : (c : tie.Else1) → first_refusal (job_checks c.before.before.before.before.args.job.now) ≡ none
-clean c = went_on _ c.before.before.check-job.ensures c.before.passed.ensures c.if1.false
+clean : (c : tie.Else-not-passed) → first_refusal (job_checks c.before.before.before.before.args.job.now) ≡ none
+clean c = went_on _ c.before.before.check_job-v.ensures c.before.passed.ensures c.if-not-passed.false
 
-laid : (c : tie.After-read-header) → Laid c.before.before.before.before.before.args.job.now c.read-header.result
-laid c = laid-read _ _ c.read-header.ensures (job-passed _ (clean c.before)).1
+laid : (c : tie.After-read_header-h) → Laid c.before.before.before.before.before.args.job.now c.read_header-h.result
+laid c = laid-read _ _ c.read_header-h.ensures (job-passed _ (clean c.before)).1
 
-returns : tie.Need-returns
+returns : tie.Need-returns-then-not-passed
 unfolding boundary_checks
-returns c = stopped _ _ c.before.before.check-job.ensures c.before.passed.ensures c.if1.true
+returns c = stopped _ _ c.before.before.check_job-v.ensures c.before.passed.ensures c.if-not-passed.true
 
-read-header-requires : tie.Need-read-header-requires
+read-header-requires : tie.Need-read_header-h-requires
 read-header-requires c κs = (job-passed _ (clean c)).0
 
-check-ends-requires : tie.Need-check-ends-requires
+check-ends-requires : tie.Need-check_ends-requires
 check-ends-requires c κs =
     let l = laid c.before.before.before.before in
     (omega (arith, (sections _ _ l).boundaries-in), omega arith, omega arith)
 
-returns-2 : tie.Need-returns-2
+returns-2 : tie.Need-returns
 unfolding boundary_checks ends_checks
 returns-2 c =
     let read = c.before.before.before.before.before in
     let a = read.before.before.before.before.before.args in
-    let k = read.read-header.result.counts in
-    moved (ends_check a.distinct a.job.now k.width k.height) c.check-ends.ensures
-    (c.before.before.size.ensures.0 ∙ (sections _ _ (laid read)).boundaries-at) c.before.size2.ensures.0
-    ∙ ap (λ (h : Header). first_refusal (ends_checks a.distinct a.job.now h.counts)) read.read-header.ensures
+    let k = read.read_header-h.result.counts in
+    moved (ends_check a.distinct a.job.now k.width k.height) c.check_ends.ensures
+    (c.before.before.size.ensures.0 ∙ (sections _ _ (laid read)).boundaries-at) c.before.size-2.ensures.0
+    ∙ ap (λ (h : Header). first_refusal (ends_checks a.distinct a.job.now h.counts)) read.read_header-h.ensures
     ∙ sym (append-none _ _ (clean read.before))
 
-pub check-boundaries-spec : {M : Type 1} → statement M
-check-boundaries-spec =
+pub check_boundaries_spec : {M : Type 1} → statement M
+check_boundaries_spec =
     tie.close (tie.spec (λ c κs. search rules) (λ c κs. search rules) returns read-header-requires (λ c κs. search rules) (λ c κs. search rules)
     check-ends-requires returns-2)

@@ -10,25 +10,25 @@ use Rattle.checks_calls.proofs.calls.check_job.Statement.{statement}
 use Rattle.checks_calls.proofs.calls.check_job.Tie as tie
 
 -- no check up to 5 refuses
-laid_out : (c : tie.Else1) → first_refusal (layout_checks c.before.before.before.before.args.job.now) ≡ none
-laid_out c = went_on _ c.before.before.check-layout.ensures c.before.passed.ensures c.if1.false
+laid_out : (c : tie.Else-not-passed) → first_refusal (layout_checks c.before.before.before.before.args.job.now) ≡ none
+laid_out c = went_on _ c.before.before.check_layout-v.ensures c.before.passed.ensures c.if-not-passed.false
 
-returns : tie.Need-returns
+returns : tie.Need-returns-then-not-passed
 unfolding job_checks
-returns c = stopped _ _ c.before.before.check-layout.ensures c.before.passed.ensures c.if1.true
+returns c = stopped _ _ c.before.before.check_layout-v.ensures c.before.passed.ensures c.if-not-passed.true
 
-read-header-requires : tie.Need-read-header-requires
+read-header-requires : tie.Need-read_header-requires
 read-header-requires c κs = (layout-passed _ (laid_out c)).0
 
-check-records-requires : tie.Need-check-records-requires
-check-records-requires c κs = laid-read _ _ c.read-header.ensures (layout-passed _ (laid_out c.before)).1
+check-records-requires : tie.Need-check_records-requires
+check-records-requires c κs = laid-read _ _ c.read_header.ensures (layout-passed _ (laid_out c.before)).1
 
-returns-2 : tie.Need-returns-2
+returns-2 : tie.Need-returns
 unfolding job_checks
 returns-2 c =
     let job = c.before.before.before.before.before.before.args.job.now in
-    c.check-records.ensures ∙ ap (λ (h : Header). first_refusal (record_checks job h.counts)) c.before.read-header.ensures
+    c.check_records.ensures ∙ ap (λ (h : Header). first_refusal (record_checks job h.counts)) c.before.read_header.ensures
     ∙ sym (append-none _ _ (laid_out c.before.before))
 
-pub check-job-spec : {M : Type 1} → statement M
-check-job-spec = tie.close (tie.spec (λ c κs. search rules) (λ c κs. search rules) returns read-header-requires check-records-requires returns-2)
+pub check_job_spec : {M : Type 1} → statement M
+check_job_spec = tie.close (tie.spec (λ c κs. search rules) (λ c κs. search rules) returns read-header-requires check-records-requires returns-2)

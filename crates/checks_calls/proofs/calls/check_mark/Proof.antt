@@ -5,7 +5,7 @@ use Rattle.checks_calls.proofs.calls.check_mark.Tie as tie
 
 returns : tie.Need-returns
 unfolding mark_checks
-returns c = c.check-boundaries.ensures
+returns c = c.check_boundaries.ensures
 
-pub check-mark-spec : {M : Type 1} → statement M
-check-mark-spec = tie.close (tie.spec (λ c κs. search rules) returns)
+pub check_mark_spec : {M : Type 1} → statement M
+check_mark_spec = tie.close (tie.spec (λ c κs. search rules) returns)

@@ -5,7 +5,7 @@ use Rattle.checks_calls.proofs.calls.check_reduce.Tie as tie
 
 returns : tie.Need-returns
 unfolding reduce_checks
-returns c = c.check-boundaries.ensures
+returns c = c.check_boundaries.ensures
 
-pub check-reduce-spec : {M : Type 1} → statement M
-check-reduce-spec = tie.close (tie.spec (λ c κs. search rules) returns)
+pub check_reduce_spec : {M : Type 1} → statement M
+check_reduce_spec = tie.close (tie.spec (λ c κs. search rules) returns)

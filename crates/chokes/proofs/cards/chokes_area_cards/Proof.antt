@@ -17,78 +17,78 @@ use Rattle.chokes.proofs.Finishing.{leads-eight}
 use Rattle.chokes.proofs.cards.chokes_area_cards.Statement.{statement}
 use Rattle.chokes.proofs.cards.chokes_area_cards.Tie as tie
 
-abbrev start_of : tie.After-first-answer → tie.Start
+abbrev start_of : tie.After-first_answer-r → tie.Start
 start_of c = c.before.before.before.before.before
 
-answered : (c : tie.After-first-answer)
+answered : (c : tie.After-first_answer-r)
     → FirstAnswer (first_refusal (reduce_checks (start_of c).args.job.now)) (work_size (decode (start_of c).args.job.now))
-    (length (start_of c).args.work.now) c.first-answer.result.number c.first-answer.result.detail
-answered c = first_of c.before.check-reduce.ensures c.first-answer.ensures
+    (length (start_of c).args.work.now) c.first_answer-r.result.number c.first_answer-r.result.detail
+answered c = first_of c.before.check_reduce.ensures c.first_answer-r.ensures
 
 -- past the checks and 21: the first answer, and what the function is given
-abbrev first : tie.Else1 → tie.After-first-answer
+abbrev first : tie.Else-r-gt0 → tie.After-first_answer-r
 first c = c.before.before
 
-abbrev given : tie.Else1 → tie.Start
+abbrev given : tie.Else-r-gt0 → tie.Start
 given c = start_of (first c)
 
-passed : (c : tie.Else1) → first_refusal (reduce_checks (given c).args.job.now) ≡ none
-passed c = first-passed (answered (first c)) (omega (arith, c.if1.false))
+passed : (c : tie.Else-r-gt0) → first_refusal (reduce_checks (given c).args.job.now) ≡ none
+passed c = first-passed (answered (first c)) (omega (arith, c.if-r-gt0.false))
 
-room : (c : tie.Else1) → work_size (decode (given c).args.job.now) ≤ length (given c).args.work.now
-room c = first-room (answered (first c)) (omega (arith, c.if1.false))
+room : (c : tie.Else-r-gt0) → work_size (decode (given c).args.job.now) ≤ length (given c).args.work.now
+room c = first-room (answered (first c)) (omega (arith, c.if-r-gt0.false))
 
-read : (c : tie.After-read-header) → OwnJob (given c.before).args.job.now c.read-header.result (given c.before).args.work.now
+read : (c : tie.After-read_header-h) → OwnJob (given c.before).args.job.now c.read_header-h.result (given c.before).args.work.now
 read c =
-    let bytes : tie.After-shared-slice-known = search in
-    reduce-own (λ i. (bytes.shared-slice-known.given i).fits) (passed c.before) c.read-header.ensures (room c.before)
+    let bytes : tie.After-shared_slice_known-1 = search in
+    reduce-own (λ i. (bytes.shared_slice_known-1.given i).fits) (passed c.before) c.read_header-h.ensures (room c.before)
 
 -- the map is parted
-abbrev header : tie.After-part-areas → tie.After-read-header
+abbrev header : tie.After-part_areas-found → tie.After-read_header-h
 header c = c.before.before
 
 -- past 13
-abbrev parted : tie.Else2 → tie.After-part-areas
+abbrev parted : tie.Else-p-gt0 → tie.After-part_areas-found
 parted c = c.before.before.before.before.before
 
-few : (c : tie.Else2) → (parted c).part-areas.result.pairs ≤ max_pairs
-few c = pairs-few c.before.before.of-pairs.ensures (omega (arith, c.if2.false))
+few : (c : tie.Else-p-gt0) → (parted c).part_areas-found.result.pairs ≤ max_pairs
+few c = pairs-few c.before.before.of_pairs-p.ensures (omega (arith, c.if-p-gt0.false))
 
-first-answer-requires : tie.Need-first-answer-requires
-first-answer-requires c κs = (λ e. reduce-job _ (sym c.check-reduce.ensures ∙ e), omega arith)
+first-answer-requires : tie.Need-first_answer-r-requires
+first-answer-requires c κs = (λ e. reduce-job _ (sym c.check_reduce.ensures ∙ e), omega arith)
 
-returns : tie.Need-returns
-returns c = cards-first _ _ _ _ (answered c.before.before) c.if1.true ∙ cards-as _ _ _
+returns : tie.Need-returns-then-r-gt0
+returns c = cards-first _ _ _ _ (answered c.before.before) c.if-r-gt0.true ∙ cards-as _ _ _
 
-read-header-requires : tie.Need-read-header-requires
+read-header-requires : tie.Need-read_header-h-requires
 read-header-requires c κs = header-there _ (reduce-job _ (passed c))
 
-part-areas-requires : tie.Need-part-areas-requires
+part-areas-requires : tie.Need-part_areas-found-requires
 part-areas-requires c κs = (read c.before, leads-eight)
 
-returns-2 : tie.Need-returns-2
+returns-2 : tie.Need-returns-then-p-gt0
 returns-2 c =
-    let found : tie.After-part-areas = search in
+    let found : tie.After-part_areas-found = search in
     let went_on = (header found).before in
-    cards-many _ _ _ _ (passed went_on) (room went_on) found.part-areas.ensures c.before.before.of-pairs.ensures c.if2.true ∙ cards-as _ _ _
+    cards-many _ _ _ _ (passed went_on) (room went_on) found.part_areas-found.ensures c.before.before.of_pairs-p.ensures c.if-p-gt0.true ∙ cards-as _ _ _
 
-finish-cards-requires : tie.Need-finish-cards-requires
+finish-cards-requires : tie.Need-finish_cards-requires
 finish-cards-requires c κs =
-    let few-pairs : tie.Else2 = search in
+    let few-pairs : tie.Else-p-gt0 = search in
     let found = parted few-pairs in
-    cells-labelled _ _ _ found.part-areas.ensures (few few-pairs) (read (header found)).headed
+    cells-labelled _ _ _ found.part_areas-found.ensures (few few-pairs) (read (header found)).headed
 
-returns-3 : tie.Need-returns-3
+returns-3 : tie.Need-returns
 returns-3 c =
-    let few-pairs : tie.Else2 = search in
+    let few-pairs : tie.Else-p-gt0 = search in
     let found = parted few-pairs in
     let went_on = (header found).before in
-    cards-done _ _ _ _ (passed went_on) (room went_on) found.part-areas.ensures (few few-pairs) (read (header found)).headed
-    c.before.before.finish-cards.ensures
+    cards-done _ _ _ _ (passed went_on) (room went_on) found.part_areas-found.ensures (few few-pairs) (read (header found)).headed
+    c.before.before.finish_cards.ensures
     ∙ cards-as _ _ _
 
-pub chokes-area-cards-spec : {M : Type 1} → statement M
-chokes-area-cards-spec =
+pub chokes_area_cards_spec : {M : Type 1} → statement M
+chokes_area_cards_spec =
     tie.close
     (tie.spec
     (λ c κs. search rules)

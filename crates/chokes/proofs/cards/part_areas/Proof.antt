@@ -9,44 +9,44 @@ use Rattle.chokes.proofs.Carded.{own-found}
 use Rattle.chokes.proofs.cards.part_areas.Statement.{statement}
 use Rattle.chokes.proofs.cards.part_areas.Tie as tie
 
-abbrev start_of : tie.After-struct-known → tie.Start
+abbrev start_of : tie.After-struct_known-1 → tie.Start
 start_of c = c.before.before.before.before
 
 -- the ends are in the array
-abbrev sized : tie.After-own-ends → tie.After-size2
+abbrev sized : tie.After-own_ends → tie.After-size-count
 sized c = c.before.before
 
-abbrev given : tie.After-own-ends → tie.Start
+abbrev given : tie.After-own_ends → tie.Start
 given c = start_of (sized c).before.before
 
-mul-size : tie.Need-overflow-mul-size
+mul-size : tie.Need-overflow_mul-c
 mul-size c = omega (arith, headed-cells (start_of c).requires.0.headed)
 
-own-ends-requires : tie.Need-own-ends-requires
+own-ends-requires : tie.Need-own_ends-requires
 own-ends-requires c κs =
     let start : tie.Start = search in
     (start.pre.0.headed, refl)
 
-part-find-areas-end : tie.Need-slice-bounds-find-areas-end
+part-find-areas-end : tie.Need-slice_bounds-find_areas-end
 part-find-areas-end c =
     let headed = (given c).requires.0.headed in
-    omega (arith, map-inside headed.header (headed-laid headed) _ (sized c).before.size.ensures.0)
+    omega (arith, map-inside headed.header (headed-laid headed) _ (sized c).before.size-n.ensures.0)
 
-find-areas-requires : tie.Need-find-areas-requires
+find-areas-requires : tie.Need-find_areas-requires
 find-areas-requires c κs =
-    let ended : tie.After-own-ends = search in
-    own-partitionable (given ended).pre.0 (sized ended).before.size.ensures.0 (sized ended).size2.ensures.0 ended.own-ends.ensures
+    let ended : tie.After-own_ends = search in
+    own-partitionable (given ended).pre.0 (sized ended).before.size-n.ensures.0 (sized ended).size-count.ensures.0 ended.own_ends.ensures
     (given ended).pre.1
 
 returns : tie.Need-returns
 returns c =
     let found = c.before.before in
-    let ended : tie.After-own-ends = search in
-    own-found (given ended).pre.0 (sized ended).before.size.ensures.0 (sized ended).size2.ensures.0 ended.own-ends.ensures
-    (directions_of (given ended).args.directions) found.find-areas.ensures
+    let ended : tie.After-own_ends = search in
+    own-found (given ended).pre.0 (sized ended).before.size-n.ensures.0 (sized ended).size-count.ensures.0 ended.own_ends.ensures
+    (directions_of (given ended).args.directions) found.find_areas.ensures
 
-pub part-areas-spec : {M : Type 1} → statement M
-part-areas-spec =
+pub part_areas_spec : {M : Type 1} → statement M
+part_areas_spec =
     tie.close
     (tie.spec
     mul-size

@@ -9,47 +9,47 @@ use Rattle.chokes.proofs.Marked.{own-analysed}
 use Rattle.chokes.proofs.mark.analyse_boundaries.Statement.{statement}
 use Rattle.chokes.proofs.mark.analyse_boundaries.Tie as tie
 
-abbrev start_of : tie.After-struct-known → tie.Start
+abbrev start_of : tie.After-struct_known-1 → tie.Start
 start_of c = c.before.before.before.before
 
 -- the ends are in the array
-abbrev sized : tie.After-own-ends → tie.After-size2
+abbrev sized : tie.After-own_ends → tie.After-size-count
 sized c = c.before.before
 
-abbrev given : tie.After-own-ends → tie.Start
+abbrev given : tie.After-own_ends → tie.Start
 given c = start_of (sized c).before.before
 
-mul-size : tie.Need-overflow-mul-size
+mul-size : tie.Need-overflow_mul-c
 mul-size c = omega (arith, headed-cells (start_of c).requires.0.headed)
 
-own-ends-requires : tie.Need-own-ends-requires
+own-ends-requires : tie.Need-own_ends-requires
 own-ends-requires c κs =
     let start : tie.Start = search in
     (start.pre.0.headed, refl)
 
-part-find-marks-end : tie.Need-slice-bounds-find-marks-end
+part-find-marks-end : tie.Need-slice_bounds-find_marks-end
 part-find-marks-end c =
     let headed = (given c).requires.0.headed in
-    omega (arith, map-inside headed.header (headed-laid headed) _ (sized c).before.size.ensures.0)
+    omega (arith, map-inside headed.header (headed-laid headed) _ (sized c).before.size-n.ensures.0)
 
-find-marks-requires : tie.Need-find-marks-requires
+find-marks-requires : tie.Need-find_marks-requires
 find-marks-requires c κs =
-    let ended : tie.After-own-ends = search in
+    let ended : tie.After-own_ends = search in
     let sizes = sized ended in
     let start = given ended in
-    own-partitionable start.pre.0 sizes.before.size.ensures.0 sizes.size2.ensures.0 ended.own-ends.ensures
+    own-partitionable start.pre.0 sizes.before.size-n.ensures.0 sizes.size-count.ensures.0 ended.own_ends.ensures
     start.pre.1
 
 returns : tie.Need-returns
 returns c =
-    let ended : tie.After-own-ends = search in
+    let ended : tie.After-own_ends = search in
     let sizes = sized ended in
     let start = given ended in
-    own-analysed start.pre.0 sizes.before.size.ensures.0 sizes.size2.ensures.0 ended.own-ends.ensures
-    (directions_of start.args.directions) c.before.before.find-marks.ensures
+    own-analysed start.pre.0 sizes.before.size-n.ensures.0 sizes.size-count.ensures.0 ended.own_ends.ensures
+    (directions_of start.args.directions) c.before.before.find_marks.ensures
 
-pub analyse-boundaries-spec : {M : Type 1} → statement M
-analyse-boundaries-spec =
+pub analyse_boundaries_spec : {M : Type 1} → statement M
+analyse_boundaries_spec =
     tie.close
     (tie.spec
     mul-size

@@ -10,59 +10,59 @@ use Rattle.chokes.proofs.reduce.chokes_reduce.Statement.{statement}
 use Rattle.chokes.proofs.reduce.chokes_reduce.Tie as tie
 
 -- where the block passed, from where its limits are read, and from where the plan is made
-abbrev limited : tie.After-plan-reduce → tie.After-read-limits
+abbrev limited : tie.After-plan_reduce-r → tie.After-read_limits-limits
 limited c = c.before.before.before.before
 
-abbrev start_of : tie.Else1 → tie.Start
+abbrev start_of : tie.Else-not-passed → tie.Start
 start_of c = c.before.before.before.before.before.before.before
 
-admitted : (c : tie.Else1) → block_fault (start_of c).args.thresholds.now ≡ false
+admitted : (c : tie.Else-not-passed) → block_fault (start_of c).args.thresholds.now ≡ false
 admitted c =
     let asked = c.before in
-    admitted-block (start_of c).args.thresholds.now asked.before.check-thresholds.ensures asked.passed.ensures (not-false _ c.if1.false)
+    admitted-block (start_of c).args.thresholds.now asked.before.check_thresholds-v.ensures asked.passed.ensures (not-false _ c.if-not-passed.false)
 
 -- 32
-returns : tie.Need-returns
+returns : tie.Need-returns-then-not-passed
 returns c =
     let start : tie.Start = search in
     let asked = c.before.before in
-    reduce-bad start.args.thresholds.now asked.before.check-thresholds.ensures asked.passed.ensures (not-true _ c.before.if1.true)
-    c.of-verdict.ensures.0 c.of-verdict.ensures.1 _ _ _
+    reduce-bad start.args.thresholds.now asked.before.check_thresholds-v.ensures asked.passed.ensures (not-true _ c.before.if-not-passed.true)
+    c.of_verdict.ensures.0 c.of_verdict.ensures.1 _ _ _
 
-read-limits-requires : tie.Need-read-limits-requires
+read-limits-requires : tie.Need-read_limits-limits-requires
 read-limits-requires c κs = admitted c
 
-plan-reduce-requires : tie.Need-plan-reduce-requires
+plan-reduce-requires : tie.Need-plan_reduce-r-requires
 plan-reduce-requires c κs =
-    let given : tie.After-read-limits = search in
-    (few-spans _ given.read-limits.ensures (admitted given.before), leads-eight)
+    let given : tie.After-read_limits-limits = search in
+    (few-spans _ given.read_limits-limits.ensures (admitted given.before), leads-eight)
 
-returns-2 : tie.Need-returns-2
+returns-2 : tie.Need-returns-then-r-gt0
 returns-2 c =
-    let planned : tie.After-plan-reduce = search in
+    let planned : tie.After-plan_reduce-r = search in
     let given = limited planned in
-    (left-eight given.read-limits.ensures planned.plan-reduce.ensures).refused c.if2.true _
+    (left-eight given.read_limits-limits.ensures planned.plan_reduce-r.ensures).refused c.if-r-gt0.true _
     ∙ reduce-as _ _ _ _ (admitted given.before)
 
 finish-requires : tie.Need-finish-requires
 finish-requires c κs =
-    let went_on : tie.Else2 = search in
-    let planned : tie.After-plan-reduce = search in
-    let z : planned.plan-reduce.result.number ≡ 0 = omega (arith, went_on.if2.left) in
-    let y = (left-eight (limited planned).read-limits.ensures planned.plan-reduce.ensures).made z in
+    let went_on : tie.Else-r-gt0 = search in
+    let planned : tie.After-plan_reduce-r = search in
+    let z : planned.plan_reduce-r.result.number ≡ 0 = omega (arith, went_on.if-r-gt0.false) in
+    let y = (left-eight (limited planned).read_limits-limits.ensures planned.plan_reduce-r.ensures).made z in
     answerable _ _ (reduce-job _ y.passed) y.ranks
 
-returns-3 : tie.Need-returns-3
+returns-3 : tie.Need-returns
 returns-3 c =
-    let went_on : tie.Else2 = search in
-    let planned : tie.After-plan-reduce = search in
+    let went_on : tie.Else-r-gt0 = search in
+    let planned : tie.After-plan_reduce-r = search in
     let given = limited planned in
-    let z : planned.plan-reduce.result.number ≡ 0 = omega (arith, went_on.if2.left) in
+    let z : planned.plan_reduce-r.result.number ≡ 0 = omega (arith, went_on.if-r-gt0.false) in
     reduce-finished _ _ _ c.before.before.finish.ensures _ (admitted given.before)
-    ((left-eight given.read-limits.ensures planned.plan-reduce.ensures).made z)
+    ((left-eight given.read_limits-limits.ensures planned.plan_reduce-r.ensures).made z)
 
-pub chokes-reduce-spec : {M : Type 1} → statement M
-chokes-reduce-spec =
+pub chokes_reduce_spec : {M : Type 1} → statement M
+chokes_reduce_spec =
     tie.close
     (tie.spec
     (λ c κs. search rules)

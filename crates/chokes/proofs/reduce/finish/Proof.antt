@@ -5,23 +5,23 @@ use borrow.Author.Rules.{rules}
 use Rattle.chokes.proofs.reduce.finish.Statement.{statement}
 use Rattle.chokes.proofs.reduce.finish.Tie as tie
 
-read-header-requires : tie.Need-read-header-requires
+read-header-requires : tie.Need-read_header-h-requires
 read-header-requires c κs = header-there _ c.before.before.requires.passed
 
-write-answer-requires : tie.Need-write-answer-requires
+write-answer-requires : tie.Need-write_answer-n-requires
 write-answer-requires c κs =
     let start : tie.Start = search in
-    rw c.before.read-header.ensures start.pre
+    rw c.before.read_header-h.ensures start.pre
 
-returns : tie.Need-returns
+returns : tie.Need-returns-then-room-n
 returns c =
-    let written : tie.After-write-answer = search in
-    finished-short written.write-answer.ensures (omega (arith, c.if1.true))
+    let written : tie.After-write_answer-n = search in
+    finished-short written.write_answer-n.ensures (omega (arith, c.if-room-n.true))
 
-returns-2 : tie.Need-returns-2
+returns-2 : tie.Need-returns
 returns-2 c =
-    let written : tie.After-write-answer = search in
-    finished-whole written.write-answer.ensures (omega (arith, c.if1.false))
+    let written : tie.After-write_answer-n = search in
+    finished-whole written.write_answer-n.ensures (omega (arith, c.if-room-n.false))
 
 pub finish_spec : {M : Type 1} → statement M
 finish_spec =

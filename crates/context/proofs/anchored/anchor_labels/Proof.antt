@@ -13,47 +13,47 @@ use Rattle.context.proofs.Bases.{hit-as, read_next, all_read}
 use Rattle.context.proofs.anchored.anchor_labels.Statement.{statement}
 use Rattle.context.proofs.anchored.anchor_labels.Tie as tie
 
-abbrev invariant-loop : tie.invariant-loop
+abbrev invariant-loop : tie.invariant-loop-i
 invariant-loop job at count width labels n anchors₀ found₀ i₀ anchors found i = (i ≤ count) × (found ≤ i) × (length anchors ≡ length anchors₀)
     × (take found anchors ≡ anchor_labels width (labels_in labels n) (anchors_in job at i))
 
-abbrev decreases-loop : tie.decreases-loop
+abbrev decreases-loop : tie.decreases-loop-i
 decreases-loop job at count width labels n anchors₀ found₀ i₀ anchors found i = count - i
 
 -- what the function is given and asked, from the loop
-abbrev start_of : tie.At-loop invariant-loop decreases-loop → tie.Start invariant-loop decreases-loop
+abbrev start_of : tie.At-loop-i invariant-loop decreases-loop → tie.Start invariant-loop decreases-loop
 start_of c = c.before.before.before.before
 
-loop-holds : tie.Need-loop-init invariant-loop decreases-loop
+loop-holds : tie.Need-loop-i-init invariant-loop decreases-loop
 unfolding base_records rows anchors_of gather
 loop-holds c = (omega arith, omega arith, refl, refl)
 
-add-label-requires : tie.Need-add-label-requires invariant-loop decreases-loop
+add-label-requires : tie.Need-add_label-found-requires invariant-loop decreases-loop
 add-label-requires c κs =
     let turn = c.before.before in
-    let loop = turn.before.loop in
+    let loop = turn.before.loop-i in
     let p = (start_of turn.before).pre in (
       p.0.mapped,
-      hit-as c.before.read-base.ensures (p.0.anchors.each loop.i turn.loop-test.true),
+      hit-as c.before.read_base-b.ensures (p.0.anchors.each loop.i turn.loop-i-test.true),
       omega (arith, loop.invariant.1, loop.invariant.2, p.1),
     )
 
-loop-again : tie.Need-loop-preserved invariant-loop decreases-loop
+loop-again : tie.Need-loop-i-preserved invariant-loop decreases-loop
 loop-again c =
     let added = c.before.before in
     let read = added.before.before in
-    let inv = read.before.before.loop.invariant in
-    let new = added.add-label.ensures in
-    (omega arith, omega (arith, new.most, inv.1), new.kept ∙ inv.2, read_next _ _ _ _ _ read.read-base.ensures inv.3 new)
+    let inv = read.before.before.loop-i.invariant in
+    let new = added.add_label-found.ensures in
+    (omega arith, omega (arith, new.most, inv.1), new.kept ∙ inv.2, read_next _ _ _ _ _ read.read_base-b.ensures inv.3 new)
 
 returns : tie.Need-returns invariant-loop decreases-loop
 returns c =
-    let loop = c.before.loop in
+    let loop = c.before.loop-i in
     let start = start_of c.before in
     all_read {i = loop.i} {count = start.args.count} (omega arith) (omega (arith, loop.invariant.1, loop.invariant.2, start.pre.1)) loop.invariant.3
 
-pub anchor-labels-spec : {M : Type 1} → statement M
-anchor-labels-spec =
+pub anchor_labels_spec : {M : Type 1} → statement M
+anchor_labels_spec =
     tie.close
     (tie.spec
     invariant-loop
@@ -66,5 +66,5 @@ anchor-labels-spec =
     (λ c. search rules)
     (λ c. search rules)
     loop-again
-    (λ c. c.before.loop.invariant.2)
+    (λ c. c.before.loop-i.invariant.2)
     returns)

@@ -10,16 +10,16 @@ returns c =
     let after-read-u322 = after-read-u323.before in
     let after-read-u32 = after-read-u322.before in
     simp (
-      c.read-u326.ensures,
-      c.before.read-u325.ensures,
-      c.before.before.read-u324.ensures,
-      after-read-u323.read-u323.ensures,
-      after-read-u322.read-u322.ensures,
+      c.read_u32-6.ensures,
+      c.before.read_u32-5.ensures,
+      c.before.before.read_u32-4.ensures,
+      after-read-u323.read_u32-3.ensures,
+      after-read-u322.read_u32-2.ensures,
       after-read-u32.read_u32.ensures,
     )
 
-pub read-offsets-spec : {M : Type 1} → statement M
-read-offsets-spec =
+pub read_offsets_spec : {M : Type 1} → statement M
+read_offsets_spec =
     tie.close
     (tie.spec
     (λ c κs. search rules)

@@ -5,10 +5,10 @@ use Rattle.format.proofs.records.read_base.Tie as tie
 
 returns : tie.Need-returns
 unfolding base_at
-returns c = simp (c.read-u323.ensures, c.before.read-u322.ensures, c.before.before.read_u32.ensures)
+returns c = simp (c.read_u32-3.ensures, c.before.read_u32-2.ensures, c.before.before.read_u32.ensures)
 
-pub read-base-spec : {M : Type 1} → statement M
-read-base-spec =
+pub read_base_spec : {M : Type 1} → statement M
+read_base_spec =
     tie.close
     (tie.spec
     (λ c κs. search rules)

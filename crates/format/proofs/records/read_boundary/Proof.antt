@@ -9,15 +9,15 @@ returns c =
     let after-read-u64 = c.before.before.before in
     let after-read-span = after-read-u64.before in
     simp (
-      c.read-ramp.ensures,
-      c.before.read-u322.ensures,
+      c.read_ramp.ensures,
+      c.before.read_u32-2.ensures,
       c.before.before.read_u32.ensures,
       after-read-u64.read_u64.ensures,
-      after-read-span.read-span.ensures,
+      after-read-span.read_span.ensures,
     )
 
-pub read-boundary-spec : {M : Type 1} → statement M
-read-boundary-spec =
+pub read_boundary_spec : {M : Type 1} → statement M
+read_boundary_spec =
     tie.close
     (tie.spec
     (λ c κs. search rules)

@@ -5,10 +5,10 @@ use Rattle.format.proofs.records.read_observation.Tie as tie
 
 returns : tie.Need-returns
 unfolding observation_at
-returns c = simp (c.read_u32.ensures, c.before.read_u64.ensures, c.before.before.read-span.ensures)
+returns c = simp (c.read_u32.ensures, c.before.read_u64.ensures, c.before.before.read_span.ensures)
 
-pub read-observation-spec : {M : Type 1} → statement M
-read-observation-spec =
+pub read_observation_spec : {M : Type 1} → statement M
+read_observation_spec =
     tie.close
     (tie.spec
     (λ c κs. search rules)

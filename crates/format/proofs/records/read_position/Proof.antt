@@ -5,8 +5,8 @@ use Rattle.format.proofs.records.read_position.Tie as tie
 
 returns : tie.Need-returns
 unfolding position_at
-returns c = simp (c.read-u322.ensures, c.before.read_u32.ensures)
+returns c = simp (c.read_u32-2.ensures, c.before.read_u32.ensures)
 
-pub read-position-spec : {M : Type 1} → statement M
-read-position-spec =
+pub read_position_spec : {M : Type 1} → statement M
+read_position_spec =
     tie.close (tie.spec (λ c κs. search rules) (λ c. search rules) (λ c κs. search rules) returns)

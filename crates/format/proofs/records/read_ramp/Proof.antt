@@ -7,8 +7,8 @@ returns : tie.Need-returns
 unfolding ramp_at
 returns c = simp c.read_u32.ensures
 
-pub read-ramp-spec : {M : Type 1} → statement M
-read-ramp-spec =
+pub read_ramp_spec : {M : Type 1} → statement M
+read_ramp_spec =
     tie.close
     (tie.spec
     (λ c. search rules)

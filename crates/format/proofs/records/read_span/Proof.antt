@@ -5,8 +5,8 @@ use Rattle.format.proofs.records.read_span.Tie as tie
 
 returns : tie.Need-returns
 unfolding span_at
-returns c = simp (c.read-position2.ensures, c.before.read-position.ensures)
+returns c = simp (c.read_position-2.ensures, c.before.read_position.ensures)
 
-pub read-span-spec : {M : Type 1} → statement M
-read-span-spec =
+pub read_span_spec : {M : Type 1} → statement M
+read_span_spec =
     tie.close (tie.spec (λ c κs. search rules) (λ c. search rules) (λ c κs. search rules) returns)

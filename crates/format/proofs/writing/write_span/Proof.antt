@@ -10,11 +10,11 @@ returns c =
     let after-write-u322 = after-write-u323.before.before.before.before in
     let after-write-u32 = after-write-u322.before.before.before.before in
     let start = after-write-u32.before.before.before.before.before in
-    span-written start.args.s.now start.args.at start.args.ends (omega arith) after-write-u32.write-u32.ensures
-    after-write-u322.write-u322.ensures after-write-u323.write-u323.ensures c.before.before.write-u324.ensures
+    span-written start.args.s.now start.args.at start.args.ends (omega arith) after-write-u32.write_u32.ensures
+    after-write-u322.write_u32-2.ensures after-write-u323.write_u32-3.ensures c.before.before.write_u32-4.ensures
 
-pub write-span-spec : {M : Type 1} → statement M
-write-span-spec =
+pub write_span_spec : {M : Type 1} → statement M
+write_span_spec =
     tie.close
     (tie.spec
     (λ c κs. search rules)

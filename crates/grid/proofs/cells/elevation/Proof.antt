@@ -6,5 +6,5 @@ returns : tie.Need-returns
 unfolding elevation
 returns c = λ g i e. rw e
 
-pub elevation-spec : {M : Type 1} → statement M
-elevation-spec = tie.close (tie.spec returns)
+pub elevation_spec : {M : Type 1} → statement M
+elevation_spec = tie.close (tie.spec returns)

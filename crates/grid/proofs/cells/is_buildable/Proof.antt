@@ -6,5 +6,5 @@ returns : tie.Need-returns
 unfolding buildable
 returns c = λ g i e. rw e
 
-pub is-buildable-spec : {M : Type 1} → statement M
-is-buildable-spec = tie.close (tie.spec returns)
+pub is_buildable_spec : {M : Type 1} → statement M
+is_buildable_spec = tie.close (tie.spec returns)

@@ -6,5 +6,5 @@ returns : tie.Need-returns
 unfolding ramp_cell
 returns c = λ g i e. rw e
 
-pub is-ramp-spec : {M : Type 1} → statement M
-is-ramp-spec = tie.close (tie.spec returns)
+pub is_ramp_spec : {M : Type 1} → statement M
+is_ramp_spec = tie.close (tie.spec returns)

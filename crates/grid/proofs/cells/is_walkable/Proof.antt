@@ -6,5 +6,5 @@ returns : tie.Need-returns
 unfolding walkable
 returns c = λ g i e. rw e
 
-pub is-walkable-spec : {M : Type 1} → statement M
-is-walkable-spec = tie.close (tie.spec returns)
+pub is_walkable_spec : {M : Type 1} → statement M
+is_walkable_spec = tie.close (tie.spec returns)

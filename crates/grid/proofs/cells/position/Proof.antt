@@ -5,5 +5,5 @@ use Rattle.grid.proofs.cells.position.Tie as tie
 returns : tie.Need-returns
 returns c = λ g e. (rw e, rw e)
 
-pub position-spec : {M : Type 1} → statement M
-position-spec = tie.close (tie.spec (search rules) (search rules) returns)
+pub position_spec : {M : Type 1} → statement M
+position_spec = tie.close (tie.spec (search rules) (search rules) returns)

@@ -4,13 +4,13 @@ use Rattle.grid.proofs.OnMap.{byte_past, byte-in}
 use Rattle.grid.proofs.map.byte_at.Statement.{statement}
 use Rattle.grid.proofs.map.byte_at.Tie as tie
 
-returns : tie.Need-returns
+returns : tie.Need-returns-then-cells-i
 returns c = byte_past c.before.args.cells.now c.before.args.i (omega arith)
 
-returns-2 : tie.Need-returns-2
+returns-2 : tie.Need-returns
 returns-2 c =
     let start = c.before.before in
     byte-in start.args.cells.now start.args.i (omega arith)
 
-pub byte-at-spec : {M : Type 1} → statement M
-byte-at-spec = tie.close (tie.spec returns (search rules) returns-2)
+pub byte_at_spec : {M : Type 1} → statement M
+byte_at_spec = tie.close (tie.spec returns (search rules) returns-2)

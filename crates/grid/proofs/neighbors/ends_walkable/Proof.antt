@@ -17,7 +17,7 @@ grid-of c = grid_of c.args.width c.args.height c.args.cells.now
 abbrev cell-of : tie.Start → ℕ
 cell-of c = c.args.position.y * c.args.width + c.args.position.x
 
-walkable-at-requires : tie.Need-walkable-at-requires
+walkable-at-requires : tie.Need-walkable_at-requires
 walkable-at-requires c κs = let start = c.before.before in rw (c.index.ensures (grid-of start) refl) (place-on start.requires.0)
 
 neighbor-requires : tie.Need-neighbor-requires
@@ -33,7 +33,7 @@ beyond c =
     let start : tie.Start = search in
     c.neighbor.ensures (grid-of start) (cell-of start) refl (place-column start.pre.0) (place-row start.pre.0)
 
-walkable-at-requires-2 : tie.Need-walkable-at-requires-2
+walkable-at-requires-2 : tie.Need-walkable_at-requires-2
 walkable-at-requires-2 c κs =
     let start : tie.Start = search in
     let p = start.pre in
@@ -44,8 +44,8 @@ returns c =
     let start : tie.Start = search in
     let g = grid-of start in
     λ k j e f.
-    rw (e, f) (ap₂ ◌&&◌ (c.before.before.walkable-at.ensures g refl ∙ ap (walkable g) (c.before.before.before.index.ensures g refl))
-    (c.walkable-at2.ensures g refl ∙ ap (walkable g) (beyond c.before)))
+    rw (e, f) (ap₂ ◌&&◌ (c.before.before.walkable_at.ensures g refl ∙ ap (walkable g) (c.before.before.before.index.ensures g refl))
+    (c.walkable_at-2.ensures g refl ∙ ap (walkable g) (beyond c.before)))
 
-pub ends-walkable-spec : {M : Type 1} → statement M
-ends-walkable-spec = tie.close (tie.spec (search rules) walkable-at-requires neighbor-requires walkable-at-requires-2 returns)
+pub ends_walkable_spec : {M : Type 1} → statement M
+ends_walkable_spec = tie.close (tie.spec (search rules) walkable-at-requires neighbor-requires walkable-at-requires-2 returns)

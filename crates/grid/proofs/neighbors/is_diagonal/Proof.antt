@@ -7,5 +7,5 @@ returns : tie.Need-returns
 unfolding diagonal
 returns c = refl
 
-pub is-diagonal-spec : {M : Type 1} → statement M
-is-diagonal-spec = tie.close (tie.spec returns)
+pub is_diagonal_spec : {M : Type 1} → statement M
+is_diagonal_spec = tie.close (tie.spec returns)

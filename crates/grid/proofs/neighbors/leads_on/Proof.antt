@@ -7,5 +7,5 @@ returns : tie.Need-returns
 unfolding leads_on
 returns c = λ g i e f h k. rw (h, k, e, f)
 
-pub leads-on-spec : {M : Type 1} → statement M
-leads-on-spec = tie.close (tie.spec (search rules) (search rules) returns)
+pub leads_on_spec : {M : Type 1} → statement M
+leads_on_spec = tie.close (tie.spec (search rules) (search rules) returns)

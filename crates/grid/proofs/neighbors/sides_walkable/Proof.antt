@@ -30,7 +30,7 @@ beside-is c =
     let p = c.before.before.requires.0 in
     c.beside.ensures (grid-of c.before.before) (cell-of c.before.before) refl (place-column p) (place-row p)
 
-walkable-at-requires : tie.Need-walkable-at-requires
+walkable-at-requires : tie.Need-walkable_at-requires
 walkable-at-requires c κs =
     let p = c.before.before.requires in rw (beside-is c) (beside-on _ p.0.whole _ _ (place-on p.0) p.2)
 
@@ -45,7 +45,7 @@ across-is c =
     let start : tie.Start = search in
     c.across.ensures (grid-of start) (cell-of start) refl (place-column start.pre.0) (place-row start.pre.0)
 
-walkable-at-requires-2 : tie.Need-walkable-at-requires-2
+walkable-at-requires-2 : tie.Need-walkable_at-requires-2
 walkable-at-requires-2 c κs =
     let start : tie.Start = search in
     let p = start.pre in rw (across-is c) (across-on _ p.0.whole _ _ (place-on p.0) p.2)
@@ -55,8 +55,8 @@ returns c =
     let start : tie.Start = search in
     let g = grid-of start in
     λ k j e f.
-    rw (e, f) (ap₂ ◌&&◌ (c.before.before.walkable-at.ensures g refl ∙ ap (walkable g) (beside-is c.before.before.before))
-    (c.walkable-at2.ensures g refl ∙ ap (walkable g) (across-is c.before)))
+    rw (e, f) (ap₂ ◌&&◌ (c.before.before.walkable_at.ensures g refl ∙ ap (walkable g) (beside-is c.before.before.before))
+    (c.walkable_at-2.ensures g refl ∙ ap (walkable g) (across-is c.before)))
 
-pub sides-walkable-spec : {M : Type 1} → statement M
-sides-walkable-spec = tie.close (tie.spec beside-requires walkable-at-requires across-requires walkable-at-requires-2 returns)
+pub sides_walkable_spec : {M : Type 1} → statement M
+sides_walkable_spec = tie.close (tie.spec beside-requires walkable-at-requires across-requires walkable-at-requires-2 returns)

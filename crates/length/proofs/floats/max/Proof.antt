@@ -2,11 +2,11 @@ use Rattle.length.proofs.Picks.{picks_first, picks_second}
 use Rattle.length.proofs.floats.max.Statement.{statement}
 use Rattle.length.proofs.floats.max.Tie as tie
 
-returns : tie.Need-returns
-returns c = picks_first _ _ _ c.if1.true
+returns : tie.Need-returns-then-a-b
+returns c = picks_first _ _ _ c.if-a-b.true
 
-returns-2 : tie.Need-returns-2
-returns-2 c = picks_second _ _ _ c.if1.false
+returns-2 : tie.Need-returns-else-a-b
+returns-2 c = picks_second _ _ _ c.if-a-b.false
 
-pub max-spec : {M : Type 1} → statement M
-max-spec = tie.close (tie.spec returns returns-2)
+pub max_spec : {M : Type 1} → statement M
+max_spec = tie.close (tie.spec returns returns-2)

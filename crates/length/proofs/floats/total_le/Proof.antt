@@ -7,9 +7,9 @@ use Rattle.length.proofs.floats.total_le.Tie as tie
 returns : tie.Need-returns
 unfolding total_le
 returns c =
-    let x = c.before.total-key.ensures in
-    let y = c.total-key2.ensures in
+    let x = c.before.total_key-x.ensures in
+    let y = c.total_key-y.ensures in
     λ i. leb (x i) (y i)
 
-pub total-le-spec : {M : Type 1} → statement M
-total-le-spec = tie.close (tie.spec (λ c κs. search rules) (λ c κs. search rules) returns)
+pub total_le_spec : {M : Type 1} → statement M
+total_le_spec = tie.close (tie.spec (λ c κs. search rules) (λ c κs. search rules) returns)

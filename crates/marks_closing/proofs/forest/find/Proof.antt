@@ -5,37 +5,37 @@ use Rattle.marks_closing.proofs.Finds.{Finding, finding-start, finding-inside, f
 use Rattle.marks_closing.proofs.forest.find.Statement.{statement}
 use Rattle.marks_closing.proofs.forest.find.Tie as tie
 
-abbrev invariant-loop : tie.invariant-loop
+abbrev invariant-loop : tie.invariant-loop-up
 invariant-loop parents heights x here₀ up₀ here up = Finding parents x here up
 
 -- each step leads to a greater height
-abbrev decreases-loop : tie.decreases-loop
+abbrev decreases-loop : tie.decreases-loop-up
 decreases-loop parents heights x here₀ up₀ here up = sum heights - at heights here
 
 -- what the function is given, from the head of the loop
-abbrev start_of : tie.At-loop invariant-loop decreases-loop → tie.Start invariant-loop decreases-loop
+abbrev start_of : tie.At-loop-up invariant-loop decreases-loop → tie.Start invariant-loop decreases-loop
 start_of c = search
 
-loop-holds : tie.Need-loop-init invariant-loop decreases-loop
+loop-holds : tie.Need-loop-up-init invariant-loop decreases-loop
 loop-holds c =
     let start : tie.Start invariant-loop decreases-loop = search in
-    finding-start start.pre.1 c.parent.ensures
+    finding-start start.pre.1 c.parent-up.ensures
 
-parent-requires-2 : tie.Need-parent-requires-2 invariant-loop decreases-loop
-parent-requires-2 c κs = finding-inside (start_of c.before).pre.0 c.before.loop.invariant
+parent-requires-2 : tie.Need-parent-up-requires-in-loop-up invariant-loop decreases-loop
+parent-requires-2 c κs = finding-inside (start_of c.before).pre.0 c.before.loop-up.invariant
 
-loop-less : tie.Need-loop-smaller invariant-loop decreases-loop
+loop-less : tie.Need-loop-up-smaller invariant-loop decreases-loop
 loop-less c =
     let tested = c.before in
-    finding-less (start_of tested.before).pre.0 tested.before.loop.invariant tested.loop-test.true
+    finding-less (start_of tested.before).pre.0 tested.before.loop-up.invariant tested.loop-up-test.true
 
-loop-again : tie.Need-loop-preserved invariant-loop decreases-loop
+loop-again : tie.Need-loop-up-preserved invariant-loop decreases-loop
 loop-again c =
     let turn = c.before.before in
-    finding-next (start_of turn).requires.0 turn.loop.invariant c.parent2.ensures
+    finding-next (start_of turn).requires.0 turn.loop-up.invariant c.parent-up-in-loop-up.ensures
 
 returns : tie.Need-returns invariant-loop decreases-loop
-returns c = finding-end (start_of c.before).pre.0 c.before.loop.invariant c.loop-test.false
+returns c = finding-end (start_of c.before).pre.0 c.before.loop-up.invariant c.loop-up-test.false
 
 pub find_spec : {M : Type 1} → statement M
 find_spec =

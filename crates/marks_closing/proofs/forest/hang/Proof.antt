@@ -3,16 +3,16 @@ use borrow.Author.Rules.{rules}
 use Rattle.marks_closing.proofs.forest.hang.Statement.{statement}
 use Rattle.marks_closing.proofs.forest.hang.Tie as tie
 
-raised-over-requires : tie.Need-raised-over-requires
+raised-over-requires : tie.Need-raised_over-requires
 raised-over-requires c κs =
     let start : tie.Start = search in
     omega (arith, start.pre.0.low start.args.high start.pre.2, start.pre.0.few)
 
 returns : tie.Need-returns
-returns c = rw c.raised-over.ensures
+returns c = rw c.raised_over.ensures
 
-pub hang-spec : {M : Type 1} → statement M
-hang-spec =
+pub hang_spec : {M : Type 1} → statement M
+hang_spec =
     tie.close
     (tie.spec
     (λ c. search rules)

@@ -5,40 +5,40 @@ use Rattle.marks_closing.proofs.forest.join.Statement.{statement}
 use Rattle.marks_closing.proofs.forest.join.Tie as tie
 
 -- where the left root is found, from where the right one is; what the function is given, from there
-abbrev left-of : tie.After-find2 → tie.After-find
+abbrev left-of : tie.After-find-b → tie.After-find-a
 left-of c = search
 
-abbrev start_of : tie.After-find → tie.Start
+abbrev start_of : tie.After-find-a → tie.Start
 start_of c = search
 
-returns : tie.Need-returns
+returns : tie.Need-returns-then-a-b
 returns c =
-    let right : tie.After-find2 = search in
+    let right : tie.After-find-b = search in
     let left = left-of right in
-    grown-near (start_of left).pre.0 left.find.ensures right.find2.ensures c.if1.true
+    grown-near (start_of left).pre.0 left.find-a.ensures right.find-b.ensures c.if-a-b.true
 
-returns-2 : tie.Need-returns-2
+returns-2 : tie.Need-returns-then-heights-a
 returns-2 c =
     let hung : tie.After-hang = search in
-    let lower : tie.Then2 = search in
-    let apart : tie.Else1 = search in
+    let lower : tie.Then-heights-a = search in
+    let apart : tie.Else-a-b = search in
     let right = apart.before in
     let left = left-of right in
-    grown-left (start_of left).pre.0 left.find.ensures right.find2.ensures apart.if1.left
-    (omega (arith, lower.if2.taken)) hung.hang.ensures
+    grown-left (start_of left).pre.0 left.find-a.ensures right.find-b.ensures apart.if-a-b.false
+    (omega (arith, lower.if-heights-a.true)) hung.hang.ensures
 
-returns-3 : tie.Need-returns-3
+returns-3 : tie.Need-returns
 returns-3 c =
-    let hung : tie.After-hang2 = search in
-    let higher : tie.Else2 = search in
-    let apart : tie.Else1 = search in
+    let hung : tie.After-hang-2 = search in
+    let higher : tie.Else-heights-a = search in
+    let apart : tie.Else-a-b = search in
     let right = apart.before in
     let left = left-of right in
-    grown-right (start_of left).pre.0 left.find.ensures right.find2.ensures apart.if1.left
-    (λ l. omega (arith, l, higher.if2.left)) hung.hang2.ensures
+    grown-right (start_of left).pre.0 left.find-a.ensures right.find-b.ensures apart.if-a-b.false
+    (λ l. omega (arith, l, higher.if-heights-a.false)) hung.hang-2.ensures
 
-pub join-spec : {M : Type 1} → statement M
-join-spec =
+pub join_spec : {M : Type 1} → statement M
+join_spec =
     tie.close
     (tie.spec
     (λ c κs. search rules)

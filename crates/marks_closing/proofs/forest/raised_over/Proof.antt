@@ -4,15 +4,15 @@ use borrow.Author.Rules.{rules}
 use Rattle.marks_closing.proofs.forest.raised_over.Statement.{statement}
 use Rattle.marks_closing.proofs.forest.raised_over.Tie as tie
 
-returns : tie.Need-returns
+returns : tie.Need-returns-then-low-high
 returns c =
     let a = c.before.args in
-    rw (eq-eqb a.low a.high (omega (arith, c.if1.true)))
+    rw (eq-eqb a.low a.high (omega (arith, c.if-low-high.true)))
 
-returns-2 : tie.Need-returns-2
+returns-2 : tie.Need-returns-else-low-high
 returns-2 c =
     let a = c.before.args in
-    rw (ne_eqb a.low a.high (λ e. c.if1.false (omega (arith, e))))
+    rw (ne_eqb a.low a.high (λ e. c.if-low-high.false (omega (arith, e))))
 
-pub raised-over-spec : {M : Type 1} → statement M
-raised-over-spec = tie.close (tie.spec (λ c. search rules) returns returns-2)
+pub raised_over_spec : {M : Type 1} → statement M
+raised_over_spec = tie.close (tie.spec (λ c. search rules) returns returns-2)

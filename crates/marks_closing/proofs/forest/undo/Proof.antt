@@ -5,42 +5,42 @@ use Rattle.marks_closing.proofs.Undoes.{Undoing, undoing-start, undoing-low, und
 use Rattle.marks_closing.proofs.forest.undo.Statement.{statement}
 use Rattle.marks_closing.proofs.forest.undo.Tie as tie
 
-abbrev invariant-loop : tie.invariant-loop
+abbrev invariant-loop : tie.invariant-loop-k
 invariant-loop parents₀ heights₀ joined earlier n m k₀ parents heights k =
     Undoing (forest_tables parents₀ heights₀ joined earlier) n m (forest_tables parents heights joined earlier) k
 
-abbrev decreases-loop : tie.decreases-loop
+abbrev decreases-loop : tie.decreases-loop-k
 decreases-loop parents₀ heights₀ joined earlier n m k₀ parents heights k = k
 
-loop-holds : tie.Need-loop-init invariant-loop decreases-loop
+loop-holds : tie.Need-loop-k-init invariant-loop decreases-loop
 loop-holds c =
     let start : tie.Start invariant-loop decreases-loop = search in
     undoing-start start.pre
 
-part-again-requires : tie.Need-part-again-requires invariant-loop decreases-loop
+part-again-requires : tie.Need-part_again-requires invariant-loop decreases-loop
 part-again-requires c κs =
-    let tested : tie.In-loop invariant-loop decreases-loop = search in
-    let inv = tested.before.loop.inv in
-    (undoing-low inv tested.loop-test.taken, undoing-high inv tested.loop-test.taken)
+    let tested : tie.In-loop-k invariant-loop decreases-loop = search in
+    let inv = tested.before.loop-k.inv in
+    (undoing-low inv tested.loop-k-test.true, undoing-high inv tested.loop-k-test.true)
 
-loop-again : tie.Need-loop-preserved invariant-loop decreases-loop
+loop-again : tie.Need-loop-k-preserved invariant-loop decreases-loop
 loop-again c =
-    let stepped : tie.After-part-again invariant-loop decreases-loop = search in
-    let tested : tie.In-loop invariant-loop decreases-loop = search in
-    let done = stepped.part-again in
-    undoing-next tested.before.loop.inv tested.loop-test.taken done.last.0 done.last.1.0 done.ensures.0 done.ensures.1
+    let stepped : tie.After-part_again invariant-loop decreases-loop = search in
+    let tested : tie.In-loop-k invariant-loop decreases-loop = search in
+    let done = stepped.part_again in
+    undoing-next tested.before.loop-k.inv tested.loop-k-test.true done.last.0 done.last.1.0 done.ensures.0 done.ensures.1
 
-same_length : tie.Need-same-length invariant-loop decreases-loop
-same_length c = c.before.loop.invariant.same-parents
+same_length : tie.Need-shape_of-parents invariant-loop decreases-loop
+same_length c = c.before.loop-k.invariant.same-parents
 
-same-length-2 : tie.Need-same-length-2 invariant-loop decreases-loop
-same-length-2 c = c.before.loop.invariant.same-heights
+same-length-2 : tie.Need-shape_of-heights invariant-loop decreases-loop
+same-length-2 c = c.before.loop-k.invariant.same-heights
 
 returns : tie.Need-returns invariant-loop decreases-loop
-returns c = undoing-end c.before.loop.invariant (λ l. omega arith)
+returns c = undoing-end c.before.loop-k.invariant (λ l. omega arith)
 
-pub undo-spec : {M : Type 1} → statement M
-undo-spec =
+pub undo_spec : {M : Type 1} → statement M
+undo_spec =
     tie.close
     (tie.spec
     invariant-loop

@@ -107,59 +107,59 @@ module _ (t : ℕ) where
   abbrev marked-of : Undone → LastMarked
   marked-of c = search
 
-pub +close-range-spec : {M : Type 1} → statement M
-+close-range-spec = close μ-close-range λ t. close-range-lts.spec (claims t) (close-range-at t) close-range.Post invariant-loop decreases-loop
+pub +close_range_spec : {M : Type 1} → statement M
++close_range_spec = close μ-close-range λ t. close-range-lts.spec (claims t) (close-range-at t) close-range.Post invariant-loop decreases-loop
     -- no record in the range
     (λ c.
     let start : Start t = search in
-    done_none start.pre.1 c.if1.true)
+    done_none start.pre.1 c.if-from-to.true)
     (λ c.
     let start : Start t = search in
     turning-start start.pre.1)
-    (λ c. omega (arith, c.loop.invariant.opened.range.some))
-    (λ c. omega (arith, c.before.loop.invariant.opened.range.some))
+    (λ c. omega (arith, c.loop-b.invariant.opened.range.some))
+    (λ c. omega (arith, c.before.loop-b.invariant.opened.range.some))
     (λ c.
-    let range = c.before.loop.invariant.opened.range in
+    let range = c.before.loop-b.invariant.opened.range in
     omega (arith, range .some, range .top))
     -- the cut
     (λ c κs.
-    let o = c.before.loop.invariant.opened in
+    let o = c.before.loop-b.invariant.opened in
     (o.range.ordered, omega (arith, o.range.upto, o.listed.owners-are), λ i j l m. o.listed.rising i j l (omega (arith, o.range.upto))))
     -- the second half joined, the first closed, that taken back, the first joined
     (λ c κs.
     let cut : Cut t = search in
-    let o = cut.before.before.loop.inv.opened in
-    let split = cut.first-from.ensures in
+    let o = cut.before.before.loop-b.inv.opened in
+    let split = cut.first_from-cut.ensures in
     ready-from o (omega (arith, split.low, o.range.ordered)) (omega (arith, split.high, o.range.ordered)))
     (λ c κs.
     let second : SecondJoined t = search in
     let cut = cut_of t second in
     let turn = cut.before in
     let start = start_of t turn.before in
-    let inv = turn.before.loop.inv in
-    let wide = turn.loop-test.taken in (
+    let inv = turn.before.loop-b.inv in
+    let wide = turn.loop-b-test.true in (
       omega (arith, start.pre.0, inv.low, inv.opened.range.some, wide),
-      open-left inv.opened cut.first-from.ensures (omega (arith, wide)) (omega (arith, wide)) second.join-records.ensures,
+      open-left inv.opened cut.first_from-cut.ensures (omega (arith, wide)) (omega (arith, wide)) second.join_records-k.ensures,
     ))
     (λ c κs.
     let first : FirstClosed t = search in
     let second = second-of t first in
     let cut = cut_of t second in
-    let split = cut.first-from.ensures in
-    let joined = second.join-records.ensures in
+    let split = cut.first_from-cut.ensures in
+    let joined = second.join_records-k.ensures in
     undoable-from (omega (arith, joined.from)) (omega (arith, joined.from))
-    (restored-undoable joined first.close-range.ensures.restored (ready-from cut.before.before.loop.inv.opened split.low split.high).2))
+    (restored-undoable joined first.close_range.ensures.restored (ready-from cut.before.before.loop-b.inv.opened split.low split.high).2))
     (λ c κs.
     let back : TakenBack t = search in
     let first = closed_of t back in
     let second = second-of t first in
     let cut = cut_of t second in
-    ready-left cut.before.before.loop.inv.opened cut.first-from.ensures
-    (restored-back second.join-records.ensures first.close-range.ensures.restored back.undo.ensures))
+    ready-left cut.before.before.loop-b.inv.opened cut.first_from-cut.ensures
+    (restored-back second.join_records-k.ensures first.close_range.ensures.restored back.undo.ensures))
     (λ c.
     let joined : FirstJoined t = search in
     let turn = (cut_of t (second-of t (closed_of t (back-of t joined)))).before in
-    omega (arith, turn.loop-test.taken))
+    omega (arith, turn.loop-b-test.true))
     (λ c.
     let joined : FirstJoined t = search in
     let back = back-of t joined in
@@ -168,25 +168,25 @@ pub +close-range-spec : {M : Type 1} → statement M
     let cut = cut_of t second in
     let turn = cut.before in
     let head = turn.before in
-    let wide = turn.loop-test.taken in
-    turning-next (start_of t head).pre.1 head.loop.inv cut.first-from.ensures (omega (arith, wide)) (omega (arith, wide))
-    second.join-records.ensures first.close-range.ensures back.undo.ensures joined.join-records2.ensures)
+    let wide = turn.loop-b-test.true in
+    turning-next (start_of t head).pre.1 head.loop-b.inv cut.first_from-cut.ensures (omega (arith, wide)) (omega (arith, wide))
+    second.join_records-k.ensures first.close_range.ensures back.undo.ensures joined.join_records-m.ensures)
     -- the last boundary
     (λ c κs.
     let head : Head t = search in
-    let o = head.loop.inv.opened in
+    let o = head.loop-b.inv.opened in
     (o.range.ordered, graph-less o.range.upto o.listed.graph, o.room.trees, omega (arith, o.range.some, o.range.top)))
     (λ c κs.
     let marked : LastMarked t = search in
     let head = head_of t marked in
-    let grown = head.loop.inv.grown in
-    undoable-from (omega (arith, grown.from)) (omega (arith, grown.from)) (turning-undoable (start_of t head).pre.1 head.loop.inv))
+    let grown = head.loop-b.inv.grown in
+    undoable-from (omega (arith, grown.from)) (omega (arith, grown.from)) (turning-undoable (start_of t head).pre.1 head.loop-b.inv))
     (λ c. search rules)
     (λ c.
     let undone : Undone t = search in
     let head = head_of t (marked-of t undone) in
-    let grown = head.loop.inv.grown in
-    omega (arith, undone.undo2.kept, grown.size, grown.trees.sized, (start_of t head).pre.1.room.trees.sized))
+    let grown = head.loop-b.inv.grown in
+    omega (arith, undone.undo-2.kept, grown.size, grown.trees.sized, (start_of t head).pre.1.room.trees.sized))
     (λ c. search rules)
     (λ c. search rules)
     (λ c.
@@ -196,7 +196,7 @@ pub +close-range-spec : {M : Type 1} → statement M
     let head = left.before in
     let start = start_of t head in
     let a = start.args in
-    let o = head.loop.inv.opened in
-    turning-end start.pre.1 head.loop.inv (omega (arith, left.loop-test.left, o.range.some))
-    (marked.mark-one.ensures (other_edges a.owners.now a.lefts.now a.rights.now a.count head.loop.a a.to) o.forest)
-    undone.undo2.ensures)
+    let o = head.loop-b.inv.opened in
+    turning-end start.pre.1 head.loop-b.inv (omega (arith, left.loop-b-test.false, o.range.some))
+    (marked.mark_one.ensures (other_edges a.owners.now a.lefts.now a.rights.now a.count head.loop-b.a a.to) o.forest)
+    undone.undo-2.ensures)

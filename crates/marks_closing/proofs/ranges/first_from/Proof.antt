@@ -7,48 +7,48 @@ use Rattle.marks_closing.proofs.ranges.first_from.Statement.{statement}
 use Rattle.marks_closing.proofs.ranges.first_from.Tie as tie
 
 -- the owners before k are below b
-abbrev invariant-loop : tie.invariant-loop
+abbrev invariant-loop : tie.invariant-loop-k
 invariant-loop owners from to b k₀ k = (from ≤ k) × (k ≤ to) × ((i : ℕ) → from ≤ i → i < k → at owners i < b)
 
-abbrev decreases-loop : tie.decreases-loop
+abbrev decreases-loop : tie.decreases-loop-k
 decreases-loop owners from to b k₀ k = to - k
 
-loop-holds : tie.Need-loop-init invariant-loop decreases-loop
+loop-holds : tie.Need-loop-k-init invariant-loop decreases-loop
 loop-holds c = (omega arith, omega arith, λ i l m. absurd (omega arith))
 
-cast-if1 : tie.Need-overflow-cast-if1 invariant-loop decreases-loop
-cast-if1 c = omega (arith, c.shared-slice-known.given c.before.before.loop.k)
+cast-if1 : tie.Need-overflow_cast-owners invariant-loop decreases-loop
+cast-if1 c = omega (arith, c.shared_slice_known-1.given c.before.before.loop-k.k)
 
-returns : tie.Need-returns invariant-loop decreases-loop
+returns : tie.Need-returns-then-b-owners invariant-loop decreases-loop
 returns c =
-    let turn : tie.At-loop invariant-loop decreases-loop = search in
-    let inv = turn.loop.inv in
+    let turn : tie.At-loop-k invariant-loop decreases-loop = search in
+    let inv = turn.loop-k.inv in
     record {
       low = inv.0;
       high = inv.1;
       below = inv.2;
-      above = λ i l m. omega (arith, c.if1.true, turn.before.pre.2 turn.loop.k i l m);
+      above = λ i l m. omega (arith, c.if-b-owners.true, turn.before.pre.2 turn.loop-k.k i l m);
     }
 
-loop-again : tie.Need-loop-preserved invariant-loop decreases-loop
+loop-again : tie.Need-loop-k-preserved invariant-loop decreases-loop
 loop-again c =
-    let turn : tie.At-loop invariant-loop decreases-loop = search in
+    let turn : tie.At-loop-k invariant-loop decreases-loop = search in
     let a = turn.before.args in (
       omega arith,
       omega arith,
-      λ i l m. below_next (at a.owners.now) a.b turn.loop.k a.from turn.loop.inv.2 c.if1.false i l m,
+      λ i l m. below_next (at a.owners.now) a.b turn.loop-k.k a.from turn.loop-k.inv.2 c.if-b-owners.false i l m,
     )
 
-returns-2 : tie.Need-returns-2 invariant-loop decreases-loop
+returns-2 : tie.Need-returns invariant-loop decreases-loop
 returns-2 c = record {
   low = omega arith;
   high = omega arith;
-  below = λ i l m. c.before.loop.invariant.2 i l (omega arith);
+  below = λ i l m. c.before.loop-k.invariant.2 i l (omega arith);
   above = λ i l m. absurd (omega arith);
 }
 
-pub first-from-spec : {M : Type 1} → statement M
-first-from-spec =
+pub first_from_spec : {M : Type 1} → statement M
+first_from_spec =
     tie.close
     (tie.spec
     invariant-loop

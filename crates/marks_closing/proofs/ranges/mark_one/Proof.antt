@@ -3,14 +3,14 @@ use borrow.Author.Rules.{rules}
 use Rattle.marks_closing.proofs.ranges.mark_one.Statement.{statement}
 use Rattle.marks_closing.proofs.ranges.mark_one.Tie as tie
 
-returns : tie.Need-returns
-returns c = λ es f. rw (sym (c.before.parted.ensures es f) ∙ c.if1.taken)
+returns : tie.Need-returns-then-parted
+returns c = λ es f. rw (sym (c.before.parted.ensures es f) ∙ c.if-parted.true)
 
-returns-2 : tie.Need-returns-2
-returns-2 c = λ es f. rw (sym (c.before.parted.ensures es f) ∙ c.if1.left)
+returns-2 : tie.Need-returns-else-parted
+returns-2 c = λ es f. rw (sym (c.before.parted.ensures es f) ∙ c.if-parted.false)
 
-pub mark-one-spec : {M : Type 1} → statement M
-mark-one-spec =
+pub mark_one_spec : {M : Type 1} → statement M
+mark_one_spec =
     tie.close
     (tie.spec
     (λ c κs. search rules)

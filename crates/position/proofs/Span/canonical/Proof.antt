@@ -4,13 +4,13 @@ use borrow.Author.Rules.{rules}
 use Rattle.position.proofs.Span.canonical.Statement.{statement}
 use Rattle.position.proofs.Span.canonical.Tie as tie
 
-returns : tie.Need-returns
+returns : tie.Need-returns-then-le
 unfolding canonical
-returns c = simp (sym c.before.le.ensures, c.if1.true)
+returns c = simp (sym c.before.le.ensures, c.if-le.true)
 
-returns-2 : tie.Need-returns-2
+returns-2 : tie.Need-returns-else-le
 unfolding canonical
-returns-2 c = simp (sym c.before.le.ensures, c.if1.false)
+returns-2 c = simp (sym c.before.le.ensures, c.if-le.false)
 
-pub canonical-spec : {M : Type 1} → statement M
-canonical-spec = tie.close (tie.spec (λ c κs. search rules) returns returns-2)
+pub canonical_spec : {M : Type 1} → statement M
+canonical_spec = tie.close (tie.spec (λ c κs. search rules) returns returns-2)

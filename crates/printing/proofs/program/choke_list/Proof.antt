@@ -11,26 +11,26 @@ use Rattle.printing.proofs.Reading.{length-zeros, lent-block, over-limit, within
 use Rattle.printing.proofs.program.choke_list.Statement.{statement}
 use Rattle.printing.proofs.program.choke_list.Tie as tie
 
-returns : tie.Need-returns
+returns : tie.Need-returns-then-input-gt65536
 returns c =
     let if1-taken = c.before.before.before in
     let start = if1-taken.before.before in
-    let w = c.write-text in
-    (same_text (over-limit start.args.input.now (omega (arith, if1-taken.if1.true))) w.ensures, omega (arith, w.ensures.end))
+    let w = c.write_text in
+    (same_text (over-limit start.args.input.now (omega (arith, if1-taken.if-input-gt65536.true))) w.ensures, omega (arith, w.ensures.end))
 
 -- the block that is lent is that of source document 000
-returns-2 : tie.Need-returns-2
+returns-2 : tie.Need-returns
 returns-2 c =
     let start : tie.Start = search in
-    let within : tie.Else1 = search in
-    let block : tie.After-write-000 = search in
-    let p = c.before.before.print-list in
-    let lent = lent-block (zeros 64) (length-zeros 64) block.write-000.ensures in
+    let within : tie.Else-input-gt65536 = search in
+    let block : tie.After-write_000 = search in
+    let p = c.before.before.print_list in
+    let lent = lent-block (zeros 64) (length-zeros 64) block.write_000.ensures in
     let text = ap (λ (b : List ℕ). printed (reduce_result start.args.input.now b (zeros lent_work) (zeros lent_answer))) lent in
-    (same_text (text ∙ within-limit start.args.input.now (omega (arith, within.if1.left))) p.ensures.0, p.ensures.1.0)
+    (same_text (text ∙ within-limit start.args.input.now (omega (arith, within.if-input-gt65536.false))) p.ensures.0, p.ensures.1.0)
 
-pub choke-list-spec : {M : Type 1} → statement M
-choke-list-spec =
+pub choke_list_spec : {M : Type 1} → statement M
+choke_list_spec =
     tie.close
     (tie.spec
     (λ c. search rules)

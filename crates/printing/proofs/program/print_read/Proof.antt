@@ -6,14 +6,14 @@ use Rattle.printing.proofs.Reading.{read-enough}
 use Rattle.printing.proofs.program.print_read.Statement.{statement}
 use Rattle.printing.proofs.program.print_read.Tie as tie
 
-slice-aggregate-choke-list : tie.Need-slice-aggregate-choke-list
+slice-aggregate-choke-list : tie.Need-slice_bounds-choke_list-end
 slice-aggregate-choke-list c = sym (length-take-le _ _ c.before.before.requires.0)
 
 returns : tie.Need-returns
 returns c =
     let start = c.before.before.before.before in
-    let w = c.choke-list.ensures in
+    let w = c.choke_list.ensures in
     (record { for-input = λ input r. same_text (read-enough input start.args.buffer.now start.args.n start.requires.1 r) w.0 }, w.1)
 
-pub print-read-spec : {M : Type 1} → statement M
-print-read-spec = tie.close (tie.spec slice-aggregate-choke-list (λ c κs. search rules) returns)
+pub print_read_spec : {M : Type 1} → statement M
+print_read_spec = tie.close (tie.spec slice-aggregate-choke-list (λ c κs. search rules) returns)

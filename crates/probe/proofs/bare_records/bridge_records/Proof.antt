@@ -10,13 +10,13 @@ abbrev start_of : tie.After-load → tie.Start
 start_of c = search
 
 -- where the records are loaded, from where the scratch is zeroed; that place, from where the arrays are lent
-abbrev loaded : tie.After-zero-fill → tie.After-load
+abbrev loaded : tie.After-zero_fill → tie.After-load
 loaded c = search
 
-abbrev zeroed : tie.After-found → tie.After-zero-fill
+abbrev zeroed : tie.After-found-1 → tie.After-zero_fill
 zeroed c = search
 
-bridge-boundary-indices-requires : tie.Need-bridge-boundary-indices-requires
+bridge-boundary-indices-requires : tie.Need-bridge_boundary_indices-requires
 bridge-boundary-indices-requires c κs =
     let zeros = zeroed c in
     let records = loaded zeros in
@@ -25,7 +25,7 @@ bridge-boundary-indices-requires c κs =
     let regions = start.args.regions in
     let p = start.pre in
     let l = records.load.ensures in
-    let z = zeros.zero-fill.ensures in (
+    let z = zeros.zero_fill.ensures in (
       loaded-owners regions l p.2,
       omega (arith, l.owners-are, p.0),
       loaded-labels l p.0 p.2,
@@ -33,25 +33,25 @@ bridge-boundary-indices-requires c κs =
       zero-table w regions z p.3,
     )
 
-slice-aggregate-copy : tie.Need-slice-aggregate-copy
+slice-aggregate-copy : tie.Need-slice_bounds-copy-end
 slice-aggregate-copy c =
-    let bridges : tie.After-bridge-boundary-indices = search in
-    found-length bridges.bridge-boundary-indices.ensures.0 (bridges-long _)
+    let bridges : tie.After-bridge_boundary_indices = search in
+    found-length bridges.bridge_boundary_indices.ensures.0 (bridges-long _)
 
 returns : tie.Need-returns
 returns c =
-    let bridges : tie.After-bridge-boundary-indices = search in
+    let bridges : tie.After-bridge_boundary_indices = search in
     let zeros = zeroed bridges.before in
     let records = loaded zeros in
     let start = start_of records in
     let a = start.args in
-    let b = bridges.bridge-boundary-indices.ensures in (
-      zero-end a.work.now a.regions b.1 zeros.zero-fill.ensures,
+    let b = bridges.bridge_boundary_indices.ensures in (
+      zero-end a.work.now a.regions b.1 zeros.zero_fill.ensures,
       marks-end bridge_marks bridges-long a.marks.now records.load.ensures b.0 start.pre.4 c.before.before.copy.ensures.1,
     )
 
-pub bridge-records-spec : {M : Type 1} → statement M
-bridge-records-spec =
+pub bridge_records_spec : {M : Type 1} → statement M
+bridge_records_spec =
     tie.close
     (tie.spec
     (λ c. search rules)

@@ -10,13 +10,13 @@ abbrev start_of : tie.After-load → tie.Start
 start_of c = search
 
 -- where the records are loaded, from where the scratch is zeroed; that place, from where the arrays are lent
-abbrev loaded : tie.After-zero-fill → tie.After-load
+abbrev loaded : tie.After-zero_fill → tie.After-load
 loaded c = search
 
-abbrev zeroed : tie.After-found → tie.After-zero-fill
+abbrev zeroed : tie.After-found-1 → tie.After-zero_fill
 zeroed c = search
 
-mark-boundaries-requires : tie.Need-mark-boundaries-requires
+mark-boundaries-requires : tie.Need-mark_boundaries-requires
 mark-boundaries-requires c κs =
     let zeros = zeroed c in
     let records = loaded zeros in
@@ -25,7 +25,7 @@ mark-boundaries-requires c κs =
     let regions = start.args.regions in
     let p = start.pre in
     let l = records.load.ensures in
-    let z = zeros.zero-fill.ensures in
+    let z = zeros.zero_fill.ensures in
     record {
       marked = loaded-owners regions l p.2;
       owners-are = omega (arith, l.owners-are, p.0);
@@ -35,25 +35,25 @@ mark-boundaries-requires c κs =
       zero = zero-table w regions z p.3;
     }
 
-slice-aggregate-copy : tie.Need-slice-aggregate-copy
+slice-aggregate-copy : tie.Need-slice_bounds-copy-end
 slice-aggregate-copy c =
-    let marks : tie.After-mark-boundaries = search in
-    found-length marks.mark-boundaries.ensures.0 (chokes-long _)
+    let marks : tie.After-mark_boundaries = search in
+    found-length marks.mark_boundaries.ensures.0 (chokes-long _)
 
 returns : tie.Need-returns
 returns c =
-    let marks : tie.After-mark-boundaries = search in
+    let marks : tie.After-mark_boundaries = search in
     let zeros = zeroed marks.before in
     let records = loaded zeros in
     let start = start_of records in
     let a = start.args in
-    let b = marks.mark-boundaries.ensures in (
-      zero-end a.work.now a.regions b.1 zeros.zero-fill.ensures,
+    let b = marks.mark_boundaries.ensures in (
+      zero-end a.work.now a.regions b.1 zeros.zero_fill.ensures,
       marks-end choke_marks chokes-long a.marks.now records.load.ensures b.0 start.pre.4 c.before.before.copy.ensures.1,
     )
 
-pub mark-records-spec : {M : Type 1} → statement M
-mark-records-spec =
+pub mark_records_spec : {M : Type 1} → statement M
+mark_records_spec =
     tie.close
     (tie.spec
     (λ c. search rules)

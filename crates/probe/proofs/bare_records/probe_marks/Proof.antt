@@ -9,56 +9,56 @@ use Rattle.probe.proofs.bare_records.probe_marks.Statement.{statement}
 use Rattle.probe.proofs.bare_records.probe_marks.Tie as tie
 
 -- past the checks: what these say, and what the function is given
-abbrev checked : tie.Else1 → tie.After-check-list
+abbrev checked : tie.Else-r-gt0 → tie.After-check_list-r
 checked c = search
 
-abbrev given : tie.Else1 → tie.Start
+abbrev given : tie.Else-r-gt0 → tie.Start
 given c = search
 
-passed : (c : tie.Else1) → SoundList (given c).args.records.now (length (given c).args.work.now / 4) (length (given c).args.marks.now)
-passed c = sound-of (checked c).check-list.ensures (omega (arith, c.if1.false))
+passed : (c : tie.Else-r-gt0) → SoundList (given c).args.records.now (length (given c).args.work.now / 4) (length (given c).args.marks.now)
+passed c = sound-of (checked c).check_list-r.ensures (omega (arith, c.if-r-gt0.false))
 
 -- past the order of the owners
-abbrev past-checks : tie.Else2 → tie.Else1
+abbrev past-checks : tie.Else-k-count → tie.Else-r-gt0
 past-checks c = search
 
-rising : (c : tie.Else2) → OwnersRise (given (past-checks c)).args.records.now (length (given (past-checks c)).args.records.now / 12)
-rising c = λ k z h. let found = c.before.first-fall.ensures in found.1 k z (omega (arith, h, c.if2.false, found.0))
+rising : (c : tie.Else-k-count) → OwnersRise (given (past-checks c)).args.records.now (length (given (past-checks c)).args.records.now / 12)
+rising c = λ k z h. let found = c.before.first_fall-k.ensures in found.1 k z (omega (arith, h, c.if-k-count.false, found.0))
 
-returns : tie.Need-returns
+returns : tie.Need-returns-then-r-gt0
 returns c =
-    let judged : tie.After-check-list = search in
-    refused judged.check-list.ensures c.if1.true (record { work-kept = refl; marks-kept = refl })
+    let judged : tie.After-check_list-r = search in
+    refused judged.check_list-r.ensures c.if-r-gt0.true (record { work-kept = refl; marks-kept = refl })
 
-first-fall-requires : tie.Need-first-fall-requires
+first-fall-requires : tie.Need-first_fall-k-requires
 first-fall-requires c κs =
-    let past : tie.Else1 = search in
+    let past : tie.Else-r-gt0 = search in
     let l = passed past in
     (l.few, omega (arith, l.even))
 
-returns-2 : tie.Need-returns-2
+returns-2 : tie.Need-returns-then-k-count
 returns-2 c =
-    let past : tie.Else1 = search in
-    let found = c.before.first-fall.ensures in
-    let fall = found.2 c.if2.true in
-    falling _ (passed past) fall.0 c.if2.true found.1 fall.1 refl refl (record { work-kept = refl; marks-kept = refl })
+    let past : tie.Else-r-gt0 = search in
+    let found = c.before.first_fall-k.ensures in
+    let fall = found.2 c.if-k-count.true in
+    falling _ (passed past) fall.0 c.if-k-count.true found.1 fall.1 refl refl (record { work-kept = refl; marks-kept = refl })
 
-mark-records-requires : tie.Need-mark-records-requires
+mark-records-requires : tie.Need-mark_records-requires
 mark-records-requires c κs =
-    let ordered : tie.Else2 = search in
+    let ordered : tie.Else-k-count = search in
     let l = passed (past-checks ordered) in
     (l.few, omega (arith, l.even), l.fit, omega arith, l.wide, rising ordered)
 
-returns-3 : tie.Need-returns-3
+returns-3 : tie.Need-returns
 returns-3 c =
-    let found : tie.After-mark-records = search in
-    let ordered : tie.Else2 = search in
+    let found : tie.After-mark_records = search in
+    let ordered : tie.Else-k-count = search in
     let past = past-checks ordered in
-    marked (checked past).check-list.ensures (omega (arith, past.if1.left)) (rising ordered)
-    (record { work-is = found.mark-records.ensures.0; marks-are = found.mark-records.ensures.1 })
+    marked (checked past).check_list-r.ensures (omega (arith, past.if-r-gt0.false)) (rising ordered)
+    (record { work-is = found.mark_records.ensures.0; marks-are = found.mark_records.ensures.1 })
 
-pub probe-marks-spec : {M : Type 1} → statement M
-probe-marks-spec =
+pub probe_marks_spec : {M : Type 1} → statement M
+probe_marks_spec =
     tie.close
     (tie.spec
     (λ c κs. search rules)

@@ -7,8 +7,8 @@ returns : tie.Need-returns
 unfolding fits_at
 returns c = cc
 
-pub record-fits-spec : {M : Type 1} → statement M
-record-fits-spec =
+pub record_fits_spec : {M : Type 1} → statement M
+record_fits_spec =
     tie.close
     (tie.spec
     (λ c. search rules)

@@ -5,30 +5,30 @@ use Rattle.probe.proofs.LengthLaws.{too_few, too_many, just-many}
 use Rattle.probe.proofs.own_lengths.probe_chain.Statement.{statement}
 use Rattle.probe.proofs.own_lengths.probe_chain.Tie as tie
 
-returns : tie.Need-returns
+returns : tie.Need-returns-then-count-lt1
 returns c =
     let a = c.before.before.args in
-    too_few a.count a.d a.e a.f c.before.if1.true c.no_length.ensures
+    too_few a.count a.d a.e a.f c.before.if-count-lt1.true c.no_length.ensures
 
-returns-2 : tie.Need-returns-2
+returns-2 : tie.Need-returns-then-count-gt3
 returns-2 c =
     let many = c.before in
     let a = many.before.before.args in
-    too_many a.count a.d a.e a.f many.before.if1.false many.if2.true c.no-length2.ensures
+    too_many a.count a.d a.e a.f many.before.if-count-lt1.false many.if-count-gt3.true c.no_length-then-count-gt3.ensures
 
-total-of-requires : tie.Need-total-of-requires
+total-of-requires : tie.Need-total_of-requires
 total-of-requires c κs =
-    let few : tie.Else2 = search in
-    (omega (arith, few.before.if1.left, c.size.ensures.0), omega (arith, few.if2.left, c.size.ensures.0), refl)
+    let few : tie.Else-count-gt3 = search in
+    (omega (arith, few.before.if-count-lt1.false, c.size.ensures.0), omega (arith, few.if-count-gt3.false, c.size.ensures.0), refl)
 
-returns-3 : tie.Need-returns-3
+returns-3 : tie.Need-returns
 returns-3 c =
-    let few : tie.Else2 = search in
+    let few : tie.Else-count-gt3 = search in
     let a = few.before.before.args in
-    just-many a.count a.d a.e a.f few.before.if1.left few.if2.left c.before.size.ensures.0 c.total_of.ensures
+    just-many a.count a.d a.e a.f few.before.if-count-lt1.false few.if-count-gt3.false c.before.size.ensures.0 c.total_of.ensures
 
-pub probe-chain-spec : {M : Type 1} → statement M
-probe-chain-spec =
+pub probe_chain_spec : {M : Type 1} → statement M
+probe_chain_spec =
     tie.close
     (tie.spec
     (λ c κs. search rules)

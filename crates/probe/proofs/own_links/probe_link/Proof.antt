@@ -16,82 +16,82 @@ use Rattle.probe.proofs.own_links.probe_link.Statement.{statement}
 use Rattle.probe.proofs.own_links.probe_link.Tie as tie
 
 -- past the checks and 21: what the function is given
-abbrev given : tie.Else1 → tie.Start
+abbrev given : tie.Else-r-gt0 → tie.Start
 given c = search
 
-passed : (c : tie.Else1) → first_refusal (reduce_checks (given c).args.job.now) ≡ none
-passed c = first-passed c.before.before.unready.ensures (omega (arith, c.if1.false))
+passed : (c : tie.Else-r-gt0) → first_refusal (reduce_checks (given c).args.job.now) ≡ none
+passed c = first-passed c.before.before.unready-r.ensures (omega (arith, c.if-r-gt0.false))
 
-ready : (c : tie.Else1) → LabelsReady (given c).args.job.now (given c).args.labels.now 0 0
-ready c = ready-now c.before.before.unready.ensures (omega (arith, c.if1.false))
+ready : (c : tie.Else-r-gt0) → LabelsReady (given c).args.job.now (given c).args.labels.now 0 0
+ready c = ready-now c.before.before.unready-r.ensures (omega (arith, c.if-r-gt0.false))
 
-read : (c : tie.After-read-header) → Headed (given c.before).args.job.now c.read-header.result
+read : (c : tie.After-read_header-h) → Headed (given c.before).args.job.now c.read_header-h.result
 read c =
-    let bytes : tie.After-shared-slice-known = search in
-    reduce-headed (λ i. (bytes.shared-slice-known.given i).fits) (passed c.before) c.read-header.ensures
+    let bytes : tie.After-shared_slice_known-1 = search in
+    reduce-headed (λ i. (bytes.shared_slice_known-1.given i).fits) (passed c.before) c.read_header-h.ensures
 
 -- past the test of the first region, from where the slice is wide enough; where the header is read, from there
-abbrev in-first : tie.Else4 → tie.Else2
+abbrev in-first : tie.Else-out-lt24 → tie.Else-n-first
 in-first c = c.before.before
 
-abbrev header_of : tie.Else2 → tie.After-read-header
+abbrev header_of : tie.Else-n-first → tie.After-read_header-h
 header_of c = c.before.before
 
-returns : tie.Need-returns
-returns c = refused c.if1.true c.before.before.unready.ensures refl
+returns : tie.Need-returns-then-r-gt0
+returns c = refused c.if-r-gt0.true c.before.before.unready-r.ensures refl
 
-read-header-requires : tie.Need-read-header-requires
+read-header-requires : tie.Need-read_header-h-requires
 read-header-requires c κs = header-there _ (reduce-job _ (passed c))
 
-returns-2 : tie.Need-returns-2
+returns-2 : tie.Need-returns-then-n-first
 returns-2 c =
     let header = c.before.before in
-    first-unknown (ready header.before) (omega (arith, c.if2.true, count-is (read header))) refl refl refl
+    first-unknown (ready header.before) (omega (arith, c.if-n-first.true, count-is (read header))) refl refl refl
 
-returns-3 : tie.Need-returns-3
+returns-3 : tie.Need-returns-then-n-second
 returns-3 c =
     let header = c.before.before.before in
-    second-unknown (ready header.before) (omega (arith, c.if3.true, count-is (read header))) refl refl refl
+    second-unknown (ready header.before) (omega (arith, c.if-n-second.true, count-is (read header))) refl refl refl
 
-returns-4 : tie.Need-returns-4
+returns-4 : tie.Need-returns-then-out-lt24
 returns-4 c =
     let second = c.before in
     let first = second.before in
     let header = header_of first in
     let count = count-is (read header) in
-    known (omega (arith, first.if2.false, count)) (omega (arith, second.if3.false, count))
-    (short (ready header.before) c.if4.true refl refl refl)
+    known (omega (arith, first.if-n-first.false, count)) (omega (arith, second.if-n-second.false, count))
+    (short (ready header.before) c.if-out-lt24.true refl refl refl)
 
-tell-link-requires : tie.Need-tell-link-requires
+tell-link-requires : tie.Need-tell_link-requires
 tell-link-requires c κs =
     let sized = c.before in
-    let wide : tie.Else4 = search in
+    let wide : tie.Else-out-lt24 = search in
     let first = in-first wide in
     let header = header_of first in
     let went_on = header.before in (
       read header,
-      omega (arith, sized.before.size.ensures.0, first.if2.left),
-      omega (arith, sized.size2.ensures.0, wide.before.if3.left),
-      first-room went_on.before.before.unready.ensures (omega (arith, went_on.if1.left)),
-      omega (arith, wide.if4.left),
+      omega (arith, sized.before.size.ensures.0, first.if-n-first.false),
+      omega (arith, sized.size-2.ensures.0, wide.before.if-n-second.false),
+      first-room went_on.before.before.unready-r.ensures (omega (arith, went_on.if-r-gt0.false)),
+      omega (arith, wide.if-out-lt24.false),
     )
 
-returns-5 : tie.Need-returns-5
+returns-5 : tie.Need-returns
 returns-5 c =
-    let told_at : tie.After-tell-link = search in
-    let second-sized : tie.After-size2 = search in
+    let told_at : tie.After-tell_link = search in
+    let second-sized : tie.After-size-2 = search in
     let first-sized = second-sized.before in
     let limits = first-sized.before in
     let wide = limits.before in
     let first = in-first wide in
     let header = header_of first in
     let count = count-is (read header) in
-    known (omega (arith, first.if2.left, count)) (omega (arith, wide.before.if3.left, count))
-    (told (ready header.before) (omega (arith, wide.if4.left)) refl refl
-    (link-named _ _ _ _ limits.of-000.ensures first-sized.size.ensures.0 second-sized.size2.ensures.0 told_at.tell-link.ensures))
+    known (omega (arith, first.if-n-first.false, count)) (omega (arith, wide.before.if-n-second.false, count))
+    (told (ready header.before) (omega (arith, wide.if-out-lt24.false)) refl refl
+    (link-named _ _ _ _ limits.of_000.ensures first-sized.size.ensures.0 second-sized.size-2.ensures.0 told_at.tell_link.ensures))
 
-pub probe-link-spec : {M : Type 1} → statement M
-probe-link-spec =
+pub probe_link_spec : {M : Type 1} → statement M
+probe_link_spec =
     tie.close
     (tie.spec
     (λ c κs. search rules)

@@ -10,26 +10,26 @@ use Rattle.probe.proofs.own_links.tell_link.Statement.{statement}
 use Rattle.probe.proofs.own_links.tell_link.Tie as tie
 
 -- what the function is given and asked: the places since only say that its slices have lengths
-abbrev start_of : tie.After-struct-known → tie.Start
+abbrev start_of : tie.After-struct_known-1 → tie.Start
 start_of c = search
 
 -- the start, from where the link is measured
-abbrev asked : tie.After-measured → tie.Start
+abbrev asked : tie.After-measured-m → tie.Start
 asked c = search
 
-mul-size : tie.Need-overflow-mul-size
+mul-size : tie.Need-overflow_mul-width
 mul-size c = omega (arith, headed-cells (start_of c).requires.0)
 
-measure-one-requires : tie.Need-measure-one-requires
+measure-one-requires : tie.Need-measure_one-link-requires
 measure-one-requires c κs =
     let cells = c.before in
     let pre = (start_of cells.before).requires in
-    let n = cells.size.ensures.0 in
+    let n = cells.size-n.ensures.0 in
     (omega (arith, (headed-laid pre.0).within.width_some), omega (arith, n, headed-cells pre.0), omega (arith, n, headed-work pre.0, pre.3))
 
-write-link-requires : tie.Need-write-link-requires
+write-link-requires : tie.Need-write_link-requires
 write-link-requires c κs =
-    let measured : tie.After-measured = search in
+    let measured : tie.After-measured-m = search in
     omega (arith, (asked measured).pre.4)
 
 returns : tie.Need-returns
@@ -46,15 +46,15 @@ returns c =
     let between = measure.before in
     let start = asked measured in
     let given = start.args in
-    written.write-link.ensures
+    written.write_link.ensures
     ∙ ap (splice given.out.now 0)
-    (link-told start.pre.0 between.before.size.ensures.0 given.labels.now given.region given.first given.second _
-    between.link-between.ensures measure.measure-one.ensures measured.measured.ensures kind.kind-of.ensures
-    (across-bits.bits_of.ensures ∙ ap float_bits across.transverse-of.ensures)
-    (along-bits.bits-of2.ensures ∙ ap float_bits along.longitudinal-of.ensures) flagged.flag.ensures)
+    (link-told start.pre.0 between.before.size-n.ensures.0 given.labels.now given.region given.first given.second _
+    between.link_between-start.ensures measure.measure_one-link.ensures measured.measured-m.ensures kind.kind_of-kind.ensures
+    (across-bits.bits_of-across.ensures ∙ ap float_bits across.transverse_of.ensures)
+    (along-bits.bits_of-along.ensures ∙ ap float_bits along.longitudinal_of.ensures) flagged.flag.ensures)
 
-pub tell-link-spec : {M : Type 1} → statement M
-tell-link-spec =
+pub tell_link_spec : {M : Type 1} → statement M
+tell_link_spec =
     tie.close
     (tie.spec
     mul-size

@@ -3,18 +3,18 @@ use borrow.Author.Rules.{rules}
 use Rattle.probe.proofs.own_plan.plan_of.Statement.{statement}
 use Rattle.probe.proofs.own_plan.plan_of.Tie as tie
 
-returns : tie.Need-returns
+returns : tie.Need-returns-then-which-eq0
 returns c =
-    let own : tie.Then1 = search in
-    plan-own _ _ _ _ _ own.if1.taken c.before.before.plan-reduce.ensures
+    let own : tie.Then-which-eq0 = search in
+    plan-own _ _ _ _ _ own.if-which-eq0.true c.before.before.plan_reduce.ensures
 
-returns-2 : tie.Need-returns-2
+returns-2 : tie.Need-returns
 returns-2 c =
-    let listed : tie.Else1 = search in
-    plan-listed _ _ _ _ _ listed.if1.left c.before.before.plan-reduce-by-list.ensures
+    let listed : tie.Else-which-eq0 = search in
+    plan-listed _ _ _ _ _ listed.if-which-eq0.false c.before.before.plan_reduce_by_list.ensures
 
-pub plan-of-spec : {M : Type 1} → statement M
-plan-of-spec =
+pub plan_of_spec : {M : Type 1} → statement M
+plan_of_spec =
     tie.close
     (tie.spec
     (λ c κs. search rules)

@@ -14,68 +14,68 @@ use Rattle.probe.proofs.own_plan.probe_plan.Statement.{statement}
 use Rattle.probe.proofs.own_plan.probe_plan.Tie as tie
 
 -- what the function is given, from where the plan is made; that place, from where its number is judged
-abbrev given : tie.After-plan-of → tie.Start
+abbrev given : tie.After-plan_of-r → tie.Start
 given c = search
 
-abbrev plan-at : tie.After-struct-known → tie.After-plan-of
+abbrev plan-at : tie.After-struct_known-1 → tie.After-plan_of-r
 plan-at c = c.before.before.before
 
 -- a refusal or a plan, by the limits 000 and all eight directions; `e` holds the work, the order and the plan as the call leaves them
-left : (c : tie.After-plan-of) → let a = (given c).args in let s = a.job.now in let l = a.list.now in let e = c.plan-of.new.1.1.1.1.1 in
+left : (c : tie.After-plan_of-r) → let a = (given c).args in let s = a.job.now in let l = a.list.now in let e = c.plan_of-r.new.1.1.1.1.1 in
     PlanLeft limits000 eight (probe_checks a.which s l) (decode s) (probe_spans a.which s l) a.work.now e.0 e.1.0 e.1.1.0
-    c.plan-of.result.number c.plan-of.result.detail
+    c.plan_of-r.result.number c.plan_of-r.result.detail
 left c =
-    let limits : tie.After-of-000 = search in
-    left-eight limits.of-000.ensures c.plan-of.ensures
+    let limits : tie.After-of_000 = search in
+    left-eight limits.of_000.ensures c.plan_of-r.ensures
 
 -- past the refusals, the plan
-made : (c : tie.Else1) → let p = plan-at c.before in
-    let a = (given p).args in let s = a.job.now in let l = a.list.now in let e = p.plan-of.last.1.1.1.1.1 in
+made : (c : tie.Else-r-gt0) → let p = plan-at c.before in
+    let a = (given p).args in let s = a.job.now in let l = a.list.now in let e = p.plan_of-r.last.1.1.1.1.1 in
     Made limits000 eight (probe_checks a.which s l) (decode s) (probe_spans a.which s l) a.work.now e.0 e.1.0 e.1.1.0
-    p.plan-of.result.detail
-made c = (left (plan-at c.before)).made (omega (arith, c.if1.false))
+    p.plan_of-r.result.detail
+made c = (left (plan-at c.before)).made (omega (arith, c.if-r-gt0.false))
 
 -- the boundaries are as many as are counted
-counted : (c : tie.After-count-of) → c.count_of.result ≡ length (decode (given (plan-at c.before.before)).args.job.now).boundaries
+counted : (c : tie.After-count_of-n) → c.count_of-n.result ≡ length (decode (given (plan-at c.before.before)).args.job.now).boundaries
 counted c =
-    let bytes : tie.After-shared-slice-known = search in
+    let bytes : tie.After-shared_slice_known-1 = search in
     let a = bytes.before.args in
-    plan-count a.which a.job.now a.list.now (λ i. (bytes.shared-slice-known.given i).fits) (made c.before).passed c.count_of.ensures
+    plan-count a.which a.job.now a.list.now (λ i. (bytes.shared_slice_known-1.given i).fits) (made c.before).passed c.count_of-n.ensures
 
-plan-of-requires : tie.Need-plan-of-requires
+plan-of-requires : tie.Need-plan_of-r-requires
 plan-of-requires c κs =
-    let limits : tie.After-of-000 = search in
-    (few-000 limits.of-000.ensures, leads-eight)
+    let limits : tie.After-of_000 = search in
+    (few-000 limits.of_000.ensures, leads-eight)
 
-returns : tie.Need-returns
-returns c = refused c.if1.true ((left (plan-at c.before)).refused c.if1.true) refl
+returns : tie.Need-returns-then-r-gt0
+returns c = refused c.if-r-gt0.true ((left (plan-at c.before)).refused c.if-r-gt0.true) refl
 
-returns-2 : tie.Need-returns-2
+returns-2 : tie.Need-returns-then-out-total
 returns-2 c =
     let count = c.before in
     let k = counted count in
-    short (made-parting (made count.before)) (omega (arith, c.if2.true, k)) refl (ap (λ (x : ℕ). 4 * x) k) refl
+    short (made-parting (made count.before)) (omega (arith, c.if-out-total.true, k)) refl (ap (λ (x : ℕ). 4 * x) k) refl
 
-write-plan-requires : tie.Need-write-plan-requires
+write-plan-requires : tie.Need-write_plan-requires
 write-plan-requires c κs =
-    let wide : tie.Else2 = search in
+    let wide : tie.Else-out-total = search in
     let count = wide.before in
     let plan = made count.before in
     let k = counted count in
-    (count.count_of.ensures.few, made-ranked plan k, made_inside plan k, wide.if2.left)
+    (count.count_of-n.ensures.few, made-ranked plan k, made_inside plan k, wide.if-out-total.false)
 
-returns-3 : tie.Need-returns-3
+returns-3 : tie.Need-returns
 returns-3 c =
     let written = c.before.before in
-    let wide : tie.Else2 = search in
+    let wide : tie.Else-out-total = search in
     let count = wide.before in
     let plan = made count.before in
     let k = counted count in
-    planned (made-parting plan) (omega (arith, wide.if2.left, k)) refl (ap (λ (x : ℕ). 4 * x) k)
-    (made-placed plan k written.write-plan.ensures)
+    planned (made-parting plan) (omega (arith, wide.if-out-total.false, k)) refl (ap (λ (x : ℕ). 4 * x) k)
+    (made-placed plan k written.write_plan.ensures)
 
-pub probe-plan-spec : {M : Type 1} → statement M
-probe-plan-spec =
+pub probe_plan_spec : {M : Type 1} → statement M
+probe_plan_spec =
     tie.close
     (tie.spec
     (λ c κs. search rules)

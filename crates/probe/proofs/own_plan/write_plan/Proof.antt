@@ -8,23 +8,23 @@ use Rattle.probe.proofs.PlanningLaws.{words-start, words-next, words-end}
 use Rattle.probe.proofs.own_plan.write_plan.Statement.{statement}
 use Rattle.probe.proofs.own_plan.write_plan.Tie as tie
 
-abbrev invariant-loop : tie.invariant-loop
+abbrev invariant-loop : tie.invariant-loop-i
 invariant-loop order plan n out₀ i₀ out i =
     (i ≤ n) × (n ≤ 256) × PermutationOf order n × PlanInside plan n × (4 * n ≤ length out₀)
     × Words order (λ k. get_or order (get_or plan k 0) 0) n i out₀ out
 
-abbrev decreases-loop : tie.decreases-loop
+abbrev decreases-loop : tie.decreases-loop-i
 decreases-loop order plan n out₀ i₀ out i = n - i
 
 -- the turn, and where the place of the word is known; the place of what is written
 abbrev Turn : Type 0
-Turn = tie.At-loop invariant-loop decreases-loop
+Turn = tie.At-loop-i invariant-loop decreases-loop
 
 abbrev Placed : Type 0
-Placed = tie.After-size invariant-loop decreases-loop
+Placed = tie.After-size-place invariant-loop decreases-loop
 
 abbrev Valued : Type 0
-Valued = tie.After-size2 invariant-loop decreases-loop
+Valued = tie.After-size-to invariant-loop decreases-loop
 
 abbrev turn-of : Placed → Turn
 turn-of c = c.before.before.before
@@ -32,48 +32,48 @@ turn-of c = c.before.before.before
 abbrev placed_of : Valued → Placed
 placed_of c = c.before.before
 
-loop-holds : tie.Need-loop-init invariant-loop decreases-loop
+loop-holds : tie.Need-loop-i-init invariant-loop decreases-loop
 loop-holds c = let p = c.before.requires in (omega arith, p.0, p.1, p.2, p.3, words-start _)
 
-element-copy-out-write-u32 : tie.Need-element-copy-out-write-u32 invariant-loop decreases-loop
+element-copy-out-write-u32 : tie.Need-bounds-order-to invariant-loop decreases-loop
 element-copy-out-write-u32 c =
     let valued = c.before in
-    let turn = (turn-of (placed_of valued)).loop in
-    omega (arith, valued.size2.ensures.0, turn.inv.3.below turn.i (omega arith))
+    let turn = (turn-of (placed_of valued)).loop-i in
+    omega (arith, valued.size-to.ensures.0, turn.inv.3.below turn.i (omega arith))
 
-write-u32-requires : tie.Need-write-u32-requires invariant-loop decreases-loop
+write-u32-requires : tie.Need-write_u32-requires invariant-loop decreases-loop
 write-u32-requires c κs =
     let placed = placed_of c.before.before in
-    let turn = (turn-of placed).loop in
-    omega (arith, placed.size.ensures.0, turn.inv.2.below turn.i (omega arith), turn.inv.5.long)
+    let turn = (turn-of placed).loop-i in
+    omega (arith, placed.size-place.ensures.0, turn.inv.2.below turn.i (omega arith), turn.inv.5.long)
 
-loop-again : tie.Need-loop-preserved invariant-loop decreases-loop
+loop-again : tie.Need-loop-i-preserved invariant-loop decreases-loop
 loop-again c =
     let written = c.before.before in
     let valued : Valued = search in
     let placed = placed_of valued in
     let at-loop = turn-of placed in
     let start = at-loop.before.before in
-    let turn = at-loop.loop in
-    let to = valued.size2.ensures.0 in (
+    let turn = at-loop.loop-i in
+    let to = valued.size-to.ensures.0 in (
       omega arith,
       turn.inv.1,
       turn.inv.2,
       turn.inv.3,
       turn.inv.4,
-      words-next _ _ turn.inv.2 turn.inv.5 placed.before.before.loop-test.taken turn.inv.4
-          placed.size.ensures.0 (ap (λ (x : ℕ). get_or start.args.order.now x 0) to)
-          written.write-u32.ensures,
+      words-next _ _ turn.inv.2 turn.inv.5 placed.before.before.loop-i-test.true turn.inv.4
+          placed.size-place.ensures.0 (ap (λ (x : ℕ). get_or start.args.order.now x 0) to)
+          written.write_u32.ensures,
     )
 
-same_length : tie.Need-same-length invariant-loop decreases-loop
-same_length c = c.before.loop.invariant.5.long
+same_length : tie.Need-shape_of-out invariant-loop decreases-loop
+same_length c = c.before.loop-i.invariant.5.long
 
 returns : tie.Need-returns invariant-loop decreases-loop
-returns c = words-end (omega arith) c.before.loop.invariant.5
+returns c = words-end (omega arith) c.before.loop-i.invariant.5
 
-pub write-plan-spec : {M : Type 1} → statement M
-write-plan-spec =
+pub write_plan_spec : {M : Type 1} → statement M
+write_plan_spec =
     tie.close
     (tie.spec
     invariant-loop

@@ -6,11 +6,11 @@ use Rattle.analysis.proofs.Calling.{reduce-job}
 use Rattle.probe.proofs.own_regions.unready.Statement.{statement}
 use Rattle.probe.proofs.own_regions.unready.Tie as tie
 
-first-answer-requires : tie.Need-first-answer-requires
-first-answer-requires c κs = (λ e. reduce-job _ (sym c.check-reduce.ensures ∙ e), omega arith)
+first-answer-requires : tie.Need-first_answer-requires
+first-answer-requires c κs = (λ e. reduce-job _ (sym c.check_reduce.ensures ∙ e), omega arith)
 
 returns : tie.Need-returns
-returns c = first_of c.before.check-reduce.ensures c.first-answer.ensures
+returns c = first_of c.before.check_reduce.ensures c.first_answer.ensures
 
-pub unready-spec : {M : Type 1} → statement M
-unready-spec = tie.close (tie.spec (λ c κs. search rules) first-answer-requires returns)
+pub unready_spec : {M : Type 1} → statement M
+unready_spec = tie.close (tie.spec (λ c κs. search rules) first-answer-requires returns)

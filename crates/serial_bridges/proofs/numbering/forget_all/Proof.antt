@@ -7,11 +7,11 @@ use Rattle.serial_bridges.specs.Names.{Forgotten}
 use Rattle.serial_bridges.proofs.numbering.forget_all.Statement.{statement}
 use Rattle.serial_bridges.proofs.numbering.forget_all.Tie as tie
 
-abbrev invariant-loop : tie.invariant-loop
+abbrev invariant-loop : tie.invariant-loop-k
 invariant-loop lefts rights count regions work₀ base k₀ work k = (k ≤ count) × (length work ≡ length work₀)
     × ((start : List ℕ) → Forgotten count lefts rights regions base start work₀ 0 → Forgotten count lefts rights regions base start work k)
 
-abbrev decreases-loop : tie.decreases-loop
+abbrev decreases-loop : tie.decreases-loop-k
 decreases-loop lefts rights count regions work₀ base k₀ work k = count - k
 
 -- the start, and a turn
@@ -19,30 +19,30 @@ abbrev Start : Type 0
 Start = tie.Start invariant-loop decreases-loop
 
 abbrev Turn : Type 0
-Turn = tie.In-loop invariant-loop decreases-loop
+Turn = tie.In-loop-k invariant-loop decreases-loop
 
-forget-record-requires : tie.Need-forget-record-requires invariant-loop decreases-loop
+forget-record-requires : tie.Need-forget_record-requires invariant-loop decreases-loop
 forget-record-requires c κs =
     let start : Start = search in
-    (c.before.loop-test.true, start.pre.0, omega (arith, start.pre.1, c.before.before.loop.invariant.1))
+    (c.before.loop-k-test.true, start.pre.0, omega (arith, start.pre.1, c.before.before.loop-k.invariant.1))
 
-add-k : tie.Need-overflow-add-k invariant-loop decreases-loop
+add-k : tie.Need-overflow_add-k invariant-loop decreases-loop
 add-k c =
     let turning : Turn = search in
     let start : Start = search in
-    omega (arith, turning.loop-test.taken, start.pre.0.few)
+    omega (arith, turning.loop-k-test.true, start.pre.0.few)
 
-loop-less : tie.Need-loop-smaller invariant-loop decreases-loop
+loop-less : tie.Need-loop-k-smaller invariant-loop decreases-loop
 loop-less c =
     let turning : Turn = search in
-    omega (arith, turning.loop-test.taken)
+    omega (arith, turning.loop-k-test.true)
 
-loop-again : tie.Need-loop-preserved invariant-loop decreases-loop
+loop-again : tie.Need-loop-k-preserved invariant-loop decreases-loop
 loop-again c =
     let turning : Turn = search in
-    let inv = turning.before.loop.inv in
-    let forgotten = c.before.before.forget-record in (
-      omega (arith, turning.loop-test.taken),
+    let inv = turning.before.loop-k.inv in
+    let forgotten = c.before.before.forget_record in (
+      omega (arith, turning.loop-k-test.true),
       forgotten.auto.1.1.1.1.1.0 ∙ inv.1,
       λ s f. forgotten.ensures s (inv.2 s f),
     )
@@ -50,11 +50,11 @@ loop-again c =
 returns : tie.Need-returns invariant-loop decreases-loop
 returns c =
     let start : Start = search in
-    let inv = c.before.loop.invariant in
-    λ s f. subst (Forgotten _ _ _ _ _ s _) (let z : c.before.loop.k ≡ start.args.count = omega (arith, inv.0, c.loop-test.false) in z) (inv.2 s f)
+    let inv = c.before.loop-k.invariant in
+    λ s f. subst (Forgotten _ _ _ _ _ s _) (let z : c.before.loop-k.k ≡ start.args.count = omega (arith, inv.0, c.loop-k-test.false) in z) (inv.2 s f)
 
-pub forget-all-spec : {M : Type 1} → statement M
-forget-all-spec =
+pub forget_all_spec : {M : Type 1} → statement M
+forget_all_spec =
     tie.close
     (tie.spec
     invariant-loop
@@ -64,5 +64,5 @@ forget-all-spec =
     add-k
     loop-less
     loop-again
-    (λ c. c.before.loop.invariant.1)
+    (λ c. c.before.loop-k.invariant.1)
     returns)

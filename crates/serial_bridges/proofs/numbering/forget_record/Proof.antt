@@ -6,34 +6,34 @@ use borrow.Author.Rules.{rules}
 use Rattle.serial_bridges.proofs.numbering.forget_record.Statement.{statement}
 use Rattle.serial_bridges.proofs.numbering.forget_record.Tie as tie
 
-put-word-requires : tie.Need-put-word-requires
+put-word-requires : tie.Need-put_word-requires
 put-word-requires c κs =
     let start : tie.Start = search in
     let p = start.pre in
     let k = start.args.k in
-    let t = ap (at start.args.lefts.now) c.before.before.size.ensures.0 in
+    let t = ap (at start.args.lefts.now) c.before.before.size-at.ensures.0 in
     (omega (arith, t, p.1.left-from k p.0), omega (arith, t, p.1.left-to k p.0, p.2))
 
-put-word-requires-2 : tie.Need-put-word-requires-2
+put-word-requires-2 : tie.Need-put_word-requires-2
 put-word-requires-2 c κs =
-    let cleared : tie.After-put-word = search in
-    let sized : tie.After-size = search in
+    let cleared : tie.After-put_word = search in
+    let sized : tie.After-size-at = search in
     let start : tie.Start = search in
     let p = start.pre in
     let k = start.args.k in
-    let t = ap (at start.args.rights.now) sized.size.ensures.0 in
+    let t = ap (at start.args.rights.now) sized.size-at.ensures.0 in
     (omega (arith, t, p.1.right-from k p.0), omega (arith, t, p.1.right-to k p.0, p.2, cleared.put_word.kept.0))
 
 returns : tie.Need-returns
 returns c =
-    let cleared : tie.After-put-word = search in
-    let sized : tie.After-size = search in
+    let cleared : tie.After-put_word = search in
+    let sized : tie.After-size-at = search in
     let asked : tie.Start = search in
     let p = asked.pre in
-    λ start f. forgotten-at sized.size.ensures.0 p.0 p.1 p.2 f cleared.put_word.ensures c.before.before.put-word2.ensures
+    λ start f. forgotten-at sized.size-at.ensures.0 p.0 p.1 p.2 f cleared.put_word.ensures c.before.before.put_word-2.ensures
 
-pub forget-record-spec : {M : Type 1} → statement M
-forget-record-spec =
+pub forget_record_spec : {M : Type 1} → statement M
+forget_record_spec =
     tie.close
     (tie.spec
     (λ c κs. search rules)

@@ -6,22 +6,22 @@ use borrow.Author.Rules.{rules}
 use Rattle.serial_bridges.proofs.numbering.number_record.Statement.{statement}
 use Rattle.serial_bridges.proofs.numbering.number_record.Tie as tie
 
-number-of-requires : tie.Need-number-of-requires
+number-of-requires : tie.Need-number_of-requires
 number-of-requires c κs =
     let start : tie.Start = search in
     let p = start.pre in
     let k = start.args.k in
-    let t = ap (at start.args.lefts.now) c.before.before.size.ensures.0 in
+    let t = ap (at start.args.lefts.now) c.before.before.size-at.ensures.0 in
     (omega (arith, t, p.1.left-from k p.0), omega (arith, t, p.1.left-to k p.0, p.2), omega (arith, p.1.few, p.0))
 
-number-of-requires-2 : tie.Need-number-of-requires-2
+number-of-requires-2 : tie.Need-number_of-requires-2
 number-of-requires-2 c κs =
-    let numbered : tie.After-number-of = search in
-    let sized : tie.After-size = search in
+    let numbered : tie.After-number_of = search in
+    let sized : tie.After-size-at = search in
     let start : tie.Start = search in
     let p = start.pre in
     let k = start.args.k in
-    let t = ap (at start.args.rights.now) sized.size.ensures.0 in (
+    let t = ap (at start.args.rights.now) sized.size-at.ensures.0 in (
       omega (arith, t, p.1.right-from k p.0),
       omega (arith, t, p.1.right-to k p.0, p.2, numbered.number_of_lem.kept.0),
       omega (arith, p.1.few, p.0),
@@ -29,16 +29,16 @@ number-of-requires-2 c κs =
 
 returns : tie.Need-returns
 returns c =
-    let numbered : tie.After-number-of = search in
-    let sized : tie.After-size = search in
+    let numbered : tie.After-number_of = search in
+    let sized : tie.After-size-at = search in
     let asked : tie.Start = search in
     let p = asked.pre in
     let x = numbered.number_of_lem.ensures in
-    let y = c.before.before.number-of2.ensures in
-    λ start n. numbered-at sized.size.ensures.0 p.0 p.1 p.2 n x.0 x.1 y.0 y.1
+    let y = c.before.before.number_of-2.ensures in
+    λ start n. numbered-at sized.size-at.ensures.0 p.0 p.1 p.2 n x.0 x.1 y.0 y.1
 
-pub number-record-spec : {M : Type 1} → statement M
-number-record-spec =
+pub number_record_spec : {M : Type 1} → statement M
+number_record_spec =
     tie.close
     (tie.spec
     (λ c κs. search rules)

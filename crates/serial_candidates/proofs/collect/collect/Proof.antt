@@ -8,18 +8,18 @@ use borrow.Author.Rules.{rules}
 use Rattle.serial_candidates.proofs.collect.collect.Statement.{statement}
 use Rattle.serial_candidates.proofs.collect.collect.Tie as tie
 
-abbrev invariant-loop : tie.invariant-loop
+abbrev invariant-loop : tie.invariant-loop-region
 invariant-loop anchors n own linkables lowers highers owners lefts rights records regions₀ firsts₀ seconds₀ count₀ after₀ region₀
     regions firsts seconds count after region = (region ≡ next_after linkables lowers highers after n) × (region < 4294967296)
     × Collected (given anchors own linkables lowers highers owners lefts rights records) n after count regions firsts
     seconds
 
-abbrev decreases-loop : tie.decreases-loop
+abbrev decreases-loop : tie.decreases-loop-region
 decreases-loop anchors n own linkables lowers highers owners lefts rights records regions₀ firsts₀ seconds₀ count₀ after₀ region₀ regions
     firsts seconds count after region = left region
 
 -- what the function is given and asked: the places since only say that its slices have lengths
-abbrev start_of : tie.After-shared-slice-known4 invariant-loop decreases-loop → tie.Start invariant-loop decreases-loop
+abbrev start_of : tie.After-shared_slice_known-4-1 invariant-loop decreases-loop → tie.Start invariant-loop decreases-loop
 start_of c = c.before.before.before.before
 
 -- what links are found from
@@ -29,50 +29,50 @@ facts start = let a = start.args in
     a.highers.now a.owners.now a.lefts.now a.rights.now a.records
 
 -- the start, from the loop
-abbrev asked : tie.At-loop invariant-loop decreases-loop → tie.Start invariant-loop decreases-loop
+abbrev asked : tie.At-loop-region invariant-loop decreases-loop → tie.Start invariant-loop decreases-loop
 asked c = start_of c.before.before.before.before.before
 
-loop-holds : tie.Need-loop-init invariant-loop decreases-loop
+loop-holds : tie.Need-loop-region-init invariant-loop decreases-loop
 loop-holds c =
     let start = start_of c.before.before.before.before in
-    (c.next-region.ensures.0, c.next-region.ensures.1, collected-start (facts start) start.args.n start.pre.3 256 refl)
+    (c.next_region-region.ensures.0, c.next_region-region.ensures.1, collected-start (facts start) start.args.n start.pre.3 256 refl)
 
-consider-requires : tie.Need-consider-requires invariant-loop decreases-loop
+consider-requires : tie.Need-consider-count-requires invariant-loop decreases-loop
 consider-requires c κs =
     let turning = c.before.before.before in
     let at-loop = turning.before in
-    let m = at-loop.loop in
+    let m = at-loop.loop-region in
     let start = asked at-loop in
     let p = start.pre in
-    let later = above (facts start) start.args.n m.invariant.0 turning.loop-test.true in
+    let later = above (facts start) start.args.n m.invariant.0 turning.loop-region-test.true in
     (p.0, p.1, p.2, p.3, has_room (facts start) start.args.n p.3 p.0 m.invariant.2 m.region later)
 
-loop-less : tie.Need-loop-smaller invariant-loop decreases-loop
+loop-less : tie.Need-loop-region-smaller invariant-loop decreases-loop
 loop-less c =
     let turning = c.before.before.before.before.before in
     let start = asked turning.before in
-    less-left (facts start) start.args.n turning.loop-test.true turning.before.loop.invariant.1 c.next-region2.ensures.0
+    less-left (facts start) start.args.n turning.loop-region-test.true turning.before.loop-region.invariant.1 c.next_region-region-in-loop-region.ensures.0
 
-loop-again : tie.Need-loop-preserved invariant-loop decreases-loop
+loop-again : tie.Need-loop-region-preserved invariant-loop decreases-loop
 loop-again c =
     let turning = c.before.before.before.before.before in
     let at-loop = turning.before in
-    let inv = at-loop.loop.invariant in
+    let inv = at-loop.loop-region.invariant in
     let p = (asked at-loop).requires in (
-      c.next-region2.ensures.0,
-      c.next-region2.ensures.1,
-      collected-next p.3 p.0 inv.2 inv.0 (omega (arith, turning.loop-test.true)) c.before.consider.ensures,
+      c.next_region-region-in-loop-region.ensures.0,
+      c.next_region-region-in-loop-region.ensures.1,
+      collected-next p.3 p.0 inv.2 inv.0 (omega (arith, turning.loop-region-test.true)) c.before.consider-count.ensures,
     )
 
 returns : tie.Need-returns invariant-loop decreases-loop
 returns c =
     let p = (asked c.before).pre in
-    let m = c.before.loop in
-    let none : m.region ≡ 0 = omega (arith, c.loop-test.false) in
+    let m = c.before.loop-region in
+    let none : m.region ≡ 0 = omega (arith, c.loop-region-test.false) in
     collected-all p.3 p.0 m.invariant.2 (sym m.invariant.0 ∙ none)
 
-pub collect-spec : {M : Type 1} → statement M
-collect-spec =
+pub collect_spec : {M : Type 1} → statement M
+collect_spec =
     tie.close
     (tie.spec
     invariant-loop

@@ -9,11 +9,11 @@ use Rattle.serial_candidates.proofs.collect.consider.Statement.{statement}
 use Rattle.serial_candidates.proofs.collect.consider.Tie as tie
 
 -- what the function is given and asked: the places since only say that its slices have lengths
-abbrev start_of : tie.After-shared-slice-known4 → tie.Start
+abbrev start_of : tie.After-shared_slice_known-4-1 → tie.Start
 start_of c = c.before.before.before.before
 
 -- the start, past both calls
-abbrev asked : tie.After-gives-link → tie.Start
+abbrev asked : tie.After-gives_link → tie.Start
 asked c = start_of c.before.before
 
 -- what links are found from
@@ -23,38 +23,38 @@ facts start = let a = start.args in
     a.highers.now a.owners.now a.lefts.now a.rights.now a.records
 
 -- the test is whether the region gives a link
-tested : (c : tie.After-gives-link) → c.gives-link.result ≡ found (facts (asked c)) (asked c).args.region
-tested c = gives_found (facts (asked c)) (asked c).args.region c.before.touching-of.ensures c.gives-link.ensures
+tested : (c : tie.After-gives_link) → c.gives_link.result ≡ found (facts (asked c)) (asked c).args.region
+tested c = gives_found (facts (asked c)) (asked c).args.region c.before.touching_of-t.ensures c.gives_link.ensures
 
 -- there is room for the link that it gives
-room : (c : tie.After-gives-link) → c.gives-link.result ≡ true → (asked c).args.count < 256
+room : (c : tie.After-gives_link) → c.gives_link.result ≡ true → (asked c).args.count < 256
 room c told = (asked c).requires.4 (sym (tested c) ∙ told)
 
-gives-link-requires : tie.Need-gives-link-requires
+gives-link-requires : tie.Need-gives_link-requires
 gives-link-requires c κs =
     let start = start_of c.before in
     let p = start.pre in
     let a = start.args in
-    (p.0, p.1, two-below a.owners.now a.lefts.now a.rights.now a.region p.3 c.touching-of.ensures)
+    (p.0, p.1, two-below a.owners.now a.lefts.now a.rights.now a.region p.3 c.touching_of-t.ensures)
 
-returns : tie.Need-returns
-returns c = added-one c.before.before.touching-of.ensures (sym (tested c.before) ∙ c.if1.true)
+returns : tie.Need-returns-then-gives_link
+returns c = added-one c.before.before.touching_of-t.ensures (sym (tested c.before) ∙ c.if-gives_link.true)
 
-returns-2 : tie.Need-returns-2
-returns-2 c = added_none (sym (tested c.before) ∙ c.if1.false)
+returns-2 : tie.Need-returns
+returns-2 c = added_none (sym (tested c.before) ∙ c.if-gives_link.false)
 
-pub consider-spec : {M : Type 1} → statement M
-consider-spec =
+pub consider_spec : {M : Type 1} → statement M
+consider_spec =
     tie.close
     (tie.spec
     (λ c κs. search rules)
     gives-link-requires
-    (λ c. omega (arith, room c.before c.if1.true))
-    (λ c. omega (arith, room c.before c.if1.true))
-    (λ c. omega (arith, room c.before c.if1.true))
-    (λ c. omega (arith, room c.before c.if1.true))
-    (λ c. omega (arith, room c.before c.if1.true))
-    (λ c. omega (arith, room c.before c.if1.true))
-    (λ c. omega (arith, room c.before c.if1.true))
+    (λ c. omega (arith, room c.before c.if-gives_link.true))
+    (λ c. omega (arith, room c.before c.if-gives_link.true))
+    (λ c. omega (arith, room c.before c.if-gives_link.true))
+    (λ c. omega (arith, room c.before c.if-gives_link.true))
+    (λ c. omega (arith, room c.before c.if-gives_link.true))
+    (λ c. omega (arith, room c.before c.if-gives_link.true))
+    (λ c. omega (arith, room c.before c.if-gives_link.true))
     returns
     returns-2)

@@ -8,34 +8,34 @@ use borrow.Author.Rules.{rules}
 use Rattle.serial_candidates.proofs.linkable.find_linkables.Statement.{statement}
 use Rattle.serial_candidates.proofs.linkable.find_linkables.Tie as tie
 
-abbrev invariant-loop : tie.invariant-loop
+abbrev invariant-loop : tie.invariant-loop-i
 invariant-loop n own ramps removed separated counts linkables₀ i₀ linkables i = (i ≤ n) × (length linkables ≡ 256)
     × Flags (can_link own ramps removed separated counts) i linkables
 
-abbrev decreases-loop : tie.decreases-loop
+abbrev decreases-loop : tie.decreases-loop-i
 decreases-loop n own ramps removed separated counts linkables₀ i₀ linkables i = n - i
 
-loop-holds : tie.Need-loop-init invariant-loop decreases-loop
+loop-holds : tie.Need-loop-i-init invariant-loop decreases-loop
 loop-holds c = (omega arith, length-replicate {A = ℕ} 256 0, record { marks-are = λ j l. absurd (omega arith) })
 
-loop-again : tie.Need-loop-preserved invariant-loop decreases-loop
+loop-again : tie.Need-loop-i-preserved invariant-loop decreases-loop
 loop-again c =
     let start = c.before.before.before.before in
-    let m = c.before.before.loop in (
-      omega (arith, c.before.loop-test.true),
+    let m = c.before.before.loop-i in (
+      omega (arith, c.before.loop-i-test.true),
       length-set m.linkables m.i c.mark.result ∙ m.invariant.1,
-      marked_next _ m.linkables m.i c.mark.result (omega (arith, m.invariant.1, c.before.loop-test.true, start.requires)) m.invariant.2
+      marked_next _ m.linkables m.i c.mark.result (omega (arith, m.invariant.1, c.before.loop-i-test.true, start.requires)) m.invariant.2
           c.mark.ensures,
     )
 
 returns : tie.Need-returns invariant-loop decreases-loop
 returns c =
     let start = c.before.before.before in
-    let inv = c.before.loop.invariant in
-    marked-end {k = c.before.loop.i} {n = start.args.n} (omega (arith, inv.0, c.loop-test.false)) inv.2
+    let inv = c.before.loop-i.invariant in
+    marked-end {k = c.before.loop-i.i} {n = start.args.n} (omega (arith, inv.0, c.loop-i-test.false)) inv.2
 
-pub find-linkables-spec : {M : Type 1} → statement M
-find-linkables-spec =
+pub find_linkables_spec : {M : Type 1} → statement M
+find_linkables_spec =
     tie.close
     (tie.spec
     invariant-loop

@@ -5,20 +5,20 @@ use borrow.Author.Rules.{rules}
 use Rattle.serial_candidates.proofs.linkable.mark.Statement.{statement}
 use Rattle.serial_candidates.proofs.linkable.mark.Tie as tie
 
-returns : tie.Need-returns
+returns : tie.Need-returns-then-distinct-plain
 returns c =
     let after-coincides = c.before.before.before.before.before.before in
     let after-span-at = after-coincides.before in
-    let e = c.if1.true in
-    let k = can-link _ _ _ _ _ _ after-span-at.span-at.ensures after-coincides.coincides.ensures c.before.has-full-pair.ensures in
+    let e = c.if-distinct-plain.true in
+    let k = can-link _ _ _ _ _ _ after-span-at.span_at-s.ensures after-coincides.coincides-distinct.ensures c.before.has_full_pair-full.ensures in
     ap (λ (t : Bool). cond t 1 0) (sym e ∙ k)
 
-returns-2 : tie.Need-returns-2
+returns-2 : tie.Need-returns-else-distinct-plain
 returns-2 c =
     let after-coincides = c.before.before.before.before.before.before in
     let after-span-at = after-coincides.before in
-    let e = c.if1.false in let k =
-    can-link _ _ _ _ _ _ after-span-at.span-at.ensures after-coincides.coincides.ensures c.before.has-full-pair.ensures in
+    let e = c.if-distinct-plain.false in let k =
+    can-link _ _ _ _ _ _ after-span-at.span_at-s.ensures after-coincides.coincides-distinct.ensures c.before.has_full_pair-full.ensures in
     ap (λ (t : Bool). cond t 1 0) (sym e ∙ k)
 
 pub mark_spec : {M : Type 1} → statement M

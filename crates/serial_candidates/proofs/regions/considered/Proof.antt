@@ -4,12 +4,12 @@ use borrow.Author.Rules.{rules}
 use Rattle.serial_candidates.proofs.regions.considered.Statement.{statement}
 use Rattle.serial_candidates.proofs.regions.considered.Tie as tie
 
-returns : tie.Need-returns
-returns c = let e = c.before.before.if1.true in let f = c.before.nearer.ensures.0 in let g = c.nearer2.ensures.0 in
-    (rw (e, g, f), c.nearer2.ensures.1)
+returns : tie.Need-returns-then-mark-eq1
+returns c = let e = c.before.before.if-mark-eq1.true in let f = c.before.nearer.ensures.0 in let g = c.nearer-then-mark-eq1.ensures.0 in
+    (rw (e, g, f), c.nearer-then-mark-eq1.ensures.1)
 
-returns-2 : tie.Need-returns-2
-returns-2 c = let e = ne_eqb _ _ c.if1.false in (rw e, omega (arith, c.before.ranges.best))
+returns-2 : tie.Need-returns
+returns-2 c = let e = ne_eqb _ _ c.if-mark-eq1.false in (rw e, omega (arith, c.before.ranges.best))
 
-pub considered-spec : {M : Type 1} → statement M
-considered-spec = tie.close (tie.spec (λ c κs. search rules) (λ c κs. search rules) returns returns-2)
+pub considered_spec : {M : Type 1} → statement M
+considered_spec = tie.close (tie.spec (λ c κs. search rules) (λ c κs. search rules) returns returns-2)

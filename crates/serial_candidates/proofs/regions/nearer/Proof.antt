@@ -2,11 +2,11 @@ use native.Mathlib.Omega.{arith}
 use Rattle.serial_candidates.proofs.regions.nearer.Statement.{statement}
 use Rattle.serial_candidates.proofs.regions.nearer.Tie as tie
 
-returns : tie.Need-returns
-returns c = let e = c.if1.true in (rw e, omega (arith, c.before.ranges.x))
+returns : tie.Need-returns-then-after-x
+returns c = let e = c.if-after-x.true in (rw e, omega (arith, c.before.ranges.x))
 
-returns-2 : tie.Need-returns-2
-returns-2 c = let e = c.if1.false in (rw e, omega (arith, c.before.ranges.best))
+returns-2 : tie.Need-returns-else-after-x
+returns-2 c = let e = c.if-after-x.false in (rw e, omega (arith, c.before.ranges.best))
 
-pub nearer-spec : {M : Type 1} → statement M
-nearer-spec = tie.close (tie.spec returns returns-2)
+pub nearer_spec : {M : Type 1} → statement M
+nearer_spec = tie.close (tie.spec returns returns-2)

@@ -7,29 +7,29 @@ use borrow.Author.Rules.{rules}
 use Rattle.serial_candidates.proofs.regions.next_region.Statement.{statement}
 use Rattle.serial_candidates.proofs.regions.next_region.Tie as tie
 
-abbrev invariant-loop : tie.invariant-loop
+abbrev invariant-loop : tie.invariant-loop-i
 invariant-loop n linkables lowers highers after best₀ i₀ best i = (i ≤ n) × (best ≡ next_after linkables lowers highers after i) × (best < 4294967296)
 
-abbrev decreases-loop : tie.decreases-loop
+abbrev decreases-loop : tie.decreases-loop-i
 decreases-loop n linkables lowers highers after best₀ i₀ best i = n - i
 
-loop-holds : tie.Need-loop-init invariant-loop decreases-loop
+loop-holds : tie.Need-loop-i-init invariant-loop decreases-loop
 unfolding next_after
 loop-holds c = (omega arith, refl, omega arith)
 
-loop-again : tie.Need-loop-preserved invariant-loop decreases-loop
+loop-again : tie.Need-loop-i-preserved invariant-loop decreases-loop
 loop-again c =
     let turning = c.before.before.before.before in
     let in-loop = turning.before in
-    (omega (arith, turning.loop-test.true), region-next _ _ _ _ _ in-loop.loop.invariant.1 c.considered.ensures.0, c.considered.ensures.1)
+    (omega (arith, turning.loop-i-test.true), region-next _ _ _ _ _ in-loop.loop-i.invariant.1 c.considered-best.ensures.0, c.considered-best.ensures.1)
 
 returns : tie.Need-returns invariant-loop decreases-loop
 returns c =
-    let inv = c.before.loop.invariant in
-    (region-end _ _ _ _ {k = c.before.loop.i} {n = c.before.before.args.n} (omega (arith, inv.0, c.loop-test.false)) inv.1, inv.2)
+    let inv = c.before.loop-i.invariant in
+    (region-end _ _ _ _ {k = c.before.loop-i.i} {n = c.before.before.args.n} (omega (arith, inv.0, c.loop-i-test.false)) inv.1, inv.2)
 
-pub next-region-spec : {M : Type 1} → statement M
-next-region-spec =
+pub next_region_spec : {M : Type 1} → statement M
+next_region_spec =
     tie.close
     (tie.spec
     invariant-loop

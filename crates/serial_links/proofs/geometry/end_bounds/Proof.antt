@@ -9,15 +9,15 @@ returns c =
     let after-canonical2 = c.before.before.before in
     let after-canonical = after-canonical2.before in
     simp (
-      c.with-ends2.ensures,
-      c.before.with-ends.ensures,
+      c.with_ends-2.ensures,
+      c.before.with_ends.ensures,
       c.before.before.none.ensures,
-      after-canonical2.canonical2.ensures,
-      after-canonical.canonical.ensures,
+      after-canonical2.canonical-t.ensures,
+      after-canonical.canonical-s.ensures,
     )
 
-pub end-bounds-spec : {M : Type 1} → statement M
-end-bounds-spec =
+pub end_bounds_spec : {M : Type 1} → statement M
+end_bounds_spec =
     tie.close
     (tie.spec
     (λ c κs. search rules)

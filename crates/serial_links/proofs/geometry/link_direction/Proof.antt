@@ -9,13 +9,13 @@ returns c =
     simp (
       c.scaled.ensures,
       c.before.towards.ensures,
-      c.before.before.centre-of2.ensures,
-      after-centre-of.centre-of.ensures,
-      after-centre-distance.centre-distance.ensures,
+      c.before.before.centre_of-2.ensures,
+      after-centre-of.centre_of.ensures,
+      after-centre-distance.centre_distance-length.ensures,
     )
 
-pub link-direction-spec : {M : Type 1} → statement M
-link-direction-spec =
+pub link_direction_spec : {M : Type 1} → statement M
+link_direction_spec =
     tie.close
     (tie.spec
     (λ c κs. search rules)

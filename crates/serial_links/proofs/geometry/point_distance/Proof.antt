@@ -2,8 +2,8 @@ use borrow.Author.Rules.{rules}
 use Rattle.serial_links.proofs.geometry.point_distance.Statement.{statement}
 use Rattle.serial_links.proofs.geometry.point_distance.Tie as tie
 
-pub point-distance-spec : {M : Type 1} → statement M
-point-distance-spec =
+pub point_distance_spec : {M : Type 1} → statement M
+point_distance_spec =
     tie.close
     (tie.spec
     (λ c. search rules)
@@ -12,4 +12,4 @@ point-distance-spec =
     (λ c. search rules)
     (λ c κs. search rules)
     (λ c κs. search rules)
-    (λ c. simp (c.length-of.ensures, c.before.squares.ensures.0)))
+    (λ c. simp (c.length_of.ensures, c.before.squares.ensures.0)))

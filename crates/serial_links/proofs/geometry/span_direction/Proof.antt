@@ -3,8 +3,8 @@ use borrow.Author.Rules.{rules}
 use Rattle.serial_links.proofs.geometry.span_direction.Statement.{statement}
 use Rattle.serial_links.proofs.geometry.span_direction.Tie as tie
 
-point-distance-requires : tie.Need-point-distance-requires
-point-distance-requires c κs = let h = bounded-as c.canonical.ensures (canonical-bounded c.before.requires) in (h.first, h.second)
+point-distance-requires : tie.Need-point_distance-length-requires
+point-distance-requires c κs = let h = bounded-as c.canonical-t.ensures (canonical-bounded c.before.requires) in (h.first, h.second)
 
 returns : tie.Need-returns
 returns c =
@@ -14,14 +14,14 @@ returns c =
     simp (
       c.scaled.ensures,
       c.before.towards.ensures,
-      c.before.before.point-of2.ensures,
-      after-point-of.point-of.ensures,
-      after-point-distance.point-distance.ensures,
-      after-canonical.canonical.ensures,
+      c.before.before.point_of-2.ensures,
+      after-point-of.point_of.ensures,
+      after-point-distance.point_distance-length.ensures,
+      after-canonical.canonical-t.ensures,
     )
 
-pub span-direction-spec : {M : Type 1} → statement M
-span-direction-spec =
+pub span_direction_spec : {M : Type 1} → statement M
+span_direction_spec =
     tie.close
     (tie.spec
     (λ c κs. search rules)

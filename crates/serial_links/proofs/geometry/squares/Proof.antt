@@ -8,9 +8,9 @@ returns : tie.Need-returns
 unfolding squares
 returns c =
     let across = c.before.before.before in
-    (simp (across.apart.ensures.0, c.before.before.square.ensures.0, c.before.apart2.ensures.0, c.square2.ensures.0), omega arith)
+    (simp (across.apart.ensures.0, c.before.before.square.ensures.0, c.before.apart-2.ensures.0, c.square-2.ensures.0), omega arith)
 
-pub squares-spec : {M : Type 1} → statement M
-squares-spec =
+pub squares_spec : {M : Type 1} → statement M
+squares_spec =
     tie.close
     (tie.spec (λ c κs. search rules) (λ c κs. search rules) (λ c κs. search rules) (λ c κs. search rules) (λ c. search rules) returns)

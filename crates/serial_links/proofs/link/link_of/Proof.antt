@@ -17,21 +17,21 @@ returns c =
     let after-centre-of = after-link-direction.before in
     simp (
       c.min.ensures,
-      c.before.width-of2.ensures,
+      c.before.width_of-2.ensures,
       c.before.before.width_of_lem.ensures,
-      after-centre-distance.centre-distance.ensures,
-      after_none.none.ensures,
-      after-end-bounds2.end-bounds2.ensures,
-      after-end-bounds.end-bounds.ensures,
-      after-turned2.turned2.ensures,
-      after-span-direction.span-direction.ensures,
-      after-turned.turned.ensures,
-      after-link-direction.link-direction.ensures,
-      after-centre-of.centre-of.ensures,
+      after-centre-distance.centre_distance.ensures,
+      after_none.none-none.ensures,
+      after-end-bounds2.end_bounds-across.ensures,
+      after-end-bounds.end_bounds-along.ensures,
+      after-turned2.turned-span_normal.ensures,
+      after-span-direction.span_direction-span_unit.ensures,
+      after-turned.turned-normal.ensures,
+      after-link-direction.link_direction-unit.ensures,
+      after-centre-of.centre_of-centre.ensures,
     )
 
-pub link-of-spec : {M : Type 1} → statement M
-link-of-spec =
+pub link_of_spec : {M : Type 1} → statement M
+link_of_spec =
     tie.close
     (tie.spec
     (λ c κs. search rules)

@@ -3,8 +3,8 @@ use Rattle.serial_links.proofs.parallel.span_vector.Statement.{statement}
 use Rattle.serial_links.proofs.parallel.span_vector.Tie as tie
 
 returns : tie.Need-returns
-returns c = simp (c.towards.ensures, c.before.point-of2.ensures, c.before.before.point-of.ensures)
+returns c = simp (c.towards.ensures, c.before.point_of-2.ensures, c.before.before.point_of.ensures)
 
-pub span-vector-spec : {M : Type 1} → statement M
-span-vector-spec =
+pub span_vector_spec : {M : Type 1} → statement M
+span_vector_spec =
     tie.close (tie.spec (λ c κs. search rules) (λ c κs. search rules) (λ c κs. search rules) returns)

@@ -8,30 +8,30 @@ use Rattle.serial_measures.proofs.Singly.{one-start, one-next, one_end}
 use Rattle.serial_measures.proofs.few.measure_one.Statement.{statement}
 use Rattle.serial_measures.proofs.few.measure_one.Tie as tie
 
-abbrev invariant-loop : tie.invariant-loop
+abbrev invariant-loop : tie.invariant-loop-i
 invariant-loop n width labels region limits link₀ i₀ link i = (i ≤ n) × AllCells (limits_of limits) width (labels_in labels n) region i link₀ link
 
-abbrev decreases-loop : tie.decreases-loop
+abbrev decreases-loop : tie.decreases-loop-i
 decreases-loop n width labels region limits link₀ i₀ link i = n - i
 
-loop-again : tie.Need-loop-preserved invariant-loop decreases-loop
+loop-again : tie.Need-loop-i-preserved invariant-loop decreases-loop
 loop-again c =
     let turning = c.before.before in
     let in-loop = turning.before in
     let start = in-loop.before.before in
     let a = start.args in
-    let l = in-loop.loop in (
-      omega (arith, turning.loop-test.true),
-      one-next _ _ a.labels.now a.n a.region l.invariant.1 turning.loop-test.true c.before.read_u32.ensures c.counted.ensures,
+    let l = in-loop.loop-i in (
+      omega (arith, turning.loop-i-test.true),
+      one-next _ _ a.labels.now a.n a.region l.invariant.1 turning.loop-i-test.true c.before.read_u32-label.ensures c.counted-link.ensures,
     )
 
 returns : tie.Need-returns invariant-loop decreases-loop
 returns c =
-    let l = c.before.loop in
-    one_end _ _ _ _ (omega (arith, l.invariant.0, c.loop-test.false)) l.invariant.1
+    let l = c.before.loop-i in
+    one_end _ _ _ _ (omega (arith, l.invariant.0, c.loop-i-test.false)) l.invariant.1
 
-pub measure-one-spec : {M : Type 1} → statement M
-measure-one-spec =
+pub measure_one_spec : {M : Type 1} → statement M
+measure_one_spec =
     tie.close
     (tie.spec
     invariant-loop

@@ -5,21 +5,21 @@ use borrow.Author.Rules.{rules}
 use Rattle.serial_plan.proofs.accept.accepts_flat.Statement.{statement}
 use Rattle.serial_plan.proofs.accept.accepts_flat.Tie as tie
 
-group-is-simple-path-requires : tie.Need-group-is-simple-path-requires
+group-is-simple-path-requires : tie.Need-group_is_simple_path-path-requires
 group-is-simple-path-requires c κs = (c.requires.0, c.requires.1, λ j. (c.requires.2 j).below, λ j. (c.requires.3 j).below)
 
-returns : tie.Need-returns
+returns : tie.Need-returns-then-not-path
 returns c =
     let a = c.before.before.args in
     flat-no (limits_of a.limits) a.own.now a.lowers.now a.highers.now a.regions.now a.firsts.now a.seconds.now
-    (few_list a.ranks) (few_list a.links) c.before.group-is-simple-path.ensures c.if1.true
+    (few_list a.ranks) (few_list a.links) c.before.group_is_simple_path-path.ensures c.if-not-path.true
 
-returns-2 : tie.Need-returns-2
+returns-2 : tie.Need-returns
 returns-2 c =
     let path = c.before.before in
     let a = path.before.args in
     flat-yes (limits_of a.limits) a.own.now a.lowers.now a.highers.now a.regions.now a.firsts.now a.seconds.now
-    (few_list a.ranks) (few_list a.links) path.group-is-simple-path.ensures c.before.if1.false c.all_Alike.ensures
+    (few_list a.ranks) (few_list a.links) path.group_is_simple_path-path.ensures c.before.if-not-path.false c.all_Alike.ensures
 
-pub accepts-flat-spec : {M : Type 1} → statement M
-accepts-flat-spec = tie.close (tie.spec group-is-simple-path-requires returns (λ c κs. search rules) returns-2)
+pub accepts_flat_spec : {M : Type 1} → statement M
+accepts_flat_spec = tie.close (tie.spec group-is-simple-path-requires returns (λ c κs. search rules) returns-2)

@@ -14,35 +14,35 @@ use Rattle.serial_plan.proofs.accept.accepts_serial.Statement.{statement}
 use Rattle.serial_plan.proofs.accept.accepts_serial.Tie as tie
 
 -- the start, from where the path is judged; that place, from where the ends are held
-abbrev asked : tie.After-group-is-simple-path → tie.Start
+abbrev asked : tie.After-group_is_simple_path-path → tie.Start
 asked c = c.before.before
 
-abbrev path-of : tie.After-group-end-nodes → tie.After-group-is-simple-path
+abbrev path-of : tie.After-group_end_nodes-two → tie.After-group_is_simple_path-path
 path-of c = c.before.before
 
 -- both ends are ranks that fit
-ends-fit : (c : tie.After-group-end-nodes) (j : ℕ) → RankFits (asked (path-of c)).args.own.now (few_at c.group-end-nodes.result j)
+ends-fit : (c : tie.After-group_end_nodes-two) (j : ℕ) → RankFits (asked (path-of c)).args.own.now (few_at c.group_end_nodes-two.result j)
 ends-fit c =
     let start = asked (path-of c) in
     let a = start.args in
-    ends-slots (RankFits a.own.now) a.firsts.now a.seconds.now (few_list a.links) a.ranks c.group-end-nodes.ensures start.pre.3
+    ends-slots (RankFits a.own.now) a.firsts.now a.seconds.now (few_list a.links) a.ranks c.group_end_nodes-two.ensures start.pre.3
     start.pre.5
 
-returns : tie.Need-returns
+returns : tie.Need-returns-then-not-pass-path
 returns c =
     let a = (asked c.before).args in
     serial-no (limits_of a.limits) a.own.now a.lowers.now a.highers.now a.regions.now a.firsts.now a.seconds.now a.passing.now
-    (few_list a.ranks) (few_list a.links) c.before.before.all-on.ensures c.before.group-is-simple-path.ensures c.if1.true
+    (few_list a.ranks) (few_list a.links) c.before.before.all_on-pass.ensures c.before.group_is_simple_path-path.ensures c.if-not-pass-path.true
 
-chain-sum-requires : tie.Need-chain-sum-requires
+chain-sum-requires : tie.Need-chain_sum-sum-requires
 chain-sum-requires c κs =
     let path = path-of c in
     let start = asked path in
     let a = start.args in
     let l = limits_of a.limits in
     let so =
-    serial-path l a.own.now a.lowers.now a.highers.now a.regions.now a.firsts.now a.seconds.now path.before.all-on.result
-    (few_list a.ranks) (few_list a.links) path.group-is-simple-path.ensures c.before.if1.false
+    serial-path l a.own.now a.lowers.now a.highers.now a.regions.now a.firsts.now a.seconds.now path.before.all_on-pass.result
+    (few_list a.ranks) (few_list a.links) path.group_is_simple_path-path.ensures c.before.if-not-pass-path.false
     in
     let s =
     path-sizes a.lowers.now a.highers.now a.regions.now a.firsts.now a.seconds.now l.least_spans l.most_spans (few_list a.ranks)
@@ -50,13 +50,13 @@ chain-sum-requires c κs =
     in
     (omega (arith, s.0, s.2, listed-length a.links), omega (arith, s.1, s.2, start.pre.0, listed-length a.links), start.pre.4)
 
-rank-distance-requires : tie.Need-rank-distance-requires
+rank-distance-requires : tie.Need-rank_distance-far-requires
 rank-distance-requires c κs =
     let two = c.before.before.before in
     let own = (asked (path-of two)).args.own.now in
-    (subst (RankFits own) (sym c.before.index.ensures.0) (ends-fit two 0), subst (RankFits own) (sym c.index2.ensures.0) (ends-fit two 1))
+    (subst (RankFits own) (sym c.before.index.ensures.0) (ends-fit two 0), subst (RankFits own) (sym c.index-2.ensures.0) (ends-fit two 1))
 
-returns-2 : tie.Need-returns-2
+returns-2 : tie.Need-returns
 returns-2 c =
     let second = c.before.before in
     let first = second.before in
@@ -65,14 +65,14 @@ returns-2 c =
     let path = path-of two in
     let a = (asked path).args in
     serial-yes (limits_of a.limits) a.own.now a.lowers.now a.highers.now a.regions.now a.firsts.now a.seconds.now a.passing.now
-    (few_list a.ranks) (few_list a.links) path.before.all-on.ensures path.group-is-simple-path.ensures two.before.if1.false c.short.ensures
-    sum.chain-sum.ensures
-    (c.before.rank-distance.ensures
+    (few_list a.ranks) (few_list a.links) path.before.all_on-pass.ensures path.group_is_simple_path-path.ensures two.before.if-not-pass-path.false c.short.ensures
+    sum.chain_sum-sum.ensures
+    (c.before.rank_distance-far.ensures
     ∙ both (λ (i j : ℕ). centre_length (span_in a.own.now i) (span_in a.own.now j))
-    (first.index.ensures.0 ∙ held_first _ two.group-end-nodes.ensures) (second.index2.ensures.0 ∙ held-second _ two.group-end-nodes.ensures))
+    (first.index.ensures.0 ∙ held_first _ two.group_end_nodes-two.ensures) (second.index-2.ensures.0 ∙ held-second _ two.group_end_nodes-two.ensures))
 
-pub accepts-serial-spec : {M : Type 1} → statement M
-accepts-serial-spec =
+pub accepts_serial_spec : {M : Type 1} → statement M
+accepts_serial_spec =
     tie.close
     (tie.spec
     (λ c κs. λ j. (c.requires.4 j).below)

@@ -6,15 +6,15 @@ use borrow.Author.Rules.{rules}
 use Rattle.serial_plan.proofs.alike.alike.Statement.{statement}
 use Rattle.serial_plan.proofs.alike.alike.Tie as tie
 
-nearby-parallel-requires : tie.Need-nearby-parallel-requires
+nearby-parallel-requires : tie.Need-nearby_parallel-requires
 nearby-parallel-requires c κs =
     let start = c.before.before in
-    (span_fits start.requires.0 refl c.before.span-at.ensures, span_fits start.requires.1 refl c.span-at2.ensures)
+    (span_fits start.requires.0 refl c.before.span_at-first.ensures, span_fits start.requires.1 refl c.span_at-second.ensures)
 
 returns : tie.Need-returns
 returns c =
     let start = c.before.before.before in
-    c.nearby-parallel.ensures ∙ both (nearby_parallel (limits_of start.args.limits)) c.before.before.span-at.ensures c.before.span-at2.ensures
+    c.nearby_parallel.ensures ∙ both (nearby_parallel (limits_of start.args.limits)) c.before.before.span_at-first.ensures c.before.span_at-second.ensures
 
 pub alike_spec : {M : Type 1} → statement M
 alike_spec =

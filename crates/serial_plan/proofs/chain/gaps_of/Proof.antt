@@ -13,64 +13,64 @@ use Rattle.serial_plan.proofs.SumLaws.{gap_at, gap-value, gaps-end}
 use Rattle.serial_plan.proofs.chain.gaps_of.Statement.{statement}
 use Rattle.serial_plan.proofs.chain.gaps_of.Tie as tie
 
-abbrev invariant-loop : tie.invariant-loop
+abbrev invariant-loop : tie.invariant-loop-j
 invariant-loop own firsts seconds links gaps₀ j₀ gaps j = (j ≤ links.count) × PartsOf gaps (map (gap_at firsts seconds own links) (up_from 0 j))
 
-abbrev decreases-loop : tie.decreases-loop
+abbrev decreases-loop : tie.decreases-loop-j
 decreases-loop own firsts seconds links gaps₀ j₀ gaps j = links.count - j
 
 -- a turn of the loop, and the start, from there
 abbrev Turn : Type 0
-Turn = tie.At-loop invariant-loop decreases-loop
+Turn = tie.At-loop-j invariant-loop decreases-loop
 
 abbrev asked : Turn → tie.Start invariant-loop decreases-loop
 asked turn = turn.before.before
 
-loop-holds : tie.Need-loop-init invariant-loop decreases-loop
+loop-holds : tie.Need-loop-j-init invariant-loop decreases-loop
 loop-holds c =
     let start = c.before.args in
-    (omega arith, parts-start (gap_at start.firsts.now start.seconds.now start.own.now start.links) c.none.ensures)
+    (omega arith, parts-start (gap_at start.firsts.now start.seconds.now start.own.now start.links) c.none-gaps.ensures)
 
-index-requires : tie.Need-index-requires invariant-loop decreases-loop
+index-requires : tie.Need-index-k-requires invariant-loop decreases-loop
 index-requires c κs =
     let turn : Turn = search in
-    ((asked turn).pre.1 turn.loop.j).below
+    ((asked turn).pre.1 turn.loop-j.j).below
 
 gap-requires : tie.Need-gap-requires invariant-loop decreases-loop
 gap-requires c κs =
     let turn : Turn = search in
     let start = asked turn in
-    subst (LinkFits start.args.own.now start.args.firsts.now start.args.seconds.now) (sym c.index.ensures.0)
-    (start.pre.1 turn.loop.j)
+    subst (LinkFits start.args.own.now start.args.firsts.now start.args.seconds.now) (sym c.index-k.ensures.0)
+    (start.pre.1 turn.loop-j.j)
 
-with-requires : tie.Need-with-requires invariant-loop decreases-loop
+with-requires : tie.Need-with-gaps-requires invariant-loop decreases-loop
 with-requires c κs =
     let turn : Turn = search in
     let start = asked turn in
     let a = start.args in
-    let count = parts-count (gap_at a.firsts.now a.seconds.now a.own.now a.links) turn.loop.inv.1 in
-    (omega (arith, count, c.before.before.if1.true, start.pre.0), gap-value a.firsts.now a.seconds.now a.own.now _ c.gap.ensures)
+    let count = parts-count (gap_at a.firsts.now a.seconds.now a.own.now a.links) turn.loop-j.inv.1 in
+    (omega (arith, count, c.before.before.loop-j-test.true, start.pre.0), gap-value a.firsts.now a.seconds.now a.own.now _ c.gap.ensures)
 
-loop-again : tie.Need-loop-preserved invariant-loop decreases-loop
+loop-again : tie.Need-loop-j-preserved invariant-loop decreases-loop
 loop-again c =
     let gap = c.before in
     let turn : Turn = search in
     let a = (asked turn).args in (
-      omega (arith, gap.before.before.if1.true),
-      parts_next (gap_at a.firsts.now a.seconds.now a.own.now a.links) turn.loop.inv.1
-          (gap.gap.ensures ∙ ap (gap_length_in a.firsts.now a.seconds.now a.own.now) gap.before.index.ensures.0)
-          c.with.ensures,
+      omega (arith, gap.before.before.loop-j-test.true),
+      parts_next (gap_at a.firsts.now a.seconds.now a.own.now a.links) turn.loop-j.inv.1
+          (gap.gap.ensures ∙ ap (gap_length_in a.firsts.now a.seconds.now a.own.now) gap.before.index-k.ensures.0)
+          c.with-gaps.ensures,
     )
 
 returns : tie.Need-returns invariant-loop decreases-loop
 returns c =
     let turn : Turn = search in
     let a = (asked turn).args in
-    let inv = turn.loop.inv in
-    gaps-end a.firsts.now a.seconds.now a.own.now a.links inv.1 (omega (arith, inv.0, c.if1.false))
+    let inv = turn.loop-j.inv in
+    gaps-end a.firsts.now a.seconds.now a.own.now a.links inv.1 (omega (arith, inv.0, c.loop-j-test.false))
 
-pub gaps-of-spec : {M : Type 1} → statement M
-gaps-of-spec =
+pub gaps_of_spec : {M : Type 1} → statement M
+gaps_of_spec =
     tie.close
     (tie.spec
     invariant-loop

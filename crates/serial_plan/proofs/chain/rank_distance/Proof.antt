@@ -5,14 +5,14 @@ use borrow.Author.Rules.{rules}
 use Rattle.serial_plan.proofs.chain.rank_distance.Statement.{statement}
 use Rattle.serial_plan.proofs.chain.rank_distance.Tie as tie
 
-centre-distance-requires : tie.Need-centre-distance-requires
+centre-distance-requires : tie.Need-centre_distance-requires
 centre-distance-requires c κs =
     let start = c.before.before in
-    (span_fits start.requires.0 refl c.before.span-at.ensures, span_fits start.requires.1 refl c.span-at2.ensures)
+    (span_fits start.requires.0 refl c.before.span_at.ensures, span_fits start.requires.1 refl c.span_at-2.ensures)
 
 returns : tie.Need-returns
-returns c = c.centre-distance.ensures ∙ both centre_length c.before.before.span-at.ensures c.before.span-at2.ensures
+returns c = c.centre_distance.ensures ∙ both centre_length c.before.before.span_at.ensures c.before.span_at-2.ensures
 
-pub rank-distance-spec : {M : Type 1} → statement M
-rank-distance-spec =
+pub rank_distance_spec : {M : Type 1} → statement M
+rank_distance_spec =
     tie.close (tie.spec (λ c κs. search rules) (λ c κs. search rules) centre-distance-requires returns)

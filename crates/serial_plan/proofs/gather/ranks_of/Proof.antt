@@ -6,37 +6,37 @@ use Rattle.serial_plan.proofs.FewLaws.{Picked, picked-start, picked-room, picked
 use Rattle.serial_plan.proofs.gather.ranks_of.Statement.{statement}
 use Rattle.serial_plan.proofs.gather.ranks_of.Tie as tie
 
-abbrev invariant-loop : tie.invariant-loop
+abbrev invariant-loop : tie.invariant-loop-i
 invariant-loop n joined parts c found₀ i₀ found i = (i ≤ n) × Picked (in_part joined parts c) (λ j. j) n i found
 
-abbrev decreases-loop : tie.decreases-loop
+abbrev decreases-loop : tie.decreases-loop-i
 decreases-loop n joined parts c found₀ i₀ found i = i
 
-with-requires : tie.Need-with-requires invariant-loop decreases-loop
+with-requires : tie.Need-with-found-requires invariant-loop decreases-loop
 with-requires c κs =
     let at-loop = c.before.before.before.before.before in
-    picked-room at-loop.loop.invariant.1 at-loop.before.before.requires
+    picked-room at-loop.loop-i.invariant.1 at-loop.before.before.requires
 
-loop-again : tie.Need-loop-preserved invariant-loop decreases-loop
+loop-again : tie.Need-loop-i-preserved invariant-loop decreases-loop
 loop-again c =
     let number = c.before.before.before.before in
     let turning = number.before in
-    let inv = turning.before.loop.invariant in (
+    let inv = turning.before.loop-i.invariant in (
       omega (arith, inv.0),
-      picked_next inv.1 turning.loop-test.true inv.0 c.with.ensures c.before.in-part.ensures number.number.ensures,
+      picked_next inv.1 turning.loop-i-test.true inv.0 c.with-found.ensures c.before.in_part.ensures number.number.ensures,
     )
 
 returns : tie.Need-returns invariant-loop decreases-loop
-returns c = picked-whole c.before.loop.invariant.1 (omega (arith, c.loop-test.false))
+returns c = picked-whole c.before.loop-i.invariant.1 (omega (arith, c.loop-i-test.false))
 
-pub ranks-of-spec : {M : Type 1} → statement M
-ranks-of-spec =
+pub ranks_of_spec : {M : Type 1} → statement M
+ranks_of_spec =
     tie.close
     (tie.spec
     invariant-loop
     decreases-loop
     (λ c κs. search rules)
-    (λ c. (omega arith, picked-start c.none.ensures))
+    (λ c. (omega arith, picked-start c.none-found.ensures))
     (λ c. search rules)
     (λ c κs. search rules)
     (λ c. search rules)

@@ -8,23 +8,23 @@ use Rattle.serial_plan.proofs.ArrayLaws.{filled_none, filled_next, filled-upto}
 use Rattle.serial_plan.proofs.into.combine.Statement.{statement}
 use Rattle.serial_plan.proofs.into.combine.Tie as tie
 
-abbrev invariant-loop : tie.invariant-loop
+abbrev invariant-loop : tie.invariant-loop-i
 invariant-loop n serial flat plan₀ i₀ plan i = (i ≤ n) × FirstAre (λ j. goes_to (at serial j) (at flat j) j) i plan
 
-abbrev decreases-loop : tie.decreases-loop
+abbrev decreases-loop : tie.decreases-loop-i
 decreases-loop n serial flat plan₀ i₀ plan i = n - i
 
-loop-again : tie.Need-loop-preserved invariant-loop decreases-loop
+loop-again : tie.Need-loop-i-preserved invariant-loop decreases-loop
 loop-again c =
     let turning = c.before.before.before in
     let in-loop = turning.before in
     let start = in-loop.before in (
-      omega (arith, turning.loop-test.true),
-      filled_next c.Goes-to.result in-loop.loop.invariant.1 (omega (arith, turning.loop-test.true, start.requires.0)) c.Goes-to.ensures,
+      omega (arith, turning.loop-i-test.true),
+      filled_next c.Goes-to.result in-loop.loop-i.invariant.1 (omega (arith, turning.loop-i-test.true, start.requires.0)) c.Goes-to.ensures,
     )
 
-pub combine-spec : {M : Type 1} → statement M
-combine-spec =
+pub combine_spec : {M : Type 1} → statement M
+combine_spec =
     tie.close
     (tie.spec
     invariant-loop
@@ -41,4 +41,4 @@ combine-spec =
     (λ c. search rules)
     (λ c. search rules)
     loop-again
-    (λ c. filled-upto c.before.loop.invariant.1 c.loop-test.false))
+    (λ c. filled-upto c.before.loop-i.invariant.1 c.loop-i-test.false))

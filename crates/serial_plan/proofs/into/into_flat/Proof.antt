@@ -8,37 +8,37 @@ use Rattle.serial_plan.proofs.ArrayLaws.{filled_none, filled_next, filled-upto}
 use Rattle.serial_plan.proofs.into.into_flat.Statement.{statement}
 use Rattle.serial_plan.proofs.into.into_flat.Tie as tie
 
-abbrev invariant-loop : tie.invariant-loop
+abbrev invariant-loop : tie.invariant-loop-i
 invariant-loop limits n own bits lowers highers regions firsts seconds links chosen joined parts into₀ i₀ into i =
     (i ≤ n) × FirstAre (flat_into (limits_of limits) n own bits lowers highers regions firsts seconds links chosen joined parts) i into
 
-abbrev decreases-loop : tie.decreases-loop
+abbrev decreases-loop : tie.decreases-loop-i
 decreases-loop limits n own bits lowers highers regions firsts seconds links chosen joined parts into₀ i₀ into i = n - i
 
-one-flat-requires : tie.Need-one-flat-requires invariant-loop decreases-loop
+one-flat-requires : tie.Need-one_flat-requires invariant-loop decreases-loop
 one-flat-requires c κs =
     let at-loop = c.before.before in
     let start = at-loop.before in
-    (start.requires.0, start.requires.1, omega (arith, c.before.loop-test.true, start.requires.1.fit.few), at-loop.loop.invariant.1)
+    (start.requires.0, start.requires.1, omega (arith, c.before.loop-i-test.true, start.requires.1.fit.few), at-loop.loop-i.invariant.1)
 
-element-write-into : tie.Need-element-write-into invariant-loop decreases-loop
+element-write-into : tie.Need-bounds-into-i invariant-loop decreases-loop
 element-write-into c =
     let turning = c.before.before in
     let at-loop = turning.before in
     let start = at-loop.before in
-    omega (arith, turning.loop-test.true, start.requires.1.fit.few, at-loop.loop.invariant.1.size)
+    omega (arith, turning.loop-i-test.true, start.requires.1.fit.few, at-loop.loop-i.invariant.1.size)
 
-loop-again : tie.Need-loop-preserved invariant-loop decreases-loop
+loop-again : tie.Need-loop-i-preserved invariant-loop decreases-loop
 loop-again c =
     let turning = c.before.before in
     let at-loop = turning.before in
     let start = at-loop.before in (
-      omega (arith, turning.loop-test.true),
-      filled_next c.one-flat.result at-loop.loop.invariant.1 (omega (arith, turning.loop-test.true, start.requires.1.fit.few)) c.one-flat.ensures,
+      omega (arith, turning.loop-i-test.true),
+      filled_next c.one_flat.result at-loop.loop-i.invariant.1 (omega (arith, turning.loop-i-test.true, start.requires.1.fit.few)) c.one_flat.ensures,
     )
 
-pub into-flat-spec : {M : Type 1} → statement M
-into-flat-spec =
+pub into_flat_spec : {M : Type 1} → statement M
+into_flat_spec =
     tie.close
     (tie.spec
     invariant-loop
@@ -50,4 +50,4 @@ into-flat-spec =
     (λ c. search rules)
     (λ c. search rules)
     loop-again
-    (λ c. filled-upto c.before.loop.invariant.1 c.loop-test.false))
+    (λ c. filled-upto c.before.loop-i.invariant.1 c.loop-i-test.false))

@@ -8,9 +8,9 @@ returns c =
     let at-flat-plan = c.before.before.before.before in
     let at-serial-plan = at-flat-plan.before.before.before in
     let start = at-serial-plan.before.before in
-    plan-of start.requires.1.fit.few start.requires.1.some start.requires.1.fit.ranked at-serial-plan.serial-plan.ensures
-    at-flat-plan.flat-plan.ensures c.combine.ensures
+    plan-of start.requires.1.fit.few start.requires.1.some start.requires.1.fit.ranked at-serial-plan.serial_plan.ensures
+    at-flat-plan.flat_plan.ensures c.combine.ensures
 
-pub linked-plan-spec : {M : Type 1} → statement M
-linked-plan-spec =
+pub linked_plan_spec : {M : Type 1} → statement M
+linked_plan_spec =
     tie.close (tie.spec (λ c κs. search rules) (λ c κs. search rules) (λ c κs. search rules) returns)

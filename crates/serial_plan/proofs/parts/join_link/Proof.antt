@@ -3,20 +3,20 @@ use borrow.Author.Rules.{rules}
 use Rattle.serial_plan.proofs.parts.join_link.Statement.{statement}
 use Rattle.serial_plan.proofs.parts.join_link.Tie as tie
 
-returns : tie.Need-returns
-returns c = link-no c.before.args.on c.before.args.first c.before.args.second c.before.args.parts.now c.if1.true c.before.requires.0
+returns : tie.Need-returns-then-on-ne1
+returns c = link-no c.before.args.on c.before.args.first c.before.args.second c.before.args.parts.now c.if-on-ne1.true c.before.requires.0
 
-returns-2 : tie.Need-returns-2
+returns-2 : tie.Need-returns
 returns-2 c =
     let after-size2 = c.before.before.before in
     let after-size = after-size2.before.before in
     let if1-left = after-size.before in
     let start = if1-left.before in
-    link-yes start.args.on start.args.first start.args.second after-size.size.result after-size2.size2.result start.args.parts.now
-    if1-left.if1.false after-size.size.ensures.0 after-size2.size2.ensures.0 c.join-parts.ensures
+    link-yes start.args.on start.args.first start.args.second after-size.size.result after-size2.size-2.result start.args.parts.now
+    if1-left.if-on-ne1.false after-size.size.ensures.0 after-size2.size-2.ensures.0 c.join_parts.ensures
 
-pub join-link-spec : {M : Type 1} → statement M
-join-link-spec =
+pub join_link_spec : {M : Type 1} → statement M
+join_link_spec =
     tie.close
     (tie.spec
     returns

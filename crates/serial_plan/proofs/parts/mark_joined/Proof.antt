@@ -7,50 +7,50 @@ use Rattle.serial_plan.proofs.ArrayLaws.{marks-start, marks-next, marks-end}
 use Rattle.serial_plan.proofs.parts.mark_joined.Statement.{statement}
 use Rattle.serial_plan.proofs.parts.mark_joined.Tie as tie
 
-abbrev invariant-loop : tie.invariant-loop
+abbrev invariant-loop : tie.invariant-loop-k
 invariant-loop chosen firsts seconds links joined₀ k₀ joined k =
     (k ≤ links) × FirstAre (λ i. cond (joined_from chosen firsts seconds k (links - k) i) 1 0) 256 joined
 
-abbrev decreases-loop : tie.decreases-loop
+abbrev decreases-loop : tie.decreases-loop-k
 decreases-loop chosen firsts seconds links joined₀ k₀ joined k = k
 
-loop-holds : tie.Need-loop-init invariant-loop decreases-loop
+loop-holds : tie.Need-loop-k-init invariant-loop decreases-loop
 loop-holds c = (omega arith, marks-start c.before.args.chosen.now c.before.args.firsts.now c.before.args.seconds.now c.before.args.links)
 
 -- a turn's number of links left
-few : (c : tie.At-loop invariant-loop decreases-loop) → c.loop.k ≤ 256
-few c = omega (arith, c.loop.invariant.0, c.before.before.requires.few)
+few : (c : tie.At-loop-k invariant-loop decreases-loop) → c.loop-k.k ≤ 256
+few c = omega (arith, c.loop-k.invariant.0, c.before.before.requires.few)
 
-mark-link-requires : tie.Need-mark-link-requires invariant-loop decreases-loop
+mark-link-requires : tie.Need-mark_link-requires invariant-loop decreases-loop
 mark-link-requires c κs =
     let turning = c.before.before.before.before in
     let in-loop = turning.before in
     let start = in-loop.before.before in
-    let l = in-loop.loop in
+    let l = in-loop.loop-k in
     let p = start.requires in
-    let on : l.k - 1 < start.args.links = omega (arith, l.invariant.0, turning.loop-test.true) in
+    let on : l.k - 1 < start.args.links = omega (arith, l.invariant.0, turning.loop-k-test.true) in
     (l.invariant.1.size, p.first-in (l.k - 1) on, p.second-in (l.k - 1) on)
 
-loop-again : tie.Need-loop-preserved invariant-loop decreases-loop
+loop-again : tie.Need-loop-k-preserved invariant-loop decreases-loop
 loop-again c =
     let turning = c.before.before.before.before.before in
     let in-loop = turning.before in
     let start = in-loop.before.before in
-    let l = in-loop.loop in
+    let l = in-loop.loop-k in
     let a = start.args in (
       omega (arith, l.invariant.0),
-      marks-next a.chosen.now a.firsts.now a.seconds.now a.links turning.loop-test.true l.invariant.0 l.invariant.1
-          c.mark-link.ensures,
+      marks-next a.chosen.now a.firsts.now a.seconds.now a.links turning.loop-k-test.true l.invariant.0 l.invariant.1
+          c.mark_link.ensures,
     )
 
 returns : tie.Need-returns invariant-loop decreases-loop
 returns c =
     let start = c.before.before.before in
     let a = start.args in
-    marks-end a.chosen.now a.firsts.now a.seconds.now a.links c.before.loop.invariant.1 (omega (arith, c.loop-test.false))
+    marks-end a.chosen.now a.firsts.now a.seconds.now a.links c.before.loop-k.invariant.1 (omega (arith, c.loop-k-test.false))
 
-pub mark-joined-spec : {M : Type 1} → statement M
-mark-joined-spec =
+pub mark_joined_spec : {M : Type 1} → statement M
+mark_joined_spec =
     tie.close
     (tie.spec
     invariant-loop

@@ -6,14 +6,14 @@ use Rattle.serial_plan.proofs.ArrayLaws.{filled_none, filled_next, filled-all}
 use Rattle.serial_plan.proofs.parts.start.Statement.{statement}
 use Rattle.serial_plan.proofs.parts.start.Tie as tie
 
-abbrev invariant-loop : tie.invariant-loop
+abbrev invariant-loop : tie.invariant-loop-i
 invariant-loop parts₀ i₀ parts i = FirstAre (λ j. j) i parts
 
-abbrev decreases-loop : tie.decreases-loop
+abbrev decreases-loop : tie.decreases-loop-i
 decreases-loop parts₀ i₀ parts i = 256 - i
 
-loop-again : tie.Need-loop-preserved invariant-loop decreases-loop
-loop-again c = filled_next c.before.loop.i c.before.loop.invariant c.loop-test.true refl
+loop-again : tie.Need-loop-i-preserved invariant-loop decreases-loop
+loop-again c = filled_next c.before.loop-i.i c.before.loop-i.invariant c.loop-i-test.true refl
 
 pub start_spec : {M : Type 1} → statement M
 start_spec =
@@ -28,4 +28,4 @@ start_spec =
     (λ c. search rules)
     (λ c. search rules)
     loop-again
-    (λ c. filled-all c.before.loop.invariant c.loop-test.false))
+    (λ c. filled-all c.before.loop-i.invariant c.loop-i-test.false))

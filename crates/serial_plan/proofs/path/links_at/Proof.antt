@@ -9,42 +9,42 @@ use Rattle.serial_plan.proofs.ShapeLaws.{noted-listed}
 use Rattle.serial_plan.proofs.path.links_at.Statement.{statement}
 use Rattle.serial_plan.proofs.path.links_at.Tie as tie
 
-abbrev invariant-loop : tie.invariant-loop
+abbrev invariant-loop : tie.invariant-loop-j
 invariant-loop firsts seconds links i found₀ j₀ found j = (j ≤ links.count) × Noted (joins_at firsts seconds i) (few_at links) links.count j found
 
-abbrev decreases-loop : tie.decreases-loop
+abbrev decreases-loop : tie.decreases-loop-j
 decreases-loop firsts seconds links i found₀ j₀ found j = j
 
-with-requires : tie.Need-with-requires invariant-loop decreases-loop
+with-requires : tie.Need-with-found-requires invariant-loop decreases-loop
 with-requires c κs =
     let at-loop = c.before.before.before.before.before.before in
-    noted-room at-loop.loop.invariant.1 at-loop.before.requires.0
+    noted-room at-loop.loop-j.invariant.1 at-loop.before.requires.0
 
-loop-again : tie.Need-loop-preserved invariant-loop decreases-loop
+loop-again : tie.Need-loop-j-preserved invariant-loop decreases-loop
 loop-again c =
     let got = c.before.before.before.before in
     let at-loop = got.before.before.before in
     let start = at-loop.before.args in
     let joining = joins_at start.firsts.now start.seconds.now start.i in (
-      omega (arith, at-loop.loop.invariant.0),
-      noted-next at-loop.loop.invariant.1 got.before.before.loop-test.true at-loop.loop.invariant.0 c.with.ensures
-          (c.before.joins.ensures ∙ ap joining got.before.index.ensures.0) got.get.ensures,
+      omega (arith, at-loop.loop-j.invariant.0),
+      noted-next at-loop.loop-j.invariant.1 got.before.before.loop-j-test.true at-loop.loop-j.invariant.0 c.with-found.ensures
+          (c.before.joins.ensures ∙ ap joining got.before.index-k.ensures.0) got.get.ensures,
     )
 
 returns : tie.Need-returns invariant-loop decreases-loop
 returns c =
     let start = c.before.before.args in
-    noted-listed start.links c.before.loop.invariant.1 (omega (arith, c.loop-test.false))
+    noted-listed start.links c.before.loop-j.invariant.1 (omega (arith, c.loop-j-test.false))
 
-pub links-at-spec : {M : Type 1} → statement M
-links-at-spec =
+pub links_at_spec : {M : Type 1} → statement M
+links_at_spec =
     tie.close
     (tie.spec
     invariant-loop
     decreases-loop
     (λ c. (omega arith, noted-start refl))
     (λ c. search rules)
-    (λ c κs. c.before.before.requires.1 (c.before.loop.j - 1))
+    (λ c κs. c.before.before.requires.1 (c.before.loop-j.j - 1))
     (λ c κs. search rules)
     (λ c. search rules)
     (λ c. search rules)

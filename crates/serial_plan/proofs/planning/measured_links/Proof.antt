@@ -7,35 +7,35 @@ use Rattle.serial_plan.proofs.planning.measured_links.Statement.{statement}
 use Rattle.serial_plan.proofs.planning.measured_links.Tie as tie
 
 -- the start, from where the labels of the anchors are read
-abbrev asked : tie.After-anchor-labels → tie.Start
+abbrev asked : tie.After-anchor_labels-anchored → tie.Start
 asked c = search
 
-anchor-labels-requires : tie.Need-anchor-labels-requires
+anchor-labels-requires : tie.Need-anchor_labels-anchored-requires
 anchor-labels-requires c κs = let start : tie.Start = search in (readable start.pre, omega (arith, start.pre.few-bases))
 
-room : tie.Need-slice-aggregate-candidate-links
-room c = let labels : tie.After-anchor-labels = search in sym (length-take-le labels.anchor-labels.result _ labels.anchor-labels.ensures.fits)
+room : tie.Need-slice_bounds-candidate_links-end
+room c = let labels : tie.After-anchor_labels-anchored = search in sym (length-take-le labels.anchor_labels-anchored.result _ labels.anchor_labels-anchored.ensures.fits)
 
-candidate-links-requires : tie.Need-candidate-links-requires
+candidate-links-requires : tie.Need-candidate_links-links-requires
 candidate-links-requires c κs = let start : tie.Start = search in findable start.pre
 
-measure-links-requires : tie.Need-measure-links-requires
+measure-links-requires : tie.Need-measure_links-requires
 measure-links-requires c κs =
-    let linked : tie.After-candidate-links = search in
-    let labels : tie.After-anchor-labels = search in
-    measurable (asked labels).pre labels.anchor-labels.ensures linked.candidate-links.ensures
+    let linked : tie.After-candidate_links-links = search in
+    let labels : tie.After-anchor_labels-anchored = search in
+    measurable (asked labels).pre labels.anchor_labels-anchored.ensures linked.candidate_links-links.ensures
 
 returns : tie.Need-returns
 returns c =
-    let measured : tie.After-measure-links = search in
-    let linked : tie.After-candidate-links = search in
-    let labels : tie.After-anchor-labels = search in (
-      measured.measure-links.ensures.0,
-      links-found (asked labels).pre labels.anchor-labels.ensures linked.candidate-links.ensures measured.measure-links.ensures.1,
+    let measured : tie.After-measure_links = search in
+    let linked : tie.After-candidate_links-links = search in
+    let labels : tie.After-anchor_labels-anchored = search in (
+      measured.measure_links.ensures.0,
+      links-found (asked labels).pre labels.anchor_labels-anchored.ensures linked.candidate_links-links.ensures measured.measure_links.ensures.1,
     )
 
-pub measured-links-spec : {M : Type 1} → statement M
-measured-links-spec =
+pub measured_links_spec : {M : Type 1} → statement M
+measured_links_spec =
     tie.close
     (tie.spec
     (λ c. search rules)

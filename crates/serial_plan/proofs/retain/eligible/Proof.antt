@@ -12,51 +12,51 @@ use Rattle.serial_plan.proofs.ShapeLaws.{picked-listed}
 use Rattle.serial_plan.proofs.retain.eligible.Statement.{statement}
 use Rattle.serial_plan.proofs.retain.eligible.Tie as tie
 
-abbrev invariant-loop : tie.invariant-loop
+abbrev invariant-loop : tie.invariant-loop-j
 invariant-loop limits bits least ranks found₀ j₀ found j = (j ≤ ranks.count) × Picked (fine_in (limits_of limits) bits least) (few_at ranks) ranks.count j found
 
-abbrev decreases-loop : tie.decreases-loop
+abbrev decreases-loop : tie.decreases-loop-j
 decreases-loop limits bits least ranks found₀ j₀ found j = j
 
 index-requires : tie.Need-index-requires invariant-loop decreases-loop
 index-requires c κs =
     let start = c.before.before.before.before in
-    (start.requires.1 (c.before.before.loop.j - 1)).below
+    (start.requires.1 (c.before.before.loop-j.j - 1)).below
 
-is-eligible-requires : tie.Need-is-eligible-requires invariant-loop decreases-loop
+is-eligible-requires : tie.Need-is_eligible-requires invariant-loop decreases-loop
 is-eligible-requires c κs =
     let at-loop = c.before.before.before in
     let start = at-loop.before.before in
-    subst (WidthFits start.args.bits.now) (sym c.index.ensures.0) (start.requires.1 (at-loop.loop.j - 1))
+    subst (WidthFits start.args.bits.now) (sym c.index.ensures.0) (start.requires.1 (at-loop.loop-j.j - 1))
 
-with-requires : tie.Need-with-requires invariant-loop decreases-loop
+with-requires : tie.Need-with-found-requires invariant-loop decreases-loop
 with-requires c κs =
     let at-loop = c.before.before.before.before in
-    picked-room at-loop.loop.invariant.1 at-loop.before.before.requires.0
+    picked-room at-loop.loop-j.invariant.1 at-loop.before.before.requires.0
 
-loop-again : tie.Need-loop-preserved invariant-loop decreases-loop
+loop-again : tie.Need-loop-j-preserved invariant-loop decreases-loop
 loop-again c =
     let index = c.before.before in
     let got = index.before in
     let turning = got.before in
-    let inv = turning.before.loop.invariant in
+    let inv = turning.before.loop-j.invariant in
     let a = turning.before.before.before.args in (
       omega (arith, inv.0),
-      picked_next inv.1 turning.loop-test.true inv.0 c.with.ensures
-          (c.before.is-eligible.ensures ∙ ap (fine_in (limits_of a.limits) a.bits.now a.least) index.index.ensures.0) got.get.ensures,
+      picked_next inv.1 turning.loop-j-test.true inv.0 c.with-found.ensures
+          (c.before.is_eligible.ensures ∙ ap (fine_in (limits_of a.limits) a.bits.now a.least) index.index.ensures.0) got.get.ensures,
     )
 
 returns : tie.Need-returns invariant-loop decreases-loop
-returns c = picked-listed c.before.before.before.args.ranks c.before.loop.invariant.1 (omega (arith, c.loop-test.false))
+returns c = picked-listed c.before.before.before.args.ranks c.before.loop-j.invariant.1 (omega (arith, c.loop-j-test.false))
 
-pub eligible-spec : {M : Type 1} → statement M
-eligible-spec =
+pub eligible_spec : {M : Type 1} → statement M
+eligible_spec =
     tie.close
     (tie.spec
     invariant-loop
     decreases-loop
     (λ c κs. search rules)
-    (λ c. (omega arith, picked-start c.none.ensures))
+    (λ c. (omega arith, picked-start c.none-found.ensures))
     (λ c. search rules)
     (λ c κs. search rules)
     index-requires

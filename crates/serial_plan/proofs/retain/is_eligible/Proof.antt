@@ -11,7 +11,7 @@ returns c =
     let start = c.before.before.before in
     c.eligible.ensures ∙ ap (λ (w : Float). le w (start.args.least ⊕ (limits_of start.args.limits).width)) c.before.width_of_lem.ensures
 
-pub is-eligible-spec : {M : Type 1} → statement M
-is-eligible-spec =
+pub is_eligible_spec : {M : Type 1} → statement M
+is_eligible_spec =
     tie.close
     (tie.spec (λ c. search rules) (λ c. search rules) (λ c κs. c.before.requires.fits) (λ c κs. search rules) returns)

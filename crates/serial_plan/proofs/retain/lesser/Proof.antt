@@ -4,15 +4,15 @@ use borrow.Author.Rules.{rules}
 use Rattle.serial_plan.proofs.retain.lesser.Statement.{statement}
 use Rattle.serial_plan.proofs.retain.lesser.Tie as tie
 
-returns : tie.Need-returns
+returns : tie.Need-returns-then-total_le
 returns c =
     let start = c.before.before in
-    (choose_yes start.args.a start.args.b (sym c.before.total-le.ensures ∙ c.if1.true), start.requires.0)
+    (choose_yes start.args.a start.args.b (sym c.before.total_le.ensures ∙ c.if-total_le.true), start.requires.0)
 
-returns-2 : tie.Need-returns-2
+returns-2 : tie.Need-returns-else-total_le
 returns-2 c =
     let start = c.before.before in
-    (choose_no start.args.a start.args.b (sym c.before.total-le.ensures ∙ c.if1.false), start.requires.1)
+    (choose_no start.args.a start.args.b (sym c.before.total_le.ensures ∙ c.if-total_le.false), start.requires.1)
 
-pub lesser-spec : {M : Type 1} → statement M
-lesser-spec = tie.close (tie.spec (λ c κs. search rules) returns returns-2)
+pub lesser_spec : {M : Type 1} → statement M
+lesser_spec = tie.close (tie.spec (λ c κs. search rules) returns returns-2)

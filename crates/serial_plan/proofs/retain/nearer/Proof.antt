@@ -5,7 +5,7 @@ use borrow.Author.Rules.{rules}
 use Rattle.serial_plan.proofs.retain.nearer.Statement.{statement}
 use Rattle.serial_plan.proofs.retain.nearer.Tie as tie
 
-returns : tie.Need-returns
+returns : tie.Need-returns-then-no_later
 returns c =
     let at-sum-from2 = c.before.before in
     let at-sum-from = at-sum-from2.before in
@@ -14,13 +14,13 @@ returns c =
     let i = start.args.i in (
       choose_yes i j
           (sym
-          (nearer-as start.args.own.now (few_list start.args.ranks) i j at-sum-from.sum-from.ensures.0 at-sum-from2.sum-from2.ensures.0
-          c.before.no-later.ensures)
-          ∙ c.if1.true),
+          (nearer-as start.args.own.now (few_list start.args.ranks) i j at-sum-from.sum_from-x.ensures.0 at-sum-from2.sum_from-y.ensures.0
+          c.before.no_later.ensures)
+          ∙ c.if-no_later.true),
       start.requires.2,
     )
 
-returns-2 : tie.Need-returns-2
+returns-2 : tie.Need-returns-else-no_later
 returns-2 c =
     let at-sum-from2 = c.before.before in
     let at-sum-from = at-sum-from2.before in
@@ -29,12 +29,12 @@ returns-2 c =
     let i = start.args.i in (
       choose_no i j
           (sym
-          (nearer-as start.args.own.now (few_list start.args.ranks) i j at-sum-from.sum-from.ensures.0 at-sum-from2.sum-from2.ensures.0
-          c.before.no-later.ensures)
-          ∙ c.if1.false),
+          (nearer-as start.args.own.now (few_list start.args.ranks) i j at-sum-from.sum_from-x.ensures.0 at-sum-from2.sum_from-y.ensures.0
+          c.before.no_later.ensures)
+          ∙ c.if-no_later.false),
       start.requires.3,
     )
 
-pub nearer-spec : {M : Type 1} → statement M
-nearer-spec =
+pub nearer_spec : {M : Type 1} → statement M
+nearer_spec =
     tie.close (tie.spec (λ c κs. search rules) (λ c κs. search rules) (λ c κs. search rules) returns returns-2)

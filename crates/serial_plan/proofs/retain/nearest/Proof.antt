@@ -11,59 +11,59 @@ use Rattle.serial_plan.proofs.ValueLaws.{first-listed}
 use Rattle.serial_plan.proofs.retain.nearest.Statement.{statement}
 use Rattle.serial_plan.proofs.retain.nearest.Tie as tie
 
-abbrev invariant-loop : tie.invariant-loop
+abbrev invariant-loop : tie.invariant-loop-j
 invariant-loop own ranks among j₀ best₀ j best = SortedFirst (nearer_in own (few_list ranks)) (few_at among) among.count j best × RankFits own best
 
-abbrev decreases-loop : tie.decreases-loop
+abbrev decreases-loop : tie.decreases-loop-j
 decreases-loop own ranks among j₀ best₀ j best = j
 
-loop-holds : tie.Need-loop-init invariant-loop decreases-loop
+loop-holds : tie.Need-loop-j-init invariant-loop decreases-loop
 loop-holds c =
     let start = c.before.before in
     let own = start.args.own.now in
     let among = start.args.among in (
       first-start (nearer_in own (few_list start.args.ranks)) (few_at among) among.count (among.count - 1) (omega (arith, start.requires.1))
-          c.index.ensures.0,
-      subst (RankFits own) (sym c.index.ensures.0) (start.requires.3 (among.count - 1)),
+          c.index-best.ensures.0,
+      subst (RankFits own) (sym c.index-best.ensures.0) (start.requires.3 (among.count - 1)),
     )
 
-index-requires-2 : tie.Need-index-requires-2 invariant-loop decreases-loop
+index-requires-2 : tie.Need-index-requires invariant-loop decreases-loop
 index-requires-2 c κs =
     let start = c.before.before.before.before in
-    (start.requires.3 (c.before.loop.j - 1)).below
+    (start.requires.3 (c.before.loop-j.j - 1)).below
 
-nearer-requires : tie.Need-nearer-requires invariant-loop decreases-loop
+nearer-requires : tie.Need-nearer-best-requires invariant-loop decreases-loop
 nearer-requires c κs =
     let at-loop = c.before.before in
     let start = at-loop.before.before.before in (
       start.requires.0,
       start.requires.2,
-      subst (RankFits start.args.own.now) (sym c.index2.ensures.0) (start.requires.3 (at-loop.loop.j - 1)),
-      at-loop.loop.invariant.1,
+      subst (RankFits start.args.own.now) (sym c.index.ensures.0) (start.requires.3 (at-loop.loop-j.j - 1)),
+      at-loop.loop-j.invariant.1,
     )
 
-loop-again : tie.Need-loop-preserved invariant-loop decreases-loop
+loop-again : tie.Need-loop-j-preserved invariant-loop decreases-loop
 loop-again c =
     let turning = c.before.before in
     let at-loop = turning.before in
     let start = at-loop.before.before.before in
     let among = start.args.among in (
-      first_next (nearer_in start.args.own.now (few_list start.args.ranks)) (few_at among) among.count c.before.index2.result
-          at-loop.loop.invariant.0 turning.loop-test.true c.before.index2.ensures.0 c.nearer.ensures.0,
-      c.nearer.ensures.1,
+      first_next (nearer_in start.args.own.now (few_list start.args.ranks)) (few_at among) among.count c.before.index.result
+          at-loop.loop-j.invariant.0 turning.loop-j-test.true c.before.index.ensures.0 c.nearer-best.ensures.0,
+      c.nearer-best.ensures.1,
     )
 
 returns : tie.Need-returns invariant-loop decreases-loop
 returns c =
     let start = c.before.before.before.before in
-    let inv = c.before.loop.invariant in (
+    let inv = c.before.loop-j.invariant in (
       first-listed (nearer_in start.args.own.now (few_list start.args.ranks)) start.args.among inv.0
-          (omega (arith, c.loop-test.false)),
+          (omega (arith, c.loop-j-test.false)),
       inv.1.below,
     )
 
-pub nearest-spec : {M : Type 1} → statement M
-nearest-spec =
+pub nearest_spec : {M : Type 1} → statement M
+nearest_spec =
     tie.close
     (tie.spec
     invariant-loop

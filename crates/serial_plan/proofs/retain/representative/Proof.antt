@@ -13,7 +13,7 @@ index-requires c κs =
     let start = c.before.before.before.before.before in
     (start.requires.2 0).below
 
-returns : tie.Need-returns
+returns : tie.Need-returns-then-among-eq0
 returns c =
     let at-eligible = c.before.before.before in
     let at-width-of = at-eligible.before in
@@ -23,8 +23,8 @@ returns c =
     let limits = start.args.limits in
     let ranks = start.args.ranks in (
       retained-none (limits_of limits) start.args.own.now bits ranks
-          (eligible-as (limits_of limits) bits (few_list ranks) at-width-of.width_of_lem.ensures at-least-bits.least-bits.ensures.0
-          at-eligible.eligible.ensures) c.before.if1.true start.requires.0 c.index.ensures.0,
+          (eligible-as (limits_of limits) bits (few_list ranks) at-width-of.width_of_lem.ensures at-least-bits.least_bits.ensures.0
+          at-eligible.eligible-among.ensures) c.before.if-among-eq0.true start.requires.0 c.index.ensures.0,
       c.index.ensures.1,
     )
 
@@ -34,13 +34,13 @@ nearest-requires c κs =
     let at-width-of = at-eligible.before in
     let start = at-width-of.before.before in (
       start.requires.0,
-      positive at-eligible.eligible.result.count c.if1.false,
+      positive at-eligible.eligible-among.result.count c.if-among-eq0.false,
       start.requires.2,
       kept-slots (RankFits start.args.own.now) (fine_in (limits_of start.args.limits) start.args.bits.now at-width-of.width_of_lem.result)
-          start.args.ranks at-eligible.eligible.ensures start.requires.2 start.requires.4,
+          start.args.ranks at-eligible.eligible-among.ensures start.requires.2 start.requires.4,
     )
 
-returns-2 : tie.Need-returns-2
+returns-2 : tie.Need-returns
 returns-2 c =
     let at-eligible = c.before.before.before in
     let at-width-of = at-eligible.before in
@@ -50,13 +50,13 @@ returns-2 c =
     let limits = start.args.limits in
     let ranks = start.args.ranks in (
       retained-some (limits_of limits) start.args.own.now bits ranks
-          (eligible-as (limits_of limits) bits (few_list ranks) at-width-of.width_of_lem.ensures at-least-bits.least-bits.ensures.0
-          at-eligible.eligible.ensures) start.requires.1 c.before.if1.false c.nearest.ensures.0,
+          (eligible-as (limits_of limits) bits (few_list ranks) at-width-of.width_of_lem.ensures at-least-bits.least_bits.ensures.0
+          at-eligible.eligible-among.ensures) start.requires.1 c.before.if-among-eq0.false c.nearest.ensures.0,
       c.nearest.ensures.1,
     )
 
-pub representative-spec : {M : Type 1} → statement M
-representative-spec =
+pub representative_spec : {M : Type 1} → statement M
+representative_spec =
     tie.close
     (tie.spec
     (λ c κs. search rules)

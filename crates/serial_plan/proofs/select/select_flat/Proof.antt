@@ -14,39 +14,39 @@ use Rattle.serial_plan.proofs.ValueLaws.{both}
 use Rattle.serial_plan.proofs.select.select_flat.Statement.{statement}
 use Rattle.serial_plan.proofs.select.select_flat.Tie as tie
 
-abbrev invariant-loop : tie.invariant-loop
+abbrev invariant-loop : tie.invariant-loop-k
 invariant-loop limits own flat into firsts seconds links chosen₀ k₀ chosen k = (k ≤ links)
     × FirstAre (λ j. cond (flat_link_in (limits_of limits) own into (at flat j) (at firsts j) (at seconds j)) 1 0) k chosen
 
-abbrev decreases-loop : tie.decreases-loop
+abbrev decreases-loop : tie.decreases-loop-k
 decreases-loop limits own flat into firsts seconds links chosen₀ k₀ chosen k = links - k
 
-is-flat-link-requires : tie.Need-is-flat-link-requires invariant-loop decreases-loop
+is-flat-link-requires : tie.Need-is_flat_link-requires invariant-loop decreases-loop
 is-flat-link-requires c κs =
     let turning = c.before.before.before.before.before in
     let in-loop = turning.before in
     let start = in-loop.before in
     let own = start.args.own.now in (
-      subst (RankFits own) (sym c.before.before.size.ensures.0) (start.requires.2 in-loop.loop.k turning.loop-test.true).first,
-      subst (RankFits own) (sym c.size2.ensures.0) (start.requires.2 in-loop.loop.k turning.loop-test.true).second,
+      subst (RankFits own) (sym c.before.before.size.ensures.0) (start.requires.2 in-loop.loop-k.k turning.loop-k-test.true).first,
+      subst (RankFits own) (sym c.size-in-loop-k.ensures.0) (start.requires.2 in-loop.loop-k.k turning.loop-k-test.true).second,
     )
 
-loop-again : tie.Need-loop-preserved invariant-loop decreases-loop
+loop-again : tie.Need-loop-k-preserved invariant-loop decreases-loop
 loop-again c =
     let after-size = c.before.before.before.before in
     let turning = after-size.before.before.before in
     let in-loop = turning.before in
     let start = in-loop.before in (
-      omega (arith, turning.loop-test.true),
-      filled_next c.mark.result in-loop.loop.invariant.1 (omega (arith, turning.loop-test.true, start.requires.1))
+      omega (arith, turning.loop-k-test.true),
+      filled_next c.mark.result in-loop.loop-k.invariant.1 (omega (arith, turning.loop-k-test.true, start.requires.1))
           (c.mark.ensures ∙ ap (λ (t : Bool). cond t 1 0)
-          (c.before.is-flat-link.ensures
+          (c.before.is_flat_link.ensures
           ∙ both (flat_link_in (limits_of start.args.limits) start.args.own.now start.args.into.now
-          (at start.args.flat.now in-loop.loop.k)) after-size.size.ensures.0 c.before.before.size2.ensures.0)),
+          (at start.args.flat.now in-loop.loop-k.k)) after-size.size.ensures.0 c.before.before.size-in-loop-k.ensures.0)),
     )
 
-pub select-flat-spec : {M : Type 1} → statement M
-select-flat-spec =
+pub select_flat_spec : {M : Type 1} → statement M
+select_flat_spec =
     tie.close
     (tie.spec
     invariant-loop
@@ -65,4 +65,4 @@ select-flat-spec =
     (λ c. search rules)
     (λ c. search rules)
     loop-again
-    (λ c. filled-upto c.before.loop.invariant.1 c.loop-test.false))
+    (λ c. filled-upto c.before.loop-k.invariant.1 c.loop-k-test.false))

@@ -12,35 +12,35 @@ use Rattle.serial_plan.proofs.ValueLaws.{both}
 use Rattle.serial_plan.proofs.select.select_serial.Statement.{statement}
 use Rattle.serial_plan.proofs.select.select_serial.Tie as tie
 
-abbrev invariant-loop : tie.invariant-loop
+abbrev invariant-loop : tie.invariant-loop-k
 invariant-loop marks firsts seconds links chosen₀ k₀ chosen k = (k ≤ links) × FirstAre (λ j. cond (both_on marks (at firsts j) (at seconds j)) 1 0) k chosen
 
-abbrev decreases-loop : tie.decreases-loop
+abbrev decreases-loop : tie.decreases-loop-k
 decreases-loop marks firsts seconds links chosen₀ k₀ chosen k = links - k
 
-both-on-requires : tie.Need-both-on-requires invariant-loop decreases-loop
+both-on-requires : tie.Need-both_on-requires invariant-loop decreases-loop
 both-on-requires c κs =
     let turning = c.before.before.before.before in
     let in-loop = turning.before in
     let start = in-loop.before in (
-      subst (λ (i : ℕ). i < 256) (sym c.before.before.size.ensures.0) (start.requires.1.first-in in-loop.loop.k turning.loop-test.true),
-      subst (λ (i : ℕ). i < 256) (sym c.size2.ensures.0) (start.requires.1.second-in in-loop.loop.k turning.loop-test.true),
+      subst (λ (i : ℕ). i < 256) (sym c.before.before.size.ensures.0) (start.requires.1.first-in in-loop.loop-k.k turning.loop-k-test.true),
+      subst (λ (i : ℕ). i < 256) (sym c.size-in-loop-k.ensures.0) (start.requires.1.second-in in-loop.loop-k.k turning.loop-k-test.true),
     )
 
-loop-again : tie.Need-loop-preserved invariant-loop decreases-loop
+loop-again : tie.Need-loop-k-preserved invariant-loop decreases-loop
 loop-again c =
     let after-size = c.before.before.before.before in
     let turning = after-size.before.before in
     let in-loop = turning.before in
     let start = in-loop.before in (
-      omega (arith, turning.loop-test.true),
-      filled_next c.mark.result in-loop.loop.invariant.1 (omega (arith, turning.loop-test.true, start.requires.1.few))
+      omega (arith, turning.loop-k-test.true),
+      filled_next c.mark.result in-loop.loop-k.invariant.1 (omega (arith, turning.loop-k-test.true, start.requires.1.few))
           (c.mark.ensures ∙ ap (λ (t : Bool). cond t 1 0)
-          (c.before.both-on.ensures ∙ both (both_on start.args.marks.now) after-size.size.ensures.0 c.before.before.size2.ensures.0)),
+          (c.before.both_on.ensures ∙ both (both_on start.args.marks.now) after-size.size.ensures.0 c.before.before.size-in-loop-k.ensures.0)),
     )
 
-pub select-serial-spec : {M : Type 1} → statement M
-select-serial-spec =
+pub select_serial_spec : {M : Type 1} → statement M
+select_serial_spec =
     tie.close
     (tie.spec
     invariant-loop
@@ -58,4 +58,4 @@ select-serial-spec =
     (λ c. search rules)
     (λ c. search rules)
     loop-again
-    (λ c. filled-upto c.before.loop.invariant.1 c.loop-test.false))
+    (λ c. filled-upto c.before.loop-k.invariant.1 c.loop-k-test.false))

@@ -6,43 +6,43 @@ use Rattle.serial_walk.proofs.chaining.link_record.Statement.{statement}
 use Rattle.serial_walk.proofs.chaining.link_record.Tie as tie
 use lib.ListN.{length-set}
 
-slice-read-left-nexts : tie.Need-slice-read-left-nexts
+slice-read-left-nexts : tie.Need-bounds-heads-left
 slice-read-left-nexts c =
-    let left : tie.After-size2 = search in
-    let sized : tie.After-size = search in
+    let left : tie.After-size-left = search in
+    let sized : tie.After-size-at = search in
     let start : tie.Start = search in
-    omega (arith, left.size2.ensures.0, ap (at start.args.lefts.now) sized.size.ensures.0, start.pre.4)
+    omega (arith, left.size-left.ensures.0, ap (at start.args.lefts.now) sized.size-at.ensures.0, start.pre.4)
 
-slice-read-right-nexts : tie.Need-slice-read-right-nexts
+slice-read-right-nexts : tie.Need-bounds-heads-right
 slice-read-right-nexts c =
-    let sized : tie.After-size = search in
+    let sized : tie.After-size-at = search in
     let start : tie.Start = search in
-    omega (arith, c.before.before.size3.ensures.0, ap (at start.args.rights.now) sized.size.ensures.0, start.pre.5)
+    omega (arith, c.before.before.size-right.ensures.0, ap (at start.args.rights.now) sized.size-at.ensures.0, start.pre.5)
 
-slice-write-heads : tie.Need-slice-write-heads
+slice-write-heads : tie.Need-bounds-heads-left-2
 slice-write-heads c =
-    let left : tie.After-size2 = search in
-    let sized : tie.After-size = search in
+    let left : tie.After-size-left = search in
+    let sized : tie.After-size-at = search in
     let start : tie.Start = search in
-    omega (arith, left.size2.ensures.0, ap (at start.args.lefts.now) sized.size.ensures.0, start.pre.4)
+    omega (arith, left.size-left.ensures.0, ap (at start.args.lefts.now) sized.size-at.ensures.0, start.pre.4)
 
-slice-write-heads-2 : tie.Need-slice-write-heads-2
+slice-write-heads-2 : tie.Need-bounds-heads-right-2
 slice-write-heads-2 c =
-    let sized : tie.After-size = search in
+    let sized : tie.After-size-at = search in
     let start : tie.Start = search in
-    simp length-set (omega (arith, c.before.before.size3.ensures.0, ap (at start.args.rights.now) sized.size.ensures.0, start.pre.5))
+    simp length-set (omega (arith, c.before.before.size-right.ensures.0, ap (at start.args.rights.now) sized.size-at.ensures.0, start.pre.5))
 
 returns : tie.Need-returns
 returns c =
-    let left : tie.After-size2 = search in
-    let sized : tie.After-size = search in
-    let e = sized.size.ensures.0 in
-    let l = left.size2.ensures.0 in
-    let r = c.before.before.size3.ensures.0 in
+    let left : tie.After-size-left = search in
+    let sized : tie.After-size-at = search in
+    let e = sized.size-at.ensures.0 in
+    let l = left.size-left.ensures.0 in
+    let r = c.before.before.size-right.ensures.0 in
     (rw (l, e), (rw (r, e), rw (l, r, e)))
 
-pub link-record-spec : {M : Type 1} → statement M
-link-record-spec =
+pub link_record_spec : {M : Type 1} → statement M
+link_record_spec =
     tie.close
     (tie.spec
     (λ c κs. search rules)

@@ -4,22 +4,22 @@ use Rattle.lists.specs.Rows.{at}
 use Rattle.serial_walk.proofs.frame.after.Statement.{statement}
 use Rattle.serial_walk.proofs.frame.after.Tie as tie
 
-returns : tie.Need-returns
+returns : tie.Need-returns-then-lefts-j
 returns c =
-    let sized : tie.After-size = search in
+    let sized : tie.After-size-j = search in
     let start : tie.Start = search in
-    let e = sized.size.ensures.0 in
-    (λ z. ap (at start.args.left-nexts.now) e, λ n. absurd (n (ap (at start.args.lefts.now) (sym e) ∙ c.before.if1.true)))
+    let e = sized.size-j.ensures.0 in
+    (λ z. ap (at start.args.left-nexts.now) e, λ n. absurd (n (ap (at start.args.lefts.now) (sym e) ∙ c.before.if-lefts-j.true)))
 
-returns-2 : tie.Need-returns-2
+returns-2 : tie.Need-returns
 returns-2 c =
-    let sized : tie.After-size = search in
+    let sized : tie.After-size-j = search in
     let start : tie.Start = search in
-    let e = sized.size.ensures.0 in
-    (λ z. absurd (c.before.if1.false (ap (at start.args.lefts.now) e ∙ z)), λ n. ap (at start.args.right-nexts.now) e)
+    let e = sized.size-j.ensures.0 in
+    (λ z. absurd (c.before.if-lefts-j.false (ap (at start.args.lefts.now) e ∙ z)), λ n. ap (at start.args.right-nexts.now) e)
 
-pub after-spec : {M : Type 1} → statement M
-after-spec =
+pub after_spec : {M : Type 1} → statement M
+after_spec =
     tie.close
     (tie.spec
     (λ c κs. search rules)

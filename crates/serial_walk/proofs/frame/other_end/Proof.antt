@@ -6,23 +6,23 @@ use borrow.Author.Rules.{rules}
 use Rattle.serial_walk.proofs.frame.other_end.Statement.{statement}
 use Rattle.serial_walk.proofs.frame.other_end.Tie as tie
 
-returns : tie.Need-returns
+returns : tie.Need-returns-then-lefts-j
 returns c =
-    let sized : tie.After-size = search in
+    let sized : tie.After-size-j = search in
     let start : tie.Start = search in
-    let e = sized.size.ensures.0 in
-    forth (ap (at start.args.lefts.now) (sym e) ∙ c.before.if1.true) (ap (at start.args.rights.now) (sym e))
+    let e = sized.size-j.ensures.0 in
+    forth (ap (at start.args.lefts.now) (sym e) ∙ c.before.if-lefts-j.true) (ap (at start.args.rights.now) (sym e))
 
-returns-2 : tie.Need-returns-2
+returns-2 : tie.Need-returns
 returns-2 c =
-    let sized : tie.After-size = search in
+    let sized : tie.After-size-j = search in
     let start : tie.Start = search in
-    let e = sized.size.ensures.0 in
+    let e = sized.size-j.ensures.0 in
     back (ap (at start.args.lefts.now) (sym e))
-    (⊎_elim (λ z. absurd (c.before.if1.false (ap (at start.args.lefts.now) e ∙ z))) (λ z. z) start.pre.2)
+    (⊎_elim (λ z. absurd (c.before.if-lefts-j.false (ap (at start.args.lefts.now) e ∙ z))) (λ z. z) start.pre.2)
 
-pub other-end-spec : {M : Type 1} → statement M
-other-end-spec =
+pub other_end_spec : {M : Type 1} → statement M
+other_end_spec =
     tie.close
     (tie.spec
     (λ c κs. search rules)

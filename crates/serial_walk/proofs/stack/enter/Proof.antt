@@ -23,4 +23,4 @@ enter_spec =
     (λ c. search rules)
     (λ c. search rules)
     (λ c. search rules)
-    (λ c. (rw c.size.ensures.0, refl, refl, refl, refl)))
+    (λ c. (rw c.size-region.ensures.0, refl, refl, refl, refl)))

@@ -5,26 +5,26 @@ use borrow.Author.Rules.{rules}
 use Rattle.serial_walk.proofs.walk.visit.Statement.{statement}
 use Rattle.serial_walk.proofs.walk.visit.Tie as tie
 
-time-of-requires : tie.Need-time-of-requires
+time-of-requires : tie.Need-time_of-requires
 time-of-requires c κs =
     let start : tie.Start = search in
     omega (arith, start.pre.0.graph.left_in _ start.pre.2, start.pre.0.sized.disc-are)
 
-returns : tie.Need-returns
+returns : tie.Need-returns-then-time_of-ne0
 returns c =
     let start : tie.Start = search in
-    passed start.pre.0 (λ z. c.if1.true (c.before.time-of.ensures ∙ z))
+    passed start.pre.0 (λ z. c.if-time_of-ne0.true (c.before.time_of.ensures ∙ z))
 
 walk-requires : tie.Need-walk-requires
 walk-requires c κs =
-    let timed : tie.After-time-of = search in
-    let unfound : tie.Else1 = search in
+    let timed : tie.After-time_of = search in
+    let unfound : tie.Else-time_of-ne0 = search in
     let start : tie.Start = search in
     let p = start.pre in
-    (p.0, p.1, p.0.graph.left_in _ p.2, omega (arith, unfound.if1.left, timed.time-of.ensures), refl)
+    (p.0, p.1, p.0.graph.left_in _ p.2, omega (arith, unfound.if-time_of-ne0.false, timed.time_of.ensures), refl)
 
-pub visit-spec : {M : Type 1} → statement M
-visit-spec =
+pub visit_spec : {M : Type 1} → statement M
+visit_spec =
     tie.close
     (tie.spec
     (λ c. search rules)

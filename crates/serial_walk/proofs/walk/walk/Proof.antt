@@ -17,11 +17,11 @@ use Rattle.serial_walk.proofs.Roots.{ended}
 use Rattle.serial_walk.proofs.walk.walk.Statement.{statement}
 use Rattle.serial_walk.proofs.walk.walk.Tie as tie
 
-abbrev invariant-loop : tie.invariant-loop
+abbrev invariant-loop : tie.invariant-loop-f
 invariant-loop owners lefts rights count heads left-nexts right-nexts disc stack parents nexts lows marks r root start time h top f₀ w₀ f w =
     Hand count owners lefts rights disc stack parents nexts lows marks r top time f
 
-abbrev decreases-loop : tie.decreases-loop
+abbrev decreases-loop : tie.decreases-loop-f
 decreases-loop owners lefts rights count heads left-nexts right-nexts disc stack parents nexts lows marks r root start time h top f₀ w₀ f w = count - f.next
 
 abbrev invariant-walk : tie.invariant-walk
@@ -57,7 +57,7 @@ asked c = begun (rooted-in c)
 
 -- a turn of the inner loop; the walk's test before it, passed; the turn of the walk; the start
 abbrev Inner : Type 0
-Inner = tie.At-loop invariant-loop decreases-loop invariant-walk decreases-walk
+Inner = tie.At-loop-f invariant-loop decreases-loop invariant-walk decreases-walk
 
 abbrev high-in : Inner → High
 high-in c = c.before.before.before.before.before.before
@@ -70,14 +70,14 @@ start-in c = asked (outer c)
 
 -- where the inner loop has stopped; its last turn
 abbrev Met : Type 0
-Met = tie.Joined1 invariant-loop decreases-loop invariant-walk decreases-walk
+Met = tie.Joined-count-f invariant-loop decreases-loop invariant-walk decreases-walk
 
 abbrev last : Met → Inner
 last c = c.before.before
 
 -- a region was found there; later the frame below is saved, and the new one entered
 abbrev Found : Type 0
-Found = tie.Then4 invariant-loop decreases-loop invariant-walk decreases-walk
+Found = tie.Then-j-count invariant-loop decreases-loop invariant-walk decreases-walk
 
 abbrev Saved : Type 0
 Saved = tie.After-save invariant-loop decreases-loop invariant-walk decreases-walk
@@ -86,7 +86,7 @@ abbrev found_in : Saved → Found
 found_in c = search
 
 abbrev Entered : Type 0
-Entered = tie.After-enter2 invariant-loop decreases-loop invariant-walk decreases-walk
+Entered = tie.After-enter-then-j-count invariant-loop decreases-loop invariant-walk decreases-walk
 
 abbrev saved-in : Entered → Saved
 saved-in c = search
@@ -94,7 +94,7 @@ saved-in c = search
 -- how the inner loop stopped
 stopped : (c : Met) →
     Stop (start-in (last c)).args.count (length (start-in (last c)).args.heads.now) (start-in (last c)).args.lefts.now
-    (start-in (last c)).args.rights.now (outer (last c)).walk.disc (last c).loop.f c.if1.w c.if1.j
+    (start-in (last c)).args.rights.now (outer (last c)).walk.disc (last c).loop-f.f c.if-count-f.w c.if-count-f.j
 stopped c =
     ⊎_elim
     (λ v. record {
@@ -102,7 +102,7 @@ stopped c =
       joins = λ l. absurd (omega (arith, v.2));
       within = λ l. absurd (omega (arith, v.2));
       new = λ l. absurd (omega (arith, v.2));
-      all = λ l. v.0.taken;
+      all = λ l. v.0.true;
     })
     (λ v.
     let e = v.7 in
@@ -110,34 +110,34 @@ stopped c =
     record {
       is = λ l. v.8;
       joins = λ l. subst (λ (x : ℕ). RecordJoins _ _ _ _ x) (sym e) t;
-      within = λ l. omega (arith, e, end-in (start-in (last c)).requires.0.graph (omega (arith, v.0.left)) t);
-      new = λ l. ap (at (outer (last c)).walk.disc) e ∙ sym v.5.ensures ∙ v.6.taken;
-      all = λ l. absurd (omega (arith, v.8, v.0.left));
+      within = λ l. omega (arith, e, end-in (start-in (last c)).requires.0.graph (omega (arith, v.0.false)) t);
+      new = λ l. ap (at (outer (last c)).walk.disc) e ∙ sym v.5.ensures ∙ v.6.true;
+      all = λ l. absurd (omega (arith, v.8, v.0.false));
     })
-    c.if1.branch
+    c.if-count-f.branch-raw
 
 -- a turn of the inner loop that goes on: the frame moves to the next record in the chain of its region
-abbrev turn-of : tie.After-next-record invariant-loop decreases-loop invariant-walk decreases-walk → Inner
+abbrev turn-of : tie.After-next_record-f invariant-loop decreases-loop invariant-walk decreases-walk → Inner
 turn-of c = c.before.before.before.before.before.before
 
-next_one : (c : tie.After-next-record invariant-loop decreases-loop invariant-walk decreases-walk) →
+next_one : (c : tie.After-next_record-f invariant-loop decreases-loop invariant-walk decreases-walk) →
     First (start-in (turn-of c)).args.count (at (start-in (turn-of c)).args.lefts.now) (at (start-in (turn-of c)).args.rights.now)
-    ((turn-of c).loop.f.next + 1) (turn-of c).loop.f.region c.next-record.result.next
+    ((turn-of c).loop-f.f.next + 1) (turn-of c).loop-f.f.region c.next_record-f.result.next
 next_one c =
     let seen = c.before.before in
     let a = (start-in (turn-of c)).args in
-    let f = (turn-of c).loop.f in
-    let k : f.next < a.count = omega (arith, seen.before.before.if1.false) in
+    let f = (turn-of c).loop-f.f in
+    let k : f.next < a.count = omega (arith, seen.before.before.if-count-f.false) in
     let z = c.before.after.ensures in
-    let g = seen.if2.f in
+    let g = seen.if-f.f in
     let en : g.next ≡ f.next = ⊎_elim (λ w. ap (λ (x : Frame). x.next) w.6 ∙ w.5.ensures.2) (λ w. ap (λ (x : Frame). x.next) w.1)
-    seen.if2.branch in
+    seen.if-f.branch-raw in
     let er : g.region ≡ f.region =
-    ⊎_elim (λ w. ap (λ (x : Frame). x.region) w.6 ∙ w.5.ensures.0) (λ w. ap (λ (x : Frame). x.region) w.1) seen.if2.branch in
-    subst (First a.count (at a.lefts.now) (at a.rights.now) (f.next + 1) f.region) (sym c.next-record.ensures.2)
-    (follows-as (start-in (turn-of c)).requires.1 f g c.before.after.result en er k ((turn-of c).loop.invariant.touching k) z.0 z.1)
+    ⊎_elim (λ w. ap (λ (x : Frame). x.region) w.6 ∙ w.5.ensures.0) (λ w. ap (λ (x : Frame). x.region) w.1) seen.if-f.branch-raw in
+    subst (First a.count (at a.lefts.now) (at a.rights.now) (f.next + 1) f.region) (sym c.next_record-f.ensures.2)
+    (follows-as (start-in (turn-of c)).requires.1 f g c.before.after.result en er k ((turn-of c).loop-f.invariant.touching k) z.0 z.1)
 
-add-time : tie.Need-overflow-add-time invariant-loop decreases-loop invariant-walk decreases-walk
+add-time : tie.Need-overflow_add-time invariant-loop decreases-loop invariant-walk decreases-walk
 add-time c =
     let start : Start = search in
     let s = start.pre.0 in
@@ -169,26 +169,26 @@ top-slots c =
     let m = c.before.walk in
     slots m.invariant.sized (m.h - 1) (omega (arith, high m.invariant, c.walk-test.true))
 
-loop-holds : tie.Need-loop-init invariant-loop decreases-loop invariant-walk decreases-walk
+loop-holds : tie.Need-loop-f-init invariant-loop decreases-loop invariant-walk decreases-walk
 loop-holds c =
     let turning : High = search in
-    let e = c.load.ensures in
-    take c.load.result (unrolled turning.before.walk.inv turning.walk-test.taken) e.0 e.1 e.2 e.3
+    let e = c.load-f.ensures in
+    take c.load-f.result (unrolled turning.before.walk.inv turning.walk-test.true) e.0 e.1 e.2 e.3
 
-other-end-requires : tie.Need-other-end-requires invariant-loop decreases-loop invariant-walk decreases-walk
+other-end-requires : tie.Need-other_end-w-requires invariant-loop decreases-loop invariant-walk decreases-walk
 other-end-requires c κs =
     let turn : Inner = search in
     let start = start-in turn in
-    let k : turn.loop.f.next < start.args.count = omega (arith, c.before.before.if1.false) in
-    (omega (arith, start.pre.0.graph.lefts-are), omega (arith, start.pre.0.graph.rights-are), turn.loop.inv.touching k)
+    let k : turn.loop-f.f.next < start.args.count = omega (arith, c.before.before.if-count-f.false) in
+    (omega (arith, start.pre.0.graph.lefts-are), omega (arith, start.pre.0.graph.rights-are), turn.loop-f.inv.touching k)
 
-time-of-requires : tie.Need-time-of-requires invariant-loop decreases-loop invariant-walk decreases-walk
+time-of-requires : tie.Need-time_of-d-requires invariant-loop decreases-loop invariant-walk decreases-walk
 time-of-requires c κs =
     let more = c.before.before.before.before in
     let turn = more.before.before in
     omega (
       arith,
-      end-in (start-in turn).requires.0.graph (omega (arith, more.if1.false)) c.before.other-end.ensures,
+      end-in (start-in turn).requires.0.graph (omega (arith, more.if-count-f.false)) c.before.other_end-w.ensures,
       (outer turn).walk.invariant.sized.disc-are,
     )
 
@@ -196,85 +196,85 @@ after-requires : tie.Need-after-requires invariant-loop decreases-loop invariant
 after-requires c κs =
     let turn : Inner = search in
     let p = (start-in turn).pre in
-    let k = c.before.before.if1.false in
-    chain-in p.0.graph p.1 c.if2.f.next
+    let k = c.before.before.if-count-f.false in
+    chain-in p.0.graph p.1 c.if-f.f.next
     (⊎_elim (λ w. omega (arith, k, ap (λ (x : Frame). x.next) w.6, w.5.ensures.2)) (λ w. omega (arith, k, ap (λ (x : Frame). x.next) w.1))
-    c.if2.branch)
+    c.if-f.branch-raw)
 
-loop-again : tie.Need-loop-preserved invariant-loop decreases-loop invariant-walk decreases-walk
+loop-again : tie.Need-loop-f-preserved invariant-loop decreases-loop invariant-walk decreases-walk
 loop-again c =
     let turn = turn-of c in
-    let k : turn.loop.f.next < (start-in turn).args.count = omega (arith, c.before.before.before.before.if1.false) in
-    let h = turn.loop.inv in
-    let m = c.next-record.ensures in
+    let k : turn.loop-f.f.next < (start-in turn).args.count = omega (arith, c.before.before.before.before.if-count-f.false) in
+    let h = turn.loop-f.inv in
+    let m = c.next_record-f.ensures in
     ⊎_elim
     (λ w.
     let l = w.5.ensures in
     let e = w.6 in
     let t = w.3.ensures in
-    seen h c.next-record.result w.1.result (m.0 ∙ ap (λ (x : Frame). x.region) e ∙ l.0) (m.1 ∙ ap (λ (x : Frame). x.parent) e ∙ l.1) (next_one c)
-    (m.3 ∙ ap (λ (x : Frame). x.low) e ∙ l.3 ∙ ap (λ (x : ℕ). min turn.loop.f.low x) t) k w.1.ensures (λ z. omega (arith, w.0.taken, z))
-    (λ z. w.4.left (t ∙ z)))
+    seen h c.next_record-f.result w.1.result (m.0 ∙ ap (λ (x : Frame). x.region) e ∙ l.0) (m.1 ∙ ap (λ (x : Frame). x.parent) e ∙ l.1) (next_one c)
+    (m.3 ∙ ap (λ (x : Frame). x.low) e ∙ l.3 ∙ ap (λ (x : ℕ). min turn.loop-f.f.low x) t) k w.1.ensures (λ z. omega (arith, w.0.true, z))
+    (λ z. w.4.false (t ∙ z)))
     (λ w.
     let e = w.1 in
-    skipped h c.next-record.result (m.0 ∙ ap (λ (x : Frame). x.region) e) (m.1 ∙ ap (λ (x : Frame). x.parent) e) (next_one c)
-    (m.3 ∙ ap (λ (x : Frame). x.low) e) k (omega (arith, w.0.left)))
-    c.before.before.if2.branch
+    skipped h c.next_record-f.result (m.0 ∙ ap (λ (x : Frame). x.region) e) (m.1 ∙ ap (λ (x : Frame). x.parent) e) (next_one c)
+    (m.3 ∙ ap (λ (x : Frame). x.low) e) k (omega (arith, w.0.false)))
+    c.before.before.if-f.branch-raw
 
-after-requires-2 : tie.Need-after-requires-2 invariant-loop decreases-loop invariant-walk decreases-walk
+after-requires-2 : tie.Need-after-requires-then-j-count invariant-loop decreases-loop invariant-walk decreases-walk
 after-requires-2 c κs =
     let found = c.before.before in
     let turn = last found.before in
     let p = (start-in turn).pre in
-    chain-in p.0.graph p.1 turn.loop.f.next (omega (arith, (stopped found.before).is found.if4.true, found.if4.true))
+    chain-in p.0.graph p.1 turn.loop-f.f.next (omega (arith, (stopped found.before).is found.if-j-count.true, found.if-j-count.true))
 
 save-requires : tie.Need-save-requires invariant-loop decreases-loop invariant-walk decreases-walk
 save-requires c κs =
     let s = top-slots (search) in
     (s.2, s.3)
 
-opened-requires-2 : tie.Need-opened-requires-2 invariant-loop decreases-loop invariant-walk decreases-walk
+opened-requires-2 : tie.Need-opened-requires-then-j-count invariant-loop decreases-loop invariant-walk decreases-walk
 opened-requires-2 c κs =
     let found : Found = search in
-    (stopped found.before).within found.if4.taken
+    (stopped found.before).within found.if-j-count.true
 
-enter-requires-2 : tie.Need-enter-requires-2 invariant-loop decreases-loop invariant-walk decreases-walk
+enter-requires-2 : tie.Need-enter-requires-then-j-count invariant-loop decreases-loop invariant-walk decreases-walk
 enter-requires-2 c κs =
     let found : Found = search in
     let saved : Saved = search in
     let m = (outer (last found.before)).walk in
     let v = stopped found.before in
-    let j = found.if4.taken in
+    let j = found.if-j-count.true in
     let s = slots m.inv.sized m.h (roomy m.inv _ (v.within j) (v.new j)) in (
-      omega (arith, c.opened2.ensures.0, v.within j, m.inv.sized.disc-are),
+      omega (arith, c.opened-then-j-count.ensures.0, v.within j, m.inv.sized.disc-are),
       s.0,
       s.1,
       omega (arith, s.2, saved.save.kept),
       omega (arith, s.3, saved.save.kept),
     )
 
-add-h : tie.Need-overflow-add-h invariant-loop decreases-loop invariant-walk decreases-walk
+add-h : tie.Need-overflow_add-h invariant-loop decreases-loop invariant-walk decreases-walk
 add-h c =
     let found : Found = search in
     let turn = last found.before in
     omega (arith, high (outer turn).walk.inv, (start-in turn).pre.0.graph.near)
 
-walk-less : tie.Need-walk-smaller invariant-loop decreases-loop invariant-walk decreases-walk
+walk-less : tie.Need-walk-smaller-then-j-count invariant-loop decreases-loop invariant-walk decreases-walk
 walk-less c =
     let found : Found = search in
     let entered : Entered = search in
     let m = (outer (last found.before)).walk in
     let v = stopped found.before in
-    let j = found.if4.taken in
-    let o = entered.before.opened2.ensures in
-    let e = entered.enter2.ensures.0 ∙ set-as m.disc o.0 o.3 in
+    let j = found.if-j-count.true in
+    let o = entered.before.opened-then-j-count.ensures in
+    let e = entered.enter-then-j-count.ensures.0 ∙ set-as m.disc o.0 o.3 in
     omega (
       arith,
       ap (λ (x : List ℕ). zero_count (at x) (length x)) e,
-      falls m.inv found.before.if1.w (m.time + 1) (v.within j) (v.new j) (omega arith),
+      falls m.inv found.before.if-count-f.w (m.time + 1) (v.within j) (v.new j) (omega arith),
     )
 
-walk-again : tie.Need-walk-preserved invariant-loop decreases-loop invariant-walk decreases-walk
+walk-again : tie.Need-walk-preserved-then-j-count invariant-loop decreases-loop invariant-walk decreases-walk
 walk-again c =
     let entered : Entered = search in
     let opened = entered.before in
@@ -283,62 +283,62 @@ walk-again c =
     let moved = saved.before in
     let met = found.before in
     let turn = last met in
-    let inv = turn.loop.inv in
+    let inv = turn.loop-f.inv in
     let m = (outer turn).walk in
-    let f = turn.loop.f in
-    let g = moved.next-record2.result in
+    let f = turn.loop-f.f in
+    let g = moved.next_record.result in
     let a = (start-in turn).args in
     let p = (start-in turn).pre in
-    let w = met.if1.w in
+    let w = met.if-count-f.w in
     let v = stopped met in
-    let j = found.if4.taken in
-    let o = opened.opened2.ensures in
-    let e = entered.enter2.ensures in
+    let j = found.if-j-count.true in
+    let o = opened.opened-then-j-count.ensures in
+    let e = entered.enter-then-j-count.ensures in
     let s = saved.save.ensures in
-    let n = moved.next-record2.ensures in
+    let n = moved.next_record.ensures in
     let k : f.next < a.count = omega (arith, v.is j, j) in
-    let z = moved.before.after2.ensures in
+    let z = moved.before.after-then-j-count.ensures in
     let q : First a.count (at a.lefts.now) (at a.rights.now) (f.next + 1) f.region g.next
     = subst (First a.count (at a.lefts.now) (at a.rights.now) (f.next + 1) f.region) (sym n.2)
     (follows p.1 f.next f.region _ k (inv.touching k) z.0 z.1) in
     recast _ _ _ _ _ _ _ _ (e.0 ∙ set-as m.disc o.0 o.3) (e.1 ∙ set-as m.stack refl o.0) (e.2 ∙ set-as m.parents refl o.1)
-    (e.3 ∙ ap (λ (x : List ℕ). set x m.h opened.opened2.result.next) s.0 ∙ set-as (set m.nexts (m.h - 1) g.next) refl o.2)
-    (e.4 ∙ ap (λ (x : List ℕ). set x m.h opened.opened2.result.low) s.1 ∙ set-as (set m.lows (m.h - 1) g.low) refl o.3) refl refl
+    (e.3 ∙ ap (λ (x : List ℕ). set x m.h opened.opened-then-j-count.result.next) s.0 ∙ set-as (set m.nexts (m.h - 1) g.next) refl o.2)
+    (e.4 ∙ ap (λ (x : List ℕ). set x m.h opened.opened-then-j-count.result.low) s.1 ∙ set-as (set m.lows (m.h - 1) g.low) refl o.3) refl refl
     refl
-    (found_at m.inv f g w met.if1.j (at a.heads.now w) (high-in turn).walk-test.taken inv v j q n.3 (p.1.head w (v.within j)))
+    (found_at m.inv f g w met.if-count-f.j (at a.heads.now w) (high-in turn).walk-test.true inv v j q n.3 (p.1.head w (v.within j)))
 
-walk-again-2 : tie.Need-walk-preserved-2 invariant-loop decreases-loop invariant-walk decreases-walk
+walk-again-2 : tie.Need-walk-preserved-then-top-eq0 invariant-loop decreases-loop invariant-walk decreases-walk
 walk-again-2 c =
     let turn = last c.before.before in
-    emptied-at (outer turn).walk.inv turn.loop.f (high-in turn).walk-test.taken c.if5.true turn.loop.inv
-    ((stopped c.before.before).all c.before.if4.false)
+    emptied-at (outer turn).walk.inv turn.loop-f.f (high-in turn).walk-test.true c.if-top-eq0.true turn.loop-f.inv
+    ((stopped c.before.before).all c.before.if-j-count.false)
 
 -- no region was found, and there is a frame below
 abbrev Lower : Type 0
-Lower = tie.Else5 invariant-loop decreases-loop invariant-walk decreases-walk
+Lower = tie.Else-top-eq0 invariant-loop decreases-loop invariant-walk decreases-walk
 
 leave-requires : tie.Need-leave-requires invariant-loop decreases-loop invariant-walk decreases-walk
 leave-requires c κs =
     let lower : Lower = search in
     let turn = last lower.before.before in
-    leaving (outer turn).walk.inv turn.loop.f (high-in turn).walk-test.taken lower.if5.left turn.loop.inv
+    leaving (outer turn).walk.inv turn.loop-f.f (high-in turn).walk-test.true lower.if-top-eq0.false turn.loop-f.inv
 
-walk-again-3 : tie.Need-walk-preserved-3 invariant-loop decreases-loop invariant-walk decreases-walk
+walk-again-3 : tie.Need-walk-preserved invariant-loop decreases-loop invariant-walk decreases-walk
 walk-again-3 c =
     let lower : Lower = search in
     let met = lower.before.before in
     let turn = last met in
     let e = c.before.before.leave.ensures in
     recast _ _ _ _ _ _ _ _ refl refl refl refl e.0 e.1 refl refl
-    (left_at (outer turn).walk.inv turn.loop.f (high-in turn).walk-test.taken lower.if5.left turn.loop.inv
-    ((stopped met).all lower.before.if4.left))
+    (left_at (outer turn).walk.inv turn.loop-f.f (high-in turn).walk-test.true lower.if-top-eq0.false turn.loop-f.inv
+    ((stopped met).all lower.before.if-j-count.false))
 
 returns : tie.Need-returns invariant-loop decreases-loop invariant-walk decreases-walk
 returns c = ended (recast _ _ _ _ _ _ _ _ refl refl refl refl refl refl (let z : 0 ≡ c.before.walk.h = omega (arith, c.walk-test.false) in z) refl
     c.before.walk.invariant)
 
-pub walk-spec : {M : Type 1} → statement M
-walk-spec =
+pub walk_spec : {M : Type 1} → statement M
+walk_spec =
     tie.close
     (tie.spec
     invariant-loop
@@ -357,7 +357,7 @@ walk-spec =
     (λ c κs. search rules)
     after-requires
     (λ c κs. search rules)
-    (λ c. omega (arith, c.before.before.before.before.if1.false, (next_one c).onward))
+    (λ c. omega (arith, c.before.before.before.before.if-count-f.false, (next_one c).onward))
     loop-again
     after-requires-2
     (λ c κs. search rules)
@@ -368,11 +368,11 @@ walk-spec =
     add-h
     walk-less
     walk-again
-    (λ c. let high : High = search in omega (arith, high.walk-test.taken))
+    (λ c. let high : High = search in omega (arith, high.walk-test.true))
     walk-again-2
-    (λ c. let lower : Lower = search in omega (arith, lower.if5.left))
+    (λ c. let lower : Lower = search in omega (arith, lower.if-top-eq0.false))
     leave-requires
-    (λ c. let high : High = search in omega (arith, high.walk-test.taken))
+    (λ c. let high : High = search in omega (arith, high.walk-test.true))
     walk-again-3
     (λ c. c.before.walk.invariant.sized.disc-are ∙ sym (asked c.before).requires.0.sized.disc-are)
     (λ c. c.before.walk.invariant.sized.stack-are ∙ sym (asked c.before).requires.0.sized.stack-are)

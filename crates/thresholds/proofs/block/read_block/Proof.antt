@@ -16,19 +16,19 @@ returns c =
     let offset = smallest.before in
     simp (
       offset.before.read_u32.ensures,
-      offset.read-u322.ensures,
-      smallest.read-u323.ensures,
-      largest.read-u324.ensures,
+      offset.read_u32-2.ensures,
+      smallest.read_u32-3.ensures,
+      largest.read_u32-4.ensures,
       chain.read_u64.ensures,
-      width.read-u642.ensures,
-      geometry.read-u643.ensures,
-      duplicate.read-u644.ensures,
-      envelope.read-u645.ensures,
-      c.read-u646.ensures,
+      width.read_u64-2.ensures,
+      geometry.read_u64-3.ensures,
+      duplicate.read_u64-4.ensures,
+      envelope.read_u64-5.ensures,
+      c.read_u64-6.ensures,
     )
 
-pub read-block-spec : {M : Type 1} → statement M
-read-block-spec =
+pub read_block_spec : {M : Type 1} → statement M
+read_block_spec =
     tie.close
     (tie.spec
     (λ c κs. search rules)

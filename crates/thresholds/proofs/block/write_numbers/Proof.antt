@@ -14,13 +14,13 @@ returns c =
     let chain = width.before.before.before.before in
     let start = chain.before.before.before in
     numbers-written start.args.block.now start.args.b start.requires
-    chain.write-u64.ensures width.write-u642.ensures geometry.write-u643.ensures duplicate.write-u644.ensures
-    envelope.write-u645.ensures cosine.write-u646.ensures
+    chain.write_u64.ensures width.write_u64-2.ensures geometry.write_u64-3.ensures duplicate.write_u64-4.ensures
+    envelope.write_u64-5.ensures cosine.write_u64-6.ensures
     (omega arith) (omega arith) (omega arith) (omega arith) (omega arith) (omega arith)
     (omega arith) (omega arith) (omega arith) (omega arith) (omega arith) (omega arith)
 
-pub write-numbers-spec : {M : Type 1} → statement M
-write-numbers-spec =
+pub write_numbers_spec : {M : Type 1} → statement M
+write_numbers_spec =
     tie.close
     (tie.spec
     (λ c κs. search rules)

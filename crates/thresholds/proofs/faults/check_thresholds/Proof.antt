@@ -10,52 +10,52 @@ use Rattle.thresholds.proofs.faults.check_thresholds.Tie as tie
 said : {t u v : Bool} → t ≡ u → t ≡ v → v ≡ u
 said e f = sym f ∙ e
 
-returns : tie.Need-returns
+returns : tie.Need-returns-then-block-ne-BLOCK_SIZE
 returns c =
     let start : tie.Start = search in
-    refused-block start.args.block.now (λ r. omega (arith, c.if1.true, r.long))
+    refused-block start.args.block.now (λ r. omega (arith, c.if-block-ne-BLOCK_SIZE.true, r.long))
 
-returns-2 : tie.Need-returns-2
+returns-2 : tie.Need-returns-then-head_fault
 returns-2 c =
     let start : tie.Start = search in
-    let read : tie.After-read-block = search in
-    let head : tie.After-head-fault = search in
+    let read : tie.After-read_block-b = search in
+    let head : tie.After-head_fault = search in
     refused-block start.args.block.now
-    (bad-head start.args.block.now read.read-block.ensures (said head.head-fault.ensures c.if2.true))
+    (bad-head start.args.block.now read.read_block-b.ensures (said head.head_fault.ensures c.if-head_fault.true))
 
-returns-3 : tie.Need-returns-3
+returns-3 : tie.Need-returns-then-sizes_fault
 returns-3 c =
     let start : tie.Start = search in
-    let read : tie.After-read-block = search in
-    let sizes : tie.After-sizes-fault = search in
+    let read : tie.After-read_block-b = search in
+    let sizes : tie.After-sizes_fault = search in
     refused-block start.args.block.now
-    (bad-sizes start.args.block.now read.read-block.ensures (said sizes.sizes-fault.ensures c.if3.true))
+    (bad-sizes start.args.block.now read.read_block-b.ensures (said sizes.sizes_fault.ensures c.if-sizes_fault.true))
 
-returns-4 : tie.Need-returns-4
+returns-4 : tie.Need-returns-then-ranges_fault
 returns-4 c =
     let start : tie.Start = search in
-    let read : tie.After-read-block = search in
-    let ranges : tie.After-ranges-fault = search in
+    let read : tie.After-read_block-b = search in
+    let ranges : tie.After-ranges_fault = search in
     refused-block start.args.block.now
-    (bad-ranges start.args.block.now read.read-block.ensures (said ranges.ranges-fault.ensures c.if4.true))
+    (bad-ranges start.args.block.now read.read_block-b.ensures (said ranges.ranges-fault.ensures c.if-ranges_fault.true))
 
-returns-5 : tie.Need-returns-5
+returns-5 : tie.Need-returns
 returns-5 c =
     let start : tie.Start = search in
-    let long : tie.Else1 = search in
-    let read : tie.After-read-block = search in
-    let head : tie.After-head-fault = search in
-    let headed : tie.Else2 = search in
-    let sizes : tie.After-sizes-fault = search in
-    let sized : tie.Else3 = search in
-    let ranges : tie.After-ranges-fault = search in
+    let long : tie.Else-block-ne-BLOCK_SIZE = search in
+    let read : tie.After-read_block-b = search in
+    let head : tie.After-head_fault = search in
+    let headed : tie.Else-head_fault = search in
+    let sizes : tie.After-sizes_fault = search in
+    let sized : tie.Else-sizes_fault = search in
+    let ranges : tie.After-ranges_fault = search in
     passed-block start.args.block.now
-    (no-fault start.args.block.now read.read-block.ensures (omega (arith, long.if1.left))
-    (said head.head-fault.ensures headed.if2.left) (said sizes.sizes-fault.ensures sized.if3.left)
-    (said ranges.ranges-fault.ensures c.if4.false))
+    (no-fault start.args.block.now read.read_block-b.ensures (omega (arith, long.if-block-ne-BLOCK_SIZE.false))
+    (said head.head_fault.ensures headed.if-head_fault.false) (said sizes.sizes_fault.ensures sized.if-sizes_fault.false)
+    (said ranges.ranges-fault.ensures c.if-ranges_fault.false))
 
-pub check-thresholds-spec : {M : Type 1} → statement M
-check-thresholds-spec =
+pub check_thresholds_spec : {M : Type 1} → statement M
+check_thresholds_spec =
     tie.close
     (tie.spec
     returns

@@ -3,21 +3,21 @@ use Rattle.thresholds.proofs.Faulty.{right-head, wrong-head}
 use Rattle.thresholds.proofs.faults.head_fault.Statement.{statement}
 use Rattle.thresholds.proofs.faults.head_fault.Tie as tie
 
-returns : tie.Need-returns
+returns : tie.Need-returns-then-b-ne-NUMBER_COUNT
 returns c =
     let start : tie.Start = search in
-    wrong-head start.args.b (λ r. omega (arith, c.if1.true, r.count))
+    wrong-head start.args.b (λ r. omega (arith, c.if-b-ne-NUMBER_COUNT.true, r.count))
 
-returns-2 : tie.Need-returns-2
+returns-2 : tie.Need-returns-then-b-ne-NUMBER_OFFSET
 returns-2 c =
     let start : tie.Start = search in
-    wrong-head start.args.b (λ r. omega (arith, c.if2.true, r.offset))
+    wrong-head start.args.b (λ r. omega (arith, c.if-b-ne-NUMBER_OFFSET.true, r.offset))
 
-returns-3 : tie.Need-returns-3
+returns-3 : tie.Need-returns
 returns-3 c =
     let start : tie.Start = search in
-    let counted : tie.Else1 = search in
-    right-head start.args.b (record { count = omega (arith, counted.if1.left); offset = omega (arith, c.if2.false) })
+    let counted : tie.Else-b-ne-NUMBER_COUNT = search in
+    right-head start.args.b (record { count = omega (arith, counted.if-b-ne-NUMBER_COUNT.false); offset = omega (arith, c.if-b-ne-NUMBER_OFFSET.false) })
 
-pub head-fault-spec : {M : Type 1} → statement M
-head-fault-spec = tie.close (tie.spec returns returns-2 returns-3)
+pub head_fault_spec : {M : Type 1} → statement M
+head_fault_spec = tie.close (tie.spec returns returns-2 returns-3)

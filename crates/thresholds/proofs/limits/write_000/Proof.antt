@@ -10,9 +10,9 @@ returns : tie.Need-returns
 unfolding block000
 returns c =
     let start : tie.Start = search in
-    let numbered : tie.After-numbers-of-000 = search in
-    let written : tie.After-write-block = search in
-    written.write-block.ensures ∙ ap (λ (b : Block). splice start.args.block.now 0 (block_bytes b)) numbered.numbers-of-000.ensures
+    let numbered : tie.After-numbers_of_000 = search in
+    let written : tie.After-write_block = search in
+    written.write_block.ensures ∙ ap (λ (b : Block). splice start.args.block.now 0 (block_bytes b)) numbered.numbers_of_000.ensures
 
-pub write-000-spec : {M : Type 1} → statement M
-write-000-spec = tie.close (tie.spec (λ c κs. search rules) (λ c κs. search rules) (λ c. search rules) returns)
+pub write_000_spec : {M : Type 1} → statement M
+write_000_spec = tie.close (tie.spec (λ c κs. search rules) (λ c κs. search rules) (λ c. search rules) returns)

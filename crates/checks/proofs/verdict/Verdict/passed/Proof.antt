@@ -34,5 +34,5 @@ only-passed BadThresholds = refl
 returns : tie.Need-returns
 returns c = ap (λ (n : ℕ). eqb n 0) c.number.ensures ∙ only-passed c.before.args.self
 
-pub passed-spec : {M : Type 1} → statement M
-passed-spec = tie.close (tie.spec (λ c κs. search rules) returns)
+pub passed_spec : {M : Type 1} → statement M
+passed_spec = tie.close (tie.spec (λ c κs. search rules) returns)

@@ -15,14 +15,14 @@ returns c =
     omega (
       arith,
       bits_are own.level_0 own.level_1 own.level_2 own.level_3,
-      c.one4.ensures.0,
-      third.one3.ensures.0,
-      second.one2.ensures.0,
+      c.one-4.ensures.0,
+      third.one-3.ensures.0,
+      second.one-2.ensures.0,
       first.one.ensures.0,
     )
 
-pub elevations-spec : {M : Type 1} → statement M
-elevations-spec =
+pub elevations_spec : {M : Type 1} → statement M
+elevations_spec =
     tie.close
     (tie.spec
     (λ c κs. search rules)

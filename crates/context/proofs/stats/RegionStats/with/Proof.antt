@@ -4,10 +4,10 @@ use borrow.Author.Rules.{rules}
 use Rattle.context.proofs.stats.RegionStats.with.Statement.{statement}
 use Rattle.context.proofs.stats.RegionStats.with.Tie as tie
 
-add-t32 : tie.Need-overflow-add-t32
+add-t32 : tie.Need-overflow_add-result-5
 add-t32 c =
     let start = c.before.before.before.before.before.before.before.before.before.before.before.before.before.before in
-    omega (arith, start.requires.0.fourth, c.before.one4.ensures.1)
+    omega (arith, start.requires.0.fourth, c.before.one-4.ensures.1)
 
 returns : tie.Need-returns
 unfolding stats_with_cell
@@ -20,18 +20,18 @@ returns c =
     let after-lesser2 = after-greater.before in
     let after-lesser = after-lesser2.before in
     simp (
-      c.before.one4.ensures.0,
-      after-one3.one3.ensures.0,
-      after-one2.one2.ensures.0,
+      c.before.one-4.ensures.0,
+      after-one3.one-3.ensures.0,
+      after-one2.one-2.ensures.0,
       after_one.one.ensures.0,
-      after-greater2.greater2.ensures,
+      after-greater2.greater-2.ensures,
       after-greater.greater.ensures,
-      after-lesser2.lesser2.ensures,
+      after-lesser2.lesser-2.ensures,
       after-lesser.lesser.ensures,
     )
 
-pub with-spec : {M : Type 1} → statement M
-with-spec =
+pub with_spec : {M : Type 1} → statement M
+with_spec =
     tie.close
     (tie.spec
     (λ c. search rules)

@@ -11,5 +11,5 @@ returns c =
     λ g w h e.
     c.byte_of.ensures ∙ byte-on g start.args.position start.args.cells.now (index_in c.before.index.result) e (c.before.index.ensures g w h)
 
-pub cell-spec : {M : Type 1} → statement M
-cell-spec = tie.close (tie.spec (search rules) (search rules) returns)
+pub cell_spec : {M : Type 1} → statement M
+cell_spec = tie.close (tie.spec (search rules) (search rules) returns)

@@ -2,5 +2,5 @@ use borrow.Author.Rules.{rules}
 use Rattle.serial_links.proofs.geometry.Point.reach.Statement.{statement}
 use Rattle.serial_links.proofs.geometry.Point.reach.Tie as tie
 
-pub reach-spec : {M : Type 1} → statement M
-reach-spec = tie.close (tie.spec (λ c κs. search rules) (λ c κs. search rules) (λ c. simp (c.before.abs.ensures, c.abs2.ensures)))
+pub reach_spec : {M : Type 1} → statement M
+reach_spec = tie.close (tie.spec (λ c κs. search rules) (λ c κs. search rules) (λ c. simp (c.before.abs.ensures, c.abs-2.ensures)))

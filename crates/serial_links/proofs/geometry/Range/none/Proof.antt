@@ -3,11 +3,11 @@ use mathlib.Core.Path.{refl}
 use Rattle.serial_links.proofs.geometry.Range.none.Statement.{statement}
 use Rattle.serial_links.proofs.geometry.Range.none.Tie as tie
 
-float-from-bits-t1 : tie.Need-float-from-bits-t1
+float-from-bits-t1 : tie.Need-float_from_bits-result
 unfolding nan_bits
 float-from-bits-t1 c = tt
 
-float-from-bits-t2 : tie.Need-float-from-bits-t2
+float-from-bits-t2 : tie.Need-float_from_bits-result-2
 unfolding nan_bits
 float-from-bits-t2 c = tt
 

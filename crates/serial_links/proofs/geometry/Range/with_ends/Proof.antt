@@ -8,16 +8,16 @@ returns c =
     let after-point-of2 = after-dot.before in
     let after-point-of = after-point-of2.before in
     simp (
-      c.widened2.ensures,
-      c.before.dot2.ensures,
+      c.widened-2.ensures,
+      c.before.dot-2.ensures,
       c.before.before.widened.ensures,
       after-dot.dot.ensures,
-      after-point-of2.point-of2.ensures,
-      after-point-of.point-of.ensures,
+      after-point-of2.point_of-b.ensures,
+      after-point-of.point_of-a.ensures,
     )
 
-pub with-ends-spec : {M : Type 1} → statement M
-with-ends-spec =
+pub with_ends_spec : {M : Type 1} → statement M
+with_ends_spec =
     tie.close
     (tie.spec
     (λ c κs. search rules)

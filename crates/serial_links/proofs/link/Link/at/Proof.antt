@@ -13,19 +13,19 @@ returns c =
     let after-towards = after-dot.before in
     let after-cell-centre = after-towards.before in
     simp (
-      c.max2.ensures,
-      c.before.min2.ensures,
+      c.max-2.ensures,
+      c.before.min-2.ensures,
       c.before.before.max.ensures,
       after-min.min.ensures,
       after-still.still.ensures,
-      after-dot2.dot2.ensures,
-      after-dot.dot.ensures,
-      after-towards.towards.ensures,
-      after-cell-centre.cell-centre.ensures,
+      after-dot2.dot-transverse.ensures,
+      after-dot.dot-longitudinal.ensures,
+      after-towards.towards-relative.ensures,
+      after-cell-centre.cell_centre-p.ensures,
     )
 
-pub at-spec : {M : Type 1} → statement M
-at-spec =
+pub at_spec : {M : Type 1} → statement M
+at_spec =
     tie.close
     (tie.spec
     (λ c κs. search rules)

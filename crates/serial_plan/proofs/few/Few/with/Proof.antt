@@ -4,17 +4,17 @@ use Rattle.serial_plan.specs.Few.{pushed}
 use Rattle.serial_plan.proofs.few.Few.with.Statement.{statement}
 use Rattle.serial_plan.proofs.few.Few.with.Tie as tie
 
-returns-2 : tie.Need-returns-2
+returns-2 : tie.Need-returns
 unfolding pushed
 returns-2 c =
     let start = c.before.before.before in
-    rw (not-false start.args.on c.before.before.if1.false)
+    rw (not-false start.args.on c.before.before.if-not-on.false)
 
-pub with-spec : {M : Type 1} → statement M
-with-spec =
+pub with_spec : {M : Type 1} → statement M
+with_spec =
     tie.close
     (tie.spec
-    (λ c. rw (not-true c.before.args.on c.if1.true))
+    (λ c. rw (not-true c.before.args.on c.if-not-on.true))
     (λ c. search rules)
     (λ c. search rules)
     (λ c. search rules)

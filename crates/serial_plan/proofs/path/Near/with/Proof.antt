@@ -2,5 +2,5 @@ use borrow.Author.Rules.{rules}
 use Rattle.serial_plan.proofs.path.Near.with.Statement.{statement}
 use Rattle.serial_plan.proofs.path.Near.with.Tie as tie
 
-pub with-spec : {M : Type 1} → statement M
-with-spec = tie.close (tie.spec (λ c. search rules) (λ c. rw c.before.if1.true) (λ c. search rules))
+pub with_spec : {M : Type 1} → statement M
+with_spec = tie.close (tie.spec (λ c. search rules) (λ c. rw c.before.if-on.true) (λ c. search rules))
