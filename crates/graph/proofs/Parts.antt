@@ -86,6 +86,7 @@ part-path (e ∷ es) c = part_step e es (λ d. path-more (λ f m. Memᴰ.tail m)
 -- the ends of an edge are in one component_of
 part_edge : (es : List Edge) (e : Edge) → Memᴰ e es → component_of es e.left ≡ component_of es e.right
 unfolding component_of
+part_edge [] e x' = elim x' [ ]
 part_edge (f ∷ es) e (Memᴰ.head k) = rw k (join-both (component_of es f.left) (component_of es f.right))
 part_edge (f ∷ es) e (Memᴰ.tail m) = ap (join (component_of es f.left) (component_of es f.right)) (part_edge es e m)
 

@@ -54,17 +54,17 @@ module _ {A : Type 0} {P : A → Type 0} where
 
 module _ {A B : Type 0} {P : B → Type 0} where
   -- What holds of the images of all members.
-  pub all_map : {xs : List A} (f : A → B) → All (λ x. P (f x)) xs → All P (map f xs)
+  pub all_map : (f : A → B) {xs : List A} → All (λ x. P (f x)) xs → All P (map f xs)
   all_map f none = none
   all_map f (more p h) = more p (all_map f h)
 
   -- What holds of each member of each piece.
-  pub all-flat_map : {xs : List A} (f : A → List B) → All (λ x. All P (f x)) xs → All P (flat_map f xs)
+  pub all-flat_map : (f : A → List B) {xs : List A} → All (λ x. All P (f x)) xs → All P (flat_map f xs)
   unfolding flat_map
   all-flat_map f none = none
   all-flat_map f (more p h) = all_append p (all-flat_map f h)
 
 -- A function that changes no member changes no list.
-pub map-id : {A : Type 0} {xs : List A} (f : A → A) → All (λ x. f x ≡ x) xs → map f xs ≡ xs
+pub map-id : {A : Type 0} (f : A → A) {xs : List A} → All (λ x. f x ≡ x) xs → map f xs ≡ xs
 map-id f none = refl
 map-id f (more {x} {xs} p h) = ap (λ y. y ∷ map f xs) p ∙ ap (λ t. x ∷ t) (map-id f h)

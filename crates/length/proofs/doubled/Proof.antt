@@ -18,20 +18,20 @@ sub-t16 c =
     let start : tie.Start = search in
     let r = start.args.r.root in
     let q = start.args.r.rem in
-    let p = start.pre in
+    let p = start.requires in
     let l : q * 0x800_0000 % (r * 2) * 0x800_0000 < q * 0x800_0000 / (r * 2) * (q * 0x800_0000 / (r * 2)) = omega arith in
     omega (arith, bounds start, some _ _ p.0 p.1 p.2 l)
 
 returns : tie.Need-returns-then-square-rem
 returns c =
     let start : tie.Start = search in
-    let p = start.pre in
+    let p = start.requires in
     enough _ _ p.0 p.1 p.2 (omega arith)
 
 returns-2 : tie.Need-returns-else-square-rem
 returns-2 c =
     let start : tie.Start = search in
-    let p = start.pre in
+    let p = start.requires in
     one_less _ _ p.0 p.1 p.2 (omega arith)
 
 pub doubled_spec : {M : Type 1} → statement M

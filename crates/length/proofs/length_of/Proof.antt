@@ -50,8 +50,8 @@ returns-2 c =
     let found = rooted-at.root_of-r in
     let r = found.result in
     let w = rooted d r found.ensures in
-    is-length d _ entry.pre
-    (root-halved d r.root (root-pos d r.root r.rem w (omega (arith, some.if-d-eq0.false))) entry.pre (omega (arith, w.sum)))
+    is-length d _ entry.requires
+    (root-halved d r.root (root-pos d r.root r.rem w (omega (arith, some.if-d-eq0.false))) entry.requires (omega (arith, w.sum)))
     (sym (eq-eqb r.rem 0 (omega (arith, c.before.if-r-eq0.true))) ∙ ap (λ (x : Root). eqb x.rem 0) found.ensures)
 
 loop-holds : tie.Need-loop-r-init invariant-loop decreases-loop
@@ -61,7 +61,7 @@ loop-holds c =
     let entry = some.before in
     let r = found.root_of-r.result in
     let w = rooted entry.args.d r found.root_of-r.ensures in
-    (start entry.args.d r.root r.rem (omega (arith, some.if-d-eq0.false)) entry.pre w, root-lt {a = r.root} {b = 2 ^ 27} (omega (arith, w.sum)))
+    (start entry.args.d r.root r.rem (omega (arith, some.if-d-eq0.false)) entry.requires w, root-lt {a = r.root} {b = 2 ^ 27} (omega (arith, w.sum)))
 
 loop-less : tie.Need-loop-r-smaller invariant-loop decreases-loop
 loop-less c =
@@ -81,7 +81,7 @@ int-to-float-value c =
     let doubled : Doubled = search in
     let l = turn.loop-r in
     let f = doubled.doubled-r in
-    let g = lengthen _ _ _ _ _ _ l.inv.0 l.inv.1 f.ensures in
+    let g = lengthen _ _ _ _ _ _ l.invariant.0 l.invariant.1 f.ensures in
     root-casts _ _ _ _ _ g (omega (arith, f.ensures.least)) (omega arith) (omega arith)
 
 int-to-float-value-2 : tie.Need-int_to_float-value-2 invariant-loop decreases-loop
@@ -90,7 +90,7 @@ int-to-float-value-2 c =
     let doubled : Doubled = search in
     let l = turn.loop-r in
     let f = doubled.doubled-r in
-    let g = lengthen _ _ _ _ _ _ l.inv.0 l.inv.1 f.ensures in
+    let g = lengthen _ _ _ _ _ _ l.invariant.0 l.invariant.1 f.ensures in
     power-casts _ _ _ _ g
 
 returns-3 : tie.Need-returns invariant-loop decreases-loop
@@ -101,12 +101,12 @@ returns-3 c =
     let doubled : Doubled = search in
     let l = turn.loop-r in
     let f = doubled.doubled-r in
-    let g = lengthen _ _ _ _ _ _ l.inv.0 l.inv.1 f.ensures in
+    let g = lengthen _ _ _ _ _ _ l.invariant.0 l.invariant.1 f.ensures in
     let entry = rooted-at.before.before in
     let found = rooted-at.root_of-r in
-    is-length entry.args.d _ entry.pre
+    is-length entry.args.d _ entry.requires
     (finish _ _ _ _ _ g (omega (arith, f.ensures.least)) (omega arith) (omega arith)
-    entry.pre)
+    entry.requires)
     (sym (ne_eqb found.result.rem 0 (λ z. omega (arith, z, turn.before.if-r-eq0.false))) ∙ ap (λ (x : Root). eqb x.rem 0) found.ensures)
 
 pub length_of_spec : {M : Type 1} → statement M
