@@ -41,7 +41,7 @@ returns c =
     let opened = marked-open _ g _ _ _ p.room (omega arith) marked-spans.mark_spans.ensures in
     let due = dues-written.write_dues.ensures in
     let marked = marked-due _ g _ _ _ p.room (omega arith) opened due in
-    areas-in _ _ _ _ _ p.room p.each marked c.before.before.components.ensures
+    areas-in _ _ _ _ _ p.room p.each marked c.components.ensures
 
 pub label_areas_spec : {M : Type 1} → statement M
 label_areas_spec = tie.close (tie.spec (search rules) (λ c κs. search rules) write-dues-requires components-requires (λ c. search rules) returns)

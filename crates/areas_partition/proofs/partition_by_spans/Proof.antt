@@ -49,7 +49,7 @@ returns c =
     let start : tie.Start = search in
     let p = start.pre.0 in
     all-parted _ _ _ _ (few start) p.whole labelled.label_areas-areas.ensures
-    assessed.assess_spans-pairs.ensures c.before.before.zero_fill.ensures (omega arith) (omega arith)
+    assessed.assess_spans-pairs.ensures c.zero_fill.ensures (omega arith) (omega arith)
 
 pub partition_by_spans_spec : {M : Type 1} → statement M
 partition_by_spans_spec =

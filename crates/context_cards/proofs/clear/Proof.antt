@@ -10,7 +10,7 @@ use Rattle.context_cards.proofs.clear.Tie as tie
 returns : tie.Need-returns
 returns c =
     let filled = c.before.before in
-    let given = filled.before.before.before.args in
+    let given = filled.args in
     let whole : given.to - 0 ≡ given.to = omega arith in
     record { zeros = filled.zero_fill.ensures ∙ ap (λ (k : ℕ). splice given.cards.now 0 (replicate k 0)) whole }
 

@@ -5,7 +5,7 @@ use Rattle.context_cards.proofs.count_cell.Tie as tie
 
 returns : tie.Need-returns-then-label-eq0
 returns c =
-    let given = c.before.before.args in
+    let given = c.args in
     counted_none given.cards.now given.label given.column given.row given.cell c.if-label-eq0.true
 
 with-requires : tie.Need-with-requires
@@ -26,7 +26,7 @@ returns-2 c =
     let read = counted.before.before in
     let placed = read.before.before in
     let some = placed.before in
-    let given = some.before.before.args in
+    let given = some.args in
     counted-one given.cards.now given.label given.column given.row given.cell some.if-label-eq0.false placed.place_of-at.ensures
     read.read_card-s.ensures counted.with.ensures written.write_card.ensures
 

@@ -15,7 +15,7 @@ returns c =
     let third = fourth.before in
     let second = third.before in
     simp (
-      second.before.read_u32.ensures,
+      second.read_u32.ensures,
       second.read_u32-2.ensures,
       third.read_u32-3.ensures,
       fourth.read_u32-4.ensures,

@@ -11,7 +11,7 @@ returns c =
     let third = fourth.before.before.before.before in
     let second = third.before.before.before.before in
     let first = second.before.before.before.before in
-    let given = first.before.before.before.args in
+    let given = first.args in
     let s = given.s in
     five-written given.cards.now given.at s.cells s.min_x s.min_y s.max_x s.max_y (omega arith)
     first.write_u32.ensures second.write_u32-2.ensures third.write_u32-3.ensures fourth.write_u32-4.ensures fifth.write_u32-5.ensures

@@ -13,7 +13,7 @@ unfolding card_words
 returns c =
     let levels = c.before.before in
     let boxed = levels.before.before.before.before in
-    let given = boxed.before.before.before.args in
+    let given = boxed.args in
     let s = given.s in
     card-written given.cards.now given.at (s.cells ∷ s.min_x ∷ s.min_y ∷ s.max_x ∷ s.max_y ∷ [])
     (cond s.has_ramp 1 0 ∷ s.level_0 ∷ s.level_1 ∷ s.level_2 ∷ s.level_3 ∷ []) s refl (omega arith)

@@ -34,10 +34,10 @@ labels-of s = labels_in s.args.labels.now (length s.args.cells.now)
 
 -- the zeros that the pass starts from
 zeroed : (c : tie.At-loop-i invariant-loop decreases-loop) (height : ℕ) → CardsAfter (map_here (asked c) height) (labels-of (asked c)) (asked c).args.areas 0
-    (asked c).args.cards.now c.before.before.before.clear.new.0
+    (asked c).args.cards.now c.clear.new.0
 zeroed c height =
     let s = asked c in
-    turn-start (map_here s height) (labels-of s) s.args.areas s.pre.room c.before.before.before.clear.ensures (omega arith)
+    turn-start (map_here s height) (labels-of s) s.args.areas s.pre.room c.clear.ensures (omega arith)
 
 loop-holds : tie.Need-loop-i-init invariant-loop decreases-loop
 loop-holds c =
@@ -50,29 +50,29 @@ loop-holds c =
     )
 
 -- a turn's cell: one of the map, in a column and a row, and its label
-on : (c : tie.In-loop-i invariant-loop decreases-loop) → c.before.loop-i.i < length (asked c.before).args.cells.now
+on : (c : tie.In-loop-i invariant-loop decreases-loop) → c.loop-i.i < length (asked c.before).args.cells.now
 on c = omega (arith, c.loop-i-test.true)
 
-column-few : (c : tie.In-loop-i invariant-loop decreases-loop) → c.before.loop-i.column < 1048576
+column-few : (c : tie.In-loop-i invariant-loop decreases-loop) → c.loop-i.column < 1048576
 column-few c =
     let s = asked c.before in
-    let l = c.before.loop-i in
+    let l = c.loop-i in
     omega (arith, (place_of (map_here s 0) l.invariant.1 l.invariant.2).0, column-small l.i s.args.width (omega (arith, on c, s.pre.few)))
 
-row-few : (c : tie.In-loop-i invariant-loop decreases-loop) → c.before.loop-i.row < 1048576
+row-few : (c : tie.In-loop-i invariant-loop decreases-loop) → c.loop-i.row < 1048576
 row-few c =
     let s = asked c.before in
-    let l = c.before.loop-i in
+    let l = c.loop-i in
     omega (arith, (place_of (map_here s 0) l.invariant.1 l.invariant.2).1, row_small l.i s.args.width (omega (arith, on c, s.pre.few)))
 
-roomy : (c : tie.At-loop-i invariant-loop decreases-loop) → card_size * (asked c).args.areas ≤ length c.before.before.before.clear.new.0
+roomy : (c : tie.At-loop-i invariant-loop decreases-loop) → card_size * (asked c).args.areas ≤ length c.clear.new.0
 roomy c = omega (arith, (zeroed c 0).long, (asked c).requires.room)
 
 abbrev cell-of : tie.After-label_of invariant-loop decreases-loop → tie.In-loop-i invariant-loop decreases-loop
 cell-of c = c.before.before
 
 most : (c : tie.After-label_of invariant-loop decreases-loop) → c.label_of.result ≤ (asked (cell-of c).before).args.areas
-most c = let turning = cell-of c in omega (arith, c.label_of.ensures, (asked turning.before).pre.each turning.before.loop-i.i (on turning))
+most c = let turning = cell-of c in omega (arith, c.label_of.ensures, (asked turning.before).pre.each turning.loop-i.i (on turning))
 
 label-of-requires : tie.Need-label_of-requires invariant-loop decreases-loop
 label-of-requires c κs = let turning = c.before in omega (arith, on turning, (asked turning.before).pre.long)
@@ -82,7 +82,7 @@ count-cell-requires c κs =
     let label = c.before in
     let turning = cell-of label in
     let s = asked turning.before in (
-      turn-room s.args.labels.now s.pre.few (roomy turning.before) (on turning) (turning.before.loop-i.inv.3 0) label.label_of.ensures
+      turn-room s.args.labels.now s.pre.few (roomy turning.before) (on turning) (turning.loop-i.inv.3 0) label.label_of.ensures
           (most label),
       omega (arith, column-few turning),
       omega (arith, row-few turning),
@@ -91,7 +91,7 @@ count-cell-requires c κs =
 next-row-requires : tie.Need-next_row-row-requires invariant-loop decreases-loop
 next-row-requires c κs =
     let turning = c.before.before.before.before.before.before in
-    (turning.before.loop-i.invariant.2, row-few turning)
+    (turning.loop-i.invariant.2, row-few turning)
 
 loop-again : tie.Need-loop-i-preserved invariant-loop decreases-loop
 loop-again c =
@@ -99,9 +99,9 @@ loop-again c =
     let label = counted.before.before in
     let turning = cell-of label in
     let s = asked turning.before in
-    let inv = turning.before.loop-i.inv in
+    let inv = turning.loop-i.inv in
     let here = place_of (map_here s 0) inv.1 inv.2 in
-    let next = next_place inv.1 inv.2 c.next_column-column.ensures c.before.next_row-row.ensures in (
+    let next = next_place inv.1 inv.2 c.next_column-column.ensures c.next_row-row.ensures in (
       omega (arith, on turning),
       next.0,
       next.1,
@@ -111,11 +111,11 @@ loop-again c =
     )
 
 same_length : tie.Need-shape_of-cards invariant-loop decreases-loop
-same_length c = (turn-since (zeroed c.before 0) (c.before.loop-i.invariant.3 0)).long
+same_length c = (turn-since (zeroed c.before 0) (c.loop-i.invariant.3 0)).long
 
 returns : tie.Need-returns invariant-loop decreases-loop
 returns c =
-    let l = c.before.loop-i in
+    let l = c.loop-i in
     let s = asked c.before in
     let all : l.i ≡ length s.args.cells.now = omega (arith, l.invariant.0, c.loop-i-test.false) in
     λ height. turn_end s.args.labels.now s.pre.room all (turn-since (zeroed c.before height) (l.invariant.3 height))

@@ -13,7 +13,7 @@ returns c =
     let second = third.before.before.before.before in
     let first = second.before.before.before.before in
     let flag = first.before.before in
-    let given = flag.before.before.args in
+    let given = flag.args in
     let s = given.s in
     five-written given.cards.now given.at (cond s.has_ramp 1 0) s.level_0 s.level_1 s.level_2 s.level_3 (omega arith)
     first.write_u32.ensures second.write_u32-2.ensures third.write_u32-3.ensures fourth.write_u32-4.ensures fifth.write_u32-5.ensures

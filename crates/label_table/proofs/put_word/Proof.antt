@@ -7,7 +7,7 @@ use Rattle.label_table.proofs.put_word.Tie as tie
 returns : tie.Need-returns
 returns c =
     let sized : tie.After-size = search in
-    put-at-place _ _ c.before.before.write_u32.ensures (omega (arith, sized.size.ensures.0))
+    put-at-place _ _ c.write_u32.ensures (omega (arith, sized.size.ensures.0))
 
 pub put_word_spec : {M : Type 1} → statement M
 put_word_spec =

@@ -45,7 +45,7 @@ returns c =
     let p = start.pre.0 in
     let n = numbers.number_all.ensures in (
       closed.close_boundaries.ensures ∙ renamed-marks p.labelled n start.args.owners.now 256,
-      restored (c.before.before.forget_all.ensures start.args.work.now (remembered n)) p.room p.zero,
+      restored (c.forget_all.ensures start.args.work.now (remembered n)) p.room p.zero,
     )
 
 pub close_small_spec : {M : Type 1} → statement M

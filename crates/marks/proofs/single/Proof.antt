@@ -29,7 +29,7 @@ loop-again c =
     (omega arith, single-next start.args.owners.now turn.loop-k.k inv.0 inv.1 (omega (arith, c.if-owners-k.false)))
 
 returns-2 : tie.Need-returns invariant-loop decreases-loop
-returns-2 c = λ e i j l m. c.before.loop-k.invariant.1 i j l (omega arith)
+returns-2 c = λ e i j l m. c.loop-k.invariant.1 i j l (omega arith)
 
 pub single_spec : {M : Type 1} → statement M
 single_spec =

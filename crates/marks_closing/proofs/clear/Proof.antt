@@ -31,10 +31,10 @@ loop-again c =
     )
 
 same_length : tie.Need-shape_of-parents invariant-loop decreases-loop
-same_length c = c.before.loop-i.invariant.1.parents-are
+same_length c = c.loop-i.invariant.1.parents-are
 
 same-length-2 : tie.Need-shape_of-heights invariant-loop decreases-loop
-same-length-2 c = c.before.loop-i.invariant.1.heights-are ∙ sym c.before.before.requires.0
+same-length-2 c = c.loop-i.invariant.1.heights-are ∙ sym c.requires.0
 
 returns : tie.Need-returns invariant-loop decreases-loop
 returns c =

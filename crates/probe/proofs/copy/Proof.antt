@@ -48,21 +48,21 @@ loop-holds : tie.Need-loop-k-init invariant-loop decreases-loop
 loop-holds c = record { below = omega arith; begun = refl; same = refl }
 
 slice-write-out : tie.Need-bounds-out-k invariant-loop decreases-loop
-slice-write-out c = omega (arith, c.before.before.loop-k.invariant.same)
+slice-write-out c = omega (arith, c.loop-k.invariant.same)
 
 loop-again : tie.Need-loop-k-preserved invariant-loop decreases-loop
 loop-again c =
     let turn = c.before in
     let head = turn.before in
-    started-next head.loop-k.invariant turn.loop-k-test.true head.before.if-out-n.false
+    started-next head.loop-k.invariant turn.loop-k-test.true head.if-out-n.false
 
 same_length : tie.Need-shape_of-out invariant-loop decreases-loop
-same_length c = c.before.loop-k.invariant.same
+same_length c = c.loop-k.invariant.same
 
 returns-2 : tie.Need-returns invariant-loop decreases-loop
 returns-2 c =
     let head = c.before in
-    (refl, started-end head.loop-k.invariant c.loop-k-test.false head.before.if-out-n.false)
+    (refl, started-end head.loop-k.invariant c.loop-k-test.false head.if-out-n.false)
 
 pub copy_spec : {M : Type 1} → statement M
 copy_spec =

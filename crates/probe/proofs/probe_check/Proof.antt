@@ -7,7 +7,7 @@ use Rattle.probe.proofs.probe_check.Tie as tie
 returns : tie.Need-returns
 returns c =
     let told = c.of_verdict.ensures in
-    let checked = c.before.verdict.ensures in
+    let checked = c.verdict.ensures in
     (told.0 ∙ ap number_of checked, told.1 ∙ ap detail_of checked)
 
 pub probe_check_spec : {M : Type 1} → statement M

@@ -11,7 +11,7 @@ pub bridge_boundary_indices_spec : {M : Type 1} → statement M
 bridge_boundary_indices_spec =
     tie.close
     (tie.spec
-    (λ c. (no-records _ _ _ _ c.before.if-count-eq0.true 256, refl))
+    (λ c. (no-records _ _ _ _ c.if-count-eq0.true 256, refl))
     (λ c. search rules)
     mark-few-requires
     (λ c. search rules)

@@ -58,7 +58,7 @@ returns c =
     let p = start.pre in
     let n = numbers.number_all.ensures in (
       (walked c).walk_all.ensures ∙ small-marks p.2 n start.args.owners.now 256,
-      restored (c.before.before.forget_all.ensures start.args.work.now (remembered n)) p.3 p.4,
+      restored (c.forget_all.ensures start.args.work.now (remembered n)) p.3 p.4,
     )
 
 pub mark_bridges_spec : {M : Type 1} → statement M
@@ -69,7 +69,7 @@ mark_bridges_spec =
     full-graph-requires
     walk-all-requires
     forget-all-requires
-    (λ c. omega (arith, (numbered (linked (walked c))).number_all.auto, c.before.before.forget_all.auto))
+    (λ c. omega (arith, (numbered (linked (walked c))).number_all.auto, c.forget_all.auto))
     (λ c. omega (arith, (numbered (linked (walked c))).number_all.auto))
     (λ c. omega (arith, (numbered (linked (walked c))).number_all.auto))
     (λ c. (linked (walked c)).full_graph.auto.1.1.1.0)

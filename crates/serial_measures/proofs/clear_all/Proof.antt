@@ -23,22 +23,22 @@ Turn = tie.In-loop-k invariant-loop decreases-loop
 abbrev asked : tie.At-loop-k invariant-loop decreases-loop → tie.Start invariant-loop decreases-loop
 asked c = c.before.before
 
-small : (c : Turn) → (c.before.loop-k.k < (asked c.before).args.links) × (c.before.loop-k.k < 256)
+small : (c : Turn) → (c.loop-k.k < (asked c.before).args.links) × (c.loop-k.k < 256)
 small c = (c.loop-k-test.true, omega (arith, c.loop-k-test.true, (asked c.before).pre.2.few))
 
 put-word-requires : tie.Need-put_word-requires invariant-loop decreases-loop
 put-word-requires c κs =
     let turn : Turn = search in
     let p = (asked turn.before).pre in
-    let m = turn.before.loop-k in
-    word-there p.2 turn.loop-k-test.true c.before.size.ensures.0 m.work (omega (arith, p.1, m.inv.1))
+    let m = turn.loop-k in
+    word-there p.2 turn.loop-k-test.true c.size.ensures.0 m.work (omega (arith, p.1, m.inv.1))
 
 loop-again : tie.Need-loop-k-preserved invariant-loop decreases-loop
 loop-again c =
-    let put = c.before.before.put_word in
+    let put = c.put_word in
     let sized : tie.After-size invariant-loop decreases-loop = search in
     let turn : Turn = search in
-    let inv = turn.before.loop-k.inv in (
+    let inv = turn.loop-k.inv in (
       omega (arith, turn.loop-k-test.true),
       put.auto.0 ∙ inv.1,
       λ s L W. clear_next (asked turn.before).pre.2 L.room turn.loop-k-test.true sized.size.ensures.0 (inv.2 s L W) put.ensures,
@@ -46,7 +46,7 @@ loop-again c =
 
 returns : tie.Need-returns invariant-loop decreases-loop
 returns c =
-    let m = c.before.loop-k in
+    let m = c.loop-k in
     let all : m.k ≡ (asked c.before).args.links = omega (arith, m.invariant.0, c.loop-k-test.false) in
     λ s L W. clear-end L (subst (Cleared _ _ _ _ _) all (m.invariant.2 s L W))
 
@@ -65,5 +65,5 @@ clear_all_spec =
     (λ c. omega (arith, small (search)))
     (λ c. omega (arith, small (search)))
     loop-again
-    (λ c. c.before.loop-k.invariant.1)
+    (λ c. c.loop-k.invariant.1)
     returns)

@@ -70,10 +70,10 @@ abbrev asked3 : tie.At-loop-m invariant-loop decreases-loop invariant-loop2 decr
 asked3 c = asked2 c.before.before
 
 -- the link of a turn is one of the list, and of the arrays
-small : (c : Filling) → (c.before.loop-k.k < (asked c.before).args.links) × (c.before.loop-k.k < 256)
+small : (c : Filling) → (c.loop-k.k < (asked c.before).args.links) × (c.loop-k.k < 256)
 small c = (c.loop-k-test.true, omega (arith, c.loop-k-test.true, (asked c.before).requires.4.few))
 
-small3 : (c : Judging) → (c.before.loop-m.m < (asked3 c.before).args.links) × (c.before.loop-m.m < 256)
+small3 : (c : Judging) → (c.loop-m.m < (asked3 c.before).args.links) × (c.loop-m.m < 256)
 small3 c = (c.loop-m-test.true, omega (arith, c.loop-m-test.true, (asked3 c.before).requires.4.few))
 
 -- the cells, and that a turn's is one of them, in a row of the map
@@ -83,13 +83,13 @@ map_here s = record { width = s.args.width; height = s.args.height; cells = s.ar
 cells-few : (s : Start) → length s.args.cells.now ≤ 1048576
 cells-few s = area s.requires.0.wide s.requires.0.high s.requires.1
 
-on : (c : Passing) → c.before.loop-i.i < length (asked2 c.before).args.cells.now
+on : (c : Passing) → c.loop-i.i < length (asked2 c.before).args.cells.now
 on c = omega (arith, c.loop-i-test.true)
 
-low : (c : Passing) → c.before.loop-i.row < 1024
+low : (c : Passing) → c.loop-i.row < 1024
 low c =
     let s = asked2 c.before in
-    let inv = c.before.loop-i.invariant in
+    let inv = c.loop-i.invariant in
     omega (arith, row_below (map_here s) s.pre.1 inv.1 inv.2 (on c), s.pre.0.high)
 
 -- the turn of a cell that has a link's number; the link is one of the arrays
@@ -100,44 +100,44 @@ numbered : (c : Sized) → c.size-j.result < 256
 numbered c =
     let turn = turn-of c in
     let N = (asked2 turn.before).requires.4 in
-    let number = c.before.before.number_at-number in
+    let number = c.number_at-number in
     omega (
       arith,
-      turn_on N (on turn) turn.before.loop-i.inv.3 number.result number.ensures (λ z. omega (arith, z, c.before.if-number-eq0.false)) c.size-j.ensures.0,
+      turn_on N (on turn) turn.loop-i.inv.3 number.result number.ensures (λ z. omega (arith, z, c.if-number-eq0.false)) c.size-j.ensures.0,
       N.few,
     )
 
 link-at-requires-2 : tie.Need-link_at-requires invariant-loop decreases-loop invariant-loop2 decreases-loop2 invariant-loop3 decreases-loop3
 link-at-requires-2 c κs =
     let turning : Filling = search in
-    let k = turning.before.loop-k.k in
+    let k = turning.loop-k.k in
     let p = (asked turning.before).requires in
     (p.2, p.3.first k turning.loop-k-test.true, p.3.second k turning.loop-k-test.true)
 
 loop-again : tie.Need-loop-k-preserved invariant-loop decreases-loop invariant-loop2 decreases-loop2 invariant-loop3 decreases-loop3
 loop-again c =
     let turning : Filling = search in
-    (omega (arith, turning.loop-k-test.true), fill-next turning.before.loop-k.inv.1 (small turning).1 c.link_at.ensures)
+    (omega (arith, turning.loop-k-test.true), fill-next turning.loop-k.inv.1 (small turning).1 c.link_at.ensures)
 
 loop2-holds : tie.Need-loop-i-init invariant-loop decreases-loop invariant-loop2 decreases-loop2 invariant-loop3 decreases-loop3
 loop2-holds c =
     let start = asked c.before in
-    let l = c.before.loop-k in
+    let l = c.loop-k in
     let all : l.k ≡ start.args.links = omega (arith, l.invariant.0, c.loop-k-test.false) in
-    (omega arith, omega arith, start.pre.0.columns, pass-start start.pre.4.few (fill_end all l.invariant.1) c.before.before.none-stats.ensures)
+    (omega arith, omega arith, start.pre.0.columns, pass-start start.pre.4.few (fill_end all l.invariant.1) c.none-stats.ensures)
 
 number-at-requires : tie.Need-number_at-number-requires invariant-loop decreases-loop invariant-loop2 decreases-loop2 invariant-loop3 decreases-loop3
 number-at-requires c κs =
     let turn : Passing = search in
     let start = asked2 turn.before in
-    (on turn, cells-few start, start.pre.4.room, start.pre.4.most turn.before.loop-i.i (on turn))
+    (on turn, cells-few start, start.pre.4.room, start.pre.4.most turn.loop-i.i (on turn))
 
 loop2-again : tie.Need-loop-i-preserved-then-number-eq0 invariant-loop decreases-loop invariant-loop2 decreases-loop2 invariant-loop3 decreases-loop3
 loop2-again c =
     let turn : Passing = search in
-    let inv = turn.before.loop-i.inv in
-    let number = c.before.number_at-number in
-    let p = next_place inv.1 inv.2 c.before.before.next_column-column.ensures c.before.before.before.next_row-row.ensures in (
+    let inv = turn.loop-i.inv in
+    let number = c.number_at-number in
+    let p = next_place inv.1 inv.2 c.next_column-column.ensures c.next_row-row.ensures in (
       omega (arith, on turn),
       p.0,
       p.1,
@@ -149,9 +149,9 @@ with-requires c κs =
     let sized : Sized = search in
     let turn = turn-of sized in
     let start = asked2 turn.before in
-    let inv = turn.before.loop-i.inv in
-    let number = sized.before.before.number_at-number in (
-      turn-room start.pre.4 (on turn) inv.3 number.result number.ensures (λ z. omega (arith, z, sized.before.if-number-eq0.false))
+    let inv = turn.loop-i.inv in
+    let number = sized.number_at-number in (
+      turn-room start.pre.4 (on turn) inv.3 number.result number.ensures (λ z. omega (arith, z, sized.if-number-eq0.false))
           sized.size-j.ensures.0 _ (omega (arith, on turn, cells-few start)),
       omega (arith, inv.2, start.pre.0.wide),
       omega (arith, low turn),
@@ -163,20 +163,20 @@ loop2-again-2 c =
     let numbers = sized.before.before in
     let turn = turn-of sized in
     let start = asked2 turn.before in
-    let inv = turn.before.loop-i.inv in
-    let p = next_place inv.1 inv.2 numbers.before.next_column-column.ensures numbers.before.before.next_row-row.ensures in
+    let inv = turn.loop-i.inv in
+    let p = next_place inv.1 inv.2 numbers.next_column-column.ensures numbers.next_row-row.ensures in
     let q = place_of (map_here start) inv.1 inv.2 in (
       omega (arith, on turn),
       p.0,
       p.1,
       turn_in start.pre.4 (on turn) inv.3 numbers.number_at-number.result numbers.number_at-number.ensures
-          (λ z. omega (arith, z, sized.before.if-number-eq0.false)) sized.size-j.ensures.0 q.0 q.1 _ _ c.before.before.before.at.ensures
+          (λ z. omega (arith, z, sized.if-number-eq0.false)) sized.size-j.ensures.0 q.0 q.1 _ _ c.at.ensures
           c.with.ensures,
     )
 
 loop3-holds : tie.Need-loop-m-init invariant-loop decreases-loop invariant-loop2 decreases-loop2 invariant-loop3 decreases-loop3
 loop3-holds c =
-    let l = c.before.loop-i in
+    let l = c.loop-i in
     let all : l.i ≡ length (asked2 c.before).args.cells.now = omega (arith, l.invariant.0, c.loop-i-test.false) in
     (omega arith, pass-end all l.invariant.3, judge-start _)
 
@@ -185,7 +185,7 @@ loop3-again c =
     let flat = c.before.before in
     let marked = flat.before.before.before in
     let turn : Judging = search in
-    let inv = turn.before.loop-m.inv in (
+    let inv = turn.loop-m.inv in (
       omega (arith, turn.loop-m-test.true),
       inv.1,
       judge-row _ _ _ _ (asked3 turn.before).requires.4.few turn.loop-m-test.true inv.1 inv.2 marked.passing_mark.ensures
@@ -194,7 +194,7 @@ loop3-again c =
 
 returns : tie.Need-returns invariant-loop decreases-loop invariant-loop2 decreases-loop2 invariant-loop3 decreases-loop3
 returns c =
-    let l = c.before.loop-m in
+    let l = c.loop-m in
     let all : l.m ≡ (asked3 c.before).args.links = omega (arith, l.invariant.0, c.loop-m-test.false) in
     judge-end all l.invariant.2
 
@@ -208,7 +208,7 @@ measure_all_spec =
     decreases-loop2
     invariant-loop3
     decreases-loop3
-    (λ c κs. (c.before.before.before.before.before.requires.2, omega arith, omega arith))
+    (λ c κs. (c.requires.2, omega arith, omega arith))
     (λ c κs. search rules)
     (λ c. (omega arith, fill_start _ _ _ _ _))
     (λ c. omega (arith, small (search)))
@@ -222,8 +222,8 @@ measure_all_spec =
     (λ c. omega (arith, small (search)))
     loop-again
     loop2-holds
-    (λ c κs. (c.before.loop-i.invariant.2, omega (arith, low c)))
-    (λ c κs. c.before.before.loop-i.invariant.2)
+    (λ c κs. (c.loop-i.invariant.2, omega (arith, low c)))
+    (λ c κs. c.loop-i.invariant.2)
     (λ c. omega (arith, on (search), cells-few (search)))
     number-at-requires
     (λ c. omega (arith, on (search)))
@@ -233,13 +233,13 @@ measure_all_spec =
     (λ c. omega (arith, c.size-j.ensures.1))
     (λ c. omega (arith, numbered (search)))
     (λ c κs. search rules)
-    (λ c. omega (arith, c.before.before.size-j.ensures.1))
+    (λ c. omega (arith, c.size-j.ensures.1))
     (λ c. omega (arith, numbered (search)))
-    (λ c. omega (arith, c.before.before.size-j.ensures.1))
+    (λ c. omega (arith, c.size-j.ensures.1))
     (λ c. omega (arith, numbered (search)))
     (λ c. omega (arith, on (search)))
     with-requires
-    (λ c. omega (arith, c.before.before.before.before.before.size-j.ensures.1))
+    (λ c. omega (arith, c.size-j.ensures.1))
     (λ c. omega (arith, numbered (search)))
     (λ c. omega (arith, on (search)))
     loop2-again-2

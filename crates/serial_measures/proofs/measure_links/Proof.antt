@@ -52,7 +52,7 @@ returns-3 c =
     let a = start.args in
     let labels = start.pre.2 in
     let numbers = numbered.number_all.ensures in (
-      c.before.before.clear_all.ensures a.work.now labels numbers,
+      c.clear_all.ensures a.work.now labels numbers,
       measured-by (labels-many a.work.now (length a.cells.now)) (written-labels labels numbers) measured.measure_all.ensures,
     )
 

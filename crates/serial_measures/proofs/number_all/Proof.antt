@@ -20,15 +20,15 @@ Turn = tie.In-loop-k invariant-loop decreases-loop
 abbrev asked : tie.At-loop-k invariant-loop decreases-loop → tie.Start invariant-loop decreases-loop
 asked c = c.before.before
 
-small : (c : Turn) → (c.before.loop-k.k < (asked c.before).args.links) × (c.before.loop-k.k < 256)
+small : (c : Turn) → (c.loop-k.k < (asked c.before).args.links) × (c.loop-k.k < 256)
 small c = (c.loop-k-test.true, omega (arith, c.loop-k-test.true, (asked c.before).pre.2.few))
 
 put-word-requires : tie.Need-put_word-requires invariant-loop decreases-loop
 put-word-requires c κs =
     let turn : Turn = search in
     let p = (asked turn.before).pre in
-    let m = turn.before.loop-k in
-    word-there p.2 turn.loop-k-test.true c.before.size.ensures.0 m.work (omega (arith, p.1.room, m.inv.1.table.as_long))
+    let m = turn.loop-k in
+    word-there p.2 turn.loop-k-test.true c.size.ensures.0 m.work (omega (arith, p.1.room, m.inv.1.table.as_long))
 
 loop-again : tie.Need-loop-k-preserved invariant-loop decreases-loop
 loop-again c =
@@ -36,12 +36,12 @@ loop-again c =
     let turn : Turn = search in
     let p = (asked turn.before).pre in (
       omega (arith, turn.loop-k-test.true),
-      write-next p.2 p.1.room turn.loop-k-test.true sized.size.ensures.0 turn.before.loop-k.inv.1 c.before.before.put_word.ensures,
+      write-next p.2 p.1.room turn.loop-k-test.true sized.size.ensures.0 turn.loop-k.inv.1 c.put_word.ensures,
     )
 
 returns : tie.Need-returns invariant-loop decreases-loop
 returns c =
-    let m = c.before.loop-k in
+    let m = c.loop-k in
     let all : m.k ≡ (asked c.before).args.links = omega (arith, m.invariant.0, c.loop-k-test.false) in
     subst (Written _ _ _ _) all m.invariant.1
 
@@ -52,7 +52,7 @@ number_all_spec =
     invariant-loop
     decreases-loop
     (λ c. search rules)
-    (λ c. (omega arith, write-start _ c.before.requires.1))
+    (λ c. (omega arith, write-start _ c.requires.1))
     (λ c κs. search rules)
     (λ c. search rules)
     (λ c. omega (arith, c.size.ensures.0, small (search)))
@@ -61,5 +61,5 @@ number_all_spec =
     (λ c. omega (arith, small (search)))
     (λ c. omega (arith, small (search)))
     loop-again
-    (λ c. c.before.loop-k.invariant.1.table.as_long)
+    (λ c. c.loop-k.invariant.1.table.as_long)
     returns)

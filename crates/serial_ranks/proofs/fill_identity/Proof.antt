@@ -15,15 +15,15 @@ decreases-loop order₀ i₀ order i = 256 - i
 
 loop-again : tie.Need-loop-i-preserved invariant-loop decreases-loop
 loop-again c =
-    let inv = c.before.loop-i.invariant in (
-      length-set c.before.loop-i.order c.before.loop-i.i c.before.loop-i.i ∙ inv.0,
-      identity-next c.before.loop-i.i c.before.loop-i.order inv.0 (omega (arith, c.loop-i-test.true)) inv.1,
+    let inv = c.loop-i.invariant in (
+      length-set c.loop-i.order c.loop-i.i c.loop-i.i ∙ inv.0,
+      identity-next c.loop-i.i c.loop-i.order inv.0 (omega (arith, c.loop-i-test.true)) inv.1,
       omega (arith, c.loop-i-test.true),
     )
 
 returns : tie.Need-returns invariant-loop decreases-loop
 returns c =
-    let inv = c.before.loop-i.invariant in
+    let inv = c.loop-i.invariant in
     record { whole = inv.0; each = λ k h. inv.1 k (omega (arith, c.loop-i-test.false)) }
 
 pub fill_identity_spec : {M : Type 1} → statement M

@@ -15,7 +15,7 @@ abbrev decreases-loop : tie.decreases-loop-i
 decreases-loop s at n first₀ second₀ i₀ first second i = n - i
 
 loop-holds : tie.Need-loop-i-init invariant-loop decreases-loop
-loop-holds c = (keys-start c.before.requires.2 c.before.requires.3, omega arith)
+loop-holds c = (keys-start c.requires.2 c.requires.3, omega arith)
 
 -- the start
 abbrev Start : Type 0
@@ -26,16 +26,16 @@ loop-again c =
     let read = c.before.before.before in
     let turning = read.before in
     let start : Start = search in (
-      keys-next turning.before.loop-i.invariant.0 (omega (arith, turning.loop-i-test.true, start.pre.0))
-          (c.before.before.canonical-ends.ensures ∙ ap canonical read.read_span.ensures) c.before.pack.ensures c.pack-in-loop-i.ensures,
+      keys-next turning.loop-i.invariant.0 (omega (arith, turning.loop-i-test.true, start.pre.0))
+          (c.canonical-ends.ensures ∙ ap canonical read.read_span.ensures) c.pack.ensures c.pack-in-loop-i.ensures,
       omega (arith, turning.loop-i-test.true),
     )
 
 returns : tie.Need-returns invariant-loop decreases-loop
 returns c =
     let start : Start = search in
-    let inv = c.before.loop-i.invariant in
-    let e : c.before.loop-i.i ≡ start.args.n = omega (arith, inv.1, c.loop-i-test.false) in rw (← e) inv.0
+    let inv = c.loop-i.invariant in
+    let e : c.loop-i.i ≡ start.args.n = omega (arith, inv.1, c.loop-i-test.false) in rw (← e) inv.0
 
 pub fill_keys_spec : {M : Type 1} → statement M
 fill_keys_spec =

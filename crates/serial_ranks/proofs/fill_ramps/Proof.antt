@@ -21,15 +21,15 @@ loop-again : tie.Need-loop-i-preserved invariant-loop decreases-loop
 loop-again c =
     let turning = c.before.before in
     let start : Start = search in (
-      ramps-next turning.before.loop-i.invariant.0 (omega (arith, turning.loop-i-test.true, start.pre.0.few)) c.before.record_place-place.ensures.0,
+      ramps-next turning.loop-i.invariant.0 (omega (arith, turning.loop-i-test.true, start.pre.0.few)) c.record_place-place.ensures.0,
       omega (arith, turning.loop-i-test.true),
     )
 
 returns : tie.Need-returns invariant-loop decreases-loop
 returns c =
     let start : Start = search in
-    let inv = c.before.loop-i.invariant in
-    let e : c.before.loop-i.i ≡ start.args.n = omega (arith, inv.1, c.loop-i-test.false) in rw (← e) inv.0
+    let inv = c.loop-i.invariant in
+    let e : c.loop-i.i ≡ start.args.n = omega (arith, inv.1, c.loop-i-test.false) in rw (← e) inv.0
 
 pub fill_ramps_spec : {M : Type 1} → statement M
 fill_ramps_spec =
@@ -37,7 +37,7 @@ fill_ramps_spec =
     (tie.spec
     invariant-loop
     decreases-loop
-    (λ c. (ramps-start c.before.requires.1, omega arith))
+    (λ c. (ramps-start c.requires.1, omega arith))
     (λ c κs. search rules)
     (λ c. search rules)
     (λ c. search rules)

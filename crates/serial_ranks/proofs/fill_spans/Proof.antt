@@ -24,16 +24,16 @@ loop-again c =
     let turning : tie.In-loop-i invariant-loop decreases-loop = search in
     let placed : tie.After-record_place-place invariant-loop decreases-loop = search in
     rw c.put_span.ensures (
-      spans-next turning.before.loop-i.inv.0 (omega (arith, turning.loop-i-test.true, start.pre.0.few)) placed.record_place-place.ensures.0
-          (c.before.canonical.ensures ∙ ap canonical c.before.before.read_span.ensures),
+      spans-next turning.loop-i.inv.0 (omega (arith, turning.loop-i-test.true, start.pre.0.few)) placed.record_place-place.ensures.0
+          (c.canonical.ensures ∙ ap canonical c.read_span.ensures),
       omega (arith, turning.loop-i-test.true),
     )
 
 returns : tie.Need-returns invariant-loop decreases-loop
 returns c =
     let start : Start = search in
-    let inv = c.before.loop-i.invariant in
-    let e : c.before.loop-i.i ≡ start.args.n = omega (arith, inv.1, c.loop-i-test.false) in rw (← e) inv.0
+    let inv = c.loop-i.invariant in
+    let e : c.loop-i.i ≡ start.args.n = omega (arith, inv.1, c.loop-i-test.false) in rw (← e) inv.0
 
 pub fill_spans_spec : {M : Type 1} → statement M
 fill_spans_spec =

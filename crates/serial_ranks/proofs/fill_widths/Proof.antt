@@ -21,7 +21,7 @@ loop-again : tie.Need-loop-i-preserved invariant-loop decreases-loop
 loop-again c =
     let turning = c.before.before in
     let start : Start = search in (
-      widths-next turning.before.loop-i.invariant.0 (omega (arith, turning.loop-i-test.true, start.pre.0.few)) c.before.record_place-place.ensures.0
+      widths-next turning.loop-i.invariant.0 (omega (arith, turning.loop-i-test.true, start.pre.0.few)) c.record_place-place.ensures.0
           c.read_u64.ensures,
       omega (arith, turning.loop-i-test.true),
     )
@@ -29,8 +29,8 @@ loop-again c =
 returns : tie.Need-returns invariant-loop decreases-loop
 returns c =
     let start : Start = search in
-    let inv = c.before.loop-i.invariant in
-    let e : c.before.loop-i.i ≡ start.args.n = omega (arith, inv.1, c.loop-i-test.false) in rw (← e) inv.0
+    let inv = c.loop-i.invariant in
+    let e : c.loop-i.i ≡ start.args.n = omega (arith, inv.1, c.loop-i-test.false) in rw (← e) inv.0
 
 pub fill_widths_spec : {M : Type 1} → statement M
 fill_widths_spec =

@@ -43,7 +43,7 @@ returns-2 : tie.Need-returns
 returns-2 c =
     let few : tie.Else-most-pairs = search in
     let r = (parted few.before).partition_by_spans-p.ensures in
-    let e = c.before.before.bridge_boundary_indices.ensures in
+    let e = c.bridge_boundary_indices.ensures in
     (rw e.1 r, bridged r e.0)
 
 pub analyse_spec : {M : Type 1} → statement M

@@ -13,13 +13,13 @@ start_of c = c.before.before.before.before.before
 abbrev counted : tie.After-fill_keys → tie.After-size-at
 counted c = c.before.before.before
 
-few : (c : tie.After-size-at) → c.before.size-n.result ≤ 256
-few c = (keys_in_lem (start_of c).requires.0 _ _ c.size-at.ensures.0 c.before.size-n.ensures.0).0
+few : (c : tie.After-size-at) → c.size-n.result ≤ 256
+few c = (keys_in_lem (start_of c).requires.0 _ _ c.size-at.ensures.0 c.size-n.ensures.0).0
 
 fill-keys-requires : tie.Need-fill_keys-requires
 fill-keys-requires c κs =
     let counts = c.before.before in
-    let k = keys_in_lem (start_of counts).requires.0 _ _ counts.size-at.ensures.0 counts.before.size-n.ensures.0 in
+    let k = keys_in_lem (start_of counts).requires.0 _ _ counts.size-at.ensures.0 counts.size-n.ensures.0 in
     (k.0, k.1, refl, refl)
 
 sort-ranks-requires : tie.Need-sort_ranks-requires
@@ -34,7 +34,7 @@ returns c =
     let keys : tie.After-fill_keys = search in
     let counts = counted keys in
     let start = start_of counts in
-    headed-ranked start.pre.0 _ _ counts.size-at.ensures.0 counts.before.size-n.ensures.0 _ keys.fill_keys.ensures
+    headed-ranked start.pre.0 _ _ counts.size-at.ensures.0 counts.size-n.ensures.0 _ keys.fill_keys.ensures
     (omega (arith, few counts, start.pre.1)) c.sort_ranks.ensures
 
 pub order_boundaries_spec : {M : Type 1} → statement M

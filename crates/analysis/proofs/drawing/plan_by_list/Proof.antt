@@ -6,7 +6,7 @@ use Rattle.analysis.proofs.drawing.plan_by_list.Tie as tie
 returns-2 : tie.Need-returns
 returns-2 c =
     let start : tie.Start = search in
-    c.before.before.plan_unmatched.ensures (limits_of start.args.limits)
+    c.plan_unmatched.ensures (limits_of start.args.limits)
 
 pub plan_by_list_spec : {M : Type 1} → statement M
 plan_by_list_spec =

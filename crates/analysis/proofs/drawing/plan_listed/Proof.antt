@@ -50,7 +50,7 @@ plan-matched-requires c κs =
 returns : tie.Need-returns
 returns c =
     let spans : tie.After-fill_spans = search in
-    c.before.before.plan_matched.ensures _ (listed spans)
+    c.plan_matched.ensures _ (listed spans)
 
 pub plan_listed_spec : {M : Type 1} → statement M
 plan_listed_spec =

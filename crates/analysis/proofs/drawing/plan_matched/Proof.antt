@@ -31,7 +31,7 @@ plan-many-requires-2 c κs =
 returns-3 : tie.Need-returns
 returns-3 c =
     let tried : tie.After-plan_few-pairs = search in
-    λ ss e. parted-again (tried.plan_few-pairs.ensures.0 ss e) (c.before.before.plan_many-2.ensures ss e)
+    λ ss e. parted-again (tried.plan_few-pairs.ensures.0 ss e) (c.plan_many-2.ensures ss e)
 
 pub plan_matched_spec : {M : Type 1} → statement M
 plan_matched_spec =

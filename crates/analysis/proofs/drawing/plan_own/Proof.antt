@@ -23,12 +23,12 @@ own : (c : tie.After-fill_spans)
     → EndsBy (given c).args.job.now (given c).args.order.now c.fill_spans.new.1.1.1.1.1.0 (own_ends (decode (given c).args.job.now))
 own c =
     let counts = counted c in
-    own-by (given c).requires.0.job _ _ counts.size-at.ensures.0 counts.before.size-count.ensures.0 c.fill_spans.ensures
+    own-by (given c).requires.0.job _ _ counts.size-at.ensures.0 counts.size-count.ensures.0 c.fill_spans.ensures
 
 fill-spans-requires : tie.Need-fill_spans-requires
 fill-spans-requires c κs =
     let counts = c.before in
-    (plan-records (start_of counts).requires.0.job _ _ counts.size-at.ensures.0 counts.before.size-count.ensures.0, refl)
+    (plan-records (start_of counts).requires.0.job _ _ counts.size-at.ensures.0 counts.size-count.ensures.0, refl)
 
 plan-matched-requires : tie.Need-plan_matched-requires
 plan-matched-requires c κs =
@@ -37,7 +37,7 @@ plan-matched-requires c κs =
     let start = start_of counts in
     let p = start.pre.0 in (
       p,
-      own-fit p.job _ _ counts.size-at.ensures.0 counts.before.size-count.ensures.0 spans.fill_spans.ensures start.pre.1,
+      own-fit p.job _ _ counts.size-at.ensures.0 counts.size-count.ensures.0 spans.fill_spans.ensures start.pre.1,
       record { spans = _; are = own spans },
       start.pre.2,
       start.pre.3,
@@ -47,7 +47,7 @@ plan-matched-requires c κs =
 returns : tie.Need-returns
 returns c =
     let spans : tie.After-fill_spans = search in
-    c.before.before.plan_matched.ensures _ (own spans)
+    c.plan_matched.ensures _ (own spans)
 
 pub plan_own_spec : {M : Type 1} → statement M
 plan_own_spec =

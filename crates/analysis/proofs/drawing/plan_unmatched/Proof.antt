@@ -53,7 +53,7 @@ returns c =
     let start = start_of size in
     λ l. unmatched-drawn start.pre.0 _ start.pre.2 _ start.pre.3 order.fill_identity.ensures
     spans.fill_spans.ensures _ size.size-cells.ensures.0 l (directions_of start.args.directions) start.pre.4
-    c.before.before.find_areas-p.ensures
+    c.find_areas-p.ensures
 
 pub plan_unmatched_spec : {M : Type 1} → statement M
 plan_unmatched_spec =

@@ -12,7 +12,7 @@ returns-2 c =
 returns-3 : tie.Need-returns
 returns-3 c =
     let tried : tie.After-marks_few-pairs = search in
-    parted-again tried.marks_few-pairs.ensures c.before.before.marks_many-2.ensures
+    parted-again tried.marks_few-pairs.ensures c.marks_many-2.ensures
 
 pub find_marks_spec : {M : Type 1} → statement M
 find_marks_spec =

@@ -34,7 +34,7 @@ mark-boundaries-requires c κs =
 returns-2 : tie.Need-returns
 returns-2 c =
     let few : tie.Else-most-pairs = search in
-    let e = c.before.before.mark_boundaries.ensures in
+    let e = c.mark_boundaries.ensures in
     marked-within (parted few.before).partition_by_spans-p.ensures e.1 e.0
 
 pub mark_spans_spec : {M : Type 1} → statement M

@@ -12,7 +12,7 @@ returns-2 c =
 returns-3 : tie.Need-returns
 returns-3 c =
     let parted : tie.After-areas_few-p = search in
-    parted-again parted.areas_few-p.ensures c.before.before.areas_many-2.ensures
+    parted-again parted.areas_few-p.ensures c.areas_many-2.ensures
 
 pub find_areas_spec : {M : Type 1} → statement M
 find_areas_spec =

@@ -22,7 +22,7 @@ start_of c = c.before.before.before.before
 answered : (c : tie.After-first_answer-r)
     → FirstAnswer (first_refusal (reduce_checks (start_of c).args.job.now)) (work_size (decode (start_of c).args.job.now))
     (length (start_of c).args.work.now) c.first_answer-r.result.number c.first_answer-r.result.detail
-answered c = first_of c.before.check_reduce.ensures c.first_answer-r.ensures
+answered c = first_of c.check_reduce.ensures c.first_answer-r.ensures
 
 -- past the checks and 21: the first answer, and what the function is given
 abbrev first : tie.Else-r-gt0 → tie.After-first_answer-r

@@ -20,7 +20,7 @@ start_of c = c.before.before.before
 
 -- past the checks
 passed : (c : tie.Else-not-passed) → meaning (start_of c).args.v ≡ none
-passed c = passes_none _ (accepted {o = meaning (start_of c).args.v} refl c.before.passed.ensures c.if-not-passed.false)
+passed c = passes_none _ (accepted {o = meaning (start_of c).args.v} refl c.passed.ensures c.if-not-passed.false)
 
 job-passes : (c : tie.Else-not-passed) → first_refusal (job_checks (start_of c).args.job.now) ≡ none
 job-passes c = (start_of c).requires.0 (passed c)
@@ -43,8 +43,8 @@ asked c =
 returns : tie.Need-returns-then-not-passed
 returns c =
     let checked = c.before.before in
-    let v = checked.before.before.args.v in
-    let no = declined {o = meaning v} refl checked.passed.ensures c.before.if-not-passed.true in
+    let v = checked.args.v in
+    let no = declined {o = meaning v} refl checked.passed.ensures c.if-not-passed.true in
     let told = c.of_verdict.ensures in
     refused no (omega (arith, numbered v no, told.0)) told.0 told.1
 

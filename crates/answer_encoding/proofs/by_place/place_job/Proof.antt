@@ -36,18 +36,18 @@ named c = search
 
 -- the job's counts and offsets, once the first three are read: the observations' offset is `ats`, that of the sources is `from`
 places : (c : tie.After-size-m) {ats from : ℕ} → ats ≡ (given c).args.h.offsets.observations → from ≡ (given c).args.h.offsets.sources
-    → JobPlaces (given c).args.job.now c.before.before.size-at.result c.before.size-n.result ats c.size-m.result from
+    → JobPlaces (given c).args.job.now c.size-at.result c.size-n.result ats c.size-m.result from
     (given c).args.h.counts.sources
 places c e f =
     let start = given c in
     job-places start.args.job.now start.pre.0.passed
-    (words-read start.args.job.now start.pre.0.passed start.args.h start.pre.0.header c.before.before.size-at.ensures.0
-    c.before.size-n.ensures.0 e c.size-m.ensures.0 f refl)
+    (words-read start.args.job.now start.pre.0.passed start.args.h start.pre.0.header c.size-at.ensures.0
+    c.size-n.ensures.0 e c.size-m.ensures.0 f refl)
 
 all : (c : tie.After-size-2)
-    → JobPlaces (given (counted c)).args.job.now (counted c).before.before.size-at.result (counted c).before.size-n.result c.before.size.result
+    → JobPlaces (given (counted c)).args.job.now (counted c).size-at.result (counted c).size-n.result c.size.result
     (counted c).size-m.result c.size-2.result (given (counted c)).args.h.counts.sources
-all c = places (counted c) c.before.size.ensures.0 c.size-2.ensures.0
+all c = places (counted c) c.size.ensures.0 c.size-2.ensures.0
 
 mark-standing-requires : tie.Need-mark_standing-requires
 mark-standing-requires c κs =
@@ -56,7 +56,7 @@ mark-standing-requires c κs =
     let j = places three refl refl in (
       j.countable.boundary-limit,
       j.countable.boundaries-in,
-      subst (λ (k : ℕ). PlacesOrder start.args.order.now k) (sym three.before.size-n.ensures.0) start.pre.0.ordered,
+      subst (λ (k : ℕ). PlacesOrder start.args.order.now k) (sym three.size-n.ensures.0) start.pre.0.ordered,
       start.pre.3,
     )
 
@@ -65,7 +65,7 @@ place-all-requires c κs =
     let five : tie.After-size-2 = search in
     let three = counted five in
     let start = given three in
-    (all-places (all five), place-room (all five) (work-same three.before.size-n.ensures.0 three.size-m.ensures.0 start.pre.1) start.pre.2)
+    (all-places (all five), place-room (all five) (work-same three.size-n.ensures.0 three.size-m.ensures.0 start.pre.1) start.pre.2)
 
 returns : tie.Need-returns
 returns c =
@@ -74,12 +74,12 @@ returns c =
     let five = read placed in
     let three = counted five in
     let start = given three in
-    worked_same (sym three.before.before.size-at.ensures.0) (sym three.before.size-n.ensures.0) (sym five.before.size.ensures.0)
+    worked_same (sym three.size-at.ensures.0) (sym three.size-n.ensures.0) (sym five.size.ensures.0)
     (sym three.size-m.ensures.0) (sym five.size-2.ensures.0)
     (worked-out (all five) (marked five).mark_standing.ensures placed.place_all.ensures.0 placed.place_all.ensures.1
     (omega (arith, (keyed starts).keys.given, start.pre.1.keys-few))
-    (omega (arith, (named starts).firsts.given, start.pre.1.firsts-room, three.before.size-n.ensures.0))
-    (omega (arith, starts.starts.given, start.pre.1.starts-room, three.before.size-n.ensures.0, three.size-m.ensures.0)))
+    (omega (arith, (named starts).firsts.given, start.pre.1.firsts-room, three.size-n.ensures.0))
+    (omega (arith, starts.starts.given, start.pre.1.starts-room, three.size-n.ensures.0, three.size-m.ensures.0)))
 
 pub place_job_spec : {M : Type 1} → statement M
 place_job_spec =

@@ -35,31 +35,31 @@ kept c = gathered (lent c)
 
 -- the header's words, once those are read that the code needs
 words : (c : tie.After-size-base)
-    → Words (given c).args.job.now (given c).requires.0.passed c.before.before.before.size-at.result c.before.before.size-n.result
-    (given c).args.h.offsets.observations c.size-base.result c.before.size-from.result (given c).args.h.counts.sources
+    → Words (given c).args.job.now (given c).requires.0.passed c.size-at.result c.size-n.result
+    (given c).args.h.offsets.observations c.size-base.result c.size-from.result (given c).args.h.counts.sources
 words c =
     let start = given c in
-    words-read start.args.job.now start.pre.0.passed start.args.h start.pre.0.header c.before.before.before.size-at.ensures.0
-    c.before.before.size-n.ensures.0 refl c.size-base.ensures.0 c.before.size-from.ensures.0 refl
+    words-read start.args.job.now start.pre.0.passed start.args.h start.pre.0.header c.size-at.ensures.0
+    c.size-n.ensures.0 refl c.size-base.ensures.0 c.size-from.ensures.0 refl
 
-ordered : (c : tie.After-size-base) → PlacesOrder (given c).args.order.now c.before.before.size-n.result
-ordered c = subst (λ (k : ℕ). PlacesOrder (given c).args.order.now k) (sym c.before.before.size-n.ensures.0) (given c).requires.0.ordered
+ordered : (c : tie.After-size-base) → PlacesOrder (given c).args.order.now c.size-n.result
+ordered c = subst (λ (k : ℕ). PlacesOrder (given c).args.order.now k) (sym c.size-n.ensures.0) (given c).requires.0.ordered
 
 -- what was worked out, by the words that were read
 worked : (c : tie.After-size-base)
-    → WorkedOut (given c).args.job.now c.before.before.before.size-at.result c.before.before.size-n.result
-    (given c).args.h.offsets.observations c.size-base.result c.before.size-from.result (given c).args.h.counts.sources (given c).args.order.now
+    → WorkedOut (given c).args.job.now c.size-at.result c.size-n.result
+    (given c).args.h.offsets.observations c.size-base.result c.size-from.result (given c).args.h.counts.sources (given c).args.order.now
     (given c).args.plan.now (given c).args.stands.now (given c).args.firsts.now (given c).args.first.now (given c).args.second.now
     (given c).args.third.now (given c).args.starts.now (given c).args.counts.now (given c).args.keys.now
 worked c =
-    worked_same c.before.before.before.size-at.ensures.0 c.before.before.size-n.ensures.0 refl c.size-base.ensures.0
-    c.before.size-from.ensures.0 (given c).requires.1
+    worked_same c.size-at.ensures.0 c.size-n.ensures.0 refl c.size-base.ensures.0
+    c.size-from.ensures.0 (given c).requires.1
 
 gather-kept-requires : tie.Need-gather_kept-count-requires
 gather-kept-requires c κs =
     let four : tie.After-size-base = search in
     gather-room (job-places _ _ (words four)) (worked four)
-    (arrays-same four.before.before.size-n.ensures.0 four.size-base.ensures.0 (given four).pre.2) (ordered four)
+    (arrays-same four.size-n.ensures.0 four.size-base.ensures.0 (given four).pre.2) (ordered four)
 
 write-kept-requires : tie.Need-write_kept-requires
 write-kept-requires c κs =
@@ -68,7 +68,7 @@ write-kept-requires c κs =
     let j = job-places _ _ (words four) in
     let both = found.gather_kept-count.ensures _ _ (worked four).placed in
     record {
-      n = four.before.before.size-n.result;
+      n = four.size-n.result;
       ks = _;
       many = sym both.1;
       gathered = both.0;

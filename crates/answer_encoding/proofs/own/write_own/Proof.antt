@@ -16,7 +16,7 @@ returns c =
     let known : tie.After-shared_slice_known-1 = search in
     let moved : tie.After-write_places = search in
     own-sorted start.pre (λ i. omega (arith, known.shared_slice_known-1.given i)) (λ i. omega (arith, c.slice_known-3-1.given i))
-    moved.write_places.ensures (sorted-at c.before.before.sort_sources.ensures (omega arith) (omega arith))
+    moved.write_places.ensures (sorted-at c.sort_sources.ensures (omega arith) (omega arith))
 
 pub write_own_spec : {M : Type 1} → statement M
 write_own_spec = tie.close (tie.spec (λ c κs. search rules) sort-sources-requires (λ c. search rules) returns)

@@ -19,12 +19,12 @@ loop-holds : tie.Need-loop-i-init invariant-loop decreases-loop
 loop-holds c = (omega arith, writes_start _ _ _)
 
 -- the source that is read is in the job, once its place is known
-inside : (c : tie.After-place invariant-loop decreases-loop) → c.before.before.before.before.before.before.args.from + (c.place.result + 1) * 8
-    ≤ length c.before.before.before.before.before.before.args.job.now
+inside : (c : tie.After-place invariant-loop decreases-loop) → c.args.from + (c.place.result + 1) * 8
+    ≤ length c.args.job.now
 inside c =
     let start : tie.Start invariant-loop decreases-loop = search in
     let in-loop : tie.At-loop-i invariant-loop decreases-loop = search in
-    omega (arith, start.pre.inside in-loop.loop-i.i c.before.loop-i-test.true, c.place.ensures.0)
+    omega (arith, start.pre.inside in-loop.loop-i.i c.loop-i-test.true, c.place.ensures.0)
 
 add-place : tie.Need-overflow_add-a invariant-loop decreases-loop
 add-place c =
@@ -67,20 +67,20 @@ loop-again c =
     let long = pieces-long start.args.job.now start.args.from start.args.owned.now start.args.a in (
       omega arith,
       writes-next _ _ in-loop.loop-i.inv.1 (omega (arith, long (k + 1), start.pre.room)) (omega (arith, long k))
-          c.before.before.write_u64.ensures
+          c.write_u64.ensures
           (own-moved start.args.job.now start.args.from start.args.owned.now start.args.a k
-          (λ i. omega (arith, known.shared_slice_known-1.given i)) (start.pre.inside k placed.before.loop-i-test.true) placed.place.ensures.0
+          (λ i. omega (arith, known.shared_slice_known-1.given i)) (start.pre.inside k placed.loop-i-test.true) placed.place.ensures.0
           read.read_u64.ensures),
     )
 
 same_length : tie.Need-shape_of-s invariant-loop decreases-loop
-same_length c = c.before.loop-i.invariant.1.long
+same_length c = c.loop-i.invariant.1.long
 
 returns : tie.Need-returns invariant-loop decreases-loop
 returns c =
     let start : tie.Start invariant-loop decreases-loop = search in
     let a = start.args in
-    let inv = c.before.loop-i.invariant in
+    let inv = c.loop-i.invariant in
     writes_end inv.1 inv.0 (omega arith) ∙ ap (splice a.s.now a.at) (moved-flat a.job.now a.from a.owned.now a.a a.n)
 
 pub write_places_spec : {M : Type 1} → statement M

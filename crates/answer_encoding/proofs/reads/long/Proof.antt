@@ -6,7 +6,7 @@ use Rattle.answer_encoding.proofs.reads.long.Statement.{statement}
 use Rattle.answer_encoding.proofs.reads.long.Tie as tie
 
 returns-2 : tie.Need-returns-else-i-xs
-returns-2 c = sym (get_or-eq_default c.before.args.xs.now 0 (omega arith))
+returns-2 c = sym (get_or-eq_default c.args.xs.now 0 (omega arith))
 
 pub long_spec : {M : Type 1} → statement M
 long_spec = tie.close (tie.spec (λ c. search rules) (λ c. search rules) (λ c. search rules) returns-2)

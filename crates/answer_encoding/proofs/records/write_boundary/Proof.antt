@@ -20,7 +20,7 @@ returns c =
     boundary-written s start.args.at start.args.x start.args.own start.args.seen (omega arith)
     (span.write_span.ensures ∙ ap (λ (e : Span). splice s start.args.at (span_bytes e)) ends.canonical.ensures)
     bits.write_u64.ensures own.write_u32.ensures seen.write_u32-2.ensures
-    c.before.before.write_ramp.ensures
+    c.write_ramp.ensures
 
 pub write_boundary_spec : {M : Type 1} → statement M
 write_boundary_spec =

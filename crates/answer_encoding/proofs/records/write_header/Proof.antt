@@ -14,7 +14,7 @@ returns c =
     let start = first.before.before.before in
     header-written start.args.s.now start.args.b start.args.o start.args.n (omega arith) first.write_u32.ensures
     second.write_u32-2.ensures third.write_u32-3.ensures fourth.write_u32-4.ensures
-    fifth.write_u32-5.ensures c.before.before.write_u32-6.ensures
+    fifth.write_u32-5.ensures c.write_u32-6.ensures
 
 pub write_header_spec : {M : Type 1} → statement M
 write_header_spec =

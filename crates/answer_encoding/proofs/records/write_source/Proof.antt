@@ -11,7 +11,7 @@ returns c =
     let high = written.before in
     let start = high.before.before.before in
     source-written start.args.s.now start.args.at start.args.key (omega arith) high.high.ensures low.low.ensures
-    written.write_u32.ensures c.before.before.write_u32-2.ensures
+    written.write_u32.ensures c.write_u32-2.ensures
 
 pub write_source_spec : {M : Type 1} → statement M
 write_source_spec =

@@ -28,9 +28,9 @@ returns : tie.Need-returns-then-a-n
 returns c =
     let first : tie.After-index-a = search in
     let a = (start_of first).args in
-    c.before.before.word-c.ensures
+    c.word-c.ensures
     ∙ part-whole a.keys.now (get_or a.starts.now a.p 0) (get_or a.counts.now a.p 0)
-    (omega (arith, first.index-a.ensures.0, c.before.index-n.ensures.0))
+    (omega (arith, first.index-a.ensures.0, c.index-n.ensures.0))
 
 returns-2 : tie.Need-returns-then-a-most
 returns-2 c =

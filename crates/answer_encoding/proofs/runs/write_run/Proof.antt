@@ -29,16 +29,16 @@ loop-again c =
     let from = start.args.from in (
       omega arith,
       writes-next _ _ in-loop.loop-i.inv.1 (omega (arith, run_long keys from (in-loop.loop-i.i + 1)))
-          (omega (arith, run_long keys from in-loop.loop-i.i)) c.before.before.write_source.ensures
+          (omega (arith, run_long keys from in-loop.loop-i.i)) c.write_source.ensures
           (key-is keys (from + in-loop.loop-i.i) key.long.ensures),
     )
 
 same_length : tie.Need-shape_of-s invariant-loop decreases-loop
-same_length c = c.before.loop-i.invariant.1.long
+same_length c = c.loop-i.invariant.1.long
 
 returns : tie.Need-returns invariant-loop decreases-loop
 returns c =
-    let inv = c.before.loop-i.invariant in
+    let inv = c.loop-i.invariant in
     writes_end inv.1 inv.0 (omega arith)
 
 pub write_run_spec : {M : Type 1} → statement M

@@ -13,20 +13,20 @@ abbrev decreases-loop : tie.decreases-loop-i
 decreases-loop s₀ at seen from n starts counts keys to₀ i₀ s to i = n - i
 
 -- there is room for the run, once its place and its length are known
-room : (c : tie.After-index invariant-loop decreases-loop) → c.before.before.before.before.before.loop-i.to + c.before.before.run_length-count.result * 8
-    ≤ length c.before.before.before.before.before.loop-i.s
+room : (c : tie.After-index invariant-loop decreases-loop) → c.loop-i.to + c.run_length-count.result * 8
+    ≤ length c.loop-i.s
 room c =
     let start : tie.Start invariant-loop decreases-loop = search in
     let found : tie.After-index-p invariant-loop decreases-loop = search in
     let counted : tie.After-run_length-count invariant-loop decreases-loop = search in
-    run_room found.before.before.loop-i.inv start.pre.0 found.before.loop-i-test.true found.index-p.ensures.0 c.index.ensures.0
+    run_room found.loop-i.inv start.pre.0 found.loop-i-test.true found.index-p.ensures.0 c.index.ensures.0
     counted.run_length-count.ensures
 
 loop-holds : tie.Need-loop-i-init invariant-loop decreases-loop
 loop-holds c = running-start _ _ _ _ _ _ _ _
 
 add-index : tie.Need-overflow_add-from invariant-loop decreases-loop
-add-index c = omega (arith, c.before.loop-i.invariant.below-count)
+add-index c = omega (arith, c.loop-i.invariant.below-count)
 
 write-run-requires : tie.Need-write_run-requires invariant-loop decreases-loop
 write-run-requires c κs = (room c, omega (arith, c.index.ensures.1), omega arith)
@@ -43,14 +43,14 @@ loop-again c =
     let found : tie.After-index-p invariant-loop decreases-loop = search in
     let counted : tie.After-run_length-count invariant-loop decreases-loop = search in
     let placed : tie.After-index invariant-loop decreases-loop = search in
-    running-next found.before.before.loop-i.inv start.pre.0 found.before.loop-i-test.true found.index-p.ensures.0 placed.index.ensures.0
-    counted.run_length-count.ensures c.before.before.write_run.ensures
+    running-next found.loop-i.inv start.pre.0 found.loop-i-test.true found.index-p.ensures.0 placed.index.ensures.0
+    counted.run_length-count.ensures c.write_run.ensures
 
 same_length : tie.Need-shape_of-s invariant-loop decreases-loop
-same_length c = c.before.loop-i.invariant.writes.long
+same_length c = c.loop-i.invariant.writes.long
 
 returns : tie.Need-returns invariant-loop decreases-loop
-returns c = running-end c.before.loop-i.invariant (omega arith)
+returns c = running-end c.loop-i.invariant (omega arith)
 
 pub write_runs_spec : {M : Type 1} → statement M
 write_runs_spec =

@@ -26,12 +26,12 @@ mul-read-boundary c = omega (arith, c.index.ensures.1)
 add-read-boundary : tie.Need-overflow_add-at invariant-loop decreases-loop
 add-read-boundary c =
     let start : tie.Start invariant-loop decreases-loop = search in
-    omega (arith, c.index.ensures.0, start.pre.inside c.before.before.loop-k.k c.before.loop-k-test.true)
+    omega (arith, c.index.ensures.0, start.pre.inside c.loop-k.k c.loop-k-test.true)
 
 read-boundary-requires : tie.Need-read_boundary-x-requires invariant-loop decreases-loop
 read-boundary-requires c κs =
     let start : tie.Start invariant-loop decreases-loop = search in
-    omega (arith, c.index.ensures.0, start.pre.inside c.before.before.loop-k.k c.before.loop-k-test.true)
+    omega (arith, c.index.ensures.0, start.pre.inside c.loop-k.k c.loop-k-test.true)
 
 mul-write-boundary : tie.Need-overflow_mul-k invariant-loop decreases-loop
 mul-write-boundary c =
@@ -70,17 +70,17 @@ loop-again c =
       omega arith,
       writes-next _ _ in-loop.loop-k.inv.1
           (omega (arith, start.pre.room, kept-long (boundary_rows job at) kept owns seens (in-loop.loop-k.k + 1)))
-          (omega (arith, kept-long (boundary_rows job at) kept owns seens in-loop.loop-k.k)) c.before.before.write_boundary.ensures
+          (omega (arith, kept-long (boundary_rows job at) kept owns seens in-loop.loop-k.k)) c.write_boundary.ensures
           (kept-is job at kept owns seens in-loop.loop-k.k boundary.read_boundary-x.ensures rank.index.ensures.0
           own.word.ensures seen.word-in-loop-k.ensures),
     )
 
 same_length : tie.Need-shape_of-s invariant-loop decreases-loop
-same_length c = c.before.loop-k.invariant.1.long
+same_length c = c.loop-k.invariant.1.long
 
 returns : tie.Need-returns invariant-loop decreases-loop
 returns c =
-    let inv = c.before.loop-k.invariant in
+    let inv = c.loop-k.invariant in
     writes_end inv.1 inv.0 (omega arith)
 
 pub write_boundaries_spec : {M : Type 1} → statement M

@@ -37,16 +37,16 @@ loop-again c =
     let seen = start.args.seen.now in (
       omega arith,
       writes-next _ _ in-loop.loop-q.inv.1 (omega (arith, places-long first second third starts counts keys seen (in-loop.loop-q.q + 1)))
-          (omega (arith, places-long first second third starts counts keys seen in-loop.loop-q.q)) c.before.before.write_place.ensures
+          (omega (arith, places-long first second third starts counts keys seen in-loop.loop-q.q)) c.write_place.ensures
           (ap (place_piece first second third starts counts keys) place.index-p.ensures.0),
     )
 
 same_length : tie.Need-shape_of-s invariant-loop decreases-loop
-same_length c = c.before.loop-q.invariant.1.long
+same_length c = c.loop-q.invariant.1.long
 
 returns : tie.Need-returns invariant-loop decreases-loop
 returns c =
-    let inv = c.before.loop-q.invariant in
+    let inv = c.loop-q.invariant in
     writes_end inv.1 inv.0 (omega arith)
 
 pub write_observations_spec : {M : Type 1} → statement M

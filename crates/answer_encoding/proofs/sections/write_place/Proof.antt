@@ -18,7 +18,7 @@ returns c =
     let second = span.before in
     let first = second.before in
     let start = start_of first.before in
-    c.before.before.write_observation.ensures
+    c.write_observation.ensures
     ∙ ap (splice start.args.s.now start.args.at)
     (place_is start.args.first.now start.args.second.now start.args.third.now start.args.starts.now start.args.counts.now
     start.args.keys.now start.args.p first.long.ensures second.long-2.ensures third.long-3.ensures

@@ -16,13 +16,13 @@ decreases-loop s₀ at count job from owns seens owned seen starts counts keys t
 
 -- how far both counts go, once they are read
 few : (c : tie.After-index-n invariant-loop decreases-loop)
-    → (c.before.before.before.loop-k.a + c.before.index-own.result ≤ 4096) × (c.before.before.before.loop-k.q + c.index-n.result ≤ 1280)
-    × (c.before.before.before.loop-k.to + c.before.index-own.result * 8 ≤ length c.before.before.before.loop-k.s)
+    → (c.loop-k.a + c.index-own.result ≤ 4096) × (c.loop-k.q + c.index-n.result ≤ 1280)
+    × (c.loop-k.to + c.index-own.result * 8 ≤ length c.loop-k.s)
 few c =
     let start : tie.Start invariant-loop decreases-loop = search in
-    let inv = c.before.before.before.loop-k.invariant in
-    let turns = c.before.before.loop-k-test.true in
-    let own = c.before.index-own.ensures.0 in
+    let inv = c.loop-k.invariant in
+    let turns = c.loop-k-test.true in
+    let own = c.index-own.ensures.0 in
     let seen = c.index-n.ensures.0 in
     (own-few inv start.pre turns own seen, seen_few inv start.pre turns own seen, (own_room inv start.pre turns own seen refl).room)
 
@@ -34,7 +34,7 @@ write-own-requires c κs =
     let start : tie.Start invariant-loop decreases-loop = search in
     let both_read : tie.After-index-n invariant-loop decreases-loop = search in
     let turning = both_read.before.before in
-    own_room turning.before.loop-k.inv start.pre turning.loop-k-test.true both_read.before.index-own.ensures.0 both_read.index-n.ensures.0
+    own_room turning.loop-k.inv start.pre turning.loop-k-test.true both_read.index-own.ensures.0 both_read.index-n.ensures.0
     (omega arith)
 
 mul-write-runs : tie.Need-overflow_mul-own invariant-loop decreases-loop
@@ -49,7 +49,7 @@ write-runs-requires c κs =
     let both_read : tie.After-index-n invariant-loop decreases-loop = search in
     let own-written : tie.After-write_own invariant-loop decreases-loop = search in
     let turning = both_read.before.before in (
-      seen-room turning.before.loop-k.inv start.pre turning.loop-k-test.true both_read.before.index-own.ensures.0 both_read.index-n.ensures.0
+      seen-room turning.loop-k.inv start.pre turning.loop-k-test.true both_read.index-own.ensures.0 both_read.index-n.ensures.0
           own-written.write_own.ensures,
       omega (arith, (few both_read).1),
       omega (arith, (few both_read).1),
@@ -72,14 +72,14 @@ loop-again c =
     let both_read : tie.After-index-n invariant-loop decreases-loop = search in
     let own-written : tie.After-write_own invariant-loop decreases-loop = search in
     let turning = both_read.before.before in
-    grouping-next turning.before.loop-k.inv start.pre turning.loop-k-test.true both_read.before.index-own.ensures.0
-    both_read.index-n.ensures.0 own-written.write_own.ensures c.before.before.write_runs-to.ensures
+    grouping-next turning.loop-k.inv start.pre turning.loop-k-test.true both_read.index-own.ensures.0
+    both_read.index-n.ensures.0 own-written.write_own.ensures c.write_runs-to.ensures
 
 same_length : tie.Need-shape_of-s invariant-loop decreases-loop
-same_length c = c.before.loop-k.invariant.writes.long
+same_length c = c.loop-k.invariant.writes.long
 
 returns : tie.Need-returns invariant-loop decreases-loop
-returns c = grouping-end c.before.loop-k.invariant (omega arith)
+returns c = grouping-end c.loop-k.invariant (omega arith)
 
 pub write_sources_spec : {M : Type 1} → statement M
 write_sources_spec =

@@ -16,16 +16,16 @@ loop-holds : tie.Need-loop-i-init invariant-loop decreases-loop
 loop-holds c = added-start _ _
 
 add-t : tie.Need-overflow_add-t invariant-loop decreases-loop
-add-t c = omega (arith, c.before.before.loop-i.invariant.small, c.index-t.ensures.1)
+add-t c = omega (arith, c.loop-i.invariant.small, c.index-t.ensures.1)
 
 loop-less : tie.Need-loop-i-smaller invariant-loop decreases-loop
 loop-less c = omega arith
 
 loop-again : tie.Need-loop-i-preserved invariant-loop decreases-loop
-loop-again c = added_next _ c.before.before.loop-i.invariant c.before.loop-i-test.true c.index-t.ensures.0 c.index-t.ensures.1
+loop-again c = added_next _ c.loop-i.invariant c.loop-i-test.true c.index-t.ensures.0 c.index-t.ensures.1
 
 returns : tie.Need-returns invariant-loop decreases-loop
-returns c = added-end c.before.loop-i.invariant (omega arith)
+returns c = added-end c.loop-i.invariant (omega arith)
 
 pub sum_first_spec : {M : Type 1} → statement M
 sum_first_spec =

@@ -23,13 +23,13 @@ loop-again : tie.Need-loop-i-preserved invariant-loop decreases-loop
 loop-again c =
     let in-loop : tie.At-loop-i invariant-loop decreases-loop = search in
     let start : tie.Start invariant-loop decreases-loop = search in
-    cited-next start.args.seen.now start.args.starts.now start.args.counts.now start.args.keys.now c.before.index.result
-    c.run_length.result (omega arith) in-loop.loop-i.inv c.before.before.loop-i-test.true c.before.index.ensures.0 c.run_length.ensures
+    cited-next start.args.seen.now start.args.starts.now start.args.counts.now start.args.keys.now c.index.result
+    c.run_length.result (omega arith) in-loop.loop-i.inv c.loop-i-test.true c.index.ensures.0 c.run_length.ensures
 
 returns : tie.Need-returns invariant-loop decreases-loop
 returns c =
     let start : tie.Start invariant-loop decreases-loop = search in
-    cited-end start.args.seen.now start.args.starts.now start.args.counts.now start.args.keys.now c.before.loop-i.invariant (omega arith)
+    cited-end start.args.seen.now start.args.starts.now start.args.counts.now start.args.keys.now c.loop-i.invariant (omega arith)
 
 pub sum_runs_spec : {M : Type 1} → statement M
 sum_runs_spec =

@@ -7,7 +7,7 @@ returns : tie.Need-returns
 unfolding key_span
 returns c =
     let high = c.before.before.before in
-    cc (high.high.ensures, c.before.before.low.ensures, c.before.high-2.ensures, c.low-2.ensures)
+    cc (high.high.ensures, c.low.ensures, c.high-2.ensures, c.low-2.ensures)
 
 pub span_of_spec : {M : Type 1} → statement M
 span_of_spec =

@@ -14,14 +14,14 @@ start_of c = search
 abbrev given : tie.After-sum_runs → tie.Start
 given c = start_of c.before.before.before
 
-few : (c : tie.After-sum_runs) → ((given c).args.count ≤ 256) × (c.before.before.sum_first-observations.result ≤ 1280) × (c.before.sum_first.result ≤ 4096)
+few : (c : tie.After-sum_runs) → ((given c).args.count ≤ 256) × (c.sum_first-observations.result ≤ 1280) × (c.sum_first.result ≤ 4096)
     × (c.sum_runs.result ≤ 1280 * 4096)
 few c =
     let pre = (given c).requires in (
       count-few pre,
-      omega (arith, seen_few pre, c.before.before.sum_first-observations.ensures),
-      omega (arith, own-few pre, c.before.sum_first.ensures),
-      omega (arith, seen_few pre, c.before.before.sum_first-observations.ensures, c.sum_runs.ensures.1),
+      omega (arith, seen_few pre, c.sum_first-observations.ensures),
+      omega (arith, own-few pre, c.sum_first.ensures),
+      omega (arith, seen_few pre, c.sum_first-observations.ensures, c.sum_runs.ensures.1),
     )
 
 -- the places since: after the header, the boundaries and the observations
@@ -50,7 +50,7 @@ sum-first-requires-2 c κs =
 sum-runs-requires : tie.Need-sum_runs-requires
 sum-runs-requires c κs =
     let start : tie.Start = search in
-    (omega (arith, seen_few start.pre, c.before.sum_first-observations.ensures), start.pre.keys-few)
+    (omega (arith, seen_few start.pre, c.sum_first-observations.ensures), start.pre.keys-few)
 
 add-sources : tie.Need-overflow_add-sources
 add-sources c = omega (arith, few c)
@@ -76,7 +76,7 @@ add_total c = omega (arith, few c)
 returns : tie.Need-returns-then-answer-total
 returns c =
     let all = c.before in
-    λ n ks e g. short-answer (given all).requires all.before.before.sum_first-observations.ensures all.before.sum_first.ensures all.sum_runs.ensures.0
+    λ n ks e g. short-answer (given all).requires all.sum_first-observations.ensures all.sum_first.ensures all.sum_runs.ensures.0
     refl e g (omega (arith, c.if-answer-total.true)) refl
 
 cast-write-header : tie.Need-overflow_cast-count
@@ -120,7 +120,7 @@ write-sources-requires c κs =
         (placed rest).answer-2-1.given,
         rest.answer-3-1.given,
         fits.if-answer-total.false,
-        sources-long pre all.before.before.sum_first-observations.ensures all.before.sum_first.ensures all.sum_runs.ensures.0,
+        sources-long pre all.sum_first-observations.ensures all.sum_first.ensures all.sum_runs.ensures.0,
       );
     }
 
@@ -131,12 +131,12 @@ returns-2 c =
     let begun : tie.After-write_header = search in
     let fits = begun.before.before in
     let all = fits.before in
-    let observations = all.before.before.sum_first-observations.ensures in
-    let owns = all.before.sum_first.ensures in
+    let observations = all.sum_first-observations.ensures in
+    let owns = all.sum_first.ensures in
     λ n ks e g. full-answer (given all).pre observations owns all.sum_runs.ensures.0 refl e g (omega (arith, fits.if-answer-total.false))
     (all-written (given all).pre observations owns all.sum_runs.ensures.0 (given all).args.answer.now (omega (arith, fits.if-answer-total.false))
     begun.write_header.ensures bounded.write_boundaries.ensures
-    observed.write_observations.ensures c.before.before.write_sources.ensures)
+    observed.write_observations.ensures c.write_sources.ensures)
 
 pub write_kept_spec : {M : Type 1} → statement M
 write_kept_spec =

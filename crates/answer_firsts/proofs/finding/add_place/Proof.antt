@@ -15,7 +15,7 @@ returns c =
     let read : tie.After-place = search in
     let known : tie.After-key_at-x = search in
     let key = known.key_at-x.ensures ∙ ap (key_in _ _) read.place.ensures.0 in
-    grown-same start.pre.0 key (c.before.look_up-spot.ensures.found c.if-spot.true)
+    grown-same start.pre.0 key (c.look_up-spot.ensures.found c.if-spot.true)
 
 slice-write-links-2 : tie.Need-bounds-links-heads
 slice-write-links-2 c =
@@ -43,11 +43,11 @@ returns-2 c =
     let count = start.args.count in
     let p = start.args.p in
     let places = start.args.places.now in
-    let looked = c.before.look_up-spot.ensures in
+    let looked = c.look_up-spot.ensures in
     let key = known.key_at-x.ensures ∙ ap (key_in _ _) read.place.ensures.0 in
     let cells-long = asked.0.cells-long in
     let places-long = asked.0.places-long in
-    let cell = c.before.look_up-spot.result.cell in
+    let cell = c.look_up-spot.result.cell in
     let cells = linking start.args.heads start.args.links.now count cell (count + 1) (omega arith) looked.within refl in
     grown-new asked.0 asked.1 asked.2 (looked.missing c.if-spot.false) looked.within cells p (set places count p) key asked.3
     (length-set places count p) (λ k h. get_or-set_other places count k p 0 (λ z. omega arith)) (get_or-set_same places count p 0 (omega arith))

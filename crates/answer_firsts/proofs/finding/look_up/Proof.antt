@@ -51,7 +51,7 @@ returns c =
     let turn : tie.At-loop-v invariant-loop decreases-loop = search in
     let read : tie.After-place-p invariant-loop decreases-loop = search in
     let job = start.args.job.now in
-    let told : ◌≡◌ {A = ℕ} c.before.key_at.result (key_in job start.args.base read.place-p.result) = c.before.key_at.ensures in
+    let told : ◌≡◌ {A = ℕ} c.key_at.result (key_in job start.args.base read.place-p.result) = c.key_at.ensures in
     let key = told ∙ ap (key_in _ _) read.place-p.ensures.0 in
     walk-found start.pre.0 start.pre.1 turn.loop-v.inv.2 (omega arith) key (omega arith)
 
@@ -79,7 +79,7 @@ loop-again c =
 returns-2 : tie.Need-returns invariant-loop decreases-loop
 returns-2 c =
     let start : tie.Start invariant-loop decreases-loop = search in
-    walk-missing start.pre.0 start.pre.1 c.before.loop-v.invariant.2 (omega arith)
+    walk-missing start.pre.0 start.pre.1 c.loop-v.invariant.2 (omega arith)
 
 pub look_up_spec : {M : Type 1} → statement M
 look_up_spec =

@@ -17,12 +17,12 @@ known_of c = search
 returns : tie.Need-returns-then-size-i
 returns c =
     let start : tie.Start = search in
-    by-else start.pre.3 c.before.size.ensures.0 c.if-size-i.true
+    by-else start.pre.3 c.size.ensures.0 c.if-size-i.true
 
 shared-slice-read-size : tie.Need-bounds-starts-base
 shared-slice-read-size c =
     let start : tie.Start = search in
-    omega (arith, start.pre.0.starts-room, start.pre.1, place_in start.pre.0 start.pre.1 c.before.size-b.ensures.0)
+    omega (arith, start.pre.0.starts-room, start.pre.1, place_in start.pre.0 start.pre.1 c.size-b.ensures.0)
 
 read-boundary-requires : tie.Need-read_boundary-x-requires
 read-boundary-requires c κs =
@@ -59,7 +59,7 @@ add-places-requires c κs =
       pre.3.firsts.linked,
       (
         pre.3.firsts.low,
-        by-room pre.3 (goes a).before.size.ensures.0 (goes a).if-size-i.false pre.0 pre.1 place first (many a) pre.2,
+        by-room pre.3 (goes a).size.ensures.0 (goes a).if-size-i.false pre.0 pre.1 place first (many a) pre.2,
         own-inside pre.0 pre.1 place first (many a),
         own-small pre.0 pre.1 place first (many a),
       ),
@@ -71,7 +71,7 @@ returns-2 c =
     let a : tie.After-size-2 = search in
     let pre = (start a).pre in
     let known = known_of (goes a).before in
-    by_next pre.3 (goes a).before.size.ensures.0 (goes a).if-size-i.false pre.0 pre.1 (rank a).size-b.ensures.0 (from a).size-p.ensures.0 (many a)
+    by_next pre.3 (goes a).size.ensures.0 (goes a).if-size-i.false pre.0 pre.1 (rank a).size-b.ensures.0 (from a).size-p.ensures.0 (many a)
     (λ i. omega (arith, known.shared_slice_known-1.given i)) added.add_places.ensures
 
 pub add_own_spec : {M : Type 1} → statement M

@@ -26,7 +26,7 @@ add-own-requires : tie.Need-add_own-count-requires invariant-loop decreases-loop
 add-own-requires c κs =
     let turning : tie.In-loop-j invariant-loop decreases-loop = search in
     let start = start_of turning.before in
-    (start.pre.0, turning.loop-j-test.true, start.pre.1, by-now turning.before.loop-j.inv.1)
+    (start.pre.0, turning.loop-j-test.true, start.pre.1, by-now turning.loop-j.inv.1)
 
 loop-again : tie.Need-loop-j-preserved invariant-loop decreases-loop
 loop-again c =
@@ -37,7 +37,7 @@ loop-again c =
 same_length : tie.Need-shape_of-links invariant-loop decreases-loop
 same_length c =
     let start = start_of c.before in
-    omega (arith, start.pre.2.cells-long, c.before.loop-j.invariant.1.firsts.linked.cells-long)
+    omega (arith, start.pre.2.cells-long, c.loop-j.invariant.1.firsts.linked.cells-long)
 
 same-length-2 : tie.Need-shape_of-owned invariant-loop decreases-loop
 same-length-2 c =

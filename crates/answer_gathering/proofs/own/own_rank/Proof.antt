@@ -17,7 +17,7 @@ room c =
 returns : tie.Need-returns-then-size-i
 returns c =
     let start : tie.Start = search in
-    owns-skip _ _ _ _ _ _ _ _ _ start.pre.2 c.before.size.ensures.0 c.if-size-i.true
+    owns-skip _ _ _ _ _ _ _ _ _ start.pre.2 c.size.ensures.0 c.if-size-i.true
 
 add-owns-requires : tie.Need-add_owns-r-requires
 add-owns-requires c κs =
@@ -47,7 +47,7 @@ returns-2 c =
     let stays : tie.After-size = search in
     let start : tie.Start = search in
     let job : tie.After-shared_slice_known-1 = search in
-    owns-keep _ _ _ _ _ _ _ _ _ start.pre.2 stays.size.ensures.0 added.before.before.before.if-size-i.false
+    owns-keep _ _ _ _ _ _ _ _ _ start.pre.2 stays.size.ensures.0 added.if-size-i.false
     (λ i. omega (arith, job.shared_slice_known-1.given i)) added.add_owns-r.ensures (room start).0 (room start).1 refl (omega arith)
 
 pub own_rank_spec : {M : Type 1} → statement M

@@ -18,14 +18,14 @@ loop-holds : tie.Need-loop-k-init invariant-loop decreases-loop
 loop-holds c = (omega arith, places-start _ _ _)
 
 loop-again : tie.Need-loop-k-preserved invariant-loop decreases-loop
-loop-again c = (omega arith, places-next _ _ c.before.loop-k.invariant.1 refl (omega arith))
+loop-again c = (omega arith, places-next _ _ c.loop-k.invariant.1 refl (omega arith))
 
 same_length : tie.Need-shape_of-seen invariant-loop decreases-loop
-same_length c = c.before.loop-k.invariant.1.long
+same_length c = c.loop-k.invariant.1.long
 
 returns : tie.Need-returns invariant-loop decreases-loop
 returns c =
-    let inv = c.before.loop-k.invariant in
+    let inv = c.loop-k.invariant in
     run_end (up_from _) _ _ inv.1 refl inv.0 (omega arith)
 
 pub append_places_spec : {M : Type 1} → statement M

@@ -13,7 +13,7 @@ abbrev start_of : tie.After-size → tie.Start
 start_of c = search
 
 returns : tie.Need-returns-then-size-i
-returns c = elsewhere _ _ _ c.before.size.ensures.0 c.if-size-i.true
+returns c = elsewhere _ _ _ c.size.ensures.0 c.if-size-i.true
 
 read-boundary-requires : tie.Need-read_boundary-x-requires
 read-boundary-requires c κs =
@@ -23,7 +23,7 @@ read-boundary-requires c κs =
 shared-slice-read-size : tie.Need-bounds-firsts-b
 shared-slice-read-size c =
     let start : tie.Start = search in
-    omega (arith, start.pre.0.firsts-room, start.pre.0.few, place-small start.pre.0 start.pre.1 c.before.before.size-b.ensures.0)
+    omega (arith, start.pre.0.firsts-room, start.pre.0.few, place-small start.pre.0 start.pre.1 c.size-b.ensures.0)
 
 element-copy-out-add-seen-places : tie.Need-bounds-stands-b
 element-copy-out-add-seen-places c =
@@ -61,7 +61,7 @@ returns-2 c =
     there aim.size.ensures.0 goes.if-size-i.false
     (places-there start.pre.0 start.pre.1 rank.size-b.ensures.0 aim.size.ensures.0 goes.if-size-i.false start.pre.2
     first.size-2.ensures.0 (many.size-3.ensures.0 ∙ ap (λ (r : BoundaryRecord). r.observations) boundary.read_boundary-x.ensures) refl
-    c.before.before.add_seen_places.ensures)
+    c.add_seen_places.ensures)
 
 pub add_seen_spec : {M : Type 1} → statement M
 add_seen_spec =

@@ -8,13 +8,13 @@ returns : tie.Need-returns-then-stand-eq1
 returns c =
     let itself : tie.Then-stand-eq1 = search in
     let start : tie.Start = search in
-    place-itself start.args.stand _ _ (omega (arith, itself.if-stand-eq1.true)) c.before.before.append_places.ensures
+    place-itself start.args.stand _ _ (omega (arith, itself.if-stand-eq1.true)) c.append_places.ensures
 
 returns-2 : tie.Need-returns
 returns-2 c =
     let seen : tie.Else-stand-eq1 = search in
     let start : tie.Start = search in
-    places-seen start.args.stand _ (λ e. seen.if-stand-eq1.false (omega (arith, e))) c.before.before.append_places-2.ensures
+    places-seen start.args.stand _ (λ e. seen.if-stand-eq1.false (omega (arith, e))) c.append_places-2.ensures
 
 pub add_seen_places_spec : {M : Type 1} → statement M
 add_seen_places_spec =

@@ -38,13 +38,13 @@ add-seen-requires c κs =
     let start = start_of in-loop in
     let inv = in-loop.loop-j.invariant in (
       start.pre.0,
-      c.before.loop-j-test.true,
+      c.loop-j-test.true,
       start.pre.1,
       omega (
         arith,
         inv.2,
         into-part start.args.plan.now (seen_weight start.args.order.now (seen_count start.args.job.now start.args.at))
-            start.args.i in-loop.loop-j.j start.args.n c.before.loop-j-test.true,
+            start.args.i in-loop.loop-j.j start.args.n c.loop-j-test.true,
         start.pre.2,
         inv.1.long,
       ),
@@ -72,16 +72,16 @@ loop-again c =
     )
 
 same_length : tie.Need-shape_of-seen invariant-loop decreases-loop
-same_length c = c.before.loop-j.invariant.1.long
+same_length c = c.loop-j.invariant.1.long
 
 returns : tie.Need-returns invariant-loop decreases-loop
 returns c =
     let start : tie.Start invariant-loop decreases-loop = search in
-    let inv = c.before.loop-j.invariant in
+    let inv = c.loop-j.invariant in
     let job = start.args.job.now in
     runs-end (places_at start.args.base start.args.order.now start.args.firsts.now (seen_count job start.args.at)
     (length (going start.args.plan.now start.args.n start.args.i)))
-    (seen_weight start.args.order.now (seen_count job start.args.at)) start.args.plan.now start.args.i c.before.loop-j.j start.args.n
+    (seen_weight start.args.order.now (seen_count job start.args.at)) start.args.plan.now start.args.i c.loop-j.j start.args.n
     inv.1 inv.2 inv.0 (omega arith)
 
 pub add_seens_spec : {M : Type 1} → statement M

@@ -58,17 +58,17 @@ loop-again c =
     )
 
 same_length : tie.Need-shape_of-seens invariant-loop decreases-loop
-same_length c = c.before.loop-i.invariant.2
+same_length c = c.loop-i.invariant.2
 
 same-length-2 : tie.Need-shape_of-seen invariant-loop decreases-loop
-same-length-2 c = c.before.loop-i.invariant.3
+same-length-2 c = c.loop-i.invariant.3
 
 same-length-3 : tie.Need-shape_of-spare invariant-loop decreases-loop
-same-length-3 c = c.before.loop-i.invariant.4
+same-length-3 c = c.loop-i.invariant.4
 
 returns : tie.Need-returns invariant-loop decreases-loop
 returns c =
-    let inv = c.before.loop-i.invariant in
+    let inv = c.loop-i.invariant in
     seens-end _ _ _ _ _ _ _ _ _ _ _ _ inv.1 inv.0 (omega arith)
 
 pub gather_seens_spec : {M : Type 1} → statement M

@@ -14,7 +14,7 @@ room c = omega (arith, c.requires.2.few, c.requires.1, c.requires.0.own.few, c.r
 returns : tie.Need-returns-then-size-i
 returns c =
     let start : tie.Start = search in
-    seens-skip _ _ _ _ _ _ _ _ _ _ _ _ start.pre.2 c.before.size.ensures.0 c.if-size-i.true
+    seens-skip _ _ _ _ _ _ _ _ _ _ _ _ start.pre.2 c.size.ensures.0 c.if-size-i.true
 
 gather-seen-requires : tie.Need-gather_seen-r-requires
 gather-seen-requires c κs =
@@ -41,7 +41,7 @@ returns-2 c =
     let start : tie.Start = search in
     let gathered : tie.After-gather_seen-r = search in
     let stays = gathered.before.before.before.before in
-    seens-keep _ _ _ _ _ _ _ _ _ _ _ _ start.pre.2 stays.size.ensures.0 gathered.before.before.before.if-size-i.false
+    seens-keep _ _ _ _ _ _ _ _ _ _ _ _ start.pre.2 stays.size.ensures.0 gathered.if-size-i.false
     gathered.gather_seen-r.ensures.0 gathered.gather_seen-r.ensures.1 (room start) refl
 
 pub seen_rank_spec : {M : Type 1} → statement M

@@ -35,7 +35,7 @@ read-part-requires c κs =
     let first : tie.After-size invariant-loop decreases-loop = search in
     let turning : tie.In-loop-q invariant-loop decreases-loop = search in
     let room = (start_of turning).pre in
-    let read = turning.before.loop-q.inv.1 in (
+    let read = turning.loop-q.inv.1 in (
       part-inside room read first.size.ensures.0 many.size-in-loop-q.ensures.0,
       part-fits room read first.size.ensures.0 many.size-in-loop-q.ensures.0,
     )
@@ -47,15 +47,15 @@ loop-again c =
     let first : tie.After-size invariant-loop decreases-loop = search in
     let turning : tie.In-loop-q invariant-loop decreases-loop = search in (
       omega arith,
-      keys-next (start_of turning).pre turning.before.loop-q.inv.1 first.size.ensures.0 many.size-in-loop-q.ensures.0 part.read_part.ensures,
+      keys-next (start_of turning).pre turning.loop-q.inv.1 first.size.ensures.0 many.size-in-loop-q.ensures.0 part.read_part.ensures,
     )
 
 same_length : tie.Need-shape_of-keys invariant-loop decreases-loop
-same_length c = omega (arith, c.before.loop-q.invariant.1.long)
+same_length c = omega (arith, c.loop-q.invariant.1.long)
 
 returns : tie.Need-returns invariant-loop decreases-loop
 returns c =
-    let inv = c.before.loop-q.invariant in
+    let inv = c.loop-q.invariant in
     keys-end inv.1 inv.0 (omega arith)
 
 pub read_keys_spec : {M : Type 1} → statement M

@@ -20,8 +20,8 @@ start_of c = search
 
 -- the next source is in the job and has room
 inside : (c : tie.In-loop-i invariant-loop decreases-loop)
-    → ((start_of c).args.from + ((start_of c).args.a + c.before.loop-i.i) * 8 + 8 ≤ length (start_of c).args.job.now)
-    × ((start_of c).args.a + c.before.loop-i.i + 1 ≤ length (start_of c).args.keys.now)
+    → ((start_of c).args.from + ((start_of c).args.a + c.loop-i.i) * 8 + 8 ≤ length (start_of c).args.job.now)
+    × ((start_of c).args.a + c.loop-i.i + 1 ≤ length (start_of c).args.keys.now)
 inside c =
     let h = c.loop-i-test.true in
     (omega (arith, (start_of c).requires.0), omega (arith, (start_of c).requires.1))
@@ -44,26 +44,26 @@ read-source-requires c κs = omega (arith, (inside c).0)
 slice-write-keys : tie.Need-bounds-keys-a invariant-loop decreases-loop
 slice-write-keys c =
     let turning : tie.In-loop-i invariant-loop decreases-loop = search in
-    omega (arith, (inside turning).1, turning.before.loop-i.inv.2)
+    omega (arith, (inside turning).1, turning.loop-i.inv.2)
 
 loop-again : tie.Need-loop-i-preserved invariant-loop decreases-loop
 loop-again c =
     let read : tie.After-read_source-s invariant-loop decreases-loop = search in
     let turning : tie.In-loop-i invariant-loop decreases-loop = search in
-    let inv = turning.before.loop-i.inv in (
+    let inv = turning.loop-i.inv in (
       omega arith,
-      part-next _ _ _ _ turning.before.loop-i.i read.read_source-s.result inv.1 (omega (arith, (inside turning).1)) refl refl
+      part-next _ _ _ _ turning.loop-i.i read.read_source-s.result inv.1 (omega (arith, (inside turning).1)) refl refl
           read.read_source-s.ensures c.packed.ensures.0,
       simp length-set inv.2,
     )
 
 same_length : tie.Need-shape_of-keys invariant-loop decreases-loop
-same_length c = omega (arith, c.before.loop-i.invariant.2)
+same_length c = omega (arith, c.loop-i.invariant.2)
 
 returns : tie.Need-returns invariant-loop decreases-loop
 returns c =
-    let inv = c.before.loop-i.invariant in
-    part_end _ _ _ _ c.before.loop-i.i _ inv.1 inv.0 (omega arith)
+    let inv = c.loop-i.invariant in
+    part_end _ _ _ _ c.loop-i.i _ inv.1 inv.0 (omega arith)
 
 pub read_part_spec : {M : Type 1} → statement M
 read_part_spec =

@@ -37,7 +37,7 @@ few : (c : tie.After-size-seen invariant-loop decreases-loop) → ((given c).arg
 few c =
     let g = (given c).requires.0 in
     let l = (at-loop c).loop-b.invariant.1 in
-    let h = c.before.before.loop-b-test.true in
+    let h = c.loop-b-test.true in
     (own-place g l h, places-fit g l h, omega (arith, l.firsts-room), omega (arith, l.starts-room), omega (arith, l.counts-room))
 
 loop-holds : tie.Need-loop-b-init invariant-loop decreases-loop
@@ -67,7 +67,7 @@ slice-write-starts : tie.Need-bounds-starts-base invariant-loop decreases-loop
 slice-write-starts c = omega (arith, (few c).3)
 
 copy-stands : tie.Need-bounds-stands-b invariant-loop decreases-loop
-copy-stands c = omega (arith, c.before.before.loop-b-test.true, (given c).requires.0.boundary-limit)
+copy-stands c = omega (arith, c.loop-b-test.true, (given c).requires.0.boundary-limit)
 
 add-counts : tie.Need-overflow_add-counts invariant-loop decreases-loop
 add-counts c =
@@ -84,16 +84,16 @@ add-lay-observations c =
     let sized : tie.After-size-seen invariant-loop decreases-loop = search in
     omega (
       arith,
-      own-fits (given sized).pre.0 (at-loop sized).loop-b.inv.1 sized.before.before.loop-b-test.true,
-      ap (λ (r : BoundaryRecord). r.sources) sized.before.read_boundary-x.ensures,
+      own-fits (given sized).pre.0 (at-loop sized).loop-b.inv.1 sized.loop-b-test.true,
+      ap (λ (r : BoundaryRecord). r.sources) sized.read_boundary-x.ensures,
     )
 
 lay-observations-requires : tie.Need-lay_observations-run-requires invariant-loop decreases-loop
 lay-observations-requires c κs =
     let stood : tie.After-stood_with invariant-loop decreases-loop = search in
     let sized : tie.After-size-seen invariant-loop decreases-loop = search in
-    let read = sized.before.read_boundary-x.ensures in
-    room_for (given sized).pre.0 (at-loop sized).loop-b.inv.1 sized.before.before.loop-b-test.true
+    let read = sized.read_boundary-x.ensures in
+    room_for (given sized).pre.0 (at-loop sized).loop-b.inv.1 sized.loop-b-test.true
     (ap (λ (r : BoundaryRecord). r.sources) read) stood.stood_with.ensures.1
     (sized.size-seen.ensures.0 ∙ ap (λ (r : BoundaryRecord). r.observations) read) refl
 
@@ -103,7 +103,7 @@ add-p c =
     omega (
       arith,
       (few sized).1,
-      sized.size-seen.ensures.0 ∙ ap (λ (r : BoundaryRecord). r.observations) sized.before.read_boundary-x.ensures,
+      sized.size-seen.ensures.0 ∙ ap (λ (r : BoundaryRecord). r.observations) sized.read_boundary-x.ensures,
     )
 
 loop-again : tie.Need-loop-b-preserved invariant-loop decreases-loop
@@ -111,28 +111,28 @@ loop-again c =
     let laid : tie.After-lay_observations-run invariant-loop decreases-loop = search in
     let stood : tie.After-stood_with invariant-loop decreases-loop = search in
     let sized : tie.After-size-seen invariant-loop decreases-loop = search in
-    let read = sized.before.read_boundary-x.ensures in
+    let read = sized.read_boundary-x.ensures in
     let inv = (at-loop sized).loop-b.inv in
     let sources = ap (λ (r : BoundaryRecord). r.sources) read in
-    let next = layout-next (given sized).pre.0 inv.1 sized.before.before.loop-b-test.true sources
+    let next = layout-next (given sized).pre.0 inv.1 sized.loop-b-test.true sources
     (stood.stood_with.ensures.0 ∙ ap (λ (k : ℕ). cond (eqb (get_or (given sized).args.stands.now (at-loop sized).loop-b.b 0) 1) k 0) sources)
     (sized.size-seen.ensures.0 ∙ ap (λ (r : BoundaryRecord). r.observations) read) laid.lay_observations-run.ensures
     inv.2 inv.3 inv.4 in
     (omega arith, next.0, next.1, next.2, next.3)
 
 same_length : tie.Need-shape_of-firsts invariant-loop decreases-loop
-same_length c = omega (arith, c.before.loop-b.invariant.2)
+same_length c = omega (arith, c.loop-b.invariant.2)
 
 same-length-2 : tie.Need-shape_of-starts invariant-loop decreases-loop
-same-length-2 c = omega (arith, c.before.loop-b.invariant.3)
+same-length-2 c = omega (arith, c.loop-b.invariant.3)
 
 same-length-3 : tie.Need-shape_of-counts invariant-loop decreases-loop
-same-length-3 c = omega (arith, c.before.loop-b.invariant.4)
+same-length-3 c = omega (arith, c.loop-b.invariant.4)
 
 returns : tie.Need-returns invariant-loop decreases-loop
 returns c =
     let start : tie.Start invariant-loop decreases-loop = search in
-    let inv = c.before.loop-b.invariant in
+    let inv = c.loop-b.invariant in
     layout-end start.pre.0 inv.1 inv.0 (omega arith)
 
 pub lay_boundaries_spec : {M : Type 1} → statement M

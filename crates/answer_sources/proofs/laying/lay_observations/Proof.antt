@@ -39,39 +39,39 @@ add-starts : tie.Need-overflow_add-starts invariant-loop decreases-loop
 add-starts c = omega (arith, (given c.before).pre.inside)
 
 slice-write-starts : tie.Need-bounds-starts-p invariant-loop decreases-loop
-slice-write-starts c = omega (arith, (given c.before).pre.starts-room, c.before.before.loop-i.invariant.1.starts-long)
+slice-write-starts c = omega (arith, (given c.before).pre.starts-room, c.loop-i.invariant.1.starts-long)
 
 add-counts : tie.Need-overflow_add-counts invariant-loop decreases-loop
 add-counts c = omega (arith, (given c.before).pre.inside)
 
 slice-write-counts : tie.Need-bounds-counts-p invariant-loop decreases-loop
-slice-write-counts c = omega (arith, (given c.before).pre.counts-room, c.before.before.loop-i.invariant.1.counts-long)
+slice-write-counts c = omega (arith, (given c.before).pre.counts-room, c.loop-i.invariant.1.counts-long)
 
 add_r : tie.Need-overflow_add-r invariant-loop decreases-loop
 add_r c =
     omega (
       arith,
-      lays-small (given c.before).pre c.before.before.loop-i.invariant.1 c.before.loop-i-test.true,
+      lays-small (given c.before).pre c.loop-i.invariant.1 c.loop-i-test.true,
       ap (λ (o : ObservationRecord). o.sources) c.read_observation-o.ensures,
     )
 
 loop-again : tie.Need-loop-i-preserved invariant-loop decreases-loop
 loop-again c =
-    let inv = c.before.before.loop-i.invariant in (
+    let inv = c.loop-i.invariant in (
       omega arith,
       lays-next _ inv.1 (omega (arith, (given c.before).pre.starts-room, inv.1.starts-long))
           (omega (arith, (given c.before).pre.counts-room, inv.1.counts-long)) (ap (λ (o : ObservationRecord). o.sources) c.read_observation-o.ensures),
     )
 
 same_length : tie.Need-shape_of-starts invariant-loop decreases-loop
-same_length c = omega (arith, c.before.loop-i.invariant.1.starts-long)
+same_length c = omega (arith, c.loop-i.invariant.1.starts-long)
 
 same-length-2 : tie.Need-shape_of-counts invariant-loop decreases-loop
-same-length-2 c = omega (arith, c.before.loop-i.invariant.1.counts-long)
+same-length-2 c = omega (arith, c.loop-i.invariant.1.counts-long)
 
 returns : tie.Need-returns invariant-loop decreases-loop
 returns c =
-    let inv = c.before.loop-i.invariant in
+    let inv = c.loop-i.invariant in
     lays-end inv.1 inv.0 (omega arith)
 
 pub lay_observations_spec : {M : Type 1} → statement M

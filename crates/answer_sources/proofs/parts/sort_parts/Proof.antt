@@ -37,13 +37,13 @@ shared-slice-read-size c = omega (arith, (given c.before).pre.starts-room)
 slice-read-size : tie.Need-bounds-counts-q invariant-loop decreases-loop
 slice-read-size c =
     let turns : tie.In-loop-q invariant-loop decreases-loop = search in
-    omega (arith, turns.loop-q-test.true, (given turns).pre.counts-room, turns.before.loop-q.inv.1.counts-long)
+    omega (arith, turns.loop-q-test.true, (given turns).pre.counts-room, turns.loop-q.inv.1.counts-long)
 
 sort-unique-requires : tie.Need-sort_unique-e-requires invariant-loop decreases-loop
 sort-unique-requires c κs =
     let begun = started c in
     let pre = (given (turning begun)).pre in
-    let inv = (turning begun).before.loop-q.inv in (
+    let inv = (turning begun).loop-q.inv in (
       omega arith,
       omega (arith, part-within pre.clear inv.1, begun.size-a.ensures.0, c.size.ensures.0, inv.1.keys-long),
       omega (
@@ -51,7 +51,7 @@ sort-unique-requires c κs =
         same pre.clear inv.1,
         begun.size-a.ensures.0,
         c.size.ensures.0,
-        pre.spare-room (turning begun).before.loop-q.q,
+        pre.spare-room (turning begun).loop-q.q,
         inv.2,
       ),
     )
@@ -60,12 +60,12 @@ sub-counts : tie.Need-overflow_sub-counts invariant-loop decreases-loop
 sub-counts c = omega (arith, (sorted c).sort_unique-e.ensures.ends)
 
 cast-counts : tie.Need-overflow_cast-counts invariant-loop decreases-loop
-cast-counts c = omega (arith, (sorted c).sort_unique-e.ensures.within, (sorted c).before.size.ensures.1)
+cast-counts c = omega (arith, (sorted c).sort_unique-e.ensures.within, (sorted c).size.ensures.1)
 
 slice-write-counts : tie.Need-bounds-counts-q-in-loop-q invariant-loop decreases-loop
 slice-write-counts c =
     let turns = turning (started (sorted c).before) in
-    omega (arith, turns.loop-q-test.true, (given turns).pre.counts-room, turns.before.loop-q.inv.1.counts-long)
+    omega (arith, turns.loop-q-test.true, (given turns).pre.counts-room, turns.loop-q.inv.1.counts-long)
 
 loop-again : tie.Need-loop-q-preserved invariant-loop decreases-loop
 loop-again c =
@@ -74,7 +74,7 @@ loop-again c =
     let begun = started counted in
     let turns = turning begun in
     let pre = (given turns).pre in
-    let inv = turns.before.loop-q.inv in (
+    let inv = turns.loop-q.inv in (
       omega (arith, turns.loop-q-test.true),
       squeezed-next pre.clear inv.1 (omega (arith, turns.loop-q-test.true, pre.counts-room, inv.1.counts-long)) begun.size-a.ensures.0
           (omega (arith, counted.size.ensures.0)) unique.sort_unique-e.ensures refl (omega arith),
@@ -82,17 +82,17 @@ loop-again c =
     )
 
 same_length : tie.Need-shape_of-keys invariant-loop decreases-loop
-same_length c = omega (arith, c.before.loop-q.invariant.1.keys-long)
+same_length c = omega (arith, c.loop-q.invariant.1.keys-long)
 
 same-length-2 : tie.Need-shape_of-spare invariant-loop decreases-loop
-same-length-2 c = omega (arith, c.before.loop-q.invariant.2)
+same-length-2 c = omega (arith, c.loop-q.invariant.2)
 
 same-length-3 : tie.Need-shape_of-counts invariant-loop decreases-loop
-same-length-3 c = omega (arith, c.before.loop-q.invariant.1.counts-long)
+same-length-3 c = omega (arith, c.loop-q.invariant.1.counts-long)
 
 returns : tie.Need-returns invariant-loop decreases-loop
 returns c =
-    let inv = c.before.loop-q.invariant in
+    let inv = c.loop-q.invariant in
     squeezed-end inv.1 inv.0 (omega arith)
 
 pub sort_parts_spec : {M : Type 1} → statement M

@@ -27,13 +27,13 @@ abbrev given : tie.In-loop-p invariant-loop decreases-loop → tie.Start invaria
 given c = search
 
 -- the record at hand is in the job
-inside : (c : tie.In-loop-p invariant-loop decreases-loop) → (given c).args.at + (c.before.loop-p.p + 1) * observation_size ≤ length (given c).args.job.now
+inside : (c : tie.In-loop-p invariant-loop decreases-loop) → (given c).args.at + (c.loop-p.p + 1) * observation_size ≤ length (given c).args.job.now
 inside c = omega (arith, (given c).requires.0, c.loop-p-test.true)
 
 rank-one-requires : tie.Need-rank_one-requires invariant-loop decreases-loop
 rank-one-requires c κs =
     let turning : tie.In-loop-p invariant-loop decreases-loop = search in
-    ranks-room (ranks-after turning.before.loop-p.inv.1 (given turning).pre.1) (omega (arith, turning.loop-p-test.true))
+    ranks-room (ranks-after turning.loop-p.inv.1 (given turning).pre.1) (omega (arith, turning.loop-p-test.true))
 
 loop-again : tie.Need-loop-p-preserved invariant-loop decreases-loop
 loop-again c =
@@ -42,13 +42,13 @@ loop-again c =
     let ranked : tie.After-rank_one invariant-loop decreases-loop = search in
     let read = recorded.read_observation-o.ensures in (
       omega (arith, turning.loop-p-test.true),
-      ranked-next turning.before.loop-p.inv.1 ranked.rank_one.ensures (omega arith) (ap (λ (r : ObservationRecord). r.ends) read)
+      ranked-next turning.loop-p.inv.1 ranked.rank_one.ensures (omega arith) (ap (λ (r : ObservationRecord). r.ends) read)
           (ap (λ (r : ObservationRecord). r.bits) read),
     )
 
 returns : tie.Need-returns invariant-loop decreases-loop
 returns c =
-    let inv = c.before.loop-p.invariant in
+    let inv = c.loop-p.invariant in
     ranked-end inv.1 inv.0 (omega arith)
 
 pub rank_observations_spec : {M : Type 1} → statement M
@@ -65,7 +65,7 @@ rank_observations_spec =
     (λ c. search rules)
     (λ c. search rules)
     loop-again
-    (λ c. omega (arith, c.before.loop-p.invariant.1.first-long))
-    (λ c. omega (arith, c.before.loop-p.invariant.1.second-long))
-    (λ c. omega (arith, c.before.loop-p.invariant.1.third-long))
+    (λ c. omega (arith, c.loop-p.invariant.1.first-long))
+    (λ c. omega (arith, c.loop-p.invariant.1.second-long))
+    (λ c. omega (arith, c.loop-p.invariant.1.third-long))
     returns)

@@ -27,18 +27,18 @@ count-one-requires : tie.Need-count_one-requires invariant-loop decreases-loop
 count-one-requires c =
     let start : tie.Start invariant-loop decreases-loop = search in
     let turning : tie.In-loop-j invariant-loop decreases-loop = search in
-    omega (arith, turning.before.loop-j.inv.1.most c.size.result, start.pre.0, turning.loop-j-test.true)
+    omega (arith, turning.loop-j.inv.1.most c.size.result, start.pre.0, turning.loop-j-test.true)
 
 loop-again : tie.Need-loop-j-preserved invariant-loop decreases-loop
 loop-again c =
     let counted : tie.After-count_one invariant-loop decreases-loop = search in
     let sized : tie.After-size invariant-loop decreases-loop = search in
     let turning : tie.In-loop-j invariant-loop decreases-loop = search in
-    (omega arith, sizes-next turning.before.loop-j.inv.1 sized.size.ensures.0 counted.count_one.ensures.0 counted.count_one.ensures.1)
+    (omega arith, sizes-next turning.loop-j.inv.1 sized.size.ensures.0 counted.count_one.ensures.0 counted.count_one.ensures.1)
 
 returns : tie.Need-returns invariant-loop decreases-loop
 returns c =
-    let inv = c.before.loop-j.invariant in
+    let inv = c.loop-j.invariant in
     sizes-end inv.1 inv.0 (omega arith)
 
 pub count_into_spec : {M : Type 1} → statement M

@@ -40,8 +40,8 @@ copy-plan c =
     omega (arith, (start_of turning).pre.0, turning.loop-j-test.true)
 
 -- the place of the rank at hand
-place : (c : tie.In-loop-j invariant-loop decreases-loop) → get_or (start_of c).args.order.now c.before.loop-j.j 0 < (start_of c).args.n
-place c = place-below (start_of c).args.order.now (start_of c).args.n (start_of c).requires.2 c.before.loop-j.j c.loop-j-test.true
+place : (c : tie.In-loop-j invariant-loop decreases-loop) → get_or (start_of c).args.order.now c.loop-j.j 0 < (start_of c).args.n
+place c = place-below (start_of c).args.order.now (start_of c).args.n (start_of c).requires.2 c.loop-j.j c.loop-j-test.true
 
 mark-one-requires : tie.Need-mark_one-requires invariant-loop decreases-loop
 mark-one-requires c κs =
@@ -59,13 +59,13 @@ loop-again c =
     let counted : tie.After-count_into invariant-loop decreases-loop = search in
     let start = start_of turning in (
       omega arith,
-      standing-next start.pre.0 start.pre.2 turning.before.loop-j.inv.1 turning.loop-j-test.true first.size.ensures.0
+      standing-next start.pre.0 start.pre.2 turning.loop-j.inv.1 turning.loop-j-test.true first.size.ensures.0
           aim.size-in-loop-j.ensures.0 _ counted.count_into.ensures (omega (arith, start.pre.0, place turning, first.size.ensures.0))
           marked.mark_one.ensures.0 marked.mark_one.ensures.1,
     )
 
 returns : tie.Need-returns invariant-loop decreases-loop
-returns c = standing-end c.before.loop-j.invariant.1 (omega arith)
+returns c = standing-end c.loop-j.invariant.1 (omega arith)
 
 pub mark_standing_spec : {M : Type 1} → statement M
 mark_standing_spec =

@@ -7,10 +7,10 @@ returns : tie.Need-returns-then-observations-ne0
 returns c = rw (ne_eqb _ 0 c.if-observations-ne0.true)
 
 returns-2 : tie.Need-returns-then-among-eq1
-returns-2 c = rw (eq-eqb _ 0 c.before.if-observations-ne0.false, eq-eqb _ 1 c.if-among-eq1.true)
+returns-2 c = rw (eq-eqb _ 0 c.if-observations-ne0.false, eq-eqb _ 1 c.if-among-eq1.true)
 
 returns-3 : tie.Need-returns
-returns-3 c = rw (eq-eqb _ 0 c.before.if-observations-ne0.false, ne_eqb _ 1 c.if-among-eq1.false)
+returns-3 c = rw (eq-eqb _ 0 c.if-observations-ne0.false, ne_eqb _ 1 c.if-among-eq1.false)
 
 pub stands_as_spec : {M : Type 1} → statement M
 stands_as_spec = tie.close (tie.spec returns returns-2 returns-3)

@@ -13,16 +13,16 @@ loop-holds : tie.Need-loop-rest-init invariant-loop decreases-loop
 loop-holds c = counted_start _
 
 add-k : tie.Need-overflow_add-k invariant-loop decreases-loop
-add-k c = omega (arith, c.before.loop-rest.invariant.small, c.loop-rest-test.true)
+add-k c = omega (arith, c.loop-rest.invariant.small, c.loop-rest-test.true)
 
 loop-less : tie.Need-loop-rest-smaller invariant-loop decreases-loop
 loop-less c = omega (arith, c.loop-rest-test.true)
 
 loop-again : tie.Need-loop-rest-preserved invariant-loop decreases-loop
-loop-again c = counted_next c.before.loop-rest.invariant c.loop-rest-test.true
+loop-again c = counted_next c.loop-rest.invariant c.loop-rest-test.true
 
 returns : tie.Need-returns invariant-loop decreases-loop
-returns c = counted-end c.before.loop-rest.invariant c.loop-rest-test.false
+returns c = counted-end c.loop-rest.invariant c.loop-rest-test.false
 
 pub places_spec : {M : Type 1} → statement M
 places_spec = tie.close (tie.spec invariant-loop decreases-loop loop-holds add-k loop-less loop-again returns)

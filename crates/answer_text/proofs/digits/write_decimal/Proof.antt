@@ -7,7 +7,7 @@ use Rattle.answer_text.proofs.digits.write_decimal.Tie as tie
 write-digits-requires : tie.Need-write_digits-requires
 write-digits-requires c κs =
     let start : tie.Start = search in
-    (omega arith, omega arith, omega (arith, start.pre, length_digits start.args.v, c.before.places-k.ensures))
+    (omega arith, omega arith, omega (arith, start.pre, length_digits start.args.v, c.places-k.ensures))
 
 add-result : tie.Need-overflow_add-result
 add-result c =
@@ -19,7 +19,7 @@ returns : tie.Need-returns
 returns c =
     let after-places : tie.After-places-k = search in
     let start = after-places.before.before in
-    decimal-writes start.args.v after-places.places-k.ensures c.before.before.write_digits.ensures
+    decimal-writes start.args.v after-places.places-k.ensures c.write_digits.ensures
 
 pub write_decimal_spec : {M : Type 1} → statement M
 write_decimal_spec =

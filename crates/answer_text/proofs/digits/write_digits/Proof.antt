@@ -11,7 +11,7 @@ abbrev decreases-loop : tie.decreases-loop-i
 decreases-loop v base k out₀ at i₀ rest₀ out i rest = i
 
 loop-holds : tie.Need-loop-i-init invariant-loop decreases-loop
-loop-holds c = spelt-start c.before.requires.2
+loop-holds c = spelt-start c.requires.2
 
 rem-glyph : tie.Need-nonzero-rem-glyph invariant-loop decreases-loop
 rem-glyph c =
@@ -27,7 +27,7 @@ slice-write-out : tie.Need-bounds-out-at invariant-loop decreases-loop
 slice-write-out c =
     let in-loop = c.before.before in
     let inv = in-loop.loop-i.invariant in
-    omega (arith, inv.size, inv.fits, spelt-long (inv), c.before.loop-i-test.true)
+    omega (arith, inv.size, inv.fits, spelt-long (inv), c.loop-i-test.true)
 
 div-rest : tie.Need-nonzero_div-rest invariant-loop decreases-loop
 div-rest c =
@@ -35,16 +35,16 @@ div-rest c =
     omega (arith, start.pre.0)
 
 loop-less : tie.Need-loop-i-smaller invariant-loop decreases-loop
-loop-less c = omega (arith, c.before.loop-i-test.true)
+loop-less c = omega (arith, c.loop-i-test.true)
 
 loop-again : tie.Need-loop-i-preserved invariant-loop decreases-loop
-loop-again c = rw c.glyph.ensures (spelt-next c.before.before.loop-i.invariant c.before.loop-i-test.true)
+loop-again c = rw c.glyph.ensures (spelt-next c.loop-i.invariant c.loop-i-test.true)
 
 same_length : tie.Need-shape_of-out invariant-loop decreases-loop
-same_length c = spelt-long c.before.loop-i.invariant
+same_length c = spelt-long c.loop-i.invariant
 
 returns : tie.Need-returns invariant-loop decreases-loop
-returns c = spelt-end c.before.loop-i.invariant c.loop-i-test.false
+returns c = spelt-end c.loop-i.invariant c.loop-i-test.false
 
 pub write_digits_spec : {M : Type 1} → statement M
 write_digits_spec =

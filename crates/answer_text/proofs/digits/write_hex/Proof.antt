@@ -12,7 +12,7 @@ write-digits-requires c κs =
 returns : tie.Need-returns
 returns c =
     let start : tie.Start = search in
-    hex-writes start.args.v c.before.before.write_digits.ensures
+    hex-writes start.args.v c.write_digits.ensures
 
 pub write_hex_spec : {M : Type 1} → statement M
 write_hex_spec = tie.close (tie.spec write-digits-requires (λ c. search rules) (λ c. search rules) returns)

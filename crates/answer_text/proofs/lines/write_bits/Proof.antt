@@ -16,7 +16,7 @@ write-hex-requires c κs =
 returns : tie.Need-returns
 returns c =
     let space-written : tie.After-write_byte-end = search in
-    done (next (next (bits-start _ _ _ (start_of space-written).pre) space-written.write_byte-end.ensures) c.before.before.write_hex.ensures)
+    done (next (next (bits-start _ _ _ (start_of space-written).pre) space-written.write_byte-end.ensures) c.write_hex.ensures)
 
 pub write_bits_spec : {M : Type 1} → statement M
 write_bits_spec =

@@ -39,7 +39,7 @@ returns c =
     let count-written = count-written-of ramp-written in
     let head-written = head-written-of count-written in
     done (next (next (next (next (boundary_start _ _ _ _ _ _ _ (start_of head-written).pre) head-written.write_head-end1.ensures)
-    count-written.write_count-end2.ensures) ramp-written.write_ramp-end3.ensures) c.before.before.write_byte.ensures)
+    count-written.write_count-end2.ensures) ramp-written.write_ramp-end3.ensures) c.write_byte.ensures)
 
 pub write_boundary_line_spec : {M : Type 1} → statement M
 write_boundary_line_spec =

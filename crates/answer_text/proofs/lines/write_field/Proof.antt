@@ -16,7 +16,7 @@ write-decimal-requires c κs =
 returns : tie.Need-returns
 returns c =
     let space-written : tie.After-write_byte-end = search in
-    done (next (next (field-start _ _ _ (start_of space-written).pre) space-written.write_byte-end.ensures) c.before.before.write_decimal.ensures)
+    done (next (next (field-start _ _ _ (start_of space-written).pre) space-written.write_byte-end.ensures) c.write_decimal.ensures)
 
 pub write_field_spec : {M : Type 1} → statement M
 write_field_spec =

@@ -39,7 +39,7 @@ returns c =
     let b-written = b-written-of c-written in
     let a-written = a-written-of b-written in
     done (next (next (next (next (four-start _ _ _ _ _ _ (start_of a-written).pre) a-written.write_word-end1.ensures) b-written.write_word-end2.ensures)
-    c-written.write_word-end3.ensures) c.before.before.write_word.ensures)
+    c-written.write_word-end3.ensures) c.write_word.ensures)
 
 pub write_four_spec : {M : Type 1} → statement M
 write_four_spec =

@@ -39,7 +39,7 @@ returns c =
     let ends-written = ends-written-of bits-written in
     let letter-written = letter-written-of ends-written in
     done (next (next (next (next (head-start _ _ _ _ _ _ (start_of letter-written).pre) letter-written.write_byte-end1.ensures)
-    ends-written.write_ends-end2.ensures) bits-written.write_bits-end3.ensures) c.before.before.write_count.ensures)
+    ends-written.write_ends-end2.ensures) bits-written.write_bits-end3.ensures) c.write_count.ensures)
 
 pub write_head_spec : {M : Type 1} → statement M
 write_head_spec =

@@ -16,7 +16,7 @@ write-byte-requires c κs =
 returns : tie.Need-returns
 returns c =
     let head-written : tie.After-write_head-end = search in
-    done (next (next (observation-start _ _ _ _ _ (start_of head-written).pre) head-written.write_head-end.ensures) c.before.before.write_byte.ensures)
+    done (next (next (observation-start _ _ _ _ _ (start_of head-written).pre) head-written.write_head-end.ensures) c.write_byte.ensures)
 
 pub write_observation_line_spec : {M : Type 1} → statement M
 write_observation_line_spec =

@@ -19,33 +19,33 @@ loop-holds c = (copied-start _ _ _ c.requires, omega arith, refl)
 add-out : tie.Need-overflow_add-out invariant-loop decreases-loop
 add-out c =
     let start : tie.Start invariant-loop decreases-loop = search in
-    omega (arith, start.pre, c.before.before.loop-i.invariant.2, c.before.loop-i-test.true)
+    omega (arith, start.pre, c.loop-i.invariant.2, c.loop-i-test.true)
 
 slice-write-out : tie.Need-bounds-out-at invariant-loop decreases-loop
 slice-write-out c =
     let in-loop = c.before.before in
     let start = in-loop.before in
     let inv = in-loop.loop-i.invariant in
-    omega (arith, as_long inv.0, start.requires, inv.2, c.before.loop-i-test.true)
+    omega (arith, as_long inv.0, start.requires, inv.2, c.loop-i-test.true)
 
 add-i : tie.Need-overflow_add-i invariant-loop decreases-loop
-add-i c = omega (arith, c.before.loop-i-test.true)
+add-i c = omega (arith, c.loop-i-test.true)
 
 loop-less : tie.Need-loop-i-smaller invariant-loop decreases-loop
-loop-less c = omega (arith, c.before.loop-i-test.true)
+loop-less c = omega (arith, c.loop-i-test.true)
 
 loop-again : tie.Need-loop-i-preserved invariant-loop decreases-loop
 loop-again c =
     let in-loop = c.before.before in
     let inv = in-loop.loop-i.invariant in
-    (copied_next _ _ _ _ _ (omega (arith, inv.2, c.before.loop-i-test.true)) inv.0, omega (arith, c.before.loop-i-test.true), inv.2)
+    (copied_next _ _ _ _ _ (omega (arith, inv.2, c.loop-i-test.true)) inv.0, omega (arith, c.loop-i-test.true), inv.2)
 
 same_length : tie.Need-shape_of-out invariant-loop decreases-loop
-same_length c = as_long c.before.loop-i.invariant.0
+same_length c = as_long c.loop-i.invariant.0
 
 returns : tie.Need-returns invariant-loop decreases-loop
 returns c =
-    let inv = c.before.loop-i.invariant in
+    let inv = c.loop-i.invariant in
     copied-end _ _ _ _ _ _ inv.2 c.loop-i-test.false inv.1 inv.0
 
 pub write_text_spec : {M : Type 1} → statement M

@@ -27,7 +27,7 @@ returns c =
     let count-written : tie.After-write_word-end2 = search in
     let name-written = name-written-of count-written in
     done (next (next (next (kept-start _ _ _ (start_of name-written).pre) name-written.write_text-end1.ensures) count-written.write_word-end2.ensures)
-    c.before.before.write_byte.ensures)
+    c.write_byte.ensures)
 
 pub write_kept_spec : {M : Type 1} → statement M
 write_kept_spec =

@@ -22,8 +22,8 @@ returns-2 c =
       no-records _ _ (omega (
         arith,
         c.if-n-total.true,
-        c.before.size-s.ensures.0,
-        c.before.before.read_u32-2.ensures,
+        c.size-s.ensures.0,
+        c.read_u32-2.ensures,
         after-size2.size-o.ensures.0,
         after-read-u322.read_u32.ensures,
         after-size.size-b.ensures.0,
@@ -42,7 +42,7 @@ returns-3 c =
       no_room _ _ (omega (
         arith,
         c.if-out-total.true,
-        c.before.before.size-s.ensures.0,
+        c.size-s.ensures.0,
         after-read-u323.read_u32-2.ensures,
         after-size2.size-o.ensures.0,
         after-read-u322.read_u32.ensures,
@@ -65,7 +65,7 @@ write-kept-requires c κs =
     room (listing_start start.args.answer.now start.args.out.now (λ i. (answer-known.shared_slice_known-1.given i).fits) _ _ _
     (after-size.size-b.ensures.0 ∙ after-read-u32.read_u32-kept.ensures) (after-size2.size-o.ensures.0 ∙ after-read-u322.read_u32.ensures)
     (after-size3.size-s.ensures.0 ∙ after-read-u323.read_u32-2.ensures) after-size.size-b.ensures.1 after-size2.size-o.ensures.1
-    after-size3.size-s.ensures.1 (omega (arith, c.before.before.if-n-total.false)) (omega (arith, c.before.if-out-total.false)) _
+    after-size3.size-s.ensures.1 (omega (arith, c.if-n-total.false)) (omega (arith, c.if-out-total.false)) _
     (sym after-size.size-b.ensures.0))
 
 write-boundaries-requires : tie.Need-write_boundaries-requires
@@ -107,7 +107,7 @@ returns-4 c =
     (after-size.size-b.ensures.0 ∙ after-read-u32.read_u32-kept.ensures) (after-size2.size-o.ensures.0 ∙ after-read-u322.read_u32.ensures)
     (after-size3.size-s.ensures.0 ∙ after-read-u323.read_u32-2.ensures) after-size.size-b.ensures.1 after-size2.size-o.ensures.1
     after-size3.size-s.ensures.1 (omega (arith, whole.if-n-total.false)) (omega (arith, roomy.if-out-total.false)) _ (sym after-size.size-b.ensures.0))
-    after-write-kept.write-Kept.ensures) c.before.before.write_boundaries.ensures in (done l, omega (arith, l.fits, as_long l, (done l).end))
+    after-write-kept.write-Kept.ensures) c.write_boundaries.ensures in (done l, omega (arith, l.fits, as_long l, (done l).end))
 
 pub write_listing_spec : {M : Type 1} → statement M
 write_listing_spec =

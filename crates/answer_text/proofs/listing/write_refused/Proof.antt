@@ -12,7 +12,7 @@ write-pair-requires c κs =
 returns : tie.Need-returns
 returns c =
     let start : tie.Start = search in
-    let w = c.before.before.write_pair.ensures in
+    let w = c.write_pair.ensures in
     (w, omega (arith, w.end, refused-length start.args.number start.args.detail start.fits.number.fits start.fits.detail.fits))
 
 pub write_refused_spec : {M : Type 1} → statement M

@@ -31,7 +31,7 @@ write-boundary-requires c κs =
     let in-loop = c.before.before in
     let start = in-loop.before.before.before in
     let inv = in-loop.loop-i.invariant in
-    (inv.inside, omega (arith, start.requires.1, c.before.loop-i-test.true), boundary-room _ _ _ _ _ (inv) c.before.loop-i-test.true)
+    (inv.inside, omega (arith, start.requires.1, c.loop-i-test.true), boundary-room _ _ _ _ _ (inv) c.loop-i-test.true)
 
 add-i : tie.Need-overflow_add-i invariant-loop decreases-loop
 add-i c =
@@ -52,10 +52,10 @@ loop-again c =
     after-write-boundary.write_boundary-d.ensures.1
 
 same_length : tie.Need-shape_of-out invariant-loop decreases-loop
-same_length c = as_long c.before.loop-i.invariant.text
+same_length c = as_long c.loop-i.invariant.text
 
 returns : tie.Need-returns invariant-loop decreases-loop
-returns c = boundaries-written _ _ _ _ _ c.before.loop-i.invariant c.loop-i-test.false
+returns c = boundaries-written _ _ _ _ _ c.loop-i.invariant c.loop-i-test.false
 
 pub write_boundaries_spec : {M : Type 1} → statement M
 write_boundaries_spec =

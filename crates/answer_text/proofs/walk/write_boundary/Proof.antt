@@ -16,7 +16,7 @@ write-boundary-line-requires c κs =
     let after-read-boundary : tie.After-read_boundary-b = search in
     let start = start_of after-read-boundary in
     room (whole-start start.args.answer.now start.args.place start.args.c _ _ _ after-read-boundary.read_boundary-b.ensures
-    c.before.before.least-n.ensures c.before.least-m.ensures start.args.out.now start.pre.2)
+    c.least-n.ensures c.least-m.ensures start.args.out.now start.pre.2)
 
 write-sources-requires : tie.Need-write_sources-last-requires
 write-sources-requires c κs =

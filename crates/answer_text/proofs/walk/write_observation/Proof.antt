@@ -11,7 +11,7 @@ start_of c = search
 write-observation-line-requires : tie.Need-write_observation_line-end-requires
 write-observation-line-requires c κs =
     let start : tie.Start = search in
-    room (here-start start.args.answer.now start.args.c _ _ c.before.before.read_observation-o.ensures c.before.least-n.ensures
+    room (here-start start.args.answer.now start.args.c _ _ c.read_observation-o.ensures c.least-n.ensures
     start.args.out.now start.pre.2)
 
 write-sources-requires : tie.Need-write_sources-last-requires

@@ -21,7 +21,7 @@ write-observation-requires : tie.Need-write_observation-d-requires invariant-loo
 write-observation-requires c κs =
     let in-loop = c.before.before in
     let inv = in-loop.loop-i.invariant in
-    (inv.inside, some_left _ _ _ _ (inv) c.before.loop-i-test.true, observation-room _ _ _ _ (inv) c.before.loop-i-test.true)
+    (inv.inside, some_left _ _ _ _ (inv) c.loop-i-test.true, observation-room _ _ _ _ (inv) c.loop-i-test.true)
 
 add-i : tie.Need-overflow_add-i invariant-loop decreases-loop
 add-i c =
@@ -42,11 +42,11 @@ loop-again c =
     after-write-observation.write_observation-d.ensures.1
 
 same_length : tie.Need-shape_of-out invariant-loop decreases-loop
-same_length c = as_long c.before.loop-i.invariant.text
+same_length c = as_long c.loop-i.invariant.text
 
 returns : tie.Need-returns invariant-loop decreases-loop
 returns c =
-    let inv = c.before.loop-i.invariant in
+    let inv = c.loop-i.invariant in
     (observations-written _ _ _ _ (inv) c.loop-i-test.false, observations-moved _ _ _ _ (inv) c.loop-i-test.false)
 
 pub write_observations_spec : {M : Type 1} → statement M

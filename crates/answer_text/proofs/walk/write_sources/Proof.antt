@@ -12,7 +12,7 @@ abbrev decreases-loop : tie.decreases-loop-i
 decreases-loop answer from n out₀ at i₀ end₀ out i end = n - i
 
 loop-holds : tie.Need-loop-i-init invariant-loop decreases-loop
-loop-holds c = sources-start _ _ _ _ _ c.before.before.requires.1
+loop-holds c = sources-start _ _ _ _ _ c.requires.1
 
 mul-read-source : tie.Need-overflow_mul-i invariant-loop decreases-loop
 mul-read-source c =
@@ -32,7 +32,7 @@ read-source-requires c κs =
 write-source-requires : tie.Need-write_source-end-requires invariant-loop decreases-loop
 write-source-requires c κs =
     let in-loop : tie.At-loop-i invariant-loop decreases-loop = search in
-    source-room _ _ _ _ _ _ c.before.read_source-s.ensures c.before.before.loop-i-test.true in-loop.loop-i.inv
+    source-room _ _ _ _ _ _ c.read_source-s.ensures c.loop-i-test.true in-loop.loop-i.inv
 
 add-i : tie.Need-overflow_add-i invariant-loop decreases-loop
 add-i c =
@@ -50,13 +50,13 @@ loop-again c =
     let turning = after-read-source.before in
     let in-loop = turning.before in
     sources_next _ _ _ _ _ _ after-read-source.read_source-s.ensures turning.loop-i-test.true in-loop.loop-i.inv
-    c.before.before.write_source-end.ensures
+    c.write_source-end.ensures
 
 same_length : tie.Need-shape_of-out invariant-loop decreases-loop
-same_length c = as_long c.before.loop-i.invariant
+same_length c = as_long c.loop-i.invariant
 
 returns : tie.Need-returns invariant-loop decreases-loop
-returns c = sources-end _ _ _ _ _ c.loop-i-test.false c.before.loop-i.invariant
+returns c = sources-end _ _ _ _ _ c.loop-i-test.false c.loop-i.invariant
 
 pub write_sources_spec : {M : Type 1} → statement M
 write_sources_spec =

@@ -10,7 +10,7 @@ returns : tie.Need-returns
 unfolding axis_range
 returns c =
     let start = c.before.before in
-    let low : c.before.max.result - cut_reach ≡ start.args.minimum - cut_reach = omega arith in
+    let low : c.max.result - cut_reach ≡ start.args.minimum - cut_reach = omega arith in
     simp (c.centred.ensures, low)
 
 pub candidate_axis_range_spec : {M : Type 1} → statement M

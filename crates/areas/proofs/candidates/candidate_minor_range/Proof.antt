@@ -10,7 +10,7 @@ returns : tie.Need-returns
 unfolding minor_range
 returns c =
     let start = c.before.before in
-    let low : c.before.max.result - spread ≡ start.args.reference - spread = omega arith in
+    let low : c.max.result - spread ≡ start.args.reference - spread = omega arith in
     simp (c.centred.ensures, low)
 
 pub candidate_minor_range_spec : {M : Type 1} → statement M

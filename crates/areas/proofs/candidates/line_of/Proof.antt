@@ -7,19 +7,19 @@ use Rattle.areas.proofs.candidates.line_of.Tie as tie
 
 returns : tie.Need-returns-then-not-is_tall
 unfolding line_of
-returns c = let e = sym c.before.is_tall.ensures ∙ not-true _ c.if-not-is_tall.true in rw e
+returns c = let e = sym c.is_tall.ensures ∙ not-true _ c.if-not-is_tall.true in rw e
 
 returns-2 : tie.Need-returns-then-a-b
 unfolding line_of
 returns-2 c =
-    let e = sym c.before.before.before.before.is_tall.ensures ∙ not-false _ c.before.before.before.if-not-is_tall.false in
+    let e = sym c.is_tall.ensures ∙ not-false _ c.if-not-is_tall.false in
     let k = le-leb _ _ c.if-a-b.true in
     rw (e, k)
 
 returns-3 : tie.Need-returns
 unfolding line_of
 returns-3 c =
-    let e = sym c.before.before.before.before.is_tall.ensures ∙ not-false _ c.before.before.before.if-not-is_tall.false in
+    let e = sym c.is_tall.ensures ∙ not-false _ c.if-not-is_tall.false in
     let k = lt-leb _ _ c.if-a-b.false in
     rw (e, k)
 

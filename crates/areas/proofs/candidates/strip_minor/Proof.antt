@@ -8,7 +8,7 @@ use Rattle.areas.proofs.candidates.strip_minor.Tie as tie
 
 -- the line keeps to the map
 fits : (c : tie.After-line_of-line) → LineFits c.Line-of.result
-fits c = rw c.Line-of.ensures (line-fits c.before.requires.0 c.before.requires.1)
+fits c = rw c.Line-of.ensures (line-fits c.requires.0 c.requires.1)
 
 clamp-requires : tie.Need-clamp-v-requires
 clamp-requires c κs = let f = fits c.before.before in omega arith
@@ -23,10 +23,10 @@ candidate-minor-range-requires c κs =
     let picked = c.before.before in
     let line = picked.before.before in
     let f = fits line in
-    let clamp = c.before.clamp-v in
+    let clamp = c.clamp-v in
     let most : c.line_at.result ≤ 8192 =
     rw c.line_at.ensures (line-most _ _ _ _ _ 8192 f.rises clamp.ensures.1 clamp.ensures.2 f.low f.high) in
-    let some : 0 < picked.pick-limit.result = rw picked.pick-limit.ensures (limit-some line.before.requires.0 picked.before.is_tall.result).1 in
+    let some : 0 < picked.pick-limit.result = rw picked.pick-limit.ensures (limit-some line.requires.0 picked.is_tall.result).1 in
     (most, some)
 
 returns : tie.Need-returns
@@ -34,8 +34,8 @@ returns c =
     let clamped = c.before.before in
     let picked = clamped.before in
     let tall = picked.before in
-    minor-is _ _ _ _ _ _ _ _ _ _ tall.before.Line-of.ensures tall.is_tall.ensures picked.pick-limit.ensures clamped.clamp-v.ensures.0
-    c.before.line_at.ensures c.candidate_minor_range.ensures
+    minor-is _ _ _ _ _ _ _ _ _ _ tall.Line-of.ensures tall.is_tall.ensures picked.pick-limit.ensures clamped.clamp-v.ensures.0
+    c.line_at.ensures c.candidate_minor_range.ensures
 
 pub strip_minor_spec : {M : Type 1} → statement M
 strip_minor_spec =

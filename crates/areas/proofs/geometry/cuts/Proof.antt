@@ -30,12 +30,12 @@ module _ {p q s t : Bool} (h : p ≡ s) (k : q ≡ t) (m : Bool) where
 
 returns : tie.Need-returns-then-side
 unfolding cuts
-returns c = same c.before.before.side.ensures c.before.side-2.ensures _ c.if-side.true
+returns c = same c.side.ensures c.side-2.ensures _ c.if-side.true
 
 returns-2 : tie.Need-returns
 unfolding cuts
 returns-2 c =
-    apart c.before.before.before.side.ensures c.before.before.side-2.ensures _ c.before.if-side.false c.segments_intersect.ensures
+    apart c.side.ensures c.side-2.ensures _ c.if-side.false c.segments_intersect.ensures
 
 pub cuts_spec : {M : Type 1} → statement M
 cuts_spec = tie.close (tie.spec (search rules) (search rules) returns (search rules) returns-2)

@@ -13,8 +13,8 @@ returns c =
       plus-told.cross_plus.ensures,
       minus-told.cross_minus.ensures,
       lesser-told.min.ensures,
-      c.before.before.max.ensures,
-      c.before.min-2.ensures,
+      c.max.ensures,
+      c.min-2.ensures,
       c.max-2.ensures,
     )
 

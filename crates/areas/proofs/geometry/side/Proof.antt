@@ -7,7 +7,7 @@ use Rattle.areas.proofs.geometry.side.Tie as tie
 
 returns : tie.Need-returns
 unfolding side
-returns c = ap₂ leb c.before.cross_minus.ensures c.cross_plus.ensures
+returns c = ap₂ leb c.cross_minus.ensures c.cross_plus.ensures
 
 pub side_spec : {M : Type 1} → statement M
 side_spec = tie.close (tie.spec (search rules) (search rules) returns)

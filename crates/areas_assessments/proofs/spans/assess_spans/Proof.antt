@@ -24,14 +24,14 @@ decreases-loop cells width height directions labels ends count removed₀ separa
 
 loop-holds : tie.Need-loop-i-init invariant-loop decreases-loop
 loop-holds c =
-    let pre = c.before.before.before.before.before.before.before.requires in
+    let pre = c.requires in
     (pre.0, pre.1, omega arith, recording-start _ _ _ _ pre.1)
 
 assess-span-requires : tie.Need-assess_span-a-requires invariant-loop decreases-loop
 assess-span-requires c κs =
-    let inv = c.before.before.before.before.loop-i.invariant in
+    let inv = c.loop-i.invariant in
     let a = inv.3.arrays in (
-      span-on inv.0 c.before.before.before.loop-i-test.true c.before.before.span_at-span.ensures,
+      span-on inv.0 c.loop-i-test.true c.span_at-span.ensures,
       omega (arith, inv.3.few, a.lefts-are),
       a.rights-are ∙ sym a.lefts-are,
       omega (arith, a.lefts-are, a.few),
@@ -41,17 +41,17 @@ returns : tie.Need-returns-then-most-next invariant-loop decreases-loop
 returns c =
     let assessed = c.before.before.before.before.before in
     let spanned = assessed.before.before.before in
-    let r = spanned.before.before.loop-i.invariant.3 in
+    let r = spanned.loop-i.invariant.3 in
     let h = span-holds _ _ _ _ _ _ spanned.span_at-span.ensures r.arrays.lefts-are assessed.assess_span-a.ensures in
-    recording-over _ _ _ _ r h _ spanned.before.loop-i-test.true c.if-most-next.true
+    recording-over _ _ _ _ r h _ spanned.loop-i-test.true c.if-most-next.true
 
 fill-requires : tie.Need-fill-requires invariant-loop decreases-loop
 fill-requires c κs =
     let assessed = c.before.before.before.before.before.before in
     let spanned = assessed.before.before.before in
-    let r = spanned.before.before.loop-i.invariant.3 in
+    let r = spanned.loop-i.invariant.3 in
     let h = span-holds _ _ _ _ _ _ spanned.span_at-span.ensures r.arrays.lefts-are assessed.assess_span-a.ensures in
-    let m = c.before.if-most-next.false in
+    let m = c.if-most-next.false in
     (grows _ _ _ _ r h m, omega (arith, m, r.arrays.owners-are), omega (arith, r.arrays.owners-are, r.arrays.few))
 
 loop-again : tie.Need-loop-i-preserved invariant-loop decreases-loop
@@ -60,9 +60,9 @@ loop-again c =
     let fits = filled.before.before in
     let assessed = fits.before.before.before.before.before in
     let spanned = assessed.before.before.before in
-    let inv = spanned.before.before.loop-i.invariant in
+    let inv = spanned.loop-i.invariant in
     let r = inv.3 in
-    let turns = spanned.before.loop-i-test.true in
+    let turns = spanned.loop-i-test.true in
     let h = span-holds _ _ _ _ _ _ spanned.span_at-span.ensures r.arrays.lefts-are assessed.assess_span-a.ensures in
     let kept = assessed.assess_span-a.auto.1.1.1.1.1.1 in (
       inv.0,
@@ -73,7 +73,7 @@ loop-again c =
 
 returns-2 : tie.Need-returns invariant-loop decreases-loop
 returns-2 c =
-    let inv = c.before.loop-i.invariant in
+    let inv = c.loop-i.invariant in
     recording-end _ _ _ _ inv.3 (omega (arith, inv.2, c.loop-i-test.false))
 
 pub assess_spans_spec : {M : Type 1} → statement M

@@ -45,15 +45,15 @@ loop-again c =
     )
 
 same_length : tie.Need-shape_of-lefts invariant-loop decreases-loop
-same_length c = c.before.loop-d.invariant.1.lefts-are
+same_length c = c.loop-d.invariant.1.lefts-are
 
 same-length-2 : tie.Need-shape_of-rights invariant-loop decreases-loop
-same-length-2 c = c.before.loop-d.invariant.1.rights-are
+same-length-2 c = c.loop-d.invariant.1.rights-are
 
 returns : tie.Need-returns invariant-loop decreases-loop
 unfolding cut_from
 returns c =
-    let inv = c.before.loop-d.invariant in
+    let inv = c.loop-d.invariant in
     (grown-more 4 inv.1.grown (omega arith), going_end _ _ inv.1 4 (omega arith) refl)
 
 pub assess_cell_spec : {M : Type 1} → statement M

@@ -16,18 +16,18 @@ start_of c = c.before.before.before.before
 returns : tie.Need-returns-then-not-has_direction
 returns c =
     let start = start_of c.before.before in
-    (grown-none 1 start.pre.4, advance-none _ (not-among _ _ _ _ _ (sym c.before.has_direction.ensures ∙ not-true _ c.if-not-has_direction.true)))
+    (grown-none 1 start.pre.4, advance-none _ (not-among _ _ _ _ _ (sym c.has_direction.ensures ∙ not-true _ c.if-not-has_direction.true)))
 
 returns-2 : tie.Need-returns-then-not-step_at
 returns-2 c =
     let start = start_of c.before.before.before.before in
-    (grown-none 1 start.pre.4, advance-none _ (not_step _ _ _ _ _ (sym c.before.step_at.ensures ∙ not-true _ c.if-not-step_at.true)))
+    (grown-none 1 start.pre.4, advance-none _ (not_step _ _ _ _ _ (sym c.step_at.ensures ∙ not-true _ c.if-not-step_at.true)))
 
 place-to-requires : tie.Need-place_to-to-requires
 place-to-requires c κs =
     let start = start_of c.before.before.before.before in
     let a = arrives start.args.position start.pre.0 start.pre.1 start.pre.2 start.args.d
-    (sym c.before.step_at.ensures ∙ not-false _ c.if-not-step_at.false) in (omega arith, omega arith, omega arith, a.left, a.top)
+    (sym c.step_at.ensures ∙ not-false _ c.if-not-step_at.false) in (omega arith, omega arith, omega arith, a.left, a.top)
 
 cut-by-requires : tie.Need-cut_by-requires
 cut-by-requires c κs =
@@ -35,7 +35,7 @@ cut-by-requires c κs =
     let p = start.pre in
     let b = ends-bounded p.0.sides p.0.span in
     let i = there-in start.args.position p.0 p.1 p.2 start.args.d
-    (sym c.before.before.step_at.ensures ∙ not-false _ c.before.if-not-step_at.false) p.3 c.place_to-to.result c.place_to-to.ensures.0 in
+    (sym c.step_at.ensures ∙ not-false _ c.if-not-step_at.false) p.3 c.place_to-to.result c.place_to-to.ensures.0 in
     (b.0, b.1, p.0.span.ordered, omega arith, omega arith, i.0, i.1)
 
 returns-3 : tie.Need-returns-then-not-cut_by
@@ -50,7 +50,7 @@ returns-3 c =
       advance-none _
           (not-cut _ _ _ _ _ t (sym
           (step_cut start.args.position p.0 p.1 p.2 start.args.d t p.3 placed.place_to-to.result
-          placed.place_to-to.ensures.0 c.before.cut_by.ensures) ∙ not-true _ c.if-not-cut_by.true)),
+          placed.place_to-to.ensures.0 c.cut_by.ensures) ∙ not-true _ c.if-not-cut_by.true)),
     )
 
 count-step-requires : tie.Need-count_step-requires
@@ -65,7 +65,7 @@ count-step-requires c κs =
     let t = (sym step-told.step_at.ensures ∙ not-false _ steps.if-not-step_at.false) in
     let i = index-here position p.0 p.1 p.2 from-index.index.ensures in
     let j = index-there position p.0 p.1 p.2 start.args.d t p.3 placed.place_to-to.result
-    placed.place_to-to.ensures.0 c.before.before.index-2.ensures in (
+    placed.place_to-to.ensures.0 c.index-2.ensures in (
       fits-label-at position p.0 p.1 p.2 (here_on position p.0 p.1 p.2) i,
       fits-label-at position p.0 p.1 p.2
           (there-on position p.0 p.1 p.2 start.args.d t) j,

@@ -8,14 +8,14 @@ use Rattle.areas_assessments.proofs.steps.count_step.Tie as tie
 returns : tie.Need-returns-then-from-to
 returns c = (
   record { from = omega arith; to = omega arith; removed = omega arith; separated = omega arith },
-  λ n a b. advance-same _ _ (labels-alike _ a b c.before.before.read_u32-from.ensures c.before.read_u32-to.ensures c.if-from-to.true) refl refl refl,
+  λ n a b. advance-same _ _ (labels-alike _ a b c.read_u32-from.ensures c.read_u32-to.ensures c.if-from-to.true) refl refl refl,
 )
 
 returns-2 : tie.Need-returns
 returns-2 c = (
   record {
-    from = omega (arith, c.before.before.before.before.insert_pair-next.ensures.0);
-    to = omega (arith, c.before.before.before.before.insert_pair-next.ensures.0);
+    from = omega (arith, c.insert_pair-next.ensures.0);
+    to = omega (arith, c.insert_pair-next.ensures.0);
     removed = omega arith;
     separated = omega arith;
   },
@@ -24,8 +24,8 @@ returns-2 c = (
       let greater = placed.before in
       let lesser = greater.before in
       let unlike = lesser.before.before.before in
-      let right = unlike.before.read_u32-to.ensures in
-      let left = unlike.before.before.read_u32-from.ensures in
+      let right = unlike.read_u32-to.ensures in
+      let left = unlike.read_u32-from.ensures in
       advance-put _ _ _ (labels_apart _ a b left right unlike.if-from-to.false) (label-pair _ a b left right lesser.min.ensures greater.max.ensures) refl
       refl placed.insert_pair-next.ensures.1.0 placed.insert_pair-next.ensures.1.1,
 )

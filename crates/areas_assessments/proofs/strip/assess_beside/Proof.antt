@@ -47,7 +47,7 @@ assess-cell-requires c κs =
     let p = start.pre in
     let l = (last-in start.pre.0.sides span _ after-strip-minor.strip_minor-range.ensures) in
     let b = beside-small p.0.sides span l in
-    let e = c.before.before.place_of.ensures in
+    let e = c.place_of.ensures in
     let i = place_in start.args.width start.args.height start.args.cells.now span start.args.c in-loop.loop-cm.cm
     after-is-tall.is_tall-tall.ensures p.1 (lower turning.loop-cm-test.true l) e.0 e.1 in
     (p.0, i.0, i.1, going-room _ _ in-loop.loop-cm.invariant.1 4096 4 p.2 (omega arith))
@@ -84,10 +84,10 @@ loop-again c =
     )
 
 same_length : tie.Need-shape_of-lefts invariant-loop decreases-loop
-same_length c = c.before.loop-cm.invariant.1.lefts-are
+same_length c = c.loop-cm.invariant.1.lefts-are
 
 same-length-2 : tie.Need-shape_of-rights invariant-loop decreases-loop
-same-length-2 c = c.before.loop-cm.invariant.1.rights-are
+same-length-2 c = c.loop-cm.invariant.1.rights-are
 
 returns : tie.Need-returns invariant-loop decreases-loop
 returns c =
@@ -96,7 +96,7 @@ returns c =
     let span = start.args.span in
     let l = (last-in start.pre.0.sides span _ after-strip-minor.strip_minor-range.ensures) in
     let b = beside-small start.pre.0.sides span l in
-    let i = c.before.loop-cm.invariant in
+    let i = c.loop-cm.invariant in
     let r = after-strip-minor.strip_minor-range.ensures in (
       grown-more 4096 i.1.grown (omega (arith, i.0)),
       going_end _ _ i.1 (after-strip-minor.strip_minor-range.result.last + 1 - after-strip-minor.strip_minor-range.result.first)

@@ -74,17 +74,17 @@ loop-again c =
     )
 
 same_length : tie.Need-shape_of-lefts invariant-loop decreases-loop
-same_length c = c.before.loop-c.invariant.1.lefts-are
+same_length c = c.loop-c.invariant.1.lefts-are
 
 same-length-2 : tie.Need-shape_of-rights invariant-loop decreases-loop
-same-length-2 c = c.before.loop-c.invariant.1.rights-are
+same-length-2 c = c.loop-c.invariant.1.rights-are
 
 returns : tie.Need-returns invariant-loop decreases-loop
 returns c =
     let after-strip-axis = c.before.before in
     let start = start_of after-strip-axis.before in
     let p = start.pre in
-    let i = c.before.loop-c.invariant in
+    let i = c.loop-c.invariant in
     let a = going_end _ _ i.1 (after-strip-axis.strip_axis-range.result.last + 1 - after-strip-axis.strip_axis-range.result.first)
     (omega (arith, i.0, i.1.reached, c.loop-c-test.false))
     (along-is (directions_of start.args.directions) (map_of start.args.width start.args.height start.args.cells.now) start.args.span

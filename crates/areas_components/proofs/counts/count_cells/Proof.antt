@@ -32,14 +32,14 @@ loop-again c =
       omega (arith, c.tally-count.ensures.1),
       ap (λ (k : ℕ). k + c.tally-count.result) in-loop.loop-i.invariant.2
           ∙ (ap (λ (k : ℕ). cell_count (labels_in work in-loop.loop-i.i) label + k)
-          (c.tally-count.ensures.0 ∙ ap (λ (k : ℕ). cond (eqb label k) 1 0) c.before.read_u32.ensures) ∙ sym (count_next work in-loop.loop-i.i label)),
+          (c.tally-count.ensures.0 ∙ ap (λ (k : ℕ). cond (eqb label k) 1 0) c.read_u32.ensures) ∙ sym (count_next work in-loop.loop-i.i label)),
     )
 
 returns : tie.Need-returns invariant-loop decreases-loop
 returns c =
     let start = c.before.before.before in
-    c.before.loop-i.invariant.2 ∙ ap (λ (k : ℕ). cell_count (labels_in start.args.work.now k) start.args.label)
-    (let z : c.before.loop-i.i ≡ start.args.n = omega arith in z)
+    c.loop-i.invariant.2 ∙ ap (λ (k : ℕ). cell_count (labels_in start.args.work.now k) start.args.label)
+    (let z : c.loop-i.i ≡ start.args.n = omega arith in z)
 
 pub count_cells_spec : {M : Type 1} → statement M
 count_cells_spec =

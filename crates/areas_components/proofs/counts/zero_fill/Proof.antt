@@ -21,18 +21,18 @@ loop-holds c = (omega arith, c.requires.0, refl, fill_start _ _)
 loop-again : tie.Need-loop-i-preserved invariant-loop decreases-loop
 loop-again c =
     let start = c.before.before in
-    let inv = c.before.loop-i.invariant in (
+    let inv = c.loop-i.invariant in (
       omega arith,
       omega arith,
-      length-set c.before.loop-i.work c.before.loop-i.i 0 ∙ inv.2,
+      length-set c.loop-i.work c.loop-i.i 0 ∙ inv.2,
       fill-next _ _ _ _ inv.0 (omega (arith, start.requires)) inv.3,
     )
 
 returns : tie.Need-returns invariant-loop decreases-loop
 returns c =
     let start = c.before.before in
-    c.before.loop-i.invariant.3 ∙ ap (λ (k : ℕ). splice start.args.work.now start.args.from (replicate (k - start.args.from) 0))
-    (let z : c.before.loop-i.i ≡ start.args.to = omega arith in z)
+    c.loop-i.invariant.3 ∙ ap (λ (k : ℕ). splice start.args.work.now start.args.from (replicate (k - start.args.from) 0))
+    (let z : c.loop-i.i ≡ start.args.to = omega arith in z)
 
 pub zero_fill_spec : {M : Type 1} → statement M
 zero_fill_spec = tie.close (tie.spec invariant-loop decreases-loop loop-holds (search rules) (search rules) (search rules) loop-again (λ c. search rules) returns)

@@ -6,7 +6,7 @@ use Rattle.areas_components.proofs.dues.byte_at.Tie as tie
 returns : tie.Need-returns-then-k-n
 returns c =
     let start = c.before.before in
-    at_on start.args.work.now start.args.base start.args.n start.requires start.args.k c.before.if-k-n.true
+    at_on start.args.work.now start.args.base start.args.n start.requires start.args.k c.if-k-n.true
 
 returns-2 : tie.Need-returns
 returns-2 c =

@@ -7,8 +7,8 @@ returns : tie.Need-returns
 returns c =
     let left-read : tie.After-byte_before-l = search in
     let own_read : tie.After-byte_at-v = search in
-    let below = c.before.byte_at in
-    let under = c.before.before.byte_before-e in
+    let below = c.byte_at in
+    let under = c.byte_before-e in
     let left = left-read.byte_before-l in
     let own = own_read.byte_at-v in
     due-from _ _ _ _ _ _ _ _ c.due_of.ensures own.ensures left.ensures under.ensures below.ensures

@@ -12,12 +12,12 @@ abbrev decreases-loop : tie.decreases-loop-i
 decreases-loop work₀ base n width from to i₀ work i = to - i
 
 loop-holds : tie.Need-loop-i-init invariant-loop decreases-loop
-loop-holds c = writing_start _ c.before.requires.1
+loop-holds c = writing_start _ c.requires.1
 
 due-any-requires : tie.Need-due_any-byte-requires invariant-loop decreases-loop
 due-any-requires c κs =
     let start : tie.Start invariant-loop decreases-loop = search in
-    let writing = c.before.before.loop-i.invariant in
+    let writing = c.loop-i.invariant in
     let pre = start.pre in
     (omega (arith, writing.long, pre.0), omega (arith, pre.2, pre.3))
 
@@ -30,7 +30,7 @@ loop-again c =
     writing-next pre.0 pre.2 writing (omega arith) _ c.due_any-byte.ensures
 
 returns : tie.Need-returns invariant-loop decreases-loop
-returns c = writing-end c.before.loop-i.invariant (λ l. omega arith)
+returns c = writing-end c.loop-i.invariant (λ l. omega arith)
 
 pub write_any_spec : {M : Type 1} → statement M
 write_any_spec =

@@ -7,7 +7,7 @@ use Rattle.areas_components.proofs.dues.write_dues.Tie as tie
 returns : tie.Need-returns-then-n-width
 returns c =
     let start : tie.Start = search in
-    dues-end (omega (arith, start.pre)) (c.before.before.write_any.ensures _ (due-none _ _ _ _))
+    dues-end (omega (arith, start.pre)) (c.write_any.ensures _ (due-none _ _ _ _))
 
 returns-2 : tie.Need-returns
 returns-2 c =

@@ -12,12 +12,12 @@ abbrev decreases-loop : tie.decreases-loop-i
 decreases-loop work₀ base n width from to i₀ work i = to - i
 
 loop-holds : tie.Need-loop-i-init invariant-loop decreases-loop
-loop-holds c = writing_start _ c.before.requires.2
+loop-holds c = writing_start _ c.requires.2
 
 due-inner-requires : tie.Need-due_inner-byte-requires invariant-loop decreases-loop
 due-inner-requires c κs =
     let start : tie.Start invariant-loop decreases-loop = search in
-    let writing = c.before.before.loop-i.invariant in
+    let writing = c.loop-i.invariant in
     let pre = start.pre in
     (omega (arith, writing.long, pre.0), omega (arith, writing.above, pre.1), omega (arith, pre.3))
 
@@ -30,7 +30,7 @@ loop-again c =
     writing-next pre.0 (omega (arith, pre.3)) writing (omega arith) _ c.due_inner-byte.ensures
 
 returns : tie.Need-returns invariant-loop decreases-loop
-returns c = writing-end c.before.loop-i.invariant (λ l. omega arith)
+returns c = writing-end c.loop-i.invariant (λ l. omega arith)
 
 pub write_inner_spec : {M : Type 1} → statement M
 write_inner_spec =

@@ -19,7 +19,7 @@ loop-holds c = numbering_start _ _ _
 number-cell-requires : tie.Need-number_cell-count-requires invariant-loop decreases-loop
 number-cell-requires c κs =
     let start : tie.Start invariant-loop decreases-loop = search in
-    let numbering = c.before.before.loop-i.invariant in
+    let numbering = c.loop-i.invariant in
     let pre = start.pre in
     let room = numbering-room numbering pre.0 pre.1 pre.2 (omega arith) in
     let falls = numbering-falls numbering pre.0 pre.1 pre.2 (omega arith) in
@@ -29,13 +29,13 @@ loop-again : tie.Need-loop-i-preserved invariant-loop decreases-loop
 loop-again c =
     let in-loop : tie.At-loop-i invariant-loop decreases-loop = search in
     let start : tie.Start invariant-loop decreases-loop = search in
-    let call = c.before.before.number_cell-count in
+    let call = c.number_cell-count in
     let numbering = in-loop.loop-i.inv in
     let pre = start.pre in
     numbering-next numbering pre.0 pre.1 pre.2 (omega arith) _ _ call.ensures
 
 returns : tie.Need-returns invariant-loop decreases-loop
-returns c = λ es f a. numbering-end c.before.loop-i.invariant (λ l. omega arith) es f a
+returns c = λ es f a. numbering-end c.loop-i.invariant (λ l. omega arith) es f a
 
 pub number_spec : {M : Type 1} → statement M
 number_spec =

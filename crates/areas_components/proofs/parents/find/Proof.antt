@@ -18,7 +18,7 @@ abbrev At-loop : Type 0
 At-loop = tie.At-loop-p invariant-loop decreases-loop
 
 parent-requires : tie.Need-parent-p-requires invariant-loop decreases-loop
-parent-requires c κs = c.before.before.requires.room
+parent-requires c κs = c.requires.room
 
 loop-holds : tie.Need-loop-p-init invariant-loop decreases-loop
 loop-holds c = finding-start _ _ _ c.parent-p.ensures.0
@@ -26,7 +26,7 @@ loop-holds c = finding-start _ _ _ c.parent-p.ensures.0
 parent-requires-2 : tie.Need-parent-q-requires invariant-loop decreases-loop
 parent-requires-2 c κs =
     let start : Start = search in
-    let loop = c.before.before.loop-p in
+    let loop = c.loop-p in
     let pre = start.pre in
     finding-room pre loop.invariant loop.p (omega (arith, finding-falls pre loop.invariant, loop.invariant.below))
 
@@ -41,7 +41,7 @@ returns : tie.Need-returns-then-q-p invariant-loop decreases-loop
 returns c =
     let in-loop : At-loop = search in
     let start : Start = search in
-    let second = c.before.parent-q in
+    let second = c.parent-q in
     let loop = in-loop.loop-p in
     let pre = start.pre in
     finding-root pre loop.inv _ second.ensures.0 second.ensures.1 c.if-q-p.true
@@ -52,7 +52,7 @@ set-parent-requires c κs =
     let start : Start = search in
     let loop = in-loop.loop-p in
     let pre = start.pre in
-    (finding-room pre loop.inv loop.at loop.inv.below, c.before.before.parent-q.ensures.1)
+    (finding-room pre loop.inv loop.at loop.inv.below, c.parent-q.ensures.1)
 
 parent-requires-3 : tie.Need-parent-p-requires-in-loop-p invariant-loop decreases-loop
 parent-requires-3 c κs =
@@ -90,12 +90,12 @@ loop-again c =
 same-length-2 : tie.Need-shape_of-work invariant-loop decreases-loop
 same-length-2 c =
     let start : Start = search in
-    (c.before.loop-p.invariant.kept (start.args.i + 1) (omega arith)).size
+    (c.loop-p.invariant.kept (start.args.i + 1) (omega arith)).size
 
 returns-2 : tie.Need-returns invariant-loop decreases-loop
 returns-2 c =
     let start : Start = search in
-    finding-end start.pre c.before.loop-p.invariant (λ l. omega arith)
+    finding-end start.pre c.loop-p.invariant (λ l. omega arith)
 
 pub find_spec : {M : Type 1} → statement M
 find_spec =

@@ -7,12 +7,12 @@ use Rattle.areas_components.proofs.parents.join_if.Tie as tie
 join-requires : tie.Need-join-requires
 join-requires c κs =
     let start : tie.Start = search in
-    (start.pre.0, start.pre.1 c.before.if-on.true)
+    (start.pre.0, start.pre.1 c.if-on.true)
 
 returns : tie.Need-returns-then-on
 returns c =
     let turned_on : tie.Then-on = search in
-    joined-on turned_on.if-on.true c.before.before.join.ensures
+    joined-on turned_on.if-on.true c.join.ensures
 
 returns-2 : tie.Need-returns-else-on
 returns-2 c =

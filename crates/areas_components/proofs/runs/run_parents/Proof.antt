@@ -21,7 +21,7 @@ set-parent-requires c κs =
     let start = in-loop.before.before in
     let pre = start.requires in
     let loop = in-loop.loop-i in
-    let pick = c.before.pick-first in
+    let pick = c.pick-first in
     let small = running-small pre.0 pre.1 pre.2 loop.invariant (omega arith) _ pick.ensures in
     (running-room pre.0 pre.1 pre.2 loop.invariant (omega arith) _ pick.ensures, omega (arith, small, pre))
 
@@ -38,7 +38,7 @@ loop-again c =
     running-next pre.0 pre.1 pre.2 loop.inv (omega arith) _ pick.ensures _ set.ensures _ refl
 
 returns : tie.Need-returns invariant-loop decreases-loop
-returns c = running-end c.before.loop-i.invariant (λ l. omega arith)
+returns c = running-end c.loop-i.invariant (λ l. omega arith)
 
 pub run_parents_spec : {M : Type 1} → statement M
 run_parents_spec =

@@ -28,7 +28,7 @@ loop-again c =
 
 returns : tie.Need-returns invariant-loop decreases-loop
 returns c =
-    λ none k l. omega (arith, eqb-true c.before.loop-k.most 0 none, c.before.loop-k.invariant.1 k (omega arith))
+    λ none k l. omega (arith, eqb-true c.loop-k.most 0 none, c.loop-k.invariant.1 k (omega arith))
 
 pub clear_spec : {M : Type 1} → statement M
 clear_spec =

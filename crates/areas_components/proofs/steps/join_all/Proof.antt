@@ -16,12 +16,12 @@ abbrev Start : Type 0
 Start = tie.Start invariant-loop decreases-loop
 
 loop-holds : tie.Need-loop-i-init invariant-loop decreases-loop
-loop-holds c = joining-start c.before.requires
+loop-holds c = joining-start c.requires
 
 join-block-requires : tie.Need-join_block-requires invariant-loop decreases-loop
 join-block-requires c κs =
     let start : Start = search in
-    let joining = c.before.before.loop-i.invariant in
+    let joining = c.loop-i.invariant in
     (joinable-kept start.pre joining.kept joining.usable, omega arith)
 
 loop-again : tie.Need-loop-i-preserved invariant-loop decreases-loop
@@ -29,12 +29,12 @@ loop-again c =
     let in-loop : tie.At-loop-i invariant-loop decreases-loop = search in
     let start : Start = search in
     let loop = in-loop.loop-i in
-    c.before.before.join_block.ensures start.args.work.now loop.inv
+    c.join_block.ensures start.args.work.now loop.inv
 
 join-some-requires : tie.Need-join_some-requires invariant-loop decreases-loop
 join-some-requires c κs =
     let start : Start = search in
-    let joining = c.before.before.loop-i.invariant in
+    let joining = c.loop-i.invariant in
     (joinable-kept start.pre joining.kept joining.usable, joining.below, omega arith)
 
 same_length : tie.Need-shape_of-work invariant-loop decreases-loop
@@ -42,14 +42,14 @@ same_length c =
     let in-loop : tie.At-loop-i invariant-loop decreases-loop = search in
     let start : Start = search in
     let loop = in-loop.loop-i in
-    (c.before.before.join_some.ensures start.args.work.now loop.inv).kept.size
+    (c.join_some.ensures start.args.work.now loop.inv).kept.size
 
 returns : tie.Need-returns invariant-loop decreases-loop
 returns c =
     let in-loop : tie.At-loop-i invariant-loop decreases-loop = search in
     let start : Start = search in
     let loop = in-loop.loop-i in
-    joining-end start.pre.room (c.before.before.join_some.ensures start.args.work.now loop.inv) (λ l. omega arith)
+    joining-end start.pre.room (c.join_some.ensures start.args.work.now loop.inv) (λ l. omega arith)
 
 pub join_all_spec : {M : Type 1} → statement M
 join_all_spec =

@@ -48,7 +48,7 @@ returns c =
     (as-bit _ byte _ 0 (first_bit byte) (to-right _ _) first.join_if.ensures)
     (as-bit _ byte _ 1 refl (to-left _ _ start.pre.0) second.join_if-2.ensures)
     (as-bit _ byte _ 2 refl (to_below _ _) third.join_if-3.ensures)
-    (as-bit _ byte _ 3 refl (to_last _ _) c.before.before.join_if-4.ensures)
+    (as-bit _ byte _ 3 refl (to_last _ _) c.join_if-4.ensures)
 
 pub join_bits_spec : {M : Type 1} → statement M
 join_bits_spec =

@@ -12,7 +12,7 @@ abbrev decreases-loop : tie.decreases-loop-i
 decreases-loop work₀ base n width from to i₀ work i = to - i
 
 loop-holds : tie.Need-loop-i-init invariant-loop decreases-loop
-loop-holds c = partly-start c.before.requires.0 c.before.requires.1
+loop-holds c = partly-start c.requires.0 c.requires.1
 
 join-cell-requires : tie.Need-join_cell-requires invariant-loop decreases-loop
 join-cell-requires c κs =
@@ -26,10 +26,10 @@ loop-again : tie.Need-loop-i-preserved invariant-loop decreases-loop
 loop-again c =
     let loop : tie.At-loop-i invariant-loop decreases-loop = search in
     let start : tie.Start invariant-loop decreases-loop = search in
-    partly-next loop.loop-i.inv (omega arith) start.pre.2 c.before.before.join_cell.ensures
+    partly-next loop.loop-i.inv (omega arith) start.pre.2 c.join_cell.ensures
 
 returns : tie.Need-returns invariant-loop decreases-loop
-returns c = partly-end c.before.loop-i.invariant (λ l. omega arith)
+returns c = partly-end c.loop-i.invariant (λ l. omega arith)
 
 pub join_some_spec : {M : Type 1} → statement M
 join_some_spec =

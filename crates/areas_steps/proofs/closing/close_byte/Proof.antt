@@ -10,7 +10,7 @@ returns c =
     let third = c.before in
     let second = third.before in
     let first = second.before in
-    let s = first.before.args.span in
+    let s = first.args.span in
     λ g dirs ss i m e f eb.
     let t = is_open dirs g ss i in
     let b = bits _ (t 0) (t 1) (t 2) (t 3) (eb ∙ byte-is dirs g ss i) in

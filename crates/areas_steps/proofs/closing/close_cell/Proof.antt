@@ -17,12 +17,12 @@ byte-of-requires c κs = omega (arith, on-map c.before)
 slice-read-close-byte : tie.Need-bounds-work-i
 slice-read-close-byte c =
     let start : tie.Start = search in
-    omega (arith, on-map start, c.before.byte_of-i.ensures)
+    omega (arith, on-map start, c.byte_of-i.ensures)
 
 slice-write-work : tie.Need-bounds-work-i-2
 slice-write-work c =
     let start : tie.Start = search in
-    omega (arith, on-map start, c.before.before.byte_of-i.ensures)
+    omega (arith, on-map start, c.byte_of-i.ensures)
 
 returns : tie.Need-returns
 returns c =

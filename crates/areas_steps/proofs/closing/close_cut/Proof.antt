@@ -50,7 +50,7 @@ close-line-requires : tie.Need-close_line-requires invariant-loop decreases-loop
 close-line-requires c κs =
     let axis = c.before.before.before in
     let p = (start_of axis).requires in
-    (p.0, p.1, omega (arith, c.before.before.loop-c.invariant.1), omega (arith, c.before.loop-c-test.true, (last_on axis).0))
+    (p.0, p.1, omega (arith, c.loop-c.invariant.1), omega (arith, c.loop-c-test.true, (last_on axis).0))
 
 add-c : tie.Need-overflow_add-c invariant-loop decreases-loop
 add-c c =
@@ -70,11 +70,11 @@ loop-again c =
 returns : tie.Need-returns invariant-loop decreases-loop
 returns c =
     let start : tie.Start invariant-loop decreases-loop = search in
-    let e = ap (λ (r : CellRange). r.last) c.before.before.strip_axis-range.ensures in
+    let e = ap (λ (r : CellRange). r.last) c.strip_axis-range.ensures in
     let past = c.loop-c-test.false in
     λ g dirs ss b m hf.
     half-end g m.whole (sides-of m start.pre.0) start.args.span start.pre.1.ordered
-    (λ i l q z. past-axis m start.pre.0 start.args.span c.before.loop-c.c i l (omega arith) q z) (c.before.loop-c.invariant.2 g dirs ss b m hf)
+    (λ i l q z. past-axis m start.pre.0 start.args.span c.loop-c.c i l (omega arith) q z) (c.loop-c.invariant.2 g dirs ss b m hf)
 
 pub close_cut_spec : {M : Type 1} → statement M
 close_cut_spec =

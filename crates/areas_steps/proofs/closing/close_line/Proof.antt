@@ -51,12 +51,12 @@ close-cell-requires : tie.Need-close_cell-requires invariant-loop decreases-loop
 close-cell-requires c κs =
     let in-loop = c.before.before.before in
     let line = in-loop.before in
-    let is-tall = line.before.is_tall-tall.ensures in
+    let is-tall = line.is_tall-tall.ensures in
     let p = (start_of line).requires in
     let d = (start_of line).args.c in
     let cm = in-loop.loop-cm.cm in
-    let e = c.before.place_at.ensures in
-    let f = place-fits (tall (start_of line).args.span) _ _ d cm _ _ p.3 (omega (arith, (last_on line).0, c.before.before.loop-cm-test.true))
+    let e = c.place_at.ensures in
+    let f = place-fits (tall (start_of line).args.span) _ _ d cm _ _ p.3 (omega (arith, (last_on line).0, c.loop-cm-test.true))
     (e.0 ∙ ap (λ t. cond t cm d) is-tall) (e.1 ∙ ap (λ t. cond t d cm) is-tall) in
     (p.0, p.1, omega (arith, in-loop.loop-cm.invariant.1), f.0, f.1)
 
@@ -76,7 +76,7 @@ loop-again c =
     let inv = in-loop.loop-cm.invariant in
     let cm = in-loop.loop-cm.cm in
     let small : cm < 1024 = omega (arith, turning.loop-cm-test.true, last_on line) in
-    let r = rank-place _ _ _ cm _ _ line.before.is_tall-tall.ensures placed.place_at.ensures.0 placed.place_at.ensures.1 in (
+    let r = rank-place _ _ _ cm _ _ line.is_tall-tall.ensures placed.place_at.ensures.0 placed.place_at.ensures.1 in (
       omega arith,
       closed.close_cell.auto.1.1.1.1.0 ∙ inv.1,
       λ g dirs ss b m hf. half_at _ (omega arith) (closed.close_cell.ensures g dirs ss b m (half_at _ (omega arith) (inv.2 g dirs ss b m hf))),
@@ -90,7 +90,7 @@ returns c =
     let e = ap (λ (r : CellRange). r.last) line.strip_minor-range.ensures in
     let past = c.loop-cm-test.false in
     λ g dirs ss b m hf. half-skip g m.whole (sides-of m p.0) _ p.1.ordered _ (omega arith)
-    (λ i l q r z. past-minor m p.0 a.span a.c c.before.loop-cm.cm i l (omega arith) q r z) (c.before.loop-cm.invariant.2 g dirs ss b m hf)
+    (λ i l q r z. past-minor m p.0 a.span a.c c.loop-cm.cm i l (omega arith) q r z) (c.loop-cm.invariant.2 g dirs ss b m hf)
 
 pub close_line_spec : {M : Type 1} → statement M
 close_line_spec =

@@ -18,34 +18,34 @@ use Rattle.areas_steps.proofs.closing.keep_bit.Statement.{statement}
 use Rattle.areas_steps.proofs.closing.keep_bit.Tie as tie
 
 -- the step leads to a place of the map
-leads : (c : tie.Else-not-leads_on) → let a = c.before.before.before.args in (0 < a.position.x + a.d % 3) × (a.position.x + a.d % 3 ≤ a.width)
+leads : (c : tie.Else-not-leads_on) → let a = c.args in (0 < a.position.x + a.d % 3) × (a.position.x + a.d % 3 ≤ a.width)
     × (0 < a.position.y + a.d / 3) × (a.position.y + a.d / 3 ≤ a.height)
 leads c =
     let start : tie.Start = search in
     let a = start.args in
     let g = grid_of a.width a.height [] in
     leads-at _ _ _ _ _ start.pre.2
-    (sym (c.before.leads_on.ensures g _ refl refl (column-of g _ _ start.pre.2) (row-of g _ _ start.pre.2)) ∙ not-false _ c.if-not-leads_on.false)
+    (sym (c.leads_on.ensures g _ refl refl (column-of g _ _ start.pre.2) (row-of g _ _ start.pre.2)) ∙ not-false _ c.if-not-leads_on.false)
 
 -- what the code tells of the cut is so on any such map
-cut-told : (c : tie.After-cut_by) → let a = c.before.before.before.before.before.args in
+cut-told : (c : tie.After-cut_by) → let a = c.args in
     (g : Grid) (i : ℕ) → MapOf a.width a.height g → column_of g i ≡ a.position.x → row_of g i ≡ a.position.y
     → cut_by g a.span (step_of i (neighbour g i a.d)) ≡ c.cut_by.result
 cut-told c g i m e f =
     let on = c.before.before in
-    let n = leads-means g i _ (sym (on.before.leads_on.ensures g i m.columns m.rows e f) ∙ not-false _ on.if-not-leads_on.false) in
-    let to = c.before.place_to.ensures.0 g i e f in
+    let n = leads-means g i _ (sym (on.leads_on.ensures g i m.columns m.rows e f) ∙ not-false _ on.if-not-leads_on.false) in
+    let to = c.place_to.ensures.0 g i e f in
     sym (c.cut_by.ensures g i _ e f (neighbour-column g i _ n ∙ sym to.0) (neighbour-row g i _ n ∙ sym to.1))
 
 returns : tie.Need-returns-then-bit-eq0
 returns c =
-    let a = c.before.args in (λ g i t m e f ld eb. kept-none _ t (cut_by g a.span (step_of i (neighbour g i a.d))) c.if-bit-eq0.true eb, omega arith)
+    let a = c.args in (λ g i t m e f ld eb. kept-none _ t (cut_by g a.span (step_of i (neighbour g i a.d))) c.if-bit-eq0.true eb, omega arith)
 
 returns-2 : tie.Need-returns-then-not-leads_on
 returns-2 c =
-    let a = c.before.before.before.args in (
+    let a = c.args in (
       λ g i t m e f ld eb. kept_off t (cut_by g a.span (step_of i (neighbour g i a.d)))
-          (λ h. clash (ld h) (sym (c.before.leads_on.ensures g i m.columns m.rows e f) ∙ not-true _ c.if-not-leads_on.true)),
+          (λ h. clash (ld h) (sym (c.leads_on.ensures g i m.columns m.rows e f) ∙ not-true _ c.if-not-leads_on.true)),
       omega arith,
     )
 

@@ -10,7 +10,7 @@ returns : tie.Need-returns
 returns c =
     let third = c.before in
     let second = third.before in
-    byte-from _ _ [] _ _ _ _ _ (second.before.open_bit-right.ensures.0 ∙ ap bit_of (open_none _ _ _ 0))
+    byte-from _ _ [] _ _ _ _ _ (second.open_bit-right.ensures.0 ∙ ap bit_of (open_none _ _ _ 0))
     (second.open_bit-below_left.ensures.0 ∙ ap bit_of (open_none _ _ _ 1)) (third.open_bit-below.ensures.0 ∙ ap bit_of (open_none _ _ _ 2))
     (c.open_bit-below_right.ensures.0 ∙ ap bit_of (open_none _ _ _ 3))
 

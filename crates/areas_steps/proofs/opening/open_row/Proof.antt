@@ -32,20 +32,20 @@ loop-holds c =
 byte-of-requires : tie.Need-byte_of-i-requires invariant-loop decreases-loop
 byte-of-requires c κs =
     let start : Start = search in
-    let on = place_in start.args.width start.args.height c.before.loop-x.x start.args.y c.loop-x-test.true start.pre.3 in
-    omega (arith, c.before.loop-x.invariant.1)
+    let on = place_in start.args.width start.args.height c.loop-x.x start.args.y c.loop-x-test.true start.pre.3 in
+    omega (arith, c.loop-x.invariant.1)
 
 open-byte-requires : tie.Need-open_byte-requires invariant-loop decreases-loop
 open-byte-requires c κs =
     let start : Start = search in
-    record { wide = omega arith; high = omega arith; whole = start.pre.1; column = c.before.loop-x-test.true; row = start.pre.3 }
+    record { wide = omega arith; high = omega arith; whole = start.pre.1; column = c.loop-x-test.true; row = start.pre.3 }
 
 slice-write-work : tie.Need-bounds-work-i invariant-loop decreases-loop
 slice-write-work c =
     let in-loop = c.before.before.before in
     let start : Start = search in
-    let on = place_in start.args.width start.args.height in-loop.loop-x.x start.args.y c.before.before.loop-x-test.true start.pre.3 in
-    omega (arith, in-loop.loop-x.invariant.1, c.before.byte_of-i.ensures)
+    let on = place_in start.args.width start.args.height in-loop.loop-x.x start.args.y c.loop-x-test.true start.pre.3 in
+    omega (arith, in-loop.loop-x.invariant.1, c.byte_of-i.ensures)
 
 loop-again : tie.Need-loop-x-preserved invariant-loop decreases-loop
 loop-again c =
@@ -58,22 +58,22 @@ loop-again c =
     let work = in-loop.loop-x.work in
     let v = c.open_byte.result in
     let f = open_byte (directions_of start.args.directions) (grid_of w start.args.height start.args.cells.now) [] in
-    let on = place_in w start.args.height x y c.before.before.loop-x-test.true start.pre.3 in
+    let on = place_in w start.args.height x y c.loop-x-test.true start.pre.3 in
     let same = inv.1 in (
       omega arith,
-      length-set work c.before.byte_of-i.result v ∙ same,
+      length-set work c.byte_of-i.result v ∙ same,
       λ b h.
-          subst (λ (k : ℕ). WorkHolds start.args.base (y * w + (x + 1)) f b (set work k v)) (sym c.before.byte_of-i.ensures)
+          subst (λ (k : ℕ). WorkHolds start.args.base (y * w + (x + 1)) f b (set work k v)) (sym c.byte_of-i.ensures)
           (held-count (y * w + (x + 1)) (omega arith) (held_next v (omega arith) c.open_byte.ensures (inv.2 b h))),
     )
 
 returns : tie.Need-returns invariant-loop decreases-loop
 returns c =
     let start : Start = search in
-    let inv = c.before.loop-x.invariant in
+    let inv = c.loop-x.invariant in
     let z = inv.0 in
     λ b h. held-count ((start.args.y + 1) * start.args.width)
-    (let e : c.before.loop-x.x ≡ start.args.width = omega (arith, z, c.loop-x-test.false) in omega arith) (inv.2 b h)
+    (let e : c.loop-x.x ≡ start.args.width = omega (arith, z, c.loop-x-test.false) in omega arith) (inv.2 b h)
 
 pub open_row_spec : {M : Type 1} → statement M
 open_row_spec =

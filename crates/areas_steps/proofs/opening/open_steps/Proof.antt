@@ -21,12 +21,12 @@ abbrev decreases-loop : tie.decreases-loop-y
 decreases-loop cells width height directions work₀ base y₀ work y = height - y
 
 loop-holds : tie.Need-loop-y-init invariant-loop decreases-loop
-loop-holds c = (omega arith, refl, held-count _ (sym (zero-mul c.before.before.args.width)) (held_none _ _ _))
+loop-holds c = (omega arith, refl, held-count _ (sym (zero-mul c.args.width)) (held_none _ _ _))
 
 open-row-requires : tie.Need-open_row-requires invariant-loop decreases-loop
 open-row-requires c κs =
     let start : tie.Start invariant-loop decreases-loop = search in
-    (start.pre.0, start.pre.1, omega (arith, c.before.before.loop-y.invariant.1), c.before.loop-y-test.true)
+    (start.pre.0, start.pre.1, omega (arith, c.loop-y.invariant.1), c.loop-y-test.true)
 
 loop-again : tie.Need-loop-y-preserved invariant-loop decreases-loop
 loop-again c =
@@ -43,13 +43,13 @@ loop-again c =
 returns : tie.Need-returns invariant-loop decreases-loop
 returns c =
     let start : tie.Start invariant-loop decreases-loop = search in
-    let inv = c.before.loop-y.invariant in
+    let inv = c.loop-y.invariant in
     let w = start.args.width in
     let h = start.args.height in
     let cs = start.args.cells.now in
     let z = inv.0 in
-    let e : c.before.loop-y.y ≡ h = omega (arith, z, c.loop-y-test.false) in
-    let n : c.before.loop-y.y * w ≡ length cs = ap (λ (k : ℕ). k * w) e ∙ mul_comm h w ∙ sym start.pre.1 in
+    let e : c.loop-y.y ≡ h = omega (arith, z, c.loop-y-test.false) in
+    let n : c.loop-y.y * w ≡ length cs = ap (λ (k : ℕ). k * w) e ∙ mul_comm h w ∙ sym start.pre.1 in
     held-splice _ _ _ _ (omega (arith, start.pre.1)) (held-count _ n inv.2)
 
 pub open_steps_spec : {M : Type 1} → statement M

@@ -40,8 +40,8 @@ close-cut-requires c κs =
     let in-loop = c.before.before.before in
     let steps-opened : tie.After-open_steps invariant-loop decreases-loop = search in
     let start : Start = search in
-    let fits : SpanFits start.args.width start.args.height c.before.span_at.result =
-    rw c.before.span_at.ensures (start.pre.4.each in-loop.loop-k.k c.before.before.loop-k-test.true) in
+    let fits : SpanFits start.args.width start.args.height c.span_at.result =
+    rw c.span_at.ensures (start.pre.4.each in-loop.loop-k.k c.loop-k-test.true) in
     (start.pre.0, fits, omega (arith, in-loop.loop-k.invariant.1, steps-opened.open_steps.kept.1.1.1.1.0, start.pre.2))
 
 loop-again : tie.Need-loop-k-preserved invariant-loop decreases-loop
@@ -64,13 +64,13 @@ loop-again c =
 same_length : tie.Need-shape_of-work invariant-loop decreases-loop
 same_length c =
     let steps-opened : tie.After-open_steps invariant-loop decreases-loop = search in
-    c.before.loop-k.invariant.1 ∙ steps-opened.open_steps.kept.1.1.1.1.0
+    c.loop-k.invariant.1 ∙ steps-opened.open_steps.kept.1.1.1.1.0
 
 returns : tie.Need-returns invariant-loop decreases-loop
 returns c =
     let steps-opened : tie.After-open_steps invariant-loop decreases-loop = search in
     let start : Start = search in
-    let inv = c.before.loop-k.invariant in
+    let inv = c.loop-k.invariant in
     let w = start.args.width in
     let h = start.args.height in
     let cs = start.args.cells.now in
@@ -81,7 +81,7 @@ returns c =
     let entry = start.args.work.now in
     let n = length cs in
     let room : base + n ≤ length entry = omega (arith, start.pre.1, start.pre.2) in
-    let e : c.before.loop-k.k ≡ start.args.count = omega (arith, inv.0, c.loop-k-test.false) in
+    let e : c.loop-k.k ≡ start.args.count = omega (arith, inv.0, c.loop-k-test.false) in
     let opened = subst (λ (l : List ℕ). WorkHolds base n (open_byte dirs g []) entry l) (sym steps-opened.open_steps.ensures)
     (splice-held entry base n (open_byte dirs g []) room) in
     held-splice entry base n (open_byte dirs g (spans_in ends start.args.count)) room (held-as dirs g (ap (spans_in ends) e) (inv.2 entry opened))

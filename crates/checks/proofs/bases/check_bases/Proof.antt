@@ -23,8 +23,8 @@ returns c =
     let in-loop = turning.before in
     let start = in-loop.before.before in
     clean_found in-loop.loop-i.invariant turning.loop-i-test.true
-    (stop _ _ (told (λ (b : BaseRecord). anchor_fault start.args.width start.args.height b.anchor) c.before.before.read_base-b.ensures
-    c.before.anchor_fault.ensures c.if-anchor_fault.true))
+    (stop _ _ (told (λ (b : BaseRecord). anchor_fault start.args.width start.args.height b.anchor) c.read_base-b.ensures
+    c.anchor_fault.ensures c.if-anchor_fault.true))
 
 loop-again : tie.Need-loop-i-preserved invariant-loop decreases-loop
 unfolding base_check
@@ -33,11 +33,11 @@ loop-again c =
     let in-loop = turning.before in
     let start = in-loop.before.before in
     clean-next in-loop.loop-i.invariant turning.loop-i-test.true
-    (clear _ (told (λ (b : BaseRecord). anchor_fault start.args.width start.args.height b.anchor) c.before.before.read_base-b.ensures
-    c.before.anchor_fault.ensures c.if-anchor_fault.false))
+    (clear _ (told (λ (b : BaseRecord). anchor_fault start.args.width start.args.height b.anchor) c.read_base-b.ensures
+    c.anchor_fault.ensures c.if-anchor_fault.false))
 
 returns-2 : tie.Need-returns invariant-loop decreases-loop
-returns-2 c = clean_end c.before.loop-i.invariant c.loop-i-test.false
+returns-2 c = clean_end c.loop-i.invariant c.loop-i-test.false
 
 pub check_bases_spec : {M : Type 1} → statement M
 check_bases_spec =

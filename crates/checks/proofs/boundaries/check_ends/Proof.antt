@@ -28,7 +28,7 @@ returns c =
     let start = in-loop.before.before in
     clean_found in-loop.loop-i.invariant turning.loop-i-test.true
     (stop _ _ (told (λ (b : BoundaryRecord). ends_fault start.args.width start.args.height b.ends)
-    after-read-boundary.read_boundary-b.ensures c.before.ends_fault.ensures c.if-ends_fault.true))
+    after-read-boundary.read_boundary-b.ensures c.ends_fault.ensures c.if-ends_fault.true))
 
 returns-2 : tie.Need-returns-then-distinct-coincides invariant-loop decreases-loop
 unfolding ends_check span_checks
@@ -40,9 +40,9 @@ returns-2 c =
     let start = in-loop.before.before in
     clean_found in-loop.loop-i.invariant turning.loop-i-test.true
     (skip _ _ (told (λ (b : BoundaryRecord). ends_fault start.args.width start.args.height b.ends)
-    after-read-boundary.read_boundary-b.ensures after-ends-fault.ends_fault.ensures c.before.before.if-ends_fault.false)
+    after-read-boundary.read_boundary-b.ensures after-ends-fault.ends_fault.ensures c.if-ends_fault.false)
     ∙ stop _ _ (told (λ (b : BoundaryRecord). start.args.distinct && pos_same b.ends.a b.ends.b) after-read-boundary.read_boundary-b.ensures
-    (ap (λ (t : Bool). start.args.distinct && t) c.before.coincides.ensures) c.if-distinct-coincides.true))
+    (ap (λ (t : Bool). start.args.distinct && t) c.coincides.ensures) c.if-distinct-coincides.true))
 
 loop-again : tie.Need-loop-i-preserved invariant-loop decreases-loop
 unfolding ends_check span_checks
@@ -54,12 +54,12 @@ loop-again c =
     let start = in-loop.before.before in
     clean-next in-loop.loop-i.invariant turning.loop-i-test.true
     (clear-two _ _ (told (λ (b : BoundaryRecord). ends_fault start.args.width start.args.height b.ends)
-    after-read-boundary.read_boundary-b.ensures after-ends-fault.ends_fault.ensures c.before.before.if-ends_fault.false)
+    after-read-boundary.read_boundary-b.ensures after-ends-fault.ends_fault.ensures c.if-ends_fault.false)
     (told (λ (b : BoundaryRecord). start.args.distinct && pos_same b.ends.a b.ends.b) after-read-boundary.read_boundary-b.ensures
-    (ap (λ (t : Bool). start.args.distinct && t) c.before.coincides.ensures) c.if-distinct-coincides.false))
+    (ap (λ (t : Bool). start.args.distinct && t) c.coincides.ensures) c.if-distinct-coincides.false))
 
 returns-3 : tie.Need-returns invariant-loop decreases-loop
-returns-3 c = clean_end c.before.loop-i.invariant c.loop-i-test.false
+returns-3 c = clean_end c.loop-i.invariant c.loop-i-test.false
 
 pub check_ends_spec : {M : Type 1} → statement M
 check_ends_spec =

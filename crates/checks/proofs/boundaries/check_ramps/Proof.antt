@@ -22,7 +22,7 @@ returns c =
     let turning = c.before.before.before in
     let in-loop = turning.before in
     clean_found in-loop.loop-i.invariant turning.loop-i-test.true
-    (stop _ _ (told (λ (b : BoundaryRecord). ramp_fault b.ramp) c.before.before.read_boundary-b.ensures c.before.ramp_fault.ensures
+    (stop _ _ (told (λ (b : BoundaryRecord). ramp_fault b.ramp) c.read_boundary-b.ensures c.ramp_fault.ensures
     c.if-ramp_fault.true))
 
 loop-again : tie.Need-loop-i-preserved invariant-loop decreases-loop
@@ -31,11 +31,11 @@ loop-again c =
     let turning = c.before.before.before in
     let in-loop = turning.before in
     clean-next in-loop.loop-i.invariant turning.loop-i-test.true
-    (clear _ (told (λ (b : BoundaryRecord). ramp_fault b.ramp) c.before.before.read_boundary-b.ensures c.before.ramp_fault.ensures
+    (clear _ (told (λ (b : BoundaryRecord). ramp_fault b.ramp) c.read_boundary-b.ensures c.ramp_fault.ensures
     c.if-ramp_fault.false))
 
 returns-2 : tie.Need-returns invariant-loop decreases-loop
-returns-2 c = clean_end c.before.loop-i.invariant c.loop-i-test.false
+returns-2 c = clean_end c.loop-i.invariant c.loop-i-test.false
 
 pub check_ramps_spec : {M : Type 1} → statement M
 check_ramps_spec =

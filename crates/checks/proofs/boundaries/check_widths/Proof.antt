@@ -22,7 +22,7 @@ returns c =
     let turning = c.before.before.before in
     let in-loop = turning.before in
     clean_found in-loop.loop-i.invariant turning.loop-i-test.true
-    (stop _ _ (told (λ (b : BoundaryRecord). width_fault b.bits) c.before.before.read_boundary-b.ensures c.before.width_fault.ensures
+    (stop _ _ (told (λ (b : BoundaryRecord). width_fault b.bits) c.read_boundary-b.ensures c.width_fault.ensures
     c.if-width_fault.true))
 
 loop-again : tie.Need-loop-i-preserved invariant-loop decreases-loop
@@ -31,11 +31,11 @@ loop-again c =
     let turning = c.before.before.before in
     let in-loop = turning.before in
     clean-next in-loop.loop-i.invariant turning.loop-i-test.true
-    (clear _ (told (λ (b : BoundaryRecord). width_fault b.bits) c.before.before.read_boundary-b.ensures c.before.width_fault.ensures
+    (clear _ (told (λ (b : BoundaryRecord). width_fault b.bits) c.read_boundary-b.ensures c.width_fault.ensures
     c.if-width_fault.false))
 
 returns-2 : tie.Need-returns invariant-loop decreases-loop
-returns-2 c = clean_end c.before.loop-i.invariant c.loop-i-test.false
+returns-2 c = clean_end c.loop-i.invariant c.loop-i-test.false
 
 pub check_widths_spec : {M : Type 1} → statement M
 check_widths_spec =

@@ -19,17 +19,17 @@ loop-holds c = clean-start _ _
 returns : tie.Need-returns-then-job-i-ge-CELL_LIMIT invariant-loop decreases-loop
 unfolding cell_check
 returns c =
-    let inv = c.before.before.before.loop-i.invariant in
+    let inv = c.loop-i.invariant in
     clean_found inv (omega arith) (stop _ _ (le-leb _ _ c.if-job-i-ge-CELL_LIMIT.true))
 
 loop-again : tie.Need-loop-i-preserved invariant-loop decreases-loop
 unfolding cell_check
 loop-again c =
-    let inv = c.before.before.before.loop-i.invariant in
+    let inv = c.loop-i.invariant in
     clean-next inv (omega arith) (clear _ (lt-leb _ _ c.if-job-i-ge-CELL_LIMIT.false))
 
 returns-2 : tie.Need-returns invariant-loop decreases-loop
-returns-2 c = clean_end c.before.loop-i.invariant c.loop-i-test.false
+returns-2 c = clean_end c.loop-i.invariant c.loop-i-test.false
 
 pub check_cells_spec : {M : Type 1} → statement M
 check_cells_spec =

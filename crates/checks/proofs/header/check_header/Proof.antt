@@ -11,14 +11,14 @@ use Rattle.checks.proofs.header.check_header.Tie as tie
 
 returns : tie.Need-returns-then-size_fault
 unfolding header_checks
-returns c = sym (stop _ _ (sym c.before.size_fault.ensures ∙ c.if-size_fault.true))
+returns c = sym (stop _ _ (sym c.size_fault.ensures ∙ c.if-size_fault.true))
 
 returns-2 : tie.Need-returns-then-count_fault
 unfolding header_checks
 returns-2 c =
     let after-size-fault = c.before.before.before in
-    sym (skip _ _ (sym after-size-fault.size_fault.ensures ∙ c.before.before.if-size_fault.false)
-    ∙ stop _ _ (sym c.before.count_fault.ensures ∙ c.if-count_fault.true))
+    sym (skip _ _ (sym after-size-fault.size_fault.ensures ∙ c.if-size_fault.false)
+    ∙ stop _ _ (sym c.count_fault.ensures ∙ c.if-count_fault.true))
 
 returns-3 : tie.Need-returns-then-boundary_count_fault
 unfolding header_checks
@@ -29,15 +29,15 @@ returns-3 c =
     let after-size-fault = if1-left.before in
     sym (skip _ _ (sym after-size-fault.size_fault.ensures ∙ if1-left.if-size_fault.false)
     ∙ skip _ _ (sym after-count-fault.count_fault.ensures ∙ if2-left.if-count_fault.false)
-    ∙ stop _ _ (sym c.before.before.boundary_count_fault.ensures ∙ c.before.if-boundary_count_fault.true))
+    ∙ stop _ _ (sym c.boundary_count_fault.ensures ∙ c.if-boundary_count_fault.true))
 
 offsets-of-requires : tie.Need-offsets_of-requires
 offsets-of-requires c κs =
     let after-count-fault = c.before.before.before in
     let if1-left = after-count-fault.before in
     let after-size-fault = if1-left.before in
-    within _ (sym after-size-fault.size_fault.ensures ∙ if1-left.if-size_fault.false) (sym after-count-fault.count_fault.ensures ∙ c.before.before.if-count_fault.false)
-    (sym c.before.boundary_count_fault.ensures ∙ c.if-boundary_count_fault.false)
+    within _ (sym after-size-fault.size_fault.ensures ∙ if1-left.if-size_fault.false) (sym after-count-fault.count_fault.ensures ∙ c.if-count_fault.false)
+    (sym c.boundary_count_fault.ensures ∙ c.if-boundary_count_fault.false)
 
 returns-4 : tie.Need-returns-then-not-same_offsets
 unfolding header_checks
@@ -52,8 +52,8 @@ returns-4 c =
     sym (skip _ _ (sym after-size-fault.size_fault.ensures ∙ if1-left.if-size_fault.false)
     ∙ skip _ _ (sym after-count-fault.count_fault.ensures ∙ if2-left.if-count_fault.false)
     ∙ skip _ _ (sym after-boundary-count-fault.boundary_count_fault.ensures ∙ if3-left.if-boundary_count_fault.false)
-    ∙ stop _ _ (told (λ (p : Offsets). not (same_offsets start.args.h.offsets p)) c.before.before.offsets_of.ensures
-    (ap not c.before.same_offsets.ensures) c.if-not-same_offsets.true))
+    ∙ stop _ _ (told (λ (p : Offsets). not (same_offsets start.args.h.offsets p)) c.offsets_of.ensures
+    (ap not c.same_offsets.ensures) c.if-not-same_offsets.true))
 
 returns-5 : tie.Need-returns
 unfolding header_checks
@@ -68,8 +68,8 @@ returns-5 c =
     sym (skip _ _ (sym after-size-fault.size_fault.ensures ∙ if1-left.if-size_fault.false)
     ∙ skip _ _ (sym after-count-fault.count_fault.ensures ∙ if2-left.if-count_fault.false)
     ∙ skip _ _ (sym after-boundary-count-fault.boundary_count_fault.ensures ∙ if3-left.if-boundary_count_fault.false)
-    ∙ clear _ (told (λ (p : Offsets). not (same_offsets start.args.h.offsets p)) c.before.before.offsets_of.ensures
-    (ap not c.before.same_offsets.ensures) c.if-not-same_offsets.false))
+    ∙ clear _ (told (λ (p : Offsets). not (same_offsets start.args.h.offsets p)) c.offsets_of.ensures
+    (ap not c.same_offsets.ensures) c.if-not-same_offsets.false))
 
 pub check_header_spec : {M : Type 1} → statement M
 check_header_spec =

@@ -7,22 +7,22 @@ use Rattle.checks.proofs.header.offsets_of.Statement.{statement}
 use Rattle.checks.proofs.header.offsets_of.Tie as tie
 
 mul-bases : tie.Need-overflow_mul-bases
-mul-bases c = omega (arith, total-limit _ c.before.requires)
+mul-bases c = omega (arith, total-limit _ c.requires)
 
 add-bases : tie.Need-overflow_add-bases
-add-bases c = omega (arith, total-limit _ c.before.requires)
+add-bases c = omega (arith, total-limit _ c.requires)
 
 add-boundaries : tie.Need-overflow_add-boundaries
-add-boundaries c = omega (arith, total-limit _ c.before.before.requires)
+add-boundaries c = omega (arith, total-limit _ c.requires)
 
 add-observations : tie.Need-overflow_add-observations
-add-observations c = omega (arith, total-limit _ c.before.before.before.requires)
+add-observations c = omega (arith, total-limit _ c.requires)
 
 add-sources : tie.Need-overflow_add-sources
-add-sources c = omega (arith, total-limit _ c.before.before.before.before.requires)
+add-sources c = omega (arith, total-limit _ c.requires)
 
 add_total : tie.Need-overflow_add-total
-add_total c = omega (arith, total-limit _ c.before.before.before.before.before.requires)
+add_total c = omega (arith, total-limit _ c.requires)
 
 returns : tie.Need-returns
 unfolding offsets_of

@@ -12,11 +12,11 @@ returns c = sym (stop _ _ c.if-not-list.true)
 
 returns-2 : tie.Need-returns-then-n-gt-MAX_SPANS
 unfolding list_checks
-returns-2 c = sym (skip _ _ c.before.if-not-list.false ∙ stop _ _ (lt-ltb _ _ c.if-n-gt-MAX_SPANS.true))
+returns-2 c = sym (skip _ _ c.if-not-list.false ∙ stop _ _ (lt-ltb _ _ c.if-n-gt-MAX_SPANS.true))
 
 returns-3 : tie.Need-returns
 unfolding list_checks
-returns-3 c = c.check_spans.ensures ∙ sym (skip _ _ c.before.before.if-not-list.false ∙ skip _ _ (le-ltb _ _ c.before.if-n-gt-MAX_SPANS.false))
+returns-3 c = c.check_spans.ensures ∙ sym (skip _ _ c.if-not-list.false ∙ skip _ _ (le-ltb _ _ c.if-n-gt-MAX_SPANS.false))
 
 pub check_list_spec : {M : Type 1} → statement M
 check_list_spec = tie.close (tie.spec returns returns-2 (λ c κs. search rules) returns-3)

@@ -25,8 +25,8 @@ returns c =
     let in-loop = turning.before in
     let start = in-loop.before.before in
     clean_found in-loop.loop-i.invariant turning.loop-i-test.true
-    (stop _ _ (told (λ (b : Span). ends_fault start.args.width start.args.height b) c.before.before.read_span-e.ensures
-    c.before.ends_fault.ensures c.if-ends_fault.true))
+    (stop _ _ (told (λ (b : Span). ends_fault start.args.width start.args.height b) c.read_span-e.ensures
+    c.ends_fault.ensures c.if-ends_fault.true))
 
 returns-2 : tie.Need-returns-then-coincides invariant-loop decreases-loop
 unfolding span_check span_checks
@@ -38,8 +38,8 @@ returns-2 c =
     let start = in-loop.before.before in
     clean_found in-loop.loop-i.invariant turning.loop-i-test.true
     (skip _ _ (told (λ (b : Span). ends_fault start.args.width start.args.height b) after-read-span.read_span-e.ensures
-    after-ends-fault.ends_fault.ensures c.before.before.if-ends_fault.false)
-    ∙ stop _ _ (told (λ (b : Span). pos_same b.a b.b) after-read-span.read_span-e.ensures c.before.coincides.ensures c.if-coincides.true))
+    after-ends-fault.ends_fault.ensures c.if-ends_fault.false)
+    ∙ stop _ _ (told (λ (b : Span). pos_same b.a b.b) after-read-span.read_span-e.ensures c.coincides.ensures c.if-coincides.true))
 
 loop-again : tie.Need-loop-i-preserved invariant-loop decreases-loop
 unfolding span_check span_checks
@@ -51,11 +51,11 @@ loop-again c =
     let start = in-loop.before.before in
     clean-next in-loop.loop-i.invariant turning.loop-i-test.true
     (clear-two _ _ (told (λ (b : Span). ends_fault start.args.width start.args.height b) after-read-span.read_span-e.ensures
-    after-ends-fault.ends_fault.ensures c.before.before.if-ends_fault.false)
-    (told (λ (b : Span). pos_same b.a b.b) after-read-span.read_span-e.ensures c.before.coincides.ensures c.if-coincides.false))
+    after-ends-fault.ends_fault.ensures c.if-ends_fault.false)
+    (told (λ (b : Span). pos_same b.a b.b) after-read-span.read_span-e.ensures c.coincides.ensures c.if-coincides.false))
 
 returns-3 : tie.Need-returns invariant-loop decreases-loop
-returns-3 c = clean_end c.before.loop-i.invariant c.loop-i-test.false
+returns-3 c = clean_end c.loop-i.invariant c.loop-i-test.false
 
 pub check_spans_spec : {M : Type 1} → statement M
 check_spans_spec =

@@ -18,14 +18,14 @@ loop-holds : tie.Need-loop-i-init invariant-loop decreases-loop
 loop-holds c = added-start _ _
 
 add_total : tie.Need-overflow_add-total invariant-loop decreases-loop
-add_total c = omega (arith, c.before.before.before.loop-i.invariant.small)
+add_total c = omega (arith, c.loop-i.invariant.small)
 
 loop-again : tie.Need-loop-i-preserved invariant-loop decreases-loop
-loop-again c = added_next _ c.before.before.before.loop-i.invariant (omega arith) (cc) c.wide-total.ensures.1
+loop-again c = added_next _ c.loop-i.invariant (omega arith) (cc) c.wide-total.ensures.1
 
 returns : tie.Need-returns invariant-loop decreases-loop
 unfolding boundary_records
-returns c = added-all (λ (r : BoundaryRecord). r.observations) c.before.loop-i.invariant c.loop-i-test.false
+returns c = added-all (λ (r : BoundaryRecord). r.observations) c.loop-i.invariant c.loop-i-test.false
 
 pub observation_total_spec : {M : Type 1} → statement M
 observation_total_spec =

@@ -18,15 +18,15 @@ loop-holds : tie.Need-loop-i-init invariant-loop decreases-loop
 loop-holds c = added-start _ _
 
 add_total : tie.Need-overflow_add-total invariant-loop decreases-loop
-add_total c = omega (arith, c.before.before.before.loop-i.invariant.small)
+add_total c = omega (arith, c.loop-i.invariant.small)
 
 loop-again : tie.Need-loop-i-preserved invariant-loop decreases-loop
-loop-again c = added_next _ c.before.before.before.loop-i.invariant (omega arith) (cc) c.wide-total.ensures.1
+loop-again c = added_next _ c.loop-i.invariant (omega arith) (cc) c.wide-total.ensures.1
 
 returns : tie.Need-returns invariant-loop decreases-loop
 unfolding boundary_records
 returns c =
-    let inv = c.before.loop-i.invariant in (added-all (λ (r : BoundaryRecord). r.sources) inv c.loop-i-test.false, omega (arith, inv.small, inv.below))
+    let inv = c.loop-i.invariant in (added-all (λ (r : BoundaryRecord). r.sources) inv c.loop-i-test.false, omega (arith, inv.small, inv.below))
 
 pub own_total_spec : {M : Type 1} → statement M
 own_total_spec =

@@ -48,8 +48,8 @@ returns c =
     let after-size = after-size2.before in
     let start = after-size.before.before.before.before in
     sums-told _ _ start.requires after-size.size-at.ensures.0 after-size2.size-n.ensures.0 after-size3.size.ensures.0 after-size4.size-2.ensures.0
-    after-observation-total.observation_total-observed.ensures after-own-total.own_total.ensures.0 c.before.before.source_count.ensures.0
-    c.before.wide.ensures.0 c.wide-2.ensures.0
+    after-observation-total.observation_total-observed.ensures after-own-total.own_total.ensures.0 c.source_count.ensures.0
+    c.wide.ensures.0 c.wide-2.ensures.0
 
 pub sums_fault_spec : {M : Type 1} → statement M
 sums_fault_spec =

@@ -14,15 +14,15 @@ use Rattle.checks_calls.proofs.calls.check_boundaries.Statement.{statement}
 use Rattle.checks_calls.proofs.calls.check_boundaries.Tie as tie
 
 -- no check up to 10 refuses, so the header that is read is laid out as it says
-clean : (c : tie.Else-not-passed) → first_refusal (job_checks c.before.before.before.before.args.job.now) ≡ none
-clean c = went_on _ c.before.before.check_job-v.ensures c.before.passed.ensures c.if-not-passed.false
+clean : (c : tie.Else-not-passed) → first_refusal (job_checks c.args.job.now) ≡ none
+clean c = went_on _ c.check_job-v.ensures c.passed.ensures c.if-not-passed.false
 
-laid : (c : tie.After-read_header-h) → Laid c.before.before.before.before.before.args.job.now c.read_header-h.result
+laid : (c : tie.After-read_header-h) → Laid c.args.job.now c.read_header-h.result
 laid c = laid-read _ _ c.read_header-h.ensures (job-passed _ (clean c.before)).1
 
 returns : tie.Need-returns-then-not-passed
 unfolding boundary_checks
-returns c = stopped _ _ c.before.before.check_job-v.ensures c.before.passed.ensures c.if-not-passed.true
+returns c = stopped _ _ c.check_job-v.ensures c.passed.ensures c.if-not-passed.true
 
 read-header-requires : tie.Need-read_header-h-requires
 read-header-requires c κs = (job-passed _ (clean c)).0
@@ -36,10 +36,10 @@ returns-2 : tie.Need-returns
 unfolding boundary_checks ends_checks
 returns-2 c =
     let read = c.before.before.before.before.before in
-    let a = read.before.before.before.before.before.args in
+    let a = read.args in
     let k = read.read_header-h.result.counts in
     moved (ends_check a.distinct a.job.now k.width k.height) c.check_ends.ensures
-    (c.before.before.size.ensures.0 ∙ (sections _ _ (laid read)).boundaries-at) c.before.size-2.ensures.0
+    (c.size.ensures.0 ∙ (sections _ _ (laid read)).boundaries-at) c.size-2.ensures.0
     ∙ ap (λ (h : Header). first_refusal (ends_checks a.distinct a.job.now h.counts)) read.read_header-h.ensures
     ∙ sym (append-none _ _ (clean read.before))
 

@@ -10,12 +10,12 @@ use Rattle.checks_calls.proofs.calls.check_job.Statement.{statement}
 use Rattle.checks_calls.proofs.calls.check_job.Tie as tie
 
 -- no check up to 5 refuses
-laid_out : (c : tie.Else-not-passed) → first_refusal (layout_checks c.before.before.before.before.args.job.now) ≡ none
-laid_out c = went_on _ c.before.before.check_layout-v.ensures c.before.passed.ensures c.if-not-passed.false
+laid_out : (c : tie.Else-not-passed) → first_refusal (layout_checks c.args.job.now) ≡ none
+laid_out c = went_on _ c.check_layout-v.ensures c.passed.ensures c.if-not-passed.false
 
 returns : tie.Need-returns-then-not-passed
 unfolding job_checks
-returns c = stopped _ _ c.before.before.check_layout-v.ensures c.before.passed.ensures c.if-not-passed.true
+returns c = stopped _ _ c.check_layout-v.ensures c.passed.ensures c.if-not-passed.true
 
 read-header-requires : tie.Need-read_header-requires
 read-header-requires c κs = (layout-passed _ (laid_out c)).0
@@ -26,8 +26,8 @@ check-records-requires c κs = laid-read _ _ c.read_header.ensures (layout-passe
 returns-2 : tie.Need-returns
 unfolding job_checks
 returns-2 c =
-    let job = c.before.before.before.before.before.before.args.job.now in
-    c.check_records.ensures ∙ ap (λ (h : Header). first_refusal (record_checks job h.counts)) c.before.read_header.ensures
+    let job = c.args.job.now in
+    c.check_records.ensures ∙ ap (λ (h : Header). first_refusal (record_checks job h.counts)) c.read_header.ensures
     ∙ sym (append-none _ _ (laid_out c.before.before))
 
 pub check_job_spec : {M : Type 1} → statement M

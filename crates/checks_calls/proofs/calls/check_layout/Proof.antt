@@ -19,19 +19,19 @@ use Rattle.checks_calls.proofs.calls.check_layout.Statement.{statement}
 use Rattle.checks_calls.proofs.calls.check_layout.Tie as tie
 
 abbrev job_of : tie.After-read_header-h → List ℕ
-job_of c = c.before.before.before.args.job.now
+job_of c = c.args.job.now
 
 -- what the header's checks answer, of the header that stands in the job
 header-told : (c : tie.After-check_header-v) → meaning c.check_header-v.result ≡ first_refusal (header_checks (header_at (job_of c.before)))
-header-told c = c.check_header-v.ensures ∙ ap (λ (h : Header). first_refusal (header_checks h)) c.before.read_header-h.ensures
+header-told c = c.check_header-v.ensures ∙ ap (λ (h : Header). first_refusal (header_checks h)) c.read_header-h.ensures
 
 -- past the length and the header
 past-header : (c : tie.Else-not-passed) → let job = job_of c.before.before.before in
     first_refusal (layout_checks job) ≡ first_refusal (check (not (eqb (length job) (header_at job).offsets.total)) bad_layout 0 ∷ [])
 unfolding layout_checks
 past-header c =
-    skip _ _ (le-ltb _ _ c.before.before.before.before.if-job-lt-HEADER_SIZE.false)
-    ∙ append-none _ _ (went_on _ (header-told c.before.before) c.before.passed.ensures c.if-not-passed.false)
+    skip _ _ (le-ltb _ _ c.if-job-lt-HEADER_SIZE.false)
+    ∙ append-none _ _ (went_on _ (header-told c.before.before) c.passed.ensures c.if-not-passed.false)
 
 returns : tie.Need-returns-then-job-lt-HEADER_SIZE
 unfolding layout_checks
@@ -40,8 +40,8 @@ returns c = sym (stop _ _ (lt-ltb _ _ c.if-job-lt-HEADER_SIZE.true))
 returns-2 : tie.Need-returns-then-not-passed
 unfolding layout_checks
 returns-2 c =
-    stopped _ _ (header-told c.before.before) c.before.passed.ensures c.if-not-passed.true
-    ∙ sym (skip _ _ (le-ltb _ _ c.before.before.before.before.if-job-lt-HEADER_SIZE.false))
+    stopped _ _ (header-told c.before.before) c.passed.ensures c.if-not-passed.true
+    ∙ sym (skip _ _ (le-ltb _ _ c.if-job-lt-HEADER_SIZE.false))
 
 returns-3 : tie.Need-returns-then-not-job-size
 returns-3 c = sym (past-header c.before.before.before ∙ stop _ _ (cc))

@@ -4,10 +4,10 @@ use Rattle.checks_calls.proofs.ends.job_has.Statement.{statement}
 use Rattle.checks_calls.proofs.ends.job_has.Tie as tie
 
 returns : tie.Need-returns-then-not-passed
-returns c = simp (declined c.before.before.check_reduce.ensures c.before.passed.ensures c.if-not-passed.true)
+returns c = simp (declined c.check_reduce.ensures c.passed.ensures c.if-not-passed.true)
 
 read-header-requires : tie.Need-read_header-h-requires
-read-header-requires c κs = (reduce-passed _ (went_on _ c.before.before.check_reduce.ensures c.before.passed.ensures c.if-not-passed.false)).0
+read-header-requires c κs = (reduce-passed _ (went_on _ c.check_reduce.ensures c.passed.ensures c.if-not-passed.false)).0
 
 returns-2 : tie.Need-returns
 returns-2 c =
@@ -17,7 +17,7 @@ returns-2 c =
     simp (
       accepted after-check-reduce.check_reduce.ensures after-passed.passed.ensures if1-left.if-not-passed.false,
       c.size.ensures.0,
-      c.before.before.read_header-h.ensures,
+      c.read_header-h.ensures,
     )
 
 pub job_has_spec : {M : Type 1} → statement M

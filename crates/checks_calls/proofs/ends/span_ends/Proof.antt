@@ -67,42 +67,42 @@ module _ {s l : List ℕ} {which i k : ℕ} {job list shown : ℕ × ℕ} (w : w
 
 -- where the job's boundaries begin, as the code reads it
 start-read : (c : tie.After-size) →
-    c.size.result-1 ≡ (header_at c.before.before.before.before.before.before.before.before.before.args.job.now).offsets.boundaries
-start-read c = c.size.ensures.0 ∙ ap (λ (h : Header). h.offsets.boundaries) c.before.before.read_header-h.ensures
+    c.size.result-1 ≡ (header_at c.args.job.now).offsets.boundaries
+start-read c = c.size.ensures.0 ∙ ap (λ (h : Header). h.offsets.boundaries) c.read_header-h.ensures
 
 read-header-requires : tie.Need-read_header-h-requires
-read-header-requires c κs = (job-part _ _ (sym c.before.job_has.ensures ∙ c.if-job_has.true)).header
+read-header-requires c κs = (job-part _ _ (sym c.job_has.ensures ∙ c.if-job_has.true)).header
 
 part-result-end : tie.Need-slice_bounds-result-end
 part-result-end c =
     let has = c.before.before.before in
-    let j = job-part _ _ (sym has.before.job_has.ensures ∙ has.if-job_has.true) in
+    let j = job-part _ _ (sym has.job_has.ensures ∙ has.if-job_has.true) in
     omega (arith, j.inside, start-read c)
 
 returns : tie.Need-returns-then-job_has
 returns c =
     let has = c.before.before.before.before in
     let told = has.before in
-    of-job told.before.if-which-eq0.true told.before.before.size-k.ensures.0 refl (start-read c.before)
+    of-job told.if-which-eq0.true told.size-k.ensures.0 refl (start-read c.before)
     (sym told.job_has.ensures ∙ has.if-job_has.true) refl
 
 returns-2 : tie.Need-returns-then-which-eq0
 returns-2 c =
     let told = c.before.before in
-    not-job told.before.if-which-eq0.true told.before.before.size-k.ensures.0 refl (sym told.job_has.ensures ∙ c.before.if-job_has.false) refl
+    not-job told.if-which-eq0.true told.size-k.ensures.0 refl (sym told.job_has.ensures ∙ c.if-job_has.false) refl
 
 part-result-end-3 : tie.Need-slice-bounds-result-end-3
-part-result-end-3 c = omega (arith, list-part _ _ _ (sym c.before.list_has.ensures ∙ c.if-list_has.true))
+part-result-end-3 c = omega (arith, list-part _ _ _ (sym c.list_has.ensures ∙ c.if-list_has.true))
 
 returns-3 : tie.Need-returns-then-list_has
 returns-3 c =
     let told = c.before.before in
-    of-list told.before.if-which-eq0.false told.before.before.size-k.ensures.0 refl (sym told.list_has.ensures ∙ c.before.if-list_has.true) refl
+    of-list told.if-which-eq0.false told.size-k.ensures.0 refl (sym told.list_has.ensures ∙ c.if-list_has.true) refl
 
 returns-4 : tie.Need-returns
 returns-4 c =
     let told = c.before.before in
-    not-list told.before.if-which-eq0.false told.before.before.size-k.ensures.0 refl (sym told.list_has.ensures ∙ c.before.if-list_has.false) refl
+    not-list told.if-which-eq0.false told.size-k.ensures.0 refl (sym told.list_has.ensures ∙ c.if-list_has.false) refl
 
 pub span_ends_spec : {M : Type 1} → statement M
 span_ends_spec =

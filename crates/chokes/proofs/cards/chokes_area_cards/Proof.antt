@@ -23,7 +23,7 @@ start_of c = c.before.before.before.before.before
 answered : (c : tie.After-first_answer-r)
     → FirstAnswer (first_refusal (reduce_checks (start_of c).args.job.now)) (work_size (decode (start_of c).args.job.now))
     (length (start_of c).args.work.now) c.first_answer-r.result.number c.first_answer-r.result.detail
-answered c = first_of c.before.check_reduce.ensures c.first_answer-r.ensures
+answered c = first_of c.check_reduce.ensures c.first_answer-r.ensures
 
 -- past the checks and 21: the first answer, and what the function is given
 abbrev first : tie.Else-r-gt0 → tie.After-first_answer-r
@@ -52,7 +52,7 @@ abbrev parted : tie.Else-p-gt0 → tie.After-part_areas-found
 parted c = c.before.before.before.before.before
 
 few : (c : tie.Else-p-gt0) → (parted c).part_areas-found.result.pairs ≤ max_pairs
-few c = pairs-few c.before.before.of_pairs-p.ensures (omega (arith, c.if-p-gt0.false))
+few c = pairs-few c.of_pairs-p.ensures (omega (arith, c.if-p-gt0.false))
 
 first-answer-requires : tie.Need-first_answer-r-requires
 first-answer-requires c κs = (λ e. reduce-job _ (sym c.check_reduce.ensures ∙ e), omega arith)
@@ -70,7 +70,7 @@ returns-2 : tie.Need-returns-then-p-gt0
 returns-2 c =
     let found : tie.After-part_areas-found = search in
     let went_on = (header found).before in
-    cards-many _ _ _ _ (passed went_on) (room went_on) found.part_areas-found.ensures c.before.before.of_pairs-p.ensures c.if-p-gt0.true ∙ cards-as _ _ _
+    cards-many _ _ _ _ (passed went_on) (room went_on) found.part_areas-found.ensures c.of_pairs-p.ensures c.if-p-gt0.true ∙ cards-as _ _ _
 
 finish-cards-requires : tie.Need-finish_cards-requires
 finish-cards-requires c κs =
@@ -84,7 +84,7 @@ returns-3 c =
     let found = parted few-pairs in
     let went_on = (header found).before in
     cards-done _ _ _ _ (passed went_on) (room went_on) found.part_areas-found.ensures (few few-pairs) (read (header found)).headed
-    c.before.before.finish_cards.ensures
+    c.finish_cards.ensures
     ∙ cards-as _ _ _
 
 pub chokes_area_cards_spec : {M : Type 1} → statement M

@@ -30,19 +30,19 @@ own-ends-requires c κs =
 part-find-areas-end : tie.Need-slice_bounds-find_areas-end
 part-find-areas-end c =
     let headed = (given c).requires.0.headed in
-    omega (arith, map-inside headed.header (headed-laid headed) _ (sized c).before.size-n.ensures.0)
+    omega (arith, map-inside headed.header (headed-laid headed) _ (sized c).size-n.ensures.0)
 
 find-areas-requires : tie.Need-find_areas-requires
 find-areas-requires c κs =
     let ended : tie.After-own_ends = search in
-    own-partitionable (given ended).pre.0 (sized ended).before.size-n.ensures.0 (sized ended).size-count.ensures.0 ended.own_ends.ensures
+    own-partitionable (given ended).pre.0 (sized ended).size-n.ensures.0 (sized ended).size-count.ensures.0 ended.own_ends.ensures
     (given ended).pre.1
 
 returns : tie.Need-returns
 returns c =
     let found = c.before.before in
     let ended : tie.After-own_ends = search in
-    own-found (given ended).pre.0 (sized ended).before.size-n.ensures.0 (sized ended).size-count.ensures.0 ended.own_ends.ensures
+    own-found (given ended).pre.0 (sized ended).size-n.ensures.0 (sized ended).size-count.ensures.0 ended.own_ends.ensures
     (directions_of (given ended).args.directions) found.find_areas.ensures
 
 pub part_areas_spec : {M : Type 1} → statement M

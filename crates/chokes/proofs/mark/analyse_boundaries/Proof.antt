@@ -30,14 +30,14 @@ own-ends-requires c κs =
 part-find-marks-end : tie.Need-slice_bounds-find_marks-end
 part-find-marks-end c =
     let headed = (given c).requires.0.headed in
-    omega (arith, map-inside headed.header (headed-laid headed) _ (sized c).before.size-n.ensures.0)
+    omega (arith, map-inside headed.header (headed-laid headed) _ (sized c).size-n.ensures.0)
 
 find-marks-requires : tie.Need-find_marks-requires
 find-marks-requires c κs =
     let ended : tie.After-own_ends = search in
     let sizes = sized ended in
     let start = given ended in
-    own-partitionable start.pre.0 sizes.before.size-n.ensures.0 sizes.size-count.ensures.0 ended.own_ends.ensures
+    own-partitionable start.pre.0 sizes.size-n.ensures.0 sizes.size-count.ensures.0 ended.own_ends.ensures
     start.pre.1
 
 returns : tie.Need-returns
@@ -45,8 +45,8 @@ returns c =
     let ended : tie.After-own_ends = search in
     let sizes = sized ended in
     let start = given ended in
-    own-analysed start.pre.0 sizes.before.size-n.ensures.0 sizes.size-count.ensures.0 ended.own_ends.ensures
-    (directions_of start.args.directions) c.before.before.find_marks.ensures
+    own-analysed start.pre.0 sizes.size-n.ensures.0 sizes.size-count.ensures.0 ended.own_ends.ensures
+    (directions_of start.args.directions) c.find_marks.ensures
 
 pub analyse_boundaries_spec : {M : Type 1} → statement M
 analyse_boundaries_spec =

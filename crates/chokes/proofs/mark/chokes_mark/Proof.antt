@@ -23,7 +23,7 @@ start_of c = c.before.before.before.before.before
 
 answered : (c : tie.After-first_answer-r) → FirstAnswer (first_refusal (mark_checks (start_of c).args.job.now)) (work_size (decode (start_of c).args.job.now))
     (length (start_of c).args.work.now) c.first_answer-r.result.number c.first_answer-r.result.detail
-answered c = first_of c.before.check_mark.ensures c.first_answer-r.ensures
+answered c = first_of c.check_mark.ensures c.first_answer-r.ensures
 
 -- past the checks and 21: the first answer, and what the function is given
 abbrev first : tie.Else-r-gt0 → tie.After-first_answer-r
@@ -51,7 +51,7 @@ abbrev analysed : tie.Else-p-gt0 → tie.After-analyse_boundaries-pairs
 analysed c = c.before.before.before.before.before
 
 few : (c : tie.Else-p-gt0) → (analysed c).analyse_boundaries-pairs.result ≤ max_pairs
-few c = pairs-few c.before.before.of_pairs-p.ensures (omega (arith, c.if-p-gt0.false))
+few c = pairs-few c.of_pairs-p.ensures (omega (arith, c.if-p-gt0.false))
 
 abbrev header : tie.Else-p-gt0 → tie.After-read_header-h
 header c = header_of (analysed c)
@@ -72,7 +72,7 @@ returns-2 : tie.Need-returns-then-p-gt0
 returns-2 c =
     let found : tie.After-analyse_boundaries-pairs = search in
     let went_on = (header_of found).before in
-    marked-many _ _ _ _ (passed went_on) (room went_on) found.analyse_boundaries-pairs.ensures c.before.before.of_pairs-p.ensures
+    marked-many _ _ _ _ (passed went_on) (room went_on) found.analyse_boundaries-pairs.ensures c.of_pairs-p.ensures
     c.if-p-gt0.true ∙ mark-as _ _ _
 
 returns-3 : tie.Need-returns-then-marks-n
@@ -80,7 +80,7 @@ returns-3 c =
     let few-pairs : tie.Else-p-gt0 = search in
     let went_on = (header few-pairs).before in
     mark-no-room _ _ _ _ (passed went_on) (room went_on) (analysed few-pairs).analyse_boundaries-pairs.ensures (few few-pairs)
-    (omega (arith, c.if-marks-n.true, mark-count (read (header few-pairs)).headed c.before.size-n.ensures.0)) ∙ mark-as _ _ _
+    (omega (arith, c.if-marks-n.true, mark-count (read (header few-pairs)).headed c.size-n.ensures.0)) ∙ mark-as _ _ _
 
 copy-first-requires : tie.Need-copy_first-requires
 copy-first-requires c κs =
@@ -98,7 +98,7 @@ returns-4 c =
     let headed = (read (header few-pairs)).headed in
     mark-done _ _ _ _ (passed went_on) (room went_on) (analysed few-pairs).analyse_boundaries-pairs.ensures (few few-pairs)
     (mark-few headed size.size-n.ensures.0) (mark-count headed size.size-n.ensures.0) wide.if-marks-n.false
-    c.before.before.copy_first.ensures
+    c.copy_first.ensures
     ∙ mark-as _ _ _
 
 pub chokes_mark_spec : {M : Type 1} → statement M

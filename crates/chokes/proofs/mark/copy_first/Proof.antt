@@ -18,19 +18,19 @@ slice-write-to : tie.Need-bounds-to-i invariant-loop decreases-loop
 slice-write-to c =
     let in-loop = c.before.before in
     let inv = in-loop.loop-i.invariant in
-    omega (arith, copied-long (inv), inv.room, c.before.loop-i-test.true)
+    omega (arith, copied-long (inv), inv.room, c.loop-i-test.true)
 
 loop-less : tie.Need-loop-i-smaller invariant-loop decreases-loop
-loop-less c = omega (arith, c.before.before.loop-i.invariant.below, c.before.loop-i-test.true)
+loop-less c = omega (arith, c.loop-i.invariant.below, c.loop-i-test.true)
 
 loop-again : tie.Need-loop-i-preserved invariant-loop decreases-loop
-loop-again c = copied_next c.before.before.loop-i.invariant c.before.loop-i-test.true
+loop-again c = copied_next c.loop-i.invariant c.loop-i-test.true
 
 same_length : tie.Need-shape_of-to invariant-loop decreases-loop
-same_length c = copied-long c.before.loop-i.invariant
+same_length c = copied-long c.loop-i.invariant
 
 returns : tie.Need-returns invariant-loop decreases-loop
-returns c = copied-end c.before.loop-i.invariant c.loop-i-test.false
+returns c = copied-end c.loop-i.invariant c.loop-i-test.false
 
 pub copy_first_spec : {M : Type 1} → statement M
 copy_first_spec =

@@ -19,14 +19,14 @@ start_of c = c.before.before.before.before.before.before.before.before
 admitted : (c : tie.Else-not-passed) → block_fault (start_of c).args.thresholds.now ≡ false
 admitted c =
     let asked = c.before in
-    admitted-block (start_of c).args.thresholds.now asked.before.check_thresholds-v.ensures asked.passed.ensures (not-false _ c.if-not-passed.false)
+    admitted-block (start_of c).args.thresholds.now asked.check_thresholds-v.ensures asked.passed.ensures (not-false _ c.if-not-passed.false)
 
 -- 32
 returns : tie.Need-returns-then-not-passed
 returns c =
     let start : tie.Start = search in
     let asked = c.before.before in
-    by-list-bad start.args.thresholds.now asked.before.check_thresholds-v.ensures asked.passed.ensures (not-true _ c.before.if-not-passed.true)
+    by-list-bad start.args.thresholds.now asked.check_thresholds-v.ensures asked.passed.ensures (not-true _ c.if-not-passed.true)
     c.of_verdict.ensures.0 c.of_verdict.ensures.1 _ _ _ _
 
 read-limits-requires : tie.Need-read_limits-limits-requires
@@ -58,7 +58,7 @@ returns-3 c =
     let planned : tie.After-plan_reduce_by_list-r = search in
     let given = limited planned in
     let z : planned.plan_reduce_by_list-r.result.number ≡ 0 = omega (arith, went_on.if-r-gt0.false) in
-    by-list-finished _ _ _ c.before.before.finish.ensures _ (admitted given.before) _
+    by-list-finished _ _ _ c.finish.ensures _ (admitted given.before) _
     ((left-eight given.read_limits-limits.ensures planned.plan_reduce_by_list-r.ensures).made z)
 
 pub chokes_reduce_by_list_spec : {M : Type 1} → statement M

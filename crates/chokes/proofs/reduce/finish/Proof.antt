@@ -6,12 +6,12 @@ use Rattle.chokes.proofs.reduce.finish.Statement.{statement}
 use Rattle.chokes.proofs.reduce.finish.Tie as tie
 
 read-header-requires : tie.Need-read_header-h-requires
-read-header-requires c κs = header-there _ c.before.before.requires.passed
+read-header-requires c κs = header-there _ c.requires.passed
 
 write-answer-requires : tie.Need-write_answer-n-requires
 write-answer-requires c κs =
     let start : tie.Start = search in
-    rw c.before.read_header-h.ensures start.pre
+    rw c.read_header-h.ensures start.pre
 
 returns : tie.Need-returns-then-room-n
 returns c =

@@ -18,16 +18,16 @@ returns : tie.Need-returns-then-x-y
 returns c = none-added c.if-x-y.true
 
 mul-i : tie.Need-overflow_mul-i
-mul-i c = omega (arith, mul-as c.before.size.ensures.0 c.size-2.ensures.0, on c.before.before)
+mul-i c = omega (arith, mul-as c.size.ensures.0 c.size-2.ensures.0, on c.before.before)
 
 -- the place that is read is that cell's
 place : (c : tie.After-size-3)
     → let a = (start_of c.before.before.before).args in
-    c.before.before.size.result * c.before.size-2.result + c.size-3.result ≡ a.p.y * a.width + a.p.x
-place c = omega (arith, c.size-3.ensures.0, mul-as c.before.before.size.ensures.0 c.before.size-2.ensures.0)
+    c.size.result * c.size-2.result + c.size-3.result ≡ a.p.y * a.width + a.p.x
+place c = omega (arith, c.size-3.ensures.0, mul-as c.size.ensures.0 c.size-2.ensures.0)
 
 inside : (c : tie.After-size-3)
-    → c.before.before.size.result * c.before.size-2.result + c.size-3.result < (start_of c.before.before.before).args.n
+    → c.size.result * c.size-2.result + c.size-3.result < (start_of c.before.before.before).args.n
 inside c = omega (arith, place c, on c.before.before.before)
 
 returns-2 : tie.Need-returns

@@ -31,10 +31,10 @@ loop-holds c = (omega arith, omega arith, refl, refl)
 add-label-requires : tie.Need-add_label-found-requires invariant-loop decreases-loop
 add-label-requires c κs =
     let turn = c.before.before in
-    let loop = turn.before.loop-i in
+    let loop = turn.loop-i in
     let p = (start_of turn.before).pre in (
       p.0.mapped,
-      hit-as c.before.read_base-b.ensures (p.0.anchors.each loop.i turn.loop-i-test.true),
+      hit-as c.read_base-b.ensures (p.0.anchors.each loop.i turn.loop-i-test.true),
       omega (arith, loop.invariant.1, loop.invariant.2, p.1),
     )
 
@@ -42,13 +42,13 @@ loop-again : tie.Need-loop-i-preserved invariant-loop decreases-loop
 loop-again c =
     let added = c.before.before in
     let read = added.before.before in
-    let inv = read.before.before.loop-i.invariant in
+    let inv = read.loop-i.invariant in
     let new = added.add_label-found.ensures in
     (omega arith, omega (arith, new.most, inv.1), new.kept ∙ inv.2, read_next _ _ _ _ _ read.read_base-b.ensures inv.3 new)
 
 returns : tie.Need-returns invariant-loop decreases-loop
 returns c =
-    let loop = c.before.loop-i in
+    let loop = c.loop-i in
     let start = start_of c.before in
     all_read {i = loop.i} {count = start.args.count} (omega arith) (omega (arith, loop.invariant.1, loop.invariant.2, start.pre.1)) loop.invariant.3
 
@@ -66,5 +66,5 @@ anchor_labels_spec =
     (λ c. search rules)
     (λ c. search rules)
     loop-again
-    (λ c. c.before.loop-i.invariant.2)
+    (λ c. c.loop-i.invariant.2)
     returns)

@@ -21,13 +21,13 @@ loop-holds c = (omega arith, refl)
 loop-again : tie.Need-loop-i-preserved invariant-loop decreases-loop
 loop-again c =
     let turn = c.before.before in
-    let a = turn.before.args in
-    (omega arith, has-next a.region a.anchors.now turn.loop-i.i c.before.loop-i-test.true turn.loop-i.invariant.1)
+    let a = turn.args in
+    (omega arith, has-next a.region a.anchors.now turn.loop-i.i c.loop-i-test.true turn.loop-i.invariant.1)
 
 returns : tie.Need-returns invariant-loop decreases-loop
 returns c =
-    let a = c.before.before.args in
-    has_all a.region a.anchors.now {i = c.before.loop-i.i} (omega arith) c.before.loop-i.invariant.1
+    let a = c.args in
+    has_all a.region a.anchors.now {i = c.loop-i.i} (omega arith) c.loop-i.invariant.1
 
 pub is_anchored_spec : {M : Type 1} → statement M
 is_anchored_spec =

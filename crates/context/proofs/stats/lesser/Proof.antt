@@ -7,5 +7,5 @@ lesser_spec =
     tie.close
     (tie.spec
     (λ c. lesser-first _ c.if-count-eq0.true)
-    (λ c. lesser-low c.before.if-count-eq0.false c.if-x-y.true)
-    (λ c. lesser-high c.before.if-count-eq0.false c.if-x-y.false))
+    (λ c. lesser-low c.if-count-eq0.false c.if-x-y.true)
+    (λ c. lesser-high c.if-count-eq0.false c.if-x-y.false))

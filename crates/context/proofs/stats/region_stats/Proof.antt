@@ -33,7 +33,7 @@ counted-requires : tie.Need-counted-stats-requires invariant-loop decreases-loop
 counted-requires c κs =
     let in-loop = c.before.before.before in
     let start = in-loop.before.before.before.before in
-    let l : in-loop.loop-i.i < 1048576 = omega (arith, c.before.before.loop-i-test.true, start.requires.1) in (
+    let l : in-loop.loop-i.i < 1048576 = omega (arith, c.loop-i-test.true, start.requires.1) in (
       count_room (map_here start 0) start.args.labels.now
           (length start.args.cells.now) start.args.region (in-loop.loop-i.invariant.1 0) l,
       l,
@@ -48,13 +48,13 @@ loop-again c =
       omega (arith, turning.loop-i-test.true),
       λ height. count_next (map_here start height) start.args.labels.now
           (length start.args.cells.now) start.args.region (in-loop.loop-i.invariant.1 height) turning.loop-i-test.true
-          c.before.before.read_u32-label.ensures c.counted-stats.ensures,
+          c.read_u32-label.ensures c.counted-stats.ensures,
     )
 
 returns : tie.Need-returns invariant-loop decreases-loop
 returns c =
     let start = c.before.before.before.before.before in
-    let inv = c.before.loop-i.invariant in
+    let inv = c.loop-i.invariant in
     λ height. count-end (map_here start height) start.args.labels.now
     (length start.args.cells.now) start.args.region (inv.1 height) (omega (arith, inv.0, c.loop-i-test.false))
 

@@ -11,8 +11,8 @@ returns c =
     let after-read-u32 = after-read-u322.before in
     simp (
       c.read_u32-6.ensures,
-      c.before.read_u32-5.ensures,
-      c.before.before.read_u32-4.ensures,
+      c.read_u32-5.ensures,
+      c.read_u32-4.ensures,
       after-read-u323.read_u32-3.ensures,
       after-read-u322.read_u32-2.ensures,
       after-read-u32.read_u32.ensures,

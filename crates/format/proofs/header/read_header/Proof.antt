@@ -5,7 +5,7 @@ use Rattle.format.proofs.header.read_header.Tie as tie
 
 returns : tie.Need-returns
 unfolding header_at
-returns c = simp (c.read_offsets.ensures, c.before.read_counts.ensures)
+returns c = simp (c.read_offsets.ensures, c.read_counts.ensures)
 
 pub read_header_spec : {M : Type 1} → statement M
 read_header_spec = tie.close (tie.spec (λ c κs. search rules) (λ c κs. search rules) returns)

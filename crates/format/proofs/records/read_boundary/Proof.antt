@@ -10,8 +10,8 @@ returns c =
     let after-read-span = after-read-u64.before in
     simp (
       c.read_ramp.ensures,
-      c.before.read_u32-2.ensures,
-      c.before.before.read_u32.ensures,
+      c.read_u32-2.ensures,
+      c.read_u32.ensures,
       after-read-u64.read_u64.ensures,
       after-read-span.read_span.ensures,
     )

@@ -5,7 +5,7 @@ use Rattle.format.proofs.records.read_observation.Tie as tie
 
 returns : tie.Need-returns
 unfolding observation_at
-returns c = simp (c.read_u32.ensures, c.before.read_u64.ensures, c.before.before.read_span.ensures)
+returns c = simp (c.read_u32.ensures, c.read_u64.ensures, c.read_span.ensures)
 
 pub read_observation_spec : {M : Type 1} → statement M
 read_observation_spec =

@@ -5,7 +5,7 @@ use Rattle.format.proofs.records.read_position.Tie as tie
 
 returns : tie.Need-returns
 unfolding position_at
-returns c = simp (c.read_u32-2.ensures, c.before.read_u32.ensures)
+returns c = simp (c.read_u32-2.ensures, c.read_u32.ensures)
 
 pub read_position_spec : {M : Type 1} → statement M
 read_position_spec =

@@ -5,7 +5,7 @@ use Rattle.format.proofs.records.read_source.Tie as tie
 
 returns : tie.Need-returns
 unfolding source_at
-returns c = simp (c.read_u32-2.ensures, c.before.read_u32.ensures)
+returns c = simp (c.read_u32-2.ensures, c.read_u32.ensures)
 
 pub read_source_spec : {M : Type 1} → statement M
 read_source_spec = tie.close (tie.spec (λ c κs. search rules) (λ c. search rules) (λ c κs. search rules) returns)

@@ -5,7 +5,7 @@ use Rattle.format.proofs.records.read_span.Tie as tie
 
 returns : tie.Need-returns
 unfolding span_at
-returns c = simp (c.read_position-2.ensures, c.before.read_position.ensures)
+returns c = simp (c.read_position-2.ensures, c.read_position.ensures)
 
 pub read_span_spec : {M : Type 1} → statement M
 read_span_spec =

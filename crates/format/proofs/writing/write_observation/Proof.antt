@@ -10,7 +10,7 @@ returns c =
     let after-write-span = after-write-u64.before.before.before.before in
     let start = after-write-span.before.before.before in
     observation-written start.args.s.now start.args.at start.args.ends start.args.bits start.args.sources (omega arith)
-    after-write-span.write_span.ensures after-write-u64.write_u64.ensures c.before.before.write_u32.ensures
+    after-write-span.write_span.ensures after-write-u64.write_u64.ensures c.write_u32.ensures
 
 pub write_observation_spec : {M : Type 1} → statement M
 write_observation_spec =

@@ -19,12 +19,12 @@ write-u32-requires : tie.Need-write_u32-requires
 write-u32-requires c κs = simp length-set (omega arith)
 
 same_length : tie.Need-shape_of-s
-same_length c = simp length-set at c.before.s-1.given
+same_length c = simp length-set at c.s-1.given
 
 returns : tie.Need-returns
 returns c =
     let start : tie.Start = search in
-    ramp-written start.args.s.now start.args.at start.args.r (omega arith) refl c.before.before.write_u32.ensures
+    ramp-written start.args.s.now start.args.at start.args.r (omega arith) refl c.write_u32.ensures
 
 pub write_ramp_spec : {M : Type 1} → statement M
 write_ramp_spec =

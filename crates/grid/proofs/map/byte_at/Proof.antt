@@ -5,7 +5,7 @@ use Rattle.grid.proofs.map.byte_at.Statement.{statement}
 use Rattle.grid.proofs.map.byte_at.Tie as tie
 
 returns : tie.Need-returns-then-cells-i
-returns c = byte_past c.before.args.cells.now c.before.args.i (omega arith)
+returns c = byte_past c.args.cells.now c.args.i (omega arith)
 
 returns-2 : tie.Need-returns
 returns-2 c =

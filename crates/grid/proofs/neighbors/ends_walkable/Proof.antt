@@ -44,7 +44,7 @@ returns c =
     let start : tie.Start = search in
     let g = grid-of start in
     λ k j e f.
-    rw (e, f) (ap₂ ◌&&◌ (c.before.before.walkable_at.ensures g refl ∙ ap (walkable g) (c.before.before.before.index.ensures g refl))
+    rw (e, f) (ap₂ ◌&&◌ (c.walkable_at.ensures g refl ∙ ap (walkable g) (c.index.ensures g refl))
     (c.walkable_at-2.ensures g refl ∙ ap (walkable g) (beyond c.before)))
 
 pub ends_walkable_spec : {M : Type 1} → statement M

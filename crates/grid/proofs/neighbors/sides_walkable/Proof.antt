@@ -23,16 +23,16 @@ keeps c = leads-means _ _ _ c.requires.2
 beside-requires : tie.Need-beside-requires
 beside-requires c κs =
     let m = keeps c.before in
-    let p = c.before.requires.0 in omega (arith, place-column p, place-row p)
+    let p = c.requires.0 in omega (arith, place-column p, place-row p)
 
 beside-is : (c : tie.After-beside) → let s = c.before.before in c.beside.result ≡ beside (grid-of s) (cell-of s) s.args.d
 beside-is c =
-    let p = c.before.before.requires.0 in
+    let p = c.requires.0 in
     c.beside.ensures (grid-of c.before.before) (cell-of c.before.before) refl (place-column p) (place-row p)
 
 walkable-at-requires : tie.Need-walkable_at-requires
 walkable-at-requires c κs =
-    let p = c.before.before.requires in rw (beside-is c) (beside-on _ p.0.whole _ _ (place-on p.0) p.2)
+    let p = c.requires in rw (beside-is c) (beside-on _ p.0.whole _ _ (place-on p.0) p.2)
 
 across-requires : tie.Need-across-requires
 across-requires c κs =
@@ -55,7 +55,7 @@ returns c =
     let start : tie.Start = search in
     let g = grid-of start in
     λ k j e f.
-    rw (e, f) (ap₂ ◌&&◌ (c.before.before.walkable_at.ensures g refl ∙ ap (walkable g) (beside-is c.before.before.before))
+    rw (e, f) (ap₂ ◌&&◌ (c.walkable_at.ensures g refl ∙ ap (walkable g) (beside-is c.before.before.before))
     (c.walkable_at-2.ensures g refl ∙ ap (walkable g) (across-is c.before)))
 
 pub sides_walkable_spec : {M : Type 1} → statement M

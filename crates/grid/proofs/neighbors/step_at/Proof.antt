@@ -19,7 +19,7 @@ cell-of c = c.args.position.y * c.args.width + c.args.position.x
 -- what the code tells of where the direction leads, and that it leads to a cell
 leads-told : (c : tie.After-leads_on) → let s = c.before.before in leads_on (grid-of s) (cell-of s) s.args.d ≡ c.leads_on.result
 leads-told c =
-    let p = c.before.before.requires.0 in
+    let p = c.requires.0 in
     sym (c.leads_on.ensures (grid-of c.before.before) _ refl refl (place-column p) (place-row p))
 
 leads : (c : tie.Else-not-leads_on) → let s = c.before.before.before in leads_on (grid-of s) (cell-of s) s.args.d ≡ true
@@ -32,13 +32,13 @@ ends-walkable-requires : tie.Need-ends_walkable-requires
 ends-walkable-requires c κs = let start : tie.Start = search in (start.pre.0, start.pre.1, leads c)
 
 returns-2 : tie.Need-returns-then-not-ends_walkable
-returns-2 c = blocked _ _ _ (leads c.before.before) (sym (c.before.ends_walkable.ensures _ _ refl refl) ∙ not-true _ c.if-not-ends_walkable.true)
+returns-2 c = blocked _ _ _ (leads c.before.before) (sym (c.ends_walkable.ensures _ _ refl refl) ∙ not-true _ c.if-not-ends_walkable.true)
 
 returns-3 : tie.Need-returns-then-not-is_diagonal
 returns-3 c =
     let ends : tie.After-ends_walkable = search in
-    straight _ _ _ (leads ends.before) (sym (ends.ends_walkable.ensures _ _ refl refl) ∙ not-false _ c.before.before.if-not-ends_walkable.false)
-    (sym c.before.is_diagonal.ensures ∙ not-true _ c.if-not-is_diagonal.true)
+    straight _ _ _ (leads ends.before) (sym (ends.ends_walkable.ensures _ _ refl refl) ∙ not-false _ c.if-not-ends_walkable.false)
+    (sym c.is_diagonal.ensures ∙ not-true _ c.if-not-is_diagonal.true)
 
 sides-walkable-requires : tie.Need-sides_walkable-requires
 sides-walkable-requires c κs =
@@ -52,7 +52,7 @@ returns-4 c =
     let ends : tie.After-ends_walkable = search in
     let walked : tie.Else-not-ends_walkable = search in
     slanting _ _ _ (leads ends.before) (sym (ends.ends_walkable.ensures _ _ refl refl) ∙ not-false _ walked.if-not-ends_walkable.false)
-    (sym c.before.before.is_diagonal.ensures ∙ not-false _ c.before.if-not-is_diagonal.false) (c.sides_walkable.ensures _ _ refl refl)
+    (sym c.is_diagonal.ensures ∙ not-false _ c.if-not-is_diagonal.false) (c.sides_walkable.ensures _ _ refl refl)
 
 pub step_at_spec : {M : Type 1} → statement M
 step_at_spec = tie.close (tie.spec (search rules) returns ends-walkable-requires returns-2 (search rules) returns-3 sides-walkable-requires returns-4)

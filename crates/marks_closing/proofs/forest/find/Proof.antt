@@ -19,15 +19,15 @@ start_of c = search
 loop-holds : tie.Need-loop-up-init invariant-loop decreases-loop
 loop-holds c =
     let start : tie.Start invariant-loop decreases-loop = search in
-    finding-start start.pre.1 c.parent-up.ensures
+    finding-start start.requires.1 c.parent-up.ensures
 
 parent-requires-2 : tie.Need-parent-up-requires-in-loop-up invariant-loop decreases-loop
-parent-requires-2 c κs = finding-inside (start_of c.before).pre.0 c.before.loop-up.invariant
+parent-requires-2 c κs = finding-inside (start_of c.before).requires.0 c.loop-up.invariant
 
 loop-less : tie.Need-loop-up-smaller invariant-loop decreases-loop
 loop-less c =
     let tested = c.before in
-    finding-less (start_of tested.before).pre.0 tested.before.loop-up.invariant tested.loop-up-test.true
+    finding-less (start_of tested.before).requires.0 tested.loop-up.invariant tested.loop-up-test.true
 
 loop-again : tie.Need-loop-up-preserved invariant-loop decreases-loop
 loop-again c =
@@ -35,7 +35,7 @@ loop-again c =
     finding-next (start_of turn).requires.0 turn.loop-up.invariant c.parent-up-in-loop-up.ensures
 
 returns : tie.Need-returns invariant-loop decreases-loop
-returns c = finding-end (start_of c.before).pre.0 c.before.loop-up.invariant c.loop-up-test.false
+returns c = finding-end (start_of c.before).requires.0 c.loop-up.invariant c.loop-up-test.false
 
 pub find_spec : {M : Type 1} → statement M
 find_spec =

@@ -6,7 +6,7 @@ use Rattle.marks_closing.proofs.forest.hang.Tie as tie
 raised-over-requires : tie.Need-raised_over-requires
 raised-over-requires c κs =
     let start : tie.Start = search in
-    omega (arith, start.pre.0.low start.args.high start.pre.2, start.pre.0.few)
+    omega (arith, start.requires.0.low start.args.high start.requires.2, start.requires.0.few)
 
 returns : tie.Need-returns
 returns c = rw c.raised_over.ensures

@@ -15,7 +15,7 @@ returns : tie.Need-returns-then-a-b
 returns c =
     let right : tie.After-find-b = search in
     let left = left-of right in
-    grown-near (start_of left).pre.0 left.find-a.ensures right.find-b.ensures c.if-a-b.true
+    grown-near (start_of left).requires.0 left.find-a.ensures right.find-b.ensures c.if-a-b.true
 
 returns-2 : tie.Need-returns-then-heights-a
 returns-2 c =
@@ -24,7 +24,7 @@ returns-2 c =
     let apart : tie.Else-a-b = search in
     let right = apart.before in
     let left = left-of right in
-    grown-left (start_of left).pre.0 left.find-a.ensures right.find-b.ensures apart.if-a-b.false
+    grown-left (start_of left).requires.0 left.find-a.ensures right.find-b.ensures apart.if-a-b.false
     (omega (arith, lower.if-heights-a.true)) hung.hang.ensures
 
 returns-3 : tie.Need-returns
@@ -34,7 +34,7 @@ returns-3 c =
     let apart : tie.Else-a-b = search in
     let right = apart.before in
     let left = left-of right in
-    grown-right (start_of left).pre.0 left.find-a.ensures right.find-b.ensures apart.if-a-b.false
+    grown-right (start_of left).requires.0 left.find-a.ensures right.find-b.ensures apart.if-a-b.false
     (λ l. omega (arith, l, higher.if-heights-a.false)) hung.hang-2.ensures
 
 pub join_spec : {M : Type 1} → statement M

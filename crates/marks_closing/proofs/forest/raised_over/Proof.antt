@@ -6,12 +6,12 @@ use Rattle.marks_closing.proofs.forest.raised_over.Tie as tie
 
 returns : tie.Need-returns-then-low-high
 returns c =
-    let a = c.before.args in
+    let a = c.args in
     rw (eq-eqb a.low a.high (omega (arith, c.if-low-high.true)))
 
 returns-2 : tie.Need-returns-else-low-high
 returns-2 c =
-    let a = c.before.args in
+    let a = c.args in
     rw (ne_eqb a.low a.high (λ e. c.if-low-high.false (omega (arith, e))))
 
 pub raised_over_spec : {M : Type 1} → statement M

@@ -15,12 +15,12 @@ decreases-loop parents₀ heights₀ joined earlier n m k₀ parents heights k =
 loop-holds : tie.Need-loop-k-init invariant-loop decreases-loop
 loop-holds c =
     let start : tie.Start invariant-loop decreases-loop = search in
-    undoing-start start.pre
+    undoing-start start.requires
 
 part-again-requires : tie.Need-part_again-requires invariant-loop decreases-loop
 part-again-requires c κs =
     let tested : tie.In-loop-k invariant-loop decreases-loop = search in
-    let inv = tested.before.loop-k.inv in
+    let inv = tested.loop-k.invariant in
     (undoing-low inv tested.loop-k-test.true, undoing-high inv tested.loop-k-test.true)
 
 loop-again : tie.Need-loop-k-preserved invariant-loop decreases-loop
@@ -28,16 +28,16 @@ loop-again c =
     let stepped : tie.After-part_again invariant-loop decreases-loop = search in
     let tested : tie.In-loop-k invariant-loop decreases-loop = search in
     let done = stepped.part_again in
-    undoing-next tested.before.loop-k.inv tested.loop-k-test.true done.last.0 done.last.1.0 done.ensures.0 done.ensures.1
+    undoing-next tested.loop-k.invariant tested.loop-k-test.true done.new.parents done.new.heights.0 done.ensures.0 done.ensures.1
 
 same_length : tie.Need-shape_of-parents invariant-loop decreases-loop
-same_length c = c.before.loop-k.invariant.same-parents
+same_length c = c.loop-k.invariant.same-parents
 
 same-length-2 : tie.Need-shape_of-heights invariant-loop decreases-loop
-same-length-2 c = c.before.loop-k.invariant.same-heights
+same-length-2 c = c.loop-k.invariant.same-heights
 
 returns : tie.Need-returns invariant-loop decreases-loop
-returns c = undoing-end c.before.loop-k.invariant (λ l. omega arith)
+returns c = undoing-end c.loop-k.invariant (λ l. omega arith)
 
 pub undo_spec : {M : Type 1} → statement M
 undo_spec =

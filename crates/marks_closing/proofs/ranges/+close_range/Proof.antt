@@ -117,18 +117,18 @@ pub +close_range_spec : {M : Type 1} → statement M
     let start : Start t = search in
     turning-start start.pre.1)
     (λ c. omega (arith, c.loop-b.invariant.opened.range.some))
-    (λ c. omega (arith, c.before.loop-b.invariant.opened.range.some))
+    (λ c. omega (arith, c.loop-b.invariant.opened.range.some))
     (λ c.
-    let range = c.before.loop-b.invariant.opened.range in
+    let range = c.loop-b.invariant.opened.range in
     omega (arith, range .some, range .top))
     -- the cut
     (λ c κs.
-    let o = c.before.loop-b.invariant.opened in
+    let o = c.loop-b.invariant.opened in
     (o.range.ordered, omega (arith, o.range.upto, o.listed.owners-are), λ i j l m. o.listed.rising i j l (omega (arith, o.range.upto))))
     -- the second half joined, the first closed, that taken back, the first joined
     (λ c κs.
     let cut : Cut t = search in
-    let o = cut.before.before.loop-b.inv.opened in
+    let o = cut.loop-b.inv.opened in
     let split = cut.first_from-cut.ensures in
     ready-from o (omega (arith, split.low, o.range.ordered)) (omega (arith, split.high, o.range.ordered)))
     (λ c κs.
@@ -136,7 +136,7 @@ pub +close_range_spec : {M : Type 1} → statement M
     let cut = cut_of t second in
     let turn = cut.before in
     let start = start_of t turn.before in
-    let inv = turn.before.loop-b.inv in
+    let inv = turn.loop-b.inv in
     let wide = turn.loop-b-test.true in (
       omega (arith, start.pre.0, inv.low, inv.opened.range.some, wide),
       open-left inv.opened cut.first_from-cut.ensures (omega (arith, wide)) (omega (arith, wide)) second.join_records-k.ensures,
@@ -148,13 +148,13 @@ pub +close_range_spec : {M : Type 1} → statement M
     let split = cut.first_from-cut.ensures in
     let joined = second.join_records-k.ensures in
     undoable-from (omega (arith, joined.from)) (omega (arith, joined.from))
-    (restored-undoable joined first.close_range.ensures.restored (ready-from cut.before.before.loop-b.inv.opened split.low split.high).2))
+    (restored-undoable joined first.close_range.ensures.restored (ready-from cut.loop-b.inv.opened split.low split.high).2))
     (λ c κs.
     let back : TakenBack t = search in
     let first = closed_of t back in
     let second = second-of t first in
     let cut = cut_of t second in
-    ready-left cut.before.before.loop-b.inv.opened cut.first_from-cut.ensures
+    ready-left cut.loop-b.inv.opened cut.first_from-cut.ensures
     (restored-back second.join_records-k.ensures first.close_range.ensures.restored back.undo.ensures))
     (λ c.
     let joined : FirstJoined t = search in

@@ -17,33 +17,33 @@ loop-holds : tie.Need-loop-k-init invariant-loop decreases-loop
 loop-holds c = (omega arith, omega arith, λ i l m. absurd (omega arith))
 
 cast-if1 : tie.Need-overflow_cast-owners invariant-loop decreases-loop
-cast-if1 c = omega (arith, c.shared_slice_known-1.given c.before.before.loop-k.k)
+cast-if1 c = omega (arith, c.shared_slice_known-1.given c.loop-k.k)
 
 returns : tie.Need-returns-then-b-owners invariant-loop decreases-loop
 returns c =
     let turn : tie.At-loop-k invariant-loop decreases-loop = search in
-    let inv = turn.loop-k.inv in
+    let inv = turn.loop-k.invariant in
     record {
       low = inv.0;
       high = inv.1;
       below = inv.2;
-      above = λ i l m. omega (arith, c.if-b-owners.true, turn.before.pre.2 turn.loop-k.k i l m);
+      above = λ i l m. omega (arith, c.if-b-owners.true, turn.requires.2 turn.loop-k.k i l m);
     }
 
 loop-again : tie.Need-loop-k-preserved invariant-loop decreases-loop
 loop-again c =
     let turn : tie.At-loop-k invariant-loop decreases-loop = search in
-    let a = turn.before.args in (
+    let a = turn.args in (
       omega arith,
       omega arith,
-      λ i l m. below_next (at a.owners.now) a.b turn.loop-k.k a.from turn.loop-k.inv.2 c.if-b-owners.false i l m,
+      λ i l m. below_next (at a.owners.now) a.b turn.loop-k.k a.from turn.loop-k.invariant.2 c.if-b-owners.false i l m,
     )
 
 returns-2 : tie.Need-returns invariant-loop decreases-loop
 returns-2 c = record {
   low = omega arith;
   high = omega arith;
-  below = λ i l m. c.before.loop-k.invariant.2 i l (omega arith);
+  below = λ i l m. c.loop-k.invariant.2 i l (omega arith);
   above = λ i l m. absurd (omega arith);
 }
 

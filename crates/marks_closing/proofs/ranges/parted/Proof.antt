@@ -34,24 +34,24 @@ loop-holds c =
 shared-slice-read-find : tie.Need-bounds-lefts-k invariant-loop decreases-loop
 shared-slice-read-find c =
     let turn : tie.At-loop-k invariant-loop decreases-loop = search in
-    omega (arith, (start_of turn).pre.1.lefts-are)
+    omega (arith, (start_of turn).requires.1.lefts-are)
 
 find-requires : tie.Need-find-left-requires invariant-loop decreases-loop
 find-requires c κs =
     let tested : tie.In-loop-k invariant-loop decreases-loop = search in
-    let p = (start_of tested.before).pre in
-    (p.2, p.1.left_in tested.before.loop-k.k tested.loop-k-test.true)
+    let p = (start_of tested.before).requires in
+    (p.2, p.1.left_in tested.loop-k.k tested.loop-k-test.true)
 
 shared-slice-read-find-2 : tie.Need-bounds-rights-k invariant-loop decreases-loop
 shared-slice-read-find-2 c =
     let turn : tie.At-loop-k invariant-loop decreases-loop = search in
-    omega (arith, (start_of turn).pre.1.rights-are)
+    omega (arith, (start_of turn).requires.1.rights-are)
 
 find-requires-2 : tie.Need-find-right-requires invariant-loop decreases-loop
 find-requires-2 c κs =
     let tested : tie.In-loop-k invariant-loop decreases-loop = search in
-    let p = (start_of tested.before).pre in
-    (p.2, p.1.right-in tested.before.loop-k.k tested.loop-k-test.true)
+    let p = (start_of tested.before).requires in
+    (p.2, p.1.right-in tested.loop-k.k tested.loop-k-test.true)
 
 returns : tie.Need-returns-then-left-right invariant-loop decreases-loop
 returns c =
@@ -59,7 +59,7 @@ returns c =
     let tested = turn-of left in
     let turn = tested.before in
     let a = (start_of turn).args in
-    λ es f. parted-here es a.lefts.now a.rights.now a.from f turn.loop-k.inv.0 left.find-left.ensures c.before.find-right.ensures
+    λ es f. parted-here es a.lefts.now a.rights.now a.from f turn.loop-k.invariant.0 left.find-left.ensures c.find-right.ensures
     (λ e. omega (arith, e, c.if-left-right.true)) a.to tested.loop-k-test.true
 
 add-k : tie.Need-overflow_add-k invariant-loop decreases-loop
@@ -74,14 +74,14 @@ loop-again c =
     let a = (start_of turn).args in (
       omega arith,
       omega arith,
-      λ es f. parted-next es a.lefts.now a.rights.now a.from f turn.loop-k.inv.0 left.find-left.ensures c.before.find-right.ensures
-          (omega (arith, c.if-left-right.false)) (turn.loop-k.inv.2 es f),
+      λ es f. parted-next es a.lefts.now a.rights.now a.from f turn.loop-k.invariant.0 left.find-left.ensures c.find-right.ensures
+          (omega (arith, c.if-left-right.false)) (turn.loop-k.invariant.2 es f),
     )
 
 returns-2 : tie.Need-returns invariant-loop decreases-loop
 returns-2 c =
     let a = (start_of c.before).args in
-    λ es f. parted-end es a.lefts.now a.rights.now a.from (omega arith) (c.before.loop-k.invariant.2 es f)
+    λ es f. parted-end es a.lefts.now a.rights.now a.from (omega arith) (c.loop-k.invariant.2 es f)
 
 pub parted_spec : {M : Type 1} → statement M
 parted_spec =

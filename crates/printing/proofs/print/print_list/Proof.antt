@@ -14,7 +14,7 @@ returns c =
     let lent = start.args in
     let e = at-reduce.chokes_reduce-v.ensures in
     let w = at-refused.write_refused in (
-      same_text (refused-text lent.job.now lent.thresholds.now lent.work.now lent.answer.now e at-refused.before.before.if-number-ne0.true)
+      same_text (refused-text lent.job.now lent.thresholds.now lent.work.now lent.answer.now e at-refused.if-number-ne0.true)
           w.ensures.0,
       (omega (arith, w.ensures.1, w.auto.1.1.0, start.pre.1), left_by_lem lent.job.now lent.thresholds.now lent.work.now lent.answer.now e),
     )
@@ -33,7 +33,7 @@ slice-aggregate-write-listing c =
     let start : tie.Start = search in
     let lent = start.args in
     let e = at-reduce.chokes_reduce-v.ensures in
-    let fits = detail-fits lent.job.now lent.thresholds.now lent.work.now lent.answer.now e c.before.if-number-ne0.false in
+    let fits = detail-fits lent.job.now lent.thresholds.now lent.work.now lent.answer.now e c.if-number-ne0.false in
     sym (length-take-le _ _ (omega (arith, fits, at-reduce.chokes_reduce-v.auto.1.1.0)))
 
 returns-2 : tie.Need-returns
@@ -44,7 +44,7 @@ returns-2 c =
     let lent = start.args in
     let e = at-reduce.chokes_reduce-v.ensures in
     let w = at-listing.write_listing in
-    let zero = at-listing.before.before.before.if-number-ne0.false in
+    let zero = at-listing.if-number-ne0.false in
     let text = listed-text lent.job.now lent.thresholds.now lent.work.now lent.answer.now e zero lent.out.now start.pre.0 in (
       same_text text w.ensures.0,
       (w.ensures.1, left_by_lem lent.job.now lent.thresholds.now lent.work.now lent.answer.now e),

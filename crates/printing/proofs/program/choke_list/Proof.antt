@@ -24,7 +24,7 @@ returns-2 c =
     let start : tie.Start = search in
     let within : tie.Else-input-gt65536 = search in
     let block : tie.After-write_000 = search in
-    let p = c.before.before.print_list in
+    let p = c.print_list in
     let lent = lent-block (zeros 64) (length-zeros 64) block.write_000.ensures in
     let text = ap (λ (b : List ℕ). printed (reduce_result start.args.input.now b (zeros lent_work) (zeros lent_answer))) lent in
     (same_text (text ∙ within-limit start.args.input.now (omega (arith, within.if-input-gt65536.false))) p.ensures.0, p.ensures.1.0)

@@ -7,7 +7,7 @@ use Rattle.printing.proofs.program.print_read.Statement.{statement}
 use Rattle.printing.proofs.program.print_read.Tie as tie
 
 slice-aggregate-choke-list : tie.Need-slice_bounds-choke_list-end
-slice-aggregate-choke-list c = sym (length-take-le _ _ c.before.before.requires.0)
+slice-aggregate-choke-list c = sym (length-take-le _ _ c.requires.0)
 
 returns : tie.Need-returns
 returns c =

@@ -8,7 +8,7 @@ print-read-requires : tie.Need-print_read-m-requires
 print-read-requires c κs = (search rules, search rules)
 
 slice-aggregate-write-all : tie.Need-slice_bounds-write_all-end
-slice-aggregate-write-all c = sym (length-take-le _ _ c.before.print_read-m.ensures.1)
+slice-aggregate-write-all c = sym (length-take-le _ _ c.print_read-m.ensures.1)
 
 pub run_spec : {M : Type 1} → statement M
 run_spec =

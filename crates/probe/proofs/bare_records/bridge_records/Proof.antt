@@ -47,7 +47,7 @@ returns c =
     let a = start.args in
     let b = bridges.bridge_boundary_indices.ensures in (
       zero-end a.work.now a.regions b.1 zeros.zero_fill.ensures,
-      marks-end bridge_marks bridges-long a.marks.now records.load.ensures b.0 start.pre.4 c.before.before.copy.ensures.1,
+      marks-end bridge_marks bridges-long a.marks.now records.load.ensures b.0 start.pre.4 c.copy.ensures.1,
     )
 
 pub bridge_records_spec : {M : Type 1} → statement M

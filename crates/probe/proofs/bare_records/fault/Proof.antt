@@ -34,7 +34,7 @@ loop-again c =
     )
 
 returns-2 : tie.Need-returns invariant-loop decreases-loop
-returns-2 c = (omega arith, λ k h. c.before.loop-k.invariant.1 k (omega (arith, h, c.loop-k-test.false)), λ h. absurd (omega arith))
+returns-2 c = (omega arith, λ k h. c.loop-k.invariant.1 k (omega (arith, h, c.loop-k-test.false)), λ h. absurd (omega arith))
 
 pub fault_spec : {M : Type 1} → statement M
 fault_spec =

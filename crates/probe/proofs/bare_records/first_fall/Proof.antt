@@ -43,7 +43,7 @@ loop-again c =
     )
 
 returns-2 : tie.Need-returns invariant-loop decreases-loop
-returns-2 c = (omega arith, λ k z h. c.before.loop-k.invariant.1 k z (omega (arith, h, c.loop-k-test.false)), λ h. absurd (omega arith))
+returns-2 c = (omega arith, λ k z h. c.loop-k.invariant.1 k z (omega (arith, h, c.loop-k-test.false)), λ h. absurd (omega arith))
 
 pub first_fall_spec : {M : Type 1} → statement M
 first_fall_spec =

@@ -53,22 +53,22 @@ loop-again c =
       omega arith,
       inv.1,
       inv.2,
-      loaded-next inv.3 (omega (arith, inv.1)) second.before.read_u32-owner.ensures second.read_u32-left.ensures c.read_u32-right.ensures,
+      loaded-next inv.3 (omega (arith, inv.1)) second.read_u32-owner.ensures second.read_u32-left.ensures c.read_u32-right.ensures,
     )
 
 same_length : tie.Need-shape_of-owners invariant-loop decreases-loop
-same_length c = c.before.loop-k.invariant.3.owners-are ∙ sym (asked c).requires.2
+same_length c = c.loop-k.invariant.3.owners-are ∙ sym (asked c).requires.2
 
 same-length-2 : tie.Need-shape_of-lefts invariant-loop decreases-loop
-same-length-2 c = c.before.loop-k.invariant.3.lefts-are ∙ sym (asked c).requires.3
+same-length-2 c = c.loop-k.invariant.3.lefts-are ∙ sym (asked c).requires.3
 
 same-length-3 : tie.Need-shape_of-rights invariant-loop decreases-loop
-same-length-3 c = c.before.loop-k.invariant.3.rights-are ∙ sym (asked c).requires.4
+same-length-3 c = c.loop-k.invariant.3.rights-are ∙ sym (asked c).requires.4
 
 returns : tie.Need-returns invariant-loop decreases-loop
 returns c =
     let given = (asked c).args in
-    let last = c.before.loop-k in
+    let last = c.loop-k in
     let z : last.k ≡ given.n = omega arith in
     subst (λ (j : ℕ). Loaded given.records.now j last.owners last.lefts last.rights) z last.invariant.3
 

@@ -23,7 +23,7 @@ abbrev past-checks : tie.Else-k-count → tie.Else-r-gt0
 past-checks c = search
 
 rising : (c : tie.Else-k-count) → OwnersRise (given (past-checks c)).args.records.now (length (given (past-checks c)).args.records.now / 12)
-rising c = λ k z h. let found = c.before.first_fall-k.ensures in found.1 k z (omega (arith, h, c.if-k-count.false, found.0))
+rising c = λ k z h. let found = c.first_fall-k.ensures in found.1 k z (omega (arith, h, c.if-k-count.false, found.0))
 
 returns : tie.Need-returns-then-r-gt0
 returns c =
@@ -39,7 +39,7 @@ first-fall-requires c κs =
 returns-2 : tie.Need-returns-then-k-count
 returns-2 c =
     let past : tie.Else-r-gt0 = search in
-    let found = c.before.first_fall-k.ensures in
+    let found = c.first_fall-k.ensures in
     let fall = found.2 c.if-k-count.true in
     falling _ (passed past) fall.0 c.if-k-count.true found.1 fall.1 refl refl (record { work-kept = refl; marks-kept = refl })
 

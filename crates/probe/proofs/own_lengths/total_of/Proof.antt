@@ -28,14 +28,14 @@ abbrev start_of : Loop → tie.Start invariant-loop decreases-loop
 start_of c = c.before.before
 
 loop-holds : tie.Need-loop-j-init invariant-loop decreases-loop
-loop-holds c = (omega arith, λ i l. absurd (omega (arith, l)), parts-start (length_term c.before.args.ds.now) c.none-parts.ensures)
+loop-holds c = (omega arith, λ i l. absurd (omega (arith, l)), parts-start (length_term c.args.ds.now) c.none-parts.ensures)
 
 returns : tie.Need-returns-then-d-gt-MOST_SQUARES invariant-loop decreases-loop
 returns c =
     let turn : Turn = search in
     let start = start_of turn.before in
     one-off-map start.args.ds.now start.args.count (omega (arith, start.pre.1, start.pre.2)) turn.loop-j-test.true
-    c.before.if-d-gt-MOST_SQUARES.true c.no_length.ensures
+    c.if-d-gt-MOST_SQUARES.true c.no_length.ensures
 
 with-requires : tie.Need-with-parts-requires invariant-loop decreases-loop
 with-requires c κs =
@@ -54,7 +54,7 @@ loop-again c =
     let ds = (start_of loop).args.ds.now in
     let inv = loop.loop-j.inv in (
       omega (arith, turn.loop-j-test.true),
-      first_more ds inv.1 length.before.if-d-gt-MOST_SQUARES.false,
+      first_more ds inv.1 length.if-d-gt-MOST_SQUARES.false,
       parts_next (length_term ds) inv.2 length.length_of.ensures c.with-parts.ensures,
     )
 

@@ -28,7 +28,7 @@ link-of-requires c κs =
     let at = number.size-at.ensures.0 in
     let a = first.read_boundary-a.ensures in
     let b = second.read_boundary-b.ensures in (
-      ends-bounded pre.0 _ _ at pre.1 a c.before.canonical.ensures,
+      ends-bounded pre.0 _ _ at pre.1 a c.canonical.ensures,
       ends-bounded pre.0 _ _ at pre.2 b c.canonical-2.ensures,
       bits-bounded pre.0 _ _ at pre.1 a,
       bits-bounded pre.0 _ _ at pre.2 b,
@@ -43,7 +43,7 @@ returns c =
     let at = number.size-at.ensures.0 in
     let ends = c.before in
     c.link_of.ensures ∙ linked pre.0 _ _ _ at pre.1 pre.2 first.read_boundary-a.ensures
-    second.read_boundary-b.ensures ends.before.canonical.ensures ends.canonical-2.ensures
+    second.read_boundary-b.ensures ends.canonical.ensures ends.canonical-2.ensures
 
 pub link_between_spec : {M : Type 1} → statement M
 link_between_spec =

@@ -20,10 +20,10 @@ abbrev given : tie.Else-r-gt0 → tie.Start
 given c = search
 
 passed : (c : tie.Else-r-gt0) → first_refusal (reduce_checks (given c).args.job.now) ≡ none
-passed c = first-passed c.before.before.unready-r.ensures (omega (arith, c.if-r-gt0.false))
+passed c = first-passed c.unready-r.ensures (omega (arith, c.if-r-gt0.false))
 
 ready : (c : tie.Else-r-gt0) → LabelsReady (given c).args.job.now (given c).args.labels.now 0 0
-ready c = ready-now c.before.before.unready-r.ensures (omega (arith, c.if-r-gt0.false))
+ready c = ready-now c.unready-r.ensures (omega (arith, c.if-r-gt0.false))
 
 read : (c : tie.After-read_header-h) → Headed (given c.before).args.job.now c.read_header-h.result
 read c =
@@ -38,7 +38,7 @@ abbrev header_of : tie.Else-n-first → tie.After-read_header-h
 header_of c = c.before.before
 
 returns : tie.Need-returns-then-r-gt0
-returns c = refused c.if-r-gt0.true c.before.before.unready-r.ensures refl
+returns c = refused c.if-r-gt0.true c.unready-r.ensures refl
 
 read-header-requires : tie.Need-read_header-h-requires
 read-header-requires c κs = header-there _ (reduce-job _ (passed c))
@@ -70,9 +70,9 @@ tell-link-requires c κs =
     let header = header_of first in
     let went_on = header.before in (
       read header,
-      omega (arith, sized.before.size.ensures.0, first.if-n-first.false),
-      omega (arith, sized.size-2.ensures.0, wide.before.if-n-second.false),
-      first-room went_on.before.before.unready-r.ensures (omega (arith, went_on.if-r-gt0.false)),
+      omega (arith, sized.size.ensures.0, first.if-n-first.false),
+      omega (arith, sized.size-2.ensures.0, wide.if-n-second.false),
+      first-room went_on.unready-r.ensures (omega (arith, went_on.if-r-gt0.false)),
       omega (arith, wide.if-out-lt24.false),
     )
 
@@ -86,7 +86,7 @@ returns-5 c =
     let first = in-first wide in
     let header = header_of first in
     let count = count-is (read header) in
-    known (omega (arith, first.if-n-first.false, count)) (omega (arith, wide.before.if-n-second.false, count))
+    known (omega (arith, first.if-n-first.false, count)) (omega (arith, wide.if-n-second.false, count))
     (told (ready header.before) (omega (arith, wide.if-out-lt24.false)) refl refl
     (link-named _ _ _ _ limits.of_000.ensures first-sized.size.ensures.0 second-sized.size-2.ensures.0 told_at.tell_link.ensures))
 

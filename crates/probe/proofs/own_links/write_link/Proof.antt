@@ -10,7 +10,7 @@ returns c =
     let kind : tie.After-write_u32 = search in
     let start = kind.before.before.before in
     four-writes start.args.out.now _ _ _ _ start.pre kind.write_u32.ensures across.write_u64.ensures along.write_u64-2.ensures
-    c.before.before.write_u32-2.ensures
+    c.write_u32-2.ensures
 
 pub write_link_spec : {M : Type 1} → statement M
 write_link_spec =

@@ -24,7 +24,7 @@ abbrev turn-of : First → tie.At-loop-i invariant-loop decreases-loop
 turn-of c = c.before.before.before.before
 
 loop-holds : tie.Need-loop-i-init invariant-loop decreases-loop
-loop-holds c = let p = c.before.requires in (omega arith, p.0, p.1, filled-start 8 _ _ _ 8)
+loop-holds c = let p = c.requires in (omega arith, p.0, p.1, filled-start 8 _ _ _ 8)
 
 write-u32-requires-2 : tie.Need-write_u32-requires-in-loop-i invariant-loop decreases-loop
 write-u32-requires-2 c κs =
@@ -40,11 +40,11 @@ loop-again c =
       turn.inv.1,
       turn.inv.2,
       filled_next 8 _ _ (8 + 8 * turn.i) turn.inv.3 (omega arith) refl
-          (after_two turn.out (8 + 8 * turn.i) _ _ room first.write_u32.ensures c.before.before.write_u32-in-loop-i.ensures),
+          (after_two turn.out (8 + 8 * turn.i) _ _ room first.write_u32.ensures c.write_u32-in-loop-i.ensures),
     )
 
 same_length : tie.Need-shape_of-out invariant-loop decreases-loop
-same_length c = c.before.loop-i.invariant.3.long
+same_length c = c.loop-i.invariant.3.long
 
 returns : tie.Need-returns invariant-loop decreases-loop
 returns c =

@@ -15,10 +15,10 @@ start_of c = search
 
 -- past 13
 few : (c : tie.Else-r-gt0) → (start_of c).args.pairs ≤ 4096
-few c = pairs-few c.before.before.of_pairs-r.ensures (omega (arith, c.if-r-gt0.false))
+few c = pairs-few c.of_pairs-r.ensures (omega (arith, c.if-r-gt0.false))
 
 returns : tie.Need-returns-then-r-gt0
-returns c = told-many c.before.before.of_pairs-r.ensures c.if-r-gt0.true
+returns c = told-many c.of_pairs-r.ensures c.if-r-gt0.true
 
 mul-total : tie.Need-overflow_mul-total
 mul-total c = omega (arith, few c)
@@ -50,7 +50,7 @@ returns-3 c =
     let room = wide.if-out-total.false in
     written (few wide.before) (omega (arith, room)) refl refl
     (after-head given.out.now given.areas given.pairs _ _ long (omega (arith, room)) areas.write_u32.ensures
-    pairs.write_u32-2.ensures counts.write_counts.ensures c.before.before.write_records.ensures)
+    pairs.write_u32-2.ensures counts.write_counts.ensures c.write_records.ensures)
 
 pub write_partition_spec : {M : Type 1} → statement M
 write_partition_spec =

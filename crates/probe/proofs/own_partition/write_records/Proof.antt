@@ -34,7 +34,7 @@ abbrev owner_of : Left → Owner
 owner_of c = search
 
 loop-holds : tie.Need-loop-k-init invariant-loop decreases-loop
-loop-holds c = let p = c.before.requires in (omega arith, p.0, p.1, p.2, filled-start 12 _ _ _ _)
+loop-holds c = let p = c.requires in (omega arith, p.0, p.1, p.2, filled-start 12 _ _ _ _)
 
 write-u32-requires-2 : tie.Need-write_u32-requires-in-loop-k invariant-loop decreases-loop
 write-u32-requires-2 c κs =
@@ -61,11 +61,11 @@ loop-again c =
       turn.inv.2,
       turn.inv.3,
       filled_next 12 _ _ place turn.inv.4 (omega arith) refl
-          (after-three turn.out place _ _ _ room owner.write_u32.ensures left.write_u32-in-loop-k.ensures c.before.before.write_u32-in-loop-k-2.ensures),
+          (after-three turn.out place _ _ _ room owner.write_u32.ensures left.write_u32-in-loop-k.ensures c.write_u32-in-loop-k-2.ensures),
     )
 
 same_length : tie.Need-shape_of-out invariant-loop decreases-loop
-same_length c = c.before.loop-k.invariant.4.long
+same_length c = c.loop-k.invariant.4.long
 
 returns : tie.Need-returns invariant-loop decreases-loop
 returns c =

@@ -15,7 +15,7 @@ returns-2 c =
       is = λ l f. absurd (omega (
         arith,
         c.if-n-gt256.true,
-        c.before.size-n.ensures.0,
+        c.size-n.ensures.0,
         ap (λ (x : Header). x.counts.boundaries) header.read_header-h.ensures,
       ));
     }
@@ -26,7 +26,7 @@ returns-3 c =
     let header : tie.After-read_header-h = search in
     record {
       few = omega arith;
-      is = λ l f. c.before.size-n.ensures.0
+      is = λ l f. c.size-n.ensures.0
           ∙ ap (λ (x : Header). x.counts.boundaries) header.read_header-h.ensures;
     }
 

@@ -39,7 +39,7 @@ made c = (left (plan-at c.before)).made (omega (arith, c.if-r-gt0.false))
 counted : (c : tie.After-count_of-n) → c.count_of-n.result ≡ length (decode (given (plan-at c.before.before)).args.job.now).boundaries
 counted c =
     let bytes : tie.After-shared_slice_known-1 = search in
-    let a = bytes.before.args in
+    let a = bytes.args in
     plan-count a.which a.job.now a.list.now (λ i. (bytes.shared_slice_known-1.given i).fits) (made c.before).passed c.count_of-n.ensures
 
 plan-of-requires : tie.Need-plan_of-r-requires

@@ -33,7 +33,7 @@ abbrev placed_of : Valued → Placed
 placed_of c = c.before.before
 
 loop-holds : tie.Need-loop-i-init invariant-loop decreases-loop
-loop-holds c = let p = c.before.requires in (omega arith, p.0, p.1, p.2, p.3, words-start _)
+loop-holds c = let p = c.requires in (omega arith, p.0, p.1, p.2, p.3, words-start _)
 
 element-copy-out-write-u32 : tie.Need-bounds-order-to invariant-loop decreases-loop
 element-copy-out-write-u32 c =
@@ -61,16 +61,16 @@ loop-again c =
       turn.inv.2,
       turn.inv.3,
       turn.inv.4,
-      words-next _ _ turn.inv.2 turn.inv.5 placed.before.before.loop-i-test.true turn.inv.4
+      words-next _ _ turn.inv.2 turn.inv.5 placed.loop-i-test.true turn.inv.4
           placed.size-place.ensures.0 (ap (λ (x : ℕ). get_or start.args.order.now x 0) to)
           written.write_u32.ensures,
     )
 
 same_length : tie.Need-shape_of-out invariant-loop decreases-loop
-same_length c = c.before.loop-i.invariant.5.long
+same_length c = c.loop-i.invariant.5.long
 
 returns : tie.Need-returns invariant-loop decreases-loop
-returns c = words-end (omega arith) c.before.loop-i.invariant.5
+returns c = words-end (omega arith) c.loop-i.invariant.5
 
 pub write_plan_spec : {M : Type 1} → statement M
 write_plan_spec =

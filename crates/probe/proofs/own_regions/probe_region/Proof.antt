@@ -13,7 +13,7 @@ abbrev judged : tie.Else-r-gt0 → tie.After-unready-r
 judged c = c.before.before
 
 returns : tie.Need-returns-then-r-gt0
-returns c = declined c.if-r-gt0.true c.before.before.unready-r.ensures refl
+returns c = declined c.if-r-gt0.true c.unready-r.ensures refl
 
 returns-2 : tie.Need-returns-then-out-lt48
 returns-2 c =
@@ -43,7 +43,7 @@ returns-3 c =
     let wide : tie.Else-out-lt48 = search in
     let went_on = wide.before in
     told (ready-now (judged went_on).unready-r.ensures (omega (arith, went_on.if-r-gt0.false)))
-    (omega (arith, wide.if-out-lt48.false)) refl refl c.before.before.tell_region.ensures
+    (omega (arith, wide.if-out-lt48.false)) refl refl c.tell_region.ensures
 
 pub probe_region_spec : {M : Type 1} → statement M
 probe_region_spec =

@@ -51,12 +51,12 @@ anchor-labels-requires c κs =
     let cells : tie.After-size-n = search in
     let d = (asked cells).pre.0 in
     let n = cells.size-n.ensures.0 in
-    let there = anchors-there d counted.before.size.ensures.0 counted.size-2.ensures.0 n (asked cells).args.labels.now
+    let there = anchors-there d counted.size.ensures.0 counted.size-2.ensures.0 n (asked cells).args.labels.now
     (omega (arith, n, headed-work d, (asked cells).pre.1)) in
     (there.0, omega (arith, there.1))
 
 room : tie.Need-slice_bounds-is_anchored-end
-room c = let read = c.before.before.anchor_labels-found in sym (length-take-le read.result _ read.ensures.fits)
+room c = let read = c.anchor_labels-found in sym (length-take-le read.result _ read.ensures.fits)
 
 write-words-requires : tie.Need-write_words-requires
 write-words-requires c κs =
@@ -75,10 +75,10 @@ returns c =
     let cells = sized read in
     let start = asked cells in
     let given = start.args in
-    c.before.before.write_words.ensures
+    c.write_words.ensures
     ∙ ap (λ (l : List _). splice given.out.now 0 (words l))
-    (region-told start.pre.0 counted.before.size.ensures.0 counted.size-2.ensures.0 cells.size-n.ensures.0 given.labels.now
-    given.region measured.before.before.count_cells-counted.ensures measured.region_stats-s.ensures read.anchor_labels-found.ensures
+    (region-told start.pre.0 counted.size.ensures.0 counted.size-2.ensures.0 cells.size-n.ensures.0 given.labels.now
+    given.region measured.count_cells-counted.ensures measured.region_stats-s.ensures read.anchor_labels-found.ensures
     anchored.is_anchored-anchored.ensures told-ramp.flag.ensures told-anchored.flag-2.ensures)
 
 pub tell_region_spec : {M : Type 1} → statement M

@@ -34,16 +34,16 @@ loop-again c =
       turn.inv.1,
       turn.inv.2,
       filled_next 4 _ _ (4 * turn.i) turn.inv.3 (omega arith) (omega arith)
-          c.before.before.write_u32.ensures,
+          c.write_u32.ensures,
     )
 
 same_length : tie.Need-shape_of-out invariant-loop decreases-loop
-same_length c = c.before.loop-i.invariant.3.long
+same_length c = c.loop-i.invariant.3.long
 
 returns : tie.Need-returns invariant-loop decreases-loop
 returns c =
     let start : tie.Start invariant-loop decreases-loop = search in
-    filled-words start.args.ws.now c.before.loop-i.invariant.3 (omega arith)
+    filled-words start.args.ws.now c.loop-i.invariant.3 (omega arith)
 
 pub write_words_spec : {M : Type 1} → statement M
 write_words_spec =

@@ -23,13 +23,13 @@ rem-bytes c = search rules
 
 -- src/pieces.rt:56:30
 add-bytes : tie.Need-overflow_add-bytes invariant-loop decreases-loop
-add-bytes c = omega (arith, mod-lt c.before.loop-i.i c.before.before.requires.0)
+add-bytes c = omega (arith, mod-lt c.loop-i.i c.requires.0)
 
 -- src/pieces.rt:56:25
 shared-slice-read-bytes : tie.Need-bounds-item-from invariant-loop decreases-loop
 shared-slice-read-bytes c =
     let start = c.before.before.before in
-    omega (arith, mod-lt c.before.before.loop-i.i start.requires.0)
+    omega (arith, mod-lt c.loop-i.i start.requires.0)
 
 -- src/pieces.rt:56:15
 add-bytes-2 : tie.Need-overflow_add-bytes-in-loop-i invariant-loop decreases-loop

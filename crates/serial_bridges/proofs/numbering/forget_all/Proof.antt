@@ -24,7 +24,7 @@ Turn = tie.In-loop-k invariant-loop decreases-loop
 forget-record-requires : tie.Need-forget_record-requires invariant-loop decreases-loop
 forget-record-requires c κs =
     let start : Start = search in
-    (c.before.loop-k-test.true, start.pre.0, omega (arith, start.pre.1, c.before.before.loop-k.invariant.1))
+    (c.loop-k-test.true, start.pre.0, omega (arith, start.pre.1, c.loop-k.invariant.1))
 
 add-k : tie.Need-overflow_add-k invariant-loop decreases-loop
 add-k c =
@@ -40,8 +40,8 @@ loop-less c =
 loop-again : tie.Need-loop-k-preserved invariant-loop decreases-loop
 loop-again c =
     let turning : Turn = search in
-    let inv = turning.before.loop-k.inv in
-    let forgotten = c.before.before.forget_record in (
+    let inv = turning.loop-k.inv in
+    let forgotten = c.forget_record in (
       omega (arith, turning.loop-k-test.true),
       forgotten.auto.1.1.1.1.1.0 ∙ inv.1,
       λ s f. forgotten.ensures s (inv.2 s f),
@@ -50,8 +50,8 @@ loop-again c =
 returns : tie.Need-returns invariant-loop decreases-loop
 returns c =
     let start : Start = search in
-    let inv = c.before.loop-k.invariant in
-    λ s f. subst (Forgotten _ _ _ _ _ s _) (let z : c.before.loop-k.k ≡ start.args.count = omega (arith, inv.0, c.loop-k-test.false) in z) (inv.2 s f)
+    let inv = c.loop-k.invariant in
+    λ s f. subst (Forgotten _ _ _ _ _ s _) (let z : c.loop-k.k ≡ start.args.count = omega (arith, inv.0, c.loop-k-test.false) in z) (inv.2 s f)
 
 pub forget_all_spec : {M : Type 1} → statement M
 forget_all_spec =
@@ -64,5 +64,5 @@ forget_all_spec =
     add-k
     loop-less
     loop-again
-    (λ c. c.before.loop-k.invariant.1)
+    (λ c. c.loop-k.invariant.1)
     returns)

@@ -11,7 +11,7 @@ put-word-requires c κs =
     let start : tie.Start = search in
     let p = start.pre in
     let k = start.args.k in
-    let t = ap (at start.args.lefts.now) c.before.before.size-at.ensures.0 in
+    let t = ap (at start.args.lefts.now) c.size-at.ensures.0 in
     (omega (arith, t, p.1.left-from k p.0), omega (arith, t, p.1.left-to k p.0, p.2))
 
 put-word-requires-2 : tie.Need-put_word-requires-2
@@ -30,7 +30,7 @@ returns c =
     let sized : tie.After-size-at = search in
     let asked : tie.Start = search in
     let p = asked.pre in
-    λ start f. forgotten-at sized.size-at.ensures.0 p.0 p.1 p.2 f cleared.put_word.ensures c.before.before.put_word-2.ensures
+    λ start f. forgotten-at sized.size-at.ensures.0 p.0 p.1 p.2 f cleared.put_word.ensures c.put_word-2.ensures
 
 pub forget_record_spec : {M : Type 1} → statement M
 forget_record_spec =

@@ -31,7 +31,7 @@ number-record-requires : tie.Need-number_record-requires invariant-loop decrease
 number-record-requires c κs =
     let turning : Turn = search in
     let start : Start = search in
-    let inv = turning.before.loop-k.inv in
+    let inv = turning.loop-k.inv in
     (turning.loop-k-test.true, start.pre.0, omega (arith, start.pre.1, inv.3.table.as_long), inv.3.lefts-are, inv.3.rights-are)
 
 add-k : tie.Need-overflow_add-k invariant-loop decreases-loop
@@ -48,8 +48,8 @@ loop-less c =
 loop-again : tie.Need-loop-k-preserved invariant-loop decreases-loop
 loop-again c =
     let turning : Turn = search in
-    let inv = turning.before.loop-k.inv in
-    let numbered = c.before.before.before.before.before.before.number_record in (
+    let inv = turning.loop-k.inv in
+    let numbered = c.number_record in (
       omega (arith, turning.loop-k-test.true),
       omega (arith, numbered.auto, inv.1),
       omega (arith, numbered.auto, inv.2),
@@ -59,8 +59,8 @@ loop-again c =
 returns : tie.Need-returns invariant-loop decreases-loop
 returns c =
     let start : Start = search in
-    let inv = c.before.loop-k.invariant in
-    subst (EndNumbers _ _ _ _ _ _ _ _ _) (let z : c.before.loop-k.k ≡ start.args.count = omega (arith, inv.0, c.loop-k-test.false) in z) inv.3
+    let inv = c.loop-k.invariant in
+    subst (EndNumbers _ _ _ _ _ _ _ _ _) (let z : c.loop-k.k ≡ start.args.count = omega (arith, inv.0, c.loop-k-test.false) in z) inv.3
 
 pub number_all_spec : {M : Type 1} → statement M
 number_all_spec =
@@ -73,7 +73,7 @@ number_all_spec =
     add-k
     loop-less
     loop-again
-    (λ c. c.before.loop-k.invariant.3.table.as_long)
-    (λ c. c.before.loop-k.invariant.1)
-    (λ c. c.before.loop-k.invariant.2)
+    (λ c. c.loop-k.invariant.3.table.as_long)
+    (λ c. c.loop-k.invariant.1)
+    (λ c. c.loop-k.invariant.2)
     returns)

@@ -11,7 +11,7 @@ number-of-requires c κs =
     let start : tie.Start = search in
     let p = start.pre in
     let k = start.args.k in
-    let t = ap (at start.args.lefts.now) c.before.before.size-at.ensures.0 in
+    let t = ap (at start.args.lefts.now) c.size-at.ensures.0 in
     (omega (arith, t, p.1.left-from k p.0), omega (arith, t, p.1.left-to k p.0, p.2), omega (arith, p.1.few, p.0))
 
 number-of-requires-2 : tie.Need-number_of-requires-2
@@ -34,7 +34,7 @@ returns c =
     let asked : tie.Start = search in
     let p = asked.pre in
     let x = numbered.number_of_lem.ensures in
-    let y = c.before.before.number_of-2.ensures in
+    let y = c.number_of-2.ensures in
     λ start n. numbered-at sized.size-at.ensures.0 p.0 p.1 p.2 n x.0 x.1 y.0 y.1
 
 pub number_record_spec : {M : Type 1} → statement M

@@ -51,7 +51,7 @@ loop-less : tie.Need-loop-region-smaller invariant-loop decreases-loop
 loop-less c =
     let turning = c.before.before.before.before.before in
     let start = asked turning.before in
-    less-left (facts start) start.args.n turning.loop-region-test.true turning.before.loop-region.invariant.1 c.next_region-region-in-loop-region.ensures.0
+    less-left (facts start) start.args.n turning.loop-region-test.true turning.loop-region.invariant.1 c.next_region-region-in-loop-region.ensures.0
 
 loop-again : tie.Need-loop-region-preserved invariant-loop decreases-loop
 loop-again c =
@@ -61,13 +61,13 @@ loop-again c =
     let p = (asked at-loop).requires in (
       c.next_region-region-in-loop-region.ensures.0,
       c.next_region-region-in-loop-region.ensures.1,
-      collected-next p.3 p.0 inv.2 inv.0 (omega (arith, turning.loop-region-test.true)) c.before.consider-count.ensures,
+      collected-next p.3 p.0 inv.2 inv.0 (omega (arith, turning.loop-region-test.true)) c.consider-count.ensures,
     )
 
 returns : tie.Need-returns invariant-loop decreases-loop
 returns c =
     let p = (asked c.before).pre in
-    let m = c.before.loop-region in
+    let m = c.loop-region in
     let none : m.region ≡ 0 = omega (arith, c.loop-region-test.false) in
     collected-all p.3 p.0 m.invariant.2 (sym m.invariant.0 ∙ none)
 

@@ -24,7 +24,7 @@ facts start = let a = start.args in
 
 -- the test is whether the region gives a link
 tested : (c : tie.After-gives_link) → c.gives_link.result ≡ found (facts (asked c)) (asked c).args.region
-tested c = gives_found (facts (asked c)) (asked c).args.region c.before.touching_of-t.ensures c.gives_link.ensures
+tested c = gives_found (facts (asked c)) (asked c).args.region c.touching_of-t.ensures c.gives_link.ensures
 
 -- there is room for the link that it gives
 room : (c : tie.After-gives_link) → c.gives_link.result ≡ true → (asked c).args.count < 256
@@ -38,7 +38,7 @@ gives-link-requires c κs =
     (p.0, p.1, two-below a.owners.now a.lefts.now a.rights.now a.region p.3 c.touching_of-t.ensures)
 
 returns : tie.Need-returns-then-gives_link
-returns c = added-one c.before.before.touching_of-t.ensures (sym (tested c.before) ∙ c.if-gives_link.true)
+returns c = added-one c.touching_of-t.ensures (sym (tested c.before) ∙ c.if-gives_link.true)
 
 returns-2 : tie.Need-returns
 returns-2 c = added_none (sym (tested c.before) ∙ c.if-gives_link.false)

@@ -21,18 +21,18 @@ loop-holds c = (omega arith, length-replicate {A = ℕ} 256 0, record { marks-ar
 loop-again : tie.Need-loop-i-preserved invariant-loop decreases-loop
 loop-again c =
     let start = c.before.before.before.before in
-    let m = c.before.before.loop-i in (
-      omega (arith, c.before.loop-i-test.true),
+    let m = c.loop-i in (
+      omega (arith, c.loop-i-test.true),
       length-set m.linkables m.i c.mark.result ∙ m.invariant.1,
-      marked_next _ m.linkables m.i c.mark.result (omega (arith, m.invariant.1, c.before.loop-i-test.true, start.requires)) m.invariant.2
+      marked_next _ m.linkables m.i c.mark.result (omega (arith, m.invariant.1, c.loop-i-test.true, start.requires)) m.invariant.2
           c.mark.ensures,
     )
 
 returns : tie.Need-returns invariant-loop decreases-loop
 returns c =
     let start = c.before.before.before in
-    let inv = c.before.loop-i.invariant in
-    marked-end {k = c.before.loop-i.i} {n = start.args.n} (omega (arith, inv.0, c.loop-i-test.false)) inv.2
+    let inv = c.loop-i.invariant in
+    marked-end {k = c.loop-i.i} {n = start.args.n} (omega (arith, inv.0, c.loop-i-test.false)) inv.2
 
 pub find_linkables_spec : {M : Type 1} → statement M
 find_linkables_spec =

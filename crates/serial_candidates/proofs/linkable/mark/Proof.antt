@@ -10,7 +10,7 @@ returns c =
     let after-coincides = c.before.before.before.before.before.before in
     let after-span-at = after-coincides.before in
     let e = c.if-distinct-plain.true in
-    let k = can-link _ _ _ _ _ _ after-span-at.span_at-s.ensures after-coincides.coincides-distinct.ensures c.before.has_full_pair-full.ensures in
+    let k = can-link _ _ _ _ _ _ after-span-at.span_at-s.ensures after-coincides.coincides-distinct.ensures c.has_full_pair-full.ensures in
     ap (λ (t : Bool). cond t 1 0) (sym e ∙ k)
 
 returns-2 : tie.Need-returns-else-distinct-plain
@@ -18,7 +18,7 @@ returns-2 c =
     let after-coincides = c.before.before.before.before.before.before in
     let after-span-at = after-coincides.before in
     let e = c.if-distinct-plain.false in let k =
-    can-link _ _ _ _ _ _ after-span-at.span_at-s.ensures after-coincides.coincides-distinct.ensures c.before.has_full_pair-full.ensures in
+    can-link _ _ _ _ _ _ after-span-at.span_at-s.ensures after-coincides.coincides-distinct.ensures c.has_full_pair-full.ensures in
     ap (λ (t : Bool). cond t 1 0) (sym e ∙ k)
 
 pub mark_spec : {M : Type 1} → statement M

@@ -46,8 +46,8 @@ loop-again c =
 returns : tie.Need-returns invariant-loop decreases-loop
 returns c =
     let start = start_of c.before.before.before.before.before in
-    let inv = c.before.loop-k.invariant in
-    firsts-end {k = c.before.loop-k.k} {n = start.args.records} (omega (arith, inv.0, c.loop-k-test.false)) inv.1
+    let inv = c.loop-k.invariant in
+    firsts-end {k = c.loop-k.k} {n = start.args.records} (omega (arith, inv.0, c.loop-k-test.false)) inv.1
 
 pub first_pairs_spec : {M : Type 1} → statement M
 first_pairs_spec =

@@ -25,8 +25,8 @@ loop-again c =
 
 returns : tie.Need-returns invariant-loop decreases-loop
 returns c =
-    let inv = c.before.loop-i.invariant in
-    (region-end _ _ _ _ {k = c.before.loop-i.i} {n = c.before.before.args.n} (omega (arith, inv.0, c.loop-i-test.false)) inv.1, inv.2)
+    let inv = c.loop-i.invariant in
+    (region-end _ _ _ _ {k = c.loop-i.i} {n = c.args.n} (omega (arith, inv.0, c.loop-i-test.false)) inv.1, inv.2)
 
 pub next_region_spec : {M : Type 1} → statement M
 next_region_spec =

@@ -42,8 +42,8 @@ loop-again c =
 returns : tie.Need-returns invariant-loop decreases-loop
 returns c =
     let start = start_of c.before.before in
-    let inv = c.before.loop-k.invariant in
-    touch-end (record_in start.args.owners.now start.args.lefts.now start.args.rights.now) _ {k = c.before.loop-k.k} {n = start.args.records}
+    let inv = c.loop-k.invariant in
+    touch-end (record_in start.args.owners.now start.args.lefts.now start.args.rights.now) _ {k = c.loop-k.k} {n = start.args.records}
     (omega (arith, inv.0, c.loop-k-test.false)) inv.1
 
 pub touching_of_spec : {M : Type 1} → statement M

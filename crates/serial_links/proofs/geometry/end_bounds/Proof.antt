@@ -10,8 +10,8 @@ returns c =
     let after-canonical = after-canonical2.before in
     simp (
       c.with_ends-2.ensures,
-      c.before.with_ends.ensures,
-      c.before.before.none.ensures,
+      c.with_ends.ensures,
+      c.none.ensures,
       after-canonical2.canonical-t.ensures,
       after-canonical.canonical-s.ensures,
     )

@@ -8,8 +8,8 @@ returns c =
     let after-centre-distance = after-centre-of.before in
     simp (
       c.scaled.ensures,
-      c.before.towards.ensures,
-      c.before.before.centre_of-2.ensures,
+      c.towards.ensures,
+      c.centre_of-2.ensures,
       after-centre-of.centre_of.ensures,
       after-centre-distance.centre_distance-length.ensures,
     )

@@ -12,4 +12,4 @@ point_distance_spec =
     (λ c. search rules)
     (λ c κs. search rules)
     (λ c κs. search rules)
-    (λ c. simp (c.length_of.ensures, c.before.squares.ensures.0)))
+    (λ c. simp (c.length_of.ensures, c.squares.ensures.0)))

@@ -4,7 +4,7 @@ use Rattle.serial_links.proofs.geometry.span_direction.Statement.{statement}
 use Rattle.serial_links.proofs.geometry.span_direction.Tie as tie
 
 point-distance-requires : tie.Need-point_distance-length-requires
-point-distance-requires c κs = let h = bounded-as c.canonical-t.ensures (canonical-bounded c.before.requires) in (h.first, h.second)
+point-distance-requires c κs = let h = bounded-as c.canonical-t.ensures (canonical-bounded c.requires) in (h.first, h.second)
 
 returns : tie.Need-returns
 returns c =
@@ -13,8 +13,8 @@ returns c =
     let after-canonical = after-point-distance.before in
     simp (
       c.scaled.ensures,
-      c.before.towards.ensures,
-      c.before.before.point_of-2.ensures,
+      c.towards.ensures,
+      c.point_of-2.ensures,
       after-point-of.point_of.ensures,
       after-point-distance.point_distance-length.ensures,
       after-canonical.canonical-t.ensures,

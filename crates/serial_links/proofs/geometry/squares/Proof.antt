@@ -8,7 +8,7 @@ returns : tie.Need-returns
 unfolding squares
 returns c =
     let across = c.before.before.before in
-    (simp (across.apart.ensures.0, c.before.before.square.ensures.0, c.before.apart-2.ensures.0, c.square-2.ensures.0), omega arith)
+    (simp (across.apart.ensures.0, c.square.ensures.0, c.apart-2.ensures.0, c.square-2.ensures.0), omega arith)
 
 pub squares_spec : {M : Type 1} → statement M
 squares_spec =

@@ -4,7 +4,7 @@ use Rattle.serial_links.proofs.link.inside_on.Tie as tie
 
 returns : tie.Need-returns
 returns c =
-    simp (c.before.before.before.dot-projection.ensures, c.before.before.reach-radius.ensures)
+    simp (c.dot-projection.ensures, c.reach-radius.ensures)
 
 pub inside_on_spec : {M : Type 1} → statement M
 inside_on_spec = tie.close (tie.spec (λ c κs. search rules) (λ c κs. search rules) returns)

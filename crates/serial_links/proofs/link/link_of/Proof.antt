@@ -17,8 +17,8 @@ returns c =
     let after-centre-of = after-link-direction.before in
     simp (
       c.min.ensures,
-      c.before.width_of-2.ensures,
-      c.before.before.width_of_lem.ensures,
+      c.width_of-2.ensures,
+      c.width_of_lem.ensures,
       after-centre-distance.centre_distance.ensures,
       after_none.none-none.ensures,
       after-end-bounds2.end_bounds-across.ensures,

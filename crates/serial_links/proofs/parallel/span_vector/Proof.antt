@@ -3,7 +3,7 @@ use Rattle.serial_links.proofs.parallel.span_vector.Statement.{statement}
 use Rattle.serial_links.proofs.parallel.span_vector.Tie as tie
 
 returns : tie.Need-returns
-returns c = simp (c.towards.ensures, c.before.point_of-2.ensures, c.before.before.point_of.ensures)
+returns c = simp (c.towards.ensures, c.point_of-2.ensures, c.point_of.ensures)
 
 pub span_vector_spec : {M : Type 1} → statement M
 span_vector_spec =

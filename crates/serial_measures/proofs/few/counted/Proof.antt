@@ -8,15 +8,15 @@ use Rattle.serial_measures.proofs.few.counted.Tie as tie
 
 returns : tie.Need-returns-then-not-inside
 returns c =
-    let a = c.before.args in
+    let a = c.args in
     left_out a.inside (link_with_cell (limits_of a.limits) a.link (a.i % a.width) (a.i / a.width)) c.if-not-inside.true
 
 returns-2 : tie.Need-returns
 returns-2 c =
     let inside = c.before.before.before in
-    let a = inside.before.args in
+    let a = inside.args in
     put_in a.inside (link_with_cell (limits_of a.limits) a.link) a.link (a.i % a.width) (a.i / a.width) inside.if-not-inside.false c.at.ensures
-    c.before.before.column_of.ensures.0 c.before.row_of.ensures.0
+    c.column_of.ensures.0 c.row_of.ensures.0
 
 pub counted_spec : {M : Type 1} → statement M
 counted_spec =

@@ -30,7 +30,7 @@ abbrev asked : tie.At-loop-k invariant-loop decreases-loop → tie.Start invaria
 asked c = c.before.before.before.before.before.before
 
 -- the turn's link is one of the list, and of the arrays
-within : (c : Turn) → (c.before.loop-k.k < (asked c.before).args.links) × (c.before.loop-k.k < 256)
+within : (c : Turn) → (c.loop-k.k < (asked c.before).args.links) × (c.loop-k.k < 256)
 within c = (c.loop-k-test.true, omega (arith, c.loop-k-test.true, (asked c.before).pre.4))
 
 -- the labels of all cells are there
@@ -41,7 +41,7 @@ labels-there s = let p = s.requires in (p.0.columns, area p.0.wide p.0.high p.1,
 link-at-requires : tie.Need-link_at-start-requires invariant-loop decreases-loop
 link-at-requires c κs =
     let turning : Turn = search in
-    let k = turning.before.loop-k.k in
+    let k = turning.loop-k.k in
     let p = (asked turning.before).pre in
     (p.2, p.3.first k turning.loop-k-test.true, p.3.second k turning.loop-k-test.true)
 
@@ -50,18 +50,18 @@ loop-again c =
     let measured : tie.After-measure_one-link invariant-loop decreases-loop = search in
     let turning : Turn = search in
     let a = (asked turning.before).args in
-    let l = turning.before.loop-k in (
+    let l = turning.loop-k in (
       omega (arith, turning.loop-k-test.true),
       judge-one (labels-many a.work.now (length a.cells.now)) (within turning).1 l.inv.1
           (measured.measure_one-link.ensures (value_in a.own.now a.bits.now (at a.firsts.now l.k) (at a.seconds.now l.k))
-          measured.before.link_at-start.ensures)
-          (c.before.before.before.region_stats-stats.ensures a.height) c.before.before.passing_mark.ensures c.before.flat_mark.ensures
+          measured.link_at-start.ensures)
+          (c.region_stats-stats.ensures a.height) c.passing_mark.ensures c.flat_mark.ensures
           c.inside_mark.ensures,
     )
 
 returns : tie.Need-returns invariant-loop decreases-loop
 returns c =
-    let l = c.before.loop-k in
+    let l = c.loop-k in
     let all : l.k ≡ (asked c.before).args.links = omega (arith, l.invariant.0, c.loop-k-test.false) in
     judge-end all l.invariant.1
 

@@ -22,12 +22,12 @@ loop-again c =
     let a = start.args in
     let l = in-loop.loop-i in (
       omega (arith, turning.loop-i-test.true),
-      one-next _ _ a.labels.now a.n a.region l.invariant.1 turning.loop-i-test.true c.before.read_u32-label.ensures c.counted-link.ensures,
+      one-next _ _ a.labels.now a.n a.region l.invariant.1 turning.loop-i-test.true c.read_u32-label.ensures c.counted-link.ensures,
     )
 
 returns : tie.Need-returns invariant-loop decreases-loop
 returns c =
-    let l = c.before.loop-i in
+    let l = c.loop-i in
     one_end _ _ _ _ (omega (arith, l.invariant.0, c.loop-i-test.false)) l.invariant.1
 
 pub measure_one_spec : {M : Type 1} → statement M

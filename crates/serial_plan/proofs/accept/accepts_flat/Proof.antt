@@ -10,16 +10,16 @@ group-is-simple-path-requires c κs = (c.requires.0, c.requires.1, λ j. (c.requ
 
 returns : tie.Need-returns-then-not-path
 returns c =
-    let a = c.before.before.args in
+    let a = c.args in
     flat-no (limits_of a.limits) a.own.now a.lowers.now a.highers.now a.regions.now a.firsts.now a.seconds.now
-    (few_list a.ranks) (few_list a.links) c.before.group_is_simple_path-path.ensures c.if-not-path.true
+    (few_list a.ranks) (few_list a.links) c.group_is_simple_path-path.ensures c.if-not-path.true
 
 returns-2 : tie.Need-returns
 returns-2 c =
     let path = c.before.before in
-    let a = path.before.args in
+    let a = path.args in
     flat-yes (limits_of a.limits) a.own.now a.lowers.now a.highers.now a.regions.now a.firsts.now a.seconds.now
-    (few_list a.ranks) (few_list a.links) path.group_is_simple_path-path.ensures c.before.if-not-path.false c.all_Alike.ensures
+    (few_list a.ranks) (few_list a.links) path.group_is_simple_path-path.ensures c.if-not-path.false c.all_Alike.ensures
 
 pub accepts_flat_spec : {M : Type 1} → statement M
 accepts_flat_spec = tie.close (tie.spec group-is-simple-path-requires returns (λ c κs. search rules) returns-2)

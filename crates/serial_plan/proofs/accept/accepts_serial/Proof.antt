@@ -32,7 +32,7 @@ returns : tie.Need-returns-then-not-pass-path
 returns c =
     let a = (asked c.before).args in
     serial-no (limits_of a.limits) a.own.now a.lowers.now a.highers.now a.regions.now a.firsts.now a.seconds.now a.passing.now
-    (few_list a.ranks) (few_list a.links) c.before.before.all_on-pass.ensures c.before.group_is_simple_path-path.ensures c.if-not-pass-path.true
+    (few_list a.ranks) (few_list a.links) c.all_on-pass.ensures c.group_is_simple_path-path.ensures c.if-not-pass-path.true
 
 chain-sum-requires : tie.Need-chain_sum-sum-requires
 chain-sum-requires c κs =
@@ -41,8 +41,8 @@ chain-sum-requires c κs =
     let a = start.args in
     let l = limits_of a.limits in
     let so =
-    serial-path l a.own.now a.lowers.now a.highers.now a.regions.now a.firsts.now a.seconds.now path.before.all_on-pass.result
-    (few_list a.ranks) (few_list a.links) path.group_is_simple_path-path.ensures c.before.if-not-pass-path.false
+    serial-path l a.own.now a.lowers.now a.highers.now a.regions.now a.firsts.now a.seconds.now path.all_on-pass.result
+    (few_list a.ranks) (few_list a.links) path.group_is_simple_path-path.ensures c.if-not-pass-path.false
     in
     let s =
     path-sizes a.lowers.now a.highers.now a.regions.now a.firsts.now a.seconds.now l.least_spans l.most_spans (few_list a.ranks)
@@ -54,7 +54,7 @@ rank-distance-requires : tie.Need-rank_distance-far-requires
 rank-distance-requires c κs =
     let two = c.before.before.before in
     let own = (asked (path-of two)).args.own.now in
-    (subst (RankFits own) (sym c.before.index.ensures.0) (ends-fit two 0), subst (RankFits own) (sym c.index-2.ensures.0) (ends-fit two 1))
+    (subst (RankFits own) (sym c.index.ensures.0) (ends-fit two 0), subst (RankFits own) (sym c.index-2.ensures.0) (ends-fit two 1))
 
 returns-2 : tie.Need-returns
 returns-2 c =
@@ -65,9 +65,9 @@ returns-2 c =
     let path = path-of two in
     let a = (asked path).args in
     serial-yes (limits_of a.limits) a.own.now a.lowers.now a.highers.now a.regions.now a.firsts.now a.seconds.now a.passing.now
-    (few_list a.ranks) (few_list a.links) path.before.all_on-pass.ensures path.group_is_simple_path-path.ensures two.before.if-not-pass-path.false c.short.ensures
+    (few_list a.ranks) (few_list a.links) path.all_on-pass.ensures path.group_is_simple_path-path.ensures two.if-not-pass-path.false c.short.ensures
     sum.chain_sum-sum.ensures
-    (c.before.rank_distance-far.ensures
+    (c.rank_distance-far.ensures
     ∙ both (λ (i j : ℕ). centre_length (span_in a.own.now i) (span_in a.own.now j))
     (first.index.ensures.0 ∙ held_first _ two.group_end_nodes-two.ensures) (second.index-2.ensures.0 ∙ held-second _ two.group_end_nodes-two.ensures))
 
@@ -76,7 +76,7 @@ accepts_serial_spec =
     tie.close
     (tie.spec
     (λ c κs. λ j. (c.requires.4 j).below)
-    (λ c κs. let p = c.before.requires in (p.1, p.2, λ j. (p.3 j).below, λ j. (p.4 j).below))
+    (λ c κs. let p = c.requires in (p.1, p.2, λ j. (p.3 j).below, λ j. (p.4 j).below))
     returns
     (λ c κs. let p = (asked c.before).requires in (p.1, p.2, λ j. (p.4 j).below))
     chain-sum-requires

@@ -9,12 +9,12 @@ use Rattle.serial_plan.proofs.alike.alike.Tie as tie
 nearby-parallel-requires : tie.Need-nearby_parallel-requires
 nearby-parallel-requires c κs =
     let start = c.before.before in
-    (span_fits start.requires.0 refl c.before.span_at-first.ensures, span_fits start.requires.1 refl c.span_at-second.ensures)
+    (span_fits start.requires.0 refl c.span_at-first.ensures, span_fits start.requires.1 refl c.span_at-second.ensures)
 
 returns : tie.Need-returns
 returns c =
     let start = c.before.before.before in
-    c.nearby_parallel.ensures ∙ both (nearby_parallel (limits_of start.args.limits)) c.before.before.span_at-first.ensures c.before.span_at-second.ensures
+    c.nearby_parallel.ensures ∙ both (nearby_parallel (limits_of start.args.limits)) c.span_at-first.ensures c.span_at-second.ensures
 
 pub alike_spec : {M : Type 1} → statement M
 alike_spec =

@@ -41,13 +41,13 @@ loop-again c =
     let i = start.args.i in (
       omega (arith, at-loop.loop-j.invariant.0),
       each_next (alike_in (limits_of limits) own i) (few_at ranks) ranks.count c.alike-all.result at-loop.loop-j.invariant.1 turning.loop-j-test.true
-          at-loop.loop-j.invariant.0 (c.alike-all.ensures ∙ ap (alike_in (limits_of limits) own i) c.before.index.ensures.0) refl,
+          at-loop.loop-j.invariant.0 (c.alike-all.ensures ∙ ap (alike_in (limits_of limits) own i) c.index.ensures.0) refl,
     )
 
 returns : tie.Need-returns invariant-loop decreases-loop
 returns c =
     let start = c.before.before in
-    each-listed (alike_in (limits_of start.args.limits) start.args.own.now start.args.i) start.args.ranks c.before.loop-j.invariant.1
+    each-listed (alike_in (limits_of start.args.limits) start.args.own.now start.args.i) start.args.ranks c.loop-j.invariant.1
     (omega (arith, c.loop-j-test.false))
 
 pub alike_to_all_spec : {M : Type 1} → statement M
@@ -58,7 +58,7 @@ alike_to_all_spec =
     decreases-loop
     loop-holds
     (λ c. search rules)
-    (λ c κs. (c.before.before.requires.1 (c.before.loop-j.j - 1)).below)
+    (λ c κs. (c.requires.1 (c.loop-j.j - 1)).below)
     alike-requires
     (λ c. search rules)
     loop-again

@@ -42,13 +42,13 @@ loop-again c =
       omega (arith, at-loop.loop-j.invariant.0),
       each_next (λ i. every (alike_in (limits_of limits) own i) (few_list ranks)) (few_at ranks) ranks.count c.alike_to_all-all.result at-loop.loop-j.invariant.1
           turning.loop-j-test.true at-loop.loop-j.invariant.0
-          (c.alike_to_all-all.ensures ∙ ap (λ i. every (alike_in (limits_of limits) own i) (few_list ranks)) c.before.index.ensures.0) refl,
+          (c.alike_to_all-all.ensures ∙ ap (λ i. every (alike_in (limits_of limits) own i) (few_list ranks)) c.index.ensures.0) refl,
     )
 
 returns : tie.Need-returns invariant-loop decreases-loop
 returns c =
     let start = c.before.before in
-    all-alike-whole (limits_of start.args.limits) start.args.own.now start.args.ranks c.before.loop-j.invariant.1
+    all-alike-whole (limits_of start.args.limits) start.args.own.now start.args.ranks c.loop-j.invariant.1
     (omega (arith, c.loop-j-test.false))
 
 pub all_alike_spec : {M : Type 1} → statement M
@@ -59,7 +59,7 @@ all_alike_spec =
     decreases-loop
     loop-holds
     (λ c. search rules)
-    (λ c κs. (c.before.before.requires (c.before.loop-j.j - 1)).below)
+    (λ c κs. (c.requires (c.loop-j.j - 1)).below)
     alike-to-all-requires
     (λ c. search rules)
     loop-again

@@ -15,7 +15,7 @@ ascending-sum-requires c κs =
 returns : tie.Need-returns
 returns c =
     let held : tie.After-gaps_of-gaps = search in
-    let a = held.before.args in
+    let a = held.args in
     chain-added a.firsts.now a.seconds.now a.own.now a.links held.gaps_of-gaps.ensures c.ascending_sum.ensures
 
 pub chain_sum_spec : {M : Type 1} → statement M

@@ -13,7 +13,7 @@ rank-distance-requires : tie.Need-rank_distance-requires
 rank-distance-requires c κs =
     let start = c.before.before.before.before in
     let own = start.args.own.now in (
-      subst (RankFits own) (sym c.before.before.size.ensures.0) start.requires.first,
+      subst (RankFits own) (sym c.size.ensures.0) start.requires.first,
       subst (RankFits own) (sym c.size-2.ensures.0) start.requires.second,
     )
 
@@ -22,7 +22,7 @@ returns c =
     let after-size = c.before.before.before in
     let start = after-size.before.before in
     let own = start.args.own.now in
-    c.rank_distance.ensures ∙ both (λ (i j : ℕ). centre_length (span_in own i) (span_in own j)) after-size.size.ensures.0 c.before.size-2.ensures.0
+    c.rank_distance.ensures ∙ both (λ (i j : ℕ). centre_length (span_in own i) (span_in own j)) after-size.size.ensures.0 c.size-2.ensures.0
 
 pub gap_spec : {M : Type 1} → statement M
 gap_spec =

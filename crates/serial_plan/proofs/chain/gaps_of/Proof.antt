@@ -28,7 +28,7 @@ asked turn = turn.before.before
 
 loop-holds : tie.Need-loop-j-init invariant-loop decreases-loop
 loop-holds c =
-    let start = c.before.args in
+    let start = c.args in
     (omega arith, parts-start (gap_at start.firsts.now start.seconds.now start.own.now start.links) c.none-gaps.ensures)
 
 index-requires : tie.Need-index-k-requires invariant-loop decreases-loop
@@ -49,16 +49,16 @@ with-requires c κs =
     let start = asked turn in
     let a = start.args in
     let count = parts-count (gap_at a.firsts.now a.seconds.now a.own.now a.links) turn.loop-j.inv.1 in
-    (omega (arith, count, c.before.before.loop-j-test.true, start.pre.0), gap-value a.firsts.now a.seconds.now a.own.now _ c.gap.ensures)
+    (omega (arith, count, c.loop-j-test.true, start.pre.0), gap-value a.firsts.now a.seconds.now a.own.now _ c.gap.ensures)
 
 loop-again : tie.Need-loop-j-preserved invariant-loop decreases-loop
 loop-again c =
     let gap = c.before in
     let turn : Turn = search in
     let a = (asked turn).args in (
-      omega (arith, gap.before.before.loop-j-test.true),
+      omega (arith, gap.loop-j-test.true),
       parts_next (gap_at a.firsts.now a.seconds.now a.own.now a.links) turn.loop-j.inv.1
-          (gap.gap.ensures ∙ ap (gap_length_in a.firsts.now a.seconds.now a.own.now) gap.before.index-k.ensures.0)
+          (gap.gap.ensures ∙ ap (gap_length_in a.firsts.now a.seconds.now a.own.now) gap.index-k.ensures.0)
           c.with-gaps.ensures,
     )
 

@@ -8,10 +8,10 @@ use Rattle.serial_plan.proofs.chain.rank_distance.Tie as tie
 centre-distance-requires : tie.Need-centre_distance-requires
 centre-distance-requires c κs =
     let start = c.before.before in
-    (span_fits start.requires.0 refl c.before.span_at.ensures, span_fits start.requires.1 refl c.span_at-2.ensures)
+    (span_fits start.requires.0 refl c.span_at.ensures, span_fits start.requires.1 refl c.span_at-2.ensures)
 
 returns : tie.Need-returns
-returns c = c.centre_distance.ensures ∙ both centre_length c.before.before.span_at.ensures c.before.span_at-2.ensures
+returns c = c.centre_distance.ensures ∙ both centre_length c.span_at.ensures c.span_at-2.ensures
 
 pub rank_distance_spec : {M : Type 1} → statement M
 rank_distance_spec =

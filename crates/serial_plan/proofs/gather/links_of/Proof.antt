@@ -19,7 +19,7 @@ decreases-loop links chosen firsts seconds parts c found₀ k₀ found k = k
 number-requires : tie.Need-number-requires invariant-loop decreases-loop
 number-requires c κs =
     let start = c.before.before.before in
-    omega (arith, c.before.loop-k.invariant.0, c.loop-k-test.true, start.requires.few)
+    omega (arith, c.loop-k.invariant.0, c.loop-k-test.true, start.requires.few)
 
 part-at-requires : tie.Need-part_at-requires invariant-loop decreases-loop
 part-at-requires c κs =
@@ -31,23 +31,23 @@ part-at-requires c κs =
 with-requires : tie.Need-with-found-requires invariant-loop decreases-loop
 with-requires c κs =
     let at-loop = c.before.before.before.before.before.before in
-    picked-room at-loop.loop-k.invariant.1 at-loop.before.before.requires.few
+    picked-room at-loop.loop-k.invariant.1 at-loop.requires.few
 
 loop-again : tie.Need-loop-k-preserved invariant-loop decreases-loop
 loop-again c =
     let part = c.before.before in
     let number = part.before.before.before in
     let turning = number.before in
-    let l = turning.before.loop-k in
-    let a = turning.before.before.before.args in (
+    let l = turning.loop-k in
+    let a = turning.args in (
       omega (arith, l.invariant.0),
       picked_next l.invariant.1 turning.loop-k-test.true l.invariant.0 c.with-found.ensures
-          (c.before.in_part.ensures ∙ ap (λ (x : ℕ). eqb (get_or a.chosen.now (l.k - 1) 0) 1 && eqb x a.c) part.part_at.ensures)
+          (c.in_part.ensures ∙ ap (λ (x : ℕ). eqb (get_or a.chosen.now (l.k - 1) 0) 1 && eqb x a.c) part.part_at.ensures)
           number.number.ensures,
     )
 
 returns : tie.Need-returns invariant-loop decreases-loop
-returns c = picked-whole c.before.loop-k.invariant.1 (omega (arith, c.loop-k-test.false))
+returns c = picked-whole c.loop-k.invariant.1 (omega (arith, c.loop-k-test.false))
 
 pub links_of_spec : {M : Type 1} → statement M
 links_of_spec =

@@ -15,19 +15,19 @@ decreases-loop n joined parts c found₀ i₀ found i = i
 with-requires : tie.Need-with-found-requires invariant-loop decreases-loop
 with-requires c κs =
     let at-loop = c.before.before.before.before.before in
-    picked-room at-loop.loop-i.invariant.1 at-loop.before.before.requires
+    picked-room at-loop.loop-i.invariant.1 at-loop.requires
 
 loop-again : tie.Need-loop-i-preserved invariant-loop decreases-loop
 loop-again c =
     let number = c.before.before.before.before in
     let turning = number.before in
-    let inv = turning.before.loop-i.invariant in (
+    let inv = turning.loop-i.invariant in (
       omega (arith, inv.0),
-      picked_next inv.1 turning.loop-i-test.true inv.0 c.with-found.ensures c.before.in_part.ensures number.number.ensures,
+      picked_next inv.1 turning.loop-i-test.true inv.0 c.with-found.ensures c.in_part.ensures number.number.ensures,
     )
 
 returns : tie.Need-returns invariant-loop decreases-loop
-returns c = picked-whole c.before.loop-i.invariant.1 (omega (arith, c.loop-i-test.false))
+returns c = picked-whole c.loop-i.invariant.1 (omega (arith, c.loop-i-test.false))
 
 pub ranks_of_spec : {M : Type 1} → statement M
 ranks_of_spec =

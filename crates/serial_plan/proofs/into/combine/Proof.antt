@@ -41,4 +41,4 @@ combine_spec =
     (λ c. search rules)
     (λ c. search rules)
     loop-again
-    (λ c. filled-upto c.before.loop-i.invariant.1 c.loop-i-test.false))
+    (λ c. filled-upto c.loop-i.invariant.1 c.loop-i-test.false))

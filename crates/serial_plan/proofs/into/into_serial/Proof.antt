@@ -19,7 +19,7 @@ one-serial-requires : tie.Need-one_serial-requires invariant-loop decreases-loop
 one-serial-requires c κs =
     let at-loop = c.before.before in
     let start = at-loop.before in
-    (start.requires.0, start.requires.1, omega (arith, c.before.loop-i-test.true, start.requires.1.fit.few), at-loop.loop-i.invariant.1)
+    (start.requires.0, start.requires.1, omega (arith, c.loop-i-test.true, start.requires.1.fit.few), at-loop.loop-i.invariant.1)
 
 element-write-into : tie.Need-bounds-into-i invariant-loop decreases-loop
 element-write-into c =
@@ -51,4 +51,4 @@ into_serial_spec =
     (λ c. search rules)
     (λ c. search rules)
     loop-again
-    (λ c. filled-upto c.before.loop-i.invariant.1 c.loop-i-test.false))
+    (λ c. filled-upto c.loop-i.invariant.1 c.loop-i-test.false))

@@ -30,21 +30,21 @@ abbrev asked : tie.After-links_of-found → tie.Start
 asked c = c.before.before
 
 -- the ranks and links held of the part are judged as the part
-judged : (c : tie.After-links_of-found) → Whole (test (asked c)) (ranks (asked c)) (numbers (asked c)) c.before.ranks_of-ranks.result c.links_of-found.result
+judged : (c : tie.After-links_of-found) → Whole (test (asked c)) (ranks (asked c)) (numbers (asked c)) c.ranks_of-ranks.result c.links_of-found.result
 judged c =
     let s = asked c in
     let a = s.args in
     let small : (rs js : List ℕ) → test s rs js ≡ true → Sized rs js =
     flat-small (limits_of a.limits) a.own.now a.lowers.now a.highers.now a.regions.now a.firsts.now a.seconds.now s.pre.0 in
-    whole small (ranks s) (numbers s) c.before.ranks_of-ranks.ensures c.links_of-found.ensures
+    whole small (ranks s) (numbers s) c.ranks_of-ranks.ensures c.links_of-found.ensures
 
 held-part : (c : tie.After-links_of-found) →
-    Kept (asked c).args.own.now (asked c).args.bits.now (asked c).args.firsts.now (asked c).args.seconds.now c.before.ranks_of-ranks.result
+    Kept (asked c).args.own.now (asked c).args.bits.now (asked c).args.firsts.now (asked c).args.seconds.now c.ranks_of-ranks.result
     c.links_of-found.result
 held-part c =
     let a = (asked c).args in
     kept (asked c).requires.1 (in_part a.joined.now a.parts.now a.c) (link_in_part a.chosen.now a.firsts.now a.parts.now a.c)
-    c.before.ranks_of-ranks.ensures c.links_of-found.ensures
+    c.ranks_of-ranks.ensures c.links_of-found.ensures
 
 accepts-flat-requires : tie.Need-accepts_flat-requires
 accepts-flat-requires c κs =
@@ -54,20 +54,20 @@ accepts-flat-requires c κs =
 returns : tie.Need-returns-then-not-accepts_flat
 returns c =
     let links = c.before.before in
-    (judged-no (judged links) c.before.accepts_flat.ensures (retained (asked links)) c.if-not-accepts_flat.true, omega arith)
+    (judged-no (judged links) c.accepts_flat.ensures (retained (asked links)) c.if-not-accepts_flat.true, omega arith)
 
 representative-requires : tie.Need-representative-requires
 representative-requires c κs =
     let links = c.before.before in
     let k = held-part links in
-    let s = judged-sizes (judged links) c.before.accepts_flat.ensures c.if-not-accepts_flat.false in
+    let s = judged-sizes (judged links) c.accepts_flat.ensures c.if-not-accepts_flat.false in
     (s.0, s.1, k.ranks, k.widths, k.zero)
 
 returns-2 : tie.Need-returns
 returns-2 c =
     let accepted = c.before.before in
     let links = accepted.before in (
-      judged-yes (judged links) accepted.accepts_flat.ensures (retained (asked links)) c.before.if-not-accepts_flat.false c.representative.ensures.0,
+      judged-yes (judged links) accepted.accepts_flat.ensures (retained (asked links)) c.if-not-accepts_flat.false c.representative.ensures.0,
       omega (arith, c.representative.ensures.1),
     )
 
@@ -76,7 +76,7 @@ judge_flat_spec =
     tie.close
     (tie.spec
     (λ c κs. c.requires.1.fit.few)
-    (λ c κs. wider-ranked c.before.requires.1)
+    (λ c κs. wider-ranked c.requires.1)
     accepts-flat-requires
     returns
     representative-requires

@@ -5,7 +5,7 @@ use Rattle.serial_plan.proofs.merge.flat_plan.Statement.{statement}
 use Rattle.serial_plan.proofs.merge.flat_plan.Tie as tie
 
 select-flat-requires : tie.Need-select_flat-requires
-select-flat-requires c κs = (refl, c.before.requires.1.fit.ranked.few, link_fits c.before.requires.1)
+select-flat-requires c κs = (refl, c.requires.1.fit.ranked.few, link_fits c.requires.1)
 
 join-chosen-requires : tie.Need-join_chosen-requires
 join-chosen-requires c κs =

@@ -11,4 +11,4 @@ join-chosen-requires c κs =
 
 pub serial_plan_spec : {M : Type 1} → statement M
 serial_plan_spec =
-    tie.close (tie.spec (λ c κs. (refl, wider-ranked c.before.requires.1)) join-chosen-requires (λ c κs. search rules) (λ c. search rules))
+    tie.close (tie.spec (λ c κs. (refl, wider-ranked c.requires.1)) join-chosen-requires (λ c κs. search rules) (λ c. search rules))

@@ -42,7 +42,7 @@ loop-again c =
 returns : tie.Need-returns invariant-loop decreases-loop
 returns c =
     let start = c.before.before.before.before in
-    parts-end start.args.chosen.now start.args.firsts.now start.args.seconds.now start.args.links c.before.loop-k.invariant.1
+    parts-end start.args.chosen.now start.args.firsts.now start.args.seconds.now start.args.links c.loop-k.invariant.1
     (omega (arith, c.loop-k-test.false))
 
 pub connected_link_groups_spec : {M : Type 1} → statement M
@@ -51,7 +51,7 @@ connected_link_groups_spec =
     (tie.spec
     invariant-loop
     decreases-loop
-    (λ c κs. c.before.requires.0)
+    (λ c κs. c.requires.0)
     loop-holds
     (λ c. search rules)
     (λ c. search rules)

@@ -4,7 +4,7 @@ use Rattle.serial_plan.proofs.parts.join_link.Statement.{statement}
 use Rattle.serial_plan.proofs.parts.join_link.Tie as tie
 
 returns : tie.Need-returns-then-on-ne1
-returns c = link-no c.before.args.on c.before.args.first c.before.args.second c.before.args.parts.now c.if-on-ne1.true c.before.requires.0
+returns c = link-no c.args.on c.args.first c.args.second c.args.parts.now c.if-on-ne1.true c.requires.0
 
 returns-2 : tie.Need-returns
 returns-2 c =

@@ -15,7 +15,7 @@ decreases-loop parts₀ a b low high i₀ parts i = 256 - i
 loop-again : tie.Need-loop-i-preserved invariant-loop decreases-loop
 loop-again c =
     let in-loop = c.before.before.before in
-    mapped_next c.moved.result in-loop.loop-i.invariant c.before.before.loop-i-test.true c.moved.ensures
+    mapped_next c.moved.result in-loop.loop-i.invariant c.loop-i-test.true c.moved.ensures
 
 returns : tie.Need-returns invariant-loop decreases-loop
 returns c =
@@ -23,7 +23,7 @@ returns c =
     let after-smaller = after-larger.before in
     let start = after-smaller.before in
     join-as start.args.a start.args.b after-smaller.smaller-low.result after-larger.larger-high.result start.args.parts.now
-    after-smaller.smaller-low.ensures after-larger.larger-high.ensures (mapped-all c.before.loop-i.invariant c.loop-i-test.false)
+    after-smaller.smaller-low.ensures after-larger.larger-high.ensures (mapped-all c.loop-i.invariant c.loop-i-test.false)
 
 pub join_parts_spec : {M : Type 1} → statement M
 join_parts_spec =
@@ -33,7 +33,7 @@ join_parts_spec =
     decreases-loop
     (λ c κs. search rules)
     (λ c κs. search rules)
-    (λ c. mapped-none c.before.before.requires)
+    (λ c. mapped-none c.requires)
     (λ c. search rules)
     (λ c. search rules)
     (λ c κs. search rules)

@@ -15,11 +15,11 @@ abbrev decreases-loop : tie.decreases-loop-k
 decreases-loop chosen firsts seconds links joined₀ k₀ joined k = k
 
 loop-holds : tie.Need-loop-k-init invariant-loop decreases-loop
-loop-holds c = (omega arith, marks-start c.before.args.chosen.now c.before.args.firsts.now c.before.args.seconds.now c.before.args.links)
+loop-holds c = (omega arith, marks-start c.args.chosen.now c.args.firsts.now c.args.seconds.now c.args.links)
 
 -- a turn's number of links left
 few : (c : tie.At-loop-k invariant-loop decreases-loop) → c.loop-k.k ≤ 256
-few c = omega (arith, c.loop-k.invariant.0, c.before.before.requires.few)
+few c = omega (arith, c.loop-k.invariant.0, c.requires.few)
 
 mark-link-requires : tie.Need-mark_link-requires invariant-loop decreases-loop
 mark-link-requires c κs =
@@ -47,7 +47,7 @@ returns : tie.Need-returns invariant-loop decreases-loop
 returns c =
     let start = c.before.before.before in
     let a = start.args in
-    marks-end a.chosen.now a.firsts.now a.seconds.now a.links c.before.loop-k.invariant.1 (omega (arith, c.loop-k-test.false))
+    marks-end a.chosen.now a.firsts.now a.seconds.now a.links c.loop-k.invariant.1 (omega (arith, c.loop-k-test.false))
 
 pub mark_joined_spec : {M : Type 1} → statement M
 mark_joined_spec =

@@ -5,14 +5,14 @@ use Rattle.serial_plan.proofs.parts.mark_link.Tie as tie
 
 returns : tie.Need-returns-then-on-ne1
 returns c =
-    let a = c.before.args in
-    mark-no a.on a.first a.second a.joined.now c.if-on-ne1.true c.before.requires.0
+    let a = c.args in
+    mark-no a.on a.first a.second a.joined.now c.if-on-ne1.true c.requires.0
 
 returns-2 : tie.Need-returns
 returns-2 c =
     let e = c.before.before.before in
     let a = e.args in
-    mark-yes a.on a.first a.second a.joined.now c.before.before.if-on-ne1.false c.before.size.ensures.0 c.size-2.ensures.0 e.requires.0
+    mark-yes a.on a.first a.second a.joined.now c.if-on-ne1.false c.size.ensures.0 c.size-2.ensures.0 e.requires.0
     e.requires.1 e.requires.2
 
 pub mark_link_spec : {M : Type 1} → statement M

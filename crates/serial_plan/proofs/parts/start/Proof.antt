@@ -13,7 +13,7 @@ abbrev decreases-loop : tie.decreases-loop-i
 decreases-loop parts₀ i₀ parts i = 256 - i
 
 loop-again : tie.Need-loop-i-preserved invariant-loop decreases-loop
-loop-again c = filled_next c.before.loop-i.i c.before.loop-i.invariant c.loop-i-test.true refl
+loop-again c = filled_next c.loop-i.i c.loop-i.invariant c.loop-i-test.true refl
 
 pub start_spec : {M : Type 1} → statement M
 start_spec =
@@ -28,4 +28,4 @@ start_spec =
     (λ c. search rules)
     (λ c. search rules)
     loop-again
-    (λ c. filled-all c.before.loop-i.invariant c.loop-i-test.false))
+    (λ c. filled-all c.loop-i.invariant c.loop-i-test.false))

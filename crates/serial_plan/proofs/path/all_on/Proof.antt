@@ -25,14 +25,14 @@ loop-again c =
     let marks = start.args.marks.now in
     let links = start.args.links in (
       omega (arith, at-loop.loop-j.invariant.0),
-      each_next (is_on marks) (few_at links) links.count (is_on marks c.before.index.result) at-loop.loop-j.invariant.1 turning.loop-j-test.true
-          at-loop.loop-j.invariant.0 (ap (is_on marks) c.before.index.ensures.0) refl,
+      each_next (is_on marks) (few_at links) links.count (is_on marks c.index.result) at-loop.loop-j.invariant.1 turning.loop-j-test.true
+          at-loop.loop-j.invariant.0 (ap (is_on marks) c.index.ensures.0) refl,
     )
 
 returns : tie.Need-returns invariant-loop decreases-loop
 returns c =
     let start = c.before.before in
-    each-listed (is_on start.args.marks.now) start.args.links c.before.loop-j.invariant.1 (omega (arith, c.loop-j-test.false))
+    each-listed (is_on start.args.marks.now) start.args.links c.loop-j.invariant.1 (omega (arith, c.loop-j-test.false))
 
 pub all_on_spec : {M : Type 1} → statement M
 all_on_spec =
@@ -42,7 +42,7 @@ all_on_spec =
     decreases-loop
     loop-holds
     (λ c. search rules)
-    (λ c κs. c.before.before.requires (c.before.loop-j.j - 1))
+    (λ c κs. c.requires (c.loop-j.j - 1))
     (λ c. search rules)
     (λ c. search rules)
     loop-again

@@ -26,15 +26,15 @@ links-at-requires c κs =
 with-requires : tie.Need-with-found-requires invariant-loop decreases-loop
 with-requires c κs =
     let at-loop = c.before.before.before.before in
-    picked-room at-loop.loop-j.invariant.1 at-loop.before.before.requires.0
+    picked-room at-loop.loop-j.invariant.1 at-loop.requires.0
 
 loop-again : tie.Need-loop-j-preserved invariant-loop decreases-loop
 loop-again c =
     let near = c.before.before in
     let got = near.before in
     let turning = got.before in
-    let inv = turning.before.loop-j.invariant in
-    let a = turning.before.before.before.args in (
+    let inv = turning.loop-j.invariant in
+    let a = turning.args in (
       omega (arith, inv.0),
       picked_next inv.1 turning.loop-j-test.true inv.0 c.with-found.ensures
           (ap (λ (d : ℕ). eqb d 1) (ap (λ (n : Near). n.count) near.links_at-near.ensures)
@@ -44,7 +44,7 @@ loop-again c =
 returns : tie.Need-returns invariant-loop decreases-loop
 returns c =
     let start = c.before.before.before in
-    ends-whole start.args.firsts.now start.args.seconds.now (few_list start.args.links) start.args.ranks c.before.loop-j.invariant.1
+    ends-whole start.args.firsts.now start.args.seconds.now (few_list start.args.links) start.args.ranks c.loop-j.invariant.1
     (omega (arith, c.loop-j-test.false))
 
 pub group_end_nodes_spec : {M : Type 1} → statement M

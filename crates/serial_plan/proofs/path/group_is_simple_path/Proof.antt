@@ -16,7 +16,7 @@ outer-requires c κs =
       start.requires.3,
       subst (λ (i : ℕ). i < 256) (sym c.get.ensures)
           (ends-slots (λ x. x < 256) start.args.firsts.now start.args.seconds.now (few_list start.args.links) start.args.ranks
-          c.before.group_end_nodes-two.ensures start.requires.2 (omega arith) 0),
+          c.group_end_nodes-two.ensures start.requires.2 (omega arith) 0),
     )
 
 outer-requires-2 : tie.Need-outer-other-requires

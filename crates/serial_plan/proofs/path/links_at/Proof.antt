@@ -18,23 +18,23 @@ decreases-loop firsts seconds links i found₀ j₀ found j = j
 with-requires : tie.Need-with-found-requires invariant-loop decreases-loop
 with-requires c κs =
     let at-loop = c.before.before.before.before.before.before in
-    noted-room at-loop.loop-j.invariant.1 at-loop.before.requires.0
+    noted-room at-loop.loop-j.invariant.1 at-loop.requires.0
 
 loop-again : tie.Need-loop-j-preserved invariant-loop decreases-loop
 loop-again c =
     let got = c.before.before.before.before in
     let at-loop = got.before.before.before in
-    let start = at-loop.before.args in
+    let start = at-loop.args in
     let joining = joins_at start.firsts.now start.seconds.now start.i in (
       omega (arith, at-loop.loop-j.invariant.0),
-      noted-next at-loop.loop-j.invariant.1 got.before.before.loop-j-test.true at-loop.loop-j.invariant.0 c.with-found.ensures
-          (c.before.joins.ensures ∙ ap joining got.before.index-k.ensures.0) got.get.ensures,
+      noted-next at-loop.loop-j.invariant.1 got.loop-j-test.true at-loop.loop-j.invariant.0 c.with-found.ensures
+          (c.joins.ensures ∙ ap joining got.index-k.ensures.0) got.get.ensures,
     )
 
 returns : tie.Need-returns invariant-loop decreases-loop
 returns c =
-    let start = c.before.before.args in
-    noted-listed start.links c.before.loop-j.invariant.1 (omega (arith, c.loop-j-test.false))
+    let start = c.args in
+    noted-listed start.links c.loop-j.invariant.1 (omega (arith, c.loop-j-test.false))
 
 pub links_at_spec : {M : Type 1} → statement M
 links_at_spec =
@@ -44,7 +44,7 @@ links_at_spec =
     decreases-loop
     (λ c. (omega arith, noted-start refl))
     (λ c. search rules)
-    (λ c κs. c.before.before.requires.1 (c.before.loop-j.j - 1))
+    (λ c κs. c.requires.1 (c.loop-j.j - 1))
     (λ c κs. search rules)
     (λ c. search rules)
     (λ c. search rules)

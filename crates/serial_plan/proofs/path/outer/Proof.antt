@@ -20,9 +20,9 @@ element-copy-out-other-region-3 c =
 returns : tie.Need-returns
 returns c =
     let noted = c.before.before.before.before.before in
-    let start = noted.before.args in
+    let start = noted.args in
     outer-as start.lowers.now start.highers.now start.regions.now start.firsts.now start.seconds.now (few_list start.links) start.i
-    (c.before.before.size.ensures.0 ∙ ap (λ (n : Near). n.first) noted.links_at-near.ensures) c.other_region.ensures
+    (c.size.ensures.0 ∙ ap (λ (n : Near). n.first) noted.links_at-near.ensures) c.other_region.ensures
 
 pub outer_spec : {M : Type 1} → statement M
 outer_spec =

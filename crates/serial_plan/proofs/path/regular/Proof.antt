@@ -58,7 +58,7 @@ loop-again c =
 returns : tie.Need-returns invariant-loop decreases-loop
 returns c =
     let start = c.before.before in
-    regular-whole start.args.firsts.now start.args.seconds.now (few_list start.args.links) start.args.ranks c.before.loop-j.invariant.1
+    regular-whole start.args.firsts.now start.args.seconds.now (few_list start.args.links) start.args.ranks c.loop-j.invariant.1
     (omega (arith, c.loop-j-test.false))
 
 pub regular_spec : {M : Type 1} → statement M

@@ -21,7 +21,7 @@ decreases-loop limits bits least ranks found₀ j₀ found j = j
 index-requires : tie.Need-index-requires invariant-loop decreases-loop
 index-requires c κs =
     let start = c.before.before.before.before in
-    (start.requires.1 (c.before.before.loop-j.j - 1)).below
+    (start.requires.1 (c.loop-j.j - 1)).below
 
 is-eligible-requires : tie.Need-is_eligible-requires invariant-loop decreases-loop
 is-eligible-requires c κs =
@@ -32,22 +32,22 @@ is-eligible-requires c κs =
 with-requires : tie.Need-with-found-requires invariant-loop decreases-loop
 with-requires c κs =
     let at-loop = c.before.before.before.before in
-    picked-room at-loop.loop-j.invariant.1 at-loop.before.before.requires.0
+    picked-room at-loop.loop-j.invariant.1 at-loop.requires.0
 
 loop-again : tie.Need-loop-j-preserved invariant-loop decreases-loop
 loop-again c =
     let index = c.before.before in
     let got = index.before in
     let turning = got.before in
-    let inv = turning.before.loop-j.invariant in
-    let a = turning.before.before.before.args in (
+    let inv = turning.loop-j.invariant in
+    let a = turning.args in (
       omega (arith, inv.0),
       picked_next inv.1 turning.loop-j-test.true inv.0 c.with-found.ensures
-          (c.before.is_eligible.ensures ∙ ap (fine_in (limits_of a.limits) a.bits.now a.least) index.index.ensures.0) got.get.ensures,
+          (c.is_eligible.ensures ∙ ap (fine_in (limits_of a.limits) a.bits.now a.least) index.index.ensures.0) got.get.ensures,
     )
 
 returns : tie.Need-returns invariant-loop decreases-loop
-returns c = picked-listed c.before.before.before.args.ranks c.before.loop-j.invariant.1 (omega (arith, c.loop-j-test.false))
+returns c = picked-listed c.args.ranks c.loop-j.invariant.1 (omega (arith, c.loop-j-test.false))
 
 pub eligible_spec : {M : Type 1} → statement M
 eligible_spec =

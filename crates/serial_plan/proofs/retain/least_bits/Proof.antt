@@ -23,20 +23,20 @@ loop-holds c =
     let bits = start.args.bits.now in
     let ranks = start.args.ranks in (
       first-start total_le (λ i. at bits (few_at ranks i)) ranks.count (ranks.count - 1) (omega (arith, start.requires.0))
-          (ap (at bits) c.before.index.ensures.0),
-      subst (λ (i : ℕ). at bits i ≤ 0x40D0_0000_0000_0000) (sym c.before.index.ensures.0) (start.requires.1 (ranks.count - 1)).fits,
+          (ap (at bits) c.index.ensures.0),
+      subst (λ (i : ℕ). at bits i ≤ 0x40D0_0000_0000_0000) (sym c.index.ensures.0) (start.requires.1 (ranks.count - 1)).fits,
     )
 
 index-requires-2 : tie.Need-index-requires-in-loop-j invariant-loop decreases-loop
 index-requires-2 c κs =
     let start = c.before.before.before.before.before in
-    (start.requires.1 (c.before.loop-j.j - 1)).below
+    (start.requires.1 (c.loop-j.j - 1)).below
 
 lesser-requires : tie.Need-lesser-least-requires invariant-loop decreases-loop
 lesser-requires c κs =
     let at-loop = c.before.before.before in
     let start = at-loop.before.before.before.before in (
-      subst (λ (i : ℕ). at start.args.bits.now i ≤ 0x40D0_0000_0000_0000) (sym c.before.index-in-loop-j.ensures.0)
+      subst (λ (i : ℕ). at start.args.bits.now i ≤ 0x40D0_0000_0000_0000) (sym c.index-in-loop-j.ensures.0)
           (start.requires.1 (at-loop.loop-j.j - 1)).fits,
       at-loop.loop-j.invariant.1,
     )
@@ -57,7 +57,7 @@ loop-again c =
 returns : tie.Need-returns invariant-loop decreases-loop
 returns c =
     let start = c.before.before.before.before.before in
-    let inv = c.before.loop-j.invariant in
+    let inv = c.loop-j.invariant in
     (least-listed start.args.bits.now start.args.ranks inv.0 (omega (arith, c.loop-j-test.false)), inv.1)
 
 pub least_bits_spec : {M : Type 1} → statement M
@@ -67,7 +67,7 @@ least_bits_spec =
     invariant-loop
     decreases-loop
     (λ c. search rules)
-    (λ c κs. (c.before.requires.1 (c.before.args.ranks.count - 1)).below)
+    (λ c κs. (c.requires.1 (c.args.ranks.count - 1)).below)
     (λ c. search rules)
     (λ c. search rules)
     loop-holds

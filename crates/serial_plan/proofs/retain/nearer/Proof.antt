@@ -15,7 +15,7 @@ returns c =
       choose_yes i j
           (sym
           (nearer-as start.args.own.now (few_list start.args.ranks) i j at-sum-from.sum_from-x.ensures.0 at-sum-from2.sum_from-y.ensures.0
-          c.before.no_later.ensures)
+          c.no_later.ensures)
           ∙ c.if-no_later.true),
       start.requires.2,
     )
@@ -30,7 +30,7 @@ returns-2 c =
       choose_no i j
           (sym
           (nearer-as start.args.own.now (few_list start.args.ranks) i j at-sum-from.sum_from-x.ensures.0 at-sum-from2.sum_from-y.ensures.0
-          c.before.no_later.ensures)
+          c.no_later.ensures)
           ∙ c.if-no_later.false),
       start.requires.3,
     )

@@ -30,7 +30,7 @@ loop-holds c =
 index-requires-2 : tie.Need-index-requires invariant-loop decreases-loop
 index-requires-2 c κs =
     let start = c.before.before.before.before in
-    (start.requires.3 (c.before.loop-j.j - 1)).below
+    (start.requires.3 (c.loop-j.j - 1)).below
 
 nearer-requires : tie.Need-nearer-best-requires invariant-loop decreases-loop
 nearer-requires c κs =
@@ -48,15 +48,15 @@ loop-again c =
     let at-loop = turning.before in
     let start = at-loop.before.before.before in
     let among = start.args.among in (
-      first_next (nearer_in start.args.own.now (few_list start.args.ranks)) (few_at among) among.count c.before.index.result
-          at-loop.loop-j.invariant.0 turning.loop-j-test.true c.before.index.ensures.0 c.nearer-best.ensures.0,
+      first_next (nearer_in start.args.own.now (few_list start.args.ranks)) (few_at among) among.count c.index.result
+          at-loop.loop-j.invariant.0 turning.loop-j-test.true c.index.ensures.0 c.nearer-best.ensures.0,
       c.nearer-best.ensures.1,
     )
 
 returns : tie.Need-returns invariant-loop decreases-loop
 returns c =
     let start = c.before.before.before.before in
-    let inv = c.before.loop-j.invariant in (
+    let inv = c.loop-j.invariant in (
       first-listed (nearer_in start.args.own.now (few_list start.args.ranks)) start.args.among inv.0
           (omega (arith, c.loop-j-test.false)),
       inv.1.below,
@@ -69,7 +69,7 @@ nearest_spec =
     invariant-loop
     decreases-loop
     (λ c. search rules)
-    (λ c κs. (c.before.requires.3 (c.before.args.among.count - 1)).below)
+    (λ c κs. (c.requires.3 (c.args.among.count - 1)).below)
     loop-holds
     (λ c. search rules)
     index-requires-2

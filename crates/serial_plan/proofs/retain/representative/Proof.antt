@@ -24,7 +24,7 @@ returns c =
     let ranks = start.args.ranks in (
       retained-none (limits_of limits) start.args.own.now bits ranks
           (eligible-as (limits_of limits) bits (few_list ranks) at-width-of.width_of_lem.ensures at-least-bits.least_bits.ensures.0
-          at-eligible.eligible-among.ensures) c.before.if-among-eq0.true start.requires.0 c.index.ensures.0,
+          at-eligible.eligible-among.ensures) c.if-among-eq0.true start.requires.0 c.index.ensures.0,
       c.index.ensures.1,
     )
 
@@ -51,7 +51,7 @@ returns-2 c =
     let ranks = start.args.ranks in (
       retained-some (limits_of limits) start.args.own.now bits ranks
           (eligible-as (limits_of limits) bits (few_list ranks) at-width-of.width_of_lem.ensures at-least-bits.least_bits.ensures.0
-          at-eligible.eligible-among.ensures) start.requires.1 c.before.if-among-eq0.false c.nearest.ensures.0,
+          at-eligible.eligible-among.ensures) start.requires.1 c.if-among-eq0.false c.nearest.ensures.0,
       c.nearest.ensures.1,
     )
 

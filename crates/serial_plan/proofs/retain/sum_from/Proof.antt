@@ -23,14 +23,14 @@ abbrev asked : Turn → tie.Start invariant-loop decreases-loop
 asked turn = turn.before.before.before
 
 rank-distance-requires : tie.Need-rank_distance-total-requires invariant-loop decreases-loop
-rank-distance-requires c κs = (c.before.requires.2, subst (RankFits c.before.args.own.now) (sym c.index.ensures.0) (c.before.requires.1 0))
+rank-distance-requires c κs = (c.requires.2, subst (RankFits c.args.own.now) (sym c.index.ensures.0) (c.requires.1 0))
 
 loop-holds : tie.Need-loop-j-init invariant-loop decreases-loop
 loop-holds c =
     let start = c.before.before in
     let own = start.args.own.now in
     lengths-start (distance_at own start.args.i start.args.ranks) start.args.ranks.count start.requires.0
-    (c.rank_distance-total.ensures ∙ ap (λ (k : ℕ). centre_length (span_in own start.args.i) (span_in own k)) c.before.index.ensures.0)
+    (c.rank_distance-total.ensures ∙ ap (λ (k : ℕ). centre_length (span_in own start.args.i) (span_in own k)) c.index.ensures.0)
 
 index-requires-2 : tie.Need-index-requires-in-loop-j invariant-loop decreases-loop
 index-requires-2 c κs =
@@ -51,9 +51,9 @@ loop-again c =
     let own = start.own.now in
     subst (SummedLengths (distance_at own start.i start.ranks) start.ranks.count (turn.loop-j.j + 1)) (sym c.plus-total.ensures)
     (lengths-next (distance_at own start.i start.ranks) start.ranks.count distance.rank_distance.result turn.loop-j.inv
-    distance.before.before.loop-j-test.true
+    distance.loop-j-test.true
     (distance.rank_distance.ensures
-    ∙ ap (λ (k : ℕ). centre_length (span_in own start.i) (span_in own k)) distance.before.index-in-loop-j.ensures.0))
+    ∙ ap (λ (k : ℕ). centre_length (span_in own start.i) (span_in own k)) distance.index-in-loop-j.ensures.0))
 
 returns : tie.Need-returns invariant-loop decreases-loop
 returns c =

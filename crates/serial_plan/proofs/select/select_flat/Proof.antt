@@ -27,7 +27,7 @@ is-flat-link-requires c κs =
     let in-loop = turning.before in
     let start = in-loop.before in
     let own = start.args.own.now in (
-      subst (RankFits own) (sym c.before.before.size.ensures.0) (start.requires.2 in-loop.loop-k.k turning.loop-k-test.true).first,
+      subst (RankFits own) (sym c.size.ensures.0) (start.requires.2 in-loop.loop-k.k turning.loop-k-test.true).first,
       subst (RankFits own) (sym c.size-in-loop-k.ensures.0) (start.requires.2 in-loop.loop-k.k turning.loop-k-test.true).second,
     )
 
@@ -40,9 +40,9 @@ loop-again c =
       omega (arith, turning.loop-k-test.true),
       filled_next c.mark.result in-loop.loop-k.invariant.1 (omega (arith, turning.loop-k-test.true, start.requires.1))
           (c.mark.ensures ∙ ap (λ (t : Bool). cond t 1 0)
-          (c.before.is_flat_link.ensures
+          (c.is_flat_link.ensures
           ∙ both (flat_link_in (limits_of start.args.limits) start.args.own.now start.args.into.now
-          (at start.args.flat.now in-loop.loop-k.k)) after-size.size.ensures.0 c.before.before.size-in-loop-k.ensures.0)),
+          (at start.args.flat.now in-loop.loop-k.k)) after-size.size.ensures.0 c.size-in-loop-k.ensures.0)),
     )
 
 pub select_flat_spec : {M : Type 1} → statement M
@@ -65,4 +65,4 @@ select_flat_spec =
     (λ c. search rules)
     (λ c. search rules)
     loop-again
-    (λ c. filled-upto c.before.loop-k.invariant.1 c.loop-k-test.false))
+    (λ c. filled-upto c.loop-k.invariant.1 c.loop-k-test.false))

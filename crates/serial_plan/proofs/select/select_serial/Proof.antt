@@ -23,7 +23,7 @@ both-on-requires c κs =
     let turning = c.before.before.before.before in
     let in-loop = turning.before in
     let start = in-loop.before in (
-      subst (λ (i : ℕ). i < 256) (sym c.before.before.size.ensures.0) (start.requires.1.first-in in-loop.loop-k.k turning.loop-k-test.true),
+      subst (λ (i : ℕ). i < 256) (sym c.size.ensures.0) (start.requires.1.first-in in-loop.loop-k.k turning.loop-k-test.true),
       subst (λ (i : ℕ). i < 256) (sym c.size-in-loop-k.ensures.0) (start.requires.1.second-in in-loop.loop-k.k turning.loop-k-test.true),
     )
 
@@ -36,7 +36,7 @@ loop-again c =
       omega (arith, turning.loop-k-test.true),
       filled_next c.mark.result in-loop.loop-k.invariant.1 (omega (arith, turning.loop-k-test.true, start.requires.1.few))
           (c.mark.ensures ∙ ap (λ (t : Bool). cond t 1 0)
-          (c.before.both_on.ensures ∙ both (both_on start.args.marks.now) after-size.size.ensures.0 c.before.before.size-in-loop-k.ensures.0)),
+          (c.both_on.ensures ∙ both (both_on start.args.marks.now) after-size.size.ensures.0 c.size-in-loop-k.ensures.0)),
     )
 
 pub select_serial_spec : {M : Type 1} → statement M
@@ -58,4 +58,4 @@ select_serial_spec =
     (λ c. search rules)
     (λ c. search rules)
     loop-again
-    (λ c. filled-upto c.before.loop-k.invariant.1 c.loop-k-test.false))
+    (λ c. filled-upto c.loop-k.invariant.1 c.loop-k-test.false))

@@ -25,16 +25,16 @@ Turn = tie.In-loop-k invariant-loop decreases-loop
 loop-holds : tie.Need-loop-k-init invariant-loop decreases-loop
 loop-holds c =
     let start : Start = search in
-    (omega arith, refl, refl, start.pre.1)
+    (omega arith, refl, refl, start.requires.1)
 
 link-record-requires : tie.Need-link_record-requires invariant-loop decreases-loop
 link-record-requires c κs =
     let turning : Turn = search in
     let start : Start = search in
-    let inv = turning.before.loop-k.inv in
-    let k = turning.before.loop-k.k in
+    let inv = turning.loop-k.invariant in
+    let k = turning.loop-k.k in
     let l : k - 1 < start.args.count = omega (arith, inv.0, turning.loop-k-test.true) in
-    let G = start.pre.0 in
+    let G = start.requires.0 in
     let N = inv.3 in (
       omega (arith, G.lefts-are),
       omega (arith, G.rights-are),
@@ -50,27 +50,27 @@ loop-again c =
     let turning : Turn = search in
     let start : Start = search in
     let a = start.args in
-    let m = turning.before.loop-k in
+    let m = turning.loop-k in
     let k = m.k in
-    let l : k - 1 < a.count = omega (arith, m.inv.0, turning.loop-k-test.true) in
+    let l : k - 1 < a.count = omega (arith, m.invariant.0, turning.loop-k-test.true) in
     let e = linked.link_record.ensures in
-    let n : IncidenceLists a.count (length a.heads.now) a.lefts.now a.rights.now m.heads m.left-nexts m.right-nexts (k - 1 + 1)
-    = subst (IncidenceLists a.count (length a.heads.now) a.lefts.now a.rights.now m.heads m.left-nexts m.right-nexts)
-    (let z : k ≡ k - 1 + 1 = omega (arith, turning.loop-k-test.true) in z) m.inv.3 in (
+    let n : IncidenceLists a.count (length a.heads.now) a.lefts.now a.rights.now m.heads m.left_nexts m.right_nexts (k - 1 + 1)
+    = subst (IncidenceLists a.count (length a.heads.now) a.lefts.now a.rights.now m.heads m.left_nexts m.right_nexts)
+    (let z : k ≡ k - 1 + 1 = omega (arith, turning.loop-k-test.true) in z) m.invariant.3 in (
       omega arith,
       omega (arith, linked.link_record.kept, m.inv.1),
       omega (arith, linked.link_record.kept, m.inv.2),
       linked-as _ _ _ _ _ _ _ _ _ _ _ e.0 e.1.0 e.1.1
-          (linked-one a.count (length a.heads.now) a.lefts.now a.rights.now m.heads m.left-nexts m.right-nexts (k - 1) start.pre.0 n
+          (linked-one a.count (length a.heads.now) a.lefts.now a.rights.now m.heads m.left_nexts m.right_nexts (k - 1) start.requires.0 n
           l),
     )
 
 returns : tie.Need-returns invariant-loop decreases-loop
 returns c =
     let start : Start = search in
-    subst (IncidenceLists start.args.count (length start.args.heads.now) start.args.lefts.now start.args.rights.now c.before.loop-k.heads
-    c.before.loop-k.left-nexts c.before.loop-k.right-nexts)
-    (let z : c.before.loop-k.k ≡ 0 = omega (arith, c.loop-k-test.false) in z) c.before.loop-k.invariant.3
+    subst (IncidenceLists start.args.count (length start.args.heads.now) start.args.lefts.now start.args.rights.now c.loop-k.heads
+    c.loop-k.left_nexts c.loop-k.right_nexts)
+    (let z : c.loop-k.k ≡ 0 = omega (arith, c.loop-k-test.false) in z) c.loop-k.invariant.3
 
 pub full_graph_spec : {M : Type 1} → statement M
 full_graph_spec =
@@ -83,7 +83,7 @@ full_graph_spec =
     link-record-requires
     (λ c. search rules)
     loop-again
-    (λ c. c.before.loop-k.invariant.3.heads-are)
-    (λ c. c.before.loop-k.invariant.1)
-    (λ c. c.before.loop-k.invariant.2)
+    (λ c. c.loop-k.invariant.3.heads-are)
+    (λ c. c.loop-k.invariant.1)
+    (λ c. c.loop-k.invariant.2)
     returns)

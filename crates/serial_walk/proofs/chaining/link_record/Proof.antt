@@ -11,26 +11,26 @@ slice-read-left-nexts c =
     let left : tie.After-size-left = search in
     let sized : tie.After-size-at = search in
     let start : tie.Start = search in
-    omega (arith, left.size-left.ensures.0, ap (at start.args.lefts.now) sized.size-at.ensures.0, start.pre.4)
+    omega (arith, left.size-left.ensures.0, ap (at start.args.lefts.now) sized.size-at.ensures.0, start.requires.4)
 
 slice-read-right-nexts : tie.Need-bounds-heads-right
 slice-read-right-nexts c =
     let sized : tie.After-size-at = search in
     let start : tie.Start = search in
-    omega (arith, c.before.before.size-right.ensures.0, ap (at start.args.rights.now) sized.size-at.ensures.0, start.pre.5)
+    omega (arith, c.size-right.ensures.0, ap (at start.args.rights.now) sized.size-at.ensures.0, start.requires.5)
 
 slice-write-heads : tie.Need-bounds-heads-left-2
 slice-write-heads c =
     let left : tie.After-size-left = search in
     let sized : tie.After-size-at = search in
     let start : tie.Start = search in
-    omega (arith, left.size-left.ensures.0, ap (at start.args.lefts.now) sized.size-at.ensures.0, start.pre.4)
+    omega (arith, left.size-left.ensures.0, ap (at start.args.lefts.now) sized.size-at.ensures.0, start.requires.4)
 
 slice-write-heads-2 : tie.Need-bounds-heads-right-2
 slice-write-heads-2 c =
     let sized : tie.After-size-at = search in
     let start : tie.Start = search in
-    simp length-set (omega (arith, c.before.before.size-right.ensures.0, ap (at start.args.rights.now) sized.size-at.ensures.0, start.pre.5))
+    simp length-set (omega (arith, c.size-right.ensures.0, ap (at start.args.rights.now) sized.size-at.ensures.0, start.requires.5))
 
 returns : tie.Need-returns
 returns c =
@@ -38,7 +38,7 @@ returns c =
     let sized : tie.After-size-at = search in
     let e = sized.size-at.ensures.0 in
     let l = left.size-left.ensures.0 in
-    let r = c.before.before.size-right.ensures.0 in
+    let r = c.size-right.ensures.0 in
     (rw (l, e), (rw (r, e), rw (l, r, e)))
 
 pub link_record_spec : {M : Type 1} → statement M

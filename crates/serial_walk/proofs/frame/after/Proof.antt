@@ -9,14 +9,14 @@ returns c =
     let sized : tie.After-size-j = search in
     let start : tie.Start = search in
     let e = sized.size-j.ensures.0 in
-    (λ z. ap (at start.args.left-nexts.now) e, λ n. absurd (n (ap (at start.args.lefts.now) (sym e) ∙ c.before.if-lefts-j.true)))
+    (λ z. ap (at start.args.left_nexts.now) e, λ n. absurd (n (ap (at start.args.lefts.now) (sym e) ∙ c.if-lefts-j.true)))
 
 returns-2 : tie.Need-returns
 returns-2 c =
     let sized : tie.After-size-j = search in
     let start : tie.Start = search in
     let e = sized.size-j.ensures.0 in
-    (λ z. absurd (c.before.if-lefts-j.false (ap (at start.args.lefts.now) e ∙ z)), λ n. ap (at start.args.right-nexts.now) e)
+    (λ z. absurd (c.if-lefts-j.false (ap (at start.args.lefts.now) e ∙ z)), λ n. ap (at start.args.right_nexts.now) e)
 
 pub after_spec : {M : Type 1} → statement M
 after_spec =

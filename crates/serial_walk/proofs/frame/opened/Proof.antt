@@ -7,8 +7,8 @@ returns : tie.Need-returns
 returns c =
     let sized : tie.After-size = search in
     let m = c.next_record.ensures in
-    let p = c.before.parent_record.ensures in
-    let r = c.before.before.at_region.ensures in
+    let p = c.parent_record.ensures in
+    let r = c.at_region.ensures in
     (m.0 ∙ p.0 ∙ r.0, m.1 ∙ p.1, m.2 ∙ rw sized.size.ensures.0, m.3 ∙ p.3 ∙ r.3)
 
 pub opened_spec : {M : Type 1} → statement M

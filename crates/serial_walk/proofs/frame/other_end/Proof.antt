@@ -11,7 +11,7 @@ returns c =
     let sized : tie.After-size-j = search in
     let start : tie.Start = search in
     let e = sized.size-j.ensures.0 in
-    forth (ap (at start.args.lefts.now) (sym e) ∙ c.before.if-lefts-j.true) (ap (at start.args.rights.now) (sym e))
+    forth (ap (at start.args.lefts.now) (sym e) ∙ c.if-lefts-j.true) (ap (at start.args.rights.now) (sym e))
 
 returns-2 : tie.Need-returns
 returns-2 c =
@@ -19,7 +19,7 @@ returns-2 c =
     let start : tie.Start = search in
     let e = sized.size-j.ensures.0 in
     back (ap (at start.args.lefts.now) (sym e))
-    (⊎_elim (λ z. absurd (c.before.if-lefts-j.false (ap (at start.args.lefts.now) e ∙ z))) (λ z. z) start.pre.2)
+    (⊎_elim (λ z. absurd (c.if-lefts-j.false (ap (at start.args.lefts.now) e ∙ z))) (λ z. z) start.requires.2)
 
 pub other_end_spec : {M : Type 1} → statement M
 other_end_spec =

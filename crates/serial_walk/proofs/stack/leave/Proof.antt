@@ -11,7 +11,7 @@ use Rattle.serial_walk.proofs.stack.leave.Tie as tie
 element-write-marks : tie.Need-bounds-marks-owner
 element-write-marks c =
     let start : tie.Start = search in
-    omega (arith, c.size-owner.ensures.0, ap (at start.args.owners.now) c.before.before.size-parent.ensures.0, start.pre.4)
+    omega (arith, c.size-owner.ensures.0, ap (at start.args.owners.now) c.size-parent.ensures.0, start.requires.4)
 
 returns : tie.Need-returns-then-time_of-low
 returns c =
@@ -19,11 +19,11 @@ returns c =
     let least : tie.After-least = search in
     let start : tie.Start = search in
     let a = start.args in
-    let o = c.size-owner.ensures.0 ∙ ap (at a.owners.now) c.before.before.size-parent.ensures.0 in (
+    let o = c.size-owner.ensures.0 ∙ ap (at a.owners.now) c.size-parent.ensures.0 in (
       rw least.least.ensures,
       ap (λ (x : ℕ). set a.marks.now x 1) o
           ∙ mark_set (at a.disc.now (at a.stack.now a.up)) a.f.low a.marks.now (at a.owners.now a.f.parent)
-          (omega (arith, bridge.if-time_of-low.true, bridge.before.time_of.ensures)),
+          (omega (arith, bridge.if-time_of-low.true, bridge.time_of.ensures)),
     )
 
 returns-2 : tie.Need-returns-else-time_of-low
@@ -33,7 +33,7 @@ returns-2 c =
     let a = start.args in (
       rw least.least.ensures,
       mark-kept (at a.disc.now (at a.stack.now a.up)) a.f.low a.marks.now (at a.owners.now a.f.parent)
-          (omega (arith, c.if-time_of-low.false, c.before.time_of.ensures)),
+          (omega (arith, c.if-time_of-low.false, c.time_of.ensures)),
     )
 
 pub leave_spec : {M : Type 1} → statement M

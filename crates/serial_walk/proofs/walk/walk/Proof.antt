@@ -127,26 +127,26 @@ next_one c =
     let seen = c.before.before in
     let a = (start-in (turn-of c)).args in
     let f = (turn-of c).loop-f.f in
-    let k : f.next < a.count = omega (arith, seen.before.before.if-count-f.false) in
-    let z = c.before.after.ensures in
+    let k : f.next < a.count = omega (arith, seen.if-count-f.false) in
+    let z = c.after.ensures in
     let g = seen.if-f.f in
     let en : g.next ≡ f.next = ⊎_elim (λ w. ap (λ (x : Frame). x.next) w.6 ∙ w.5.ensures.2) (λ w. ap (λ (x : Frame). x.next) w.1)
     seen.if-f.branch-raw in
     let er : g.region ≡ f.region =
     ⊎_elim (λ w. ap (λ (x : Frame). x.region) w.6 ∙ w.5.ensures.0) (λ w. ap (λ (x : Frame). x.region) w.1) seen.if-f.branch-raw in
     subst (First a.count (at a.lefts.now) (at a.rights.now) (f.next + 1) f.region) (sym c.next_record-f.ensures.2)
-    (follows-as (start-in (turn-of c)).requires.1 f g c.before.after.result en er k ((turn-of c).loop-f.invariant.touching k) z.0 z.1)
+    (follows-as (start-in (turn-of c)).requires.1 f g c.after.result en er k ((turn-of c).loop-f.invariant.touching k) z.0 z.1)
 
 add-time : tie.Need-overflow_add-time invariant-loop decreases-loop invariant-walk decreases-walk
 add-time c =
     let start : Start = search in
-    let s = start.pre.0 in
+    let s = start.requires.0 in
     omega (arith, s.walk.count, s.sized.disc-are, s.graph.near)
 
 enter-requires : tie.Need-enter-requires invariant-loop decreases-loop invariant-walk decreases-walk
 enter-requires c κs =
     let start : Start = search in
-    let p = start.pre in
+    let p = start.requires in
     let s = slots p.0.sized 0 (omega (arith, p.2)) in
     (omega (arith, c.opened.ensures.0, p.2, p.0.sized.disc-are), s.0, s.1, s.2, s.3)
 
@@ -154,32 +154,32 @@ walk-holds : tie.Need-walk-init invariant-loop decreases-loop invariant-walk dec
 walk-holds c =
     let entered : Rooted = search in
     let e = entered.enter.ensures in
-    let o = entered.before.opened.ensures in
+    let o = entered.opened.ensures in
     let a = (begun entered).args in
-    let p = (begun entered).pre in
+    let p = (begun entered).requires in
     recast _ _ _ _ _ _ _ _ (e.0 ∙ set-as a.disc.now o.0 o.3) (e.1 ∙ set-as a.stack.now refl o.0)
     (e.2 ∙ set-as a.parents.now refl o.1) (e.3 ∙ set-as a.nexts.now refl o.2) (e.4 ∙ set-as a.lows.now refl o.3) refl refl refl
     (rooted p.0 a.root (at a.heads.now a.root) (omega (arith, p.2, p.0.sized.disc-are)) p.3 p.4 (p.1.head a.root p.2))
 
 -- the slots of the frame on top
 top-slots : (c : High) →
-    (c.before.walk.h - 1 < length c.before.walk.stack) × (c.before.walk.h - 1 < length c.before.walk.parents)
-    × (c.before.walk.h - 1 < length c.before.walk.nexts) × (c.before.walk.h - 1 < length c.before.walk.lows)
+    (c.walk.h - 1 < length c.walk.stack) × (c.walk.h - 1 < length c.walk.parents)
+    × (c.walk.h - 1 < length c.walk.nexts) × (c.walk.h - 1 < length c.walk.lows)
 top-slots c =
-    let m = c.before.walk in
+    let m = c.walk in
     slots m.invariant.sized (m.h - 1) (omega (arith, high m.invariant, c.walk-test.true))
 
 loop-holds : tie.Need-loop-f-init invariant-loop decreases-loop invariant-walk decreases-walk
 loop-holds c =
     let turning : High = search in
     let e = c.load-f.ensures in
-    take c.load-f.result (unrolled turning.before.walk.inv turning.walk-test.true) e.0 e.1 e.2 e.3
+    take c.load-f.result (unrolled turning.walk.invariant turning.walk-test.true) e.0 e.1 e.2 e.3
 
 other-end-requires : tie.Need-other_end-w-requires invariant-loop decreases-loop invariant-walk decreases-walk
 other-end-requires c κs =
     let turn : Inner = search in
     let start = start-in turn in
-    let k : turn.loop-f.f.next < start.args.count = omega (arith, c.before.before.if-count-f.false) in
+    let k : turn.loop-f.f.next < start.args.count = omega (arith, c.if-count-f.false) in
     (omega (arith, start.pre.0.graph.lefts-are), omega (arith, start.pre.0.graph.rights-are), turn.loop-f.inv.touching k)
 
 time-of-requires : tie.Need-time_of-d-requires invariant-loop decreases-loop invariant-walk decreases-walk
@@ -188,7 +188,7 @@ time-of-requires c κs =
     let turn = more.before.before in
     omega (
       arith,
-      end-in (start-in turn).requires.0.graph (omega (arith, more.if-count-f.false)) c.before.other_end-w.ensures,
+      end-in (start-in turn).requires.0.graph (omega (arith, more.if-count-f.false)) c.other_end-w.ensures,
       (outer turn).walk.invariant.sized.disc-are,
     )
 
@@ -196,7 +196,7 @@ after-requires : tie.Need-after-requires invariant-loop decreases-loop invariant
 after-requires c κs =
     let turn : Inner = search in
     let p = (start-in turn).pre in
-    let k = c.before.before.if-count-f.false in
+    let k = c.if-count-f.false in
     chain-in p.0.graph p.1 c.if-f.f.next
     (⊎_elim (λ w. omega (arith, k, ap (λ (x : Frame). x.next) w.6, w.5.ensures.2)) (λ w. omega (arith, k, ap (λ (x : Frame). x.next) w.1))
     c.if-f.branch-raw)
@@ -204,7 +204,7 @@ after-requires c κs =
 loop-again : tie.Need-loop-f-preserved invariant-loop decreases-loop invariant-walk decreases-walk
 loop-again c =
     let turn = turn-of c in
-    let k : turn.loop-f.f.next < (start-in turn).args.count = omega (arith, c.before.before.before.before.if-count-f.false) in
+    let k : turn.loop-f.f.next < (start-in turn).args.count = omega (arith, c.if-count-f.false) in
     let h = turn.loop-f.inv in
     let m = c.next_record-f.ensures in
     ⊎_elim
@@ -219,7 +219,7 @@ loop-again c =
     let e = w.1 in
     skipped h c.next_record-f.result (m.0 ∙ ap (λ (x : Frame). x.region) e) (m.1 ∙ ap (λ (x : Frame). x.parent) e) (next_one c)
     (m.3 ∙ ap (λ (x : Frame). x.low) e) k (omega (arith, w.0.false)))
-    c.before.before.if-f.branch-raw
+    c.if-f.branch-raw
 
 after-requires-2 : tie.Need-after-requires-then-j-count invariant-loop decreases-loop invariant-walk decreases-walk
 after-requires-2 c κs =
@@ -266,12 +266,12 @@ walk-less c =
     let m = (outer (last found.before)).walk in
     let v = stopped found.before in
     let j = found.if-j-count.true in
-    let o = entered.before.opened-then-j-count.ensures in
+    let o = entered.opened-then-j-count.ensures in
     let e = entered.enter-then-j-count.ensures.0 ∙ set-as m.disc o.0 o.3 in
     omega (
       arith,
       ap (λ (x : List ℕ). zero_count (at x) (length x)) e,
-      falls m.inv found.before.if-count-f.w (m.time + 1) (v.within j) (v.new j) (omega arith),
+      falls m.inv found.if-count-f.w (m.time + 1) (v.within j) (v.new j) (omega arith),
     )
 
 walk-again : tie.Need-walk-preserved-then-j-count invariant-loop decreases-loop invariant-walk decreases-walk
@@ -283,7 +283,7 @@ walk-again c =
     let moved = saved.before in
     let met = found.before in
     let turn = last met in
-    let inv = turn.loop-f.inv in
+    let inv = turn.loop-f.invariant in
     let m = (outer turn).walk in
     let f = turn.loop-f.f in
     let g = moved.next_record.result in
@@ -297,7 +297,7 @@ walk-again c =
     let s = saved.save.ensures in
     let n = moved.next_record.ensures in
     let k : f.next < a.count = omega (arith, v.is j, j) in
-    let z = moved.before.after-then-j-count.ensures in
+    let z = moved.after-then-j-count.ensures in
     let q : First a.count (at a.lefts.now) (at a.rights.now) (f.next + 1) f.region g.next
     = subst (First a.count (at a.lefts.now) (at a.rights.now) (f.next + 1) f.region) (sym n.2)
     (follows p.1 f.next f.region _ k (inv.touching k) z.0 z.1) in
@@ -311,7 +311,7 @@ walk-again-2 : tie.Need-walk-preserved-then-top-eq0 invariant-loop decreases-loo
 walk-again-2 c =
     let turn = last c.before.before in
     emptied-at (outer turn).walk.inv turn.loop-f.f (high-in turn).walk-test.true c.if-top-eq0.true turn.loop-f.inv
-    ((stopped c.before.before).all c.before.if-j-count.false)
+    ((stopped c.before.before).all c.if-j-count.false)
 
 -- no region was found, and there is a frame below
 abbrev Lower : Type 0
@@ -328,14 +328,14 @@ walk-again-3 c =
     let lower : Lower = search in
     let met = lower.before.before in
     let turn = last met in
-    let e = c.before.before.leave.ensures in
+    let e = c.leave.ensures in
     recast _ _ _ _ _ _ _ _ refl refl refl refl e.0 e.1 refl refl
     (left_at (outer turn).walk.inv turn.loop-f.f (high-in turn).walk-test.true lower.if-top-eq0.false turn.loop-f.inv
-    ((stopped met).all lower.before.if-j-count.false))
+    ((stopped met).all lower.if-j-count.false))
 
 returns : tie.Need-returns invariant-loop decreases-loop invariant-walk decreases-walk
-returns c = ended (recast _ _ _ _ _ _ _ _ refl refl refl refl refl refl (let z : 0 ≡ c.before.walk.h = omega (arith, c.walk-test.false) in z) refl
-    c.before.walk.invariant)
+returns c = ended (recast _ _ _ _ _ _ _ _ refl refl refl refl refl refl (let z : 0 ≡ c.walk.h = omega (arith, c.walk-test.false) in z) refl
+    c.walk.invariant)
 
 pub walk_spec : {M : Type 1} → statement M
 walk_spec =
@@ -346,7 +346,7 @@ walk_spec =
     invariant-walk
     decreases-walk
     add-time
-    (λ c κs. let start : Start = search in start.pre.2)
+    (λ c κs. let start : Start = search in start.requires.2)
     enter-requires
     walk-holds
     (λ c. omega arith)
@@ -357,7 +357,7 @@ walk_spec =
     (λ c κs. search rules)
     after-requires
     (λ c κs. search rules)
-    (λ c. omega (arith, c.before.before.before.before.if-count-f.false, (next_one c).onward))
+    (λ c. omega (arith, c.if-count-f.false, (next_one c).onward))
     loop-again
     after-requires-2
     (λ c κs. search rules)
@@ -374,9 +374,9 @@ walk_spec =
     leave-requires
     (λ c. let high : High = search in omega (arith, high.walk-test.true))
     walk-again-3
-    (λ c. c.before.walk.invariant.sized.disc-are ∙ sym (asked c.before).requires.0.sized.disc-are)
-    (λ c. c.before.walk.invariant.sized.stack-are ∙ sym (asked c.before).requires.0.sized.stack-are)
-    (λ c. c.before.walk.invariant.sized.parents-are ∙ sym (asked c.before).requires.0.sized.parents-are)
-    (λ c. c.before.walk.invariant.sized.nexts-are ∙ sym (asked c.before).requires.0.sized.nexts-are)
-    (λ c. c.before.walk.invariant.sized.lows-are ∙ sym (asked c.before).requires.0.sized.lows-are)
+    (λ c. c.walk.invariant.sized.disc-are ∙ sym (asked c.before).requires.0.sized.disc-are)
+    (λ c. c.walk.invariant.sized.stack-are ∙ sym (asked c.before).requires.0.sized.stack-are)
+    (λ c. c.walk.invariant.sized.parents-are ∙ sym (asked c.before).requires.0.sized.parents-are)
+    (λ c. c.walk.invariant.sized.nexts-are ∙ sym (asked c.before).requires.0.sized.nexts-are)
+    (λ c. c.walk.invariant.sized.lows-are ∙ sym (asked c.before).requires.0.sized.lows-are)
     returns)

@@ -27,29 +27,29 @@ asked c = search
 loop-holds : tie.Need-loop-r-init invariant-loop decreases-loop
 loop-holds c =
     let start : tie.Start invariant-loop decreases-loop = search in
-    let p = start.pre in
+    let p = start.requires in
     (omega arith, c.size-end.ensures.0, started p.0 p.1 p.2 p.4 p.5 256 refl)
 
 visit-requires : tie.Need-visit-time-requires invariant-loop decreases-loop
 visit-requires c κs =
     let turn : Turn = search in
-    let inv = turn.before.loop-r.inv in
-    (inv.2, (asked turn.before).pre.3, omega (arith, inv.1, turn.loop-r-test.true))
+    let inv = turn.loop-r.invariant in
+    (inv.2, (asked turn.before).requires.3, omega (arith, inv.1, turn.loop-r-test.true))
 
 add_r : tie.Need-overflow_add-r invariant-loop decreases-loop
 add_r c =
     let turn : Turn = search in
-    omega (arith, turn.loop-r-test.true, turn.before.loop-r.inv.1, (asked turn.before).pre.0.few)
+    omega (arith, turn.loop-r-test.true, turn.loop-r.invariant.1, (asked turn.before).requires.0.few)
 
 loop-again : tie.Need-loop-r-preserved invariant-loop decreases-loop
 loop-again c =
     let turn : Turn = search in
     let visited : tie.After-visit-time invariant-loop decreases-loop = search in
-    (omega (arith, turn.loop-r-test.true), turn.before.loop-r.inv.1, visited.visit-time.ensures)
+    (omega (arith, turn.loop-r-test.true), turn.loop-r.invariant.1, visited.visit-time.ensures)
 
 returns : tie.Need-returns invariant-loop decreases-loop
 returns c =
-    let inv = c.before.loop-r.invariant in
+    let inv = c.loop-r.invariant in
     answered inv.2 (omega (arith, inv.0, inv.1, c.loop-r-test.false)) 256 inv.2.marks-are
 
 pub walk_all_spec : {M : Type 1} → statement M
@@ -64,9 +64,9 @@ walk_all_spec =
     add_r
     (λ c. let turn : Turn = search in omega (arith, turn.loop-r-test.true))
     loop-again
-    (λ c. c.before.loop-r.invariant.2.sized.disc-are ∙ sym (asked c.before).pre.4.disc-are)
-    (λ c. c.before.loop-r.invariant.2.sized.stack-are ∙ sym (asked c.before).pre.4.stack-are)
-    (λ c. c.before.loop-r.invariant.2.sized.parents-are ∙ sym (asked c.before).pre.4.parents-are)
-    (λ c. c.before.loop-r.invariant.2.sized.nexts-are ∙ sym (asked c.before).pre.4.nexts-are)
-    (λ c. c.before.loop-r.invariant.2.sized.lows-are ∙ sym (asked c.before).pre.4.lows-are)
+    (λ c. c.loop-r.invariant.2.sized.disc-are ∙ sym (asked c.before).pre.4.disc-are)
+    (λ c. c.loop-r.invariant.2.sized.stack-are ∙ sym (asked c.before).pre.4.stack-are)
+    (λ c. c.loop-r.invariant.2.sized.parents-are ∙ sym (asked c.before).pre.4.parents-are)
+    (λ c. c.loop-r.invariant.2.sized.nexts-are ∙ sym (asked c.before).pre.4.nexts-are)
+    (λ c. c.loop-r.invariant.2.sized.lows-are ∙ sym (asked c.before).pre.4.lows-are)
     returns)

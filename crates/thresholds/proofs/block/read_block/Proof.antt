@@ -15,7 +15,7 @@ returns c =
     let smallest = largest.before in
     let offset = smallest.before in
     simp (
-      offset.before.read_u32.ensures,
+      offset.read_u32.ensures,
       offset.read_u32-2.ensures,
       smallest.read_u32-3.ensures,
       largest.read_u32-4.ensures,

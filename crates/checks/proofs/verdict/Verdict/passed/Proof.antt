@@ -32,7 +32,7 @@ only-passed (SpanEndsCoincide d) = refl
 only-passed BadThresholds = refl
 
 returns : tie.Need-returns
-returns c = ap (λ (n : ℕ). eqb n 0) c.number.ensures ∙ only-passed c.before.args.self
+returns c = ap (λ (n : ℕ). eqb n 0) c.number.ensures ∙ only-passed c.args.self
 
 pub passed_spec : {M : Type 1} → statement M
 passed_spec = tie.close (tie.spec (λ c κs. search rules) returns)

@@ -11,7 +11,7 @@ returns c =
     let after_one = after-one2.before.before in
     let start = after_one.before.before in
     let self = start.args.self in
-    simp (c.one-4.ensures.0, c.before.before.one-3.ensures.0, after-one2.one-2.ensures.0, after_one.one.ensures.0)
+    simp (c.one-4.ensures.0, c.one-3.ensures.0, after-one2.one-2.ensures.0, after_one.one.ensures.0)
     (four-levels self.level_0 self.level_1 self.level_2 self.level_3)
 
 pub elevation_kinds_spec : {M : Type 1} → statement M

@@ -11,7 +11,7 @@ returns c =
     let third = c.before.before in
     let second = third.before.before in
     let first = second.before.before in
-    let own = first.before.before.args.self in
+    let own = first.args.self in
     omega (
       arith,
       bits_are own.level_0 own.level_1 own.level_2 own.level_3,

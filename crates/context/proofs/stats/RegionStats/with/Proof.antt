@@ -7,7 +7,7 @@ use Rattle.context.proofs.stats.RegionStats.with.Tie as tie
 add-t32 : tie.Need-overflow_add-result-5
 add-t32 c =
     let start = c.before.before.before.before.before.before.before.before.before.before.before.before.before.before in
-    omega (arith, start.requires.0.fourth, c.before.one-4.ensures.1)
+    omega (arith, start.requires.0.fourth, c.one-4.ensures.1)
 
 returns : tie.Need-returns
 unfolding stats_with_cell
@@ -20,7 +20,7 @@ returns c =
     let after-lesser2 = after-greater.before in
     let after-lesser = after-lesser2.before in
     simp (
-      c.before.one-4.ensures.0,
+      c.one-4.ensures.0,
       after-one3.one-3.ensures.0,
       after-one2.one-2.ensures.0,
       after_one.one.ensures.0,

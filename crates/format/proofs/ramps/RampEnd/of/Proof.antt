@@ -4,10 +4,10 @@ use Rattle.format.proofs.ramps.RampEnd.of.Statement.{statement}
 use Rattle.format.proofs.ramps.RampEnd.of.Tie as tie
 
 returns : tie.Need-returns-then-byte-eq0
-returns c = end-small c.before.args.byte 0 (omega arith) (omega arith)
+returns c = end-small c.args.byte 0 (omega arith) (omega arith)
 
 returns-2 : tie.Need-returns-then-byte-eq1
-returns-2 c = end-small c.before.before.args.byte 1 (omega arith) (omega arith)
+returns-2 c = end-small c.args.byte 1 (omega arith) (omega arith)
 
 returns-3 : tie.Need-returns-then-byte-eq2
 returns-3 c =

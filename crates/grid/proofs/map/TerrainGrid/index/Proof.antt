@@ -9,14 +9,14 @@ use Rattle.grid.proofs.map.TerrainGrid.index.Statement.{statement}
 use Rattle.grid.proofs.map.TerrainGrid.index.Tie as tie
 
 returns : tie.Need-returns-then-width-x
-returns c = λ g e f. past-columns g c.before.args.position (omega arith)
+returns c = λ g e f. past-columns g c.args.position (omega arith)
 
 returns-2 : tie.Need-returns-then-height-y
-returns-2 c = λ g e f. past-rows g c.before.before.args.position (omega arith)
+returns-2 c = λ g e f. past-rows g c.args.position (omega arith)
 
 mul-t10 : tie.Need-overflow_mul-result
 mul-t10 c =
-    let y : c.before.wide.result ≤ 4294967295 = omega (arith, c.before.wide.ensures.1) in
+    let y : c.wide.result ≤ 4294967295 = omega (arith, c.wide.ensures.1) in
     let w : c.wide-2.result ≤ 4294967295 = omega (arith, c.wide-2.ensures.1) in
     omega (arith, mul-le-mul y w)
 
@@ -24,7 +24,7 @@ add-t12 : tie.Need-overflow_add-result
 add-t12 c =
     let widened = c.before.before in
     let y : widened.wide.result ≤ 4294967295 = omega (arith, widened.wide.ensures.1) in
-    let w : c.before.wide-2.result ≤ 4294967295 = omega (arith, c.before.wide-2.ensures.1) in
+    let w : c.wide-2.result ≤ 4294967295 = omega (arith, c.wide-2.ensures.1) in
     omega (arith, mul-le-mul y w, c.wide-3.ensures.1)
 
 returns-3 : tie.Need-returns
@@ -34,9 +34,9 @@ returns-3 c =
     λ g e f.
     let p = start.args.position in
     let x = c.wide-3.ensures.0 in
-    let w = c.before.wide-2.ensures.0 ∙ sym e in
+    let w = c.wide-2.ensures.0 ∙ sym e in
     let y = widened.wide.ensures.0 in
-    let z : some (widened.wide.result * c.before.wide-2.result + c.wide-3.result) ≡ some (p.y * g.width + p.x) = rw (x, w, y) in
+    let z : some (widened.wide.result * c.wide-2.result + c.wide-3.result) ≡ some (p.y * g.width + p.x) = rw (x, w, y) in
     z ∙ on-map g p (omega arith) (omega arith)
 
 pub index_spec : {M : Type 1} → statement M

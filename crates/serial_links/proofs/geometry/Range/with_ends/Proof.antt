@@ -9,8 +9,8 @@ returns c =
     let after-point-of = after-point-of2.before in
     simp (
       c.widened-2.ensures,
-      c.before.dot-2.ensures,
-      c.before.before.widened.ensures,
+      c.dot-2.ensures,
+      c.widened.ensures,
       after-dot.dot.ensures,
       after-point-of2.point_of-b.ensures,
       after-point-of.point_of-a.ensures,

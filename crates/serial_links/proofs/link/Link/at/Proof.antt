@@ -14,8 +14,8 @@ returns c =
     let after-cell-centre = after-towards.before in
     simp (
       c.max-2.ensures,
-      c.before.min-2.ensures,
-      c.before.before.max.ensures,
+      c.min-2.ensures,
+      c.max.ensures,
       after-min.min.ensures,
       after-still.still.ensures,
       after-dot2.dot-transverse.ensures,

@@ -8,14 +8,14 @@ returns-2 : tie.Need-returns-then-transverse-width
 returns-2 c =
     let long : tie.After-longitudinal_envelope-longitudinal = search in
     let across = long.before in
-    within_both _ _ (not-false _ across.before.if-not-self.false) across.transverse_envelope-transverse.ensures
+    within_both _ _ (not-false _ across.if-not-self.false) across.transverse_envelope-transverse.ensures
     long.longitudinal_envelope-longitudinal.ensures c.if-transverse-width.true
 
 returns-3 : tie.Need-returns-else-transverse-width
 returns-3 c =
     let long : tie.After-longitudinal_envelope-longitudinal = search in
     let across = long.before in
-    beyond-one _ _ (not-false _ across.before.if-not-self.false) across.transverse_envelope-transverse.ensures
+    beyond-one _ _ (not-false _ across.if-not-self.false) across.transverse_envelope-transverse.ensures
     long.longitudinal_envelope-longitudinal.ensures c.if-transverse-width.false
 
 pub measured_spec : {M : Type 1} → statement M

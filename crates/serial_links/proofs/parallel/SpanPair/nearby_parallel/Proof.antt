@@ -7,12 +7,12 @@ use Rattle.serial_links.proofs.parallel.SpanPair.nearby_parallel.Tie as tie
 span-length-requires : tie.Need-span_length-first-requires
 span-length-requires c κs =
     let first : tie.After-canonical-a = search in
-    bounded-as first.canonical-a.ensures (canonical-bounded first.before.pre.0)
+    bounded-as first.canonical-a.ensures (canonical-bounded first.pre.0)
 
 span-length-requires-2 : tie.Need-span_length-second-requires
 span-length-requires-2 c κs =
     let second : tie.After-canonical-b = search in
-    bounded-as second.canonical-b.ensures (canonical-bounded second.before.before.pre.1)
+    bounded-as second.canonical-b.ensures (canonical-bounded second.pre.1)
 
 returns : tie.Need-returns-then-abs-first
 returns c =
@@ -25,12 +25,12 @@ returns c =
     (simp (
       angle.abs.ensures,
       lengths.span_length-second.ensures,
-      lengths.before.span_length-first.ensures,
+      lengths.span_length-first.ensures,
       dot.dot.ensures,
       vectors.span_vector-2.ensures,
-      vectors.before.span_vector.ensures,
+      vectors.span_vector.ensures,
       spans.canonical-b.ensures,
-      spans.before.canonical-a.ensures,
+      spans.canonical-a.ensures,
     ))
 
 near-ends-requires : tie.Need-near_ends-requires
@@ -38,7 +38,7 @@ near-ends-requires c κs =
     let angle : tie.After-abs = search in
     let spans = angle.before.before.before.before.before.before in
     let first = spans.before in
-    let p = first.before.pre in (
+    let p = first.pre in (
       bounded-as first.canonical-a.ensures (canonical-bounded p.0),
       bounded-as c.facing.ensures (facing-bounded _ (bounded-as spans.canonical-b.ensures (canonical-bounded p.1))),
     )
@@ -50,25 +50,25 @@ returns-2 c =
     let dot = lengths.before.before in
     let vectors = dot.before in
     let spans = vectors.before.before in
-    alike _ _ _ c.before.before.if-abs-first.false
+    alike _ _ _ c.if-abs-first.false
     (simp (
       angle.abs.ensures,
       lengths.span_length-second.ensures,
-      lengths.before.span_length-first.ensures,
+      lengths.span_length-first.ensures,
       dot.dot.ensures,
       vectors.span_vector-2.ensures,
-      vectors.before.span_vector.ensures,
+      vectors.span_vector.ensures,
       spans.canonical-b.ensures,
-      spans.before.canonical-a.ensures,
+      spans.canonical-a.ensures,
     ))
     (simp (
       c.near_ends.ensures,
-      c.before.facing.ensures,
+      c.facing.ensures,
       dot.dot.ensures,
       vectors.span_vector-2.ensures,
-      vectors.before.span_vector.ensures,
+      vectors.span_vector.ensures,
       spans.canonical-b.ensures,
-      spans.before.canonical-a.ensures,
+      spans.canonical-a.ensures,
     ))
 
 pub nearby_parallel_spec : {M : Type 1} → statement M

@@ -8,13 +8,13 @@ returns-2 : tie.Need-returns
 unfolding pushed
 returns-2 c =
     let start = c.before.before.before in
-    rw (not-false start.args.on c.before.before.if-not-on.false)
+    rw (not-false start.args.on c.if-not-on.false)
 
 pub with_spec : {M : Type 1} → statement M
 with_spec =
     tie.close
     (tie.spec
-    (λ c. rw (not-true c.before.args.on c.if-not-on.true))
+    (λ c. rw (not-true c.args.on c.if-not-on.true))
     (λ c. search rules)
     (λ c. search rules)
     (λ c. search rules)
