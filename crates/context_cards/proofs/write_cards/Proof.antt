@@ -23,7 +23,7 @@ decreases-loop cells width labels areas cards₀ n column₀ row₀ i₀ cards c
 
 -- the start, from the loop
 abbrev asked : tie.At-loop-i invariant-loop decreases-loop → tie.Start invariant-loop decreases-loop
-asked c = c.before.before.before.before.before.before.before.before
+asked c = search
 
 -- the map, of any height, and the labels
 abbrev map_here : tie.Start invariant-loop decreases-loop → ℕ → Grid
@@ -69,7 +69,7 @@ roomy : (c : tie.At-loop-i invariant-loop decreases-loop) → card_size * (asked
 roomy c = omega (arith, (zeroed c 0).long, (asked c).requires.room)
 
 abbrev cell-of : tie.After-label_of invariant-loop decreases-loop → tie.In-loop-i invariant-loop decreases-loop
-cell-of c = c.before.before
+cell-of c = search
 
 most : (c : tie.After-label_of invariant-loop decreases-loop) → c.label_of.result ≤ (asked (cell-of c).before).args.areas
 most c = let turning = cell-of c in omega (arith, c.label_of.ensures, (asked turning.before).pre.each turning.loop-i.i (on turning))

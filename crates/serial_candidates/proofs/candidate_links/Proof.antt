@@ -5,7 +5,7 @@ use Rattle.serial_candidates.proofs.candidate_links.Tie as tie
 
 -- what the function is given and asked: the places since only say that its slices have lengths
 abbrev start_of : tie.After-shared_slice_known-4-1 → tie.Start
-start_of c = c.before.before.before.before
+start_of c = search
 
 first-pairs-requires : tie.Need-first_pairs-requires
 first-pairs-requires c κs =

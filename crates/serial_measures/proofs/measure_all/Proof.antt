@@ -61,7 +61,7 @@ Sized = tie.After-size-j invariant-loop decreases-loop invariant-loop2 decreases
 
 -- the start, from a turn of each loop
 abbrev asked : tie.At-loop-k invariant-loop decreases-loop invariant-loop2 decreases-loop2 invariant-loop3 decreases-loop3 → Start
-asked c = c.before.before.before.before.before.before.before.before
+asked c = search
 
 abbrev asked2 : tie.At-loop-i invariant-loop decreases-loop invariant-loop2 decreases-loop2 invariant-loop3 decreases-loop3 → Start
 asked2 c = asked c.before.before
@@ -94,7 +94,7 @@ low c =
 
 -- the turn of a cell that has a link's number; the link is one of the arrays
 abbrev turn-of : Sized → Passing
-turn-of c = c.before.before.before.before.before
+turn-of c = search
 
 numbered : (c : Sized) → c.size-j.result < 256
 numbered c =

@@ -18,7 +18,7 @@ abbrev Turn : Type 0
 Turn = tie.In-loop-k invariant-loop decreases-loop
 
 abbrev asked : tie.At-loop-k invariant-loop decreases-loop → tie.Start invariant-loop decreases-loop
-asked c = c.before.before
+asked c = search
 
 small : (c : Turn) → (c.loop-k.k < (asked c.before).args.links) × (c.loop-k.k < 256)
 small c = (c.loop-k-test.true, omega (arith, c.loop-k-test.true, (asked c.before).pre.2.few))

@@ -8,10 +8,10 @@ use Rattle.analysis.proofs.drawing.order_boundaries.Tie as tie
 
 -- what the function is given and asked, from where the place and number of the boundaries are known; that place, from where their keys are written
 abbrev start_of : tie.After-size-at → tie.Start
-start_of c = c.before.before.before.before.before
+start_of c = search
 
 abbrev counted : tie.After-fill_keys → tie.After-size-at
-counted c = c.before.before.before
+counted c = search
 
 few : (c : tie.After-size-at) → c.size-n.result ≤ 256
 few c = (keys_in_lem (start_of c).requires.0 _ _ c.size-at.ensures.0 c.size-n.ensures.0).0

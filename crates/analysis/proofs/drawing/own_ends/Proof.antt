@@ -5,10 +5,10 @@ use Rattle.analysis.proofs.drawing.own_ends.Tie as tie
 
 -- what the function is given and asked, from where both counts are known; that place, from where the order is written
 abbrev start_of : tie.After-size-at → tie.Start
-start_of c = c.before.before.before.before.before
+start_of c = search
 
 abbrev counted : tie.After-fill_identity → tie.After-size-at
-counted c = c.before.before
+counted c = search
 
 fill-spans-requires : tie.Need-fill_spans-requires
 fill-spans-requires c κs =

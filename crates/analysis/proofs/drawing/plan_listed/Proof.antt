@@ -9,11 +9,11 @@ use Rattle.analysis.proofs.drawing.plan_listed.Tie as tie
 
 -- what the function is given and asked: the places since only say that its slices have lengths
 abbrev start_of : tie.After-size-count → tie.Start
-start_of c = c.before.before.before.before.before
+start_of c = search
 
 -- where the number of boundaries is known, from where the spans are written
 abbrev counted : tie.After-fill_spans → tie.After-size-count
-counted c = c.before.before
+counted c = search
 
 abbrev given : tie.After-fill_spans → tie.Start
 given c = start_of (counted c)

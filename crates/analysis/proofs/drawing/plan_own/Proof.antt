@@ -10,10 +10,10 @@ use Rattle.analysis.proofs.drawing.plan_own.Tie as tie
 
 -- what the function is given and asked, from where both counts are known; that place, from where the spans are written
 abbrev start_of : tie.After-size-at → tie.Start
-start_of c = c.before.before.before.before.before.before
+start_of c = search
 
 abbrev counted : tie.After-fill_spans → tie.After-size-at
-counted c = c.before.before
+counted c = search
 
 abbrev given : tie.After-fill_spans → tie.Start
 given c = start_of (counted c)

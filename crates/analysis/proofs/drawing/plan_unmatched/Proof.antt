@@ -10,14 +10,14 @@ use Rattle.analysis.proofs.drawing.plan_unmatched.Tie as tie
 
 -- what the function is given and asked: the places since only say that its slices have lengths
 abbrev start_of : tie.After-size-cells → tie.Start
-start_of c = c.before.before.before.before.before.before
+start_of c = search
 
 -- where the size of the map is known, from where the order is written; that place, from where the spans are
 abbrev sized : tie.After-fill_identity → tie.After-size-cells
-sized c = c.before.before
+sized c = search
 
 abbrev ordered : tie.After-fill_spans → tie.After-fill_identity
-ordered c = c.before.before.before
+ordered c = search
 
 mul-size : tie.Need-overflow_mul-c
 mul-size c =

@@ -17,7 +17,7 @@ use Rattle.analysis.proofs.plans.plan_reduce.Statement.{statement}
 use Rattle.analysis.proofs.plans.plan_reduce.Tie as tie
 
 abbrev start_of : tie.After-first_answer-r → tie.Start
-start_of c = c.before.before.before.before
+start_of c = search
 
 answered : (c : tie.After-first_answer-r)
     → FirstAnswer (first_refusal (reduce_checks (start_of c).args.job.now)) (work_size (decode (start_of c).args.job.now))
@@ -26,7 +26,7 @@ answered c = first_of c.check_reduce.ensures c.first_answer-r.ensures
 
 -- past the checks and 21: the first answer, and what the function is given
 abbrev first : tie.Else-r-gt0 → tie.After-first_answer-r
-first c = c.before.before
+first c = search
 
 abbrev given : tie.Else-r-gt0 → tie.Start
 given c = start_of (first c)
@@ -43,7 +43,7 @@ read c =
     reduce-headed (λ i. (bytes.shared_slice_known-1.given i).fits) (passed c.before) c.read_header-h.ensures
 
 abbrev header_of : tie.After-order_boundaries → tie.After-read_header-h
-header_of c = c.before.before.before.before
+header_of c = search
 
 first-answer-requires : tie.Need-first_answer-r-requires
 first-answer-requires c κs = (λ e. reduce-job _ (sym c.check_reduce.ensures ∙ e), omega arith)

@@ -16,7 +16,7 @@ use Rattle.analysis.proofs.result.first_answer.Statement.{statement}
 use Rattle.analysis.proofs.result.first_answer.Tie as tie
 
 abbrev start_of : tie.Else-not-passed → tie.Start
-start_of c = c.before.before.before
+start_of c = search
 
 -- past the checks
 passed : (c : tie.Else-not-passed) → meaning (start_of c).args.v ≡ none
@@ -30,7 +30,7 @@ cells c = job-cells _ (job-passes c.before) c.read_header-h.ensures
 
 -- where the header is read, from where the size of the map is known
 abbrev header : tie.After-size → tie.After-read_header-h
-header c = c.before.before.before
+header c = search
 
 abbrev went_on : tie.After-size → tie.Else-not-passed
 went_on c = (header c).before

@@ -27,7 +27,7 @@ abbrev given : tie.After-size-seen invariant-loop decreases-loop → tie.Start i
 given c = start_of c.before.before
 
 abbrev at-loop : tie.After-size-seen invariant-loop decreases-loop → tie.At-loop-b invariant-loop decreases-loop
-at-loop c = c.before.before.before
+at-loop c = search
 
 -- the places of what is laid next, once its record is read
 few : (c : tie.After-size-seen invariant-loop decreases-loop) → ((given c).args.base + (at-loop c).loop-b.b < 1280) × ((at-loop c).loop-b.p ≤ 1024)

@@ -21,7 +21,7 @@ decreases-loop cells width height directions labels span position lefts₀ right
 
 -- what the function is given and asked: the places since only say that its slices have lengths
 abbrev start_of : tie.After-slice_known-2-1 invariant-loop decreases-loop → tie.Start invariant-loop decreases-loop
-start_of c = c.before.before.before.before
+start_of c = search
 
 loop-holds : tie.Need-loop-d-init invariant-loop decreases-loop
 loop-holds c =

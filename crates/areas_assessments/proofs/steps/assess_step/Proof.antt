@@ -11,7 +11,7 @@ use Rattle.areas_assessments.proofs.steps.assess_step.Tie as tie
 
 -- what the function is given and asked: the places since only say that its slices have lengths
 abbrev start_of : tie.After-slice_known-2-1 → tie.Start
-start_of c = c.before.before.before.before
+start_of c = search
 
 returns : tie.Need-returns-then-not-has_direction
 returns c =

@@ -24,7 +24,7 @@ decreases-loop cells width height directions labels span c lefts₀ rights₀ st
 
 -- what the function is given and asked: the places since only say that its slices have lengths
 abbrev start_of : tie.After-slice_known-2-1 invariant-loop decreases-loop → tie.Start invariant-loop decreases-loop
-start_of c = c.before.before.before.before
+start_of c = search
 
 strip-minor-requires : tie.Need-strip_minor-range-requires invariant-loop decreases-loop
 strip-minor-requires c κs =

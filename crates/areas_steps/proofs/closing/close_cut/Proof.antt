@@ -25,7 +25,7 @@ abbrev decreases-loop : tie.decreases-loop-c
 decreases-loop span width height work₀ base last c₀ work c = last + 1 - c
 
 abbrev start_of : tie.After-strip_axis-range invariant-loop decreases-loop → tie.Start invariant-loop decreases-loop
-start_of c = c.before.before
+start_of c = search
 
 -- the cells along the span are on the map, whose sides are at most 1,024
 last_on : (c : tie.After-strip_axis-range invariant-loop decreases-loop) → let a = (start_of c).args in

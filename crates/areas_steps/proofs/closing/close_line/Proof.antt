@@ -20,7 +20,7 @@ abbrev decreases-loop : tie.decreases-loop-cm
 decreases-loop span width height c work₀ base tall last cm₀ work cm = last + 1 - cm
 
 abbrev start_of : tie.After-strip_minor-range invariant-loop decreases-loop → tie.Start invariant-loop decreases-loop
-start_of c = c.before.before.before
+start_of c = search
 
 -- the cells beside the span at c are on the map, whose sides are at most 1,024
 last_on : (c : tie.After-strip_minor-range invariant-loop decreases-loop) → let a = (start_of c).args in

@@ -34,13 +34,13 @@ module _ (s : List ℕ) (c : Counts) where
   after-bases = check (sums_fault s c) bad_sums 0 ∷ (ramps ++ widths)
 
 abbrev start_of : tie.After-size → tie.Start
-start_of c = c.before.before.before.before.before
+start_of c = search
 
 abbrev over : tie.After-size → (List ℕ → Counts → List Check) → List Check
 over c checks = checks (start_of c).args.job.now (start_of c).args.h.counts
 
 abbrev size_of : tie.Else-not-passed → tie.After-size
-size_of c = c.before.before.before
+size_of c = search
 
 -- what each loop answers, of the place and the number that the header gives
 cells_told : (c : tie.After-check_cells-v) → meaning c.check_cells-v.result ≡ first_refusal (over c.before cells)
@@ -59,7 +59,7 @@ bases-told c =
     (c.size-2.ensures.0 ∙ (sections _ _ start.pre).bases-at) c.size-3.ensures.0
 
 abbrev else1 : tie.Else-not-passed-2 → tie.Else-not-passed
-else1 c = c.before.before.before.before.before
+else1 c = search
 
 past-bases : (c : tie.Else-not-passed-2) → first_refusal (over (size_of (else1 c)) record_checks) ≡ first_refusal (over (size_of (else1 c)) after-bases)
 past-bases c =

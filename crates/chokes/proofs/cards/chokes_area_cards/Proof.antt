@@ -18,7 +18,7 @@ use Rattle.chokes.proofs.cards.chokes_area_cards.Statement.{statement}
 use Rattle.chokes.proofs.cards.chokes_area_cards.Tie as tie
 
 abbrev start_of : tie.After-first_answer-r → tie.Start
-start_of c = c.before.before.before.before.before
+start_of c = search
 
 answered : (c : tie.After-first_answer-r)
     → FirstAnswer (first_refusal (reduce_checks (start_of c).args.job.now)) (work_size (decode (start_of c).args.job.now))
@@ -27,7 +27,7 @@ answered c = first_of c.check_reduce.ensures c.first_answer-r.ensures
 
 -- past the checks and 21: the first answer, and what the function is given
 abbrev first : tie.Else-r-gt0 → tie.After-first_answer-r
-first c = c.before.before
+first c = search
 
 abbrev given : tie.Else-r-gt0 → tie.Start
 given c = start_of (first c)
@@ -45,11 +45,11 @@ read c =
 
 -- the map is parted
 abbrev header : tie.After-part_areas-found → tie.After-read_header-h
-header c = c.before.before
+header c = search
 
 -- past 13
 abbrev parted : tie.Else-p-gt0 → tie.After-part_areas-found
-parted c = c.before.before.before.before.before
+parted c = search
 
 few : (c : tie.Else-p-gt0) → (parted c).part_areas-found.result.pairs ≤ max_pairs
 few c = pairs-few c.of_pairs-p.ensures (omega (arith, c.if-p-gt0.false))

@@ -7,7 +7,7 @@ use Rattle.chokes.proofs.cards.finish_cards.Statement.{statement}
 use Rattle.chokes.proofs.cards.finish_cards.Tie as tie
 
 abbrev start_of : tie.After-struct_known-1 → tie.Start
-start_of c = c.before.before.before.before.before
+start_of c = search
 
 -- the numbers of cells and of areas as sizes
 abbrev given : tie.After-size-count → tie.Start

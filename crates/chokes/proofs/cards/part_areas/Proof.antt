@@ -10,11 +10,11 @@ use Rattle.chokes.proofs.cards.part_areas.Statement.{statement}
 use Rattle.chokes.proofs.cards.part_areas.Tie as tie
 
 abbrev start_of : tie.After-struct_known-1 → tie.Start
-start_of c = c.before.before.before.before
+start_of c = search
 
 -- the ends are in the array
 abbrev sized : tie.After-own_ends → tie.After-size-count
-sized c = c.before.before
+sized c = search
 
 abbrev given : tie.After-own_ends → tie.Start
 given c = start_of (sized c).before.before

@@ -19,7 +19,7 @@ use Rattle.chokes.proofs.mark.chokes_mark.Statement.{statement}
 use Rattle.chokes.proofs.mark.chokes_mark.Tie as tie
 
 abbrev start_of : tie.After-first_answer-r → tie.Start
-start_of c = c.before.before.before.before.before
+start_of c = search
 
 answered : (c : tie.After-first_answer-r) → FirstAnswer (first_refusal (mark_checks (start_of c).args.job.now)) (work_size (decode (start_of c).args.job.now))
     (length (start_of c).args.work.now) c.first_answer-r.result.number c.first_answer-r.result.detail
@@ -27,7 +27,7 @@ answered c = first_of c.check_mark.ensures c.first_answer-r.ensures
 
 -- past the checks and 21: the first answer, and what the function is given
 abbrev first : tie.Else-r-gt0 → tie.After-first_answer-r
-first c = c.before.before
+first c = search
 
 abbrev given : tie.Else-r-gt0 → tie.Start
 given c = start_of (first c)
@@ -44,11 +44,11 @@ read c =
     mark-own (λ i. (bytes.shared_slice_known-1.given i).fits) (passed c.before) c.read_header-h.ensures (room c.before)
 
 abbrev header_of : tie.After-analyse_boundaries-pairs → tie.After-read_header-h
-header_of c = c.before.before.before
+header_of c = search
 
 -- past 13
 abbrev analysed : tie.Else-p-gt0 → tie.After-analyse_boundaries-pairs
-analysed c = c.before.before.before.before.before
+analysed c = search
 
 few : (c : tie.Else-p-gt0) → (analysed c).analyse_boundaries-pairs.result ≤ max_pairs
 few c = pairs-few c.of_pairs-p.ensures (omega (arith, c.if-p-gt0.false))

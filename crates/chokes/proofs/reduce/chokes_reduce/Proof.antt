@@ -11,10 +11,10 @@ use Rattle.chokes.proofs.reduce.chokes_reduce.Tie as tie
 
 -- where the block passed, from where its limits are read, and from where the plan is made
 abbrev limited : tie.After-plan_reduce-r → tie.After-read_limits-limits
-limited c = c.before.before.before.before
+limited c = search
 
 abbrev start_of : tie.Else-not-passed → tie.Start
-start_of c = c.before.before.before.before.before.before.before
+start_of c = search
 
 admitted : (c : tie.Else-not-passed) → block_fault (start_of c).args.thresholds.now ≡ false
 admitted c =

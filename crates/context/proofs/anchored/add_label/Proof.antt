@@ -8,7 +8,7 @@ use Rattle.context.proofs.anchored.add_label.Tie as tie
 
 -- what the function is given and asked, where there is an anchor
 abbrev start_of : tie.Else-x-y → tie.Start
-start_of c = c.before.before.before
+start_of c = search
 
 -- the anchor's cell is one of the map's
 abbrev on : (c : tie.Else-x-y) → (start_of c).args.p.y * (start_of c).args.width + (start_of c).args.p.x < (start_of c).args.n

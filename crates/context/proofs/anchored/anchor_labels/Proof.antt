@@ -22,7 +22,7 @@ decreases-loop job at count width labels n anchors₀ found₀ i₀ anchors foun
 
 -- what the function is given and asked, from the loop
 abbrev start_of : tie.At-loop-i invariant-loop decreases-loop → tie.Start invariant-loop decreases-loop
-start_of c = c.before.before.before.before
+start_of c = search
 
 loop-holds : tie.Need-loop-i-init invariant-loop decreases-loop
 unfolding base_records rows anchors_of gather

@@ -120,7 +120,7 @@ pub +close_range_spec : {M : Type 1} → statement M
     (λ c. omega (arith, c.loop-b.invariant.opened.range.some))
     (λ c.
     let range = c.loop-b.invariant.opened.range in
-    omega (arith, range .some, range .top))
+    omega (arith, range.some, range.top))
     -- the cut
     (λ c κs.
     let o = c.loop-b.invariant.opened in

@@ -12,7 +12,7 @@ abbrev given : tie.Else-k-count → tie.Start
 given c = search
 
 abbrev few-of : tie.Else-k-count → tie.Else-count-gt4096
-few-of c = c.before.before
+few-of c = search
 
 all_fit : (c : tie.Else-k-count) → AllFit (given c).args.records.now (given c).args.regions (length (given c).args.records.now / 12)
 all_fit c = λ k h. let found = c.fault-k.ensures in found.1 k (omega (arith, h, c.if-k-count.false, found.0))

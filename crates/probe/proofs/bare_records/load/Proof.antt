@@ -21,7 +21,7 @@ start_of c = search
 
 -- the turn, from where the three words of a record are read
 abbrev turn-of : tie.After-read_u32-right invariant-loop decreases-loop → tie.At-loop-k invariant-loop decreases-loop
-turn-of c = c.before.before.before.before
+turn-of c = search
 
 -- the start, from where the turns end
 abbrev asked : tie.After-loop-k invariant-loop decreases-loop → tie.Start invariant-loop decreases-loop

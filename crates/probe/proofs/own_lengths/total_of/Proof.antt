@@ -25,7 +25,7 @@ Turn = tie.In-loop-j invariant-loop decreases-loop
 
 -- what the function is given, from a turn's head
 abbrev start_of : Loop → tie.Start invariant-loop decreases-loop
-start_of c = c.before.before
+start_of c = search
 
 loop-holds : tie.Need-loop-j-init invariant-loop decreases-loop
 loop-holds c = (omega arith, λ i l. absurd (omega (arith, l)), parts-start (length_term c.args.ds.now) c.none-parts.ensures)

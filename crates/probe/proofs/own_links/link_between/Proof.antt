@@ -6,7 +6,7 @@ use Rattle.probe.proofs.own_links.link_between.Tie as tie
 
 -- what the function is given, from where the number of boundaries is known
 abbrev start_of : tie.After-size-at → tie.Start
-start_of c = c.before.before.before
+start_of c = search
 
 read-boundary-requires : tie.Need-read_boundary-a-requires
 read-boundary-requires c κs =

@@ -32,10 +32,10 @@ read c =
 
 -- past the test of the first region, from where the slice is wide enough; where the header is read, from there
 abbrev in-first : tie.Else-out-lt24 → tie.Else-n-first
-in-first c = c.before.before
+in-first c = search
 
 abbrev header_of : tie.Else-n-first → tie.After-read_header-h
-header_of c = c.before.before
+header_of c = search
 
 returns : tie.Need-returns-then-r-gt0
 returns c = refused c.if-r-gt0.true c.unready-r.ensures refl

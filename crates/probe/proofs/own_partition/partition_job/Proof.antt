@@ -20,7 +20,7 @@ asked c = start_of c.before.before
 
 -- where they are counted, from where the ends are known
 abbrev counted : tie.After-own_ends → tie.After-size-count
-counted c = c.before.before
+counted c = search
 
 -- where the ends are known, from where the partition's arrays are lent
 abbrev ended : tie.After-rights-1 → tie.After-own_ends

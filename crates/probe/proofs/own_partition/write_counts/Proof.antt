@@ -21,7 +21,7 @@ abbrev First : Type 0
 First = tie.After-write_u32 invariant-loop decreases-loop
 
 abbrev turn-of : First → tie.At-loop-i invariant-loop decreases-loop
-turn-of c = c.before.before.before.before
+turn-of c = search
 
 loop-holds : tie.Need-loop-i-init invariant-loop decreases-loop
 loop-holds c = let p = c.requires in (omega arith, p.0, p.1, filled-start 8 _ _ _ 8)

@@ -28,7 +28,7 @@ abbrev Left : Type 0
 Left = tie.After-write_u32-in-loop-k invariant-loop decreases-loop
 
 abbrev turn-of : Owner → Turn
-turn-of c = c.before.before.before.before
+turn-of c = search
 
 abbrev owner_of : Left → Owner
 owner_of c = search

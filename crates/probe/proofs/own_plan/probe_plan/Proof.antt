@@ -18,7 +18,7 @@ abbrev given : tie.After-plan_of-r → tie.Start
 given c = search
 
 abbrev plan-at : tie.After-struct_known-1 → tie.After-plan_of-r
-plan-at c = c.before.before.before
+plan-at c = search
 
 -- a refusal or a plan, by the limits 000 and all eight directions; `e` holds the work, the order and the plan as the call leaves them
 left : (c : tie.After-plan_of-r) → let a = (given c).args in let s = a.job.now in let l = a.list.now in let e = c.plan_of-r.new.1.1.1.1.1 in

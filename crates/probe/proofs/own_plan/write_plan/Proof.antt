@@ -27,10 +27,10 @@ abbrev Valued : Type 0
 Valued = tie.After-size-to invariant-loop decreases-loop
 
 abbrev turn-of : Placed → Turn
-turn-of c = c.before.before.before
+turn-of c = search
 
 abbrev placed_of : Valued → Placed
-placed_of c = c.before.before
+placed_of c = search
 
 loop-holds : tie.Need-loop-i-init invariant-loop decreases-loop
 loop-holds c = let p = c.requires in (omega arith, p.0, p.1, p.2, p.3, words-start _)

@@ -10,7 +10,7 @@ use Rattle.probe.proofs.own_regions.probe_region.Tie as tie
 
 -- where the checks and 21 are judged, from past them
 abbrev judged : tie.Else-r-gt0 → tie.After-unready-r
-judged c = c.before.before
+judged c = search
 
 returns : tie.Need-returns-then-r-gt0
 returns c = declined c.if-r-gt0.true c.unready-r.ensures refl

@@ -20,7 +20,7 @@ decreases-loop anchors n own linkables lowers highers owners lefts rights record
 
 -- what the function is given and asked: the places since only say that its slices have lengths
 abbrev start_of : tie.After-shared_slice_known-4-1 invariant-loop decreases-loop → tie.Start invariant-loop decreases-loop
-start_of c = c.before.before.before.before
+start_of c = search
 
 -- what links are found from
 abbrev facts : tie.Start invariant-loop decreases-loop → Given

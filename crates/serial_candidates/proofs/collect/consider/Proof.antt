@@ -10,7 +10,7 @@ use Rattle.serial_candidates.proofs.collect.consider.Tie as tie
 
 -- what the function is given and asked: the places since only say that its slices have lengths
 abbrev start_of : tie.After-shared_slice_known-4-1 → tie.Start
-start_of c = c.before.before.before.before
+start_of c = search
 
 -- the start, past both calls
 abbrev asked : tie.After-gives_link → tie.Start

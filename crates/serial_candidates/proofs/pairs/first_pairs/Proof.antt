@@ -15,7 +15,7 @@ decreases-loop owners lefts rights records counts₀ lowers₀ highers₀ k₀ c
 
 -- what the function is given and asked: the places since only say that its slices have lengths
 abbrev start_of : tie.After-shared_slice_known-3-1 invariant-loop decreases-loop → tie.Start invariant-loop decreases-loop
-start_of c = c.before.before.before
+start_of c = search
 
 mul-size : tie.Need-offset_bounds-owners-k invariant-loop decreases-loop
 mul-size c =

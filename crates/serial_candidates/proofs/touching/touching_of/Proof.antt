@@ -16,7 +16,7 @@ decreases-loop owners lefts rights records region t₀ k₀ t k = records - k
 
 -- what the function is given and asked: the places since only say that its slices have lengths
 abbrev start_of : tie.After-shared_slice_known-3-1 invariant-loop decreases-loop → tie.Start invariant-loop decreases-loop
-start_of c = c.before.before.before
+start_of c = search
 
 loop-holds : tie.Need-loop-k-init invariant-loop decreases-loop
 unfolding touching_after

@@ -27,7 +27,7 @@ abbrev Turn : Type 0
 Turn = tie.In-loop-k invariant-loop decreases-loop
 
 abbrev asked : tie.At-loop-k invariant-loop decreases-loop → tie.Start invariant-loop decreases-loop
-asked c = c.before.before.before.before.before.before
+asked c = search
 
 -- the turn's link is one of the list, and of the arrays
 within : (c : Turn) → (c.loop-k.k < (asked c.before).args.links) × (c.loop-k.k < 256)

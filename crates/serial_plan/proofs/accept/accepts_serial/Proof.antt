@@ -15,10 +15,10 @@ use Rattle.serial_plan.proofs.accept.accepts_serial.Tie as tie
 
 -- the start, from where the path is judged; that place, from where the ends are held
 abbrev asked : tie.After-group_is_simple_path-path → tie.Start
-asked c = c.before.before
+asked c = search
 
 abbrev path-of : tie.After-group_end_nodes-two → tie.After-group_is_simple_path-path
-path-of c = c.before.before
+path-of c = search
 
 -- both ends are ranks that fit
 ends-fit : (c : tie.After-group_end_nodes-two) (j : ℕ) → RankFits (asked (path-of c)).args.own.now (few_at c.group_end_nodes-two.result j)

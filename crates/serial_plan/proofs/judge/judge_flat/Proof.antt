@@ -27,7 +27,7 @@ retained s = retained_in (limits_of s.args.limits) s.args.own.now s.args.bits.no
 
 -- the start, from where the ranks and links of the part are held
 abbrev asked : tie.After-links_of-found → tie.Start
-asked c = c.before.before
+asked c = search
 
 -- the ranks and links held of the part are judged as the part
 judged : (c : tie.After-links_of-found) → Whole (test (asked c)) (ranks (asked c)) (numbers (asked c)) c.ranks_of-ranks.result c.links_of-found.result

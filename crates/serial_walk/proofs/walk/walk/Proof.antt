@@ -60,7 +60,7 @@ abbrev Inner : Type 0
 Inner = tie.At-loop-f invariant-loop decreases-loop invariant-walk decreases-walk
 
 abbrev high-in : Inner → High
-high-in c = c.before.before.before.before.before.before
+high-in c = search
 
 abbrev outer : Inner → Outer
 outer c = (high-in c).before
@@ -73,7 +73,7 @@ abbrev Met : Type 0
 Met = tie.Joined-count-f invariant-loop decreases-loop invariant-walk decreases-walk
 
 abbrev last : Met → Inner
-last c = c.before.before
+last c = search
 
 -- a region was found there; later the frame below is saved, and the new one entered
 abbrev Found : Type 0
@@ -118,7 +118,7 @@ stopped c =
 
 -- a turn of the inner loop that goes on: the frame moves to the next record in the chain of its region
 abbrev turn-of : tie.After-next_record-f invariant-loop decreases-loop invariant-walk decreases-walk → Inner
-turn-of c = c.before.before.before.before.before.before
+turn-of c = search
 
 next_one : (c : tie.After-next_record-f invariant-loop decreases-loop invariant-walk decreases-walk) →
     First (start-in (turn-of c)).args.count (at (start-in (turn-of c)).args.lefts.now) (at (start-in (turn-of c)).args.rights.now)
