@@ -37,12 +37,12 @@ abbrev pub going : (plan : List ℕ) → ℕ → ℕ → List ℕ
 going plan n i = members (λ j. get_or plan j 0) n i
 
 -- The own sources of rank j, as they stand in the job, whose sources begin at `from`.
-abbrev pub field_own : (s : List ℕ) (at from base : ℕ) (order starts : List ℕ) → ℕ → List Source
-field_own s at from base order starts j = source_records s (from + get_or starts (base + get_or order j 0) 0 * source_size) (own_count s at (get_or order j 0))
+abbrev pub own_at : (s : List ℕ) (at from base : ℕ) (order starts : List ℕ) → ℕ → List Source
+own_at s at from base order starts j = source_records s (from + get_or starts (base + get_or order j 0) 0 * source_size) (own_count s at (get_or order j 0))
 
 -- All own sources of those of the first n ranks that go into rank i.
 abbrev pub own_into : (s : List ℕ) (at from base : ℕ) (order plan starts : List ℕ) → ℕ → ℕ → List Source
-own_into s at from base order plan starts n i = gather (field_own s at from base order starts) (going plan n i)
+own_into s at from base order plan starts n i = gather (own_at s at from base order starts) (going plan n i)
 
 -- These, sorted, each once.
 unfoldable pub own_run : (s : List ℕ) (at from base : ℕ) (order plan starts : List ℕ) → ℕ → ℕ → List Source
