@@ -8,7 +8,7 @@ use Rattle.grid.proofs.map.byte_of.Tie as tie
 returns : tie.Need-returns-in-At
 returns c =
     let start : tie.Start = search in
-    c.byte_at.ensures ∙ sym (ap (λ (o : CellIndex). byte_of start.args.cells.now (index_in o)) c.found-1.given.1)
+    c.byte_at.ensures ∙ sym (ap (λ (o : CellIndex). byte_of start.args.cells.now (index_in o)) c.in-At.is)
 
 pub byte_of_spec : {M : Type 1} → statement M
 byte_of_spec = tie.close (tie.spec (search rules) (search rules) (search rules) returns (λ c. search rules))

@@ -23,7 +23,7 @@ walkable-at-requires c κs = let start = c.before.before in rw (c.index.ensures 
 neighbor-requires : tie.Need-neighbor-requires
 neighbor-requires c κs =
     let start : tie.Start = search in
-    let p = start.pre in
+    let p = start.requires in
     let m = leads-means _ _ _ p.2 in
     omega (arith, place-column p.0, place-row p.0)
 
@@ -31,12 +31,12 @@ neighbor-requires c κs =
 beyond : (c : tie.After-neighbor) → let s = c.before.before.before.before in c.neighbor.result ≡ neighbour (grid-of s) (cell-of s) s.args.d
 beyond c =
     let start : tie.Start = search in
-    c.neighbor.ensures (grid-of start) (cell-of start) refl (place-column start.pre.0) (place-row start.pre.0)
+    c.neighbor.ensures (grid-of start) (cell-of start) refl (place-column start.requires.0) (place-row start.requires.0)
 
 walkable-at-requires-2 : tie.Need-walkable_at-requires-2
 walkable-at-requires-2 c κs =
     let start : tie.Start = search in
-    let p = start.pre in
+    let p = start.requires in
     rw (beyond c) (neighbour-on _ p.0.whole _ _ (place-on p.0) p.2)
 
 returns : tie.Need-returns

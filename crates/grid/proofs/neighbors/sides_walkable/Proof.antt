@@ -38,17 +38,17 @@ across-requires : tie.Need-across-requires
 across-requires c κs =
     let start : tie.Start = search in
     let m = keeps start in
-    let p = start.pre.0 in omega (arith, place-column p, place-row p)
+    let p = start.requires.0 in omega (arith, place-column p, place-row p)
 
 across-is : (c : tie.After-across) → let s = c.before.before.before.before in c.across.result ≡ across (grid-of s) (cell-of s) s.args.d
 across-is c =
     let start : tie.Start = search in
-    c.across.ensures (grid-of start) (cell-of start) refl (place-column start.pre.0) (place-row start.pre.0)
+    c.across.ensures (grid-of start) (cell-of start) refl (place-column start.requires.0) (place-row start.requires.0)
 
 walkable-at-requires-2 : tie.Need-walkable_at-requires-2
 walkable-at-requires-2 c κs =
     let start : tie.Start = search in
-    let p = start.pre in rw (across-is c) (across-on _ p.0.whole _ _ (place-on p.0) p.2)
+    let p = start.requires in rw (across-is c) (across-on _ p.0.whole _ _ (place-on p.0) p.2)
 
 returns : tie.Need-returns
 returns c =
