@@ -18,7 +18,7 @@ returns c =
     simp (
       c.min.ensures,
       c.width_of-2.ensures,
-      c.width_of_lem.ensures,
+      c.width_of.ensures,
       after-centre-distance.centre_distance.ensures,
       after_none.none-none.ensures,
       after-end-bounds2.end_bounds-across.ensures,

@@ -7,12 +7,12 @@ use Rattle.serial_links.proofs.parallel.SpanPair.nearby_parallel.Tie as tie
 span-length-requires : tie.Need-span_length-first-requires
 span-length-requires c κs =
     let first : tie.After-canonical-a = search in
-    bounded-as first.canonical-a.ensures (canonical-bounded first.pre.0)
+    bounded-as first.canonical-a.ensures (canonical-bounded first.requires.0)
 
 span-length-requires-2 : tie.Need-span_length-second-requires
 span-length-requires-2 c κs =
     let second : tie.After-canonical-b = search in
-    bounded-as second.canonical-b.ensures (canonical-bounded second.pre.1)
+    bounded-as second.canonical-b.ensures (canonical-bounded second.requires.1)
 
 returns : tie.Need-returns-then-abs-first
 returns c =
@@ -26,7 +26,7 @@ returns c =
       angle.abs.ensures,
       lengths.span_length-second.ensures,
       lengths.span_length-first.ensures,
-      dot.dot.ensures,
+      dot.dot-dot.ensures,
       vectors.span_vector-2.ensures,
       vectors.span_vector.ensures,
       spans.canonical-b.ensures,
@@ -38,7 +38,7 @@ near-ends-requires c κs =
     let angle : tie.After-abs = search in
     let spans = angle.before.before.before.before.before.before in
     let first = spans.before in
-    let p = first.pre in (
+    let p = first.requires in (
       bounded-as first.canonical-a.ensures (canonical-bounded p.0),
       bounded-as c.facing.ensures (facing-bounded _ (bounded-as spans.canonical-b.ensures (canonical-bounded p.1))),
     )
@@ -55,7 +55,7 @@ returns-2 c =
       angle.abs.ensures,
       lengths.span_length-second.ensures,
       lengths.span_length-first.ensures,
-      dot.dot.ensures,
+      dot.dot-dot.ensures,
       vectors.span_vector-2.ensures,
       vectors.span_vector.ensures,
       spans.canonical-b.ensures,
@@ -64,7 +64,7 @@ returns-2 c =
     (simp (
       c.near_ends.ensures,
       c.facing.ensures,
-      dot.dot.ensures,
+      dot.dot-dot.ensures,
       vectors.span_vector-2.ensures,
       vectors.span_vector.ensures,
       spans.canonical-b.ensures,
