@@ -58,8 +58,8 @@ loop-again c =
     = subst (IncidenceLists a.count (length a.heads.now) a.lefts.now a.rights.now m.heads m.left_nexts m.right_nexts)
     (let z : k ≡ k - 1 + 1 = omega (arith, turning.loop-k-test.true) in z) m.invariant.3 in (
       omega arith,
-      omega (arith, linked.link_record.kept, m.inv.1),
-      omega (arith, linked.link_record.kept, m.inv.2),
+      omega (arith, linked.link_record.auto, m.invariant.1),
+      omega (arith, linked.link_record.auto, m.invariant.2),
       linked-as _ _ _ _ _ _ _ _ _ _ _ e.0 e.1.0 e.1.1
           (linked-one a.count (length a.heads.now) a.lefts.now a.rights.now m.heads m.left_nexts m.right_nexts (k - 1) start.requires.0 n
           l),

@@ -98,21 +98,21 @@ stopped : (c : Met) →
 stopped c =
     ⊎_elim
     (λ v. record {
-      is = λ l. absurd (omega (arith, v.2));
-      joins = λ l. absurd (omega (arith, v.2));
-      within = λ l. absurd (omega (arith, v.2));
-      new = λ l. absurd (omega (arith, v.2));
-      all = λ l. v.0.true;
+      is = λ l. absurd (omega (arith, v.j-is));
+      joins = λ l. absurd (omega (arith, v.j-is));
+      within = λ l. absurd (omega (arith, v.j-is));
+      new = λ l. absurd (omega (arith, v.j-is));
+      all = λ l. v.if-count-f.true;
     })
     (λ v.
-    let e = v.7 in
-    let t = v.3.ensures in
+    let e = v.w-is in
+    let t = v.other_end-w.ensures in
     record {
-      is = λ l. v.8;
+      is = λ l. v.j-is;
       joins = λ l. subst (λ (x : ℕ). RecordJoins _ _ _ _ x) (sym e) t;
-      within = λ l. omega (arith, e, end-in (start-in (last c)).requires.0.graph (omega (arith, v.0.false)) t);
-      new = λ l. ap (at (outer (last c)).walk.disc) e ∙ sym v.5.ensures ∙ v.6.true;
-      all = λ l. absurd (omega (arith, v.8, v.0.false));
+      within = λ l. omega (arith, e, end-in (start-in (last c)).requires.0.graph (omega (arith, v.if-count-f.false)) t);
+      new = λ l. ap (at (outer (last c)).walk.disc) e ∙ sym v.time_of-d.ensures ∙ v.if-d-eq0.true;
+      all = λ l. absurd (omega (arith, v.j-is, v.if-count-f.false));
     })
     c.if-count-f.branch-raw
 
@@ -130,10 +130,10 @@ next_one c =
     let k : f.next < a.count = omega (arith, seen.if-count-f.false) in
     let z = c.after.ensures in
     let g = seen.if-f.f in
-    let en : g.next ≡ f.next = ⊎_elim (λ w. ap (λ (x : Frame). x.next) w.6 ∙ w.5.ensures.2) (λ w. ap (λ (x : Frame). x.next) w.1)
+    let en : g.next ≡ f.next = ⊎_elim (λ w. ap (λ (x : Frame). x.next) w.f-is ∙ w.lowered-f.ensures.2) (λ w. ap (λ (x : Frame). x.next) w.f-is)
     seen.if-f.branch-raw in
     let er : g.region ≡ f.region =
-    ⊎_elim (λ w. ap (λ (x : Frame). x.region) w.6 ∙ w.5.ensures.0) (λ w. ap (λ (x : Frame). x.region) w.1) seen.if-f.branch-raw in
+    ⊎_elim (λ w. ap (λ (x : Frame). x.region) w.f-is ∙ w.lowered-f.ensures.0) (λ w. ap (λ (x : Frame). x.region) w.f-is) seen.if-f.branch-raw in
     subst (First a.count (at a.lefts.now) (at a.rights.now) (f.next + 1) f.region) (sym c.next_record-f.ensures.2)
     (follows-as (start-in (turn-of c)).requires.1 f g c.after.result en er k ((turn-of c).loop-f.invariant.touching k) z.0 z.1)
 
@@ -180,52 +180,51 @@ other-end-requires c κs =
     let turn : Inner = search in
     let start = start-in turn in
     let k : turn.loop-f.f.next < start.args.count = omega (arith, c.if-count-f.false) in
-    (omega (arith, start.pre.0.graph.lefts-are), omega (arith, start.pre.0.graph.rights-are), turn.loop-f.inv.touching k)
+    (omega (arith, start.requires.0.graph.lefts-are), omega (arith, start.requires.0.graph.rights-are), turn.loop-f.invariant.touching k)
 
 time-of-requires : tie.Need-time_of-d-requires invariant-loop decreases-loop invariant-walk decreases-walk
 time-of-requires c κs =
-    let more = c.before.before.before.before in
-    let turn = more.before.before in
+    let turn : Inner = search in
     omega (
       arith,
-      end-in (start-in turn).requires.0.graph (omega (arith, more.if-count-f.false)) c.other_end-w.ensures,
+      end-in (start-in turn).requires.0.graph (omega (arith, c.if-count-f.false)) c.other_end-w.ensures,
       (outer turn).walk.invariant.sized.disc-are,
     )
 
 after-requires : tie.Need-after-requires invariant-loop decreases-loop invariant-walk decreases-walk
 after-requires c κs =
     let turn : Inner = search in
-    let p = (start-in turn).pre in
+    let p = (start-in turn).requires in
     let k = c.if-count-f.false in
     chain-in p.0.graph p.1 c.if-f.f.next
-    (⊎_elim (λ w. omega (arith, k, ap (λ (x : Frame). x.next) w.6, w.5.ensures.2)) (λ w. omega (arith, k, ap (λ (x : Frame). x.next) w.1))
+    (⊎_elim (λ w. omega (arith, k, ap (λ (x : Frame). x.next) w.f-is, w.lowered-f.ensures.2)) (λ w. omega (arith, k, ap (λ (x : Frame). x.next) w.f-is))
     c.if-f.branch-raw)
 
 loop-again : tie.Need-loop-f-preserved invariant-loop decreases-loop invariant-walk decreases-walk
 loop-again c =
     let turn = turn-of c in
     let k : turn.loop-f.f.next < (start-in turn).args.count = omega (arith, c.if-count-f.false) in
-    let h = turn.loop-f.inv in
+    let h = turn.loop-f.invariant in
     let m = c.next_record-f.ensures in
     ⊎_elim
     (λ w.
-    let l = w.5.ensures in
-    let e = w.6 in
-    let t = w.3.ensures in
-    seen h c.next_record-f.result w.1.result (m.0 ∙ ap (λ (x : Frame). x.region) e ∙ l.0) (m.1 ∙ ap (λ (x : Frame). x.parent) e ∙ l.1) (next_one c)
-    (m.3 ∙ ap (λ (x : Frame). x.low) e ∙ l.3 ∙ ap (λ (x : ℕ). min turn.loop-f.f.low x) t) k w.1.ensures (λ z. omega (arith, w.0.true, z))
-    (λ z. w.4.false (t ∙ z)))
+    let l = w.lowered-f.ensures in
+    let e = w.f-is in
+    let t = w.time_of-d.ensures in
+    seen h c.next_record-f.result w.other_end-w.result (m.0 ∙ ap (λ (x : Frame). x.region) e ∙ l.0) (m.1 ∙ ap (λ (x : Frame). x.parent) e ∙ l.1) (next_one c)
+    (m.3 ∙ ap (λ (x : Frame). x.low) e ∙ l.3 ∙ ap (λ (x : ℕ). min turn.loop-f.f.low x) t) k w.other_end-w.ensures (λ z. omega (arith, w.if-f.true, z))
+    (λ z. w.if-d-eq0.false (t ∙ z)))
     (λ w.
-    let e = w.1 in
+    let e = w.f-is in
     skipped h c.next_record-f.result (m.0 ∙ ap (λ (x : Frame). x.region) e) (m.1 ∙ ap (λ (x : Frame). x.parent) e) (next_one c)
-    (m.3 ∙ ap (λ (x : Frame). x.low) e) k (omega (arith, w.0.false)))
+    (m.3 ∙ ap (λ (x : Frame). x.low) e) k (omega (arith, w.if-f.false)))
     c.if-f.branch-raw
 
 after-requires-2 : tie.Need-after-requires-then-j-count invariant-loop decreases-loop invariant-walk decreases-walk
 after-requires-2 c κs =
     let found = c.before.before in
     let turn = last found.before in
-    let p = (start-in turn).pre in
+    let p = (start-in turn).requires in
     chain-in p.0.graph p.1 turn.loop-f.f.next (omega (arith, (stopped found.before).is found.if-j-count.true, found.if-j-count.true))
 
 save-requires : tie.Need-save-requires invariant-loop decreases-loop invariant-walk decreases-walk
@@ -245,19 +244,19 @@ enter-requires-2 c κs =
     let m = (outer (last found.before)).walk in
     let v = stopped found.before in
     let j = found.if-j-count.true in
-    let s = slots m.inv.sized m.h (roomy m.inv _ (v.within j) (v.new j)) in (
-      omega (arith, c.opened-then-j-count.ensures.0, v.within j, m.inv.sized.disc-are),
+    let s = slots m.invariant.sized m.h (roomy m.invariant _ (v.within j) (v.new j)) in (
+      omega (arith, c.opened-then-j-count.ensures.0, v.within j, m.invariant.sized.disc-are),
       s.0,
       s.1,
-      omega (arith, s.2, saved.save.kept),
-      omega (arith, s.3, saved.save.kept),
+      omega (arith, s.2, saved.save.auto),
+      omega (arith, s.3, saved.save.auto),
     )
 
 add-h : tie.Need-overflow_add-h invariant-loop decreases-loop invariant-walk decreases-walk
 add-h c =
     let found : Found = search in
     let turn = last found.before in
-    omega (arith, high (outer turn).walk.inv, (start-in turn).pre.0.graph.near)
+    omega (arith, high (outer turn).walk.invariant, (start-in turn).requires.0.graph.near)
 
 walk-less : tie.Need-walk-smaller-then-j-count invariant-loop decreases-loop invariant-walk decreases-walk
 walk-less c =
@@ -271,7 +270,7 @@ walk-less c =
     omega (
       arith,
       ap (λ (x : List ℕ). zero_count (at x) (length x)) e,
-      falls m.inv found.if-count-f.w (m.time + 1) (v.within j) (v.new j) (omega arith),
+      falls m.invariant found.if-count-f.w (m.time + 1) (v.within j) (v.new j) (omega arith),
     )
 
 walk-again : tie.Need-walk-preserved-then-j-count invariant-loop decreases-loop invariant-walk decreases-walk
@@ -288,7 +287,7 @@ walk-again c =
     let f = turn.loop-f.f in
     let g = moved.next_record.result in
     let a = (start-in turn).args in
-    let p = (start-in turn).pre in
+    let p = (start-in turn).requires in
     let w = met.if-count-f.w in
     let v = stopped met in
     let j = found.if-j-count.true in
@@ -305,12 +304,12 @@ walk-again c =
     (e.3 ∙ ap (λ (x : List ℕ). set x m.h opened.opened-then-j-count.result.next) s.0 ∙ set-as (set m.nexts (m.h - 1) g.next) refl o.2)
     (e.4 ∙ ap (λ (x : List ℕ). set x m.h opened.opened-then-j-count.result.low) s.1 ∙ set-as (set m.lows (m.h - 1) g.low) refl o.3) refl refl
     refl
-    (found_at m.inv f g w met.if-count-f.j (at a.heads.now w) (high-in turn).walk-test.true inv v j q n.3 (p.1.head w (v.within j)))
+    (found_at m.invariant f g w met.if-count-f.j (at a.heads.now w) (high-in turn).walk-test.true inv v j q n.3 (p.1.head w (v.within j)))
 
 walk-again-2 : tie.Need-walk-preserved-then-top-eq0 invariant-loop decreases-loop invariant-walk decreases-walk
 walk-again-2 c =
     let turn = last c.before.before in
-    emptied-at (outer turn).walk.inv turn.loop-f.f (high-in turn).walk-test.true c.if-top-eq0.true turn.loop-f.inv
+    emptied-at (outer turn).walk.invariant turn.loop-f.f (high-in turn).walk-test.true c.if-top-eq0.true turn.loop-f.invariant
     ((stopped c.before.before).all c.if-j-count.false)
 
 -- no region was found, and there is a frame below
@@ -321,7 +320,7 @@ leave-requires : tie.Need-leave-requires invariant-loop decreases-loop invariant
 leave-requires c κs =
     let lower : Lower = search in
     let turn = last lower.before.before in
-    leaving (outer turn).walk.inv turn.loop-f.f (high-in turn).walk-test.true lower.if-top-eq0.false turn.loop-f.inv
+    leaving (outer turn).walk.invariant turn.loop-f.f (high-in turn).walk-test.true lower.if-top-eq0.false turn.loop-f.invariant
 
 walk-again-3 : tie.Need-walk-preserved invariant-loop decreases-loop invariant-walk decreases-walk
 walk-again-3 c =
@@ -330,7 +329,7 @@ walk-again-3 c =
     let turn = last met in
     let e = c.leave.ensures in
     recast _ _ _ _ _ _ _ _ refl refl refl refl e.0 e.1 refl refl
-    (left_at (outer turn).walk.inv turn.loop-f.f (high-in turn).walk-test.true lower.if-top-eq0.false turn.loop-f.inv
+    (left_at (outer turn).walk.invariant turn.loop-f.f (high-in turn).walk-test.true lower.if-top-eq0.false turn.loop-f.invariant
     ((stopped met).all lower.if-j-count.false))
 
 returns : tie.Need-returns invariant-loop decreases-loop invariant-walk decreases-walk
@@ -362,7 +361,7 @@ walk_spec =
     after-requires-2
     (λ c κs. search rules)
     save-requires
-    (λ c. let turn : Outer = search in omega (arith, timely turn.walk.inv))
+    (λ c. let turn : Outer = search in omega (arith, timely turn.walk.invariant))
     opened-requires-2
     enter-requires-2
     add-h

@@ -64,9 +64,9 @@ walk_all_spec =
     add_r
     (λ c. let turn : Turn = search in omega (arith, turn.loop-r-test.true))
     loop-again
-    (λ c. c.loop-r.invariant.2.sized.disc-are ∙ sym (asked c.before).pre.4.disc-are)
-    (λ c. c.loop-r.invariant.2.sized.stack-are ∙ sym (asked c.before).pre.4.stack-are)
-    (λ c. c.loop-r.invariant.2.sized.parents-are ∙ sym (asked c.before).pre.4.parents-are)
-    (λ c. c.loop-r.invariant.2.sized.nexts-are ∙ sym (asked c.before).pre.4.nexts-are)
-    (λ c. c.loop-r.invariant.2.sized.lows-are ∙ sym (asked c.before).pre.4.lows-are)
+    (λ c. c.loop-r.invariant.2.sized.disc-are ∙ sym (asked c.before).requires.4.disc-are)
+    (λ c. c.loop-r.invariant.2.sized.stack-are ∙ sym (asked c.before).requires.4.stack-are)
+    (λ c. c.loop-r.invariant.2.sized.parents-are ∙ sym (asked c.before).requires.4.parents-are)
+    (λ c. c.loop-r.invariant.2.sized.nexts-are ∙ sym (asked c.before).requires.4.nexts-are)
+    (λ c. c.loop-r.invariant.2.sized.lows-are ∙ sym (asked c.before).requires.4.lows-are)
     returns)
