@@ -92,6 +92,7 @@ module _ (g : Grid) where
 
   pub cut-is : (ss : List Span) (e : Edge) {s : Span} → Memᴰ s ss → cut_by g s e ≡ true → is_cut g ss e ≡ true
   unfolding is_cut
+  cut-is [] e {s = s} x'' h = elim x'' [ ]
   cut-is (t ∷ ss) e (Memᴰ.head k) h = let p : cut_by g t e ≡ true = rw (← k) h in rw p
   cut-is (t ∷ ss) e (Memᴰ.tail m) h = or_right (cut_by g t e) (cut-is ss e m h)
 

@@ -15,7 +15,7 @@ assess-spans-requires : tie.Need-assess_spans-pairs-requires
 assess-spans-requires c κs =
     let labelled : tie.After-label_areas-areas = search in
     let start : tie.Start = search in
-    let p = start.pre.0 in (
+    let p = start.requires.0 in (
       record {
         sides = p.sides;
         whole = p.whole;
@@ -23,7 +23,7 @@ assess-spans-requires c κs =
         spans = p.spans;
         few = p.few;
       },
-      start.pre.1,
+      start.requires.1,
     )
 
 mul-zero-fill : tie.Need-overflow_mul-n-2
@@ -40,14 +40,14 @@ zero-fill-requires : tie.Need-zero_fill-requires
 zero-fill-requires c κs =
     let labelled : tie.After-label_areas-areas = search in
     let start : tie.Start = search in
-    (omega arith, room_after _ _ _ labelled.label_areas-areas.ensures start.pre.0.room)
+    (omega arith, room_after _ _ _ labelled.label_areas-areas.ensures start.requires.0.room)
 
 returns : tie.Need-returns
 returns c =
     let assessed : tie.After-assess_spans-pairs = search in
     let labelled : tie.After-label_areas-areas = search in
     let start : tie.Start = search in
-    let p = start.pre.0 in
+    let p = start.requires.0 in
     all-parted _ _ _ _ (few start) p.whole labelled.label_areas-areas.ensures
     assessed.assess_spans-pairs.ensures c.zero_fill.ensures (omega arith) (omega arith)
 

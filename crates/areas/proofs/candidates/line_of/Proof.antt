@@ -1,5 +1,5 @@
 use mathlib.Core.Path.{sym, ◌∙◌}
-use borrow.Author.Tests.{not-true, not-false, le-leb, lt-leb}
+use borrow.Author.Tests.{le-leb, lt-leb}
 use Rattle.areas.specs.Strip.{line_of}
 use borrow.Author.Rules.{rules}
 use Rattle.areas.proofs.candidates.line_of.Statement.{statement}
@@ -7,19 +7,19 @@ use Rattle.areas.proofs.candidates.line_of.Tie as tie
 
 returns : tie.Need-returns-then-not-is_tall
 unfolding line_of
-returns c = let e = sym c.is_tall.ensures ∙ not-true _ c.if-not-is_tall.true in rw e
+returns c = let e = sym c.is_tall.ensures ∙ c.if-not-is_tall.true in rw e
 
 returns-2 : tie.Need-returns-then-a-b
 unfolding line_of
 returns-2 c =
-    let e = sym c.is_tall.ensures ∙ not-false _ c.if-not-is_tall.false in
+    let e = sym c.is_tall.ensures ∙ c.if-not-is_tall.false in
     let k = le-leb _ _ c.if-a-b.true in
     rw (e, k)
 
 returns-3 : tie.Need-returns
 unfolding line_of
 returns-3 c =
-    let e = sym c.is_tall.ensures ∙ not-false _ c.if-not-is_tall.false in
+    let e = sym c.is_tall.ensures ∙ c.if-not-is_tall.false in
     let k = lt-leb _ _ c.if-a-b.false in
     rw (e, k)
 

@@ -7,8 +7,8 @@ use Rattle.areas.proofs.candidates.strip_minor.Statement.{statement}
 use Rattle.areas.proofs.candidates.strip_minor.Tie as tie
 
 -- the line keeps to the map
-fits : (c : tie.After-line_of-line) → LineFits c.Line-of.result
-fits c = rw c.Line-of.ensures (line-fits c.requires.0 c.requires.1)
+fits : (c : tie.After-line_of-line) → LineFits c.line_of-line.result
+fits c = rw c.line_of-line.ensures (line-fits c.requires.0 c.requires.1)
 
 clamp-requires : tie.Need-clamp-v-requires
 clamp-requires c κs = let f = fits c.before.before in omega arith
@@ -34,7 +34,7 @@ returns c =
     let clamped = c.before.before in
     let picked = clamped.before in
     let tall = picked.before in
-    minor-is _ _ _ _ _ _ _ _ _ _ tall.Line-of.ensures tall.is_tall.ensures picked.pick-limit.ensures clamped.clamp-v.ensures.0
+    minor-is _ _ _ _ _ _ _ _ _ _ tall.line_of-line.ensures tall.is_tall.ensures picked.pick-limit.ensures clamped.clamp-v.ensures.0
     c.line_at.ensures c.candidate_minor_range.ensures
 
 pub strip_minor_spec : {M : Type 1} → statement M

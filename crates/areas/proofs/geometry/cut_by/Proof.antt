@@ -14,7 +14,7 @@ returns c =
     λ g i j e f h k.
     c.cuts.ensures
     ∙ ap₂ (cuts start.args.span) (c.cell_center.ensures.0 g i e f) (c.cell_center-2.ensures.0 g j h k)
-    ∙ ap (λ (s : Span). cuts s (centre g i) (centre g j)) (sym (ordered start.args.span start.pre.2))
+    ∙ ap (λ (s : Span). cuts s (centre g i) (centre g j)) (sym (ordered start.args.span start.requires.2))
 
 pub cut_by_spec : {M : Type 1} → statement M
 cut_by_spec = tie.close (tie.spec (search rules) (search rules) (search rules) returns)

@@ -26,7 +26,7 @@ start_of c = search
 loop-holds : tie.Need-loop-d-init invariant-loop decreases-loop
 loop-holds c =
     let start = start_of c in
-    (omega arith, going_start _ _ _ 4 start.pre.3)
+    (omega arith, going_start _ _ _ 4 start.requires.3)
 
 assess-step-requires : tie.Need-assess_step-done-requires invariant-loop decreases-loop
 assess-step-requires c κs =

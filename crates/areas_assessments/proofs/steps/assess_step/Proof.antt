@@ -1,6 +1,5 @@
 use mathlib.Core.Path.{sym, ◌∙◌}
 use native.Mathlib.Omega.{arith}
-use borrow.Author.Tests.{not-true, not-false}
 use Rattle.areas_steps.proofs.Halves.{ends-bounded}
 use Rattle.areas_assessments.proofs.Advancing.{advance-none, grown-none, advance-as}
 use Rattle.areas_assessments.proofs.Stepping.{not-among, not_step, not-cut, is-step, arrives, fits-label-at, here_on, there-on, there-in, index-here}
@@ -16,18 +15,18 @@ start_of c = search
 returns : tie.Need-returns-then-not-has_direction
 returns c =
     let start = start_of c.before.before in
-    (grown-none 1 start.pre.4, advance-none _ (not-among _ _ _ _ _ (sym c.has_direction.ensures ∙ not-true _ c.if-not-has_direction.true)))
+    (grown-none 1 start.requires.4, advance-none _ (not-among _ _ _ _ _ (sym c.has_direction.ensures ∙ c.if-not-has_direction.true)))
 
 returns-2 : tie.Need-returns-then-not-step_at
 returns-2 c =
     let start = start_of c.before.before.before.before in
-    (grown-none 1 start.pre.4, advance-none _ (not_step _ _ _ _ _ (sym c.step_at.ensures ∙ not-true _ c.if-not-step_at.true)))
+    (grown-none 1 start.requires.4, advance-none _ (not_step _ _ _ _ _ (sym c.step_at.ensures ∙ c.if-not-step_at.true)))
 
 place-to-requires : tie.Need-place_to-to-requires
 place-to-requires c κs =
     let start = start_of c.before.before.before.before in
-    let a = arrives start.args.position start.pre.0 start.pre.1 start.pre.2 start.args.d
-    (sym c.step_at.ensures ∙ not-false _ c.if-not-step_at.false) in (omega arith, omega arith, omega arith, a.left, a.top)
+    let a = arrives start.args.position start.requires.0 start.requires.1 start.requires.2 start.args.d
+    (sym c.step_at.ensures ∙ c.if-not-step_at.false) in (omega arith, omega arith, omega arith, a.left, a.top)
 
 cut-by-requires : tie.Need-cut_by-requires
 cut-by-requires c κs =
@@ -35,7 +34,7 @@ cut-by-requires c κs =
     let p = start.pre in
     let b = ends-bounded p.0.sides p.0.span in
     let i = there-in start.args.position p.0 p.1 p.2 start.args.d
-    (sym c.step_at.ensures ∙ not-false _ c.if-not-step_at.false) p.3 c.place_to-to.result c.place_to-to.ensures.0 in
+    (sym c.step_at.ensures ∙ c.if-not-step_at.false) p.3 c.place_to-to.result c.place_to-to.ensures.0 in
     (b.0, b.1, p.0.span.ordered, omega arith, omega arith, i.0, i.1)
 
 returns-3 : tie.Need-returns-then-not-cut_by
@@ -45,12 +44,12 @@ returns-3 c =
     let step-told = steps.before in
     let start = start_of step-told.before.before.before in
     let p = start.pre in
-    let t = (sym step-told.step_at.ensures ∙ not-false _ steps.if-not-step_at.false) in (
+    let t = (sym step-told.step_at.ensures ∙ steps.if-not-step_at.false) in (
       grown-none 1 p.4,
       advance-none _
           (not-cut _ _ _ _ _ t (sym
           (step_cut start.args.position p.0 p.1 p.2 start.args.d t p.3 placed.place_to-to.result
-          placed.place_to-to.ensures.0 c.cut_by.ensures) ∙ not-true _ c.if-not-cut_by.true)),
+          placed.place_to-to.ensures.0 c.cut_by.ensures) ∙ c.if-not-cut_by.true)),
     )
 
 count-step-requires : tie.Need-count_step-requires
@@ -62,7 +61,7 @@ count-step-requires c κs =
     let start = start_of step-told.before.before.before in
     let position = start.args.position in
     let p = start.pre in
-    let t = (sym step-told.step_at.ensures ∙ not-false _ steps.if-not-step_at.false) in
+    let t = (sym step-told.step_at.ensures ∙ steps.if-not-step_at.false) in
     let i = index-here position p.0 p.1 p.2 from-index.index.ensures in
     let j = index-there position p.0 p.1 p.2 start.args.d t p.3 placed.place_to-to.result
     placed.place_to-to.ensures.0 c.index-2.ensures in (
@@ -88,14 +87,14 @@ returns-4 c =
     let position = start.args.position in
     let d = start.args.d in
     let p = start.pre in
-    let t = (sym step-told.step_at.ensures ∙ not-false _ steps.if-not-step_at.false) in
+    let t = (sym step-told.step_at.ensures ∙ steps.if-not-step_at.false) in
     let i = index-here position p.0 p.1 p.2 from-index.index.ensures in
     let j = index-there position p.0 p.1 p.2 d t p.3 placed.place_to-to.result
     placed.place_to-to.ensures.0 to-index.index-2.ensures in
     let e = sym (step_cut position p.0 p.1 p.2 d t p.3 placed.place_to-to.result
-    placed.place_to-to.ensures.0 cut-told.cut_by.ensures) ∙ not-false _ is_cut_lem.if-not-cut_by.false in (
+    placed.place_to-to.ensures.0 cut-told.cut_by.ensures) ∙ is_cut_lem.if-not-cut_by.false in (
       counted.count_step.ensures.0,
-      advance-as _ (is-step _ _ _ _ _ i j (sym set_told.has_direction.ensures ∙ not-false _ in-set.if-not-has_direction.false) t e)
+      advance-as _ (is-step _ _ _ _ _ i j (sym set_told.has_direction.ensures ∙ in-set.if-not-has_direction.false) t e)
           (counted.count_step.ensures.1 _ (on-map p.0 (here_on position p.0 p.1 p.2) i)
           (on-map p.0 (there-on position p.0 p.1 p.2 d t) j)),
     )

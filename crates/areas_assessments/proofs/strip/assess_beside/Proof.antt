@@ -29,12 +29,12 @@ start_of c = search
 strip-minor-requires : tie.Need-strip_minor-range-requires invariant-loop decreases-loop
 strip-minor-requires c κs =
     let start = start_of c.before in
-    (start.pre.0.sides, start.pre.0.span, limit-small start.pre.0.sides start.args.span start.pre.1)
+    (start.requires.0.sides, start.requires.0.span, limit-small start.requires.0.sides start.args.span start.requires.1)
 
 loop-holds : tie.Need-loop-cm-init invariant-loop decreases-loop
 loop-holds c =
     let start = start_of c.before.before in
-    (omega arith, going_start _ _ _ 4096 start.pre.2)
+    (omega arith, going_start _ _ _ 4096 start.requires.2)
 
 assess-cell-requires : tie.Need-assess_cell-done-requires invariant-loop decreases-loop
 assess-cell-requires c κs =
@@ -45,7 +45,7 @@ assess-cell-requires c κs =
     let start = start_of after-is-tall.before in
     let span = start.args.span in
     let p = start.pre in
-    let l = (last-in start.pre.0.sides span _ after-strip-minor.strip_minor-range.ensures) in
+    let l = (last-in start.requires.0.sides span _ after-strip-minor.strip_minor-range.ensures) in
     let b = beside-small p.0.sides span l in
     let e = c.place_of.ensures in
     let i = place_in start.args.width start.args.height start.args.cells.now span start.args.c in-loop.loop-cm.cm
@@ -57,8 +57,8 @@ add-cm c =
     let turning = c.before.before.before.before.before.before.before.before in
     let after-strip-minor = turning.before.before in
     let start = start_of after-strip-minor.before.before in
-    let b = beside-small start.pre.0.sides start.args.span
-    (last-in start.pre.0.sides start.args.span _ after-strip-minor.strip_minor-range.ensures) in omega (arith, turning.loop-cm-test.true)
+    let b = beside-small start.requires.0.sides start.args.span
+    (last-in start.requires.0.sides start.args.span _ after-strip-minor.strip_minor-range.ensures) in omega (arith, turning.loop-cm-test.true)
 
 loop-less : tie.Need-loop-cm-smaller invariant-loop decreases-loop
 loop-less c =
@@ -94,8 +94,8 @@ returns c =
     let after-strip-minor = c.before.before in
     let start = start_of after-strip-minor.before.before in
     let span = start.args.span in
-    let l = (last-in start.pre.0.sides span _ after-strip-minor.strip_minor-range.ensures) in
-    let b = beside-small start.pre.0.sides span l in
+    let l = (last-in start.requires.0.sides span _ after-strip-minor.strip_minor-range.ensures) in
+    let b = beside-small start.requires.0.sides span l in
     let i = c.loop-cm.invariant in
     let r = after-strip-minor.strip_minor-range.ensures in (
       grown-more 4096 i.1.grown (omega (arith, i.0)),

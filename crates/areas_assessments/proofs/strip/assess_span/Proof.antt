@@ -27,12 +27,12 @@ start_of c = search
 strip-axis-requires : tie.Need-strip_axis-range-requires invariant-loop decreases-loop
 strip-axis-requires c κs =
     let start = start_of c in
-    (start.pre.0.sides, start.pre.0.span)
+    (start.requires.0.sides, start.requires.0.span)
 
 loop-holds : tie.Need-loop-c-init invariant-loop decreases-loop
 loop-holds c =
     let start = start_of c.before in
-    (omega arith, going_start _ _ _ 4194304 (room-start start.pre.1 start.pre.2 start.pre.3))
+    (omega arith, going_start _ _ _ 4194304 (room-start start.requires.1 start.requires.2 start.requires.3))
 
 assess-beside-requires : tie.Need-assess_beside-done-requires invariant-loop decreases-loop
 assess-beside-requires c κs =
@@ -42,9 +42,9 @@ assess-beside-requires c κs =
     let start = start_of after-strip-axis.before in
     let span = start.args.span in
     let p = start.pre in
-    let b = limit-small start.pre.0.sides span (last-along start.pre.0.sides span after-strip-axis.strip_axis-range.ensures) in (
+    let b = limit-small start.requires.0.sides span (last-along start.requires.0.sides span after-strip-axis.strip_axis-range.ensures) in (
       p.0,
-      lower turning.loop-c-test.true (last-along start.pre.0.sides span after-strip-axis.strip_axis-range.ensures),
+      lower turning.loop-c-test.true (last-along start.requires.0.sides span after-strip-axis.strip_axis-range.ensures),
       going-room _ _ in-loop.loop-c.invariant.1 4194304 4096 (room-start p.1 p.2 p.3) (omega (arith, turning.loop-c-test.true)),
     )
 
@@ -53,8 +53,8 @@ add-c c =
     let turning = c.before.before.before.before.before.before.before in
     let after-strip-axis = turning.before.before in
     let start = start_of after-strip-axis.before in
-    let b = limit-small start.pre.0.sides start.args.span
-    (last-along start.pre.0.sides start.args.span after-strip-axis.strip_axis-range.ensures) in omega (arith, turning.loop-c-test.true)
+    let b = limit-small start.requires.0.sides start.args.span
+    (last-along start.requires.0.sides start.args.span after-strip-axis.strip_axis-range.ensures) in omega (arith, turning.loop-c-test.true)
 
 loop-less : tie.Need-loop-c-smaller invariant-loop decreases-loop
 loop-less c =

@@ -13,12 +13,12 @@ returns c =
     let args = start.args in
     let w = args.work.now in
     let at = args.base + args.i in
-    let on = at_on w args.base args.n start.pre.0 in
-    let before = before_on w args.base args.n start.pre.0 in
+    let on = at_on w args.base args.n start.requires.0 in
+    let before = before_on w args.base args.n start.requires.0 in
     let further : at + args.width ≡ args.base + (args.i + args.width) = omega arith in
     let under = ap (λ (x : ℕ). get_or w (x - 1) 0) further ∙ before (args.i + args.width) (omega arith) (omega arith) in
-    let below = ap (λ (x : ℕ). get_or w x 0) further ∙ on (args.i + args.width) start.pre.2 in
-    due-from _ _ _ _ _ _ _ _ c.due_of.ensures (on args.i (omega arith)) (before args.i start.pre.1 (omega arith)) under below
+    let below = ap (λ (x : ℕ). get_or w x 0) further ∙ on (args.i + args.width) start.requires.2 in
+    due-from _ _ _ _ _ _ _ _ c.due_of.ensures (on args.i (omega arith)) (before args.i start.requires.1 (omega arith)) under below
 
 pub due_inner_spec : {M : Type 1} → statement M
 due_inner_spec =

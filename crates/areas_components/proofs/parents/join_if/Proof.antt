@@ -7,7 +7,7 @@ use Rattle.areas_components.proofs.parents.join_if.Tie as tie
 join-requires : tie.Need-join-requires
 join-requires c κs =
     let start : tie.Start = search in
-    (start.pre.0, start.pre.1 c.if-on.true)
+    (start.requires.0, start.requires.1 c.if-on.true)
 
 returns : tie.Need-returns-then-on
 returns c =

@@ -49,7 +49,7 @@ returns c =
     let in-loop : tie.At-loop-i invariant-loop decreases-loop = search in
     let start : Start = search in
     let loop = in-loop.loop-i in
-    joining-end start.pre.room (c.join_some.ensures start.args.work.now loop.inv) (λ l. omega arith)
+    joining-end start.requires.room (c.join_some.ensures start.args.work.now loop.inv) (λ l. omega arith)
 
 pub join_all_spec : {M : Type 1} → statement M
 join_all_spec =

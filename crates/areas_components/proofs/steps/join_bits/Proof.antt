@@ -15,15 +15,15 @@ join-if-requires-2 : tie.Need-join_if-requires-2
 join-if-requires-2 c κs =
     let first : tie.After-join_if = search in
     let start : tie.Start = search in
-    asked _ _ _ start.pre.3 (λ m u. first.join_if.ensures.usable m u) 1 (omega arith) refl
-    (to-left _ _ start.pre.0)
+    asked _ _ _ start.requires.3 (λ m u. first.join_if.ensures.usable m u) 1 (omega arith) refl
+    (to-left _ _ start.requires.0)
 
 join-if-requires-3 : tie.Need-join_if-requires-3
 join-if-requires-3 c κs =
     let second : tie.After-join_if-2 = search in
     let first : tie.After-join_if = search in
     let start : tie.Start = search in
-    asked _ _ _ start.pre.3
+    asked _ _ _ start.requires.3
     (λ m u. second.join_if-2.ensures.usable m (first.join_if.ensures.usable m u)) 2 (omega arith) refl
     (to_below _ _)
 
@@ -33,7 +33,7 @@ join-if-requires-4 c κs =
     let second : tie.After-join_if-2 = search in
     let first : tie.After-join_if = search in
     let start : tie.Start = search in
-    asked _ _ _ start.pre.3
+    asked _ _ _ start.requires.3
     (λ m u. third.join_if-3.ensures.usable m (second.join_if-2.ensures.usable m (first.join_if.ensures.usable m u))) 3
     (omega arith) refl (to_last _ _)
 
@@ -46,7 +46,7 @@ returns c =
     let byte = start.args.byte in
     joined-from _ _ _
     (as-bit _ byte _ 0 (first_bit byte) (to-right _ _) first.join_if.ensures)
-    (as-bit _ byte _ 1 refl (to-left _ _ start.pre.0) second.join_if-2.ensures)
+    (as-bit _ byte _ 1 refl (to-left _ _ start.requires.0) second.join_if-2.ensures)
     (as-bit _ byte _ 2 refl (to_below _ _) third.join_if-3.ensures)
     (as-bit _ byte _ 3 refl (to_last _ _) c.join_if-4.ensures)
 

@@ -6,7 +6,7 @@ use Rattle.areas_components.proofs.steps.join_block.Tie as tie
 returns : tie.Need-returns-then-clear
 returns c =
     let start : tie.Start = search in
-    λ r h. joining-skip 64 start.pre.0 start.pre.1 (c.clear.ensures c.if-clear.true) h
+    λ r h. joining-skip 64 start.requires.0 start.requires.1 (c.clear.ensures c.if-clear.true) h
 
 pub join_block_spec : {M : Type 1} → statement M
 join_block_spec =

@@ -73,8 +73,8 @@ returns c =
     let e = ap (λ (r : CellRange). r.last) c.strip_axis-range.ensures in
     let past = c.loop-c-test.false in
     λ g dirs ss b m hf.
-    half-end g m.whole (sides-of m start.pre.0) start.args.span start.pre.1.ordered
-    (λ i l q z. past-axis m start.pre.0 start.args.span c.loop-c.c i l (omega arith) q z) (c.loop-c.invariant.2 g dirs ss b m hf)
+    half-end g m.whole (sides-of m start.requires.0) start.args.span start.requires.1.ordered
+    (λ i l q z. past-axis m start.requires.0 start.args.span c.loop-c.c i l (omega arith) q z) (c.loop-c.invariant.2 g dirs ss b m hf)
 
 pub close_cut_spec : {M : Type 1} → statement M
 close_cut_spec =

@@ -2,7 +2,6 @@ use mathlib.Core.List.{[]}
 use mathlib.Core.Path.{◌≡◌, refl, sym, ◌∙◌}
 use Prim.Native.Nat.{ℕ, ◌+◌, ◌/◌, ◌%◌, ◌<◌, ◌≤◌}
 use native.Mathlib.Omega.{arith}
-use borrow.Author.Tests.{not-true, not-false}
 use Rattle.areas.specs.Cuts.{cut_by}
 use Rattle.grid.proofs.Index.{column-of, row-of}
 use Rattle.grid.proofs.Reach.{grid_of}
@@ -24,8 +23,8 @@ leads c =
     let start : tie.Start = search in
     let a = start.args in
     let g = grid_of a.width a.height [] in
-    leads-at _ _ _ _ _ start.pre.2
-    (sym (c.leads_on.ensures g _ refl refl (column-of g _ _ start.pre.2) (row-of g _ _ start.pre.2)) ∙ not-false _ c.if-not-leads_on.false)
+    leads-at _ _ _ _ _ start.requires.2
+    (sym (c.leads_on.ensures g _ refl refl (column-of g _ _ start.requires.2) (row-of g _ _ start.requires.2)) ∙ c.if-not-leads_on.false)
 
 -- what the code tells of the cut is so on any such map
 cut-told : (c : tie.After-cut_by) → let a = c.args in
@@ -33,7 +32,7 @@ cut-told : (c : tie.After-cut_by) → let a = c.args in
     → cut_by g a.span (step_of i (neighbour g i a.d)) ≡ c.cut_by.result
 cut-told c g i m e f =
     let on = c.before.before in
-    let n = leads-means g i _ (sym (on.leads_on.ensures g i m.columns m.rows e f) ∙ not-false _ on.if-not-leads_on.false) in
+    let n = leads-means g i _ (sym (on.leads_on.ensures g i m.columns m.rows e f) ∙ on.if-not-leads_on.false) in
     let to = c.place_to.ensures.0 g i e f in
     sym (c.cut_by.ensures g i _ e f (neighbour-column g i _ n ∙ sym to.0) (neighbour-row g i _ n ∙ sym to.1))
 
@@ -45,7 +44,7 @@ returns-2 : tie.Need-returns-then-not-leads_on
 returns-2 c =
     let a = c.args in (
       λ g i t m e f ld eb. kept_off t (cut_by g a.span (step_of i (neighbour g i a.d)))
-          (λ h. clash (ld h) (sym (c.leads_on.ensures g i m.columns m.rows e f) ∙ not-true _ c.if-not-leads_on.true)),
+          (λ h. clash (ld h) (sym (c.leads_on.ensures g i m.columns m.rows e f) ∙ c.if-not-leads_on.true)),
       omega arith,
     )
 
@@ -57,12 +56,12 @@ cut-by-requires c κs =
     let start : tie.Start = search in
     let a = start.args in
     let g = grid_of a.width a.height [] in
-    let col = column-of g _ _ start.pre.2 in
-    let row = row-of g _ _ start.pre.2 in
+    let col = column-of g _ _ start.requires.2 in
+    let row = row-of g _ _ start.requires.2 in
     let p = leads c.before in
-    let b = ends-bounded start.pre.0 start.pre.1 in
+    let b = ends-bounded start.requires.0 start.requires.1 in
     let to = c.place_to.ensures.0 g _ col row in
-    (b.0, b.1, start.pre.1.ordered, omega arith, omega arith, omega (arith, to.0, col), omega (arith, to.1, row))
+    (b.0, b.1, start.requires.1.ordered, omega arith, omega arith, omega (arith, to.0, col), omega (arith, to.1, row))
 
 returns-3 : tie.Need-returns-then-cut_by
 returns-3 c = (λ g i t m e f ld eb. kept-cut t _ (cut-told c.before g i m e f ∙ c.if-cut_by.true), omega arith)

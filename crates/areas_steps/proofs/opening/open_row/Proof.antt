@@ -32,19 +32,19 @@ loop-holds c =
 byte-of-requires : tie.Need-byte_of-i-requires invariant-loop decreases-loop
 byte-of-requires c κs =
     let start : Start = search in
-    let on = place_in start.args.width start.args.height c.loop-x.x start.args.y c.loop-x-test.true start.pre.3 in
+    let on = place_in start.args.width start.args.height c.loop-x.x start.args.y c.loop-x-test.true start.requires.3 in
     omega (arith, c.loop-x.invariant.1)
 
 open-byte-requires : tie.Need-open_byte-requires invariant-loop decreases-loop
 open-byte-requires c κs =
     let start : Start = search in
-    record { wide = omega arith; high = omega arith; whole = start.pre.1; column = c.loop-x-test.true; row = start.pre.3 }
+    record { wide = omega arith; high = omega arith; whole = start.requires.1; column = c.loop-x-test.true; row = start.requires.3 }
 
 slice-write-work : tie.Need-bounds-work-i invariant-loop decreases-loop
 slice-write-work c =
     let in-loop = c.before.before.before in
     let start : Start = search in
-    let on = place_in start.args.width start.args.height in-loop.loop-x.x start.args.y c.loop-x-test.true start.pre.3 in
+    let on = place_in start.args.width start.args.height in-loop.loop-x.x start.args.y c.loop-x-test.true start.requires.3 in
     omega (arith, in-loop.loop-x.invariant.1, c.byte_of-i.ensures)
 
 loop-again : tie.Need-loop-x-preserved invariant-loop decreases-loop
@@ -58,7 +58,7 @@ loop-again c =
     let work = in-loop.loop-x.work in
     let v = c.open_byte.result in
     let f = open_byte (directions_of start.args.directions) (grid_of w start.args.height start.args.cells.now) [] in
-    let on = place_in w start.args.height x y c.loop-x-test.true start.pre.3 in
+    let on = place_in w start.args.height x y c.loop-x-test.true start.requires.3 in
     let same = inv.1 in (
       omega arith,
       length-set work c.byte_of-i.result v ∙ same,

@@ -26,7 +26,7 @@ loop-holds c = (omega arith, refl, held-count _ (sym (zero-mul c.args.width)) (h
 open-row-requires : tie.Need-open_row-requires invariant-loop decreases-loop
 open-row-requires c κs =
     let start : tie.Start invariant-loop decreases-loop = search in
-    (start.pre.0, start.pre.1, omega (arith, c.loop-y.invariant.1), c.loop-y-test.true)
+    (start.requires.0, start.requires.1, omega (arith, c.loop-y.invariant.1), c.loop-y-test.true)
 
 loop-again : tie.Need-loop-y-preserved invariant-loop decreases-loop
 loop-again c =
@@ -49,8 +49,8 @@ returns c =
     let cs = start.args.cells.now in
     let z = inv.0 in
     let e : c.loop-y.y ≡ h = omega (arith, z, c.loop-y-test.false) in
-    let n : c.loop-y.y * w ≡ length cs = ap (λ (k : ℕ). k * w) e ∙ mul_comm h w ∙ sym start.pre.1 in
-    held-splice _ _ _ _ (omega (arith, start.pre.1)) (held-count _ n inv.2)
+    let n : c.loop-y.y * w ≡ length cs = ap (λ (k : ℕ). k * w) e ∙ mul_comm h w ∙ sym start.requires.1 in
+    held-splice _ _ _ _ (omega (arith, start.requires.1)) (held-count _ n inv.2)
 
 pub open_steps_spec : {M : Type 1} → statement M
 open_steps_spec =

@@ -28,7 +28,7 @@ Start = tie.Start invariant-loop decreases-loop
 open-steps-requires : tie.Need-open_steps-requires invariant-loop decreases-loop
 open-steps-requires c κs =
     let start : Start = search in
-    (start.pre.0, start.pre.1, start.pre.2)
+    (start.requires.0, start.requires.1, start.requires.2)
 
 loop-holds : tie.Need-loop-k-init invariant-loop decreases-loop
 loop-holds c =
@@ -41,8 +41,8 @@ close-cut-requires c κs =
     let steps-opened : tie.After-open_steps invariant-loop decreases-loop = search in
     let start : Start = search in
     let fits : SpanFits start.args.width start.args.height c.span_at.result =
-    rw c.span_at.ensures (start.pre.4.each in-loop.loop-k.k c.loop-k-test.true) in
-    (start.pre.0, fits, omega (arith, in-loop.loop-k.invariant.1, steps-opened.open_steps.kept.1.1.1.1.0, start.pre.2))
+    rw c.span_at.ensures (start.requires.4.each in-loop.loop-k.k c.loop-k-test.true) in
+    (start.requires.0, fits, omega (arith, in-loop.loop-k.invariant.1, steps-opened.open_steps.kept.1.1.1.1.0, start.requires.2))
 
 loop-again : tie.Need-loop-k-preserved invariant-loop decreases-loop
 loop-again c =
@@ -58,7 +58,7 @@ loop-again c =
       cut-closed.close_cut.auto.1.1.1.0 ∙ inv.1,
       λ b hd.
           held-as _ _ (spans-last ends k span-read.span_at.ensures)
-          (cut-closed.close_cut.ensures _ _ (spans_in ends k) b (record { columns = refl; rows = refl; whole = start.pre.1 }) (inv.2 b hd)),
+          (cut-closed.close_cut.ensures _ _ (spans_in ends k) b (record { columns = refl; rows = refl; whole = start.requires.1 }) (inv.2 b hd)),
     )
 
 same_length : tie.Need-shape_of-work invariant-loop decreases-loop
@@ -80,7 +80,7 @@ returns c =
     let base = start.args.base in
     let entry = start.args.work.now in
     let n = length cs in
-    let room : base + n ≤ length entry = omega (arith, start.pre.1, start.pre.2) in
+    let room : base + n ≤ length entry = omega (arith, start.requires.1, start.requires.2) in
     let e : c.loop-k.k ≡ start.args.count = omega (arith, inv.0, c.loop-k-test.false) in
     let opened = subst (λ (l : List ℕ). WorkHolds base n (open_byte dirs g []) entry l) (sym steps-opened.open_steps.ensures)
     (splice-held entry base n (open_byte dirs g []) room) in
