@@ -53,7 +53,7 @@ returns-4 c =
     ∙ skip _ _ (sym after-count-fault.count_fault.ensures ∙ if2-left.if-count_fault.false)
     ∙ skip _ _ (sym after-boundary-count-fault.boundary_count_fault.ensures ∙ if3-left.if-boundary_count_fault.false)
     ∙ stop _ _ (told (λ (p : Offsets). not (same_offsets start.args.h.offsets p)) c.offsets_of.ensures
-    (ap not c.same_offsets.ensures) c.if-not-same_offsets.true))
+    (ap not c.same_offsets.ensures) (ap not c.if-not-same_offsets.true)))
 
 returns-5 : tie.Need-returns
 unfolding header_checks
@@ -69,7 +69,7 @@ returns-5 c =
     ∙ skip _ _ (sym after-count-fault.count_fault.ensures ∙ if2-left.if-count_fault.false)
     ∙ skip _ _ (sym after-boundary-count-fault.boundary_count_fault.ensures ∙ if3-left.if-boundary_count_fault.false)
     ∙ clear _ (told (λ (p : Offsets). not (same_offsets start.args.h.offsets p)) c.offsets_of.ensures
-    (ap not c.same_offsets.ensures) c.if-not-same_offsets.false))
+    (ap not c.same_offsets.ensures) (ap not c.if-not-same_offsets.false)))
 
 pub check_header_spec : {M : Type 1} → statement M
 check_header_spec =
