@@ -14,7 +14,7 @@ close-range-requires c κs =
     let cleared : tie.After-clear = search in
     let start = start_of cleared in
     let a = start.args in
-    open-all (forest_tables a.parents.now a.heights.now a.joined.now a.earlier.now) start.pre.0 start.pre.1 start.pre.2
+    open-all (forest_tables a.parents.now a.heights.now a.joined.now a.earlier.now) start.requires.0 start.requires.1 start.requires.2
     cleared.clear.ensures 256 refl
 
 returns : tie.Need-returns

@@ -28,7 +28,7 @@ loop-again c =
     let stepped : tie.After-part_again invariant-loop decreases-loop = search in
     let tested : tie.In-loop-k invariant-loop decreases-loop = search in
     let done = stepped.part_again in
-    undoing-next tested.loop-k.invariant tested.loop-k-test.true done.new.parents done.new.heights.0 done.ensures.0 done.ensures.1
+    undoing-next tested.loop-k.invariant tested.loop-k-test.true done.new.parents done.new.heights done.ensures.0 done.ensures.1
 
 same_length : tie.Need-shape_of-parents invariant-loop decreases-loop
 same_length c = c.loop-k.invariant.same-parents
