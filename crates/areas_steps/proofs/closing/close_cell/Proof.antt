@@ -28,7 +28,7 @@ returns : tie.Need-returns
 returns c =
     let byte-known = c.before.before in
     let start : tie.Start = search in
-    let p = start.pre in
+    let p = start.requires in
     λ g dirs ss before m hf.
     let col = map-column m _ _ p.3 p.4 in
     let row = map_row m _ _ p.3 p.4 in

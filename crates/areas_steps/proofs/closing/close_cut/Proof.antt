@@ -61,9 +61,9 @@ loop-again : tie.Need-loop-c-preserved invariant-loop decreases-loop
 loop-again c =
     let line-closed = c.before.before in
     let in-loop : tie.At-loop-c invariant-loop decreases-loop = search in
-    let inv = in-loop.loop-c.inv in (
+    let inv = in-loop.loop-c.invariant in (
       omega arith,
-      line-closed.close_line.auto.1.1.1.1.0 ∙ inv.1,
+      line-closed.close_line.auto.work ∙ inv.1,
       λ g dirs ss b m hf. line-closed.close_line.ensures g dirs ss b m (inv.2 g dirs ss b m hf),
     )
 

@@ -78,7 +78,7 @@ loop-again c =
     let small : cm < 1024 = omega (arith, turning.loop-cm-test.true, last_on line) in
     let r = rank-place _ _ _ cm _ _ line.is_tall-tall.ensures placed.place_at.ensures.0 placed.place_at.ensures.1 in (
       omega arith,
-      closed.close_cell.auto.1.1.1.1.0 ∙ inv.1,
+      closed.close_cell.auto.work ∙ inv.1,
       λ g dirs ss b m hf. half_at _ (omega arith) (closed.close_cell.ensures g dirs ss b m (half_at _ (omega arith) (inv.2 g dirs ss b m hf))),
     )
 

@@ -34,9 +34,9 @@ loop-again c =
     let turning : tie.In-loop-y invariant-loop decreases-loop = search in
     let in-loop : tie.At-loop-y invariant-loop decreases-loop = search in
     let start : tie.Start invariant-loop decreases-loop = search in
-    let inv = in-loop.loop-y.inv in (
+    let inv = in-loop.loop-y.invariant in (
       omega (arith, turning.loop-y-test.true),
-      row_Opened.open_row.auto.1.1.1.1.1.0 ∙ inv.1,
+      row_Opened.open_row.auto.work ∙ inv.1,
       row_Opened.open_row.ensures start.args.work.now inv.2,
     )
 

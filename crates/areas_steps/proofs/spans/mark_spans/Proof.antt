@@ -42,7 +42,7 @@ close-cut-requires c κs =
     let start : Start = search in
     let fits : SpanFits start.args.width start.args.height c.span_at.result =
     rw c.span_at.ensures (start.requires.4.each in-loop.loop-k.k c.loop-k-test.true) in
-    (start.requires.0, fits, omega (arith, in-loop.loop-k.invariant.1, steps-opened.open_steps.kept.1.1.1.1.0, start.requires.2))
+    (start.requires.0, fits, omega (arith, in-loop.loop-k.invariant.1, steps-opened.open_steps.auto, start.requires.2))
 
 loop-again : tie.Need-loop-k-preserved invariant-loop decreases-loop
 loop-again c =
@@ -51,11 +51,11 @@ loop-again c =
     let turning : tie.In-loop-k invariant-loop decreases-loop = search in
     let in-loop : tie.At-loop-k invariant-loop decreases-loop = search in
     let start : Start = search in
-    let inv = in-loop.loop-k.inv in
+    let inv = in-loop.loop-k.invariant in
     let ends = start.args.ends.now in
     let k = in-loop.loop-k.k in (
       omega (arith, turning.loop-k-test.true),
-      cut-closed.close_cut.auto.1.1.1.0 ∙ inv.1,
+      cut-closed.close_cut.auto.work ∙ inv.1,
       λ b hd.
           held-as _ _ (spans-last ends k span-read.span_at.ensures)
           (cut-closed.close_cut.ensures _ _ (spans_in ends k) b (record { columns = refl; rows = refl; whole = start.requires.1 }) (inv.2 b hd)),
@@ -64,7 +64,7 @@ loop-again c =
 same_length : tie.Need-shape_of-work invariant-loop decreases-loop
 same_length c =
     let steps-opened : tie.After-open_steps invariant-loop decreases-loop = search in
-    c.loop-k.invariant.1 ∙ steps-opened.open_steps.kept.1.1.1.1.0
+    c.loop-k.invariant.1 ∙ steps-opened.open_steps.auto.work
 
 returns : tie.Need-returns invariant-loop decreases-loop
 returns c =
