@@ -11,7 +11,7 @@ returns c =
     let second : tie.After-write_u32-2 = search in
     let third : tie.After-write_u32-3 = search in
     let fourth : tie.After-write_u32-4 = search in
-    head-written start.args.block.now start.args.b start.pre
+    head-written start.args.block.now start.args.b start.requires
     first.write_u32.ensures second.write_u32-2.ensures third.write_u32-3.ensures fourth.write_u32-4.ensures
     (omega arith) (omega arith) (omega arith) (omega arith) (omega arith) (omega arith) (omega arith) (omega arith)
 

@@ -37,7 +37,7 @@ returns-4 c =
     let read : tie.After-read_block-b = search in
     let ranges : tie.After-ranges_fault = search in
     refused-block start.args.block.now
-    (bad-ranges start.args.block.now read.read_block-b.ensures (said ranges.ranges-fault.ensures c.if-ranges_fault.true))
+    (bad-ranges start.args.block.now read.read_block-b.ensures (said ranges.ranges_fault.ensures c.if-ranges_fault.true))
 
 returns-5 : tie.Need-returns
 returns-5 c =
@@ -52,7 +52,7 @@ returns-5 c =
     passed-block start.args.block.now
     (no-fault start.args.block.now read.read_block-b.ensures (omega (arith, long.if-block-ne-BLOCK_SIZE.false))
     (said head.head_fault.ensures headed.if-head_fault.false) (said sizes.sizes_fault.ensures sized.if-sizes_fault.false)
-    (said ranges.ranges-fault.ensures c.if-ranges_fault.false))
+    (said ranges.ranges_fault.ensures c.if-ranges_fault.false))
 
 pub check_thresholds_spec : {M : Type 1} → statement M
 check_thresholds_spec =

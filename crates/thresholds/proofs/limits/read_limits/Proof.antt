@@ -7,13 +7,13 @@ use Rattle.thresholds.proofs.limits.read_limits.Tie as tie
 read-block-requires : tie.Need-read_block-b-requires
 read-block-requires c κs =
     let start : tie.Start = search in
-    omega (arith, (block-right start.args.block.now start.pre).long)
+    omega (arith, (block-right start.args.block.now start.requires).long)
 
 -- the numbers that were read are in their ranges
 ranges : (c : tie.After-read_block-b) → RightRanges c.read_block-b.result
 ranges c =
     let start : tie.Start = search in
-    read-ranges start.args.block.now c.read_block-b.ensures start.pre
+    read-ranges start.args.block.now c.read_block-b.ensures start.requires
 
 chain : tie.Need-width_of-requires
 chain c κs = omega (arith, (ranges c).chain)
@@ -42,7 +42,7 @@ returns c =
     let measured : tie.After-width_of-3 = search in
     let doubled : tie.After-width_of-4 = search in
     let enveloped : tie.After-width_of-5 = search in
-    limits-read start.args.block.now read.read_block-b.ensures chained.width_of_lem.ensures wide.width_of-2.ensures
+    limits-read start.args.block.now read.read_block-b.ensures chained.width_of.ensures wide.width_of-2.ensures
     measured.width_of-3.ensures doubled.width_of-4.ensures enveloped.width_of-5.ensures c.width_of-6.ensures
 
 pub read_limits_spec : {M : Type 1} → statement M
