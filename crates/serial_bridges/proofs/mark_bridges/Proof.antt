@@ -24,7 +24,7 @@ asked c = search
 full-graph-requires : tie.Need-full_graph-requires
 full-graph-requires c κs =
     let numbers : tie.After-number_all = search in
-    let p = (asked numbers).pre in
+    let p = (asked numbers).requires in
     let l = p.5 in
     (small-graph p.2 numbers.number_all.ensures _ l.enough l.near, unlinked l.heads-are l.left-nexts-are l.right-nexts-are l.unchained)
 
@@ -32,7 +32,7 @@ walk-all-requires : tie.Need-walk_all-requires
 walk-all-requires c κs =
     let chains : tie.After-full_graph = search in
     let numbers = numbered chains in
-    let p = (asked numbers).pre in
+    let p = (asked numbers).requires in
     let l = p.5 in
     let N = chains.full_graph.ensures in
     let e = N.heads-are in (
@@ -48,14 +48,14 @@ forget-all-requires : tie.Need-forget_all-requires
 forget-all-requires c κs =
     let marks : tie.After-walk_all = search in
     let numbers = numbered (linked marks) in
-    let p = (asked numbers).pre in
-    (p.2, omega (arith, p.3, numbers.number_all.kept))
+    let p = (asked numbers).requires in
+    (p.2, omega (arith, p.3, numbers.number_all.auto))
 
 returns : tie.Need-returns
 returns c =
     let numbers = numbered (linked (walked c)) in
     let start = asked numbers in
-    let p = start.pre in
+    let p = start.requires in
     let n = numbers.number_all.ensures in (
       (walked c).walk_all.ensures ∙ small-marks p.2 n start.args.owners.now 256,
       restored (c.forget_all.ensures start.args.work.now (remembered n)) p.3 p.4,
@@ -72,12 +72,12 @@ mark_bridges_spec =
     (λ c. omega (arith, (numbered (linked (walked c))).number_all.auto, c.forget_all.auto))
     (λ c. omega (arith, (numbered (linked (walked c))).number_all.auto))
     (λ c. omega (arith, (numbered (linked (walked c))).number_all.auto))
-    (λ c. (linked (walked c)).full_graph.auto.1.1.1.0)
-    (λ c. (linked (walked c)).full_graph.auto.1.1.1.1.0)
-    (λ c. (linked (walked c)).full_graph.auto.1.1.1.1.1.0)
-    (λ c. (walked c).walk_all.auto.1.1.1.1.1.1.1.0)
-    (λ c. (walked c).walk_all.auto.1.1.1.1.1.1.1.1.0)
-    (λ c. (walked c).walk_all.auto.1.1.1.1.1.1.1.1.1.0)
-    (λ c. (walked c).walk_all.auto.1.1.1.1.1.1.1.1.1.1.0)
-    (λ c. (walked c).walk_all.auto.1.1.1.1.1.1.1.1.1.1.1.0)
+    (λ c. (linked (walked c)).full_graph.auto.heads)
+    (λ c. (linked (walked c)).full_graph.auto.left_nexts)
+    (λ c. (linked (walked c)).full_graph.auto.right_nexts)
+    (λ c. (walked c).walk_all.auto.disc)
+    (λ c. (walked c).walk_all.auto.stack)
+    (λ c. (walked c).walk_all.auto.parents)
+    (λ c. (walked c).walk_all.auto.nexts)
+    (λ c. (walked c).walk_all.auto.lows)
     returns)

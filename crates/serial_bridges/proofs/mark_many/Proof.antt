@@ -7,7 +7,7 @@ use Rattle.serial_bridges.proofs.Lent.{cleared}
 mark-bridges-requires : tie.Need-mark_bridges-requires
 mark-bridges-requires c κs =
     let start : tie.Start = search in
-    let p = start.pre in (
+    let p = start.requires in (
       p.0,
       p.1,
       p.2,

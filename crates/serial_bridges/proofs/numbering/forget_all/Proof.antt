@@ -24,13 +24,13 @@ Turn = tie.In-loop-k invariant-loop decreases-loop
 forget-record-requires : tie.Need-forget_record-requires invariant-loop decreases-loop
 forget-record-requires c κs =
     let start : Start = search in
-    (c.loop-k-test.true, start.pre.0, omega (arith, start.pre.1, c.loop-k.invariant.1))
+    (c.loop-k-test.true, start.requires.0, omega (arith, start.requires.1, c.loop-k.invariant.1))
 
 add-k : tie.Need-overflow_add-k invariant-loop decreases-loop
 add-k c =
     let turning : Turn = search in
     let start : Start = search in
-    omega (arith, turning.loop-k-test.true, start.pre.0.few)
+    omega (arith, turning.loop-k-test.true, start.requires.0.few)
 
 loop-less : tie.Need-loop-k-smaller invariant-loop decreases-loop
 loop-less c =
@@ -40,10 +40,10 @@ loop-less c =
 loop-again : tie.Need-loop-k-preserved invariant-loop decreases-loop
 loop-again c =
     let turning : Turn = search in
-    let inv = turning.loop-k.inv in
+    let inv = turning.loop-k.invariant in
     let forgotten = c.forget_record in (
       omega (arith, turning.loop-k-test.true),
-      forgotten.auto.1.1.1.1.1.0 ∙ inv.1,
+      forgotten.auto.work ∙ inv.1,
       λ s f. forgotten.ensures s (inv.2 s f),
     )
 

@@ -25,20 +25,20 @@ Turn = tie.In-loop-k invariant-loop decreases-loop
 loop-holds : tie.Need-loop-k-init invariant-loop decreases-loop
 loop-holds c =
     let start : Start = search in
-    (omega arith, refl, refl, unnumbered start.args.work.now start.pre.2 start.pre.3 start.pre.4)
+    (omega arith, refl, refl, unnumbered start.args.work.now start.requires.2 start.requires.3 start.requires.4)
 
 number-record-requires : tie.Need-number_record-requires invariant-loop decreases-loop
 number-record-requires c κs =
     let turning : Turn = search in
     let start : Start = search in
-    let inv = turning.loop-k.inv in
-    (turning.loop-k-test.true, start.pre.0, omega (arith, start.pre.1, inv.3.table.as_long), inv.3.lefts-are, inv.3.rights-are)
+    let inv = turning.loop-k.invariant in
+    (turning.loop-k-test.true, start.requires.0, omega (arith, start.requires.1, inv.3.table.as_long), inv.3.lefts-are, inv.3.rights-are)
 
 add-k : tie.Need-overflow_add-k invariant-loop decreases-loop
 add-k c =
     let turning : Turn = search in
     let start : Start = search in
-    omega (arith, turning.loop-k-test.true, start.pre.0.few)
+    omega (arith, turning.loop-k-test.true, start.requires.0.few)
 
 loop-less : tie.Need-loop-k-smaller invariant-loop decreases-loop
 loop-less c =
@@ -48,7 +48,7 @@ loop-less c =
 loop-again : tie.Need-loop-k-preserved invariant-loop decreases-loop
 loop-again c =
     let turning : Turn = search in
-    let inv = turning.loop-k.inv in
+    let inv = turning.loop-k.invariant in
     let numbered = c.number_record in (
       omega (arith, turning.loop-k-test.true),
       omega (arith, numbered.auto, inv.1),

@@ -9,7 +9,7 @@ use Rattle.serial_bridges.proofs.numbering.number_record.Tie as tie
 number-of-requires : tie.Need-number_of-requires
 number-of-requires c κs =
     let start : tie.Start = search in
-    let p = start.pre in
+    let p = start.requires in
     let k = start.args.k in
     let t = ap (at start.args.lefts.now) c.size-at.ensures.0 in
     (omega (arith, t, p.1.left-from k p.0), omega (arith, t, p.1.left-to k p.0, p.2), omega (arith, p.1.few, p.0))
@@ -19,11 +19,11 @@ number-of-requires-2 c κs =
     let numbered : tie.After-number_of = search in
     let sized : tie.After-size-at = search in
     let start : tie.Start = search in
-    let p = start.pre in
+    let p = start.requires in
     let k = start.args.k in
     let t = ap (at start.args.rights.now) sized.size-at.ensures.0 in (
       omega (arith, t, p.1.right-from k p.0),
-      omega (arith, t, p.1.right-to k p.0, p.2, numbered.number_of_lem.kept.0),
+      omega (arith, t, p.1.right-to k p.0, p.2, numbered.number_of.auto),
       omega (arith, p.1.few, p.0),
     )
 
@@ -32,8 +32,8 @@ returns c =
     let numbered : tie.After-number_of = search in
     let sized : tie.After-size-at = search in
     let asked : tie.Start = search in
-    let p = asked.pre in
-    let x = numbered.number_of_lem.ensures in
+    let p = asked.requires in
+    let x = numbered.number_of.ensures in
     let y = c.number_of-2.ensures in
     λ start n. numbered-at sized.size-at.ensures.0 p.0 p.1 p.2 n x.0 x.1 y.0 y.1
 
