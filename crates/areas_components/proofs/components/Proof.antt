@@ -10,7 +10,7 @@ join-all-requires c κs =
     let in-runs : tie.After-run_parents = search in
     let start : tie.Start = search in
     let runs = in-runs.run_parents in
-    let pre = start.pre in
+    let pre = start.requires in
     due-joinable _ refl pre.0.1 pre.0.2 pre.0.3 pre.1.0 pre.1.1 runs.ensures.0 runs.ensures.1
     (omega arith) pre.0.0
 
@@ -21,7 +21,7 @@ number-requires c κs =
     let start : tie.Start = search in
     let join = all-joined.join_all in
     let runs = in-runs.run_parents in
-    let pre = start.pre in
+    let pre = start.requires in
     let forest = joined _ refl pre.0.1 pre.0.2 pre.0.3 pre.1.0 pre.1.1 runs.ensures.0 runs.ensures.1
     join.ensures in
     (pre.0.0, omega (arith, pre.0, runs.ensures.0.size, join.ensures.kept.size), forest.falls)
@@ -34,7 +34,7 @@ returns c =
     let number = c.number in
     let join = all-joined.join_all in
     let runs = in-runs.run_parents in
-    let pre = start.pre in
+    let pre = start.requires in
     whole _ refl pre.0.1 pre.0.2 pre.0.3 pre.1.0 pre.1.1 runs.ensures.0 runs.ensures.1
     join.ensures number.ensures
 

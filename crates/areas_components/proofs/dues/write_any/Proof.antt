@@ -18,13 +18,13 @@ due-any-requires : tie.Need-due_any-byte-requires invariant-loop decreases-loop
 due-any-requires c κs =
     let start : tie.Start invariant-loop decreases-loop = search in
     let writing = c.loop-i.invariant in
-    let pre = start.pre in
+    let pre = start.requires in
     (omega (arith, writing.long, pre.0), omega (arith, pre.2, pre.3))
 
 loop-again : tie.Need-loop-i-preserved invariant-loop decreases-loop
 loop-again c =
-    let in-loop = c.before.before.before in
-    let start = in-loop.before.before in
+    let in-loop : tie.At-loop-i invariant-loop decreases-loop = search in
+    let start : tie.Start invariant-loop decreases-loop = search in
     let pre = start.requires in
     let writing = in-loop.loop-i.invariant in
     writing-next pre.0 pre.2 writing (omega arith) _ c.due_any-byte.ensures

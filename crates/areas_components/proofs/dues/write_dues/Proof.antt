@@ -7,7 +7,7 @@ use Rattle.areas_components.proofs.dues.write_dues.Tie as tie
 returns : tie.Need-returns-then-n-width
 returns c =
     let start : tie.Start = search in
-    dues-end (omega (arith, start.pre)) (c.write_any.ensures _ (due-none _ _ _ _))
+    dues-end (omega (arith, start.requires)) (c.write_any.ensures _ (due-none _ _ _ _))
 
 returns-2 : tie.Need-returns
 returns-2 c =
@@ -17,7 +17,7 @@ returns-2 c =
     let start : tie.Start = search in
     let one = first.write_any-2.ensures _ (due-none _ _ _ _) in
     let inner = second.write_inner.ensures _ one in
-    dues-end (omega (arith, start.pre)) (third.write_any-3.ensures _ inner)
+    dues-end (omega (arith, start.requires)) (third.write_any-3.ensures _ inner)
 
 pub write_dues_spec : {M : Type 1} → statement M
 write_dues_spec =

@@ -18,13 +18,13 @@ due-inner-requires : tie.Need-due_inner-byte-requires invariant-loop decreases-l
 due-inner-requires c κs =
     let start : tie.Start invariant-loop decreases-loop = search in
     let writing = c.loop-i.invariant in
-    let pre = start.pre in
+    let pre = start.requires in
     (omega (arith, writing.long, pre.0), omega (arith, writing.above, pre.1), omega (arith, pre.3))
 
 loop-again : tie.Need-loop-i-preserved invariant-loop decreases-loop
 loop-again c =
-    let in-loop = c.before.before.before in
-    let start = in-loop.before.before in
+    let in-loop : tie.At-loop-i invariant-loop decreases-loop = search in
+    let start : tie.Start invariant-loop decreases-loop = search in
     let pre = start.requires in
     let writing = in-loop.loop-i.invariant in
     writing-next pre.0 (omega (arith, pre.3)) writing (omega arith) _ c.due_inner-byte.ensures

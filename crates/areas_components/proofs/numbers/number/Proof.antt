@@ -20,7 +20,7 @@ number-cell-requires : tie.Need-number_cell-count-requires invariant-loop decrea
 number-cell-requires c κs =
     let start : tie.Start invariant-loop decreases-loop = search in
     let numbering = c.loop-i.invariant in
-    let pre = start.pre in
+    let pre = start.requires in
     let room = numbering-room numbering pre.0 pre.1 pre.2 (omega arith) in
     let falls = numbering-falls numbering pre.0 pre.1 pre.2 (omega arith) in
     ((omega arith, omega (arith, pre.0), room, falls), (numbering.few, numbering.small))
@@ -30,8 +30,8 @@ loop-again c =
     let in-loop : tie.At-loop-i invariant-loop decreases-loop = search in
     let start : tie.Start invariant-loop decreases-loop = search in
     let call = c.number_cell-count in
-    let numbering = in-loop.loop-i.inv in
-    let pre = start.pre in
+    let numbering = in-loop.loop-i.invariant in
+    let pre = start.requires in
     numbering-next numbering pre.0 pre.1 pre.2 (omega arith) _ _ call.ensures
 
 returns : tie.Need-returns invariant-loop decreases-loop

@@ -15,7 +15,7 @@ returns c =
     let parent-read : tie.After-read_u32 = search in
     let bit : tie.After-walk_bit-bit = search in
     let start : tie.Start = search in
-    let pre = start.pre in
+    let pre = start.requires in
     first-numbered _ _ _ _ _ _ _ _ _ _ pre.0.2 (omega (arith, pre)) (parent.size-p.ensures.0 ∙ parent-read.read_u32.ensures)
     bit.walk_bit-bit.ensures.0 next.write_u32.ensures label-read.read_u32-2.ensures
     only.only-label.ensures labelled.write_u32-2.ensures c.if-p-i.true
@@ -30,7 +30,7 @@ returns-2 c =
     let parent-read : tie.After-read_u32 = search in
     let bit : tie.After-walk_bit-bit = search in
     let start : tie.Start = search in
-    let pre = start.pre in
+    let pre = start.requires in
     other-numbered _ _ _ _ _ _ _ _ _ _ pre.0.2 (omega (arith, pre)) (parent.size-p.ensures.0 ∙ parent-read.read_u32.ensures)
     bit.walk_bit-bit.ensures.0 next.write_u32.ensures label-read.read_u32-2.ensures
     only.only-label.ensures labelled.write_u32-2.ensures pre.0.3 pre.1.1 c.if-p-i.false

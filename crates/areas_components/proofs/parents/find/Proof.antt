@@ -27,7 +27,7 @@ parent-requires-2 : tie.Need-parent-q-requires invariant-loop decreases-loop
 parent-requires-2 c κs =
     let start : Start = search in
     let loop = c.loop-p in
-    let pre = start.pre in
+    let pre = start.requires in
     finding-room pre loop.invariant loop.p (omega (arith, finding-falls pre loop.invariant, loop.invariant.below))
 
 same_length : tie.Need-shape_of-work-then-q-p invariant-loop decreases-loop
@@ -35,7 +35,7 @@ same_length c =
     let in-loop : At-loop = search in
     let start : Start = search in
     let loop = in-loop.loop-p in
-    (loop.inv.kept (start.args.i + 1) (omega arith)).size
+    (loop.invariant.kept (start.args.i + 1) (omega arith)).size
 
 returns : tie.Need-returns-then-q-p invariant-loop decreases-loop
 returns c =
@@ -43,29 +43,29 @@ returns c =
     let start : Start = search in
     let second = c.parent-q in
     let loop = in-loop.loop-p in
-    let pre = start.pre in
-    finding-root pre loop.inv _ second.ensures.0 second.ensures.1 c.if-q-p.true
+    let pre = start.requires in
+    finding-root pre loop.invariant _ second.ensures.0 second.ensures.1 c.if-q-p.true
 
 set-parent-requires : tie.Need-set_parent-requires invariant-loop decreases-loop
 set-parent-requires c κs =
     let in-loop : At-loop = search in
     let start : Start = search in
     let loop = in-loop.loop-p in
-    let pre = start.pre in
-    (finding-room pre loop.inv loop.at loop.inv.below, c.parent-q.ensures.1)
+    let pre = start.requires in
+    (finding-room pre loop.invariant loop.at loop.invariant.below, c.parent-q.ensures.1)
 
 parent-requires-3 : tie.Need-parent-p-requires-in-loop-p invariant-loop decreases-loop
 parent-requires-3 c κs =
-    let set = c.before.before.before in
+    let set : tie.After-set_parent invariant-loop decreases-loop = search in
     let stepped : tie.After-parent-q invariant-loop decreases-loop = search in
     let in-loop : At-loop = search in
     let start : Start = search in
     let second = stepped.parent-q in
-    let finding = in-loop.loop-p.inv in
-    let pre = start.pre in
+    let finding = in-loop.loop-p.invariant in
+    let pre = start.requires in
     let below = finding-second pre finding second.result second.ensures.0 second.ensures.1 in
     let room = finding-room pre finding second.result (omega (arith, finding.below, finding-falls pre finding, below)) in
-    omega (arith, set.set_parent.auto.0, room)
+    omega (arith, set.set_parent.auto.work, room)
 
 loop-less : tie.Need-loop-p-smaller invariant-loop decreases-loop
 loop-less c =
@@ -73,8 +73,8 @@ loop-less c =
     let in-loop : At-loop = search in
     let start : Start = search in
     let second = stepped.parent-q in
-    let pre = start.pre in
-    omega (arith, finding-second pre in-loop.loop-p.inv second.result second.ensures.0 second.ensures.1)
+    let pre = start.requires in
+    omega (arith, finding-second pre in-loop.loop-p.invariant second.result second.ensures.0 second.ensures.1)
 
 loop-again : tie.Need-loop-p-preserved invariant-loop decreases-loop
 loop-again c =
@@ -83,8 +83,8 @@ loop-again c =
     let in-loop : At-loop = search in
     let start : Start = search in
     let second = stepped.parent-q in
-    let pre = start.pre in
-    finding-next pre in-loop.loop-p.inv _ second.ensures.0 second.ensures.1
+    let pre = start.requires in
+    finding-next pre in-loop.loop-p.invariant _ second.ensures.0 second.ensures.1
     _ set.set_parent.ensures _ c.parent-p-in-loop-p.ensures.0
 
 same-length-2 : tie.Need-shape_of-work invariant-loop decreases-loop
@@ -95,7 +95,7 @@ same-length-2 c =
 returns-2 : tie.Need-returns invariant-loop decreases-loop
 returns-2 c =
     let start : Start = search in
-    finding-end start.pre c.loop-p.invariant (λ l. omega arith)
+    finding-end start.requires c.loop-p.invariant (λ l. omega arith)
 
 pub find_spec : {M : Type 1} → statement M
 find_spec =

@@ -31,11 +31,11 @@ loop-again c =
     let picked : tie.After-pick-first invariant-loop decreases-loop = search in
     let in-loop : tie.At-loop-i invariant-loop decreases-loop = search in
     let start : tie.Start invariant-loop decreases-loop = search in
-    let pre = start.pre in
+    let pre = start.requires in
     let loop = in-loop.loop-i in
     let pick = picked.pick-first in
     let set = parent-set.set_parent in
-    running-next pre.0 pre.1 pre.2 loop.inv (omega arith) _ pick.ensures _ set.ensures _ refl
+    running-next pre.0 pre.1 pre.2 loop.invariant (omega arith) _ pick.ensures _ set.ensures _ refl
 
 returns : tie.Need-returns invariant-loop decreases-loop
 returns c = running-end c.loop-i.invariant (λ l. omega arith)

@@ -22,34 +22,34 @@ join-block-requires : tie.Need-join_block-requires invariant-loop decreases-loop
 join-block-requires c κs =
     let start : Start = search in
     let joining = c.loop-i.invariant in
-    (joinable-kept start.pre joining.kept joining.usable, omega arith)
+    (joinable-kept start.requires joining.kept joining.usable, omega arith)
 
 loop-again : tie.Need-loop-i-preserved invariant-loop decreases-loop
 loop-again c =
     let in-loop : tie.At-loop-i invariant-loop decreases-loop = search in
     let start : Start = search in
     let loop = in-loop.loop-i in
-    c.join_block.ensures start.args.work.now loop.inv
+    c.join_block.ensures start.args.work.now loop.invariant
 
 join-some-requires : tie.Need-join_some-requires invariant-loop decreases-loop
 join-some-requires c κs =
     let start : Start = search in
     let joining = c.loop-i.invariant in
-    (joinable-kept start.pre joining.kept joining.usable, joining.below, omega arith)
+    (joinable-kept start.requires joining.kept joining.usable, joining.below, omega arith)
 
 same_length : tie.Need-shape_of-work invariant-loop decreases-loop
 same_length c =
     let in-loop : tie.At-loop-i invariant-loop decreases-loop = search in
     let start : Start = search in
     let loop = in-loop.loop-i in
-    (c.join_some.ensures start.args.work.now loop.inv).kept.size
+    (c.join_some.ensures start.args.work.now loop.invariant).kept.size
 
 returns : tie.Need-returns invariant-loop decreases-loop
 returns c =
     let in-loop : tie.At-loop-i invariant-loop decreases-loop = search in
     let start : Start = search in
     let loop = in-loop.loop-i in
-    joining-end start.requires.room (c.join_some.ensures start.args.work.now loop.inv) (λ l. omega arith)
+    joining-end start.requires.room (c.join_some.ensures start.args.work.now loop.invariant) (λ l. omega arith)
 
 pub join_all_spec : {M : Type 1} → statement M
 join_all_spec =

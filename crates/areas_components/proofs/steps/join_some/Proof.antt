@@ -26,7 +26,7 @@ loop-again : tie.Need-loop-i-preserved invariant-loop decreases-loop
 loop-again c =
     let loop : tie.At-loop-i invariant-loop decreases-loop = search in
     let start : tie.Start invariant-loop decreases-loop = search in
-    partly-next loop.loop-i.inv (omega arith) start.requires.2 c.join_cell.ensures
+    partly-next loop.loop-i.invariant (omega arith) start.requires.2 c.join_cell.ensures
 
 returns : tie.Need-returns invariant-loop decreases-loop
 returns c = partly-end c.loop-i.invariant (λ l. omega arith)
