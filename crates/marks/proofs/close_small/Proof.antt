@@ -19,8 +19,8 @@ close-boundaries-requires : tie.Need-close_boundaries-requires
 close-boundaries-requires c κs =
     let numbers : tie.After-number_all = search in
     let start = asked numbers in
-    let p = start.pre.0 in
-    let spare = start.pre.1 in (
+    let p = start.requires.0 in
+    let spare = start.requires.1 in (
       p.marked,
       record {
         owners-are = p.owners-are;
@@ -34,15 +34,15 @@ forget-all-requires : tie.Need-forget_all-requires
 forget-all-requires c κs =
     let closed : tie.After-close_boundaries = search in
     let numbers = numbered closed in
-    let p = (asked numbers).pre.0 in
-    (p.labelled, omega (arith, p.room, numbers.number_all.kept))
+    let p = (asked numbers).requires.0 in
+    (p.labelled, omega (arith, p.room, numbers.number_all.auto))
 
 returns : tie.Need-returns
 returns c =
     let closed : tie.After-close_boundaries = search in
     let numbers = numbered closed in
     let start = asked numbers in
-    let p = start.pre.0 in
+    let p = start.requires.0 in
     let n = numbers.number_all.ensures in (
       closed.close_boundaries.ensures ∙ renamed-marks p.labelled n start.args.owners.now 256,
       restored (c.forget_all.ensures start.args.work.now (remembered n)) p.room p.zero,

@@ -7,7 +7,7 @@ use Rattle.marks.proofs.mark_few.Tie as tie
 mark-lent-requires : tie.Need-mark_lent-requires
 mark-lent-requires c κs =
     let start : tie.Start = search in
-    let p = start.pre in
+    let p = start.requires in
     (p.0, cleared start.args.count 64 128 4096 (omega (arith, p.1)) (omega (arith, p.1)) (omega arith) (omega (arith, p.0.labelled.few)))
 
 pub mark_few_spec : {M : Type 1} → statement M

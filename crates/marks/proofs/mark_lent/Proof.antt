@@ -12,7 +12,7 @@ start_of c = search
 mark-bridges-requires : tie.Need-mark_bridges-requires
 mark-bridges-requires c κs =
     let looked : tie.After-single = search in
-    let p = (start_of looked).pre in
+    let p = (start_of looked).requires in
     (p.0.marked, p.0.owners-are, p.0.labelled, p.0.room, p.0.zero, p.1)
 
 returns : tie.Need-returns-then-single
@@ -27,7 +27,7 @@ returns c =
 close-small-requires : tie.Need-close_small-requires
 close-small-requires c κs =
     let looked : tie.After-single = search in
-    let p = (start_of looked).pre in
+    let p = (start_of looked).requires in
     (p.0, spare-lent p.1)
 
 pub mark_lent_spec : {M : Type 1} → statement M

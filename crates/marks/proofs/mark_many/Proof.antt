@@ -7,7 +7,7 @@ use Rattle.marks.proofs.mark_many.Tie as tie
 mark-lent-requires : tie.Need-mark_lent-requires
 mark-lent-requires c κs =
     let start : tie.Start = search in
-    let p = start.pre in
+    let p = start.requires in
     (p, cleared start.args.count 4096 8192 4096 p.labelled.few (omega (arith, p.labelled.few)) (omega arith) p.labelled.few)
 
 pub mark_many_spec : {M : Type 1} → statement M

@@ -25,7 +25,7 @@ loop-again : tie.Need-loop-k-preserved invariant-loop decreases-loop
 loop-again c =
     let turn : tie.At-loop-k invariant-loop decreases-loop = search in
     let start : tie.Start invariant-loop decreases-loop = search in
-    let inv = turn.loop-k.inv in
+    let inv = turn.loop-k.invariant in
     (omega arith, single-next start.args.owners.now turn.loop-k.k inv.0 inv.1 (omega (arith, c.if-owners-k.false)))
 
 returns-2 : tie.Need-returns invariant-loop decreases-loop
