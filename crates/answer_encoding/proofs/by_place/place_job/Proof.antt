@@ -40,8 +40,8 @@ places : (c : tie.After-size-m) {ats from : ℕ} → ats ≡ (given c).args.h.of
     (given c).args.h.counts.sources
 places c e f =
     let start = given c in
-    job-places start.args.job.now start.pre.0.passed
-    (words-read start.args.job.now start.pre.0.passed start.args.h start.pre.0.header c.size-at.ensures.0
+    job-places start.args.job.now start.requires.0.passed
+    (words-read start.args.job.now start.requires.0.passed start.args.h start.requires.0.header c.size-at.ensures.0
     c.size-n.ensures.0 e c.size-m.ensures.0 f refl)
 
 all : (c : tie.After-size-2)
@@ -56,8 +56,8 @@ mark-standing-requires c κs =
     let j = places three refl refl in (
       j.countable.boundary-limit,
       j.countable.boundaries-in,
-      subst (λ (k : ℕ). PlacesOrder start.args.order.now k) (sym three.size-n.ensures.0) start.pre.0.ordered,
-      start.pre.3,
+      subst (λ (k : ℕ). PlacesOrder start.args.order.now k) (sym three.size-n.ensures.0) start.requires.0.ordered,
+      start.requires.3,
     )
 
 place-all-requires : tie.Need-place_all-requires
@@ -65,7 +65,7 @@ place-all-requires c κs =
     let five : tie.After-size-2 = search in
     let three = counted five in
     let start = given three in
-    (all-places (all five), place-room (all five) (work-same three.size-n.ensures.0 three.size-m.ensures.0 start.pre.1) start.pre.2)
+    (all-places (all five), place-room (all five) (work-same three.size-n.ensures.0 three.size-m.ensures.0 start.requires.1) start.requires.2)
 
 returns : tie.Need-returns
 returns c =
@@ -76,10 +76,10 @@ returns c =
     let start = given three in
     worked_same (sym three.size-at.ensures.0) (sym three.size-n.ensures.0) (sym five.size.ensures.0)
     (sym three.size-m.ensures.0) (sym five.size-2.ensures.0)
-    (worked-out (all five) (marked five).mark_standing.ensures placed.place_all.ensures.0 placed.place_all.ensures.1
-    (omega (arith, (keyed starts).keys.given, start.pre.1.keys-few))
-    (omega (arith, (named starts).firsts.given, start.pre.1.firsts-room, three.size-n.ensures.0))
-    (omega (arith, starts.starts.given, start.pre.1.starts-room, three.size-n.ensures.0, three.size-m.ensures.0)))
+    (worked-out (all five) (marked five).mark_standing.ensures placed.place_all.ensures.copies_placed placed.place_all.ensures.inside
+    (omega (arith, (keyed starts).keys.given, start.requires.1.keys-few))
+    (omega (arith, (named starts).firsts.given, start.requires.1.firsts-room, three.size-n.ensures.0))
+    (omega (arith, starts.starts.given, start.requires.1.starts-room, three.size-n.ensures.0, three.size-m.ensures.0)))
 
 pub place_job_spec : {M : Type 1} → statement M
 place_job_spec =

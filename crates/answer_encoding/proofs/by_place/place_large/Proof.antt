@@ -9,8 +9,8 @@ use Rattle.answer_encoding.proofs.by_place.place_large.Tie as tie
 place-job-requires : tie.Need-place_job-requires
 place-job-requires c κs =
     let start : tie.Start = search in
-    let w = counts-allowed start.args.job.now start.pre.0.passed start.args.h start.pre.0.header in
-    (start.pre.0, start.pre.1, omega (arith, w.sources, length-replicate {A = ℕ} 4096 0), start.pre.2)
+    let w = counts-allowed start.args.job.now start.requires.0.passed start.args.h start.requires.0.header in
+    (start.requires.0, start.requires.1, omega (arith, w.sources, length-replicate {A = ℕ} 4096 0), start.requires.2)
 
 pub place_large_spec : {M : Type 1} → statement M
 place_large_spec =

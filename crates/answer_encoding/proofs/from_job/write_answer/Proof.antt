@@ -9,7 +9,7 @@ write-small-requires c κs =
     let sizes : tie.After-size-2 = search in
     let size = sizes.before in
     let start : tie.Start = search in
-    (start.pre, omega (arith, size.size.ensures.0, sizes.size-2.ensures.0), omega (arith, leb-true, c.size-then-size-le-FEW_PLACES.ensures.0))
+    (start.requires, omega (arith, size.size.ensures.0, sizes.size-2.ensures.0), omega (arith, leb-true, c.size-then-size-le-FEW_PLACES.ensures.0))
 
 pub write_answer_spec : {M : Type 1} → statement M
 write_answer_spec =

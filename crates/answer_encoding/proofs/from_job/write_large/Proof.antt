@@ -10,8 +10,8 @@ use Rattle.answer_encoding.proofs.from_job.write_large.Tie as tie
 place-large-requires : tie.Need-place_large-requires
 place-large-requires c κs =
     let start : tie.Start = search in
-    let w = counts-allowed start.args.job.now start.pre.passed start.args.h start.pre.header in (
-      start.pre,
+    let w = counts-allowed start.args.job.now start.requires.passed start.args.h start.requires.header in (
+      start.requires,
       work-room 4096 1280 (omega (arith, w.sources)) (omega arith) (omega (arith, w.boundaries, w.observations)) w.boundaries,
       length-replicate {A = ℕ} 256 0,
     )

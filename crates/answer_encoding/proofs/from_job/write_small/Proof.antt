@@ -9,7 +9,7 @@ use Rattle.answer_encoding.proofs.from_job.write_small.Tie as tie
 place-small-requires : tie.Need-place_small-requires
 place-small-requires c κs =
     let start : tie.Start = search in
-    (start.pre.0, work-room 512 64 (omega arith) (omega arith) (omega arith) (omega arith), start.pre.2, length-replicate {A = ℕ} 256 0)
+    (start.requires.0, work-room 512 64 (omega arith) (omega arith) (omega arith) (omega arith), start.requires.2, length-replicate {A = ℕ} 256 0)
 
 pub write_small_spec : {M : Type 1} → statement M
 write_small_spec =

@@ -39,7 +39,7 @@ words : (c : tie.After-size-base)
     (given c).args.h.offsets.observations c.size-base.result c.size-from.result (given c).args.h.counts.sources
 words c =
     let start = given c in
-    words-read start.args.job.now start.pre.0.passed start.args.h start.pre.0.header c.size-at.ensures.0
+    words-read start.args.job.now start.requires.0.passed start.args.h start.requires.0.header c.size-at.ensures.0
     c.size-n.ensures.0 refl c.size-base.ensures.0 c.size-from.ensures.0 refl
 
 ordered : (c : tie.After-size-base) → PlacesOrder (given c).args.order.now c.size-n.result
@@ -59,7 +59,7 @@ gather-kept-requires : tie.Need-gather_kept-count-requires
 gather-kept-requires c κs =
     let four : tie.After-size-base = search in
     gather-room (job-places _ _ (words four)) (worked four)
-    (arrays-same four.size-n.ensures.0 four.size-base.ensures.0 (given four).pre.2) (ordered four)
+    (arrays-same four.size-n.ensures.0 four.size-base.ensures.0 (given four).requires.2) (ordered four)
 
 write-kept-requires : tie.Need-write_kept-requires
 write-kept-requires c κs =

@@ -7,7 +7,7 @@ use Rattle.answer_encoding.proofs.gathered.write_small_gathered.Tie as tie
 write-gathered-requires : tie.Need-write_gathered-requires
 write-gathered-requires c κs =
     let start : tie.Start = search in
-    (start.pre.0, start.pre.1, gather-arrays 512 64 (omega arith) (omega arith) (omega arith))
+    (start.requires.0, start.requires.1, gather-arrays 512 64 (omega arith) (omega arith) (omega arith))
 
 pub write_small_gathered_spec : {M : Type 1} → statement M
 write_small_gathered_spec =

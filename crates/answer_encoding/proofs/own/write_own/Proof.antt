@@ -8,14 +8,14 @@ sort-sources-requires : tie.Need-sort_sources-requires
 sort-sources-requires c κs =
     let start : tie.Start = search in
     let back : tie.After-s-1 = search in
-    omega (arith, back.s.given, start.pre.room)
+    omega (arith, back.s.given, start.requires.room)
 
 returns : tie.Need-returns
 returns c =
     let start : tie.Start = search in
     let known : tie.After-shared_slice_known-1 = search in
     let moved : tie.After-write_places = search in
-    own-sorted start.pre (λ i. omega (arith, known.shared_slice_known-1.given i)) (λ i. omega (arith, c.slice_known-3-1.given i))
+    own-sorted start.requires (λ i. omega (arith, known.shared_slice_known-1.given i)) (λ i. omega (arith, c.slice_known-3-1.given i))
     moved.write_places.ensures (sorted-at c.sort_sources.ensures (omega arith) (omega arith))
 
 pub write_own_spec : {M : Type 1} → statement M

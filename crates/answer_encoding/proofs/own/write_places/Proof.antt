@@ -24,12 +24,12 @@ inside : (c : tie.After-place invariant-loop decreases-loop) → c.args.from + (
 inside c =
     let start : tie.Start invariant-loop decreases-loop = search in
     let in-loop : tie.At-loop-i invariant-loop decreases-loop = search in
-    omega (arith, start.pre.inside in-loop.loop-i.i c.loop-i-test.true, c.place.ensures.0)
+    omega (arith, start.requires.inside in-loop.loop-i.i c.loop-i-test.true, c.place.ensures.0)
 
 add-place : tie.Need-overflow_add-a invariant-loop decreases-loop
 add-place c =
     let start : tie.Start invariant-loop decreases-loop = search in
-    omega (arith, start.pre.limit)
+    omega (arith, start.requires.limit)
 
 mul-p : tie.Need-overflow_mul-p invariant-loop decreases-loop
 mul-p c = omega (arith, c.place.ensures.1)
@@ -40,12 +40,12 @@ add-p c = omega (arith, inside c)
 mul-write-u64 : tie.Need-overflow_mul-i invariant-loop decreases-loop
 mul-write-u64 c =
     let start : tie.Start invariant-loop decreases-loop = search in
-    omega (arith, start.pre.limit)
+    omega (arith, start.requires.limit)
 
 add-write-u64 : tie.Need-overflow_add-at invariant-loop decreases-loop
 add-write-u64 c =
     let start : tie.Start invariant-loop decreases-loop = search in
-    omega (arith, start.pre.room)
+    omega (arith, start.requires.room)
 
 read-u64-requires : tie.Need-read_u64-requires invariant-loop decreases-loop
 read-u64-requires c κs = omega (arith, inside c.before)
@@ -54,7 +54,7 @@ write-u64-requires : tie.Need-write_u64-requires invariant-loop decreases-loop
 write-u64-requires c κs =
     let start : tie.Start invariant-loop decreases-loop = search in
     let in-loop : tie.At-loop-i invariant-loop decreases-loop = search in
-    omega (arith, in-loop.loop-i.inv.1.long, start.pre.room)
+    omega (arith, in-loop.loop-i.invariant.1.long, start.requires.room)
 
 loop-again : tie.Need-loop-i-preserved invariant-loop decreases-loop
 loop-again c =
@@ -66,10 +66,10 @@ loop-again c =
     let k = in-loop.loop-i.i in
     let long = pieces-long start.args.job.now start.args.from start.args.owned.now start.args.a in (
       omega arith,
-      writes-next _ _ in-loop.loop-i.inv.1 (omega (arith, long (k + 1), start.pre.room)) (omega (arith, long k))
+      writes-next _ _ in-loop.loop-i.invariant.1 (omega (arith, long (k + 1), start.requires.room)) (omega (arith, long k))
           c.write_u64.ensures
           (own-moved start.args.job.now start.args.from start.args.owned.now start.args.a k
-          (λ i. omega (arith, known.shared_slice_known-1.given i)) (start.pre.inside k placed.loop-i-test.true) placed.place.ensures.0
+          (λ i. omega (arith, known.shared_slice_known-1.given i)) (start.requires.inside k placed.loop-i-test.true) placed.place.ensures.0
           read.read_u64.ensures),
     )
 

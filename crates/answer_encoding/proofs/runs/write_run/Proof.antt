@@ -18,7 +18,7 @@ loop-holds c = (omega arith, writes_start _ _ _)
 write-source-requires : tie.Need-write_source-requires invariant-loop decreases-loop
 write-source-requires c κs =
     let in-loop : tie.At-loop-i invariant-loop decreases-loop = search in
-    omega (arith, in-loop.loop-i.inv.1.long)
+    omega (arith, in-loop.loop-i.invariant.1.long)
 
 loop-again : tie.Need-loop-i-preserved invariant-loop decreases-loop
 loop-again c =
@@ -28,7 +28,7 @@ loop-again c =
     let keys = start.args.keys.now in
     let from = start.args.from in (
       omega arith,
-      writes-next _ _ in-loop.loop-i.inv.1 (omega (arith, run_long keys from (in-loop.loop-i.i + 1)))
+      writes-next _ _ in-loop.loop-i.invariant.1 (omega (arith, run_long keys from (in-loop.loop-i.i + 1)))
           (omega (arith, run_long keys from in-loop.loop-i.i)) c.write_source.ensures
           (key-is keys (from + in-loop.loop-i.i) key.long.ensures),
     )

@@ -19,7 +19,7 @@ room c =
     let start : tie.Start invariant-loop decreases-loop = search in
     let found : tie.After-index-p invariant-loop decreases-loop = search in
     let counted : tie.After-run_length-count invariant-loop decreases-loop = search in
-    run_room found.loop-i.inv start.pre.0 found.loop-i-test.true found.index-p.ensures.0 c.index.ensures.0
+    run_room found.loop-i.invariant start.requires.0 found.loop-i-test.true found.index-p.ensures.0 c.index.ensures.0
     counted.run_length-count.ensures
 
 loop-holds : tie.Need-loop-i-init invariant-loop decreases-loop
@@ -43,7 +43,7 @@ loop-again c =
     let found : tie.After-index-p invariant-loop decreases-loop = search in
     let counted : tie.After-run_length-count invariant-loop decreases-loop = search in
     let placed : tie.After-index invariant-loop decreases-loop = search in
-    running-next found.loop-i.inv start.pre.0 found.loop-i-test.true found.index-p.ensures.0 placed.index.ensures.0
+    running-next found.loop-i.invariant start.requires.0 found.loop-i-test.true found.index-p.ensures.0 placed.index.ensures.0
     counted.run_length-count.ensures c.write_run.ensures
 
 same_length : tie.Need-shape_of-s invariant-loop decreases-loop

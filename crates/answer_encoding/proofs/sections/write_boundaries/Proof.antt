@@ -26,33 +26,33 @@ mul-read-boundary c = omega (arith, c.index.ensures.1)
 add-read-boundary : tie.Need-overflow_add-at invariant-loop decreases-loop
 add-read-boundary c =
     let start : tie.Start invariant-loop decreases-loop = search in
-    omega (arith, c.index.ensures.0, start.pre.inside c.loop-k.k c.loop-k-test.true)
+    omega (arith, c.index.ensures.0, start.requires.inside c.loop-k.k c.loop-k-test.true)
 
 read-boundary-requires : tie.Need-read_boundary-x-requires invariant-loop decreases-loop
 read-boundary-requires c κs =
     let start : tie.Start invariant-loop decreases-loop = search in
-    omega (arith, c.index.ensures.0, start.pre.inside c.loop-k.k c.loop-k-test.true)
+    omega (arith, c.index.ensures.0, start.requires.inside c.loop-k.k c.loop-k-test.true)
 
 mul-write-boundary : tie.Need-overflow_mul-k invariant-loop decreases-loop
 mul-write-boundary c =
     let start : tie.Start invariant-loop decreases-loop = search in
-    omega (arith, start.pre.limit)
+    omega (arith, start.requires.limit)
 
 add-write-boundary : tie.Need-overflow_add-to invariant-loop decreases-loop
 add-write-boundary c =
     let start : tie.Start invariant-loop decreases-loop = search in
-    omega (arith, start.pre.room)
+    omega (arith, start.requires.room)
 
 write-boundary-requires : tie.Need-write_boundary-requires invariant-loop decreases-loop
 write-boundary-requires c κs =
     let in-loop : tie.At-loop-k invariant-loop decreases-loop = search in
     let start = start_of in-loop in
-    omega (arith, start.pre.room, in-loop.loop-k.inv.1.long)
+    omega (arith, start.requires.room, in-loop.loop-k.invariant.1.long)
 
 add-k : tie.Need-overflow_add-k invariant-loop decreases-loop
 add-k c =
     let start : tie.Start invariant-loop decreases-loop = search in
-    omega (arith, start.pre.limit)
+    omega (arith, start.requires.limit)
 
 loop-again : tie.Need-loop-k-preserved invariant-loop decreases-loop
 loop-again c =
@@ -68,8 +68,8 @@ loop-again c =
     let job = start.args.job.now in
     let at = start.args.at in (
       omega arith,
-      writes-next _ _ in-loop.loop-k.inv.1
-          (omega (arith, start.pre.room, kept-long (boundary_rows job at) kept owns seens (in-loop.loop-k.k + 1)))
+      writes-next _ _ in-loop.loop-k.invariant.1
+          (omega (arith, start.requires.room, kept-long (boundary_rows job at) kept owns seens (in-loop.loop-k.k + 1)))
           (omega (arith, kept-long (boundary_rows job at) kept owns seens in-loop.loop-k.k)) c.write_boundary.ensures
           (kept-is job at kept owns seens in-loop.loop-k.k boundary.read_boundary-x.ensures rank.index.ensures.0
           own.word.ensures seen.word-in-loop-k.ensures),

@@ -21,7 +21,7 @@ loop-holds c = (omega arith, writes_start _ _ _)
 write-place-requires : tie.Need-write_place-requires invariant-loop decreases-loop
 write-place-requires c κs =
     let in-loop : tie.At-loop-q invariant-loop decreases-loop = search in
-    omega (arith, in-loop.loop-q.inv.1.long)
+    omega (arith, in-loop.loop-q.invariant.1.long)
 
 loop-again : tie.Need-loop-q-preserved invariant-loop decreases-loop
 loop-again c =
@@ -36,7 +36,7 @@ loop-again c =
     let keys = start.args.keys.now in
     let seen = start.args.seen.now in (
       omega arith,
-      writes-next _ _ in-loop.loop-q.inv.1 (omega (arith, places-long first second third starts counts keys seen (in-loop.loop-q.q + 1)))
+      writes-next _ _ in-loop.loop-q.invariant.1 (omega (arith, places-long first second third starts counts keys seen (in-loop.loop-q.q + 1)))
           (omega (arith, places-long first second third starts counts keys seen in-loop.loop-q.q)) c.write_place.ensures
           (ap (place_piece first second third starts counts keys) place.index-p.ensures.0),
     )

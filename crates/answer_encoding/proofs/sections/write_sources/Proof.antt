@@ -24,7 +24,7 @@ few c =
     let turns = c.loop-k-test.true in
     let own = c.index-own.ensures.0 in
     let seen = c.index-n.ensures.0 in
-    (own-few inv start.pre turns own seen, seen_few inv start.pre turns own seen, (own_room inv start.pre turns own seen refl).room)
+    (own-few inv start.requires turns own seen, seen_few inv start.requires turns own seen, (own_room inv start.requires turns own seen refl).room)
 
 loop-holds : tie.Need-loop-k-init invariant-loop decreases-loop
 loop-holds c = grouping-start _ _ _ _ _ _ _ _ _ _ _ _
@@ -34,7 +34,7 @@ write-own-requires c κs =
     let start : tie.Start invariant-loop decreases-loop = search in
     let both_read : tie.After-index-n invariant-loop decreases-loop = search in
     let turning = both_read.before.before in
-    own_room turning.loop-k.inv start.pre turning.loop-k-test.true both_read.index-own.ensures.0 both_read.index-n.ensures.0
+    own_room turning.loop-k.invariant start.requires turning.loop-k-test.true both_read.index-own.ensures.0 both_read.index-n.ensures.0
     (omega arith)
 
 mul-write-runs : tie.Need-overflow_mul-own invariant-loop decreases-loop
@@ -49,7 +49,7 @@ write-runs-requires c κs =
     let both_read : tie.After-index-n invariant-loop decreases-loop = search in
     let own-written : tie.After-write_own invariant-loop decreases-loop = search in
     let turning = both_read.before.before in (
-      seen-room turning.loop-k.inv start.pre turning.loop-k-test.true both_read.index-own.ensures.0 both_read.index-n.ensures.0
+      seen-room turning.loop-k.invariant start.requires turning.loop-k-test.true both_read.index-own.ensures.0 both_read.index-n.ensures.0
           own-written.write_own.ensures,
       omega (arith, (few both_read).1),
       omega (arith, (few both_read).1),
@@ -64,7 +64,7 @@ add-q c = omega (arith, (few (search)).1)
 add-k : tie.Need-overflow_add-k invariant-loop decreases-loop
 add-k c =
     let start : tie.Start invariant-loop decreases-loop = search in
-    omega (arith, start.pre.limit)
+    omega (arith, start.requires.limit)
 
 loop-again : tie.Need-loop-k-preserved invariant-loop decreases-loop
 loop-again c =
@@ -72,7 +72,7 @@ loop-again c =
     let both_read : tie.After-index-n invariant-loop decreases-loop = search in
     let own-written : tie.After-write_own invariant-loop decreases-loop = search in
     let turning = both_read.before.before in
-    grouping-next turning.loop-k.inv start.pre turning.loop-k-test.true both_read.index-own.ensures.0
+    grouping-next turning.loop-k.invariant start.requires turning.loop-k-test.true both_read.index-own.ensures.0
     both_read.index-n.ensures.0 own-written.write_own.ensures c.write_runs-to.ensures
 
 same_length : tie.Need-shape_of-s invariant-loop decreases-loop

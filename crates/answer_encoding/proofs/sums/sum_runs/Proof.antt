@@ -17,14 +17,14 @@ loop-holds c = cited-start _ _ _ _ _
 add-t : tie.Need-overflow_add-t invariant-loop decreases-loop
 add-t c =
     let in-loop : tie.At-loop-i invariant-loop decreases-loop = search in
-    omega (arith, in-loop.loop-i.inv.small)
+    omega (arith, in-loop.loop-i.invariant.small)
 
 loop-again : tie.Need-loop-i-preserved invariant-loop decreases-loop
 loop-again c =
     let in-loop : tie.At-loop-i invariant-loop decreases-loop = search in
     let start : tie.Start invariant-loop decreases-loop = search in
     cited-next start.args.seen.now start.args.starts.now start.args.counts.now start.args.keys.now c.index.result
-    c.run_length.result (omega arith) in-loop.loop-i.inv c.loop-i-test.true c.index.ensures.0 c.run_length.ensures
+    c.run_length.result (omega arith) in-loop.loop-i.invariant c.loop-i-test.true c.index.ensures.0 c.run_length.ensures
 
 returns : tie.Need-returns invariant-loop decreases-loop
 returns c =

@@ -40,17 +40,17 @@ counted c = summed (headed (placed c))
 sum-first-requires : tie.Need-sum_first-observations-requires
 sum-first-requires c κs =
     let start : tie.Start = search in
-    count-few start.pre
+    count-few start.requires
 
 sum-first-requires-2 : tie.Need-sum_first-requires
 sum-first-requires-2 c κs =
     let start : tie.Start = search in
-    count-few start.pre
+    count-few start.requires
 
 sum-runs-requires : tie.Need-sum_runs-requires
 sum-runs-requires c κs =
     let start : tie.Start = search in
-    (omega (arith, seen_few start.pre, c.sum_first-observations.ensures), start.pre.keys-few)
+    (omega (arith, seen_few start.requires, c.sum_first-observations.ensures), start.requires.keys-few)
 
 add-sources : tie.Need-overflow_add-sources
 add-sources c = omega (arith, few c)
@@ -108,7 +108,7 @@ write-sources-requires c κs =
     let fits : tie.Else-answer-total = search in
     let rest = c.before.before in
     let all = counted rest in
-    let pre = (given all).pre in
+    let pre = (given all).requires in
     record {
       limit = count-few pre;
       own-limit = own-few pre;
@@ -133,8 +133,8 @@ returns-2 c =
     let all = fits.before in
     let observations = all.sum_first-observations.ensures in
     let owns = all.sum_first.ensures in
-    λ n ks e g. full-answer (given all).pre observations owns all.sum_runs.ensures.0 refl e g (omega (arith, fits.if-answer-total.false))
-    (all-written (given all).pre observations owns all.sum_runs.ensures.0 (given all).args.answer.now (omega (arith, fits.if-answer-total.false))
+    λ n ks e g. full-answer (given all).requires observations owns all.sum_runs.ensures.0 refl e g (omega (arith, fits.if-answer-total.false))
+    (all-written (given all).requires observations owns all.sum_runs.ensures.0 (given all).args.answer.now (omega (arith, fits.if-answer-total.false))
     begun.write_header.ensures bounded.write_boundaries.ensures
     observed.write_observations.ensures c.write_sources.ensures)
 

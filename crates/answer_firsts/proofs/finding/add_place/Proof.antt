@@ -15,7 +15,7 @@ returns c =
     let read : tie.After-place = search in
     let known : tie.After-key_at-x = search in
     let key = known.key_at-x.ensures ∙ ap (key_in _ _) read.place.ensures.0 in
-    grown-same start.pre.0 key (c.look_up-spot.ensures.found c.if-spot.true)
+    grown-same start.requires.0 key (c.look_up-spot.ensures.found c.if-spot.true)
 
 slice-write-links-2 : tie.Need-bounds-links-heads
 slice-write-links-2 c =
@@ -23,7 +23,7 @@ slice-write-links-2 c =
     let spot : tie.After-look_up-spot = search in
     let links = start.args.links.now in
     let cell = spot.look_up-spot.result.cell in
-    omega (arith, start.pre.0.cells-long, length-set links cell (start.args.count + 1))
+    omega (arith, start.requires.0.cells-long, length-set links cell (start.args.count + 1))
 
 slice-write-links-3 : tie.Need-bounds-links-heads-2
 slice-write-links-3 c =
@@ -32,14 +32,14 @@ slice-write-links-3 c =
     let count = start.args.count in
     let once = set start.args.links.now spot.look_up-spot.result.cell (count + 1) in
     let long = length-set start.args.links.now spot.look_up-spot.result.cell (count + 1) in
-    omega (arith, start.pre.0.cells-long, long, length-set once (start.args.heads + 2 * count) 0)
+    omega (arith, start.requires.0.cells-long, long, length-set once (start.args.heads + 2 * count) 0)
 
 returns-2 : tie.Need-returns
 returns-2 c =
     let start : tie.Start = search in
     let read : tie.After-place = search in
     let known : tie.After-key_at-x = search in
-    let asked = start.pre in
+    let asked = start.requires in
     let count = start.args.count in
     let p = start.args.p in
     let places = start.args.places.now in

@@ -14,14 +14,14 @@ abbrev decreases-loop : tie.decreases-loop-i
 decreases-loop job base from n heads first count links₀ places₀ found₀ i₀ links places found i = n - i
 
 loop-holds : tie.Need-loop-i-init invariant-loop decreases-loop
-loop-holds c = let start : tie.Start invariant-loop decreases-loop = search in (omega arith, covers-start _ start.pre.0)
+loop-holds c = let start : tie.Start invariant-loop decreases-loop = search in (omega arith, covers-start _ start.requires.linked)
 
 add-place-requires : tie.Need-add_place-found-requires invariant-loop decreases-loop
 add-place-requires c κs =
     let start : tie.Start invariant-loop decreases-loop = search in
     let turn : tie.At-loop-i invariant-loop decreases-loop = search in
-    let asked = start.pre in
-    let state = turn.loop-i.inv.1 in
+    let asked = start.requires in
+    let state = turn.loop-i.invariant.1 in
     let least = state.least in
     let most = state.most in
     (state.linked, omega arith, omega arith, omega arith)
@@ -30,10 +30,10 @@ loop-again : tie.Need-loop-i-preserved invariant-loop decreases-loop
 loop-again c =
     let turn : tie.At-loop-i invariant-loop decreases-loop = search in
     let added : tie.After-add_place-found invariant-loop decreases-loop = search in
-    (omega arith, covers-next turn.loop-i.inv.1 added.add_place-found.ensures (omega arith))
+    (omega arith, covers-next turn.loop-i.invariant.1 added.add_place-found.ensures (omega arith))
 
 returns : tie.Need-returns invariant-loop decreases-loop
-returns c = let turn : tie.At-loop-i invariant-loop decreases-loop = search in covers-end turn.loop-i.inv.1 (omega arith)
+returns c = let turn : tie.At-loop-i invariant-loop decreases-loop = search in covers-end turn.loop-i.invariant.1 (omega arith)
 
 pub add_places_spec : {M : Type 1} → statement M
 add_places_spec =

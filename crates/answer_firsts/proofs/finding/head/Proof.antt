@@ -10,7 +10,7 @@ use Rattle.answer_firsts.proofs.finding.head.Tie as tie
 mul-result : tie.Need-overflow_mul-result
 mul-result c =
     let start : tie.Start = search in
-    let most = mul-le-mul c.mixed.ensures.1 start.pre in
+    let most = mul-le-mul c.mixed.ensures.1 start.requires in
     record { fits = omega arith }
 
 returns : tie.Need-returns

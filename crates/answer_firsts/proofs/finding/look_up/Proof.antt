@@ -16,33 +16,33 @@ abbrev decreases-loop : tie.decreases-loop-v
 decreases-loop job base x heads first count links places cell₀ y₀ v₀ cell y v = heads + 2 * count - cell
 
 head-requires : tie.Need-head-cell-requires invariant-loop decreases-loop
-head-requires c κs = let start : tie.Start invariant-loop decreases-loop = search in start.pre.0.small
+head-requires c κs = let start : tie.Start invariant-loop decreases-loop = search in start.requires.0.small
 
 mul-place : tie.Need-offset_bounds-links-cell invariant-loop decreases-loop
 mul-place c =
     let start : tie.Start invariant-loop decreases-loop = search in
-    omega (arith, c.head-cell.ensures, head_small start.args.heads start.args.x start.pre.1, start.pre.0.small)
+    omega (arith, c.head-cell.ensures, head_small start.args.heads start.args.x start.requires.1, start.requires.0.small)
 
 shared-slice-read-place : tie.Need-bounds-links-cell invariant-loop decreases-loop
 shared-slice-read-place c =
     let start : tie.Start invariant-loop decreases-loop = search in
     let head : tie.After-head-cell invariant-loop decreases-loop = search in
-    omega (arith, head.head-cell.ensures, head_small start.args.heads start.args.x start.pre.1, start.pre.0.cells-long)
+    omega (arith, head.head-cell.ensures, head_small start.args.heads start.args.x start.requires.1, start.requires.0.cells-long)
 
 loop-holds : tie.Need-loop-v-init invariant-loop decreases-loop
 loop-holds c =
     let start : tie.Start invariant-loop decreases-loop = search in
     let head : tie.After-head-cell invariant-loop decreases-loop = search in
-    let linked = start.pre.0 in
-    let walk = walking_start linked start.pre.1 _ _ head.head-cell.ensures c.place-v.ensures.0 in
-    (linked.few, walking-most linked start.pre.1 walk, walk)
+    let linked = start.requires.0 in
+    let walk = walking_start linked start.requires.1 _ _ head.head-cell.ensures c.place-v.ensures.0 in
+    (linked.few, walking-most linked start.requires.1 walk, walk)
 
 key-at-requires : tie.Need-key_at-requires invariant-loop decreases-loop
 key-at-requires c κs =
     let start : tie.Start invariant-loop decreases-loop = search in
     let turn : tie.At-loop-v invariant-loop decreases-loop = search in
-    let state = turn.loop-v.inv in
-    let inside = start.pre.0.inside (turn.loop-v.v - 1) (omega arith) (omega arith) in
+    let state = turn.loop-v.invariant in
+    let inside = start.requires.0.inside (turn.loop-v.v - 1) (omega arith) (omega arith) in
     omega (arith, c.place-p.ensures.0)
 
 returns : tie.Need-returns-then-key_at-x invariant-loop decreases-loop
@@ -53,14 +53,14 @@ returns c =
     let job = start.args.job.now in
     let told : ◌≡◌ {A = ℕ} c.key_at.result (key_in job start.args.base read.place-p.result) = c.key_at.ensures in
     let key = told ∙ ap (key_in _ _) read.place-p.ensures.0 in
-    walk-found start.pre.0 start.pre.1 turn.loop-v.inv.2 (omega arith) key (omega arith)
+    walk-found start.requires.0 start.requires.1 turn.loop-v.invariant.2 (omega arith) key (omega arith)
 
 loop-less : tie.Need-loop-v-smaller invariant-loop decreases-loop
 loop-less c =
     let start : tie.Start invariant-loop decreases-loop = search in
     let turn : tie.At-loop-v invariant-loop decreases-loop = search in
-    let walk = turn.loop-v.inv.2 in
-    omega (arith, walking_on start.pre.0 start.pre.1 walk (omega arith), walking-within start.pre.0 start.pre.1 walk)
+    let walk = turn.loop-v.invariant.2 in
+    omega (arith, walking_on start.requires.0 start.requires.1 walk (omega arith), walking-within start.requires.0 start.requires.1 walk)
 
 loop-again : tie.Need-loop-v-preserved invariant-loop decreases-loop
 loop-again c =
@@ -69,17 +69,17 @@ loop-again c =
     let read : tie.After-place-p invariant-loop decreases-loop = search in
     let known : tie.After-key_at invariant-loop decreases-loop = search in
     let low : tie.After-digit invariant-loop decreases-loop = search in
-    let linked = start.pre.0 in
+    let linked = start.requires.0 in
     let key = known.key_at.ensures ∙ ap (key_in _ _) read.place-p.ensures.0 in
-    let some = start.pre.1 in
+    let some = start.requires.1 in
     let last = low.digit.ensures.0 in
-    let walk = walking-next linked some turn.loop-v.inv.2 (omega arith) key (λ z. omega arith) last refl refl c.place-v-in-loop-v.ensures.0 in
+    let walk = walking-next linked some turn.loop-v.invariant.2 (omega arith) key (λ z. omega arith) last refl refl c.place-v-in-loop-v.ensures.0 in
     (linked.few, walking-most linked some walk, walk)
 
 returns-2 : tie.Need-returns invariant-loop decreases-loop
 returns-2 c =
     let start : tie.Start invariant-loop decreases-loop = search in
-    walk-missing start.pre.0 start.pre.1 c.loop-v.invariant.2 (omega arith)
+    walk-missing start.requires.0 start.requires.1 c.loop-v.invariant.2 (omega arith)
 
 pub look_up_spec : {M : Type 1} → statement M
 look_up_spec =

@@ -15,12 +15,12 @@ start_of c = search
 gather-seens-requires : tie.Need-gather_seens-requires
 gather-seens-requires c κs =
     let start : tie.Start = search in
-    seens-room start.pre
+    seens-room start.requires
 
 gather-owns-requires : tie.Need-gather_owns-requires
 gather-owns-requires c κs =
     let start : tie.Start = search in
-    (owns-room start.pre, start.pre.linked)
+    (owns-room start.requires, start.requires.linked)
 
 returns : tie.Need-returns
 returns c =
@@ -28,8 +28,8 @@ returns c =
     let seens = seen owns in
     let start = start_of seens in
     λ os count p. gathered start.args.job.now start.args.at start.args.from count p start.args.order.now start.args.plan.now
-    (place-below start.args.order.now start.args.n start.pre.ordered) start.pre.standing owns.gather_owns.ensures
-    seens.gather_seens.ensures (seens-room start.pre).small
+    (place-below start.args.order.now start.args.n start.requires.ordered) start.requires.standing owns.gather_owns.ensures
+    seens.gather_seens.ensures (seens-room start.requires).small
 
 pub gather_kept_spec : {M : Type 1} → statement M
 gather_kept_spec =

@@ -17,18 +17,18 @@ known_of c = search
 returns : tie.Need-returns-then-size-i
 returns c =
     let start : tie.Start = search in
-    by-else start.pre.3 c.size.ensures.0 c.if-size-i.true
+    by-else start.requires.3 c.size.ensures.0 c.if-size-i.true
 
 shared-slice-read-size : tie.Need-bounds-starts-base
 shared-slice-read-size c =
     let start : tie.Start = search in
-    omega (arith, start.pre.0.starts-room, start.pre.1, place_in start.pre.0 start.pre.1 c.size-b.ensures.0)
+    omega (arith, start.requires.0.starts-room, start.requires.1, place_in start.requires.0 start.requires.1 c.size-b.ensures.0)
 
 read-boundary-requires : tie.Need-read_boundary-x-requires
 read-boundary-requires c κs =
     let rank : tie.After-size-b = search in
     let start = start_of rank.before.before.before in
-    omega (arith, start.pre.0.records-in, place_in start.pre.0 start.pre.1 rank.size-b.ensures.0)
+    omega (arith, start.requires.0.records-in, place_in start.requires.0 start.requires.1 rank.size-b.ensures.0)
 
 -- before the call: what is known of the rank that goes into rank i
 module _ (c : tie.After-size-2) where
@@ -53,7 +53,7 @@ module _ (c : tie.After-size-2) where
 add-places-requires : tie.Need-add_places-requires
 add-places-requires c κs =
     let a : tie.After-size-2 = search in
-    let pre = (start a).pre in
+    let pre = (start a).requires in
     let place = (rank a).size-b.ensures.0 in
     let first = (from a).size-p.ensures.0 in (
       pre.3.firsts.linked,
@@ -69,7 +69,7 @@ returns-2 : tie.Need-returns
 returns-2 c =
     let added : tie.After-add_places = search in
     let a : tie.After-size-2 = search in
-    let pre = (start a).pre in
+    let pre = (start a).requires in
     let known = known_of (goes a).before in
     by_next pre.3 (goes a).size.ensures.0 (goes a).if-size-i.false pre.0 pre.1 (rank a).size-b.ensures.0 (from a).size-p.ensures.0 (many a)
     (λ i. omega (arith, known.shared_slice_known-1.given i)) added.add_places.ensures

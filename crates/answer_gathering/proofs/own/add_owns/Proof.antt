@@ -20,35 +20,35 @@ start_of c = search
 loop-holds : tie.Need-loop-j-init invariant-loop decreases-loop
 loop-holds c =
     let start : tie.Start invariant-loop decreases-loop = search in
-    (omega arith, by-none start.pre.2)
+    (omega arith, by-none start.requires.2)
 
 add-own-requires : tie.Need-add_own-count-requires invariant-loop decreases-loop
 add-own-requires c κs =
     let turning : tie.In-loop-j invariant-loop decreases-loop = search in
     let start = start_of turning.before in
-    (start.pre.0, turning.loop-j-test.true, start.pre.1, by-now turning.loop-j.inv.1)
+    (start.requires.0, turning.loop-j-test.true, start.requires.1, by-now turning.loop-j.invariant.1)
 
 loop-again : tie.Need-loop-j-preserved invariant-loop decreases-loop
 loop-again c =
     let added : tie.After-add_own-count invariant-loop decreases-loop = search in
     let in-loop : tie.At-loop-j invariant-loop decreases-loop = search in
-    (omega arith, by-since in-loop.loop-j.inv.1 added.add_own-count.ensures)
+    (omega arith, by-since in-loop.loop-j.invariant.1 added.add_own-count.ensures)
 
 same_length : tie.Need-shape_of-links invariant-loop decreases-loop
 same_length c =
     let start = start_of c.before in
-    omega (arith, start.pre.2.cells-long, c.loop-j.invariant.1.firsts.linked.cells-long)
+    omega (arith, start.requires.2.cells-long, c.loop-j.invariant.1.firsts.linked.cells-long)
 
 same-length-2 : tie.Need-shape_of-owned invariant-loop decreases-loop
 same-length-2 c =
     let in-loop : tie.At-loop-j invariant-loop decreases-loop = search in
     let start = start_of in-loop in
-    omega (arith, start.pre.2.places-long, in-loop.loop-j.inv.1.firsts.linked.places-long)
+    omega (arith, start.requires.2.places-long, in-loop.loop-j.invariant.1.firsts.linked.places-long)
 
 returns : tie.Need-returns invariant-loop decreases-loop
 returns c =
     let in-loop : tie.At-loop-j invariant-loop decreases-loop = search in
-    let inv = in-loop.loop-j.inv in
+    let inv = in-loop.loop-j.invariant in
     by_end _ _ inv.1 inv.0 (omega arith)
 
 pub add_owns_spec : {M : Type 1} → statement M

@@ -17,12 +17,12 @@ room c =
 returns : tie.Need-returns-then-size-i
 returns c =
     let start : tie.Start = search in
-    owns-skip _ _ _ _ _ _ _ _ _ start.pre.2 c.size.ensures.0 c.if-size-i.true
+    owns-skip _ _ _ _ _ _ _ _ _ start.requires.2 c.size.ensures.0 c.if-size-i.true
 
 add-owns-requires : tie.Need-add_owns-r-requires
 add-owns-requires c κs =
     let start : tie.Start = search in
-    (start.pre.0.own, omega (arith, owns-fit start.pre.2, start.pre.0.owned-room), start.pre.2.linked)
+    (start.requires.0.own, omega (arith, owns-fit start.requires.2, start.requires.0.owned-room), start.requires.2.linked)
 
 slice-write-kept : tie.Need-bounds-kept-k
 slice-write-kept c = omega (arith, (room (search)).0)
@@ -47,7 +47,7 @@ returns-2 c =
     let stays : tie.After-size = search in
     let start : tie.Start = search in
     let job : tie.After-shared_slice_known-1 = search in
-    owns-keep _ _ _ _ _ _ _ _ _ start.pre.2 stays.size.ensures.0 added.if-size-i.false
+    owns-keep _ _ _ _ _ _ _ _ _ start.requires.2 stays.size.ensures.0 added.if-size-i.false
     (λ i. omega (arith, job.shared_slice_known-1.given i)) added.add_owns-r.ensures (room start).0 (room start).1 refl (omega arith)
 
 pub own_rank_spec : {M : Type 1} → statement M

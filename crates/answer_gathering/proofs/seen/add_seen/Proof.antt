@@ -18,18 +18,18 @@ returns c = elsewhere _ _ _ c.size.ensures.0 c.if-size-i.true
 read-boundary-requires : tie.Need-read_boundary-x-requires
 read-boundary-requires c κs =
     let start : tie.Start = search in
-    omega (arith, start.pre.0.records-in, place-small start.pre.0 start.pre.1 c.size-b.ensures.0)
+    omega (arith, start.requires.0.records-in, place-small start.requires.0 start.requires.1 c.size-b.ensures.0)
 
 shared-slice-read-size : tie.Need-bounds-firsts-b
 shared-slice-read-size c =
     let start : tie.Start = search in
-    omega (arith, start.pre.0.firsts-room, start.pre.0.few, place-small start.pre.0 start.pre.1 c.size-b.ensures.0)
+    omega (arith, start.requires.0.firsts-room, start.requires.0.few, place-small start.requires.0 start.requires.1 c.size-b.ensures.0)
 
 element-copy-out-add-seen-places : tie.Need-bounds-stands-b
 element-copy-out-add-seen-places c =
     let rank : tie.After-size-b = search in
     let start = start_of rank.before.before.before in
-    omega (arith, start.pre.0.few, start.pre.1, place-small start.pre.0 start.pre.1 rank.size-b.ensures.0)
+    omega (arith, start.requires.0.few, start.requires.1, place-small start.requires.0 start.requires.1 rank.size-b.ensures.0)
 
 add-seen-places-requires : tie.Need-add_seen_places-requires
 add-seen-places-requires c κs =
@@ -40,13 +40,13 @@ add-seen-places-requires c κs =
     let goes = rank.before.before in
     let aim = goes.before in
     let start = start_of aim in (
-      own-place start.pre.0 start.pre.1 rank.size-b.ensures.0,
-      places-inside start.pre.0 start.pre.1 rank.size-b.ensures.0 first.size-2.ensures.0
+      own-place start.requires.0 start.requires.1 rank.size-b.ensures.0,
+      places-inside start.requires.0 start.requires.1 rank.size-b.ensures.0 first.size-2.ensures.0
           (many.size-3.ensures.0 ∙ ap (λ (r : BoundaryRecord). r.observations) boundary.read_boundary-x.ensures),
-      seen-room start.pre.0 start.pre.1 rank.size-b.ensures.0 start.args.to
+      seen-room start.requires.0 start.requires.1 rank.size-b.ensures.0 start.args.to
           (length start.args.seen.now) many.size-3.result
           (many.size-3.ensures.0 ∙ ap (λ (r : BoundaryRecord). r.observations) boundary.read_boundary-x.ensures)
-          aim.size.ensures.0 goes.if-size-i.false start.pre.3,
+          aim.size.ensures.0 goes.if-size-i.false start.requires.3,
     )
 
 returns-2 : tie.Need-returns
@@ -59,7 +59,7 @@ returns-2 c =
     let aim = goes.before in
     let start = start_of aim in
     there aim.size.ensures.0 goes.if-size-i.false
-    (places-there start.pre.0 start.pre.1 rank.size-b.ensures.0 aim.size.ensures.0 goes.if-size-i.false start.pre.2
+    (places-there start.requires.0 start.requires.1 rank.size-b.ensures.0 aim.size.ensures.0 goes.if-size-i.false start.requires.2
     first.size-2.ensures.0 (many.size-3.ensures.0 ∙ ap (λ (r : BoundaryRecord). r.observations) boundary.read_boundary-x.ensures) refl
     c.add_seen_places.ensures)
 

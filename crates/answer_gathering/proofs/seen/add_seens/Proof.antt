@@ -37,15 +37,15 @@ add-seen-requires c κs =
     let in-loop = c.before.before in
     let start = start_of in-loop in
     let inv = in-loop.loop-j.invariant in (
-      start.pre.0,
+      start.requires.0,
       c.loop-j-test.true,
-      start.pre.1,
+      start.requires.1,
       omega (
         arith,
         inv.2,
         into-part start.args.plan.now (seen_weight start.args.order.now (seen_count start.args.job.now start.args.at))
             start.args.i in-loop.loop-j.j start.args.n c.loop-j-test.true,
-        start.pre.2,
+        start.requires.2,
         inv.1.long,
       ),
     )

@@ -14,8 +14,8 @@ sort-places-requires c κs =
     let added : tie.After-add_seens-end = search in
     let start = start_of added in (
       omega (arith, added.add_seens-end.ensures.0.ends),
-      omega (arith, added.add_seens-end.ensures.1, start.pre.2, added.add_seens-end.ensures.0.long),
-      omega (arith, added.add_seens-end.ensures.1, start.pre.3),
+      omega (arith, added.add_seens-end.ensures.1, start.requires.2, added.add_seens-end.ensures.0.long),
+      omega (arith, added.add_seens-end.ensures.1, start.requires.3),
     )
 
 returns : tie.Need-returns
@@ -26,8 +26,8 @@ returns c =
       seen-gathered start.args.base start.args.order.now start.args.plan.now start.args.firsts.now start.args.first.now
           start.args.second.now start.args.third.now start.args.starts.now start.args.counts.now start.args.keys.now
           (seen_count start.args.job.now start.args.at) start.args.n start.args.i
-          added.add_seens-end.ensures.0 (omega (arith, start.pre.2))
-          (omega (arith, added.add_seens-end.ensures.1, start.pre.2, added.add_seens-end.ensures.0.long))
+          added.add_seens-end.ensures.0 (omega (arith, start.requires.2))
+          (omega (arith, added.add_seens-end.ensures.1, start.requires.2, added.add_seens-end.ensures.0.long))
           sorted.sort_places.ensures,
       added.add_seens-end.ensures.1,
     )

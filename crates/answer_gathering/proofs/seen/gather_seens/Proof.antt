@@ -30,26 +30,26 @@ seen-rank-requires c κs =
     let turning : tie.In-loop-i invariant-loop decreases-loop = search in
     let in-loop = turning.before in
     let start = start_of in-loop in
-    let inv = in-loop.loop-i.inv in
-    (seens-room-same start.pre inv.2 inv.3 inv.4, turning.loop-i-test.true, inv.1)
+    let inv = in-loop.loop-i.invariant in
+    (seens-room-same start.requires inv.2 inv.3 inv.4, turning.loop-i-test.true, inv.1)
 
 add-k : tie.Need-overflow_add-k invariant-loop decreases-loop
 add-k c =
     let in-loop : tie.At-loop-i invariant-loop decreases-loop = search in
     let start = start_of in-loop in
-    omega (arith, c.counted-k.ensures.1, in-loop.loop-i.inv.1.few, start.pre.own.few)
+    omega (arith, c.counted-k.ensures.1, in-loop.loop-i.invariant.1.few, start.requires.own.few)
 
 add-i : tie.Need-overflow_add-i invariant-loop decreases-loop
 add-i c =
     let turning : tie.In-loop-i invariant-loop decreases-loop = search in
     let start = start_of turning.before in
-    omega (arith, turning.loop-i-test.true, start.pre.own.few)
+    omega (arith, turning.loop-i-test.true, start.requires.own.few)
 
 loop-again : tie.Need-loop-i-preserved invariant-loop decreases-loop
 loop-again c =
     let ranked : tie.After-seen_rank-a invariant-loop decreases-loop = search in
     let in-loop : tie.At-loop-i invariant-loop decreases-loop = search in
-    let inv = in-loop.loop-i.inv in (
+    let inv = in-loop.loop-i.invariant in (
       omega arith,
       seens-counted in-loop.loop-i.k c.counted-k.ensures.0 ranked.seen_rank-a.ensures,
       omega (arith, inv.2),

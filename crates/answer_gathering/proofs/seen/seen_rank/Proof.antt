@@ -14,13 +14,13 @@ room c = omega (arith, c.requires.2.few, c.requires.1, c.requires.0.own.few, c.r
 returns : tie.Need-returns-then-size-i
 returns c =
     let start : tie.Start = search in
-    seens-skip _ _ _ _ _ _ _ _ _ _ _ _ start.pre.2 c.size.ensures.0 c.if-size-i.true
+    seens-skip _ _ _ _ _ _ _ _ _ _ _ _ start.requires.2 c.size.ensures.0 c.if-size-i.true
 
 gather-seen-requires : tie.Need-gather_seen-r-requires
 gather-seen-requires c κs =
     let start : tie.Start = search in
-    let fit = seens-fit start.pre.2 in
-    (start.pre.0.own, start.pre.1, omega (arith, start.pre.0.seen-room), omega (arith, start.pre.0.spare-room))
+    let fit = seens-fit start.requires.2 in
+    (start.requires.0.own, start.requires.1, omega (arith, start.requires.0.seen-room), omega (arith, start.requires.0.spare-room))
 
 sub-seens : tie.Need-overflow_sub-seens
 sub-seens c =
@@ -31,7 +31,7 @@ cast-seens : tie.Need-overflow_cast-seens
 cast-seens c =
     let start : tie.Start = search in
     let gathered : tie.After-gather_seen-r = search in
-    omega (arith, gathered.gather_seen-r.ensures.1, seens-fit start.pre.2, start.pre.0.small)
+    omega (arith, gathered.gather_seen-r.ensures.1, seens-fit start.requires.2, start.requires.0.small)
 
 slice-write-seens : tie.Need-bounds-seens-k
 slice-write-seens c = omega (arith, room (search))
@@ -41,7 +41,7 @@ returns-2 c =
     let start : tie.Start = search in
     let gathered : tie.After-gather_seen-r = search in
     let stays = gathered.before.before.before.before in
-    seens-keep _ _ _ _ _ _ _ _ _ _ _ _ start.pre.2 stays.size.ensures.0 gathered.if-size-i.false
+    seens-keep _ _ _ _ _ _ _ _ _ _ _ _ start.requires.2 stays.size.ensures.0 gathered.if-size-i.false
     gathered.gather_seen-r.ensures.0 gathered.gather_seen-r.ensures.1 (room start) refl
 
 pub seen_rank_spec : {M : Type 1} → statement M

@@ -22,20 +22,20 @@ loop-holds c = (omega arith, keys-start _ _ _ _ _)
 read-start : tie.Need-bounds-starts-q invariant-loop decreases-loop
 read-start c =
     let turning : tie.In-loop-q invariant-loop decreases-loop = search in
-    omega (arith, (start_of turning).pre.starts-room, turning.loop-q-test.true)
+    omega (arith, (start_of turning).requires.starts-room, turning.loop-q-test.true)
 
 read_count : tie.Need-bounds-counts-q invariant-loop decreases-loop
 read_count c =
     let turning : tie.In-loop-q invariant-loop decreases-loop = search in
-    omega (arith, (start_of turning).pre.counts-room, turning.loop-q-test.true)
+    omega (arith, (start_of turning).requires.counts-room, turning.loop-q-test.true)
 
 read-part-requires : tie.Need-read_part-requires invariant-loop decreases-loop
 read-part-requires c κs =
     let many : tie.After-size-in-loop-q invariant-loop decreases-loop = search in
     let first : tie.After-size invariant-loop decreases-loop = search in
     let turning : tie.In-loop-q invariant-loop decreases-loop = search in
-    let room = (start_of turning).pre in
-    let read = turning.loop-q.inv.1 in (
+    let room = (start_of turning).requires in
+    let read = turning.loop-q.invariant.1 in (
       part-inside room read first.size.ensures.0 many.size-in-loop-q.ensures.0,
       part-fits room read first.size.ensures.0 many.size-in-loop-q.ensures.0,
     )
@@ -47,7 +47,7 @@ loop-again c =
     let first : tie.After-size invariant-loop decreases-loop = search in
     let turning : tie.In-loop-q invariant-loop decreases-loop = search in (
       omega arith,
-      keys-next (start_of turning).pre turning.loop-q.inv.1 first.size.ensures.0 many.size-in-loop-q.ensures.0 part.read_part.ensures,
+      keys-next (start_of turning).requires turning.loop-q.invariant.1 first.size.ensures.0 many.size-in-loop-q.ensures.0 part.read_part.ensures,
     )
 
 same_length : tie.Need-shape_of-keys invariant-loop decreases-loop

@@ -44,13 +44,13 @@ read-source-requires c κs = omega (arith, (inside c).0)
 slice-write-keys : tie.Need-bounds-keys-a invariant-loop decreases-loop
 slice-write-keys c =
     let turning : tie.In-loop-i invariant-loop decreases-loop = search in
-    omega (arith, (inside turning).1, turning.loop-i.inv.2)
+    omega (arith, (inside turning).1, turning.loop-i.invariant.2)
 
 loop-again : tie.Need-loop-i-preserved invariant-loop decreases-loop
 loop-again c =
     let read : tie.After-read_source-s invariant-loop decreases-loop = search in
     let turning : tie.In-loop-i invariant-loop decreases-loop = search in
-    let inv = turning.loop-i.inv in (
+    let inv = turning.loop-i.invariant in (
       omega arith,
       part-next _ _ _ _ turning.loop-i.i read.read_source-s.result inv.1 (omega (arith, (inside turning).1)) refl refl
           read.read_source-s.ensures c.packed.ensures.0,

@@ -43,7 +43,7 @@ few c =
 loop-holds : tie.Need-loop-b-init invariant-loop decreases-loop
 loop-holds c =
     let start : tie.Start invariant-loop decreases-loop = search in
-    (omega arith, layout-start _ _ _ _ start.pre.1, refl, refl, refl)
+    (omega arith, layout-start _ _ _ _ start.requires.1, refl, refl, refl)
 
 mul-read-boundary : tie.Need-overflow_mul-b invariant-loop decreases-loop
 mul-read-boundary c = omega (arith, (start_of c).requires.0.boundaries-in)
@@ -84,7 +84,7 @@ add-lay-observations c =
     let sized : tie.After-size-seen invariant-loop decreases-loop = search in
     omega (
       arith,
-      own-fits (given sized).pre.0 (at-loop sized).loop-b.inv.1 sized.loop-b-test.true,
+      own-fits (given sized).requires.0 (at-loop sized).loop-b.invariant.1 sized.loop-b-test.true,
       ap (λ (r : BoundaryRecord). r.sources) sized.read_boundary-x.ensures,
     )
 
@@ -93,7 +93,7 @@ lay-observations-requires c κs =
     let stood : tie.After-stood_with invariant-loop decreases-loop = search in
     let sized : tie.After-size-seen invariant-loop decreases-loop = search in
     let read = sized.read_boundary-x.ensures in
-    room_for (given sized).pre.0 (at-loop sized).loop-b.inv.1 sized.loop-b-test.true
+    room_for (given sized).requires.0 (at-loop sized).loop-b.invariant.1 sized.loop-b-test.true
     (ap (λ (r : BoundaryRecord). r.sources) read) stood.stood_with.ensures.1
     (sized.size-seen.ensures.0 ∙ ap (λ (r : BoundaryRecord). r.observations) read) refl
 
@@ -112,9 +112,9 @@ loop-again c =
     let stood : tie.After-stood_with invariant-loop decreases-loop = search in
     let sized : tie.After-size-seen invariant-loop decreases-loop = search in
     let read = sized.read_boundary-x.ensures in
-    let inv = (at-loop sized).loop-b.inv in
+    let inv = (at-loop sized).loop-b.invariant in
     let sources = ap (λ (r : BoundaryRecord). r.sources) read in
-    let next = layout-next (given sized).pre.0 inv.1 sized.loop-b-test.true sources
+    let next = layout-next (given sized).requires.0 inv.1 sized.loop-b-test.true sources
     (stood.stood_with.ensures.0 ∙ ap (λ (k : ℕ). cond (eqb (get_or (given sized).args.stands.now (at-loop sized).loop-b.b 0) 1) k 0) sources)
     (sized.size-seen.ensures.0 ∙ ap (λ (r : BoundaryRecord). r.observations) read) laid.lay_observations-run.ensures
     inv.2 inv.3 inv.4 in
@@ -133,7 +133,7 @@ returns : tie.Need-returns invariant-loop decreases-loop
 returns c =
     let start : tie.Start invariant-loop decreases-loop = search in
     let inv = c.loop-b.invariant in
-    layout-end start.pre.0 inv.1 inv.0 (omega arith)
+    layout-end start.requires.0 inv.1 inv.0 (omega arith)
 
 pub lay_boundaries_spec : {M : Type 1} → statement M
 lay_boundaries_spec =

@@ -21,7 +21,7 @@ given c = search
 loop-holds : tie.Need-loop-i-init invariant-loop decreases-loop
 loop-holds c =
     let start : tie.Start invariant-loop decreases-loop = search in
-    (omega arith, lays-start start.pre)
+    (omega arith, lays-start start.requires)
 
 add-read-observation : tie.Need-overflow_add-p invariant-loop decreases-loop
 add-read-observation c = omega (arith, (given c).requires.inside)
@@ -36,22 +36,22 @@ read-observation-requires : tie.Need-read_observation-o-requires invariant-loop 
 read-observation-requires c κs = omega (arith, (given c).requires.inside)
 
 add-starts : tie.Need-overflow_add-starts invariant-loop decreases-loop
-add-starts c = omega (arith, (given c.before).pre.inside)
+add-starts c = omega (arith, (given c.before).requires.inside)
 
 slice-write-starts : tie.Need-bounds-starts-p invariant-loop decreases-loop
-slice-write-starts c = omega (arith, (given c.before).pre.starts-room, c.loop-i.invariant.1.starts-long)
+slice-write-starts c = omega (arith, (given c.before).requires.starts-room, c.loop-i.invariant.1.starts-long)
 
 add-counts : tie.Need-overflow_add-counts invariant-loop decreases-loop
-add-counts c = omega (arith, (given c.before).pre.inside)
+add-counts c = omega (arith, (given c.before).requires.inside)
 
 slice-write-counts : tie.Need-bounds-counts-p invariant-loop decreases-loop
-slice-write-counts c = omega (arith, (given c.before).pre.counts-room, c.loop-i.invariant.1.counts-long)
+slice-write-counts c = omega (arith, (given c.before).requires.counts-room, c.loop-i.invariant.1.counts-long)
 
 add_r : tie.Need-overflow_add-r invariant-loop decreases-loop
 add_r c =
     omega (
       arith,
-      lays-small (given c.before).pre c.loop-i.invariant.1 c.loop-i-test.true,
+      lays-small (given c.before).requires c.loop-i.invariant.1 c.loop-i-test.true,
       ap (λ (o : ObservationRecord). o.sources) c.read_observation-o.ensures,
     )
 
@@ -59,8 +59,8 @@ loop-again : tie.Need-loop-i-preserved invariant-loop decreases-loop
 loop-again c =
     let inv = c.loop-i.invariant in (
       omega arith,
-      lays-next _ inv.1 (omega (arith, (given c.before).pre.starts-room, inv.1.starts-long))
-          (omega (arith, (given c.before).pre.counts-room, inv.1.counts-long)) (ap (λ (o : ObservationRecord). o.sources) c.read_observation-o.ensures),
+      lays-next _ inv.1 (omega (arith, (given c.before).requires.starts-room, inv.1.starts-long))
+          (omega (arith, (given c.before).requires.counts-room, inv.1.counts-long)) (ap (λ (o : ObservationRecord). o.sources) c.read_observation-o.ensures),
     )
 
 same_length : tie.Need-shape_of-starts invariant-loop decreases-loop

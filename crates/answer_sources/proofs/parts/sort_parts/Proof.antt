@@ -32,18 +32,18 @@ loop-holds : tie.Need-loop-q-init invariant-loop decreases-loop
 loop-holds c = (omega arith, squeezed-start _ _ _, refl)
 
 shared-slice-read-size : tie.Need-bounds-starts-q invariant-loop decreases-loop
-shared-slice-read-size c = omega (arith, (given c.before).pre.starts-room)
+shared-slice-read-size c = omega (arith, (given c.before).requires.starts-room)
 
 slice-read-size : tie.Need-bounds-counts-q invariant-loop decreases-loop
 slice-read-size c =
     let turns : tie.In-loop-q invariant-loop decreases-loop = search in
-    omega (arith, turns.loop-q-test.true, (given turns).pre.counts-room, turns.loop-q.inv.1.counts-long)
+    omega (arith, turns.loop-q-test.true, (given turns).requires.counts-room, turns.loop-q.invariant.1.counts-long)
 
 sort-unique-requires : tie.Need-sort_unique-e-requires invariant-loop decreases-loop
 sort-unique-requires c κs =
     let begun = started c in
-    let pre = (given (turning begun)).pre in
-    let inv = (turning begun).loop-q.inv in (
+    let pre = (given (turning begun)).requires in
+    let inv = (turning begun).loop-q.invariant in (
       omega arith,
       omega (arith, part-within pre.clear inv.1, begun.size-a.ensures.0, c.size.ensures.0, inv.1.keys-long),
       omega (
@@ -65,7 +65,7 @@ cast-counts c = omega (arith, (sorted c).sort_unique-e.ensures.within, (sorted c
 slice-write-counts : tie.Need-bounds-counts-q-in-loop-q invariant-loop decreases-loop
 slice-write-counts c =
     let turns = turning (started (sorted c).before) in
-    omega (arith, turns.loop-q-test.true, (given turns).pre.counts-room, turns.loop-q.inv.1.counts-long)
+    omega (arith, turns.loop-q-test.true, (given turns).requires.counts-room, turns.loop-q.invariant.1.counts-long)
 
 loop-again : tie.Need-loop-q-preserved invariant-loop decreases-loop
 loop-again c =
@@ -73,8 +73,8 @@ loop-again c =
     let counted = unique.before in
     let begun = started counted in
     let turns = turning begun in
-    let pre = (given turns).pre in
-    let inv = turns.loop-q.inv in (
+    let pre = (given turns).requires in
+    let inv = turns.loop-q.invariant in (
       omega (arith, turns.loop-q-test.true),
       squeezed-next pre.clear inv.1 (omega (arith, turns.loop-q-test.true, pre.counts-room, inv.1.counts-long)) begun.size-a.ensures.0
           (omega (arith, counted.size.ensures.0)) unique.sort_unique-e.ensures refl (omega arith),

@@ -27,12 +27,12 @@ first-ranked c = search
 add-read-keys : tie.Need-overflow_add-m
 add-read-keys c =
     let layout : tie.After-lay_boundaries = search in
-    omega (arith, places-few (given layout).pre.0)
+    omega (arith, places-few (given layout).requires.0)
 
 read-keys-requires : tie.Need-read_keys-requires
 read-keys-requires c κs =
     let layout : tie.After-lay_boundaries = search in
-    keys-room (given layout).pre.0 (given layout).pre.1 layout.lay_boundaries.ensures (omega arith) (omega arith)
+    keys-room (given layout).requires.0 (given layout).requires.1 layout.lay_boundaries.ensures (omega arith) (omega arith)
 
 add-sort-parts : tie.Need-overflow_add-m-2
 add-sort-parts c = omega (arith, places-few (given (laid (keys-read c))).requires.0)
@@ -40,18 +40,18 @@ add-sort-parts c = omega (arith, places-few (given (laid (keys-read c))).require
 sort-parts-requires : tie.Need-sort_parts-requires
 sort-parts-requires c κs =
     let layout = laid (keys-read c) in
-    parts-room (given layout).pre.0 (given layout).pre.1 layout.lay_boundaries.ensures (omega arith) (omega arith)
+    parts-room (given layout).requires.0 (given layout).requires.1 layout.lay_boundaries.ensures (omega arith) (omega arith)
     (keys-read c).read_keys.ensures
 
 rank-observations-requires : tie.Need-rank_observations-requires
 rank-observations-requires c κs =
     let start = given (laid (keys-read (sorted c).before)) in
-    (observations-inside start.pre.0, ranks-room start.pre.1.ranks (omega arith))
+    (observations-inside start.requires.0, ranks-room start.requires.1.ranks (omega arith))
 
 rank-boundaries-requires : tie.Need-rank_boundaries-requires
 rank-boundaries-requires c κs =
     let start = given (laid (keys-read (sorted (first-ranked c).before).before)) in
-    (start.pre.0.countable.boundaries-in, ranks-after (first-ranked c).rank_observations.ensures start.pre.1.ranks)
+    (start.requires.0.countable.boundaries-in, ranks-after (first-ranked c).rank_observations.ensures start.requires.1.ranks)
 
 same_length : tie.Need-shape_of-keys
 same_length c =
@@ -90,9 +90,9 @@ returns c =
     let layout = laid keyed in
     let start = given layout in
     let known = (job-known layout).shared_slice_known-1.given in (
-      placed start.pre.0 (λ i. omega (arith, known i)) keyed.read_keys.ensures layout.lay_boundaries.ensures parts.sort_parts.ensures
+      placed start.requires.0 (λ i. omega (arith, known i)) keyed.read_keys.ensures layout.lay_boundaries.ensures parts.sort_parts.ensures
           seen-ranked.rank_observations.ensures all-ranked.rank_boundaries.ensures,
-      placed-inside start.pre.0 layout.lay_boundaries.ensures,
+      placed-inside start.requires.0 layout.lay_boundaries.ensures,
     )
 
 pub place_all_spec : {M : Type 1} → statement M

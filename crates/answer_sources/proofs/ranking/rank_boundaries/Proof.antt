@@ -32,12 +32,12 @@ inside c = omega (arith, (given c).requires.0, c.loop-p-test.true)
 add-rank-one : tie.Need-overflow_add-base invariant-loop decreases-loop
 add-rank-one c =
     let turning : tie.In-loop-p invariant-loop decreases-loop = search in
-    omega (arith, turning.loop-p-test.true, (given turning).pre.1.first-room, (given turning).good.1.1.1.1.0)
+    omega (arith, turning.loop-p-test.true, (given turning).requires.1.first-room, (given turning).good.1.1.1.1.0)
 
 rank-one-requires : tie.Need-rank_one-requires invariant-loop decreases-loop
 rank-one-requires c κs =
     let turning : tie.In-loop-p invariant-loop decreases-loop = search in
-    ranks-room (ranks-after turning.loop-p.inv.1 (given turning).pre.1) (omega (arith, turning.loop-p-test.true))
+    ranks-room (ranks-after turning.loop-p.invariant.1 (given turning).requires.1) (omega (arith, turning.loop-p-test.true))
 
 loop-again : tie.Need-loop-p-preserved invariant-loop decreases-loop
 loop-again c =
@@ -46,7 +46,7 @@ loop-again c =
     let ranked : tie.After-rank_one invariant-loop decreases-loop = search in
     let read = recorded.read_boundary-x.ensures in (
       omega (arith, turning.loop-p-test.true),
-      ranked-next turning.loop-p.inv.1 ranked.rank_one.ensures (omega arith) (ap (λ (r : BoundaryRecord). r.ends) read)
+      ranked-next turning.loop-p.invariant.1 ranked.rank_one.ensures (omega arith) (ap (λ (r : BoundaryRecord). r.ends) read)
           (ap (λ (r : BoundaryRecord). r.bits) read),
     )
 

@@ -33,7 +33,7 @@ inside c = omega (arith, (given c).requires.0, c.loop-p-test.true)
 rank-one-requires : tie.Need-rank_one-requires invariant-loop decreases-loop
 rank-one-requires c κs =
     let turning : tie.In-loop-p invariant-loop decreases-loop = search in
-    ranks-room (ranks-after turning.loop-p.inv.1 (given turning).pre.1) (omega (arith, turning.loop-p-test.true))
+    ranks-room (ranks-after turning.loop-p.invariant.1 (given turning).requires.1) (omega (arith, turning.loop-p-test.true))
 
 loop-again : tie.Need-loop-p-preserved invariant-loop decreases-loop
 loop-again c =
@@ -42,7 +42,7 @@ loop-again c =
     let ranked : tie.After-rank_one invariant-loop decreases-loop = search in
     let read = recorded.read_observation-o.ensures in (
       omega (arith, turning.loop-p-test.true),
-      ranked-next turning.loop-p.inv.1 ranked.rank_one.ensures (omega arith) (ap (λ (r : ObservationRecord). r.ends) read)
+      ranked-next turning.loop-p.invariant.1 ranked.rank_one.ensures (omega arith) (ap (λ (r : ObservationRecord). r.ends) read)
           (ap (λ (r : ObservationRecord). r.bits) read),
     )
 

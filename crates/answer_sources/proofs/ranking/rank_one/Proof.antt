@@ -8,7 +8,7 @@ returns c =
     let first : tie.After-packed = search in
     let turned : tie.After-canonical-e = search in
     let start : tie.Start = search in
-    ranked-one _ _ turned.canonical-e.result start.pre turned.canonical-e.ensures first.packed.ensures.0
+    ranked-one _ _ turned.canonical-e.result start.requires turned.canonical-e.ensures first.packed.ensures.0
     c.packed-2.ensures.0 c.total_key.ensures first.packed.ensures.2 c.packed-2.ensures.2
 
 pub rank_one_spec : {M : Type 1} → statement M

@@ -15,26 +15,26 @@ decreases-loop plan n sizes₀ j₀ sizes j = n - j
 loop-holds : tie.Need-loop-j-init invariant-loop decreases-loop
 loop-holds c =
     let start : tie.Start invariant-loop decreases-loop = search in
-    (omega arith, sizes-start _ start.pre.1)
+    (omega arith, sizes-start _ start.requires.1)
 
 copy-plan : tie.Need-bounds-plan-j invariant-loop decreases-loop
 copy-plan c =
     let start : tie.Start invariant-loop decreases-loop = search in
     let turning : tie.In-loop-j invariant-loop decreases-loop = search in
-    omega (arith, start.pre.0, turning.loop-j-test.true)
+    omega (arith, start.requires.0, turning.loop-j-test.true)
 
 count-one-requires : tie.Need-count_one-requires invariant-loop decreases-loop
 count-one-requires c =
     let start : tie.Start invariant-loop decreases-loop = search in
     let turning : tie.In-loop-j invariant-loop decreases-loop = search in
-    omega (arith, turning.loop-j.inv.1.most c.size.result, start.pre.0, turning.loop-j-test.true)
+    omega (arith, turning.loop-j.invariant.1.most c.size.result, start.requires.0, turning.loop-j-test.true)
 
 loop-again : tie.Need-loop-j-preserved invariant-loop decreases-loop
 loop-again c =
     let counted : tie.After-count_one invariant-loop decreases-loop = search in
     let sized : tie.After-size invariant-loop decreases-loop = search in
     let turning : tie.In-loop-j invariant-loop decreases-loop = search in
-    (omega arith, sizes-next turning.loop-j.inv.1 sized.size.ensures.0 counted.count_one.ensures.0 counted.count_one.ensures.1)
+    (omega arith, sizes-next turning.loop-j.invariant.1 sized.size.ensures.0 counted.count_one.ensures.0 counted.count_one.ensures.1)
 
 returns : tie.Need-returns invariant-loop decreases-loop
 returns c =

@@ -15,17 +15,17 @@ returns c = (λ h. absurd (omega (arith, c.if-i-ge256.true)), λ h. refl)
 mul-read-boundary : tie.Need-overflow_mul-b
 mul-read-boundary c =
     let start : tie.Start = search in
-    omega (arith, start.pre.0)
+    omega (arith, start.requires.0)
 
 add-read-boundary : tie.Need-overflow_add-at
 add-read-boundary c =
     let start : tie.Start = search in
-    omega (arith, start.pre.0)
+    omega (arith, start.requires.0)
 
 read-boundary-requires : tie.Need-read_boundary-x-requires
 read-boundary-requires c κs =
     let start : tie.Start = search in
-    omega (arith, start.pre.0)
+    omega (arith, start.requires.0)
 
 returns-2 : tie.Need-returns
 returns-2 c =

@@ -22,22 +22,22 @@ start_of c = search
 count-into-requires : tie.Need-count_into-requires invariant-loop decreases-loop
 count-into-requires c κs =
     let start : tie.Start invariant-loop decreases-loop = search in
-    (start.pre.0, refl)
+    (start.requires.0, refl)
 
 loop-holds : tie.Need-loop-j-init invariant-loop decreases-loop
 loop-holds c =
     let start : tie.Start invariant-loop decreases-loop = search in
-    (omega arith, standing-start _ _ _ _ start.pre.3)
+    (omega arith, standing-start _ _ _ _ start.requires.3)
 
 copy-order : tie.Need-bounds-order-j invariant-loop decreases-loop
 copy-order c =
     let turning : tie.In-loop-j invariant-loop decreases-loop = search in
-    omega (arith, (start_of turning).pre.0, turning.loop-j-test.true)
+    omega (arith, (start_of turning).requires.0, turning.loop-j-test.true)
 
 copy-plan : tie.Need-bounds-plan-j invariant-loop decreases-loop
 copy-plan c =
     let turning : tie.In-loop-j invariant-loop decreases-loop = search in
-    omega (arith, (start_of turning).pre.0, turning.loop-j-test.true)
+    omega (arith, (start_of turning).requires.0, turning.loop-j-test.true)
 
 -- the place of the rank at hand
 place : (c : tie.In-loop-j invariant-loop decreases-loop) → get_or (start_of c).args.order.now c.loop-j.j 0 < (start_of c).args.n
@@ -48,7 +48,7 @@ mark-one-requires c κs =
     let first : tie.After-size invariant-loop decreases-loop = search in
     let turning : tie.In-loop-j invariant-loop decreases-loop = search in
     let start = start_of turning in
-    (omega (arith, start.pre.1, place turning, first.size.ensures.0), omega (arith, start.pre.0, place turning, first.size.ensures.0))
+    (omega (arith, start.requires.1, place turning, first.size.ensures.0), omega (arith, start.requires.0, place turning, first.size.ensures.0))
 
 loop-again : tie.Need-loop-j-preserved invariant-loop decreases-loop
 loop-again c =
@@ -59,8 +59,8 @@ loop-again c =
     let counted : tie.After-count_into invariant-loop decreases-loop = search in
     let start = start_of turning in (
       omega arith,
-      standing-next start.pre.0 start.pre.2 turning.loop-j.inv.1 turning.loop-j-test.true first.size.ensures.0
-          aim.size-in-loop-j.ensures.0 _ counted.count_into.ensures (omega (arith, start.pre.0, place turning, first.size.ensures.0))
+      standing-next start.requires.0 start.requires.2 turning.loop-j.invariant.1 turning.loop-j-test.true first.size.ensures.0
+          aim.size-in-loop-j.ensures.0 _ counted.count_into.ensures (omega (arith, start.requires.0, place turning, first.size.ensures.0))
           marked.mark_one.ensures.0 marked.mark_one.ensures.1,
     )
 
