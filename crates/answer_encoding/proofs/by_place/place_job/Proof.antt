@@ -76,7 +76,7 @@ returns c =
     let start = given three in
     worked_same (sym three.size-at.ensures.0) (sym three.size-n.ensures.0) (sym five.size.ensures.0)
     (sym three.size-m.ensures.0) (sym five.size-2.ensures.0)
-    (worked-out (all five) (marked five).mark_standing.ensures placed.place_all.ensures.copies_placed placed.place_all.ensures.inside
+    (worked-out (all five) (marked five).mark_standing.ensures placed.place_all.ensures.0 placed.place_all.ensures.1
     (omega (arith, (keyed starts).keys.given, start.requires.1.keys-few))
     (omega (arith, (named starts).firsts.given, start.requires.1.firsts-room, three.size-n.ensures.0))
     (omega (arith, starts.starts.given, start.requires.1.starts-room, three.size-n.ensures.0, three.size-m.ensures.0)))

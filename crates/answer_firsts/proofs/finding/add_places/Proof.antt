@@ -14,7 +14,7 @@ abbrev decreases-loop : tie.decreases-loop-i
 decreases-loop job base from n heads first count links₀ places₀ found₀ i₀ links places found i = n - i
 
 loop-holds : tie.Need-loop-i-init invariant-loop decreases-loop
-loop-holds c = let start : tie.Start invariant-loop decreases-loop = search in (omega arith, covers-start _ start.requires.linked)
+loop-holds c = let start : tie.Start invariant-loop decreases-loop = search in (omega arith, covers-start _ start.requires.0)
 
 add-place-requires : tie.Need-add_place-found-requires invariant-loop decreases-loop
 add-place-requires c κs =
