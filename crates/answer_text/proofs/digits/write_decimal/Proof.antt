@@ -7,13 +7,13 @@ use Rattle.answer_text.proofs.digits.write_decimal.Tie as tie
 write-digits-requires : tie.Need-write_digits-requires
 write-digits-requires c κs =
     let start : tie.Start = search in
-    (omega arith, omega arith, omega (arith, start.pre, length_digits start.args.v, c.places-k.ensures))
+    (omega arith, omega arith, omega (arith, start.requires, length_digits start.args.v, c.places-k.ensures))
 
 add-result : tie.Need-overflow_add-result
 add-result c =
     let after-places : tie.After-places-k = search in
     let start = after-places.before.before in
-    omega (arith, start.pre, length_digits start.args.v, after-places.places-k.ensures)
+    omega (arith, start.requires, length_digits start.args.v, after-places.places-k.ensures)
 
 returns : tie.Need-returns
 returns c =

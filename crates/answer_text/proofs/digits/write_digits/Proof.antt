@@ -13,15 +13,15 @@ decreases-loop v base k out₀ at i₀ rest₀ out i rest = i
 loop-holds : tie.Need-loop-i-init invariant-loop decreases-loop
 loop-holds c = spelt-start c.requires.2
 
-rem-glyph : tie.Need-nonzero-rem-glyph invariant-loop decreases-loop
+rem-glyph : tie.Need-nonzero_rem-rest invariant-loop decreases-loop
 rem-glyph c =
     let start : tie.Start invariant-loop decreases-loop = search in
-    omega (arith, start.pre.0)
+    omega (arith, start.requires.0)
 
 glyph-requires : tie.Need-glyph-requires invariant-loop decreases-loop
 glyph-requires c κs =
     let start : tie.Start invariant-loop decreases-loop = search in
-    remainder-small _ start.pre.0 start.pre.1
+    remainder-small _ start.requires.0 start.requires.1
 
 slice-write-out : tie.Need-bounds-out-at invariant-loop decreases-loop
 slice-write-out c =
@@ -32,7 +32,7 @@ slice-write-out c =
 div-rest : tie.Need-nonzero_div-rest invariant-loop decreases-loop
 div-rest c =
     let start : tie.Start invariant-loop decreases-loop = search in
-    omega (arith, start.pre.0)
+    omega (arith, start.requires.0)
 
 loop-less : tie.Need-loop-i-smaller invariant-loop decreases-loop
 loop-less c = omega (arith, c.loop-i-test.true)

@@ -11,12 +11,12 @@ start_of c = search
 write-hex-requires : tie.Need-write_hex-requires
 write-hex-requires c κs =
     let space-written : tie.After-write_byte-end = search in
-    room (next (bits-start _ _ _ (start_of space-written).pre) space-written.write_byte-end.ensures)
+    room (next (bits-start _ _ _ (start_of space-written).requires) space-written.write_byte-end.ensures)
 
 returns : tie.Need-returns
 returns c =
     let space-written : tie.After-write_byte-end = search in
-    done (next (next (bits-start _ _ _ (start_of space-written).pre) space-written.write_byte-end.ensures) c.write_hex.ensures)
+    done (next (next (bits-start _ _ _ (start_of space-written).requires) space-written.write_byte-end.ensures) c.write_hex.ensures)
 
 pub write_bits_spec : {M : Type 1} → statement M
 write_bits_spec =

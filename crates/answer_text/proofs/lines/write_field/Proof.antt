@@ -11,12 +11,12 @@ start_of c = search
 write-decimal-requires : tie.Need-write_decimal-requires
 write-decimal-requires c κs =
     let space-written : tie.After-write_byte-end = search in
-    room (next (field-start _ _ _ (start_of space-written).pre) space-written.write_byte-end.ensures)
+    room (next (field-start _ _ _ (start_of space-written).requires) space-written.write_byte-end.ensures)
 
 returns : tie.Need-returns
 returns c =
     let space-written : tie.After-write_byte-end = search in
-    done (next (next (field-start _ _ _ (start_of space-written).pre) space-written.write_byte-end.ensures) c.write_decimal.ensures)
+    done (next (next (field-start _ _ _ (start_of space-written).requires) space-written.write_byte-end.ensures) c.write_decimal.ensures)
 
 pub write_field_spec : {M : Type 1} → statement M
 write_field_spec =

@@ -17,20 +17,20 @@ b-written-of c = search
 write-word-requires-2 : tie.Need-write_word-end2-requires
 write-word-requires-2 c κs =
     let a-written : tie.After-write_word-end1 = search in
-    room (next (four-start _ _ _ _ _ _ (start_of a-written).pre) a-written.write_word-end1.ensures)
+    room (next (four-start _ _ _ _ _ _ (start_of a-written).requires) a-written.write_word-end1.ensures)
 
 write-word-requires-3 : tie.Need-write_word-end3-requires
 write-word-requires-3 c κs =
     let b-written : tie.After-write_word-end2 = search in
     let a-written = a-written-of b-written in
-    room (next (next (four-start _ _ _ _ _ _ (start_of a-written).pre) a-written.write_word-end1.ensures) b-written.write_word-end2.ensures)
+    room (next (next (four-start _ _ _ _ _ _ (start_of a-written).requires) a-written.write_word-end1.ensures) b-written.write_word-end2.ensures)
 
 write-word-requires-4 : tie.Need-write_word-requires
 write-word-requires-4 c κs =
     let c-written : tie.After-write_word-end3 = search in
     let b-written = b-written-of c-written in
     let a-written = a-written-of b-written in
-    room (next (next (next (four-start _ _ _ _ _ _ (start_of a-written).pre) a-written.write_word-end1.ensures) b-written.write_word-end2.ensures)
+    room (next (next (next (four-start _ _ _ _ _ _ (start_of a-written).requires) a-written.write_word-end1.ensures) b-written.write_word-end2.ensures)
     c-written.write_word-end3.ensures)
 
 returns : tie.Need-returns
@@ -38,7 +38,7 @@ returns c =
     let c-written : tie.After-write_word-end3 = search in
     let b-written = b-written-of c-written in
     let a-written = a-written-of b-written in
-    done (next (next (next (next (four-start _ _ _ _ _ _ (start_of a-written).pre) a-written.write_word-end1.ensures) b-written.write_word-end2.ensures)
+    done (next (next (next (next (four-start _ _ _ _ _ _ (start_of a-written).requires) a-written.write_word-end1.ensures) b-written.write_word-end2.ensures)
     c-written.write_word-end3.ensures) c.write_word.ensures)
 
 pub write_four_spec : {M : Type 1} → statement M

@@ -17,20 +17,20 @@ ends-written-of c = search
 write-ends-requires : tie.Need-write_ends-end2-requires
 write-ends-requires c κs =
     let letter-written : tie.After-write_byte-end1 = search in
-    room (next (head-start _ _ _ _ _ _ (start_of letter-written).pre) letter-written.write_byte-end1.ensures)
+    room (next (head-start _ _ _ _ _ _ (start_of letter-written).requires) letter-written.write_byte-end1.ensures)
 
 write-bits-requires : tie.Need-write_bits-end3-requires
 write-bits-requires c κs =
     let ends-written : tie.After-write_ends-end2 = search in
     let letter-written = letter-written-of ends-written in
-    room (next (next (head-start _ _ _ _ _ _ (start_of letter-written).pre) letter-written.write_byte-end1.ensures) ends-written.write_ends-end2.ensures)
+    room (next (next (head-start _ _ _ _ _ _ (start_of letter-written).requires) letter-written.write_byte-end1.ensures) ends-written.write_ends-end2.ensures)
 
 write-count-requires : tie.Need-write_count-requires
 write-count-requires c κs =
     let bits-written : tie.After-write_bits-end3 = search in
     let ends-written = ends-written-of bits-written in
     let letter-written = letter-written-of ends-written in
-    room (next (next (next (head-start _ _ _ _ _ _ (start_of letter-written).pre) letter-written.write_byte-end1.ensures) ends-written.write_ends-end2.ensures)
+    room (next (next (next (head-start _ _ _ _ _ _ (start_of letter-written).requires) letter-written.write_byte-end1.ensures) ends-written.write_ends-end2.ensures)
     bits-written.write_bits-end3.ensures)
 
 returns : tie.Need-returns
@@ -38,7 +38,7 @@ returns c =
     let bits-written : tie.After-write_bits-end3 = search in
     let ends-written = ends-written-of bits-written in
     let letter-written = letter-written-of ends-written in
-    done (next (next (next (next (head-start _ _ _ _ _ _ (start_of letter-written).pre) letter-written.write_byte-end1.ensures)
+    done (next (next (next (next (head-start _ _ _ _ _ _ (start_of letter-written).requires) letter-written.write_byte-end1.ensures)
     ends-written.write_ends-end2.ensures) bits-written.write_bits-end3.ensures) c.write_count.ensures)
 
 pub write_head_spec : {M : Type 1} → statement M

@@ -11,12 +11,12 @@ start_of c = search
 write-byte-requires : tie.Need-write_byte-requires
 write-byte-requires c κs =
     let head-written : tie.After-write_head-end = search in
-    room (next (observation-start _ _ _ _ _ (start_of head-written).pre) head-written.write_head-end.ensures)
+    room (next (observation-start _ _ _ _ _ (start_of head-written).requires) head-written.write_head-end.ensures)
 
 returns : tie.Need-returns
 returns c =
     let head-written : tie.After-write_head-end = search in
-    done (next (next (observation-start _ _ _ _ _ (start_of head-written).pre) head-written.write_head-end.ensures) c.write_byte.ensures)
+    done (next (next (observation-start _ _ _ _ _ (start_of head-written).requires) head-written.write_head-end.ensures) c.write_byte.ensures)
 
 pub write_observation_line_spec : {M : Type 1} → statement M
 write_observation_line_spec =

@@ -17,20 +17,20 @@ a-written-of c = search
 write-field-requires : tie.Need-write_field-end2-requires
 write-field-requires c κs =
     let name-written : tie.After-write_text-end1 = search in
-    room (next (pair-start _ _ _ _ _ (start_of name-written).pre) name-written.write_text-end1.ensures)
+    room (next (pair-start _ _ _ _ _ (start_of name-written).requires) name-written.write_text-end1.ensures)
 
 write-field-requires-2 : tie.Need-write_field-end3-requires
 write-field-requires-2 c κs =
     let a-written : tie.After-write_field-end2 = search in
     let name-written = name-written-of a-written in
-    room (next (next (pair-start _ _ _ _ _ (start_of name-written).pre) name-written.write_text-end1.ensures) a-written.write_field-end2.ensures)
+    room (next (next (pair-start _ _ _ _ _ (start_of name-written).requires) name-written.write_text-end1.ensures) a-written.write_field-end2.ensures)
 
 write-byte-requires : tie.Need-write_byte-requires
 write-byte-requires c κs =
     let b-written : tie.After-write_field-end3 = search in
     let a-written = a-written-of b-written in
     let name-written = name-written-of a-written in
-    room (next (next (next (pair-start _ _ _ _ _ (start_of name-written).pre) name-written.write_text-end1.ensures) a-written.write_field-end2.ensures)
+    room (next (next (next (pair-start _ _ _ _ _ (start_of name-written).requires) name-written.write_text-end1.ensures) a-written.write_field-end2.ensures)
     b-written.write_field-end3.ensures)
 
 returns : tie.Need-returns
@@ -38,7 +38,7 @@ returns c =
     let b-written : tie.After-write_field-end3 = search in
     let a-written = a-written-of b-written in
     let name-written = name-written-of a-written in
-    done (next (next (next (next (pair-start _ _ _ _ _ (start_of name-written).pre) name-written.write_text-end1.ensures) a-written.write_field-end2.ensures)
+    done (next (next (next (next (pair-start _ _ _ _ _ (start_of name-written).requires) name-written.write_text-end1.ensures) a-written.write_field-end2.ensures)
     b-written.write_field-end3.ensures) c.write_byte.ensures)
 
 pub write_pair_spec : {M : Type 1} → statement M

@@ -19,7 +19,7 @@ loop-holds c = (copied-start _ _ _ c.requires, omega arith, refl)
 add-out : tie.Need-overflow_add-out invariant-loop decreases-loop
 add-out c =
     let start : tie.Start invariant-loop decreases-loop = search in
-    omega (arith, start.pre, c.loop-i.invariant.2, c.loop-i-test.true)
+    omega (arith, start.requires, c.loop-i.invariant.2, c.loop-i-test.true)
 
 slice-write-out : tie.Need-bounds-out-at invariant-loop decreases-loop
 slice-write-out c =

@@ -14,19 +14,19 @@ name-written-of c = search
 write-word-requires : tie.Need-write_word-end2-requires
 write-word-requires c κs =
     let name-written : tie.After-write_text-end1 = search in
-    room (next (kept-start _ _ _ (start_of name-written).pre) name-written.write_text-end1.ensures)
+    room (next (kept-start _ _ _ (start_of name-written).requires) name-written.write_text-end1.ensures)
 
 write-byte-requires : tie.Need-write_byte-requires
 write-byte-requires c κs =
     let count-written : tie.After-write_word-end2 = search in
     let name-written = name-written-of count-written in
-    room (next (next (kept-start _ _ _ (start_of name-written).pre) name-written.write_text-end1.ensures) count-written.write_word-end2.ensures)
+    room (next (next (kept-start _ _ _ (start_of name-written).requires) name-written.write_text-end1.ensures) count-written.write_word-end2.ensures)
 
 returns : tie.Need-returns
 returns c =
     let count-written : tie.After-write_word-end2 = search in
     let name-written = name-written-of count-written in
-    done (next (next (next (kept-start _ _ _ (start_of name-written).pre) name-written.write_text-end1.ensures) count-written.write_word-end2.ensures)
+    done (next (next (next (kept-start _ _ _ (start_of name-written).requires) name-written.write_text-end1.ensures) count-written.write_word-end2.ensures)
     c.write_byte.ensures)
 
 pub write_kept_spec : {M : Type 1} → statement M

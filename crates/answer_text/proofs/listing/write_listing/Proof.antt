@@ -87,7 +87,7 @@ write-boundaries-requires c κs =
           (after-size.size-b.ensures.0 ∙ after-read-u32.read_u32-kept.ensures) (after-size2.size-o.ensures.0 ∙ after-read-u322.read_u32.ensures)
           (after-size3.size-s.ensures.0 ∙ after-read-u323.read_u32-2.ensures) after-size.size-b.ensures.1 after-size2.size-o.ensures.1
           after-size3.size-s.ensures.1 (omega (arith, whole.if-n-total.false)) (omega (arith, roomy.if-out-total.false)) _ (sym after-size.size-b.ensures.0))
-          after-write-kept.write-Kept.ensures),
+          after-write-kept.write_kept-at.ensures),
     )
 
 returns-4 : tie.Need-returns
@@ -107,7 +107,7 @@ returns-4 c =
     (after-size.size-b.ensures.0 ∙ after-read-u32.read_u32-kept.ensures) (after-size2.size-o.ensures.0 ∙ after-read-u322.read_u32.ensures)
     (after-size3.size-s.ensures.0 ∙ after-read-u323.read_u32-2.ensures) after-size.size-b.ensures.1 after-size2.size-o.ensures.1
     after-size3.size-s.ensures.1 (omega (arith, whole.if-n-total.false)) (omega (arith, roomy.if-out-total.false)) _ (sym after-size.size-b.ensures.0))
-    after-write-kept.write-Kept.ensures) c.write_boundaries.ensures in (done l, omega (arith, l.fits, as_long l, (done l).end))
+    after-write-kept.write_kept-at.ensures) c.write_boundaries.ensures in (done l, omega (arith, l.fits, as_long l, (done l).end))
 
 pub write_listing_spec : {M : Type 1} → statement M
 write_listing_spec =

@@ -19,12 +19,12 @@ loop-holds c =
 mul-write-boundary : tie.Need-overflow_mul-i invariant-loop decreases-loop
 mul-write-boundary c =
     let start : tie.Start invariant-loop decreases-loop = search in
-    omega (arith, start.pre.1, c.loop-i-test.true)
+    omega (arith, start.requires.1, c.loop-i-test.true)
 
 add-write-boundary : tie.Need-overflow_add-place invariant-loop decreases-loop
 add-write-boundary c =
     let start : tie.Start invariant-loop decreases-loop = search in
-    omega (arith, start.pre.1, c.loop-i-test.true)
+    omega (arith, start.requires.1, c.loop-i-test.true)
 
 write-boundary-requires : tie.Need-write_boundary-d-requires invariant-loop decreases-loop
 write-boundary-requires c κs =

@@ -16,7 +16,7 @@ write-boundary-line-requires c κs =
     let after-read-boundary : tie.After-read_boundary-b = search in
     let start = start_of after-read-boundary in
     room (whole-start start.args.answer.now start.args.place start.args.c _ _ _ after-read-boundary.read_boundary-b.ensures
-    c.least-n.ensures c.least-m.ensures start.args.out.now start.pre.2)
+    c.least-n.ensures c.least-m.ensures start.args.out.now start.requires.2)
 
 write-sources-requires : tie.Need-write_sources-last-requires
 write-sources-requires c κs =
@@ -26,9 +26,9 @@ write-sources-requires c κs =
     let after-read-boundary = after-least.before in
     let start = start_of after-read-boundary in (
       own-inside start.args.answer.now start.args.place start.args.c _ _ _ after-read-boundary.read_boundary-b.ensures
-          after-least.least-n.ensures after-least2.least-m.ensures start.pre.0,
+          after-least.least-n.ensures after-least2.least-m.ensures start.requires.0,
       room (next (whole-start start.args.answer.now start.args.place start.args.c _ _ _ after-read-boundary.read_boundary-b.ensures
-          after-least.least-n.ensures after-least2.least-m.ensures start.args.out.now start.pre.2)
+          after-least.least-n.ensures after-least2.least-m.ensures start.args.out.now start.requires.2)
           after-write-boundary-line.write_boundary_line-end.ensures),
     )
 
@@ -44,11 +44,11 @@ write-observations-requires c κs =
     let place = start.args.place in
     let c-arg = start.args.c in (
       rest-inside answer place c-arg _ _ _ after-read-boundary.read_boundary-b.ensures after-least.least-n.ensures after-least2.least-m.ensures
-          start.pre.0 _,
+          start.requires.0 _,
       seen_few answer place c-arg _ _ _ after-read-boundary.read_boundary-b.ensures after-least.least-n.ensures
           after-least2.least-m.ensures,
       room (next (next (whole-start answer place c-arg _ _ _ after-read-boundary.read_boundary-b.ensures after-least.least-n.ensures
-          after-least2.least-m.ensures start.args.out.now start.pre.2) after-write-boundary-line.write_boundary_line-end.ensures)
+          after-least2.least-m.ensures start.args.out.now start.requires.2) after-write-boundary-line.write_boundary_line-end.ensures)
           after-write-sources.write_sources-last.ensures),
     )
 
@@ -62,7 +62,7 @@ returns c =
     let after-read-boundary = after-least.before in
     let start = start_of after-read-boundary in (
       done (next (next (next (whole-start start.args.answer.now start.args.place start.args.c _ _ _ after-read-boundary.read_boundary-b.ensures
-          after-least.least-n.ensures after-least2.least-m.ensures start.args.out.now start.pre.2)
+          after-least.least-n.ensures after-least2.least-m.ensures start.args.out.now start.requires.2)
           after-write-boundary-line.write_boundary_line-end.ensures) after-write-sources.write_sources-last.ensures)
           after-write-observations.write_observations.ensures.0),
       whole-moved start.args.answer.now start.args.place start.args.c _ _ _ after-read-boundary.read_boundary-b.ensures

@@ -12,7 +12,7 @@ write-observation-line-requires : tie.Need-write_observation_line-end-requires
 write-observation-line-requires c κs =
     let start : tie.Start = search in
     room (here-start start.args.answer.now start.args.c _ _ c.read_observation-o.ensures c.least-n.ensures
-    start.args.out.now start.pre.2)
+    start.args.out.now start.requires.2)
 
 write-sources-requires : tie.Need-write_sources-last-requires
 write-sources-requires c κs =
@@ -21,10 +21,10 @@ write-sources-requires c κs =
     let after-read-observation = after-least.before in
     let start = start_of after-read-observation in (
       here-sources start.args.answer.now start.args.c _ _ after-read-observation.read_observation-o.ensures after-least.least-n.ensures
-          start.pre.0,
+          start.requires.0,
       room (next
           (here-start start.args.answer.now start.args.c _ _ after-read-observation.read_observation-o.ensures after-least.least-n.ensures
-          start.args.out.now start.pre.2) after-write-observation-line.write_observation_line-end.ensures),
+          start.args.out.now start.requires.2) after-write-observation-line.write_observation_line-end.ensures),
     )
 
 returns : tie.Need-returns
@@ -35,10 +35,10 @@ returns c =
     let after-read-observation = after-least.before in
     let start = start_of after-read-observation in (
       done (next (next (here-start start.args.answer.now start.args.c _ _ after-read-observation.read_observation-o.ensures
-          after-least.least-n.ensures start.args.out.now start.pre.2) after-write-observation-line.write_observation_line-end.ensures)
+          after-least.least-n.ensures start.args.out.now start.requires.2) after-write-observation-line.write_observation_line-end.ensures)
           after-write-sources.write_sources-last.ensures),
       here-moved start.args.answer.now start.args.c _ _ after-read-observation.read_observation-o.ensures after-least.least-n.ensures
-          start.pre.0 start.pre.1 _,
+          start.requires.0 start.requires.1 _,
     )
 
 pub write_observation_spec : {M : Type 1} → statement M

@@ -17,22 +17,22 @@ loop-holds c = sources-start _ _ _ _ _ c.requires.1
 mul-read-source : tie.Need-overflow_mul-i invariant-loop decreases-loop
 mul-read-source c =
     let start : tie.Start invariant-loop decreases-loop = search in
-    omega (arith, start.pre.0, c.loop-i-test.true)
+    omega (arith, start.requires.0, c.loop-i-test.true)
 
 add-read-source : tie.Need-overflow_add-from invariant-loop decreases-loop
 add-read-source c =
     let start : tie.Start invariant-loop decreases-loop = search in
-    omega (arith, start.pre.0, c.loop-i-test.true)
+    omega (arith, start.requires.0, c.loop-i-test.true)
 
 read-source-requires : tie.Need-read_source-s-requires invariant-loop decreases-loop
 read-source-requires c κs =
     let start : tie.Start invariant-loop decreases-loop = search in
-    omega (arith, start.pre.0, c.loop-i-test.true)
+    omega (arith, start.requires.0, c.loop-i-test.true)
 
 write-source-requires : tie.Need-write_source-end-requires invariant-loop decreases-loop
 write-source-requires c κs =
     let in-loop : tie.At-loop-i invariant-loop decreases-loop = search in
-    source-room _ _ _ _ _ _ c.read_source-s.ensures c.loop-i-test.true in-loop.loop-i.inv
+    source-room _ _ _ _ _ _ c.read_source-s.ensures c.loop-i-test.true in-loop.loop-i.invariant
 
 add-i : tie.Need-overflow_add-i invariant-loop decreases-loop
 add-i c =
@@ -49,7 +49,7 @@ loop-again c =
     let after-read-source : tie.After-read_source-s invariant-loop decreases-loop = search in
     let turning = after-read-source.before in
     let in-loop = turning.before in
-    sources_next _ _ _ _ _ _ after-read-source.read_source-s.ensures turning.loop-i-test.true in-loop.loop-i.inv
+    sources_next _ _ _ _ _ _ after-read-source.read_source-s.ensures turning.loop-i-test.true in-loop.loop-i.invariant
     c.write_source-end.ensures
 
 same_length : tie.Need-shape_of-out invariant-loop decreases-loop

@@ -1,3 +1,4 @@
+use mathlib.Core.Bool.{not}
 use mathlib.Core.Path.{◌≡◌, sym, ◌∙◌, ap}
 use mathlib.Core.Option.{none}
 use native.Mathlib.Omega.{arith}
@@ -15,14 +16,14 @@ use Rattle.checks_calls.proofs.calls.check_boundaries.Tie as tie
 
 -- no check up to 10 refuses, so the header that is read is laid out as it says
 clean : (c : tie.Else-not-passed) → first_refusal (job_checks c.args.job.now) ≡ none
-clean c = went_on _ c.check_job-v.ensures c.passed.ensures c.if-not-passed.false
+clean c = went_on _ c.check_job-v.ensures c.passed.ensures (ap not c.if-not-passed.false)
 
 laid : (c : tie.After-read_header-h) → Laid c.args.job.now c.read_header-h.result
 laid c = laid-read _ _ c.read_header-h.ensures (job-passed _ (clean c.before)).1
 
 returns : tie.Need-returns-then-not-passed
 unfolding boundary_checks
-returns c = stopped _ _ c.check_job-v.ensures c.passed.ensures c.if-not-passed.true
+returns c = stopped _ _ c.check_job-v.ensures c.passed.ensures (ap not c.if-not-passed.true)
 
 read-header-requires : tie.Need-read_header-h-requires
 read-header-requires c κs = (job-passed _ (clean c)).0

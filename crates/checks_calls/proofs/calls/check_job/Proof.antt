@@ -1,3 +1,4 @@
+use mathlib.Core.Bool.{not}
 use mathlib.Core.Path.{◌≡◌, sym, ◌∙◌, ap}
 use mathlib.Core.Option.{none}
 use Rattle.format.specs.declared.header.Header.{Header}
@@ -11,11 +12,11 @@ use Rattle.checks_calls.proofs.calls.check_job.Tie as tie
 
 -- no check up to 5 refuses
 laid_out : (c : tie.Else-not-passed) → first_refusal (layout_checks c.args.job.now) ≡ none
-laid_out c = went_on _ c.check_layout-v.ensures c.passed.ensures c.if-not-passed.false
+laid_out c = went_on _ c.check_layout-v.ensures c.passed.ensures (ap not c.if-not-passed.false)
 
 returns : tie.Need-returns-then-not-passed
 unfolding job_checks
-returns c = stopped _ _ c.check_layout-v.ensures c.passed.ensures c.if-not-passed.true
+returns c = stopped _ _ c.check_layout-v.ensures c.passed.ensures (ap not c.if-not-passed.true)
 
 read-header-requires : tie.Need-read_header-requires
 read-header-requires c κs = (layout-passed _ (laid_out c)).0

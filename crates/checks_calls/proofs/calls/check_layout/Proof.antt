@@ -31,7 +31,7 @@ past-header : (c : tie.Else-not-passed) → let job = job_of c.before.before.bef
 unfolding layout_checks
 past-header c =
     skip _ _ (le-ltb _ _ c.if-job-lt-HEADER_SIZE.false)
-    ∙ append-none _ _ (went_on _ (header-told c.before.before) c.passed.ensures c.if-not-passed.false)
+    ∙ append-none _ _ (went_on _ (header-told c.before.before) c.passed.ensures (ap not c.if-not-passed.false))
 
 returns : tie.Need-returns-then-job-lt-HEADER_SIZE
 unfolding layout_checks
@@ -40,7 +40,7 @@ returns c = sym (stop _ _ (lt-ltb _ _ c.if-job-lt-HEADER_SIZE.true))
 returns-2 : tie.Need-returns-then-not-passed
 unfolding layout_checks
 returns-2 c =
-    stopped _ _ (header-told c.before.before) c.passed.ensures c.if-not-passed.true
+    stopped _ _ (header-told c.before.before) c.passed.ensures (ap not c.if-not-passed.true)
     ∙ sym (skip _ _ (le-ltb _ _ c.if-job-lt-HEADER_SIZE.false))
 
 returns-3 : tie.Need-returns-then-not-job-size

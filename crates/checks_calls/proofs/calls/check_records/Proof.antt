@@ -1,3 +1,4 @@
+use mathlib.Core.Bool.{not}
 use mathlib.Core.Path.{◌≡◌, sym, ◌∙◌, ap}
 use mathlib.Core.List.{List, ◌∷◌, ◌++◌}
 use Prim.Native.Nat.{ℕ}
@@ -49,21 +50,21 @@ cells_told c = c.check_cells-v.ensures ∙ ap (λ (n : ℕ). first_refusal (each
 -- past the cells, the bases, the sums and the ramps
 past-cells : (c : tie.Else-not-passed) → first_refusal (over (size_of c) record_checks) ≡ first_refusal (over (size_of c) bases ++ over (size_of c) after-bases)
 unfolding record_checks
-past-cells c = append-none _ _ (went_on _ (cells_told c.before.before) c.passed.ensures c.if-not-passed.false)
+past-cells c = append-none _ _ (went_on _ (cells_told c.before.before) c.passed.ensures (ap not c.if-not-passed.false))
 
 bases-told : (c : tie.After-check_bases-v) → meaning c.check_bases-v.result ≡ first_refusal (over (size_of c.before.before.before) bases)
 bases-told c =
     let start = start_of (size_of c.before.before.before) in
     let k = start.args.h.counts in
     moved (base_check start.args.job.now k.width k.height) c.check_bases-v.ensures
-    (c.size-2.ensures.0 ∙ (sections _ _ start.pre).bases-at) c.size-3.ensures.0
+    (c.size-2.ensures.0 ∙ (sections _ _ start.requires).bases-at) c.size-3.ensures.0
 
 abbrev else1 : tie.Else-not-passed-2 → tie.Else-not-passed
 else1 c = search
 
 past-bases : (c : tie.Else-not-passed-2) → first_refusal (over (size_of (else1 c)) record_checks) ≡ first_refusal (over (size_of (else1 c)) after-bases)
 past-bases c =
-    past-cells (else1 c) ∙ append-none _ _ (went_on _ (bases-told c.before.before) c.passed-2.ensures c.if-not-passed-2.false)
+    past-cells (else1 c) ∙ append-none _ _ (went_on _ (bases-told c.before.before) c.passed-2.ensures (ap not c.if-not-passed-2.false))
 
 past-sums : (c : tie.Else-sums_fault) → first_refusal (over (size_of (else1 c.before.before)) record_checks)
     ≡ first_refusal (over (size_of (else1 c.before.before)) ramps ++ over (size_of (else1 c.before.before)) widths)
@@ -85,14 +86,14 @@ mul-size c = omega (arith, cells-limit _ c.requires.within)
 
 returns : tie.Need-returns-then-not-passed
 unfolding record_checks
-returns c = stopped _ _ (cells_told c.before.before) c.passed.ensures c.if-not-passed.true
+returns c = stopped _ _ (cells_told c.before.before) c.passed.ensures (ap not c.if-not-passed.true)
 
 check-bases-requires : tie.Need-check_bases-v-requires
 check-bases-requires c κs = omega (arith, (sections _ _ (start_of (size_of c.before.before)).requires).bases-in)
 
 returns-2 : tie.Need-returns-then-not-passed-2
 returns-2 c =
-    stopped _ _ (bases-told c.before.before) c.passed-2.ensures c.if-not-passed-2.true ∙ sym (past-cells c.before.before.before.before.before)
+    stopped _ _ (bases-told c.before.before) c.passed-2.ensures (ap not c.if-not-passed-2.true) ∙ sym (past-cells c.before.before.before.before.before)
 
 returns-3 : tie.Need-returns-then-sums_fault
 returns-3 c = sym (past-bases c.before.before ∙ stop _ _ (sym c.sums_fault.ensures ∙ c.if-sums_fault.true))
@@ -102,7 +103,7 @@ check-ramps-requires c κs = omega (arith, (sections _ _ (start_of (size-at c)).
 
 returns-4 : tie.Need-returns-then-not-passed-3
 returns-4 c =
-    stopped _ _ (ramps-told c.before.before) c.passed-3.ensures c.if-not-passed-3.true ∙ sym (past-sums c.before.before.before.before.before)
+    stopped _ _ (ramps-told c.before.before) c.passed-3.ensures (ap not c.if-not-passed-3.true) ∙ sym (past-sums c.before.before.before.before.before)
 
 check-widths-requires : tie.Need-check_widths-requires
 check-widths-requires c κs = omega (arith, (sections _ _ (start_of (size-at c.before.before.before)).requires).boundaries-in)
@@ -112,7 +113,7 @@ returns-5 c =
     let passed = c.before.before in
     let sizes = passed.before.before in
     moved (width_check (start_of (size-at sizes)).args.job.now) c.check_widths.ensures (boundaries-at sizes) sizes.size-n.ensures.0
-    ∙ sym (past-sums sizes.before.before ∙ append-none _ _ (went_on _ (ramps-told passed.before) passed.passed-3.ensures c.if-not-passed-3.false))
+    ∙ sym (past-sums sizes.before.before ∙ append-none _ _ (went_on _ (ramps-told passed.before) passed.passed-3.ensures (ap not c.if-not-passed-3.false)))
 
 pub check_records_spec : {M : Type 1} → statement M
 check_records_spec =

@@ -1,5 +1,5 @@
 use mathlib.Core.Path.{◌≡◌, sym, ◌∙◌, ap}
-use mathlib.Core.Bool.{false}
+use mathlib.Core.Bool.{false, not}
 use mathlib.Core.Option.{none}
 use native.Mathlib.Omega.{arith}
 use Rattle.format.specs.declared.header.Header.{Header}
@@ -14,11 +14,11 @@ use Rattle.checks_calls.proofs.calls.check_reduce_by_list.Tie as tie
 
 -- no check of the job refuses
 clean : (c : tie.Else-not-passed) → first_refusal (boundary_checks false c.args.job.now) ≡ none
-clean c = went_on _ c.check_boundaries-v.ensures c.passed.ensures c.if-not-passed.false
+clean c = went_on _ c.check_boundaries-v.ensures c.passed.ensures (ap not c.if-not-passed.false)
 
 returns : tie.Need-returns-then-not-passed
 unfolding by_list_checks
-returns c = stopped _ _ c.check_boundaries-v.ensures c.passed.ensures c.if-not-passed.true
+returns c = stopped _ _ c.check_boundaries-v.ensures c.passed.ensures (ap not c.if-not-passed.true)
 
 read-header-requires : tie.Need-read_header-h-requires
 read-header-requires c κs = (boundaries-passed false _ (clean c)).0

@@ -67,7 +67,7 @@ module _ {s l : List ℕ} {which i k : ℕ} {job list shown : ℕ × ℕ} (w : w
 
 -- where the job's boundaries begin, as the code reads it
 start-read : (c : tie.After-size) →
-    c.size.result-1 ≡ (header_at c.args.job.now).offsets.boundaries
+    c.size.result ≡ (header_at c.args.job.now).offsets.boundaries
 start-read c = c.size.ensures.0 ∙ ap (λ (h : Header). h.offsets.boundaries) c.read_header-h.ensures
 
 read-header-requires : tie.Need-read_header-h-requires
@@ -91,7 +91,7 @@ returns-2 c =
     let told = c.before.before in
     not-job told.if-which-eq0.true told.size-k.ensures.0 refl (sym told.job_has.ensures ∙ c.if-job_has.false) refl
 
-part-result-end-3 : tie.Need-slice-bounds-result-end-3
+part-result-end-3 : tie.Need-slice_bounds-result-end-2
 part-result-end-3 c = omega (arith, list-part _ _ _ (sym c.list_has.ensures ∙ c.if-list_has.true))
 
 returns-3 : tie.Need-returns-then-list_has
