@@ -91,7 +91,7 @@ returns-2 c =
     let told = c.before.before in
     not-job told.if-which-eq0.true told.size-k.ensures.0 refl (sym told.job_has.ensures ∙ c.if-job_has.false) refl
 
-part-result-end-3 : tie.Need-slice_bounds-result-end-2
+part-result-end-3 : tie.Need-slice_bounds-result-end-then-list_has
 part-result-end-3 c = omega (arith, list-part _ _ _ (sym c.list_has.ensures ∙ c.if-list_has.true))
 
 returns-3 : tie.Need-returns-then-list_has
