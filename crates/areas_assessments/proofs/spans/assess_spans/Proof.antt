@@ -64,11 +64,11 @@ loop-again c =
     let r = inv.3 in
     let turns = spanned.loop-i-test.true in
     let h = span-holds _ _ _ _ _ _ spanned.span_at-span.ensures r.arrays.lefts-are assessed.assess_span-a.ensures in
-    let kept = assessed.assess_span-a.auto.1.1.1.1.1.1 in (
+    let kept = assessed.assess_span-a.auto in (
       inv.0,
       inv.1,
       omega (arith, turns),
-      recording-next _ _ _ _ r h fits.if-most-next.false (omega (arith, inv.0.few, turns)) filled.fill.ensures filled.fill.auto.0 kept.0 kept.1.0,
+      recording-next _ _ _ _ r h fits.if-most-next.false (omega (arith, inv.0.few, turns)) filled.fill.ensures filled.fill.auto.numbers kept.lefts kept.rights,
     )
 
 returns-2 : tie.Need-returns invariant-loop decreases-loop

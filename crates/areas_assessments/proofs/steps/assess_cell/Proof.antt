@@ -32,16 +32,16 @@ assess-step-requires : tie.Need-assess_step-done-requires invariant-loop decreas
 assess-step-requires c κs =
     let in-loop = c.before.before.before in
     let start = start_of in-loop.before in
-    let p = start.pre in (p.0, p.1, p.2, omega arith, going-room _ _ in-loop.loop-d.invariant.1 4 1 p.3 (omega arith))
+    let p = start.requires in (p.0, p.1, p.2, omega arith, going-room _ _ in-loop.loop-d.invariant.1 4 1 p.3 (omega arith))
 
 loop-again : tie.Need-loop-d-preserved invariant-loop decreases-loop
 loop-again c =
-    let at-assess-step = c.before.before.before.before in
-    let in-loop = at-assess-step.before.before.before.before in
+    let at-assess-step : tie.After-assess_step-done invariant-loop decreases-loop = search in
+    let in-loop : tie.At-loop-d invariant-loop decreases-loop = search in
     let inv = in-loop.loop-d.invariant in (
       omega arith,
-      going_next _ _ inv.1 _ 1 (omega (arith, inv.1.reached)) at-assess-step.assess_step-done.auto.1.1.1.1.1.1.1.1.0
-          at-assess-step.assess_step-done.auto.1.1.1.1.1.1.1.1.1.0 at-assess-step.assess_step-done.ensures.0 at-assess-step.assess_step-done.ensures.1,
+      going_next _ _ inv.1 _ 1 (omega (arith, inv.1.reached)) at-assess-step.assess_step-done.auto.lefts
+          at-assess-step.assess_step-done.auto.rights at-assess-step.assess_step-done.ensures.0 at-assess-step.assess_step-done.ensures.1,
     )
 
 same_length : tie.Need-shape_of-lefts invariant-loop decreases-loop

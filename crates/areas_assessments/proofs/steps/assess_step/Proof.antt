@@ -31,7 +31,7 @@ place-to-requires c κs =
 cut-by-requires : tie.Need-cut_by-requires
 cut-by-requires c κs =
     let start = start_of c.before.before.before.before.before in
-    let p = start.pre in
+    let p = start.requires in
     let b = ends-bounded p.0.sides p.0.span in
     let i = there-in start.args.position p.0 p.1 p.2 start.args.d
     (sym c.step_at.ensures ∙ c.if-not-step_at.false) p.3 c.place_to-to.result c.place_to-to.ensures.0 in
@@ -43,7 +43,7 @@ returns-3 c =
     let steps = placed.before in
     let step-told = steps.before in
     let start = start_of step-told.before.before.before in
-    let p = start.pre in
+    let p = start.requires in
     let t = (sym step-told.step_at.ensures ∙ steps.if-not-step_at.false) in (
       grown-none 1 p.4,
       advance-none _
@@ -60,7 +60,7 @@ count-step-requires c κs =
     let step-told = steps.before in
     let start = start_of step-told.before.before.before in
     let position = start.args.position in
-    let p = start.pre in
+    let p = start.requires in
     let t = (sym step-told.step_at.ensures ∙ steps.if-not-step_at.false) in
     let i = index-here position p.0 p.1 p.2 from-index.index.ensures in
     let j = index-there position p.0 p.1 p.2 start.args.d t p.3 placed.place_to-to.result
@@ -86,7 +86,7 @@ returns-4 c =
     let start = start_of set_told.before in
     let position = start.args.position in
     let d = start.args.d in
-    let p = start.pre in
+    let p = start.requires in
     let t = (sym step-told.step_at.ensures ∙ steps.if-not-step_at.false) in
     let i = index-here position p.0 p.1 p.2 from-index.index.ensures in
     let j = index-there position p.0 p.1 p.2 d t p.3 placed.place_to-to.result

@@ -44,7 +44,7 @@ assess-cell-requires c κs =
     let after-is-tall = after-strip-minor.before in
     let start = start_of after-is-tall.before in
     let span = start.args.span in
-    let p = start.pre in
+    let p = start.requires in
     let l = (last-in start.requires.0.sides span _ after-strip-minor.strip_minor-range.ensures) in
     let b = beside-small p.0.sides span l in
     let e = c.place_of.ensures in
@@ -67,17 +67,17 @@ loop-less c =
 
 loop-again : tie.Need-loop-cm-preserved invariant-loop decreases-loop
 loop-again c =
-    let at-assess-cell = c.before.before.before.before in
-    let after-place-of = at-assess-cell.before.before.before in
-    let turning = after-place-of.before in
-    let in-loop = turning.before in
-    let after-is-tall = in-loop.before.before in
+    let at-assess-cell : tie.After-assess_cell-done invariant-loop decreases-loop = search in
+    let after-place-of : tie.After-place_of invariant-loop decreases-loop = search in
+    let turning : tie.In-loop-cm invariant-loop decreases-loop = search in
+    let in-loop : tie.At-loop-cm invariant-loop decreases-loop = search in
+    let after-is-tall : tie.After-is_tall-tall invariant-loop decreases-loop = search in
     let start = start_of after-is-tall.before in
     let inv = in-loop.loop-cm.invariant in
     let e = after-place-of.place_of.ensures in (
       omega (arith, inv.0, turning.loop-cm-test.true),
-      going_next _ _ inv.1 _ 4 (omega (arith, inv.1.reached)) at-assess-cell.assess_cell-done.auto.1.1.1.1.1.1.1.0
-          at-assess-cell.assess_cell-done.auto.1.1.1.1.1.1.1.1.0 at-assess-cell.assess_cell-done.ensures.0
+      going_next _ _ inv.1 _ 4 (omega (arith, inv.1.reached)) at-assess-cell.assess_cell-done.auto.lefts
+          at-assess-cell.assess_cell-done.auto.rights at-assess-cell.assess_cell-done.ensures.0
           (advance-as _ (ap (cut_from _ _ _)
           (place-cell start.args.width start.args.height start.args.cells.now start.args.span start.args.c in-loop.loop-cm.cm
           after-is-tall.is_tall-tall.ensures e.0 e.1)) at-assess-cell.assess_cell-done.ensures.1),

@@ -41,7 +41,7 @@ assess-beside-requires c κs =
     let after-strip-axis = in-loop.before in
     let start = start_of after-strip-axis.before in
     let span = start.args.span in
-    let p = start.pre in
+    let p = start.requires in
     let b = limit-small start.requires.0.sides span (last-along start.requires.0.sides span after-strip-axis.strip_axis-range.ensures) in (
       p.0,
       lower turning.loop-c-test.true (last-along start.requires.0.sides span after-strip-axis.strip_axis-range.ensures),
@@ -63,13 +63,13 @@ loop-less c =
 
 loop-again : tie.Need-loop-c-preserved invariant-loop decreases-loop
 loop-again c =
-    let at-assess-beside = c.before.before.before.before in
-    let turning = at-assess-beside.before.before.before in
-    let in-loop = turning.before in
+    let at-assess-beside : tie.After-assess_beside-done invariant-loop decreases-loop = search in
+    let turning : tie.In-loop-c invariant-loop decreases-loop = search in
+    let in-loop : tie.At-loop-c invariant-loop decreases-loop = search in
     let inv = in-loop.loop-c.invariant in (
       omega (arith, inv.0, turning.loop-c-test.true),
-      going_next _ _ inv.1 _ 4096 (omega (arith, inv.1.reached)) at-assess-beside.assess_beside-done.auto.1.1.1.1.1.1.1.0
-          at-assess-beside.assess_beside-done.auto.1.1.1.1.1.1.1.1.0 at-assess-beside.assess_beside-done.ensures.0
+      going_next _ _ inv.1 _ 4096 (omega (arith, inv.1.reached)) at-assess-beside.assess_beside-done.auto.lefts
+          at-assess-beside.assess_beside-done.auto.rights at-assess-beside.assess_beside-done.ensures.0
           at-assess-beside.assess_beside-done.ensures.1,
     )
 
@@ -83,7 +83,7 @@ returns : tie.Need-returns invariant-loop decreases-loop
 returns c =
     let after-strip-axis = c.before.before in
     let start = start_of after-strip-axis.before in
-    let p = start.pre in
+    let p = start.requires in
     let i = c.loop-c.invariant in
     let a = going_end _ _ i.1 (after-strip-axis.strip_axis-range.result.last + 1 - after-strip-axis.strip_axis-range.result.first)
     (omega (arith, i.0, i.1.reached, c.loop-c-test.false))
