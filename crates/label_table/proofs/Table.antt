@@ -29,14 +29,16 @@ module _ {start : List ℕ} {regions base : ℕ} {f : ℕ → ℕ} {work : List 
   byte-before : (i : ℕ) → i < base + 4 * x → get_or (splice work (base + 4 * x) (u32_bytes v)) i 0 ≡ get_or work i 0
   byte-before i h =
       let z : i + 0 ≡ i = omega arith in
-      ap (λ (k : ℕ). get_or (splice work (base + 4 * x) (u32_bytes v)) k 0) (sym z) ∙ sym (part_at (splice work (base + 4 * x) (u32_bytes v)) i 1 0 (omega arith))
+      ap (λ (k : ℕ). get_or (splice work (base + 4 * x) (u32_bytes v)) k 0) (sym z)
+      ∙ sym (part_at (splice work (base + 4 * x) (u32_bytes v)) i 1 0 (omega arith))
       ∙ ap (λ (t : List ℕ). get_or t 0 0) (splice-before work (base + 4 * x) (u32_bytes v) room i 1 (omega arith)) ∙ part_at work i 1 0 (omega arith)
       ∙ ap (λ (k : ℕ). get_or work k 0) z
 
   byte-behind : (i : ℕ) → base + 4 * x + 4 ≤ i → get_or (splice work (base + 4 * x) (u32_bytes v)) i 0 ≡ get_or work i 0
   byte-behind i h =
       let z : i + 0 ≡ i = omega arith in
-      ap (λ (k : ℕ). get_or (splice work (base + 4 * x) (u32_bytes v)) k 0) (sym z) ∙ sym (part_at (splice work (base + 4 * x) (u32_bytes v)) i 1 0 (omega arith))
+      ap (λ (k : ℕ). get_or (splice work (base + 4 * x) (u32_bytes v)) k 0) (sym z)
+      ∙ sym (part_at (splice work (base + 4 * x) (u32_bytes v)) i 1 0 (omega arith))
       ∙ ap (λ (t : List ℕ). get_or t 0 0) (splice-after work (base + 4 * x) (u32_bytes v) room i 1 (omega (arith, length-bytes 4 v)))
       ∙ part_at work i 1 0 (omega arith)
       ∙ ap (λ (k : ℕ). get_or work k 0) z
@@ -54,7 +56,8 @@ module _ {start : List ℕ} {regions base : ℕ} {f : ℕ → ℕ} {work : List 
       word y b =
           by_cases (ℕ_discrete y x)
           (λ e.
-          ap (λ (z : ℕ). u32_at (splice work (base + 4 * x) (u32_bytes v)) (base + 4 * z)) e ∙ read_same 4 work (base + 4 * x) v (omega (arith, T.as_long)) small
+          ap (λ (z : ℕ). u32_at (splice work (base + 4 * x) (u32_bytes v)) (base + 4 * z)) e
+          ∙ read_same 4 work (base + 4 * x) v (omega (arith, T.as_long)) small
           ∙ sym (ap (put f x v) e ∙ put-at f x v))
           (λ e.
           by_cases (dec_lt y x) (λ d. read-before work (base + 4 * x) (u32_bytes v) room 4 (base + 4 * y) (omega arith))

@@ -70,7 +70,8 @@ undone-heights n (suc d) a = undone-heights n d (alike-back a)
 -- a parent that is its vertex leaves all parents vertices
 set_below : (l : List ℕ) (c : ℕ) → c < length l → ((i : ℕ) → i < length l → at l i < length l) → (i : ℕ) → i < length l → at (set l c c) i < length l
 set_below l c h below i g =
-    by_cases (ℕ_discrete i c) (λ e. omega (arith, ap (at (set l c c)) e, get_or-set_same l c c 0 h)) (λ d. omega (arith, get_or-set_other l c i c 0 d, below i g))
+    by_cases (ℕ_discrete i c) (λ e. omega (arith, ap (at (set l c c)) e, get_or-set_same l c c 0 h))
+    (λ d. omega (arith, get_or-set_other l c i c 0 d, below i g))
 
 -- the joins from k on are taken back
 pub record Undoing (start : ForestTables) (n m : ℕ) (s : ForestTables) (k : ℕ) : Type 0 where

@@ -160,7 +160,8 @@ pub numbered-at : {K : ℕ} {lefts rights : List ℕ} {regions base : ℕ} {star
     ((u32_at work₁ (base + 4 * (at rights j - 1)) ≡ 0 → ⊥) → (u32_at work₁ (base + 4 * (at rights j - 1)) ≡ w + 1) × (work₂ ≡ work₁)) →
     (u32_at work₁ (base + 4 * (at rights j - 1)) ≡ 0 → (w ≡ 2 * k + 1) × (work₂ ≡ splice work₁ (base + 4 * (at rights j - 1)) (u32_bytes (2 * k + 1 + 1)))) →
     EndNumbers K lefts rights regions base start work₂ (set small_lefts j v) (set small_rights j w) (k + 1)
-numbered-at {K} {lefts} {rights} {regions} {base} {start} {work} {work₁} {work₂} {small_lefts} {small_rights} {k} {j} {v} {w} e b L fits N₀ old₁ new₁ old₂ new₂ =
+numbered-at {K} {lefts} {rights} {regions} {base} {start} {work} {work₁} {work₂} {small_lefts} {small_rights} {k} {j} {v} {w} e b L fits N₀ old₁ new₁ old₂
+    new₂ =
     subst (λ (i : ℕ). EndNumbers K lefts rights regions base start work₂ (set small_lefts j v) (set small_rights j w) (i + 1)) e (numbered-one N in-range A C)
   where
     N : EndNumbers K lefts rights regions base start work small_lefts small_rights j

@@ -13,6 +13,7 @@ unfolding rows
 rows-zero zero = refl
 rows-zero (suc n) = ap (λ (l : List ℕ). 0 ∷ l) (rows-zero n)
 
-pub no-records : (owners lefts rights : List ℕ) (count : ℕ) → count ≡ 0 → (n : ℕ) → replicate {A = ℕ} n 0 ≡ bridge_marks (records_in owners lefts rights count) n
+pub no-records : (owners lefts rights : List ℕ) (count : ℕ) → count ≡ 0 → (n : ℕ)
+    → replicate {A = ℕ} n 0 ≡ bridge_marks (records_in owners lefts rights count) n
 unfolding bridge_marks records_in rows is_bridge
 no-records owners lefts rights count e n = rw e (sym (rows-zero n))

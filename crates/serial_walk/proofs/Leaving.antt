@@ -59,7 +59,10 @@ module _ (owners marks : List ℕ) (k d low : ℕ) (on : at owners k < length ma
       one_more l b a =
           by_cases (ℕ_discrete b (at owners k))
           (λ e.
-          inr (ap (at (set marks (at owners k) 1)) e ∙ get_or-set_same marks (at owners k) 1 0 on, record { place = k; inside = i; owned = sym e; parted = p l }))
+          inr (
+            ap (at (set marks (at owners k) 1)) e ∙ get_or-set_same marks (at owners k) 1 0 on,
+            record { place = k; inside = i; owned = sym e; parted = p l },
+          ))
           (λ e.
           ⊎_elim (λ z. inl (get_or-set_other marks (at owners k) b 1 0 e ∙ z)) (λ z. inr (get_or-set_other marks (at owners k) b 1 0 e ∙ z.0, z.1))
           (S b (omega (arith, length-set marks (at owners k) 1))))

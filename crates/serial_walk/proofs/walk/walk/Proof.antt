@@ -25,12 +25,12 @@ abbrev decreases-loop : tie.decreases-loop-f
 decreases-loop owners lefts rights count heads left-nexts right-nexts disc stack parents nexts lows marks r root start time h top f₀ w₀ f w = count - f.next
 
 abbrev invariant-walk : tie.invariant-walk
-invariant-walk owners lefts rights count heads left-nexts right-nexts disc₀ stack₀ parents₀ nexts₀ lows₀ marks₀ r root start time₀ h₀ disc stack parents nexts lows
-    marks time h = Loop count (length heads) owners lefts rights disc stack parents nexts lows marks r h time
+invariant-walk owners lefts rights count heads left-nexts right-nexts disc₀ stack₀ parents₀ nexts₀ lows₀ marks₀ r root start time₀ h₀ disc stack parents
+    nexts lows marks time h = Loop count (length heads) owners lefts rights disc stack parents nexts lows marks r h time
 
 abbrev decreases-walk : tie.decreases-walk
-decreases-walk owners lefts rights count heads left-nexts right-nexts disc₀ stack₀ parents₀ nexts₀ lows₀ marks₀ r root start time₀ h₀ disc stack parents nexts lows
-    marks time h = zero_count (at disc) (length disc) + zero_count (at disc) (length disc) + h
+decreases-walk owners lefts rights count heads left-nexts right-nexts disc₀ stack₀ parents₀ nexts₀ lows₀ marks₀ r root start time₀ h₀ disc stack parents
+    nexts lows marks time h = zero_count (at disc) (length disc) + zero_count (at disc) (length disc) + h
 
 -- the start; where the root is entered
 abbrev Start : Type 0

@@ -10,12 +10,12 @@ use Rattle.serial_walk.proofs.walk.walk_all.Tie as tie
 use lib.ListN.{length}
 
 abbrev invariant-loop : tie.invariant-loop-r
-invariant-loop owners lefts rights count heads left-nexts right-nexts disc₀ stack₀ parents₀ nexts₀ lows₀ marks₀ end time₀ r₀ disc stack parents nexts lows marks time
-    r = (r ≤ end) × (end ≡ count) × Between count (length heads) owners lefts rights disc stack parents nexts lows marks r time
+invariant-loop owners lefts rights count heads left-nexts right-nexts disc₀ stack₀ parents₀ nexts₀ lows₀ marks₀ end time₀ r₀ disc stack parents nexts lows marks
+    time r = (r ≤ end) × (end ≡ count) × Between count (length heads) owners lefts rights disc stack parents nexts lows marks r time
 
 abbrev decreases-loop : tie.decreases-loop-r
-decreases-loop owners lefts rights count heads left-nexts right-nexts disc₀ stack₀ parents₀ nexts₀ lows₀ marks₀ end time₀ r₀ disc stack parents nexts lows marks time
-    r = end - r
+decreases-loop owners lefts rights count heads left-nexts right-nexts disc₀ stack₀ parents₀ nexts₀ lows₀ marks₀ end time₀ r₀ disc stack parents nexts lows marks
+    time r = end - r
 
 -- a turn, and the start from one
 abbrev Turn : Type 0
