@@ -72,7 +72,7 @@ module _ (limits : Limits) (link : Link) (columns : ℕ) where
   abbrev cell_inside : ℕ → Bool
   cell_inside c = inside_both limits link (cell_centre columns c)
 
-  each-inside : {cs : List ℕ} {c : ℕ} → Memᴰ c cs → inside_flat limits link columns cs ≡ true → cell_inside c ≡ true
+  each-inside : {c : ℕ} {cs : List ℕ} → Memᴰ c cs → inside_flat limits link columns cs ≡ true → cell_inside c ≡ true
   unfolding inside_flat
   each-inside (Memᴰ.head {x = x} {xs = xs} e) h = rw e (and_parts (cell_inside x) (inside_flat limits link columns xs) h).0
   each-inside (Memᴰ.tail {x = x} {xs = xs} m) h = each-inside m (and_parts (cell_inside x) (inside_flat limits link columns xs) h).1

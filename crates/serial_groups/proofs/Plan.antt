@@ -36,6 +36,7 @@ module _ (limits : Limits) (l : List Item) where
   pub goes-member : {gs : List LinkGroup} → Pairs LinkGroupsDisjoint gs → {a : LinkGroup} → Memᴰ a gs → (i : ℕ) → Memᴰ i a.ranks
       → goes_into limits l gs i ≡ retained limits l a.ranks
   unfolding goes_into
+  goes-member Rattle.order.specs.Pairs.none {a = a} x5 i k = elim x5 [ ]
   goes-member (more f o) {a} (Memᴰ.head e) i k = let h = mem-has i a.ranks k in rw (← e, h)
   goes-member (more {x = b} f o) {a} (Memᴰ.tail m) i k =
       let h = is_false (has i b.ranks) (λ p. f a m i (has-mem i b.ranks p) k) in rw h (goes-member o m i k)

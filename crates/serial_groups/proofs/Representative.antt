@@ -28,6 +28,7 @@ use Rattle.serial_groups.proofs.Wider.{wider}
 
 -- the first of a list that has a member
 first_of : {A : Type 0} (l : List A) (d : A) {x : A} → Memᴰ x l → Memᴰ (get_or l 0 d) l
+first_of {A = A} [] d m = elim m [ ]
 first_of (x ∷ xs) d m = Memᴰ.head refl
 
 -- the first of a list, or another
@@ -45,6 +46,7 @@ nearer-preorder l is = record { total = λ i j. total-order.orders.total (sum i)
 -- the first in the order of the sums has the least, and is the earliest with it
 first-least : (l : List Item) (is m : List ℕ) → Pairs (Stable (nearer l is) (λ i j. i < j)) m → {j : ℕ} → Memᴰ j m →
     (d : ℕ) → (nearer l is (get_or m 0 d) j ≡ true) × (nearer l is j (get_or m 0 d) ≡ true → get_or m 0 d ≤ j)
+first-least l is [] _ {j = j} x3 d = elim x3 [ ]
 first-least l is (x ∷ xs) (more f o) (Memᴰ.head e) d = rw e (le_refl (nearer-preorder l is) x, λ h. omega arith)
 first-least l is (x ∷ xs) (more f o) {j} (Memᴰ.tail k) d = let s = f j k in (s.0, λ h. omega (arith, s.1 h))
 
@@ -59,6 +61,7 @@ module _ (limits : Limits) (l : List Item) where
 
   pub retained-mem : (is : List ℕ) {i : ℕ} → Memᴰ i is → Memᴰ (retained limits l is) is
   unfolding retained
+  retained-mem [] {i = i} m = elim m [ ]
   retained-mem (x ∷ xs) m =
       first-mem (sort (nearer l (x ∷ xs)) (eligible limits l (x ∷ xs))) x {P = λ i. Memᴰ i (x ∷ xs)}
       (λ i k. eligible-mem (x ∷ xs) (perm-mem (Permᴰ.symm (sort-perm (nearer l (x ∷ xs)) (eligible limits l (x ∷ xs)))) k)) (Memᴰ.head refl)

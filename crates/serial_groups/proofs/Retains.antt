@@ -21,6 +21,7 @@ empty-or (x ∷ xs) = inr (x, Memᴰ.head refl)
 
 -- the first of ascending numbers is the least
 first-of-all : (is : List ℕ) (d : ℕ) → Pairs (λ i j. i < j) is → {j : ℕ} → Memᴰ j is → get_or is 0 d ≤ j
+first-of-all [] d _ {j = j} x3 = elim x3 [ ]
 first-of-all (x ∷ xs) d (more f p) (Memᴰ.head e) = omega arith
 first-of-all (x ∷ xs) d (more f p) {j} (Memᴰ.tail m) = let h = f j m in omega arith
 
