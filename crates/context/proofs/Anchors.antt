@@ -40,7 +40,7 @@ module _ (g : Grid) (ls : List ℕ) where
       (λ (e : is_anchored g ls ps r ≡ true). let w = some-anchor ps r e in (w.0, Memᴰ.tail w.1, w.2))
       (or_cases (eqb r (anchor_label p)) (is_anchored g ls ps r) h)
 
-  anchor-some : {ps : List WalkPosition} {p : WalkPosition} (r : ℕ) → Memᴰ p ps → anchor_label p ≡ r → is_anchored g ls ps r ≡ true
+  anchor-some : {p : WalkPosition} {ps : List WalkPosition} (r : ℕ) → Memᴰ p ps → anchor_label p ≡ r → is_anchored g ls ps r ≡ true
   unfolding is_anchored
   anchor-some r (Memᴰ.head {x = q} e) h = let k : eqb r (anchor_label q) ≡ true = eq-eqb r (anchor_label q) (rw (← e) (sym h)) in rw k
   anchor-some r (Memᴰ.tail {x = q} m) h = or_right (eqb r (anchor_label q)) (anchor-some r m h)

@@ -9,7 +9,9 @@ use Rattle.context.specs.Extremes.{least, greatest}
 
 pub least-le : (l : List ℕ) {x : ℕ} → Memᴰ x l → least l ≤ x
 unfolding least
+least-le [] m = elim m [ ]
 least-le (y ∷ []) (Memᴰ.head e) = omega arith
+least-le (y ∷ []) (Memᴰ.tail m) = elim m [ ]
 least-le (y ∷ z ∷ zs) (Memᴰ.head e) = omega arith
 least-le (y ∷ z ∷ zs) (Memᴰ.tail m) = omega (arith, least-le (z ∷ zs) m)
 
@@ -23,6 +25,7 @@ least-mem x (y ∷ ys) = go (least (y ∷ ys)) (least-mem y ys)
 
 pub le-greatest : (l : List ℕ) {x : ℕ} → Memᴰ x l → x ≤ greatest l
 unfolding greatest
+le-greatest [] m = elim m [ ]
 le-greatest (y ∷ ys) (Memᴰ.head e) = omega arith
 le-greatest (y ∷ ys) (Memᴰ.tail m) = omega (arith, le-greatest ys m)
 

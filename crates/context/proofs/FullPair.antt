@@ -18,7 +18,7 @@ in_pairs_lem r (p ∷ ps) h =
     ⊎_elim (λ (e : in_pair r p ≡ true). (p, Memᴰ.head refl, e))
     (λ (e : in_pairs r ps ≡ true). let w = in_pairs_lem r ps e in (w.0, Memᴰ.tail w.1, w.2)) (or_cases (in_pair r p) (in_pairs r ps) h)
 
-pairs-in : (r : ℕ) {ps : List RegionPair} {p : RegionPair} → Memᴰ p ps → in_pair r p ≡ true → in_pairs r ps ≡ true
+pairs-in : (r : ℕ) {p : RegionPair} {ps : List RegionPair} → Memᴰ p ps → in_pair r p ≡ true → in_pairs r ps ≡ true
 unfolding in_pairs
 pairs-in r (Memᴰ.head {x = q} {xs = ps} e) h = let k : in_pair r q ≡ true = rw (← e) h in rw k
 pairs-in r (Memᴰ.tail {x = q} m) h = or_right (in_pair r q) (pairs-in r m h)

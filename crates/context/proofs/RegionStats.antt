@@ -30,9 +30,11 @@ region-cells-iff ls r i = (
 
 -- the least and the greatest of what a function gives are given
 least_at : (f : ℕ → ℕ) (cs : List ℕ) {i : ℕ} → Memᴰ i cs → (j : ℕ) × Memᴰ j cs × (f j ≡ least (map f cs))
+least_at f [] {i = i} m = elim m [ ]
 least_at f (c ∷ cs) m = Memᴰ.of_map f (c ∷ cs) (least-mem (f c) (map f cs))
 
 greatest-at : (f : ℕ → ℕ) (cs : List ℕ) {i : ℕ} → Memᴰ i cs → (j : ℕ) × Memᴰ j cs × (f j ≡ greatest (map f cs))
+greatest-at f [] {i = i} m = elim m [ ]
 greatest-at f (c ∷ cs) m = Memᴰ.of_map f (c ∷ cs) (greatest-mem (f c) (map f cs))
 
 pub elevation-small : (g : Grid) (i : ℕ) → elevation g i < 4

@@ -30,11 +30,10 @@ loop-holds c = (omega arith, omega arith, refl, refl)
 
 add-label-requires : tie.Need-add_label-found-requires invariant-loop decreases-loop
 add-label-requires c κs =
-    let turn = c.before.before in
-    let loop = turn.loop-i in
-    let p = (start_of turn.before).pre in (
+    let loop = c.loop-i in
+    let p = c.requires in (
       p.0.mapped,
-      hit-as c.read_base-b.ensures (p.0.anchors.each loop.i turn.loop-i-test.true),
+      hit-as c.read_base-b.ensures (p.0.anchors.each loop.i c.loop-i-test.true),
       omega (arith, loop.invariant.1, loop.invariant.2, p.1),
     )
 
@@ -50,7 +49,7 @@ returns : tie.Need-returns invariant-loop decreases-loop
 returns c =
     let loop = c.loop-i in
     let start = start_of c.before in
-    all_read {i = loop.i} {count = start.args.count} (omega arith) (omega (arith, loop.invariant.1, loop.invariant.2, start.pre.1)) loop.invariant.3
+    all_read {i = loop.i} {count = start.args.count} (omega arith) (omega (arith, loop.invariant.1, loop.invariant.2, start.requires.1)) loop.invariant.3
 
 pub anchor_labels_spec : {M : Type 1} → statement M
 anchor_labels_spec =
@@ -59,9 +58,9 @@ anchor_labels_spec =
     invariant-loop
     decreases-loop
     loop-holds
-    (λ c. omega (arith, (start_of c.before).pre.0.there))
-    (λ c. omega (arith, (start_of c.before).pre.0.there))
-    (λ c κs. omega (arith, (start_of c.before).pre.0.there))
+    (λ c. omega (arith, (start_of c.before).requires.0.there))
+    (λ c. omega (arith, (start_of c.before).requires.0.there))
+    (λ c κs. omega (arith, (start_of c.before).requires.0.there))
     add-label-requires
     (λ c. search rules)
     (λ c. search rules)
