@@ -13,7 +13,7 @@ with-requires c κs =
     let read = c.before in
     let placed = read.before.before in
     let some = placed.before in
-    let start = some.before.before in (
+    let start = some.before in (
       room-read start.args.cards.now start.args.label start.requires.0 some.if-label-eq0.false placed.place_of-at.ensures read.read_card-s.ensures,
       start.requires.1,
       start.requires.2,

@@ -34,10 +34,10 @@ labels-of s = labels_in s.args.labels.now (length s.args.cells.now)
 
 -- the zeros that the pass starts from
 zeroed : (c : tie.At-loop-i invariant-loop decreases-loop) (height : ℕ) → CardsAfter (map_here (asked c) height) (labels-of (asked c)) (asked c).args.areas 0
-    (asked c).args.cards.now c.clear.new.0
+    (asked c).args.cards.now c.clear.new.cards
 zeroed c height =
     let s = asked c in
-    turn-start (map_here s height) (labels-of s) s.args.areas s.pre.room c.clear.ensures (omega arith)
+    turn-start (map_here s height) (labels-of s) s.args.areas s.requires.room c.clear.ensures (omega arith)
 
 loop-holds : tie.Need-loop-i-init invariant-loop decreases-loop
 loop-holds c =
@@ -57,32 +57,32 @@ column-few : (c : tie.In-loop-i invariant-loop decreases-loop) → c.loop-i.colu
 column-few c =
     let s = asked c.before in
     let l = c.loop-i in
-    omega (arith, (place_of (map_here s 0) l.invariant.1 l.invariant.2).0, column-small l.i s.args.width (omega (arith, on c, s.pre.few)))
+    omega (arith, (place_of (map_here s 0) l.invariant.1 l.invariant.2).0, column-small l.i s.args.width (omega (arith, on c, s.requires.few)))
 
 row-few : (c : tie.In-loop-i invariant-loop decreases-loop) → c.loop-i.row < 1048576
 row-few c =
     let s = asked c.before in
     let l = c.loop-i in
-    omega (arith, (place_of (map_here s 0) l.invariant.1 l.invariant.2).1, row_small l.i s.args.width (omega (arith, on c, s.pre.few)))
+    omega (arith, (place_of (map_here s 0) l.invariant.1 l.invariant.2).1, row_small l.i s.args.width (omega (arith, on c, s.requires.few)))
 
-roomy : (c : tie.At-loop-i invariant-loop decreases-loop) → card_size * (asked c).args.areas ≤ length c.clear.new.0
+roomy : (c : tie.At-loop-i invariant-loop decreases-loop) → card_size * (asked c).args.areas ≤ length c.clear.new.cards
 roomy c = omega (arith, (zeroed c 0).long, (asked c).requires.room)
 
 abbrev cell-of : tie.After-label_of invariant-loop decreases-loop → tie.In-loop-i invariant-loop decreases-loop
 cell-of c = search
 
 most : (c : tie.After-label_of invariant-loop decreases-loop) → c.label_of.result ≤ (asked (cell-of c).before).args.areas
-most c = let turning = cell-of c in omega (arith, c.label_of.ensures, (asked turning.before).pre.each turning.loop-i.i (on turning))
+most c = let turning = cell-of c in omega (arith, c.label_of.ensures, (asked turning.before).requires.each turning.loop-i.i (on turning))
 
 label-of-requires : tie.Need-label_of-requires invariant-loop decreases-loop
-label-of-requires c κs = let turning = c.before in omega (arith, on turning, (asked turning.before).pre.long)
+label-of-requires c κs = let turning = c.before in omega (arith, on turning, (asked turning.before).requires.long)
 
 count-cell-requires : tie.Need-count_cell-requires invariant-loop decreases-loop
 count-cell-requires c κs =
     let label = c.before in
     let turning = cell-of label in
     let s = asked turning.before in (
-      turn-room s.args.labels.now s.pre.few (roomy turning.before) (on turning) (turning.loop-i.inv.3 0) label.label_of.ensures
+      turn-room s.args.labels.now s.requires.few (roomy turning.before) (on turning) (turning.loop-i.invariant.3 0) label.label_of.ensures
           (most label),
       omega (arith, column-few turning),
       omega (arith, row-few turning),
@@ -99,14 +99,14 @@ loop-again c =
     let label = counted.before.before in
     let turning = cell-of label in
     let s = asked turning.before in
-    let inv = turning.loop-i.inv in
+    let inv = turning.loop-i.invariant in
     let here = place_of (map_here s 0) inv.1 inv.2 in
     let next = next_place inv.1 inv.2 c.next_column-column.ensures c.next_row-row.ensures in (
       omega (arith, on turning),
       next.0,
       next.1,
       λ height.
-          turn s.args.labels.now s.pre.few (roomy turning.before) (on turning) (inv.3 height) label.label_of.ensures (most label)
+          turn s.args.labels.now s.requires.few (roomy turning.before) (on turning) (inv.3 height) label.label_of.ensures (most label)
           here.0 here.1 counted.count_cell.ensures,
     )
 
@@ -118,7 +118,7 @@ returns c =
     let l = c.loop-i in
     let s = asked c.before in
     let all : l.i ≡ length s.args.cells.now = omega (arith, l.invariant.0, c.loop-i-test.false) in
-    λ height. turn_end s.args.labels.now s.pre.room all (turn-since (zeroed c.before height) (l.invariant.3 height))
+    λ height. turn_end s.args.labels.now s.requires.room all (turn-since (zeroed c.before height) (l.invariant.3 height))
 
 pub write_cards_spec : {M : Type 1} → statement M
 write_cards_spec =

@@ -26,7 +26,7 @@ loop-again c =
     let read = c.before.before.before in
     let turning = read.before in
     let start : Start = search in (
-      keys-next turning.loop-i.invariant.0 (omega (arith, turning.loop-i-test.true, start.pre.0))
+      keys-next turning.loop-i.invariant.0 (omega (arith, turning.loop-i-test.true, start.requires.0))
           (c.canonical-ends.ensures ∙ ap canonical read.read_span.ensures) c.pack.ensures c.pack-in-loop-i.ensures,
       omega (arith, turning.loop-i-test.true),
     )

@@ -21,7 +21,7 @@ loop-again : tie.Need-loop-i-preserved invariant-loop decreases-loop
 loop-again c =
     let turning = c.before.before in
     let start : Start = search in (
-      ramps-next turning.loop-i.invariant.0 (omega (arith, turning.loop-i-test.true, start.pre.0.few)) c.record_place-place.ensures.0,
+      ramps-next turning.loop-i.invariant.0 (omega (arith, turning.loop-i-test.true, start.requires.0.few)) c.record_place-place.ensures.0,
       omega (arith, turning.loop-i-test.true),
     )
 

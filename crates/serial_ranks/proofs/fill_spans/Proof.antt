@@ -24,7 +24,7 @@ loop-again c =
     let turning : tie.In-loop-i invariant-loop decreases-loop = search in
     let placed : tie.After-record_place-place invariant-loop decreases-loop = search in
     rw c.put_span.ensures (
-      spans-next turning.loop-i.inv.0 (omega (arith, turning.loop-i-test.true, start.pre.0.few)) placed.record_place-place.ensures.0
+      spans-next turning.loop-i.invariant.0 (omega (arith, turning.loop-i-test.true, start.requires.0.few)) placed.record_place-place.ensures.0
           (c.canonical.ensures ∙ ap canonical c.read_span.ensures),
       omega (arith, turning.loop-i-test.true),
     )

@@ -8,17 +8,17 @@ use Rattle.serial_ranks.proofs.record_place.Tie as tie
 mul-result : tie.Need-overflow_mul-result
 mul-result c =
     let start : tie.Start = search in
-    let q = placed start.pre.0 start.args.i start.pre.1 in let e = c.size.ensures.0 in rw e (omega (arith, q.small))
+    let q = placed start.requires.0 start.args.i start.requires.1 in let e = c.size.ensures.0 in rw e (omega (arith, q.small))
 
 add-result : tie.Need-overflow_add-result
 add-result c =
     let start : tie.Start = search in
-    let q = placed start.pre.0 start.args.i start.pre.1 in let e = c.size.ensures.0 in rw e (omega (arith, q.small, q.ends))
+    let q = placed start.requires.0 start.args.i start.requires.1 in let e = c.size.ensures.0 in rw e (omega (arith, q.small, q.ends))
 
 returns : tie.Need-returns
 returns c =
     let start : tie.Start = search in
-    let q = placed start.pre.0 start.args.i start.pre.1 in let e = c.size.ensures.0 in rw e (refl, q.ends)
+    let q = placed start.requires.0 start.args.i start.requires.1 in let e = c.size.ensures.0 in rw e (refl, q.ends)
 
 pub record_place_spec : {M : Type 1} → statement M
 record_place_spec =
