@@ -77,7 +77,8 @@ unfolding accepted component_of count up_from
 anchored-accepted = refl
 
 -- listed the other way round, one of them turned
-corridor-listing : listing (upright_at 16 ∷ item_of 0 (span_of 8 8 8 0) (span_of 8 8 8 0) ∷ []) ≡ item_of 0 (span_of 8 8 8 0) (span_of 8 8 8 0) ∷ upright_at 16 ∷ []
+corridor-listing : listing (upright_at 16 ∷ item_of 0 (span_of 8 8 8 0) (span_of 8 8 8 0) ∷ [])
+    ≡ item_of 0 (span_of 8 8 8 0) (span_of 8 8 8 0) ∷ upright_at 16 ∷ []
 unfolding ends_key sort lex_le
 corridor-listing = refl
 
@@ -124,15 +125,17 @@ retained-middle = refl
 
 -- widths 16 and 8: at most the least and 8; 24 is over
 wide : eligible limits000
-    (item_of 0x4030_0000_0000_0000 (span_of 8 0 8 8) (span_of 8 0 8 8) ∷ upright_at 16 ∷ item_of 0x4038_0000_0000_0000 (span_of 24 0 24 8) (span_of 24 0 24 8) ∷ [])
+    (item_of 0x4030_0000_0000_0000 (span_of 8 0 8 8) (span_of 8 0 8 8)
+    ∷ upright_at 16 ∷ item_of 0x4038_0000_0000_0000 (span_of 24 0 24 8) (span_of 24 0 24 8) ∷ [])
     (0 ∷ 1 ∷ 2 ∷ []) ≡ 0 ∷ 1 ∷ []
 unfolding eligible of_bits add lt le
 wide = refl
 
 -- centres that are √10 ÷ 2, √2 ÷ 2 and 1 ÷ 2 apart: the sum is taken in ascending order, where the order of the links gives another f64
 abbrev uneven : List Item
-uneven = item_of 0 (span_of 0 0 0 0) (span_of 0 0 0 0) ∷ item_of 0 (span_of 0 0 1 3) (span_of 0 0 1 3) ∷ item_of 0 (span_of 1 1 1 3) (span_of 1 1 1 3) ∷ item_of 0
-    (span_of 1 1 2 3) (span_of 1 1 2 3) ∷ []
+uneven =
+    item_of 0 (span_of 0 0 0 0) (span_of 0 0 0 0) ∷ item_of 0 (span_of 0 0 1 3) (span_of 0 0 1 3)
+    ∷ item_of 0 (span_of 1 1 1 3) (span_of 1 1 1 3) ∷ item_of 0 (span_of 1 1 2 3) (span_of 1 1 2 3) ∷ []
 
 ascending : chain_sum uneven (record { ranks = 0 ∷ 1 ∷ 2 ∷ 3 ∷ []; links = link_over 2 0 1 ∷ link_over 3 1 2 ∷ link_over 4 2 3 ∷ [] }) ≡ of_bits binary64
     0x4006_4E53_B70C_FC9C
@@ -156,7 +159,8 @@ exactly-384 : accepted limits000 eight hall []
 unfolding accepted component_of count up_from length_of of_int of_bits to_bits neg add sub mul div lt le
 exactly-384 = refl
 
-over-384 : accepted limits000 eight hall [] (upright_at 8 ∷ upright_at 200 ∷ item_of 0x4020_0000_0000_0000 (span_of 392 0 393 8) (span_of 392 0 393 8) ∷ []) ≡ []
+over-384 : accepted limits000 eight hall []
+    (upright_at 8 ∷ upright_at 200 ∷ item_of 0x4020_0000_0000_0000 (span_of 392 0 393 8) (span_of 392 0 393 8) ∷ []) ≡ []
 unfolding accepted component_of count up_from length_of of_int of_bits to_bits neg add sub mul div lt le
 over-384 = refl
 
@@ -201,7 +205,9 @@ flat-two = refl
 -- centres in line, one and three steps of (8, 8) pixels apart: as f64s the ends are further apart than the sum, so with the sum as the limit the sum passes and
 -- the ends don't
 abbrev aslant : List Item
-aslant = item_of 0 (span_of 0 8 8 0) (span_of 0 8 8 0) ∷ item_of 0 (span_of 8 16 16 8) (span_of 8 16 16 8) ∷ item_of 0 (span_of 32 40 40 32) (span_of 32 40 40 32) ∷ []
+aslant =
+    item_of 0 (span_of 0 8 8 0) (span_of 0 8 8 0) ∷ item_of 0 (span_of 8 16 16 8) (span_of 8 16 16 8)
+    ∷ item_of 0 (span_of 32 40 40 32) (span_of 32 40 40 32) ∷ []
 
 abbrev in_line : LinkGroup
 in_line = record { ranks = 0 ∷ 1 ∷ 2 ∷ []; links = link_over 2 0 1 ∷ link_over 3 1 2 ∷ [] }

@@ -18,4 +18,5 @@ values_same p q a b s t members = (refl, refl, refl, refl)
 -- the sum of a member's distances is the total of their lengths, in their order
 pub distance-total-is : (s : Span) (members : List Span) → distance_total s members ≡ total_of (map (centre_length s) members)
 unfolding distance_sum
-distance-total-is s members = λ i. record { value = ap sum_of (sym (map-map length_value (centre_length s) members)) i; exact = (distance_total s members).exact }
+distance-total-is s members =
+    λ i. record { value = ap sum_of (sym (map-map length_value (centre_length s) members)) i; exact = (distance_total s members).exact }

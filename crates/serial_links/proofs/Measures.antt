@@ -12,12 +12,14 @@ module _ (limits : Limits) (l : LinkHeld) where
   unfolding measured_in
   no_cell_lem e = rw e
 
-  pub within_both : {t u : Float} → l.seen ≡ true → t ≡ transverse_envelope (link_held l) (extremes_in l) → u ≡ longitudinal_envelope (link_held l) (extremes_in l)
+  pub within_both : {t u : Float} → l.seen ≡ true → t ≡ transverse_envelope (link_held l) (extremes_in l)
+      → u ≡ longitudinal_envelope (link_held l) (extremes_in l)
       → (le t (transverse_limit limits (link_held l)) && le u (longitudinal_limit limits (link_held l))) ≡ true → within t u ≡ measured_in limits l
   unfolding measured_in judged
   within_both e p q h = let k = rw (p, q) at h in rw (p, q, e, k)
 
-  pub beyond-one : {t u : Float} → l.seen ≡ true → t ≡ transverse_envelope (link_held l) (extremes_in l) → u ≡ longitudinal_envelope (link_held l) (extremes_in l)
+  pub beyond-one : {t u : Float} → l.seen ≡ true → t ≡ transverse_envelope (link_held l) (extremes_in l)
+      → u ≡ longitudinal_envelope (link_held l) (extremes_in l)
       → (le t (transverse_limit limits (link_held l)) && le u (longitudinal_limit limits (link_held l))) ≡ false → beyond t u ≡ measured_in limits l
   unfolding measured_in judged
   beyond-one e p q h = let k = rw (p, q) at h in rw (p, q, e, k)

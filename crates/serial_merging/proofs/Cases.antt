@@ -71,14 +71,14 @@ corridor_kept = record {
 } ∷ []
 
 corridor-kept : kept_of first_two (reduce_run corridor) ≡ corridor_kept
-unfolding kept_of groups_of all_groups kept slot consolidated consolidate members_of observed or_itself copies_of canon canon_observation canonical pos_le ends_key
-    span_key
+unfolding kept_of groups_of all_groups kept slot consolidated consolidate members_of observed or_itself copies_of canon canon_observation canonical pos_le
+    ends_key span_key
     source_key sources_key observation_key total_key sort insert sort_once include lex_le gather up_from has
 corridor-kept = refl
 
 relisted-kept : kept_of first_two (reduce_run relisted) ≡ corridor_kept
-unfolding kept_of groups_of all_groups kept slot consolidated consolidate members_of observed or_itself copies_of canon canon_observation canonical pos_le ends_key
-    span_key
+unfolding kept_of groups_of all_groups kept slot consolidated consolidate members_of observed or_itself copies_of canon canon_observation canonical pos_le
+    ends_key span_key
     source_key sources_key observation_key total_key sort insert sort_once include lex_le gather up_from has
 relisted-kept = refl
 
@@ -94,10 +94,10 @@ wide ends bits = record { ends = ends; bits = bits; ramp = no_ramp; sources = []
 abbrev none : List Item → Groups
 none items = no_groups
 
-equal-ends : kept_of none (reduce_run (wide (span 8 8 8 0) 7 ∷ wide (span 0 0 0 8) 1 ∷ wide (span 8 0 8 8) 2 ∷ [])) ≡ wide (span 0 0 0 8) 1 ∷ wide (span 8 0 8 8)
-    7 ∷ wide (span 8 0 8 8) 2 ∷ []
-unfolding kept_of groups_of all_groups kept slot copies_of canon canon_observation canonical pos_le ends_key span_key source_key sources_key observation_key total_key sort
-    insert sort_once include lex_le gather up_from
+equal-ends : kept_of none (reduce_run (wide (span 8 8 8 0) 7 ∷ wide (span 0 0 0 8) 1 ∷ wide (span 8 0 8 8) 2 ∷ []))
+    ≡ wide (span 0 0 0 8) 1 ∷ wide (span 8 0 8 8) 7 ∷ wide (span 8 0 8 8) 2 ∷ []
+unfolding kept_of groups_of all_groups kept slot copies_of canon canon_observation canonical pos_le ends_key span_key source_key sources_key observation_key
+    total_key sort insert sort_once include lex_le gather up_from
 equal-ends = refl
 
 -- Observations alike in ends: −1 before 1, those of one width by their sources, sorted and each once; equal ones all stay.
@@ -125,8 +125,8 @@ two_pairs items = record { serial = record { ranks = 0 ∷ 3 ∷ []; retained = 
 
 two-groups : map (λ (b : Boundary). b.bits)
     (kept_of two_pairs (reduce_run (wide (span 0 0 0 8) 1 ∷ wide (span 1 0 1 8) 2 ∷ wide (span 2 0 2 8) 3 ∷ wide (span 3 0 3 8) 4 ∷ []))) ≡ 2 ∷ 4 ∷ []
-unfolding kept_of groups_of all_groups kept slot consolidated consolidate copies_of canon canon_observation canonical pos_le ends_key span_key sort insert lex_le gather
-    up_from has
+unfolding kept_of groups_of all_groups kept slot consolidated consolidate copies_of canon canon_observation canonical pos_le ends_key span_key sort insert
+    lex_le gather up_from has
 two-groups = refl
 
 -- Three boundaries with equal ends, the first and the last merged into the last: what is kept follows the rules, and the list that has the merged one
@@ -144,6 +144,7 @@ outer-well = record { good = λ g m. good g (Memᴰ.eq_of_singleton m); apart = 
     below : (i : ℕ) → Memᴰ i (0 ∷ 2 ∷ []) → i < 3
     below i (Memᴰ.head e) = omega arith
     below i (Memᴰ.tail (Memᴰ.head e)) = omega arith
+    below i (Memᴰ.tail (Memᴰ.tail m)) = elim m [ ]
 
     later : (j : ℕ) → Memᴰ j (2 ∷ []) → 0 < j
     later j m = let e : j ≡ 2 = Memᴰ.eq_of_singleton m in omega arith

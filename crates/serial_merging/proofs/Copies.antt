@@ -84,7 +84,8 @@ copied-fixed b o m = let r = copied-observation b o m in rw (← r.2) (observati
 pub sorted-again : (l : List Observation) → ((o : Observation) → Memᴰ o l → canon_observation o ≡ o)
     → sorted_observations (map canon_observation (sorted_observations l)) ≡ sorted_observations l
 sorted-again l f =
-    ap sorted_observations (map-ext canon_observation (λ o. o) (sorted_observations l) (λ o m. f o (perm-mem (Permᴰ.symm (sort-perm (by_key observation_key) l)) m))
+    ap sorted_observations (map-ext canon_observation (λ o. o) (sorted_observations l)
+    (λ o m. f o (perm-mem (Permᴰ.symm (sort-perm (by_key observation_key) l)) m))
     ∙ map-id (sorted_observations l))
     ∙ sort-idem observation-order.orders l
 

@@ -53,6 +53,7 @@ module _ (copies : List Boundary) where
     one-retained : (l : List ℕ) → Pairs (λ i j. i < j) l → has g.retained g.ranks ≡ true → Memᴰ g.retained l
         → Permᴰ (gather pick l) (c ∷ gather f (others l))
     unfolding gather keep pick others
+    one-retained [] _ e x4 = elim x4 [ ]
     one-retained (i ∷ is) (more h t) e (Memᴰ.head k) =
         let q : eqb i g.retained ≡ true = eq-eqb i g.retained (sym k) in
         let r : has i g.ranks ≡ true = rw (sym k) e in

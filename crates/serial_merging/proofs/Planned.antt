@@ -32,11 +32,12 @@ goes_other (g ∷ gs) i h = let p = or_parts (has i g.ranks) (in_any gs i) h in 
 
 pub goes-member : {gs : List Group} → Pairs Disjoint gs → {a : Group} → Memᴰ a gs → (i : ℕ) → Memᴰ i a.ranks → goes gs i ≡ a.retained
 unfolding goes
+goes-member none {a = a} x5 i k = elim x5 [ ]
 goes-member (more f o) {a} (Memᴰ.head e) i k = let h = mem-has i a.ranks k in rw (← e, h)
 goes-member (more {x = b} f o) {a} (Memᴰ.tail m) i k = let h = is_false (has i b.ranks) (λ p. f a m i (has-mem i b.ranks p) k) in
     rw h (goes-member o m i k)
 
-pub group-in : {gs : List Group} {a : Group} → Memᴰ a gs → (i : ℕ) → Memᴰ i a.ranks → in_any gs i ≡ true
+pub group-in : {a : Group} {gs : List Group} → Memᴰ a gs → (i : ℕ) → Memᴰ i a.ranks → in_any gs i ≡ true
 unfolding in_any
 group-in {a = a} (Memᴰ.head e) i k = let h = mem-has i a.ranks k in rw (← e, h)
 group-in (Memᴰ.tail {x = b} m) i k = or_right (has i b.ranks) (group-in m i k)
@@ -44,6 +45,7 @@ group-in (Memᴰ.tail {x = b} m) i k = or_right (has i b.ranks) (group-in m i k)
 -- Two of the groups that share a rank are one.
 one-group : {gs : List Group} → Pairs Disjoint gs → {b c : Group} → Memᴰ b gs → Memᴰ c gs → (i : ℕ) → Memᴰ i b.ranks → Memᴰ i c.ranks
     → b ≡ c
+one-group none {b = b} {c = c} x10 _ i x y = elim x10 [ ]
 one-group (more h o) (Memᴰ.head p) (Memᴰ.head q) i x y = p ∙ sym q
 one-group (more h o) {b} {c} (Memᴰ.head p) (Memᴰ.tail q) i x y = absurd (h c q i (rw (← p) x) y)
 one-group (more h o) {b} {c} (Memᴰ.tail p) (Memᴰ.head q) i x y = absurd (h b p i (rw (← q) y) x)
@@ -61,6 +63,7 @@ module _ (copies : List Boundary) where
   slot-member : {gs : List Group} → Pairs Disjoint gs → Mine gs → {a : Group} → Memᴰ a gs → (i : ℕ) → Memᴰ i a.ranks
       → slot copies gs i ≡ cond (eqb i a.retained) (consolidated copies a ∷ []) []
   unfolding slot
+  slot-member none mine {a = a} x7 i k = elim x7 [ ]
   slot-member (more f o) mine {a} (Memᴰ.head e) i k = let h = mem-has i a.ranks k in rw (← e, h)
   slot-member {gs = gs} (more {x = b} f o) mine {a} (Memᴰ.tail m) i k =
       let h = is_false (has i b.ranks) (λ p. f a m i (has-mem i b.ranks p) k) in

@@ -84,7 +84,8 @@ module _ (q : Boundary → List Source) (copied : (b : Boundary) → SameMembers
           (λ e.
           let b = i.1 in
           mem-gather q (mathlib.Core.List.Memᴰ.append_right (map (consolidated copies) gs)
-          (mathlib.Core.List.Memᴰ.map (copy_at copies) (mem-keep (λ j. not (in_any gs j)) (mem_up 0 (length copies) i.0 (omega arith) (omega arith)) (ap not e)))) n),
+          (mathlib.Core.List.Memᴰ.map (copy_at copies)
+          (mem-keep (λ j. not (in_any gs j)) (mem_up 0 (length copies) i.0 (omega arith) (omega arith)) (ap not e)))) n),
     )
 
 abbrev own : Boundary → List Source

@@ -28,7 +28,8 @@ unfolding every is_square
 marks = refl
 
 -- two lengths, and the list of the two
-plus-two : (length_plus (length_at 100) (length_at 2) ≡ total_of (length_at 100 ∷ length_at 2 ∷ [])) × ((length_plus (length_at 100) (length_at 2)).exact ≡ false)
+plus-two : (length_plus (length_at 100) (length_at 2) ≡ total_of (length_at 100 ∷ length_at 2 ∷ []))
+    × ((length_plus (length_at 100) (length_at 2)).exact ≡ false)
 unfolding every is_square sum_of added_to
 plus-two = (refl, refl)
 

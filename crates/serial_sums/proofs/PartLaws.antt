@@ -98,7 +98,8 @@ module _ (term : ℕ → Length) where
       whole : map term (up_from 0 j) ++ (x ∷ []) ≡ map term (up_from 0 (j + 1))
       whole =
           ap (λ (y : Length). map term (up_from 0 j) ++ (y ∷ [])) (e ∙ (let z : j ≡ 0 + j = omega arith in ap term z))
-          ∙ (sym (map-append term (up_from 0 j) ((0 + j) ∷ [])) ∙ (ap (map term) (sym (up-last 0 j)) ∙ ap (λ (k : ℕ). map term (up_from 0 k)) (sym (add-one j))))
+          ∙ (sym (map-append term (up_from 0 j) ((0 + j) ∷ []))
+          ∙ (ap (map term) (sym (up-last 0 j)) ∙ ap (λ (k : ℕ). map term (up_from 0 k)) (sym (add-one j))))
 
 -- bits without the sign are in the order of the numbers
 abbrev half : ℕ
@@ -136,7 +137,8 @@ module _ (xs : List Float) (plain : (x : Float) → Memᴰ x xs → PartValue x)
       ∙ (map-map (of_bits binary64) (to_bits binary64) sorted
       ∙ (map-ext (λ x. of_bits binary64 (to_bits binary64 x)) (λ x. x) sorted (λ x m. of_bits-to_bits binary64 x (sorted-plain x m).held)
       ∙ (map-id sorted
-      ∙ sort-ext by_bits no_later xs (λ x y m n. sym (plain-order (to_bits binary64 x) (to_bits binary64 y) (plain-bits (plain x m)) (plain-bits (plain y n)))))))
+      ∙ sort-ext by_bits no_later xs
+      (λ x y m n. sym (plain-order (to_bits binary64 x) (to_bits binary64 y) (plain-bits (plain x m)) (plain-bits (plain y n)))))))
 
   each_number : (b : ℕ) → Memᴰ b (sort leb (map (to_bits binary64) xs)) → T (not (nan_bits binary64 b))
   each_number b m =

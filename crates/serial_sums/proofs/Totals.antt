@@ -151,7 +151,8 @@ module _ (ds : List ℕ) (few : length ds ≤ 16) (on-map : (d : ℕ) → Memᴰ
       same : root_sum ds ≡ root_sum (sort sooner ds)
       same = sum-perm (Permᴰ.map whole_root (sort-perm sooner ds))
 
-      whole : HasValue (sum_of (map length_of (sort sooner ds))) false (root_sum (sort sooner ds)) 2 × T (fits binary64 (sum_of (map length_of (sort sooner ds))))
+      whole : HasValue (sum_of (map length_of (sort sooner ds))) false (root_sum (sort sooner ds)) 2
+          × T (fits binary64 (sum_of (map length_of (sort sooner ds))))
       whole = sum-half (sort sooner ds) ranked (omega (arith, root-sum-most (sort sooner ds) ranked, sort-length sooner ds))
 
       valued : HasValue total.value false (root_sum ds) 2
