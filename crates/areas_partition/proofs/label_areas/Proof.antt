@@ -11,7 +11,7 @@ write-dues-requires : tie.Need-write_dues-requires
 write-dues-requires c κs =
     let marked-spans : tie.After-mark_spans = search in
     let start : tie.Start = search in
-    let p = start.pre in
+    let p = start.requires in
     let g = map_of start.args.width start.args.height start.args.cells.now in
     let opened = marked-open _ g _ _ _ p.room (omega arith) marked-spans.mark_spans.ensures in
     (omega (arith, opened.long, p.room), omega (arith, p.whole, few-cells p.sides, p.sides.wide))
@@ -21,7 +21,7 @@ components-requires c κs =
     let dues-written : tie.After-write_dues = search in
     let marked-spans : tie.After-mark_spans = search in
     let start : tie.Start = search in
-    let p = start.pre in
+    let p = start.requires in
     let g = map_of start.args.width start.args.height start.args.cells.now in
     let opened = marked-open _ g _ _ _ p.room (omega arith) marked-spans.mark_spans.ensures in
     let due = dues-written.write_dues.ensures in
@@ -36,7 +36,7 @@ returns c =
     let dues-written : tie.After-write_dues = search in
     let marked-spans : tie.After-mark_spans = search in
     let start : tie.Start = search in
-    let p = start.pre in
+    let p = start.requires in
     let g = map_of start.args.width start.args.height start.args.cells.now in
     let opened = marked-open _ g _ _ _ p.room (omega arith) marked-spans.mark_spans.ensures in
     let due = dues-written.write_dues.ensures in
