@@ -23,7 +23,7 @@ use Rattle.graph.specs.Labels.{labels, label_count}
 use Rattle.graph.proofs.Paths.{path-same}
 use Rattle.graph.proofs.LabelList.{labels-edges, label_count-ext}
 use Rattle.grid.specs.Cells.{Grid, size, walkable, row_of}
-use Rattle.grid.specs.Directions.{IsDirection, right}
+use Rattle.grid.specs.Directions.{IsDirection}
 use Rattle.grid.specs.Steps.{neighbour, has_step, leads_on, StepBy, Step, step_of, steps}
 use Rattle.grid.proofs.Index.{walkable-on, index-split}
 use Rattle.grid.proofs.Steps.{leads-means, has-step, step-has}

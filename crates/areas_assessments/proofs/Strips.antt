@@ -9,7 +9,6 @@ use Prim.Native.Nat.{ℕ, ◌+◌, ◌*◌, ◌-◌, ◌≤◌, ◌<◌}
 use native.Mathlib.Omega.{arith}
 use native.Mathlib.Nat.{mul-le-mul_right}
 use native.Mathlib.Decide.{dec_lt, dec_le}
-use lib.ListN.{length}
 use Rattle.order.specs.Lists.{up_from, has}
 use Rattle.order.specs.Pairs.{none, more, Distinct}
 use Rattle.order.proofs.Bools.{by-test, and_parts, and_both}
@@ -24,7 +23,7 @@ use Rattle.position.specs.Order.{pos_le}
 use Rattle.position.specs.declared.Span.{Span}
 use Rattle.graph.specs.Path.{Edge}
 use Rattle.grid.specs.Cells.{Grid, Whole, column_of, row_of}
-use Rattle.grid.specs.Directions.{right, directions_of}
+use Rattle.grid.specs.Directions.{directions_of}
 use Rattle.grid.specs.Steps.{neighbour, column_to, row_to, has_step, Step, StepBy, step_of}
 use Rattle.grid.proofs.Index.{index-split, column-in, walkable-on}
 use Rattle.grid.proofs.Steps.{Leads, leads-means, has-step, step-has, neighbour-one}

@@ -3,7 +3,7 @@ use mathlib.Core.Path.{◌≡◌, refl, sym, ◌∙◌, ap, subst}
 use mathlib.Core.Logic.{by_cases}
 use mathlib.Core.Bool.{Bool, true, false, not, ◌&&◌}
 use mathlib.Core.List.{List, [], ◌∷◌, ◌++◌}
-use Prim.Native.Nat.{ℕ, zero, suc, ◌+◌, ◌*◌, ◌-◌, ◌/◌, ◌%◌, ◌<◌, ◌≤◌}
+use Prim.Native.Nat.{ℕ, suc, ◌+◌, ◌*◌, ◌-◌, ◌%◌, ◌<◌, ◌≤◌}
 use native.Mathlib.Omega.{arith}
 use native.Mathlib.Numerals.{add-one}
 use native.Mathlib.Decide.{ℕ_discrete}
@@ -13,7 +13,7 @@ use lib.ListN.{length, get_or, set, length-set, get_or-eq_default}
 use Rattle.lists.specs.Rows.{rows}
 use Rattle.lists.proofs.Rows.{length-rows, rows_last}
 use Rattle.wire.specs.Bytes.{part, splice}
-use Rattle.wire.proofs.Parts.{length_part, part_at, length-splice, set-splice, splice-none, splice-before, splice-splice}
+use Rattle.wire.proofs.Parts.{length_part, part_at, set-splice, splice-none, splice-before, splice-splice}
 use Rattle.areas.specs.Open.{bit_of, bit_at}
 use Rattle.areas_components.specs.Dues.{left_due, below_due, right_due, due_of, byte_in, before_in, due_byte, dues, DueTo}
 use Rattle.areas_components.proofs.StepLaws.{first_bit}

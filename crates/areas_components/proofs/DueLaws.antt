@@ -3,8 +3,8 @@ use mathlib.Core.Path.{◌≡◌, refl, sym, ◌∙◌, ap, subst}
 use mathlib.Core.Logic.{⊎_elim, ◌↔◌, by_cases}
 use mathlib.Core.Bool.{Bool, true, false, not, ◌&&◌}
 use mathlib.Core.List.Memᴰ
-use mathlib.Core.List.{List, [], ◌∷◌, ◌++◌, Memᴰ}
-use Prim.Native.Nat.{ℕ, zero, suc, ◌+◌, ◌*◌, ◌-◌, ◌/◌, ◌%◌, ◌<◌}
+use mathlib.Core.List.{List, ◌++◌, Memᴰ}
+use Prim.Native.Nat.{ℕ, zero, suc, ◌+◌, ◌*◌, ◌/◌, ◌%◌, ◌<◌}
 use native.Mathlib.Omega.{arith}
 use native.Mathlib.Decide.{dec_lt}
 use borrow.Author.Tests.{eqb-true}
@@ -16,7 +16,7 @@ use Rattle.graph.specs.Path.{Edge, Path}
 use Rattle.graph.proofs.Paths.{path-trans, path-sym, path-edge, path-between, path-through, path-more}
 use Rattle.grid.specs.Steps.{step_of}
 use Rattle.areas.specs.Open.{later, bit_at, bit_of, named}
-use Rattle.areas.proofs.Named.{Names, named-names, names-named}
+use Rattle.areas.proofs.Named.{named-names, names-named}
 use Rattle.areas_components.specs.Dues.{left_due, below_due, right_due, due_of, byte_in, before_in, due_byte, dues, runs}
 use Rattle.areas_components.proofs.StepLaws.{to-right, to-left, to_below, to_last}
 

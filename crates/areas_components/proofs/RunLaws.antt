@@ -7,12 +7,11 @@ use Prim.Native.Nat.{ℕ, zero, suc, ◌+◌, ◌*◌, ◌%◌, ◌<◌, ◌≤�
 use native.Mathlib.Omega.{arith}
 use native.Mathlib.Numerals.{add-one}
 use native.Mathlib.Decide.{ℕ_discrete}
-use borrow.Author.Tests.{eqb-true}
 use lib.Dec.{eqb}
 use lib.ListN.{length, get_or}
-use Rattle.order.proofs.Bools.{clash, by-test}
+use Rattle.order.proofs.Bools.{by-test}
 use Rattle.wire.specs.Bytes.{part, splice, u32_bytes}
-use Rattle.wire.proofs.Parts.{part_at, length_part}
+use Rattle.wire.proofs.Parts.{part_at}
 use Rattle.graph.specs.Path.{Edge, Path, here}
 use Rattle.graph.specs.Parts as parts
 use Rattle.graph.proofs.Paths.{path-trans, path-kept, path-between, path-edge}
@@ -20,7 +19,7 @@ use Rattle.graph.proofs.Parts.{part_same, part-le, part-path}
 use Rattle.grid.specs.Steps.{step_of}
 use Rattle.areas.specs.Open.{later, bit_at, named}
 use Rattle.areas.specs.Words.{word}
-use Rattle.areas.proofs.Named.{Names, named-names, names-named}
+use Rattle.areas.proofs.Named.{named-names, names-named}
 use Rattle.areas_components.specs.Dues.{byte_in, runs, run_start}
 use Rattle.areas_components.specs.Forests.{Forest, Kept}
 use Rattle.areas_components.proofs.WordLaws.{kept-none, kept_trans, put-kept, put-upd, put_other}
