@@ -109,7 +109,8 @@ near-line l lm u um x pm r s lu lx xu h i some a b c d =
 
 -- what is as near as that is in the ranges of the strip
 in-ranges : (l lm u um size sizem c cm : ℕ) → c < size → cm < sizem → (l ≤ 8 * c + 4 + 8) × (8 * c + 4 ≤ u + 8) →
-    (line_at l lm u um (clamp (8 * c + 4) l u) ≤ 8 * cm + 4 + 16) × (8 * cm + 4 ≤ line_at l lm u um (clamp (8 * c + 4) l u) + 16) → Near l lm u um size sizem c cm
+    (line_at l lm u um (clamp (8 * c + 4) l u) ≤ 8 * cm + 4 + 16) × (8 * cm + 4 ≤ line_at l lm u um (clamp (8 * c + 4) l u) + 16) →
+    Near l lm u um size sizem c cm
 unfolding axis_range minor_range
 in-ranges l lm u um size sizem c cm cs cms e f = record { along = omega arith; beside = omega arith }
 

@@ -61,7 +61,8 @@ unfolding meets
 found-meets a b c d (across e f) = rw (apart-opposite a b c d e, apart-opposite c d a b f)
 found-meets a b c d (at_c o) = or_right (opposite a b c d && opposite c d a b) (rw ((on-iff a b c).1 o))
 found-meets a b c d (at-d o) =
-    let e : on_segment a b c || on_segment a b d ≡ true = or_right (on_segment a b c) ((on-iff a b d).1 o) in or_right (opposite a b c d && opposite c d a b) (rw e)
+    let e : on_segment a b c || on_segment a b d ≡ true = or_right (on_segment a b c) ((on-iff a b d).1 o) in
+    or_right (opposite a b c d && opposite c d a b) (rw e)
 found-meets a b c d (at_a o) = or_right (opposite a b c d && opposite c d a b) (or_right (on_segment a b c || on_segment a b d) (rw ((on-iff c d a).1 o)))
 found-meets a b c d (at_b o) =
     or_right (opposite a b c d && opposite c d a b) (or_right (on_segment a b c || on_segment a b d) (or_right (on_segment c d a) ((on-iff c d b).1 o)))
@@ -95,7 +96,8 @@ signs u t p m q n hu ht e =
     by_cases (dec_lt m p) (λ h. inl
     (h, by_cases (dec_lt q n) (λ k. k) (λ k. absurd (omega (arith, mul-le-mul_left u h, mul-le-mul_left {m = n} {n = q} t (omega arith)))))) λ h.
     by_cases (dec_lt p m)
-    (λ g. inr (inl (by_cases (dec_lt n q) (λ k. k) (λ k. absurd (omega (arith, mul-le-mul_left u g, mul-le-mul_left {m = q} {n = n} t (omega arith)))), g))) λ g.
+    (λ g. inr
+    (inl (by_cases (dec_lt n q) (λ k. k) (λ k. absurd (omega (arith, mul-le-mul_left u g, mul-le-mul_left {m = q} {n = n} t (omega arith)))), g))) λ g.
     let z : p ≡ m = omega arith in
     inr (inr (z, eq_of_mul-eq-mul_left t ht q n (omega (arith, ap (λ k. u * k) z))))
 

@@ -38,8 +38,10 @@ module _ (d : List RegionPair) where
   own-owned i [] k r l o m = absurd (omega arith)
   own-owned i (ps ∷ rest) zero r l o m =
       let e : r.owner ≡ i = omega arith in
-      mathlib.Core.List.Memᴰ.append_left (owned (suc i) rest) (subst (λ (k : ℕ). Memᴰ r (map (record_of k) ps)) e (mathlib.Core.List.Memᴰ.map (record_of r.owner) m))
-  own-owned i (ps ∷ rest) (suc k) r l o m = mathlib.Core.List.Memᴰ.append_right (map (record_of i) ps) (own-owned (suc i) rest k r (omega arith) (omega arith) m)
+      mathlib.Core.List.Memᴰ.append_left (owned (suc i) rest)
+      (subst (λ (k : ℕ). Memᴰ r (map (record_of k) ps)) e (mathlib.Core.List.Memᴰ.map (record_of r.owner) m))
+  own-owned i (ps ∷ rest) (suc k) r l o m =
+      mathlib.Core.List.Memᴰ.append_right (map (record_of i) ps) (own-owned (suc i) rest k r (omega arith) (omega arith) m)
 
 -- they stand in the order of their owners
 owned-rising : (i : ℕ) (pss : List (List RegionPair)) → Pairs (λ (r s : Record). r.owner ≤ s.owner) (owned i pss)

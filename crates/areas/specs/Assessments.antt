@@ -42,7 +42,8 @@ module _ (ls : List ℕ) where
   -- of the steps that a span removes, by the labels of the cells
   unfoldable pub assessment : List Edge → Assessment
   unfolding keep sort_once lex_le
-  assessment es = record { removed = length es; separated = length (keep is_separated es); pairs = sort_once_by pair_key (map label_pair (keep is_separated es)) }
+  assessment es =
+      record { removed = length es; separated = length (keep is_separated es); pairs = sort_once_by pair_key (map label_pair (keep is_separated es)) }
 
 -- the meaning of a pair: some step of es has ends of different labels, and those make the pair
 pub record PairOf (ls : List ℕ) (es : List Edge) (p : RegionPair) : Type 0 where

@@ -169,7 +169,8 @@ zero-arrays most h =
     record { removed-are = k; separated-are = k; owners-are = e; lefts-are = e; rights-are = e; few = h }
 
 -- one span of several on a map
-pub span-on : {w h : ℕ} {cs labels ends : List ℕ} {n i : ℕ} {s : Span} → SpansOnMap w h cs labels ends n → i < n → s ≡ span_in ends i → SpanOnMap w h cs labels s
+pub span-on : {w h : ℕ} {cs labels ends : List ℕ} {n i : ℕ} {s : Span} → SpansOnMap w h cs labels ends n → i < n → s ≡ span_in ends i →
+    SpanOnMap w h cs labels s
 span-on {w} {h} {cs} {labels} m l e =
     subst (λ (z : Span). SpanOnMap w h cs labels z) (sym e) (record { sides = m.sides; whole = m.whole; labelled = m.labelled; span = m.spans.each _ l })
 

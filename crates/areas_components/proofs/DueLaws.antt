@@ -110,7 +110,8 @@ module _ (width : ℕ) (bytes : List ℕ) where
 
   due-path : (i k : ℕ) → k < 4 → i < length bytes → bit_at (due_byte width bytes i) k ≡ true → Path enough i (i + later width k)
   due-path i k l m h =
-      path-edge (step_of i (i + later width k)) (Memᴰ.append_left (named width (runs bytes)) (names-named width (dues width bytes) (step_of i (i + later width k))
+      path-edge (step_of i (i + later width k))
+      (Memᴰ.append_left (named width (runs bytes)) (names-named width (dues width bytes) (step_of i (i + later width k))
       (record { cell = i; bit = k; below = omega (arith, dues-long); small = l; is_set = ap (λ (x : ℕ). bit_at x k) (due-at i m) ∙ h; edge = refl })))
 
   run-path : (i : ℕ) → bit_at (byte_in bytes i) 0 ≡ true → Path enough i (i + later width 0)

@@ -25,7 +25,8 @@ edge_at width i k = step_of i (i + later width k)
 unfoldable pub added_from : ℕ → ℕ → ℕ → List Edge → List Edge
 unfolding later
 added_from width b i es =
-    added (bit_at b 3) (edge_at width i 3) (added (bit_at b 2) (edge_at width i 2) (added (bit_at b 1) (edge_at width i 1) (added (bit_at b 0) (edge_at width i 0) es)))
+    added (bit_at b 3) (edge_at width i 3) (added (bit_at b 2) (edge_at width i 2)
+    (added (bit_at b 1) (edge_at width i 1) (added (bit_at b 0) (edge_at width i 0) es)))
 
 -- the edges with those that the first i bytes name, the newest first
 unfoldable pub joined_to : ℕ → List ℕ → List Edge → ℕ → List Edge

@@ -109,7 +109,8 @@ module _ {g : Grid} {w h : ℕ} (m : MapOf w h g) (sides : Sides w h) (s : Span)
   in-axis : (i : ℕ) → InStrip g s i → ((strip_axis w h s).first ≤ major_of g s i) × (major_of g s i ≤ (strip_axis w h s).last)
   in-axis i z = subst₂ (λ (a b : ℕ). InRange (strip_axis a b s) (major_of g s i)) m.columns m.rows (in_within g s i z).along
 
-  in-minor : (i : ℕ) → InStrip g s i → ((strip_minor w h s (major_of g s i)).first ≤ minor_of g s i) × (minor_of g s i ≤ (strip_minor w h s (major_of g s i)).last)
+  in-minor : (i : ℕ) → InStrip g s i →
+      ((strip_minor w h s (major_of g s i)).first ≤ minor_of g s i) × (minor_of g s i ≤ (strip_minor w h s (major_of g s i)).last)
   in-minor i z = subst₂ (λ (a b : ℕ). InRange (strip_minor a b s (major_of g s i)) (minor_of g s i)) m.columns m.rows (in_within g s i z).beside
 
   pub before-axis : (i : ℕ) → rank g s i < (strip_axis w h s).first * 1024 → InStrip g s i → ⊥

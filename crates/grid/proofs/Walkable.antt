@@ -20,7 +20,8 @@ module _ (g : Grid) (cs : List ℕ) (same : (i : ℕ) → walkable (with_cells g
   unfolding steps_from
   same_from dirs i =
       ap (map (λ d. step_of i (neighbour g i d)))
-      (keep-ext (λ d. has_step (with_cells g cs) i d && ltb i (neighbour g i d)) (λ d. has_step g i d && ltb i (neighbour g i d)) dirs (λ d m. rw (same_step i d)))
+      (keep-ext (λ d. has_step (with_cells g cs) i d && ltb i (neighbour g i d)) (λ d. has_step g i d && ltb i (neighbour g i d)) dirs
+      (λ d m. rw (same_step i d)))
 
   pub same-steps : (dirs : List ℕ) → length cs ≡ size g → steps dirs (with_cells g cs) ≡ steps dirs g
   unfolding steps

@@ -13,13 +13,15 @@ use Rattle.areas_assessments.proofs.spans.assess_spans.Tie as tie
 
 -- what is asked, which no turn changes, and what the first i spans have left
 abbrev invariant-loop : tie.invariant-loop-i
-invariant-loop cells width height directions labels ends count removed₀ separated₀ owners₀ lefts₀ rights₀ most end₀ i₀ removed separated owners lefts rights end i =
+invariant-loop cells width height directions labels ends count removed₀ separated₀ owners₀ lefts₀ rights₀ most end₀ i₀
+    removed separated owners lefts rights end i =
     SpansOnMap width height cells labels ends count × Arrays (length lefts₀) removed₀ separated₀ owners₀ lefts₀ rights₀ × (i ≤ count)
     × Recording (labels_in labels (width * height)) (directions_of directions) (map_of width height cells) ends (length lefts₀) removed separated
     owners lefts rights i end
 
 abbrev decreases-loop : tie.decreases-loop-i
-decreases-loop cells width height directions labels ends count removed₀ separated₀ owners₀ lefts₀ rights₀ most end₀ i₀ removed separated owners lefts rights end i =
+decreases-loop cells width height directions labels ends count removed₀ separated₀ owners₀ lefts₀ rights₀ most end₀ i₀
+    removed separated owners lefts rights end i =
     count - i
 
 loop-holds : tie.Need-loop-i-init invariant-loop decreases-loop
@@ -78,7 +80,7 @@ returns-2 c =
 
 pub assess_spans_spec : {M : Type 1} → statement M
 assess_spans_spec =
-    tie.close (tie.spec invariant-loop decreases-loop loop-holds (λ c κs. search rules) assess-span-requires (search rules) (λ c. search rules) (λ c. search rules)
-    (λ c. search rules) (λ c. search rules) (λ c. search rules) returns (search rules) (search rules) (search rules) (search rules) (search rules)
-    fill-requires (search rules) (search rules) loop-again (λ c. search rules) (λ c. search rules) (λ c. search rules) (λ c. search rules)
+    tie.close (tie.spec invariant-loop decreases-loop loop-holds (λ c κs. search rules) assess-span-requires (search rules) (λ c. search rules)
+    (λ c. search rules) (λ c. search rules) (λ c. search rules) (λ c. search rules) returns (search rules) (search rules) (search rules) (search rules)
+    (search rules) fill-requires (search rules) (search rules) loop-again (λ c. search rules) (λ c. search rules) (λ c. search rules) (λ c. search rules)
     (λ c. search rules) returns-2)

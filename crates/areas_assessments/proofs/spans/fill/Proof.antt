@@ -23,4 +23,5 @@ returns : tie.Need-returns invariant-loop decreases-loop
 returns c = filling-end c.loop-k.invariant c.loop-k-test.false
 
 pub fill_spec : {M : Type 1} → statement M
-fill_spec = tie.close (tie.spec invariant-loop decreases-loop loop-holds (search rules) (search rules) (search rules) (search rules) loop-again same_length returns)
+fill_spec =
+    tie.close (tie.spec invariant-loop decreases-loop loop-holds (search rules) (search rules) (search rules) (search rules) loop-again same_length returns)

@@ -58,4 +58,5 @@ returns c =
 
 pub assess_cell_spec : {M : Type 1} → statement M
 assess_cell_spec =
-    tie.close (tie.spec invariant-loop decreases-loop loop-holds assess-step-requires (search rules) (search rules) loop-again same_length same-length-2 returns)
+    tie.close (tie.spec invariant-loop decreases-loop loop-holds assess-step-requires (search rules) (search rules) loop-again same_length
+    same-length-2 returns)

@@ -35,4 +35,5 @@ returns c =
     (let z : c.loop-i.i ≡ start.args.to = omega arith in z)
 
 pub zero_fill_spec : {M : Type 1} → statement M
-zero_fill_spec = tie.close (tie.spec invariant-loop decreases-loop loop-holds (search rules) (search rules) (search rules) loop-again (λ c. search rules) returns)
+zero_fill_spec =
+    tie.close (tie.spec invariant-loop decreases-loop loop-holds (search rules) (search rules) (search rules) loop-again (λ c. search rules) returns)
