@@ -35,7 +35,7 @@ asked c = start_of c.before.before.before.before.before
 loop-holds : tie.Need-loop-region-init invariant-loop decreases-loop
 loop-holds c =
     let start = start_of c.before.before.before.before in
-    (c.next_region-region.ensures.0, c.next_region-region.ensures.1, collected-start (facts start) start.args.n start.pre.3 256 refl)
+    (c.next_region-region.ensures.0, c.next_region-region.ensures.1, collected-start (facts start) start.args.n start.requires.3 256 refl)
 
 consider-requires : tie.Need-consider-count-requires invariant-loop decreases-loop
 consider-requires c κs =
@@ -43,7 +43,7 @@ consider-requires c κs =
     let at-loop = turning.before in
     let m = at-loop.loop-region in
     let start = asked at-loop in
-    let p = start.pre in
+    let p = start.requires in
     let later = above (facts start) start.args.n m.invariant.0 turning.loop-region-test.true in
     (p.0, p.1, p.2, p.3, has_room (facts start) start.args.n p.3 p.0 m.invariant.2 m.region later)
 
@@ -66,7 +66,7 @@ loop-again c =
 
 returns : tie.Need-returns invariant-loop decreases-loop
 returns c =
-    let p = (asked c.before).pre in
+    let p = (asked c.before).requires in
     let m = c.loop-region in
     let none : m.region ≡ 0 = omega (arith, c.loop-region-test.false) in
     collected-all p.3 p.0 m.invariant.2 (sym m.invariant.0 ∙ none)

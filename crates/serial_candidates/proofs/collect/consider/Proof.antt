@@ -8,13 +8,9 @@ use borrow.Author.Rules.{rules}
 use Rattle.serial_candidates.proofs.collect.consider.Statement.{statement}
 use Rattle.serial_candidates.proofs.collect.consider.Tie as tie
 
--- what the function is given and asked: the places since only say that its slices have lengths
-abbrev start_of : tie.After-shared_slice_known-4-1 → tie.Start
-start_of c = search
-
--- the start, past both calls
+-- what the function is given and asked
 abbrev asked : tie.After-gives_link → tie.Start
-asked c = start_of c.before.before
+asked c = search
 
 -- what links are found from
 abbrev facts : tie.Start → Given
@@ -32,16 +28,20 @@ room c told = (asked c).requires.4 (sym (tested c) ∙ told)
 
 gives-link-requires : tie.Need-gives_link-requires
 gives-link-requires c κs =
-    let start = start_of c.before in
-    let p = start.pre in
+    let start : tie.Start = search in
+    let p = start.requires in
     let a = start.args in
     (p.0, p.1, two-below a.owners.now a.lefts.now a.rights.now a.region p.3 c.touching_of-t.ensures)
 
 returns : tie.Need-returns-then-gives_link
-returns c = added-one c.touching_of-t.ensures (sym (tested c.before) ∙ c.if-gives_link.true)
+returns c =
+    let at : tie.After-gives_link = search in
+    added-one c.touching_of-t.ensures (sym (tested at) ∙ c.if-gives_link.true)
 
 returns-2 : tie.Need-returns
-returns-2 c = added_none (sym (tested c.before) ∙ c.if-gives_link.false)
+returns-2 c =
+    let at : tie.After-gives_link = search in
+    added_none (sym (tested at) ∙ c.if-gives_link.false)
 
 pub consider_spec : {M : Type 1} → statement M
 consider_spec =
@@ -49,12 +49,12 @@ consider_spec =
     (tie.spec
     (λ c κs. search rules)
     gives-link-requires
-    (λ c. omega (arith, room c.before c.if-gives_link.true))
-    (λ c. omega (arith, room c.before c.if-gives_link.true))
-    (λ c. omega (arith, room c.before c.if-gives_link.true))
-    (λ c. omega (arith, room c.before c.if-gives_link.true))
-    (λ c. omega (arith, room c.before c.if-gives_link.true))
-    (λ c. omega (arith, room c.before c.if-gives_link.true))
-    (λ c. omega (arith, room c.before c.if-gives_link.true))
+    (λ c. let at : tie.After-gives_link = search in omega (arith, room at c.if-gives_link.true))
+    (λ c. let at : tie.After-gives_link = search in omega (arith, room at c.if-gives_link.true))
+    (λ c. let at : tie.After-gives_link = search in omega (arith, room at c.if-gives_link.true))
+    (λ c. let at : tie.After-gives_link = search in omega (arith, room at c.if-gives_link.true))
+    (λ c. let at : tie.After-gives_link = search in omega (arith, room at c.if-gives_link.true))
+    (λ c. let at : tie.After-gives_link = search in omega (arith, room at c.if-gives_link.true))
+    (λ c. let at : tie.After-gives_link = search in omega (arith, room at c.if-gives_link.true))
     returns
     returns-2)

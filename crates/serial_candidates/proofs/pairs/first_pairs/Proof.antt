@@ -20,7 +20,7 @@ start_of c = search
 mul-size : tie.Need-offset_bounds-owners-k invariant-loop decreases-loop
 mul-size c =
     let start = start_of c.before.before.before.before.before in
-    omega (arith, start.pre.0.few, c.loop-k-test.true)
+    omega (arith, start.requires.0.few, c.loop-k-test.true)
 
 add-pair-requires : tie.Need-add_pair-requires invariant-loop decreases-loop
 add-pair-requires c κs =
@@ -29,7 +29,7 @@ add-pair-requires c κs =
     let in-loop = turning.before in
     let start = start_of in-loop.before.before.before.before in
     let inv = in-loop.loop-k.invariant in
-    let k = in-loop.loop-k.k in let p = start.pre in let m = p.1.each k turning.loop-k-test.true in let e = after-size.size-rank.ensures.0 in
+    let k = in-loop.loop-k.k in let p = start.requires in let m = p.1.each k turning.loop-k-test.true in let e = after-size.size-rank.ensures.0 in
     let few = count-few inv.1 (omega (arith, inv.0, p.0.few)) after-size.size-rank.result (omega (arith, e, m)) in (omega (arith, e, m), few)
 
 loop-again : tie.Need-loop-k-preserved invariant-loop decreases-loop

@@ -27,7 +27,7 @@ after-requires c κs =
     let in-loop = c.before.before.before.before in
     let start = start_of in-loop.before in
     let inv = in-loop.loop-k.invariant in
-    omega (arith, inv.2, inv.0, start.pre.few)
+    omega (arith, inv.2, inv.0, start.requires.few)
 
 loop-again : tie.Need-loop-k-preserved invariant-loop decreases-loop
 loop-again c =
