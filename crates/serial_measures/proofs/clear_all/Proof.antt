@@ -24,24 +24,24 @@ abbrev asked : tie.At-loop-k invariant-loop decreases-loop → tie.Start invaria
 asked c = search
 
 small : (c : Turn) → (c.loop-k.k < (asked c.before).args.links) × (c.loop-k.k < 256)
-small c = (c.loop-k-test.true, omega (arith, c.loop-k-test.true, (asked c.before).pre.2.few))
+small c = (c.loop-k-test.true, omega (arith, c.loop-k-test.true, (asked c.before).requires.2.few))
 
 put-word-requires : tie.Need-put_word-requires invariant-loop decreases-loop
 put-word-requires c κs =
     let turn : Turn = search in
-    let p = (asked turn.before).pre in
+    let p = (asked turn.before).requires in
     let m = turn.loop-k in
-    word-there p.2 turn.loop-k-test.true c.size.ensures.0 m.work (omega (arith, p.1, m.inv.1))
+    word-there p.2 turn.loop-k-test.true c.size.ensures.0 m.work (omega (arith, p.1, m.invariant.1))
 
 loop-again : tie.Need-loop-k-preserved invariant-loop decreases-loop
 loop-again c =
     let put = c.put_word in
     let sized : tie.After-size invariant-loop decreases-loop = search in
     let turn : Turn = search in
-    let inv = turn.loop-k.inv in (
+    let inv = turn.loop-k.invariant in (
       omega (arith, turn.loop-k-test.true),
-      put.auto.0 ∙ inv.1,
-      λ s L W. clear_next (asked turn.before).pre.2 L.room turn.loop-k-test.true sized.size.ensures.0 (inv.2 s L W) put.ensures,
+      put.auto.work ∙ inv.1,
+      λ s L W. clear_next (asked turn.before).requires.2 L.room turn.loop-k-test.true sized.size.ensures.0 (inv.2 s L W) put.ensures,
     )
 
 returns : tie.Need-returns invariant-loop decreases-loop

@@ -9,7 +9,7 @@ link-of-requires : tie.Need-link_of-requires
 link-of-requires c κs =
     let first : tie.After-size-i = search in
     let second : tie.After-size-j = search in
-    let p = first.pre in (
+    let p = first.requires in (
       span-bounded p.0 first.size-i.result (omega (arith, first.size-i.ensures.0, p.1)) c.span_at.ensures,
       span-bounded p.0 second.size-j.result (omega (arith, second.size-j.ensures.0, p.2)) c.span_at-2.ensures,
       p.0.width first.size-i.result (omega (arith, first.size-i.ensures.0, p.1)),

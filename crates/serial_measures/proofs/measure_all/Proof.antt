@@ -90,7 +90,7 @@ low : (c : Passing) → c.loop-i.row < 1024
 low c =
     let s = asked2 c.before in
     let inv = c.loop-i.invariant in
-    omega (arith, row_below (map_here s) s.pre.1 inv.1 inv.2 (on c), s.pre.0.high)
+    omega (arith, row_below (map_here s) s.requires.1 inv.1 inv.2 (on c), s.requires.0.high)
 
 -- the turn of a cell that has a link's number; the link is one of the arrays
 abbrev turn-of : Sized → Passing
@@ -103,7 +103,7 @@ numbered c =
     let number = c.number_at-number in
     omega (
       arith,
-      turn_on N (on turn) turn.loop-i.inv.3 number.result number.ensures (λ z. omega (arith, z, c.if-number-eq0.false)) c.size-j.ensures.0,
+      turn_on N (on turn) turn.loop-i.invariant.3 number.result number.ensures (λ z. omega (arith, z, c.if-number-eq0.false)) c.size-j.ensures.0,
       N.few,
     )
 
@@ -117,25 +117,25 @@ link-at-requires-2 c κs =
 loop-again : tie.Need-loop-k-preserved invariant-loop decreases-loop invariant-loop2 decreases-loop2 invariant-loop3 decreases-loop3
 loop-again c =
     let turning : Filling = search in
-    (omega (arith, turning.loop-k-test.true), fill-next turning.loop-k.inv.1 (small turning).1 c.link_at.ensures)
+    (omega (arith, turning.loop-k-test.true), fill-next turning.loop-k.invariant.1 (small turning).1 c.link_at.ensures)
 
 loop2-holds : tie.Need-loop-i-init invariant-loop decreases-loop invariant-loop2 decreases-loop2 invariant-loop3 decreases-loop3
 loop2-holds c =
     let start = asked c.before in
     let l = c.loop-k in
     let all : l.k ≡ start.args.links = omega (arith, l.invariant.0, c.loop-k-test.false) in
-    (omega arith, omega arith, start.pre.0.columns, pass-start start.pre.4.few (fill_end all l.invariant.1) c.none-stats.ensures)
+    (omega arith, omega arith, start.requires.0.columns, pass-start start.requires.4.few (fill_end all l.invariant.1) c.none-stats.ensures)
 
 number-at-requires : tie.Need-number_at-number-requires invariant-loop decreases-loop invariant-loop2 decreases-loop2 invariant-loop3 decreases-loop3
 number-at-requires c κs =
     let turn : Passing = search in
     let start = asked2 turn.before in
-    (on turn, cells-few start, start.pre.4.room, start.pre.4.most turn.loop-i.i (on turn))
+    (on turn, cells-few start, start.requires.4.room, start.requires.4.most turn.loop-i.i (on turn))
 
 loop2-again : tie.Need-loop-i-preserved-then-number-eq0 invariant-loop decreases-loop invariant-loop2 decreases-loop2 invariant-loop3 decreases-loop3
 loop2-again c =
     let turn : Passing = search in
-    let inv = turn.loop-i.inv in
+    let inv = turn.loop-i.invariant in
     let number = c.number_at-number in
     let p = next_place inv.1 inv.2 c.next_column-column.ensures c.next_row-row.ensures in (
       omega (arith, on turn),
@@ -149,11 +149,11 @@ with-requires c κs =
     let sized : Sized = search in
     let turn = turn-of sized in
     let start = asked2 turn.before in
-    let inv = turn.loop-i.inv in
+    let inv = turn.loop-i.invariant in
     let number = sized.number_at-number in (
-      turn-room start.pre.4 (on turn) inv.3 number.result number.ensures (λ z. omega (arith, z, sized.if-number-eq0.false))
+      turn-room start.requires.4 (on turn) inv.3 number.result number.ensures (λ z. omega (arith, z, sized.if-number-eq0.false))
           sized.size-j.ensures.0 _ (omega (arith, on turn, cells-few start)),
-      omega (arith, inv.2, start.pre.0.wide),
+      omega (arith, inv.2, start.requires.0.wide),
       omega (arith, low turn),
     )
 
@@ -163,13 +163,13 @@ loop2-again-2 c =
     let numbers = sized.before.before in
     let turn = turn-of sized in
     let start = asked2 turn.before in
-    let inv = turn.loop-i.inv in
+    let inv = turn.loop-i.invariant in
     let p = next_place inv.1 inv.2 numbers.next_column-column.ensures numbers.next_row-row.ensures in
     let q = place_of (map_here start) inv.1 inv.2 in (
       omega (arith, on turn),
       p.0,
       p.1,
-      turn_in start.pre.4 (on turn) inv.3 numbers.number_at-number.result numbers.number_at-number.ensures
+      turn_in start.requires.4 (on turn) inv.3 numbers.number_at-number.result numbers.number_at-number.ensures
           (λ z. omega (arith, z, sized.if-number-eq0.false)) sized.size-j.ensures.0 q.0 q.1 _ _ c.at.ensures
           c.with.ensures,
     )
@@ -185,7 +185,7 @@ loop3-again c =
     let flat = c.before.before in
     let marked = flat.before.before.before in
     let turn : Judging = search in
-    let inv = turn.loop-m.inv in (
+    let inv = turn.loop-m.invariant in (
       omega (arith, turn.loop-m-test.true),
       inv.1,
       judge-row _ _ _ _ (asked3 turn.before).requires.4.few turn.loop-m-test.true inv.1 inv.2 marked.passing_mark.ensures

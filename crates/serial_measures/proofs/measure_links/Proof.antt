@@ -18,7 +18,7 @@ cells-few s = let p = s.requires in area p.0.wide p.0.high p.1
 mul-if2 : tie.Need-overflow_mul-links
 mul-if2 c =
     let start : tie.Start = search in
-    omega (arith, start.pre.3.few, mul-le-mul start.pre.3.few (cells-few start))
+    omega (arith, start.requires.3.few, mul-le-mul start.requires.3.few (cells-few start))
 
 returns-2 : tie.Need-returns-then-links-n-le-FEW
 returns-2 c =
@@ -29,20 +29,20 @@ returns-2 c =
 number-all-requires : tie.Need-number_all-requires
 number-all-requires c κs =
     let start : tie.Start = search in
-    (cells-few start, start.pre.2, start.pre.3)
+    (cells-few start, start.requires.2, start.requires.3)
 
 measure-all-requires : tie.Need-measure_all-requires
 measure-all-requires c κs =
     let numbered : tie.After-number_all = search in
     let start : tie.Start = search in
-    let p = start.pre in
+    let p = start.requires in
     (p.0, p.1, p.5, p.4, written-numbered p.2 numbered.number_all.ensures p.3)
 
 clear-all-requires : tie.Need-clear_all-requires
 clear-all-requires c κs =
     let numbered : tie.After-number_all = search in
     let start : tie.Start = search in
-    (cells-few start, omega (arith, start.pre.2.room, numbered.number_all.ensures.table.as_long), start.pre.3)
+    (cells-few start, omega (arith, start.requires.2.room, numbered.number_all.ensures.table.as_long), start.requires.3)
 
 returns-3 : tie.Need-returns
 returns-3 c =
@@ -50,7 +50,7 @@ returns-3 c =
     let numbered : tie.After-number_all = search in
     let start : tie.Start = search in
     let a = start.args in
-    let labels = start.pre.2 in
+    let labels = start.requires.2 in
     let numbers = numbered.number_all.ensures in (
       c.clear_all.ensures a.work.now labels numbers,
       measured-by (labels-many a.work.now (length a.cells.now)) (written-labels labels numbers) measured.measure_all.ensures,

@@ -21,22 +21,22 @@ abbrev asked : tie.At-loop-k invariant-loop decreases-loop → tie.Start invaria
 asked c = search
 
 small : (c : Turn) → (c.loop-k.k < (asked c.before).args.links) × (c.loop-k.k < 256)
-small c = (c.loop-k-test.true, omega (arith, c.loop-k-test.true, (asked c.before).pre.2.few))
+small c = (c.loop-k-test.true, omega (arith, c.loop-k-test.true, (asked c.before).requires.2.few))
 
 put-word-requires : tie.Need-put_word-requires invariant-loop decreases-loop
 put-word-requires c κs =
     let turn : Turn = search in
-    let p = (asked turn.before).pre in
+    let p = (asked turn.before).requires in
     let m = turn.loop-k in
-    word-there p.2 turn.loop-k-test.true c.size.ensures.0 m.work (omega (arith, p.1.room, m.inv.1.table.as_long))
+    word-there p.2 turn.loop-k-test.true c.size.ensures.0 m.work (omega (arith, p.1.room, m.invariant.1.table.as_long))
 
 loop-again : tie.Need-loop-k-preserved invariant-loop decreases-loop
 loop-again c =
     let sized : tie.After-size invariant-loop decreases-loop = search in
     let turn : Turn = search in
-    let p = (asked turn.before).pre in (
+    let p = (asked turn.before).requires in (
       omega (arith, turn.loop-k-test.true),
-      write-next p.2 p.1.room turn.loop-k-test.true sized.size.ensures.0 turn.loop-k.inv.1 c.put_word.ensures,
+      write-next p.2 p.1.room turn.loop-k-test.true sized.size.ensures.0 turn.loop-k.invariant.1 c.put_word.ensures,
     )
 
 returns : tie.Need-returns invariant-loop decreases-loop

@@ -31,7 +31,7 @@ asked c = search
 
 -- the turn's link is one of the list, and of the arrays
 within : (c : Turn) → (c.loop-k.k < (asked c.before).args.links) × (c.loop-k.k < 256)
-within c = (c.loop-k-test.true, omega (arith, c.loop-k-test.true, (asked c.before).pre.4))
+within c = (c.loop-k-test.true, omega (arith, c.loop-k-test.true, (asked c.before).requires.4))
 
 -- the labels of all cells are there
 labels-there : (s : tie.Start invariant-loop decreases-loop) →
@@ -42,7 +42,7 @@ link-at-requires : tie.Need-link_at-start-requires invariant-loop decreases-loop
 link-at-requires c κs =
     let turning : Turn = search in
     let k = turning.loop-k.k in
-    let p = (asked turning.before).pre in
+    let p = (asked turning.before).requires in
     (p.2, p.3.first k turning.loop-k-test.true, p.3.second k turning.loop-k-test.true)
 
 loop-again : tie.Need-loop-k-preserved invariant-loop decreases-loop
@@ -52,7 +52,7 @@ loop-again c =
     let a = (asked turning.before).args in
     let l = turning.loop-k in (
       omega (arith, turning.loop-k-test.true),
-      judge-one (labels-many a.work.now (length a.cells.now)) (within turning).1 l.inv.1
+      judge-one (labels-many a.work.now (length a.cells.now)) (within turning).1 l.invariant.1
           (measured.measure_one-link.ensures (value_in a.own.now a.bits.now (at a.firsts.now l.k) (at a.seconds.now l.k))
           measured.link_at-start.ensures)
           (c.region_stats-stats.ensures a.height) c.passing_mark.ensures c.flat_mark.ensures
