@@ -1,3 +1,5 @@
+use mathlib.Core.Path.{ap}
+use mathlib.Core.Bool.{not}
 use Prim.Native.Nat.{◌/◌, ◌%◌}
 use Rattle.serial_links.specs.HeldLimits.{limits_of}
 use Rattle.serial_links.specs.HeldLink.{link_with_cell}
@@ -9,13 +11,12 @@ use Rattle.serial_measures.proofs.few.counted.Tie as tie
 returns : tie.Need-returns-then-not-inside
 returns c =
     let a = c.args in
-    left_out a.inside (link_with_cell (limits_of a.limits) a.link (a.i % a.width) (a.i / a.width)) c.if-not-inside.true
+    left_out a.inside (link_with_cell (limits_of a.limits) a.link (a.i % a.width) (a.i / a.width)) (ap not c.if-not-inside.true)
 
 returns-2 : tie.Need-returns
 returns-2 c =
-    let inside = c.before.before.before in
-    let a = inside.args in
-    put_in a.inside (link_with_cell (limits_of a.limits) a.link) a.link (a.i % a.width) (a.i / a.width) inside.if-not-inside.false c.at.ensures
+    let a = c.args in
+    put_in a.inside (link_with_cell (limits_of a.limits) a.link) a.link (a.i % a.width) (a.i / a.width) (ap not c.if-not-inside.false) c.at.ensures
     c.column_of.ensures.0 c.row_of.ensures.0
 
 pub counted_spec : {M : Type 1} → statement M

@@ -25,7 +25,7 @@ ends-fit : (c : tie.After-group_end_nodes-two) (j : ℕ) → RankFits (asked (pa
 ends-fit c =
     let start = asked (path-of c) in
     let a = start.args in
-    ends-slots (RankFits a.own.now) a.firsts.now a.seconds.now (few_list a.links) a.ranks c.group_end_nodes-two.ensures start.pre.3
+    ends-slots (RankFits a.own.now) a.firsts.now a.seconds.now (few_list a.links) a.ranks c.group_end_nodes-two.ensures start.requires.3
     start.pre.5
 
 returns : tie.Need-returns-then-not-pass-path

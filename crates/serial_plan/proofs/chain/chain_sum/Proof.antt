@@ -10,7 +10,7 @@ ascending-sum-requires c κs =
     let start = held.before in
     let a = start.args in
     let count = gaps-count a.firsts.now a.seconds.now a.own.now a.links held.gaps_of-gaps.ensures in
-    (omega (arith, start.pre.0, count), (_, held.gaps_of-gaps.ensures))
+    (omega (arith, start.requires.0, count), (_, held.gaps_of-gaps.ensures))
 
 returns : tie.Need-returns
 returns c =

@@ -34,21 +34,21 @@ loop-holds c =
 index-requires : tie.Need-index-k-requires invariant-loop decreases-loop
 index-requires c κs =
     let turn : Turn = search in
-    ((asked turn).pre.1 turn.loop-j.j).below
+    ((asked turn).requires.1 turn.loop-j.j).below
 
 gap-requires : tie.Need-gap-requires invariant-loop decreases-loop
 gap-requires c κs =
     let turn : Turn = search in
     let start = asked turn in
     subst (LinkFits start.args.own.now start.args.firsts.now start.args.seconds.now) (sym c.index-k.ensures.0)
-    (start.pre.1 turn.loop-j.j)
+    (start.requires.1 turn.loop-j.j)
 
 with-requires : tie.Need-with-gaps-requires invariant-loop decreases-loop
 with-requires c κs =
     let turn : Turn = search in
     let start = asked turn in
     let a = start.args in
-    let count = parts-count (gap_at a.firsts.now a.seconds.now a.own.now a.links) turn.loop-j.inv.1 in
+    let count = parts-count (gap_at a.firsts.now a.seconds.now a.own.now a.links) turn.loop-j.invariant.1 in
     (omega (arith, count, c.loop-j-test.true, start.pre.0), gap-value a.firsts.now a.seconds.now a.own.now _ c.gap.ensures)
 
 loop-again : tie.Need-loop-j-preserved invariant-loop decreases-loop
@@ -57,7 +57,7 @@ loop-again c =
     let turn : Turn = search in
     let a = (asked turn).args in (
       omega (arith, gap.loop-j-test.true),
-      parts_next (gap_at a.firsts.now a.seconds.now a.own.now a.links) turn.loop-j.inv.1
+      parts_next (gap_at a.firsts.now a.seconds.now a.own.now a.links) turn.loop-j.invariant.1
           (gap.gap.ensures ∙ ap (gap_length_in a.firsts.now a.seconds.now a.own.now) gap.index-k.ensures.0)
           c.with-gaps.ensures,
     )
@@ -66,7 +66,7 @@ returns : tie.Need-returns invariant-loop decreases-loop
 returns c =
     let turn : Turn = search in
     let a = (asked turn).args in
-    let inv = turn.loop-j.inv in
+    let inv = turn.loop-j.invariant in
     gaps-end a.firsts.now a.seconds.now a.own.now a.links inv.1 (omega (arith, inv.0, c.loop-j-test.false))
 
 pub gaps_of_spec : {M : Type 1} → statement M

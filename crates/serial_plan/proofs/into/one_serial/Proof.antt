@@ -14,7 +14,7 @@ returns-2 : tie.Need-returns-then-e-i
 returns-2 c =
     let entry = c.before.before.before.before.before in
     let e = c.judged_before-e in
-    entry.requires.3.each e.result-1 (omega (arith, c.if-e-i.true)) ∙ together-serial _ _ _ _ _ _ _ _ _ _ _ _ _ _ _ e.ensures.1 e.ensures.2 _
+    entry.requires.3.each e.result (omega (arith, c.if-e-i.true)) ∙ together-serial _ _ _ _ _ _ _ _ _ _ _ _ _ _ _ e.ensures.1 e.ensures.2 _
 
 returns-3 : tie.Need-returns
 unfolding serial_into

@@ -35,7 +35,7 @@ judged c =
     let s = asked c in
     let a = s.args in
     let small : (rs js : List ℕ) → test s rs js ≡ true → Sized rs js =
-    flat-small (limits_of a.limits) a.own.now a.lowers.now a.highers.now a.regions.now a.firsts.now a.seconds.now s.pre.0 in
+    flat-small (limits_of a.limits) a.own.now a.lowers.now a.highers.now a.regions.now a.firsts.now a.seconds.now s.requires.0 in
     whole small (ranks s) (numbers s) c.ranks_of-ranks.ensures c.links_of-found.ensures
 
 held-part : (c : tie.After-links_of-found) →

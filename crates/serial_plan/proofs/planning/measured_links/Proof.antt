@@ -11,19 +11,19 @@ abbrev asked : tie.After-anchor_labels-anchored → tie.Start
 asked c = search
 
 anchor-labels-requires : tie.Need-anchor_labels-anchored-requires
-anchor-labels-requires c κs = let start : tie.Start = search in (readable start.pre, omega (arith, start.pre.few-bases))
+anchor-labels-requires c κs = let start : tie.Start = search in (readable start.requires, omega (arith, start.requires.few-bases))
 
 room : tie.Need-slice_bounds-candidate_links-end
 room c = let labels : tie.After-anchor_labels-anchored = search in sym (length-take-le labels.anchor_labels-anchored.result _ labels.anchor_labels-anchored.ensures.fits)
 
 candidate-links-requires : tie.Need-candidate_links-links-requires
-candidate-links-requires c κs = let start : tie.Start = search in findable start.pre
+candidate-links-requires c κs = let start : tie.Start = search in findable start.requires
 
 measure-links-requires : tie.Need-measure_links-requires
 measure-links-requires c κs =
     let linked : tie.After-candidate_links-links = search in
     let labels : tie.After-anchor_labels-anchored = search in
-    measurable (asked labels).pre labels.anchor_labels-anchored.ensures linked.candidate_links-links.ensures
+    measurable (asked labels).requires labels.anchor_labels-anchored.ensures linked.candidate_links-links.ensures
 
 returns : tie.Need-returns
 returns c =
@@ -31,7 +31,7 @@ returns c =
     let linked : tie.After-candidate_links-links = search in
     let labels : tie.After-anchor_labels-anchored = search in (
       measured.measure_links.ensures.0,
-      links-found (asked labels).pre labels.anchor_labels-anchored.ensures linked.candidate_links-links.ensures measured.measure_links.ensures.1,
+      links-found (asked labels).requires labels.anchor_labels-anchored.ensures linked.candidate_links-links.ensures measured.measure_links.ensures.1,
     )
 
 pub measured_links_spec : {M : Type 1} → statement M

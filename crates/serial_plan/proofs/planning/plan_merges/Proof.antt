@@ -7,7 +7,7 @@ merge-plan-requires : tie.Need-merge_plan-requires
 merge-plan-requires c κs =
     let measured : tie.After-measured_links-links = search in
     let start : tie.Start = search in
-    let p = start.pre in
+    let p = start.requires in
     (p.0, fit p.1 measured.measured_links-links.ensures.1.ranked, p.2)
 
 returns : tie.Need-returns

@@ -35,13 +35,13 @@ loop-holds c =
 index-requires-2 : tie.Need-index-requires-in-loop-j invariant-loop decreases-loop
 index-requires-2 c κs =
     let turn : Turn = search in
-    ((asked turn).pre.1 turn.loop-j.j).below
+    ((asked turn).requires.1 turn.loop-j.j).below
 
 rank-distance-requires-2 : tie.Need-rank_distance-requires invariant-loop decreases-loop
 rank-distance-requires-2 c κs =
     let turn : Turn = search in
     let start = asked turn in
-    (start.pre.2, subst (RankFits start.args.own.now) (sym c.index-in-loop-j.ensures.0) (start.pre.1 turn.loop-j.j))
+    (start.requires.2, subst (RankFits start.args.own.now) (sym c.index-in-loop-j.ensures.0) (start.requires.1 turn.loop-j.j))
 
 loop-again : tie.Need-loop-j-preserved invariant-loop decreases-loop
 loop-again c =
@@ -50,7 +50,7 @@ loop-again c =
     let start = (asked turn).args in
     let own = start.own.now in
     subst (SummedLengths (distance_at own start.i start.ranks) start.ranks.count (turn.loop-j.j + 1)) (sym c.plus-total.ensures)
-    (lengths-next (distance_at own start.i start.ranks) start.ranks.count distance.rank_distance.result turn.loop-j.inv
+    (lengths-next (distance_at own start.i start.ranks) start.ranks.count distance.rank_distance.result turn.loop-j.invariant
     distance.loop-j-test.true
     (distance.rank_distance.ensures
     ∙ ap (λ (k : ℕ). centre_length (span_in own start.i) (span_in own k)) distance.index-in-loop-j.ensures.0))
@@ -59,7 +59,7 @@ returns : tie.Need-returns invariant-loop decreases-loop
 returns c =
     let turn : Turn = search in
     let start = asked turn in
-    sum-listed start.args.own.now start.args.ranks start.args.i start.pre.0 turn.loop-j.inv c.loop-j-test.false
+    sum-listed start.args.own.now start.args.ranks start.args.i start.requires.0 turn.loop-j.inv c.loop-j-test.false
 
 pub sum_from_spec : {M : Type 1} → statement M
 sum_from_spec =
