@@ -28,7 +28,7 @@ bridge-boundary-indices-requires : tie.Need-bridge_boundary_indices-requires
 bridge-boundary-indices-requires c κs =
     let compared : tie.Else-most-pairs = search in
     let parts = parted compared.before in
-    let p = (start_of parts).pre in
+    let p = (start_of parts).requires in
     let r = parts.partition_by_spans-p.ensures in
     let k = parts.partition_by_spans-p.kept in
     let few = compared.if-most-pairs.false in (

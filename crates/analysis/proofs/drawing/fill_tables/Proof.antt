@@ -8,21 +8,21 @@ fill-spans-requires c κs =
     let found : tie.After-size-at = search in
     let counted : tie.After-size-count = search in
     let start : tie.Start = search in
-    (plan-records start.pre.0 _ _ found.size-at.ensures.0 counted.size-count.ensures.0, start.pre.1)
+    (plan-records start.requires.0 _ _ found.size-at.ensures.0 counted.size-count.ensures.0, start.requires.1)
 
 fill-widths-requires : tie.Need-fill_widths-requires
 fill-widths-requires c κs =
     let found : tie.After-size-at = search in
     let counted : tie.After-size-count = search in
     let start : tie.Start = search in
-    (plan-records start.pre.0 _ _ found.size-at.ensures.0 counted.size-count.ensures.0, start.pre.2)
+    (plan-records start.requires.0 _ _ found.size-at.ensures.0 counted.size-count.ensures.0, start.requires.2)
 
 fill-ramps-requires : tie.Need-fill_ramps-requires
 fill-ramps-requires c κs =
     let found : tie.After-size-at = search in
     let counted : tie.After-size-count = search in
     let start : tie.Start = search in
-    (plan-records start.pre.0 _ _ found.size-at.ensures.0 counted.size-count.ensures.0, start.pre.3)
+    (plan-records start.requires.0 _ _ found.size-at.ensures.0 counted.size-count.ensures.0, start.requires.3)
 
 returns : tie.Need-returns
 returns c =
@@ -32,7 +32,7 @@ returns c =
     let found : tie.After-size-at = search in
     let counted : tie.After-size-count = search in
     let start : tie.Start = search in
-    let p = start.pre.0 in
+    let p = start.requires.0 in
     let a = found.size-at.ensures.0 in
     let n = counted.size-count.ensures.0 in
     record {

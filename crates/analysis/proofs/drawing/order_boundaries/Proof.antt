@@ -27,15 +27,15 @@ sort-ranks-requires c κs =
     let keys : tie.After-fill_keys = search in
     let counts = counted keys in
     let start = start_of counts in
-    (omega (arith, few counts, start.pre.1), omega (arith, few counts))
+    (omega (arith, few counts, start.requires.1), omega (arith, few counts))
 
 returns : tie.Need-returns
 returns c =
     let keys : tie.After-fill_keys = search in
     let counts = counted keys in
     let start = start_of counts in
-    headed-ranked start.pre.0 _ _ counts.size-at.ensures.0 counts.size-n.ensures.0 _ keys.fill_keys.ensures
-    (omega (arith, few counts, start.pre.1)) c.sort_ranks.ensures
+    headed-ranked start.requires.0 _ _ counts.size-at.ensures.0 counts.size-n.ensures.0 _ keys.fill_keys.ensures
+    (omega (arith, few counts, start.requires.1)) c.sort_ranks.ensures
 
 pub order_boundaries_spec : {M : Type 1} → statement M
 order_boundaries_spec =

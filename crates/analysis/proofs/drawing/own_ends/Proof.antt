@@ -15,8 +15,8 @@ fill-spans-requires c κs =
     let order : tie.After-fill_identity = search in
     let counts = counted order in
     let start = start_of counts in (
-      own-order start.pre.0 counts.size-at.ensures.0 counts.size-n.ensures.0 order.fill_identity.ensures,
-      start.pre.1,
+      own-order start.requires.0 counts.size-at.ensures.0 counts.size-n.ensures.0 order.fill_identity.ensures,
+      start.requires.1,
     )
 
 returns : tie.Need-returns
@@ -24,7 +24,7 @@ returns c =
     let order : tie.After-fill_identity = search in
     let counts = counted order in
     let start = start_of counts in
-    own_put start.pre.0 counts.size-at.ensures.0 counts.size-n.ensures.0 order.fill_identity.ensures
+    own_put start.requires.0 counts.size-at.ensures.0 counts.size-n.ensures.0 order.fill_identity.ensures
     c.fill_spans.ensures
 
 pub own_ends_spec : {M : Type 1} → statement M

@@ -13,7 +13,7 @@ start_of c = search
 mul-size : tie.Need-overflow_mul-c
 mul-size c =
     let start : tie.Start = search in
-    omega (arith, headed-cells start.pre.0)
+    omega (arith, headed-cells start.requires.0)
 
 part-analyse-end : tie.Need-slice_bounds-analyse-end
 part-analyse-end c =
@@ -25,7 +25,7 @@ analyse-requires : tie.Need-analyse-p-requires
 analyse-requires c κs =
     let sizes : tie.After-size-count = search in
     let size = sizes.before in
-    let p = (start_of size).pre in
+    let p = (start_of size).requires in
     (matched-partitionable p.0 _ size.size-n.ensures.0 _ sizes.size-count.ensures.0 p.4 p.2 p.1, p.3)
 
 returns : tie.Need-returns
@@ -33,7 +33,7 @@ returns c =
     let found : tie.After-analyse-p = search in
     let sizes : tie.After-size-count = search in
     let size = sizes.before in
-    let p = (start_of size).pre in
+    let p = (start_of size).requires in
     matched-tabled p.0 _ size.size-n.ensures.0 _ sizes.size-count.ensures.0 found.analyse-p.ensures.0 found.analyse-p.ensures.1 p.3.few
 
 pub part_by_rank_spec : {M : Type 1} → statement M

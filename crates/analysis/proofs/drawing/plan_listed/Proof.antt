@@ -23,28 +23,28 @@ listed : (c : tie.After-fill_spans)
     → EndsBy (given c).args.job.now (given c).args.order.now c.fill_spans.new.1.1.1.1.1.0 (decode_list (given c).args.list.now)
 listed c =
     let start = given c in
-    let p = start.pre.0.job in
-    list-by p.headed _ start.pre.1 (plan-ranks p) _ (counted c).size-count.ensures.0 start.pre.2 c.fill_spans.ensures
+    let p = start.requires.0.job in
+    list-by p.headed _ start.requires.1 (plan-ranks p) _ (counted c).size-count.ensures.0 start.requires.2 c.fill_spans.ensures
 
 fill-spans-requires : tie.Need-fill_spans-requires
 fill-spans-requires c κs =
     let count = c.before in
     let start = start_of count in
-    let p = start.pre.0.job in
-    (list-matched-records p.headed _ start.pre.1 (plan-ranks p) _ count.size-count.ensures.0 start.pre.2, refl)
+    let p = start.requires.0.job in
+    (list-matched-records p.headed _ start.requires.1 (plan-ranks p) _ count.size-count.ensures.0 start.requires.2, refl)
 
 plan-matched-requires : tie.Need-plan_matched-requires
 plan-matched-requires c κs =
     let spans : tie.After-fill_spans = search in
     let count = counted spans in
     let start = start_of count in
-    let p = start.pre.0.job in (
-      start.pre.0,
-      list-fit p.headed _ start.pre.1 (plan-ranks p) _ count.size-count.ensures.0 start.pre.2 spans.fill_spans.ensures,
+    let p = start.requires.0.job in (
+      start.requires.0,
+      list-fit p.headed _ start.requires.1 (plan-ranks p) _ count.size-count.ensures.0 start.requires.2 spans.fill_spans.ensures,
       record { spans = _; are = listed spans },
-      start.pre.3,
-      start.pre.4,
-      start.pre.5,
+      start.requires.3,
+      start.requires.4,
+      start.requires.5,
     )
 
 returns : tie.Need-returns

@@ -14,18 +14,18 @@ start_of c = search
 mul-size : tie.Need-overflow_mul-c
 mul-size c =
     let start : tie.Start = search in
-    omega (arith, headed-cells start.pre.0.headed)
+    omega (arith, headed-cells start.requires.0.headed)
 
 fill-tables-requires : tie.Need-fill_tables-requires
 fill-tables-requires c κs =
     let start : tie.Start = search in
-    (start.pre.0, refl, refl, refl)
+    (start.requires.0, refl, refl, refl)
 
 part-plan-merges-end : tie.Need-slice_bounds-plan_merges-end
 part-plan-merges-end c =
     let walked : tie.After-size-n = search in
     let start : tie.Start = search in
-    omega (arith, map-inside start.pre.0.headed.header (headed-laid start.pre.0.headed) _ walked.size-n.ensures.0)
+    omega (arith, map-inside start.requires.0.headed.header (headed-laid start.requires.0.headed) _ walked.size-n.ensures.0)
 
 plan-merges-requires : tie.Need-plan_merges-requires
 plan-merges-requires c κs =
@@ -36,10 +36,10 @@ plan-merges-requires c κs =
     let walked : tie.After-size-n = search in
     let start = start_of walked in
     let tables = filled.fill_tables.ensures in (
-      start.pre.4,
-      ready start.pre.0 tables.ends tables.widths tables.ramp-ends start.pre.1.are _ _ _ started.size.ensures.0
-          based.size-2.ensures.0 counted.size-count.ensures.0 _ walked.size-n.ensures.0 start.pre.2,
-      start.pre.3,
+      start.requires.4,
+      ready start.requires.0 tables.ends tables.widths tables.ramp-ends start.requires.1.are _ _ _ started.size.ensures.0
+          based.size-2.ensures.0 counted.size-count.ensures.0 _ walked.size-n.ensures.0 start.requires.2,
+      start.requires.3,
     )
 
 returns : tie.Need-returns
@@ -54,7 +54,7 @@ returns c =
     let tables = filled.fill_tables.ensures in (
       planned.plan_merges.ensures.0,
       (
-        λ dirs ss t. planned-as start.pre.0 tables.ends tables.widths tables.ramp-ends t _ _ _ started.size.ensures.0
+        λ dirs ss t. planned-as start.requires.0 tables.ends tables.widths tables.ramp-ends t _ _ _ started.size.ensures.0
             based.size-2.ensures.0 counted.size-count.ensures.0 _ walked.size-n.ensures.0 planned.plan_merges.ensures.1,
         planned.plan_merges.ensures.1.whole,
       ),

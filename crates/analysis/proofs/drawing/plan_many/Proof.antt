@@ -20,20 +20,20 @@ start_of c = search
 part-by-rank-requires : tie.Need-part_by_rank-pairs-requires
 part-by-rank-requires c κs =
     let start : tie.Start = search in
-    let p = start.pre in
+    let p = start.requires in
     (p.0.job.headed, p.0.room, p.1, zero-arrays 4096 (omega arith), p.5)
 
 returns : tie.Need-returns-then-pairs-gt-MAX_PAIRS
 returns c =
     let found = parted c.before in
-    let p = (start_of found).pre in
+    let p = (start_of found).requires in
     λ ss e. parted-over (found.part_by_rank-pairs.ensures _ ss p.0.job.ranks e) c.if-pairs-gt-MAX_PAIRS.true
 
 plan-listing-requires : tie.Need-plan_listing-requires
 plan-listing-requires c κs =
     let few = compared c in
     let found = parted few.before in
-    let p = (start_of found).pre in
+    let p = (start_of found).requires in
     let left = few.if-pairs-gt-MAX_PAIRS.false in
     let long = found.part_by_rank-pairs.kept.1.1.1.1.1.1.1 in (
       p.0.job,
@@ -50,7 +50,7 @@ returns-2 c =
     let start = start_of found in
     let told = drawn.plan_listing.ensures in
     let dirs = directions_of start.args.directions in
-    λ ss e. parted-then (found.part_by_rank-pairs.ensures _ ss start.pre.0.job.ranks e) told.0 (told.1.0 dirs ss)
+    λ ss e. parted-then (found.part_by_rank-pairs.ensures _ ss start.requires.0.job.ranks e) told.0 (told.1.0 dirs ss)
 
 pub plan_many_spec : {M : Type 1} → statement M
 plan_many_spec =

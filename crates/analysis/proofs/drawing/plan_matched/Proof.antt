@@ -8,7 +8,7 @@ use Rattle.analysis.proofs.drawing.plan_matched.Tie as tie
 mul-size : tie.Need-overflow_mul-c
 mul-size c =
     let start : tie.Start = search in
-    omega (arith, headed-cells start.pre.0.job.headed)
+    omega (arith, headed-cells start.requires.0.job.headed)
 
 returns-2 : tie.Need-returns-then-pairs-le-FEW_PAIRS
 returns-2 c =
@@ -19,7 +19,7 @@ plan-many-requires-2 : tie.Need-plan_many-requires-2
 plan-many-requires-2 c κs =
     let tried : tie.After-plan_few-pairs = search in
     let start : tie.Start = search in
-    let p = start.pre in (
+    let p = start.requires in (
       record { job = p.0.job; room = omega (arith, p.0.room, tried.plan_few-pairs.kept.1.1.1.1.1.1.0) },
       p.1,
       p.2,

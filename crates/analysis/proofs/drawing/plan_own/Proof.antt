@@ -35,13 +35,13 @@ plan-matched-requires c κs =
     let spans : tie.After-fill_spans = search in
     let counts = counted spans in
     let start = start_of counts in
-    let p = start.pre.0 in (
+    let p = start.requires.0 in (
       p,
-      own-fit p.job _ _ counts.size-at.ensures.0 counts.size-count.ensures.0 spans.fill_spans.ensures start.pre.1,
+      own-fit p.job _ _ counts.size-at.ensures.0 counts.size-count.ensures.0 spans.fill_spans.ensures start.requires.1,
       record { spans = _; are = own spans },
-      start.pre.2,
-      start.pre.3,
-      start.pre.4,
+      start.requires.2,
+      start.requires.3,
+      start.requires.4,
     )
 
 returns : tie.Need-returns

@@ -22,18 +22,18 @@ ordered c = search
 mul-size : tie.Need-overflow_mul-c
 mul-size c =
     let start : tie.Start = search in
-    omega (arith, headed-cells start.pre.0)
+    omega (arith, headed-cells start.requires.0)
 
 fill-spans-requires : tie.Need-fill_spans-requires
 fill-spans-requires c κs =
     let order = c.before.before in
     let start = start_of (sized order) in
-    (list-unmatched-records start.pre.0 _ start.pre.2 _ start.pre.3 order.fill_identity.ensures, refl)
+    (list-unmatched-records start.requires.0 _ start.requires.2 _ start.requires.3 order.fill_identity.ensures, refl)
 
 part-find-areas-end : tie.Need-slice_bounds-find_areas-end
 part-find-areas-end c =
     let size = sized (ordered c) in
-    let headed = (start_of size).pre.0 in
+    let headed = (start_of size).requires.0 in
     omega (arith, map-inside headed.header (headed-laid headed) _ size.size-cells.ensures.0)
 
 find-areas-requires : tie.Need-find_areas-p-requires
@@ -42,8 +42,8 @@ find-areas-requires c κs =
     let order = ordered spans in
     let size = sized order in
     let start = start_of size in
-    unmatched-partitionable start.pre.0 _ start.pre.2 _ start.pre.3 order.fill_identity.ensures
-    spans.fill_spans.ensures _ size.size-cells.ensures.0 start.pre.6 start.pre.1
+    unmatched-partitionable start.requires.0 _ start.requires.2 _ start.requires.3 order.fill_identity.ensures
+    spans.fill_spans.ensures _ size.size-cells.ensures.0 start.requires.6 start.requires.1
 
 returns : tie.Need-returns
 returns c =
@@ -51,8 +51,8 @@ returns c =
     let order = ordered spans in
     let size = sized order in
     let start = start_of size in
-    λ l. unmatched-drawn start.pre.0 _ start.pre.2 _ start.pre.3 order.fill_identity.ensures
-    spans.fill_spans.ensures _ size.size-cells.ensures.0 l (directions_of start.args.directions) start.pre.4
+    λ l. unmatched-drawn start.requires.0 _ start.requires.2 _ start.requires.3 order.fill_identity.ensures
+    spans.fill_spans.ensures _ size.size-cells.ensures.0 l (directions_of start.args.directions) start.requires.4
     c.find_areas-p.ensures
 
 pub plan_unmatched_spec : {M : Type 1} → statement M

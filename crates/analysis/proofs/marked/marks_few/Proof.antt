@@ -7,7 +7,7 @@ use Rattle.analysis.proofs.marked.marks_few.Tie as tie
 mark-spans-requires : tie.Need-mark_spans-requires
 mark-spans-requires c κs =
     let start : tie.Start = search in
-    (start.pre, zero-arrays 64 (omega arith))
+    (start.requires, zero-arrays 64 (omega arith))
 
 pub marks_few_spec : {M : Type 1} → statement M
 marks_few_spec =

@@ -7,7 +7,7 @@ use Rattle.analysis.proofs.marked.marks_many.Tie as tie
 mark-spans-requires : tie.Need-mark_spans-requires
 mark-spans-requires c κs =
     let start : tie.Start = search in
-    (start.pre, zero-arrays 4096 (omega arith))
+    (start.requires, zero-arrays 4096 (omega arith))
 
 pub marks_many_spec : {M : Type 1} → statement M
 marks_many_spec =

@@ -8,7 +8,7 @@ use Rattle.analysis.proofs.parting.areas_few.Tie as tie
 partition-by-spans-requires : tie.Need-partition_by_spans-requires
 partition-by-spans-requires c κs =
     let start : tie.Start = search in
-    (start.pre, zero-arrays 64 (omega arith))
+    (start.requires, zero-arrays 64 (omega arith))
 
 returns : tie.Need-returns
 returns c =

@@ -71,8 +71,8 @@ plan-by-list-requires c κs =
       },
       passed went_on,
       refl,
-      start.pre.0,
-      start.pre.1,
+      start.requires.0,
+      start.requires.1,
     )
 
 returns-2 : tie.Need-returns

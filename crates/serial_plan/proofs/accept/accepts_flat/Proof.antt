@@ -1,3 +1,5 @@
+use mathlib.Core.Path.{ap}
+use mathlib.Core.Bool.{not}
 use Rattle.serial_links.specs.HeldLimits.{limits_of}
 use Rattle.serial_plan.specs.Few.{few_list}
 use Rattle.serial_plan.proofs.AcceptLaws.{flat-no, flat-yes}
@@ -12,14 +14,13 @@ returns : tie.Need-returns-then-not-path
 returns c =
     let a = c.args in
     flat-no (limits_of a.limits) a.own.now a.lowers.now a.highers.now a.regions.now a.firsts.now a.seconds.now
-    (few_list a.ranks) (few_list a.links) c.group_is_simple_path-path.ensures c.if-not-path.true
+    (few_list a.ranks) (few_list a.links) c.group_is_simple_path-path.ensures (ap not c.if-not-path.true)
 
 returns-2 : tie.Need-returns
 returns-2 c =
-    let path = c.before.before in
-    let a = path.args in
+    let a = c.args in
     flat-yes (limits_of a.limits) a.own.now a.lowers.now a.highers.now a.regions.now a.firsts.now a.seconds.now
-    (few_list a.ranks) (few_list a.links) path.group_is_simple_path-path.ensures c.if-not-path.false c.all_Alike.ensures
+    (few_list a.ranks) (few_list a.links) c.group_is_simple_path-path.ensures (ap not c.if-not-path.false) c.all_alike.ensures
 
 pub accepts_flat_spec : {M : Type 1} → statement M
 accepts_flat_spec = tie.close (tie.spec group-is-simple-path-requires returns (λ c κs. search rules) returns-2)

@@ -1,4 +1,5 @@
-use mathlib.Core.Path.{sym, ◌∙◌, subst}
+use mathlib.Core.Path.{sym, ◌∙◌, ap, subst}
+use mathlib.Core.Bool.{not}
 use Prim.Native.Nat.{ℕ}
 use native.Mathlib.Omega.{arith}
 use Rattle.areas.specs.Spans.{span_in}
@@ -26,13 +27,13 @@ ends-fit c =
     let start = asked (path-of c) in
     let a = start.args in
     ends-slots (RankFits a.own.now) a.firsts.now a.seconds.now (few_list a.links) a.ranks c.group_end_nodes-two.ensures start.requires.3
-    start.pre.5
+    start.requires.5
 
 returns : tie.Need-returns-then-not-pass-path
 returns c =
-    let a = (asked c.before).args in
+    let a = c.args in
     serial-no (limits_of a.limits) a.own.now a.lowers.now a.highers.now a.regions.now a.firsts.now a.seconds.now a.passing.now
-    (few_list a.ranks) (few_list a.links) c.all_on-pass.ensures c.group_is_simple_path-path.ensures c.if-not-pass-path.true
+    (few_list a.ranks) (few_list a.links) c.all_on-pass.ensures c.group_is_simple_path-path.ensures (ap not c.if-not-pass-path.true)
 
 chain-sum-requires : tie.Need-chain_sum-sum-requires
 chain-sum-requires c κs =
@@ -42,34 +43,31 @@ chain-sum-requires c κs =
     let l = limits_of a.limits in
     let so =
     serial-path l a.own.now a.lowers.now a.highers.now a.regions.now a.firsts.now a.seconds.now path.all_on-pass.result
-    (few_list a.ranks) (few_list a.links) path.group_is_simple_path-path.ensures c.if-not-pass-path.false
+    (few_list a.ranks) (few_list a.links) path.group_is_simple_path-path.ensures (ap not c.if-not-pass-path.false)
     in
     let s =
     path-sizes a.lowers.now a.highers.now a.regions.now a.firsts.now a.seconds.now l.least_spans l.most_spans (few_list a.ranks)
     (few_list a.links) so
     in
-    (omega (arith, s.0, s.2, listed-length a.links), omega (arith, s.1, s.2, start.pre.0, listed-length a.links), start.pre.4)
+    (omega (arith, s.0, s.2, listed-length a.links), omega (arith, s.1, s.2, start.requires.0, listed-length a.links), start.requires.4)
 
 rank-distance-requires : tie.Need-rank_distance-far-requires
 rank-distance-requires c κs =
-    let two = c.before.before.before in
+    let two : tie.After-group_end_nodes-two = search in
     let own = (asked (path-of two)).args.own.now in
     (subst (RankFits own) (sym c.index.ensures.0) (ends-fit two 0), subst (RankFits own) (sym c.index-2.ensures.0) (ends-fit two 1))
 
 returns-2 : tie.Need-returns
 returns-2 c =
-    let second = c.before.before in
-    let first = second.before in
-    let sum = first.before in
-    let two = sum.before in
+    let two : tie.After-group_end_nodes-two = search in
     let path = path-of two in
     let a = (asked path).args in
     serial-yes (limits_of a.limits) a.own.now a.lowers.now a.highers.now a.regions.now a.firsts.now a.seconds.now a.passing.now
-    (few_list a.ranks) (few_list a.links) path.all_on-pass.ensures path.group_is_simple_path-path.ensures two.if-not-pass-path.false c.short.ensures
-    sum.chain_sum-sum.ensures
+    (few_list a.ranks) (few_list a.links) path.all_on-pass.ensures path.group_is_simple_path-path.ensures (ap not c.if-not-pass-path.false) c.short.ensures
+    c.chain_sum-sum.ensures
     (c.rank_distance-far.ensures
     ∙ both (λ (i j : ℕ). centre_length (span_in a.own.now i) (span_in a.own.now j))
-    (first.index.ensures.0 ∙ held_first _ two.group_end_nodes-two.ensures) (second.index-2.ensures.0 ∙ held-second _ two.group_end_nodes-two.ensures))
+    (c.index.ensures.0 ∙ held_first _ two.group_end_nodes-two.ensures) (c.index-2.ensures.0 ∙ held-second _ two.group_end_nodes-two.ensures))
 
 pub accepts_serial_spec : {M : Type 1} → statement M
 accepts_serial_spec =
@@ -78,10 +76,10 @@ accepts_serial_spec =
     (λ c κs. λ j. (c.requires.4 j).below)
     (λ c κs. let p = c.requires in (p.1, p.2, λ j. (p.3 j).below, λ j. (p.4 j).below))
     returns
-    (λ c κs. let p = (asked c.before).requires in (p.1, p.2, λ j. (p.4 j).below))
+    (λ c κs. let p = c.requires in (p.1, p.2, λ j. (p.4 j).below))
     chain-sum-requires
-    (λ c κs. (ends-fit c.before 0).below)
-    (λ c κs. (ends-fit c.before.before 1).below)
+    (λ c κs. (ends-fit (search) 0).below)
+    (λ c κs. (ends-fit (search) 1).below)
     rank-distance-requires
     (λ c κs. search rules)
     returns-2)

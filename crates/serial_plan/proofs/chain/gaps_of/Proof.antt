@@ -49,7 +49,7 @@ with-requires c κs =
     let start = asked turn in
     let a = start.args in
     let count = parts-count (gap_at a.firsts.now a.seconds.now a.own.now a.links) turn.loop-j.invariant.1 in
-    (omega (arith, count, c.loop-j-test.true, start.pre.0), gap-value a.firsts.now a.seconds.now a.own.now _ c.gap.ensures)
+    (omega (arith, count, c.loop-j-test.true, start.requires.0), gap-value a.firsts.now a.seconds.now a.own.now _ c.gap.ensures)
 
 loop-again : tie.Need-loop-j-preserved invariant-loop decreases-loop
 loop-again c =

@@ -16,11 +16,9 @@ decreases-loop n serial flat plan₀ i₀ plan i = n - i
 
 loop-again : tie.Need-loop-i-preserved invariant-loop decreases-loop
 loop-again c =
-    let turning = c.before.before.before in
-    let in-loop = turning.before in
-    let start = in-loop.before in (
-      omega (arith, turning.loop-i-test.true),
-      filled_next c.Goes-to.result in-loop.loop-i.invariant.1 (omega (arith, turning.loop-i-test.true, start.requires.0)) c.Goes-to.ensures,
+    (
+      omega (arith, c.loop-i-test.true),
+      filled_next c.goes_to.result c.loop-i.invariant.1 (omega (arith, c.loop-i-test.true, c.requires.0)) c.goes_to.ensures,
     )
 
 pub combine_spec : {M : Type 1} → statement M

@@ -17,24 +17,17 @@ decreases-loop limits n own bits lowers highers regions firsts seconds links cho
 
 one-flat-requires : tie.Need-one_flat-requires invariant-loop decreases-loop
 one-flat-requires c κs =
-    let at-loop = c.before.before in
-    let start = at-loop.before in
-    (start.requires.0, start.requires.1, omega (arith, c.loop-i-test.true, start.requires.1.fit.few), at-loop.loop-i.invariant.1)
+    (c.requires.0, c.requires.1, omega (arith, c.loop-i-test.true, c.requires.1.fit.few), c.loop-i.invariant.1)
 
 element-write-into : tie.Need-bounds-into-i invariant-loop decreases-loop
 element-write-into c =
-    let turning = c.before.before in
-    let at-loop = turning.before in
-    let start = at-loop.before in
-    omega (arith, turning.loop-i-test.true, start.requires.1.fit.few, at-loop.loop-i.invariant.1.size)
+    omega (arith, c.loop-i-test.true, c.requires.1.fit.few, c.loop-i.invariant.1.size)
 
 loop-again : tie.Need-loop-i-preserved invariant-loop decreases-loop
 loop-again c =
-    let turning = c.before.before in
-    let at-loop = turning.before in
-    let start = at-loop.before in (
-      omega (arith, turning.loop-i-test.true),
-      filled_next c.one_flat.result at-loop.loop-i.invariant.1 (omega (arith, turning.loop-i-test.true, start.requires.1.fit.few)) c.one_flat.ensures,
+    (
+      omega (arith, c.loop-i-test.true),
+      filled_next c.one_flat.result c.loop-i.invariant.1 (omega (arith, c.loop-i-test.true, c.requires.1.fit.few)) c.one_flat.ensures,
     )
 
 pub into_flat_spec : {M : Type 1} → statement M

@@ -12,15 +12,13 @@ returns c = no-group _ c.if-joined-i-ne1.true
 
 returns-2 : tie.Need-returns-then-e-i
 returns-2 c =
-    let entry = c.before.before.before.before.before in
     let e = c.judged_before-e in
-    entry.requires.3.each e.result (omega (arith, c.if-e-i.true)) ∙ together-serial _ _ _ _ _ _ _ _ _ _ _ _ _ _ _ e.ensures.1 e.ensures.2 _
+    c.requires.3.each e.result (omega (arith, c.if-e-i.true)) ∙ together-serial _ _ _ _ _ _ _ _ _ _ _ _ _ _ _ e.ensures.1 e.ensures.2 _
 
 returns-3 : tie.Need-returns
 unfolding serial_into
 returns-3 c =
-    let if1-left = c.before.before.before.before.before in
-    one-group if1-left.if-joined-i-ne1.false (c.short.ensures ∙ c.judge_serial.ensures.0)
+    one-group c.if-joined-i-ne1.false (c.short.ensures ∙ c.judge_serial.ensures.0)
 
 pub one_serial_spec : {M : Type 1} → statement M
 one_serial_spec =

@@ -23,30 +23,23 @@ few c = omega (arith, c.loop-k.invariant.0, c.requires.few)
 
 mark-link-requires : tie.Need-mark_link-requires invariant-loop decreases-loop
 mark-link-requires c κs =
-    let turning = c.before.before.before.before in
-    let in-loop = turning.before in
-    let start = in-loop.before.before in
-    let l = in-loop.loop-k in
-    let p = start.requires in
-    let on : l.k - 1 < start.args.links = omega (arith, l.invariant.0, turning.loop-k-test.true) in
+    let l = c.loop-k in
+    let p = c.requires in
+    let on : l.k - 1 < c.args.links = omega (arith, l.invariant.0, c.loop-k-test.true) in
     (l.invariant.1.size, p.first-in (l.k - 1) on, p.second-in (l.k - 1) on)
 
 loop-again : tie.Need-loop-k-preserved invariant-loop decreases-loop
 loop-again c =
-    let turning = c.before.before.before.before.before in
-    let in-loop = turning.before in
-    let start = in-loop.before.before in
-    let l = in-loop.loop-k in
-    let a = start.args in (
+    let l = c.loop-k in
+    let a = c.args in (
       omega (arith, l.invariant.0),
-      marks-next a.chosen.now a.firsts.now a.seconds.now a.links turning.loop-k-test.true l.invariant.0 l.invariant.1
+      marks-next a.chosen.now a.firsts.now a.seconds.now a.links c.loop-k-test.true l.invariant.0 l.invariant.1
           c.mark_link.ensures,
     )
 
 returns : tie.Need-returns invariant-loop decreases-loop
 returns c =
-    let start = c.before.before.before in
-    let a = start.args in
+    let a = c.args in
     marks-end a.chosen.now a.firsts.now a.seconds.now a.links c.loop-k.invariant.1 (omega (arith, c.loop-k-test.false))
 
 pub mark_joined_spec : {M : Type 1} → statement M
@@ -57,11 +50,11 @@ mark_joined_spec =
     decreases-loop
     loop-holds
     (λ c. search rules)
-    (λ c. omega (arith, few c.before.before))
-    (λ c. omega (arith, few c.before.before.before))
-    (λ c. omega (arith, few c.before.before.before))
-    (λ c. omega (arith, few c.before.before.before.before))
-    (λ c. omega (arith, few c.before.before.before.before))
+    (λ c. omega (arith, few (search)))
+    (λ c. omega (arith, few (search)))
+    (λ c. omega (arith, few (search)))
+    (λ c. omega (arith, few (search)))
+    (λ c. omega (arith, few (search)))
     mark-link-requires
     (λ c. search rules)
     loop-again

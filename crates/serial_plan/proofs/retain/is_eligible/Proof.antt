@@ -8,8 +8,7 @@ use Rattle.serial_plan.proofs.retain.is_eligible.Tie as tie
 
 returns : tie.Need-returns
 returns c =
-    let start = c.before.before.before in
-    c.eligible.ensures ∙ ap (λ (w : Float). le w (start.args.least ⊕ (limits_of start.args.limits).width)) c.width_of_lem.ensures
+    c.eligible.ensures ∙ ap (λ (w : Float). le w (c.args.least ⊕ (limits_of c.args.limits).width)) c.width_of.ensures
 
 pub is_eligible_spec : {M : Type 1} → statement M
 is_eligible_spec =

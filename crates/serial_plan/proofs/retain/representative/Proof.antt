@@ -10,48 +10,37 @@ use Rattle.serial_plan.proofs.retain.representative.Tie as tie
 
 index-requires : tie.Need-index-requires
 index-requires c κs =
-    let start = c.before.before.before.before.before in
-    (start.requires.2 0).below
+    (c.requires.2 0).below
 
 returns : tie.Need-returns-then-among-eq0
 returns c =
-    let at-eligible = c.before.before.before in
-    let at-width-of = at-eligible.before in
-    let at-least-bits = at-width-of.before in
-    let start = at-least-bits.before in
-    let bits = start.args.bits.now in
-    let limits = start.args.limits in
-    let ranks = start.args.ranks in (
-      retained-none (limits_of limits) start.args.own.now bits ranks
-          (eligible-as (limits_of limits) bits (few_list ranks) at-width-of.width_of_lem.ensures at-least-bits.least_bits.ensures.0
-          at-eligible.eligible-among.ensures) c.if-among-eq0.true start.requires.0 c.index.ensures.0,
+    let bits = c.args.bits.now in
+    let limits = c.args.limits in
+    let ranks = c.args.ranks in (
+      retained-none (limits_of limits) c.args.own.now bits ranks
+          (eligible-as (limits_of limits) bits (few_list ranks) c.width_of-least.ensures c.least_bits.ensures.0
+          c.eligible-among.ensures) c.if-among-eq0.true c.requires.0 c.index.ensures.0,
       c.index.ensures.1,
     )
 
 nearest-requires : tie.Need-nearest-requires
 nearest-requires c κs =
-    let at-eligible = c.before.before in
-    let at-width-of = at-eligible.before in
-    let start = at-width-of.before.before in (
-      start.requires.0,
-      positive at-eligible.eligible-among.result.count c.if-among-eq0.false,
-      start.requires.2,
-      kept-slots (RankFits start.args.own.now) (fine_in (limits_of start.args.limits) start.args.bits.now at-width-of.width_of_lem.result)
-          start.args.ranks at-eligible.eligible-among.ensures start.requires.2 start.requires.4,
+    (
+      c.requires.0,
+      positive c.eligible-among.result.count c.if-among-eq0.false,
+      c.requires.2,
+      kept-slots (RankFits c.args.own.now) (fine_in (limits_of c.args.limits) c.args.bits.now c.width_of-least.result)
+          c.args.ranks c.eligible-among.ensures c.requires.2 c.requires.4,
     )
 
 returns-2 : tie.Need-returns
 returns-2 c =
-    let at-eligible = c.before.before.before in
-    let at-width-of = at-eligible.before in
-    let at-least-bits = at-width-of.before in
-    let start = at-least-bits.before in
-    let bits = start.args.bits.now in
-    let limits = start.args.limits in
-    let ranks = start.args.ranks in (
-      retained-some (limits_of limits) start.args.own.now bits ranks
-          (eligible-as (limits_of limits) bits (few_list ranks) at-width-of.width_of_lem.ensures at-least-bits.least_bits.ensures.0
-          at-eligible.eligible-among.ensures) start.requires.1 c.if-among-eq0.false c.nearest.ensures.0,
+    let bits = c.args.bits.now in
+    let limits = c.args.limits in
+    let ranks = c.args.ranks in (
+      retained-some (limits_of limits) c.args.own.now bits ranks
+          (eligible-as (limits_of limits) bits (few_list ranks) c.width_of-least.ensures c.least_bits.ensures.0
+          c.eligible-among.ensures) c.requires.1 c.if-among-eq0.false c.nearest.ensures.0,
       c.nearest.ensures.1,
     )
 

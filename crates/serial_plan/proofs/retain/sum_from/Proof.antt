@@ -59,7 +59,7 @@ returns : tie.Need-returns invariant-loop decreases-loop
 returns c =
     let turn : Turn = search in
     let start = asked turn in
-    sum-listed start.args.own.now start.args.ranks start.args.i start.requires.0 turn.loop-j.inv c.loop-j-test.false
+    sum-listed start.args.own.now start.args.ranks start.args.i start.requires.0 turn.loop-j.invariant c.loop-j-test.false
 
 pub sum_from_spec : {M : Type 1} → statement M
 sum_from_spec =

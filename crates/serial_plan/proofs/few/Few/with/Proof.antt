@@ -1,5 +1,4 @@
 use borrow.Author.Rules.{rules}
-use borrow.Author.Tests.{not-true, not-false}
 use Rattle.serial_plan.specs.Few.{pushed}
 use Rattle.serial_plan.proofs.few.Few.with.Statement.{statement}
 use Rattle.serial_plan.proofs.few.Few.with.Tie as tie
@@ -7,14 +6,13 @@ use Rattle.serial_plan.proofs.few.Few.with.Tie as tie
 returns-2 : tie.Need-returns
 unfolding pushed
 returns-2 c =
-    let start = c.before.before.before in
-    rw (not-false start.args.on c.if-not-on.false)
+    rw c.if-not-on.false
 
 pub with_spec : {M : Type 1} → statement M
 with_spec =
     tie.close
     (tie.spec
-    (λ c. rw (not-true c.args.on c.if-not-on.true))
+    (λ c. rw c.if-not-on.true)
     (λ c. search rules)
     (λ c. search rules)
     (λ c. search rules)
