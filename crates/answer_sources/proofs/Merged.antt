@@ -51,6 +51,7 @@ gather-map f g (x ∷ xs) = ap (λ t. f (g x) ++ t) (gather-map f g xs)
 
 -- A list of one member that has i.
 only-member : {A : Type 0} {i : A} {l : List A} → Memᴰ i l → length l ≡ 1 → l ≡ i ∷ []
+only-member {A = A} {i = i} {l = []} m h = elim m [ ]
 only-member {l = x ∷ []} (Memᴰ.head e) h = ap (λ z. z ∷ []) (sym e)
 only-member {l = x ∷ []} (Memᴰ.tail m) h = absurd (Memᴰ.not-nil m)
 only-member {l = x ∷ y ∷ l} m h = absurd (omega arith)

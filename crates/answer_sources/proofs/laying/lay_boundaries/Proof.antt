@@ -67,7 +67,9 @@ slice-write-starts : tie.Need-bounds-starts-base invariant-loop decreases-loop
 slice-write-starts c = omega (arith, (few c).3)
 
 copy-stands : tie.Need-bounds-stands-b invariant-loop decreases-loop
-copy-stands c = omega (arith, c.loop-b-test.true, (given c).requires.0.boundary-limit)
+copy-stands c =
+    let start : tie.Start invariant-loop decreases-loop = search in
+    omega (arith, c.loop-b-test.true, start.requires.0.boundary-limit)
 
 add-counts : tie.Need-overflow_add-counts invariant-loop decreases-loop
 add-counts c =

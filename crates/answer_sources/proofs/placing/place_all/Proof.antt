@@ -15,7 +15,7 @@ job-known c = search
 abbrev laid : tie.After-read_keys → tie.After-lay_boundaries
 laid c = search
 
-abbrev keys-read : tie.After-sort-parts-arg4 → tie.After-read_keys
+abbrev keys-read : tie.After-sort_parts-arg-3-1 → tie.After-read_keys
 keys-read c = search
 
 abbrev sorted : tie.After-rank_observations-arg-3-1 → tie.After-sort_parts

@@ -32,7 +32,7 @@ inside c = omega (arith, (given c).requires.0, c.loop-p-test.true)
 add-rank-one : tie.Need-overflow_add-base invariant-loop decreases-loop
 add-rank-one c =
     let turning : tie.In-loop-p invariant-loop decreases-loop = search in
-    omega (arith, turning.loop-p-test.true, (given turning).requires.1.first-room, (given turning).good.1.1.1.1.0)
+    omega (arith, turning.loop-p-test.true, (given turning).requires.1.first-room, (given turning).well_formed.1.1.1.1.0)
 
 rank-one-requires : tie.Need-rank_one-requires invariant-loop decreases-loop
 rank-one-requires c κs =
