@@ -77,9 +77,9 @@ returns c =
     worked_same (sym three.size-at.ensures.0) (sym three.size-n.ensures.0) (sym five.size.ensures.0)
     (sym three.size-m.ensures.0) (sym five.size-2.ensures.0)
     (worked-out (all five) (marked five).mark_standing.ensures placed.place_all.ensures.0 placed.place_all.ensures.1
-    (omega (arith, (keyed starts).keys.given, start.requires.1.keys-few))
-    (omega (arith, (named starts).firsts.given, start.requires.1.firsts-room, three.size-n.ensures.0))
-    (omega (arith, starts.starts.given, start.requires.1.starts-room, three.size-n.ensures.0, three.size-m.ensures.0)))
+    (omega (arith, (keyed starts).keys-1.given, start.requires.1.keys-few))
+    (omega (arith, (named starts).firsts-1.given, start.requires.1.firsts-room, three.size-n.ensures.0))
+    (omega (arith, starts.starts-1.given, start.requires.1.starts-room, three.size-n.ensures.0, three.size-m.ensures.0)))
 
 pub place_job_spec : {M : Type 1} → statement M
 place_job_spec =

@@ -24,13 +24,13 @@ given c = start_of (shared (known c))
 abbrev read : tie.After-gather_kept-count → tie.After-size-base
 read c = search
 
-abbrev lent : tie.After-write-kept-arg3 → tie.After-places-1
+abbrev lent : tie.After-write_kept-arg-1 → tie.After-places-1
 lent c = search
 
 abbrev gathered : tie.After-places-1 → tie.After-gather_kept-count
 gathered c = search
 
-abbrev kept : tie.After-write-kept-arg3 → tie.After-gather_kept-count
+abbrev kept : tie.After-write_kept-arg-1 → tie.After-gather_kept-count
 kept c = gathered (lent c)
 
 -- the header's words, once those are read that the code needs
@@ -84,7 +84,7 @@ returns c =
     let four = read found in
     let both = found.gather_kept-count.ensures _ _ (worked four).placed in
     answered-same (kept-is _ _ (words four) (given four).args.order.now (given four).args.plan.now (ordered four))
-    (written.write-Kept.ensures _ _ (sym both.1) both.0)
+    (written.write_kept.ensures _ _ (sym both.1) both.0)
 
 pub write_gathered_spec : {M : Type 1} → statement M
 write_gathered_spec =

@@ -8,7 +8,7 @@ sort-sources-requires : tie.Need-sort_sources-requires
 sort-sources-requires c κs =
     let start : tie.Start = search in
     let back : tie.After-s-1 = search in
-    omega (arith, back.s.given, start.requires.room)
+    omega (arith, back.s-1.given, start.requires.room)
 
 returns : tie.Need-returns
 returns c =

@@ -95,13 +95,13 @@ write-boundaries-requires : tie.Need-write_boundaries-requires
 write-boundaries-requires c κs =
     let rest = c.before.before in
     let pre = (given (summed rest)).requires in
-    record { inside = record-in pre; room = omega (arith, rest.answer.given); limit = count-few pre }
+    record { inside = record-in pre; room = omega (arith, rest.answer-1.given); limit = count-few pre }
 
 write-observations-requires : tie.Need-write_observations-requires
 write-observations-requires c κs =
     let rest = c.before.before in
     let whole = headed rest in
-    (omega (arith, whole.answer.given, rest.answer-2-1.given), omega (arith, (few (summed whole)).1))
+    (omega (arith, whole.answer-1.given, rest.answer-2-1.given), omega (arith, (few (summed whole)).1))
 
 write-sources-requires : tie.Need-write_sources-requires
 write-sources-requires c κs =
@@ -116,7 +116,7 @@ write-sources-requires c κs =
       seen-limit = seen_few pre;
       room = omega (
         arith,
-        (headed (placed rest)).answer.given,
+        (headed (placed rest)).answer-1.given,
         (placed rest).answer-2-1.given,
         rest.answer-3-1.given,
         fits.if-answer-total.false,
