@@ -27,7 +27,7 @@ shared-slice-read-size c =
 read-boundary-requires : tie.Need-read_boundary-x-requires
 read-boundary-requires c κs =
     let rank : tie.After-size-b = search in
-    let start = start_of rank.before.before.before in
+    let start = start_of rank.before.before.before.before in
     omega (arith, start.requires.0.records-in, place_in start.requires.0 start.requires.1 rank.size-b.ensures.0)
 
 -- before the call: what is known of the rank that goes into rank i
@@ -42,7 +42,7 @@ module _ (c : tie.After-size-2) where
   rank = from.before.before
 
   abbrev goes : tie.Else-size-i
-  goes = rank.before.before
+  goes = rank.before.before.before
 
   abbrev start : tie.Start
   start = start_of goes.before

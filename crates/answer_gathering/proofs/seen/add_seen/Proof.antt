@@ -28,7 +28,7 @@ shared-slice-read-size c =
 element-copy-out-add-seen-places : tie.Need-bounds-stands-b
 element-copy-out-add-seen-places c =
     let rank : tie.After-size-b = search in
-    let start = start_of rank.before.before.before in
+    let start = start_of rank.before.before.before.before in
     omega (arith, start.requires.0.few, start.requires.1, place-small start.requires.0 start.requires.1 rank.size-b.ensures.0)
 
 add-seen-places-requires : tie.Need-add_seen_places-requires
@@ -37,7 +37,7 @@ add-seen-places-requires c κs =
     let first = many.before in
     let boundary = first.before.before in
     let rank = boundary.before in
-    let goes = rank.before.before in
+    let goes = rank.before.before.before in
     let aim = goes.before in
     let start = start_of aim in (
       own-place start.requires.0 start.requires.1 rank.size-b.ensures.0,
@@ -55,7 +55,7 @@ returns-2 c =
     let first = many.before in
     let boundary = first.before.before in
     let rank = boundary.before in
-    let goes = rank.before.before in
+    let goes = rank.before.before.before in
     let aim = goes.before in
     let start = start_of aim in
     there aim.size.ensures.0 goes.if-size-i.false
