@@ -6,11 +6,9 @@ use mathlib.Core.List.Memᴰ
 use mathlib.Core.List.{List, map, map-map, Memᴰ}
 use Prim.Native.Nat.{ℕ, ◌^◌, ◌≤◌}
 use native.Mathlib.Omega.{arith}
-use lib.Ieee.{Float}
 use lib.ListN.{length, length-map}
 use Rattle.length.specs.Root.{Square}
 use Rattle.length.specs.Length.{length_at}
-use Rattle.length.specs.declared.Length.{Length}
 use Rattle.position.specs.declared.Span.{Span}
 use Rattle.serial_sums.specs.Sums.{ascending_sum}
 use Rattle.serial_sums.specs.Totals.{length_value, all_exact, ascending_total}
@@ -23,7 +21,6 @@ use Rattle.context.specs.Listing.{Item}
 use Rattle.serial_groups.specs.Listing.{ends_at}
 use Rattle.serial_groups.specs.Links.{LinkAt}
 use Rattle.serial_groups.specs.Groups.{LinkGroup}
-use Rattle.serial_groups.specs.SimplePath.{ends_of}
 use Rattle.serial_groups.specs.Serial.{rank_length, chain_sum, end_distance, chain_total, end_length}
 use Rattle.serial_groups.specs.ConnectedPart.{LinkOf}
 

@@ -1,6 +1,6 @@
 -- The laws of a link that is measured cell by cell: it begins with no cell, takes each of its region's cells, and then has its measure.
 use mathlib.Core.Path.{◌≡◌, refl, ◌∙◌, ap}
-use mathlib.Core.Bool.{Bool, true, false, ◌&&◌}
+use mathlib.Core.Bool.{true, ◌&&◌}
 use mathlib.Core.List.{List, [], ◌∷◌, ◌++◌, map, map-append}
 use Prim.Native.Nat.{ℕ, ◌/◌, ◌%◌}
 use lib.Ieee.{Float}

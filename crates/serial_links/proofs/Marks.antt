@@ -1,5 +1,5 @@
 -- Lengths with their marks: the values are those of the unmarked definitions, so that nothing that is summed or compared moves.
-use mathlib.Core.Path.{◌≡◌, refl, sym, ◌∙◌, ap}
+use mathlib.Core.Path.{◌≡◌, refl, sym, ap}
 use mathlib.Core.List.{List, map, map-map}
 use Rattle.position.specs.declared.PixelPosition.{PixelPosition}
 use Rattle.position.specs.declared.Span.{Span}

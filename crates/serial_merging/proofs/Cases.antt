@@ -9,7 +9,6 @@ use Rattle.order.specs.Sorting.{sort, insert, sort_once, include}
 use Rattle.order.specs.Keys.{lex_le}
 use Rattle.order.specs.Lists.{gather, up_from, has}
 use Rattle.order.specs.Pairs.{Pairs, more}
-use Rattle.order.specs.Pairs as Pairs
 use Rattle.position.specs.Order.{pos_le, canonical}
 use Rattle.position.specs.declared.Span.{Span}
 use Rattle.format.specs.Values.{Ramp, Observation, Boundary}

@@ -31,7 +31,7 @@ use Rattle.length.specs.Total.{total_key, total_le}
 use Rattle.length.specs.declared.Length.{Length}
 use Rattle.serial_sums.specs.Numbers.{Number}
 use Rattle.serial_sums.specs.Sums.{no_later, sum_of, ascending_sum, Patterns}
-use Rattle.serial_sums.specs.Totals.{length_value, is_exact, all_exact, ascending_total}
+use Rattle.serial_sums.specs.Totals.{length_value, is_exact, ascending_total}
 use Rattle.serial_sums.specs.Parts.{PartValue, value_bits, PartsOf, WithPart}
 use Rattle.serial_sums.specs.declared.Parts.{Parts}
 use Rattle.serial_sums.proofs.Numbers.{upward-number, upward-bits, length-upward, length-fits}

@@ -5,7 +5,7 @@ use mathlib.Core.Bool.{Bool, true, false, true≢false}
 use mathlib.Core.List.Memᴰ
 use mathlib.Core.List.Permᴰ
 use mathlib.Core.List.{List, [], ◌∷◌, map, map-map, map-id, Memᴰ, Permᴰ}
-use Prim.Native.Nat.{ℕ, zero, suc, ◌+◌, ◌*◌, ◌^◌, ◌≤◌, ◌<◌}
+use Prim.Native.Nat.{ℕ, ◌+◌, ◌*◌, ◌^◌, ◌≤◌}
 use native.Mathlib.Nat.{mul-pos}
 use native.Mathlib.Omega.{arith}
 use lib.Dec.{T}
@@ -17,13 +17,12 @@ use lib.ListN.{length}
 use Rattle.lists.specs.Rows.{sum}
 use Rattle.lists.proofs.Rows.{sum-perm}
 use Rattle.order.specs.Sorting.{sort}
-use Rattle.order.specs.Tests.{every}
 use Rattle.order.proofs.Members.{perm-mem, map-ext}
 use Rattle.order.proofs.Merge.{sort-length}
 use Rattle.order.proofs.Sort.{sort-perm, sort-map}
 use Rattle.order.proofs.Tests.{every-mem, mem-every, every-perm}
 use Rattle.length.specs.Root.{Square, whole_root}
-use Rattle.length.specs.Nearest.{PlainFloat, num, den, square}
+use Rattle.length.specs.Nearest.{square}
 use Rattle.length.specs.Length.{length_of, length_at}
 use Rattle.length.specs.Floats.{◌⊕◌}
 use Rattle.length.specs.declared.Length.{Length}
@@ -33,7 +32,7 @@ use Rattle.length.proofs.Values.{cross, is_plain}
 use Rattle.length.proofs.Quotient.{exact}
 use Rattle.length.proofs.Lengths.{length-half, exact-iff}
 use Rattle.serial_sums.specs.Sums.{added_to, sum_of, no_later, ascending_sum}
-use Rattle.serial_sums.specs.Totals.{length_value, is_exact, total_of, ascending_total}
+use Rattle.serial_sums.specs.Totals.{length_value, is_exact, ascending_total}
 use Rattle.serial_sums.specs.TrueTotal.{TrueTotal}
 use Rattle.serial_sums.proofs.Numbers.{length-fits}
 

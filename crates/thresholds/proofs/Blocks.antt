@@ -1,7 +1,7 @@
 -- The theorems about blocks: which are admitted, that their numbers settle their bytes, and the block of source document 000.
 use mathlib.Core.Path.{◌≡◌, refl, sym, ◌∙◌, ap, ap₂}
 use mathlib.Core.Logic.{◌↔◌}
-use mathlib.Core.Bool.{true, false, not}
+use mathlib.Core.Bool.{false, not}
 use mathlib.Core.List.{List, [], ◌∷◌, ◌++◌, flat_map}
 use Prim.Native.Nat.{ℕ, ◌+◌, ◌≤◌, ◌<◌}
 use native.Mathlib.Omega.{arith}
@@ -12,12 +12,11 @@ use lib.ListN.{length}
 use Rattle.lists.specs.Rows.{rows}
 use Rattle.length.specs.Floats.{whole_float, finite_up}
 use Rattle.length.proofs.BitOrder.{bits_up, range-iff}
-use Rattle.wire.specs.Bytes.{part, number, number_at, bytes, words, u32_at, u64_at, u64_bytes, AreBytes}
+use Rattle.wire.specs.Bytes.{part, number, number_at, bytes, words, u32_at, u64_at, AreBytes}
 use Rattle.wire.proofs.Parts.{part_join, part-whole}
 use Rattle.format.specs.Bounds.{max_width_bits}
 use Rattle.format.proofs.Trip.{number-trip}
 use Rattle.format.proofs.RowTrips.{rows_write}
-use Rattle.serial_links.specs.Limits.{Limits}
 use Rattle.thresholds.specs.Block.{block_at, head_bytes, number_bytes, block_bytes, max_cosine_bits, block_fault, limits_in, numbers000, block000}
 use Rattle.thresholds.specs.Admitted.{FromZero, AdmittedBlock, encode_limits, Block000}
 use Rattle.thresholds.proofs.Faulty.{RightBlock, block-right, right-block}

@@ -1,5 +1,5 @@
 -- The numbers of source document 000 as a block has them.
-use mathlib.Core.Path.{◌≡◌, refl, ◌∙◌, ap}
+use mathlib.Core.Path.{◌≡◌, refl, ap}
 use mathlib.Core.Bool.{not}
 use Prim.Native.Nat.{ℕ}
 use lib.Dec.{T}
@@ -7,7 +7,6 @@ use lib.Ieee.{Float, binary64, is_nan, of_bits, to_bits}
 use Rattle.serial_links.specs.Limits.{Limits, limits000}
 use Rattle.serial_links.specs.HeldLimits.{limits_of}
 use Rattle.serial_links.specs.declared.limits.Limits.{Limits as LimitsHeld}
-use Rattle.thresholds.specs.declared.block.Block.{Block}
 use Rattle.thresholds.specs.Block.{numbers000}
 
 -- an f64 with these bits is a number, and has these bits

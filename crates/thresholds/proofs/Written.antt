@@ -1,14 +1,13 @@
 -- A block written field by field, and the limits read from one.
-use mathlib.Core.Path.{◌≡◌, refl, sym, ◌∙◌, ap}
-use mathlib.Core.List.{List, [], ◌∷◌, ◌++◌, flat_map}
-use Prim.Native.Nat.{ℕ, ◌+◌, ◌≤◌}
+use mathlib.Core.Path.{◌≡◌, refl, ◌∙◌, ap}
+use mathlib.Core.List.{List, [], ◌∷◌, ◌++◌}
+use Prim.Native.Nat.{ℕ, ◌≤◌}
 use native.Mathlib.Omega.{arith}
 use lib.Ieee.{Float, binary64, of_bits}
 use lib.ListN.{length}
 use Rattle.wire.specs.Bytes.{splice, u32_bytes, u64_bytes, words}
 use Rattle.format.proofs.Writes.{then-write}
 use Rattle.format.proofs.Fields.{fields-long, field-first, field-more}
-use Rattle.serial_links.specs.Limits.{Limits}
 use Rattle.thresholds.specs.declared.block.Block.{Block}
 use Rattle.thresholds.specs.Block.{block_size, block_at, head_bytes, number_bytes, block_bytes, limits_in}
 

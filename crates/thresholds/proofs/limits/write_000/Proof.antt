@@ -1,4 +1,4 @@
-use mathlib.Core.Path.{◌≡◌, ◌∙◌, ap}
+use mathlib.Core.Path.{◌∙◌, ap}
 use Rattle.wire.specs.Bytes.{splice}
 use Rattle.thresholds.specs.declared.block.Block.{Block}
 use Rattle.thresholds.specs.Block.{block_bytes, block000}
