@@ -53,7 +53,8 @@ flat-part f (x ∷ l) d g (suc k) h e =
     ∙ ap (take (length (f (get_or l k d)))) (drop-append-add (f x) (flat_map f l) (sum_below (λ i. g (suc i)) k))
     ∙ flat-part f l d (λ i. g (suc i)) k (omega arith) (λ i j. e (suc i) (omega arith))
 
-pub flat-at : {A B : Type 0} (f : A → List B) (l : List A) (d : A) (g : ℕ → ℕ) (k : ℕ) → k < length l → ((i : ℕ) → i < length l → g i ≡ length (f (get_or l i d)))
+pub flat-at : {A B : Type 0} (f : A → List B) (l : List A) (d : A) (g : ℕ → ℕ) (k : ℕ)
+    → k < length l → ((i : ℕ) → i < length l → g i ≡ length (f (get_or l i d)))
     → (i : ℕ) (b : B) → i < length (f (get_or l k d)) → get_or (flat_map f l) (sum_below g k + i) b ≡ get_or (f (get_or l k d)) i b
 flat-at f l d g k h e i b j =
     sym (get_or-drop (sum_below g k) (flat_map f l) i b)

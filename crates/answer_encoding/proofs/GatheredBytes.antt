@@ -32,8 +32,8 @@ use Rattle.answer_sources.specs.Packed.{source_pack, packed}
 use Rattle.format.specs.Records.{observation_words}
 use Rattle.answer_sources.specs.Placed.{boundary_rows, HoldsObservation}
 use Rattle.answer_sources.specs.Gathered.{no_observation, Gathered}
-use Rattle.answer_encoding.specs.Pieces.{pieces, key_source, key_span, key_bits, kept_record, kept_piece, key_piece, run_from, run_length, place_run, place_piece}
-use Rattle.answer_encoding.specs.Pieces.{runs_from, own_piece, group_piece, cited_total, written_bytes}
+use Rattle.answer_encoding.specs.Pieces.{pieces, key_source, key_span, key_bits, kept_record, kept_piece, key_piece, run_from, run_length, place_run}
+use Rattle.answer_encoding.specs.Pieces.{place_piece, runs_from, own_piece, group_piece, cited_total, written_bytes}
 use Rattle.answer_encoding.proofs.Flats.{pieces-flat, flat-flat, below-sum, flat-at, flat-within}
 use Rattle.answer_encoding.proofs.Lengths.{part-short}
 
@@ -171,7 +171,8 @@ module _ {s : List ℕ} {at from n : ℕ} {ks : List Boundary} {kept owns seens 
     here = get_or ks k no_boundary
 
     seen-run : (i : ℕ) → i < length here.observations
-        → place_run starts counts keys (get_or seen (sum_below (elements seens) k + i) 0) ≡ flat_map source_bytes (get_or here.observations i no_observation).sources
+        → place_run starts counts keys (get_or seen (sum_below (elements seens) k + i) 0)
+        ≡ flat_map source_bytes (get_or here.observations i no_observation).sources
     unfolding observations_of
     seen-run i l =
         let j = sum_below (elements seens) k + i in

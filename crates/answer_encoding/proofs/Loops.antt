@@ -15,8 +15,8 @@ use Rattle.position.specs.declared.Span.{Span}
 use Rattle.answer_sources.proofs.Lays.{below_next}
 use Rattle.lists.specs.Rows.{sum, rows}
 use Rattle.lists.proofs.Rows.{sum-prefix}
-use Rattle.answer_encoding.specs.Pieces.{pieces, key_source, key_span, key_bits, kept_record, kept_piece, key_piece, run_from, run_length, place_run, place_piece}
-use Rattle.answer_encoding.specs.Pieces.{runs_from, own_piece, group_piece, cited_total}
+use Rattle.answer_encoding.specs.Pieces.{pieces, key_source, key_span, key_bits, kept_record, kept_piece, key_piece, run_from, run_length, place_run}
+use Rattle.answer_encoding.specs.Pieces.{place_piece, runs_from, own_piece, group_piece, cited_total}
 use Rattle.answer_encoding.specs.Answered.{RunsWritten, OwnPieceRoom, SourceRoom}
 use Rattle.answer_encoding.proofs.Writing.{pieces_none, length-next, piece-written, length-written, length-even, length-fewer}
 use Rattle.answer_encoding.proofs.Lengths.{part-short}

@@ -64,7 +64,8 @@ module _ {s : List ℕ} {at from count : ℕ} {kept owns seens owned seen first 
     words_same = let b = ap (cited_total seen starts counts keys) eo in omega arith
 
     pub all-written : (t0 : List ℕ) {t1 t2 t3 t4 : List ℕ} → 24 + count * 40 + o * 28 + (own + c) * 8 ≤ length t0
-        → t1 ≡ splice t0 0 (flat_map u32_bytes (answer_words count o (own + c))) → t2 ≡ splice t1 24 (pieces count (kept_piece (boundary_rows s at) kept owns seens))
+        → t1 ≡ splice t0 0 (flat_map u32_bytes (answer_words count o (own + c)))
+        → t2 ≡ splice t1 24 (pieces count (kept_piece (boundary_rows s at) kept owns seens))
         → t3 ≡ splice t2 (24 + count * 40) (pieces o (λ q. place_piece first second third starts counts keys (get_or seen q 0)))
         → t4 ≡ splice t3 (24 + count * 40 + o * 28) (pieces count (group_piece s from owns seens owned seen starts counts keys)) → t4 ≡ splice t0 0 all
     unfolding written_bytes

@@ -73,7 +73,8 @@ own_piece s from owned a n = flat_map source_bytes (sort_by source_key (placed_s
 -- "Each boundary's own, then those of its observations."
 unfoldable pub group_piece : (s : List ℕ) (from : ℕ) (owns seens owned seen starts counts keys : List ℕ) → ℕ → List ℕ
 group_piece s from owns seens owned seen starts counts keys k =
-    own_piece s from owned (sum_below (elements owns) k) (get_or owns k 0) ++ runs_from seen starts counts keys (sum_below (elements seens) k) (get_or seens k 0)
+    own_piece s from owned (sum_below (elements owns) k) (get_or owns k 0)
+    ++ runs_from seen starts counts keys (sum_below (elements seens) k) (get_or seens k 0)
 
 -- How many sources the first n of the observations have.
 abbrev pub cited_total : (seen starts counts keys : List ℕ) → ℕ → ℕ

@@ -63,7 +63,8 @@ module _ {heads : ℕ} {job : List ℕ} {base first count x cell : ℕ} {links p
       ap (λ (c : ℕ). heads + 2 * (get_or new c 0 - 1) + halves z d % 2) (same-walk z d before)
       ∙ ap (λ (v : ℕ). heads + 2 * (v - 1) + halves z d % 2) (used (link_cell heads links z d) (cell-within g (omega arith) z d before) (along d (omega arith)))
 
-  same-link : (z d : ℕ) → ((e : ℕ) → e < d → first < link_at heads links z e) → first < link_at heads links z d → link_at heads new z d ≡ link_at heads links z d
+  same-link : (z d : ℕ) → ((e : ℕ) → e < d → first < link_at heads links z e) → first < link_at heads links z d
+      → link_at heads new z d ≡ link_at heads links z d
   same-link z d along o = ap (λ (c : ℕ). get_or new c 0) (same-walk z d along) ∙ used (link_cell heads links z d) (cell-within g (omega arith) z d along) o
 
   still-along : (z d : ℕ) → ((e : ℕ) → e < d → first < link_at heads links z e) → (e : ℕ) → e < d → first < link_at heads new z e

@@ -49,7 +49,14 @@ module _ {l₀ l m : List ℕ} {from to r : ℕ} (f : ℕ → List ℕ) (plan : 
 
   pub weight-next : (w : ℕ → ℕ) → length (f j) ≤ w j → to ≤ from + sum_below (into plan w i) j → r ≤ from + sum_below (into plan w i) (j + 1)
   weight-next w h e =
-      omega (arith, e, g.ends, length-cond (eqb (get_or plan j 0) i) (f j), cond-le (eqb (get_or plan j 0) i) (length (f j)) (w j) h, below_next (into plan w i) j)
+      omega (
+        arith,
+        e,
+        g.ends,
+        length-cond (eqb (get_or plan j 0) i) (f j),
+        cond-le (eqb (get_or plan j 0) i) (length (f j)) (w j) h,
+        below_next (into plan w i) j,
+      )
 
 pub runs-start : (f : ℕ → List ℕ) (plan : List ℕ) (i : ℕ) (l : List ℕ) (from : ℕ) → Appended l from (gather f (going plan 0 i)) l from
 runs-start f plan i l from = added_is (added_none l from) refl (sym (gather_none f plan i))

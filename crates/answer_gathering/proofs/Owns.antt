@@ -20,7 +20,8 @@ use Rattle.answer_gathering.specs.Runs.{own_at, own_into, own_weight, into, Firs
 use Rattle.answer_gathering.specs.Room.{OwnRoom}
 use Rattle.answer_gathering.proofs.Goings.{gather-last, gather_none, into-part}
 
-pub place_in : {s : List ℕ} {at from base : ℕ} {order starts : List ℕ} {n j b : ℕ} → OwnRoom s at from base order starts n → j < n → b ≡ get_or order j 0 → b < n
+pub place_in : {s : List ℕ} {at from base : ℕ} {order starts : List ℕ} {n j b : ℕ} → OwnRoom s at from base order starts n → j < n → b ≡ get_or order j 0
+    → b < n
 place_in {j = j} room h e = rw e (room.order-in j h)
 
 -- The own sources of rank j, which has place b: m from place p on.
@@ -66,7 +67,8 @@ module _ {s : List ℕ} {at from base : ℕ} {order plan starts : List ℕ} {hea
   module _ {j count : ℕ} {before links owned : List ℕ}
       (f : FirstsBy s at from base order plan starts heads first i j count before links owned) {z : ℕ} (e : z ≡ get_or plan j 0) where
     all-next : (t : Bool) → eqb (get_or plan j 0) i ≡ t
-        → own_into s at from base order plan starts (j + 1) i ≡ own_into s at from base order plan starts j i ++ cond t (own_at s at from base order starts j) []
+        → own_into s at from base order plan starts (j + 1) i ≡ own_into s at from base order plan starts j i
+        ++ cond t (own_at s at from base order starts j) []
     all-next t d =
         gather-last (own_at s at from base order starts) plan j i
         ∙ ap (λ (b : Bool). own_into s at from base order plan starts j i ++ cond b (own_at s at from base order starts j) []) d

@@ -8,8 +8,8 @@ use lib.Seq.{drop-drop, take_at, drop_at}
 use Rattle.lists.specs.Rows.{rows, sum}
 use Rattle.lists.proofs.Rows.{length-rows, rows_split, map_rows, sum-append, sum-last, sum-prefix}
 use Rattle.format.specs.Values.{Observation, Boundary}
-use Rattle.format.specs.Decode.{observations_with, boundary_with, boundaries_with, source_count, ramp_of, decode_boundaries, boundary_records, observation_records}
-use Rattle.format.specs.Decode.{source_records}
+use Rattle.format.specs.Decode.{observations_with, boundary_with, boundaries_with, source_count, ramp_of, decode_boundaries, boundary_records}
+use Rattle.format.specs.Decode.{observation_records, source_records}
 use Rattle.format.specs.declared.records.Source.{Source}
 use Rattle.format.specs.declared.records.BoundaryRecord.{BoundaryRecord}
 use Rattle.format.specs.declared.records.ObservationRecord.{ObservationRecord}
@@ -81,7 +81,8 @@ module _ (bs : ℕ → BoundaryRecord) (os : ℕ → ObservationRecord) (ss : Li
       let i = own_start (own_of bs os ss) (seen_of bs os ss) (cited_of bs os ss) b in
       let all = rows m os in
       let here = rows (bs b).observations (λ k. os (o + k)) in
-      let more : sum_below (seen_of bs os ss) (suc b) ≤ sum_below (seen_of bs os ss) (b + suc n) = sum-prefix (suc b) (b + suc n) (seen_of bs os ss) (omega arith) in
+      let more : sum_below (seen_of bs os ss) (suc b) ≤ sum_below (seen_of bs os ss) (b + suc n) = sum-prefix (suc b) (b + suc n) (seen_of bs os ss)
+      (omega arith) in
       let seen_next : o + (bs b).observations ≡ sum_below (seen_of bs os ss) (suc b) = sym (sum-last b (seen_of bs os ss)) in
       let tk : take (bs b).observations (drop o all) ≡ here = rows-part m o (bs b).observations os (omega arith) in
       let sc : source_count here ≡ sum (rows (bs b).observations (λ k. cited_of bs os ss (o + k))) = counted (bs b).observations (λ k. os (o + k)) in

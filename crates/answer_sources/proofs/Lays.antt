@@ -32,7 +32,8 @@ apart_next {s} {c} {run} {p} v a h l =
           (λ n.
           by_cases (ℕ_discrete w p)
           (λ f. inl (rw (f, x, get_or-set_other s p q run 0 n, get_or-set_other c p q v 0 n) (a.ends q)))
-          (λ m. rw (get_or-set_other s p q run 0 n, get_or-set_other c p q v 0 n, get_or-set_other s p w run 0 m, get_or-set_other c p w v 0 m) (a.apart q w d)));
+          (λ m. rw (get_or-set_other s p q run 0 n, get_or-set_other c p q v 0 n, get_or-set_other s p w run 0 m, get_or-set_other c p w v 0 m)
+          (a.apart q w d)));
     }
 
 pub lays-start : {s : List ℕ} {at p n run : ℕ} {starts counts : List ℕ} → LayRoom s at p n run starts counts

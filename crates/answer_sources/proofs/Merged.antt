@@ -95,7 +95,8 @@ module _ (bs : ℕ → BoundaryRecord) (os : ℕ → ObservationRecord) (ss : Li
       → get_or (kept_by bs os ss order plan n) k no_boundary ≡ merged (copies_by bs os ss order n) (members (λ j. get_or plan j 0) n i) i
   kept_at plan n k i h e =
       ap (λ (l : List Boundary). get_or l k no_boundary) (kept-list plan n)
-      ∙ map_at (λ i. merged (copies_by bs os ss order n) (members (λ j. get_or plan j 0) n i) i) (keep (λ i. eqb (get_or plan i 0) i) (up_from 0 n)) k 0 no_boundary h
+      ∙ map_at (λ i. merged (copies_by bs os ss order n) (members (λ j. get_or plan j 0) n i) i)
+      (keep (λ i. eqb (get_or plan i 0) i) (up_from 0 n)) k 0 no_boundary h
       ∙ ap (λ (j : ℕ). merged (copies_by bs os ss order n) (members (λ j. get_or plan j 0) n j) j) e
 
   module _ (plan : ℕ → ℕ) (n i : ℕ) (h : i < n) (stays : plan i ≡ i) where
@@ -270,7 +271,11 @@ module _ {bs : ℕ → BoundaryRecord} {os : ℕ → ObservationRecord} {ss : Li
         (copy_at (copies_by bs os ss order n) i).observations
     unfolding gather
     alone-matched =
-        rw (append-nil (places_from base firsts (seen_of bs os ss) true (get_or order i 0)), copy-at bs os ss order n i h, seen-sorted bs os ss (get_or order i 0))
+        rw (
+          append-nil (places_from base firsts (seen_of bs os ss) true (get_or order i 0)),
+          copy-at bs os ss order n i h,
+          seen-sorted bs os ss (get_or order i 0),
+        )
         (sorted-matched (places-alone (get_or order i 0) (inside i h)))
 
     -- those without observations of their own stand as observations

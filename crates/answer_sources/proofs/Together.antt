@@ -155,7 +155,8 @@ module _ {s : List ℕ} {at n ats m from count : ℕ} (j : JobPlaces s at n ats 
           key = key-kept p _ _ u (r.there p u);
           run = run_of p (sum_below (own_count s at) (suc b) + sum_below (cited_count s ats) p) (cited_count s ats p) (omega arith) (l.laid.cited-start b i h o)
               (l.laid.cited-count b i h o) (cited-end b p h u);
-          fits = sources-fit (take (cited_count s ats p) (drop (sum_below (own_count s at) (suc b) + sum_below (cited_count s ats) p) (source_records s from count)))
+          fits = sources-fit (take (cited_count s ats p) (drop (sum_below (own_count s at) (suc b) + sum_below (cited_count s ats) p)
+              (source_records s from count)))
               (part-fit (sum_below (own_count s at) (suc b) + sum_below (cited_count s ats) p) (cited_count s ats p));
         }
 

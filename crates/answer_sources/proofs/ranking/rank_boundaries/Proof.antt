@@ -13,8 +13,8 @@ use Rattle.answer_sources.proofs.ranking.rank_boundaries.Tie as tie
 
 abbrev invariant-loop : tie.invariant-loop-p
 invariant-loop job at n base first₀ second₀ third₀ p₀ first second third p = (p ≤ n)
-    × RankKeys (λ k. (boundary_at job (at + k * boundary_size)).ends) (λ k. (boundary_at job (at + k * boundary_size)).bits) base p first₀ second₀ third₀ first second
-    third
+    × RankKeys (λ k. (boundary_at job (at + k * boundary_size)).ends) (λ k. (boundary_at job (at + k * boundary_size)).bits)
+    base p first₀ second₀ third₀ first second third
 
 abbrev decreases-loop : tie.decreases-loop-p
 decreases-loop job at n base first₀ second₀ third₀ p₀ first second third p = n - p

@@ -13,9 +13,8 @@ use Rattle.answer_sources.proofs.ranking.rank_observations.Tie as tie
 
 abbrev invariant-loop : tie.invariant-loop-p
 invariant-loop job at n first₀ second₀ third₀ p₀ first second third p = (p ≤ n)
-    × RankKeys (λ k. (observation_at job (at + k * observation_size)).ends) (λ k. (observation_at job (at + k * observation_size)).bits) 0 p first₀ second₀ third₀
-    first
-    second third
+    × RankKeys (λ k. (observation_at job (at + k * observation_size)).ends) (λ k. (observation_at job (at + k * observation_size)).bits)
+    0 p first₀ second₀ third₀ first second third
 
 abbrev decreases-loop : tie.decreases-loop-p
 decreases-loop job at n first₀ second₀ third₀ p₀ first second third p = n - p
