@@ -2,7 +2,7 @@
 use mathlib.Core.Path.{◌≡◌, refl, sym, ◌∙◌, ap}
 use mathlib.Core.Logic.{◌↔◌}
 use mathlib.Core.Bool.{Bool, true, false, cond}
-use mathlib.Core.List.{List, [], ◌∷◌, map, flat_map, Memᴰ}
+use mathlib.Core.List.{List, [], ◌∷◌, flat_map, Memᴰ}
 use Prim.Native.Nat.{ℕ, zero, suc, ◌+◌, ◌*◌, ◌^◌, ◌≤◌, ◌<◌}
 use native.Mathlib.Omega.{arith}
 use native.Mathlib.Nat.{mod-le, div-le_self}
@@ -15,7 +15,7 @@ use Rattle.order.specs.Lists.{keep, up_from}
 use Rattle.order.proofs.Bools.{clash}
 use Rattle.order.proofs.Keep.{keep-ext, keep-length}
 use Rattle.order.proofs.Numbers.{up_mem, up-length}
-use Rattle.wire.specs.Bytes.{part, number, number_at, bytes, u32_at, u32_bytes, words}
+use Rattle.wire.specs.Bytes.{part, number, number_at, u32_at, u32_bytes, words}
 use Rattle.wire.proofs.Parts.{part_left, part_right, part-whole, part-part}
 use Rattle.wire.proofs.Numbers.{length-bytes, number-bytes}
 use Rattle.position.specs.declared.Span.{Span}

@@ -1,6 +1,5 @@
 -- Full pairs by numbers.
 use Rattle.std.specs.Prelude.{Bool, ◌&&◌, ℕ, ltb, eqb}
-use Rattle.areas.specs.Assessments.{RegionPair}
 
 -- `hasFullPair` of an assessment is this of its counts and of how many pairs it has.
 abbrev pub is_full : ℕ → ℕ → ℕ → Bool

@@ -1,5 +1,5 @@
 -- Cases 9 to 12 of document 01's table, as what the calls leave.
-use Rattle.std.specs.Prelude.{◌≡◌, true, false, List, [], ◌∷◌, ◌++◌, ℕ, ◌+◌, ◌*◌, ◌%◌, ◌≤◌, ◌<◌, length, drop, replicate}
+use Rattle.std.specs.Prelude.{◌≡◌, false, List, [], ◌∷◌, ◌++◌, ℕ, ◌+◌, ◌*◌, ◌%◌, ◌≤◌, ◌<◌, length, drop, replicate}
 use Rattle.wire.specs.Bytes.{words, splice, u64_bytes}
 use Rattle.format.specs.Header.{header_at}
 use Rattle.format.specs.Corridor.{upright, corridor, corridor_answer}
