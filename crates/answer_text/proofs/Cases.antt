@@ -16,7 +16,8 @@ use Rattle.format.specs.Decode.{decode_boundaries, decode_answer, ramp_of}
 use Rattle.format.specs.Corridor.{upright, corridor_observation, corridor_answer}
 use Rattle.format.proofs.AnswerTrip.{length-encode_answer, answer-words, decode_answer-encode_answer}
 use Rattle.answer_text.specs.Digits.{glyph, last_digits, digit_count_from, digit_count, digits, hex_digits}
-use Rattle.answer_text.specs.Lines.{field_text, bits_text, four_fields, pair_line, source_lines, head_text, observation_fields, observation_line, observation_text}
+use Rattle.answer_text.specs.Lines.{field_text, bits_text, four_fields, pair_line, source_lines, head_text, observation_fields, observation_line}
+use Rattle.answer_text.specs.Lines.{observation_text}
 use Rattle.answer_text.specs.Lines.{observation_texts, boundary_fields, boundary_line, boundary_text, boundary_texts, kept_line, answer_lines}
 use Rattle.answer_text.specs.Answer.{answer_length, answer_whole, answer_text}
 use Rattle.answer_text.specs.Corridor.{corridor_text}
@@ -24,9 +25,12 @@ use Rattle.answer_text.proofs.Sizing.{is_whole}
 
 -- "Here it prints": the corridor's answer, in a slice of three times its length.
 pub corridor-listing : answer_text corridor_answer 456 ≡ corridor_text
-unfolding answer_text answer_whole corridor_answer upright corridor_observation corridor_text words decode_answer decode_boundaries boundaries_with boundary_with
-    observations_with source_count boundary_records observation_records source_records ramp_of position_at span_at source_at ramp_at boundary_at observation_at number_at
-    part number bytes rows sum flat_map glyph last_digits digit_count_from digit_count digits hex_digits field_text bits_text four_fields pair_line source_lines head_text
+unfolding answer_text answer_whole corridor_answer upright corridor_observation corridor_text words decode_answer decode_boundaries boundaries_with
+    boundary_with
+    observations_with source_count boundary_records observation_records source_records ramp_of position_at span_at source_at ramp_at boundary_at
+    observation_at number_at
+    part number bytes rows sum flat_map glyph last_digits digit_count_from digit_count digits hex_digits field_text bits_text four_fields pair_line
+    source_lines head_text
     observation_fields observation_line observation_text observation_texts boundary_fields boundary_line boundary_text boundary_texts kept_line answer_lines
 corridor-listing = refl
 

@@ -227,7 +227,8 @@ module _ (s out : List ℕ) where
 
     pub listing_start : (v : ℕ) → v ≡ b
         → Left (answer_text s (length out)) out 0
-        (kept_line v ∷ boundary_texts (boundaries_with (boundary_records s 24 b) (observation_records s (24 + b * 40) o) (source_records s (24 + b * 40 + o * 28) n))
+        (kept_line v ∷ boundary_texts
+        (boundaries_with (boundary_records s 24 b) (observation_records s (24 + b * 40) o) (source_records s (24 + b * 40 + o * 28) n))
         ∷ []) out 0
     unfolding answer_lines decode_boundaries
     listing_start v c =

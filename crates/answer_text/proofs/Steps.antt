@@ -92,7 +92,8 @@ module _ (s : List ℕ) where
     sources-start h =
         let e : from ≡ from + 0 * 8 = omega arith in
         let f : n ≡ n - 0 = omega arith in
-        start _ (append-nil _ ∙ sym (ap (λ (k : ℕ). source_lines (source_records s k n)) e ∙ ap (λ (k : ℕ). source_lines (source_records s (from + 0 * 8) k)) f)) h
+        start _ (append-nil _
+        ∙ sym (ap (λ (k : ℕ). source_lines (source_records s k n)) e ∙ ap (λ (k : ℕ). source_lines (source_records s (from + 0 * 8) k)) f)) h
 
     split : {now : List ℕ} {i p : ℕ} → i < n → SourcesLeft from n out at now i p
         → Left (source_lines (source_records s from n)) out at
@@ -263,11 +264,13 @@ module _ (s : List ℕ) (n : ℕ) (c : Cursor) (out : List ℕ) where
           let f : drop k (observations_at s e) ≡ drop (n - i) (observations_at s d)
           = ap (drop k) m.observations ∙ drop-drop k 1 (observations_at s d)
           ∙ ap (λ (j : ℕ). drop j (observations_at s d)) (let q : 1 + k ≡ n - i = omega arith in q) in
-          let g : drop (source_count (take k (observations_at s e))) (sources_at s e) ≡ drop (source_count (take (n - i) (observations_at s d))) (sources_at s d)
+          let g : drop (source_count (take k (observations_at s e))) (sources_at s e) ≡ drop (source_count (take (n - i) (observations_at s d)))
+          (sources_at s d)
           = ap (λ (x : List ObservationRecord). drop (source_count (take k x)) (sources_at s e)) m.observations
           ∙ ap (drop (source_count (take k (drop 1 (observations_at s d))))) m.sources
           ∙ drop-drop (source_count (take k (drop 1 (observations_at s d)))) (observation_at s d.observation).sources (sources_at s d)
-          ∙ ap (λ (j : ℕ). drop j (sources_at s d)) (sym (next-count s d k some_left) ∙ ap (λ (j : ℕ). source_count (take j (observations_at s d))) (sym again)) in
+          ∙ ap (λ (j : ℕ). drop j (sources_at s d)) (sym (next-count s d k some_left)
+          ∙ ap (λ (j : ℕ). source_count (take j (observations_at s d))) (sym again)) in
           record {
             text = retell _ (ap (λ (t : List ℕ). t ++ [])
                 (ap (λ (x : List ObservationRecord).
@@ -421,7 +424,8 @@ module _ (s : List ℕ) (place n : ℕ) (c : Cursor) (out : List ℕ) where
     boundary-room = room part_left
 
     pub boundaries-next : {after : List ℕ} (e : Cursor) → Writes (head_of here d) now d.at after e.at
-        → Moved s d e (boundary_at s here).observations ((boundary_at s here).sources + source_count (take (boundary_at s here).observations (observations_at s d)))
+        → Moved s d e (boundary_at s here).observations
+        ((boundary_at s here).sources + source_count (take (boundary_at s here).observations (observations_at s d)))
         → BoundariesLeft s place n c out after (i + 1) e
     boundaries-next e w m = record {
       text = retell _ (ap (λ (t : List ℕ). t ++ [])

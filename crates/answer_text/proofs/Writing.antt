@@ -84,7 +84,8 @@ module _ (t out : List ℕ) (at : ℕ) where
   copied_next now i h l =
       let e : suc i ≡ i + 1 = omega arith in
       let f : at + i + 1 ≡ at + (i + 1) = omega arith in
-      let m = retell ((get_or t i 0 ∷ []) ∷ drop (i + 1) t ∷ []) (ap (λ (x : List ℕ). x ++ []) (drop-cons t i 0 h ∙ ap (λ (k : ℕ). get_or t i 0 ∷ drop k t) e)) l in
+      let m = retell ((get_or t i 0 ∷ []) ∷ drop (i + 1) t ∷ [])
+      (ap (λ (x : List ℕ). x ++ []) (drop-cons t i 0 h ∙ ap (λ (k : ℕ). get_or t i 0 ∷ drop k t) e)) l in
       subst (λ (p : ℕ). Left t out at (drop (i + 1) t ∷ []) (set now (at + i) (get_or t i 0)) p) f
       (next m (byte-writes (get_or t i 0) now (at + i) (omega (arith, room m))))
 

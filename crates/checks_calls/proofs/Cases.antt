@@ -44,7 +44,8 @@ widths-clear s c zero h = refl
 widths-clear s c (suc k) h = append-none (each k (width_check s (boundaries_start c))) (width_check s (boundaries_start c) k)
     (widths-clear s c k (λ i l. h i (omega arith))) ∙ clear _ (h k (omega arith))
 
-width-found : (s : List ℕ) (c : Counts) (k : ℕ) → k < c.boundaries → ((i : ℕ) → i < k → width_fault (bits_at s c i) ≡ false) → width_fault (bits_at s c k) ≡ true
+width-found : (s : List ℕ) (c : Counts) (k : ℕ) → k < c.boundaries → ((i : ℕ) → i < k → width_fault (bits_at s c i) ≡ false)
+    → width_fault (bits_at s c k) ≡ true
     → first_refusal (each c.boundaries (width_check s (boundaries_start c))) ≡ some (record { number = bad_width; detail = k })
 unfolding width_check
 width-found s c k l h e = each-found (width_check s (boundaries_start c)) k c.boundaries _ l (widths-clear s c k h) (stop _ _ e)

@@ -95,14 +95,15 @@ module _ (s : List ℕ) (e : first_refusal (job_checks s) ≡ none) where
   )
 
   pub sources-before : (k m : ℕ) → k ≤ (counts_at s 0).boundaries → m ≤ (counts_at s 0).observations
-      → own_total (boundary_records s (boundaries_start (counts_at s 0)) k) + source_count (observation_records s (observations_start (counts_at s 0)) m) ≤ (counts_at s
-      0).sources
+      → own_total (boundary_records s (boundaries_start (counts_at s 0)) k)
+      + source_count (observation_records s (observations_start (counts_at s 0)) m) ≤ (counts_at s 0).sources
   unfolding boundary_records observation_records source_count
   sources-before k m h l =
       omega (
         arith,
         (job-formed s e).sources,
-        field-prefix (λ (b : BoundaryRecord). b.sources) (λ i. boundary_at s (boundaries_start (counts_at s 0) + i * boundary_size)) k (counts_at s 0).boundaries
+        field-prefix (λ (b : BoundaryRecord). b.sources)
+            (λ i. boundary_at s (boundaries_start (counts_at s 0) + i * boundary_size)) k (counts_at s 0).boundaries
             h,
         field-prefix (λ (o : ObservationRecord). o.sources) (λ i. observation_at s (observations_start (counts_at s 0) + i * observation_size)) m
             (counts_at s 0).observations l,

@@ -17,11 +17,13 @@ first-cells : region_cells regions 1 ≡ 0 ∷ 1 ∷ 4 ∷ []
 unfolding region_cells
 first-cells = refl
 
-first : region_stats block regions 1 ≡ record { cells = 3; min_x = 0; min_y = 0; max_x = 16; max_y = 16; has_ramp = true; elevation_counts = 2 ∷ 1 ∷ 0 ∷ 0 ∷ [] }
+first : region_stats block regions 1 ≡ record
+    { cells = 3; min_x = 0; min_y = 0; max_x = 16; max_y = 16; has_ramp = true; elevation_counts = 2 ∷ 1 ∷ 0 ∷ 0 ∷ [] }
 unfolding region_stats
 first = refl
 
-second : region_stats block regions 2 ≡ record { cells = 2; min_x = 16; min_y = 0; max_x = 24; max_y = 16; has_ramp = false; elevation_counts = 0 ∷ 0 ∷ 2 ∷ 0 ∷ [] }
+second : region_stats block regions 2 ≡ record
+    { cells = 2; min_x = 16; min_y = 0; max_x = 24; max_y = 16; has_ramp = false; elevation_counts = 0 ∷ 0 ∷ 2 ∷ 0 ∷ [] }
 unfolding region_stats
 second = refl
 

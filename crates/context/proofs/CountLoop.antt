@@ -59,7 +59,8 @@ module _ (g : Grid) (bytes : List ℕ) (n r : ℕ) {i : ℕ} {s : StatsHeld} (no
   pub count_next : i < n → {v : ℕ} → v ≡ word bytes i → {t : StatsHeld} → t ≡ cond (eqb r v) (stats_with_cell s (column_of g i) (row_of g i) (cell_at g i)) s
       → t ≡ stats_after g (first_cells (labels_in bytes n) r (i + 1))
   count_next l e f =
-      pass-next (stats_after g) bytes n r now l e (λ cs h. ap (λ (x : StatsHeld). stats_with_cell x (column_of g i) (row_of g i) (cell_at g i)) h ∙ after_next g cs i)
+      pass-next (stats_after g) bytes n r now l e
+      (λ cs h. ap (λ (x : StatsHeld). stats_with_cell x (column_of g i) (row_of g i) (cell_at g i)) h ∙ after_next g cs i)
       f
 
   pub count-end : i ≡ n → stats_in s ≡ region_stats g (labels_in bytes n) r

@@ -19,7 +19,8 @@ use Rattle.length.specs.Total.{total_key}
 use Rattle.format.specs.Values.{Base, Job}
 use Rattle.format.specs.Records.{span_at, base_at, boundary_at, source_at, span_bytes, source_bytes, boundary_bytes, observation_bytes}
 use Rattle.format.specs.Header.{counts_at, header_at, offsets_of}
-use Rattle.format.specs.Decode.{decode, decode_list, job_with, base_records, boundary_records, observation_records, source_records, decode_boundaries, source_count}
+use Rattle.format.specs.Decode.{decode, decode_list, job_with, base_records, boundary_records, observation_records, source_records, decode_boundaries}
+use Rattle.format.specs.Decode.{source_count}
 use Rattle.format.specs.Corridor.{upright_span, crossing, two_crossings, four_cells, both_merged, upright, corridor_observation, corridor, corridor_answer}
 use Rattle.format.proofs.Corridor.{corridor-job, corridor-bytes}
 use Rattle.format.specs.Encode.{encode_answer, answer_words, encode_boundaries, boundary_record, observation_record, observations_of, sources_of}
@@ -69,17 +70,22 @@ pair = record { serial = []; flat = record { ranks = 0 ∷ 1 ∷ []; retained = 
 
 -- Both jobs pass the checks, and decode to these values.
 corridor-passes : first_refusal (reduce_checks corridor) ≡ none
-unfolding corridor reduce_checks boundary_checks job_checks layout_checks header_checks record_checks each cell_check base_check sums_fault ramp_check width_check
-    ends_checks ends_check span_checks first_refusal header_at offsets_of boundary_at base_at number_at bytes boundary_records observation_records source_count pos_same
+unfolding corridor reduce_checks boundary_checks job_checks layout_checks header_checks record_checks each cell_check base_check sums_fault ramp_check
+    width_check
+    ends_checks ends_check span_checks first_refusal header_at offsets_of boundary_at base_at number_at bytes boundary_records observation_records
+    source_count pos_same
 corridor-passes = refl
 
 anchored-passes : (id : ℕ) → first_refusal (reduce_checks (anchored id)) ≡ none
-unfolding anchored reduce_checks boundary_checks job_checks layout_checks header_checks record_checks each cell_check base_check sums_fault ramp_check width_check
-    ends_checks ends_check span_checks first_refusal header_at offsets_of boundary_at base_at number_at bytes boundary_records observation_records source_count pos_same
+unfolding anchored reduce_checks boundary_checks job_checks layout_checks header_checks record_checks each cell_check base_check sums_fault ramp_check
+    width_check
+    ends_checks ends_check span_checks first_refusal header_at offsets_of boundary_at base_at number_at bytes boundary_records observation_records
+    source_count pos_same
 anchored-passes id = refl
 
 anchored-job : (id : ℕ) → decode (anchored id) ≡ job (anchor id ∷ [])
-unfolding anchored decode job_with decode_boundaries number_at bytes counts_at base_records base_at boundary_records observation_records source_records boundary_at
+unfolding anchored decode job_with decode_boundaries number_at bytes counts_at base_records base_at boundary_records observation_records source_records
+    boundary_at
     source_at
 anchored-job id = refl
 
@@ -96,32 +102,37 @@ abbrev run : Run
 run = reduce_run two_crossings
 
 corridor-groups : groups_of (rules_of limits000 eight (job [])) run ≡ pair
-unfolding groups_of items_of canon_item canon canonical pos_le ends_key span_key source_key sort insert sort_once include lex_le rules_on anchors_of component_of count
+unfolding groups_of items_of canon_item canon canonical pos_le ends_key span_key source_key sort insert sort_once include lex_le rules_on anchors_of
+    component_of count
     up_from
     length_of of_int of_bits to_bits neg add sub mul div lt le
 corridor-groups = refl
 
 anchored-groups : (id : ℕ) → groups_of (rules_of limits000 eight (job (anchor id ∷ []))) run ≡ no_groups
-unfolding groups_of items_of canon_item canon canonical pos_le ends_key span_key source_key sort insert sort_once include lex_le rules_on anchors_of component_of count
+unfolding groups_of items_of canon_item canon canonical pos_le ends_key span_key source_key sort insert sort_once include lex_le rules_on anchors_of
+    component_of count
     up_from
     length_of of_int of_bits to_bits neg add sub mul div lt le
 anchored-groups id = refl
 
 -- What is kept.
 pair-kept : kept (copies_of two_crossings) (all_groups pair) ≡ both_merged ∷ []
-unfolding kept_of all_groups kept slot consolidated consolidate members_of observed or_itself copies_of canon canon_observation canonical pos_le ends_key span_key
+unfolding kept_of all_groups kept slot consolidated consolidate members_of observed or_itself copies_of canon canon_observation canonical pos_le ends_key
+    span_key
     source_key
     sources_key observation_key total_key sort insert sort_once include lex_le gather up_from has
 pair-kept = refl
 
 none_kept : kept (copies_of two_crossings) (all_groups no_groups) ≡ two_crossings
-unfolding kept_of all_groups kept slot consolidated consolidate members_of observed or_itself copies_of canon canon_observation canonical pos_le ends_key span_key
+unfolding kept_of all_groups kept slot consolidated consolidate members_of observed or_itself copies_of canon canon_observation canonical pos_le ends_key
+    span_key
     source_key
     sources_key observation_key total_key sort insert sort_once include lex_le gather up_from has
 none_kept = refl
 
 both_bytes : encode_answer two_crossings ≡ anchored_answer
-unfolding anchored_answer encode_answer answer_words encode_boundaries boundary_record observation_record observations_of sources_of boundary_bytes observation_bytes
+unfolding anchored_answer encode_answer answer_words encode_boundaries boundary_record observation_record observations_of sources_of boundary_bytes
+    observation_bytes
     source_bytes span_bytes bytes
 both_bytes = refl
 
@@ -164,8 +175,10 @@ gives s bases written p d a work out w o =
 
 -- The corridor's marks.
 corridor-marked : first_refusal (mark_checks corridor) ≡ none
-unfolding mark_checks corridor reduce_checks boundary_checks job_checks layout_checks header_checks record_checks each cell_check base_check sums_fault ramp_check
-    width_check ends_checks ends_check span_checks first_refusal header_at offsets_of boundary_at base_at number_at bytes boundary_records observation_records source_count
+unfolding mark_checks corridor reduce_checks boundary_checks job_checks layout_checks header_checks record_checks each cell_check base_check sums_fault
+    ramp_check
+    width_check ends_checks ends_check span_checks first_refusal header_at offsets_of boundary_at base_at number_at bytes boundary_records
+    observation_records source_count
     pos_same
 corridor-marked = refl
 
@@ -217,8 +230,10 @@ cards-left work out w m =
 
 -- The corridor by a list of one span.
 listed-passes : first_refusal (by_list_checks corridor one_span) ≡ none
-unfolding by_list_checks list_checks span_check one_span span_at corridor reduce_checks boundary_checks job_checks layout_checks header_checks record_checks each cell_check
-    base_check sums_fault ramp_check width_check ends_checks ends_check span_checks first_refusal header_at offsets_of boundary_at base_at number_at bytes boundary_records
+unfolding by_list_checks list_checks span_check one_span span_at corridor reduce_checks boundary_checks job_checks layout_checks header_checks record_checks
+    each cell_check
+    base_check sums_fault ramp_check width_check ends_checks ends_check span_checks first_refusal header_at offsets_of boundary_at base_at number_at bytes
+    boundary_records
     observation_records source_count pos_same
 listed-passes = refl
 
@@ -291,7 +306,8 @@ unfolding reduce_checks
 one_passes c h = one-open true c h
 
 one-job : (c : ℕ) → decode (one_cell c) ≡ one_job c
-unfolding one_cell decode job_with decode_boundaries number_at bytes counts_at base_records base_at boundary_records observation_records source_records boundary_at
+unfolding one_cell decode job_with decode_boundaries number_at bytes counts_at base_records base_at boundary_records observation_records source_records
+    boundary_at
     source_at
 one-job c = refl
 

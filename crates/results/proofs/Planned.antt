@@ -50,7 +50,8 @@ module _ (limits : Limits) (dirs : List ℕ) (j : Job) (ss : List Span) where
 
   -- spans and boundaries are alike in number
   pub matched-answer : length j.boundaries ≡ length ss
-      → answer_of limits dirs j ss ≡ encode_answer (planned (copies_of j.boundaries) (merge_plan limits dirs (grid_of j) (anchors_of j.bases) (listing_of j ss)))
+      → answer_of limits dirs j ss ≡ encode_answer
+      (planned (copies_of j.boundaries) (merge_plan limits dirs (grid_of j) (anchors_of j.bases) (listing_of j ss)))
   unfolding rules_answer kept_of merge_plan
   matched-answer e =
       let l = listing_of j ss in

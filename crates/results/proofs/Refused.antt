@@ -111,7 +111,8 @@ unfolding negative upright words layout_checks header_checks first_refusal heade
 negative-laid = refl
 
 negative-before : first_refusal (up_to_ramps negative (header_at negative).counts) ≡ none
-unfolding negative upright each cell_check sums_fault ramp_check first_refusal header_at boundary_at number_at bytes boundary_records observation_records source_count
+unfolding negative upright each cell_check sums_fault ramp_check first_refusal header_at boundary_at number_at bytes boundary_records observation_records
+    source_count
 negative-before = refl
 
 negative-first : FirstWidth negative 1

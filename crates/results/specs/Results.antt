@@ -129,4 +129,5 @@ module _ (dirs : List ℕ) where
   -- "*Reduce by list* takes a job and a list of spans (four u32 each) and partitions by those."
   unfoldable pub reduce_by_list_with : List ℕ → List ℕ → List ℕ → List ℕ → List ℕ → Outcome
   unfolding reduced
-  reduce_by_list_with s l block work answer = reduced (limits_in block) dirs (thresholds_check block ∷ by_list_checks s l) (decode s) (decode_list l) work answer
+  reduce_by_list_with s l block work answer =
+      reduced (limits_in block) dirs (thresholds_check block ∷ by_list_checks s l) (decode s) (decode_list l) work answer

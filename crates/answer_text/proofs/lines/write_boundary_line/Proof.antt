@@ -23,7 +23,8 @@ write-ramp-requires : tie.Need-write_ramp-end3-requires
 write-ramp-requires c κs =
     let count-written : tie.After-write_count-end2 = search in
     let head-written = head-written-of count-written in
-    room (next (next (boundary_start _ _ _ _ _ _ _ (start_of head-written).requires) head-written.write_head-end1.ensures) count-written.write_count-end2.ensures)
+    room (next (next (boundary_start _ _ _ _ _ _ _ (start_of head-written).requires) head-written.write_head-end1.ensures)
+    count-written.write_count-end2.ensures)
 
 write-byte-requires : tie.Need-write_byte-requires
 write-byte-requires c κs =

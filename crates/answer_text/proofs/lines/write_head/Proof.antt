@@ -30,7 +30,8 @@ write-count-requires c κs =
     let bits-written : tie.After-write_bits-end3 = search in
     let ends-written = ends-written-of bits-written in
     let letter-written = letter-written-of ends-written in
-    room (next (next (next (head-start _ _ _ _ _ _ (start_of letter-written).requires) letter-written.write_byte-end1.ensures) ends-written.write_ends-end2.ensures)
+    room (next (next (next (head-start _ _ _ _ _ _ (start_of letter-written).requires) letter-written.write_byte-end1.ensures)
+    ends-written.write_ends-end2.ensures)
     bits-written.write_bits-end3.ensures)
 
 returns : tie.Need-returns

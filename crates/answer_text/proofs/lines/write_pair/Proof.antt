@@ -38,7 +38,8 @@ returns c =
     let b-written : tie.After-write_field-end3 = search in
     let a-written = a-written-of b-written in
     let name-written = name-written-of a-written in
-    done (next (next (next (next (pair-start _ _ _ _ _ (start_of name-written).requires) name-written.write_text-end1.ensures) a-written.write_field-end2.ensures)
+    done (next (next (next
+    (next (pair-start _ _ _ _ _ (start_of name-written).requires) name-written.write_text-end1.ensures) a-written.write_field-end2.ensures)
     b-written.write_field-end3.ensures) c.write_byte.ensures)
 
 pub write_pair_spec : {M : Type 1} → statement M
