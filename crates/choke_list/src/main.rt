@@ -1,6 +1,8 @@
 // choke-list: lists what Reduce keeps of the job on standard input.
 #![tactic(auto)]
 
-fn main() {
-    printing::run();
+use std::io;
+
+fn main(rt: HostRuntime) -> io::Result<()> {
+    printing::run(&rt)
 }

@@ -1,6 +1,8 @@
 // choke-list on a job that is refused: an end of the second boundary lies past the map.
 #![tactic(auto)]
 
-fn main() {
-    printing::run();
+use std::io;
+
+fn main(rt: HostRuntime) -> io::Result<()> {
+    printing::run(&rt)
 }

@@ -1,6 +1,8 @@
 // choke-list on input of 65,537 bytes.
 #![tactic(auto)]
 
-fn main() {
-    printing::run();
+use std::io;
+
+fn main(rt: HostRuntime) -> io::Result<()> {
+    printing::run(&rt)
 }

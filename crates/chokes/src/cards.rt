@@ -68,8 +68,7 @@ fn finish_cards(job: &[u8], h: Header, areas: u32, work: &[u8], cards: &mut [u8]
     }
 }
 
-#[unsafe(no_mangle)]
-pub extern "C" fn chokes_area_cards(job: &[u8], work: &mut [u8], cards: &mut [u8]) -> ChokesResult
+pub fn chokes_area_cards(job: &[u8], work: &mut [u8], cards: &mut [u8]) -> ChokesResult
     ensures { left_by result.number result.detail work.new cards.new ≡ cards_result job.now work.old
         cards.old }
 {

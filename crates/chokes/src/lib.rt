@@ -1,4 +1,4 @@
-// The calls from C.
+// The four calls, which chokes_c exports to C.
 #![tactic(auto)]
 
 mod cards;

@@ -55,8 +55,7 @@ fn copy_first(from: &[u8; 256], n: usize, to: &mut [u8])
     }
 }
 
-#[unsafe(no_mangle)]
-pub extern "C" fn chokes_mark(job: &[u8], work: &mut [u8], marks: &mut [u8]) -> ChokesResult
+pub fn chokes_mark(job: &[u8], work: &mut [u8], marks: &mut [u8]) -> ChokesResult
     ensures { left_by result.number result.detail work.new marks.new ≡ mark_result job.now work.old
         marks.old }
 {

@@ -36,8 +36,7 @@ fn finish(job: &[u8], order: &[u32; 256], plan: &[u32; 256], answer: &mut [u8]) 
     }
 }
 
-#[unsafe(no_mangle)]
-pub extern "C" fn chokes_reduce(
+pub fn chokes_reduce(
     job: &[u8],
     thresholds: &[u8],
     work: &mut [u8],
@@ -60,8 +59,7 @@ pub extern "C" fn chokes_reduce(
     finish(job, &order, &plan, answer)
 }
 
-#[unsafe(no_mangle)]
-pub extern "C" fn chokes_reduce_by_list(
+pub fn chokes_reduce_by_list(
     job: &[u8],
     list: &[u8],
     thresholds: &[u8],

@@ -5,7 +5,8 @@ ghost use Rattle.printing.specs.ChokeList.{most_input, choke_list, PrintsRead};
 
 use crate::print::print_list;
 use answer_text::write_text;
-use libc::{STDIN_FILENO, STDOUT_FILENO};
+use std::io;
+use streams::read_full;
 use thresholds::write_000;
 
 // What choke-list prints for an input, written at the start of out; gives its length.
@@ -32,10 +33,11 @@ fn print_read(buffer: &[u8], n: usize, out: &mut [u8; 196608]) -> usize
     choke_list(&buffer[..n], out)
 }
 
-pub fn run() {
+// A read or a write that fails ends it with that error.
+pub fn run(rt: &(impl Input + Print)) -> io::Result<()> {
     let mut buffer = [0u8; 65537];
     let mut out = [0u8; 196608];
-    let n = io::read_full(STDIN_FILENO, &mut buffer);
+    let n = read_full(&mut rt.reader(), &mut buffer)?;
     let m = print_read(&buffer, n, &mut out);
-    io::write_all(STDOUT_FILENO, &out[..m]);
+    rt.write_all(&out[..m])
 }

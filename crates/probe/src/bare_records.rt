@@ -169,8 +169,7 @@ fn mark_records(records: &[u8], count: usize, regions: usize, work: &mut [u8], m
 }
 
 // The bridges of records that are little-endian words: owner, left region, right region. The first 256 marks are the owners'.
-#[unsafe(no_mangle)]
-pub extern "C" fn probe_bridges(records: &[u8], work: &mut [u8], marks: &mut [u8]) -> ChokesResult
+pub fn probe_bridges(records: &[u8], work: &mut [u8], marks: &mut [u8]) -> ChokesResult
     ensures { BridgesAnswer records.now work.old marks.old work.new marks.new result.number
         result.detail }
 {
@@ -185,8 +184,7 @@ pub extern "C" fn probe_bridges(records: &[u8], work: &mut [u8], marks: &mut [u8
 }
 
 // Their marks, where they stand in the order of their owners: each boundary closed as a whole.
-#[unsafe(no_mangle)]
-pub extern "C" fn probe_marks(records: &[u8], work: &mut [u8], marks: &mut [u8]) -> ChokesResult
+pub fn probe_marks(records: &[u8], work: &mut [u8], marks: &mut [u8]) -> ChokesResult
     ensures { ChokesAnswer records.now work.old marks.old work.new marks.new result.number
         result.detail }
 {

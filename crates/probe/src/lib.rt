@@ -1,4 +1,4 @@
-// C functions for the differential driver, so that it can reach what no exported call shows by itself. No part of the product.
+// Functions for the differential driver, so that it can reach what no exported call shows by itself; probe_c exports them to C. No part of the product.
 #![tactic(auto)]
 
 ghost use Rattle.std.specs.Prelude.{◌≡◌, length};
@@ -17,6 +17,14 @@ mod own_links; // what a link measures in a region
 mod own_lengths; // lengths and totals, by their squares
 mod own_block; // the block of source document 000
 
+pub use bare_records::{probe_bridges, probe_marks};
+pub use own_block::probe_thresholds;
+pub use own_lengths::{ProbeLength, probe_chain, probe_length};
+pub use own_links::probe_link;
+pub use own_partition::probe_partition;
+pub use own_plan::probe_plan;
+pub use own_regions::probe_region;
+
 fn verdict(call: u32, job: &[u8], list: &[u8]) -> Verdict
     ensures { meaning result ≡ checked call job.now list.now }
 {
@@ -30,8 +38,7 @@ fn verdict(call: u32, job: &[u8], list: &[u8]) -> Verdict
 }
 
 // The input checks of a call: 0 Reduce, 1 Reduce by list, any other Mark.
-#[unsafe(no_mangle)]
-pub extern "C" fn probe_check(call: u32, job: &[u8], list: &[u8]) -> ChokesResult
+pub fn probe_check(call: u32, job: &[u8], list: &[u8]) -> ChokesResult
     ensures { (result.number ≡ number_of (checked call job.now list.now))
         × (result.detail ≡ detail_of (checked call job.now list.now)) }
 {
@@ -55,8 +62,7 @@ fn copy(out: &mut [u8], part: &[u8]) -> usize
 }
 
 // The ends of span i, put_first to the start of out where they fit; their number of bytes.
-#[unsafe(no_mangle)]
-pub extern "C" fn probe_span_ends<'a>(
+pub fn probe_span_ends<'a>(
     job: &'a [u8],
     list: &'a [u8],
     which: u32,

@@ -35,8 +35,7 @@ fn no_length() -> ProbeLength
 }
 
 // The length of d.
-#[unsafe(no_mangle)]
-pub extern "C" fn probe_length(d: u32) -> ProbeLength
+pub fn probe_length(d: u32) -> ProbeLength
     ensures { result ≡ length_answer d }
 {
     if MOST_SQUARES < d {
@@ -64,8 +63,7 @@ fn total_of(ds: &[u32; 3], count: usize) -> ProbeLength
 }
 
 // The lengths of the first one, two or three, added up in ascending order.
-#[unsafe(no_mangle)]
-pub extern "C" fn probe_chain(count: u32, d: u32, e: u32, f: u32) -> ProbeLength
+pub fn probe_chain(count: u32, d: u32, e: u32, f: u32) -> ProbeLength
     ensures { result ≡ chain_answer count d e f }
 {
     if count < 1 {

@@ -113,8 +113,7 @@ fn tell_link(
 
 // What the link of the boundaries at two places measures in the region that has the label: four bytes for 0 empty, 1 within or 2 beyond,
 // eight for the bits of the transverse envelope and eight for those of the longitudinal one, four for whether it stays inside the flat envelope.
-#[unsafe(no_mangle)]
-pub extern "C" fn probe_link(
+pub fn probe_link(
     job: &[u8],
     labels: &[u8],
     region: u32,

@@ -129,8 +129,7 @@ fn partition_job(
 }
 
 // Labels the areas in work, and tells what the partition found in out.
-#[unsafe(no_mangle)]
-pub extern "C" fn probe_partition(job: &[u8], work: &mut [u8], out: &mut [u8]) -> ChokesResult
+pub fn probe_partition(job: &[u8], work: &mut [u8], out: &mut [u8]) -> ChokesResult
     ensures { PartitionAnswer eight job.now work.old out.old work.new
         out.new result.number result.detail }
 {

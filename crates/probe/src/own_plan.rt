@@ -67,8 +67,7 @@ fn count_of(job: &[u8]) -> usize
 }
 
 // Little-endian words, one a boundary.
-#[unsafe(no_mangle)]
-pub extern "C" fn probe_plan(
+pub fn probe_plan(
     job: &[u8],
     list: &[u8],
     which: u32,

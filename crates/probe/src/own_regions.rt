@@ -82,13 +82,7 @@ fn tell_region(job: &[u8], h: Header, labels: &[u8], region: u32, out: &mut [u8]
 }
 
 // What is known of the region that has the label; labels are as the partition leaves them.
-#[unsafe(no_mangle)]
-pub extern "C" fn probe_region(
-    job: &[u8],
-    labels: &[u8],
-    region: u32,
-    out: &mut [u8],
-) -> ChokesResult
+pub fn probe_region(job: &[u8], labels: &[u8], region: u32, out: &mut [u8]) -> ChokesResult
     ensures { Shown job.now labels.now
         (words (region_words (decode job.now) (cell_labels job.now labels.now) region)) 48
         out.old out.new result.number result.detail }

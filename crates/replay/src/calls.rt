@@ -98,10 +98,10 @@ fn run(
 fn run_in(item: &[u8], job: &[u8], list: &[u8], thresholds: &[u8], w: usize, o: usize) -> u32
     requires { 22 ≤ length item.now }
 {
-    let mut work = io::large_buffer();
-    let mut out = io::large_buffer();
-    let mut want_work = io::large_buffer();
-    let mut want_out = io::large_buffer();
+    let mut work = [0u8; 65536];
+    let mut out = [0u8; 65536];
+    let mut want_work = [0u8; 65536];
+    let mut want_out = [0u8; 65536];
     if 65536 < w {
         return NOT_WHOLE;
     }

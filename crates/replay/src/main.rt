@@ -10,9 +10,11 @@ mod pieces;
 mod reading;
 mod summary;
 
-ghost use Rattle.std.specs.Prelude.{◌+◌, ◌≤◌, length};
+ghost use Rattle.std.specs.Prelude.{◌+◌, ◌≤◌, IfOk, length};
 
 use compare::{AT_END, NOT_WHOLE, SAME};
+use std::io;
+use std::io::Read;
 
 // The kind of an item that is an input; those below it are calls.
 const INPUT: u8 = 4;
@@ -29,49 +31,62 @@ struct State {
 }
 
 // Says how the replay ended.
-fn stop(counts: &[u64], s: State, why: u32) -> State
-    ensures { result.job + result.list + result.thresholds ≤ s.job + s.list + s.thresholds }
+fn stop(rt: &impl Print, counts: &[u64], s: State, why: u32) -> io::Result<State>
+    ensures { IfOk result (λ next. next.job + next.list + next.thresholds ≤ s.job + s.list + s.thresholds) }
 {
     if why == AT_END {
-        summary::print(counts, s.calls);
+        summary::print(rt, counts, s.calls)?;
     } else {
-        summary::say(summary::next(s.calls), why);
+        summary::say(rt, summary::next(s.calls), why)?;
     }
-    State {
+    Ok(State {
         job: s.job,
         list: s.list,
         thresholds: s.thresholds,
         calls: s.calls,
         on: false,
-    }
+    })
 }
 
 // Makes a call and counts it, or says what differs.
-fn make_call(item: &[u8], held: &[u8], counts: &mut [u64], s: State) -> State
+fn make_call(
+    rt: &impl Print,
+    item: &[u8],
+    held: &[u8],
+    counts: &mut [u64],
+    s: State,
+) -> io::Result<State>
     requires { (s.job + s.list + s.thresholds ≤ length held.now) × (132 ≤ length counts.old) }
-    ensures { result.job + result.list + result.thresholds ≤ s.job + s.list + s.thresholds }
+    ensures { IfOk result (λ next. next.job + next.list + next.thresholds ≤ s.job + s.list + s.thresholds) }
 {
     let j = s.job;
     let l = j + s.list;
     let end = l + s.thresholds;
     let o = calls::replay_call(item, &held[..j], &held[j..l], &held[l..end]);
     if o.difference != SAME {
-        return stop(counts, s, o.difference);
+        return stop(rt, counts, s, o.difference);
     }
     summary::count(counts, o.kind, o.number);
-    State {
+    Ok(State {
         job: s.job,
         list: s.list,
         thresholds: s.thresholds,
         calls: summary::next(s.calls),
         on: true,
-    }
+    })
 }
 
 // Does what an item says.
-fn act(kind: u8, item: &[u8], held: &mut [u8], counts: &mut [u64], s: State) -> State
+fn act(
+    rt: &impl Print,
+    kind: u8,
+    item: &[u8],
+    held: &mut [u8],
+    counts: &mut [u64],
+    s: State,
+) -> io::Result<State>
     requires { (s.job + s.list + s.thresholds ≤ length held.old) × (132 ≤ length counts.old) }
-    ensures { result.job + result.list + result.thresholds ≤ length held.new }
+    ensures { IfOk result (λ next. next.job + next.list + next.thresholds ≤ length held.new) }
 {
     if kind == INPUT {
         let i = input::read_input(item, held);
@@ -83,28 +98,41 @@ fn act(kind: u8, item: &[u8], held: &mut [u8], counts: &mut [u64], s: State) -> 
             on: true,
         };
         if i.whole {
-            return taken;
+            return Ok(taken);
         }
-        return stop(counts, taken, NOT_WHOLE);
+        return stop(rt, counts, taken, NOT_WHOLE);
     }
-    make_call(item, held, counts, s)
+    make_call(rt, item, held, counts, s)
 }
 
 // Reads an item and does what it says.
-fn step(item: &mut [u8], held: &mut [u8], counts: &mut [u64], s: State) -> State
+fn step(
+    rt: &impl Print,
+    list: &mut impl Read,
+    item: &mut [u8],
+    held: &mut [u8],
+    counts: &mut [u64],
+    s: State,
+) -> io::Result<State>
     requires { (s.job + s.list + s.thresholds ≤ length held.old) × (132 ≤ length counts.old) }
-    ensures { result.job + result.list + result.thresholds ≤ length held.new }
+    ensures { IfOk result (λ next. next.job + next.list + next.thresholds ≤ length held.new) }
 {
-    let got = reading::read_item(item);
+    let got = reading::read_item(list, item)?;
     if got.state != SAME {
-        return stop(counts, s, got.state);
+        return stop(rt, counts, s, got.state);
     }
     let n = got.bytes;
-    act(got.kind, &item[..n], held, counts, s)
+    act(rt, got.kind, &item[..n], held, counts, s)
 }
 
 // Nothing says that the input ends, so the steps are counted down from more than a list has.
-fn replay(item: &mut [u8], held: &mut [u8], counts: &mut [u64])
+fn replay(
+    rt: &impl Print,
+    list: &mut impl Read,
+    item: &mut [u8],
+    held: &mut [u8],
+    counts: &mut [u64],
+) -> io::Result<()>
     requires { 132 ≤ length counts.old }
 {
     let mut s = State {
@@ -116,14 +144,16 @@ fn replay(item: &mut [u8], held: &mut [u8], counts: &mut [u64])
     };
     let mut left = u64::MAX;
     while 0 < left && s.on {
-        s = step(item, held, counts, s);
+        s = step(rt, list, item, held, counts, s)?;
         left -= 1;
     }
+    Ok(())
 }
 
-fn main() {
-    let mut item = io::large_buffer();
-    let mut held = io::large_buffer();
+// A read or a write that fails ends it with that error.
+fn main(rt: HostRuntime) -> io::Result<()> {
+    let mut item = [0u8; 65536];
+    let mut held = [0u8; 65536];
     let mut counts = [0u64; 132];
-    replay(&mut item, &mut held, &mut counts);
+    replay(&rt, &mut rt.reader(), &mut item, &mut held, &mut counts)
 }

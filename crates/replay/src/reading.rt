@@ -1,9 +1,11 @@
 // Items of the list: each is its length, four bytes, and so many bytes, the first of which is its
 // kind.
-ghost use Rattle.std.specs.Prelude.{◌≡◌, ◌<◌, ◌≤◌, length};
+ghost use Rattle.std.specs.Prelude.{◌≡◌, ◌≤◌, IfOk, length};
 
 use crate::compare::{AT_END, CUT_OFF, NOT_WHOLE, SAME, TOO_LONG};
-use libc::STDIN_FILENO;
+use std::io;
+use std::io::Read;
+use streams::read_full;
 use wire::{read_u32, size};
 
 #[derive(Clone, Copy)]
@@ -24,31 +26,31 @@ fn failed(state: u32) -> Got
 }
 
 // Reads the next item; its length is at most that of `item`.
-pub fn read_item(item: &mut [u8]) -> Got
-    ensures { result.bytes ≤ length item.new }
+pub fn read_item(input: &mut impl Read, item: &mut [u8]) -> io::Result<Got>
+    ensures { IfOk result (λ got. got.bytes ≤ length item.new) }
 {
     let mut head = [0u8; 4];
-    let got = io::read_full(STDIN_FILENO, &mut head);
+    let got = read_full(input, &mut head)?;
     if got == 0 {
-        return failed(AT_END);
+        return Ok(failed(AT_END));
     }
     if got < 4 {
-        return failed(CUT_OFF);
+        return Ok(failed(CUT_OFF));
     }
     let n = size(read_u32(&head, 0));
     if n == 0 {
-        return failed(NOT_WHOLE);
+        return Ok(failed(NOT_WHOLE));
     }
     if item.len() < n {
-        return failed(TOO_LONG);
+        return Ok(failed(TOO_LONG));
     }
-    let came = io::read_full(STDIN_FILENO, &mut item[..n]);
+    let came = read_full(input, &mut item[..n])?;
     if came < n {
-        return failed(CUT_OFF);
+        return Ok(failed(CUT_OFF));
     }
-    Got {
+    Ok(Got {
         state: SAME,
         bytes: n,
         kind: item[0],
-    }
+    })
 }

@@ -2,7 +2,7 @@
 ghost use Rattle.std.specs.Prelude.{◌≡◌, ◌+◌, ◌*◌, ◌<◌, ◌≤◌, length};
 
 use crate::compare::{CUT_OFF, OTHER_ANSWER, OTHER_DETAIL, OTHER_NUMBER, OTHER_WORK, TOO_LONG};
-use libc::STDOUT_FILENO;
+use std::io;
 use wire::size;
 
 // Numbers that a call may end with, and a call's place among the counts.
@@ -26,59 +26,54 @@ pub fn count(counts: &mut [u64], kind: u8, number: u32)
     counts[i] = next(counts[i]);
 }
 
-fn write_name(kind: usize) {
+fn write_name(rt: &impl Print, kind: usize) -> io::Result<()> {
     if kind == 0 {
-        io::write_all(STDOUT_FILENO, b"reduce ");
+        rt.write_all(b"reduce ")
     } else if kind == 1 {
-        io::write_all(STDOUT_FILENO, b"reduce by list ");
+        rt.write_all(b"reduce by list ")
     } else if kind == 2 {
-        io::write_all(STDOUT_FILENO, b"mark ");
+        rt.write_all(b"mark ")
     } else {
-        io::write_all(STDOUT_FILENO, b"area cards ");
+        rt.write_all(b"area cards ")
     }
 }
 
 // The line of one count, where there is something to count.
-fn print_count(at: usize, n: u64) {
+fn print_count(rt: &impl Print, at: usize, n: u64) -> io::Result<()> {
     if n == 0 {
-        return;
+        return Ok(());
     }
-    write_name(at / NUMBERS);
-    io::print_decimal(STDOUT_FILENO, (at % NUMBERS) as u64);
-    io::write_all(STDOUT_FILENO, b": ");
-    io::print_decimal(STDOUT_FILENO, n);
-    io::write_all(STDOUT_FILENO, b"\n");
+    write_name(rt, at / NUMBERS)?;
+    let number = at % NUMBERS;
+    println!(rt; "{number}: {n}")
 }
 
 // The counts by call and number, after the last call.
-pub fn print(counts: &[u64], calls: u64) {
+pub fn print(rt: &impl Print, counts: &[u64], calls: u64) -> io::Result<()> {
     let mut i = 0;
     while i < counts.len() {
-        print_count(i, counts[i]);
+        print_count(rt, i, counts[i])?;
         i += 1;
     }
-    io::write_all(STDOUT_FILENO, b"all ");
-    io::print_decimal(STDOUT_FILENO, calls);
-    io::write_all(STDOUT_FILENO, b" calls as recorded\n");
+    println!(rt; "all {calls} calls as recorded")
 }
 
 // In what a call differs from the record of it, or what is wrong with the list there.
-pub fn say(call: u64, why: u32) {
-    io::write_all(STDOUT_FILENO, b"call ");
-    io::print_decimal(STDOUT_FILENO, call);
-    if why == OTHER_NUMBER {
-        io::write_all(STDOUT_FILENO, b": other number\n");
+pub fn say(rt: &impl Print, call: u64, why: u32) -> io::Result<()> {
+    let what = if why == OTHER_NUMBER {
+        "other number"
     } else if why == OTHER_DETAIL {
-        io::write_all(STDOUT_FILENO, b": other detail\n");
+        "other detail"
     } else if why == OTHER_WORK {
-        io::write_all(STDOUT_FILENO, b": other work\n");
+        "other work"
     } else if why == OTHER_ANSWER {
-        io::write_all(STDOUT_FILENO, b": other answer\n");
+        "other answer"
     } else if why == CUT_OFF {
-        io::write_all(STDOUT_FILENO, b": the list is cut off\n");
+        "the list is cut off"
     } else if why == TOO_LONG {
-        io::write_all(STDOUT_FILENO, b": an item too long\n");
+        "an item too long"
     } else {
-        io::write_all(STDOUT_FILENO, b": an item that is not whole\n");
-    }
+        "an item that is not whole"
+    };
+    println!(rt; "call {call}: {what}")
 }
