@@ -3,7 +3,7 @@ use mathlib.Core.Path.{◌≡◌, sym, ◌∙◌, ap, ap₂}
 use mathlib.Core.List.{List, ◌++◌, flat_map}
 use Prim.Native.Nat.{ℕ, ◌+◌, ◌*◌, ◌≤◌}
 use native.Mathlib.Omega.{arith}
-use lib.ListN.{length, get_or, take, drop}
+use lib.ListN.{length, get_or, take}
 use Rattle.wire.specs.Bytes.{AreBytes, part, splice, u64_at, u64_bytes}
 use Rattle.wire.proofs.Parts.{splice-same, splice-before, drop-splice, length-splice}
 use Rattle.lists.specs.Rows.{All, rows}

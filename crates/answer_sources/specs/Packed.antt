@@ -1,12 +1,8 @@
 -- Two u32 in one u64, which orders as they do: columns and rows, and the halves of sources.
-use Rattle.std.specs.Prelude.{◌≡◌, List, map, ℕ, ◌+◌, ◌*◌, ◌<◌, length, get_or, take}
+use Rattle.std.specs.Prelude.{◌≡◌, List, map, ℕ, ◌<◌, get_or}
 use Rattle.order.specs.Keys.{pack}
 use Rattle.position.specs.declared.Span.{Span}
 use Rattle.length.specs.Total.{total_key}
-use Rattle.format.specs.Sizes.{source_size}
-use Rattle.format.specs.Records.{source_at}
-use Rattle.format.specs.Decode.{source_records}
-use Rattle.format.specs.Fits.{SourceFits}
 use Rattle.format.specs.declared.records.Source.{Source}
 
 unfoldable pub source_pack : Source → ℕ

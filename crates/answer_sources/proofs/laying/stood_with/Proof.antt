@@ -1,5 +1,4 @@
 use native.Mathlib.Omega.{arith}
-use borrow.Author.Rules.{rules}
 use borrow.Author.Tests.{eq-eqb, ne_eqb}
 use Rattle.answer_sources.proofs.laying.stood_with.Statement.{statement}
 use Rattle.answer_sources.proofs.laying.stood_with.Tie as tie

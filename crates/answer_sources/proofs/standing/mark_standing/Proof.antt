@@ -1,10 +1,9 @@
 use mathlib.Core.Path.{refl}
 use Prim.Native.Nat.{◌-◌, ◌≤◌, ◌<◌}
 use native.Mathlib.Omega.{arith}
-use lib.ListN.{length, get_or}
+use lib.ListN.{get_or}
 use borrow.Author.Rules.{rules}
 use Rattle.answer_sources.specs.Laying.{seen_count}
-use Rattle.answer_sources.specs.Standing.{Sizes}
 use Rattle.answer_sources.proofs.Stands.{StandingTo, place-below, standing-start, standing-next, standing-end}
 use Rattle.answer_sources.proofs.standing.mark_standing.Statement.{statement}
 use Rattle.answer_sources.proofs.standing.mark_standing.Tie as tie

@@ -1,4 +1,3 @@
-use borrow.Author.Rules.{rules}
 use borrow.Author.Tests.{eq-eqb, ne_eqb}
 use Rattle.answer_sources.proofs.standing.stands_as.Statement.{statement}
 use Rattle.answer_sources.proofs.standing.stands_as.Tie as tie
