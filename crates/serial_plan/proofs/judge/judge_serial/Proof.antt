@@ -1,5 +1,5 @@
-use mathlib.Core.Path.{◌≡◌}
-use mathlib.Core.Bool.{Bool, true}
+use mathlib.Core.Path.{◌≡◌, ap}
+use mathlib.Core.Bool.{Bool, true, not}
 use mathlib.Core.List.{List}
 use Prim.Native.Nat.{ℕ}
 use native.Mathlib.Omega.{arith}
@@ -55,20 +55,20 @@ accepts-serial-requires c κs =
 returns : tie.Need-returns-then-not-accepts_serial
 returns c =
     let links = c.before.before in
-    (judged-no (judged links) c.accepts_serial.ensures (retained (asked links)) c.if-not-accepts_serial.true, omega arith)
+    (judged-no (judged links) c.accepts_serial.ensures (retained (asked links)) (ap not c.if-not-accepts_serial.true), omega arith)
 
 representative-requires : tie.Need-representative-requires
 representative-requires c κs =
     let links = c.before.before in
     let k = held-part links in
-    let s = judged-sizes (judged links) c.accepts_serial.ensures c.if-not-accepts_serial.false in
+    let s = judged-sizes (judged links) c.accepts_serial.ensures (ap not c.if-not-accepts_serial.false) in
     (s.0, s.1, k.ranks, k.widths, k.zero)
 
 returns-2 : tie.Need-returns
 returns-2 c =
     let accepted = c.before.before in
     let links = accepted.before in (
-      judged-yes (judged links) accepted.accepts_serial.ensures (retained (asked links)) c.if-not-accepts_serial.false c.representative.ensures.0,
+      judged-yes (judged links) accepted.accepts_serial.ensures (retained (asked links)) (ap not c.if-not-accepts_serial.false) c.representative.ensures.0,
       omega (arith, c.representative.ensures.1),
     )
 
