@@ -31,13 +31,13 @@ write-cards-requires : tie.Need-write_cards-requires
 write-cards-requires c κs =
     let roomy : tie.Else-cards-needed = search in
     let sized = roomy.before in
-    cards-fillable (given sized).pre sized.size-n.ensures.0 sized.size-count.ensures.0 (omega (arith, roomy.if-cards-needed.false))
+    cards-fillable (given sized).requires sized.size-n.ensures.0 sized.size-count.ensures.0 (omega (arith, roomy.if-cards-needed.false))
 
 returns-2 : tie.Need-returns
 returns-2 c =
     let roomy : tie.Else-cards-needed = search in
     let sized = roomy.before in
-    cards-whole (given sized).pre sized.size-n.ensures.0 sized.size-count.ensures.0 (omega arith) (omega (arith, roomy.if-cards-needed.false))
+    cards-whole (given sized).requires sized.size-n.ensures.0 sized.size-count.ensures.0 (omega arith) (omega (arith, roomy.if-cards-needed.false))
     c.write_cards.ensures
 
 pub finish_cards_spec : {M : Type 1} → statement M

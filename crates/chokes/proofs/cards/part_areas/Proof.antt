@@ -25,7 +25,7 @@ mul-size c = omega (arith, headed-cells (start_of c).requires.0.headed)
 own-ends-requires : tie.Need-own_ends-requires
 own-ends-requires c κs =
     let start : tie.Start = search in
-    (start.pre.0.headed, refl)
+    (start.requires.0.headed, refl)
 
 part-find-areas-end : tie.Need-slice_bounds-find_areas-end
 part-find-areas-end c =
@@ -35,14 +35,14 @@ part-find-areas-end c =
 find-areas-requires : tie.Need-find_areas-requires
 find-areas-requires c κs =
     let ended : tie.After-own_ends = search in
-    own-partitionable (given ended).pre.0 (sized ended).size-n.ensures.0 (sized ended).size-count.ensures.0 ended.own_ends.ensures
-    (given ended).pre.1
+    own-partitionable (given ended).requires.0 (sized ended).size-n.ensures.0 (sized ended).size-count.ensures.0 ended.own_ends.ensures
+    (given ended).requires.1
 
 returns : tie.Need-returns
 returns c =
     let found = c.before.before in
     let ended : tie.After-own_ends = search in
-    own-found (given ended).pre.0 (sized ended).size-n.ensures.0 (sized ended).size-count.ensures.0 ended.own_ends.ensures
+    own-found (given ended).requires.0 (sized ended).size-n.ensures.0 (sized ended).size-count.ensures.0 ended.own_ends.ensures
     (directions_of (given ended).args.directions) found.find_areas.ensures
 
 pub part_areas_spec : {M : Type 1} → statement M

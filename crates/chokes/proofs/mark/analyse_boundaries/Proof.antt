@@ -25,7 +25,7 @@ mul-size c = omega (arith, headed-cells (start_of c).requires.0.headed)
 own-ends-requires : tie.Need-own_ends-requires
 own-ends-requires c κs =
     let start : tie.Start = search in
-    (start.pre.0.headed, refl)
+    (start.requires.0.headed, refl)
 
 part-find-marks-end : tie.Need-slice_bounds-find_marks-end
 part-find-marks-end c =
@@ -37,15 +37,15 @@ find-marks-requires c κs =
     let ended : tie.After-own_ends = search in
     let sizes = sized ended in
     let start = given ended in
-    own-partitionable start.pre.0 sizes.size-n.ensures.0 sizes.size-count.ensures.0 ended.own_ends.ensures
-    start.pre.1
+    own-partitionable start.requires.0 sizes.size-n.ensures.0 sizes.size-count.ensures.0 ended.own_ends.ensures
+    start.requires.1
 
 returns : tie.Need-returns
 returns c =
     let ended : tie.After-own_ends = search in
     let sizes = sized ended in
     let start = given ended in
-    own-analysed start.pre.0 sizes.size-n.ensures.0 sizes.size-count.ensures.0 ended.own_ends.ensures
+    own-analysed start.requires.0 sizes.size-n.ensures.0 sizes.size-count.ensures.0 ended.own_ends.ensures
     (directions_of start.args.directions) c.find_marks.ensures
 
 pub analyse_boundaries_spec : {M : Type 1} → statement M

@@ -1,7 +1,6 @@
 use mathlib.Core.Path.{◌≡◌, ◌∙◌}
 use mathlib.Core.Bool.{false}
 use native.Mathlib.Omega.{arith}
-use borrow.Author.Tests.{not-true, not-false}
 use Rattle.thresholds.specs.Block.{block_fault}
 use Rattle.analysis.proofs.Calling.{reduce-job}
 use Rattle.chokes.proofs.Finishing.{admitted-block, reduce-bad, answerable, reduce-finished, reduce-as, few-spans, leads-eight, left-eight}
@@ -19,14 +18,14 @@ start_of c = search
 admitted : (c : tie.Else-not-passed) → block_fault (start_of c).args.thresholds.now ≡ false
 admitted c =
     let asked = c.before in
-    admitted-block (start_of c).args.thresholds.now asked.check_thresholds-v.ensures asked.passed.ensures (not-false _ c.if-not-passed.false)
+    admitted-block (start_of c).args.thresholds.now asked.check_thresholds-v.ensures asked.passed.ensures c.if-not-passed.false
 
 -- 32
 returns : tie.Need-returns-then-not-passed
 returns c =
     let start : tie.Start = search in
     let asked = c.before.before in
-    reduce-bad start.args.thresholds.now asked.check_thresholds-v.ensures asked.passed.ensures (not-true _ c.if-not-passed.true)
+    reduce-bad start.args.thresholds.now asked.check_thresholds-v.ensures asked.passed.ensures c.if-not-passed.true
     c.of_verdict.ensures.0 c.of_verdict.ensures.1 _ _ _
 
 read-limits-requires : tie.Need-read_limits-limits-requires

@@ -11,7 +11,7 @@ read-header-requires c κs = header-there _ c.requires.passed
 write-answer-requires : tie.Need-write_answer-n-requires
 write-answer-requires c κs =
     let start : tie.Start = search in
-    rw c.read_header-h.ensures start.pre
+    rw c.read_header-h.ensures start.requires
 
 returns : tie.Need-returns-then-room-n
 returns c =

@@ -23,7 +23,7 @@ bridge-boundary-indices-requires c κs =
     let start = start_of records in
     let w = start.args.work.now in
     let regions = start.args.regions in
-    let p = start.pre in
+    let p = start.requires in
     let l = records.load.ensures in
     let z = zeros.zero_fill.ensures in (
       loaded-owners regions l p.2,
@@ -47,7 +47,7 @@ returns c =
     let a = start.args in
     let b = bridges.bridge_boundary_indices.ensures in (
       zero-end a.work.now a.regions b.1 zeros.zero_fill.ensures,
-      marks-end bridge_marks bridges-long a.marks.now records.load.ensures b.0 start.pre.4 c.copy.ensures.1,
+      marks-end bridge_marks bridges-long a.marks.now records.load.ensures b.0 start.requires.4 c.copy.ensures.1,
     )
 
 pub bridge_records_spec : {M : Type 1} → statement M

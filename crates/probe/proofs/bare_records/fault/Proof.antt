@@ -1,4 +1,3 @@
-use borrow.Author.Tests.{not-true, not-false}
 use Rattle.probe.proofs.RecordLaws.{fit_next}
 use Rattle.probe.specs.Records.{AllFit}
 use mathlib.Core.Path.{sym, ◌∙◌}
@@ -21,7 +20,7 @@ returns : tie.Need-returns-then-not-record_fits invariant-loop decreases-loop
 returns c =
     let judged = c.before in
     let head = judged.before.before in
-    (omega arith, head.loop-k.invariant.1, λ h. sym judged.record_fits.ensures ∙ not-true _ c.if-not-record_fits.true)
+    (omega arith, head.loop-k.invariant.1, λ h. sym judged.record_fits.ensures ∙ c.if-not-record_fits.true)
 
 loop-again : tie.Need-loop-k-preserved invariant-loop decreases-loop
 loop-again c =
@@ -30,7 +29,7 @@ loop-again c =
     let start = head.before.before in (
       omega arith,
       fit_next start.args.records.now start.args.regions head.loop-k.k head.loop-k.invariant.1
-          (sym judged.record_fits.ensures ∙ not-false _ c.if-not-record_fits.false),
+          (sym judged.record_fits.ensures ∙ c.if-not-record_fits.false),
     )
 
 returns-2 : tie.Need-returns invariant-loop decreases-loop

@@ -25,7 +25,7 @@ returns : tie.Need-returns-then-owner-before invariant-loop decreases-loop
 returns c =
     let both : tie.After-read_u32-owner invariant-loop decreases-loop = search in
     let turn : tie.At-loop-k invariant-loop decreases-loop = search in
-    let inv = turn.loop-k.inv in (
+    let inv = turn.loop-k.invariant in (
       omega arith,
       inv.1,
       λ h. (inv.0, omega (arith, c.if-owner-before.true, both.read_u32-owner.ensures, (earlier both).read_u32-before.ensures)),
@@ -36,7 +36,7 @@ loop-again c =
     let both : tie.After-read_u32-owner invariant-loop decreases-loop = search in
     let turn : tie.At-loop-k invariant-loop decreases-loop = search in
     let start : tie.Start invariant-loop decreases-loop = search in
-    let inv = turn.loop-k.inv in (
+    let inv = turn.loop-k.invariant in (
       omega arith,
       rise-next start.args.records.now turn.loop-k.k inv.1
           (λ z. omega (arith, c.if-owner-before.false, both.read_u32-owner.ensures, (earlier both).read_u32-before.ensures)),

@@ -31,10 +31,10 @@ loop-holds : tie.Need-loop-k-init invariant-loop decreases-loop
 loop-holds c =
     let start = start_of c in (
       omega arith,
-      start.pre.0,
-      start.pre.1,
-      loaded-start start.args.records.now start.args.owners.now start.args.lefts.now start.args.rights.now start.pre.2
-          start.pre.3 start.pre.4,
+      start.requires.0,
+      start.requires.1,
+      loaded-start start.args.records.now start.args.owners.now start.args.lefts.now start.args.rights.now start.requires.2
+          start.requires.3 start.requires.4,
     )
 
 slice-write-owners : tie.Need-bounds-owners-k invariant-loop decreases-loop

@@ -23,7 +23,7 @@ mark-boundaries-requires c κs =
     let start = start_of records in
     let w = start.args.work.now in
     let regions = start.args.regions in
-    let p = start.pre in
+    let p = start.requires in
     let l = records.load.ensures in
     let z = zeros.zero_fill.ensures in
     record {
@@ -49,7 +49,7 @@ returns c =
     let a = start.args in
     let b = marks.mark_boundaries.ensures in (
       zero-end a.work.now a.regions b.1 zeros.zero_fill.ensures,
-      marks-end choke_marks chokes-long a.marks.now records.load.ensures b.0 start.pre.4 c.copy.ensures.1,
+      marks-end choke_marks chokes-long a.marks.now records.load.ensures b.0 start.requires.4 c.copy.ensures.1,
     )
 
 pub mark_records_spec : {M : Type 1} → statement M

@@ -34,7 +34,7 @@ returns : tie.Need-returns-then-d-gt-MOST_SQUARES invariant-loop decreases-loop
 returns c =
     let turn : Turn = search in
     let start = start_of turn.before in
-    one-off-map start.args.ds.now start.args.count (omega (arith, start.pre.1, start.pre.2)) turn.loop-j-test.true
+    one-off-map start.args.ds.now start.args.count (omega (arith, start.requires.1, start.requires.2)) turn.loop-j-test.true
     c.if-d-gt-MOST_SQUARES.true c.no_length.ensures
 
 with-requires : tie.Need-with-parts-requires invariant-loop decreases-loop
@@ -42,7 +42,7 @@ with-requires c κs =
     let turn : Turn = search in
     let loop = turn.before in
     let start = start_of loop in (
-      omega (arith, parts-count (length_term start.args.ds.now) loop.loop-j.inv.2, turn.loop-j-test.true, start.pre.1),
+      omega (arith, parts-count (length_term start.args.ds.now) loop.loop-j.invariant.2, turn.loop-j-test.true, start.requires.1),
       length_part _ c.length_of.ensures,
     )
 
@@ -52,7 +52,7 @@ loop-again c =
     let loop = turn.before in
     let length = c.before in
     let ds = (start_of loop).args.ds.now in
-    let inv = loop.loop-j.inv in (
+    let inv = loop.loop-j.invariant in (
       omega (arith, turn.loop-j-test.true),
       first_more ds inv.1 length.if-d-gt-MOST_SQUARES.false,
       parts_next (length_term ds) inv.2 length.length_of.ensures c.with-parts.ensures,
@@ -63,7 +63,7 @@ ascending-sum-requires c κs =
     let loop = c.before in
     let start = start_of loop in
     let inv = loop.loop-j.invariant in
-    (omega (arith, parts-count (length_term start.args.ds.now) inv.2, c.loop-j-test.false, start.pre.0), (_, inv.2))
+    (omega (arith, parts-count (length_term start.args.ds.now) inv.2, c.loop-j-test.false, start.requires.0), (_, inv.2))
 
 returns-2 : tie.Need-returns invariant-loop decreases-loop
 returns-2 c =
@@ -72,7 +72,7 @@ returns-2 c =
     let loop = end.before in
     let start = start_of loop in
     let inv = loop.loop-j.invariant in
-    all-on-map start.args.ds.now start.args.count (omega (arith, start.pre.1, start.pre.2)) (omega (arith, inv.0, end.loop-j-test.false))
+    all-on-map start.args.ds.now start.args.count (omega (arith, start.requires.1, start.requires.2)) (omega (arith, inv.0, end.loop-j-test.false))
     inv.1 inv.2 sum.ascending_sum.ensures c.words.ensures
 
 pub total_of_spec : {M : Type 1} → statement M

@@ -11,20 +11,20 @@ start_of c = search
 read-boundary-requires : tie.Need-read_boundary-a-requires
 read-boundary-requires c κs =
     let start = start_of c in
-    record-there start.pre.0 _ _ c.size-at.ensures.0 start.pre.1
+    record-there start.requires.0 _ _ c.size-at.ensures.0 start.requires.1
 
 read-boundary-requires-2 : tie.Need-read_boundary-b-requires
 read-boundary-requires-2 c κs =
     let number = c.before in
     let start = start_of number in
-    record-there start.pre.0 _ _ number.size-at.ensures.0 start.pre.2
+    record-there start.requires.0 _ _ number.size-at.ensures.0 start.requires.2
 
 link-of-requires : tie.Need-link_of-requires
 link-of-requires c κs =
     let second : tie.After-read_boundary-b = search in
     let first = second.before in
     let number = first.before in
-    let pre = (start_of number).pre in
+    let pre = (start_of number).requires in
     let at = number.size-at.ensures.0 in
     let a = first.read_boundary-a.ensures in
     let b = second.read_boundary-b.ensures in (
@@ -39,7 +39,7 @@ returns c =
     let second : tie.After-read_boundary-b = search in
     let first = second.before in
     let number = first.before in
-    let pre = (start_of number).pre in
+    let pre = (start_of number).requires in
     let at = number.size-at.ensures.0 in
     let ends = c.before in
     c.link_of.ensures ∙ linked pre.0 _ _ _ at pre.1 pre.2 first.read_boundary-a.ensures

@@ -30,7 +30,7 @@ measure-one-requires c κs =
 write-link-requires : tie.Need-write_link-requires
 write-link-requires c κs =
     let measured : tie.After-measured-m = search in
-    omega (arith, (asked measured).pre.4)
+    omega (arith, (asked measured).requires.4)
 
 returns : tie.Need-returns
 returns c =
@@ -48,7 +48,7 @@ returns c =
     let given = start.args in
     written.write_link.ensures
     ∙ ap (splice given.out.now 0)
-    (link-told start.pre.0 between.size-n.ensures.0 given.labels.now given.region given.first given.second _
+    (link-told start.requires.0 between.size-n.ensures.0 given.labels.now given.region given.first given.second _
     between.link_between-start.ensures measure.measure_one-link.ensures measured.measured-m.ensures kind.kind_of-kind.ensures
     (across-bits.bits_of-across.ensures ∙ ap float_bits across.transverse_of.ensures)
     (along-bits.bits_of-along.ensures ∙ ap float_bits along.longitudinal_of.ensures) flagged.flag.ensures)

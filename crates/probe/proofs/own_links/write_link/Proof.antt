@@ -9,7 +9,7 @@ returns c =
     let across : tie.After-write_u64 = search in
     let kind : tie.After-write_u32 = search in
     let start = kind.before.before.before in
-    four-writes start.args.out.now _ _ _ _ start.pre kind.write_u32.ensures across.write_u64.ensures along.write_u64-2.ensures
+    four-writes start.args.out.now _ _ _ _ start.requires kind.write_u32.ensures across.write_u64.ensures along.write_u64-2.ensures
     c.write_u32-2.ensures
 
 pub write_link_spec : {M : Type 1} → statement M

@@ -39,7 +39,7 @@ own-ends-requires c κs = ((asked c.before).requires.0.headed, refl)
 part-partition-by-spans-end : tie.Need-slice_bounds-partition_by_spans-end
 part-partition-by-spans-end c =
     let numbers = counted c in
-    let headed = (asked numbers).pre.0.headed in
+    let headed = (asked numbers).requires.0.headed in
     omega (arith, map-inside headed.header (headed-laid headed) _ numbers.size-n.ensures.0)
 
 partition-by-spans-requires : tie.Need-partition_by_spans-p-requires
@@ -47,14 +47,14 @@ partition-by-spans-requires c κs =
     let ends = ended c in
     let numbers = counted ends in
     let start = asked numbers in (
-      own-partitionable start.pre.0 numbers.size-n.ensures.0 numbers.size-count.ensures.0 ends.own_ends.ensures start.pre.1,
+      own-partitionable start.requires.0 numbers.size-n.ensures.0 numbers.size-count.ensures.0 ends.own_ends.ensures start.requires.1,
       zero-arrays 4096 (omega arith),
     )
 
 write-partition-requires : tie.Need-write_partition-requires
 write-partition-requires c κs =
     let numbers = counted (ended (parted c).before) in
-    omega (arith, numbers.size-count.ensures.0, (headed-laid (asked numbers).pre.0.headed).within.boundaries)
+    omega (arith, numbers.size-count.ensures.0, (headed-laid (asked numbers).requires.0.headed).within.boundaries)
 
 returns : tie.Need-returns
 returns c =
@@ -63,7 +63,7 @@ returns c =
     let ends = ended spans.before in
     let numbers = counted ends in
     let start = asked numbers in
-    all-parted start.pre.0 numbers.size-n.ensures.0 numbers.size-count.ensures.0 ends.own_ends.ensures
+    all-parted start.requires.0 numbers.size-n.ensures.0 numbers.size-count.ensures.0 ends.own_ends.ensures
     (directions_of start.args.directions) spans.partition_by_spans-p.ensures written.write_partition.ensures
 
 pub partition_job_spec : {M : Type 1} → statement M

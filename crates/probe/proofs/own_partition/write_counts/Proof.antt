@@ -29,17 +29,17 @@ loop-holds c = let p = c.requires in (omega arith, p.0, p.1, filled-start 8 _ _ 
 write-u32-requires-2 : tie.Need-write_u32-requires-in-loop-i invariant-loop decreases-loop
 write-u32-requires-2 c κs =
     let first : First = search in
-    omega (arith, first.write_u32.kept.0, (turn-of first).loop-i.inv.3.long)
+    omega (arith, first.write_u32.auto, (turn-of first).loop-i.invariant.3.long)
 
 loop-again : tie.Need-loop-i-preserved invariant-loop decreases-loop
 loop-again c =
     let first : First = search in
     let turn = (turn-of first).loop-i in
-    let room : 8 + 8 * turn.i + 8 ≤ length turn.out = omega (arith, turn.inv.3.long) in (
+    let room : 8 + 8 * turn.i + 8 ≤ length turn.out = omega (arith, turn.invariant.3.long) in (
       omega arith,
-      turn.inv.1,
-      turn.inv.2,
-      filled_next 8 _ _ (8 + 8 * turn.i) turn.inv.3 (omega arith) refl
+      turn.invariant.1,
+      turn.invariant.2,
+      filled_next 8 _ _ (8 + 8 * turn.i) turn.invariant.3 (omega arith) refl
           (after_two turn.out (8 + 8 * turn.i) _ _ room first.write_u32.ensures c.write_u32-in-loop-i.ensures),
     )
 

@@ -39,13 +39,13 @@ loop-holds c = let p = c.requires in (omega arith, p.0, p.1, p.2, filled-start 1
 write-u32-requires-2 : tie.Need-write_u32-requires-in-loop-k invariant-loop decreases-loop
 write-u32-requires-2 c κs =
     let owner : Owner = search in
-    omega (arith, owner.write_u32.kept.0, (turn-of owner).loop-k.inv.4.long)
+    omega (arith, owner.write_u32.auto, (turn-of owner).loop-k.invariant.4.long)
 
 write-u32-requires-3 : tie.Need-write_u32-requires-in-loop-k-2 invariant-loop decreases-loop
 write-u32-requires-3 c κs =
     let left : Left = search in
     let owner = owner_of left in
-    omega (arith, left.write_u32-in-loop-k.kept.0, owner.write_u32.kept.0, (turn-of owner).loop-k.inv.4.long)
+    omega (arith, left.write_u32-in-loop-k.auto, owner.write_u32.auto, (turn-of owner).loop-k.invariant.4.long)
 
 loop-again : tie.Need-loop-k-preserved invariant-loop decreases-loop
 loop-again c =
@@ -55,12 +55,12 @@ loop-again c =
     let start = at-loop.before.before in
     let turn = at-loop.loop-k in
     let place = start.args.at + 12 * turn.k in
-    let room : place + 12 ≤ length turn.out = omega (arith, turn.inv.4.long) in (
+    let room : place + 12 ≤ length turn.out = omega (arith, turn.invariant.4.long) in (
       omega arith,
-      turn.inv.1,
-      turn.inv.2,
-      turn.inv.3,
-      filled_next 12 _ _ place turn.inv.4 (omega arith) refl
+      turn.invariant.1,
+      turn.invariant.2,
+      turn.invariant.3,
+      filled_next 12 _ _ place turn.invariant.4 (omega arith) refl
           (after-three turn.out place _ _ _ room owner.write_u32.ensures left.write_u32-in-loop-k.ensures c.write_u32-in-loop-k-2.ensures),
     )
 

@@ -30,7 +30,7 @@ left c =
 
 -- past the refusals, the plan
 made : (c : tie.Else-r-gt0) → let p = plan-at c.before in
-    let a = (given p).args in let s = a.job.now in let l = a.list.now in let e = p.plan_of-r.last.1.1.1.1.1 in
+    let a = (given p).args in let s = a.job.now in let l = a.list.now in let e = p.plan_of-r.new.1.1.1.1.1 in
     Made limits000 eight (probe_checks a.which s l) (decode s) (probe_spans a.which s l) a.work.now e.0 e.1.0 e.1.1.0
     p.plan_of-r.result.detail
 made c = (left (plan-at c.before)).made (omega (arith, c.if-r-gt0.false))

@@ -39,13 +39,13 @@ element-copy-out-write-u32 : tie.Need-bounds-order-to invariant-loop decreases-l
 element-copy-out-write-u32 c =
     let valued = c.before in
     let turn = (turn-of (placed_of valued)).loop-i in
-    omega (arith, valued.size-to.ensures.0, turn.inv.3.below turn.i (omega arith))
+    omega (arith, valued.size-to.ensures.0, turn.invariant.3.below turn.i (omega arith))
 
 write-u32-requires : tie.Need-write_u32-requires invariant-loop decreases-loop
 write-u32-requires c κs =
     let placed = placed_of c.before.before in
     let turn = (turn-of placed).loop-i in
-    omega (arith, placed.size-place.ensures.0, turn.inv.2.below turn.i (omega arith), turn.inv.5.long)
+    omega (arith, placed.size-place.ensures.0, turn.invariant.2.below turn.i (omega arith), turn.invariant.5.long)
 
 loop-again : tie.Need-loop-i-preserved invariant-loop decreases-loop
 loop-again c =
@@ -57,11 +57,11 @@ loop-again c =
     let turn = at-loop.loop-i in
     let to = valued.size-to.ensures.0 in (
       omega arith,
-      turn.inv.1,
-      turn.inv.2,
-      turn.inv.3,
-      turn.inv.4,
-      words-next _ _ turn.inv.2 turn.inv.5 placed.loop-i-test.true turn.inv.4
+      turn.invariant.1,
+      turn.invariant.2,
+      turn.invariant.3,
+      turn.invariant.4,
+      words-next _ _ turn.invariant.2 turn.invariant.5 placed.loop-i-test.true turn.invariant.4
           placed.size-place.ensures.0 (ap (λ (x : ℕ). get_or start.args.order.now x 0) to)
           written.write_u32.ensures,
     )

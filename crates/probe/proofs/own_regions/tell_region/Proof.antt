@@ -49,10 +49,10 @@ anchor-labels-requires : tie.Need-anchor_labels-found-requires
 anchor-labels-requires c κs =
     let counted = c.before in
     let cells : tie.After-size-n = search in
-    let d = (asked cells).pre.0 in
+    let d = (asked cells).requires.0 in
     let n = cells.size-n.ensures.0 in
     let there = anchors-there d counted.size.ensures.0 counted.size-2.ensures.0 n (asked cells).args.labels.now
-    (omega (arith, n, headed-work d, (asked cells).pre.1)) in
+    (omega (arith, n, headed-work d, (asked cells).requires.1)) in
     (there.0, omega (arith, there.1))
 
 room : tie.Need-slice_bounds-is_anchored-end
@@ -62,7 +62,7 @@ write-words-requires : tie.Need-write_words-requires
 write-words-requires c κs =
     let read : tie.After-anchor_labels-found = search in
     let start = asked (sized read) in
-    (omega arith, omega (arith, start.pre.2))
+    (omega arith, omega (arith, start.requires.2))
 
 returns : tie.Need-returns
 returns c =
@@ -77,7 +77,7 @@ returns c =
     let given = start.args in
     c.write_words.ensures
     ∙ ap (λ (l : List _). splice given.out.now 0 (words l))
-    (region-told start.pre.0 counted.size.ensures.0 counted.size-2.ensures.0 cells.size-n.ensures.0 given.labels.now
+    (region-told start.requires.0 counted.size.ensures.0 counted.size-2.ensures.0 cells.size-n.ensures.0 given.labels.now
     given.region measured.count_cells-counted.ensures measured.region_stats-s.ensures read.anchor_labels-found.ensures
     anchored.is_anchored-anchored.ensures told-ramp.flag.ensures told-anchored.flag-2.ensures)
 

@@ -31,9 +31,9 @@ loop-again c =
     let in-loop : tie.At-loop-i invariant-loop decreases-loop = search in
     let turn = in-loop.loop-i in (
       omega arith,
-      turn.inv.1,
-      turn.inv.2,
-      filled_next 4 _ _ (4 * turn.i) turn.inv.3 (omega arith) (omega arith)
+      turn.invariant.1,
+      turn.invariant.2,
+      filled_next 4 _ _ (4 * turn.i) turn.invariant.3 (omega arith) (omega arith)
           c.write_u32.ensures,
     )
 
