@@ -1,4 +1,3 @@
-use borrow.Author.Tests.{not-true, not-false}
 use Prim.Native.Nat.{ℕ}
 use mathlib.Core.Path.{◌≡◌, refl}
 use native.Mathlib.Omega.{arith}
@@ -22,7 +21,7 @@ same-requires c κs = search rules
 returns-3 : tie.Need-returns-then-not-same
 returns-3 c = (
   λ h. absurd (omega (arith, h)),
-  λ s. let z : ◌≡◌ {A = ℕ} 0 1 = cc (not-true c.same.result c.if-not-same.true, c.same.ensures.1 s.same-work) in
+  λ s. let z : ◌≡◌ {A = ℕ} 0 1 = cc (c.if-not-same.true, c.same.ensures.1 s.same-work) in
       absurd (omega arith),
 )
 
@@ -34,7 +33,7 @@ same-requires-2 c κs = search rules
 returns-4 : tie.Need-returns-then-not-same-2
 returns-4 c = (
   λ h. absurd (omega (arith, h)),
-  λ s. let z : ◌≡◌ {A = ℕ} 0 1 = cc (not-true c.same-2.result c.if-not-same-2.true, c.same-2.ensures.1 s.same_out) in
+  λ s. let z : ◌≡◌ {A = ℕ} 0 1 = cc (c.if-not-same-2.true, c.same-2.ensures.1 s.same_out) in
       absurd (omega arith),
 )
 
@@ -47,8 +46,8 @@ returns-5 c =
       λ h. record {
         same_number = if1-left.if-number-want_number.false;
         same-detail = if2-left.if-detail-want_detail.false;
-        same-work = after_same.same.ensures.0 (not-false _ c.if-not-same.false);
-        same_out = c.same-2.ensures.0 (not-false _ c.if-not-same-2.false);
+        same-work = after_same.same.ensures.0 c.if-not-same.false;
+        same_out = c.same-2.ensures.0 c.if-not-same-2.false;
       },
       λ s. refl,
     )
