@@ -11,7 +11,7 @@ slice-aggregate-choke-list c = sym (length-take-le _ _ c.requires.0)
 
 returns : tie.Need-returns
 returns c =
-    let start = c.before.before.before.before in
+    let start : tie.Start = search in
     let w = c.choke_list.ensures in
     (record { for-input = λ input r. same_text (read-enough input start.args.buffer.now start.args.n start.requires.1 r) w.0 }, w.1)
 
