@@ -30,11 +30,11 @@ bridge-boundary-indices-requires c κs =
     let parts = parted compared.before in
     let p = (start_of parts).requires in
     let r = parts.partition_by_spans-p.ensures in
-    let k = parts.partition_by_spans-p.kept in
+    let k = parts.partition_by_spans-p.auto in
     let few = compared.if-most-pairs.false in (
       owners-in r p.0.few few,
-      omega (arith, few, k.1.1.1.1.1.1.1.1.1.0, p.1.owners-are),
-      labels_in_lem r _ refl p.1.few k.1.1.1.1.1.1.1.1.1.1.0 (k.1.1.1.1.1.1.1.1.1.1.1.0 ∙ p.1.rights-are) few,
+      omega (arith, few, k.owners, p.1.owners-are),
+      labels_in_lem r _ refl p.1.few k.lefts (k.rights ∙ p.1.rights-are) few,
       room_in r _ refl,
       zero_in r _ refl,
     )

@@ -35,10 +35,10 @@ plan-listing-requires c κs =
     let found = parted few.before in
     let p = (start_of found).requires in
     let left = few.if-pairs-gt-FEW_PAIRS.false in
-    let long = found.part_by_rank-pairs.kept.1.1.1.1.1.1.1 in (
+    let long = found.part_by_rank-pairs.auto in (
       p.0.job,
       some-told left (λ ss. found.part_by_rank-pairs.ensures _ ss p.0.job.ranks) p.2,
-      stored left (omega arith) long.0 long.1.0 long.1.1.0,
+      stored left (omega arith) long.owners long.lefts long.rights,
       p.3,
       p.4,
     )

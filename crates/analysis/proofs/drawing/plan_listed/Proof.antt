@@ -20,7 +20,7 @@ given c = start_of (counted c)
 
 -- the spans written are those of the list
 listed : (c : tie.After-fill_spans)
-    → EndsBy (given c).args.job.now (given c).args.order.now c.fill_spans.new.1.1.1.1.1.0 (decode_list (given c).args.list.now)
+    → EndsBy (given c).args.job.now (given c).args.order.now c.fill_spans.new.ends (decode_list (given c).args.list.now)
 listed c =
     let start = given c in
     let p = start.requires.0.job in

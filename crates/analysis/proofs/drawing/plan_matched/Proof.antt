@@ -20,7 +20,7 @@ plan-many-requires-2 c κs =
     let tried : tie.After-plan_few-pairs = search in
     let start : tie.Start = search in
     let p = start.requires in (
-      record { job = p.0.job; room = omega (arith, p.0.room, tried.plan_few-pairs.kept.1.1.1.1.1.1.0) },
+      record { job = p.0.job; room = omega (arith, p.0.room, tried.plan_few-pairs.auto.work) },
       p.1,
       p.2,
       tried.plan_few-pairs.ensures.1,

@@ -20,7 +20,7 @@ given c = start_of (counted c)
 
 -- the spans written are the boundaries' own ends
 own : (c : tie.After-fill_spans)
-    → EndsBy (given c).args.job.now (given c).args.order.now c.fill_spans.new.1.1.1.1.1.0 (own_ends (decode (given c).args.job.now))
+    → EndsBy (given c).args.job.now (given c).args.order.now c.fill_spans.new.ends (own_ends (decode (given c).args.job.now))
 own c =
     let counts = counted c in
     own-by (given c).requires.0.job _ _ counts.size-at.ensures.0 counts.size-count.ensures.0 c.fill_spans.ensures

@@ -26,7 +26,7 @@ mul-size c =
 
 fill-spans-requires : tie.Need-fill_spans-requires
 fill-spans-requires c κs =
-    let order = c.before.before in
+    let order : tie.After-fill_identity = search in
     let start = start_of (sized order) in
     (list-unmatched-records start.requires.0 _ start.requires.2 _ start.requires.3 order.fill_identity.ensures, refl)
 

@@ -27,9 +27,9 @@ mark-boundaries-requires c κs =
     let compared : tie.Else-most-pairs = search in
     let parts = parted compared.before in
     let p = (start_of parts).requires in
-    let k = parts.partition_by_spans-p.kept.1.1.1.1.1.1.1.1.1 in
-    owned_in parts.partition_by_spans-p.ensures _ refl p.0.few p.1.few (k.0 ∙ p.1.owners-are) k.1.0
-    (k.1.1.0 ∙ p.1.rights-are) compared.if-most-pairs.false
+    let k = parts.partition_by_spans-p.auto in
+    owned_in parts.partition_by_spans-p.ensures _ refl p.0.few p.1.few (k.owners ∙ p.1.owners-are) k.lefts
+    (k.rights ∙ p.1.rights-are) compared.if-most-pairs.false
 
 returns-2 : tie.Need-returns
 returns-2 c =

@@ -1,4 +1,5 @@
 use mathlib.Core.Path.{◌≡◌, refl, sym, ◌∙◌, ap}
+use mathlib.Core.Bool.{not}
 use mathlib.Core.Option.{none}
 use Prim.Native.Nat.{ℕ, ◌*◌, ◌≤◌}
 use native.Mathlib.Nat.{mul-le-mul}
@@ -20,7 +21,7 @@ start_of c = search
 
 -- past the checks
 passed : (c : tie.Else-not-passed) → meaning (start_of c).args.v ≡ none
-passed c = passes_none _ (accepted {o = meaning (start_of c).args.v} refl c.passed.ensures c.if-not-passed.false)
+passed c = passes_none _ (accepted {o = meaning (start_of c).args.v} refl c.passed.ensures (ap not c.if-not-passed.false))
 
 job-passes : (c : tie.Else-not-passed) → first_refusal (job_checks (start_of c).args.job.now) ≡ none
 job-passes c = (start_of c).requires.0 (passed c)
@@ -42,9 +43,8 @@ asked c =
 
 returns : tie.Need-returns-then-not-passed
 returns c =
-    let checked = c.before.before in
-    let v = checked.args.v in
-    let no = declined {o = meaning v} refl checked.passed.ensures c.if-not-passed.true in
+    let v = c.args.v in
+    let no = declined {o = meaning v} refl c.passed.ensures (ap not c.if-not-passed.true) in
     let told = c.of_verdict.ensures in
     refused no (omega (arith, numbered v no, told.0)) told.0 told.1
 
