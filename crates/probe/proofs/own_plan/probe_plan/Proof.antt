@@ -21,8 +21,8 @@ abbrev plan-at : tie.After-struct_known-1 → tie.After-plan_of-r
 plan-at c = search
 
 -- a refusal or a plan, by the limits 000 and all eight directions; `e` holds the work, the order and the plan as the call leaves them
-left : (c : tie.After-plan_of-r) → let a = (given c).args in let s = a.job.now in let l = a.list.now in let e = c.plan_of-r.new.1.1.1.1.1 in
-    PlanLeft limits000 eight (probe_checks a.which s l) (decode s) (probe_spans a.which s l) a.work.now e.0 e.1.0 e.1.1.0
+left : (c : tie.After-plan_of-r) → let a = (given c).args in let s = a.job.now in let l = a.list.now in let e = c.plan_of-r.new in
+    PlanLeft limits000 eight (probe_checks a.which s l) (decode s) (probe_spans a.which s l) a.work.now e.work e.order e.plan
     c.plan_of-r.result.number c.plan_of-r.result.detail
 left c =
     let limits : tie.After-of_000 = search in
@@ -30,8 +30,8 @@ left c =
 
 -- past the refusals, the plan
 made : (c : tie.Else-r-gt0) → let p = plan-at c.before in
-    let a = (given p).args in let s = a.job.now in let l = a.list.now in let e = p.plan_of-r.new.1.1.1.1.1 in
-    Made limits000 eight (probe_checks a.which s l) (decode s) (probe_spans a.which s l) a.work.now e.0 e.1.0 e.1.1.0
+    let a = (given p).args in let s = a.job.now in let l = a.list.now in let e = p.plan_of-r.new in
+    Made limits000 eight (probe_checks a.which s l) (decode s) (probe_spans a.which s l) a.work.now e.work e.order e.plan
     p.plan_of-r.result.detail
 made c = (left (plan-at c.before)).made (omega (arith, c.if-r-gt0.false))
 
